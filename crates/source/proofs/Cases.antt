@@ -1,0 +1,122 @@
+-- The ten starred cases of document 01, through what the calls hand back: `starred-cases`, by computation.
+use Prim.Native.Nat.{ℕ}
+use Prim.Native.Char.{code}
+use Prim.Native.String as S
+use mathlib.Core.Path.{_≡_, refl}
+use mathlib.Core.Bool.{true, false}
+use mathlib.Core.List.{List, [], _∷_}
+use mathlib.Core.Option.{Option, none, some}
+use lib.IntN.{ℤ, pos, negsuc}
+use Rattle.source.specs.Text.{Str, then, string-compare, starts-with, string-length, query-to-string, onto-first, segments, ends-in-dot, name-byte, query-byte, path-byte}
+use Rattle.source.specs.Heap.{is-lt, heap-merge, heap-insert, heap-insert-all, heap-from-list, heap-merge-pairs, heap-pair-up}
+use Rattle.source.specs.Lists.{first, priority, nonempty, add-priorities, total, push-nodup, run-cmp, put-back, merge-aux, merge-nonempty, merge-increasing-lists-rev}
+use Rattle.source.specs.Types.{Value, the-item, bindings, namespaces, trie-empty}
+use Rattle.source.specs.Trees.{btree-insert-replace, btree-find-exact, find-prefix-onto, btree-find-prefix, btree-fold, btree-find-all}
+use Rattle.source.specs.Tries.{or-else, dflt, bind-option, names-find-exact, trie-descend-exact, trie-find-exact, names-insert, scope-of, trie-mutate, trie-mutate-leaf, trie-insert, included, trie-import, trie-include, trie-open-namespace, trie-add-alias}
+use Rattle.source.specs.Terms.{weight, heaviest, heaviest-tree, heaviest-names, depth, depth-tree, depth-names}
+use Rattle.source.specs.Listing.{fold-left, rev-map-onto, ns-search-term, bindings-search-term, revmap-onto, names-revmap, matching-values, with-imports, elem-key, names-find-rev, find-prefix-fuel, trie-find-prefix′, trie-find-prefix}
+use Rattle.source.specs.Table.{Line, ModSymbol, Module, Namespace, empty, insert, register-alias, register-include, ns-inserts, ins-ns, ins-mod, name-of-revq, ins, register-module-path, string-of-path, match-elem, match-length-of-path, last-opt, first-import-of-path, completion-result-of-lid, mod-annotation, completion-result-of-ns-or-mod, autocomplete-lid, filter-map, autocomplete-mod-or-ns}
+use Rattle.source.specs.Counted.{pure, one, _>>=_, btree-insert-replaceᶜ, names-insertᶜ, trie-mutateᶜ, trie-mutate-leafᶜ, trie-insertᶜ, trie-importᶜ, trie-includeᶜ, trie-add-aliasᶜ, lids, insertᶜ, register-aliasᶜ, register-includeᶜ, ins-nsᶜ, ins-modᶜ, insᶜ, register-module-pathᶜ, fold-leftᶜ, find-prefix-fuelᶜ, trie-find-prefixᶜ}
+use Rattle.source.specs.Calls.{Lent, Output, State, Call, name, include, alias, module-path, Registered, accepted, refused, Found, found, not-found, Completed, listed, All, text-of, is-empty, any, bad-query, malformed, empty-name, long-query, too-long, lowest, argument-rows, fresh, whole-records, free, arguments, registered, records, text-taken, crowded, deep, registration-rows, after, register, found-of, look-up, output-text, completion-rows, completed, tries-entered, keeps, filter-of, complete, complete-modules}
+use Rattle.source.specs.Rules.{all}
+
+-- A quoted text's bytes.
+unfoldable pub bytes : S.String → Str
+bytes S.[] = []
+bytes (S._∷_ c s) = code c ∷ bytes s
+
+-- What the program console lends.
+unfoldable pub console : Lent
+console = record { words = 16384; text = 32768 }
+
+unfoldable pub pane : Output
+pane = record { lines = 512; text = 32768 }
+
+-- A call on the table that another has left.
+unfoldable pub then-call : Registered → Call → Registered
+then-call (accepted s) c = register true console s c
+then-call (refused n) c = refused n
+
+-- A question about the table that a call has left.
+unfoldable pub ask : {B : Type 0} → Registered → (State → B) → Option B
+ask (accepted s) f = some (f s)
+ask (refused n) f = none
+
+unfoldable pub records-of : Registered → Option ℕ
+records-of r = ask r (λ s. s .records-used)
+
+unfoldable pub find : Registered → S.String → Option (Found ℕ)
+find r q = ask r (λ s. look-up true (s .table .tbl-lids) (bytes q))
+
+unfoldable pub names : Registered → S.String → Option (Completed ℕ)
+names r q = ask r (λ s. complete true (s .table) 4096 pane (bytes q))
+
+unfoldable pub modules : Registered → S.String → Option (Completed ModSymbol)
+modules r q = ask r (λ s. complete-modules true (s .table) All 4096 pane (bytes q))
+
+unfoldable pub line : {A : Type 0} → ℤ → A → S.String → S.String → Line A
+line n a c ann = record { match-length = n; item-of = a; candidate = bytes c; annotation = bytes ann }
+
+-- The same three lines, by their length.
+unfoldable pub three : ℤ → List (Line ℕ)
+three n = line n 1 "Live.offset" "" ∷ line n 2 "Saved.late" "" ∷ line n 1 "Saved.offset" "" ∷ []
+
+-- Table T.
+unfoldable pub T : Registered
+T = then-call (then-call (then-call (then-call (accepted fresh)
+    (name (bytes "Saved.") (bytes "offset") 1))
+    (include (bytes "Live.") (bytes "Saved.")))
+    (name (bytes "Saved.") (bytes "late") 2))
+    (name (bytes "Live.") (bytes "offset") 3)
+
+unfoldable pub aliased : Registered
+aliased = then-call T (alias (bytes "K") (bytes "Live.") (bytes "Saved."))
+
+unfoldable pub included-here : Registered
+included-here = then-call T (include (bytes "") (bytes "Saved."))
+
+unfoldable pub bus : Registered
+bus = then-call (accepted fresh) (module-path false (bytes "IO.Bus.") (bytes "io/bus"))
+
+pub record StarredCases : Type 0 where
+  pub case-1 : records-of (then-call (accepted fresh) (name (bytes "") (bytes "tick") 5)) ≡ some 3
+  pub case-2 : (records-of T ≡ some 26) × (ask T (λ s. s .text-used) ≡ some 44)
+  pub case-3 : (find T "Live.late." ≡ some not-found) × (find T "Saved.late." ≡ some (found 2))
+  pub case-4 : find T "Live.offset." ≡ some (found 3)
+  pub case-5 : names T "Live.off." ≡ some (listed (line (pos 8) 1 "Live.offset" "" ∷ []) 2)
+  pub case-6 : names T "" ≡ some (listed (three (negsuc 0)) 3)
+  pub case-7 : names T "." ≡ some (listed (three (pos 0)) 3)
+  pub case-8 : (records-of aliased ≡ some 35) × (find aliased "Live.K.late." ≡ some (found 2))
+  pub case-9 : names included-here "off." ≡ some (listed (line (pos 3) 1 "offset" "Saved" ∷ []) 1)
+  pub case-10 : (records-of bus ≡ some 10)
+      × (modules bus "I." ≡ some (listed
+      (line (pos 1) (Namespace (bytes "IO") false) "IO" "(ns)"
+      ∷ line (pos 1) (Module (bytes "IO.Bus") (bytes "io/bus") false) "IO.Bus" "(mod)"
+      ∷ []) 3))
+
+pub starred-cases : StarredCases
+unfolding bytes console pane then-call ask records-of find names modules line three T aliased included-here bus
+    then string-compare starts-with string-length query-to-string onto-first segments ends-in-dot name-byte query-byte path-byte
+    is-lt heap-merge heap-insert heap-insert-all heap-from-list heap-merge-pairs heap-pair-up
+    first priority nonempty add-priorities total push-nodup run-cmp put-back merge-aux merge-nonempty merge-increasing-lists-rev
+    the-item bindings namespaces trie-empty
+    btree-insert-replace btree-find-exact find-prefix-onto btree-find-prefix btree-fold btree-find-all
+    or-else dflt bind-option names-find-exact trie-descend-exact trie-find-exact names-insert scope-of trie-mutate trie-mutate-leaf trie-insert included trie-import trie-include trie-open-namespace trie-add-alias
+    weight heaviest heaviest-tree heaviest-names depth depth-tree depth-names
+    fold-left rev-map-onto ns-search-term bindings-search-term revmap-onto names-revmap matching-values with-imports elem-key names-find-rev find-prefix-fuel trie-find-prefix′ trie-find-prefix
+    empty insert register-alias register-include ns-inserts ins-ns ins-mod name-of-revq ins register-module-path string-of-path match-elem match-length-of-path last-opt first-import-of-path completion-result-of-lid mod-annotation completion-result-of-ns-or-mod autocomplete-lid filter-map autocomplete-mod-or-ns
+    pure one _>>=_ btree-insert-replaceᶜ names-insertᶜ trie-mutateᶜ trie-mutate-leafᶜ trie-insertᶜ trie-importᶜ trie-includeᶜ trie-add-aliasᶜ lids insertᶜ register-aliasᶜ register-includeᶜ ins-nsᶜ ins-modᶜ insᶜ register-module-pathᶜ fold-leftᶜ find-prefix-fuelᶜ trie-find-prefixᶜ
+    text-of is-empty any bad-query malformed empty-name long-query too-long lowest argument-rows fresh whole-records free arguments registered records text-taken crowded deep registration-rows after register found-of look-up output-text completion-rows completed tries-entered keeps filter-of complete complete-modules
+    all
+starred-cases = record {
+  case-1 = refl;
+  case-2 = (refl, refl);
+  case-3 = (refl, refl);
+  case-4 = refl;
+  case-5 = refl;
+  case-6 = refl;
+  case-7 = refl;
+  case-8 = (refl, refl);
+  case-9 = refl;
+  case-10 = (refl, refl);
+}

@@ -1,0 +1,13 @@
+pub mod Order
+pub mod Heap
+pub mod Lists
+pub mod Trees
+pub mod Imports
+pub mod Names
+pub mod Listed
+pub mod ListedTexts
+pub mod Queries
+pub mod Refusals
+pub mod Kept
+pub mod Agreement
+pub mod Cases

@@ -1,0 +1,604 @@
+-- What merge_increasing_lists_rev gives: strictly decreasing, and at each key the element of the first list that has it.
+use Prim.Native.Nat.{ℕ, zero, suc, _+_, _≤_, _<_, compare, Ordering, Ordering·lt, Ordering·eq, Ordering·gt}
+use mathlib.Core.Path.{_≡_, refl, sym, ap, _∙_, subst}
+use mathlib.Core.Logic.{_⊎_, inl, inr, _≢_}
+use mathlib.Core.Bool.{Bool, true, false, cond}
+use mathlib.Core.List.{List, [], _∷_, _++_, reverse, reverseAux, nil≢cons}
+use mathlib.Core.Option.{Option, none, some}
+use native.Mathlib.Omega.{arith}
+use native.Mathlib.Decide.{ℕ-discrete}
+use lib.Dec.{isEq, eqb}
+use lib.ListN.{length, getD, set}
+use lib.Seq.{getD-set-same, getD-set-other}
+use Rattle.source.specs.Text.{Str, then, string-compare}
+use Rattle.source.specs.Rules.{_<ˢ_}
+use Rattle.source.proofs.Order.{View, Viewℕ, compare-view, compare-strings, <ˢ-irrefl, <ˢ-trans}
+use Rattle.source.specs.Heap.{Heap, Forest, EmptyHeap, HeapOf, []ᶠ, _∷ᶠ_, is-lt, heap-merge, heap-insert, heap-merge-pairs, heap-insert-all, heap-from-list}
+use Rattle.source.proofs.Heap.{sum, sumᶠ, All, Allᶠ, Heaped, Heapedᶠ, All-map, Allᶠ-map, Allᶠ-zip, none-countedᶠ, counted, sum-merge, sum-pairs, All-merge, All-pairs, Heaped-merge, Heaped-pairs}
+use Rattle.source.specs.Lists.{Run, run, first, priority, nonempty, add-priorities, total, push-nodup, run-cmp, put-back, merge-aux, merge-nonempty, merge-increasing-lists-rev}
+use Rattle.source.specs.Tries.{or-else}
+
+-- ---- equal strings, as a test
+abbrev pub same : Str → Str → Bool
+same s t = isEq (string-compare s t)
+
+unfoldable pub Same : Str → Str → Type 0
+Same s t = ((same s t ≡ true) × (s ≡ t)) ⊎ ((same s t ≡ false) × ((s <ˢ t) ⊎ (t <ˢ s)))
+
+pub same-view : (s t : Str) → Same s t
+unfolding Same
+same-view s t = go (string-compare s t) refl (compare-strings s t)
+  where
+    go : (o : Ordering) → string-compare s t ≡ o → View s t o → Same s t
+    go Ordering·lt e v = inr (ap isEq e, inl v)
+    go Ordering·eq e v = inl (ap isEq e, v)
+    go Ordering·gt e v = inr (ap isEq e, inr v)
+
+≤ˢ-lt : Str → Str → Type 0
+≤ˢ-lt s t = (s <ˢ t) ⊎ (s ≡ t)
+
+pub same-self : (s : Str) → same s s ≡ true
+unfolding Same
+same-self s = go (same-view s s)
+  where
+    go : Same s s → same s s ≡ true
+    go (inl h) = h .0
+    go (inr (e, inl h)) = absurd (<ˢ-irrefl s h)
+    go (inr (e, inr h)) = absurd (<ˢ-irrefl s h)
+
+pub same-ne : (s t : Str) → (s ≡ t → ⊥) → same s t ≡ false
+unfolding Same
+same-ne s t n = go (same-view s t)
+  where
+    go : Same s t → same s t ≡ false
+    go (inl h) = absurd (n (h .1))
+    go (inr h) = h .0
+
+abbrev pub Allˡ : {A : Type 0} → (A → Type 0) → List A → Type 0
+Allˡ P [] = Unit {0}
+Allˡ P (x ∷ l) = P x × Allˡ P l
+
+pub Allˡ-map : {A : Type 0} {P Q : A → Type 0} → (l : List A) → ((a : A) → P a → Q a) → Allˡ P l → Allˡ Q l
+Allˡ-map [] f p = tt
+Allˡ-map (x ∷ l) f p = (f x (p .0), Allˡ-map l f (p .1))
+
+pub or-else-none : {A : Type 0} (o : Option A) → or-else o none ≡ o
+unfolding or-else
+or-else-none none = refl
+or-else-none (some a) = refl
+
+eqb-true : (n : ℕ) → eqb n n ≡ true
+eqb-true n = go (compare n n) (compare-view n n)
+  where
+    go : (o : Ordering) → Viewℕ n n o → isEq o ≡ true
+    go Ordering·lt v = absurd (omega arith)
+    go Ordering·eq v = refl
+    go Ordering·gt v = absurd (omega arith)
+
+eqb-false : (m n : ℕ) → m ≢ n → eqb m n ≡ false
+eqb-false m n h = go (compare m n) (compare-view m n)
+  where
+    go : (o : Ordering) → Viewℕ m n o → isEq o ≡ false
+    go Ordering·lt v = refl
+    go Ordering·eq v = absurd (h v)
+    go Ordering·gt v = refl
+
+abbrev live : {A : Type 0} → List A → ℕ
+live [] = 0
+live (x ∷ l) = 1
+
+unfoldable pub rest : {A : Type 0} → Run A → List A
+rest (run pr v tl) = tl
+
+-- one at the runs of that priority
+at : {A : Type 0} → ℕ → Run A → ℕ
+at q r = cond (eqb (priority r) q) 1 0
+
+at-same : {A : Type 0} (q : ℕ) (r : Run A) → priority r ≡ q → at q r ≡ 1
+unfolding at
+at-same q r e = rw (e, eqb-true)
+
+at-other : {A : Type 0} (q : ℕ) (r : Run A) → priority r ≢ q → at q r ≡ 0
+unfolding at
+at-other q r h = rw (eqb-false (priority r) q h)
+
+at-pos : {A : Type 0} (q : ℕ) (r : Run A) → 0 < at q r → priority r ≡ q
+at-pos q r h = go (compare (priority r) q) (compare-view (priority r) q)
+  where
+    go : (o : Ordering) → Viewℕ (priority r) q o → priority r ≡ q
+    go Ordering·lt v = let n : priority r ≢ q = omega arith in absurd (omega (arith, at-other q r n))
+    go Ordering·eq v = v
+    go Ordering·gt v = let n : priority r ≢ q = omega arith in absurd (omega (arith, at-other q r n))
+
+at-zero : {A : Type 0} (q : ℕ) (r : Run A) → at q r ≡ 0 → priority r ≢ q
+at-zero q r h e = omega (arith, at-same q r e)
+
+size : {A : Type 0} → Run A → ℕ
+size r = suc (length (rest r))
+
+module _ {A : Type 0} (key : A → Str) where
+  -- the first element with that key
+  unfoldable pub lookup : Str → List A → Option A
+  lookup k [] = none
+  lookup k (x ∷ l) = cond (same k (key x)) (some x) (lookup k l)
+
+  -- in the first list that has one
+  unfoldable pub first-lookup : Str → List (List A) → Option A
+  first-lookup k [] = none
+  first-lookup k (l ∷ ls) = or-else (lookup k l) (first-lookup k ls)
+
+  abbrev pub Above : Str → List A → Type 0
+  Above k l = Allˡ (λ y. k <ˢ key y) l
+
+  abbrev pub Below : Str → List A → Type 0
+  Below k l = Allˡ (λ y. key y <ˢ k) l
+
+  abbrev pub Increasing : List A → Type 0
+  Increasing [] = Unit {0}
+  Increasing (x ∷ l) = Above (key x) l × Increasing l
+
+  abbrev pub Decreasing : List A → Type 0
+  Decreasing [] = Unit {0}
+  Decreasing (x ∷ l) = Below (key x) l × Decreasing l
+
+  pub lookup-hit : (x : A) (l : List A) → lookup (key x) (x ∷ l) ≡ some x
+  unfolding lookup
+  lookup-hit x l = rw same-self
+
+  pub lookup-miss : (k : Str) (x : A) (l : List A) → (k ≡ key x → ⊥) → lookup k (x ∷ l) ≡ lookup k l
+  unfolding lookup
+  lookup-miss k x l n = rw (same-ne k (key x) n)
+
+  lt-ne : (s t : Str) → s <ˢ t → s ≡ t → ⊥
+  lt-ne s t h e = <ˢ-irrefl t (rw e at h)
+
+  pub lookup-above : (k : Str) (l : List A) → Above k l → lookup k l ≡ none
+  unfolding lookup
+  lookup-above k [] p = refl
+  lookup-above k (x ∷ l) p = lookup-miss k x l (lt-ne k (key x) (p .0)) ∙ lookup-above k l (p .1)
+
+  pub lookup-below : (k : Str) (l : List A) → Below k l → lookup k l ≡ none
+  unfolding lookup
+  lookup-below k [] p = refl
+  lookup-below k (x ∷ l) p = lookup-miss k x l (λ e. lt-ne (key x) k (p .0) (sym e)) ∙ lookup-below k l (p .1)
+
+  -- ---- the order of runs
+  RLe : Run A → Run A → Type 0
+  RLe r s = (key (first r) <ˢ key (first s)) ⊎ ((key (first r) ≡ key (first s)) × (priority r ≤ priority s))
+
+  RLe-trans : (a b c : Run A) → RLe a b → RLe b c → RLe a c
+  unfolding RLe
+  RLe-trans a b c (inl h) (inl k) = inl (<ˢ-trans (key (first a)) (key (first b)) (key (first c)) h k)
+  RLe-trans a b c (inl h) (inr k) = inl (rw (← k .0) h)
+  RLe-trans a b c (inr h) (inl k) = inl (rw (h .0) k)
+  RLe-trans a b c (inr h) (inr k) = inr (h .0 ∙ k .0, omega arith)
+
+  RView : Run A → Run A → Bool → Type 0
+  RView a b true = RLe a b
+  RView a b false = RLe b a
+
+  run-view : (a b : Run A) → RView a b (is-lt (run-cmp key a b))
+  unfolding RView run-cmp RLe is-lt then
+  run-view a b = go (string-compare (key (first a)) (key (first b))) (compare (priority a) (priority b))
+      (compare-strings (key (first a)) (key (first b))) (compare-view (priority a) (priority b))
+    where
+      go : (o o′ : Ordering) → View (key (first a)) (key (first b)) o → Viewℕ (priority a) (priority b) o′ → RView a b (is-lt (then o o′))
+      go Ordering·lt o′ v w = inl v
+      go Ordering·eq Ordering·lt v w = inr (v, omega arith)
+      go Ordering·eq Ordering·eq v w = inr (sym v, omega arith)
+      go Ordering·eq Ordering·gt v w = inr (sym v, omega arith)
+      go Ordering·gt o′ v w = inl v
+
+  run-less : (a b : Run A) → is-lt (run-cmp key a b) ≡ true → RLe a b
+  unfolding RView
+  run-less a b e = subst (RView a b) e (run-view a b)
+
+  run-not-less : (a b : Run A) → is-lt (run-cmp key a b) ≡ false → RLe b a
+  unfolding RView
+  run-not-less a b e = subst (RView a b) e (run-view a b)
+
+  -- ---- what is left of each list, by priority, is in the heap
+  record Inv (ls : List (List A)) (h : Heap (Run A)) : Type 0 where
+    heaped : Heaped RLe h
+    sound : All (λ r. getD ls (priority r) [] ≡ first r ∷ rest r) h
+    counts : (q : ℕ) → sum (at q) h ≡ live (getD ls q [])
+    increasing : (q : ℕ) → Increasing (getD ls q [])
+
+  single : Run A → Heap (Run A)
+  single (run p v []) = EmptyHeap
+  single (run p v (w ∷ tl)) = HeapOf (run p w tl) []ᶠ
+
+  put-back-is : (r : Run A) (h : Heap (Run A)) → put-back key r h ≡ heap-merge (run-cmp key) (single r) h
+  unfolding put-back single heap-insert heap-merge
+  put-back-is (run p v []) h = refl
+  put-back-is (run p v (w ∷ tl)) h = refl
+
+  in-range : (ls : List (List A)) (p : ℕ) (v : A) (tl : List A) → getD ls p [] ≡ v ∷ tl → p < length ls
+  in-range [] p v tl e = absurd (nil≢cons e)
+  in-range (l ∷ ls) zero v tl e = omega arith
+  in-range (l ∷ ls) (suc p) v tl e = omega (arith, in-range ls p v tl e)
+
+  single-same : (p : ℕ) (v : A) (tl : List A) → sum (at p) (single (run p v tl)) ≡ live tl
+  unfolding single priority
+  single-same p v [] = refl
+  single-same p v (w ∷ tl) = omega (arith, at-same p (run p w tl) refl)
+
+  single-other : (p q : ℕ) (v : A) (tl : List A) → p ≢ q → sum (at q) (single (run p v tl)) ≡ 0
+  unfolding single priority
+  single-other p q v [] n = refl
+  single-other p q v (w ∷ tl) n = omega (arith, at-other q (run p w tl) n)
+
+  single-heaped : (r : Run A) → Heaped RLe (single r)
+  unfolding single
+  single-heaped (run p v []) = tt
+  single-heaped (run p v (w ∷ tl)) = (tt, tt)
+
+  single-size : (r : Run A) → sum size (single r) ≡ length (rest r)
+  unfolding single size rest
+  single-size (run p v []) = refl
+  single-size (run p v (w ∷ tl)) = omega arith
+
+  single-all : (P : Run A → Type 0) (p : ℕ) (v : A) (tl : List A) → ((w : A) (ws : List A) → tl ≡ w ∷ ws → P (run p w ws)) → All P (single (run p v tl))
+  unfolding single
+  single-all P p v [] f = tt
+  single-all P p v (w ∷ tl) f = (f w tl refl, tt)
+
+  -- the heap without its least element
+  popped : Run A → Forest (Run A) → Heap (Run A)
+  popped r hh = heap-merge (run-cmp key) (single r) (heap-merge-pairs (run-cmp key) hh)
+
+  popped-sum : (f : Run A → ℕ) (r : Run A) (hh : Forest (Run A)) → sum f (popped r hh) ≡ sum f (single r) + sumᶠ f hh
+  unfolding popped
+  popped-sum f r hh = omega (arith, sum-merge (run-cmp key) f (single r) (heap-merge-pairs (run-cmp key) hh), sum-pairs (run-cmp key) f hh)
+
+  popped-all : (P : Run A → Type 0) (p : ℕ) (v : A) (tl : List A) (hh : Forest (Run A))
+      → ((w : A) (ws : List A) → tl ≡ w ∷ ws → P (run p w ws)) → Allᶠ P hh → All P (popped (run p v tl) hh)
+  unfolding popped
+  popped-all P p v tl hh f a =
+      All-merge (run-cmp key) P (single (run p v tl)) (heap-merge-pairs (run-cmp key) hh) (single-all P p v tl f) (All-pairs (run-cmp key) P hh a)
+
+  module _ (ls : List (List A)) (p : ℕ) (v : A) (tl : List A) (hh : Forest (Run A)) (inv : Inv ls (HeapOf (run p v tl) hh)) where
+    here : getD ls p [] ≡ v ∷ tl
+    unfolding priority first rest
+    here = inv .sound .0
+
+    gone : Allᶠ (λ r. priority r ≢ p) hh
+    unfolding priority
+    gone = Allᶠ-map hh (λ r. at-zero p r)
+        (none-countedᶠ (at p) hh (omega (arith, inv .counts p, at-same p (run p v tl) refl, ap live here)))
+
+    popped-inv : Inv (set ls p tl) (popped (run p v tl) hh)
+    unfolding popped priority first rest
+    popped-inv = record {
+      heaped = Heaped-merge (run-cmp key) RLe RLe-trans run-less run-not-less (single (run p v tl)) (heap-merge-pairs (run-cmp key) hh)
+          (single-heaped (run p v tl)) (Heaped-pairs (run-cmp key) RLe RLe-trans run-less run-not-less hh (inv .heaped .1));
+      sound = popped-all (λ r. getD (set ls p tl) (priority r) [] ≡ first r ∷ rest r) p v tl hh
+          (λ w ws e. getD-set-same ls p tl [] (in-range ls p v tl here) ∙ e)
+          (Allᶠ-zip hh (λ s n k. getD-set-other ls p (priority s) tl [] n ∙ k) gone (inv .sound .1));
+      counts = λ q. count q (ℕ-discrete p q);
+      increasing = λ q. incr q (ℕ-discrete p q);
+    }
+      where
+        count : (q : ℕ) → Dec (p ≡ q) → sum (at q) (popped (run p v tl) hh) ≡ live (getD (set ls p tl) q [])
+        count q (yes e) = subst (λ q. sum (at q) (popped (run p v tl) hh) ≡ live (getD (set ls p tl) q [])) e
+            (omega (
+              arith,
+              popped-sum (at p) (run p v tl) hh,
+              single-same p v tl,
+              inv .counts p,
+              at-same p (run p v tl) refl,
+              ap live here,
+              ap live (getD-set-same ls p tl [] (in-range ls p v tl here)),
+            ))
+        count q (no n) =
+            omega (
+              arith,
+              popped-sum (at q) (run p v tl) hh,
+              single-other p q v tl n,
+              inv .counts q,
+              at-other q (run p v tl) n,
+              ap live (getD-set-other ls p q tl [] (λ e. n (sym e))),
+            )
+
+        incr : (q : ℕ) → Dec (p ≡ q) → Increasing (getD (set ls p tl) q [])
+        incr q (yes e) = subst (λ q. Increasing (getD (set ls p tl) q [])) e
+            (rw (getD-set-same ls p tl [] (in-range ls p v tl here)) (subst Increasing here (inv .increasing p) .1))
+        incr q (no n) = rw (getD-set-other ls p q tl [] (λ e. n (sym e))) (inv .increasing q)
+
+  above-trans : (k k′ : Str) (l : List A) → k <ˢ k′ → Above k′ l → Above k l
+  above-trans k k′ l h a = Allˡ-map l (λ y j. <ˢ-trans k k′ (key y) h j) a
+
+  below-trans : (k k′ : Str) (l : List A) → k′ <ˢ k → Below k′ l → Below k l
+  below-trans k k′ l h a = Allˡ-map l (λ y j. <ˢ-trans (key y) k′ k j h) a
+
+  -- the first list that has the key is the one at p
+  first-at : (ls : List (List A)) (p : ℕ) (v : A) (tl : List A) → getD ls p [] ≡ v ∷ tl
+      → ((q : ℕ) → q < p → lookup (key v) (getD ls q []) ≡ none) → first-lookup (key v) ls ≡ some v
+  unfolding first-lookup or-else
+  first-at [] p v tl e f = absurd (nil≢cons e)
+  first-at (l ∷ ls) zero v tl e f = ap (λ o. or-else o (first-lookup (key v) ls)) (ap (lookup (key v)) e ∙ lookup-hit v tl)
+  first-at (l ∷ ls) (suc p) v tl e f =
+      ap (λ o. or-else o (first-lookup (key v) ls)) (f 0 (omega arith)) ∙ first-at ls p v tl e (λ q h. f (suc q) (omega arith))
+
+  -- an element less changes no other key
+  other-key : (k : Str) (ls : List (List A)) (p : ℕ) (v : A) (tl : List A) → getD ls p [] ≡ v ∷ tl → (k ≡ key v → ⊥)
+      → first-lookup k (set ls p tl) ≡ first-lookup k ls
+  unfolding first-lookup
+  other-key k [] p v tl e n = refl
+  other-key k (l ∷ ls) zero v tl e n = ap (λ o. or-else o (first-lookup k ls)) (sym (ap (lookup k) e ∙ lookup-miss k v tl n))
+  other-key k (l ∷ ls) (suc p) v tl e n = ap (or-else (lookup k l)) (other-key k ls p v tl e n)
+
+  nothing-left : (k : Str) (ls : List (List A)) → ((q : ℕ) → 0 ≡ live (getD ls q [])) → first-lookup k ls ≡ none
+  unfolding first-lookup or-else lookup
+  nothing-left k [] f = refl
+  nothing-left k ([] ∷ ls) f = nothing-left k ls (λ q. f (suc q))
+  nothing-left k ((x ∷ l) ∷ ls) f = absurd (omega (arith, f 0))
+
+  RLe-refl : (r : Run A) → RLe r r
+  unfolding RLe
+  RLe-refl r = inr (refl, omega arith)
+
+  -- the least run holds its key for the first list
+  module _ (ls : List (List A)) (p : ℕ) (v : A) (tl : List A) (hh : Forest (Run A)) (inv : Inv ls (HeapOf (run p v tl) hh)) where
+    Found : Run A → Type 0
+    Found r = (getD ls (priority r) [] ≡ first r ∷ rest r) × RLe (run p v tl) r
+
+    least : (q : ℕ) → q < p → lookup (key v) (getD ls q []) ≡ none
+    unfolding Found RLe priority first rest lookup
+    least q l = go (getD ls q []) refl
+      where
+        use-found : (w : A) (ws : List A) → getD ls q [] ≡ w ∷ ws → (r : Run A) → priority r ≡ q → Found r → lookup (key v) (w ∷ ws) ≡ none
+        use-found w ws e r i (g, inr h) = absurd (omega arith)
+        use-found w ws e r i (g, inl h) =
+            let f : w ∷ ws ≡ first r ∷ rest r = sym e ∙ ap (λ j. getD ls j []) (sym i) ∙ g in
+            let m : Increasing (first r ∷ rest r) = subst Increasing g (inv .increasing (priority r)) in
+            ap (lookup (key v)) f ∙ lookup-above (key v) (first r ∷ rest r) (h, above-trans (key v) (key (first r)) (rest r) h (m .0))
+
+        go : (m : List A) → getD ls q [] ≡ m → lookup (key v) m ≡ none
+        go [] e = refl
+        go (w ∷ ws) e =
+            let c : (r : Run A) × (0 < at q r) × Found r =
+            counted Found (at q) (HeapOf (run p v tl) hh) (omega (arith, inv .counts q, ap live e))
+            ((inv .sound .0, RLe-refl (run p v tl)), Allᶠ-zip hh (λ r a b. (a, b)) (inv .sound .1) (inv .heaped .0)) in
+            use-found w ws e (c .0) (at-pos q (c .0) (c .1)) (c .2)
+
+    first-is : first-lookup (key v) ls ≡ some v
+    first-is = first-at ls p v tl (here ls p v tl hh inv) least
+
+  -- ---- pushing
+  HeadLe : List A → A → Type 0
+  HeadLe [] v = Unit {0}
+  HeadLe (a ∷ acc) v = ≤ˢ-lt (key a) (key v)
+
+  Reached : List A → Heap (Run A) → Type 0
+  Reached [] h = Unit {0}
+  Reached (a ∷ acc) h = All (λ r. ≤ˢ-lt (key a) (key (first r))) h
+
+  record Pushed (v : A) (acc acc′ : List A) : Type 0 where
+    decreasing : Decreasing acc′
+    reached : (h : Heap (Run A)) → All (λ r. ≤ˢ-lt (key v) (key (first r))) h → Reached acc′ h
+    hit : (o : Option A) → or-else (lookup (key v) acc′) o ≡ or-else (lookup (key v) acc) (some v)
+    miss : (k : Str) → (k ≡ key v → ⊥) → lookup k acc′ ≡ lookup k acc
+
+  pushed-same : (v a : A) (acc : List A) → Decreasing (a ∷ acc) → key v ≡ key a → Pushed v (a ∷ acc) (a ∷ acc)
+  unfolding Reached or-else
+  pushed-same v a acc d e = record {
+    decreasing = d;
+    reached = λ h x. All-map h (λ r y. rw e at y) x;
+    hit = λ o. rw (e, lookup-hit);
+    miss = λ k n. refl;
+  }
+
+  pushed-new : (v : A) (acc : List A) → Decreasing acc → Below (key v) acc → Pushed v acc (v ∷ acc)
+  unfolding Reached or-else
+  pushed-new v acc d b = record {
+    decreasing = (b, d);
+    reached = λ h x. x;
+    hit = λ o. rw (lookup-hit, lookup-below (key v) acc b);
+    miss = λ k n. lookup-miss k v acc n;
+  }
+
+  pushed : (v : A) (acc : List A) → Decreasing acc → HeadLe acc v → Pushed v acc (push-nodup key v acc)
+  unfolding push-nodup HeadLe Same ≤ˢ-lt
+  pushed v [] d l = pushed-new v [] tt tt
+  pushed v (a ∷ acc) d l = go (same-view (key v) (key a)) l
+    where
+      new : key a <ˢ key v → Pushed v (a ∷ acc) (v ∷ (a ∷ acc))
+      new h = pushed-new v (a ∷ acc) d (h, below-trans (key v) (key a) acc h (d .0))
+
+      go : Same (key v) (key a) → ≤ˢ-lt (key a) (key v) → Pushed v (a ∷ acc) (cond (same (key v) (key a)) (a ∷ acc) (v ∷ (a ∷ acc)))
+      go (inl (t, e)) l = rw t (pushed-same v a acc d e)
+      go (inr (f, x)) (inl h) = rw f (new h)
+      go (inr (f, inl x)) (inr e) = absurd (lt-ne (key v) (key a) x (sym e))
+      go (inr (f, inr x)) (inr e) = absurd (lt-ne (key a) (key v) x e)
+
+  -- ---- the merge of a heap
+  record Merged (acc : List A) (ls : List (List A)) (result : List A) : Type 0 where
+    decreasing : Decreasing result
+    at-key : (k : Str) → lookup k result ≡ or-else (lookup k acc) (first-lookup k ls)
+
+  head-le : (acc : List A) (r : Run A) (hh : Forest (Run A)) → Reached acc (HeapOf r hh) → HeadLe acc (first r)
+  unfolding Reached HeadLe
+  head-le [] r hh x = tt
+  head-le (a ∷ acc) r hh x = x .0
+
+  merged-none : (acc : List A) (ls : List (List A)) → Decreasing acc → Inv ls EmptyHeap → Merged acc ls acc
+  merged-none acc ls d inv = record {
+    decreasing = d;
+    at-key = λ k. rw (nothing-left k ls (inv .counts), or-else-none);
+  }
+
+  module _ (acc : List A) (ls : List (List A)) (p : ℕ) (v : A) (tl : List A) (hh : Forest (Run A)) (d : Decreasing acc)
+      (inv : Inv ls (HeapOf (run p v tl) hh)) (reached : Reached acc (HeapOf (run p v tl) hh)) where
+    push : Pushed v acc (push-nodup key v acc)
+    unfolding first
+    push = pushed v acc d (head-le acc (run p v tl) hh reached)
+
+    -- what is left is not less
+    left : All (λ r. ≤ˢ-lt (key v) (key (first r))) (popped (run p v tl) hh)
+    unfolding first ≤ˢ-lt RLe
+    left = popped-all (λ r. ≤ˢ-lt (key v) (key (first r))) p v tl hh
+        (λ w ws e. inl (subst (Above (key v)) e (subst Increasing (here ls p v tl hh inv) (inv .increasing p) .0) .0))
+        (Allᶠ-map hh weaken (inv .heaped .0))
+      where
+        weaken : (r : Run A) → RLe (run p v tl) r → ≤ˢ-lt (key v) (key (first r))
+        weaken r (inl h) = inl h
+        weaken r (inr h) = inr (h .0)
+
+    merged-step : (result : List A) → Merged (push-nodup key v acc) (set ls p tl) result → Merged acc ls result
+    unfolding Same
+    merged-step result m = record { decreasing = m .decreasing; at-key = λ k. m .at-key k ∙ go k (same-view k (key v)) }
+      where
+        other : (k : Str) → (k ≡ key v → ⊥)
+            → or-else (lookup k (push-nodup key v acc)) (first-lookup k (set ls p tl)) ≡ or-else (lookup k acc) (first-lookup k ls)
+        other k n = rw (push .miss k n, other-key k ls p v tl (here ls p v tl hh inv) n)
+
+        go : (k : Str) → Same k (key v)
+            → or-else (lookup k (push-nodup key v acc)) (first-lookup k (set ls p tl)) ≡ or-else (lookup k acc) (first-lookup k ls)
+        go k (inl (t, e)) = rw e (push .hit (first-lookup (key v) (set ls p tl)) ∙ ap (or-else (lookup (key v) acc)) (sym (first-is ls p v tl hh inv)))
+        go k (inr (f, inl x)) = other k (lt-ne k (key v) x)
+        go k (inr (f, inr x)) = other k (λ e. lt-ne (key v) k x (sym e))
+
+  popped-size : (n : ℕ) (r : Run A) (hh : Forest (Run A)) → sum size (HeapOf r hh) ≤ suc n → sum size (popped r hh) ≤ n
+  unfolding size
+  popped-size n r hh l = omega (arith, popped-sum size r hh, single-size r)
+
+  merge-spec : (n : ℕ) (h : Heap (Run A)) (acc : List A) (ls : List (List A)) → sum size h ≤ n → Inv ls h → Decreasing acc → Reached acc h
+      → Merged acc ls (merge-aux key n h acc)
+  unfolding merge-aux popped size first
+  merge-spec zero EmptyHeap acc ls l inv d x = merged-none acc ls d inv
+  merge-spec zero (HeapOf r hh) acc ls l inv d x = absurd (omega arith)
+  merge-spec (suc n) EmptyHeap acc ls l inv d x = merged-none acc ls d inv
+  merge-spec (suc n) (HeapOf (run p v tl) hh) acc ls l inv d x =
+      merged-step acc ls p v tl hh d inv x (merge-aux key n (put-back key (run p v tl) (heap-merge-pairs (run-cmp key) hh)) (push-nodup key v acc))
+      (rw (put-back-is (run p v tl) (heap-merge-pairs (run-cmp key) hh))
+      (merge-spec n (popped (run p v tl) hh) (push-nodup key v acc) (set ls p tl) (popped-size n (run p v tl) hh l)
+      (popped-inv ls p v tl hh inv)
+      (push acc ls p v tl hh d inv x .decreasing)
+      (push acc ls p v tl hh d inv x .reached (popped (run p v tl) hh) (left acc ls p v tl hh d inv x))))
+
+  -- ---- the heap of the lists
+  abbrev sumˡ : (Run A → ℕ) → List (Run A) → ℕ
+  sumˡ f [] = 0
+  sumˡ f (r ∷ rs) = f r + sumˡ f rs
+
+  insert-all-sum : (f : Run A → ℕ) (h : Heap (Run A)) (rs : List (Run A)) → sum f (heap-insert-all (run-cmp key) h rs) ≡ sum f h + sumˡ f rs
+  unfolding heap-insert-all heap-insert
+  insert-all-sum f h [] = omega arith
+  insert-all-sum f h (r ∷ rs) =
+      omega (arith, insert-all-sum f (heap-insert (run-cmp key) h r) rs, sum-merge (run-cmp key) f (HeapOf r []ᶠ) h)
+
+  insert-all-all : (P : Run A → Type 0) (h : Heap (Run A)) (rs : List (Run A)) → All P h → Allˡ P rs → All P (heap-insert-all (run-cmp key) h rs)
+  unfolding heap-insert-all heap-insert
+  insert-all-all P h [] a b = a
+  insert-all-all P h (r ∷ rs) a b = insert-all-all P (heap-insert (run-cmp key) h r) rs (All-merge (run-cmp key) P (HeapOf r []ᶠ) h (b .0, tt) a) (b .1)
+
+  insert-all-heaped : (h : Heap (Run A)) (rs : List (Run A)) → Heaped RLe h → Heaped RLe (heap-insert-all (run-cmp key) h rs)
+  unfolding heap-insert-all heap-insert
+  insert-all-heaped h [] a = a
+  insert-all-heaped h (r ∷ rs) a =
+      insert-all-heaped (heap-insert (run-cmp key) h r) rs
+      (Heaped-merge (run-cmp key) RLe RLe-trans run-less run-not-less (HeapOf r []ᶠ) h (tt, tt) a)
+
+  cnt : ℕ → List (List A) → ℕ → ℕ
+  cnt n [] q = 0
+  cnt n ([] ∷ ls) q = cnt (suc n) ls q
+  cnt n ((v ∷ tl) ∷ ls) q = at q (run n v tl) + cnt (suc n) ls q
+
+  cnt-low : (n : ℕ) (ls : List (List A)) (q : ℕ) → q < n → cnt n ls q ≡ 0
+  unfolding cnt priority
+  cnt-low n [] q h = refl
+  cnt-low n ([] ∷ ls) q h = cnt-low (suc n) ls q (omega arith)
+  cnt-low n ((v ∷ tl) ∷ ls) q h = omega (arith, cnt-low (suc n) ls q (omega arith), at-other q (run n v tl) (omega arith))
+
+  cnt-at : (n : ℕ) (ls : List (List A)) (q i : ℕ) → i ≡ n + q → cnt n ls i ≡ live (getD ls q [])
+  unfolding cnt priority
+  cnt-at n [] q i e = refl
+  cnt-at n ([] ∷ ls) zero i e = cnt-low (suc n) ls i (omega arith)
+  cnt-at n ([] ∷ ls) (suc q) i e = cnt-at (suc n) ls q i (omega arith)
+  cnt-at n ((v ∷ tl) ∷ ls) zero i e = omega (arith, cnt-low (suc n) ls i (omega arith), at-same i (run n v tl) (omega arith))
+  cnt-at n ((v ∷ tl) ∷ ls) (suc q) i e = omega (arith, cnt-at (suc n) ls q i (omega arith), at-other i (run n v tl) (omega arith))
+
+  priorities-count : (q n : ℕ) (acc : List (Run A)) (ls : List (List A)) → sumˡ (at q) (add-priorities n acc ls) ≡ sumˡ (at q) acc + cnt n ls q
+  unfolding add-priorities cnt
+  priorities-count q n acc [] = omega arith
+  priorities-count q n acc ([] ∷ ls) = priorities-count q (suc n) acc ls
+  priorities-count q n acc ((v ∷ tl) ∷ ls) = omega (arith, priorities-count q (suc n) (run n v tl ∷ acc) ls)
+
+  priorities-size : (n : ℕ) (acc : List (Run A)) (ls : List (List A)) → sumˡ size (add-priorities n acc ls) ≡ sumˡ size acc + total ls
+  unfolding add-priorities total size rest
+  priorities-size n acc [] = omega arith
+  priorities-size n acc ([] ∷ ls) = omega (arith, priorities-size (suc n) acc ls)
+  priorities-size n acc ((v ∷ tl) ∷ ls) = omega (arith, priorities-size (suc n) (run n v tl ∷ acc) ls)
+
+  priorities-sound : (all : List (List A)) (n : ℕ) (acc : List (Run A)) (ls : List (List A))
+      → ((q i : ℕ) → i ≡ n + q → getD all i [] ≡ getD ls q []) → Allˡ (λ r. getD all (priority r) [] ≡ first r ∷ rest r) acc
+      → Allˡ (λ r. getD all (priority r) [] ≡ first r ∷ rest r) (add-priorities n acc ls)
+  unfolding add-priorities priority first rest
+  priorities-sound all n acc [] f a = a
+  priorities-sound all n acc ([] ∷ ls) f a = priorities-sound all (suc n) acc ls (λ q i e. f (suc q) i (omega arith)) a
+  priorities-sound all n acc ((v ∷ tl) ∷ ls) f a =
+      priorities-sound all (suc n) (run n v tl ∷ acc) ls (λ q i e. f (suc q) i (omega arith)) (f 0 n (omega arith), a)
+
+  all-getD : (ls : List (List A)) (q : ℕ) → Allˡ Increasing ls → Increasing (getD ls q [])
+  all-getD [] q a = tt
+  all-getD (l ∷ ls) zero a = a .0
+  all-getD (l ∷ ls) (suc q) a = all-getD ls q (a .1)
+
+  start : (ls : List (List A)) → Allˡ Increasing ls → Inv ls (heap-from-list (run-cmp key) (add-priorities 0 [] ls))
+  unfolding heap-from-list
+  start ls a = record {
+    heaped = insert-all-heaped EmptyHeap (add-priorities 0 [] ls) tt;
+    sound = insert-all-all (λ r. getD ls (priority r) [] ≡ first r ∷ rest r) EmptyHeap (add-priorities 0 [] ls) tt
+        (priorities-sound ls 0 [] ls (λ q i e. ap (λ j. getD ls j []) (omega arith)) tt);
+    counts = λ q. omega (arith, insert-all-sum (at q) EmptyHeap (add-priorities 0 [] ls), priorities-count q 0 [] ls, cnt-at 0 ls q q (omega arith));
+    increasing = λ q. all-getD ls q a;
+  }
+
+  -- ---- one list: its reverse
+  reversed : (l acc : List A) → Increasing l → Decreasing acc → Allˡ (λ a. Above (key a) l) acc → Decreasing (reverseAux l acc)
+  reversed [] acc i d a = d
+  reversed (x ∷ l) acc i d a =
+      reversed l (x ∷ acc) (i .1) (Allˡ-map acc (λ y p. p .0) a, d) (i .0, Allˡ-map acc (λ y p. p .1) a)
+
+  reversed-at : (k : Str) (l acc : List A) → Increasing l → lookup k (reverseAux l acc) ≡ or-else (lookup k l) (lookup k acc)
+  unfolding lookup or-else Same
+  reversed-at k [] acc i = refl
+  reversed-at k (x ∷ l) acc i = reversed-at k l (x ∷ acc) (i .1) ∙ go (same-view k (key x))
+    where
+      go : Same k (key x) → or-else (lookup k l) (cond (same k (key x)) (some x) (lookup k acc)) ≡ or-else (cond (same k (key x)) (some x) (lookup k l)) (lookup k acc)
+      go (inl (t, e)) = rw (t, lookup-above k l (rw (← e) at (i .0)))
+      go (inr (f, x)) = rw f
+
+  nonempty-at : (k : Str) (ls : List (List A)) → first-lookup k (nonempty ls) ≡ first-lookup k ls
+  unfolding nonempty first-lookup or-else lookup
+  nonempty-at k [] = refl
+  nonempty-at k ([] ∷ ls) = nonempty-at k ls
+  nonempty-at k ((x ∷ l) ∷ ls) = ap (or-else (lookup k (x ∷ l))) (nonempty-at k ls)
+
+  nonempty-all : (ls : List (List A)) → Allˡ Increasing ls → Allˡ Increasing (nonempty ls)
+  unfolding nonempty
+  nonempty-all [] a = tt
+  nonempty-all ([] ∷ ls) a = nonempty-all ls (a .1)
+  nonempty-all ((x ∷ l) ∷ ls) a = (a .0, nonempty-all ls (a .1))
+
+  merge-nonempty-spec : (ls : List (List A)) → Allˡ Increasing ls → Merged [] ls (merge-nonempty key ls)
+  unfolding merge-nonempty lookup or-else first-lookup Reached heap-from-list
+  merge-nonempty-spec [] a = record { decreasing = tt; at-key = λ k. refl }
+  merge-nonempty-spec (l ∷ []) a = record {
+    decreasing = reversed l [] (a .0) tt tt;
+    at-key = λ k. reversed-at k l [] (a .0);
+  }
+  merge-nonempty-spec (l ∷ (m ∷ ls)) a =
+      merge-spec (total (l ∷ (m ∷ ls))) (heap-from-list (run-cmp key) (add-priorities 0 [] (l ∷ (m ∷ ls)))) [] (l ∷ (m ∷ ls))
+      (omega (arith, insert-all-sum size EmptyHeap (add-priorities 0 [] (l ∷ (m ∷ ls))), priorities-size 0 [] (l ∷ (m ∷ ls))))
+      (start (l ∷ (m ∷ ls)) a) tt tt
+
+  -- the theorem
+  pub merge-decreasing : (ls : List (List A)) → Allˡ Increasing ls → Decreasing (merge-increasing-lists-rev key ls)
+  unfolding merge-increasing-lists-rev
+  merge-decreasing ls a = merge-nonempty-spec (nonempty ls) (nonempty-all ls a) .decreasing
+
+  pub merge-at : (ls : List (List A)) → Allˡ Increasing ls → (k : Str) → lookup k (merge-increasing-lists-rev key ls) ≡ first-lookup k ls
+  unfolding merge-increasing-lists-rev lookup or-else
+  merge-at ls a k = merge-nonempty-spec (nonempty ls) (nonempty-all ls a) .at-key k ∙ nonempty-at k ls

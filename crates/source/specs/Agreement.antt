@@ -1,0 +1,68 @@
+-- Demand 3 of the customer's E: what the pane lists and what look-up takes.
+use Prim.Native.Nat.{ℕ, _≤_}
+use mathlib.Core.Path.{_≡_}
+use mathlib.Core.Logic.{_↔_}
+use mathlib.Core.Bool.{Bool, true, false}
+use mathlib.Core.List.{List, [], _∷_}
+use mathlib.Core.Option.{Option, some}
+use lib.Dec.{isEq}
+use lib.ListN.{length}
+use Rattle.source.specs.Text.{Str, Query, string-compare, starts-with, segments}
+use Rattle.source.specs.Types.{Trie, bindings, namespaces}
+use Rattle.source.specs.Terms.{flatten, holders, first-of, walk-first, walk-last}
+use Rattle.source.specs.Table.{Table, ModSymbol, Line}
+use Rattle.source.specs.Rules.{SoundTable}
+use Rattle.source.specs.Calls.{Found, found, not-found, refused, found-of, look-up, Completed, listed, Output, All, complete, complete-modules}
+
+-- A query covers a full name that has at least as many segments and whose segments begin, one by one, with the query's.
+abbrev pub Covers : (query name : Query) → Type 0
+Covers [] name = Unit {0}
+Covers (p ∷ query) [] = ⊥
+Covers (p ∷ query) (s ∷ name) = (starts-with s p ≡ true) × Covers query name
+
+-- A text without its last byte.
+unfoldable pub without-last : Str → Str
+without-last [] = []
+without-last (b ∷ []) = []
+without-last (b ∷ (c ∷ s)) = b ∷ without-last (c ∷ s)
+
+module _ {A : Type 0} where
+  abbrev pub NotRefused : Found A → Type 0
+  NotRefused (found a) = Unit {0}
+  NotRefused not-found = Unit {0}
+  NotRefused (refused n) = ⊥
+
+  -- The lines with that text. A line's text is its candidate.
+  unfoldable pub lines-of-text : Str → List (Line A) → List (Line A)
+  lines-of-text t [] = []
+  lines-of-text t (l ∷ ls) = elim (isEq (string-compare (l .candidate) t)) [ true ↦ l ∷ lines-of-text t ls | false ↦ lines-of-text t ls ]
+
+  -- Exactly one line, which carries the item; or no line, and none.
+  abbrev pub Shows : List (Line A) → Found A → Type 0
+  Shows ls (found a) = (l : Line A) × (ls ≡ l ∷ []) × (l .item-of ≡ a)
+  Shows ls not-found = ls ≡ []
+  Shows ls (refused n) = ⊥
+
+  -- No step of the walk by first holders meets more than one holder.
+  abbrev pub OneHolder : Trie A → Query → Type 0
+  OneHolder tr [] = Unit {0}
+  OneHolder tr (s ∷ []) = length (holders (flatten (bindings tr)) s) ≤ 1
+  OneHolder tr (s ∷ (t ∷ q)) =
+      (length (holders (flatten (namespaces tr)) s) ≤ 1)
+      × ((scope : Trie A) → first-of (holders (flatten (namespaces tr)) s) ≡ some scope → OneHolder scope (t ∷ q))
+
+  -- What holds of a root, a full name and the lines of a completion that covers it.
+  pub record Agreement (root : Trie A) (name : Str) (lines : List (Line A)) : Type 0 where
+    pub pane : Shows (lines-of-text (without-last name) lines) (found-of (walk-last root (segments name)))
+    pub enter : look-up true root name ≡ found-of (walk-first root (segments name))
+    pub agree : Shows (lines-of-text (without-last name) lines) (look-up true root name) ↔ (walk-first root (segments name) ≡ walk-last root (segments name))
+    pub one-holder : OneHolder root (segments name) → Shows (lines-of-text (without-last name) lines) (look-up true root name)
+
+-- On either root of every sound table, for every full name that look-up does not refuse and every completion, unfiltered and not refused, that covers it.
+pub record Demand3 : Type 0 where
+  pub names : (tbl : Table) → SoundTable tbl → (name query : Str) (budget : ℕ) (out : Output) (lines : List (Line ℕ)) (entered : ℕ)
+      → NotRefused (look-up true (tbl .tbl-lids) name) → complete true tbl budget out query ≡ listed lines entered → Covers (segments query) (segments name)
+      → Agreement (tbl .tbl-lids) name lines
+  pub modules : (tbl : Table) → SoundTable tbl → (name query : Str) (budget : ℕ) (out : Output) (lines : List (Line ModSymbol)) (entered : ℕ)
+      → NotRefused (look-up true (tbl .tbl-mods) name) → complete-modules true tbl All budget out query ≡ listed lines entered → Covers (segments query) (segments name)
+      → Agreement (tbl .tbl-mods) name lines

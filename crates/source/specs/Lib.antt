@@ -1,0 +1,13 @@
+pub mod Text
+pub mod Heap
+pub mod Lists
+pub mod Types
+pub mod Trees
+pub mod Tries
+pub mod Terms
+pub mod Listing
+pub mod Table
+pub mod Rules
+pub mod Counted
+pub mod Calls
+pub mod Agreement

@@ -1,0 +1,80 @@
+-- Listing, as in the source: names_revmap to trie_find_prefix.
+use Prim.Native.Nat.{ℕ, zero, suc}
+use mathlib.Core.List.{List, [], _∷_, map, reverse, tail}
+use mathlib.Core.Option.{Option, none, some}
+use Rattle.source.specs.Text.{Str, Query}
+use Rattle.source.specs.Types.{Level, Value, Trie, Tree, NameList, []ᴺ, Names, ImportedNames, the-item, bindings, namespaces}
+use Rattle.source.specs.Trees.{PrefixMatch, PathElem, btree-find-all, btree-find-prefix}
+use Rattle.source.specs.Lists.{merge-increasing-lists-rev}
+use Rattle.source.specs.Terms.{depth}
+
+-- path
+abbrev pub PathOf : Type 0
+PathOf = List PathElem
+
+-- name_search_term
+pub data SearchTerm : Type 0 where
+  NSTAll NSTNone : SearchTerm
+  NSTPrefix : Str → SearchTerm
+
+-- List.fold_left
+unfoldable pub fold-left : {A B : Type 0} → (B → A → B) → B → List A → B
+fold-left f b [] = b
+fold-left f b (a ∷ l) = fold-left f (f b a) l
+
+-- List.rev_map_onto
+unfoldable pub rev-map-onto : {A B : Type 0} → (A → B) → List A → List B → List B
+rev-map-onto f [] acc = acc
+rev-map-onto f (a ∷ l) acc = rev-map-onto f l (f a ∷ acc)
+
+-- The search terms of trie_find_prefix' for a query.
+unfoldable pub ns-search-term : Query → SearchTerm
+ns-search-term [] = NSTAll
+ns-search-term (s ∷ q) = NSTPrefix s
+
+unfoldable pub bindings-search-term : Query → SearchTerm
+bindings-search-term [] = NSTAll
+bindings-search-term (id ∷ []) = NSTPrefix id
+bindings-search-term (s ∷ (t ∷ q)) = NSTNone
+
+module _ {A : Type 0} where
+  -- aux of names_revmap
+  unfoldable pub revmap-onto : {l : Level} {B : Type 0} → (Tree A l → B) → List (List Str × B) → List Str → NameList A l → List (List Str × B)
+  revmap-onto fn acc imports []ᴺ = acc
+  revmap-onto fn acc imports (Names bt tl) = revmap-onto fn ((imports, fn bt) ∷ acc) imports tl
+  revmap-onto fn acc imports (ImportedNames nm inner tl) = revmap-onto fn (revmap-onto fn acc (nm ∷ imports) inner) imports tl
+
+  unfoldable pub names-revmap : {l : Level} {B : Type 0} → (Tree A l → B) → NameList A l → List (List Str × B)
+  names-revmap fn n = revmap-onto fn [] [] n
+
+  -- matching_values_per_collection_with_imports of names_find_rev
+  unfoldable pub matching-values : {l : Level} → NameList A l → SearchTerm → List (List Str × List (PrefixMatch × Value A l))
+  matching-values n NSTNone = []
+  matching-values n NSTAll = names-revmap (btree-find-all none) n
+  matching-values n (NSTPrefix []) = names-revmap (btree-find-all (some [])) n
+  matching-values n (NSTPrefix (b ∷ id)) = names-revmap (λ bt. btree-find-prefix bt (b ∷ id)) n
+
+  -- One collection's matches with its imports (mk_path_el).
+  unfoldable pub with-imports : {l : Level} → List Str × List (PrefixMatch × Value A l) → List (PathElem × Value A l)
+  with-imports m = map (λ x. (record { imports = m .0; segment = x .0 }, x .1)) (m .1)
+
+  -- key_fn of names_find_rev
+  unfoldable pub elem-key : {l : Level} → PathElem × Value A l → Str
+  elem-key x = x .0 .segment .completion
+
+  unfoldable pub names-find-rev : {l : Level} → NameList A l → SearchTerm → List (PathElem × Value A l)
+  names-find-rev n id = merge-increasing-lists-rev elem-key (map with-imports (matching-values n id))
+
+  -- trie_find_prefix'. Each call goes one trie deeper, so the depth is fuel enough: proofs/Fuel.antt.
+  unfoldable pub find-prefix-fuel : ℕ → Trie A → PathOf → Query → List (PathOf × A) → List (PathOf × A)
+  find-prefix-fuel zero tr path-acc q acc = acc
+  find-prefix-fuel (suc n) tr path-acc q acc =
+      rev-map-onto (λ x. (reverse (x .0 ∷ path-acc), the-item (x .1))) (names-find-rev (bindings tr) (bindings-search-term q))
+      (fold-left (λ acc x. find-prefix-fuel n (x .1) (x .0 ∷ path-acc) (tail q) acc) acc
+      (names-find-rev (namespaces tr) (ns-search-term q)))
+
+  unfoldable pub trie-find-prefix′ : Trie A → PathOf → Query → List (PathOf × A) → List (PathOf × A)
+  trie-find-prefix′ tr path-acc q acc = find-prefix-fuel (suc (depth tr)) tr path-acc q acc
+
+  unfoldable pub trie-find-prefix : Trie A → Query → List (PathOf × A)
+  trie-find-prefix tr q = trie-find-prefix′ tr [] q []

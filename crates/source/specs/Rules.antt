@@ -1,0 +1,88 @@
+-- What Sound asks of the tables that the memory holds: names, labels, items, ascending keys, weight and depth.
+use Prim.Native.Nat.{ℕ, _≤_, _<_}
+use mathlib.Core.Path.{_≡_}
+use mathlib.Core.Logic.{_⊎_}
+use mathlib.Core.Bool.{Bool, true, false, _&&_}
+use mathlib.Core.List.{List, [], _∷_}
+use lib.ListN.{length}
+use Rattle.source.specs.Text.{Str, name-byte, query-byte, path-byte}
+use Rattle.source.specs.Types.{Level, Value, Trie, Tree, NameList, item, trie, StrEmpty, StrBranch, []ᴺ, Names, ImportedNames}
+use Rattle.source.specs.Terms.{heaviest, depth}
+use Rattle.source.specs.Table.{ModSymbol, Module, Namespace, Table}
+
+-- Each byte passes the test.
+unfoldable pub all : (ℕ → Bool) → Str → Bool
+all p [] = true
+all p (b ∷ s) = p b && all p s
+
+-- A text of low to high bytes that pass the test.
+pub record Fits (p : ℕ → Bool) (low high : ℕ) (s : Str) : Type 0 where
+  pub bytes : all p s ≡ true
+  pub long : low ≤ length s
+  pub short : length s ≤ high
+
+-- A key, a label, a full name, a file path.
+abbrev pub IsKey : Str → Type 0
+IsKey s = Fits name-byte 1 31 s
+
+abbrev pub IsLabel : Str → Type 0
+IsLabel s = Fits query-byte 0 543 s
+
+abbrev pub IsFullName : Str → Type 0
+IsFullName s = Fits query-byte 1 543 s
+
+abbrev pub IsPath : Str → Type 0
+IsPath s = Fits path-byte 0 120 s
+
+-- The items of the names table (any number that a word holds), and of the module table.
+abbrev pub NameItem : ℕ → Type 0
+NameItem n = Unit {0}
+
+abbrev pub ModItem : ModSymbol → Type 0
+ModItem (Module name path loaded) = IsFullName name × IsPath path
+ModItem (Namespace name loaded) = IsFullName name
+
+-- The order of texts that string_compare decides: bytewise, a proper beginning first.
+infix 40 _<ˢ_
+abbrev pub _<ˢ_ : Str → Str → Type 0
+[] <ˢ [] = ⊥
+[] <ˢ (b ∷ t) = Unit {0}
+(a ∷ s) <ˢ [] = ⊥
+(a ∷ s) <ˢ (b ∷ t) = (a < b) ⊎ ((a ≡ b) × (s <ˢ t))
+
+module _ {A : Type 0} {l : Level} where
+  abbrev pub AllKeys : (Str → Type 0) → Tree A l → Type 0
+  AllKeys P StrEmpty = Unit {0}
+  AllKeys P (StrBranch k v lbt rbt) = P k × AllKeys P lbt × AllKeys P rbt
+
+  -- A tree's keys ascend strictly.
+  abbrev pub Ordered : Tree A l → Type 0
+  Ordered StrEmpty = Unit {0}
+  Ordered (StrBranch k v lbt rbt) = AllKeys (λ x. x <ˢ k) lbt × AllKeys (λ x. k <ˢ x) rbt × Ordered lbt × Ordered rbt
+
+-- Keys, labels and items keep their rules, and each tree's keys ascend strictly.
+module _ {A : Type 0} (Key Label : Str → Type 0) (Item : A → Type 0) where
+  abbrev mutual
+    pub Formed : {l : Level} → Value A l → Type 0
+    Formed (item a) = Item a
+    Formed (trie b n) = FormedNames b × FormedNames n
+
+    pub FormedTree : {l : Level} → Tree A l → Type 0
+    FormedTree StrEmpty = Unit {0}
+    FormedTree (StrBranch k v lbt rbt) =
+        Key k × Formed v × AllKeys (λ x. x <ˢ k) lbt × AllKeys (λ x. k <ˢ x) rbt × FormedTree lbt × FormedTree rbt
+
+    pub FormedNames : {l : Level} → NameList A l → Type 0
+    FormedNames []ᴺ = Unit {0}
+    FormedNames (Names bt tl) = FormedTree bt × FormedNames tl
+    FormedNames (ImportedNames label inner tl) = Label label × FormedNames inner × FormedNames tl
+
+-- A root as Sound has it: every list weighs at most 96, and the depth is at most 16.
+pub record SoundTrie {A : Type 0} (Item : A → Type 0) (tr : Trie A) : Type 0 where
+  pub formed : Formed IsKey IsLabel Item tr
+  pub light : heaviest tr ≤ 96
+  pub shallow : depth tr ≤ 16
+
+pub record SoundTable (tbl : Table) : Type 0 where
+  pub lids : SoundTrie NameItem (tbl .tbl-lids)
+  pub mods : SoundTrie ModItem (tbl .tbl-mods)
