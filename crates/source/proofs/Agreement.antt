@@ -1,27 +1,26 @@
 -- Demand 3, the theorem: `agreement`.
-use Prim.Native.Nat.{ℕ, zero, suc, _≤_, _<_}
+use Prim.Native.Nat.{ℕ, _≤_}
 use mathlib.Core.Path.{_≡_, refl, sym, ap, _∙_, subst}
-use mathlib.Core.Logic.{_≢_, _↔_}
-use mathlib.Core.Bool.{Bool, true, false, cond, not, _||_, true≢false}
-use mathlib.Core.List.{List, [], _∷_, _++_, map, nil≢cons, head-eq-of-cons-eq, tail-eq-of-cons-eq}
+use mathlib.Core.Logic.{_≢_}
+use mathlib.Core.Bool.{Bool, true, false, cond, true≢false}
+use mathlib.Core.List.{List, [], _∷_, map, nil≢cons, head-eq-of-cons-eq, tail-eq-of-cons-eq}
 use mathlib.Core.Option.{Option, none, some}
 use native.Mathlib.Omega.{arith}
-use borrow.Author.Tests.{eqb-true, eqb-false, not-false}
-use lib.Dec.{isEq, eqb}
+use borrow.Author.Tests.{eqb-true, eqb-false}
+use lib.Dec.{eqb}
 use lib.ListN.{length}
-use Rattle.source.specs.Text.{Str, Query, string-compare, dot, segments, onto-first, ends-in-dot, query-to-string, name-byte}
-use Rattle.source.specs.Types.{Level, Value, Trie, Tree, bind, item, the-item, bindings, namespaces}
-use Rattle.source.specs.Trees.{btree-find-exact}
+use Rattle.source.specs.Text.{Str, Query, dot, segments, onto-first, ends-in-dot, query-to-string, name-byte}
+use Rattle.source.specs.Types.{Value, Trie, bind, item, the-item, bindings, namespaces}
 use Rattle.source.specs.Tries.{bind-option, trie-find-exact}
-use Rattle.source.specs.Terms.{flatten, found-onto, holders, first-of, last-of, walk-first, walk-last}
+use Rattle.source.specs.Terms.{flatten, holders, first-of, last-of, walk-first, walk-last}
 use Rattle.source.specs.Listing.{PathOf, trie-find-prefix}
-use Rattle.source.specs.Table.{Table, ModSymbol, Line, string-of-path, completion-result-of-lid, completion-result-of-ns-or-mod, filter-map, autocomplete-lid, autocomplete-mod-or-ns}
-use Rattle.source.specs.Rules.{Formed, IsKey, IsLabel, NameItem, ModItem, SoundTrie, SoundTable, all}
-use Rattle.source.specs.Calls.{Found, found, not-found, refused, found-of, look-up, Completed, listed, Output, Filter, All, keeps, filter-of, completed, complete, complete-modules, lowest, argument-rows, completion-rows, a-look-up, is-empty, any, bad-query, malformed, empty-name, tries-entered}
+use Rattle.source.specs.Table.{ModSymbol, Line, string-of-path, completion-result-of-lid, completion-result-of-ns-or-mod, filter-map, autocomplete-lid, autocomplete-mod-or-ns}
+use Rattle.source.specs.Rules.{Formed, IsKey, IsLabel, NameItem, ModItem, SoundTrie, all}
+use Rattle.source.specs.Calls.{Found, refused, found-of, look-up, Completed, listed, Output, All, keeps, filter-of, completed, complete, complete-modules, lowest, argument-rows, completion-rows, a-look-up, is-empty}
 use Rattle.source.specs.Agreement.{Covers, without-last, NotRefused, lines-of-text, Shows, OneHolder, Agreement, Demand3}
 use Rattle.source.proofs.Lists.{same, Allˡ}
-use Rattle.source.proofs.Queries.{and-parts, or-parts}
-use Rattle.source.proofs.Refusals.{Admitted, argument-rows-none}
+use Rattle.source.proofs.Queries.{and-parts}
+use Rattle.source.proofs.Refusals.{Admitted, argument-rows-none, look-up-whole, look-up-segment}
 use Rattle.source.proofs.Listed.{look-up-is-walk, to-list}
 use Rattle.source.proofs.ListedTexts.{NoDot, items-of-text, listed-items-of-text}
 
@@ -149,16 +148,6 @@ module _ {A : Type 0} where
 not-refused : {A : Type 0} (rows : Option ℕ) (o : Found A) → NotRefused {A = A} (elim rows [ none ↦ o | some n ↦ refused n ]) → rows ≡ none
 not-refused none o h = refl
 not-refused (some n) o h = absurd h
-
--- a look-up's query ends in a dot, and has a segment
-look-up-whole : (sound : Bool) (name : Str) → Admitted sound (a-look-up name ∷ []) → ends-in-dot name ≡ true
-unfolding malformed any bad-query
-look-up-whole sound name h =
-    not-false (ends-in-dot name) (or-parts (not (ends-in-dot name)) _ (or-parts _ false (h .well-formed) .0) .0)
-
-look-up-segment : (sound : Bool) (name : Str) → Admitted sound (a-look-up name ∷ []) → is-empty (segments name) ≡ false
-unfolding empty-name any
-look-up-segment sound name h = or-parts (any is-empty (segments name)) (is-empty (segments name)) (or-parts (empty-name (a-look-up name)) false (h .named) .0) .1
 
 completed-lines : {A : Type 0} (sound : Bool) (budget : ℕ) (out : Output) (query : Str) (lines lines′ : List (Line A)) (entered entered′ : ℕ)
     → completed sound budget out query lines entered ≡ listed lines′ entered′ → lines ≡ lines′

@@ -10,7 +10,7 @@ use lib.IntN.{ℤ, pos, negsuc}
 use Rattle.source.specs.Text.{Str, then, string-compare, starts-with, string-length, query-to-string, onto-first, segments, ends-in-dot, name-byte, query-byte, path-byte}
 use Rattle.source.specs.Heap.{is-lt, heap-merge, heap-insert, heap-insert-all, heap-from-list, heap-merge-pairs, heap-pair-up}
 use Rattle.source.specs.Lists.{first, priority, nonempty, add-priorities, total, push-nodup, run-cmp, put-back, merge-aux, merge-nonempty, merge-increasing-lists-rev}
-use Rattle.source.specs.Types.{Value, the-item, bindings, namespaces, trie-empty}
+use Rattle.source.specs.Types.{the-item, bindings, namespaces, trie-empty}
 use Rattle.source.specs.Trees.{btree-insert-replace, btree-find-exact, find-prefix-onto, btree-find-prefix, btree-fold, btree-find-all}
 use Rattle.source.specs.Tries.{or-else, dflt, bind-option, names-find-exact, trie-descend-exact, trie-find-exact, names-insert, scope-of, trie-mutate, trie-mutate-leaf, trie-insert, included, trie-import, trie-include, trie-open-namespace, trie-add-alias}
 use Rattle.source.specs.Terms.{weight, heaviest, heaviest-tree, heaviest-names, depth, depth-tree, depth-names}

@@ -1,15 +1,21 @@
 -- What the heap's operations keep: sums over the elements, a property of all, the heap order.
-use Prim.Native.Nat.{ℕ, zero, suc, _+_, _≤_, _<_, Ordering, Ordering·lt, Ordering·eq, Ordering·gt}
-use mathlib.Core.Path.{_≡_, refl, sym, ap, _∙_, subst}
+use Prim.Native.Nat.{ℕ, zero, suc, _+_, _<_, Ordering}
+use mathlib.Core.Path.{_≡_, refl, sym, ap, subst}
 use mathlib.Core.Bool.{Bool, true, false, cond}
 use mathlib.Core.List.{List, [], _∷_}
+use mathlib.Core.Option.{some, Option·none-ne-some, Option·some-injective}
 use native.Mathlib.Omega.{arith}
-use Rattle.source.specs.Heap.{Heap, Forest, EmptyHeap, HeapOf, []ᶠ, _∷ᶠ_, is-lt, heap-merge, heap-insert, heap-merge-pairs, heap-pair-up}
+use Rattle.source.specs.Heap.{Heap, Forest, EmptyHeap, HeapOf, []ᶠ, _∷ᶠ_, is-lt, heap-merge, heap-insert, heap-merge-pairs, heap-pair-up, heap-pop, heap-insert-all, heap-from-list}
 
 -- something counted in one of two parts
 abbrev pick : {C : Type 0} (m n : ℕ) → 0 < m + n → (0 < m → C) → (0 < n → C) → C
 pick zero n l f g = g (omega arith)
 pick (suc m) n l f g = f (omega arith)
+
+-- The sum over a list.
+abbrev pub sumˡ : {A : Type 0} → (A → ℕ) → List A → ℕ
+sumˡ f [] = 0
+sumˡ f (a ∷ l) = f a + sumˡ f l
 
 module _ {A : Type 0} where
   abbrev mutual
@@ -109,6 +115,21 @@ module _ {A : Type 0} where
         go true = (p .0, (q, p .1))
         go false = (q .0, (p, q .1))
 
+    pub sum-pop : (f : A → ℕ) (h : Heap A) (v : A) (h′ : Heap A) → heap-pop cmp h ≡ some (v, h′) → sum f h ≡ f v + sum f h′
+    unfolding heap-pop
+    sum-pop f EmptyHeap v h′ e = absurd (Option·none-ne-some (v, h′) e)
+    sum-pop f (HeapOf w hh) v h′ e =
+        subst (λ x. f w + sumᶠ f hh ≡ f (x .0) + sum f (x .1)) (Option·some-injective _ (v, h′) e) (ap (λ n. f w + n) (sym (sum-pairs f hh)))
+
+    pub sum-insert-all : (f : A → ℕ) (h : Heap A) (l : List A) → sum f (heap-insert-all cmp h l) ≡ sum f h + sumˡ f l
+    unfolding heap-insert-all heap-insert
+    sum-insert-all f h [] = omega arith
+    sum-insert-all f h (v ∷ l) = omega (arith, sum-insert-all f (heap-insert cmp h v) l, sum-merge f (HeapOf v []ᶠ) h)
+
+    pub sum-from-list : (f : A → ℕ) (l : List A) → sum f (heap-from-list cmp l) ≡ sumˡ f l
+    unfolding heap-from-list
+    sum-from-list f l = omega (arith, sum-insert-all f EmptyHeap l)
+
     mutual
       unfolding heap-merge-pairs
 
@@ -144,3 +165,19 @@ module _ {A : Type 0} where
         Heaped-pair-up h []ᶠ p q = p
         Heaped-pair-up h (h₂ ∷ᶠ hh) p q =
             Heaped-merge (heap-merge cmp h h₂) (heap-merge-pairs cmp hh) (Heaped-merge h h₂ p (q .0)) (Heaped-pairs hh (q .1))
+
+      -- Nothing in the heap is less than the element popped.
+      pub pop-least : (h : Heap A) (v : A) (h′ : Heap A) → Heaped R h → heap-pop cmp h ≡ some (v, h′) → All (R v) h′ × Heaped R h′
+      unfolding heap-pop
+      pop-least EmptyHeap v h′ p e = absurd (Option·none-ne-some (v, h′) e)
+      pop-least (HeapOf w hh) v h′ p e =
+          subst (λ x. All (R (x .0)) (x .1) × Heaped R (x .1)) (Option·some-injective _ (v, h′) e) (All-pairs (R w) hh (p .0), Heaped-pairs hh (p .1))
+
+      pub Heaped-insert-all : (h : Heap A) (l : List A) → Heaped R h → Heaped R (heap-insert-all cmp h l)
+      unfolding heap-insert-all heap-insert
+      Heaped-insert-all h [] p = p
+      Heaped-insert-all h (v ∷ l) p = Heaped-insert-all (heap-insert cmp h v) l (Heaped-merge (HeapOf v []ᶠ) h (tt, tt) p)
+
+      pub Heaped-from-list : (l : List A) → Heaped R (heap-from-list cmp l)
+      unfolding heap-from-list
+      Heaped-from-list l = Heaped-insert-all EmptyHeap l tt

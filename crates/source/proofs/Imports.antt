@@ -1,12 +1,12 @@
 -- What an include, an open of a namespace and an alias leave at their host: what was included is read in the table before the call.
 use Prim.Native.Nat.{Ordering, Ordering·lt, Ordering·eq, Ordering·gt}
-use mathlib.Core.Path.{_≡_, refl, sym, ap, _∙_}
-use mathlib.Core.List.{List, [], _∷_, _++_}
-use mathlib.Core.Option.{Option, none, some}
+use mathlib.Core.Path.{_≡_, refl, _∙_}
+use mathlib.Core.List.{[], _∷_, _++_}
+use mathlib.Core.Option.{some}
 use Rattle.source.specs.Text.{Str, Query, string-compare, query-to-string}
 use Rattle.source.specs.Types.{Level, Value, Trie, Tree, NameList, trie, StrEmpty, StrBranch, []ᴺ, Names, ImportedNames, bindings, namespaces}
 use Rattle.source.specs.Trees.{btree-insert-replace, btree-find-exact}
-use Rattle.source.specs.Tries.{or-else, bind-option, names-find-exact, names-insert, scope-of, MutLeaf, trie-descend-exact, trie-mutate, trie-mutate-leaf, included, trie-import, trie-include, trie-open-namespace, trie-add-alias}
+use Rattle.source.specs.Tries.{or-else, bind-option, names-find-exact, names-insert, scope-of, trie-descend-exact, trie-mutate, trie-mutate-leaf, included, trie-import, trie-include, trie-open-namespace, trie-add-alias}
 use Rattle.source.proofs.Order.{compare-self}
 
 module _ {A : Type 0} where

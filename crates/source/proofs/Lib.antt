@@ -1,9 +1,14 @@
 pub mod Order
 pub mod Heap
 pub mod Lists
+pub mod Impossible
 pub mod Trees
+pub mod Tries
 pub mod Imports
+pub mod Rows
 pub mod Names
+pub mod Fuel
+pub mod Counted
 pub mod Listed
 pub mod ListedTexts
 pub mod Queries

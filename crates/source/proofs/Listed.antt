@@ -1,23 +1,23 @@
 -- What a listing holds at a name: the item at the end of the walk by last holders, once, or nothing.
-use Prim.Native.Nat.{ℕ, zero, suc, max, _≤_, _<_, Ordering, Ordering·lt, Ordering·eq, Ordering·gt}
+use Prim.Native.Nat.{ℕ, zero, suc, _≤_, _<_, Ordering, Ordering·lt, Ordering·eq, Ordering·gt}
 use mathlib.Core.Path.{_≡_, refl, sym, ap, _∙_, subst}
-use mathlib.Core.Logic.{_⊎_, inl, inr, _≢_}
+use mathlib.Core.Logic.{_⊎_, inl, inr}
 use mathlib.Core.Bool.{Bool, true, false, cond, _&&_, true≢false, false≢true}
 use mathlib.Core.List.{List, [], _∷_, _++_, map, reverse, reverseAux, tail, nil≢cons, head-eq-of-cons-eq, tail-eq-of-cons-eq, append-nil}
 use mathlib.Core.Option.{Option, none, some, Option·none-ne-some, Option·some-injective}
 use native.Mathlib.Omega.{arith}
-use Rattle.source.specs.Text.{Str, Query, string-compare, starts-with}
-use Rattle.source.specs.Types.{Level, Value, Trie, Tree, NameList, bind, ns, item, trie, StrEmpty, StrBranch, []ᴺ, Names, ImportedNames, the-item, bindings, namespaces}
-use Rattle.source.specs.Trees.{PrefixMatch, PathElem, btree-find-exact}
-use Rattle.source.specs.Tries.{or-else, bind-option, names-find-exact, trie-find-exact}
-use Rattle.source.specs.Terms.{flatten, holders, first-of, last-of, depth, depth-tree, depth-names, walk-first, walk-last}
-use Rattle.source.specs.Listing.{PathOf, SearchTerm, NSTAll, NSTNone, NSTPrefix, fold-left, rev-map-onto, elem-key, names-find-rev, ns-search-term, bindings-search-term, find-prefix-fuel, trie-find-prefix′, trie-find-prefix}
-use Rattle.source.specs.Rules.{_<ˢ_, AllKeys, Ordered, Formed, FormedTree, FormedNames}
+use Rattle.source.specs.Text.{Str, Query, string-compare}
+use Rattle.source.specs.Types.{Level, Value, Trie, Tree, NameList, bind, trie, StrEmpty, StrBranch, []ᴺ, Names, ImportedNames, the-item, bindings, namespaces}
+use Rattle.source.specs.Trees.{PathElem, btree-find-exact}
+use Rattle.source.specs.Tries.{or-else, bind-option, trie-find-exact}
+use Rattle.source.specs.Terms.{flatten, holders, first-of, depth, depth-tree, depth-names, walk-first, walk-last}
+use Rattle.source.specs.Listing.{PathOf, fold-left, rev-map-onto, elem-key, names-find-rev, ns-search-term, bindings-search-term, find-prefix-fuel, trie-find-prefix′, trie-find-prefix}
+use Rattle.source.specs.Rules.{Ordered, Formed, FormedTree, FormedNames}
 use Rattle.source.specs.Agreement.{Covers}
 use Rattle.source.proofs.Order.{View, compare-strings, <ˢ-irrefl}
 use Rattle.source.proofs.Lists.{same, Same, same-view, same-self, Allˡ, lookup, lookup-hit, lookup-miss, Below, Decreasing}
 use Rattle.source.proofs.Trees.{gate, valof}
-use Rattle.source.proofs.Names.{accepts, first-holder, last-holder, first-of-holders, last-of-holders, find-exact-is-first, OrderedN, find-rev-decreasing, find-rev-at}
+use Rattle.source.proofs.Names.{accepts, last-holder, first-of-holders, last-of-holders, find-exact-is-first, OrderedN, find-rev-decreasing, find-rev-at}
 
 -- ---- the walks, a step at a time
 module _ {A : Type 0} where

@@ -3,7 +3,7 @@ use Prim.Native.Nat.{ℕ, zero, suc, _+_, _≤_, _<_, compare, Ordering, Orderin
 use mathlib.Core.Path.{_≡_, refl, sym, ap, _∙_, subst}
 use mathlib.Core.Logic.{_⊎_, inl, inr, _≢_}
 use mathlib.Core.Bool.{Bool, true, false, cond}
-use mathlib.Core.List.{List, [], _∷_, _++_, reverse, reverseAux, nil≢cons}
+use mathlib.Core.List.{List, [], _∷_, reverseAux, nil≢cons}
 use mathlib.Core.Option.{Option, none, some}
 use native.Mathlib.Omega.{arith}
 use native.Mathlib.Decide.{ℕ-discrete}
@@ -13,8 +13,8 @@ use lib.Seq.{getD-set-same, getD-set-other}
 use Rattle.source.specs.Text.{Str, then, string-compare}
 use Rattle.source.specs.Rules.{_<ˢ_}
 use Rattle.source.proofs.Order.{View, Viewℕ, compare-view, compare-strings, <ˢ-irrefl, <ˢ-trans}
-use Rattle.source.specs.Heap.{Heap, Forest, EmptyHeap, HeapOf, []ᶠ, _∷ᶠ_, is-lt, heap-merge, heap-insert, heap-merge-pairs, heap-insert-all, heap-from-list}
-use Rattle.source.proofs.Heap.{sum, sumᶠ, All, Allᶠ, Heaped, Heapedᶠ, All-map, Allᶠ-map, Allᶠ-zip, none-countedᶠ, counted, sum-merge, sum-pairs, All-merge, All-pairs, Heaped-merge, Heaped-pairs}
+use Rattle.source.specs.Heap.{Heap, Forest, EmptyHeap, HeapOf, []ᶠ, is-lt, heap-merge, heap-insert, heap-merge-pairs, heap-insert-all, heap-from-list}
+use Rattle.source.proofs.Heap.{sumˡ, sum, sumᶠ, All, Allᶠ, Heaped, All-map, Allᶠ-map, Allᶠ-zip, none-countedᶠ, counted, sum-merge, sum-pairs, All-merge, All-pairs, Heaped-merge, Heaped-pairs, sum-from-list, Heaped-from-list}
 use Rattle.source.specs.Lists.{Run, run, first, priority, nonempty, add-priorities, total, push-nodup, run-cmp, put-back, merge-aux, merge-nonempty, merge-increasing-lists-rev}
 use Rattle.source.specs.Tries.{or-else}
 
@@ -113,7 +113,8 @@ at-pos q r h = go (compare (priority r) q) (compare-view (priority r) q)
 at-zero : {A : Type 0} (q : ℕ) (r : Run A) → at q r ≡ 0 → priority r ≢ q
 at-zero q r h e = omega (arith, at-same q r e)
 
-size : {A : Type 0} → Run A → ℕ
+-- The elements of a run.
+unfoldable pub size : {A : Type 0} → Run A → ℕ
 size r = suc (length (rest r))
 
 module _ {A : Type 0} (key : A → Str) where
@@ -463,6 +464,10 @@ module _ {A : Type 0} (key : A → Str) where
   unfolding size
   popped-size n r hh l = omega (arith, popped-sum size r hh, single-size r)
 
+  pub put-back-size : (r : Run A) (hh : Forest (Run A)) → sum size (HeapOf r hh) ≡ suc (sum size (put-back key r (heap-merge-pairs (run-cmp key) hh)))
+  unfolding size popped
+  put-back-size r hh = omega (arith, popped-sum size r hh, single-size r, ap (sum size) (put-back-is r (heap-merge-pairs (run-cmp key) hh)))
+
   merge-spec : (n : ℕ) (h : Heap (Run A)) (acc : List A) (ls : List (List A)) → sum size h ≤ n → Inv ls h → Decreasing acc → Reached acc h
       → Merged acc ls (merge-aux key n h acc)
   unfolding merge-aux popped size first
@@ -478,27 +483,10 @@ module _ {A : Type 0} (key : A → Str) where
       (push acc ls p v tl hh d inv x .reached (popped (run p v tl) hh) (left acc ls p v tl hh d inv x))))
 
   -- ---- the heap of the lists
-  abbrev sumˡ : (Run A → ℕ) → List (Run A) → ℕ
-  sumˡ f [] = 0
-  sumˡ f (r ∷ rs) = f r + sumˡ f rs
-
-  insert-all-sum : (f : Run A → ℕ) (h : Heap (Run A)) (rs : List (Run A)) → sum f (heap-insert-all (run-cmp key) h rs) ≡ sum f h + sumˡ f rs
-  unfolding heap-insert-all heap-insert
-  insert-all-sum f h [] = omega arith
-  insert-all-sum f h (r ∷ rs) =
-      omega (arith, insert-all-sum f (heap-insert (run-cmp key) h r) rs, sum-merge (run-cmp key) f (HeapOf r []ᶠ) h)
-
   insert-all-all : (P : Run A → Type 0) (h : Heap (Run A)) (rs : List (Run A)) → All P h → Allˡ P rs → All P (heap-insert-all (run-cmp key) h rs)
   unfolding heap-insert-all heap-insert
   insert-all-all P h [] a b = a
   insert-all-all P h (r ∷ rs) a b = insert-all-all P (heap-insert (run-cmp key) h r) rs (All-merge (run-cmp key) P (HeapOf r []ᶠ) h (b .0, tt) a) (b .1)
-
-  insert-all-heaped : (h : Heap (Run A)) (rs : List (Run A)) → Heaped RLe h → Heaped RLe (heap-insert-all (run-cmp key) h rs)
-  unfolding heap-insert-all heap-insert
-  insert-all-heaped h [] a = a
-  insert-all-heaped h (r ∷ rs) a =
-      insert-all-heaped (heap-insert (run-cmp key) h r) rs
-      (Heaped-merge (run-cmp key) RLe RLe-trans run-less run-not-less (HeapOf r []ᶠ) h (tt, tt) a)
 
   cnt : ℕ → List (List A) → ℕ → ℕ
   cnt n [] q = 0
@@ -548,10 +536,10 @@ module _ {A : Type 0} (key : A → Str) where
   start : (ls : List (List A)) → Allˡ Increasing ls → Inv ls (heap-from-list (run-cmp key) (add-priorities 0 [] ls))
   unfolding heap-from-list
   start ls a = record {
-    heaped = insert-all-heaped EmptyHeap (add-priorities 0 [] ls) tt;
+    heaped = Heaped-from-list (run-cmp key) RLe RLe-trans run-less run-not-less (add-priorities 0 [] ls);
     sound = insert-all-all (λ r. getD ls (priority r) [] ≡ first r ∷ rest r) EmptyHeap (add-priorities 0 [] ls) tt
         (priorities-sound ls 0 [] ls (λ q i e. ap (λ j. getD ls j []) (omega arith)) tt);
-    counts = λ q. omega (arith, insert-all-sum (at q) EmptyHeap (add-priorities 0 [] ls), priorities-count q 0 [] ls, cnt-at 0 ls q q (omega arith));
+    counts = λ q. omega (arith, sum-from-list (run-cmp key) (at q) (add-priorities 0 [] ls), priorities-count q 0 [] ls, cnt-at 0 ls q q (omega arith));
     increasing = λ q. all-getD ls q a;
   }
 
@@ -576,11 +564,15 @@ module _ {A : Type 0} (key : A → Str) where
   nonempty-at k ([] ∷ ls) = nonempty-at k ls
   nonempty-at k ((x ∷ l) ∷ ls) = ap (or-else (lookup k (x ∷ l))) (nonempty-at k ls)
 
-  nonempty-all : (ls : List (List A)) → Allˡ Increasing ls → Allˡ Increasing (nonempty ls)
+  nonempty-all : (P : List A → Type 0) (ls : List (List A)) → Allˡ P ls → Allˡ P (nonempty ls)
   unfolding nonempty
-  nonempty-all [] a = tt
-  nonempty-all ([] ∷ ls) a = nonempty-all ls (a .1)
-  nonempty-all ((x ∷ l) ∷ ls) a = (a .0, nonempty-all ls (a .1))
+  nonempty-all P [] a = tt
+  nonempty-all P ([] ∷ ls) a = nonempty-all P ls (a .1)
+  nonempty-all P ((x ∷ l) ∷ ls) a = (a .0, nonempty-all P ls (a .1))
+
+  pub from-list-size : (ls : List (List A)) → sum size (heap-from-list (run-cmp key) (add-priorities 0 [] ls)) ≡ total ls
+  unfolding heap-from-list
+  from-list-size ls = omega (arith, sum-from-list (run-cmp key) size (add-priorities 0 [] ls), priorities-size 0 [] ls)
 
   merge-nonempty-spec : (ls : List (List A)) → Allˡ Increasing ls → Merged [] ls (merge-nonempty key ls)
   unfolding merge-nonempty lookup or-else first-lookup Reached heap-from-list
@@ -591,14 +583,59 @@ module _ {A : Type 0} (key : A → Str) where
   }
   merge-nonempty-spec (l ∷ (m ∷ ls)) a =
       merge-spec (total (l ∷ (m ∷ ls))) (heap-from-list (run-cmp key) (add-priorities 0 [] (l ∷ (m ∷ ls)))) [] (l ∷ (m ∷ ls))
-      (omega (arith, insert-all-sum size EmptyHeap (add-priorities 0 [] (l ∷ (m ∷ ls))), priorities-size 0 [] (l ∷ (m ∷ ls))))
+      (omega (arith, from-list-size (l ∷ (m ∷ ls))))
       (start (l ∷ (m ∷ ls)) a) tt tt
 
   -- the theorem
   pub merge-decreasing : (ls : List (List A)) → Allˡ Increasing ls → Decreasing (merge-increasing-lists-rev key ls)
   unfolding merge-increasing-lists-rev
-  merge-decreasing ls a = merge-nonempty-spec (nonempty ls) (nonempty-all ls a) .decreasing
+  merge-decreasing ls a = merge-nonempty-spec (nonempty ls) (nonempty-all Increasing ls a) .decreasing
 
   pub merge-at : (ls : List (List A)) → Allˡ Increasing ls → (k : Str) → lookup k (merge-increasing-lists-rev key ls) ≡ first-lookup k ls
   unfolding merge-increasing-lists-rev lookup or-else
-  merge-at ls a k = merge-nonempty-spec (nonempty ls) (nonempty-all ls a) .at-key k ∙ nonempty-at k ls
+  merge-at ls a k = merge-nonempty-spec (nonempty ls) (nonempty-all Increasing ls a) .at-key k ∙ nonempty-at k ls
+
+  -- ---- every element of the merge is an element of the lists
+  module _ (P : A → Type 0) where
+    abbrev AllRun : Run A → Type 0
+    AllRun r = P (first r) × Allˡ P (rest r)
+
+    push-all : (v : A) (acc : List A) → P v → Allˡ P acc → Allˡ P (push-nodup key v acc)
+    unfolding push-nodup
+    push-all v [] p a = (p, tt)
+    push-all v (x ∷ l) p a = go (same (key v) (key x))
+      where
+        go : (b : Bool) → Allˡ P (cond b (x ∷ l) (v ∷ (x ∷ l)))
+        go true = a
+        go false = (p, a)
+
+    merge-aux-all : (n : ℕ) (h : Heap (Run A)) (acc : List A) → All AllRun h → Allˡ P acc → Allˡ P (merge-aux key n h acc)
+    unfolding merge-aux popped first rest
+    merge-aux-all zero h acc a b = b
+    merge-aux-all (suc n) EmptyHeap acc a b = b
+    merge-aux-all (suc n) (HeapOf (run p v tl) hh) acc a b =
+        merge-aux-all n (put-back key (run p v tl) (heap-merge-pairs (run-cmp key) hh)) (push-nodup key v acc)
+        (rw (put-back-is (run p v tl) (heap-merge-pairs (run-cmp key) hh)) (popped-all AllRun p v tl hh (λ w ws e. subst (Allˡ P) e (a .0 .1)) (a .1)))
+        (push-all v acc (a .0 .0) b)
+
+    priorities-all : (n : ℕ) (acc : List (Run A)) (ls : List (List A)) → Allˡ AllRun acc → Allˡ (Allˡ P) ls → Allˡ AllRun (add-priorities n acc ls)
+    unfolding add-priorities first rest
+    priorities-all n acc [] a b = a
+    priorities-all n acc ([] ∷ ls) a b = priorities-all (suc n) acc ls a (b .1)
+    priorities-all n acc ((v ∷ tl) ∷ ls) a b = priorities-all (suc n) (run n v tl ∷ acc) ls (b .0, a) (b .1)
+
+    reverse-all : (l acc : List A) → Allˡ P l → Allˡ P acc → Allˡ P (reverseAux l acc)
+    reverse-all [] acc a b = b
+    reverse-all (x ∷ l) acc a b = reverse-all l (x ∷ acc) (a .1) (a .0, b)
+
+    merge-nonempty-all : (ls : List (List A)) → Allˡ (Allˡ P) ls → Allˡ P (merge-nonempty key ls)
+    unfolding merge-nonempty heap-from-list
+    merge-nonempty-all [] a = tt
+    merge-nonempty-all (l ∷ []) a = reverse-all l [] (a .0) tt
+    merge-nonempty-all (l ∷ (m ∷ ls)) a =
+        merge-aux-all (total (l ∷ (m ∷ ls))) (heap-from-list (run-cmp key) (add-priorities 0 [] (l ∷ (m ∷ ls)))) []
+        (insert-all-all AllRun EmptyHeap (add-priorities 0 [] (l ∷ (m ∷ ls))) tt (priorities-all 0 [] (l ∷ (m ∷ ls)) tt a)) tt
+
+    pub merge-all : (ls : List (List A)) → Allˡ (Allˡ P) ls → Allˡ P (merge-increasing-lists-rev key ls)
+    unfolding merge-increasing-lists-rev
+    merge-all ls a = merge-nonempty-all (nonempty ls) (nonempty-all (Allˡ P) ls a)

@@ -1,22 +1,17 @@
 -- Lists of collections: names_find_rev gives, at each key, what the last holder gives.
-use Prim.Native.Nat.{ℕ, zero, suc, max, _≤_, _<_, Ordering, Ordering·lt, Ordering·eq, Ordering·gt}
-use mathlib.Core.Path.{_≡_, refl, sym, ap, _∙_, subst}
-use mathlib.Core.Logic.{_⊎_, inl, inr, _≢_}
-use mathlib.Core.Bool.{Bool, true, false, cond, true≢false, false≢true}
+use mathlib.Core.Path.{_≡_, refl, sym, ap, _∙_}
+use mathlib.Core.Bool.{Bool, true, false, cond}
 use mathlib.Core.List.{List, [], _∷_, _++_, map}
-use mathlib.Core.Option.{Option, none, some, Option·none-ne-some, Option·some-injective}
-use native.Mathlib.Omega.{arith}
-use Rattle.source.specs.Text.{Str, string-compare, starts-with}
-use Rattle.source.specs.Rules.{_<ˢ_, Ordered}
-use Rattle.source.proofs.Order.{View, compare-strings, <ˢ-irrefl, <ˢ-trans}
-use Rattle.source.specs.Types.{Level, Value, Tree, NameList, bind, ns, item, trie, StrEmpty, StrBranch, []ᴺ, Names, ImportedNames}
+use mathlib.Core.Option.{Option, none, some}
+use Rattle.source.specs.Text.{Str, starts-with}
+use Rattle.source.specs.Rules.{Ordered}
+use Rattle.source.specs.Types.{Level, Value, Tree, NameList, []ᴺ, Names, ImportedNames}
 use Rattle.source.specs.Trees.{PrefixMatch, PathElem, btree-find-exact, btree-find-all, btree-find-prefix}
 use Rattle.source.specs.Tries.{or-else, names-find-exact}
-use Rattle.source.specs.Lists.{merge-increasing-lists-rev}
-use Rattle.source.proofs.Lists.{same, Allˡ, Allˡ-map, lookup, first-lookup, Above, Increasing, Decreasing, merge-decreasing, merge-at, or-else-none}
+use Rattle.source.proofs.Lists.{same, Allˡ, lookup, first-lookup, Above, Increasing, Decreasing, merge-decreasing, merge-at, or-else-none}
 use Rattle.source.specs.Listing.{SearchTerm, NSTAll, NSTNone, NSTPrefix, revmap-onto, names-revmap, matching-values, with-imports, elem-key, names-find-rev}
-use Rattle.source.specs.Terms.{flatten, found-onto, holders, first-of, last-of, depth, depth-tree, depth-names}
-use Rattle.source.proofs.Trees.{gate, valof, or-assoc, gate-or, gate-none, select, entry-key, find-prefix-is, find-all-is, select-at, select-increasing, no-keys}
+use Rattle.source.specs.Terms.{flatten, found-onto, holders, first-of, last-of}
+use Rattle.source.proofs.Trees.{gate, valof, or-assoc, gate-or, gate-none, entry-key, find-prefix-ascends, find-prefix-exactly, find-all-ascends, find-all-exactly}
 
 abbrev pub accepts : SearchTerm → Str → Bool
 accepts NSTAll k = true
@@ -97,17 +92,12 @@ module _ {A : Type 0} where
   Shows : {l : Level} → SearchTerm → Tree A l → List (PrefixMatch × Value A l) → Type 0
   Shows term t m = Increasing entry-key m × ((k : Str) → valof (lookup entry-key k m) ≡ gate (accepts term k) (btree-find-exact t k))
 
-  shows-select : {l : Level} (p : Option Str) (term : SearchTerm) (t : Tree A l) → Ordered t → Shows term t (select p (accepts term) t [])
-  unfolding Shows lookup
-  shows-select p term t o =
-      (select-increasing p (accepts term) t [] o (no-keys t) tt, λ k. select-at p (accepts term) k t [] o ∙ or-else-none (gate (accepts term k) (btree-find-exact t k)))
-
   tree-shows : {l : Level} (term : SearchTerm) (t : Tree A l) → Ordered t → Shows term t (tree-matches term t)
   unfolding tree-matches Shows lookup starts-with
-  tree-shows NSTAll t o = rw (find-all-is none t) (shows-select none NSTAll t o)
+  tree-shows NSTAll t o = (find-all-ascends none t o, λ k. find-all-exactly none t k o)
   tree-shows NSTNone t o = (tt, λ k. refl)
-  tree-shows (NSTPrefix []) t o = rw (find-all-is (some []) t) (shows-select (some []) (NSTPrefix []) t o)
-  tree-shows (NSTPrefix (c ∷ p)) t o = rw (find-prefix-is t (c ∷ p) o) (shows-select (some (c ∷ p)) (NSTPrefix (c ∷ p)) t o)
+  tree-shows (NSTPrefix []) t o = (find-all-ascends (some []) t o, λ k. find-all-exactly (some []) t k o)
+  tree-shows (NSTPrefix (c ∷ p)) t o = (find-prefix-ascends t (c ∷ p) o, λ k. find-prefix-exactly t (c ∷ p) k o)
 
   -- ---- with its imports
   label-all : {l : Level} (i : List Str) → PrefixMatch × Value A l → PathElem × Value A l

@@ -1,16 +1,17 @@
 -- What the number of a refusal says, and what a call has passed that is not refused.
 use Prim.Native.Nat.{ℕ, _≤_, _<_}
 use mathlib.Core.Path.{_≡_, refl, sym}
-use mathlib.Core.Bool.{Bool, true, false, _||_}
+use mathlib.Core.Bool.{Bool, true, false, not, _||_}
 use mathlib.Core.List.{List, [], _∷_, _++_}
 use mathlib.Core.Option.{Option, none, some, Option·none-ne-some}
 use native.Mathlib.Omega.{arith}
 use lib.Dec.{ltb}
 use lib.ListN.{length}
 use borrow.Author.Tests.{not-false}
-use Rattle.source.specs.Text.{Str}
+use Rattle.source.specs.Text.{Str, segments, ends-in-dot}
 use Rattle.source.specs.Table.{Line}
-use Rattle.source.specs.Calls.{Argument, a-completion, any, malformed, empty-name, too-long, Row, _when_, lowest, argument-rows, State, Lent, whole-records, free, Call, arguments, registered, records, text-taken, crowded, deep, registration-rows, after, Registered, accepted, refused, register, Output, output-text, completion-rows}
+use Rattle.source.specs.Calls.{Argument, a-look-up, a-completion, is-empty, any, bad-query, malformed, empty-name, too-long, Row, _when_, lowest, argument-rows, State, Lent, whole-records, free, Call, arguments, registered, records, text-taken, crowded, deep, registration-rows, after, Registered, accepted, refused, register, Output, output-text, completion-rows}
+use Rattle.source.proofs.Queries.{or-parts}
 use Rattle.source.proofs.Lists.{Allˡ, Allˡ-map}
 
 -- A row's number, and whether its condition holds.
@@ -98,6 +99,16 @@ unfolding argument-rows
 argument-rows-none sound args e =
     let h = lowest-none (argument-rows sound args) e in
     record { is-sound = not-false sound (h .0); well-formed = h .1 .0; named = h .1 .1 .0; short = h .1 .1 .1 .0 }
+
+-- A look-up's query ends in a dot, and has a segment
+pub look-up-whole : (sound : Bool) (name : Str) → Admitted sound (a-look-up name ∷ []) → ends-in-dot name ≡ true
+unfolding malformed any bad-query
+look-up-whole sound name h =
+    not-false (ends-in-dot name) (or-parts (not (ends-in-dot name)) _ (or-parts _ false (h .well-formed) .0) .0)
+
+pub look-up-segment : (sound : Bool) (name : Str) → Admitted sound (a-look-up name ∷ []) → is-empty (segments name) ≡ false
+unfolding empty-name any
+look-up-segment sound name h = or-parts (any is-empty (segments name)) (is-empty (segments name)) (or-parts (empty-name (a-look-up name)) false (h .named) .0) .1
 
 -- A registration that passes rows 1 to 8.
 pub record Acceptable (sound : Bool) (lent : Lent) (s : State) (c : Call) : Type 0 where

@@ -1,19 +1,19 @@
--- Trees whose keys ascend: what a search lists, at each key.
-use Prim.Native.Nat.{ℕ, zero, suc, _≤_, _<_, compare, Ordering, Ordering·lt, Ordering·eq, Ordering·gt}
-use mathlib.Core.Path.{_≡_, refl, sym, ap, _∙_, subst}
-use mathlib.Core.Logic.{_⊎_, inl, inr, _≢_}
-use mathlib.Core.Bool.{Bool, true, false, cond, _&&_, _||_, true≢false, false≢true}
+-- Trees whose keys ascend: the searches list ascending keys, exactly those that match.
+use Prim.Native.Nat.{_<_, compare, Ordering, Ordering·lt, Ordering·eq, Ordering·gt}
+use mathlib.Core.Path.{_≡_, refl, sym, ap, _∙_}
+use mathlib.Core.Logic.{_⊎_, inl, inr}
+use mathlib.Core.Bool.{Bool, true, false, cond, _&&_, _||_, true≢false}
 use mathlib.Core.List.{List, [], _∷_}
 use mathlib.Core.Option.{Option, none, some}
 use native.Mathlib.Omega.{arith}
-use lib.Dec.{isEq, isLe, eqb}
+use lib.Dec.{isEq, isLe}
 use Rattle.source.specs.Text.{Str, string-compare, starts-with}
 use Rattle.source.specs.Rules.{_<ˢ_, AllKeys, Ordered}
-use Rattle.source.proofs.Order.{View, Viewℕ, compare-view, compare-strings, <ˢ-irrefl, <ˢ-trans, compare-self}
+use Rattle.source.proofs.Order.{View, Viewℕ, compare-view, compare-strings, <ˢ-irrefl, <ˢ-trans}
 use Rattle.source.specs.Types.{Level, Value, Tree, StrEmpty, StrBranch}
 use Rattle.source.specs.Trees.{PrefixMatch, btree-find-exact, find-prefix-onto, btree-find-prefix, btree-fold, btree-find-all}
 use Rattle.source.specs.Tries.{or-else}
-use Rattle.source.proofs.Lists.{same, Same, same-view, same-self, same-ne, Allˡ, Allˡ-map, lookup, lookup-hit, lookup-miss, Above, Increasing, or-else-none}
+use Rattle.source.proofs.Lists.{lookup, lookup-hit, lookup-miss, Above, Increasing, or-else-none}
 
 -- ---- options
 abbrev pub gate : {A : Type 0} → Bool → Option A → Option A
@@ -233,3 +233,26 @@ module _ {A : Type 0} {l : Level} where
   pub no-keys : (t : Tree A l) → AllKeys (λ x. Unit {0}) t
   no-keys StrEmpty = tt
   no-keys (StrBranch k v lbt rbt) = (tt, no-keys lbt, no-keys rbt)
+
+  -- ---- the two searches: ascending keys, exactly those that match
+  ascends : (p : Option Str) (b : Str → Bool) (t : Tree A l) → Ordered t → Increasing entry-key (select p b t [])
+  ascends p b t o = select-increasing p b t [] o (no-keys t) tt
+
+  exactly : (p : Option Str) (b : Str → Bool) (t : Tree A l) (k : Str) → Ordered t
+      → valof (lookup entry-key k (select p b t [])) ≡ gate (b k) (btree-find-exact t k)
+  unfolding lookup
+  exactly p b t k o = select-at p b k t [] o ∙ or-else-none (gate (b k) (btree-find-exact t k))
+
+  pub find-prefix-ascends : (t : Tree A l) (p : Str) → Ordered t → Increasing entry-key (btree-find-prefix t p)
+  find-prefix-ascends t p o = rw (find-prefix-is t p o) (ascends (some p) (λ k. starts-with k p) t o)
+
+  pub find-prefix-exactly : (t : Tree A l) (p k : Str) → Ordered t
+      → valof (lookup entry-key k (btree-find-prefix t p)) ≡ gate (starts-with k p) (btree-find-exact t k)
+  find-prefix-exactly t p k o = rw (find-prefix-is t p o) (exactly (some p) (λ k. starts-with k p) t k o)
+
+  pub find-all-ascends : (p : Option Str) (t : Tree A l) → Ordered t → Increasing entry-key (btree-find-all p t)
+  find-all-ascends p t o = rw (find-all-is p t) (ascends p (λ k. true) t o)
+
+  pub find-all-exactly : (p : Option Str) (t : Tree A l) (k : Str) → Ordered t
+      → valof (lookup entry-key k (btree-find-all p t)) ≡ btree-find-exact t k
+  find-all-exactly p t k o = rw (find-all-is p t) (exactly p (λ k. true) t k o)

@@ -2,9 +2,9 @@
 use Prim.Native.Nat.{ℕ, _≤_}
 use mathlib.Core.Path.{_≡_}
 use mathlib.Core.Logic.{_↔_}
-use mathlib.Core.Bool.{Bool, true, false}
+use mathlib.Core.Bool.{true, false}
 use mathlib.Core.List.{List, [], _∷_}
-use mathlib.Core.Option.{Option, some}
+use mathlib.Core.Option.{some}
 use lib.Dec.{isEq}
 use lib.ListN.{length}
 use Rattle.source.specs.Text.{Str, Query, string-compare, starts-with, segments}
@@ -12,7 +12,7 @@ use Rattle.source.specs.Types.{Trie, bindings, namespaces}
 use Rattle.source.specs.Terms.{flatten, holders, first-of, walk-first, walk-last}
 use Rattle.source.specs.Table.{Table, ModSymbol, Line}
 use Rattle.source.specs.Rules.{SoundTable}
-use Rattle.source.specs.Calls.{Found, found, not-found, refused, found-of, look-up, Completed, listed, Output, All, complete, complete-modules}
+use Rattle.source.specs.Calls.{Found, found, not-found, refused, found-of, look-up, listed, Output, All, complete, complete-modules}
 
 -- A query covers a full name that has at least as many segments and whose segments begin, one by one, with the query's.
 abbrev pub Covers : (query name : Query) → Type 0

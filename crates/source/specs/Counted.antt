@@ -1,12 +1,10 @@
 -- What document 01 counts, over the source's own expressions: a counted form of each function that builds records, and of the listing.
 -- proofs/Counted.antt: the value of each counted form is the plain function's.
-use Prim.Native.Nat.{ℕ, zero, suc, _+_, Ordering, Ordering·lt, Ordering·eq, Ordering·gt}
+use Prim.Native.Nat.{ℕ, zero, suc, _+_, Ordering·lt, Ordering·eq, Ordering·gt}
 use mathlib.Core.Bool.{Bool, true, false}
 use mathlib.Core.List.{List, [], _∷_, reverse, tail}
-use mathlib.Core.Option.{Option}
 use Rattle.source.specs.Text.{Str, Query, string-compare, query-to-string}
 use Rattle.source.specs.Types.{Level, Value, Trie, Tree, NameList, bind, ns, item, trie, StrEmpty, StrBranch, []ᴺ, Names, ImportedNames, the-item, bindings, namespaces}
-use Rattle.source.specs.Trees.{PathElem}
 use Rattle.source.specs.Tries.{names-find-exact, scope-of, included}
 use Rattle.source.specs.Terms.{depth}
 use Rattle.source.specs.Listing.{PathOf, rev-map-onto, ns-search-term, bindings-search-term, names-find-rev}

@@ -1,7 +1,7 @@
 -- Listing, as in the source: names_revmap to trie_find_prefix.
 use Prim.Native.Nat.{ℕ, zero, suc}
 use mathlib.Core.List.{List, [], _∷_, map, reverse, tail}
-use mathlib.Core.Option.{Option, none, some}
+use mathlib.Core.Option.{none, some}
 use Rattle.source.specs.Text.{Str, Query}
 use Rattle.source.specs.Types.{Level, Value, Trie, Tree, NameList, []ᴺ, Names, ImportedNames, the-item, bindings, namespaces}
 use Rattle.source.specs.Trees.{PrefixMatch, PathElem, btree-find-all, btree-find-prefix}

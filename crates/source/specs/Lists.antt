@@ -1,6 +1,6 @@
 -- List functions, as in the source: push_nodup, add_priorities and merge_increasing_lists_rev.
-use Prim.Native.Nat.{ℕ, zero, suc, _+_, compare, Ordering, Ordering·lt, Ordering·eq, Ordering·gt}
-use mathlib.Core.Bool.{Bool, true, false, cond}
+use Prim.Native.Nat.{ℕ, zero, suc, _+_, compare, Ordering}
+use mathlib.Core.Bool.{cond}
 use mathlib.Core.List.{List, [], _∷_, reverse}
 use lib.Dec.{isEq}
 use lib.ListN.{length}

@@ -2,8 +2,8 @@
 use Prim.Native.Nat.{ℕ, _≤_, _<_}
 use mathlib.Core.Path.{_≡_}
 use mathlib.Core.Logic.{_⊎_}
-use mathlib.Core.Bool.{Bool, true, false, _&&_}
-use mathlib.Core.List.{List, [], _∷_}
+use mathlib.Core.Bool.{Bool, true, _&&_}
+use mathlib.Core.List.{[], _∷_}
 use lib.ListN.{length}
 use Rattle.source.specs.Text.{Str, name-byte, query-byte, path-byte}
 use Rattle.source.specs.Types.{Level, Value, Trie, Tree, NameList, item, trie, StrEmpty, StrBranch, []ᴺ, Names, ImportedNames}

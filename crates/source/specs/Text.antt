@@ -1,5 +1,5 @@
 -- Text, as document 01 settles it: bytes, comparison, prefix, queries and the byte rules.
-use Prim.Native.Nat.{ℕ, zero, suc, _+_, compare, Ordering, Ordering·lt, Ordering·eq, Ordering·gt}
+use Prim.Native.Nat.{ℕ, compare, Ordering, Ordering·lt, Ordering·eq, Ordering·gt}
 use mathlib.Core.Bool.{Bool, true, false, _&&_, _||_, not}
 use mathlib.Core.List.{List, [], _∷_, _++_}
 use lib.Dec.{eqb, leb}

@@ -1,5 +1,5 @@
 -- Tries, as in the source: look-up, changes and imports.
-use mathlib.Core.List.{List, [], _∷_}
+use mathlib.Core.List.{[], _∷_}
 use mathlib.Core.Option.{Option, none, some}
 use Rattle.source.specs.Text.{Str, Query, query-to-string}
 use Rattle.source.specs.Types.{Level, Value, Trie, NameList, bind, ns, item, trie, StrEmpty, []ᴺ, Names, ImportedNames, bindings, namespaces, trie-empty}

@@ -1,5 +1,4 @@
 -- btree, name_collection, names and trie, stated once for bindings and namespaces and for any item type.
-use mathlib.Core.List.{List}
 use Rattle.source.specs.Text.{Str}
 
 -- What the branches of a tree hold: items (bindings) or tries (namespaces).

@@ -1,0 +1,238 @@
+-- The counted forms of specs/Counted.antt: the value of each is the plain function's; how each counts.
+use Prim.Native.Nat.{ℕ, zero, suc, _+_, Ordering, Ordering·lt, Ordering·eq, Ordering·gt}
+use mathlib.Core.Path.{_≡_, refl, ap}
+use mathlib.Core.Bool.{Bool, true, false, cond}
+use mathlib.Core.List.{List, [], _∷_, reverse, tail}
+use native.Mathlib.Omega.{arith}
+use Rattle.source.specs.Text.{Str, Query, string-compare, segments}
+use Rattle.source.specs.Types.{Level, Value, Trie, Tree, NameList, bind, ns, item, trie, StrEmpty, StrBranch, []ᴺ, Names, ImportedNames, the-item, bindings, namespaces}
+use Rattle.source.specs.Trees.{btree-insert-replace}
+use Rattle.source.specs.Tries.{MutNode, MutLeaf, names-find-exact, names-insert, scope-of, trie-mutate, trie-mutate-leaf, trie-insert, trie-import, trie-include, trie-open-namespace, trie-add-alias}
+use Rattle.source.specs.Terms.{depth}
+use Rattle.source.specs.Listing.{PathOf, fold-left, rev-map-onto, ns-search-term, bindings-search-term, names-find-rev, find-prefix-fuel, trie-find-prefix′, trie-find-prefix}
+use Rattle.source.specs.Table.{Table, ModSymbol, Module, Namespace, insert, register-alias, register-include, register-open, ns-inserts, ins-ns, ins-mod, ins, name-of-revq, register-module-path}
+use Rattle.source.specs.Counted.{Counted, pure, one, _>>=_, MutNodeᶜ, MutLeafᶜ, btree-insert-replaceᶜ, names-insertᶜ, trie-mutateᶜ, trie-mutate-leafᶜ, trie-insertᶜ, trie-importᶜ, trie-includeᶜ, trie-open-namespaceᶜ, trie-add-aliasᶜ, lids, insertᶜ, register-aliasᶜ, register-includeᶜ, register-openᶜ, ins-nsᶜ, ins-modᶜ, insᶜ, register-module-pathᶜ, fold-leftᶜ, find-prefix-fuelᶜ, trie-find-prefixᶜ}
+use Rattle.source.specs.Calls.{Call, name, include, opens, alias, module-path, registered, records, tries-entered}
+use Rattle.source.proofs.Heap.{sumˡ}
+
+-- A function of a choice by an order, case by case.
+by-order : {B C : Type 0} (f : B → C) (o : Ordering) {x y z : B} {x′ y′ z′ : C} → f x ≡ x′ → f y ≡ y′ → f z ≡ z′
+    → f (elim o [ Ordering·lt ↦ x | Ordering·eq ↦ y | Ordering·gt ↦ z ])
+    ≡ elim o [ Ordering·lt ↦ x′ | Ordering·eq ↦ y′ | Ordering·gt ↦ z′ ]
+by-order f Ordering·lt p q r = p
+by-order f Ordering·eq p q r = q
+by-order f Ordering·gt p q r = r
+
+module _ {A : Type 0} where
+  -- ---- Trees and lists of collections
+  pub btree-insert-replace-value : {l : Level} (t : Tree A l) (k : Str) (v : Value A l) → btree-insert-replaceᶜ t k v .value ≡ btree-insert-replace t k v
+  unfolding btree-insert-replaceᶜ btree-insert-replace _>>=_ one
+  btree-insert-replace-value StrEmpty k v = refl
+  btree-insert-replace-value (StrBranch k′ v′ lbt rbt) k v =
+      by-order (λ (c : Counted (Tree A _)). c .value) (string-compare k k′)
+      (ap (λ t. StrBranch k′ v′ t rbt) (btree-insert-replace-value lbt k v)) refl (ap (StrBranch k′ v′ lbt) (btree-insert-replace-value rbt k v))
+
+  -- The branches that btree_insert_replace builds.
+  unfoldable pub insert-branches : {l : Level} → Tree A l → Str → ℕ
+  insert-branches StrEmpty k = 1
+  insert-branches (StrBranch k′ v lbt rbt) k =
+      elim (string-compare k k′) [
+        | Ordering·lt ↦ suc (insert-branches lbt k)
+        | Ordering·eq ↦ 1
+        | Ordering·gt ↦ suc (insert-branches rbt k)
+      ]
+
+  pub btree-insert-replace-count : {l : Level} (t : Tree A l) (k : Str) (v : Value A l) → btree-insert-replaceᶜ t k v .count ≡ insert-branches t k
+  unfolding btree-insert-replaceᶜ insert-branches _>>=_ one
+  btree-insert-replace-count StrEmpty k v = refl
+  btree-insert-replace-count (StrBranch k′ v′ lbt rbt) k v =
+      by-order (λ (c : Counted (Tree A _)). c .count) (string-compare k k′)
+      (omega (arith, btree-insert-replace-count lbt k v)) refl (omega (arith, btree-insert-replace-count rbt k v))
+
+  pub names-insert-value : {l : Level} (n : NameList A l) (id : Str) (v : Value A l) → names-insertᶜ n id v .value ≡ names-insert n id v
+  unfolding names-insertᶜ names-insert _>>=_ one
+  names-insert-value []ᴺ id v = rw btree-insert-replace-value
+  names-insert-value (Names bt tl) id v = rw btree-insert-replace-value
+  names-insert-value (ImportedNames label inner tl) id v = rw btree-insert-replace-value
+
+  -- The tree that names_insert inserts into.
+  unfoldable pub first-tree : {l : Level} → NameList A l → Tree A l
+  first-tree []ᴺ = StrEmpty
+  first-tree (Names bt tl) = bt
+  first-tree (ImportedNames label inner tl) = StrEmpty
+
+  pub names-insert-count : {l : Level} (n : NameList A l) (id : Str) (v : Value A l) → names-insertᶜ n id v .count ≡ suc (insert-branches (first-tree n) id)
+  unfolding names-insertᶜ first-tree _>>=_ one
+  names-insert-count []ᴺ id v = omega (arith, btree-insert-replace-count StrEmpty id v)
+  names-insert-count (Names bt tl) id v = omega (arith, btree-insert-replace-count bt id v)
+  names-insert-count (ImportedNames label inner tl) id v = omega (arith, btree-insert-replace-count StrEmpty id v)
+
+  -- ---- Tries
+  module _ (nodeᶜ : MutNodeᶜ A) (leafᶜ : MutLeafᶜ A) (node : MutNode A) (leaf : MutLeaf A)
+      (node-value : (tr : Trie A) (id : Str) (q rev-acc : Query) (n : NameList A ns) → nodeᶜ tr id q rev-acc n .value ≡ node tr id q rev-acc n)
+      (leaf-value : (tr : Trie A) (rev-acc : Query) → leafᶜ tr rev-acc .value ≡ leaf tr rev-acc) where
+    pub trie-mutate-value : (tr : Trie A) (q rev-acc : Query) → trie-mutateᶜ tr q rev-acc nodeᶜ leafᶜ .value ≡ trie-mutate tr q rev-acc node leaf
+    unfolding trie-mutateᶜ trie-mutate _>>=_
+    trie-mutate-value tr [] rev-acc = leaf-value tr rev-acc
+    trie-mutate-value tr (id ∷ q) rev-acc =
+        rw (trie-mutate-value (scope-of (namespaces tr) id) q (id ∷ rev-acc), names-insert-value) (node-value tr id q rev-acc _)
+
+    -- One step: the rest of the query, the insertion into the namespaces, mut_node.
+    pub trie-mutate-count : (tr : Trie A) (id : Str) (q rev-acc : Query)
+        → trie-mutateᶜ tr (id ∷ q) rev-acc nodeᶜ leafᶜ .count
+        ≡ trie-mutateᶜ (scope-of (namespaces tr) id) q (id ∷ rev-acc) nodeᶜ leafᶜ .count
+        + suc (insert-branches (first-tree (namespaces tr)) id)
+        + nodeᶜ tr id q rev-acc (names-insert (namespaces tr) id (trie-mutate (scope-of (namespaces tr) id) q (id ∷ rev-acc) node leaf)) .count
+    unfolding trie-mutateᶜ _>>=_
+    trie-mutate-count tr id q rev-acc =
+        rw (trie-mutate-value (scope-of (namespaces tr) id) q (id ∷ rev-acc), names-insert-value, names-insert-count) (omega arith)
+
+  pub trie-mutate-leaf-value : (leafᶜ : MutLeafᶜ A) (leaf : MutLeaf A) → ((tr : Trie A) (rev-acc : Query) → leafᶜ tr rev-acc .value ≡ leaf tr rev-acc)
+      → (tr : Trie A) (q : Query) → trie-mutate-leafᶜ tr q leafᶜ .value ≡ trie-mutate-leaf tr q leaf
+  unfolding trie-mutate-leafᶜ trie-mutate-leaf one
+  trie-mutate-leaf-value leafᶜ leaf leaf-value tr q = trie-mutate-value _ leafᶜ _ leaf (λ tr id q rev-acc n. refl) leaf-value tr q []
+
+  pub trie-insert-value : (tr : Trie A) (q : Query) (id : Str) (v : A) → trie-insertᶜ tr q id v .value ≡ trie-insert tr q id v
+  unfolding trie-insertᶜ trie-insert _>>=_ one
+  trie-insert-value tr q id v = trie-mutate-leaf-value _ _ (λ tr rev-acc. ap (λ b. trie b (namespaces tr)) (names-insert-value (bindings tr) id (item v))) tr q
+
+  pub trie-include-value : (tr : Trie A) (host q : Query) → trie-includeᶜ tr host q .value ≡ trie-include tr host q
+  unfolding trie-includeᶜ trie-include trie-importᶜ trie-import _>>=_ one
+  trie-include-value tr host q = trie-mutate-leaf-value _ _ (λ tr rev-acc. refl) tr host
+
+  pub trie-open-namespace-value : (tr : Trie A) (host q : Query) → trie-open-namespaceᶜ tr host q .value ≡ trie-open-namespace tr host q
+  unfolding trie-open-namespaceᶜ trie-open-namespace trie-importᶜ trie-import _>>=_ one
+  trie-open-namespace-value tr host q = trie-mutate-leaf-value _ _ (λ tr rev-acc. refl) tr host
+
+  pub trie-add-alias-value : (tr : Trie A) (key : Str) (host q : Query) → trie-add-aliasᶜ tr key host q .value ≡ trie-add-alias tr key host q
+  unfolding trie-add-aliasᶜ trie-add-alias trie-importᶜ trie-import _>>=_ one
+  trie-add-alias-value tr key host q =
+      trie-mutate-leaf-value _ _ (λ at rev-acc. trie-mutate-leaf-value _ _ (λ _ _. refl) at (key ∷ [])) tr host
+
+-- ---- The table
+lids-value : (tbl : Table) (m : Counted (Trie ℕ)) (tr : Trie ℕ) → m .value ≡ tr → lids tbl m .value ≡ record { tbl-lids = tr; tbl-mods = tbl .tbl-mods }
+unfolding lids _>>=_ pure
+lids-value tbl m tr e = ap (λ tr. record { tbl-lids = tr; tbl-mods = tbl .tbl-mods }) e
+
+pub insert-value : (tbl : Table) (host : Query) (id : Str) (c : ℕ) → insertᶜ tbl host id c .value ≡ insert tbl host id c
+unfolding insertᶜ insert
+insert-value tbl host id c = lids-value tbl _ _ (trie-insert-value (tbl .tbl-lids) host id c)
+
+pub register-alias-value : (tbl : Table) (key : Str) (host q : Query) → register-aliasᶜ tbl key host q .value ≡ register-alias tbl key host q
+unfolding register-aliasᶜ register-alias
+register-alias-value tbl key host q = lids-value tbl _ _ (trie-add-alias-value (tbl .tbl-lids) key host q)
+
+pub register-include-value : (tbl : Table) (host q : Query) → register-includeᶜ tbl host q .value ≡ register-include tbl host q
+unfolding register-includeᶜ register-include
+register-include-value tbl host q = lids-value tbl _ _ (trie-include-value (tbl .tbl-lids) host q)
+
+pub register-open-value : (tbl : Table) (is-module : Bool) (host q : Query)
+    → register-openᶜ tbl is-module host q .value ≡ register-open tbl is-module host q
+unfolding register-openᶜ register-open
+register-open-value tbl true host q = register-include-value tbl host q
+register-open-value tbl false host q = lids-value tbl _ _ (trie-open-namespace-value (tbl .tbl-lids) host q)
+
+pub ins-ns-value : (id : Str) (b : NameList ModSymbol bind) (full-name : Str) (loaded : Bool)
+    → ins-nsᶜ id b full-name loaded .value ≡ ins-ns id b full-name loaded
+unfolding ins-nsᶜ ins-ns pure
+ins-ns-value id b full-name loaded = go (ns-inserts (names-find-exact b id) loaded)
+  where
+    new : Value ModSymbol bind
+    new = item (Namespace full-name loaded)
+
+    go : (inserts : Bool)
+        → (elim inserts as (λ _. Counted (NameList ModSymbol bind)) [ true ↦ names-insertᶜ b id new | false ↦ pure b ]) .value
+        ≡ cond inserts (names-insert b id new) b
+    go true = names-insert-value b id new
+    go false = refl
+
+pub ins-mod-value : (path id : Str) (b : NameList ModSymbol bind) (full-name : Str) (loaded : Bool)
+    → ins-modᶜ path id b full-name loaded .value ≡ ins-mod path id b full-name loaded
+unfolding ins-modᶜ ins-mod
+ins-mod-value path id b full-name loaded = names-insert-value b id (item (Module full-name path loaded))
+
+pub ins-value : (path id : Str) (q revq : Query) (b : NameList ModSymbol bind) (loaded : Bool)
+    → insᶜ path id q revq b loaded .value ≡ ins path id q revq b loaded
+unfolding insᶜ ins
+ins-value path id [] revq b loaded = ins-mod-value path id b (name-of-revq (id ∷ revq)) loaded
+ins-value path id (s ∷ q) revq b loaded = ins-ns-value id b (name-of-revq (id ∷ revq)) loaded
+
+pub register-module-path-value : (tbl : Table) (loaded : Bool) (path : Str) (q : Query)
+    → register-module-pathᶜ tbl loaded path q .value ≡ register-module-path tbl loaded path q
+unfolding register-module-pathᶜ register-module-path _>>=_ one pure
+register-module-path-value tbl loaded path q =
+    ap (λ tr. record { tbl-lids = tbl .tbl-lids; tbl-mods = tr })
+    (trie-mutate-value _ _ _ _ (λ tr id q revq n. ap (λ b. trie b n) (ins-value path id q revq (bindings tr) loaded)) (λ _ _. refl) (tbl .tbl-mods) q [])
+
+-- ---- Calls
+
+-- The counted form of registered.
+unfoldable pub registeredᶜ : Table → Call → Counted Table
+registeredᶜ tbl (name host id number) = insertᶜ tbl (segments host) id number
+registeredᶜ tbl (include host included) = register-includeᶜ tbl (segments host) (segments included)
+registeredᶜ tbl (opens is-module host included) = register-openᶜ tbl is-module (segments host) (segments included)
+registeredᶜ tbl (alias key host included) = register-aliasᶜ tbl key (segments host) (segments included)
+registeredᶜ tbl (module-path loaded query path) = register-module-pathᶜ tbl loaded path (segments query)
+
+pub registered-value : (tbl : Table) (c : Call) → registeredᶜ tbl c .value ≡ registered tbl c
+unfolding registeredᶜ registered
+registered-value tbl (name host id number) = insert-value tbl (segments host) id number
+registered-value tbl (include host included) = register-include-value tbl (segments host) (segments included)
+registered-value tbl (opens is-module host included) = register-open-value tbl is-module (segments host) (segments included)
+registered-value tbl (alias key host included) = register-alias-value tbl key (segments host) (segments included)
+registered-value tbl (module-path loaded query path) = register-module-path-value tbl loaded path (segments query)
+
+pub registered-count : (tbl : Table) (c : Call) → registeredᶜ tbl c .count ≡ records tbl c
+unfolding registeredᶜ records
+registered-count tbl (name host id number) = refl
+registered-count tbl (include host included) = refl
+registered-count tbl (opens is-module host included) = refl
+registered-count tbl (alias key host included) = refl
+registered-count tbl (module-path loaded query path) = refl
+
+-- ---- The listing
+module _ {A B : Type 0} (fᶜ : B → A → Counted B) where
+  pub fold-left-value : (f : B → A → B) → ((b : B) (a : A) → fᶜ b a .value ≡ f b a) → (b : B) (l : List A)
+      → fold-leftᶜ fᶜ b l .value ≡ fold-left f b l
+  unfolding fold-leftᶜ fold-left _>>=_ pure
+  fold-left-value f h b [] = refl
+  fold-left-value f h b (a ∷ l) = rw (h b a) (fold-left-value f h (f b a) l)
+
+  pub fold-left-count : (c : A → ℕ) → ((b : B) (a : A) → fᶜ b a .count ≡ c a) → (b : B) (l : List A) → fold-leftᶜ fᶜ b l .count ≡ sumˡ c l
+  unfolding fold-leftᶜ _>>=_ pure
+  fold-left-count c h b [] = refl
+  fold-left-count c h b (a ∷ l) = omega (arith, h b a, fold-left-count c h (fᶜ b a .value) l)
+
+module _ {A : Type 0} where
+  pub find-prefix-fuel-value : (n : ℕ) (tr : Trie A) (path : PathOf) (q : Query) (acc : List (PathOf × A))
+      → find-prefix-fuelᶜ n tr path q acc .value ≡ find-prefix-fuel n tr path q acc
+  unfolding find-prefix-fuelᶜ find-prefix-fuel _>>=_ pure one
+  find-prefix-fuel-value zero tr path q acc = refl
+  find-prefix-fuel-value (suc n) tr path q acc =
+      ap (rev-map-onto (λ x. (reverse (x .0 ∷ path), the-item (x .1))) (names-find-rev (bindings tr) (bindings-search-term q)))
+      (fold-left-value _ _ (λ acc x. find-prefix-fuel-value n (x .1) (x .0 ∷ path) (tail q) acc) acc (names-find-rev (namespaces tr) (ns-search-term q)))
+
+  pub trie-find-prefix-value : (tr : Trie A) (q : Query) → trie-find-prefixᶜ tr q .value ≡ trie-find-prefix tr q
+  unfolding trie-find-prefixᶜ trie-find-prefix trie-find-prefix′
+  trie-find-prefix-value tr q = find-prefix-fuel-value (suc (depth tr)) tr [] q []
+
+  -- The tries entered from a trie: itself, and those entered from each row of its namespaces.
+  unfoldable pub entered : ℕ → Trie A → Query → ℕ
+  entered zero tr q = 0
+  entered (suc n) tr q = suc (sumˡ (λ x. entered n (x .1) (tail q)) (names-find-rev (namespaces tr) (ns-search-term q)))
+
+  -- The count depends neither on the path nor on acc.
+  pub find-prefix-fuel-count : (n : ℕ) (tr : Trie A) (path : PathOf) (q : Query) (acc : List (PathOf × A))
+      → find-prefix-fuelᶜ n tr path q acc .count ≡ entered n tr q
+  unfolding find-prefix-fuelᶜ entered _>>=_ pure one
+  find-prefix-fuel-count zero tr path q acc = refl
+  find-prefix-fuel-count (suc n) tr path q acc =
+      omega (
+        arith,
+        fold-left-count (λ acc x. find-prefix-fuelᶜ n (x .1) (x .0 ∷ path) (tail q) acc) (λ x. entered n (x .1) (tail q))
+            (λ acc x. find-prefix-fuel-count n (x .1) (x .0 ∷ path) (tail q) acc) acc (names-find-rev (namespaces tr) (ns-search-term q)),
+      )
+
+  pub tries-entered-count : (tr : Trie A) (q : Query) → tries-entered tr q ≡ entered (suc (depth tr)) tr q
+  unfolding tries-entered trie-find-prefixᶜ
+  tries-entered-count tr q = find-prefix-fuel-count (suc (depth tr)) tr [] q []
