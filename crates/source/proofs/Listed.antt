@@ -1,22 +1,24 @@
 -- What a listing holds at a name: the item at the end of the walk by last holders, once, or nothing.
-use Prim.Native.Nat.{ℕ, zero, suc, _≤_, _<_, Ordering, Ordering·lt, Ordering·eq, Ordering·gt}
+use Prim.Native.Nat.{ℕ, zero, suc, _≤_, _<_}
 use mathlib.Core.Path.{_≡_, refl, sym, ap, _∙_, subst}
-use mathlib.Core.Logic.{_⊎_, inl, inr}
+use mathlib.Core.Logic.{inl, inr}
 use mathlib.Core.Bool.{Bool, true, false, cond, _&&_, true≢false, false≢true}
 use mathlib.Core.List.{List, [], _∷_, _++_, map, reverse, reverseAux, tail, nil≢cons, head-eq-of-cons-eq, tail-eq-of-cons-eq, append-nil}
 use mathlib.Core.Option.{Option, none, some, Option·none-ne-some, Option·some-injective}
 use native.Mathlib.Omega.{arith}
-use Rattle.source.specs.Text.{Str, Query, string-compare}
+use Rattle.source.specs.Text.{Str, Query}
 use Rattle.source.specs.Types.{Level, Value, Trie, Tree, NameList, bind, trie, StrEmpty, StrBranch, []ᴺ, Names, ImportedNames, the-item, bindings, namespaces}
-use Rattle.source.specs.Trees.{PathElem, btree-find-exact}
-use Rattle.source.specs.Tries.{or-else, bind-option, trie-find-exact}
-use Rattle.source.specs.Terms.{flatten, holders, first-of, depth, depth-tree, depth-names, walk-first, walk-last}
-use Rattle.source.specs.Listing.{PathOf, fold-left, rev-map-onto, elem-key, names-find-rev, ns-search-term, bindings-search-term, find-prefix-fuel, trie-find-prefix′, trie-find-prefix}
+use Rattle.source.specs.Trees.{PathElem}
+use Rattle.source.specs.Tries.{bind-option, trie-find-exact}
+use Rattle.source.specs.Terms.{flatten, holders, first-of, depth, depth-names, walk-first, walk-last}
+use Rattle.source.specs.Listing.{PathOf, SearchTerm, fold-left, rev-map-onto, elem-key, names-find-rev, ns-search-term, bindings-search-term, find-prefix-fuel, trie-find-prefix′, trie-find-prefix}
 use Rattle.source.specs.Rules.{Ordered, Formed, FormedTree, FormedNames}
 use Rattle.source.specs.Agreement.{Covers}
-use Rattle.source.proofs.Order.{View, compare-strings, <ˢ-irrefl}
+use Rattle.source.proofs.Order.{<ˢ-irrefl}
 use Rattle.source.proofs.Lists.{same, Same, same-view, same-self, Allˡ, lookup, lookup-hit, lookup-miss, Below, Decreasing}
 use Rattle.source.proofs.Trees.{gate, valof}
+use Rattle.source.proofs.Queries.{Allˡ-zip}
+use Rattle.source.proofs.Rows.{AllBranches, AllNamed, names-find-rev-all, names-find-rev-depth}
 use Rattle.source.proofs.Names.{accepts, last-holder, first-of-holders, last-of-holders, find-exact-is-first, OrderedN, find-rev-decreasing, find-rev-at}
 
 -- ---- the walks, a step at a time
@@ -56,56 +58,28 @@ module _ {A : Type 0} (Key Label : Str → Type 0) (Item : A → Type 0) where
   formed-orderedN (Names bt tl) g = (formed-ordered bt (g .0), formed-orderedN tl (g .1))
   formed-orderedN (ImportedNames label inner tl) g = (formed-orderedN inner (g .1), formed-orderedN tl (g .2))
 
--- ---- what is held
-or-some : {A : Type 0} (x y : Option A) (v : A) → or-else x y ≡ some v → (x ≡ some v) ⊎ (y ≡ some v)
-unfolding or-else
-or-some none y v e = inr e
-or-some (some x) y v e = inl e
+  -- each row of a formed list is formed
+  formed-branches : {l : Level} (t : Tree A l) → FormedTree Key Label Item t → AllBranches (λ k v. Key k × Formed Key Label Item v) t
+  formed-branches StrEmpty g = tt
+  formed-branches (StrBranch k v lbt rbt) g = ((g .0, g .1), formed-branches lbt (g .4), formed-branches rbt (g .5))
 
-module _ {A : Type 0} {l : Level} (P : Str → Value A l → Type 0) where
-  abbrev pub Held : Tree A l → Type 0
-  Held StrEmpty = Unit {0}
-  Held (StrBranch k v lbt rbt) = P k v × Held lbt × Held rbt
+  formed-named : {l : Level} (n : NameList A l) → FormedNames Key Label Item n → AllNamed (λ k v. Key k × Formed Key Label Item v) n
+  formed-named []ᴺ g = tt
+  formed-named (Names bt tl) g = (formed-branches bt (g .0), formed-named tl (g .1))
+  formed-named (ImportedNames label inner tl) g = (formed-named inner (g .1), formed-named tl (g .2))
 
-  found-held : (t : Tree A l) (k : Str) (v : Value A l) → Held t → btree-find-exact t k ≡ some v → P k v
-  unfolding btree-find-exact
-  found-held StrEmpty k v h e = absurd (Option·none-ne-some v e)
-  found-held (StrBranch k′ w lbt rbt) k v h e =
-      go (λ e. found-held lbt k v (h .1) e) (λ e. found-held rbt k v (h .2) e) (string-compare k k′) (compare-strings k k′) e
-    where
-      go : (btree-find-exact lbt k ≡ some v → P k v) → (btree-find-exact rbt k ≡ some v → P k v) → (o : Ordering) → View k k′ o
-          → _≡_ {A = Option (Value A l)} (elim o [ Ordering·lt ↦ btree-find-exact lbt k | Ordering·eq ↦ some w | Ordering·gt ↦ btree-find-exact rbt k ]) (some v) → P k v
-      go i j Ordering·lt c e = i e
-      go i j Ordering·eq c e = rw (c, ← Option·some-injective w v e) (h .0)
-      go i j Ordering·gt c e = j e
+  pub rows-formed : {l : Level} (n : NameList A l) (term : SearchTerm) → FormedNames Key Label Item n
+      → Allˡ (λ y. Key (elem-key y) × Formed Key Label Item (y .1)) (names-find-rev n term)
+  rows-formed n term g = names-find-rev-all (λ k v. Key k × Formed Key Label Item v) n term (formed-named n g)
 
-  pub last-held : (ts : List (Tree A l)) (k : Str) (v : Value A l) → Allˡ Held ts → last-holder ts k ≡ some v → P k v
-  unfolding last-holder
-  last-held [] k v h e = absurd (Option·none-ne-some v e)
-  last-held (t ∷ ts) k v h e = go (last-held ts k v (h .1)) (or-some (last-holder ts k) (btree-find-exact t k) v e)
-    where
-      go : (last-holder ts k ≡ some v → P k v) → (last-holder ts k ≡ some v) ⊎ (btree-find-exact t k ≡ some v) → P k v
-      go i (inl e) = i e
-      go i (inr e) = found-held t k v (h .0) e
-
-all-append : {A : Type 0} (P : A → Type 0) (xs ys : List A) → Allˡ P xs → Allˡ P ys → Allˡ P (xs ++ ys)
-all-append P [] ys a b = b
-all-append P (x ∷ xs) ys a b = (a .0, all-append P xs ys (a .1) b)
-
-module _ {A : Type 0} (Key Label : Str → Type 0) (Item : A → Type 0) (d : ℕ) where
-  abbrev Fine : {l : Level} → Str → Value A l → Type 0
-  Fine k v = Key k × Formed Key Label Item v × (depth v < d)
-
-  fine-tree : {l : Level} (t : Tree A l) → FormedTree Key Label Item t → depth-tree t ≤ d → Held Fine t
-  unfolding depth
-  fine-tree StrEmpty g h = tt
-  fine-tree (StrBranch k v lbt rbt) g h = ((g .0, g .1, omega arith), fine-tree lbt (g .4) (omega arith), fine-tree rbt (g .5) (omega arith))
-
-  pub fine : {l : Level} (n : NameList A l) → FormedNames Key Label Item n → depth-names n ≤ d → Allˡ (Held Fine) (flatten n)
-  unfolding depth flatten
-  fine []ᴺ g h = tt
-  fine (Names bt tl) g h = (fine-tree bt (g .0) (omega arith), fine tl (g .1) (omega arith))
-  fine (ImportedNames label inner tl) g h = all-append (Held Fine) (flatten inner) (flatten tl) (fine inner (g .1) (omega arith)) (fine tl (g .2) (omega arith))
+lookup-all : {B : Type 0} (key : B → Str) (P : B → Type 0) (k : Str) (m : List B) (y : B) → Allˡ P m → lookup key k m ≡ some y → P y
+unfolding lookup
+lookup-all key P k [] y a e = absurd (Option·none-ne-some y e)
+lookup-all key P k (x ∷ m) y a e = go (same k (key x)) (lookup-all key P k m y (a .1)) e
+  where
+    go : (b : Bool) → (lookup key k m ≡ some y → P y) → cond b (some x) (lookup key k m) ≡ some y → P y
+    go true f e = subst P (Option·some-injective x y e) (a .0)
+    go false f e = f e
 
 -- ---- lines by name
 abbrev pub keys : PathOf → List Str
@@ -296,7 +270,7 @@ module _ {A : Type 0} (Key Label : Str → Type 0) (Item : A → Type 0) where
       ≡ to-list (walk-last (y .1) (t ∷ name)) ++ items (reverseAux (keys path) (k ∷ (t ∷ name))) acc) e (ih (y .1) (y .0) acc (p .0) (p .1)))
       (λ acc y ne. foreign n (y .1) (y .0 ∷ path) (tail q) acc T (λ u m e. ne (head-eq-of-cons-eq (onto-inj (keys path) _ _ e))))
       rows acc (find-rev-decreasing (namespaces tr) (ns-search-term q) o)
-      (λ y e. let h : Key s × Formed Key Label Item (y .1) × (depth (y .1) < n) = last-held (λ k v. Key k × Formed Key Label Item v × (depth v < n)) (flatten (namespaces tr)) s (y .1) (fine Key Label Item n (namespaces tr) gd dp) (sym at ∙ ap valof e) in (h .1, h .2))
+      (λ y e. lookup-all elem-key (λ y. Formed Key Label Item (y .1) × (depth (y .1) < n)) s rows y fine e)
       ∙ ap (λ r. r ++ items T acc) (by-value (lookup elem-key s rows) ∙ ap (λ o. to-list (bind-option o (λ scope. walk-last scope (t ∷ name)))) at
       ∙ ap to-list (sym (walk-last-on tr s t name)))
     where
@@ -308,6 +282,10 @@ module _ {A : Type 0} (Key Label : Str → Type 0) (Item : A → Type 0) where
 
       rows : List (PathElem × Trie A)
       rows = names-find-rev (namespaces tr) (ns-search-term q)
+
+      fine : Allˡ (λ y. Formed Key Label Item (y .1) × (depth (y .1) < n)) rows
+      fine = Allˡ-zip rows (λ y f d. (f .1, omega arith)) (rows-formed Key Label Item (namespaces tr) (ns-search-term q) gd)
+          (names-find-rev-depth (namespaces tr) (ns-search-term q))
 
       at : valof (lookup elem-key s rows) ≡ last-holder (flatten (namespaces tr)) s
       at = find-rev-at (namespaces tr) (ns-search-term q) s o ∙ ap (λ i. gate i (last-holder (flatten (namespaces tr)) s)) (covers-namespace q s (t ∷ name) b)

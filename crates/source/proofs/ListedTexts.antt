@@ -1,23 +1,19 @@
 -- The same by the lines' texts: names without dots are told by their text.
-use Prim.Native.Nat.{ℕ, zero, suc, _≤_, _<_}
+use Prim.Native.Nat.{ℕ, zero, suc}
 use mathlib.Core.Path.{_≡_, refl, sym, ap, _∙_}
 use mathlib.Core.Logic.{_≢_}
 use mathlib.Core.Bool.{Bool, true, false, cond, true≢false}
 use mathlib.Core.List.{List, [], _∷_, _++_, reverse, reverseAux, tail, nil≢cons, head-eq-of-cons-eq, tail-eq-of-cons-eq}
-use mathlib.Core.Option.{Option, some, Option·none-ne-some}
-use native.Mathlib.Omega.{arith}
 use Rattle.source.specs.Text.{Str, Query, query-to-string, dot}
-use Rattle.source.specs.Types.{Level, Value, Trie, NameList, bind, the-item, bindings, namespaces}
+use Rattle.source.specs.Types.{Level, Value, Trie, bind, the-item, bindings, namespaces}
 use Rattle.source.specs.Trees.{PathElem}
-use Rattle.source.specs.Terms.{flatten, depth, depth-names, walk-last}
-use Rattle.source.specs.Listing.{PathOf, SearchTerm, fold-left, rev-map-onto, elem-key, names-find-rev, ns-search-term, bindings-search-term, find-prefix-fuel, trie-find-prefix, trie-find-prefix′}
+use Rattle.source.specs.Terms.{depth, walk-last}
+use Rattle.source.specs.Listing.{PathOf, fold-left, rev-map-onto, elem-key, names-find-rev, ns-search-term, bindings-search-term, find-prefix-fuel, trie-find-prefix, trie-find-prefix′}
 use Rattle.source.specs.Table.{string-of-path}
-use Rattle.source.specs.Rules.{Formed, FormedNames}
+use Rattle.source.specs.Rules.{Formed}
 use Rattle.source.specs.Agreement.{Covers}
-use Rattle.source.proofs.Lists.{same, same-self, same-ne, Allˡ, Allˡ-map, lookup, lookup-hit, lookup-miss, lookup-below, Decreasing}
-use Rattle.source.proofs.Trees.{gate, valof}
-use Rattle.source.proofs.Names.{accepts, last-holder, find-rev-decreasing, find-rev-at}
-use Rattle.source.proofs.Listed.{formed-orderedN, last-held, keys, same-names, same-names-eq, same-names-self, keys-reverse, items, fine, parts, to-list, listed-items}
+use Rattle.source.proofs.Lists.{same, same-self, same-ne, Allˡ, Allˡ-map}
+use Rattle.source.proofs.Listed.{rows-formed, keys, same-names, same-names-eq, same-names-self, keys-reverse, items, parts, to-list, listed-items}
 
 -- ---- names without dots: the text tells the segments
 abbrev pub NoDot : Str → Type 0
@@ -52,36 +48,13 @@ text-injective s (r ∷ a) t (u ∷ b) p q e =
     let j : Path Query (r ∷ a) (u ∷ b) = text-injective r a u b (p .1) (q .1) (h .1) in
     cc
 
--- ---- each row of names_find_rev is held
-module _ {B : Type 0} (key : B → Str) (Q : B → Type 0) where
-  all-by-lookup : (m : List B) → Decreasing key m → ((y : B) → lookup key (key y) m ≡ some y → Q y) → Allˡ Q m
-  all-by-lookup [] d f = tt
-  all-by-lookup (x ∷ m) d f = (f x (lookup-hit key x m), all-by-lookup m (d .1) (λ z e. f z (lookup-miss key (key z) x m (λ i. differ z e i) ∙ e)))
-    where
-      differ : (z : B) → lookup key (key z) m ≡ some z → key z ≡ key x → ⊥
-      differ z e i = Option·none-ne-some z (sym (lookup-below key (key x) m (d .0)) ∙ ap (λ k. lookup key k m) (sym i) ∙ e)
-
-gate-some : {A : Type 0} (b : Bool) (o : Option A) (v : A) → gate b o ≡ some v → o ≡ some v
-gate-some true o v e = e
-gate-some false o v e = absurd (Option·none-ne-some v e)
-
+-- ---- the paths of lines
 onto-all : (P : Str → Type 0) (p : List Str) (k : Str) (m : List Str) → Allˡ P p → Allˡ P (k ∷ m)
     → (k′ : Str) × (m′ : List Str) × (reverseAux p (k ∷ m) ≡ k′ ∷ m′) × Allˡ P (k′ ∷ m′)
 onto-all P [] k m a b = (k, m, refl, b)
 onto-all P (x ∷ p) k m a b = onto-all P p x (k ∷ m) (a .1) (a .0, b)
 
 module _ {A : Type 0} (Key Label : Str → Type 0) (Item : A → Type 0) where
-  pub rows-fine : {l : Level} (d : ℕ) (n : NameList A l) (term : SearchTerm) → FormedNames Key Label Item n → depth-names n ≤ d
-      → Allˡ (λ y. Key (elem-key y) × Formed Key Label Item (y .1) × (depth (y .1) < d)) (names-find-rev n term)
-  rows-fine {l} d n term g h =
-      all-by-lookup elem-key (λ y. Key (elem-key y) × Formed Key Label Item (y .1) × (depth (y .1) < d)) (names-find-rev n term) (find-rev-decreasing n term (formed-orderedN Key Label Item n g)) each
-    where
-      each : (y : PathElem × Value A l) → lookup elem-key (elem-key y) (names-find-rev n term) ≡ some y → Key (elem-key y) × Formed Key Label Item (y .1) × (depth (y .1) < d)
-      each y e =
-          last-held (λ k v. Key k × Formed Key Label Item v × (depth v < d)) (flatten n) (elem-key y) (y .1) (fine Key Label Item d n g h)
-          (gate-some (accepts term (elem-key y)) (last-holder (flatten n) (elem-key y)) (y .1)
-          (sym (find-rev-at n term (elem-key y) (formed-orderedN Key Label Item n g)) ∙ ap valof e))
-
   -- a line's path: not empty, each key fine
   abbrev LineOk : PathOf × A → Type 0
   LineOk x = (k : Str) × (m : List Str) × (keys (x .0) ≡ k ∷ m) × Allˡ Key (k ∷ m)
@@ -104,12 +77,12 @@ module _ {A : Type 0} (Key Label : Str → Type 0) (Item : A → Type 0) where
   lines-ok zero tr path q acc g p a = a
   lines-ok (suc n) tr path q acc g p a =
       rev-map-ok _ (names-find-rev (bindings tr) (bindings-search-term q)) _
-      (Allˡ-map (names-find-rev (bindings tr) (bindings-search-term q)) line (rows-fine (depth-names (bindings tr)) (bindings tr) (bindings-search-term q) (parts Key Label Item tr g .0) (omega arith)))
-      (fold-ok _ (λ y. Key (elem-key y) × Formed Key Label Item (y .1) × (depth (y .1) < depth-names (namespaces tr))) (names-find-rev (namespaces tr) (ns-search-term q)) acc
+      (Allˡ-map (names-find-rev (bindings tr) (bindings-search-term q)) line (rows-formed Key Label Item (bindings tr) (bindings-search-term q) (parts Key Label Item tr g .0)))
+      (fold-ok _ (λ y. Key (elem-key y) × Formed Key Label Item (y .1)) (names-find-rev (namespaces tr) (ns-search-term q)) acc
       (λ acc y f b. lines-ok n (y .1) (y .0 ∷ path) (tail q) acc (f .1) (f .0, p) b)
-      (rows-fine (depth-names (namespaces tr)) (namespaces tr) (ns-search-term q) (parts Key Label Item tr g .1) (omega arith)) a)
+      (rows-formed Key Label Item (namespaces tr) (ns-search-term q) (parts Key Label Item tr g .1)) a)
     where
-      line : (y : PathElem × Value A bind) → Key (elem-key y) × Formed Key Label Item (y .1) × (depth (y .1) < depth-names (bindings tr)) → LineOk (reverse (y .0 ∷ path), the-item (y .1))
+      line : (y : PathElem × Value A bind) → Key (elem-key y) × Formed Key Label Item (y .1) → LineOk (reverse (y .0 ∷ path), the-item (y .1))
       line y f = let r : (k′ : Str) × (m′ : List Str) × (reverseAux (keys path) (elem-key y ∷ []) ≡ k′ ∷ m′) × Allˡ Key (k′ ∷ m′) = onto-all Key (keys path) (elem-key y) [] p (f .0, tt) in
           (r .0, r .1, keys-reverse path (y .0 ∷ []) ∙ r .2, r .3)
 
