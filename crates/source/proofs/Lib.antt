@@ -13,6 +13,7 @@ pub mod Listed
 pub mod ListedTexts
 pub mod Queries
 pub mod Refusals
+pub mod Unchanged
 pub mod Kept
 pub mod Agreement
 pub mod Cases
