@@ -6,7 +6,7 @@ use mathlib.Core.Bool.{Bool, true, false, cond, true≢false}
 use mathlib.Core.List.{List, [], _∷_, map, nil≢cons, head-eq-of-cons-eq, tail-eq-of-cons-eq}
 use mathlib.Core.Option.{Option, none, some}
 use native.Mathlib.Omega.{arith}
-use borrow.Author.Tests.{eqb-true, eqb-false}
+use borrow.Author.Tests.{eqb-false}
 use lib.Dec.{eqb}
 use lib.ListN.{length}
 use Rattle.source.specs.Text.{Str, Query, dot, segments, onto-first, ends-in-dot, query-to-string, name-byte}
@@ -19,7 +19,7 @@ use Rattle.source.specs.Rules.{Formed, IsKey, IsLabel, NameItem, ModItem
 use Rattle.source.specs.Calls.{Found, refused, found-of, look-up, Completed, listed, Output, All, keeps, filter-of, completed, complete, complete-modules, lowest, argument-rows, completion-rows, a-look-up, is-empty}
 use Rattle.source.specs.Agreement.{Covers, without-last, NotRefused, lines-of-text, Shows, OneHolder, Agreement, Demand3}
 use Rattle.source.proofs.Lists.{same, Allˡ}
-use Rattle.source.proofs.Queries.{and-parts}
+use Rattle.source.proofs.Queries.{and-parts, string-is}
 use Rattle.source.proofs.Refusals.{Admitted, argument-rows-none, look-up-whole, look-up-segment}
 use Rattle.source.proofs.Listed.{look-up-is-walk, to-list}
 use Rattle.source.proofs.ListedTexts.{NoDot, items-of-text, listed-items-of-text}
@@ -70,38 +70,6 @@ segments-no-dot (b ∷ s) = go (eqb b dot) refl (segments-no-dot s)
     go : (i : Bool) → eqb b dot ≡ i → Allˡ NoDot (segments s) → Allˡ NoDot (elim i as (λ _. Query) [ true ↦ [] ∷ segments s | false ↦ onto-first b (segments s) ])
     go true e a = (tt, a)
     go false e a = onto-no-dot b (segments s) (eqb-false b dot e) a
-
-segments-some : (b : ℕ) (s : Str) → (g : Str) × (q : Query) × (segments (b ∷ s) ≡ g ∷ q)
-unfolding segments onto-first
-segments-some b s = go (eqb b dot) (segments s)
-  where
-    go : (i : Bool) (q : Query) → (g : Str) × (r : Query) × (_≡_ {A = Query} (elim i as (λ _. Query) [ true ↦ [] ∷ q | false ↦ onto-first b q ]) (g ∷ r))
-    go true q = ([], q, refl)
-    go false [] = (b ∷ [], [], refl)
-    go false (s ∷ q) = (b ∷ s, q, refl)
-
-concat-onto : (b : ℕ) (q : Query) (g : Str) (r : Query) → q ≡ g ∷ r → query-to-string (onto-first b q) ≡ b ∷ query-to-string q
-unfolding onto-first query-to-string
-concat-onto b [] g r e = absurd (nil≢cons e)
-concat-onto b (s ∷ []) g r e = refl
-concat-onto b (s ∷ (t ∷ q)) g r e = refl
-
-concat-dot : (q : Query) (g : Str) (r : Query) → q ≡ g ∷ r → query-to-string ([] ∷ q) ≡ dot ∷ query-to-string q
-unfolding query-to-string
-concat-dot [] g r e = absurd (nil≢cons e)
-concat-dot (s ∷ q) g r e = refl
-
--- the query as text has no last dot
-concat-segments : (s : Str) → ends-in-dot s ≡ true → query-to-string (segments s) ≡ without-last s
-unfolding segments ends-in-dot without-last query-to-string onto-first
-concat-segments [] e = refl
-concat-segments (b ∷ []) e = subst (λ i. query-to-string (elim i as (λ _. Query) [ true ↦ [] ∷ [] | false ↦ (b ∷ []) ∷ [] ]) ≡ []) (sym e) refl
-concat-segments (b ∷ (c ∷ s)) e = go (eqb b dot) refl (concat-segments (c ∷ s) e) (segments-some c s)
-  where
-    go : (i : Bool) → eqb b dot ≡ i → query-to-string (segments (c ∷ s)) ≡ without-last (c ∷ s) → (g : Str) × (q : Query) × (segments (c ∷ s) ≡ g ∷ q)
-        → query-to-string (elim i as (λ _. Query) [ true ↦ [] ∷ segments (c ∷ s) | false ↦ onto-first b (segments (c ∷ s)) ]) ≡ b ∷ without-last (c ∷ s)
-    go true e h f = concat-dot (segments (c ∷ s)) (f .0) (f .1) (f .2) ∙ cc (eqb-true b dot e)
-    go false e h f = concat-onto b (segments (c ∷ s)) (f .0) (f .1) (f .2) ∙ ap (λ t. b ∷ t) h
 
 -- ---- lines and items
 module _ {A : Type 0} where
@@ -163,11 +131,11 @@ module _ {A : Type 0} (Item : A → Type 0) (f : PathOf × A → Line A) (text :
     (same-item : (x : PathOf × A) → f x .item-of ≡ x .1) where
   pane-shows : (tr : Trie A) (name query : Str) → Formed IsKey IsLabel Item tr → ends-in-dot name ≡ true → is-empty (segments name) ≡ false → Covers (segments query) (segments name)
       → Shows (lines-of-text (without-last name) (map f (trie-find-prefix tr (segments query)))) (found-of (walk-last tr (segments name)))
-  unfolding is-empty
+  unfolding is-empty without-last
   pane-shows tr name query formed whole some-segment covers =
       shown _ (walk-last tr (segments name))
       (lines-items f text same-item (without-last name) (trie-find-prefix tr (segments query))
-      ∙ ap (λ t. items-of-text t (trie-find-prefix tr (segments query))) (sym (concat-segments name whole))
+      ∙ ap (λ t. items-of-text t (trie-find-prefix tr (segments query))) (sym (string-is name whole))
       ∙ go (segments name) some-segment (segments-no-dot name) covers)
     where
       go : (q : Query) → is-empty q ≡ false → Allˡ NoDot q → Covers (segments query) q

@@ -1,12 +1,13 @@
 -- Texts that pass rows 2 to 4: their segments are keys, and their labels and full names keep the rules.
-use Prim.Native.Nat.{ℕ, _-_, _*_, _≤_}
+use Prim.Native.Nat.{ℕ, _-_, _*_, _≤_, _<_}
 use mathlib.Core.Path.{_≡_, refl, sym, ap, _∙_}
 use mathlib.Core.Bool.{Bool, true, false, not, _&&_, _||_, true≢false, false≢true, or-false}
 use mathlib.Core.List.{List, [], _∷_, _++_, reverse, reverseAux, reverseAux-eq}
 use native.Mathlib.Omega.{arith}
 use lib.Dec.{ltb, eqb}
-use lib.ListN.{length, length-append, length-reverse}
-use borrow.Author.Tests.{ltb-false, not-false}
+use lib.ListN.{length, take, length-append, length-reverse}
+use native.Mathlib.Numerals.{sub-one}
+use borrow.Author.Tests.{eqb-true, ltb-false, not-false}
 use Rattle.source.specs.Text.{Str, Query, dot, query-to-string, onto-first, segments, ends-in-dot, name-byte, query-byte, path-byte}
 use Rattle.source.specs.Rules.{all, Fits, IsKey, IsLabel, IsFullName, IsPath}
 use Rattle.source.specs.Table.{name-of-revq}
@@ -158,3 +159,52 @@ name-of-revq-full-name id revq q i =
       few = omega (arith, i .few, ap length e, length-append (reverse (id ∷ revq)) q);
     })
     (omega (arith, length-reverse (id ∷ revq)))
+
+-- ---- the segments byte by byte
+
+pub segments-dot : (b : ℕ) (s : Str) → eqb b dot ≡ true → segments (b ∷ s) ≡ [] ∷ segments s
+unfolding segments
+segments-dot b s e = rw (e, segments)
+
+pub segments-other : (b : ℕ) (s : Str) → eqb b dot ≡ false → segments (b ∷ s) ≡ onto-first b (segments s)
+unfolding segments
+segments-other b s e = rw (e, segments)
+
+segments-some : (b : ℕ) (s : Str) → 0 < length (segments (b ∷ s))
+unfolding onto-first
+segments-some b s = go (eqb b dot) refl
+  where
+    onto : (q : Query) → 0 < length (onto-first b q)
+    onto [] = omega arith
+    onto (g ∷ q) = omega arith
+
+    go : (t : Bool) → eqb b dot ≡ t → 0 < length (segments (b ∷ s))
+    go true e = rw (segments-dot b s e) (omega arith)
+    go false e = rw (segments-other b s e) (onto (segments s))
+
+-- ---- a query as one text: without the last dot
+
+string-onto : (b : ℕ) (q : Query) → query-to-string (onto-first b q) ≡ b ∷ query-to-string q
+unfolding onto-first query-to-string
+string-onto b [] = refl
+string-onto b (g ∷ []) = refl
+string-onto b (g ∷ (h ∷ q)) = refl
+
+string-empty : (q : Query) → 0 < length q → query-to-string ([] ∷ q) ≡ dot ∷ query-to-string q
+unfolding query-to-string
+string-empty [] h = absurd (omega arith)
+string-empty (g ∷ q) h = refl
+
+string-cons : (b : ℕ) (s : Str) → ends-in-dot (b ∷ s) ≡ true → query-to-string (segments (b ∷ s)) ≡ take (length s) (b ∷ s)
+unfolding ends-in-dot segments query-to-string
+string-cons b [] e = rw (segments-dot b [] e)
+string-cons b (c ∷ s) e = go (eqb b dot) refl (string-cons c s e)
+  where
+    go : (t : Bool) → eqb b dot ≡ t → query-to-string (segments (c ∷ s)) ≡ take (length s) (c ∷ s) → query-to-string (segments (b ∷ (c ∷ s))) ≡ b ∷ take (length s) (c ∷ s)
+    go true d ih = rw (segments-dot b (c ∷ s) d) (string-empty (segments (c ∷ s)) (segments-some c s) ∙ cc (eqb-true b dot d))
+    go false d ih = rw (segments-other b (c ∷ s) d) (string-onto b (segments (c ∷ s)) ∙ ap (λ (l : Str). b ∷ l) ih)
+
+pub string-is : (s : Str) → ends-in-dot s ≡ true → query-to-string (segments s) ≡ take (length s - 1) s
+unfolding segments query-to-string
+string-is [] e = refl
+string-is (b ∷ s) e = rw sub-one (string-cons b s e)

@@ -1,12 +1,12 @@
 -- Demand 3 of the customer's E: what the pane lists and what look-up takes.
-use Prim.Native.Nat.{ℕ, _≤_}
+use Prim.Native.Nat.{ℕ, _-_, _≤_}
 use mathlib.Core.Path.{_≡_}
 use mathlib.Core.Logic.{_↔_}
 use mathlib.Core.Bool.{true, false}
 use mathlib.Core.List.{List, [], _∷_}
 use mathlib.Core.Option.{some}
 use lib.Dec.{isEq}
-use lib.ListN.{length}
+use lib.ListN.{length, take}
 use Rattle.source.specs.Text.{Str, Query, string-compare, starts-with, segments}
 use Rattle.source.specs.Types.{Trie, bindings, namespaces}
 use Rattle.source.specs.Terms.{flatten, holders, first-of, walk-first, walk-last}
@@ -22,9 +22,7 @@ Covers (p ∷ query) (s ∷ name) = (starts-with s p ≡ true) × Covers query n
 
 -- A text without its last byte.
 unfoldable pub without-last : Str → Str
-without-last [] = []
-without-last (b ∷ []) = []
-without-last (b ∷ (c ∷ s)) = b ∷ without-last (c ∷ s)
+without-last s = take (length s - 1) s
 
 module _ {A : Type 0} where
   abbrev pub NotRefused : Found A → Type 0

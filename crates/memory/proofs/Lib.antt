@@ -1,0 +1,11 @@
+pub mod Says
+pub mod Parts
+pub mod Readings
+pub mod Records
+pub mod Sizes
+pub mod Growing
+pub mod Keeping
+pub mod Given
+pub mod Rows
+pub mod Putting
+pub mod Seen

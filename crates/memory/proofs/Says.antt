@@ -1,0 +1,19 @@
+-- What follows from a test's answer.
+use Prim.Native.Nat.{ℕ}
+use mathlib.Core.Path.{_≡_}
+use mathlib.Core.Bool.{Bool, true, false}
+use native.Mathlib.Omega.{arith}
+use Rattle.memory.specs.Sound.{Says}
+
+pub holds : (b : Bool) {P : Type 0} → Says b P → b ≡ true → P
+holds true h e = h
+holds false h e = let z : _≡_ {A = ℕ} 0 1 = cc in absurd (omega arith)
+
+pub fails : (b : Bool) {P : Type 0} → Says b P → b ≡ false → P → ⊥
+fails true h e p = let z : _≡_ {A = ℕ} 0 1 = cc in omega arith
+fails false h e p = h p
+
+-- A test of one statement is a test of an equivalent one.
+pub says-iff : (b : Bool) {P Q : Type 0} → Says b P → (P → Q) → (Q → P) → Says b Q
+says-iff true h f g = f h
+says-iff false h f g = λ q. h (g q)

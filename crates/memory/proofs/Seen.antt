@@ -1,0 +1,130 @@
+-- What the readers show of a link of a sound memory.
+use Prim.Native.Nat.{ℕ, _+_, _*_, _≤_, _<_}
+use mathlib.Core.Path.{_≡_, refl, sym, _∙_}
+use mathlib.Core.Bool.{true, false}
+use mathlib.Core.List.{List}
+use native.Mathlib.Omega.{arith}
+use lib.ListN.{length}
+use borrow.Author.Tests.{ne-eqb, eqb-true, eqb-false}
+use Rattle.source.specs.Types.{Level, bind, ns, Value, item, trie, StrBranch, Names, ImportedNames}
+use Rattle.source.specs.Terms.{weight, depth}
+use Rattle.source.specs.Rules.{IsKey, IsLabel, Ordered}
+use Rattle.memory.specs.Layout.{record-at, word, pick, Which, names, modules, Item, item-of, Sort, tree, list, trieˢ, kind, Reading, value, row, what}
+use Rattle.memory.specs.Stored.{stored}
+use Rattle.memory.specs.Sound.{LinkOk, TextOk, RecordOk, Sound}
+use Rattle.memory.specs.Read.{text-of, symbol-in, symbol-of, ReadBranch, ReadCollection, ReadTrie}
+use Rattle.memory.specs.declared.Branch.{Branch}
+use Rattle.memory.specs.declared.Collection.{Collection}
+use Rattle.memory.specs.declared.Trie.{Trie}
+use Rattle.memory.proofs.Readings.{what-none}
+use Rattle.memory.proofs.Records.{zero-one, zero-some, record-as, record-what, branch-at, ordered-at, collection-at, weight-at}
+use Rattle.memory.proofs.Sizes.{stored-none, stored-some, stored-trie}
+
+pub symbol-item : (txt r : List ℕ) → symbol-of txt (symbol-in r) ≡ item-of modules txt r
+symbol-item txt r = zero-some (word r 5) (λ e. rw e) (λ p. rw (ne-eqb (word r 5) 0 (λ e. omega arith)))
+
+-- A link of an earlier record is a link of a later one.
+pub link-later : {ws : List ℕ} {l l′ x k : ℕ} → l ≤ l′ → LinkOk ws l x k → LinkOk ws l′ x k
+link-later h o = record { earlier = omega (arith, o .earlier); of-kind = o .of-kind }
+
+-- What the key of a branch stands for.
+abbrev pub value-of : (w : Which) → List ℕ → Branch → (ℕ → Reading w) → (v : Level) → Value (Item w) v
+value-of names txt b f bind = item (b .value)
+value-of names txt b f ns = f (b .value) trieˢ
+value-of modules txt b f bind = item (symbol-of txt (b .symbol))
+value-of modules txt b f ns = f (b .value) trieˢ
+
+value-read : (w : Which) (txt : List ℕ) (f : ℕ → Reading w) (v : Level) {r : List ℕ} {b : Branch} → ReadBranch r b → value w txt r f v ≡ value-of w txt b f v
+value-read names txt f bind q = rw (← q .value)
+value-read names txt f ns q = rw (← q .value)
+value-read modules txt f bind {r} q = rw (q .symbol, symbol-item txt r)
+value-read modules txt f ns q = rw (← q .value)
+
+pub record SeenBranch (ws txt : List ℕ) (used x : ℕ) (w : Which) (v : Level) (b : Branch) : Type 0 where
+  pub reads : what w ws txt x (tree v) ≡ StrBranch (text-of txt (b .key)) (value-of w txt b (what w ws txt) v) (what w ws txt (b .left) (tree v)) (what w ws txt (b .right) (tree v))
+  pub ordered : Ordered (what w ws txt x (tree v))
+  pub key : TextOk IsKey txt used (b .key .start) (b .key .len)
+  pub left : LinkOk ws x (b .left) (kind w (tree v))
+  pub right : LinkOk ws x (b .right) (kind w (tree v))
+
+pub record SeenCollection (ws txt : List ℕ) (used x : ℕ) (w : Which) (v : Level) (c : Collection) : Type 0 where
+  pub reads : what w ws txt x (list v)
+      ≡ pick (c .imported)
+      (ImportedNames (text-of txt (c .label)) (what w ws txt (c .own) (list v)) (what w ws txt (c .rest) (list v)))
+      (Names (what w ws txt (c .own) (tree v)) (what w ws txt (c .rest) (list v)))
+  pub tree-link : c .imported ≡ false → LinkOk ws x (c .own) (kind w (tree v))
+  pub list-link : c .imported ≡ true → LinkOk ws x (c .own) (kind w (list v))
+  pub label : c .imported ≡ true → TextOk IsLabel txt used (c .label .start) (c .label .len)
+  pub rest : LinkOk ws x (c .rest) (kind w (list v))
+  pub weighs : c .weight ≡ weight (what w ws txt x (list v))
+  pub light : weight (what w ws txt x (list v)) ≤ 96
+
+pub record SeenTrie (ws txt : List ℕ) (n x : ℕ) (w : Which) (t : Trie) : Type 0 where
+  pub reads : what w ws txt x trieˢ ≡ trie (what w ws txt (t .bindings) (list bind)) (what w ws txt (t .namespaces) (list ns))
+  pub bindings : LinkOk ws (n + 1) (t .bindings) (kind w (list bind))
+  pub namespaces : LinkOk ws (n + 1) (t .namespaces) (kind w (list ns))
+  pub deep : t .depth ≡ depth (what w ws txt x trieˢ)
+
+module _ {ws txt : List ℕ} {a b n used : ℕ} (o : Sound ws txt a b n used) where
+  pub link-fits : {x k : ℕ} → LinkOk ws (n + 1) x k → x * 12 ≤ length ws
+  link-fits i = omega (arith, i .earlier, o .records-fit)
+
+  pub link-ok : {x k : ℕ} → LinkOk ws (n + 1) x k → 0 < x → RecordOk ws txt used x
+  link-ok i p = o .rows _ p (omega (arith, i .earlier))
+
+  pub link-what : (w : Which) (s : Sort) {x : ℕ} → LinkOk ws (n + 1) x (kind w s) → 0 < x → what w ws txt x s ≡ row w txt (record-at ws x) (what w ws txt) s
+  link-what w s i p = record-what (link-ok i p) w s (i .of-kind (λ e. omega arith)) p
+
+  module _ (w : Which) {x : ℕ} (p : 0 < x) where
+    pub branch-seen : {v : Level} {b : Branch} → LinkOk ws (n + 1) x (kind w (tree v)) → ReadBranch (record-at ws x) b → SeenBranch ws txt used x w v b
+    branch-seen {v} i q =
+        let k = i .of-kind (λ e. omega arith) in
+        let y = branch-at (link-ok i p) w v k in
+        record {
+          reads = link-what w (tree v) i p ∙ rw (value-read w txt (what w ws txt) v q, q .key-start, q .key-len, q .left, q .right);
+          ordered = ordered-at (link-ok i p) w v k;
+          key = rw (q .key-start, q .key-len) (y .key);
+          left = rw (q .left) (y .left);
+          right = rw (q .right) (y .right);
+        }
+
+    -- The trie that a branch of namespaces holds.
+    pub held-seen : {b : Branch} → LinkOk ws (n + 1) x (kind w (tree ns)) → ReadBranch (record-at ws x) b → LinkOk ws x (b .value) (kind w trieˢ)
+    held-seen i q = rw (q .value) (record-as (link-ok i p) w (tree ns) (i .of-kind (λ e. omega arith)) .2)
+
+    pub collection-seen : {v : Level} {c : Collection} → LinkOk ws (n + 1) x (kind w (list v)) → ReadCollection (record-at ws x) c → SeenCollection ws txt used x w v c
+    collection-seen {v} i q =
+        let k = i .of-kind (λ e. omega arith) in
+        let y = collection-at (link-ok i p) w v k in
+        let z = weight-at (link-ok i p) w v k in
+        let r = record-at ws x in
+        record {
+          reads = link-what w (list v) i p ∙ rw (q .imported, q .label-start, q .label-len, q .own, q .rest) (zero-one (word r 5) (y .sort) (λ e. rw e) (λ e. rw e));
+          tree-link = λ e. rw (q .own) (zero-one (word r 5) (y .sort) (y .own) (λ f. absurd (eqb-false (word r 5) 1 (sym (q .imported) ∙ e) f)));
+          list-link = λ e. rw (q .own) (y .imported (eqb-true (word r 5) 1 (sym (q .imported) ∙ e)));
+          label = λ e. rw (q .label-start, q .label-len) (y .label (eqb-true (word r 5) 1 (sym (q .imported) ∙ e)));
+          rest = rw (q .rest) (y .rest);
+          weighs = q .weighs ∙ z .weighs;
+          light = z .light;
+        }
+
+  pub trie-seen : (w : Which) {x : ℕ} {t : Trie} → LinkOk ws (n + 1) x (kind w trieˢ) → ReadTrie ws x t → SeenTrie ws txt n x w t
+  trie-seen w {x} i q = record {
+    reads = rw (q .bindings, q .namespaces) (links .0);
+    bindings = rw (q .bindings) (links .1);
+    namespaces = rw (q .namespaces) (links .2);
+    deep = q .deep ∙ stored-trie (λ j p h. o .rows j p (omega arith)) w x i;
+  }
+    where
+      none : (k : ℕ) → LinkOk ws (n + 1) 0 k
+      none k = record { earlier = omega arith; of-kind = λ z. absurd (z refl) }
+
+      links : (what w ws txt x trieˢ ≡ trie (what w ws txt (stored ws x 3) (list bind)) (what w ws txt (stored ws x 4) (list ns)))
+          × LinkOk ws (n + 1) (stored ws x 3) (kind w (list bind)) × LinkOk ws (n + 1) (stored ws x 4) (kind w (list ns))
+      links =
+          zero-some x
+          (λ e. rw (e, stored-none ws 3, stored-none ws 4, what-none w ws txt) (refl, none _, none _))
+          (λ p.
+          let y = record-as (link-ok i p) w trieˢ (i .of-kind (λ e. omega arith)) .0 in
+          rw (stored-some ws x 3 p, stored-some ws x 4 p)
+          (link-what w trieˢ i p, link-later (omega (arith, i .earlier)) (y .bindings), link-later (omega (arith, i .earlier)) (y .namespaces)))

@@ -1,0 +1,36 @@
+use Rattle.memory.proofs.row_of.Statement.{statement}
+use Rattle.memory.proofs.row_of.Tie as tie
+use Prim.Native.Nat.{_-_}
+use mathlib.Core.Path.{refl}
+use Rattle.memory.specs.Layout.{record-at}
+use Rattle.memory.proofs.Rows.{Copied, record-length, copied-more, copied-all}
+use native.Mathlib.Omega.{arith}
+
+abbrev Inv-loop : tie.InvT-loop
+Inv-loop words link row₀ i₀ row i = Copied (record-at words link) row i
+
+abbrev μ-loop : tie.MeasureT-loop
+μ-loop words link row₀ i₀ row i = 12 - i
+
+pub row-of-spec : {M : Type 1} → statement M
+row-of-spec =
+    tie.close
+    (tie.spec
+    Inv-loop
+    μ-loop
+    {- loop-holds -}
+    (λ c. record { below = omega arith; size = refl; same = refl })
+    {- word-of-requires -}
+    (λ c κs. omega arith)
+    {- mul-row -}
+    (λ c. omega arith)
+    {- array-write-row -}
+    (λ c. omega arith)
+    {- add-i -}
+    (λ c. omega arith)
+    {- loop-less -}
+    (λ c. omega arith)
+    {- loop-again -}
+    (λ c. copied-more (record-length (c .before .before .before .before .args .words .now) (c .before .before .before .before .args .link) (omega arith) (omega arith)) (omega arith) (c .word-of .ensures) (c .before .before .loop .inv))
+    {- returns -}
+    (λ c. copied-all (record-length (c .before .before .before .args .words .now) (c .before .before .before .args .link) (omega arith) (omega arith)) (c .before .loop .inv) (c .loop-test .left)))

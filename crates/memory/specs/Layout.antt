@@ -1,0 +1,120 @@
+-- How the lent words and text read. Link 0 is none; link l names record number l - 1, the twelve words from (l - 1) * 12 on.
+--
+--   word   bindings branch              namespaces branch   collection                      trie
+--   0      kind 1, of modules 6         kind 2, 7           kind 3, 8 (bindings), 4, 9      kind 5, 10
+--   1, 2   key: start, length           key                 label, of an imported list
+--   3, 4   left, right                  left, right         tree or imported list, rest     bindings, namespaces
+--   5      item; of modules 0 for a     trie                0 for a tree, 1 for an
+--          Module, 1 for a Namespace                        imported list
+--   6, 7   of modules: full name
+--   8, 9   of modules: a Module's path
+--   10     of modules: 1 if loaded                          weight
+--   11                                  depth               depth, of namespaces            depth
+use Prim.Native.Nat.{ℕ, zero, suc, _+_, _-_, _*_}
+use mathlib.Core.Bool.{Bool, true, false}
+use mathlib.Core.List.{List}
+use lib.ListN.{getD, take, drop}
+use lib.Dec.{eqb}
+use Rattle.source.specs.Text.{Str}
+use Rattle.source.specs.Types.{Level, Value, Tree, NameList, bind, ns, item, trie, StrEmpty, StrBranch, []ᴺ, Names, ImportedNames}
+use Rattle.source.specs.Table.{ModSymbol, Module, Namespace, Table}
+use Rattle.source.specs.Calls.{State}
+
+-- The twelve words of the record that link l names.
+unfoldable pub record-at : List ℕ → ℕ → List ℕ
+record-at ws l = take 12 (drop ((l - 1) * 12) ws)
+
+-- Word k of a record.
+abbrev pub word : List ℕ → ℕ → ℕ
+word r k = getD r k 0
+
+-- The text of a span.
+unfoldable pub span : List ℕ → ℕ → ℕ → Str
+span txt start len = take len (drop start txt)
+
+-- The first, or the second.
+abbrev pub pick {ℓ} : {A : Type ℓ} → Bool → A → A → A
+pick true a b = a
+pick false a b = b
+
+-- Which of the two tables.
+pub data Which : Type 0 where
+  names modules : Which
+
+-- The items of each table.
+abbrev pub Item : Which → Type 0
+Item names = ℕ
+Item modules = ModSymbol
+
+-- The item of a bindings branch.
+abbrev pub item-of : (w : Which) → List ℕ → List ℕ → Item w
+item-of names txt r = word r 5
+item-of modules txt r =
+    pick (eqb (word r 5) 0)
+    (Module (span txt (word r 6) (word r 7)) (span txt (word r 8) (word r 9)) (eqb (word r 10) 1))
+    (Namespace (span txt (word r 6) (word r 7)) (eqb (word r 10) 1))
+
+-- What a link names: a tree, a list of collections, a trie.
+pub data Sort : Type 0 where
+  tree list : Level → Sort
+  trieˢ : Sort
+
+-- The source's type of each.
+abbrev pub Of : Type 0 → Sort → Type 0
+Of A (tree v) = Tree A v
+Of A (list v) = NameList A v
+Of A trieˢ = Value A ns
+
+-- The kind of the records of each, in the names table.
+abbrev pub kind-in : Sort → ℕ
+kind-in (tree bind) = 1
+kind-in (tree ns) = 2
+kind-in (list bind) = 3
+kind-in (list ns) = 4
+kind-in trieˢ = 5
+
+-- The kind of the records of each, in either table.
+abbrev pub kind : Which → Sort → ℕ
+kind names s = kind-in s
+kind modules s = kind-in s + 5
+
+-- What a link reads as, for each sort.
+abbrev pub Reading : Which → Type 0
+Reading w = (s : Sort) → Of (Item w) s
+
+-- What link 0 reads as.
+abbrev pub nothing : (w : Which) → Reading w
+nothing w (tree v) = StrEmpty
+nothing w (list v) = []ᴺ
+nothing w trieˢ = trie []ᴺ []ᴺ
+
+-- What a branch's key stands for.
+abbrev pub value : (w : Which) → List ℕ → List ℕ → (ℕ → Reading w) → (v : Level) → Value (Item w) v
+value w txt r f bind = item (item-of w txt r)
+value w txt r f ns = f (word r 5) trieˢ
+
+-- What a record reads as, where f reads its links.
+abbrev pub row : (w : Which) → List ℕ → List ℕ → (ℕ → Reading w) → Reading w
+row w txt r f (tree v) = StrBranch (span txt (word r 1) (word r 2)) (value w txt r f v) (f (word r 3) (tree v)) (f (word r 4) (tree v))
+row w txt r f (list v) =
+    pick (eqb (word r 5) 0)
+    (Names (f (word r 3) (tree v)) (f (word r 4) (list v)))
+    (ImportedNames (span txt (word r 1) (word r 2)) (f (word r 3) (list v)) (f (word r 4) (list v)))
+row w txt r f trieˢ = trie (f (word r 3) (list bind)) (f (word r 4) (list ns))
+
+-- What link l reads as among the first n records: link 0 and a link past n read as nothing.
+unfoldable pub among : (w : Which) → List ℕ → List ℕ → ℕ → ℕ → Reading w
+among w ws txt zero l = nothing w
+among w ws txt (suc n) l = pick (eqb l (suc n)) (row w txt (record-at ws (suc n)) (among w ws txt n)) (among w ws txt n l)
+
+-- What link l reads as. Its record's links are read among the records before it.
+unfoldable pub what : (w : Which) → List ℕ → List ℕ → ℕ → Reading w
+what w ws txt l = among w ws txt l l
+
+-- The table of two roots.
+abbrev pub table-of : List ℕ → List ℕ → (names-root modules-root : ℕ) → Table
+table-of ws txt a b = record { tbl-lids = what names ws txt a trieˢ; tbl-mods = what modules ws txt b trieˢ }
+
+-- The state of a table by value.
+abbrev pub state-of : List ℕ → List ℕ → (names-root modules-root records used : ℕ) → State
+state-of ws txt a b n used = record { table = table-of ws txt a b; records-used = n; text-used = used }

@@ -1,0 +1,5 @@
+pub mod Layout
+pub mod Sound
+pub mod Stored
+pub mod Grown
+pub mod Read

@@ -1,0 +1,55 @@
+-- What the readers give of the words of a record.
+use Prim.Native.Nat.{ℕ}
+use mathlib.Core.Path.{_≡_}
+use mathlib.Core.List.{List}
+use lib.Dec.{eqb}
+use Rattle.source.specs.Text.{Str}
+use Rattle.source.specs.Table as S
+use Rattle.memory.specs.Layout.{word, span, pick}
+use Rattle.memory.specs.Stored.{stored}
+use Rattle.memory.specs.declared.Span.{Span}
+use Rattle.memory.specs.declared.ModSymbol.{ModSymbol}
+use Rattle.memory.specs.declared.ModSymbol.the-variants.{Module, Namespace}
+use Rattle.memory.specs.declared.Branch.{Branch}
+use Rattle.memory.specs.declared.Collection.{Collection}
+use Rattle.memory.specs.declared.Trie.{Trie}
+
+-- The text of a span.
+abbrev pub text-of : List ℕ → Span → Str
+text-of txt s = span txt (s .start) (s .len)
+
+-- The mod symbol that the words of a bindings branch of the module table hold.
+abbrev pub symbol-in : List ℕ → ModSymbol
+symbol-in r =
+    pick (eqb (word r 5) 0)
+    (Module (record { start = word r 6; len = word r 7 }) (record { start = word r 8; len = word r 9 }) (eqb (word r 10) 1))
+    (Namespace (record { start = word r 6; len = word r 7 }) (eqb (word r 10) 1))
+
+-- The source's mod_symbol, with its texts.
+abbrev pub symbol-of : List ℕ → ModSymbol → S.ModSymbol
+symbol-of txt (Module name path loaded) = S.Module (text-of txt name) (text-of txt path) loaded
+symbol-of txt (Namespace name loaded) = S.Namespace (text-of txt name) loaded
+
+-- The words of a branch.
+pub record ReadBranch (r : List ℕ) (b : Branch) : Type 0 where
+  pub key-start : b .key .start ≡ word r 1
+  pub key-len : b .key .len ≡ word r 2
+  pub left : b .left ≡ word r 3
+  pub right : b .right ≡ word r 4
+  pub value : b .value ≡ word r 5
+  pub symbol : b .symbol ≡ symbol-in r
+
+-- The words of a collection.
+pub record ReadCollection (r : List ℕ) (c : Collection) : Type 0 where
+  pub imported : c .imported ≡ eqb (word r 5) 1
+  pub label-start : c .label .start ≡ word r 1
+  pub label-len : c .label .len ≡ word r 2
+  pub own : c .own ≡ word r 3
+  pub rest : c .rest ≡ word r 4
+  pub weighs : c .weight ≡ word r 10
+
+-- The words of the trie that link x names, 0 where it names none.
+pub record ReadTrie (ws : List ℕ) (x : ℕ) (t : Trie) : Type 0 where
+  pub bindings : t .bindings ≡ stored ws x 3
+  pub namespaces : t .namespaces ≡ stored ws x 4
+  pub deep : t .depth ≡ stored ws x 11

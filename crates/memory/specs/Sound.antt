@@ -1,0 +1,89 @@
+-- Sound, as document 01 has it: what the used records, their texts and the two roots must be, and nothing else.
+use Prim.Native.Nat.{ℕ, _+_, _*_, _≤_, _<_}
+use mathlib.Core.Path.{_≡_}
+use mathlib.Core.Bool.{Bool, true, false}
+use mathlib.Core.List.{List}
+use lib.ListN.{length}
+use Rattle.source.specs.Text.{Str}
+use Rattle.source.specs.Types.{Level, NameList, bind, ns}
+use Rattle.source.specs.Terms.{weight, depth, depth-tree, depth-names}
+use Rattle.source.specs.Rules.{IsKey, IsLabel, IsFullName, IsPath, Ordered}
+use Rattle.memory.specs.Layout.{record-at, word, span, Which, names, modules, Item, Sort, tree, list, trieˢ, Of, kind, what}
+
+-- What a test's answer says of a statement.
+abbrev pub Says : Bool → Type 0 → Type 0
+Says true P = P
+Says false P = P → ⊥
+
+-- A link x in the record of link l: none, or an earlier record of the kind that the place wants.
+pub record LinkOk (ws : List ℕ) (l x k : ℕ) : Type 0 where
+  pub earlier : x < l
+  pub of-kind : (x ≡ 0 → ⊥) → word (record-at ws x) 0 ≡ k
+
+-- A text in the used part that keeps its rule.
+pub record TextOk (Rule : Str → Type 0) (txt : List ℕ) (used start len : ℕ) : Type 0 where
+  pub inside : start + len ≤ used
+  pub keeps : Rule (span txt start len)
+
+-- The links and texts of the record r of link l.
+module _ (ws txt : List ℕ) (used l : ℕ) (w : Which) (r : List ℕ) where
+  -- A branch of either level.
+  pub record BranchOk (v : Level) : Type 0 where
+    pub key : TextOk IsKey txt used (word r 1) (word r 2)
+    pub left : LinkOk ws l (word r 3) (kind w (tree v))
+    pub right : LinkOk ws l (word r 4) (kind w (tree v))
+
+  -- A collection, which holds a tree or an imported list.
+  pub record CollectionOk (v : Level) : Type 0 where
+    pub sort : word r 5 ≤ 1
+    pub own : word r 5 ≡ 0 → LinkOk ws l (word r 3) (kind w (tree v))
+    pub imported : word r 5 ≡ 1 → LinkOk ws l (word r 3) (kind w (list v))
+    pub label : word r 5 ≡ 1 → TextOk IsLabel txt used (word r 1) (word r 2)
+    pub rest : LinkOk ws l (word r 4) (kind w (list v))
+
+  -- A trie.
+  pub record TrieOk : Type 0 where
+    pub bindings : LinkOk ws l (word r 3) (kind w (list bind))
+    pub namespaces : LinkOk ws l (word r 4) (kind w (list ns))
+
+-- The item of a bindings branch of the module table.
+pub record SymbolOk (txt : List ℕ) (used : ℕ) (r : List ℕ) : Type 0 where
+  pub sort : word r 5 ≤ 1
+  pub name : TextOk IsFullName txt used (word r 6) (word r 7)
+  pub path : word r 5 ≡ 0 → TextOk IsPath txt used (word r 8) (word r 9)
+  pub loaded : word r 10 ≤ 1
+
+-- The item of a bindings branch: of names, any number.
+abbrev pub ItemOk : List ℕ → ℕ → Which → List ℕ → Type 0
+ItemOk txt used names r = Unit {0}
+ItemOk txt used modules r = SymbolOk txt used r
+
+-- The weight of a list: as stored, and at most 96.
+pub record WeightOk {A : Type 0} {v : Level} (r : List ℕ) (t : NameList A v) : Type 0 where
+  pub weighs : word r 10 ≡ weight t
+  pub light : weight t ≤ 96
+
+-- The record r of link l, which reads as t: links and texts; keys ascend strictly; weights and depths.
+abbrev pub RecordAs : (ws txt : List ℕ) (used l : ℕ) (w : Which) (s : Sort) (r : List ℕ) (t : Of (Item w) s) → Type 0
+RecordAs ws txt used l w (tree bind) r t = BranchOk ws txt used l w r bind × Ordered t × ItemOk txt used w r
+RecordAs ws txt used l w (tree ns) r t = BranchOk ws txt used l w r ns × Ordered t × LinkOk ws l (word r 5) (kind w trieˢ) × (word r 11 ≡ depth-tree t)
+RecordAs ws txt used l w (list bind) r t = CollectionOk ws txt used l w r bind × WeightOk r t
+RecordAs ws txt used l w (list ns) r t = CollectionOk ws txt used l w r ns × WeightOk r t × (word r 11 ≡ depth-names t)
+RecordAs ws txt used l w trieˢ r t = TrieOk ws txt used l w r × (word r 11 ≡ depth t) × (depth t ≤ 16)
+
+-- The record of link l has a known kind, and is right as what that kind says.
+pub record RecordOk (ws txt : List ℕ) (used l : ℕ) : Type 0 where
+  pub which : Which
+  pub sort : Sort
+  pub known : word (record-at ws l) 0 ≡ kind which sort
+  pub right : RecordAs ws txt used l which sort (record-at ws l) (what which ws txt l sort)
+
+-- A table: its words and text, two roots, records used, text used.
+pub record Sound (ws txt : List ℕ) (names-root modules-root records used : ℕ) : Type 0 where
+  pub few : records ≤ 65536
+  pub short : used ≤ 65536
+  pub records-fit : records * 12 ≤ length ws
+  pub text-fits : used ≤ length txt
+  pub names-link : LinkOk ws (records + 1) names-root (kind names trieˢ)
+  pub modules-link : LinkOk ws (records + 1) modules-root (kind modules trieˢ)
+  pub rows : (l : ℕ) → 0 < l → l ≤ records → RecordOk ws txt used l

@@ -1,0 +1,27 @@
+-- What the functions on bytes are proved against, beside the source's definitions.
+use Prim.Native.Nat.{ℕ, suc, Ordering, Ordering·lt, Ordering·eq, Ordering·gt}
+use mathlib.Core.Bool.{Bool, cond}
+use mathlib.Core.List.{[], _∷_}
+use lib.Dec.{eqb}
+use Rattle.source.specs.Text.{Str, dot, name-byte, query-byte, path-byte}
+use Rattle.text.specs.declared.Order.{Order}
+use Rattle.text.specs.declared.Order.the-variants.{Less, Same, More}
+use Rattle.text.specs.declared.Rule.{Rule}
+use Rattle.text.specs.declared.Rule.the-variants.{Name, Query, Path}
+
+-- The source's answer that an answer of string_compare stands for.
+abbrev pub ordering : Order → Ordering
+ordering Less = Ordering·lt
+ordering Same = Ordering·eq
+ordering More = Ordering·gt
+
+-- The source's test that a rule stands for.
+abbrev pub byte-rule : Rule → ℕ → Bool
+byte-rule Name b = name-byte b
+byte-rule Query b = query-byte b
+byte-rule Path b = path-byte b
+
+-- How many bytes stand before the first dot; all of them where there is none.
+unfoldable pub before-dot : Str → ℕ
+before-dot [] = 0
+before-dot (b ∷ s) = cond (eqb b dot) 0 (suc (before-dot s))

@@ -1,0 +1,244 @@
+// Texts as bytes: comparison, prefix, byte rules, the segments of a query, and what a call asks of its texts.
+ghost use mathlib.Core.Path.{_≡_};
+ghost use Prim.Native.Nat.{min};
+ghost use Rattle.source.specs.Text.{string-compare, starts-with, ends-in-dot, name-byte};
+ghost use Rattle.source.specs.Rules.{all};
+ghost use Rattle.source.specs.Calls.{a-query, a-name, a-path, a-look-up, a-completion};
+ghost use Rattle.text.specs.Text.{ordering, byte-rule, before-dot};
+ghost use Rattle.text.specs.Calls.{Surveyed, Flagged};
+
+// How one text compares with another.
+pub enum Order {
+    Less,
+    Same,
+    More,
+}
+
+// The shorter of two lengths.
+fn shorter(a: usize, b: usize) -> usize
+    ensures { λ r. ⌜ r ≡ min a b ⌝ }
+{
+    if a < b {
+        return a;
+    }
+    b
+}
+
+// The source's string_compare: bytewise, a proper beginning first.
+pub fn string_compare(a: &[u8], b: &[u8]) -> Order
+    ensures { λ r. ⌜ ordering r ≡ string-compare (now (a .entry)) (now (b .entry)) ⌝ }
+{
+    let n = shorter(a.len(), b.len());
+    let mut i = 0;
+    while i < n {
+        let x = a[i];
+        let y = b[i];
+        if x != y {
+            if x < y {
+                return Order::Less;
+            }
+            return Order::More;
+        }
+        i += 1;
+    }
+    if i < a.len() {
+        return Order::More;
+    }
+    if i < b.len() {
+        Order::Less
+    } else {
+        Order::Same
+    }
+}
+
+// The source's starts_with: whether `s` begins with `p`.
+pub fn starts_with(s: &[u8], p: &[u8]) -> bool
+    ensures { λ r. ⌜ r ≡ starts-with (now (s .entry)) (now (p .entry)) ⌝ }
+{
+    if s.len() < p.len() {
+        return false;
+    }
+    let mut i = 0;
+    while i < p.len() {
+        if s[i] != p[i] {
+            return false;
+        }
+        i += 1;
+    }
+    true
+}
+
+// The byte rules: of names, of queries, labels and full names, of file paths.
+pub enum Rule {
+    Name,
+    Query,
+    Path,
+}
+
+// Whether a byte may stand in a name.
+fn name_byte(b: u8) -> bool
+    ensures { λ r. ⌜ r ≡ name-byte b ⌝ }
+{
+    (33 <= b) & (b <= 126) & !((b == 46) | (b == 91) | (b == 93))
+}
+
+// Whether a rule lets a byte through.
+pub fn allowed(rule: Rule, b: u8) -> bool
+    ensures { λ r. ⌜ r ≡ byte-rule rule b ⌝ }
+{
+    match rule {
+        Rule::Name => name_byte(b),
+        Rule::Query => name_byte(b) | (b == 46),
+        Rule::Path => (32 <= b) & (b <= 126),
+    }
+}
+
+// Whether a rule lets every byte of `s` through.
+pub fn all_allowed(rule: Rule, s: &[u8]) -> bool
+    ensures { λ r. ⌜ r ≡ all (byte-rule rule) (now (s .entry)) ⌝ }
+{
+    let mut ok = true;
+    let mut i = 0;
+    while i < s.len() {
+        ok = ok & allowed(rule, s[i]);
+        i += 1;
+    }
+    ok
+}
+
+// How many bytes stand before the first dot; all of them where there is none.
+pub fn segment_length(s: &[u8]) -> usize
+    ensures { λ r. ⌜ r ≡ before-dot (now (s .entry)) ⌝ }
+{
+    let mut i = 0;
+    while i < s.len() {
+        if s[i] == 46 {
+            return i;
+        }
+        i += 1;
+    }
+    i
+}
+
+// Whether `s` is empty or its last byte is a dot.
+pub fn ends_in_dot(s: &[u8]) -> bool
+    ensures { λ r. ⌜ r ≡ ends-in-dot (now (s .entry)) ⌝ }
+{
+    let n = s.len();
+    if n == 0 {
+        return true;
+    }
+    s[n - 1] == 46
+}
+
+// Of a query: whether it is malformed, has an empty segment, is too long, and how many segments it has.
+pub struct Survey {
+    pub malformed: bool,
+    pub empty: bool,
+    pub long: bool,
+    pub segments: usize,
+}
+
+// One pass over a query. A last segment without its dot counts too.
+pub fn query_survey(s: &[u8]) -> Survey
+    ensures { λ r. ⌜ Surveyed (now (s .entry)) r ⌝ }
+{
+    let mut ok = true;
+    let mut empty = false;
+    let mut long = false;
+    let mut segments: usize = 0;
+    let mut start = 0;
+    let mut i = 0;
+    while i < s.len() {
+        if s[i] == 46 {
+            let n = i - start;
+            empty = empty | (n == 0);
+            long = long | (31 < n);
+            segments += 1;
+            start = i + 1;
+        } else {
+            ok = ok & name_byte(s[i]);
+        }
+        i += 1;
+    }
+    if start < i {
+        let all = segments + 1;
+        return Survey {
+            malformed: true,
+            empty: empty,
+            long: long | (31 < i - start) | (17 < all),
+            segments: all,
+        };
+    }
+    Survey {
+        malformed: !ok,
+        empty: empty,
+        long: long | (17 < segments),
+        segments: segments,
+    }
+}
+
+// Which of the rows Malformed, Empty and TooLong an argument meets.
+pub struct Flags {
+    pub malformed: bool,
+    pub empty: bool,
+    pub long: bool,
+}
+
+// The flags of a host, included or module query.
+pub fn query_flags(s: &[u8]) -> Flags
+    ensures { λ r. ⌜ Flagged (a-query (now (s .entry))) r ⌝ }
+{
+    let v = query_survey(s);
+    Flags {
+        malformed: v.malformed,
+        empty: v.empty,
+        long: v.long,
+    }
+}
+
+// The flags of an id or key.
+pub fn name_flags(s: &[u8]) -> Flags
+    ensures { λ r. ⌜ Flagged (a-name (now (s .entry))) r ⌝ }
+{
+    Flags {
+        malformed: !all_allowed(Rule::Name, s),
+        empty: s.len() == 0,
+        long: 31 < s.len(),
+    }
+}
+
+// The flags of a file path.
+pub fn path_flags(s: &[u8]) -> Flags
+    ensures { λ r. ⌜ Flagged (a-path (now (s .entry))) r ⌝ }
+{
+    Flags {
+        malformed: !all_allowed(Rule::Path, s),
+        empty: false,
+        long: 120 < s.len(),
+    }
+}
+
+// The flags of a look-up's query.
+pub fn look_up_flags(s: &[u8]) -> Flags
+    ensures { λ r. ⌜ Flagged (a-look-up (now (s .entry))) r ⌝ }
+{
+    let v = query_survey(s);
+    Flags {
+        malformed: v.malformed,
+        empty: v.empty | (v.segments == 0),
+        long: v.long,
+    }
+}
+
+// The flags of a completion's query.
+pub fn completion_flags(s: &[u8]) -> Flags
+    ensures { λ r. ⌜ Flagged (a-completion (now (s .entry))) r ⌝ }
+{
+    let v = query_survey(s);
+    Flags {
+        malformed: v.malformed,
+        empty: false,
+        long: v.long,
+    }
+}
