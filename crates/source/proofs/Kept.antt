@@ -16,8 +16,8 @@ use Rattle.source.specs.Table.{ModSymbol, Namespace, Table, empty, inser
 use Rattle.source.specs.Rules.{all, IsKey, IsLabel, IsFullName, IsPath, NameItem, ModItem, _<ˢ_, AllKeys, Formed, FormedTree, FormedNames, SoundTable}
 use Rattle.source.specs.Calls.{Argument, a-query, a-name, a-path, a-look-up, a-completion, is-empty, any, malformed, empty-name, too-long, State, fresh, Lent, Call, name, include, opens, alias, module-path, arguments, registered, crowded, deep, after, accepted, register}
 use Rattle.source.proofs.Order.{View, compare-strings}
-use Rattle.source.proofs.Lists.{Allˡ}
-use Rattle.source.proofs.Queries.{or-parts, any-false, Allˡ-zip, nonempty-length, IsQuery, IsCompletion, name-key, path-fits, segments-query, segments-completion, query-to-string-label, name-of-revq-full-name}
+use Rattle.source.proofs.Lookup.{Allˡ, Allˡ-zip}
+use Rattle.source.proofs.Queries.{or-parts, any-false, nonempty-length, IsQuery, IsCompletion, name-key, path-fits, segments-query, segments-completion, query-to-string-label, name-of-revq-full-name}
 use Rattle.source.proofs.Refusals.{Admitted, accepted-is, accepted-acceptable}
 
 module _ {A : Type 0} {l : Level} where

@@ -1,5 +1,6 @@
 pub mod Order
 pub mod Heap
+pub mod Lookup
 pub mod Lists
 pub mod Impossible
 pub mod Trees

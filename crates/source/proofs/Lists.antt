@@ -7,81 +7,21 @@ use mathlib.Core.List.{List, [], _∷_, reverseAux, nil≢cons}
 use mathlib.Core.Option.{Option, none, some}
 use native.Mathlib.Omega.{arith}
 use native.Mathlib.Decide.{ℕ-discrete}
-use lib.Dec.{isEq, eqb}
+use borrow.Author.Tests.{eq-eqb, ne-eqb}
+use lib.Dec.{eqb}
 use lib.ListN.{length, getD, set}
 use lib.Seq.{getD-set-same, getD-set-other}
 use Rattle.source.specs.Text.{Str, then, string-compare}
 use Rattle.source.specs.Rules.{_<ˢ_}
-use Rattle.source.proofs.Order.{View, Viewℕ, compare-view, compare-strings, <ˢ-irrefl, <ˢ-trans}
+use Rattle.source.proofs.Order.{View, Viewℕ, compare-view, compare-strings, <ˢ-trans}
 use Rattle.source.specs.Heap.{Heap, Forest, EmptyHeap, HeapOf, []ᶠ, is-lt, heap-merge, heap-insert, heap-merge-pairs, heap-insert-all, heap-from-list}
 use Rattle.source.proofs.Heap.{sumˡ, sum, sumᶠ, All, Allᶠ, Heaped, All-map, Allᶠ-map, Allᶠ-zip, none-countedᶠ, counted, sum-merge, sum-pairs, All-merge, All-pairs, Heaped-merge, Heaped-pairs, sum-from-list, Heaped-from-list}
 use Rattle.source.specs.Lists.{Run, run, first, priority, nonempty, add-priorities, total, push-nodup, run-cmp, put-back, merge-aux, merge-nonempty, merge-increasing-lists-rev}
+use Rattle.source.proofs.Lookup.{same, Same, same-view, Allˡ, Allˡ-map, or-else-none, lt-ne, lookup, first-lookup, Above, Below, Increasing, Decreasing, lookup-hit, lookup-miss, lookup-above, lookup-below}
 use Rattle.source.specs.Tries.{or-else}
-
--- ---- equal strings, as a test
-abbrev pub same : Str → Str → Bool
-same s t = isEq (string-compare s t)
-
-unfoldable pub Same : Str → Str → Type 0
-Same s t = ((same s t ≡ true) × (s ≡ t)) ⊎ ((same s t ≡ false) × ((s <ˢ t) ⊎ (t <ˢ s)))
-
-pub same-view : (s t : Str) → Same s t
-unfolding Same
-same-view s t = go (string-compare s t) refl (compare-strings s t)
-  where
-    go : (o : Ordering) → string-compare s t ≡ o → View s t o → Same s t
-    go Ordering·lt e v = inr (ap isEq e, inl v)
-    go Ordering·eq e v = inl (ap isEq e, v)
-    go Ordering·gt e v = inr (ap isEq e, inr v)
 
 ≤ˢ-lt : Str → Str → Type 0
 ≤ˢ-lt s t = (s <ˢ t) ⊎ (s ≡ t)
-
-pub same-self : (s : Str) → same s s ≡ true
-unfolding Same
-same-self s = go (same-view s s)
-  where
-    go : Same s s → same s s ≡ true
-    go (inl h) = h .0
-    go (inr (e, inl h)) = absurd (<ˢ-irrefl s h)
-    go (inr (e, inr h)) = absurd (<ˢ-irrefl s h)
-
-pub same-ne : (s t : Str) → (s ≡ t → ⊥) → same s t ≡ false
-unfolding Same
-same-ne s t n = go (same-view s t)
-  where
-    go : Same s t → same s t ≡ false
-    go (inl h) = absurd (n (h .1))
-    go (inr h) = h .0
-
-abbrev pub Allˡ : {A : Type 0} → (A → Type 0) → List A → Type 0
-Allˡ P [] = Unit {0}
-Allˡ P (x ∷ l) = P x × Allˡ P l
-
-pub Allˡ-map : {A : Type 0} {P Q : A → Type 0} → (l : List A) → ((a : A) → P a → Q a) → Allˡ P l → Allˡ Q l
-Allˡ-map [] f p = tt
-Allˡ-map (x ∷ l) f p = (f x (p .0), Allˡ-map l f (p .1))
-
-pub or-else-none : {A : Type 0} (o : Option A) → or-else o none ≡ o
-unfolding or-else
-or-else-none none = refl
-or-else-none (some a) = refl
-
-eqb-true : (n : ℕ) → eqb n n ≡ true
-eqb-true n = go (compare n n) (compare-view n n)
-  where
-    go : (o : Ordering) → Viewℕ n n o → isEq o ≡ true
-    go Ordering·lt v = absurd (omega arith)
-    go Ordering·eq v = refl
-    go Ordering·gt v = absurd (omega arith)
-
-eqb-false : (m n : ℕ) → m ≢ n → eqb m n ≡ false
-eqb-false m n h = go (compare m n) (compare-view m n)
-  where
-    go : (o : Ordering) → Viewℕ m n o → isEq o ≡ false
-    go Ordering·lt v = refl
-    go Ordering·eq v = absurd (h v)
-    go Ordering·gt v = refl
 
 abbrev live : {A : Type 0} → List A → ℕ
 live [] = 0
@@ -96,11 +36,11 @@ at q r = cond (eqb (priority r) q) 1 0
 
 at-same : {A : Type 0} (q : ℕ) (r : Run A) → priority r ≡ q → at q r ≡ 1
 unfolding at
-at-same q r e = rw (e, eqb-true)
+at-same q r e = rw (eq-eqb (priority r) q e)
 
 at-other : {A : Type 0} (q : ℕ) (r : Run A) → priority r ≢ q → at q r ≡ 0
 unfolding at
-at-other q r h = rw (eqb-false (priority r) q h)
+at-other q r h = rw (ne-eqb (priority r) q h)
 
 at-pos : {A : Type 0} (q : ℕ) (r : Run A) → 0 < at q r → priority r ≡ q
 at-pos q r h = go (compare (priority r) q) (compare-view (priority r) q)
@@ -118,51 +58,6 @@ unfoldable pub size : {A : Type 0} → Run A → ℕ
 size r = suc (length (rest r))
 
 module _ {A : Type 0} (key : A → Str) where
-  -- the first element with that key
-  unfoldable pub lookup : Str → List A → Option A
-  lookup k [] = none
-  lookup k (x ∷ l) = cond (same k (key x)) (some x) (lookup k l)
-
-  -- in the first list that has one
-  unfoldable pub first-lookup : Str → List (List A) → Option A
-  first-lookup k [] = none
-  first-lookup k (l ∷ ls) = or-else (lookup k l) (first-lookup k ls)
-
-  abbrev pub Above : Str → List A → Type 0
-  Above k l = Allˡ (λ y. k <ˢ key y) l
-
-  abbrev pub Below : Str → List A → Type 0
-  Below k l = Allˡ (λ y. key y <ˢ k) l
-
-  abbrev pub Increasing : List A → Type 0
-  Increasing [] = Unit {0}
-  Increasing (x ∷ l) = Above (key x) l × Increasing l
-
-  abbrev pub Decreasing : List A → Type 0
-  Decreasing [] = Unit {0}
-  Decreasing (x ∷ l) = Below (key x) l × Decreasing l
-
-  pub lookup-hit : (x : A) (l : List A) → lookup (key x) (x ∷ l) ≡ some x
-  unfolding lookup
-  lookup-hit x l = rw same-self
-
-  pub lookup-miss : (k : Str) (x : A) (l : List A) → (k ≡ key x → ⊥) → lookup k (x ∷ l) ≡ lookup k l
-  unfolding lookup
-  lookup-miss k x l n = rw (same-ne k (key x) n)
-
-  lt-ne : (s t : Str) → s <ˢ t → s ≡ t → ⊥
-  lt-ne s t h e = <ˢ-irrefl t (rw e at h)
-
-  pub lookup-above : (k : Str) (l : List A) → Above k l → lookup k l ≡ none
-  unfolding lookup
-  lookup-above k [] p = refl
-  lookup-above k (x ∷ l) p = lookup-miss k x l (lt-ne k (key x) (p .0)) ∙ lookup-above k l (p .1)
-
-  pub lookup-below : (k : Str) (l : List A) → Below k l → lookup k l ≡ none
-  unfolding lookup
-  lookup-below k [] p = refl
-  lookup-below k (x ∷ l) p = lookup-miss k x l (λ e. lt-ne (key x) k (p .0) (sym e)) ∙ lookup-below k l (p .1)
-
   -- ---- the order of runs
   RLe : Run A → Run A → Type 0
   RLe r s = (key (first r) <ˢ key (first s)) ⊎ ((key (first r) ≡ key (first s)) × (priority r ≤ priority s))
@@ -203,7 +98,7 @@ module _ {A : Type 0} (key : A → Str) where
     heaped : Heaped RLe h
     sound : All (λ r. getD ls (priority r) [] ≡ first r ∷ rest r) h
     counts : (q : ℕ) → sum (at q) h ≡ live (getD ls q [])
-    increasing : (q : ℕ) → Increasing (getD ls q [])
+    increasing : (q : ℕ) → Increasing key (getD ls q [])
 
   single : Run A → Heap (Run A)
   single (run p v []) = EmptyHeap
@@ -301,35 +196,35 @@ module _ {A : Type 0} (key : A → Str) where
               ap live (getD-set-other ls p q tl [] (λ e. n (sym e))),
             )
 
-        incr : (q : ℕ) → Dec (p ≡ q) → Increasing (getD (set ls p tl) q [])
-        incr q (yes e) = subst (λ q. Increasing (getD (set ls p tl) q [])) e
-            (rw (getD-set-same ls p tl [] (in-range ls p v tl here)) (subst Increasing here (inv .increasing p) .1))
+        incr : (q : ℕ) → Dec (p ≡ q) → Increasing key (getD (set ls p tl) q [])
+        incr q (yes e) = subst (λ q. Increasing key (getD (set ls p tl) q [])) e
+            (rw (getD-set-same ls p tl [] (in-range ls p v tl here)) (subst (Increasing key) here (inv .increasing p) .1))
         incr q (no n) = rw (getD-set-other ls p q tl [] (λ e. n (sym e))) (inv .increasing q)
 
-  above-trans : (k k′ : Str) (l : List A) → k <ˢ k′ → Above k′ l → Above k l
+  above-trans : (k k′ : Str) (l : List A) → k <ˢ k′ → Above key k′ l → Above key k l
   above-trans k k′ l h a = Allˡ-map l (λ y j. <ˢ-trans k k′ (key y) h j) a
 
-  below-trans : (k k′ : Str) (l : List A) → k′ <ˢ k → Below k′ l → Below k l
+  below-trans : (k k′ : Str) (l : List A) → k′ <ˢ k → Below key k′ l → Below key k l
   below-trans k k′ l h a = Allˡ-map l (λ y j. <ˢ-trans (key y) k′ k j h) a
 
   -- the first list that has the key is the one at p
   first-at : (ls : List (List A)) (p : ℕ) (v : A) (tl : List A) → getD ls p [] ≡ v ∷ tl
-      → ((q : ℕ) → q < p → lookup (key v) (getD ls q []) ≡ none) → first-lookup (key v) ls ≡ some v
+      → ((q : ℕ) → q < p → lookup key (key v) (getD ls q []) ≡ none) → first-lookup key (key v) ls ≡ some v
   unfolding first-lookup or-else
   first-at [] p v tl e f = absurd (nil≢cons e)
-  first-at (l ∷ ls) zero v tl e f = ap (λ o. or-else o (first-lookup (key v) ls)) (ap (lookup (key v)) e ∙ lookup-hit v tl)
+  first-at (l ∷ ls) zero v tl e f = ap (λ o. or-else o (first-lookup key (key v) ls)) (ap (lookup key (key v)) e ∙ lookup-hit key v tl)
   first-at (l ∷ ls) (suc p) v tl e f =
-      ap (λ o. or-else o (first-lookup (key v) ls)) (f 0 (omega arith)) ∙ first-at ls p v tl e (λ q h. f (suc q) (omega arith))
+      ap (λ o. or-else o (first-lookup key (key v) ls)) (f 0 (omega arith)) ∙ first-at ls p v tl e (λ q h. f (suc q) (omega arith))
 
   -- an element less changes no other key
   other-key : (k : Str) (ls : List (List A)) (p : ℕ) (v : A) (tl : List A) → getD ls p [] ≡ v ∷ tl → (k ≡ key v → ⊥)
-      → first-lookup k (set ls p tl) ≡ first-lookup k ls
+      → first-lookup key k (set ls p tl) ≡ first-lookup key k ls
   unfolding first-lookup
   other-key k [] p v tl e n = refl
-  other-key k (l ∷ ls) zero v tl e n = ap (λ o. or-else o (first-lookup k ls)) (sym (ap (lookup k) e ∙ lookup-miss k v tl n))
-  other-key k (l ∷ ls) (suc p) v tl e n = ap (or-else (lookup k l)) (other-key k ls p v tl e n)
+  other-key k (l ∷ ls) zero v tl e n = ap (λ o. or-else o (first-lookup key k ls)) (sym (ap (lookup key k) e ∙ lookup-miss key k v tl n))
+  other-key k (l ∷ ls) (suc p) v tl e n = ap (or-else (lookup key k l)) (other-key k ls p v tl e n)
 
-  nothing-left : (k : Str) (ls : List (List A)) → ((q : ℕ) → 0 ≡ live (getD ls q [])) → first-lookup k ls ≡ none
+  nothing-left : (k : Str) (ls : List (List A)) → ((q : ℕ) → 0 ≡ live (getD ls q [])) → first-lookup key k ls ≡ none
   unfolding first-lookup or-else lookup
   nothing-left k [] f = refl
   nothing-left k ([] ∷ ls) f = nothing-left k ls (λ q. f (suc q))
@@ -344,18 +239,18 @@ module _ {A : Type 0} (key : A → Str) where
     Found : Run A → Type 0
     Found r = (getD ls (priority r) [] ≡ first r ∷ rest r) × RLe (run p v tl) r
 
-    least : (q : ℕ) → q < p → lookup (key v) (getD ls q []) ≡ none
+    least : (q : ℕ) → q < p → lookup key (key v) (getD ls q []) ≡ none
     unfolding Found RLe priority first rest lookup
     least q l = go (getD ls q []) refl
       where
-        use-found : (w : A) (ws : List A) → getD ls q [] ≡ w ∷ ws → (r : Run A) → priority r ≡ q → Found r → lookup (key v) (w ∷ ws) ≡ none
+        use-found : (w : A) (ws : List A) → getD ls q [] ≡ w ∷ ws → (r : Run A) → priority r ≡ q → Found r → lookup key (key v) (w ∷ ws) ≡ none
         use-found w ws e r i (g, inr h) = absurd (omega arith)
         use-found w ws e r i (g, inl h) =
             let f : w ∷ ws ≡ first r ∷ rest r = sym e ∙ ap (λ j. getD ls j []) (sym i) ∙ g in
-            let m : Increasing (first r ∷ rest r) = subst Increasing g (inv .increasing (priority r)) in
-            ap (lookup (key v)) f ∙ lookup-above (key v) (first r ∷ rest r) (h, above-trans (key v) (key (first r)) (rest r) h (m .0))
+            let m : Increasing key (first r ∷ rest r) = subst (Increasing key) g (inv .increasing (priority r)) in
+            ap (lookup key (key v)) f ∙ lookup-above key (key v) (first r ∷ rest r) (h, above-trans (key v) (key (first r)) (rest r) h (m .0))
 
-        go : (m : List A) → getD ls q [] ≡ m → lookup (key v) m ≡ none
+        go : (m : List A) → getD ls q [] ≡ m → lookup key (key v) m ≡ none
         go [] e = refl
         go (w ∷ ws) e =
             let c : (r : Run A) × (0 < at q r) × Found r =
@@ -363,7 +258,7 @@ module _ {A : Type 0} (key : A → Str) where
             ((inv .sound .0, RLe-refl (run p v tl)), Allᶠ-zip hh (λ r a b. (a, b)) (inv .sound .1) (inv .heaped .0)) in
             use-found w ws e (c .0) (at-pos q (c .0) (c .1)) (c .2)
 
-    first-is : first-lookup (key v) ls ≡ some v
+    first-is : first-lookup key (key v) ls ≡ some v
     first-is = first-at ls p v tl (here ls p v tl hh inv) least
 
   -- ---- pushing
@@ -376,30 +271,30 @@ module _ {A : Type 0} (key : A → Str) where
   Reached (a ∷ acc) h = All (λ r. ≤ˢ-lt (key a) (key (first r))) h
 
   record Pushed (v : A) (acc acc′ : List A) : Type 0 where
-    decreasing : Decreasing acc′
+    decreasing : Decreasing key acc′
     reached : (h : Heap (Run A)) → All (λ r. ≤ˢ-lt (key v) (key (first r))) h → Reached acc′ h
-    hit : (o : Option A) → or-else (lookup (key v) acc′) o ≡ or-else (lookup (key v) acc) (some v)
-    miss : (k : Str) → (k ≡ key v → ⊥) → lookup k acc′ ≡ lookup k acc
+    hit : (o : Option A) → or-else (lookup key (key v) acc′) o ≡ or-else (lookup key (key v) acc) (some v)
+    miss : (k : Str) → (k ≡ key v → ⊥) → lookup key k acc′ ≡ lookup key k acc
 
-  pushed-same : (v a : A) (acc : List A) → Decreasing (a ∷ acc) → key v ≡ key a → Pushed v (a ∷ acc) (a ∷ acc)
+  pushed-same : (v a : A) (acc : List A) → Decreasing key (a ∷ acc) → key v ≡ key a → Pushed v (a ∷ acc) (a ∷ acc)
   unfolding Reached or-else
   pushed-same v a acc d e = record {
     decreasing = d;
     reached = λ h x. All-map h (λ r y. rw e at y) x;
-    hit = λ o. rw (e, lookup-hit);
+    hit = λ o. rw (e, lookup-hit key);
     miss = λ k n. refl;
   }
 
-  pushed-new : (v : A) (acc : List A) → Decreasing acc → Below (key v) acc → Pushed v acc (v ∷ acc)
+  pushed-new : (v : A) (acc : List A) → Decreasing key acc → Below key (key v) acc → Pushed v acc (v ∷ acc)
   unfolding Reached or-else
   pushed-new v acc d b = record {
     decreasing = (b, d);
     reached = λ h x. x;
-    hit = λ o. rw (lookup-hit, lookup-below (key v) acc b);
-    miss = λ k n. lookup-miss k v acc n;
+    hit = λ o. rw (lookup-hit key, lookup-below key (key v) acc b);
+    miss = λ k n. lookup-miss key k v acc n;
   }
 
-  pushed : (v : A) (acc : List A) → Decreasing acc → HeadLe acc v → Pushed v acc (push-nodup key v acc)
+  pushed : (v : A) (acc : List A) → Decreasing key acc → HeadLe acc v → Pushed v acc (push-nodup key v acc)
   unfolding push-nodup HeadLe Same ≤ˢ-lt
   pushed v [] d l = pushed-new v [] tt tt
   pushed v (a ∷ acc) d l = go (same-view (key v) (key a)) l
@@ -415,21 +310,21 @@ module _ {A : Type 0} (key : A → Str) where
 
   -- ---- the merge of a heap
   record Merged (acc : List A) (ls : List (List A)) (result : List A) : Type 0 where
-    decreasing : Decreasing result
-    at-key : (k : Str) → lookup k result ≡ or-else (lookup k acc) (first-lookup k ls)
+    decreasing : Decreasing key result
+    at-key : (k : Str) → lookup key k result ≡ or-else (lookup key k acc) (first-lookup key k ls)
 
   head-le : (acc : List A) (r : Run A) (hh : Forest (Run A)) → Reached acc (HeapOf r hh) → HeadLe acc (first r)
   unfolding Reached HeadLe
   head-le [] r hh x = tt
   head-le (a ∷ acc) r hh x = x .0
 
-  merged-none : (acc : List A) (ls : List (List A)) → Decreasing acc → Inv ls EmptyHeap → Merged acc ls acc
+  merged-none : (acc : List A) (ls : List (List A)) → Decreasing key acc → Inv ls EmptyHeap → Merged acc ls acc
   merged-none acc ls d inv = record {
     decreasing = d;
     at-key = λ k. rw (nothing-left k ls (inv .counts), or-else-none);
   }
 
-  module _ (acc : List A) (ls : List (List A)) (p : ℕ) (v : A) (tl : List A) (hh : Forest (Run A)) (d : Decreasing acc)
+  module _ (acc : List A) (ls : List (List A)) (p : ℕ) (v : A) (tl : List A) (hh : Forest (Run A)) (d : Decreasing key acc)
       (inv : Inv ls (HeapOf (run p v tl) hh)) (reached : Reached acc (HeapOf (run p v tl) hh)) where
     push : Pushed v acc (push-nodup key v acc)
     unfolding first
@@ -439,7 +334,7 @@ module _ {A : Type 0} (key : A → Str) where
     left : All (λ r. ≤ˢ-lt (key v) (key (first r))) (popped (run p v tl) hh)
     unfolding first ≤ˢ-lt RLe
     left = popped-all (λ r. ≤ˢ-lt (key v) (key (first r))) p v tl hh
-        (λ w ws e. inl (subst (Above (key v)) e (subst Increasing (here ls p v tl hh inv) (inv .increasing p) .0) .0))
+        (λ w ws e. inl (subst (Above key (key v)) e (subst (Increasing key) (here ls p v tl hh inv) (inv .increasing p) .0) .0))
         (Allᶠ-map hh weaken (inv .heaped .0))
       where
         weaken : (r : Run A) → RLe (run p v tl) r → ≤ˢ-lt (key v) (key (first r))
@@ -451,12 +346,12 @@ module _ {A : Type 0} (key : A → Str) where
     merged-step result m = record { decreasing = m .decreasing; at-key = λ k. m .at-key k ∙ go k (same-view k (key v)) }
       where
         other : (k : Str) → (k ≡ key v → ⊥)
-            → or-else (lookup k (push-nodup key v acc)) (first-lookup k (set ls p tl)) ≡ or-else (lookup k acc) (first-lookup k ls)
+            → or-else (lookup key k (push-nodup key v acc)) (first-lookup key k (set ls p tl)) ≡ or-else (lookup key k acc) (first-lookup key k ls)
         other k n = rw (push .miss k n, other-key k ls p v tl (here ls p v tl hh inv) n)
 
         go : (k : Str) → Same k (key v)
-            → or-else (lookup k (push-nodup key v acc)) (first-lookup k (set ls p tl)) ≡ or-else (lookup k acc) (first-lookup k ls)
-        go k (inl (t, e)) = rw e (push .hit (first-lookup (key v) (set ls p tl)) ∙ ap (or-else (lookup (key v) acc)) (sym (first-is ls p v tl hh inv)))
+            → or-else (lookup key k (push-nodup key v acc)) (first-lookup key k (set ls p tl)) ≡ or-else (lookup key k acc) (first-lookup key k ls)
+        go k (inl (t, e)) = rw e (push .hit (first-lookup key (key v) (set ls p tl)) ∙ ap (or-else (lookup key (key v) acc)) (sym (first-is ls p v tl hh inv)))
         go k (inr (f, inl x)) = other k (lt-ne k (key v) x)
         go k (inr (f, inr x)) = other k (λ e. lt-ne (key v) k x (sym e))
 
@@ -468,7 +363,7 @@ module _ {A : Type 0} (key : A → Str) where
   unfolding size popped
   put-back-size r hh = omega (arith, popped-sum size r hh, single-size r, ap (sum size) (put-back-is r (heap-merge-pairs (run-cmp key) hh)))
 
-  merge-spec : (n : ℕ) (h : Heap (Run A)) (acc : List A) (ls : List (List A)) → sum size h ≤ n → Inv ls h → Decreasing acc → Reached acc h
+  merge-spec : (n : ℕ) (h : Heap (Run A)) (acc : List A) (ls : List (List A)) → sum size h ≤ n → Inv ls h → Decreasing key acc → Reached acc h
       → Merged acc ls (merge-aux key n h acc)
   unfolding merge-aux popped size first
   merge-spec zero EmptyHeap acc ls l inv d x = merged-none acc ls d inv
@@ -528,12 +423,12 @@ module _ {A : Type 0} (key : A → Str) where
   priorities-sound all n acc ((v ∷ tl) ∷ ls) f a =
       priorities-sound all (suc n) (run n v tl ∷ acc) ls (λ q i e. f (suc q) i (omega arith)) (f 0 n (omega arith), a)
 
-  all-getD : (ls : List (List A)) (q : ℕ) → Allˡ Increasing ls → Increasing (getD ls q [])
+  all-getD : (ls : List (List A)) (q : ℕ) → Allˡ (Increasing key) ls → Increasing key (getD ls q [])
   all-getD [] q a = tt
   all-getD (l ∷ ls) zero a = a .0
   all-getD (l ∷ ls) (suc q) a = all-getD ls q (a .1)
 
-  start : (ls : List (List A)) → Allˡ Increasing ls → Inv ls (heap-from-list (run-cmp key) (add-priorities 0 [] ls))
+  start : (ls : List (List A)) → Allˡ (Increasing key) ls → Inv ls (heap-from-list (run-cmp key) (add-priorities 0 [] ls))
   unfolding heap-from-list
   start ls a = record {
     heaped = Heaped-from-list (run-cmp key) RLe RLe-trans run-less run-not-less (add-priorities 0 [] ls);
@@ -544,25 +439,25 @@ module _ {A : Type 0} (key : A → Str) where
   }
 
   -- ---- one list: its reverse
-  reversed : (l acc : List A) → Increasing l → Decreasing acc → Allˡ (λ a. Above (key a) l) acc → Decreasing (reverseAux l acc)
+  reversed : (l acc : List A) → Increasing key l → Decreasing key acc → Allˡ (λ a. Above key (key a) l) acc → Decreasing key (reverseAux l acc)
   reversed [] acc i d a = d
   reversed (x ∷ l) acc i d a =
       reversed l (x ∷ acc) (i .1) (Allˡ-map acc (λ y p. p .0) a, d) (i .0, Allˡ-map acc (λ y p. p .1) a)
 
-  reversed-at : (k : Str) (l acc : List A) → Increasing l → lookup k (reverseAux l acc) ≡ or-else (lookup k l) (lookup k acc)
+  reversed-at : (k : Str) (l acc : List A) → Increasing key l → lookup key k (reverseAux l acc) ≡ or-else (lookup key k l) (lookup key k acc)
   unfolding lookup or-else Same
   reversed-at k [] acc i = refl
   reversed-at k (x ∷ l) acc i = reversed-at k l (x ∷ acc) (i .1) ∙ go (same-view k (key x))
     where
-      go : Same k (key x) → or-else (lookup k l) (cond (same k (key x)) (some x) (lookup k acc)) ≡ or-else (cond (same k (key x)) (some x) (lookup k l)) (lookup k acc)
-      go (inl (t, e)) = rw (t, lookup-above k l (rw (← e) at (i .0)))
+      go : Same k (key x) → or-else (lookup key k l) (cond (same k (key x)) (some x) (lookup key k acc)) ≡ or-else (cond (same k (key x)) (some x) (lookup key k l)) (lookup key k acc)
+      go (inl (t, e)) = rw (t, lookup-above key k l (rw (← e) at (i .0)))
       go (inr (f, x)) = rw f
 
-  nonempty-at : (k : Str) (ls : List (List A)) → first-lookup k (nonempty ls) ≡ first-lookup k ls
+  nonempty-at : (k : Str) (ls : List (List A)) → first-lookup key k (nonempty ls) ≡ first-lookup key k ls
   unfolding nonempty first-lookup or-else lookup
   nonempty-at k [] = refl
   nonempty-at k ([] ∷ ls) = nonempty-at k ls
-  nonempty-at k ((x ∷ l) ∷ ls) = ap (or-else (lookup k (x ∷ l))) (nonempty-at k ls)
+  nonempty-at k ((x ∷ l) ∷ ls) = ap (or-else (lookup key k (x ∷ l))) (nonempty-at k ls)
 
   nonempty-all : (P : List A → Type 0) (ls : List (List A)) → Allˡ P ls → Allˡ P (nonempty ls)
   unfolding nonempty
@@ -574,7 +469,7 @@ module _ {A : Type 0} (key : A → Str) where
   unfolding heap-from-list
   from-list-size ls = omega (arith, sum-from-list (run-cmp key) size (add-priorities 0 [] ls), priorities-size 0 [] ls)
 
-  merge-nonempty-spec : (ls : List (List A)) → Allˡ Increasing ls → Merged [] ls (merge-nonempty key ls)
+  merge-nonempty-spec : (ls : List (List A)) → Allˡ (Increasing key) ls → Merged [] ls (merge-nonempty key ls)
   unfolding merge-nonempty lookup or-else first-lookup Reached heap-from-list
   merge-nonempty-spec [] a = record { decreasing = tt; at-key = λ k. refl }
   merge-nonempty-spec (l ∷ []) a = record {
@@ -587,13 +482,13 @@ module _ {A : Type 0} (key : A → Str) where
       (start (l ∷ (m ∷ ls)) a) tt tt
 
   -- the theorem
-  pub merge-decreasing : (ls : List (List A)) → Allˡ Increasing ls → Decreasing (merge-increasing-lists-rev key ls)
+  pub merge-decreasing : (ls : List (List A)) → Allˡ (Increasing key) ls → Decreasing key (merge-increasing-lists-rev key ls)
   unfolding merge-increasing-lists-rev
-  merge-decreasing ls a = merge-nonempty-spec (nonempty ls) (nonempty-all Increasing ls a) .decreasing
+  merge-decreasing ls a = merge-nonempty-spec (nonempty ls) (nonempty-all (Increasing key) ls a) .decreasing
 
-  pub merge-at : (ls : List (List A)) → Allˡ Increasing ls → (k : Str) → lookup k (merge-increasing-lists-rev key ls) ≡ first-lookup k ls
+  pub merge-at : (ls : List (List A)) → Allˡ (Increasing key) ls → (k : Str) → lookup key k (merge-increasing-lists-rev key ls) ≡ first-lookup key k ls
   unfolding merge-increasing-lists-rev lookup or-else
-  merge-at ls a k = merge-nonempty-spec (nonempty ls) (nonempty-all Increasing ls a) .at-key k ∙ nonempty-at k ls
+  merge-at ls a k = merge-nonempty-spec (nonempty ls) (nonempty-all (Increasing key) ls a) .at-key k ∙ nonempty-at k ls
 
   -- ---- every element of the merge is an element of the lists
   module _ (P : A → Type 0) where

@@ -8,7 +8,8 @@ use Rattle.source.specs.Rules.{Ordered}
 use Rattle.source.specs.Types.{Level, Value, Tree, NameList, []ᴺ, Names, ImportedNames}
 use Rattle.source.specs.Trees.{PrefixMatch, PathElem, btree-find-exact, btree-find-all, btree-find-prefix}
 use Rattle.source.specs.Tries.{or-else, names-find-exact}
-use Rattle.source.proofs.Lists.{same, Allˡ, lookup, first-lookup, Above, Increasing, Decreasing, merge-decreasing, merge-at, or-else-none}
+use Rattle.source.proofs.Lookup.{same, Allˡ, lookup, first-lookup, Above, Increasing, Decreasing, or-else-none}
+use Rattle.source.proofs.Lists.{merge-decreasing, merge-at}
 use Rattle.source.specs.Listing.{SearchTerm, NSTAll, NSTNone, NSTPrefix, revmap-onto, names-revmap, matching-values, with-imports, elem-key, names-find-rev}
 use Rattle.source.specs.Terms.{flatten, found-onto, holders, first-of, last-of}
 use Rattle.source.proofs.Trees.{gate, valof, or-assoc, gate-or, gate-none, entry-key, find-prefix-ascends, find-prefix-exactly, find-all-ascends, find-all-exactly}

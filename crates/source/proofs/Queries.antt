@@ -12,7 +12,7 @@ use Rattle.source.specs.Text.{Str, Query, dot, query-to-string, onto-fir
 use Rattle.source.specs.Rules.{all, Fits, IsKey, IsLabel, IsFullName, IsPath}
 use Rattle.source.specs.Table.{name-of-revq}
 use Rattle.source.specs.Calls.{is-empty, any, bad-query, long-query}
-use Rattle.source.proofs.Lists.{Allˡ}
+use Rattle.source.proofs.Lookup.{Allˡ, Allˡ-zip}
 
 -- ---- tests
 pub and-parts : (a b : Bool) → a && b ≡ true → (a ≡ true) × (b ≡ true)
@@ -39,10 +39,6 @@ all-append p [] t e f = f
 all-append p (b ∷ s) t e f = let h = and-parts (p b) (all p s) e in rw (h .0) (all-append p s t (h .1) f)
 
 -- ---- lists
-pub Allˡ-zip : {A : Type 0} {P Q R : A → Type 0} (l : List A) → ((a : A) → P a → Q a → R a) → Allˡ P l → Allˡ Q l → Allˡ R l
-Allˡ-zip [] f p q = tt
-Allˡ-zip (a ∷ l) f p q = (f a (p .0) (q .0), Allˡ-zip l f (p .1) (q .1))
-
 Allˡ-beginning : {A : Type 0} (P : A → Type 0) (l m : List A) → Allˡ P (l ++ m) → Allˡ P l
 Allˡ-beginning P [] m p = tt
 Allˡ-beginning P (a ∷ l) m p = (p .0, Allˡ-beginning P l m (p .1))

@@ -13,7 +13,7 @@ use Rattle.source.proofs.Order.{View, Viewℕ, compare-view, compare-st
 use Rattle.source.specs.Types.{Level, Value, Tree, StrEmpty, StrBranch}
 use Rattle.source.specs.Trees.{PrefixMatch, btree-find-exact, find-prefix-onto, btree-find-prefix, btree-fold, btree-find-all}
 use Rattle.source.specs.Tries.{or-else}
-use Rattle.source.proofs.Lists.{lookup, lookup-hit, lookup-miss, Above, Increasing, or-else-none}
+use Rattle.source.proofs.Lookup.{lookup, lookup-hit, lookup-miss, Above, Increasing, or-else-none}
 
 -- ---- options
 abbrev pub gate : {A : Type 0} → Bool → Option A → Option A

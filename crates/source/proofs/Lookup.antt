@@ -1,0 +1,108 @@
+-- Elements by their key: a property of all, the first with a key, ascending and descending lists.
+use Prim.Native.Nat.{Ordering, Ordering·lt, Ordering·eq, Ordering·gt}
+use mathlib.Core.Path.{_≡_, refl, sym, ap, _∙_}
+use mathlib.Core.Logic.{_⊎_, inl, inr}
+use mathlib.Core.Bool.{Bool, true, false, cond}
+use mathlib.Core.List.{List, [], _∷_}
+use mathlib.Core.Option.{Option, none, some}
+use lib.Dec.{isEq}
+use Rattle.source.specs.Text.{Str, string-compare}
+use Rattle.source.specs.Rules.{_<ˢ_}
+use Rattle.source.proofs.Order.{View, compare-strings, <ˢ-irrefl}
+use Rattle.source.specs.Tries.{or-else}
+
+-- ---- equal strings, as a test
+abbrev pub same : Str → Str → Bool
+same s t = isEq (string-compare s t)
+
+unfoldable pub Same : Str → Str → Type 0
+Same s t = ((same s t ≡ true) × (s ≡ t)) ⊎ ((same s t ≡ false) × ((s <ˢ t) ⊎ (t <ˢ s)))
+
+pub same-view : (s t : Str) → Same s t
+unfolding Same
+same-view s t = go (string-compare s t) refl (compare-strings s t)
+  where
+    go : (o : Ordering) → string-compare s t ≡ o → View s t o → Same s t
+    go Ordering·lt e v = inr (ap isEq e, inl v)
+    go Ordering·eq e v = inl (ap isEq e, v)
+    go Ordering·gt e v = inr (ap isEq e, inr v)
+
+pub same-self : (s : Str) → same s s ≡ true
+unfolding Same
+same-self s = go (same-view s s)
+  where
+    go : Same s s → same s s ≡ true
+    go (inl h) = h .0
+    go (inr (e, inl h)) = absurd (<ˢ-irrefl s h)
+    go (inr (e, inr h)) = absurd (<ˢ-irrefl s h)
+
+pub same-ne : (s t : Str) → (s ≡ t → ⊥) → same s t ≡ false
+unfolding Same
+same-ne s t n = go (same-view s t)
+  where
+    go : Same s t → same s t ≡ false
+    go (inl h) = absurd (n (h .1))
+    go (inr h) = h .0
+
+abbrev pub Allˡ : {A : Type 0} → (A → Type 0) → List A → Type 0
+Allˡ P [] = Unit {0}
+Allˡ P (x ∷ l) = P x × Allˡ P l
+
+pub Allˡ-map : {A : Type 0} {P Q : A → Type 0} → (l : List A) → ((a : A) → P a → Q a) → Allˡ P l → Allˡ Q l
+Allˡ-map [] f p = tt
+Allˡ-map (x ∷ l) f p = (f x (p .0), Allˡ-map l f (p .1))
+
+pub Allˡ-zip : {A : Type 0} {P Q R : A → Type 0} (l : List A) → ((a : A) → P a → Q a → R a) → Allˡ P l → Allˡ Q l → Allˡ R l
+Allˡ-zip [] f p q = tt
+Allˡ-zip (a ∷ l) f p q = (f a (p .0) (q .0), Allˡ-zip l f (p .1) (q .1))
+
+pub or-else-none : {A : Type 0} (o : Option A) → or-else o none ≡ o
+unfolding or-else
+or-else-none none = refl
+or-else-none (some a) = refl
+
+pub lt-ne : (s t : Str) → s <ˢ t → s ≡ t → ⊥
+lt-ne s t h e = <ˢ-irrefl t (rw e at h)
+
+module _ {A : Type 0} (key : A → Str) where
+  -- the first element with that key
+  unfoldable pub lookup : Str → List A → Option A
+  lookup k [] = none
+  lookup k (x ∷ l) = cond (same k (key x)) (some x) (lookup k l)
+
+  -- in the first list that has one
+  unfoldable pub first-lookup : Str → List (List A) → Option A
+  first-lookup k [] = none
+  first-lookup k (l ∷ ls) = or-else (lookup k l) (first-lookup k ls)
+
+  abbrev pub Above : Str → List A → Type 0
+  Above k l = Allˡ (λ y. k <ˢ key y) l
+
+  abbrev pub Below : Str → List A → Type 0
+  Below k l = Allˡ (λ y. key y <ˢ k) l
+
+  abbrev pub Increasing : List A → Type 0
+  Increasing [] = Unit {0}
+  Increasing (x ∷ l) = Above (key x) l × Increasing l
+
+  abbrev pub Decreasing : List A → Type 0
+  Decreasing [] = Unit {0}
+  Decreasing (x ∷ l) = Below (key x) l × Decreasing l
+
+  pub lookup-hit : (x : A) (l : List A) → lookup (key x) (x ∷ l) ≡ some x
+  unfolding lookup
+  lookup-hit x l = rw same-self
+
+  pub lookup-miss : (k : Str) (x : A) (l : List A) → (k ≡ key x → ⊥) → lookup k (x ∷ l) ≡ lookup k l
+  unfolding lookup
+  lookup-miss k x l n = rw (same-ne k (key x) n)
+
+  pub lookup-above : (k : Str) (l : List A) → Above k l → lookup k l ≡ none
+  unfolding lookup
+  lookup-above k [] p = refl
+  lookup-above k (x ∷ l) p = lookup-miss k x l (lt-ne k (key x) (p .0)) ∙ lookup-above k l (p .1)
+
+  pub lookup-below : (k : Str) (l : List A) → Below k l → lookup k l ≡ none
+  unfolding lookup
+  lookup-below k [] p = refl
+  lookup-below k (x ∷ l) p = lookup-miss k x l (λ e. lt-ne (key x) k (p .0) (sym e)) ∙ lookup-below k l (p .1)
