@@ -10,6 +10,11 @@ pub mod Rows
 pub mod Names
 pub mod Fuel
 pub mod Counted
+pub mod Forward
+pub mod Flat
+pub mod Found
+pub mod Paths
+pub mod Lines
 pub mod Listed
 pub mod ListedTexts
 pub mod Queries

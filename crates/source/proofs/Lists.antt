@@ -459,7 +459,7 @@ module _ {A : Type 0} (key : A → Str) where
   nonempty-at k ([] ∷ ls) = nonempty-at k ls
   nonempty-at k ((x ∷ l) ∷ ls) = ap (or-else (lookup key k (x ∷ l))) (nonempty-at k ls)
 
-  nonempty-all : (P : List A → Type 0) (ls : List (List A)) → Allˡ P ls → Allˡ P (nonempty ls)
+  pub nonempty-all : (P : List A → Type 0) (ls : List (List A)) → Allˡ P ls → Allˡ P (nonempty ls)
   unfolding nonempty
   nonempty-all P [] a = tt
   nonempty-all P ([] ∷ ls) a = nonempty-all P ls (a .1)

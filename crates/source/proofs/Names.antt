@@ -165,15 +165,15 @@ module _ {A : Type 0} where
       revmap-increasing term (revmap-onto (tree-matches term) acc (label ∷ i) inner) i tl (o .1) (revmap-increasing term acc (label ∷ i) inner (o .0) a)
 
   -- names_find_rev asks each tree the same
-  values-all : {l : Level} (n : NameList A l) → matching-values n NSTAll ≡ names-revmap (tree-matches NSTAll) n
+  pub values-all : {l : Level} (n : NameList A l) → matching-values n NSTAll ≡ names-revmap (tree-matches NSTAll) n
   unfolding matching-values tree-matches
   values-all n = refl
 
-  values-none : {l : Level} (n : NameList A l) → matching-values n NSTNone ≡ []
+  pub values-none : {l : Level} (n : NameList A l) → matching-values n NSTNone ≡ []
   unfolding matching-values
   values-none n = refl
 
-  values-prefix : {l : Level} (n : NameList A l) (p : Str) → matching-values n (NSTPrefix p) ≡ names-revmap (tree-matches (NSTPrefix p)) n
+  pub values-prefix : {l : Level} (n : NameList A l) (p : Str) → matching-values n (NSTPrefix p) ≡ names-revmap (tree-matches (NSTPrefix p)) n
   unfolding matching-values tree-matches
   values-prefix n [] = refl
   values-prefix n (c ∷ p) = refl
@@ -186,7 +186,7 @@ module _ {A : Type 0} where
   values-at (NSTPrefix p) k n o =
       rw (values-prefix n p) (revmap-at (NSTPrefix p) k [] [] n o ∙ or-else-none (gate (starts-with k p) (last-holder (flatten n) k)))
 
-  values-increasing : {l : Level} (term : SearchTerm) (n : NameList A l) → OrderedN n → Allˡ (Increasing elem-key) (map with-imports (matching-values n term))
+  pub values-increasing : {l : Level} (term : SearchTerm) (n : NameList A l) → OrderedN n → Allˡ (Increasing elem-key) (map with-imports (matching-values n term))
   unfolding names-revmap
   values-increasing NSTAll n o = rw (values-all n) (revmap-increasing NSTAll [] [] n o tt)
   values-increasing NSTNone n o = rw (values-none n) tt

@@ -1,0 +1,90 @@
+-- What a search gives, ascending, as what the heap of the matching lists gives.
+use Prim.Native.Nat.{ℕ, _≤_}
+use mathlib.Core.Path.{_≡_, refl, sym, ap, _∙_}
+use mathlib.Core.List.{List, [], _∷_, map, reverse, reverseAux, map-map, reverse-reverse}
+use mathlib.Core.Option.{none}
+use native.Mathlib.Omega.{arith}
+use lib.ListN.{length}
+use Rattle.source.specs.Text.{Str}
+use Rattle.source.specs.Types.{Level, Value, Tree, NameList}
+use Rattle.source.specs.Trees.{PathElem}
+use Rattle.source.specs.Heap.{Heap, heap-from-list}
+use Rattle.source.specs.Lists.{Run, nonempty, add-priorities, total, run-cmp, merge-nonempty, merge-increasing-lists-rev}
+use Rattle.source.specs.Listing.{SearchTerm, NSTAll, NSTNone, NSTPrefix, matching-values, with-imports, elem-key, names-find-rev}
+use Rattle.source.proofs.Names.{OrderedN, tree-matches, values-none, values-increasing}
+use Rattle.source.proofs.Forward.{held, held-start, forward, forward-fuel, merge-is, nonempty-reverse, AreRuns, built, built-is, map-run, map-heap, held-map, forward-map, built-map}
+use Rattle.source.proofs.Flat.{flat, values-all-is, values-prefix-is}
+
+map-reverse : {A B : Type 0} (f : A → B) (l acc : List A) → map f (reverseAux l acc) ≡ reverseAux (map f l) (map f acc)
+map-reverse f [] acc = refl
+map-reverse f (a ∷ l) acc = map-reverse f l (a ∷ acc)
+
+module _ {A : Type 0} {l : Level} where
+  unfoldable pub found : NameList A l → SearchTerm → List (PathElem × Value A l)
+  found n term = reverse (names-find-rev n term)
+
+  -- Each tree's matches with its imports, in flattened order.
+  unfoldable pub match-lists : SearchTerm → NameList A l → List (List (PathElem × Value A l))
+  match-lists term n = map (λ x. with-imports (x .0, tree-matches term (x .1))) (flat n)
+
+  lists-are : (term : SearchTerm) (n : NameList A l) → matching-values n term ≡ reverse (map (λ x. (x .0, tree-matches term (x .1))) (flat n))
+      → nonempty (map with-imports (matching-values n term)) ≡ reverse (nonempty (match-lists term n))
+  unfolding match-lists
+  lists-are term n e =
+      ap (λ ls. nonempty (map with-imports ls)) e
+      ∙ ap nonempty (map-reverse with-imports (map (λ x. (x .0, tree-matches term (x .1))) (flat n)) []
+      ∙ ap reverse (map-map with-imports (λ x. (x .0, tree-matches term (x .1))) (flat n)))
+      ∙ nonempty-reverse (map (λ x. with-imports (x .0, tree-matches term (x .1))) (flat n))
+
+  none-match : (ts : List (List Str × Tree A l)) → nonempty (map (λ x. with-imports (x .0, tree-matches NSTNone (x .1))) ts) ≡ []
+  unfolding nonempty with-imports tree-matches
+  none-match [] = refl
+  none-match (t ∷ ts) = none-match ts
+
+  -- What the source merges, in flattened order.
+  pub values-are : (term : SearchTerm) (n : NameList A l) → nonempty (map with-imports (matching-values n term)) ≡ reverse (nonempty (match-lists term n))
+  unfolding match-lists nonempty
+  values-are NSTAll n = lists-are NSTAll n (values-all-is n)
+  values-are NSTNone n = rw (values-none n, none-match (flat n))
+  values-are (NSTPrefix p) n = lists-are (NSTPrefix p) n (values-prefix-is n p)
+
+  pub found-empty : (n : NameList A l) (term : SearchTerm) → nonempty (match-lists term n) ≡ [] → found n term ≡ []
+  unfolding found names-find-rev merge-increasing-lists-rev merge-nonempty
+  found-empty n term e = rw (values-are term n, e)
+
+  -- One list alone is what is found.
+  pub found-one : (n : NameList A l) (term : SearchTerm) (m : List (PathElem × Value A l)) → nonempty (match-lists term n) ≡ m ∷ [] → found n term ≡ m
+  unfolding found names-find-rev merge-increasing-lists-rev merge-nonempty
+  found-one n term m e = rw (values-are term n, e) (reverse-reverse m)
+
+  -- The source's heap of them.
+  abbrev pub merge-heap : SearchTerm → NameList A l → Heap (Run (PathElem × Value A l))
+  merge-heap term n = heap-from-list (run-cmp elem-key) (add-priorities 0 [] (reverse (nonempty (match-lists term n))))
+
+  pub found-is : (n : NameList A l) (term : SearchTerm) (fuel : ℕ) → OrderedN n → held (merge-heap term n) ≤ fuel
+      → found n term ≡ forward elem-key fuel (merge-heap term n) none
+  unfolding found names-find-rev
+  found-is n term fuel o h =
+      let ms : List (List (PathElem × Value A l)) = reverse (nonempty (match-lists term n)) in
+      ap reverse (merge-is elem-key (map with-imports (matching-values n term)) (values-increasing term n o))
+      ∙ reverse-reverse (forward elem-key (total (nonempty (map with-imports (matching-values n term)))) _ none)
+      ∙ ap (λ ms. forward elem-key (total ms) (heap-from-list (run-cmp elem-key) (add-priorities 0 [] ms)) none) (values-are term n)
+      ∙ forward-fuel elem-key (total ms) fuel (merge-heap term n) none (omega (arith, held-start elem-key ms)) h
+
+  -- The same of the heap built in flattened order.
+  pub found-built : (n : NameList A l) (term : SearchTerm) (r : ℕ → Run (PathElem × Value A l)) (cells fuel : ℕ) → OrderedN n
+      → cells ≡ length (nonempty (match-lists term n)) → AreRuns (nonempty (match-lists term n)) r → held (built elem-key r cells) ≤ fuel
+      → found n term ≡ forward elem-key fuel (built elem-key r cells) none
+  found-built n term r cells fuel o e a h =
+      let same-heap : built elem-key r cells ≡ merge-heap term n = ap (built elem-key r) e ∙ built-is elem-key (nonempty (match-lists term n)) r a in
+      found-is n term fuel o (omega (arith, ap held same-heap)) ∙ ap (λ g. forward elem-key fuel g none) (sym same-heap)
+
+  -- The same of a heap of other elements with the same keys, each read afterwards.
+  pub found-read : {B : Type 0} (n : NameList A l) (term : SearchTerm) (f : B → PathElem × Value A l) (key : B → Str) (r : ℕ → Run B) (cells fuel : ℕ)
+      → OrderedN n → ((b : B) → elem-key (f b) ≡ key b) → cells ≡ length (nonempty (match-lists term n))
+      → AreRuns (nonempty (match-lists term n)) (λ k. map-run f (r k)) → held (built key r cells) ≤ fuel
+      → found n term ≡ map f (forward key fuel (built key r cells) none)
+  found-read n term f key r cells fuel o same-key e a h =
+      let same-heap : built elem-key (λ k. map-run f (r k)) cells ≡ map-heap f (built key r cells) = built-map f key elem-key same-key r cells in
+      found-built n term (λ k. map-run f (r k)) cells fuel o e a (omega (arith, ap held same-heap, held-map f (built key r cells)))
+      ∙ ap (λ g. forward elem-key fuel g none) same-heap ∙ forward-map f key elem-key same-key fuel (built key r cells) none

@@ -1,0 +1,193 @@
+-- The listing without an accumulator, forward: bindings ascending, then each namespace ascending with its own listing.
+-- What is counted of it, as sums: tries entered, lines, bytes of the output text.
+use Prim.Native.Nat.{ℕ, zero, suc, _+_}
+use mathlib.Core.Path.{_≡_, refl, sym, ap, ap₂, _∙_}
+use mathlib.Core.List.{List, [], _∷_, _++_, map, flatMap, reverse, tail, append-assoc, append-nil, reverse-cons, map-append}
+use mathlib.Core.Option.{Option, none, some}
+use native.Mathlib.Omega.{arith}
+use lib.ListN.{length, length-append, length-map}
+use Rattle.source.specs.Text.{Query}
+use Rattle.source.specs.Types.{Value, Trie, bind, the-item, bindings, namespaces}
+use Rattle.source.specs.Trees.{PathElem}
+use Rattle.source.specs.Terms.{depth}
+use Rattle.source.specs.Listing.{PathOf, fold-left, rev-map-onto, ns-search-term, bindings-search-term, names-find-rev, find-prefix-fuel, trie-find-prefix′, trie-find-prefix}
+use Rattle.source.specs.Table.{Table, ModSymbol, Line, completion-result-of-lid, completion-result-of-ns-or-mod, filter-map, autocomplete-lid, autocomplete-mod-or-ns}
+use Rattle.source.proofs.Counted.{entered}
+use Rattle.source.specs.Calls.{output-text, output-lines}
+use Rattle.source.proofs.Heap.{sumˡ}
+use Rattle.source.proofs.Found.{found}
+
+-- ---- lists
+module _ {A B : Type 0} where
+  pub flatMap-append : (f : A → List B) (l m : List A) → flatMap f (l ++ m) ≡ flatMap f l ++ flatMap f m
+  unfolding flatMap
+  flatMap-append f [] m = refl
+  flatMap-append f (a ∷ l) m = rw (flatMap-append f l m) (sym (append-assoc (f a) (flatMap f l) (flatMap f m)))
+
+  pub length-flatMap : (f : A → List B) (l : List A) → length (flatMap f l) ≡ sumˡ (λ x. length (f x)) l
+  unfolding flatMap
+  length-flatMap f [] = refl
+  length-flatMap f (a ∷ l) = omega (arith, length-append (f a) (flatMap f l), length-flatMap f l)
+
+  rev-map-onto-is : (f : A → B) (l : List A) (acc : List B) → rev-map-onto f l acc ≡ map f (reverse l) ++ acc
+  unfolding rev-map-onto
+  rev-map-onto-is f [] acc = refl
+  rev-map-onto-is f (a ∷ l) acc =
+      rev-map-onto-is f l (f a ∷ acc)
+      ∙ sym (rw (reverse-cons a l, map-append f (reverse l) (a ∷ [])) (append-assoc (map f (reverse l)) (f a ∷ []) acc))
+
+  -- A fold that puts lists in front.
+  fold-left-is : (g : List B → A → List B) (f : A → List B) (l : List A) (acc : List B) → ((acc : List B) (x : A) → g acc x ≡ f x ++ acc)
+      → fold-left g acc l ≡ flatMap f (reverse l) ++ acc
+  unfolding fold-left flatMap
+  fold-left-is g f [] acc h = refl
+  fold-left-is g f (a ∷ l) acc h =
+      fold-left-is g f l (g acc a) h
+      ∙ rw (h acc a, reverse-cons a l, flatMap-append f (reverse l) (a ∷ []), append-nil (f a)) (sym (append-assoc (flatMap f (reverse l)) (f a) acc))
+
+  flatMap-map : {C : Type 0} (g : B → List C) (f : A → B) (l : List A) → flatMap g (map f l) ≡ flatMap (λ x. g (f x)) l
+  unfolding flatMap
+  flatMap-map g f [] = refl
+  flatMap-map g f (a ∷ l) = ap (λ r. g (f a) ++ r) (flatMap-map g f l)
+
+flatMap-flatMap : {A B C : Type 0} (g : B → List C) (f : A → List B) (l : List A) → flatMap g (flatMap f l) ≡ flatMap (λ x. flatMap g (f x)) l
+unfolding flatMap
+flatMap-flatMap g f [] = refl
+flatMap-flatMap g f (a ∷ l) = flatMap-append g (f a) (flatMap f l) ∙ ap (λ r. flatMap g (f a) ++ r) (flatMap-flatMap g f l)
+
+module _ {A : Type 0} where
+  sumˡ-append : (f : A → ℕ) (l m : List A) → sumˡ f (l ++ m) ≡ sumˡ f l + sumˡ f m
+  sumˡ-append f [] m = omega arith
+  sumˡ-append f (a ∷ l) m = omega (arith, sumˡ-append f l m)
+
+  sumˡ-reverse : (f : A → ℕ) (l : List A) → sumˡ f (reverse l) ≡ sumˡ f l
+  sumˡ-reverse f [] = refl
+  sumˡ-reverse f (a ∷ l) = rw (reverse-cons a l) (omega (arith, sumˡ-append f (reverse l) (a ∷ []), sumˡ-reverse f l))
+
+-- ---- the listing
+module _ {A : Type 0} where
+  abbrev pub line : PathOf → PathElem × Value A bind → PathOf × A
+  line path x = (reverse (x .0 ∷ path), the-item (x .1))
+
+  unfoldable pub lines : ℕ → Trie A → PathOf → Query → List (PathOf × A)
+  lines zero tr path q = []
+  lines (suc n) tr path q =
+      map (line path) (found (bindings tr) (bindings-search-term q))
+      ++ flatMap (λ x. lines n (x .1) (x .0 ∷ path) (tail q)) (found (namespaces tr) (ns-search-term q))
+
+  pub listing-is : (n : ℕ) (tr : Trie A) (path : PathOf) (q : Query) (acc : List (PathOf × A)) → find-prefix-fuel n tr path q acc ≡ lines n tr path q ++ acc
+  unfolding find-prefix-fuel lines found
+  listing-is zero tr path q acc = refl
+  listing-is (suc n) tr path q acc =
+      ap (rev-map-onto (line path) (names-find-rev (bindings tr) (bindings-search-term q)))
+      (fold-left-is _ (λ x. lines n (x .1) (x .0 ∷ path) (tail q)) (names-find-rev (namespaces tr) (ns-search-term q)) acc
+      (λ acc x. listing-is n (x .1) (x .0 ∷ path) (tail q) acc))
+      ∙ rev-map-onto-is (line path) (names-find-rev (bindings tr) (bindings-search-term q)) _
+      ∙ sym (append-assoc (map (line path) (reverse (names-find-rev (bindings tr) (bindings-search-term q)))) _ acc)
+
+  pub trie-find-prefix-is : (tr : Trie A) (q : Query) → trie-find-prefix tr q ≡ lines (suc (depth tr)) tr [] q
+  unfolding trie-find-prefix trie-find-prefix′
+  trie-find-prefix-is tr q = listing-is (suc (depth tr)) tr [] q [] ∙ append-nil (lines (suc (depth tr)) tr [] q)
+
+  -- Tries entered: one more than in the found namespaces.
+  pub entered-is : (n : ℕ) (tr : Trie A) (q : Query) → entered (suc n) tr q ≡ suc (sumˡ (λ x. entered n (x .1) (tail q)) (found (namespaces tr) (ns-search-term q)))
+  unfolding entered found
+  entered-is n tr q = ap suc (sym (sumˡ-reverse (λ x. entered n (x .1) (tail q)) (names-find-rev (namespaces tr) (ns-search-term q))))
+
+  pub lines-count : (n : ℕ) (tr : Trie A) (path : PathOf) (q : Query)
+      → length (lines (suc n) tr path q)
+      ≡ length (found (bindings tr) (bindings-search-term q))
+      + sumˡ (λ x. length (lines n (x .1) (x .0 ∷ path) (tail q))) (found (namespaces tr) (ns-search-term q))
+  unfolding lines
+  lines-count n tr path q = rw (length-append, length-map, length-flatMap)
+
+  -- What is made of each path and item, one after another.
+  unfoldable pub made : {B : Type 0} → (PathOf × A → List B) → ℕ → Trie A → PathOf → Query → List B
+  made mk n tr path q = flatMap mk (lines n tr path q)
+
+  module _ {B : Type 0} (mk : PathOf × A → List B) (n : ℕ) (tr : Trie A) (path : PathOf) (q : Query) where
+    abbrev here : PathElem × Value A bind → List B
+    here x = mk (line path x)
+
+    abbrev below : PathElem × Trie A → List B
+    below x = made mk n (x .1) (x .0 ∷ path) (tail q)
+
+    pub made-is : made mk (suc n) tr path q
+        ≡ flatMap (λ x. mk (line path x)) (found (bindings tr) (bindings-search-term q))
+        ++ flatMap (λ x. made mk n (x .1) (x .0 ∷ path) (tail q)) (found (namespaces tr) (ns-search-term q))
+    unfolding made lines
+    made-is =
+        flatMap-append mk (map (line path) (found (bindings tr) (bindings-search-term q))) _
+        ∙ ap₂ _++_ (flatMap-map mk (line path) (found (bindings tr) (bindings-search-term q)))
+        (flatMap-flatMap mk (λ x. lines n (x .1) (x .0 ∷ path) (tail q)) (found (namespaces tr) (ns-search-term q)))
+
+    pub made-count : length (made mk (suc n) tr path q)
+        ≡ sumˡ (λ x. length (mk (line path x))) (found (bindings tr) (bindings-search-term q))
+        + sumˡ (λ x. length (made mk n (x .1) (x .0 ∷ path) (tail q))) (found (namespaces tr) (ns-search-term q))
+    made-count = rw (made-is, length-append, length-flatMap here, length-flatMap below)
+
+-- ---- the output
+module _ {B : Type 0} where
+  pub output-text-append : (xs ys : List (Line B)) → output-text (xs ++ ys) ≡ output-text xs ++ output-text ys
+  unfolding output-text
+  output-text-append [] ys = refl
+  output-text-append (x ∷ xs) ys = simp (output-text-append xs ys, append-assoc)
+
+  pub output-lines-append : (at : ℕ) (xs ys : List (Line B)) → output-lines at (xs ++ ys) ≡ output-lines at xs ++ output-lines (at + length (output-text xs)) ys
+  unfolding output-lines output-text
+  output-lines-append at [] ys = let e : at ≡ at + 0 = omega arith in ap (λ i. output-lines i ys) e
+  output-lines-append at (x ∷ xs) ys =
+      let e : at + length (x .candidate) + length (x .annotation) + length (output-text xs) ≡ at + length (x .candidate ++ (x .annotation ++ output-text xs)) =
+      simp length-append (omega arith) in
+      rw (output-lines-append (at + length (x .candidate) + length (x .annotation)) xs ys, e)
+
+  pub output-lines-length : (at : ℕ) (xs : List (Line B)) → length (output-lines at xs) ≡ length xs
+  unfolding output-lines
+  output-lines-length at [] = refl
+  output-lines-length at (x ∷ xs) = ap suc (output-lines-length (at + length (x .candidate) + length (x .annotation)) xs)
+
+  pub text-length-flatMap : {A : Type 0} (f : A → List (Line B)) (l : List A) → length (output-text (flatMap f l)) ≡ sumˡ (λ x. length (output-text (f x))) l
+  unfolding flatMap output-text
+  text-length-flatMap f [] = refl
+  text-length-flatMap f (a ∷ l) = rw (output-text-append (f a) (flatMap f l), length-append, text-length-flatMap f l)
+
+  -- The text's length.
+  pub made-text : {A : Type 0} (mk : PathOf × A → List (Line B)) (n : ℕ) (tr : Trie A) (path : PathOf) (q : Query)
+      → length (output-text (made mk (suc n) tr path q))
+      ≡ sumˡ (λ x. length (output-text (mk (line path x)))) (found (bindings tr) (bindings-search-term q))
+      + sumˡ (λ x. length (output-text (made mk n (x .1) (x .0 ∷ path) (tail q)))) (found (namespaces tr) (ns-search-term q))
+  made-text mk n tr path q =
+      rw (made-is mk n tr path q, output-text-append, length-append, text-length-flatMap (here mk n tr path q), text-length-flatMap (below mk n tr path q))
+
+-- ---- the two completions
+map-is-flatMap : {A B : Type 0} (f : A → B) (l : List A) → map f l ≡ flatMap (λ x. f x ∷ []) l
+unfolding flatMap
+map-is-flatMap f [] = refl
+map-is-flatMap f (a ∷ l) = ap (_∷_ (f a)) (map-is-flatMap f l)
+
+pub autocomplete-lid-is : (tbl : Table) (q : Query)
+    → autocomplete-lid tbl q ≡ made (λ x. completion-result-of-lid x ∷ []) (suc (depth (tbl .tbl-lids))) (tbl .tbl-lids) [] q
+unfolding autocomplete-lid made
+autocomplete-lid-is tbl q = ap (map completion-result-of-lid) (trie-find-prefix-is (tbl .tbl-lids) q) ∙ map-is-flatMap completion-result-of-lid _
+
+-- The line of a symbol that the filter keeps.
+unfoldable pub kept-line : (PathOf × ModSymbol → Option (PathOf × ModSymbol)) → PathOf × ModSymbol → List (Line ModSymbol)
+kept-line filter x = elim (filter x) [ none ↦ [] | some y ↦ completion-result-of-ns-or-mod y ∷ [] ]
+
+filter-map-is : (filter : PathOf × ModSymbol → Option (PathOf × ModSymbol)) (l : List (PathOf × ModSymbol))
+    → map completion-result-of-ns-or-mod (filter-map filter l) ≡ flatMap (kept-line filter) l
+unfolding filter-map flatMap kept-line
+filter-map-is filter [] = refl
+filter-map-is filter (x ∷ l) = go (filter x) (filter-map-is filter l)
+  where
+    go : (o : Option (PathOf × ModSymbol)) → map completion-result-of-ns-or-mod (filter-map filter l) ≡ flatMap (kept-line filter) l
+        → map completion-result-of-ns-or-mod (elim o [ none ↦ filter-map filter l | some y ↦ y ∷ filter-map filter l ])
+        ≡ elim o [ none ↦ [] | some y ↦ completion-result-of-ns-or-mod y ∷ [] ] ++ flatMap (kept-line filter) l
+    go none e = e
+    go (some y) e = ap (_∷_ (completion-result-of-ns-or-mod y)) e
+
+pub autocomplete-mod-or-ns-is : (tbl : Table) (q : Query) (filter : PathOf × ModSymbol → Option (PathOf × ModSymbol))
+    → autocomplete-mod-or-ns tbl q filter ≡ made (kept-line filter) (suc (depth (tbl .tbl-mods))) (tbl .tbl-mods) [] q
+unfolding autocomplete-mod-or-ns made
+autocomplete-mod-or-ns-is tbl q filter =
+    ap (λ l. map completion-result-of-ns-or-mod (filter-map filter l)) (trie-find-prefix-is (tbl .tbl-mods) q) ∙ filter-map-is filter _
