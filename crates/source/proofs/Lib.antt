@@ -21,5 +21,11 @@ pub mod Queries
 pub mod Refusals
 pub mod Unchanged
 pub mod Kept
+pub mod Hosts
+pub mod Planning
+pub mod Measures
+pub mod PlannedDepth
+pub mod PlannedWeight
+pub mod PlannedRecords
 pub mod Agreement
 pub mod Cases

@@ -1,0 +1,209 @@
+-- Depth and weight of what look-ups find and insertions make.
+use Prim.Native.Nat.{ℕ, suc, pred, _+_, _≤_, max, Ordering, Ordering·lt, Ordering·eq, Ordering·gt}
+use mathlib.Core.Path.{_≡_, refl, sym, _∙_}
+use mathlib.Core.Bool.{Bool, true, false, _||_}
+use mathlib.Core.List.{[], _∷_}
+use mathlib.Core.Option.{Option, none, some}
+use native.Mathlib.Omega.{arith}
+use lib.Dec.{ltb}
+use lib.ListN.{length}
+use borrow.Author.Tests.{ltb-true, ltb-false, lt-ltb, le-ltb}
+use Rattle.source.specs.Text.{Str, Query, string-compare}
+use Rattle.source.specs.Types.{Level, Value, Trie, Tree, NameList, ns, trie, StrEmpty, StrBranch, []ᴺ, Names, ImportedNames, bindings, namespaces, trie-empty}
+use Rattle.source.specs.Trees.{btree-insert-replace, btree-find-exact}
+use Rattle.source.specs.Tries.{or-else, dflt, names-find-exact, names-insert, scope-of}
+use Rattle.source.specs.Terms.{weight, heaviest, heaviest-tree, heaviest-names, depth, depth-tree, depth-names}
+use Rattle.source.proofs.Imports.{host-of}
+use Rattle.source.proofs.Planning.{inserted-weight}
+
+-- ---- Numbers that are equal over m: max m x ≡ max m y
+pub over-right : (m x y : ℕ) → x ≤ m → max m (max x y) ≡ max m y
+over-right m x y h = omega arith
+
+pub over-left : (m x y : ℕ) → y ≤ m → max m (max x y) ≡ max m x
+over-left m x y h = omega arith
+
+pub over-both : (m x x′ y y′ : ℕ) → max m x ≡ max m x′ → max m y ≡ max m y′ → max m (max x y) ≡ max m (max x′ y′)
+over-both m x x′ y y′ p q = rw (sym (over-max m x y), p, q, over-max m x′ y′)
+  where
+    over-max : (m x y : ℕ) → max (max m x) (max m y) ≡ max m (max x y)
+    over-max m x y = omega arith
+
+pub over-ltb : (m x y : ℕ) → max m x ≡ max m y → ltb m x ≡ ltb m y
+over-ltb m x y e = go (ltb m y) refl
+  where
+    go : (b : Bool) → ltb m y ≡ b → ltb m x ≡ b
+    go true h = lt-ltb m x (omega (arith, ltb-true m y h))
+    go false h = le-ltb m x (omega (arith, ltb-false m y h))
+
+pub ltb-max : (m x y : ℕ) → ltb m (max x y) ≡ ltb m x || ltb m y
+ltb-max m x y = go (ltb m x) (ltb m y) refl refl
+  where
+    go : (a b : Bool) → ltb m x ≡ a → ltb m y ≡ b → ltb m (max x y) ≡ a || b
+    go true b p q = lt-ltb m _ (omega (arith, ltb-true m x p))
+    go false true p q = lt-ltb m _ (omega (arith, ltb-true m y q))
+    go false false p q = le-ltb m _ (omega (arith, ltb-false m x p, ltb-false m y q))
+
+-- A choice by an order, case by case.
+by-order : {B : Type 0} (P : B → Type 0) (o : Ordering) {x y z : B} → P x → P y → P z
+    → P (elim o [ Ordering·lt ↦ x | Ordering·eq ↦ y | Ordering·gt ↦ z ])
+by-order P Ordering·lt p q r = p
+by-order P Ordering·eq p q r = q
+by-order P Ordering·gt p q r = r
+
+-- ---- The greatest f of a tree's values
+module _ {A : Type 0} {l : Level} (f : Value A l → ℕ) where
+  greatest : Tree A l → ℕ
+  greatest StrEmpty = 0
+  greatest (StrBranch k v lbt rbt) = max (f v) (max (greatest lbt) (greatest rbt))
+
+  -- f of what was found, or 0.
+  abbrev of-found : Option (Value A l) → ℕ
+  of-found none = 0
+  of-found (some v) = f v
+
+  or-else-found : (x y : Option (Value A l)) → of-found (or-else x y) ≤ max (of-found x) (of-found y)
+  unfolding or-else
+  or-else-found none y = omega arith
+  or-else-found (some v) y = omega arith
+
+  tree-found : (t : Tree A l) (k : Str) → of-found (btree-find-exact t k) ≤ greatest t
+  unfolding btree-find-exact greatest
+  tree-found StrEmpty k = omega arith
+  tree-found (StrBranch k′ v lbt rbt) k =
+      by-order (λ o. of-found o ≤ max (f v) (max (greatest lbt) (greatest rbt))) (string-compare k k′)
+      (omega (arith, tree-found lbt k)) (omega arith) (omega (arith, tree-found rbt k))
+
+  -- Over a number that no value of the tree is over, an insertion counts as its value.
+  tree-inserted : (m : ℕ) (t : Tree A l) (k : Str) (v : Value A l) → greatest t ≤ m → max m (greatest (btree-insert-replace t k v)) ≡ max m (f v)
+  unfolding btree-insert-replace greatest
+  tree-inserted m StrEmpty k v h = omega arith
+  tree-inserted m (StrBranch k′ v′ lbt rbt) k v h =
+      by-order (λ t. max m (greatest t) ≡ max m (f v)) (string-compare k k′)
+      (over-right m _ _ (omega arith) ∙ over-left m _ _ (omega arith) ∙ tree-inserted m lbt k v (omega arith))
+      (over-left m _ _ (omega arith))
+      (over-right m _ _ (omega arith) ∙ over-right m _ _ (omega arith) ∙ tree-inserted m rbt k v (omega arith))
+
+-- ---- Depth
+module _ {A : Type 0} where
+  -- The depth that a value gives its tree.
+  abbrev level : {l : Level} → Value A l → ℕ
+  level v = suc (depth v)
+
+  depth-greatest : {l : Level} (t : Tree A l) → depth-tree t ≡ greatest level t
+  unfolding depth-tree greatest
+  depth-greatest StrEmpty = refl
+  depth-greatest (StrBranch k v lbt rbt) = rw (depth-greatest lbt, depth-greatest rbt)
+
+  names-found-depth : {l : Level} (n : NameList A l) (k : Str) → of-found level (names-find-exact n k) ≤ depth-names n
+  unfolding names-find-exact depth-names
+  names-found-depth []ᴺ k = omega arith
+  names-found-depth (Names bt tl) k =
+      omega (
+        arith,
+        or-else-found level (btree-find-exact bt k) (names-find-exact tl k),
+        tree-found level bt k,
+        depth-greatest bt,
+        names-found-depth tl k,
+      )
+  names-found-depth (ImportedNames label inner tl) k =
+      omega (
+        arith,
+        or-else-found level (names-find-exact inner k) (names-find-exact tl k),
+        names-found-depth inner k,
+        names-found-depth tl k,
+      )
+
+  dflt-depth : (o : Option (Trie A)) → depth (dflt trie-empty o) ≤ pred (of-found level o)
+  unfolding dflt trie-empty depth-names
+  dflt-depth none = omega arith
+  dflt-depth (some tr) = omega arith
+
+  pub scope-of-depth : (n : NameList A ns) (s : Str) → depth (scope-of n s) ≤ pred (depth-names n)
+  unfolding scope-of
+  scope-of-depth n s = omega (arith, dflt-depth (names-find-exact n s), names-found-depth n s)
+
+  pub depth-namespaces : (tr : Trie A) → depth tr ≡ depth-names (namespaces tr)
+  unfolding depth namespaces
+  depth-namespaces (trie b n) = refl
+
+  pub host-of-depth : (tr : Trie A) (q : Query) → length q + depth (host-of tr q) ≤ max (depth tr) (length q)
+  unfolding host-of
+  host-of-depth tr [] = omega arith
+  host-of-depth tr (s ∷ q) =
+      omega (arith, host-of-depth (scope-of (namespaces tr) s) q, scope-of-depth (namespaces tr) s, depth-namespaces tr)
+
+  tree-insert-depth : {l : Level} (m : ℕ) (t : Tree A l) (k : Str) (v : Value A l) → depth-tree t ≤ m
+      → max m (depth-tree (btree-insert-replace t k v)) ≡ max m (suc (depth v))
+  tree-insert-depth m t k v h = rw depth-greatest (tree-inserted level m t k v (rw depth-greatest at h))
+
+  pub names-insert-depth : {l : Level} (m : ℕ) (n : NameList A l) (k : Str) (v : Value A l) → depth-names n ≤ m
+      → max m (depth-names (names-insert n k v)) ≡ max m (suc (depth v))
+  unfolding names-insert depth-tree
+  names-insert-depth m []ᴺ k v h = over-left m _ 0 (omega arith) ∙ tree-insert-depth m StrEmpty k v (omega arith)
+  names-insert-depth m (Names bt tl) k v h = over-left m _ _ (omega arith) ∙ tree-insert-depth m bt k v (omega arith)
+  names-insert-depth m (ImportedNames label inner tl) k v h = over-left m _ _ h ∙ tree-insert-depth m StrEmpty k v (omega arith)
+
+-- ---- Weight
+module _ {A : Type 0} where
+  heaviest-greatest : {l : Level} (t : Tree A l) → heaviest-tree t ≡ greatest heaviest t
+  unfolding heaviest-tree greatest
+  heaviest-greatest StrEmpty = refl
+  heaviest-greatest (StrBranch k v lbt rbt) = rw (heaviest-greatest lbt, heaviest-greatest rbt)
+
+  names-found-heaviest : {l : Level} (n : NameList A l) (k : Str) → of-found heaviest (names-find-exact n k) ≤ heaviest-names n
+  unfolding names-find-exact heaviest-names
+  names-found-heaviest []ᴺ k = omega arith
+  names-found-heaviest (Names bt tl) k =
+      omega (
+        arith,
+        or-else-found heaviest (btree-find-exact bt k) (names-find-exact tl k),
+        tree-found heaviest bt k,
+        heaviest-greatest bt,
+        names-found-heaviest tl k,
+      )
+  names-found-heaviest (ImportedNames label inner tl) k =
+      omega (
+        arith,
+        or-else-found heaviest (names-find-exact inner k) (names-find-exact tl k),
+        names-found-heaviest inner k,
+        names-found-heaviest tl k,
+      )
+
+  dflt-heaviest : (o : Option (Trie A)) → heaviest (dflt trie-empty o) ≤ of-found heaviest o
+  unfolding dflt trie-empty heaviest-names
+  dflt-heaviest none = omega arith
+  dflt-heaviest (some tr) = omega arith
+
+  pub heaviest-lists : (tr : Trie A) → heaviest tr ≡ max (heaviest-names (bindings tr)) (heaviest-names (namespaces tr))
+  unfolding heaviest bindings namespaces
+  heaviest-lists (trie b n) = refl
+
+  pub scope-of-heaviest : (n : NameList A ns) (s : Str) → heaviest (scope-of n s) ≤ heaviest-names n
+  unfolding scope-of
+  scope-of-heaviest n s = omega (arith, dflt-heaviest (names-find-exact n s), names-found-heaviest n s)
+
+  pub host-of-heaviest : (tr : Trie A) (q : Query) → heaviest (host-of tr q) ≤ heaviest tr
+  unfolding host-of
+  host-of-heaviest tr [] = omega arith
+  host-of-heaviest tr (s ∷ q) =
+      omega (arith, host-of-heaviest (scope-of (namespaces tr) s) q, scope-of-heaviest (namespaces tr) s, heaviest-lists tr)
+
+  tree-insert-heaviest : {l : Level} (m : ℕ) (t : Tree A l) (k : Str) (v : Value A l) → heaviest-tree t ≤ m
+      → max m (heaviest-tree (btree-insert-replace t k v)) ≡ max m (heaviest v)
+  tree-insert-heaviest m t k v h = rw heaviest-greatest (tree-inserted heaviest m t k v (rw heaviest-greatest at h))
+
+  pub names-insert-weight : {l : Level} (n : NameList A l) (k : Str) (v : Value A l) → weight (names-insert n k v) ≡ inserted-weight n
+  unfolding names-insert inserted-weight weight
+  names-insert-weight []ᴺ k v = refl
+  names-insert-weight (Names bt tl) k v = refl
+  names-insert-weight (ImportedNames label inner tl) k v = refl
+
+  pub names-insert-heaviest : {l : Level} (m : ℕ) (n : NameList A l) (k : Str) (v : Value A l) → heaviest-names n ≤ m
+      → max m (heaviest-names (names-insert n k v)) ≡ max m (max (inserted-weight n) (heaviest v))
+  unfolding names-insert heaviest-tree inserted-weight weight
+  names-insert-heaviest m []ᴺ k v h = over-both m 1 1 _ _ refl (over-left m _ 0 (omega arith) ∙ tree-insert-heaviest m StrEmpty k v (omega arith))
+  names-insert-heaviest m (Names bt tl) k v h =
+      over-both m _ _ _ _ refl (over-left m _ _ (omega arith) ∙ tree-insert-heaviest m bt k v (omega arith))
+  names-insert-heaviest m (ImportedNames label inner tl) k v h =
+      over-both m _ _ _ _ refl (over-left m _ _ h ∙ tree-insert-heaviest m StrEmpty k v (omega arith))
