@@ -1,7 +1,7 @@
 -- What follows from a test's answer.
 use Prim.Native.Nat.{ℕ}
 use mathlib.Core.Path.{_≡_}
-use mathlib.Core.Bool.{Bool, true, false}
+use mathlib.Core.Bool.{Bool, true, false, not, true≢false, false≢true}
 use native.Mathlib.Omega.{arith}
 use Rattle.memory.specs.Sound.{Says}
 
@@ -17,3 +17,12 @@ fails false h e p = h p
 pub says-iff : (b : Bool) {P Q : Type 0} → Says b P → (P → Q) → (Q → P) → Says b Q
 says-iff true h f g = f h
 says-iff false h f g = λ q. h (g q)
+
+-- The same, where the code asks for the test's negation.
+pub passes : (b : Bool) {P : Type 0} → Says b P → not b ≡ false → P
+passes true h e = h
+passes false h e = absurd (true≢false e)
+
+pub refuses : (b : Bool) {P : Type 0} → Says b P → not b ≡ true → P → ⊥
+refuses true h e p = false≢true e
+refuses false h e p = h p

@@ -32,6 +32,10 @@ word r k = getD r k 0
 unfoldable pub span : List ℕ → ℕ → ℕ → Str
 span txt start len = take len (drop start txt)
 
+-- The key of the branch that link l names.
+unfoldable pub key-at : List ℕ → List ℕ → ℕ → Str
+key-at ws txt l = span txt (word (record-at ws l) 1) (word (record-at ws l) 2)
+
 -- The first, or the second.
 abbrev pub pick {ℓ} : {A : Type ℓ} → Bool → A → A → A
 pick true a b = a

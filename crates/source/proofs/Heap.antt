@@ -17,6 +17,17 @@ abbrev pub sumˡ : {A : Type 0} → (A → ℕ) → List A → ℕ
 sumˡ f [] = 0
 sumˡ f (a ∷ l) = f a + sumˡ f l
 
+-- A heap with each element replaced.
+module _ {A B : Type 0} (f : A → B) where
+  abbrev mutual
+    pub heap-map : Heap A → Heap B
+    heap-map EmptyHeap = EmptyHeap
+    heap-map (HeapOf v hh) = HeapOf (f v) (forest-map hh)
+
+    pub forest-map : Forest A → Forest B
+    forest-map []ᶠ = []ᶠ
+    forest-map (h ∷ᶠ hh) = heap-map h ∷ᶠ forest-map hh
+
 module _ {A : Type 0} where
   abbrev mutual
     pub sum : (A → ℕ) → Heap A → ℕ

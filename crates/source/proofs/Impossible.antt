@@ -11,7 +11,7 @@ use Rattle.source.specs.Lists.{Run, run, first, priority, nonempty, add-
 use Rattle.source.specs.Types.{Value, Trie, bind, bindings, namespaces}
 use Rattle.source.specs.Tries.{bind-option as _>>=_, names-find-exact, trie-find-exact}
 use Rattle.source.specs.Calls.{a-look-up, is-empty}
-use Rattle.source.proofs.Heap.{sum}
+use Rattle.source.proofs.Heap.{heap-map, forest-map, sum}
 use Rattle.source.proofs.Lists.{size, put-back-size, from-list-size}
 use Rattle.source.proofs.Fuel.{merge-aux-fuel}
 use Rattle.source.proofs.Refusals.{Admitted, look-up-segment}
@@ -110,44 +110,35 @@ find-exact-literal tr (s ∷ (t ∷ q)) =
 
 -- ---- Heaps: where the comparison does not fail, nothing does
 module _ {A B : Type 0} (f : A → B) where
-  mutual
-    on-heap : Heap A → Heap B
-    on-heap EmptyHeap = EmptyHeap
-    on-heap (HeapOf v hh) = HeapOf (f v) (on-forest hh)
-
-    on-forest : Forest A → Forest B
-    on-forest []ᶠ = []ᶠ
-    on-forest (h ∷ᶠ hh) = on-heap h ∷ᶠ on-forest hh
-
   module _ (cmp : A → A → Ordering) (cmpᵒ : B → B → Option Ordering) (agree : (a b : A) → cmpᵒ (f a) (f b) ≡ some (cmp a b)) where
-    merge-agrees : (a b : Heap A) → heap-merge? cmpᵒ (on-heap a) (on-heap b) ≡ some (on-heap (heap-merge cmp a b))
-    unfolding heap-merge? heap-merge on-heap _>>=_
+    merge-agrees : (a b : Heap A) → heap-merge? cmpᵒ (heap-map f a) (heap-map f b) ≡ some (heap-map f (heap-merge cmp a b))
+    unfolding heap-merge? heap-merge _>>=_
     merge-agrees EmptyHeap b = refl
     merge-agrees (HeapOf v hh) EmptyHeap = refl
     merge-agrees (HeapOf v hh) (HeapOf w gg) = rw (agree v w) (go (is-lt (cmp v w)))
       where
         go : (t : Bool)
-            → some (cond t (HeapOf (f v) (HeapOf (f w) (on-forest gg) ∷ᶠ on-forest hh)) (HeapOf (f w) (HeapOf (f v) (on-forest hh) ∷ᶠ on-forest gg)))
-            ≡ some (on-heap (cond t (HeapOf v (HeapOf w gg ∷ᶠ hh)) (HeapOf w (HeapOf v hh ∷ᶠ gg))))
+            → some (cond t (HeapOf (f v) (HeapOf (f w) (forest-map f gg) ∷ᶠ forest-map f hh)) (HeapOf (f w) (HeapOf (f v) (forest-map f hh) ∷ᶠ forest-map f gg)))
+            ≡ some (heap-map f (cond t (HeapOf v (HeapOf w gg ∷ᶠ hh)) (HeapOf w (HeapOf v hh ∷ᶠ gg))))
         go true = refl
         go false = refl
 
     mutual
-      unfolding heap-merge-pairs? heap-merge-pairs on-forest _>>=_
+      unfolding heap-merge-pairs? heap-merge-pairs _>>=_
 
-      pairs-agree : (hh : Forest A) → heap-merge-pairs? cmpᵒ (on-forest hh) ≡ some (on-heap (heap-merge-pairs cmp hh))
+      pairs-agree : (hh : Forest A) → heap-merge-pairs? cmpᵒ (forest-map f hh) ≡ some (heap-map f (heap-merge-pairs cmp hh))
       pairs-agree []ᶠ = refl
       pairs-agree (h ∷ᶠ hh) = pair-up-agrees h hh
 
-      pair-up-agrees : (h : Heap A) (hh : Forest A) → heap-pair-up? cmpᵒ (on-heap h) (on-forest hh) ≡ some (on-heap (heap-pair-up cmp h hh))
+      pair-up-agrees : (h : Heap A) (hh : Forest A) → heap-pair-up? cmpᵒ (heap-map f h) (forest-map f hh) ≡ some (heap-map f (heap-pair-up cmp h hh))
       pair-up-agrees h []ᶠ = refl
       pair-up-agrees h (h₂ ∷ᶠ hh) = rw (merge-agrees h h₂, pairs-agree hh) (merge-agrees (heap-merge cmp h h₂) (heap-merge-pairs cmp hh))
 
-    insert-agrees : (h : Heap A) (v : A) → heap-insert? cmpᵒ (on-heap h) (f v) ≡ some (on-heap (heap-insert cmp h v))
-    unfolding heap-insert? heap-insert on-heap
+    insert-agrees : (h : Heap A) (v : A) → heap-insert? cmpᵒ (heap-map f h) (f v) ≡ some (heap-map f (heap-insert cmp h v))
+    unfolding heap-insert? heap-insert
     insert-agrees h v = merge-agrees (HeapOf v []ᶠ) h
 
-    insert-all-agrees : (h : Heap A) (l : List A) → heap-insert-all? cmpᵒ (on-heap h) (map f l) ≡ some (on-heap (heap-insert-all cmp h l))
+    insert-all-agrees : (h : Heap A) (l : List A) → heap-insert-all? cmpᵒ (heap-map f h) (map f l) ≡ some (heap-map f (heap-insert-all cmp h l))
     unfolding heap-insert-all? heap-insert-all _>>=_
     insert-all-agrees h [] = refl
     insert-all-agrees h (v ∷ l) = rw (insert-agrees h v) (insert-all-agrees (heap-insert cmp h v) l)
@@ -162,8 +153,8 @@ module _ {A : Type 0} (key : A → Str) where
   unfolding cmp? pair run-cmp first priority
   cmp-agrees (run pr v tl) (run pr′ v′ tl′) = refl
 
-  aux-agrees : (n : ℕ) (h : Heap (Run A)) (acc : List A) → sum size h < n → aux? key n (on-heap pair h) acc ≡ some (merge-aux key n h acc)
-  unfolding aux? aux-arms? heap-pop? on-heap pair merge-aux put-back first _>>=_
+  aux-agrees : (n : ℕ) (h : Heap (Run A)) (acc : List A) → sum size h < n → aux? key n (heap-map pair h) acc ≡ some (merge-aux key n h acc)
+  unfolding aux? aux-arms? heap-pop? pair merge-aux put-back first _>>=_
   aux-agrees zero h acc l = absurd (omega arith)
   aux-agrees (suc n) EmptyHeap acc l = refl
   aux-agrees (suc n) (HeapOf (run pr v []) hh) acc l =
@@ -186,7 +177,7 @@ module _ {A : Type 0} (key : A → Str) where
 
   nonempty-agrees : (ls : List (List A)) → add-priorities? 0 [] ls ≡ map pair (add-priorities 0 [] ls)
       → merge-nonempty? key ls ≡ some (merge-nonempty key ls)
-  unfolding merge-nonempty? merge-nonempty heap-from-list? heap-from-list on-heap _>>=_
+  unfolding merge-nonempty? merge-nonempty heap-from-list? heap-from-list _>>=_
   nonempty-agrees [] e = refl
   nonempty-agrees (l ∷ []) e = refl
   nonempty-agrees (l ∷ (m ∷ ls)) e =

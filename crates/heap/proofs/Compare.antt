@@ -1,0 +1,93 @@
+-- The comparator on cells: the signed difference of priorities, and the source's run-cmp seen through cells.
+use Prim.Native.Nat.{ℕ, zero, suc, _+_, _-_, _^_, _<_, compare, Ordering, Ordering·lt, Ordering·eq, Ordering·gt, zero-le}
+use mathlib.Core.Path.{_≡_, refl, sym, ap, ap₂, _∙_}
+use mathlib.Core.Bool.{Bool, true, false, cond}
+use mathlib.Core.List.{List}
+use native.Mathlib.Omega.{arith}
+use lib.Dec.{ltb}
+use lib.IntN.{ℤ, pos, negsuc, _-ℤ_}
+use lib.ListN.{getD, set, take, drop}
+use lib.Seq.{getD-set-other}
+use lib.Signed.{mag, ltZ}
+use mir.Syntax.{w32}
+use mir.Val.{SFits, toZ, ofZ, hbits}
+use mir.ValLaws.{toZ-ofZ}
+use borrow.Author.Needs.{sfits-of}
+use borrow.Author.Tests.{lt-ltb, le-ltb}
+use Rattle.source.specs.Text.{Str, then, string-compare}
+use Rattle.source.specs.Heap.{is-lt}
+use Rattle.source.specs.Lists.{Run, run-cmp}
+use Rattle.source.proofs.Order.{Viewℕ, compare-view}
+use Rattle.text.specs.Text.{ordering}
+use Rattle.text.specs.declared.Order.{Order}
+use Rattle.memory.specs.Layout.{record-at, word, span, key-at}
+use Rattle.heap.specs.Compare.{cell-cmp, sign, Stands}
+
+-- ---- Signed differences of small numbers
+small : (n : ℕ) → n < 96 → toZ w32 n ≡ pos n
+small n h = toZ-ofZ w32 (pos n) (record { sfits = omega arith })
+
+pub read-difference : (a b : ℕ) → a < 96 → b < 96 → toZ w32 a -ℤ toZ w32 b ≡ pos a -ℤ pos b
+read-difference a b h k = ap₂ _-ℤ_ (small a h) (small b k)
+
+mag-cond : (t : Bool) (x y : ℕ) → x < 96 → y < 96 → mag (cond t (negsuc x) (pos y)) < 96
+mag-cond true x y h k = h
+mag-cond false x y h k = k
+
+mag-difference : (a b : ℕ) → a < 96 → b < 96 → mag (pos a -ℤ pos b) < 96
+mag-difference a zero h k = omega arith
+mag-difference a (suc b) h k = mag-cond (ltb a (suc b)) (suc b - suc a) (a - suc b) (omega arith) (omega arith)
+
+pub difference-fits : (a b : ℕ) → a < 96 → b < 96 → SFits w32 (toZ w32 a -ℤ toZ w32 b)
+difference-fits a b h k = rw (read-difference a b h k) (record { sfits = omega (arith, mag-difference a b h k) })
+
+sign-pos : (n : ℕ) → 0 < n → sign (pos n) ≡ Ordering·gt
+sign-pos zero h = absurd (omega arith)
+sign-pos (suc n) h = refl
+
+-- The sign of a difference compares.
+sign-difference : (a b : ℕ) → sign (pos a -ℤ pos b) ≡ compare a b
+sign-difference a b = go b (compare a b) (compare-view a b)
+  where
+    go : (b : ℕ) (o : Ordering) → Viewℕ a b o → sign (pos a -ℤ pos b) ≡ o
+    go zero Ordering·lt v = absurd (omega arith)
+    go zero Ordering·eq v = let e : a + 0 ≡ 0 = omega arith in rw e
+    go zero Ordering·gt v = sign-pos (a + 0) (omega arith)
+    go (suc b) Ordering·lt v = rw (lt-ltb a (suc b) v)
+    go (suc b) Ordering·eq v = let e : a - suc b ≡ 0 = omega arith in rw (le-ltb a (suc b) (omega arith), e)
+    go (suc b) Ordering·gt v = rw (le-ltb a (suc b) (omega arith)) (sign-pos (a - suc b) (omega arith))
+
+is-lt-sign : (z : ℤ) → ltZ z (pos 0) ≡ is-lt (sign z)
+unfolding is-lt
+is-lt-sign (negsuc k) = refl
+is-lt-sign (pos zero) = refl
+is-lt-sign (pos (suc k)) = le-ltb (suc k) 0 zero-le
+
+-- What the test that an answer is below 0 says.
+pub is-lt-test : (z : ℤ) {o : Ordering} {t : Bool} → mag z < 2 ^ hbits w32 → sign z ≡ o → ltZ (toZ w32 (ofZ w32 z)) (pos 0) ≡ t → is-lt o ≡ t
+is-lt-test z f e g = ap is-lt (sym e) ∙ sym (is-lt-sign z) ∙ ap (λ (x : ℤ). ltZ x (pos 0)) (sym (toZ-ofZ w32 z (sfits-of f))) ∙ g
+
+-- ---- The comparator
+pub key-part : (ws txt : List ℕ) (l i a : ℕ) → i ≡ word (record-at ws l) 1 → a ≡ word (record-at ws l) 2 → take (i + a - i) (drop i txt) ≡ key-at ws txt l
+unfolding key-at span
+key-part ws txt l i a p q = let e : i + a - i ≡ a = omega arith in rw (e, p, q)
+
+module _ (ws txt heads : List ℕ) (n a b : ℕ) {o : Order} (e : ordering o ≡ string-compare (key-at ws txt (getD heads a 0)) (key-at ws txt (getD heads b 0))) where
+  pub by-key : (s : Order) → o ≡ s → then (ordering s) (compare (n - 1 - a) (n - 1 - b)) ≡ cell-cmp ws txt heads n a b
+  unfolding cell-cmp
+  by-key s f = ap (λ (x : Ordering). then x (compare (n - 1 - a) (n - 1 - b))) (ap ordering (sym f) ∙ e)
+
+-- What a read of the answer of priority_difference says.
+pub by-priority : (x y : ℕ) (z : ℤ) → mag z < 2 ^ hbits w32 → z ≡ pos x -ℤ pos y → sign (toZ w32 (ofZ w32 z)) ≡ compare x y
+by-priority x y z f e = ap sign (toZ-ofZ w32 z (sfits-of f) ∙ e) ∙ sign-difference x y
+
+-- run-cmp, seen through cells.
+pub cell-cmp-run : {A : Type 0} (key : A → Str) (ws txt heads : List ℕ) (n a b : ℕ) {r s : Run A}
+    → Stands key ws txt heads n a r → Stands key ws txt heads n b s → run-cmp key r s ≡ cell-cmp ws txt heads n a b
+unfolding cell-cmp run-cmp
+cell-cmp-run key ws txt heads n a b p q = rw (p .key-is, q .key-is, p .priority-is, q .priority-is)
+
+-- A head counts for its own cell alone.
+pub cell-cmp-set : (ws txt heads : List ℕ) (n j l a b : ℕ) → (a ≡ j → ⊥) → (b ≡ j → ⊥) → cell-cmp ws txt (set heads j l) n a b ≡ cell-cmp ws txt heads n a b
+unfolding cell-cmp
+cell-cmp-set ws txt heads n j l a b p q = rw (getD-set-other heads j a l 0 p, getD-set-other heads j b l 0 q)

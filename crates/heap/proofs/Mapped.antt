@@ -1,0 +1,94 @@
+-- Replacing the elements commutes with the heap's functions where the comparisons agree on the elements in play.
+use Prim.Native.Nat.{Ordering}
+use mathlib.Core.Path.{_≡_, refl, sym, ap, ap₂, _∙_}
+use mathlib.Core.Bool.{Bool, true, false, cond}
+use mathlib.Core.List.{List, [], _∷_, map}
+use mathlib.Core.Option.{some, Option·map}
+use Rattle.source.specs.Heap.{Heap, Forest, EmptyHeap, HeapOf, []ᶠ, _∷ᶠ_, is-lt, heap-merge, heap-insert, heap-merge-pairs, heap-pair-up, heap-pop, heap-insert-all, heap-from-list}
+use Rattle.source.proofs.Heap.{All, Allᶠ, All-merge, All-pairs, heap-map, forest-map}
+use Rattle.source.proofs.Lookup.{Allˡ}
+
+module _ {A B : Type 0} (f : A → B) (cmp : A → A → Ordering) (cmp′ : B → B → Ordering)
+    (P : A → Type 0) (agree : (a b : A) → P a → P b → cmp′ (f a) (f b) ≡ cmp a b) where
+  pub map-merge : (h g : Heap A) → All P h → All P g → heap-merge cmp′ (heap-map f h) (heap-map f g) ≡ heap-map f (heap-merge cmp h g)
+  unfolding heap-merge
+  map-merge EmptyHeap g p q = refl
+  map-merge (HeapOf v hh) EmptyHeap p q = refl
+  map-merge (HeapOf v hh) (HeapOf w gg) p q = rw (agree v w (p .0) (q .0)) (go (is-lt (cmp v w)))
+    where
+      go : (t : Bool)
+          → cond t (HeapOf (f v) (HeapOf (f w) (forest-map f gg) ∷ᶠ forest-map f hh)) (HeapOf (f w) (HeapOf (f v) (forest-map f hh) ∷ᶠ forest-map f gg))
+          ≡ heap-map f (cond t (HeapOf v (HeapOf w gg ∷ᶠ hh)) (HeapOf w (HeapOf v hh ∷ᶠ gg)))
+      go true = refl
+      go false = refl
+
+  pub map-insert : (h : Heap A) (v : A) → All P h → P v → heap-insert cmp′ (heap-map f h) (f v) ≡ heap-map f (heap-insert cmp h v)
+  unfolding heap-insert
+  map-insert h v p q = map-merge (HeapOf v []ᶠ) h (q, tt) p
+
+  mutual
+    unfolding heap-merge-pairs
+
+    pub map-pairs : (hh : Forest A) → Allᶠ P hh → heap-merge-pairs cmp′ (forest-map f hh) ≡ heap-map f (heap-merge-pairs cmp hh)
+    map-pairs []ᶠ p = refl
+    map-pairs (h ∷ᶠ hh) p = map-pair-up h hh (p .0) (p .1)
+
+    map-pair-up : (h : Heap A) (hh : Forest A) → All P h → Allᶠ P hh → heap-pair-up cmp′ (heap-map f h) (forest-map f hh) ≡ heap-map f (heap-pair-up cmp h hh)
+    map-pair-up h []ᶠ p q = refl
+    map-pair-up h (g ∷ᶠ hh) p q =
+        ap₂ (heap-merge cmp′) (map-merge h g p (q .0)) (map-pairs hh (q .1))
+        ∙ map-merge (heap-merge cmp h g) (heap-merge-pairs cmp hh) (All-merge cmp P h g p (q .0)) (All-pairs cmp P hh (q .1))
+
+  pub map-pop : (h : Heap A) → All P h → heap-pop cmp′ (heap-map f h) ≡ Option·map (λ x. (f (x .0), heap-map f (x .1))) (heap-pop cmp h)
+  unfolding heap-pop
+  map-pop EmptyHeap p = refl
+  map-pop (HeapOf v hh) p = ap (λ (h : Heap B). some (f v, h)) (map-pairs hh (p .1))
+
+  map-insert-all : (h : Heap A) (l : List A) → All P h → Allˡ P l → heap-insert-all cmp′ (heap-map f h) (map f l) ≡ heap-map f (heap-insert-all cmp h l)
+  unfolding heap-insert-all heap-insert
+  map-insert-all h [] p q = refl
+  map-insert-all h (v ∷ l) p q =
+      ap (λ (h : Heap B). heap-insert-all cmp′ h (map f l)) (map-insert h v p (q .0))
+      ∙ map-insert-all (heap-insert cmp h v) l (All-merge cmp P (HeapOf v []ᶠ) h (q .0, tt) p) (q .1)
+
+  pub map-from-list : (l : List A) → Allˡ P l → heap-from-list cmp′ (map f l) ≡ heap-map f (heap-from-list cmp l)
+  unfolding heap-from-list
+  map-from-list l q = map-insert-all EmptyHeap l tt q
+
+module _ {A B : Type 0} (f g : A → B) (P : A → Type 0) (same : (a : A) → P a → f a ≡ g a) where
+  mutual
+    -- A heap's elements alone count.
+    pub map-same : (h : Heap A) → All P h → heap-map f h ≡ heap-map g h
+    map-same EmptyHeap p = refl
+    map-same (HeapOf v hh) p = ap₂ HeapOf (same v (p .0)) (map-sameᶠ hh (p .1))
+
+    pub map-sameᶠ : (hh : Forest A) → Allᶠ P hh → forest-map f hh ≡ forest-map g hh
+    map-sameᶠ []ᶠ p = refl
+    map-sameᶠ (h ∷ᶠ hh) p = ap₂ (λ (h : Heap B) (hh : Forest B). h ∷ᶠ hh) (map-same h (p .0)) (map-sameᶠ hh (p .1))
+
+mutual
+  map-id : {A : Type 0} (h : Heap A) → heap-map (λ a. a) h ≡ h
+  map-id EmptyHeap = refl
+  map-id (HeapOf v hh) = ap (HeapOf v) (map-idᶠ hh)
+
+  map-idᶠ : {A : Type 0} (hh : Forest A) → forest-map (λ a. a) hh ≡ hh
+  map-idᶠ []ᶠ = refl
+  map-idᶠ {A} (h ∷ᶠ hh) = ap₂ (λ (h : Heap A) (hh : Forest A). h ∷ᶠ hh) (map-id h) (map-idᶠ hh)
+
+-- The heap's functions only depend on the comparison of elements in play.
+module _ {A : Type 0} (cmp cmp′ : A → A → Ordering) (P : A → Type 0) (agree : (a b : A) → P a → P b → cmp′ a b ≡ cmp a b) where
+  pub merge-same : (h g : Heap A) → All P h → All P g → heap-merge cmp′ h g ≡ heap-merge cmp h g
+  merge-same h g p q =
+      ap₂ (heap-merge cmp′) (sym (map-id h)) (sym (map-id g)) ∙ map-merge (λ a. a) cmp cmp′ P agree h g p q ∙ map-id (heap-merge cmp h g)
+
+  pub insert-same : (h : Heap A) (v : A) → All P h → P v → heap-insert cmp′ h v ≡ heap-insert cmp h v
+  unfolding heap-insert
+  insert-same h v p q = merge-same (HeapOf v []ᶠ) h (q, tt) p
+
+  pub pairs-same : (hh : Forest A) → Allᶠ P hh → heap-merge-pairs cmp′ hh ≡ heap-merge-pairs cmp hh
+  pairs-same hh p = ap (heap-merge-pairs cmp′) (sym (map-idᶠ hh)) ∙ map-pairs (λ a. a) cmp cmp′ P agree hh p ∙ map-id (heap-merge-pairs cmp hh)
+
+  pub pop-same : (h : Heap A) → All P h → heap-pop cmp′ h ≡ heap-pop cmp h
+  unfolding heap-pop
+  pop-same EmptyHeap p = refl
+  pop-same (HeapOf v hh) p = ap (λ (h : Heap A). some (v, h)) (pairs-same hh (p .1))

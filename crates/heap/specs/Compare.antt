@@ -1,0 +1,36 @@
+-- How two cells compare: by the keys of their heads, then by their priorities.
+use Prim.Native.Nat.{ℕ, zero, suc, _+_, _-_, _*_, _≤_, _<_, compare, Ordering, Ordering·lt, Ordering·eq, Ordering·gt}
+use mathlib.Core.Path.{_≡_}
+use mathlib.Core.List.{List}
+use lib.IntN.{ℤ, pos, negsuc}
+use lib.ListN.{length, getD}
+use Rattle.source.specs.Text.{Str, then, string-compare}
+use Rattle.source.specs.Lists.{Run, first, priority}
+use Rattle.memory.specs.Layout.{record-at, word, key-at}
+
+-- A link of a record with its key in the text.
+pub record Head (ws txt : List ℕ) (l : ℕ) : Type 0 where
+  pub named : 0 < l
+  pub within : l * 12 ≤ length ws
+  pub key : word (record-at ws l) 1 + word (record-at ws l) 2 ≤ length txt
+
+-- At most 96 cells, and each one's head is such a link.
+pub record Heads (ws txt heads : List ℕ) (n : ℕ) : Type 0 where
+  pub few : n ≤ 96
+  pub each : (j : ℕ) → j < n → Head ws txt (getD heads j 0)
+
+-- The source's run-cmp on n cells: cell j has priority n - 1 - j.
+unfoldable pub cell-cmp : List ℕ → List ℕ → List ℕ → ℕ → ℕ → ℕ → Ordering
+cell-cmp ws txt heads n a b =
+    then (string-compare (key-at ws txt (getD heads a 0)) (key-at ws txt (getD heads b 0))) (compare (n - 1 - a) (n - 1 - b))
+
+-- The answer that a number gives by its sign.
+abbrev pub sign : ℤ → Ordering
+sign (negsuc k) = Ordering·lt
+sign (pos zero) = Ordering·eq
+sign (pos (suc k)) = Ordering·gt
+
+-- The cell j of n stands for the list r.
+pub record Stands {A : Type 0} (key : A → Str) (ws txt heads : List ℕ) (n j : ℕ) (r : Run A) : Type 0 where
+  pub key-is : key (first r) ≡ key-at ws txt (getD heads j 0)
+  pub priority-is : priority r ≡ n - 1 - j

@@ -1,0 +1,188 @@
+// The source's pairing heap in at most 96 cells. A cell stands for a list, whose head is a branch's link.
+// `child` and `next` have each cell's first child and next sibling; 96 is no cell, and as a root the empty heap.
+use text::Order;
+ghost use mathlib.Core.Path.{_≡_};
+ghost use Prim.Native.Nat.{ℕ, _-_, _<_};
+ghost use lib.IntN.{pos, _-ℤ_};
+ghost use lib.ListN.{getD, set};
+ghost use Rattle.source.specs.Text.{string-compare};
+ghost use Rattle.source.specs.Heap.{Heap, Forest, heap-from-list};
+ghost use Rattle.text.specs.Text.{ordering};
+ghost use Rattle.memory.specs.Layout.{key-at};
+ghost use Rattle.heap.specs.Compare.{Head, Heads, cell-cmp, sign};
+ghost use Rattle.heap.specs.Cells.{Root, Rep, Repᶠ, Merges, Inserts, Pairs, Pops, first-cells};
+
+// What heap_pop answers: nothing, or the least cell and the root of the rest.
+pub enum Popped {
+    Nothing,
+    Least(usize, usize),
+}
+
+// A heap by value.
+pub struct Cells {
+    pub child: [u8; 96],
+    pub next: [u8; 96],
+    pub root: usize,
+}
+
+// How the keys of two branches compare.
+fn compare_keys(words: &[u32], text: &[u8], x: u32, y: u32) -> Order
+    requires { ⌜ Head (now words) (now text) x ⌝ }
+    requires { ⌜ Head (now words) (now text) y ⌝ }
+    ensures { λ r. ⌜ ordering r ≡ string-compare (key-at (now (words .entry)) (now (text .entry)) x) (key-at (now (words .entry)) (now (text .entry)) y) ⌝ }
+{
+    let i = memory::word_of(words, x, 1) as usize;
+    let a = memory::word_of(words, x, 2) as usize;
+    let j = memory::word_of(words, y, 1) as usize;
+    let b = memory::word_of(words, y, 2) as usize;
+    text::string_compare(&text[i..i + a], &text[j..j + b])
+}
+
+// The difference of the priorities of two of `n` cells: a later cell has a smaller priority.
+fn priority_difference(n: usize, a: usize, b: usize) -> i32
+    requires { ⌜ (a < n) × (b < n) × (n < 97) ⌝ }
+    ensures { λ r. ⌜ r ≡ pos (n - 1 - a) -ℤ pos (n - 1 - b) ⌝ }
+{
+    (n - 1 - a) as i32 - (n - 1 - b) as i32
+}
+
+// The comparator of merge_increasing_lists_rev: by the keys of the heads, then by priority. Its sign is the answer.
+fn cell_cmp(words: &[u32], text: &[u8], heads: &[u32; 96], n: usize, a: usize, b: usize) -> i32
+    requires { ⌜ Heads (now words) (now text) (now heads) n ⌝ }
+    requires { ⌜ (a < n) × (b < n) ⌝ }
+    ensures { λ r. ⌜ sign r ≡ cell-cmp (now (words .entry)) (now (text .entry)) (now (heads .entry)) n a b ⌝ }
+{
+    let x = heads[a];
+    let y = heads[b];
+    match compare_keys(words, text, x, y) {
+        Order::Less => -1,
+        Order::Same => priority_difference(n, a, b),
+        Order::More => 1,
+    }
+}
+
+// Puts the heap of root `w` before the children of `v`.
+fn link(child: &mut [u8; 96], next: &mut [u8; 96], v: usize, w: usize) -> usize
+    requires { ⌜ (v < 96) × (w < 96) ⌝ }
+    ensures { λ r. ⌜ (r ≡ v) × (now (child .exit) ≡ set (now (child .entry)) v w) × (now (next .exit) ≡ set (now (next .entry)) w (getD (now (child .entry)) v 0)) ⌝ }
+{
+    next[w] = child[v];
+    child[v] = w as u8;
+    v
+}
+
+// heap_merge, of the roots `a` and `b`.
+pub fn heap_merge(
+    child: &mut [u8; 96],
+    next: &mut [u8; 96],
+    words: &[u32],
+    text: &[u8],
+    heads: &[u32; 96],
+    n: usize,
+    a: usize,
+    b: usize,
+) -> usize
+    requires { ⌜ Heads (now words) (now text) (now heads) n ⌝ }
+    requires { ⌜ Root n a × Root n b ⌝ }
+    ensures { λ r. ⌜ Merges (cell-cmp (now (words .entry)) (now (text .entry)) (now (heads .entry)) n) n (now (child .entry)) (now (next .entry)) (now (child .exit)) (now (next .exit)) r a b ⌝ }
+{
+    if a == 96 {
+        return b;
+    }
+    if b == 96 {
+        return a;
+    }
+    if cell_cmp(words, text, heads, n, a, b) < 0 {
+        link(child, next, a, b)
+    } else {
+        link(child, next, b, a)
+    }
+}
+
+// heap_insert, of the cell `v` into the heap of root `i`.
+pub fn heap_insert(
+    child: &mut [u8; 96],
+    next: &mut [u8; 96],
+    words: &[u32],
+    text: &[u8],
+    heads: &[u32; 96],
+    n: usize,
+    i: usize,
+    v: usize,
+) -> usize
+    requires { ⌜ Heads (now words) (now text) (now heads) n ⌝ }
+    requires { ⌜ Root n i × (v < n) ⌝ }
+    ensures { λ r. ⌜ Inserts (cell-cmp (now (words .entry)) (now (text .entry)) (now (heads .entry)) n) n (now (child .entry)) (now (next .entry)) (now (child .exit)) (now (next .exit)) r i v ⌝ }
+{
+    child[v] = 96;
+    heap_merge(child, next, words, text, heads, n, v, i)
+}
+
+// heap_merge_pairs, of the heaps of root `i` and of its next siblings.
+pub fn heap_merge_pairs(
+    child: &mut [u8; 96],
+    next: &mut [u8; 96],
+    words: &[u32],
+    text: &[u8],
+    heads: &[u32; 96],
+    n: usize,
+    i: usize,
+) -> usize
+    requires { ⌜ Heads (now words) (now text) (now heads) n ⌝ }
+    requires { ⌜ ((hh : Forest ℕ) × Repᶠ n (now child) (now next) i hh) ⌝ }
+    ensures { λ r. ⌜ Pairs (cell-cmp (now (words .entry)) (now (text .entry)) (now (heads .entry)) n) n (now (child .entry)) (now (next .entry)) (now (child .exit)) (now (next .exit)) r i ⌝ }
+{
+    if i == 96 {
+        return 96;
+    }
+    let k = next[i] as usize;
+    if k == 96 {
+        return i;
+    }
+    let rest = next[k] as usize;
+    let first = heap_merge(child, next, words, text, heads, n, i, k);
+    let then = heap_merge_pairs(child, next, words, text, heads, n, rest);
+    heap_merge(child, next, words, text, heads, n, first, then)
+}
+
+// heap_pop, of the heap of root `i`.
+pub fn heap_pop(
+    child: &mut [u8; 96],
+    next: &mut [u8; 96],
+    words: &[u32],
+    text: &[u8],
+    heads: &[u32; 96],
+    n: usize,
+    i: usize,
+) -> Popped
+    requires { ⌜ Heads (now words) (now text) (now heads) n ⌝ }
+    requires { ⌜ ((h : Heap ℕ) × Rep n (now child) (now next) i h) ⌝ }
+    ensures { λ r. ⌜ Pops (cell-cmp (now (words .entry)) (now (text .entry)) (now (heads .entry)) n) n (now (child .entry)) (now (next .entry)) (now (child .exit)) (now (next .exit)) r i ⌝ }
+{
+    if i == 96 {
+        return Popped::Nothing;
+    }
+    let k = child[i] as usize;
+    let rest = heap_merge_pairs(child, next, words, text, heads, n, k);
+    Popped::Least(i, rest)
+}
+
+// heap_from_list, of the cells below `n`, the first one first.
+pub fn heap_from_list(words: &[u32], text: &[u8], heads: &[u32; 96], n: usize) -> Cells
+    requires { ⌜ Heads (now words) (now text) (now heads) n ⌝ }
+    ensures { λ r. ⌜ Rep n (r .child) (r .next) (r .root) (heap-from-list (cell-cmp (now (words .entry)) (now (text .entry)) (now (heads .entry)) n) (first-cells n)) ⌝ }
+{
+    let mut child = [96; 96];
+    let mut next = [96; 96];
+    let mut root = 96;
+    let mut v = 0;
+    while v < n {
+        root = heap_insert(&mut child, &mut next, words, text, heads, n, root, v);
+        v += 1;
+    }
+    Cells {
+        child: child,
+        next: next,
+        root: root,
+    }
+}

@@ -1,0 +1,8 @@
+//! An independent implementation of document 01 and the source, in plain
+//! Rust. The product is compared with it. See README.md.
+
+pub mod gen;
+pub mod layout;
+pub mod model;
+pub mod naive;
+pub mod script;

@@ -1,0 +1,536 @@
+//! Refusals, registrations, look-up and completion.
+
+mod common;
+use common::*;
+use model::gen::{self, Rng};
+use model::layout::*;
+use model::model::*;
+use model::naive::*;
+
+fn refused(call: Registration) -> Option<u32> {
+    Both::fresh(400, 4000).register(&call).err().map(Refusal::number)
+}
+
+#[test]
+fn rows_2_to_4_of_registrations() {
+    let (n31, n32) = ("n".repeat(31), "n".repeat(32));
+    let (p120, p121) = ("p".repeat(120), "p".repeat(121));
+    let s18 = "s.".repeat(18);
+    for (call, number) in [
+        // Row 2.
+        (name("a", "i", 1), Some(2)),
+        (name("a b.", "i", 1), Some(2)),
+        (name("a\u{7f}.", "i", 1), Some(2)),
+        (name("[.", "i", 1), Some(2)),
+        (name("a.", "i.", 1), Some(2)),
+        (name("a.", ".", 1), Some(2)),
+        (name("a.", "i j", 1), Some(2)),
+        (include("a", ""), Some(2)),
+        (include("", "a"), Some(2)),
+        (open(true, "", "\t."), Some(2)),
+        (open(false, "]", ""), Some(2)),
+        (alias("k.", "", ""), Some(2)),
+        (alias("k", "é.", ""), Some(2)),
+        (alias("k", "", "a..b"), Some(2)),
+        (module(true, "A", ""), Some(2)),
+        (module(true, "", "\n"), Some(2)),
+        (module(true, "", "\u{7f}"), Some(2)),
+        (module(true, "", "~ [.]"), None),
+        // Row 3.
+        (name("", "", 1), Some(3)),
+        (name(".", "i", 1), Some(3)),
+        (name("a..b.", "i", 1), Some(3)),
+        (include(".", ""), Some(3)),
+        (include("", "a.."), Some(3)),
+        (open(false, "", ".a."), Some(3)),
+        (alias("", "", ""), Some(3)),
+        (alias("k", ".", ""), Some(3)),
+        (module(true, ".", ""), Some(3)),
+        (module(true, "", ""), None),
+        // Row 4.
+        (name("", &n31, 1), None),
+        (name("", &n32, 1), Some(4)),
+        (name(&format!("{n32}."), "i", 1), Some(4)),
+        (name(&s18, "i", 1), Some(4)),
+        (include("", &format!("a.{n32}.")), Some(4)),
+        (include("", &s18), Some(4)),
+        (open(false, &s18, ""), Some(4)),
+        (alias(&n32, "", ""), Some(4)),
+        (alias("k", "", &s18), Some(4)),
+        (module(false, &format!("{n32}."), ""), Some(4)),
+        (module(false, &s18, ""), Some(4)),
+        (module(false, "", &p120), None),
+        (module(false, "", &p121), Some(4)),
+        // The lowest number over all arguments.
+        (name(".", &format!("{n32}.i"), 1), Some(2)),
+        (name(&n32, "", 1), Some(2)),
+        (name(&format!("{n32}."), "", 1), Some(3)),
+        (name(&"s.".repeat(17), &n32, 1), Some(4)),
+        (include(&s18, "a.."), Some(3)),
+        (include(&s18, "a"), Some(2)),
+        (alias("", "a", ""), Some(2)),
+        (alias(&n32, "", "."), Some(3)),
+        (module(true, "..", &p121), Some(3)),
+        (module(true, &s18, "\0"), Some(2)),
+    ] {
+        assert_eq!(refused(call.clone()), number, "{call:?}");
+    }
+}
+
+#[test]
+fn row_5_crowded() {
+    // Each include of nothing weighs one.
+    let mut both = Both::fresh(3000, 9000);
+    for _ in 0..95 {
+        both.register(&include("h.", "x.")).unwrap();
+    }
+    let mut other = Both { table: both.table.clone(), memory: both.memory.clone() };
+    // An imported list weighs one more than itself.
+    both.register(&include("i.", "h.")).unwrap();
+    assert_eq!(both.register(&include("i.", "x.")), Err(Refusal::Crowded));
+    both.register(&include("h.", "x.")).unwrap();
+    // No tree leads the list: a new one would be put in front.
+    assert_eq!(both.register(&name("h.", "a", 1)), Err(Refusal::Crowded));
+    assert_eq!(both.register(&alias("k", "", "h.")), Err(Refusal::Crowded));
+    assert_eq!(both.register(&include("j.", "h.")), Err(Refusal::Crowded));
+    assert_eq!(both.register(&name("h.b.", "a", 1)).err(), None);
+    // A tree leads the list: its weight stays.
+    other.register(&name("h.", "a", 1)).unwrap();
+    other.register(&name("h.", "b", 2)).unwrap();
+    assert_eq!(other.register(&include("h.", "")), Err(Refusal::Crowded));
+}
+
+#[test]
+fn row_5_before_6_before_7_before_8() {
+    let mut both = Both::fresh(2000, 9000);
+    for _ in 0..96 {
+        both.register(&open(false, "", "x.")).unwrap();
+    }
+    let deep = "s.".repeat(17);
+    assert_eq!(both.register(&name(&deep, "i", 1)), Err(Refusal::Crowded));
+    let mut both = Both::fresh(1, 1);
+    assert_eq!(both.register(&name(&deep, "i", 1)), Err(Refusal::Deep));
+    assert_eq!(both.register(&name(&"s.".repeat(16), "i", 1)), Err(Refusal::Full));
+    let mut both = Both::fresh(100, 1);
+    assert_eq!(both.register(&name(&"s.".repeat(16), "i", 1)), Err(Refusal::TextFull));
+}
+
+#[test]
+fn row_6_deep() {
+    let host = |n: usize| "s.".repeat(n);
+    let mut both = Both::fresh(2000, 9000);
+    both.register(&name(&host(16), "i", 1)).unwrap();
+    assert_eq!(both.register(&alias("k", &host(16), "")), Err(Refusal::Deep));
+    both.register(&alias("k", &host(15), "")).unwrap();
+    assert_eq!(both.register(&open(false, "t.", "")), Err(Refusal::Deep));
+    both.register(&open(false, "t.", "s.")).unwrap();
+    assert_eq!(both.register(&module(true, &host(17), "")), Err(Refusal::Deep));
+    both.register(&module(true, &host(16), "")).unwrap();
+    // A trie behind an earlier holder counts: s is held by the imported list
+    // too, with all its depth.
+    let mut both = Both::fresh(2000, 9000);
+    both.register(&name(&host(15), "i", 1)).unwrap();
+    both.register(&open(false, "", "")).unwrap();
+    both.register(&alias("s", "", "none.")).unwrap();
+    assert_eq!(both.find(&format!("{}i.", host(15))), Ok(None));
+    assert_eq!(trie_depth(&both.table.names), 15);
+    // An alias in the leading tree takes depth away.
+    let mut both = Both::fresh(2000, 9000);
+    both.register(&name(&host(16), "i", 1)).unwrap();
+    both.register(&alias("s", "", "none.")).unwrap();
+    assert_eq!(trie_depth(&both.table.names), 1);
+}
+
+#[test]
+fn at_most_65536_records_and_bytes_are_used() {
+    // More is lent than may be used. The call takes 3 records, 4 bytes.
+    let lent = Lent { words: 12 * 70_000, text: 70_000 };
+    let with = |records, text| {
+        let table = Table { records, text, ..Table::default() };
+        register(&table, lent, &name("", "tick", 5)).map(|new| (new.records, new.text))
+    };
+    assert_eq!(with(65_533, 65_532), Ok((65_536, 65_536)));
+    assert_eq!(with(65_534, 65_532), Err(Refusal::Full));
+    assert_eq!(with(65_533, 65_533), Err(Refusal::TextFull));
+    assert_eq!(with(65_536, 65_536), Err(Refusal::Full));
+    // A call that takes nothing is accepted also then.
+    let full = Table { records: 65_536, text: 65_536, ..Table::default() };
+    assert!(register(&full, lent, &module(true, "", "")).is_ok());
+    assert_eq!(register(&full, lent, &module(true, "", "p")).err(), Some(Refusal::TextFull));
+    assert_eq!(register(&full, lent, &include("", "")).err(), Some(Refusal::Full));
+}
+
+#[test]
+fn rows_of_look_up() {
+    let both = Both::t();
+    let q = |n: usize| "s.".repeat(n);
+    for (query, number) in [
+        ("Live.offset", 2),
+        (" .", 2),
+        ("[.", 2),
+        ("", 3),
+        (".", 3),
+        ("Live..", 3),
+        (".Live.", 3),
+        (&q(18)[..], 4),
+        (&format!("{}.", "n".repeat(32))[..], 4),
+        (&format!("{}..", "n".repeat(32))[..], 3),
+    ] {
+        assert_eq!(both.find(query), Err(number), "{query}");
+        let modules = find(&both.table.modules, query.as_bytes()).map_err(Refusal::number);
+        assert_eq!(modules, Err(number), "{query}");
+    }
+    assert_eq!(both.find(&q(17)), Ok(None));
+    assert_eq!(both.find("Live."), Ok(None));
+}
+
+#[test]
+fn rows_of_completions() {
+    let both = Both::t();
+    let q = |n: usize| ".".repeat(n);
+    for (query, number) in [
+        ("Live", 2),
+        (" .", 2),
+        (&q(18)[..], 4),
+        (&format!("{}.", "n".repeat(32))[..], 4),
+        (&"n".repeat(32)[..], 2),
+    ] {
+        assert_eq!(both.complete(query), Err(number), "{query}");
+        assert_eq!(both.modules(query, Filter::All), Err(number), "{query}");
+    }
+    assert_eq!(both.complete(&q(17)), Ok((vec![], 3)));
+    assert_eq!(both.complete("Live.."), Ok((vec![("Live.offset".into(), 1, 5, "".into())], 2)));
+    // Rows 2 and 4 come before 9.
+    assert_eq!(autocomplete_lid(&both.table, b"a", 0).err(), Some(Refusal::Malformed));
+    assert_eq!(autocomplete_lid(&both.table, &[DOT; 18], 0).err(), Some(Refusal::TooLong));
+    assert_eq!(autocomplete_lid(&both.table, b"", 0).err(), Some(Refusal::Spent));
+    let empty = Table::default();
+    assert_eq!(autocomplete_lid(&empty, b"", 0).err(), Some(Refusal::Spent));
+    assert_eq!(autocomplete_lid(&empty, b"", 1), Ok((vec![], 1)));
+}
+
+#[test]
+fn lines_fit_exactly() {
+    let mut both = Both::t();
+    both.register(&include("", "Saved.")).unwrap();
+    // late, offset with annotation Saved each, and the three others.
+    let bytes = 4 + 5 + 6 + 5 + 11 + 10 + 12;
+    let complete = |lines: usize, text: usize| {
+        let (mut lines, mut text) = (blank_lines(lines, 0), vec![b'x'; text]);
+        let answer = complete_names(&both.table, b"", 9, &mut lines, &mut text);
+        (answer.map_err(Refusal::number), lines, text)
+    };
+    assert_eq!(complete(4, 100), (Err(10), blank_lines(4, 0), vec![b'x'; 100]));
+    assert_eq!(complete(5, bytes - 1), (Err(10), blank_lines(5, 0), vec![b'x'; bytes - 1]));
+    let (answer, lines, text) = complete(5, bytes);
+    assert_eq!(answer, Ok(Listed { lines: 5, entered: 3 }));
+    assert_eq!(text, b"lateSavedoffsetSavedLive.offsetSaved.lateSaved.offset");
+    let span = |start, length| Span { start, length };
+    let spans: Vec<(Span, Span)> = lines.iter().map(|l| (l.candidate, l.annotation)).collect();
+    assert_eq!(
+        spans,
+        [
+            (span(0, 4), span(4, 5)),
+            (span(9, 6), span(15, 5)),
+            (span(20, 11), span(31, 0)),
+            (span(31, 10), span(41, 0)),
+            (span(41, 12), span(53, 0)),
+        ]
+    );
+    let (_, lines, text) = complete(7, bytes + 2);
+    assert_eq!(lines[5..], blank_lines(2, 0));
+    assert_eq!(text[bytes..], *b"xx");
+}
+
+#[test]
+fn filters() {
+    let mut both = Both::fresh(100, 300);
+    both.register(&module(true, "A.B.", "ab")).unwrap();
+    both.register(&module(false, "C.D.", "cd")).unwrap();
+    let names = |filter| -> Vec<String> {
+        let (lines, entered) = both.modules("", filter).unwrap();
+        assert_eq!(entered, 5);
+        lines.into_iter().map(|l| format!("{}{}{}", l.0, l.1, l.3)).collect()
+    };
+    assert_eq!(names(Filter::All), ["An ns ", "Cn(ns)", "A.Bm mod ", "C.Dm(mod)"]);
+    assert_eq!(names(Filter::Loaded), ["An ns ", "A.Bm mod "]);
+    assert_eq!(names(Filter::ModulesOnly), ["A.Bm mod ", "C.Dm(mod)"]);
+    assert_eq!(names(Filter::NamespacesOnly), ["An ns ", "Cn(ns)"]);
+    // Dropped lines take no output.
+    let symbol = find(&both.table.modules, b"A.").unwrap().unwrap();
+    let fits = |filter, lines, text| {
+        let (mut lines, mut text) = (blank_lines(lines, symbol.clone()), vec![0; text]);
+        complete_modules(&both.table, b"", filter, 9, &mut lines, &mut text).is_ok()
+    };
+    assert!(fits(Filter::Loaded, 2, 1 + 4 + 3 + 5));
+    assert!(!fits(Filter::Loaded, 1, 13) && !fits(Filter::Loaded, 2, 12));
+    assert!(!fits(Filter::All, 2, 13));
+}
+
+#[test]
+fn modules_and_namespaces_replace_by_the_rules() {
+    let text = |s: &str| Str::from(s.as_bytes());
+    let namespace = |s: &str, loaded| ModSymbol::Namespace { ns_name: text(s), ns_loaded: loaded };
+    let module_of = |s: &str, path: &str, loaded| ModSymbol::Module {
+        mod_name: text(s),
+        mod_path: text(path),
+        mod_loaded: loaded,
+    };
+    let mut both = Both::fresh(200, 300);
+    let mut steps = |call, query: &str, expected| {
+        both.register(&call).unwrap();
+        assert_eq!(find(&both.table.modules, query.as_bytes()), Ok(Some(expected)));
+    };
+    steps(module(false, "A.B.", "1"), "A.", namespace("A", false));
+    steps(module(true, "A.C.", "2"), "A.", namespace("A", true));
+    steps(module(false, "A.D.", "3"), "A.", namespace("A", true));
+    steps(module(false, "A.", "4"), "A.", module_of("A", "4", false));
+    steps(module(true, "A.E.", "5"), "A.", module_of("A", "4", false));
+    steps(module(true, "A.B.", "6"), "A.B.", module_of("A.B", "6", true));
+    steps(module(false, "A.B.", "7"), "A.B.", module_of("A.B", "7", false));
+    steps(module(false, "A.B.F.", "8"), "A.B.F.", module_of("A.B.F", "8", false));
+    steps(module(false, "A.", "9"), "A.B.", module_of("A.B", "7", false));
+}
+
+#[test]
+fn includes_opens_and_aliases() {
+    let mut both = Both::fresh(500, 900);
+    for call in [name("m.", "x", 1), name("m.s.", "y", 2), name("h.m.", "z", 3)] {
+        both.register(&call).unwrap();
+    }
+    // Include carries bindings only; an open of a module is the same.
+    for (host, call) in [("i", include("i.", "m.")), ("o", open(true, "o.", "m."))] {
+        both.register(&call).unwrap();
+        assert_eq!(both.find(&format!("{host}.x.")), Ok(Some(1)));
+        assert_eq!(both.find(&format!("{host}.s.y.")), Ok(None));
+    }
+    // An open of a namespace carries namespaces only.
+    both.register(&open(false, "n.", "m.")).unwrap();
+    assert_eq!(both.find("n.x."), Ok(None));
+    assert_eq!(both.find("n.s.y."), Ok(Some(2)));
+    // The included query starts at the root, also below a host that has the
+    // name itself.
+    both.register(&include("h.", "m.")).unwrap();
+    assert_eq!(both.find("h.x."), Ok(Some(1)));
+    assert_eq!(both.find("h.z."), Ok(None));
+    // Registering below a namespace held by an imported list copies it into
+    // a tree in front; the origin stays.
+    both.register(&name("n.s.", "w", 4)).unwrap();
+    assert_eq!(both.find("n.s.w."), Ok(Some(4)));
+    assert_eq!(both.find("n.s.y."), Ok(Some(2)));
+    assert_eq!(both.find("m.s.w."), Ok(None));
+    // The listing enters the last holder only, so w is missing.
+    let (lines, _) = both.complete("n.s.").unwrap();
+    assert_eq!(lines, [("n.s.y".to_string(), 2, 3, "".to_string())]);
+    // An alias replaces the key and has no namespaces.
+    both.register(&alias("s", "m.", "h.")).unwrap();
+    assert_eq!(both.find("m.s.y."), Ok(None));
+    assert_eq!(both.find("m.s.x."), Ok(Some(1)));
+    both.register(&alias("k", "", "m.")).unwrap();
+    assert_eq!(both.find("k.x."), Ok(Some(1)));
+    assert_eq!(both.find("k.s.x."), Ok(None));
+}
+
+#[test]
+fn annotations() {
+    let mut both = Both::fresh(500, 900);
+    both.register(&name("m.s.", "x", 1)).unwrap();
+    both.register(&include("k.", "m.s.")).unwrap();
+    both.register(&include("", "k.")).unwrap();
+    both.register(&open(false, "", "m.")).unwrap();
+    let (lines, _) = both.complete("").unwrap();
+    let texts: Vec<(&str, &str)> = lines.iter().map(|l| (&l.0[..], &l.3[..])).collect();
+    // The outermost label, of the first element only.
+    assert_eq!(texts, [("x", "k"), ("k.x", ""), ("m.s.x", ""), ("s.x", "m")]);
+    // An include of the root has the empty label.
+    let mut both = Both::fresh(500, 900);
+    both.register(&name("", "x", 1)).unwrap();
+    both.register(&include("", "")).unwrap();
+    both.register(&include("", "")).unwrap();
+    let (lines, _) = both.complete("").unwrap();
+    assert_eq!(lines, [("x".to_string(), 1, -1, "".to_string())]);
+}
+
+#[test]
+fn match_lengths() {
+    let mut both = Both::fresh(500, 900);
+    both.register(&name("abc.def.", "ghi", 1)).unwrap();
+    for (query, length) in [
+        ("", -1),
+        (".", 0),
+        ("a.", 1),
+        ("abc.", 3),
+        ("a..", 4),
+        ("ab.d.", 5),
+        ("a.def.gh.", 10),
+        ("...", 8),
+    ] {
+        let (lines, _) = both.complete(query).unwrap();
+        assert_eq!(lines.len(), 1, "{query}");
+        assert_eq!(lines[0].2, length, "{query}");
+    }
+    assert_eq!(both.complete("abc.def.ghi.."), Ok((vec![], 3)));
+    // Earlier segments match namespaces only.
+    both.register(&name("", "ab", 2)).unwrap();
+    assert_eq!(both.complete("ab..").unwrap().0.len(), 1);
+    assert_eq!(both.complete("ab.").unwrap().0.len(), 2);
+}
+
+/// Random registrations in the model and in the encoder's memory.
+#[test]
+fn model_and_memory_agree() {
+    let rng = &mut Rng::new(Rng::seed_or(31));
+    let mut counts = [0; 11];
+    for round in 0..120 {
+        let mix = &gen::MIXES[round % 3];
+        let mut both = Both::fresh(40 + rng.below(800), 100 + rng.below(1500));
+        for _ in 0..60 {
+            let call = if rng.one_in(6) {
+                gen::damaged_registration(rng, mix)
+            } else {
+                gen::registration(rng, mix)
+            };
+            let answer = both.register(&call);
+            counts[answer.map_or_else(|r| r.number() as usize, |_| 0)] += 1;
+        }
+    }
+    // Accepted calls and each refusal of rows 2 to 8 came up.
+    assert!(counts[0] > 2000, "{counts:?}");
+    assert!([2, 3, 4, 5, 6, 7, 8].iter().all(|&n| counts[n] > 0), "{counts:?}");
+}
+
+/// A completion by query and budget.
+type Complete<'f, A> = &'f dyn Fn(&[u8], u32) -> Result<(Vec<CompletionResult<A>>, u32), Refusal>;
+
+/// Look-up is the walk by first holders, the listing is the naive one, and
+/// demand 3 holds, on one root. Counts: spent, names listed, names that the
+/// two walks resolve differently, names not listed.
+fn check_root<A: Value + PartialEq + std::fmt::Debug>(
+    root: &Trie<A>,
+    rng: &mut Rng,
+    complete: Complete<A>,
+    annotation: &dyn Fn(&A, Option<Str>) -> Str,
+    counts: &mut [usize; 4],
+) {
+    let known = full_names(root, 200);
+    for _ in 0..6 {
+        let query = gen::completion_query(rng);
+        let query_segments = segments(&query);
+        let budget = *rng.pick(&[2, 8, 300]);
+        let naive = listing(root, &query_segments, u64::from(budget));
+        let listed = complete(&query, budget);
+        let (Some((lines, entered)), Ok((results, count))) = (&naive, &listed) else {
+            assert!(naive.is_none() && listed == Err(Refusal::Spent), "{query:?}");
+            counts[0] += 1;
+            continue;
+        };
+        assert_eq!(u64::from(*count), *entered);
+        let expected: Vec<CompletionResult<A>> = lines
+            .iter()
+            .map(|(text, match_length, label, item)| CompletionResult {
+                match_length: *match_length,
+                item: item.clone(),
+                candidate: text.as_slice().into(),
+                annotation: annotation(item, label.clone()),
+            })
+            .collect();
+        assert_eq!(*results, expected);
+        for _ in 0..8 {
+            let full_name = if known.is_empty() || rng.one_in(4) {
+                segments(&gen::full_name(rng))
+            } else {
+                rng.pick(&known).clone()
+            };
+            let text = concat_dots(&full_name);
+            let (first, met) = walk(root, &full_name, false);
+            let (last, _) = walk(root, &full_name, true);
+            let mut spelled = text.to_vec();
+            spelled.push(DOT);
+            match find(root, &spelled) {
+                Ok(found) => assert_eq!(found, first),
+                Err(refusal) => {
+                    assert_eq!(refusal, Refusal::TooLong);
+                    continue;
+                }
+            }
+            if met <= 1 {
+                assert_eq!(first, last);
+            }
+            if covers(&query_segments, &full_name) {
+                let with: Vec<&A> =
+                    results.iter().filter(|r| r.candidate == text).map(|r| &r.item).collect();
+                assert_eq!(with, last.iter().collect::<Vec<&A>>());
+                counts[1] += last.is_some() as usize;
+                counts[2] += (first != last) as usize;
+                counts[3] += last.is_none() as usize;
+            }
+        }
+    }
+}
+
+fn check_table(table: &Table, rng: &mut Rng, counts: &mut [usize; 4]) {
+    let empty = || Str::from(&b""[..]);
+    check_root(
+        &table.names,
+        rng,
+        &|query, budget| autocomplete_lid(table, query, budget),
+        &|_, label| label.unwrap_or_else(empty),
+        counts,
+    );
+    check_root(
+        &table.modules,
+        rng,
+        &|query, budget| autocomplete_mod_or_ns(table, query, Filter::All, budget),
+        &|symbol, _| {
+            let text = match symbol {
+                ModSymbol::Module { mod_loaded: true, .. } => " mod ",
+                ModSymbol::Module { mod_loaded: false, .. } => "(mod)",
+                ModSymbol::Namespace { ns_loaded: true, .. } => " ns ",
+                ModSymbol::Namespace { ns_loaded: false, .. } => "(ns)",
+            };
+            text.as_bytes().into()
+        },
+        counts,
+    );
+}
+
+#[test]
+fn listings_of_registered_tables() {
+    let rng = &mut Rng::new(Rng::seed_or(32));
+    let mut counts = [0; 4];
+    for round in 0..150 {
+        let mut table = Table::default();
+        let lent = Lent { words: 12 * 2000, text: 4000 };
+        for _ in 0..1 + rng.below(30) {
+            let call = gen::registration(rng, &gen::MIXES[round % 3]);
+            table = register(&table, lent, &call).unwrap_or(table);
+        }
+        check_table(&table, rng, &mut counts);
+    }
+    assert!(counts.iter().all(|&n| n > 20), "{counts:?}");
+}
+
+/// Sound tables of any shape, also such as no registration makes.
+#[test]
+fn listings_of_other_sound_tables() {
+    let rng = &mut Rng::new(Rng::seed_or(33));
+    let mut counts = [0; 4];
+    for _ in 0..150 {
+        let count = 20 + rng.below(120);
+        let memory = gen::sound_memory(rng, count);
+        check_table(&memory.table().unwrap(), rng, &mut counts);
+    }
+    assert!(counts.iter().all(|&n| n > 20), "{counts:?}");
+}
+
+#[test]
+fn unsound_memory_is_refused_first() {
+    let mut memory = Memory::with_room(10, 10);
+    memory.register(&name("", "a", 1)).unwrap();
+    memory.words[2 * 12] = 4;
+    let before = memory.clone();
+    // Row 2 applies too.
+    assert_eq!(memory.register(&name("x", "a", 1)), Err(Refusal::Unsound));
+    assert_eq!(memory.table().err(), Some(Refusal::Unsound));
+    assert!(memory == before);
+}
