@@ -32,10 +32,6 @@ word r k = getD r k 0
 unfoldable pub span : List ℕ → ℕ → ℕ → Str
 span txt start len = take len (drop start txt)
 
--- The key of the branch that link l names.
-unfoldable pub key-at : List ℕ → List ℕ → ℕ → Str
-key-at ws txt l = span txt (word (record-at ws l) 1) (word (record-at ws l) 2)
-
 -- The first, or the second.
 abbrev pub pick {ℓ} : {A : Type ℓ} → Bool → A → A → A
 pick true a b = a
@@ -92,6 +88,14 @@ nothing w (tree v) = StrEmpty
 nothing w (list v) = []ᴺ
 nothing w trieˢ = trie []ᴺ []ᴺ
 
+-- The key of a branch.
+abbrev pub key-of : List ℕ → List ℕ → Str
+key-of txt r = span txt (word r 1) (word r 2)
+
+-- The key of the branch that link l names.
+unfoldable pub key-at : List ℕ → List ℕ → ℕ → Str
+key-at ws txt l = key-of txt (record-at ws l)
+
 -- What a branch's key stands for.
 abbrev pub value : (w : Which) → List ℕ → List ℕ → (ℕ → Reading w) → (v : Level) → Value (Item w) v
 value w txt r f bind = item (item-of w txt r)
@@ -99,7 +103,7 @@ value w txt r f ns = f (word r 5) trieˢ
 
 -- What a record reads as, where f reads its links.
 abbrev pub row : (w : Which) → List ℕ → List ℕ → (ℕ → Reading w) → Reading w
-row w txt r f (tree v) = StrBranch (span txt (word r 1) (word r 2)) (value w txt r f v) (f (word r 3) (tree v)) (f (word r 4) (tree v))
+row w txt r f (tree v) = StrBranch (key-of txt r) (value w txt r f v) (f (word r 3) (tree v)) (f (word r 4) (tree v))
 row w txt r f (list v) =
     pick (eqb (word r 5) 0)
     (Names (f (word r 3) (tree v)) (f (word r 4) (list v)))

@@ -78,7 +78,7 @@ pub record RecordOk (ws txt : List ℕ) (used l : ℕ) : Type 0 where
   pub known : word (record-at ws l) 0 ≡ kind which sort
   pub right : RecordAs ws txt used l which sort (record-at ws l) (what which ws txt l sort)
 
--- A table: its words and text, two roots, records used, text used.
+-- A table: its words and text, two roots, records used, text used. Used parts fit, roots are tries or none, each used record is right.
 pub record Sound (ws txt : List ℕ) (names-root modules-root records used : ℕ) : Type 0 where
   pub few : records ≤ 65536
   pub short : used ≤ 65536

@@ -1,3 +1,4 @@
+-- `memory::collection_of` meets its contract.
 use borrow.Author.Needs.{needs}
 use Rattle.memory.proofs.collection_of.Statement.{statement}
 use Rattle.memory.proofs.collection_of.Tie as tie

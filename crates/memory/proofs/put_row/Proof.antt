@@ -1,3 +1,4 @@
+-- `memory::put_row` meets its contract. The loop's invariant: the first words are put.
 use Rattle.memory.proofs.put_row.Statement.{statement}
 use Rattle.memory.proofs.put_row.Tie as tie
 use Prim.Native.Nat.{_-_}

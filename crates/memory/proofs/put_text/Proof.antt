@@ -1,3 +1,4 @@
+-- `memory::put_text` meets its contract. The loop's invariant: the first bytes are put.
 use Rattle.memory.proofs.put_text.Statement.{statement}
 use Rattle.memory.proofs.put_text.Tie as tie
 use Prim.Native.Nat.{_-_}

@@ -1,3 +1,4 @@
+-- `memory::row_of` meets its contract. The loop's invariant: the first words are copied.
 use Rattle.memory.proofs.row_of.Statement.{statement}
 use Rattle.memory.proofs.row_of.Tie as tie
 use Prim.Native.Nat.{_-_}
@@ -31,6 +32,8 @@ row-of-spec =
     {- loop-less -}
     (λ c. omega arith)
     {- loop-again -}
-    (λ c. copied-more (record-length (c .before .before .before .before .args .words .now) (c .before .before .before .before .args .link) (omega arith) (omega arith)) (omega arith) (c .word-of .ensures) (c .before .before .loop .inv))
+    (λ c. let s = c .before .before .before .before in
+    copied-more (record-length (s .args .words .now) (s .args .link) (omega arith) (omega arith)) (omega arith) (c .word-of .ensures) (c .before .before .loop .inv))
     {- returns -}
-    (λ c. copied-all (record-length (c .before .before .before .args .words .now) (c .before .before .before .args .link) (omega arith) (omega arith)) (c .before .loop .inv) (c .loop-test .left)))
+    (λ c. let s = c .before .before .before in
+    copied-all (record-length (s .args .words .now) (s .args .link) (omega arith) (omega arith)) (c .before .loop .inv) (c .loop-test .left)))

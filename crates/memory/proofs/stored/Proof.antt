@@ -1,3 +1,4 @@
+-- `memory::stored` meets its contract.
 use borrow.Author.Needs.{needs}
 use Rattle.memory.proofs.stored.Statement.{statement}
 use Rattle.memory.proofs.stored.Tie as tie

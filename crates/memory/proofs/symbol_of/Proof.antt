@@ -1,3 +1,4 @@
+-- `memory::symbol_of` meets its contract.
 use borrow.Author.Needs.{needs}
 use Rattle.memory.proofs.symbol_of.Statement.{statement}
 use Rattle.memory.proofs.symbol_of.Tie as tie

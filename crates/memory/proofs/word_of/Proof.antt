@@ -1,3 +1,4 @@
+-- `memory::word_of` meets its contract.
 use borrow.Author.Needs.{needs}
 use Rattle.memory.proofs.word_of.Statement.{statement}
 use Rattle.memory.proofs.word_of.Tie as tie

@@ -1,0 +1,3 @@
+mod Spans
+mod Spines
+mod Answers
