@@ -28,7 +28,7 @@ none-fine ws txt w (tree v) = rw (what-none w ws txt) (tt, omega arith)
 none-fine ws txt w (list v) = rw (what-none w ws txt) (tt, omega arith)
 none-fine ws txt w trieˢ = rw (what-none w ws txt) ((tt, tt), omega arith)
 
-item-fine : (txt : List ℕ) (used : ℕ) (w : Which) (r : List ℕ) → ItemOk txt used w r → IsItem w (item-of w txt r)
+pub item-fine : (txt : List ℕ) (used : ℕ) (w : Which) (r : List ℕ) → ItemOk txt used w r → IsItem w (item-of w txt r)
 item-fine txt used names r o = tt
 item-fine txt used modules r o =
     zero-one (word r 5) (o .sort) (λ z. rw z (o .name .keeps, o .path z .keeps)) (λ z. rw z (o .name .keeps))

@@ -1,0 +1,76 @@
+-- A branch of a tree: what it reads as, its key, and its two sides.
+use Prim.Native.Nat.{ℕ, _+_, _-_, _*_, _≤_, _<_}
+use mathlib.Core.Path.{_≡_, refl, _∙_}
+use mathlib.Core.List.{List}
+use native.Mathlib.Omega.{arith}
+use lib.ListN.{length, take, drop}
+use Rattle.source.specs.Types.{Level, StrBranch}
+use Rattle.source.specs.Rules.{Ordered}
+use Rattle.memory.specs.Layout.{record-at, word, span, Which, tree, kind, what, key-at}
+use Rattle.memory.specs.Sound.{LinkOk, BranchOk, Sound}
+use Rattle.memory.proofs.Records.{links-earlier, branch-at, ordered-at}
+use Rattle.memory.proofs.Growing.{sound-roots}
+use Rattle.memory.proofs.Seen.{link-fits, link-ok, link-what, link-later}
+use Rattle.text.proofs.Texts.{part-is}
+use Rattle.tree.specs.Tree.{held, TreeAt, AnyTree}
+
+-- A sound memory with its roots left out, and a tree of it.
+pub no-roots : {ws txt : List ℕ} {a b n used : ℕ} → Sound ws txt a b n used → Sound ws txt 0 0 n used
+no-roots {ws} {n = n} o = sound-roots o (none _) (none _)
+  where
+    none : (k : ℕ) → LinkOk ws (n + 1) 0 k
+    none k = record { earlier = omega arith; of-kind = λ z. absurd (z refl) }
+
+pub tree-in : {ws txt : List ℕ} {a b n used : ℕ} → Sound ws txt a b n used → (w : Which) (v : Level) {x : ℕ} → LinkOk ws (n + 1) x (kind w (tree v)) → TreeAt ws txt w v x
+tree-in {n = n} {used} o w v i = record { records = n; used = used; sound = no-roots o; link = i }
+
+pub any-tree : {ws txt : List ℕ} {w : Which} {v : Level} {x : ℕ} → TreeAt ws txt w v x → AnyTree ws txt x
+any-tree {w = w} {v} t = record { which = w; level = v; tree = t }
+
+module _ {ws txt : List ℕ} {w : Which} {v : Level} {x : ℕ} (t : TreeAt ws txt w v x) where
+  -- A link of the same kind that comes no later.
+  pub tree-of : {l y : ℕ} → l ≤ x + 1 → LinkOk ws l y (kind w (tree v)) → TreeAt ws txt w v y
+  tree-of h i = record { records = t .records; used = t .used; sound = t .sound; link = link-later (omega (arith, t .link .earlier)) i }
+
+  module _ (p : 0 < x) where
+    pub branch-right : BranchOk ws txt (t .used) x w (record-at ws x) v
+    branch-right = branch-at (link-ok (t .sound) (t .link) p) w v (t .link .of-kind (λ e. omega arith))
+
+    pub branch-ordered : Ordered (what w ws txt x (tree v))
+    branch-ordered = ordered-at (link-ok (t .sound) (t .link) p) w v (t .link .of-kind (λ e. omega arith))
+
+    pub branch-reads : what w ws txt x (tree v) ≡ StrBranch (key-at ws txt x) (held w ws txt v x) (what w ws txt (word (record-at ws x) 3) (tree v)) (what w ws txt (word (record-at ws x) 4) (tree v))
+    unfolding key-at held
+    branch-reads = link-what (t .sound) w (tree v) (t .link) p
+
+    pub left-tree : TreeAt ws txt w v (word (record-at ws x) 3)
+    left-tree = tree-of (omega arith) (branch-right .left)
+
+    pub right-tree : TreeAt ws txt w v (word (record-at ws x) 4)
+    right-tree = tree-of (omega arith) (branch-right .right)
+
+module _ {ws txt : List ℕ} {x : ℕ} (a : AnyTree ws txt x) where
+  pub tree-fits : x * 12 ≤ length ws
+  tree-fits = link-fits (a .tree .sound) (a .tree .link)
+
+  module _ (p : 0 < x) where
+    pub key-inside : word (record-at ws x) 1 + word (record-at ws x) 2 ≤ length txt
+    key-inside = omega (arith, branch-right (a .tree) p .key .inside, a .tree .sound .text-fits)
+
+    pub sides-earlier : (word (record-at ws x) 3 < x) × (word (record-at ws x) 4 < x)
+    sides-earlier = links-earlier (link-ok (a .tree .sound) (a .tree .link) p)
+
+    pub any-left : AnyTree ws txt (word (record-at ws x) 3)
+    any-left = any-tree (left-tree (a .tree) p)
+
+    pub any-right : AnyTree ws txt (word (record-at ws x) 4)
+    any-right = any-tree (right-tree (a .tree) p)
+
+-- What `&text[s..s + n]` holds, and of a branch its key.
+pub part-span : (txt : List ℕ) (s n : ℕ) → take (s + n - s) (drop s txt) ≡ span txt s n
+unfolding span
+part-span txt s n = part-is txt s n
+
+pub key-part : (ws txt : List ℕ) (x : ℕ) {s n : ℕ} → s ≡ word (record-at ws x) 1 → n ≡ word (record-at ws x) 2 → take (s + n - s) (drop s txt) ≡ key-at ws txt x
+unfolding key-at
+key-part ws txt x {s} {n} p q = part-span txt s n ∙ rw (p, q)

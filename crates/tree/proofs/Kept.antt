@@ -1,0 +1,63 @@
+-- The elements of a list that a test keeps.
+use Prim.Native.Nat.{ℕ}
+use mathlib.Core.Path.{_≡_, refl, ap}
+use mathlib.Core.Bool.{Bool, true, false, _&&_, and-true, and-false}
+use mathlib.Core.List.{List, [], _∷_, _++_, map}
+use Rattle.source.specs.Text.{Str}
+use Rattle.source.specs.Rules.{_<ˢ_}
+use Rattle.source.proofs.Lookup.{Allˡ, Allˡ-map, Increasing}
+use Rattle.tree.specs.Links.{keep}
+
+-- By cases on a test's answer.
+pub by-test : {G : Type 0} (z : Bool) → (z ≡ true → G) → (z ≡ false → G) → G
+by-test true f g = f refl
+by-test false f g = g refl
+
+pub all-append : {A : Type 0} (P : A → Type 0) (l m : List A) → Allˡ P l → Allˡ P m → Allˡ P (l ++ m)
+all-append P [] m a b = b
+all-append P (x ∷ l) m a b = (a .0, all-append P l m (a .1) b)
+
+pub map-append : {A B : Type 0} (f : A → B) (l m : List A) → map f (l ++ m) ≡ map f l ++ map f m
+map-append f [] m = refl
+map-append f (x ∷ l) m = ap (_∷_ (f x)) (map-append f l m)
+
+module _ (key : ℕ → Str) where
+  pub keep-append : (b : Str → Bool) (l m : List ℕ) → keep key b (l ++ m) ≡ keep key b l ++ keep key b m
+  unfolding keep
+  keep-append b [] m = refl
+  keep-append b (x ∷ l) m = by-test (b (key x)) (λ e. rw (e, keep-append b l m)) (λ e. rw (e, keep-append b l m))
+
+  pub keep-none : (b : Str → Bool) (l : List ℕ) → Allˡ (λ y. b (key y) ≡ false) l → keep key b l ≡ []
+  unfolding keep
+  keep-none b [] a = refl
+  keep-none b (x ∷ l) a = rw (a .0) (keep-none b l (a .1))
+
+  pub keep-all : (b : Str → Bool) (l : List ℕ) → Allˡ (λ y. b (key y) ≡ true) l → keep key b l ≡ l
+  unfolding keep
+  keep-all b [] a = refl
+  keep-all b (x ∷ l) a = rw (a .0, keep-all b l (a .1))
+
+  pub keep-ext : (b c : Str → Bool) → ((k : Str) → b k ≡ c k) → (l : List ℕ) → keep key b l ≡ keep key c l
+  unfolding keep
+  keep-ext b c e [] = refl
+  keep-ext b c e (x ∷ l) = rw (e (key x), keep-ext b c e l)
+
+  pub keep-keep : (b c : Str → Bool) (l : List ℕ) → keep key b (keep key c l) ≡ keep key (λ k. b k && c k) l
+  unfolding keep
+  keep-keep b c [] = refl
+  keep-keep b c (x ∷ l) =
+      by-test (c (key x)) (λ e. rw (e, and-true (b (key x)), keep-keep b c l)) (λ e. rw (e, and-false (b (key x))) (keep-keep b c l))
+
+  -- What holds of the elements that pass the test holds of those that are kept.
+  pub all-keep : (P : ℕ → Type 0) (b : Str → Bool) (l : List ℕ) → Allˡ (λ y. b (key y) ≡ true → P y) l → Allˡ P (keep key b l)
+  unfolding keep
+  all-keep P b [] a = tt
+  all-keep P b (x ∷ l) a = by-test (b (key x)) (λ e. rw e (a .0 e, all-keep P b l (a .1))) (λ e. rw e (all-keep P b l (a .1)))
+
+  pub keep-increasing : (b : Str → Bool) (l : List ℕ) → Increasing key l → Increasing key (keep key b l)
+  unfolding keep
+  keep-increasing b [] i = tt
+  keep-increasing b (x ∷ l) i =
+      by-test (b (key x))
+      (λ e. rw e (all-keep (λ y. key x <ˢ key y) b l (Allˡ-map l (λ y h _. h) (i .0)), keep-increasing b l (i .1)))
+      (λ e. rw e (keep-increasing b l (i .1)))

@@ -1,0 +1,10 @@
+pub mod Branches
+pub mod Searches
+pub mod Kept
+pub mod Links
+pub mod Seeking
+pub mod Matches
+pub mod Changes
+pub mod Marking
+pub mod Sided
+pub mod Rising

@@ -1,0 +1,108 @@
+-- The branches of a tree as links: each in its place, what holds of each, and the rows that they give.
+use Prim.Native.Nat.{ℕ, zero, suc, _+_, _≤_, _<_}
+use mathlib.Core.Path.{_≡_, refl, sym, _∙_, subst}
+use mathlib.Core.List.{List, [], _∷_, _++_, map, append-assoc, append-nil}
+use mathlib.Core.Logic.{⊎-elim}
+use mathlib.Core.Option.{Option}
+use native.Mathlib.Omega.{arith}
+use native.Mathlib.Nat.{eq-or-lt-of-le}
+use borrow.Author.Tests.{eq-eqb, ne-eqb}
+use Rattle.source.specs.Text.{Str}
+use Rattle.source.specs.Types.{Level, Value}
+use Rattle.source.specs.Trees.{PrefixMatch, btree-fold, btree-find-all}
+use Rattle.source.specs.Rules.{AllKeys, Ordered}
+use Rattle.source.proofs.Lookup.{Allˡ, Allˡ-map}
+use Rattle.memory.specs.Layout.{record-at, word, Which, Item, tree, kind, what, key-at}
+use Rattle.memory.specs.Sound.{LinkOk}
+use Rattle.memory.proofs.Readings.{what-none}
+use Rattle.memory.proofs.Records.{zero-some}
+use Rattle.memory.proofs.Seen.{link-later}
+use Rattle.tree.specs.Tree.{TreeAt}
+use Rattle.tree.specs.Links.{branches-among, branches, row-at}
+use Rattle.tree.proofs.Branches.{branch-right, branch-ordered, branch-reads, left-tree, right-tree}
+use Rattle.tree.proofs.Kept.{all-append, map-append}
+
+module _ (ws : List ℕ) where
+  branches-own : (n l : ℕ) → l ≤ n → branches-among ws n l ≡ branches ws l
+  unfolding branches branches-among
+  branches-own zero zero h = refl
+  branches-own zero (suc l) h = absurd (omega arith)
+  branches-own (suc n) l h = ⊎-elim (λ e. rw e) (λ k. rw (ne-eqb l (suc n) (λ e. omega arith)) (branches-own n l (omega arith))) (eq-or-lt-of-le h)
+
+  pub branches-none : branches ws 0 ≡ []
+  unfolding branches branches-among
+  branches-none = refl
+
+  branches-some : (l : ℕ) → 0 < l → word (record-at ws l) 3 < l → word (record-at ws l) 4 < l
+      → branches ws l ≡ branches ws (word (record-at ws l) 3) ++ (l ∷ branches ws (word (record-at ws l) 4))
+  unfolding branches branches-among
+  branches-some zero p a b = absurd (omega arith)
+  branches-some (suc n) p a b =
+      rw (eq-eqb (suc n) (suc n) refl, branches-own n (word (record-at ws (suc n)) 3) (omega arith), branches-own n (word (record-at ws (suc n)) 4) (omega arith))
+
+-- A branch of the tree of link root.
+pub record BranchOf (ws : List ℕ) (w : Which) (v : Level) (root x : ℕ) : Type 0 where
+  pub some : 0 < x
+  pub link : LinkOk ws (root + 1) x (kind w (tree v))
+
+branch-later : {ws : List ℕ} {w : Which} {v : Level} {l root x : ℕ} → l < root → BranchOf ws w v l x → BranchOf ws w v root x
+branch-later h o = record { some = o .some; link = link-later (omega arith) (o .link) }
+
+module _ {ws txt : List ℕ} {w : Which} {v : Level} where
+  pub branches-at : {x : ℕ} → TreeAt ws txt w v x → 0 < x → branches ws x ≡ branches ws (word (record-at ws x) 3) ++ (x ∷ branches ws (word (record-at ws x) 4))
+  branches-at {x} t p = branches-some ws x p (branch-right t p .left .earlier) (branch-right t p .right .earlier)
+
+  pub tree-ordered : {x : ℕ} → TreeAt ws txt w v x → Ordered (what w ws txt x (tree v))
+  tree-ordered {x} t = zero-some x (λ z. rw (z, what-none w ws txt) tt) (branch-ordered t)
+
+  -- What holds of none, and of a branch where it holds of its two sides, holds of every tree.
+  module _ (P : ℕ → Type 0) (none : P 0)
+      (step : (x : ℕ) → TreeAt ws txt w v x → 0 < x → P (word (record-at ws x) 3) → P (word (record-at ws x) 4) → P x) where
+    upto : (m x : ℕ) → x ≤ m → TreeAt ws txt w v x → P x
+    upto zero x h t = subst P (let z : 0 ≡ x = omega arith in z) none
+    upto (suc m) x h t =
+        zero-some x
+        (λ z. subst P (sym z) none)
+        (λ p.
+        step x t p
+        (upto m (word (record-at ws x) 3) (omega (arith, branch-right t p .left .earlier)) (left-tree t p))
+        (upto m (word (record-at ws x) 4) (omega (arith, branch-right t p .right .earlier)) (right-tree t p)))
+
+    pub by-sides : (x : ℕ) → TreeAt ws txt w v x → P x
+    by-sides x = upto x x (omega arith)
+
+  pub branches-keys : (P : Str → Type 0) (x : ℕ) → TreeAt ws txt w v x → AllKeys P (what w ws txt x (tree v)) → Allˡ (λ y. P (key-at ws txt y)) (branches ws x)
+  branches-keys P =
+      by-sides (λ x. AllKeys P (what w ws txt x (tree v)) → Allˡ (λ y. P (key-at ws txt y)) (branches ws x))
+      (λ a. rw (branches-none ws) tt)
+      (λ x t p f g a. let b = rw (branch-reads t p) at a in rw (branches-at t p) (all-append (λ y. P (key-at ws txt y)) (branches ws (word (record-at ws x) 3)) (x ∷ branches ws (word (record-at ws x) 4)) (f (b .1)) (b .0, g (b .2))))
+
+  pub branches-of : (x : ℕ) → TreeAt ws txt w v x → Allˡ (BranchOf ws w v x) (branches ws x)
+  branches-of =
+      by-sides (λ x. Allˡ (BranchOf ws w v x) (branches ws x))
+      (rw (branches-none ws) tt)
+      (λ x t p f g.
+      let left = word (record-at ws x) 3 in
+      let right = word (record-at ws x) 4 in
+      rw (branches-at t p)
+      (all-append (BranchOf ws w v x) (branches ws left) (x ∷ branches ws right)
+      (Allˡ-map {P = BranchOf ws w v left} {Q = BranchOf ws w v x} (branches ws left) (λ y. branch-later (branch-right t p .left .earlier)) f) (
+        record { some = p; link = record { earlier = omega arith; of-kind = t .link .of-kind } },
+        Allˡ-map {P = BranchOf ws w v right} {Q = BranchOf ws w v x} (branches ws right) (λ y. branch-later (branch-right t p .right .earlier)) g,
+      )))
+
+  -- The rows of all branches.
+  module _ (q : Option Str) where
+    rows-onto : (x : ℕ) → TreeAt ws txt w v x → (acc : List (PrefixMatch × Value (Item w) v))
+        → map (row-at w ws txt v q) (branches ws x) ++ acc ≡ btree-fold (what w ws txt x (tree v)) (λ k y acc. (record { prefix = q; completion = k }, y) ∷ acc) acc
+    unfolding btree-fold row-at
+    rows-onto =
+        by-sides
+        (λ x. (acc : List (PrefixMatch × Value (Item w) v))
+        → map (row-at w ws txt v q) (branches ws x) ++ acc ≡ btree-fold (what w ws txt x (tree v)) (λ k y acc. (record { prefix = q; completion = k }, y) ∷ acc) acc)
+        (λ acc. rw (branches-none ws, what-none w ws txt))
+        (λ x t p f g acc. rw (branches-at t p, branch-reads t p, map-append, append-assoc, g acc) (f _))
+
+    pub branches-rows : (x : ℕ) → TreeAt ws txt w v x → map (row-at w ws txt v q) (branches ws x) ≡ btree-find-all q (what w ws txt x (tree v))
+    unfolding btree-find-all
+    branches-rows x t = sym (append-nil _) ∙ rows-onto x t []

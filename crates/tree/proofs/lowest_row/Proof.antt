@@ -1,0 +1,24 @@
+-- lowest_row meets its contract.
+use mathlib.Core.Path.{_∙_}
+use Rattle.tree.specs.Insert.{lowest-row}
+use borrow.Author.Needs.{needs}
+use Rattle.tree.proofs.lowest_row.Statement.{statement}
+use Rattle.tree.proofs.lowest_row.Tie as tie
+
+pub lowest-row-spec : {M : Type 1} → statement M
+unfolding lowest-row
+lowest-row-spec =
+    tie.close
+    (tie.spec
+    {- add-word-of -}
+    (λ c. search needs)
+    {- word-of-requires -}
+    (λ c κs. search needs)
+    {- stored-requires -}
+    (λ c κs. search needs)
+    {- stored-requires-2 -}
+    (λ c κs. search needs)
+    {- with-sides-requires -}
+    (λ c κs. rw (c .before .stored .ensures, c .stored2 .ensures, c .before .before .word-of .ensures) (c .before .before .before .before .pre .sides))
+    {- returns -}
+    (λ c. c .with-sides .ensures ∙ rw (c .before .before .stored .ensures, c .before .stored2 .ensures, c .before .before .before .word-of .ensures)))

@@ -1,0 +1,35 @@
+-- tree_above meets its contract: what is left to search, and what is found, say the whole.
+use mathlib.Core.Path.{sym, _∙_}
+use mathlib.Core.Logic.{⊎-elim}
+use Rattle.tree.proofs.Branches.{tree-fits, sides-earlier}
+use Rattle.tree.proofs.Seeking.{Seeking, seek-all, take-left, skip-left, go-right, seek-end}
+use native.Mathlib.Omega.{arith}
+use Rattle.tree.proofs.tree_above.Statement.{statement}
+use Rattle.tree.proofs.tree_above.Tie as tie
+
+pub tree-above-spec : {M : Type 1} → statement M
+tree-above-spec =
+    tie.close
+    (tie.spec
+    (λ words text root prefix low strict at₀ found₀ at found. Seeking words text strict low prefix root at found)
+    (λ words text root prefix low strict at₀ found₀ at found. at)
+    {- loop-holds -}
+    (λ c. seek-all (c .before .before .before .before .args .strict) (c .before .before .before .before .args .low .now) (c .before .before .before .before .args .prefix .now) (c .before .before .before .before .pre .1) (c .before .before .before .before .pre .0))
+    {- key-past-requires -}
+    (λ c κs. (c .loop-test .taken, c .before .loop .inv .any))
+    {- key-begins-requires -}
+    (λ c κs. (c .before .before .loop-test .taken, c .before .before .before .loop .inv .any))
+    {- word-of-requires -}
+    (λ c κs. omega (arith, tree-fits (c .before .before .before .before .before .loop .inv .any), c .before .before .before .before .loop-test .taken))
+    {- loop-less -}
+    (λ c. omega (arith, c .word-of .ensures, sides-earlier (c .before .before .before .before .before .before .loop .inv .any) (c .before .before .before .before .before .loop-test .taken)))
+    {- loop-again -}
+    (λ c. ⊎-elim (λ w. rw (w .1) (take-left (c .before .before .before .before .before .before .loop .inv) (c .before .before .before .before .before .loop-test .taken) (sym (c .before .before .before .before .key-past .ensures) ∙ c .before .before .before .if1 .taken) (sym (c .before .before .key-begins .ensures) ∙ w .0 .taken) (c .word-of .ensures))) (λ w. rw (w .1) (skip-left (c .before .before .before .before .before .before .loop .inv) (c .before .before .before .before .before .loop-test .taken) (sym (c .before .before .before .before .key-past .ensures) ∙ c .before .before .before .if1 .taken) (sym (c .before .before .key-begins .ensures) ∙ w .0 .left) (c .word-of .ensures))) (c .before .if2 .came))
+    {- word-of-requires-2 -}
+    (λ c κs. omega (arith, tree-fits (c .before .before .before .loop .inv .any), c .before .before .loop-test .taken))
+    {- loop-less-2 -}
+    (λ c. omega (arith, c .word-of2 .ensures, sides-earlier (c .before .before .before .before .loop .inv .any) (c .before .before .before .loop-test .taken)))
+    {- loop-again-2 -}
+    (λ c. go-right (c .before .before .before .before .loop .inv) (c .before .before .before .loop-test .taken) (sym (c .before .before .key-past .ensures) ∙ c .before .if1 .left) (c .word-of2 .ensures))
+    {- returns -}
+    (λ c. seek-end (c .before .loop .inv) (c .loop-test .left)))

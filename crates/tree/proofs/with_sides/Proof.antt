@@ -1,0 +1,25 @@
+-- with_sides meets its contract.
+use Rattle.tree.specs.Insert.{with-sides}
+use borrow.Author.Needs.{needs}
+use Rattle.tree.proofs.with_sides.Statement.{statement}
+use Rattle.tree.proofs.with_sides.Tie as tie
+
+pub with-sides-spec : {M : Type 1} → statement M
+unfolding with-sides
+with-sides-spec =
+    tie.close
+    (tie.spec
+    {- array-read-branch-depth -}
+    (λ c. search needs)
+    {- array-read-branch-depth-2 -}
+    (λ c. search needs)
+    {- branch-depth-requires -}
+    (λ c κs. search needs)
+    {- array-write-new -}
+    (λ c. search needs)
+    {- array-write-new-2 -}
+    (λ c. search needs)
+    {- array-write-new-3 -}
+    (λ c. search needs)
+    {- returns -}
+    (λ c. rw (c .branch-depth .ensures)))

@@ -1,0 +1,145 @@
+-- Insertion into a tree: what it asks, the notes of the way down, the new branches, and what it leaves.
+use Prim.Native.Nat.{ℕ, zero, suc, _+_, _-_, _*_, _≤_, _<_, max, Ordering·lt, Ordering·eq, Ordering·gt}
+use mathlib.Core.Path.{_≡_}
+use mathlib.Core.Bool.{Bool, true, cond, _||_}
+use mathlib.Core.List.{List}
+use lib.Dec.{eqb}
+use lib.ListN.{length, set, drop}
+use Rattle.source.specs.Text.{Str, string-compare}
+use Rattle.source.specs.Types.{Level, bind, ns}
+use Rattle.source.specs.Trees.{btree-insert-replace}
+use Rattle.source.specs.Rules.{IsKey}
+use Rattle.memory.specs.Layout.{record-at, word, span, Which, tree, trieˢ, kind, value, what, key-at}
+use Rattle.memory.specs.Stored.{stored}
+use Rattle.memory.specs.Sound.{LinkOk, TextOk, ItemOk, Sound}
+use Rattle.memory.specs.Grown.{Stays}
+use Rattle.tree.specs.Tree.{Builds}
+
+-- ---- What an insertion asks
+
+-- The value of a branch r of link l.
+abbrev pub HeldOk : (ws txt : List ℕ) (used l : ℕ) (w : Which) (r : List ℕ) (v : Level) → Type 0
+HeldOk ws txt used l w r bind = ItemOk txt used w r
+HeldOk ws txt used l w r ns = LinkOk ws l (word r 5) (kind w trieˢ)
+
+-- The words r of a new branch of link l: its sides and its depth are left to the insertion.
+pub record NewBranch (ws txt : List ℕ) (used l : ℕ) (w : Which) (r : List ℕ) (v : Level) : Type 0 where
+  pub known : word r 0 ≡ kind w (tree v)
+  pub key : TextOk IsKey txt used (word r 1) (word r 2)
+  pub holds : HeldOk ws txt used l w r v
+
+-- The new branch r goes into the tree of root, which takes count of the records after the used ones.
+pub record Insertion (ws txt : List ℕ) (w : Which) (v : Level) (records used root count : ℕ) (r : List ℕ) : Type 0 where
+  pub sound : Sound ws txt 0 0 records used
+  pub link : LinkOk ws (records + 1) root (kind w (tree v))
+  pub new : NewBranch ws txt used (records + 1) w r v
+  pub counted : Builds ws txt root (span txt (word r 1) (word r 2)) count
+  pub room : (records + count) * 12 ≤ length ws
+  pub few : records + count ≤ 65536
+
+-- The same, of some table and level and some text used.
+pub record AnyInsertion (ws txt : List ℕ) (records root count : ℕ) (r : List ℕ) : Type 0 where
+  pub which : Which
+  pub level : Level
+  pub used : ℕ
+  pub insertion : Insertion ws txt which level records used root count r
+
+-- ---- The way down
+
+-- Word k of record number n.
+abbrev pub note : List ℕ → ℕ → ℕ → ℕ
+note ws n k = word (record-at ws (n + 1)) k
+
+-- The branch l leads to link on the side that the key takes: left where side is 0.
+pub record Turn (ws txt : List ℕ) (key : Str) (root l side link : ℕ) : Type 0 where
+  pub some : 0 < l
+  pub within : l ≤ root
+  pub left : side ≡ 0 → (Ordering·lt ≡ string-compare key (key-at ws txt l)) × (link ≡ word (record-at ws l) 3)
+  pub right : (side ≡ 0 → ⊥) → (Ordering·gt ≡ string-compare key (key-at ws txt l)) × (link ≡ word (record-at ws l) 4)
+
+-- The records from number n on note the d branches on the way from link up to root, each with its side.
+pub data Trail (ws txt : List ℕ) (key : Str) (root : ℕ) : (d n link : ℕ) → Type 0 where
+  top : {n : ℕ} → Trail ws txt key root zero n root
+  turn : {d n link : ℕ} → Turn ws txt key root (note ws n 0) (note ws n 1) link → Trail ws txt key root d (n + 1) (note ws n 0) → Trail ws txt key root (suc d) n link
+
+-- Only record number n changes.
+pub record Changed (ws ws′ : List ℕ) (n : ℕ) : Type 0 where
+  pub stays : Stays n ws ws′
+  pub rest : drop (n * 12 + 12) ws′ ≡ drop (n * 12 + 12) ws
+
+-- Record number n becomes a note.
+pub record Noted (ws ws′ : List ℕ) (n link side : ℕ) : Type 0 where
+  pub changed : Changed ws ws′ n
+  pub of-link : note ws′ n 0 ≡ link
+  pub of-side : note ws′ n 1 ≡ side
+
+-- The way down to the key's branch, or to where it is missing, is noted in the count records after the used ones.
+pub record Marked (ws ws′ txt : List ℕ) (key : Str) (records root count : ℕ) : Type 0 where
+  pub stays : Stays records ws ws′
+  pub rest : drop ((records + count) * 12) ws′ ≡ drop ((records + count) * 12) ws
+  pub some : 0 < count
+  pub trail : Trail ws′ txt key root (count - 1) (records + 1) (note ws′ records 0)
+  pub here : 0 < note ws′ records 0 → Ordering·eq ≡ string-compare key (key-at ws′ txt (note ws′ records 0))
+
+-- ---- The new branches
+
+-- Whether a kind is that of branches of namespaces.
+abbrev pub of-namespaces : ℕ → Bool
+of-namespaces k = eqb k 2 || eqb k 7
+
+-- The depth of a branch of namespaces by what its links store; 0 of a branch of bindings.
+unfoldable pub branch-depth : List ℕ → (kind held left right : ℕ) → ℕ
+branch-depth ws k x a b = cond (of-namespaces k) (max (suc (stored ws x 11)) (max (stored ws a 11) (stored ws b 11))) 0
+
+-- These links can be read, and what a branch of namespaces holds is not too deep.
+pub record DepthOk (ws : List ℕ) (kind held left right : ℕ) : Type 0 where
+  pub left-fits : left * 12 ≤ length ws
+  pub right-fits : right * 12 ≤ length ws
+  pub held-fits : of-namespaces kind ≡ true → held * 12 ≤ length ws
+  pub shallow : of-namespaces kind ≡ true → stored ws held 11 ≤ 16
+
+-- The words of a branch with the sides a and b.
+unfoldable pub with-sides : List ℕ → List ℕ → (left right : ℕ) → List ℕ
+with-sides ws r a b = set (set (set r 3 a) 4 b) 11 (branch-depth ws (word r 0) (word r 5) a b)
+
+-- The copy of the branch that record number n notes: on the side taken it has the link n.
+unfoldable pub raised-row : List ℕ → ℕ → List ℕ
+raised-row ws n =
+    let r = record-at ws (note ws n 0) in
+    cond (eqb (note ws n 1) 0) (with-sides ws r n (word r 4)) (with-sides ws r (word r 3) n)
+
+-- What that copy asks.
+pub record RaiseOk (ws : List ℕ) (n : ℕ) : Type 0 where
+  pub few : n < 65536
+  pub room : n * 12 + 12 ≤ length ws
+  pub some : 0 < note ws n 0
+  pub fits : note ws n 0 * 12 ≤ length ws
+  pub left : DepthOk ws (word (record-at ws (note ws n 0)) 0) (word (record-at ws (note ws n 0)) 5) n (word (record-at ws (note ws n 0)) 4)
+  pub right : DepthOk ws (word (record-at ws (note ws n 0)) 0) (word (record-at ws (note ws n 0)) 5) (word (record-at ws (note ws n 0)) 3) n
+
+-- The new branch r with the sides of the branch that record number n notes.
+unfoldable pub lowest-row : List ℕ → ℕ → List ℕ → List ℕ
+lowest-row ws n r = with-sides ws r (stored ws (note ws n 0) 3) (stored ws (note ws n 0) 4)
+
+-- What it asks.
+pub record LowestOk (ws : List ℕ) (n : ℕ) (r : List ℕ) : Type 0 where
+  pub few : n < 65536
+  pub room : n * 12 + 12 ≤ length ws
+  pub fits : note ws n 0 * 12 ≤ length ws
+  pub sides : DepthOk ws (word r 0) (word r 5) (stored ws (note ws n 0) 3) (stored ws (note ws n 0) 4)
+
+-- ---- What an insertion leaves
+
+-- The link root′ of the last new record names the tree with the new branch r; the used records and those after the new ones stay.
+pub record Inserted (ws ws′ txt : List ℕ) (w : Which) (v : Level) (records used root count : ℕ) (r : List ℕ) (root′ : ℕ) : Type 0 where
+  pub last : root′ ≡ records + count
+  pub sound : Sound ws′ txt 0 0 (records + count) used
+  pub stays : Stays records ws ws′
+  pub rest : drop ((records + count) * 12) ws′ ≡ drop ((records + count) * 12) ws
+  pub link : LinkOk ws′ (records + count + 1) root′ (kind w (tree v))
+  pub reads : what w ws′ txt root′ (tree v) ≡ btree-insert-replace (what w ws txt root (tree v)) (span txt (word r 1) (word r 2)) (value w txt r (what w ws txt) v)
+
+-- The same, for any table, level and text used that the insertion is of.
+abbrev pub Inserts : (ws ws′ txt : List ℕ) (records root count : ℕ) (r : List ℕ) (root′ : ℕ) → Type 0
+Inserts ws ws′ txt records root count r root′ =
+    (w : Which) (v : Level) (used : ℕ) → Insertion ws txt w v records used root count r → Inserted ws ws′ txt w v records used root count r root′

@@ -1,0 +1,289 @@
+// Trees of the record memory: find, insertion, and the branches that begin with a prefix one after another.
+// A tree is the link of its root; the same functions serve both tables and both levels.
+use text::Order;
+ghost use mathlib.Core.Path.{_≡_};
+ghost use mathlib.Core.Bool.{true};
+ghost use Prim.Native.Nat.{_+_, _*_, _≤_, _<_, max};
+ghost use lib.ListN.{length};
+ghost use Rattle.source.specs.Text.{string-compare, starts-with};
+ghost use Rattle.memory.specs.Layout.{word, key-at};
+ghost use Rattle.text.specs.Text.{ordering};
+ghost use Rattle.tree.specs.Tree.{AnyTree, Found, Builds, Placed};
+ghost use Rattle.tree.specs.Insert.{of-namespaces, branch-depth, DepthOk, with-sides, raised-row, RaiseOk, lowest-row, LowestOk, Noted, Marked, AnyInsertion, Inserts};
+ghost use Rattle.tree.specs.Links.{branches, keep, matches, past, after, head0, wanted};
+
+// How `key` compares with the key of a branch.
+pub fn key_order(words: &[u32], text: &[u8], link: u32, key: &[u8]) -> Order
+    requires { ⌜ (0 < link) × AnyTree (now words) (now text) link ⌝ }
+    ensures { λ r. ⌜ ordering r ≡ string-compare (now (key .entry)) (key-at (now (words .entry)) (now (text .entry)) link) ⌝ }
+{
+    let start = memory::word_of(words, link, 1) as usize;
+    let len = memory::word_of(words, link, 2) as usize;
+    text::string_compare(key, &text[start..start + len])
+}
+
+// Whether the key of a branch begins with `prefix`.
+pub fn key_begins(words: &[u32], text: &[u8], link: u32, prefix: &[u8]) -> bool
+    requires { ⌜ (0 < link) × AnyTree (now words) (now text) link ⌝ }
+    ensures { λ r. ⌜ r ≡ starts-with (key-at (now (words .entry)) (now (text .entry)) link) (now (prefix .entry)) ⌝ }
+{
+    let start = memory::word_of(words, link, 1) as usize;
+    let len = memory::word_of(words, link, 2) as usize;
+    text::starts_with(&text[start..start + len], prefix)
+}
+
+// Where a key stands in a tree: its branch, 0 for none, and how many branches an insertion builds.
+pub struct Place {
+    pub link: u32,
+    pub count: u32,
+}
+
+// The place of a key.
+pub fn place_of(words: &[u32], text: &[u8], root: u32, key: &[u8]) -> Place
+    requires { ⌜ AnyTree (now words) (now text) root ⌝ }
+    ensures { λ r. ⌜ Placed (now (words .entry)) (now (text .entry)) root (now (key .entry)) (r .link) (r .count) ⌝ }
+{
+    let mut link = root;
+    let mut count = 1;
+    while 0 < link {
+        match key_order(words, text, link, key) {
+            Order::Less => {
+                link = memory::word_of(words, link, 3);
+                count += 1;
+            }
+            Order::Same => {
+                return Place {
+                    link: link,
+                    count: count,
+                };
+            }
+            Order::More => {
+                link = memory::word_of(words, link, 4);
+                count += 1;
+            }
+        }
+    }
+    Place {
+        link: 0,
+        count: count,
+    }
+}
+
+// The branch that has the key, 0 for none.
+pub fn btree_find_exact(words: &[u32], text: &[u8], root: u32, key: &[u8]) -> u32
+    requires { ⌜ AnyTree (now words) (now text) root ⌝ }
+    ensures { λ r. ⌜ Found (now (words .entry)) (now (text .entry)) root (now (key .entry)) r ⌝ }
+{
+    place_of(words, text, root, key).link
+}
+
+// How many branches an insertion of the key builds.
+pub fn insert_count(words: &[u32], text: &[u8], root: u32, key: &[u8]) -> u32
+    requires { ⌜ AnyTree (now words) (now text) root ⌝ }
+    ensures { λ r. ⌜ Builds (now (words .entry)) (now (text .entry)) root (now (key .entry)) r ⌝ }
+{
+    place_of(words, text, root, key).count
+}
+
+// Whether the key of a branch is after `low`, or at least as great where `strict` is false.
+pub fn key_past(words: &[u32], text: &[u8], link: u32, low: &[u8], strict: bool) -> bool
+    requires { ⌜ (0 < link) × AnyTree (now words) (now text) link ⌝ }
+    ensures { λ r. ⌜ r ≡ past strict (now (low .entry)) (key-at (now (words .entry)) (now (text .entry)) link) ⌝ }
+{
+    match key_order(words, text, link, low) {
+        Order::Less => true,
+        Order::Same => !strict,
+        Order::More => false,
+    }
+}
+
+// The branch with the least key past `low` that begins with `prefix`, 0 for none.
+pub fn tree_above(
+    words: &[u32],
+    text: &[u8],
+    root: u32,
+    prefix: &[u8],
+    low: &[u8],
+    strict: bool,
+) -> u32
+    requires { ⌜ AnyTree (now words) (now text) root ⌝ }
+    requires { ⌜ starts-with (now low) (now prefix) ≡ true ⌝ }
+    ensures { λ r. ⌜ r ≡ head0 (keep (key-at (now (words .entry)) (now (text .entry))) (wanted strict (now (low .entry)) (now (prefix .entry))) (branches (now (words .entry)) root)) ⌝ }
+{
+    let mut at = root;
+    let mut found = 0;
+    while 0 < at {
+        if key_past(words, text, at, low, strict) {
+            if key_begins(words, text, at, prefix) {
+                found = at;
+            }
+            at = memory::word_of(words, at, 3);
+        } else {
+            at = memory::word_of(words, at, 4);
+        }
+    }
+    found
+}
+
+// The first branch whose key begins with `prefix`, 0 for none.
+pub fn tree_first(words: &[u32], text: &[u8], root: u32, prefix: &[u8]) -> u32
+    requires { ⌜ AnyTree (now words) (now text) root ⌝ }
+    ensures { λ r. ⌜ r ≡ head0 (matches (now (words .entry)) (now (text .entry)) root (now (prefix .entry))) ⌝ }
+{
+    tree_above(words, text, root, prefix, prefix, false)
+}
+
+// The next one after the branch `at`, 0 for none.
+pub fn tree_next(words: &[u32], text: &[u8], root: u32, prefix: &[u8], at: u32) -> u32
+    requires { ⌜ AnyTree (now words) (now text) root ⌝ }
+    requires { ⌜ (0 < at) × AnyTree (now words) (now text) at ⌝ }
+    requires { ⌜ starts-with (key-at (now words) (now text) at) (now prefix) ≡ true ⌝ }
+    ensures { λ r. ⌜ r ≡ head0 (after (key-at (now (words .entry)) (now (text .entry))) (key-at (now (words .entry)) (now (text .entry)) at) (matches (now (words .entry)) (now (text .entry)) root (now (prefix .entry)))) ⌝ }
+{
+    let start = memory::word_of(words, at, 1) as usize;
+    let len = memory::word_of(words, at, 2) as usize;
+    tree_above(words, text, root, prefix, &text[start..start + len], true)
+}
+
+// ---- Insertion
+
+// The larger of two numbers.
+fn larger(a: u32, b: u32) -> u32
+    ensures { λ r. ⌜ r ≡ max a b ⌝ }
+{
+    if a < b {
+        return b;
+    }
+    a
+}
+
+// Whether a kind is that of branches of namespaces.
+fn of_namespaces(kind: u32) -> bool
+    ensures { λ r. ⌜ r ≡ of-namespaces kind ⌝ }
+{
+    (kind == 2) | (kind == 7)
+}
+
+// The depth that a branch stores, by what its links store.
+fn branch_depth(words: &[u32], kind: u32, held: u32, left: u32, right: u32) -> u32
+    requires { ⌜ DepthOk (now words) kind held left right ⌝ }
+    ensures { λ r. ⌜ r ≡ branch-depth (now (words .entry)) kind held left right ⌝ }
+{
+    if of_namespaces(kind) {
+        let sides = larger(
+            memory::stored(words, left, 11),
+            memory::stored(words, right, 11),
+        );
+        return larger(memory::stored(words, held, 11) + 1, sides);
+    }
+    0
+}
+
+// The words of a branch with other sides.
+fn with_sides(words: &[u32], row: [u32; 12], left: u32, right: u32) -> [u32; 12]
+    requires { ⌜ DepthOk (now words) (word row 0) (word row 5) left right ⌝ }
+    ensures { λ r. ⌜ r ≡ with-sides (now (words .entry)) row left right ⌝ }
+{
+    let depth = branch_depth(words, row[0], row[5], left, right);
+    let mut new = row;
+    new[3] = left;
+    new[4] = right;
+    new[11] = depth;
+    new
+}
+
+// The copy of the branch that record number `at` notes, with the link `at` on the side taken.
+fn raised_row(words: &[u32], at: u32) -> [u32; 12]
+    requires { ⌜ RaiseOk (now words) at ⌝ }
+    ensures { λ r. ⌜ r ≡ raised-row (now (words .entry)) at ⌝ }
+{
+    let old = memory::row_of(words, memory::word_of(words, at + 1, 0));
+    if memory::word_of(words, at + 1, 1) == 0 {
+        return with_sides(words, old, at, old[4]);
+    }
+    with_sides(words, old, old[3], at)
+}
+
+// The new branch with the sides of the one that record number `at` notes.
+fn lowest_row(words: &[u32], at: u32, row: [u32; 12]) -> [u32; 12]
+    requires { ⌜ LowestOk (now words) at row ⌝ }
+    ensures { λ r. ⌜ r ≡ lowest-row (now (words .entry)) at row ⌝ }
+{
+    let link = memory::word_of(words, at + 1, 0);
+    with_sides(
+        words,
+        row,
+        memory::stored(words, link, 3),
+        memory::stored(words, link, 4),
+    )
+}
+
+// Notes a branch and a side in record number `at`.
+fn put_note(words: &mut [u32], at: u32, link: u32, side: u32)
+    requires { ⌜ at * 12 + 12 ≤ length (now words) ⌝ }
+    ensures { λ _. ⌜ Noted (now (words .entry)) (now (words .exit)) at link side ⌝ }
+{
+    let base = at as usize * 12;
+    words[base] = link;
+    words[base + 1] = side;
+}
+
+// Notes the way down to the key: the root in the last of the `count` records after the used ones, each branch before the one above it.
+fn note_path(words: &mut [u32], text: &[u8], records: u32, root: u32, count: u32, key: &[u8])
+    requires { ⌜ AnyTree (now words) (now text) root ⌝ }
+    requires { ⌜ Builds (now words) (now text) root (now key) count ⌝ }
+    requires { ⌜ (root ≤ records) × ((records + count) * 12 ≤ length (now words)) × (records + count ≤ 65536) ⌝ }
+    ensures { λ _. ⌜ Marked (now (words .entry)) (now (words .exit)) (now (text .entry)) (now (key .entry)) records root count ⌝ }
+{
+    let mut at = records + count - 1;
+    let mut link = root;
+    while 0 < link {
+        match key_order(words, text, link, key) {
+            Order::Less => {
+                let next = memory::word_of(words, link, 3);
+                put_note(words, at, link, 0);
+                link = next;
+                at -= 1;
+            }
+            Order::Same => {
+                put_note(words, at, link, 0);
+                return;
+            }
+            Order::More => {
+                let next = memory::word_of(words, link, 4);
+                put_note(words, at, link, 1);
+                link = next;
+                at -= 1;
+            }
+        }
+    }
+    put_note(words, at, 0, 0);
+}
+
+// Puts the new branch `row` into the tree of `root`, in place of a branch with its key: the branches on the way down are copied, as many as insert_count says.
+// The new branches are the `count` records after the `records` used ones; the new root is the last.
+pub fn btree_insert_replace(
+    words: &mut [u32],
+    text: &[u8],
+    records: u32,
+    root: u32,
+    count: u32,
+    row: [u32; 12],
+) -> u32
+    requires { ⌜ AnyInsertion (now words) (now text) records root count row ⌝ }
+    ensures { λ r. ⌜ Inserts (now (words .entry)) (now (words .exit)) (now (text .entry)) records root count row r ⌝ }
+{
+    let start = row[1] as usize;
+    let len = row[2] as usize;
+    note_path(words, text, records, root, count, &text[start..start + len]);
+    let low = lowest_row(words, records, row);
+    memory::put_row(words, records, &low);
+    let total = records + count;
+    let mut at = records + 1;
+    while at < total {
+        let next = raised_row(words, at);
+        memory::put_row(words, at, &next);
+        at += 1;
+    }
+    total
+}
