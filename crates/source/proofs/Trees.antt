@@ -93,7 +93,7 @@ module _ {A : Type 0} {l : Level} where
       go i j Ordering·gt w = j
 
   -- ---- the branches whose keys pass a test, onto acc
-  pub select : Option Str → (Str → Bool) → Tree A l → List (PrefixMatch × Value A l) → List (PrefixMatch × Value A l)
+  unfoldable pub select : Option Str → (Str → Bool) → Tree A l → List (PrefixMatch × Value A l) → List (PrefixMatch × Value A l)
   select p b StrEmpty acc = acc
   select p b (StrBranch k v lbt rbt) acc =
       select p b lbt (cond (b k) ((record { prefix = p; completion = k }, v) ∷ select p b rbt acc) (select p b rbt acc))

@@ -303,6 +303,7 @@ module _ {ws ws′ txt : List ℕ} {w : Which} {v : Level} {records used root co
 
 -- ---- The loop
 
+-- The same, of some table, level and insertion.
 pub record AnyRisen (ws txt : List ℕ) (records root total n : ℕ) : Type 0 where
   pub base : List ℕ
   pub which : Which
@@ -312,7 +313,7 @@ pub record AnyRisen (ws txt : List ℕ) (records root total n : ℕ) : Type 0 wh
   pub val : Value (Item which) level
   pub risen : Risen base ws txt which level used key val records root total n
 
--- From ws₀, where the lowest is put, the new branches have risen to n.
+-- From ws₀, where the lowest is put, to ws, where those before record number n are put.
 pub record Rising (ws₀ txt : List ℕ) (records root total : ℕ) (ws : List ℕ) (n : ℕ) : Type 0 where
   pub any : AnyRisen ws txt records root total n
   pub says : (base : List ℕ) (w : Which) (v : Level) (used : ℕ) (key : Str) (val : Value (Item w) v)

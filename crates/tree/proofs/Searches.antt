@@ -18,6 +18,7 @@ use Rattle.tree.proofs.Branches.{branch-reads, left-tree, right-tree, s
 pub same-key : (s t : Str) → Ordering·eq ≡ string-compare s t → s ≡ t
 same-key s t e = subst (View s t) (sym e) (compare-strings s t)
 
+-- The same search in the whole tree and in that of link, for one table and level.
 pub record SearchIn (ws txt : List ℕ) (w : Which) (v : Level) (root : ℕ) (key : Str) (link count : ℕ) : Type 0 where
   pub here : TreeAt ws txt w v link
   pub finds : btree-find-exact (what w ws txt root (tree v)) key ≡ btree-find-exact (what w ws txt link (tree v)) key

@@ -1,4 +1,4 @@
--- tree_above meets its contract: what is left to search, and what is found, say the whole.
+-- tree_above meets its contract: the tree at hand and what is found say what the whole tree says.
 use mathlib.Core.Path.{sym, _∙_}
 use mathlib.Core.Logic.{⊎-elim}
 use Rattle.tree.proofs.Branches.{tree-fits, sides-earlier}

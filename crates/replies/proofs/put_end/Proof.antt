@@ -1,0 +1,14 @@
+-- `put_end` writes its three parts.
+use Rattle.script.specs.Script.{bytes}
+use Rattle.replies.specs.Replies.{end-reply}
+use Rattle.replies.proofs.Writing.{laid-more}
+use borrow.Author.Needs.{needs}
+use Rattle.replies.proofs.put_end.Statement.{statement}
+use Rattle.replies.proofs.put_end.Tie as tie
+
+returns : tie.Need-returns
+unfolding bytes end-reply
+returns c = laid-more (c .before .before .before .before .before .before .before .before .before .before .before .put .ensures) (laid-more (c .before .before .before .before .before .before .before .put-number .ensures .0) (c .before .before .put-counted .ensures))
+
+pub put-end-spec : {M : Type 1} → statement M
+put-end-spec = tie.close (tie.spec (λ c. search needs) (λ c κs. search needs) (λ c κs. search needs) (λ c. search needs) (λ c κs. search needs) (λ c. search needs) returns)

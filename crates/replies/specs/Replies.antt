@@ -1,0 +1,81 @@
+-- The replies of the program `console`, and what it is to write one into a lent text.
+use mathlib.Core.Path.{_≡_}
+use mathlib.Core.Bool.{true, false}
+use mathlib.Core.List.{[], _∷_, _++_}
+use Prim.Native.Nat.{ℕ, zero, suc, _+_, _/_, _%_, _≤_}
+use lib.Dec.{ltb}
+use lib.IntN.{ℤ, pos, negsuc}
+use lib.ListN.{length, take, drop}
+use Rattle.replies.specs.declared.Item.{Item}
+use Rattle.replies.specs.declared.Item.the-variants.{Number, Module, Namespace}
+use Rattle.script.specs.Script.{Str, bytes, _·_}
+
+-- ---- Numbers
+
+-- The digits of a number below ten, or of its tenth and then its last digit; fuel of them at most.
+unfoldable pub digits : (fuel n : ℕ) → Str
+digits zero n = []
+digits (suc fuel) n = elim (ltb n 10) [ true ↦ (48 + n) ∷ [] | false ↦ digits fuel (n / 10) ++ ((48 + n % 10) ∷ []) ]
+
+-- A number in decimal, without leading zeros.
+unfoldable pub decimal : ℕ → Str
+decimal n = digits (suc n) n
+
+-- A match length: -1 and up.
+unfoldable pub signed : ℤ → Str
+signed (pos n) = decimal n
+signed (negsuc n) = bytes "-" · decimal (suc n)
+
+-- The length is -1 or more.
+abbrev pub Length : ℤ → Type 0
+Length (pos n) = Unit {0}
+Length (negsuc n) = n ≡ 0
+
+-- ---- Replies
+
+-- The item of a line: its number in `complete`, m or n in `modules`.
+unfoldable pub item-text : Item → Str
+item-text (Number n) = decimal n
+item-text Module = bytes "m"
+item-text Namespace = bytes "n"
+
+-- `[ok R]`, R all records used.
+unfoldable pub ok-reply : ℕ → Str
+ok-reply r = bytes "[ok " · decimal r · bytes "]\n"
+
+-- `[found N]`
+unfoldable pub found-reply : ℕ → Str
+found-reply n = bytes "[found " · decimal n · bytes "]\n"
+
+-- `[none]`
+unfoldable pub none-reply : Str
+none-reply = bytes "[none]\n"
+
+-- `[refused C]`
+unfoldable pub refused-reply : ℕ → Str
+refused-reply c = bytes "[refused " · decimal c · bytes "]\n"
+
+-- `[bad]`
+unfoldable pub bad-reply : Str
+bad-reply = bytes "[bad]\n"
+
+-- `[line L I [annotation] candidate]`
+unfoldable pub line-reply : ℤ → Item → Str → Str → Str
+line-reply l item annotation candidate =
+    bytes "[line " · signed l · bytes " " · item-text item · bytes " [" · annotation · bytes "] " · candidate · bytes "]\n"
+
+-- `[end lines entered]`
+unfoldable pub end-reply : ℕ → ℕ → Str
+end-reply lines entered = bytes "[end " · decimal lines · bytes " " · decimal entered · bytes "]\n"
+
+-- Room for any reply, the two texts of a line apart.
+abbrev pub reply-room : ℕ
+reply-room = 40
+
+-- ---- Writing
+
+-- From d came d′: s stands from at to r, and nothing else changed.
+pub record Laid (d d′ : Str) (at r : ℕ) (s : Str) : Type 0 where
+  pub end : r ≡ at + length s
+  pub fits : r ≤ length d
+  pub is : d′ ≡ take at d · s · drop r d

@@ -1,0 +1,169 @@
+// The replies of the program `console`. Each function writes one at `at` and returns where it ends; every other byte of `out` stays.
+// Nothing is assumed.
+ghost use Prim.Native.Nat.{_+_, _≤_};
+ghost use lib.ListN.{length};
+ghost use Rattle.script.specs.Script.{bytes, _·_};
+ghost use Rattle.replies.specs.Replies.{decimal, signed, Length, item-text, ok-reply, found-reply, none-reply, refused-reply, bad-reply, line-reply, end-reply, reply-room, Laid};
+
+// The item of a line: its number in `complete`, module or namespace in `modules`.
+pub enum Item {
+    Number(u32),
+    Module,
+    Namespace,
+}
+
+// Writes `text`.
+fn put(out: &mut [u8], at: usize, text: &[u8]) -> usize
+    requires { ⌜ at + length (now text) ≤ length (now out) ⌝ }
+    ensures { λ r. ⌜ Laid (now (out .entry)) (now (out .exit)) at r (now (text .entry)) ⌝ }
+{
+    let mut i = 0;
+    while i < text.len() {
+        out[at + i] = text[i];
+        i += 1;
+    }
+    at + i
+}
+
+// Writes the digits of `n`, the first one first.
+fn put_digits(out: &mut [u8], at: usize, n: u32) -> usize
+    requires { ⌜ at + length (decimal n) ≤ length (now out) ⌝ }
+    ensures { λ r. ⌜ Laid (now (out .entry)) (now (out .exit)) at r (decimal n) ⌝ }
+{
+    if n < 10 {
+        out[at] = 48 + n as u8;
+        return at + 1;
+    }
+    let e = put_digits(out, at, n / 10);
+    out[e] = 48 + (n % 10) as u8;
+    e + 1
+}
+
+// Writes `n` in decimal.
+fn put_number(out: &mut [u8], at: usize, n: u32) -> usize
+    requires { ⌜ at + 10 ≤ length (now out) ⌝ }
+    ensures { λ r. ⌜ Laid (now (out .entry)) (now (out .exit)) at r (decimal n) × (r ≤ at + 10) ⌝ }
+{
+    put_digits(out, at, n)
+}
+
+// Writes a word and a number, in brackets.
+fn put_counted(out: &mut [u8], at: usize, word: &[u8], n: u32) -> usize
+    requires { ⌜ at + length (now word) + 12 ≤ length (now out) ⌝ }
+    ensures { λ r. ⌜ Laid (now (out .entry)) (now (out .exit)) at r (now (word .entry) · decimal n · bytes "]\n") ⌝ }
+{
+    let a = put(out, at, word);
+    let b = put_number(out, a, n);
+    put(out, b, b"]\n")
+}
+
+// `[ok R]`
+pub fn put_ok(out: &mut [u8], at: usize, records: u32) -> usize
+    requires { ⌜ at + reply-room ≤ length (now out) ⌝ }
+    ensures { λ r. ⌜ Laid (now (out .entry)) (now (out .exit)) at r (ok-reply records) ⌝ }
+{
+    put_counted(out, at, b"[ok ", records)
+}
+
+// `[found N]`
+pub fn put_found(out: &mut [u8], at: usize, item: u32) -> usize
+    requires { ⌜ at + reply-room ≤ length (now out) ⌝ }
+    ensures { λ r. ⌜ Laid (now (out .entry)) (now (out .exit)) at r (found-reply item) ⌝ }
+{
+    put_counted(out, at, b"[found ", item)
+}
+
+// `[none]`
+pub fn put_none(out: &mut [u8], at: usize) -> usize
+    requires { ⌜ at + reply-room ≤ length (now out) ⌝ }
+    ensures { λ r. ⌜ Laid (now (out .entry)) (now (out .exit)) at r none-reply ⌝ }
+{
+    put(out, at, b"[none]\n")
+}
+
+// `[refused C]`
+pub fn put_refused(out: &mut [u8], at: usize, code: u32) -> usize
+    requires { ⌜ at + reply-room ≤ length (now out) ⌝ }
+    ensures { λ r. ⌜ Laid (now (out .entry)) (now (out .exit)) at r (refused-reply code) ⌝ }
+{
+    put_counted(out, at, b"[refused ", code)
+}
+
+// `[bad]`
+pub fn put_bad(out: &mut [u8], at: usize) -> usize
+    requires { ⌜ at + reply-room ≤ length (now out) ⌝ }
+    ensures { λ r. ⌜ Laid (now (out .entry)) (now (out .exit)) at r bad-reply ⌝ }
+{
+    put(out, at, b"[bad]\n")
+}
+
+// Writes a match length.
+fn put_length(out: &mut [u8], at: usize, len: i32) -> usize
+    requires { ⌜ (at + 10 ≤ length (now out)) × Length len ⌝ }
+    ensures { λ r. ⌜ Laid (now (out .entry)) (now (out .exit)) at r (signed len) × (r ≤ at + 10) ⌝ }
+{
+    if len < 0 {
+        return put(out, at, b"-1");
+    }
+    put_number(out, at, len as u32)
+}
+
+fn put_item(out: &mut [u8], at: usize, item: Item) -> usize
+    requires { ⌜ at + 10 ≤ length (now out) ⌝ }
+    ensures { λ r. ⌜ Laid (now (out .entry)) (now (out .exit)) at r (item-text item) × (r ≤ at + 10) ⌝ }
+{
+    match item {
+        Item::Number(n) => put_number(out, at, n),
+        Item::Module => put(out, at, b"m"),
+        Item::Namespace => put(out, at, b"n"),
+    }
+}
+
+// Writes a line's texts, each with what closes it.
+fn put_texts(out: &mut [u8], at: usize, annotation: &[u8], candidate: &[u8]) -> usize
+    requires { ⌜ at + length (now annotation) + length (now candidate) + 4 ≤ length (now out) ⌝ }
+    ensures { λ r. ⌜ Laid (now (out .entry)) (now (out .exit)) at r (now (annotation .entry) · bytes "] " · now (candidate .entry) · bytes "]\n") ⌝ }
+{
+    let a = put(out, at, annotation);
+    let b = put(out, a, b"] ");
+    let c = put(out, b, candidate);
+    put(out, c, b"]\n")
+}
+
+// Writes a line's numbers, each with what stands before it.
+fn put_numbers(out: &mut [u8], at: usize, len: i32, item: Item) -> usize
+    requires { ⌜ (at + 27 ≤ length (now out)) × Length len ⌝ }
+    ensures { λ r. ⌜ Laid (now (out .entry)) (now (out .exit)) at r (bytes "[line " · signed len · bytes " " · item-text item) × (r ≤ at + 27) ⌝ }
+{
+    let a = put(out, at, b"[line ");
+    let b = put_length(out, a, len);
+    let c = put(out, b, b" ");
+    put_item(out, c, item)
+}
+
+// `[line L I [annotation] candidate]`
+pub fn put_line(
+    out: &mut [u8],
+    at: usize,
+    len: i32,
+    item: Item,
+    annotation: &[u8],
+    candidate: &[u8],
+) -> usize
+    requires { ⌜ (at + reply-room + length (now annotation) + length (now candidate) ≤ length (now out)) × Length len ⌝ }
+    ensures { λ r. ⌜ Laid (now (out .entry)) (now (out .exit)) at r (line-reply len item (now (annotation .entry)) (now (candidate .entry))) ⌝ }
+{
+    let a = put_numbers(out, at, len, item);
+    let b = put(out, a, b" [");
+    put_texts(out, b, annotation, candidate)
+}
+
+// `[end lines entered]`
+pub fn put_end(out: &mut [u8], at: usize, lines: u32, entered: u32) -> usize
+    requires { ⌜ at + reply-room ≤ length (now out) ⌝ }
+    ensures { λ r. ⌜ Laid (now (out .entry)) (now (out .exit)) at r (end-reply lines entered) ⌝ }
+{
+    let a = put(out, at, b"[end ");
+    let b = put_number(out, a, lines);
+    put_counted(out, b, b" ", entered)
+}

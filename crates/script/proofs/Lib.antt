@@ -1,0 +1,4 @@
+pub mod Runs
+pub mod Ends
+pub mod Forms
+pub mod Once

@@ -1,0 +1,45 @@
+-- `alias_form` answers for every form: a line that begins so can be no other.
+use mathlib.Core.Path.{subst}
+use native.Mathlib.Omega.{arith}
+use Rattle.script.specs.Script.{key, bytes}
+use Rattle.script.specs.Parts.{WordSays, PieceSays, PairSays}
+use Rattle.script.proofs.Ends.{stops-word}
+use Rattle.script.proofs.Forms.{word-none, alias-none, alias-empty, alias-no, alias-yes}
+use borrow.Author.Needs.{needs}
+use Rattle.script.proofs.alias_form.Statement.{statement}
+use Rattle.script.proofs.alias_form.Tie as tie
+
+piece-requires : tie.Need-piece-requires
+piece-requires c κs = ((subst (WordSays _ _) (c .before .before .at .given .1) (c .before .before .before .before .word-end .ensures)) .end, stops-word)
+
+returns : tie.Need-returns
+unfolding key bytes
+returns c = alias-empty (c .before .before .before .before .before .before .before .before .before .before .before .before .pre) (subst (WordSays _ _) (c .before .before .before .before .before .before .before .at .given .1) (c .before .before .before .before .before .before .before .before .before .word-end .ensures)) (subst (PieceSays _ _ _ _) (c .before .before .e .given .1) (c .before .before .before .before .piece .ensures)) (c .if1 .taken)
+
+add-pair-end : tie.Need-add-pair-end
+add-pair-end c = omega (arith, (subst (PieceSays _ _ _ _) (c .before .before .e .given .1) (c .before .before .before .before .piece .ensures)) .end)
+
+pair-end-requires : tie.Need-pair-end-requires
+pair-end-requires c κs = (subst (PieceSays _ _ _ _) (c .before .before .e .given .1) (c .before .before .before .before .piece .ensures)) .end
+
+sub-t21 : tie.Need-sub-t21
+sub-t21 c = (subst (PieceSays _ _ _ _) (c .before .before .before .before .before .before .e .given .1) (c .before .before .before .before .before .before .before .before .piece .ensures)) .start
+
+returns-2 : tie.Need-returns-2
+unfolding key bytes
+returns-2 c = alias-yes (c .before .before .before .before .before .before .before .before .before .before .before .before .before .before .before .before .pre) (subst (WordSays _ _) (c .before .before .before .before .before .before .before .before .before .before .before .at .given .1) (c .before .before .before .before .before .before .before .before .before .before .before .before .before .word-end .ensures)) (subst (PieceSays _ _ _ _) (c .before .before .before .before .before .before .e .given .1) (c .before .before .before .before .before .before .before .before .piece .ensures)) (c .before .before .before .before .if1 .left) _ _ (subst (PairSays _ _) (c .before .host .given .1) (c .before .before .before .pair-end .ensures))
+
+returns-3 : tie.Need-returns-3
+unfolding key bytes
+returns-3 c = alias-no (c .before .before .before .before .before .before .before .before .before .before .before .before .before .before .before .pre) (subst (WordSays _ _) (c .before .before .before .before .before .before .before .before .before .before .at .given .1) (c .before .before .before .before .before .before .before .before .before .before .before .before .word-end .ensures)) (subst (PieceSays _ _ _ _) (c .before .before .before .before .before .e .given .1) (c .before .before .before .before .before .before .before .piece .ensures)) (subst (PairSays _ _) (c .enum-told .given .1) (c .before .before .pair-end .ensures))
+
+returns-4 : tie.Need-returns-4
+unfolding key bytes
+returns-4 c = alias-none (c .before .before .before .before .before .before .before .before .before .before .pre) (subst (WordSays _ _) (c .before .before .before .before .before .at .given .1) (c .before .before .before .before .before .before .before .word-end .ensures)) (subst (PieceSays _ _ _ _) (c .enum-told2 .given .1) (c .before .before .piece .ensures))
+
+returns-5 : tie.Need-returns-5
+unfolding key bytes
+returns-5 c = word-none (c .before .before .before .before .before .pre) (subst (WordSays _ _) (c .enum-told3 .given .1) (c .before .before .word-end .ensures))
+
+pub alias-form-spec : {M : Type 1} → statement M
+alias-form-spec = tie.close (tie.spec (λ c. search needs) (λ c κs. search needs) (λ c. search needs) (λ c. search needs) piece-requires (λ c. search needs) returns add-pair-end pair-end-requires (λ c. search needs) sub-t21 (λ c. search needs) (λ c. search needs) (λ c. search needs) returns-2 returns-3 returns-4 returns-5)
