@@ -1,0 +1,135 @@
+-- A list of collections by its first record: what it reads as, its links, its weight, its first tree and rest.
+use Prim.Native.Nat.{ℕ, _+_, _*_, _≤_, _<_}
+use mathlib.Core.Path.{_≡_, refl, _∙_}
+use mathlib.Core.List.{List}
+use native.Mathlib.Omega.{arith}
+use lib.ListN.{length}
+use Rattle.source.specs.Types.{Level, Names, ImportedNames}
+use Rattle.source.specs.Terms.{weight}
+use Rattle.source.proofs.Counted.{first-tree}
+use Rattle.memory.specs.Layout.{record-at, word, span, Which, tree, list, kind, what}
+use Rattle.memory.specs.Sound.{LinkOk, CollectionOk, RecordOk, Sound}
+use Rattle.memory.specs.Stored.{stored}
+use Rattle.memory.proofs.Readings.{what-none}
+use Rattle.memory.proofs.Records.{zero-one, zero-some, collection-at, weight-at}
+use Rattle.memory.proofs.Sizes.{stored-none, stored-weight}
+use Rattle.memory.proofs.Seen.{link-fits, link-ok, link-what, link-later}
+use Rattle.tree.specs.Tree.{TreeAt, AnyTree}
+use Rattle.tree.proofs.Branches.{no-roots, any-tree}
+use Rattle.names.specs.Names.{first-rest, ListAt, AnyList, Led}
+
+pub no-link : {ws : List ℕ} (l k : ℕ) → LinkOk ws (l + 1) 0 k
+no-link l k = record { earlier = omega arith; of-kind = λ z. absurd (z refl) }
+
+pub rows-before : {ws txt : List ℕ} {a b n used : ℕ} → Sound ws txt a b n used → (j : ℕ) → 0 < j → j < n + 1 → RecordOk ws txt used j
+rows-before o j p h = o .rows j p (omega arith)
+
+-- A list of a sound memory.
+pub list-in : {ws txt : List ℕ} {a b n used : ℕ} → Sound ws txt a b n used → (w : Which) (v : Level) {x : ℕ} → LinkOk ws (n + 1) x (kind w (list v)) → ListAt ws txt w v x
+list-in {n = n} {used} o w v i = record { records = n; used = used; sound = no-roots o; link = i }
+
+pub any-list : {ws txt : List ℕ} {w : Which} {v : Level} {x : ℕ} → ListAt ws txt w v x → AnyList ws txt x
+any-list {w = w} {v} t = record { which = w; level = v; list = t }
+
+module _ {ws txt : List ℕ} {w : Which} {v : Level} {x : ℕ} (t : ListAt ws txt w v x) where
+  pub list-fits : x * 12 ≤ length ws
+  list-fits = link-fits (t .sound) (t .link)
+
+  -- A list and a tree that come no later.
+  pub list-of : {l y : ℕ} → l ≤ x + 1 → LinkOk ws l y (kind w (list v)) → ListAt ws txt w v y
+  list-of h i = record { records = t .records; used = t .used; sound = t .sound; link = link-later (omega (arith, t .link .earlier)) i }
+
+  pub tree-within : {l y : ℕ} → l ≤ x + 1 → LinkOk ws l y (kind w (tree v)) → TreeAt ws txt w v y
+  tree-within h i = record { records = t .records; used = t .used; sound = t .sound; link = link-later (omega (arith, t .link .earlier)) i }
+
+  pub list-weight : stored ws x 10 ≡ weight (what w ws txt x (list v))
+  list-weight = stored-weight (rows-before (t .sound)) w v x (t .link)
+
+  pub list-light : stored ws x 10 ≤ 96
+  list-light =
+      zero-some x (λ e. rw (e, stored-none ws 10) (omega arith))
+      (λ p. rw list-weight (weight-at (link-ok (t .sound) (t .link) p) w v (t .link .of-kind (λ e. omega arith)) .light))
+
+-- Its first record.
+module _ {ws txt : List ℕ} {w : Which} {v : Level} {x : ℕ} (t : ListAt ws txt w v x) (p : 0 < x) where
+  pub collection-right : CollectionOk ws txt (t .used) x w (record-at ws x) v
+  collection-right = collection-at (link-ok (t .sound) (t .link) p) w v (t .link .of-kind (λ e. omega arith))
+
+  pub sort-tree : (word (record-at ws x) 5 ≡ 1 → ⊥) → word (record-at ws x) 5 ≡ 0
+  sort-tree n = omega (arith, collection-right .sort, n)
+
+  pub rest-list : ListAt ws txt w v (word (record-at ws x) 4)
+  rest-list = list-of t (omega arith) (collection-right .rest)
+
+  module _ (e : word (record-at ws x) 5 ≡ 0) where
+    pub own-tree : TreeAt ws txt w v (word (record-at ws x) 3)
+    own-tree = tree-within t (omega arith) (collection-right .own e)
+
+    pub names-reads : what w ws txt x (list v) ≡ Names (what w ws txt (word (record-at ws x) 3) (tree v)) (what w ws txt (word (record-at ws x) 4) (list v))
+    names-reads = link-what (t .sound) w (list v) (t .link) p ∙ rw e
+
+  module _ (e : word (record-at ws x) 5 ≡ 1) where
+    pub imported-list : ListAt ws txt w v (word (record-at ws x) 3)
+    imported-list = list-of t (omega arith) (collection-right .imported e)
+
+    pub imported-reads : what w ws txt x (list v)
+        ≡ ImportedNames (span txt (word (record-at ws x) 1) (word (record-at ws x) 2)) (what w ws txt (word (record-at ws x) 3) (list v)) (what w ws txt (word (record-at ws x) 4) (list v))
+    imported-reads = link-what (t .sound) w (list v) (t .link) p ∙ rw e
+
+    pub imported-lighter : stored ws (word (record-at ws x) 3) 10 < stored ws x 10
+    unfolding weight
+    imported-lighter = rw (list-weight t, imported-reads, list-weight imported-list) (omega arith)
+
+  pub rest-lighter : stored ws (word (record-at ws x) 4) 10 < stored ws x 10
+  unfolding weight
+  rest-lighter =
+      zero-one (word (record-at ws x) 5) (collection-right .sort)
+      (λ e. rw (list-weight t, names-reads e, list-weight rest-list) (omega arith))
+      (λ e. rw (list-weight t, imported-reads e, list-weight rest-list) (omega arith))
+
+-- What the first record's own link names.
+module _ {ws txt : List ℕ} {x y : ℕ} (a : AnyList ws txt x) (p : 0 < x) (q : y ≡ word (record-at ws x) 3) where
+  pub any-imported : word (record-at ws x) 5 ≡ 1 → AnyList ws txt y
+  any-imported e = rw q (any-list (imported-list (a .list) p e))
+
+  pub any-own : (word (record-at ws x) 5 ≡ 1 → ⊥) → AnyTree ws txt y
+  any-own n = rw q (any-tree (own-tree (a .list) p (sort-tree (a .list) p n)))
+
+-- ---- the first tree and the rest
+module _ {ws txt : List ℕ} {x first rest : ℕ} (a : AnyList ws txt x) (d : Led ws x first rest) where
+  pub any-first : AnyTree ws txt first
+  any-first = any-tree (tree-within (a .list) (omega arith) (d txt _ _ (a .list) .first-link))
+
+  pub any-rest : AnyList ws txt rest
+  any-rest = any-list (list-of (a .list) (omega arith) (d txt _ _ (a .list) .rest-link))
+
+pub led-none : {ws : List ℕ} {x : ℕ} → x ≡ 0 → Led ws x 0 0
+unfolding first-tree first-rest
+led-none {ws} e txt w v t = rw e (record {
+  first-link = no-link 0 _;
+  rest-link = no-link 0 _;
+  first-reads = rw (what-none w ws txt);
+  rest-reads = rw (what-none w ws txt);
+})
+
+module _ {ws : List ℕ} {x : ℕ} (p : 0 < x) where
+  pub led-imported : word (record-at ws x) 5 ≡ 1 → Led ws x 0 x
+  unfolding first-tree first-rest
+  led-imported e txt w v t = record {
+    first-link = no-link x _;
+    rest-link = record { earlier = omega arith; of-kind = t .link .of-kind };
+    first-reads = rw (imported-reads t p e, what-none w ws txt);
+    rest-reads = rw (imported-reads t p e);
+  }
+
+  pub led-names : {a b : ℕ} → (word (record-at ws x) 5 ≡ 1 → ⊥) → a ≡ word (record-at ws x) 3 → b ≡ word (record-at ws x) 4 → Led ws x a b
+  unfolding first-tree first-rest
+  led-names n ea eb txt w v t =
+      let o = collection-right t p in
+      let e = sort-tree t p n in
+      record {
+        first-link = rw ea (link-later (omega arith) (o .own e));
+        rest-link = rw eb (link-later (omega arith) (o .rest));
+        first-reads = rw (names-reads t p e, ea);
+        rest-reads = rw (names-reads t p e, eb);
+      }

@@ -1,0 +1,5 @@
+pub mod Collections
+pub mod Finding
+pub mod Placing
+pub mod Making
+pub mod Inserting

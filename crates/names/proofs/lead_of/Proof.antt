@@ -1,0 +1,24 @@
+-- `names::lead_of` meets its contract.
+use borrow.Author.Needs.{needs}
+use native.Mathlib.Omega.{arith}
+use mathlib.Core.Path.{sym, _∙_}
+use Rattle.names.proofs.Collections.{led-none, led-imported, led-names}
+use Rattle.names.proofs.lead_of.Statement.{statement}
+use Rattle.names.proofs.lead_of.Tie as tie
+
+pub lead-of-spec : {M : Type 1} → statement M
+lead-of-spec =
+    tie.close
+    (tie.spec
+    {- returns -}
+    (λ c. led-none (c .if1 .taken))
+    {- word-of-requires -}
+    (λ c κs. search needs)
+    {- returns-2 -}
+    (λ c. led-imported (omega arith) (sym (c .before .word-of .ensures) ∙ c .if2 .taken))
+    {- word-of-requires-2 -}
+    (λ c κs. search needs)
+    {- word-of-requires-3 -}
+    (λ c κs. search needs)
+    {- returns-3 -}
+    (λ c. led-names (omega arith) (λ e. c .before .before .if2 .left (c .before .before .before .word-of .ensures ∙ e)) (c .before .word-of2 .ensures) (c .word-of3 .ensures)))

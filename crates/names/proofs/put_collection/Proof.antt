@@ -1,0 +1,27 @@
+-- `names::put_collection` meets its contract.
+use borrow.Author.Needs.{needs}
+use native.Mathlib.Omega.{arith}
+use Prim.Native.Nat.{max}
+use mathlib.Core.Path.{_≡_, refl, _∙_}
+use mathlib.Core.Logic.{⊎-elim}
+use Rattle.names.proofs.put_collection.Statement.{statement}
+use Rattle.names.proofs.put_collection.Tie as tie
+
+pub put-collection-spec : {M : Type 1} → statement M
+put-collection-spec =
+    tie.close
+    (tie.spec
+    {- stored-requires -}
+    (λ c κs. search needs)
+    {- stored-requires-2 -}
+    (λ c κs. search needs)
+    {- put-row-requires -}
+    (λ c κs. search needs)
+    {- add-result -}
+    (λ c. search needs)
+    {- same-length -}
+    (λ c. search needs)
+    {- returns -}
+    (λ c.
+    let d : c .before .before .before .before .before .if1 .depth ≡ max (c .before .before .before .before .before .before .before .before .stored .result) (c .before .before .before .before .before .before .stored2 .result) = ⊎-elim (λ w. omega arith) (λ w. omega arith) (c .before .before .before .before .before .if1 .came) in
+    (refl, c .before .before .put-row .ensures ∙ rw (d, c .before .before .before .before .before .before .before .before .stored .ensures, c .before .before .before .before .before .before .stored2 .ensures))))

@@ -1,0 +1,21 @@
+-- `names::put_trie` meets its contract.
+use borrow.Author.Needs.{needs}
+use mathlib.Core.Path.{refl}
+use Rattle.names.proofs.Making.{made-trie}
+use Rattle.names.proofs.put_trie.Statement.{statement}
+use Rattle.names.proofs.put_trie.Tie as tie
+
+pub put-trie-spec : {M : Type 1} → statement M
+put-trie-spec =
+    tie.close
+    (tie.spec
+    {- stored-requires -}
+    (λ c κs. search needs)
+    {- put-row-requires -}
+    (λ c κs. search needs)
+    {- add-result -}
+    (λ c. search needs)
+    {- same-length -}
+    (λ c. search needs)
+    {- returns -}
+    (λ c. (refl, rw (c .before .before .put-row .ensures, c .before .before .before .before .before .stored .ensures) (made-trie (c .before .before .before .before .before .before .before .before .pre .0) _ _ _ (c .before .before .before .before .before .before .before .before .pre .1 .1)))))

@@ -1,0 +1,182 @@
+// Lists of collections of the record memory: find, insertion and imports, and the record of a trie.
+// A list is the link of its first collection; the same functions serve both tables and both levels.
+use memory::Span;
+ghost use mathlib.Core.Path.{_≡_};
+ghost use Prim.Native.Nat.{_+_, _*_, _<_, _≤_};
+ghost use lib.ListN.{length};
+ghost use Rattle.memory.specs.Stored.{stored};
+ghost use Rattle.memory.specs.Grown.{put};
+ghost use Rattle.names.specs.Names.{AnyList, Led, Holder, NamesPlaced};
+ghost use Rattle.names.specs.Insert.{AnyNamesInsertion, NamesInserts};
+ghost use Rattle.names.specs.Made.{Room, collection-row, MadeNames, MadeImported, MadeTrie};
+
+// The tree that a list begins with, 0 for none, and the rest after it.
+pub struct Lead {
+    pub tree: u32,
+    pub rest: u32,
+}
+
+pub fn lead_of(words: &[u32], list: u32) -> Lead
+    requires { ⌜ list * 12 ≤ length (now words) ⌝ }
+    ensures { λ r. ⌜ Led (now (words .entry)) list (r .tree) (r .rest) ⌝ }
+{
+    if list == 0 {
+        return Lead { tree: 0, rest: 0 };
+    }
+    if memory::word_of(words, list, 5) == 1 {
+        return Lead {
+            tree: 0,
+            rest: list,
+        };
+    }
+    Lead {
+        tree: memory::word_of(words, list, 3),
+        rest: memory::word_of(words, list, 4),
+    }
+}
+
+// The branch of the first holder of a key, 0 for none. The calls of itself go no deeper than the weight of the list.
+pub fn names_find_exact(words: &[u32], text: &[u8], list: u32, key: &[u8]) -> u32
+    requires { ⌜ AnyList (now words) (now text) list ⌝ }
+    ensures { λ r. ⌜ Holder (now (words .entry)) (now (text .entry)) list (now (key .entry)) r ⌝ }
+{
+    let mut link = list;
+    while 0 < link {
+        let own = memory::word_of(words, link, 3);
+        let found = if memory::word_of(words, link, 5) == 1 {
+            names_find_exact(words, text, own, key)
+        } else {
+            tree::btree_find_exact(words, text, own, key)
+        };
+        if 0 < found {
+            return found;
+        }
+        link = memory::word_of(words, link, 4);
+    }
+    0
+}
+
+// The branch of the first holder of a key, 0 for none; how many branches an insertion of the key builds; the weight of the list that it gives.
+pub struct NamesPlace {
+    pub holder: u32,
+    pub count: u32,
+    pub weight: u32,
+}
+
+pub fn names_place(words: &[u32], text: &[u8], list: u32, key: &[u8]) -> NamesPlace
+    requires { ⌜ AnyList (now words) (now text) list ⌝ }
+    ensures { λ r. ⌜ NamesPlaced (now (words .entry)) (now (text .entry)) list (now (key .entry)) (r .holder) (r .count) (r .weight) ⌝ }
+{
+    let lead = lead_of(words, list);
+    let place = tree::place_of(words, text, lead.tree, key);
+    let mut holder = place.link;
+    if holder == 0 {
+        holder = names_find_exact(words, text, lead.rest, key);
+    }
+    NamesPlace {
+        holder: holder,
+        count: place.count,
+        weight: memory::stored(words, lead.rest, 10) + 1,
+    }
+}
+
+// Puts the record of a collection, with the greater depth of its two links. The answer is its link.
+fn put_collection(
+    words: &mut [u32],
+    records: u32,
+    kind: u32,
+    label: Span,
+    own: u32,
+    rest: u32,
+    imported: u32,
+    weight: u32,
+) -> u32
+    requires { ⌜ Room (now words) records 1 ⌝ }
+    requires { ⌜ (own ≤ records) × (rest ≤ records) ⌝ }
+    ensures { λ r. ⌜ r ≡ records + 1 ⌝ }
+    ensures { λ r. ⌜ now (words .exit) ≡ put (now (words .entry)) records (collection-row (now (words .entry)) kind (label .start) (label .len) own rest imported weight) ⌝ }
+{
+    let mut depth = memory::stored(words, own, 11);
+    let other = memory::stored(words, rest, 11);
+    if depth < other {
+        depth = other;
+    }
+    let row = [
+        kind,
+        label.start,
+        label.len,
+        own,
+        rest,
+        imported,
+        0,
+        0,
+        0,
+        0,
+        weight,
+        depth,
+    ];
+    memory::put_row(words, records, &row);
+    records + 1
+}
+
+// Puts the tree `own` in front of the list `rest`. The answer is the new list.
+pub fn put_names(words: &mut [u32], records: u32, kind: u32, own: u32, rest: u32) -> u32
+    requires { ⌜ Room (now words) records 1 ⌝ }
+    requires { ⌜ (own ≤ records) × (rest ≤ records) × (stored (now words) rest 10 < 96) ⌝ }
+    ensures { λ r. ⌜ r ≡ records + 1 ⌝ }
+    ensures { λ r. ⌜ MadeNames (now (words .entry)) (now (words .exit)) records kind own rest r ⌝ }
+{
+    let label = Span { start: 0, len: 0 };
+    let weight = memory::stored(words, rest, 10) + 1;
+    put_collection(words, records, kind, label, own, rest, 0, weight)
+}
+
+// Inserts the branch `row` into the first tree of a list, which builds `count` branches, and puts that tree in front of the rest.
+// The answer is the new list.
+pub fn names_insert(
+    words: &mut [u32],
+    text: &[u8],
+    records: u32,
+    list: u32,
+    count: u32,
+    row: [u32; 12],
+) -> u32
+    requires { ⌜ AnyNamesInsertion (now words) (now text) records list count row ⌝ }
+    ensures { λ r. ⌜ r ≡ records + count + 1 ⌝ }
+    ensures { λ r. ⌜ NamesInserts (now (words .entry)) (now (words .exit)) (now (text .entry)) records list count row r ⌝ }
+{
+    let lead = lead_of(words, list);
+    let tree = tree::btree_insert_replace(words, text, records, lead.tree, count, row);
+    put_names(words, records + count, row[0] + 2, tree, lead.rest)
+}
+
+// Puts the list `inner`, imported under a label, in front of `list`. The answer is the new list.
+pub fn imported(
+    words: &mut [u32],
+    records: u32,
+    kind: u32,
+    label: Span,
+    inner: u32,
+    list: u32,
+) -> u32
+    requires { ⌜ Room (now words) records 1 ⌝ }
+    requires { ⌜ (inner ≤ records) × (list ≤ records) × (stored (now words) inner 10 + stored (now words) list 10 < 96) ⌝ }
+    ensures { λ r. ⌜ r ≡ records + 1 ⌝ }
+    ensures { λ r. ⌜ MadeImported (now (words .entry)) (now (words .exit)) records kind (label .start) (label .len) inner list r ⌝ }
+{
+    let weight = memory::stored(words, inner, 10) + memory::stored(words, list, 10) + 1;
+    put_collection(words, records, kind, label, inner, list, 1, weight)
+}
+
+// Puts the trie of two lists. The answer is its link.
+pub fn put_trie(words: &mut [u32], records: u32, kind: u32, bindings: u32, namespaces: u32) -> u32
+    requires { ⌜ Room (now words) records 1 ⌝ }
+    requires { ⌜ (namespaces ≤ records) × (stored (now words) namespaces 11 ≤ 16) ⌝ }
+    ensures { λ r. ⌜ r ≡ records + 1 ⌝ }
+    ensures { λ r. ⌜ MadeTrie (now (words .entry)) (now (words .exit)) records kind bindings namespaces r ⌝ }
+{
+    let depth = memory::stored(words, namespaces, 11);
+    let row = [kind, 0, 0, bindings, namespaces, 0, 0, 0, 0, 0, 0, depth];
+    memory::put_row(words, records, &row);
+    records + 1
+}
