@@ -1,0 +1,3 @@
+mod Roots
+mod Decided
+mod Lookups

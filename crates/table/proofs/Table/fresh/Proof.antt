@@ -1,0 +1,7 @@
+-- Table::fresh meets its contract.
+use Rattle.memory.proofs.Growing.{fresh-sound, fresh-state}
+use Rattle.table.proofs.Table.fresh.Statement.{statement}
+use Rattle.table.proofs.Table.fresh.Tie as tie
+
+pub fresh-spec : {M : Type 1} → statement M
+fresh-spec = tie.close (tie.spec (λ c. record { sound = fresh-sound; reads = fresh-state }))

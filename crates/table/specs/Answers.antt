@@ -1,0 +1,76 @@
+-- What the answers stand for: document 01's numbers and values.
+use Prim.Native.Nat.{ℕ, _*_, _≤_, _<_}
+use mathlib.Core.Path.{_≡_}
+use mathlib.Core.Bool.{true}
+use mathlib.Core.List.{List, [], _∷_}
+use mathlib.Core.Option.{Option, none, some}
+use lib.ListN.{length}
+use Rattle.source.specs.Text.{Str}
+use Rattle.source.specs.Table.{ModSymbol}
+use Rattle.source.specs.Calls as C
+use Rattle.source.specs.Calls.{Row, _when_, look-up}
+use Rattle.memory.specs.Layout.{record-at, Which, Item, item-of, trieˢ, what}
+use Rattle.memory.specs.Read.{symbol-of}
+use Rattle.text.specs.declared.Flags.{Flags}
+use Rattle.trie.specs.Tries.{TrieAt}
+use Rattle.table.specs.declared.Refusal.{Refusal}
+use Rattle.table.specs.declared.Refusal.the-variants.{Unsound, Malformed, Empty, TooLong, Crowded, Deep, Full, TextFull, Spent, Lines}
+use Rattle.table.specs.declared.Admission.{Admission}
+use Rattle.table.specs.declared.Admission.the-variants.{Admitted, Refused as Not-admitted}
+use Rattle.table.specs.declared.Looked.{Looked}
+use Rattle.table.specs.declared.Looked.the-variants.{Branch, Nothing as No-branch, Refused as Not-looked}
+use Rattle.table.specs.declared.Found.{Found}
+use Rattle.table.specs.declared.Found.the-variants.{Item as Item-of, Nothing, Refused}
+use Rattle.table.specs.declared.FoundModule.{FoundModule}
+use Rattle.table.specs.declared.FoundModule.the-variants.{Symbol, Nothing as No-symbol, Refused as Not-found}
+
+-- The number of a refusal.
+abbrev pub number : Refusal → ℕ
+number Unsound = 1
+number Malformed = 2
+number Empty = 3
+number TooLong = 4
+number Crowded = 5
+number Deep = 6
+number Full = 7
+number TextFull = 8
+number Spent = 9
+number Lines = 10
+
+-- The answer of a look-up of a name.
+abbrev pub name-found : Found → C.Found ℕ
+name-found (Item-of n) = C.found n
+name-found Nothing = C.not-found
+name-found (Refused r) = C.refused (number r)
+
+-- The answer of a look-up of a module or namespace, with its texts.
+abbrev pub module-found : List ℕ → FoundModule → C.Found ModSymbol
+module-found txt (Symbol s) = C.found (symbol-of txt s)
+module-found txt No-symbol = C.not-found
+module-found txt (Not-found r) = C.refused (number r)
+
+-- The number of the row that a call meets.
+abbrev pub row-of : Admission → Option ℕ
+row-of Admitted = none
+row-of (Not-admitted r) = some (number r)
+
+-- Rows 2 to 4, by the flags of the arguments.
+abbrev pub flag-rows : Flags → List Row
+flag-rows f = (2 when f .malformed) ∷ (3 when f .empty) ∷ (4 when f .long) ∷ []
+
+-- The answer of a look-up that ends at a branch of bindings.
+abbrev pub item-found : (w : Which) (ws txt : List ℕ) → Looked → C.Found (Item w)
+item-found w ws txt (Branch l) = C.found (item-of w txt (record-at ws l))
+item-found w ws txt No-branch = C.not-found
+item-found w ws txt (Not-looked r) = C.refused (number r)
+
+-- The branch is a record.
+abbrev pub BranchFits : List ℕ → Looked → Type 0
+BranchFits ws (Branch l) = (0 < l) × (l * 12 ≤ length ws)
+BranchFits ws No-branch = Unit {0}
+BranchFits ws (Not-looked r) = Unit {0}
+
+-- A look-up on a root, for any table that the trie is of.
+pub record LookedUp (ws txt : List ℕ) (root : ℕ) (query : Str) (r : Looked) : Type 0 where
+  pub fits : BranchFits ws r
+  pub says : (w : Which) → TrieAt ws txt w root → item-found w ws txt r ≡ look-up true (what w ws txt root trieˢ) query

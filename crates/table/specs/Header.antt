@@ -1,0 +1,30 @@
+-- The header of a table: what it reads as, with the lent words and text.
+use Prim.Native.Nat.{ℕ}
+use mathlib.Core.Path.{_≡_}
+use mathlib.Core.List.{List}
+use Rattle.source.specs.Types.{Trie}
+use Rattle.source.specs.Table.{ModSymbol}
+use Rattle.source.specs.Calls.{State, fresh}
+use Rattle.memory.specs.Layout.{names, modules, trieˢ, what, state-of}
+use Rattle.memory.specs.Sound.{Sound}
+use Rattle.table.specs.declared.Table.{Table}
+
+-- The lent memory is a sound table.
+abbrev pub IsSound : (ws txt : List ℕ) → Table → Type 0
+IsSound ws txt t = Sound ws txt (t .names) (t .modules) (t .records) (t .text)
+
+-- The table by value.
+abbrev pub state : (ws txt : List ℕ) → Table → State
+state ws txt t = state-of ws txt (t .names) (t .modules) (t .records) (t .text)
+
+-- Its two roots.
+abbrev pub names-in : (ws txt : List ℕ) → Table → Trie ℕ
+names-in ws txt t = what names ws txt (t .names) trieˢ
+
+abbrev pub modules-in : (ws txt : List ℕ) → Table → Trie ModSymbol
+modules-in ws txt t = what modules ws txt (t .modules) trieˢ
+
+-- The fresh table, whatever is lent.
+pub record Fresh (t : Table) : Type 0 where
+  pub sound : (ws txt : List ℕ) → IsSound ws txt t
+  pub reads : (ws txt : List ℕ) → state ws txt t ≡ fresh

@@ -1,0 +1,3 @@
+pub mod Tries
+pub mod Plans
+pub mod Changes
