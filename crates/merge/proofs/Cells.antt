@@ -1,0 +1,101 @@
+-- The cells of a merge: what their trees, heads and labels name, the next match of a cell, and how many are left.
+use Prim.Native.Nat.{ℕ, zero, suc, _≤_, _<_}
+use mathlib.Core.Path.{_≡_, refl, _∙_}
+use mathlib.Core.List.{List, [], _∷_}
+use native.Mathlib.Omega.{arith}
+use native.Mathlib.Decide.{ℕ-discrete}
+use lib.ListN.{getD}
+use Rattle.source.specs.Text.{Str}
+use Rattle.source.specs.Types.{Level}
+use Rattle.source.specs.Heap.{Heap}
+use Rattle.source.specs.Lists.{first, priority}
+use Rattle.source.proofs.Lookup.{Allˡ}
+use Rattle.memory.specs.Layout.{Which, tree, key-at}
+use Rattle.memory.proofs.Seen.{link-later}
+use Rattle.heap.specs.Compare.{Head, Heads, Stands}
+use Rattle.tree.specs.Tree.{TreeAt, AnyTree}
+use Rattle.tree.specs.Links.{matches, head0}
+use Rattle.tree.proofs.Branches.{tree-fits, key-inside}
+use Rattle.tree.proofs.Links.{BranchOf}
+use Rattle.tree.proofs.Matches.{MatchOf, matches-of, matches-increasing, all-after, after-next}
+use Rattle.names.specs.Names.{ListAt}
+use Rattle.names.proofs.Collections.{tree-within}
+use Rattle.merge.specs.Entries.{entry-key}
+use Rattle.merge.specs.Stream.{later, run-at, left, remaining, Holding}
+use Rattle.merge.specs.declared.Merge.{Merge}
+
+-- ---- The next match
+
+module _ {ws txt : List ℕ} {w : Which} {v : Level} {root : ℕ} (t : TreeAt ws txt w v root) (p : Str) where
+  -- Where the first of some matches is none, there are none.
+  pub no-match : (l : List ℕ) → Allˡ (MatchOf ws txt w v root p) l → head0 l ≡ 0 → l ≡ []
+  no-match [] a e = refl
+  no-match (y ∷ l) a e = absurd (omega (arith, a .0 .branch .some))
+
+module _ {ws txt : List ℕ} {w : Which} {v : Level} {root : ℕ} (t : TreeAt ws txt w v root) (p : Str) (head : ℕ) where
+  later-of : Allˡ (MatchOf ws txt w v root p) (later ws txt p root head)
+  later-of = all-after (key-at ws txt) (MatchOf ws txt w v root p) (key-at ws txt head) (matches ws txt root p) (matches-of t p)
+
+  pub later-end : head0 (later ws txt p root head) ≡ 0 → later ws txt p root head ≡ []
+  later-end e = no-match t p (later ws txt p root head) later-of e
+
+  -- The branch r is the next match.
+  pub record Next (r : ℕ) : Type 0 where
+    pub is-next : later ws txt p root head ≡ r ∷ later ws txt p root r
+    pub match : MatchOf ws txt w v root p r
+
+  pub later-next : (r : ℕ) → r ≡ head0 (later ws txt p root head) → (r ≡ 0 → ⊥) → Next r
+  later-next r e n = go (later ws txt p root head) refl later-of e
+    where
+      go : (l : List ℕ) → later ws txt p root head ≡ l → Allˡ (MatchOf ws txt w v root p) l → r ≡ head0 l → Next r
+      go [] q a e = absurd (n e)
+      go (y ∷ l) q a e = record {
+        is-next = q ∙ rw (e, ← after-next (key-at ws txt) (key-at ws txt head) (matches ws txt root p) (matches-increasing t p) y l q);
+        match = rw e (a .0);
+      }
+
+-- ---- What a cell names
+module _ {ws txt : List ℕ} {w : Which} {v : Level} {x : ℕ} (here : ListAt ws txt w v x) where
+  pub branch-tree : {y : ℕ} → BranchOf ws w v x y → (0 < y) × AnyTree ws txt y
+  branch-tree o = (o .some, record { which = w; level = v; tree = tree-within here (omega arith) (o .link) })
+
+  pub branch-head : {y : ℕ} → BranchOf ws w v x y → Head ws txt y
+  branch-head o = let t = branch-tree o in record { named = t .0; within = tree-fits (t .1); key = key-inside (t .1) (t .0) }
+
+module _ {ws txt : List ℕ} {w : Which} {v : Level} {x : ℕ} {p : Str} {m : Merge} {h : Heap ℕ} (g : Holding ws txt w v x p m h) where
+  pub cell-tree : (j : ℕ) → j < m .n → TreeAt ws txt w v (getD (m .roots) j 0)
+  cell-tree j l = tree-within (g .here) (omega arith) (g .cells j l .root-link)
+
+  pub heads-of : Heads ws txt (m .heads) (m .n)
+  heads-of = record { few = g .few; each = λ j l. branch-head (g .here) (g .cells j l .branch) }
+
+-- The next match of a cell is a branch of the list's trees.
+pub next-branch : {ws txt : List ℕ} {w : Which} {v : Level} {x : ℕ} {p : Str} {m : Merge} {h : Heap ℕ} (g : Holding ws txt w v x p m h) {j r : ℕ} (l : j < m .n)
+    → Next (cell-tree g j l) p (getD (m .heads) j 0) r → BranchOf ws w v x r
+next-branch g {j} l m = record { some = m .match .branch .some; link = link-later (omega (arith, g .cells j l .root-link .earlier)) (m .match .branch .link) }
+
+pub stands : (ws txt : List ℕ) (p : Str) (roots heads labels : List ℕ) (n j : ℕ) → j < n
+    → Stands (entry-key ws txt) ws txt heads n j (run-at ws txt p roots heads labels n j)
+unfolding run-at first priority
+stands ws txt p roots heads labels n j l = record { key-is = refl; priority-is = refl }
+
+-- ---- How many are left
+module _ (ws txt : List ℕ) (p : Str) (roots heads roots′ heads′ : List ℕ) (c : ℕ)
+    (others : (j : ℕ) → (j ≡ c → ⊥) → (getD roots′ j 0 ≡ getD roots j 0) × (getD heads′ j 0 ≡ getD heads j 0)) where
+  left-other : (j : ℕ) → (j ≡ c → ⊥) → left ws txt p (getD roots′ j 0) (getD heads′ j 0) ≡ left ws txt p (getD roots j 0) (getD heads j 0)
+  left-other j n = rw (others j n .0, others j n .1)
+
+  remaining-before : (n : ℕ) → n ≤ c → remaining ws txt p roots′ heads′ n ≡ remaining ws txt p roots heads n
+  unfolding remaining
+  remaining-before zero h = refl
+  remaining-before (suc n) h = omega (arith, left-other n (λ e. omega arith), remaining-before n (omega arith))
+
+  pub remaining-less : (n : ℕ) → c < n → left ws txt p (getD roots′ c 0) (getD heads′ c 0) < left ws txt p (getD roots c 0) (getD heads c 0)
+      → remaining ws txt p roots′ heads′ n < remaining ws txt p roots heads n
+  unfolding remaining
+  remaining-less zero l f = absurd (omega arith)
+  remaining-less (suc n) l f =
+      elim (ℕ-discrete n c) [
+        | yes e ↦ rw e (omega (arith, remaining-before c (omega arith)))
+        | no ne ↦ omega (arith, left-other n ne, remaining-less n (omega arith) f)
+      ]

@@ -1,0 +1,55 @@
+-- What a caller takes from a step: the end, or an entry with its branch and label, and the entries after it.
+use Prim.Native.Nat.{ℕ, _<_}
+use mathlib.Core.Path.{_≡_, refl, _∙_}
+use mathlib.Core.List.{List, [], _∷_}
+use native.Mathlib.Omega.{arith}
+use Rattle.source.specs.Text.{Str}
+use Rattle.source.specs.Types.{Level}
+use Rattle.source.specs.Rules.{IsLabel}
+use Rattle.memory.specs.Layout.{record-at, word, Which}
+use Rattle.memory.specs.Sound.{TextOk}
+use Rattle.memory.proofs.Seen.{link-later}
+use Rattle.names.specs.Names.{ListAt}
+use Rattle.names.proofs.Collections.{collection-right}
+use Rattle.merge.specs.Entries.{Entry}
+use Rattle.merge.specs.Lists.{LabelOk}
+use Rattle.merge.specs.Stream.{Rest, AnyRest, GivenIn, GivesIn, Gives}
+use Rattle.merge.specs.declared.Merge.{Merge}
+use Rattle.merge.specs.declared.Step.{Step}
+
+-- The text of a label.
+pub label-text : {ws txt : List ℕ} {w : Which} {v : Level} {x label : ℕ} (t : ListAt ws txt w v x) → LabelOk ws w v x label → 0 < label
+    → TextOk IsLabel txt (t .used) (word (record-at ws label) 1) (word (record-at ws label) 2)
+label-text {ws} {txt} {w} {v} {x} {label} t o p =
+    let k : ListAt ws txt w v label = record { records = t .records; used = t .used; sound = t .sound; link = link-later (omega (arith, t .link .earlier)) (o .link) } in
+    collection-right k p .label (o .imports p)
+
+module _ {ws txt : List ℕ} {w : Which} {v : Level} {x : ℕ} {p : Str} {m : Merge} {s : List Entry} (g : Rest ws txt w v x p m s) where
+  -- What merge_next requires.
+  pub rest-any : AnyRest ws txt p m
+  rest-any = record { which = w; level = v; link = x; entries = s; rest = g }
+
+  module _ {r : Step} (f : Gives ws txt p m r) where
+    pub gives-end : r .branch ≡ 0 → s ≡ []
+    gives-end e = go s (f w v x s g)
+      where
+        go : (s : List Entry) → GivesIn ws txt w v x p s r → s ≡ []
+        go [] d = refl
+        go (y ∷ s) d = absurd (omega (arith, d .branch .some))
+
+    -- The entry given, and those after it.
+    pub record More : Type 0 where
+      pub after : List Entry
+      pub is : s ≡ record { branch = r .branch; label = r .label } ∷ after
+      pub given : GivenIn ws txt w v x p (record { branch = r .branch; label = r .label }) after r
+
+    pub gives-more : (r .branch ≡ 0 → ⊥) → More
+    gives-more n = go s refl (f w v x s g)
+      where
+        go : (l : List Entry) → s ≡ l → GivesIn ws txt w v x p l r → More
+        go [] e d = absurd (n d)
+        go (y ∷ l) e d = record {
+          after = l;
+          is = e ∙ rw (d .branch-is, d .label-is);
+          given = record { branch-is = refl; label-is = refl; branch = d .branch; begins = d .begins; label-ok = d .label-ok; rest = d .rest };
+        }

@@ -1,0 +1,55 @@
+-- A list of one tree: what is found are the tree's matches.
+use Prim.Native.Nat.{ℕ, _<_, _≤_}
+use mathlib.Core.Path.{_≡_, refl, ap, _∙_}
+use mathlib.Core.List.{List, [], _∷_, map}
+use mathlib.Core.Option.{Option}
+use native.Mathlib.Omega.{arith}
+use Rattle.source.specs.Text.{Str}
+use Rattle.source.specs.Types.{Level, Value}
+use Rattle.source.specs.Trees.{PathElem}
+use Rattle.source.specs.Lists.{nonempty}
+use Rattle.source.specs.Listing.{SearchTerm, with-imports}
+use Rattle.source.specs.Table.{last-opt}
+use Rattle.source.proofs.Flat.{flat-in}
+use Rattle.source.proofs.Found.{found, match-lists, found-empty, found-one}
+use Rattle.memory.specs.Layout.{record-at, word, Which, Item, list, what}
+use Rattle.memory.proofs.Readings.{what-none}
+use Rattle.memory.proofs.Seen.{link-later}
+use Rattle.tree.specs.Links.{matches, row-at}
+use Rattle.names.specs.Names.{ListAt}
+use Rattle.names.proofs.Collections.{tree-within, collection-right, sort-tree, names-reads}
+use Rattle.merge.specs.Entries.{shown, outer, Asks}
+use Rattle.merge.specs.Lists.{SingleIn, Single}
+use Rattle.merge.proofs.Collecting.{term-rows}
+
+pub single-none : {ws : List ℕ} {x : ℕ} → Single ws x 0
+single-none txt w v t p = absurd (omega arith)
+
+pub single-tree : {ws : List ℕ} {x r : ℕ} → 0 < x → (word (record-at ws x) 5 ≡ 1 → ⊥) → word (record-at ws x) 4 ≤ 0 → r ≡ word (record-at ws x) 3 → Single ws x r
+single-tree {ws} {x} {r} p n z e txt w v t q =
+    let f : word (record-at ws x) 4 ≡ 0 = omega arith in
+    record {
+      link = rw e (link-later (omega arith) (collection-right t p .own (sort-tree t p n)));
+      reads = names-reads t p (sort-tree t p n) ∙ rw (f, e, what-none w ws txt);
+    }
+
+module _ {ws txt : List ℕ} {w : Which} {v : Level} {x r : ℕ} (t : ListAt ws txt w v x) (o : SingleIn ws txt w v x r) {term : SearchTerm} {p : Str} {q : Option Str} (asks : Asks term p q) where
+  lists-single : match-lists term (what w ws txt x (list v)) ≡ with-imports ([], map (row-at w ws txt v q) (matches ws txt r p)) ∷ []
+  unfolding match-lists flat-in
+  lists-single = rw (o .reads, term-rows (tree-within t (omega arith) (o .link)) asks)
+
+  -- The entries of the tree's matches show what is found.
+  pub single-found : map outer (found (what w ws txt x (list v)) term) ≡ map (shown w ws txt v q) (map (λ b. record { branch = b; label = 0 }) (matches ws txt r p))
+  unfolding nonempty with-imports outer shown last-opt row-at
+  single-found = go (matches ws txt r p) lists-single ∙ shows (matches ws txt r p)
+    where
+      rows : List ℕ → List (PathElem × Value (Item w) v)
+      rows l = with-imports ([], map (row-at w ws txt v q) l)
+
+      go : (l : List ℕ) → match-lists term (what w ws txt x (list v)) ≡ rows l ∷ [] → map outer (found (what w ws txt x (list v)) term) ≡ map outer (rows l)
+      go [] e = ap (map outer) (found-empty (what w ws txt x (list v)) term (ap nonempty e))
+      go (b ∷ l) e = ap (map outer) (found-one (what w ws txt x (list v)) term (rows (b ∷ l)) (ap nonempty e))
+
+      shows : (l : List ℕ) → map outer (rows l) ≡ map (shown w ws txt v q) (map (λ b. record { branch = b; label = 0 }) l)
+      shows [] = refl
+      shows (b ∷ l) = ap (_∷_ (shown w ws txt v q (record { branch = b; label = 0 }))) (shows l)

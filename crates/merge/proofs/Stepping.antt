@@ -1,0 +1,188 @@
+-- Steps of a merge: a cell with the key of the last entry is passed over, another gives the next entry.
+use Prim.Native.Nat.{ℕ, _<_, _≤_}
+use mathlib.Core.Path.{_≡_, refl, sym, ap, _∙_, subst}
+use mathlib.Core.Bool.{true, false, cond}
+use mathlib.Core.List.{List, [], _∷_}
+use mathlib.Core.Option.{Option, none, some}
+use native.Mathlib.Omega.{arith}
+use lib.ListN.{getD}
+use Rattle.source.specs.Text.{Str, starts-with}
+use Rattle.source.specs.Types.{Level}
+use Rattle.source.specs.Heap.{Heap, EmptyHeap, HeapOf}
+use Rattle.source.specs.Lists.{first}
+use Rattle.source.proofs.Heap.{forest-map}
+use Rattle.source.proofs.Lookup.{same}
+use Rattle.source.proofs.Forward.{held, again, forward, held-popped, forward-empty, forward-step}
+use Rattle.memory.specs.Layout.{Which, key-at}
+use Rattle.tree.specs.Tree.{AnyTree}
+use Rattle.tree.proofs.Links.{BranchOf}
+use Rattle.merge.specs.Entries.{Entry, entry-key}
+use Rattle.merge.specs.Lists.{LabelOk}
+use Rattle.merge.specs.Stream.{run-at, remaining, Holding, heap-of, Last, Rest, AnyRest, GivenIn, GivesIn, Gives, state, Takes, Ready}
+use Rattle.merge.specs.declared.Merge.{Merge}
+use Rattle.merge.specs.declared.Step.{Step}
+use Rattle.merge.specs.declared.Taken.{Taken}
+use Rattle.merge.proofs.Cells.{branch-tree}
+
+-- Whether an entry has the key of the last one.
+module _ (ws txt : List ℕ) (w : Which) (v : Level) (x l : ℕ) (e : Entry) where
+  again-new : (given : Option Entry) → Last ws w v x l given → ((l ≡ 0 → ⊥) → same (key-at ws txt (e .branch)) (key-at ws txt l) ≡ false) → again (entry-key ws txt) e given ≡ false
+  unfolding again
+  again-new none g f = refl
+  again-new (some y) g f = rw (g .0) (f (λ z. omega (arith, g .1 .some)))
+
+  again-same : (given : Option Entry) → Last ws w v x l given → (l ≡ 0 → ⊥) → same (key-at ws txt (e .branch)) (key-at ws txt l) ≡ true → again (entry-key ws txt) e given ≡ true
+  unfolding again
+  again-same none g n f = absurd (n g)
+  again-same (some y) g n f = rw (g .0) f
+
+last-branch : (ws : List ℕ) (w : Which) (v : Level) (x l : ℕ) (given : Option Entry) → Last ws w v x l given → (l ≡ 0 → ⊥) → BranchOf ws w v x l
+last-branch ws w v x l none g n = absurd (n g)
+last-branch ws w v x l (some y) g n = g .1
+
+module _ {ws txt : List ℕ} {p : Str} {n root last : ℕ} {roots heads labels child next roots′ heads′ child′ next′ : List ℕ} {t : Taken}
+    (takes : Takes ws txt p n root roots heads child next roots′ heads′ child′ next′ t) {w : Which} {v : Level} {x : ℕ} {s : List Entry}
+    (g : Rest ws txt w v x p (state roots heads labels child next n root last) s) where
+  pub step-end : t .cell ≡ 96 → s ≡ []
+  step-end e = go (g .heap) (g .holding) (g .says)
+    where
+      go : (h : Heap ℕ) → Holding ws txt w v x p (state roots heads labels child next n root last) h
+          → s ≡ forward (entry-key ws txt) (g .fuel) (heap-of ws txt p (state roots heads labels child next n root last) h) (g .given) → s ≡ []
+      go EmptyHeap o q = q ∙ forward-empty (entry-key ws txt) (g .fuel) (g .given)
+      go (HeapOf c hh) o q = let k = takes .took labels last w v x (HeapOf c hh) o in absurd (omega (arith, k .cell-is, k .below, o .few))
+
+  -- The cell gives an entry, unless that has the key of the last one; what the state gives then, in both cases.
+  pub record Stepped : Type 0 where
+    pub entry : Entry
+    pub branch-is : t .branch ≡ entry .branch
+    pub label-is : getD labels (t .cell) 0 ≡ entry .label
+    pub below : t .cell < n
+    pub branch : BranchOf ws w v x (t .branch)
+    pub begins : starts-with (key-at ws txt (t .branch)) p ≡ true
+    pub label-ok : LabelOk ws w v x (getD labels (t .cell) 0)
+    pub passed : List Entry
+    pub after : List Entry
+    pub splits : s ≡ cond (again (entry-key ws txt) entry (g .given)) passed (entry ∷ after)
+    pub passed-rest : Rest ws txt w v x p (state roots′ heads′ labels child′ next′ n (t .root) last) passed
+    pub after-rest : Rest ws txt w v x p (state roots′ heads′ labels child′ next′ n (t .root) (t .branch)) after
+    pub fewer : remaining ws txt p roots′ heads′ n < remaining ws txt p roots heads n
+
+  pub steps : (t .cell ≡ 96 → ⊥) → Stepped
+  unfolding first run-at
+  steps ne = go (g .heap) (g .holding) (g .enough) (g .says)
+    where
+      m : Merge
+      m = state roots heads labels child next n root last
+
+      m′ : Merge
+      m′ = state roots′ heads′ labels child′ next′ n (t .root) last
+
+      go : (h : Heap ℕ) → Holding ws txt w v x p m h → held (heap-of ws txt p m h) ≤ g .fuel
+          → s ≡ forward (entry-key ws txt) (g .fuel) (heap-of ws txt p m h) (g .given) → Stepped
+      go EmptyHeap o h q = absurd (ne (takes .took labels last w v x EmptyHeap o))
+      go (HeapOf c hh) o h q =
+          let k = takes .took labels last w v x (HeapOf c hh) o in
+          let a = o .cells c (k .below) in
+          let val = run-at ws txt p roots heads labels n in
+          let few : held (heap-of ws txt p m′ (k .heap)) ≤ g .fuel =
+          omega (arith, ap held (k .heap-is), held-popped (entry-key ws txt) (val c) (forest-map val hh)) in
+          record {
+            entry = record { branch = getD heads c 0; label = getD labels c 0 };
+            branch-is = k .branch-is;
+            label-is = ap (λ (j : ℕ). getD labels j 0) (k .cell-is);
+            below = omega (arith, k .cell-is, k .below);
+            branch = rw (k .branch-is) (a .branch);
+            begins = rw (k .branch-is) (a .begins);
+            label-ok = rw (k .cell-is) (a .label-ok);
+            passed = forward (entry-key ws txt) (g .fuel) (heap-of ws txt p m′ (k .heap)) (g .given);
+            after = forward (entry-key ws txt) (g .fuel) (heap-of ws txt p m′ (k .heap)) (some (record { branch = getD heads c 0; label = getD labels c 0 }));
+            splits = q ∙ forward-step (entry-key ws txt) (g .fuel) (val c) (forest-map val hh) (g .given) h ∙ rw (k .heap-is);
+            passed-rest = record { heap = k .heap; holding = k .holding; given = g .given; last = g .last; fuel = g .fuel; enough = few; says = refl };
+            after-rest = record {
+              heap = k .heap;
+              holding = relast (k .holding);
+              given = some (record { branch = getD heads c 0; label = getD labels c 0 });
+              last = (sym (k .branch-is), rw (k .branch-is) (a .branch));
+              fuel = g .fuel;
+              enough = few;
+              says = refl;
+            };
+            fewer = k .fewer;
+          }
+        where
+          relast : {h : Heap ℕ} {l : ℕ} → Holding ws txt w v x p (state roots′ heads′ labels child′ next′ n (t .root) last) h
+              → Holding ws txt w v x p (state roots′ heads′ labels child′ next′ n (t .root) l) h
+          relast o = record { here = o .here; few = o .few; full = o .full; cells = o .cells; rep = o .rep; live = o .live }
+
+-- ---- merge_next
+
+-- What is left of the entries of m after those passed over.
+pub record Passing (ws txt : List ℕ) (p : Str) (m : Merge) (roots heads child next : List ℕ) (root : ℕ) : Type 0 where
+  pub says : (w : Which) (v : Level) (x : ℕ) (s : List Entry) → Rest ws txt w v x p m s → Rest ws txt w v x p (state roots heads (m .labels) child next (m .n) root (m .last)) s
+
+pub passing-none : {ws txt : List ℕ} {p : Str} (m : Merge) → Passing ws txt p m (m .roots) (m .heads) (m .child) (m .next) (m .root)
+passing-none m = record { says = λ w v x s g. g }
+
+module _ {ws txt : List ℕ} {p : Str} {m : Merge} {roots heads child next : List ℕ} {root : ℕ} (o : Passing ws txt p m roots heads child next root) (y : AnyRest ws txt p m) where
+  abbrev now-rest : Rest ws txt (y .which) (y .level) (y .link) p (state roots heads (m .labels) child next (m .n) root (m .last)) (y .entries)
+  now-rest = o .says (y .which) (y .level) (y .link) (y .entries) (y .rest)
+
+  pub passing-ready : Ready ws txt p (m .n) root roots heads child next
+  passing-ready = record {
+    labels = m .labels;
+    last = m .last;
+    which = y .which;
+    level = y .level;
+    link = y .link;
+    heap = now-rest .heap;
+    holding = now-rest .holding;
+  }
+
+  module _ {roots′ heads′ child′ next′ : List ℕ} {t : Taken} (takes : Takes ws txt p (m .n) root roots heads child next roots′ heads′ child′ next′ t) where
+    pub passing-end : t .cell ≡ 96 → Gives ws txt p m (record { branch = 0; label = 0; m = m })
+    passing-end e w v x s g =
+        subst (λ (s : List Entry). GivesIn ws txt w v x p s (record { branch = 0; label = 0; m = m })) (sym (step-end takes (o .says w v x s g) e)) refl
+
+    module _ (ne : t .cell ≡ 96 → ⊥) where
+      pub passing-cell : t .cell < m .n
+      passing-cell = steps takes now-rest ne .below
+
+      pub passing-small : t .cell < 96
+      passing-small = omega (arith, passing-cell, now-rest .holding .few)
+
+      pub passing-fewer : remaining ws txt p roots′ heads′ (m .n) < remaining ws txt p roots heads (m .n)
+      passing-fewer = steps takes now-rest ne .fewer
+
+      pub passing-branch : (0 < t .branch) × AnyTree ws txt (t .branch)
+      passing-branch = let k = steps takes now-rest ne in branch-tree (now-rest .holding .here) (k .branch)
+
+      pub passing-last : (m .last ≡ 0 → ⊥) → (0 < m .last) × AnyTree ws txt (m .last)
+      passing-last n = branch-tree (now-rest .holding .here) (last-branch ws (y .which) (y .level) (y .link) (m .last) (now-rest .given) (now-rest .last) n)
+
+      pub passing-on : (m .last ≡ 0 → ⊥) → same (key-at ws txt (t .branch)) (key-at ws txt (m .last)) ≡ true → Passing ws txt p m roots′ heads′ child′ next′ (t .root)
+      passing-on n e = record {
+        says = λ w v x s g.
+            let r = o .says w v x s g in
+            let k = steps takes r ne in
+            subst (λ (s : List Entry). Rest ws txt w v x p (state roots′ heads′ (m .labels) child′ next′ (m .n) (t .root) (m .last)) s)
+            (sym (k .splits ∙ rw (again-same ws txt w v x (m .last) (k .entry) (r .given) (r .last) n (rw (k .branch-is) at e)))) (k .passed-rest);
+      }
+
+      pub passing-gives : ((m .last ≡ 0 → ⊥) → same (key-at ws txt (t .branch)) (key-at ws txt (m .last)) ≡ false)
+          → Gives ws txt p m (record {
+            branch = t .branch;
+            label = getD (m .labels) (t .cell) 0;
+            m = state roots′ heads′ (m .labels) child′ next′ (m .n) (t .root) (t .branch);
+          })
+      passing-gives f w v x s g =
+          let r = o .says w v x s g in
+          let k = steps takes r ne in
+          let step : Step = record {
+            branch = t .branch;
+            label = getD (m .labels) (t .cell) 0;
+            m = state roots′ heads′ (m .labels) child′ next′ (m .n) (t .root) (t .branch);
+          } in
+          let d : GivenIn ws txt w v x p (k .entry) (k .after) step =
+          record { branch-is = k .branch-is; label-is = k .label-is; branch = k .branch; begins = k .begins; label-ok = k .label-ok; rest = k .after-rest } in
+          let e : s ≡ k .entry ∷ k .after = k .splits ∙ rw (again-new ws txt w v x (m .last) (k .entry) (r .given) (r .last) (λ n. rw (k .branch-is) at (f n))) in
+          subst (λ (s : List Entry). GivesIn ws txt w v x p s step) (sym e) d

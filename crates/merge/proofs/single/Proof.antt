@@ -1,0 +1,26 @@
+-- `merge::single` meets its contract.
+use mathlib.Core.Path.{_∙_}
+use native.Mathlib.Omega.{arith}
+use borrow.Author.Needs.{needs}
+use Rattle.merge.proofs.OneTree.{single-none, single-tree}
+use Rattle.merge.proofs.single.Statement.{statement}
+use Rattle.merge.proofs.single.Tie as tie
+
+pub single-spec : {M : Type 1} → statement M
+single-spec =
+    tie.close
+    (tie.spec
+    {- returns -}
+    (λ c. single-none)
+    {- word-of-requires -}
+    (λ c κs. search needs)
+    {- returns-2 -}
+    (λ c. single-none)
+    {- word-of-requires-2 -}
+    (λ c κs. search needs)
+    {- returns-3 -}
+    (λ c. single-none)
+    {- word-of-requires-3 -}
+    (λ c κs. search needs)
+    {- returns-4 -}
+    (λ c. single-tree (omega (arith, c .before .before .before .before .before .if1 .left)) (λ e. c .before .before .before .if2 .left (c .before .before .before .before .word-of .ensures ∙ e)) (omega (arith, c .before .before .word-of2 .ensures, c .before .if3 .left)) (c .word-of3 .ensures)))

@@ -1,0 +1,57 @@
+-- `merge::take` meets its contract.
+use native.Mathlib.Omega.{arith}
+use borrow.Author.Needs.{needs}
+use Rattle.merge.proofs.Cells.{heads-of}
+use Rattle.merge.proofs.Taking.{takes-none, Least-cell, cell-small, next-asks, takes-last, insert-asks, takes-next}
+use Rattle.heap.proofs.heap_pop.Reads as heap-pop-reads
+use Rattle.heap.proofs.heap_insert.Reads as heap-insert-reads
+use Rattle.tree.proofs.tree_next.Reads as tree-next-reads
+use Rattle.merge.proofs.take.Reads as reads
+use Rattle.merge.proofs.take.Lts as lts
+use Rattle.merge.proofs.take.Statement.{statement}
+use Rattle.merge.proofs.take.Tie as tie
+
+-- What heap_pop gave.
+least : (c : lts.After-known-told (heap-pop-reads.Asked, heap-pop-reads.Learnt, tree-next-reads.Asked, tree-next-reads.Learnt, heap-insert-reads.Asked, heap-insert-reads.Learnt) reads.Pre reads.Post)
+    → (let s = c .before .before .before .before .before .before .before .before .before .before .args in
+    let q = c .before .cell .given .0 in
+    let l = c .before .before .before .heap-pop .last in
+    Least-cell (s .words .now) (s .text .now) (s .prefix .now) (s .n) (s .root) (s .roots .now) (s .heads .now) (s .child .now) (s .next .now) (l .0) (l .1 .0) (q .0) (q .1 .0))
+least c = record { ready = c .before .before .before .before .before .before .before .before .before .before .pre; pops = rw (c .before .cell .given .1) at (c .before .before .before .heap-pop .ensures) }
+
+pub take-spec : {M : Type 1} → statement M
+take-spec =
+    tie.close
+    (tie.spec
+    {- heap-pop-requires -}
+    (λ c κs. let s = c .before .before .before .before .before .before .pre in (heads-of (s .holding), (s .heap, s .holding .rep)))
+    {- enum-told -}
+    (λ c. search needs)
+    {- enum-known-cell -}
+    (λ c. search needs)
+    {- mul-branch -}
+    (λ c. omega (arith, cell-small (least c)))
+    {- element-copy-out-branch -}
+    (λ c. cell-small (least c))
+    {- mul-own -}
+    (λ c. omega (arith, cell-small (least (c .before))))
+    {- element-copy-out-own -}
+    (λ c. cell-small (least (c .before)))
+    {- tree-next-requires -}
+    (λ c κs. next-asks (least (c .before .before)))
+    {- mul-roots -}
+    (λ c. omega (arith, cell-small (least (c .before .before .before .before))))
+    {- element-write-roots -}
+    (λ c. cell-small (least (c .before .before .before .before)))
+    {- returns -}
+    (λ c. takes-last (least (c .before .before .before .before)) (c .before .tree-next .ensures) (c .if1 .taken))
+    {- mul-heads -}
+    (λ c. omega (arith, cell-small (least (c .before .before .before .before))))
+    {- element-write-heads -}
+    (λ c. cell-small (least (c .before .before .before .before)))
+    {- heap-insert-requires -}
+    (λ c κs. insert-asks (least (c .before .before .before .before .before .before .before)) (c .before .before .before .before .tree-next .ensures) (c .before .before .before .if1 .left))
+    {- returns-2 -}
+    (λ c. takes-none (rw (c .enum-told .given .1) at (c .before .before .heap-pop .ensures)))
+    {- returns-3 -}
+    (λ c. takes-next (least (c .before .before .before .before .before .before .before .before)) (c .before .before .before .before .before .tree-next .ensures) (c .before .before .before .before .if1 .left) (c .heap-insert .ensures)))

@@ -1,0 +1,155 @@
+-- The state of a merge, and the entries that it still gives.
+use Prim.Native.Nat.{ℕ, zero, suc, _+_, _-_, _<_, _≤_}
+use mathlib.Core.Path.{_≡_}
+use mathlib.Core.Bool.{true, cond}
+use mathlib.Core.List.{List, [], _∷_, map}
+use mathlib.Core.Option.{Option, none, some}
+use lib.Dec.{eqb}
+use lib.ListN.{length, getD}
+use Rattle.source.specs.Text.{Str, starts-with}
+use Rattle.source.specs.Types.{Level}
+use Rattle.source.specs.Heap.{Heap, Forest, EmptyHeap, HeapOf}
+use Rattle.source.specs.Lists.{Run, run}
+use Rattle.source.specs.Listing.{SearchTerm}
+use Rattle.source.proofs.Heap.{heap-map, forest-map}
+use Rattle.source.proofs.Forward.{held, popped, forward}
+use Rattle.source.proofs.Found.{found}
+use Rattle.memory.specs.Layout.{Which, tree, list, kind, what, key-at}
+use Rattle.memory.specs.Sound.{LinkOk}
+use Rattle.heap.specs.Cells.{count, Rep}
+use Rattle.tree.specs.Links.{matches, after}
+use Rattle.tree.proofs.Links.{BranchOf}
+use Rattle.names.specs.Names.{ListAt}
+use Rattle.merge.specs.Entries.{Entry, entry-key, shown, outer, Asks}
+use Rattle.merge.specs.Lists.{LabelOk, Full}
+use Rattle.merge.specs.declared.Merge.{Merge}
+use Rattle.merge.specs.declared.Step.{Step}
+use Rattle.merge.specs.declared.Taken.{Taken}
+
+-- The matches of a tree after a branch.
+abbrev pub later : (ws txt : List ℕ) (p : Str) (root head : ℕ) → List ℕ
+later ws txt p root head = after (key-at ws txt) (key-at ws txt head) (matches ws txt root p)
+
+-- The list that the cell j of n stands for: its head, and the later matches of its tree.
+unfoldable pub run-at : (ws txt : List ℕ) (p : Str) (roots heads labels : List ℕ) (n j : ℕ) → Run Entry
+run-at ws txt p roots heads labels n j =
+    run (n - 1 - j) (record { branch = getD heads j 0; label = getD labels j 0 })
+    (map (λ b. record { branch = b; label = getD labels j 0 }) (later ws txt p (getD roots j 0) (getD heads j 0)))
+
+-- How many branches a cell has left, none once its tree is 0.
+unfoldable pub left : (ws txt : List ℕ) (p : Str) (root head : ℕ) → ℕ
+left ws txt p root head = cond (eqb root 0) 0 (suc (length (later ws txt p root head)))
+
+-- How many the first n cells have left.
+unfoldable pub remaining : (ws txt : List ℕ) (p : Str) (roots heads : List ℕ) → ℕ → ℕ
+remaining ws txt p roots heads zero = 0
+remaining ws txt p roots heads (suc n) = left ws txt p (getD roots n 0) (getD heads n 0) + remaining ws txt p roots heads n
+
+-- A cell's tree, head and label, no later than the list x.
+pub record CellOk (ws txt : List ℕ) (w : Which) (v : Level) (x : ℕ) (p : Str) (root head label : ℕ) : Type 0 where
+  pub root-link : LinkOk ws (x + 1) root (kind w (tree v))
+  pub branch : BranchOf ws w v x head
+  pub begins : starts-with (key-at ws txt head) p ≡ true
+  pub label-ok : LabelOk ws w v x label
+
+-- The state has the heap h of cells of the list x. A cell in the heap has its tree.
+pub record Holding (ws txt : List ℕ) (w : Which) (v : Level) (x : ℕ) (p : Str) (m : Merge) (h : Heap ℕ) : Type 0 where
+  pub here : ListAt ws txt w v x
+  pub few : m .n ≤ 96
+  pub full : Full (m .roots) (m .heads) (m .labels)
+  pub cells : (j : ℕ) → j < m .n → CellOk ws txt w v x p (getD (m .roots) j 0) (getD (m .heads) j 0) (getD (m .labels) j 0)
+  pub rep : Rep (m .n) (m .child) (m .next) (m .root) h
+  pub live : (j : ℕ) → 0 < count j h → 0 < getD (m .roots) j 0
+
+-- The lists of a heap of cells.
+abbrev pub heap-of : (ws txt : List ℕ) (p : Str) (m : Merge) → Heap ℕ → Heap (Run Entry)
+heap-of ws txt p m h = heap-map (run-at ws txt p (m .roots) (m .heads) (m .labels) (m .n)) h
+
+-- The last entry given, by the link of its branch, 0 for none yet.
+abbrev pub Last : (ws : List ℕ) (w : Which) (v : Level) (x l : ℕ) → Option Entry → Type 0
+Last ws w v x l none = l ≡ 0
+Last ws w v x l (some e) = (e .branch ≡ l) × BranchOf ws w v x l
+
+-- The state m still gives the entries s, of the list x.
+pub record Rest (ws txt : List ℕ) (w : Which) (v : Level) (x : ℕ) (p : Str) (m : Merge) (s : List Entry) : Type 0 where
+  pub heap : Heap ℕ
+  pub holding : Holding ws txt w v x p m heap
+  pub given : Option Entry
+  pub last : Last ws w v x (m .last) given
+  pub fuel : ℕ
+  pub enough : held (heap-of ws txt p m heap) ≤ fuel
+  pub says : s ≡ forward (entry-key ws txt) fuel (heap-of ws txt p m heap) given
+
+-- The same, of some table, level, list and entries.
+pub record AnyRest (ws txt : List ℕ) (p : Str) (m : Merge) : Type 0 where
+  pub which : Which
+  pub level : Level
+  pub link : ℕ
+  pub entries : List Entry
+  pub rest : Rest ws txt which level link p m entries
+
+-- At the start the entries show what is found.
+pub record StartIn (ws txt : List ℕ) (w : Which) (v : Level) (x : ℕ) (p : Str) (m : Merge) : Type 0 where
+  pub entries : List Entry
+  pub rest : Rest ws txt w v x p m entries
+  pub says : (term : SearchTerm) (q : Option Str) → Asks term p q → map outer (found (what w ws txt x (list v)) term) ≡ map (shown w ws txt v q) entries
+
+-- The same, for any table and level that the list is of.
+abbrev pub Starts : (ws txt : List ℕ) (x : ℕ) (p : Str) (m : Merge) → Type 0
+Starts ws txt x p m = (w : Which) (v : Level) → ListAt ws txt w v x → StartIn ws txt w v x p m
+
+-- The first entry is given, a branch of a tree of the list, and the state gives the rest.
+pub record GivenIn (ws txt : List ℕ) (w : Which) (v : Level) (x : ℕ) (p : Str) (e : Entry) (s : List Entry) (r : Step) : Type 0 where
+  pub branch-is : r .branch ≡ e .branch
+  pub label-is : r .label ≡ e .label
+  pub branch : BranchOf ws w v x (r .branch)
+  pub begins : starts-with (key-at ws txt (r .branch)) p ≡ true
+  pub label-ok : LabelOk ws w v x (r .label)
+  pub rest : Rest ws txt w v x p (r .m) s
+
+-- What a step gives of the entries: branch 0 at the end.
+abbrev pub GivesIn : (ws txt : List ℕ) (w : Which) (v : Level) (x : ℕ) (p : Str) → List Entry → Step → Type 0
+GivesIn ws txt w v x p [] r = r .branch ≡ 0
+GivesIn ws txt w v x p (e ∷ s) r = GivenIn ws txt w v x p e s r
+
+-- The same, of whatever the state gives.
+abbrev pub Gives : (ws txt : List ℕ) (p : Str) (m : Merge) (r : Step) → Type 0
+Gives ws txt p m r = (w : Which) (v : Level) (x : ℕ) (s : List Entry) → Rest ws txt w v x p m s → GivesIn ws txt w v x p s r
+
+-- ---- One cell taken from the heap
+
+-- The state of these cells.
+abbrev pub state : (roots heads labels child next : List ℕ) (n root last : ℕ) → Merge
+state roots heads labels child next n root last =
+    record { roots = roots; heads = heads; labels = labels; child = child; next = next; n = n; root = root; last = last }
+
+-- The least cell c is taken, and the rest of its list put back.
+pub record TookCell (ws txt : List ℕ) (w : Which) (v : Level) (x : ℕ) (p : Str) (m m′ : Merge) (t : Taken) (c : ℕ) (hh : Forest ℕ) : Type 0 where
+  pub cell-is : t .cell ≡ c
+  pub below : c < m .n
+  pub branch-is : t .branch ≡ getD (m .heads) c 0
+  pub heap : Heap ℕ
+  pub holding : Holding ws txt w v x p m′ heap
+  pub heap-is : heap-of ws txt p m′ heap ≡ popped (entry-key ws txt) (run-at ws txt p (m .roots) (m .heads) (m .labels) (m .n) c)
+      (forest-map (run-at ws txt p (m .roots) (m .heads) (m .labels) (m .n)) hh)
+  pub fewer : remaining ws txt p (m′ .roots) (m′ .heads) (m .n) < remaining ws txt p (m .roots) (m .heads) (m .n)
+
+-- What is taken of a heap: cell 96 of the empty one.
+abbrev pub TookIn : (ws txt : List ℕ) (w : Which) (v : Level) (x : ℕ) (p : Str) (m m′ : Merge) (t : Taken) → Heap ℕ → Type 0
+TookIn ws txt w v x p m m′ t EmptyHeap = t .cell ≡ 96
+TookIn ws txt w v x p m m′ t (HeapOf c hh) = TookCell ws txt w v x p m m′ t c hh
+
+-- The same, for any labels and whatever heap the cells have.
+pub record Takes (ws txt : List ℕ) (p : Str) (n root : ℕ) (roots heads child next roots′ heads′ child′ next′ : List ℕ) (t : Taken) : Type 0 where
+  pub took : (labels : List ℕ) (last : ℕ) (w : Which) (v : Level) (x : ℕ) (h : Heap ℕ) → Holding ws txt w v x p (state roots heads labels child next n root last) h
+      → TookIn ws txt w v x p (state roots heads labels child next n root last) (state roots′ heads′ labels child′ next′ n (t .root) last) t h
+
+-- The cells have some heap.
+pub record Ready (ws txt : List ℕ) (p : Str) (n root : ℕ) (roots heads child next : List ℕ) : Type 0 where
+  pub labels : List ℕ
+  pub last : ℕ
+  pub which : Which
+  pub level : Level
+  pub link : ℕ
+  pub heap : Heap ℕ
+  pub holding : Holding ws txt which level link p (state roots heads labels child next n root last) heap
