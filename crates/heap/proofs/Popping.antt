@@ -1,12 +1,12 @@
 -- heap_pop and heap_from_list in cells.
 use Prim.Native.Nat.{ℕ, _+_, _≤_, _<_, Ordering}
 use mathlib.Core.Path.{_≡_, refl, sym, subst}
-use mathlib.Core.List.{List, [], _∷_, _++_}
+use mathlib.Core.List.{List}
 use native.Mathlib.Omega.{arith}
 use native.Mathlib.Numerals.{add-one}
 use lib.ListN.{getD}
 use Rattle.source.specs.Heap.{Heap, Forest, EmptyHeap, HeapOf, []ᶠ, heap-insert, heap-pop, heap-insert-all, heap-from-list}
-use Rattle.source.proofs.Heap.{sum-merge}
+use Rattle.source.proofs.Heap.{insert-all-more, sum-merge}
 use Rattle.heap.specs.Cells.{Holdsᶠ, is, count, Sized, Rep, Repᶠ, Inserts, Pairs, Pops, first-cells}
 use Rattle.heap.specs.declared.Popped.the-variants.{Nothing, Least}
 use Rattle.heap.proofs.Kept.{root-small, is-other}
@@ -42,11 +42,6 @@ module _ (n : ℕ) (child next : List ℕ) (few : n ≤ 96) (i : ℕ) where
 
 -- ---- heap_from_list
 module _ (cmp : ℕ → ℕ → Ordering) where
-  insert-all-more : (h : Heap ℕ) (l : List ℕ) (v : ℕ) → heap-insert-all cmp h (l ++ (v ∷ [])) ≡ heap-insert cmp (heap-insert-all cmp h l) v
-  unfolding heap-insert-all
-  insert-all-more h [] v = refl
-  insert-all-more h (w ∷ l) v = insert-all-more (heap-insert cmp h w) l v
-
   -- The cells below v are in the heap, and no other.
   pub record Built (n : ℕ) (child next : List ℕ) (root v : ℕ) : Type 0 where
     pub below : v ≤ n
@@ -63,8 +58,8 @@ module _ (cmp : ℕ → ℕ → Ordering) where
   built-more n child next root v b l child′ next′ r inserted =
       rw (add-one v) (record {
         below = omega arith;
-        rep = rw (insert-all-more EmptyHeap (first-cells v) v) (inserted (heap-from-list cmp (first-cells v)) (b .rep) (b .fresh v (omega arith)) .rep);
-        fresh = λ j k. rw (insert-all-more EmptyHeap (first-cells v) v) (omega (
+        rep = rw (insert-all-more cmp EmptyHeap (first-cells v) v) (inserted (heap-from-list cmp (first-cells v)) (b .rep) (b .fresh v (omega arith)) .rep);
+        fresh = λ j k. rw (insert-all-more cmp EmptyHeap (first-cells v) v) (omega (
           arith,
           sum-merge cmp (is j) (HeapOf v []ᶠ) (heap-from-list cmp (first-cells v)),
           b .fresh j (omega arith),

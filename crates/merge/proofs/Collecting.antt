@@ -18,7 +18,7 @@ use Rattle.source.specs.Listing.{SearchTerm, NSTPrefix, with-imports}
 use Rattle.source.specs.Table.{last-opt}
 use Rattle.source.proofs.Names.{tree-matches}
 use Rattle.source.proofs.Forward.{nonempty-append}
-use Rattle.source.proofs.Flat.{flat-in}
+use Rattle.source.proofs.Flat.{last-import, flat-in}
 use Rattle.memory.specs.Layout.{record-at, word, span, Which, Item, tree, list, what, key-at}
 use Rattle.memory.specs.Stored.{stored}
 use Rattle.memory.proofs.Readings.{what-none}
@@ -50,11 +50,6 @@ head-tail [] r e n = absurd (n e)
 head-tail (y ∷ l) r e n = (l, rw e)
 
 -- ---- The outermost label
-last-import : (label : Str) (imports : List Str) → last-opt (label ∷ imports) ≡ some (dflt label (last-opt imports))
-unfolding last-opt dflt
-last-import label [] = refl
-last-import label (i ∷ imports) = rw (last-import i imports)
-
 -- The outermost label, once the collection x is entered.
 abbrev pub outermost : (label x : ℕ) → ℕ
 outermost zero x = x

@@ -1,7 +1,7 @@
 -- The start of a merge: the cells stand for what names_find_rev merges, so that the entries show what is found.
-use Prim.Native.Nat.{ℕ, zero, suc, _+_, _-_, _<_, _≤_, Ordering}
+use Prim.Native.Nat.{ℕ, zero, suc, _+_, _-_, _<_, _≤_}
 use mathlib.Core.Path.{_≡_, refl, sym, ap, ap₂, _∙_}
-use mathlib.Core.List.{List, [], _∷_, _++_, map, map-map, nil≢cons}
+use mathlib.Core.List.{List, [], _∷_, map, map-map, nil≢cons}
 use mathlib.Core.Option.{Option, none, some}
 use native.Mathlib.Decide.{ℕ-discrete}
 use native.Mathlib.Omega.{arith}
@@ -14,7 +14,7 @@ use Rattle.source.specs.Heap.{Heap, EmptyHeap, HeapOf, []ᶠ, heap-insert, heap
 use Rattle.source.specs.Lists.{Run, run, first, priority, run-cmp}
 use Rattle.source.specs.Listing.{elem-key, with-imports}
 use Rattle.source.specs.Table.{last-opt}
-use Rattle.source.proofs.Heap.{All, All-merge, counted, heap-map}
+use Rattle.source.proofs.Heap.{insert-all-more, All, All-merge, counted, heap-map}
 use Rattle.source.proofs.Lists.{rest}
 use Rattle.source.proofs.Names.{OrderedN}
 use Rattle.source.proofs.Listed.{formed-orderedN}
@@ -48,11 +48,6 @@ map-ext f g e [] = refl
 map-ext f g e (y ∷ l) = ap₂ _∷_ (e y) (map-ext f g e l)
 
 -- ---- The heap of the first cells
-insert-all-more : {A : Type 0} (cmp : A → A → Ordering) (h : Heap A) (l : List A) (a : A) → heap-insert-all cmp h (l ++ (a ∷ [])) ≡ heap-insert cmp (heap-insert-all cmp h l) a
-unfolding heap-insert-all
-insert-all-more cmp h [] a = refl
-insert-all-more cmp h (b ∷ l) a = insert-all-more cmp (heap-insert cmp h b) l a
-
 built-ext : {A : Type 0} (key : A → Str) (r r′ : ℕ → Run A) (k : ℕ) → ((j : ℕ) → j < k → r j ≡ r′ j) → built key r k ≡ built key r′ k
 unfolding built
 built-ext key r r′ zero e = refl

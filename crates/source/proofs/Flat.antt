@@ -13,7 +13,7 @@ use Rattle.source.specs.Listing.{NSTAll, NSTPrefix, revmap-onto, names-r
 use Rattle.source.specs.Table.{last-opt}
 use Rattle.source.proofs.Names.{tree-matches, values-all, values-prefix}
 
-last-import : (label : Str) (imports : List Str) → last-opt (label ∷ imports) ≡ some (dflt label (last-opt imports))
+pub last-import : (label : Str) (imports : List Str) → last-opt (label ∷ imports) ≡ some (dflt label (last-opt imports))
 unfolding last-opt dflt
 last-import label [] = refl
 last-import label (i ∷ imports) = rw (last-import i imports)

@@ -2,7 +2,7 @@
 use Prim.Native.Nat.{ℕ, zero, suc, _+_, _<_, Ordering}
 use mathlib.Core.Path.{_≡_, refl, sym, ap, subst}
 use mathlib.Core.Bool.{Bool, true, false, cond}
-use mathlib.Core.List.{List, [], _∷_}
+use mathlib.Core.List.{List, [], _∷_, _++_}
 use mathlib.Core.Option.{some, Option·none-ne-some, Option·some-injective}
 use native.Mathlib.Omega.{arith}
 use Rattle.source.specs.Heap.{Heap, Forest, EmptyHeap, HeapOf, []ᶠ, _∷ᶠ_, is-lt, heap-merge, heap-insert, heap-merge-pairs, heap-pair-up, heap-pop, heap-insert-all, heap-from-list}
@@ -95,6 +95,11 @@ module _ {A : Type 0} where
     countedᶠ P f (h ∷ᶠ hh) l p = pick (sum f h) (sumᶠ f hh) l (λ k. counted P f h k (p .0)) (λ k. countedᶠ P f hh k (p .1))
 
   module _ (cmp : A → A → Ordering) where
+    pub insert-all-more : (h : Heap A) (l : List A) (a : A) → heap-insert-all cmp h (l ++ (a ∷ [])) ≡ heap-insert cmp (heap-insert-all cmp h l) a
+    unfolding heap-insert-all
+    insert-all-more h [] a = refl
+    insert-all-more h (b ∷ l) a = insert-all-more (heap-insert cmp h b) l a
+
     pub sum-merge : (f : A → ℕ) (a b : Heap A) → sum f (heap-merge cmp a b) ≡ sum f a + sum f b
     unfolding heap-merge
     sum-merge f EmptyHeap b = omega arith
