@@ -1,3 +1,9 @@
 mod Roots
 mod Decided
+mod Arguments
 mod Lookups
+mod Checks
+mod Laying
+mod Changes
+mod Writing
+mod Registering

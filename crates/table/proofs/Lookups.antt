@@ -1,7 +1,7 @@
 -- A look-up: the rows of its query, and the item at its end.
 use Prim.Native.Nat.{ℕ, _*_, _<_, _≤_}
-use mathlib.Core.Path.{_≡_, refl, ap}
-use mathlib.Core.Bool.{Bool, true, false, _||_}
+use mathlib.Core.Path.{_≡_}
+use mathlib.Core.Bool.{true}
 use mathlib.Core.List.{List, [], _∷_}
 use mathlib.Core.Option.{none, some}
 use native.Mathlib.Omega.{arith}
@@ -10,29 +10,13 @@ use borrow.Author.Tests.{ne-eqb}
 use Rattle.source.specs.Text.{Str, Query, segments, ends-in-dot}
 use Rattle.source.specs.Types.{Trie, the-item}
 use Rattle.source.specs.Tries.{trie-find-exact}
-use Rattle.source.specs.Calls.{Argument, a-look-up, any, malformed, empty-name, too-long, Row, _when_, lowest, argument-rows, Found, found, not-found, refused, found-of, look-up}
+use Rattle.source.specs.Calls.{a-look-up, lowest, argument-rows, Found, found, not-found, refused, found-of, look-up}
 use Rattle.source.proofs.Refusals.{argument-rows-none, look-up-whole}
 use Rattle.memory.specs.Layout.{record-at, Which, item-of, trieˢ, what}
 use Rattle.memory.proofs.Seen.{link-fits, link-later}
-use Rattle.text.specs.Calls.{Flagged}
-use Rattle.text.specs.declared.Flags.{Flags}
 use Rattle.tree.specs.Tree.{held}
 use Rattle.trie.specs.Tries as T
 use Rattle.trie.specs.Tries.{AnyTrie, FoundIn}
-use Rattle.table.specs.Answers.{flag-rows}
-
-or-false : (b : Bool) → b || false ≡ b
-or-false true = refl
-or-false false = refl
-
-flags-rows : {a : Argument} {f : Flags} → Flagged a f → _≡_ {A = List Row} ((2 when any malformed (a ∷ [])) ∷ (3 when any empty-name (a ∷ [])) ∷ (4 when any too-long (a ∷ [])) ∷ []) (flag-rows f)
-unfolding any
-flags-rows h = rw (or-false, or-false, or-false, h .malformed, h .empty, h .long)
-
--- The rows of one argument.
-pub rows-of-one : {a : Argument} {f : Flags} → Flagged a f → lowest (argument-rows true (a ∷ [])) ≡ lowest (flag-rows f)
-unfolding lowest argument-rows
-rows-of-one h = ap lowest (flags-rows h)
 
 module _ (query : Str) where
   pub query-whole : lowest (argument-rows true (a-look-up query ∷ [])) ≡ none → ends-in-dot query ≡ true

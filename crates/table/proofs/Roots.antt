@@ -2,9 +2,10 @@
 use Prim.Native.Nat.{ℕ}
 use mathlib.Core.List.{List}
 use native.Mathlib.Omega.{arith}
+use Rattle.source.specs.Types.{Trie}
 use Rattle.memory.specs.Layout.{names, modules}
-use Rattle.trie.specs.Tries.{TrieAt, AnyTrie}
-use Rattle.trie.proofs.Links.{sound-first}
+use Rattle.trie.specs.Tries.{TrieAt, AnyTrie, Reads}
+use Rattle.trie.proofs.Links.{sound-first, trie-of}
 use Rattle.table.specs.Header.{IsSound}
 use Rattle.table.specs.declared.Table.{Table}
 
@@ -20,3 +21,7 @@ module _ {ws txt : List ℕ} {t : Table} (o : IsSound ws txt t) where
 
   pub any-modules : AnyTrie ws txt (t .modules)
   any-modules = record { which = modules; trie = modules-trie }
+
+  -- The trie that a query includes.
+  pub included-trie : {inc : ℕ} {x : Trie ℕ} → Reads ws txt names (t .names) inc x → TrieAt ws txt names inc
+  included-trie r = trie-of names-trie (r .link)

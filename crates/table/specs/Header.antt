@@ -2,10 +2,12 @@
 use Prim.Native.Nat.{ℕ}
 use mathlib.Core.Path.{_≡_}
 use mathlib.Core.List.{List}
+use lib.ListN.{length}
 use Rattle.source.specs.Types.{Trie}
+use Rattle.source.specs.Table as S
 use Rattle.source.specs.Table.{ModSymbol}
-use Rattle.source.specs.Calls.{State, fresh}
-use Rattle.memory.specs.Layout.{names, modules, trieˢ, what, state-of}
+use Rattle.source.specs.Calls.{State, Lent, fresh}
+use Rattle.memory.specs.Layout.{names, modules, trieˢ, what, table-of, state-of}
 use Rattle.memory.specs.Sound.{Sound}
 use Rattle.table.specs.declared.Table.{Table}
 
@@ -13,14 +15,19 @@ use Rattle.table.specs.declared.Table.{Table}
 abbrev pub IsSound : (ws txt : List ℕ) → Table → Type 0
 IsSound ws txt t = Sound ws txt (t .names) (t .modules) (t .records) (t .text)
 
+-- The source's table.
+abbrev pub table-in : (ws txt : List ℕ) → Table → S.Table
+table-in ws txt t = table-of ws txt (t .names) (t .modules)
+
 -- The table by value.
 abbrev pub state : (ws txt : List ℕ) → Table → State
 state ws txt t = state-of ws txt (t .names) (t .modules) (t .records) (t .text)
 
--- Its two roots.
+-- Its root of names.
 abbrev pub names-in : (ws txt : List ℕ) → Table → Trie ℕ
 names-in ws txt t = what names ws txt (t .names) trieˢ
 
+-- Its root of modules.
 abbrev pub modules-in : (ws txt : List ℕ) → Table → Trie ModSymbol
 modules-in ws txt t = what modules ws txt (t .modules) trieˢ
 
@@ -28,3 +35,7 @@ modules-in ws txt t = what modules ws txt (t .modules) trieˢ
 pub record Fresh (t : Table) : Type 0 where
   pub sound : (ws txt : List ℕ) → IsSound ws txt t
   pub reads : (ws txt : List ℕ) → state ws txt t ≡ fresh
+
+-- What is lent with it.
+abbrev pub lent : (ws txt : List ℕ) → Lent
+lent ws txt = record { words = length ws; text = length txt }

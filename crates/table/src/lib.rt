@@ -1,14 +1,25 @@
 // The calls on a table: a header by value, with the lent words and text.
 // Each call has a form for callers that have proved the memory sound, and a total one that tests it first.
 use memory::ModSymbol;
+use memory::Span;
 use text::Flags;
+use trie::Change;
+use trie::Plan;
 ghost use mathlib.Core.Path.{_≡_};
-ghost use mathlib.Core.Bool.{Bool, true};
-ghost use Rattle.source.specs.Calls.{lowest, look-up};
+ghost use Prim.Native.Nat.{_+_, _-_, _*_, _≤_};
+ghost use lib.ListN.{length};
+ghost use mathlib.Core.Bool.{Bool, true, false};
+ghost use Rattle.source.specs.Calls.{malformed, lowest, name, include, opens, alias, module-path, arguments, free, after, look-up};
+ghost use Rattle.memory.specs.Layout.{names};
 ghost use Rattle.memory.specs.Sound.{Says};
-ghost use Rattle.trie.specs.Tries.{AnyTrie};
-ghost use Rattle.table.specs.Header.{IsSound, Fresh, names-in, modules-in};
+ghost use Rattle.text.specs.Calls.{Flagged};
+ghost use Rattle.trie.specs.Tries.{TrieAt, AnyTrie};
+ghost use Rattle.trie.specs.Plans.{Planned};
+ghost use Rattle.table.specs.Header.{IsSound, Fresh, state, table-in, names-in, modules-in};
 ghost use Rattle.table.specs.Answers.{row-of, flag-rows, LookedUp, name-found, module-found};
+ghost use Rattle.table.specs.Forms.{other-argument, key-argument, call-of, AllFlagged, both-flags, NoKey, Ready, Carries, plan-rows, Passes, Checks};
+ghost use Rattle.table.specs.Registrations.{Accepts, Answers, Total};
+ghost use Rattle.table.specs.Writes.{Laid, change-in, which-in, root-at, with-root};
 
 // A table: the links of its two roots, records used, text used.
 pub struct Table {
@@ -93,6 +104,204 @@ fn look_up(words: &[u32], text: &[u8], root: u32, query: &[u8]) -> Looked
     }
 }
 
+// ---- Registrations
+
+// A registration apart from its texts: a name with its item, an include, an open (of a module or not), an alias, a module path (loaded or not).
+enum Form {
+    Name(u32),
+    Include,
+    Open(bool),
+    Alias,
+    Module(bool),
+}
+
+// The answer of a registration.
+pub enum Registered {
+    Accepted,
+    Refused(Refusal),
+}
+
+// The table that a registration hands back, with its answer.
+pub struct Registration {
+    pub table: Table,
+    pub answer: Registered,
+}
+
+// Whether a registration passes every row, with the link of the included trie.
+enum Checked {
+    Passed(u32),
+    Refused(Refusal),
+}
+
+// The flags of two lots of arguments together.
+fn either(a: Flags, b: Flags) -> Flags
+    ensures { λ r. ⌜ r ≡ both-flags a b ⌝ }
+{
+    Flags {
+        malformed: a.malformed | b.malformed,
+        empty: a.empty | b.empty,
+        long: a.long | b.long,
+    }
+}
+
+// The flags of the id, the included query or the file path.
+fn other_flags(form: Form, other: &[u8]) -> Flags
+    ensures { λ r. ⌜ Flagged (other-argument form (now (other .entry))) r ⌝ }
+{
+    match form {
+        Form::Name(_) => text::name_flags(other),
+        Form::Include => text::query_flags(other),
+        Form::Open(_) => text::query_flags(other),
+        Form::Alias => text::query_flags(other),
+        Form::Module(_) => text::path_flags(other),
+    }
+}
+
+// The flags of an alias's key; none of another form.
+fn key_flags(form: Form, key: &[u8]) -> Flags
+    ensures { λ r. ⌜ AllFlagged (key-argument form (now (key .entry))) r ⌝ }
+{
+    let none = Flags {
+        malformed: false,
+        empty: false,
+        long: false,
+    };
+    match form {
+        Form::Name(_) => none,
+        Form::Include => none,
+        Form::Open(_) => none,
+        Form::Alias => text::name_flags(key),
+        Form::Module(_) => none,
+    }
+}
+
+// The flags of all arguments.
+fn flags_of(form: Form, host: &[u8], other: &[u8], key: &[u8]) -> Flags
+    ensures { λ r. ⌜ AllFlagged (arguments (call-of form (now (host .entry)) (now (other .entry)) (now (key .entry)))) r ⌝ }
+{
+    let k = key_flags(form, key);
+    let h = text::query_flags(host);
+    let o = other_flags(form, other);
+    either(k, either(h, o))
+}
+
+// The trie that a registration includes; 0 where it includes none.
+fn included(words: &[u32], text: &[u8], root: u32, form: Form, other: &[u8]) -> u32
+    requires { ⌜ TrieAt (now words) (now text) names root ⌝ }
+    requires { ⌜ malformed (other-argument form (now other)) ≡ false ⌝ }
+    ensures { λ r. ⌜ Carries form (now (words .entry)) (now (text .entry)) root (now (other .entry)) r ⌝ }
+{
+    match form {
+        Form::Name(_) => 0,
+        Form::Include => trie::trie_descend(words, text, root, other),
+        Form::Open(_) => trie::trie_descend(words, text, root, other),
+        Form::Alias => trie::trie_descend(words, text, root, other),
+        Form::Module(_) => 0,
+    }
+}
+
+// Free: what is lent, up to 65,536, less what is used.
+fn free(lent: usize, used: u32) -> usize
+    ensures { λ r. ⌜ r ≡ free lent used ⌝ }
+{
+    let most = 65536;
+    let taken = used as usize;
+    if lent < most {
+        if lent < taken {
+            return 0;
+        }
+        return lent - taken;
+    }
+    if most < taken {
+        return 0;
+    }
+    most - taken
+}
+
+// Rows 5 to 8, by the plan, the words and bytes lent, the records and text used, and the text that the call takes.
+fn afford(plan: Plan, words: usize, text: usize, records: u32, used: u32, taken: usize) -> Admission
+    ensures { λ r. ⌜ row-of r ≡ lowest (plan-rows plan words text records used taken) ⌝ }
+{
+    if plan.crowded {
+        return Admission::Refused(Refusal::Crowded);
+    }
+    if plan.deep {
+        return Admission::Refused(Refusal::Deep);
+    }
+    if free(words / 12, records) < plan.records as usize {
+        return Admission::Refused(Refusal::Full);
+    }
+    if free(text, used) < taken {
+        return Admission::Refused(Refusal::TextFull);
+    }
+    Admission::Admitted
+}
+
+// Writes the texts of a registration after the used ones.
+fn put_texts(text: &mut [u8], used: u32, host: &[u8], other: &[u8], key: &[u8])
+    requires { ⌜ used + length (now host) + length (now other) + length (now key) ≤ length (now text) ⌝ }
+    requires { ⌜ used + length (now host) + length (now other) + length (now key) ≤ 65536 ⌝ }
+    ensures { λ _. ⌜ Laid (now (text .entry)) (now (text .exit)) used (now (host .entry)) (now (other .entry)) (now (key .entry)) ⌝ }
+{
+    let start = used + host.len() as u32;
+    let end = start + other.len() as u32;
+    memory::put_text(text, used, host);
+    memory::put_text(text, start, other);
+    memory::put_text(text, end, key);
+}
+
+// One less, down to 0.
+fn less_one(n: u32) -> u32
+    ensures { λ r. ⌜ r ≡ n - 1 ⌝ }
+{
+    if n == 0 {
+        return 0;
+    }
+    n - 1
+}
+
+// The change that a registration makes. Its second text is from `start` on, its key from `end` on.
+fn change_of(
+    words: &[u32],
+    form: Form,
+    inc: u32,
+    start: u32,
+    len: u32,
+    end: u32,
+    size: u32,
+) -> Change
+    requires { ⌜ inc * 12 ≤ length (now words) ⌝ }
+    ensures { λ r. ⌜ r ≡ change-in (now (words .entry)) form inc start len end size ⌝ }
+{
+    let t = memory::trie_of(words, inc);
+    let second = Span {
+        start: start,
+        len: len,
+    };
+    let label = Span {
+        start: start,
+        len: less_one(len),
+    };
+    match form {
+        Form::Name(item) => Change::Name(second, item),
+        Form::Include => Change::Include(label, t.bindings),
+        Form::Open(flag) => {
+            if flag {
+                return Change::Include(label, t.bindings);
+            }
+            Change::Open(label, t.namespaces)
+        }
+        Form::Alias => {
+            let third = Span {
+                start: end,
+                len: size,
+            };
+            Change::Alias(third, label, t.bindings)
+        }
+        Form::Module(loaded) => Change::Module(loaded, second),
+    }
+}
+
 impl Table {
     // The fresh table.
     pub fn fresh() -> Table
@@ -103,32 +312,6 @@ impl Table {
             modules: 0,
             records: 0,
             text: 0,
-        }
-    }
-
-    // Look-up of a name, in a sound memory.
-    pub fn find_sound(self, words: &[u32], text: &[u8], query: &[u8]) -> Found
-        requires { ⌜ IsSound (now words) (now text) self ⌝ }
-        ensures { λ r. ⌜ name-found r ≡ look-up true (names-in (now (words .entry)) (now (text .entry)) self) (now (query .entry)) ⌝ }
-    {
-        let l = look_up(words, text, self.names, query);
-        match l {
-            Looked::Branch(link) => Found::Item(memory::word_of(words, link, 5)),
-            Looked::Nothing => Found::Nothing,
-            Looked::Refused(x) => Found::Refused(x),
-        }
-    }
-
-    // Look-up of a module or namespace, in a sound memory.
-    pub fn find_module_sound(self, words: &[u32], text: &[u8], query: &[u8]) -> FoundModule
-        requires { ⌜ IsSound (now words) (now text) self ⌝ }
-        ensures { λ r. ⌜ module-found (now (text .entry)) r ≡ look-up true (modules-in (now (words .entry)) (now (text .entry)) self) (now (query .entry)) ⌝ }
-    {
-        let l = look_up(words, text, self.modules, query);
-        match l {
-            Looked::Branch(link) => FoundModule::Symbol(memory::symbol_of(words, link)),
-            Looked::Nothing => FoundModule::Nothing,
-            Looked::Refused(x) => FoundModule::Refused(x),
         }
     }
 
@@ -146,6 +329,19 @@ impl Table {
         )
     }
 
+    // Look-up of a name, in a sound memory.
+    pub fn find_sound(self, words: &[u32], text: &[u8], query: &[u8]) -> Found
+        requires { ⌜ IsSound (now words) (now text) self ⌝ }
+        ensures { λ r. ⌜ name-found r ≡ look-up true (names-in (now (words .entry)) (now (text .entry)) self) (now (query .entry)) ⌝ }
+    {
+        let l = look_up(words, text, self.names, query);
+        match l {
+            Looked::Branch(link) => Found::Item(memory::word_of(words, link, 5)),
+            Looked::Nothing => Found::Nothing,
+            Looked::Refused(x) => Found::Refused(x),
+        }
+    }
+
     // Look-up of a name.
     pub fn find(self, words: &[u32], text: &[u8], query: &[u8]) -> Found
         ensures { λ r. ⌜ ((b : Bool) → Says b (IsSound (now (words .entry)) (now (text .entry)) self) → name-found r ≡ look-up b (names-in (now (words .entry)) (now (text .entry)) self) (now (query .entry))) ⌝ }
@@ -156,6 +352,19 @@ impl Table {
         Found::Refused(Refusal::Unsound)
     }
 
+    // Look-up of a module or namespace, in a sound memory.
+    pub fn find_module_sound(self, words: &[u32], text: &[u8], query: &[u8]) -> FoundModule
+        requires { ⌜ IsSound (now words) (now text) self ⌝ }
+        ensures { λ r. ⌜ module-found (now (text .entry)) r ≡ look-up true (modules-in (now (words .entry)) (now (text .entry)) self) (now (query .entry)) ⌝ }
+    {
+        let l = look_up(words, text, self.modules, query);
+        match l {
+            Looked::Branch(link) => FoundModule::Symbol(memory::symbol_of(words, link)),
+            Looked::Nothing => FoundModule::Nothing,
+            Looked::Refused(x) => FoundModule::Refused(x),
+        }
+    }
+
     // Look-up of a module or namespace.
     pub fn find_module(self, words: &[u32], text: &[u8], query: &[u8]) -> FoundModule
         ensures { λ r. ⌜ ((b : Bool) → Says b (IsSound (now (words .entry)) (now (text .entry)) self) → module-found (now (text .entry)) r ≡ look-up b (modules-in (now (words .entry)) (now (text .entry)) self) (now (query .entry))) ⌝ }
@@ -164,5 +373,331 @@ impl Table {
             return self.find_module_sound(words, text, query);
         }
         FoundModule::Refused(Refusal::Unsound)
+    }
+
+    // The plan of a registration, where the trie that it includes is `inc`.
+    fn plan(
+        self,
+        words: &[u32],
+        text: &[u8],
+        form: Form,
+        inc: u32,
+        host: &[u8],
+        other: &[u8],
+        key: &[u8],
+    ) -> Plan
+        requires { ⌜ IsSound (now words) (now text) self ⌝ }
+        requires { ⌜ Ready form (now host) (now other) (now key) ⌝ }
+        requires { ⌜ Carries form (now words) (now text) (self .names) (now other) inc ⌝ }
+        ensures { λ r. ⌜ Planned (table-in (now (words .entry)) (now (text .entry)) self) (call-of form (now (host .entry)) (now (other .entry)) (now (key .entry))) r ⌝ }
+    {
+        match form {
+            Form::Name(_) => trie::plan_name(words, text, self.names, host, other),
+            Form::Include => trie::plan_include(words, text, self.names, host, inc),
+            Form::Open(flag) => {
+                if flag {
+                    return trie::plan_include(words, text, self.names, host, inc);
+                }
+                trie::plan_open(words, text, self.names, host, inc)
+            }
+            Form::Alias => trie::plan_alias(words, text, self.names, key, host, inc),
+            Form::Module(loaded) => trie::plan_module(words, text, self.modules, host, loaded),
+        }
+    }
+
+    // Rows 2 to 8 of a registration.
+    fn check(
+        self,
+        words: &[u32],
+        text: &[u8],
+        form: Form,
+        host: &[u8],
+        other: &[u8],
+        key: &[u8],
+    ) -> Checked
+        requires { ⌜ IsSound (now words) (now text) self ⌝ }
+        requires { ⌜ NoKey form (now key) ⌝ }
+        ensures { λ r. ⌜ Checks (now (words .entry)) (now (text .entry)) self form (now (host .entry)) (now (other .entry)) (now (key .entry)) r ⌝ }
+    {
+        let a = admit(flags_of(form, host, other, key));
+        match a {
+            Admission::Refused(x) => Checked::Refused(x),
+            Admission::Admitted => {
+                let inc = included(words, text, self.names, form, other);
+                let p = self.plan(words, text, form, inc, host, other, key);
+                let taken = host.len() + other.len() + key.len();
+                let b = afford(p, words.len(), text.len(), self.records, self.text, taken);
+                match b {
+                    Admission::Refused(x) => Checked::Refused(x),
+                    Admission::Admitted => Checked::Passed(inc),
+                }
+            }
+        }
+    }
+
+    // The root that a registration changes.
+    fn root_of(self, form: Form) -> u32
+        ensures { λ r. ⌜ r ≡ root-at (which-in form) self ⌝ }
+    {
+        match form {
+            Form::Name(_) => self.names,
+            Form::Include => self.names,
+            Form::Open(_) => self.names,
+            Form::Alias => self.names,
+            Form::Module(_) => self.modules,
+        }
+    }
+
+    // The header after a registration: `link` is the new root.
+    fn changed(self, form: Form, link: u32, records: u32, text: u32) -> Table
+        ensures { λ r. ⌜ r ≡ with-root (which-in form) self link records text ⌝ }
+    {
+        let of_names = Table {
+            names: link,
+            modules: self.modules,
+            records: records,
+            text: text,
+        };
+        match form {
+            Form::Name(_) => of_names,
+            Form::Include => of_names,
+            Form::Open(_) => of_names,
+            Form::Alias => of_names,
+            Form::Module(_) => Table {
+                names: self.names,
+                modules: link,
+                records: records,
+                text: text,
+            },
+        }
+    }
+
+    // Writes a registration that passes every row.
+    fn write(
+        self,
+        words: &mut [u32],
+        text: &mut [u8],
+        form: Form,
+        inc: u32,
+        host: &[u8],
+        other: &[u8],
+        key: &[u8],
+    ) -> Table
+        requires { ⌜ Passes (now words) (now text) self form (now host) (now other) (now key) inc ⌝ }
+        ensures { λ r. ⌜ Accepts (now (words .entry)) (now (text .entry)) (now (words .exit)) (now (text .exit)) self r (after (state (now (words .entry)) (now (text .entry)) self) (call-of form (now (host .entry)) (now (other .entry)) (now (key .entry)))) ⌝ }
+    {
+        let len = other.len() as u32;
+        let size = key.len() as u32;
+        let start = self.text + host.len() as u32;
+        let end = start + len;
+        put_texts(text, self.text, host, other, key);
+        let change = change_of(words, form, inc, start, len, end, size);
+        let root = self.root_of(form);
+        let b = trie::trie_mutate(
+            words,
+            text,
+            self.records,
+            root,
+            self.text,
+            self.text,
+            start,
+            change,
+        );
+        self.changed(form, b.link, b.records, end + size)
+    }
+
+    // A registration, in a sound memory.
+    fn register_sound(
+        self,
+        words: &mut [u32],
+        text: &mut [u8],
+        form: Form,
+        host: &[u8],
+        other: &[u8],
+        key: &[u8],
+    ) -> Registration
+        requires { ⌜ IsSound (now words) (now text) self ⌝ }
+        requires { ⌜ NoKey form (now key) ⌝ }
+        ensures { λ r. ⌜ Answers true (now (words .entry)) (now (text .entry)) (now (words .exit)) (now (text .exit)) self (call-of form (now (host .entry)) (now (other .entry)) (now (key .entry))) r ⌝ }
+    {
+        let k = self.check(words, text, form, host, other, key);
+        match k {
+            Checked::Refused(x) => Registration {
+                table: self,
+                answer: Registered::Refused(x),
+            },
+            Checked::Passed(inc) => {
+                let t = self.write(words, text, form, inc, host, other, key);
+                Registration {
+                    table: t,
+                    answer: Registered::Accepted,
+                }
+            }
+        }
+    }
+
+    // A registration.
+    fn register(
+        self,
+        words: &mut [u32],
+        text: &mut [u8],
+        form: Form,
+        host: &[u8],
+        other: &[u8],
+        key: &[u8],
+    ) -> Registration
+        requires { ⌜ NoKey form (now key) ⌝ }
+        ensures { λ r. ⌜ Total (now (words .entry)) (now (text .entry)) (now (words .exit)) (now (text .exit)) self (call-of form (now (host .entry)) (now (other .entry)) (now (key .entry))) r ⌝ }
+    {
+        if self.is_sound(words, text) {
+            return self.register_sound(words, text, form, host, other, key);
+        }
+        Registration {
+            table: self,
+            answer: Registered::Refused(Refusal::Unsound),
+        }
+    }
+
+    // The source's insert: a name with its item.
+    pub fn insert(
+        self,
+        words: &mut [u32],
+        text: &mut [u8],
+        host: &[u8],
+        id: &[u8],
+        item: u32,
+    ) -> Registration
+        ensures { λ r. ⌜ Total (now (words .entry)) (now (text .entry)) (now (words .exit)) (now (text .exit)) self (name (now (host .entry)) (now (id .entry)) item) r ⌝ }
+    {
+        self.register(words, text, Form::Name(item), host, id, &host[..0])
+    }
+
+    // The same, in a sound memory.
+    pub fn insert_sound(
+        self,
+        words: &mut [u32],
+        text: &mut [u8],
+        host: &[u8],
+        id: &[u8],
+        item: u32,
+    ) -> Registration
+        requires { ⌜ IsSound (now words) (now text) self ⌝ }
+        ensures { λ r. ⌜ Answers true (now (words .entry)) (now (text .entry)) (now (words .exit)) (now (text .exit)) self (name (now (host .entry)) (now (id .entry)) item) r ⌝ }
+    {
+        self.register_sound(words, text, Form::Name(item), host, id, &host[..0])
+    }
+
+    // The source's register_include.
+    pub fn register_include(
+        self,
+        words: &mut [u32],
+        text: &mut [u8],
+        host: &[u8],
+        query: &[u8],
+    ) -> Registration
+        ensures { λ r. ⌜ Total (now (words .entry)) (now (text .entry)) (now (words .exit)) (now (text .exit)) self (include (now (host .entry)) (now (query .entry))) r ⌝ }
+    {
+        self.register(words, text, Form::Include, host, query, &host[..0])
+    }
+
+    // The same, in a sound memory.
+    pub fn register_include_sound(
+        self,
+        words: &mut [u32],
+        text: &mut [u8],
+        host: &[u8],
+        query: &[u8],
+    ) -> Registration
+        requires { ⌜ IsSound (now words) (now text) self ⌝ }
+        ensures { λ r. ⌜ Answers true (now (words .entry)) (now (text .entry)) (now (words .exit)) (now (text .exit)) self (include (now (host .entry)) (now (query .entry))) r ⌝ }
+    {
+        self.register_sound(words, text, Form::Include, host, query, &host[..0])
+    }
+
+    // The source's register_open: of a module if `flag` is set, else of a namespace.
+    pub fn register_open(
+        self,
+        words: &mut [u32],
+        text: &mut [u8],
+        flag: bool,
+        host: &[u8],
+        query: &[u8],
+    ) -> Registration
+        ensures { λ r. ⌜ Total (now (words .entry)) (now (text .entry)) (now (words .exit)) (now (text .exit)) self (opens flag (now (host .entry)) (now (query .entry))) r ⌝ }
+    {
+        self.register(words, text, Form::Open(flag), host, query, &host[..0])
+    }
+
+    // The same, in a sound memory.
+    pub fn register_open_sound(
+        self,
+        words: &mut [u32],
+        text: &mut [u8],
+        flag: bool,
+        host: &[u8],
+        query: &[u8],
+    ) -> Registration
+        requires { ⌜ IsSound (now words) (now text) self ⌝ }
+        ensures { λ r. ⌜ Answers true (now (words .entry)) (now (text .entry)) (now (words .exit)) (now (text .exit)) self (opens flag (now (host .entry)) (now (query .entry))) r ⌝ }
+    {
+        self.register_sound(words, text, Form::Open(flag), host, query, &host[..0])
+    }
+
+    // The source's register_alias.
+    pub fn register_alias(
+        self,
+        words: &mut [u32],
+        text: &mut [u8],
+        key: &[u8],
+        host: &[u8],
+        query: &[u8],
+    ) -> Registration
+        ensures { λ r. ⌜ Total (now (words .entry)) (now (text .entry)) (now (words .exit)) (now (text .exit)) self (alias (now (key .entry)) (now (host .entry)) (now (query .entry))) r ⌝ }
+    {
+        self.register(words, text, Form::Alias, host, query, key)
+    }
+
+    // The same, in a sound memory.
+    pub fn register_alias_sound(
+        self,
+        words: &mut [u32],
+        text: &mut [u8],
+        key: &[u8],
+        host: &[u8],
+        query: &[u8],
+    ) -> Registration
+        requires { ⌜ IsSound (now words) (now text) self ⌝ }
+        ensures { λ r. ⌜ Answers true (now (words .entry)) (now (text .entry)) (now (words .exit)) (now (text .exit)) self (alias (now (key .entry)) (now (host .entry)) (now (query .entry))) r ⌝ }
+    {
+        self.register_sound(words, text, Form::Alias, host, query, key)
+    }
+
+    // The source's register_module_path.
+    pub fn register_module_path(
+        self,
+        words: &mut [u32],
+        text: &mut [u8],
+        loaded: bool,
+        query: &[u8],
+        path: &[u8],
+    ) -> Registration
+        ensures { λ r. ⌜ Total (now (words .entry)) (now (text .entry)) (now (words .exit)) (now (text .exit)) self (module-path loaded (now (query .entry)) (now (path .entry))) r ⌝ }
+    {
+        self.register(words, text, Form::Module(loaded), query, path, &query[..0])
+    }
+
+    // The same, in a sound memory.
+    pub fn register_module_path_sound(
+        self,
+        words: &mut [u32],
+        text: &mut [u8],
+        loaded: bool,
+        query: &[u8],
+        path: &[u8],
+    ) -> Registration
+        requires { ⌜ IsSound (now words) (now text) self ⌝ }
+        ensures { λ r. ⌜ Answers true (now (words .entry)) (now (text .entry)) (now (words .exit)) (now (text .exit)) self (module-path loaded (now (query .entry)) (now (path .entry))) r ⌝ }
+    {
+        self.register_sound(words, text, Form::Module(loaded), query, path, &query[..0])
     }
 }

@@ -1,7 +1,7 @@
 -- look_up meets its contract.
-use mathlib.Core.Path.{sym, _∙_}
 use borrow.Author.Needs.{needs}
-use Rattle.table.proofs.Lookups.{rows-of-one, query-whole, look-up-refused, look-up-none, look-up-found, branch-fits}
+use Rattle.table.proofs.Arguments.{one-flagged, passes, stops}
+use Rattle.table.proofs.Lookups.{query-whole, look-up-refused, look-up-none, look-up-found, branch-fits}
 use Rattle.table.proofs.look_up.Statement.{statement}
 use Rattle.table.proofs.look_up.Tie as tie
 
@@ -18,19 +18,19 @@ look-up-spec =
     {- enum-told -}
     (λ c. search needs)
     {- trie-find-exact-requires -}
-    (λ c κs. (c .before .before .before .before .before .before .before .pre, query-whole _ (rows-of-one (c .before .before .before .look-up-flags .ensures) ∙ sym (rw (c .enum-told .given .1) at (c .before .before .admit .ensures)))))
+    (λ c κs. (c .before .before .before .before .before .before .before .pre, query-whole _ (passes (one-flagged (c .before .before .before .look-up-flags .ensures)) (c .before .before .admit .ensures) (c .enum-told .given .1))))
     {- returns -}
     (λ c. record {
       fits = tt;
-      says = λ w t. look-up-none _ (rows-of-one (c .before .before .before .before .before .look-up-flags .ensures) ∙ sym (rw (c .before .before .enum-told .given .1) at (c .before .before .before .before .admit .ensures))) (c .before .trie-find-exact .ensures w t) (c .if1 .taken);
+      says = λ w t. look-up-none _ (passes (one-flagged (c .before .before .before .before .before .look-up-flags .ensures)) (c .before .before .before .before .admit .ensures) (c .before .before .enum-told .given .1)) (c .before .trie-find-exact .ensures w t) (c .if1 .taken);
     })
     {- returns-2 -}
     (λ c. record {
       fits = tt;
-      says = λ w t. look-up-refused _ _ (rows-of-one (c .before .before .before .before .look-up-flags .ensures) ∙ sym (rw (c .before .a .given .1) at (c .before .before .before .admit .ensures)));
+      says = λ w t. look-up-refused _ _ (stops (one-flagged (c .before .before .before .before .look-up-flags .ensures)) (c .before .before .before .admit .ensures) (c .before .a .given .1));
     })
     {- returns-3 -}
     (λ c. record {
       fits = branch-fits (c .before .before .before .before .before .before .before .before .before .pre) (c .before .trie-find-exact .ensures) (c .if1 .left);
-      says = λ w t. look-up-found _ (rows-of-one (c .before .before .before .before .before .look-up-flags .ensures) ∙ sym (rw (c .before .before .enum-told .given .1) at (c .before .before .before .before .admit .ensures))) (c .before .trie-find-exact .ensures w t) (c .if1 .left);
+      says = λ w t. look-up-found _ (passes (one-flagged (c .before .before .before .before .before .look-up-flags .ensures)) (c .before .before .before .before .admit .ensures) (c .before .before .enum-told .given .1)) (c .before .trie-find-exact .ensures w t) (c .if1 .left);
     }))

@@ -1,0 +1,39 @@
+-- What a registration hands back, by its rows.
+use Prim.Native.Nat.{ℕ}
+use mathlib.Core.Path.{_≡_, refl}
+use mathlib.Core.Bool.{Bool, true, false}
+use mathlib.Core.List.{List}
+use mathlib.Core.Option.{none, some}
+use Rattle.source.specs.Calls.{lowest, argument-rows, State, Lent, Call, registration-rows, after, accepted, refused, register}
+use Rattle.table.specs.Header.{state, lent}
+use Rattle.table.specs.Answers.{number}
+use Rattle.table.specs.Registrations.{Accepts, Answers}
+use Rattle.table.specs.declared.Table.{Table}
+use Rattle.table.specs.declared.Refusal.{Refusal}
+use Rattle.table.specs.declared.Refusal.the-variants.{Unsound}
+use Rattle.table.specs.declared.Registered.the-variants.{Accepted, Refused}
+
+module _ (b : Bool) (l : Lent) (s : State) (c : Call) where
+  register-refused : {n : ℕ} → lowest (registration-rows b l s c) ≡ some n → register b l s c ≡ refused n
+  unfolding register
+  register-refused e = rw (register, e)
+
+  register-accepted : lowest (registration-rows b l s c) ≡ none → register b l s c ≡ accepted (after s c)
+  unfolding register
+  register-accepted e = rw (register, e)
+
+register-unsound : (l : Lent) (s : State) (c : Call) → register false l s c ≡ refused 1
+unfolding register registration-rows argument-rows lowest
+register-unsound l s c = refl
+
+module _ {ws txt : List ℕ} {t : Table} {c : Call} where
+  pub answers-refused : {x : Refusal} → lowest (registration-rows true (lent ws txt) (state ws txt t) c) ≡ some (number x)
+      → Answers true ws txt ws txt t c (record { table = t; answer = Refused x })
+  answers-refused e = record { says = rw (register-refused true _ _ c e) (refl, record { table = refl; words = refl; text = refl }) }
+
+  pub answers-accepted : {ws′ txt′ : List ℕ} {t′ : Table} → lowest (registration-rows true (lent ws txt) (state ws txt t) c) ≡ none
+      → Accepts ws txt ws′ txt′ t t′ (after (state ws txt t) c) → Answers true ws txt ws′ txt′ t c (record { table = t′; answer = Accepted })
+  answers-accepted e a = record { says = rw (register-accepted true _ _ c e) (refl, a) }
+
+  pub answers-unsound : Answers false ws txt ws txt t c (record { table = t; answer = Refused Unsound })
+  answers-unsound = record { says = rw register-unsound (refl, record { table = refl; words = refl; text = refl }) }

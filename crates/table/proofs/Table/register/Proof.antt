@@ -1,0 +1,29 @@
+-- Table::register meets its contract.
+use mathlib.Core.Path.{_∙_}
+use Rattle.memory.proofs.Says.{holds}
+use Rattle.table.proofs.Decided.{decided}
+use Rattle.table.proofs.Registering.{answers-unsound}
+use borrow.Author.Needs.{needs}
+use Rattle.table.proofs.Table.register.Statement.{statement}
+use Rattle.table.proofs.Table.register.Tie as tie
+
+pub register-spec : {M : Type 1} → statement M
+register-spec =
+    tie.close
+    (tie.spec
+    {- is-sound-requires -}
+    (λ c κs. search needs)
+    {- register-sound-requires -}
+    (λ c κs. (holds _ (c .before .before .before .is-sound .ensures) (c .before .before .if1 .taken), c .before .before .before .before .before .before .before .before .before .before .before .pre))
+    {- same-length -}
+    (λ c. search needs)
+    {- same-length-2 -}
+    (λ c. search needs)
+    {- returns -}
+    (λ c b h. rw (decided _ b (c .before .before .before .before .before .before .before .before .is-sound .result) h (c .before .before .before .before .before .before .before .before .is-sound .ensures) ∙ c .before .before .before .before .before .before .before .if1 .taken) (c .before .before .before .before .register-sound .ensures))
+    {- same-length-3 -}
+    (λ c. search needs)
+    {- same-length-4 -}
+    (λ c. search needs)
+    {- returns-2 -}
+    (λ c b h. rw (decided _ b (c .before .is-sound .result) h (c .before .is-sound .ensures) ∙ c .if1 .left) answers-unsound))

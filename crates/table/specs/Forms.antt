@@ -1,0 +1,103 @@
+-- Registrations by their form and texts: the call, its arguments and rows, and the trie that it includes.
+use Prim.Native.Nat.{ℕ}
+use mathlib.Core.Path.{_≡_}
+use mathlib.Core.Bool.{true, false, _||_}
+use mathlib.Core.List.{List, [], _∷_}
+use mathlib.Core.Option.{none, some}
+use lib.Dec.{ltb}
+use Rattle.source.specs.Text.{Str, segments, ends-in-dot}
+use Rattle.source.specs.Tries as T
+use Rattle.source.specs.Calls.{Argument, a-query, a-name, a-path, any, malformed, empty-name, too-long, Row, _when_, lowest, Call, name, include, opens, alias, module-path, whole-records, free, registration-rows}
+use Rattle.source.proofs.Lookup.{Allˡ}
+use Rattle.source.proofs.Queries.{IsQuery}
+use Rattle.source.proofs.Kept.{Keeps}
+use Rattle.memory.specs.Layout.{names, trieˢ, what}
+use Rattle.text.specs.declared.Flags.{Flags}
+use Rattle.trie.specs.Tries.{Reads}
+use Rattle.trie.specs.declared.Plan.{Plan}
+use Rattle.table.specs.Header.{IsSound, state, lent}
+use Rattle.table.specs.Answers.{number}
+use Rattle.table.specs.declared.Table.{Table}
+use Rattle.table.specs.declared.Checked.{Checked}
+use Rattle.table.specs.declared.Checked.the-variants.{Passed, Refused}
+use Rattle.table.specs.declared.Form.{Form}
+use Rattle.table.specs.declared.Form.the-variants.{Name, Include, Open, Alias, Module}
+
+-- The call of a form with its texts: the host or module query; the id, included query or file path; an alias's key.
+abbrev pub call-of : Form → (host other key : Str) → Call
+call-of (Name number) host other key = name host other number
+call-of Include host other key = include host other
+call-of (Open is-module) host other key = opens is-module host other
+call-of Alias host other key = alias key host other
+call-of (Module loaded) host other key = module-path loaded host other
+
+-- The second text as an argument.
+abbrev pub other-argument : Form → Str → Argument
+other-argument (Name number) s = a-name s
+other-argument Include s = a-query s
+other-argument (Open is-module) s = a-query s
+other-argument Alias s = a-query s
+other-argument (Module loaded) s = a-path s
+
+-- The key as an argument, of an alias alone.
+abbrev pub key-argument : Form → Str → List Argument
+key-argument (Name number) s = []
+key-argument Include s = []
+key-argument (Open is-module) s = []
+key-argument Alias s = a-name s ∷ []
+key-argument (Module loaded) s = []
+
+-- The flags of several arguments are the conditions of rows 2, 3 and 4.
+pub record AllFlagged (args : List Argument) (r : Flags) : Type 0 where
+  pub malformed : r .malformed ≡ any malformed args
+  pub empty : r .empty ≡ any empty-name args
+  pub long : r .long ≡ any too-long args
+
+-- Of two lots of flags, those that either has.
+abbrev pub both-flags : Flags → Flags → Flags
+both-flags a b = record { malformed = a .malformed || b .malformed; empty = a .empty || b .empty; long = a .long || b .long }
+
+-- Texts that pass rows 2 to 4.
+pub record Ready (form : Form) (host other key : Str) : Type 0 where
+  pub host-ends : ends-in-dot host ≡ true
+  pub host-keeps : IsQuery (segments host)
+  pub other-fine : malformed (other-argument form other) ≡ false
+  pub other-keeps : Keeps (other-argument form other)
+  pub key-keeps : Allˡ Keeps (key-argument form key)
+
+-- Only an alias has a key.
+abbrev pub NoKey : Form → Str → Type 0
+NoKey (Name number) s = s ≡ []
+NoKey Include s = s ≡ []
+NoKey (Open is-module) s = s ≡ []
+NoKey Alias s = Unit {0}
+NoKey (Module loaded) s = s ≡ []
+
+-- The link r reads as the trie that a form includes.
+abbrev pub Carries : Form → (ws txt : List ℕ) (root : ℕ) (other : Str) (r : ℕ) → Type 0
+Carries (Name number) ws txt root other r = r ≡ 0
+Carries Include ws txt root other r = Reads ws txt names root r (T.included (what names ws txt root trieˢ) (segments other))
+Carries (Open is-module) ws txt root other r = Reads ws txt names root r (T.included (what names ws txt root trieˢ) (segments other))
+Carries Alias ws txt root other r = Reads ws txt names root r (T.included (what names ws txt root trieˢ) (segments other))
+Carries (Module loaded) ws txt root other r = r ≡ 0
+
+-- Rows 5 to 8, by a plan.
+abbrev pub plan-rows : Plan → (words text records used taken : ℕ) → List Row
+plan-rows p words text records used taken =
+    (5 when p .crowded)
+    ∷ (6 when p .deep)
+    ∷ (7 when ltb (free (whole-records words) records) (p .records))
+    ∷ (8 when ltb (free text used) taken)
+    ∷ []
+
+-- A registration that passes every row of a sound memory, where inc is the included trie.
+pub record Passes (ws txt : List ℕ) (t : Table) (form : Form) (host other key : Str) (inc : ℕ) : Type 0 where
+  pub sound : IsSound ws txt t
+  pub no-key : NoKey form key
+  pub rows : lowest (registration-rows true (lent ws txt) (state ws txt t) (call-of form host other key)) ≡ none
+  pub carries : Carries form ws txt (t .names) other inc
+
+-- The answer of a check: that it passes, or the first row that it meets.
+abbrev pub Checks : (ws txt : List ℕ) (t : Table) (form : Form) (host other key : Str) → Checked → Type 0
+Checks ws txt t form host other key (Passed inc) = Passes ws txt t form host other key inc
+Checks ws txt t form host other key (Refused x) = lowest (registration-rows true (lent ws txt) (state ws txt t) (call-of form host other key)) ≡ some (number x)

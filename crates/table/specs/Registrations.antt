@@ -1,0 +1,53 @@
+-- What a registration hands back, and what it leaves of everything lent.
+use Prim.Native.Nat.{ℕ, _*_}
+use mathlib.Core.Path.{_≡_}
+use mathlib.Core.Bool.{Bool}
+use mathlib.Core.List.{List}
+use mathlib.Core.Option.{Option, none, some}
+use lib.ListN.{length, take, drop}
+use Rattle.source.specs.Calls as C
+use Rattle.source.specs.Calls.{State, Call, register}
+use Rattle.memory.specs.Sound.{Says}
+use Rattle.table.specs.Header.{IsSound, state, lent}
+use Rattle.table.specs.Answers.{number}
+use Rattle.table.specs.declared.Table.{Table}
+use Rattle.table.specs.declared.Registered.{Registered}
+use Rattle.table.specs.declared.Registered.the-variants.{Accepted, Refused}
+use Rattle.table.specs.declared.Registration.{Registration}
+
+-- The number of a refusal, none of an accepted call.
+abbrev pub refusal-of : Registered → Option ℕ
+refusal-of Accepted = none
+refusal-of (Refused r) = some (number r)
+
+-- A list is as it was, except from a place up to another.
+pub record Outside (from to : ℕ) (l l′ : List ℕ) : Type 0 where
+  pub before : take from l′ ≡ take from l
+  pub after : drop to l′ ≡ drop to l
+  pub size : length l′ ≡ length l
+
+-- The header t has become t′, which reads as the state s, and only the free part that was taken has changed.
+pub record Accepts (ws txt ws′ txt′ : List ℕ) (t t′ : Table) (s : State) : Type 0 where
+  pub reads : state ws′ txt′ t′ ≡ s
+  pub sound : IsSound ws′ txt′ t′
+  pub words : Outside (t .records * 12) (t′ .records * 12) ws ws′
+  pub text : Outside (t .text) (t′ .text) txt txt′
+
+-- Nothing has changed.
+pub record Unchanged (ws txt ws′ txt′ : List ℕ) (t t′ : Table) : Type 0 where
+  pub table : t′ ≡ t
+  pub words : ws′ ≡ ws
+  pub text : txt′ ≡ txt
+
+-- An answer, by that of the definition.
+abbrev pub AnswersAs : C.Registered → (ws txt ws′ txt′ : List ℕ) → Table → Registration → Type 0
+AnswersAs (C.accepted s) ws txt ws′ txt′ t r = (refusal-of (r .answer) ≡ none) × Accepts ws txt ws′ txt′ t (r .table) s
+AnswersAs (C.refused n) ws txt ws′ txt′ t r = (refusal-of (r .answer) ≡ some n) × Unchanged ws txt ws′ txt′ t (r .table)
+
+-- The answer r to a call; b says whether the memory is sound.
+pub record Answers (b : Bool) (ws txt ws′ txt′ : List ℕ) (t : Table) (c : Call) (r : Registration) : Type 0 where
+  pub says : AnswersAs (register b (lent ws txt) (state ws txt t) c) ws txt ws′ txt′ t r
+
+-- The same, of any memory.
+abbrev pub Total : (ws txt ws′ txt′ : List ℕ) → Table → Call → Registration → Type 0
+Total ws txt ws′ txt′ t c r = (b : Bool) → Says b (IsSound ws txt t) → Answers b ws txt ws′ txt′ t c r
