@@ -7,3 +7,4 @@ mod Laying
 mod Changes
 mod Writing
 mod Registering
+pub mod Calls
