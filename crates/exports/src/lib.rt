@@ -1,5 +1,87 @@
-// Calls for tests and benchmarks outside Rattle: slices pass as a pointer and a length.
+// Calls for tests and benchmarks outside Rattle: slices pass as a pointer and a length, a table as its four numbers.
+// They hand on what crate table answers; its contracts are the promises.
+use table::Found;
+use table::Refusal;
+use table::Registered;
+use table::Registration;
+use table::Table;
 ghost use Rattle.memory.specs.Sound.{Says, Sound};
+ghost use Rattle.table.specs.Header.{IsSound};
+
+// A registration's reply: 0 or the number of the refusal, and the table.
+#[repr(C)]
+pub struct Reply {
+    pub refusal: u32,
+    pub names: u32,
+    pub modules: u32,
+    pub records: u32,
+    pub text: u32,
+}
+
+// A look-up's reply: 0 for an item, 11 for none, else the number of the refusal.
+#[repr(C)]
+pub struct Looked {
+    pub answer: u32,
+    pub item: u32,
+}
+
+// Document 01's number of a refusal.
+fn number(r: Refusal) -> u32 {
+    match r {
+        Refusal::Unsound => 1,
+        Refusal::Malformed => 2,
+        Refusal::Empty => 3,
+        Refusal::TooLong => 4,
+        Refusal::Crowded => 5,
+        Refusal::Deep => 6,
+        Refusal::Full => 7,
+        Refusal::TextFull => 8,
+        Refusal::Spent => 9,
+        Refusal::Lines => 10,
+    }
+}
+
+fn refusal_of(r: Registered) -> u32 {
+    match r {
+        Registered::Accepted => 0,
+        Registered::Refused(x) => number(x),
+    }
+}
+
+fn reply_of(r: Registration) -> Reply {
+    let t = r.table;
+    let a = r.answer;
+    Reply {
+        refusal: refusal_of(a),
+        names: t.names,
+        modules: t.modules,
+        records: t.records,
+        text: t.text,
+    }
+}
+
+fn looked_up(f: Found) -> Looked {
+    match f {
+        Found::Item(n) => Looked { answer: 0, item: n },
+        Found::Nothing => Looked {
+            answer: 11,
+            item: 0,
+        },
+        Found::Refused(x) => Looked {
+            answer: number(x),
+            item: 0,
+        },
+    }
+}
+
+fn table_of(names: u32, modules: u32, records: u32, used: u32) -> Table {
+    Table {
+        names: names,
+        modules: modules,
+        records: records,
+        text: used,
+    }
+}
 
 // Is the lent memory a sound table?
 #[no_mangle]
@@ -14,4 +96,97 @@ pub extern "C" fn name_table_sound(
     ensures { λ r. ⌜ Says r (Sound (now (words .entry)) (now (text .entry)) names modules records used) ⌝ }
 {
     sound::sound(words, text, names, modules, records, used)
+}
+
+#[no_mangle]
+pub extern "C" fn name_table_insert(
+    words: &mut [u32],
+    text: &mut [u8],
+    names: u32,
+    modules: u32,
+    records: u32,
+    used: u32,
+    host: &[u8],
+    id: &[u8],
+    item: u32,
+) -> Reply {
+    let t = table_of(names, modules, records, used);
+    reply_of(t.insert(words, text, host, id, item))
+}
+
+#[no_mangle]
+pub extern "C" fn name_table_include(
+    words: &mut [u32],
+    text: &mut [u8],
+    names: u32,
+    modules: u32,
+    records: u32,
+    used: u32,
+    host: &[u8],
+    query: &[u8],
+) -> Reply {
+    let t = table_of(names, modules, records, used);
+    reply_of(t.register_include(words, text, host, query))
+}
+
+#[no_mangle]
+pub extern "C" fn name_table_open(
+    words: &mut [u32],
+    text: &mut [u8],
+    names: u32,
+    modules: u32,
+    records: u32,
+    used: u32,
+    modular: bool,
+    host: &[u8],
+    query: &[u8],
+) -> Reply {
+    let t = table_of(names, modules, records, used);
+    reply_of(t.register_open(words, text, modular, host, query))
+}
+
+#[no_mangle]
+pub extern "C" fn name_table_alias(
+    words: &mut [u32],
+    text: &mut [u8],
+    names: u32,
+    modules: u32,
+    records: u32,
+    used: u32,
+    key: &[u8],
+    host: &[u8],
+    query: &[u8],
+) -> Reply {
+    let t = table_of(names, modules, records, used);
+    reply_of(t.register_alias(words, text, key, host, query))
+}
+
+#[no_mangle]
+pub extern "C" fn name_table_module(
+    words: &mut [u32],
+    text: &mut [u8],
+    names: u32,
+    modules: u32,
+    records: u32,
+    used: u32,
+    loaded: bool,
+    query: &[u8],
+    path: &[u8],
+) -> Reply {
+    let t = table_of(names, modules, records, used);
+    reply_of(t.register_module_path(words, text, loaded, query, path))
+}
+
+#[no_mangle]
+pub extern "C" fn name_table_find(
+    words: &[u32],
+    text: &[u8],
+    names: u32,
+    modules: u32,
+    records: u32,
+    used: u32,
+    query: &[u8],
+) -> Looked {
+    let t = table_of(names, modules, records, used);
+    looked_up(t.find(words, text, query))
 }
