@@ -3,7 +3,8 @@ mod baseline;
 
 use model::gen::Rng;
 use model::layout::Memory;
-use model::model::Registration;
+use model::model::{find, register, Lent, Registration, Table};
+use std::cell::RefCell;
 use std::hint::black_box;
 use std::time::Instant;
 
@@ -37,7 +38,66 @@ fn named_table(records: u32) -> Memory {
     m
 }
 
+/// A name to register, and the query that looks it up.
+struct Name {
+    host: Vec<u8>,
+    id: Vec<u8>,
+    query: Vec<u8>,
+}
+
+/// So many names below four hosts, in random order.
+fn names(count: usize) -> Vec<Name> {
+    let mut rng = Rng::new(11);
+    let hosts: [&[u8]; 4] = [b"", b"io.", b"live.", b"saved.bus."];
+    (0..count)
+        .map(|_| {
+            let host = hosts[rng.below(hosts.len())].to_vec();
+            let id = format!("{:x}", rng.below(1 << 16)).into_bytes();
+            let query = [&host[..], &id[..], b"."].concat();
+            Name { host, id, query }
+        })
+        .collect()
+}
+
+/// The names registered one after another from the fresh table, for callers whose memory is sound.
+fn registered(memory: &mut Memory, names: &[Name]) -> bool {
+    memory.header = Default::default();
+    names.iter().all(|n| unsafe { product::insert_sound(memory, &n.host, &n.id, 1) } == 0)
+}
+
+/// The same by the independent implementation in Rust.
+fn registered_by_model(names: &[Name]) -> (bool, Table) {
+    let lent = Lent { words: 65536 * 12, text: 65536 };
+    let mut table = Table::default();
+    for n in names {
+        match register(&table, lent, &Registration::Name { host: n.host.clone(), id: n.id.clone(), item: 1 }) {
+            Ok(new) => table = new,
+            Err(_) => return (false, table),
+        }
+    }
+    (true, table)
+}
+
+fn calls() {
+    println!("| calls on a table of 1,000 names | product, ns a call | Rust, ns a call | product / Rust |");
+    println!("|---|---|---|---|");
+    let names = names(1000);
+    let memory = RefCell::new(Memory::with_room(65536, 65536));
+    let (p, r) = compare(|| registered(&mut memory.borrow_mut(), &names), || registered_by_model(&names).0);
+    println!("| register a name | {:.0} | {:.0} | {:.2} |", p / 1000.0, r / 1000.0, p / r);
+    let memory = memory.into_inner();
+    assert!(memory.is_sound());
+    let table = registered_by_model(&names).1;
+    let (p, r) = compare(
+        || names.iter().all(|n| unsafe { product::find_sound(&memory, &n.query) } == Ok(Some(1))),
+        || names.iter().all(|n| matches!(find(&table.names, &n.query), Ok(Some(1)))),
+    );
+    println!("| look a name up | {:.0} | {:.0} | {:.2} |", p / 1000.0, r / 1000.0, p / r);
+}
+
 fn main() {
+    calls();
+    println!();
     println!("| soundness test | product, ns a record | C, ns a record | product / C |");
     println!("|---|---|---|---|");
     for records in [1_000, 8_000, 60_000] {

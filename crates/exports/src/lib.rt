@@ -6,7 +6,6 @@ use table::Registered;
 use table::Registration;
 use table::Table;
 ghost use Rattle.memory.specs.Sound.{Says, Sound};
-ghost use Rattle.table.specs.Header.{IsSound};
 
 // A registration's reply: 0 or the number of the refusal, and the table.
 #[repr(C)]
@@ -189,4 +188,49 @@ pub extern "C" fn name_table_find(
 ) -> Looked {
     let t = table_of(names, modules, records, used);
     looked_up(t.find(words, text, query))
+}
+
+// For callers whose memory is sound: no test.
+#[no_mangle]
+pub extern "C" fn name_table_insert_sound(
+    words: &mut [u32],
+    text: &mut [u8],
+    names: u32,
+    modules: u32,
+    records: u32,
+    used: u32,
+    host: &[u8],
+    id: &[u8],
+    item: u32,
+) -> Reply
+    requires { ⌜ Sound (now words) (now text) names modules records used ⌝ }
+{
+    let t = Table {
+        names: names,
+        modules: modules,
+        records: records,
+        text: used,
+    };
+    reply_of(t.insert_sound(words, text, host, id, item))
+}
+
+#[no_mangle]
+pub extern "C" fn name_table_find_sound(
+    words: &[u32],
+    text: &[u8],
+    names: u32,
+    modules: u32,
+    records: u32,
+    used: u32,
+    query: &[u8],
+) -> Looked
+    requires { ⌜ Sound (now words) (now text) names modules records used ⌝ }
+{
+    let t = Table {
+        names: names,
+        modules: modules,
+        records: records,
+        text: used,
+    };
+    looked_up(t.find_sound(words, text, query))
 }

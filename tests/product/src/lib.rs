@@ -38,6 +38,10 @@ extern "C" {
         loaded: bool, query: Bytes, nquery: usize, path: Bytes, npath: usize) -> Reply;
     fn name_table_find(words: *const u32, nwords: usize, text: Bytes, ntext: usize, names: u32, modules: u32, records: u32, used: u32,
         query: Bytes, nquery: usize) -> Looked;
+    fn name_table_insert_sound(words: Words, nwords: usize, text: *mut u8, ntext: usize, names: u32, modules: u32, records: u32, used: u32,
+        host: Bytes, nhost: usize, id: Bytes, nid: usize, item: u32) -> Reply;
+    fn name_table_find_sound(words: *const u32, nwords: usize, text: Bytes, ntext: usize, names: u32, modules: u32, records: u32, used: u32,
+        query: Bytes, nquery: usize) -> Looked;
 }
 
 /// The soundness test.
@@ -77,9 +81,40 @@ pub fn find(m: &Memory, query: &[u8]) -> Result<Option<u32>, u32> {
         name_table_find(m.words.as_ptr(), m.words.len(), m.text.as_ptr(), m.text.len(), h.names, h.modules, h.records, h.text,
             query.as_ptr(), query.len())
     };
-    match r.answer {
-        0 => Ok(Some(r.item)),
-        11 => Ok(None),
-        n => Err(n),
+    r.result()
+}
+
+impl Looked {
+    fn result(&self) -> Result<Option<u32>, u32> {
+        match self.answer {
+            0 => Ok(Some(self.item)),
+            11 => Ok(None),
+            n => Err(n),
+        }
     }
+}
+
+/// A name registered in a memory that is sound, without the test.
+///
+/// # Safety
+/// The memory is sound.
+pub unsafe fn insert_sound(m: &mut Memory, host: &[u8], id: &[u8], item: u32) -> u32 {
+    let h = m.header;
+    #[rustfmt::skip]
+    let r = name_table_insert_sound(m.words.as_mut_ptr(), m.words.len(), m.text.as_mut_ptr(), m.text.len(), h.names, h.modules, h.records, h.text,
+        host.as_ptr(), host.len(), id.as_ptr(), id.len(), item);
+    m.header = Header { names: r.names, modules: r.modules, records: r.records, text: r.text };
+    r.refusal
+}
+
+/// Look-up of a name in a memory that is sound, without the test.
+///
+/// # Safety
+/// The memory is sound.
+pub unsafe fn find_sound(m: &Memory, query: &[u8]) -> Result<Option<u32>, u32> {
+    let h = m.header;
+    #[rustfmt::skip]
+    let r = name_table_find_sound(m.words.as_ptr(), m.words.len(), m.text.as_ptr(), m.text.len(), h.names, h.modules, h.records, h.text,
+        query.as_ptr(), query.len());
+    r.result()
 }
