@@ -1,4 +1,4 @@
--- Laws of texts that are written one after another, and of numbers in decimal.
+-- Laws of numbers in decimal, and of a line's parts.
 use mathlib.Core.Path.{_≡_, refl, sym, ap, _∙_}
 use mathlib.Core.Bool.{Bool, true, false}
 use mathlib.Core.List.{[], _∷_, _++_, append-assoc}
@@ -16,56 +16,7 @@ use mir.Val.{Fits, SFits, toZ, ofZ}
 use mir.ValLaws.{toZ-ofZ}
 use Rattle.replies.specs.declared.Item.{Item}
 use Rattle.script.specs.Script.{Str, _·_, bytes}
-use Rattle.replies.specs.Replies.{digits, decimal, signed, Length, item-text, line-reply, Laid}
-
--- ---- Texts one after another
-
-pub laid-length : {d d′ s : Str} {at r : ℕ} → Laid d d′ at r s → length d′ ≡ length d
-laid-length {d} {d′} {s} {at} {r} x =
-    ap length (x .is)
-    ∙ length-append (take at d) (s ++ drop r d)
-    ∙ (rw (length-append s (drop r d), length-take-le at d (omega (arith, x .end, x .fits)), length-drop r d) (omega (arith, x .end, x .fits)))
-
-pub laid-none : (d : Str) (at r : ℕ) → r ≡ at → r ≤ length d → Laid d d at r []
-laid-none d at r e h = record { end = omega arith; fits = h; is = rw e (sym (take-append-drop at d)) }
-
--- One text, then the next.
-pub laid-more : {d d′ d″ s t : Str} {at r r′ : ℕ} → Laid d d′ at r s → Laid d′ d″ r r′ t → Laid d d″ at r′ (s · t)
-laid-more {d} {d′} {d″} {s} {t} {at} {r} {r′} x y =
-    record {
-      end = omega (arith, x .end, y .end, length-append s t);
-      fits = omega (arith, y .fits, laid-length x);
-      is = y .is ∙ rw (front, back) (append-assoc (take at d) s (t ++ drop r′ d) ∙ ap (λ (l : Str). take at d ++ l) (sym (append-assoc s t (drop r′ d))));
-    }
-  where
-    whole : d′ ≡ (take at d ++ s) ++ drop r d
-    whole = x .is ∙ sym (append-assoc (take at d) s (drop r d))
-
-    size : length (take at d ++ s) ≡ r
-    size = length-append (take at d) s ∙ rw (length-take-le at d (omega (arith, x .end, x .fits))) (sym (x .end))
-
-    front : take r d′ ≡ take at d ++ s
-    front = ap (take r) whole ∙ take-at (take at d ++ s) (drop r d) r size
-
-    back : drop r′ d′ ≡ drop r′ d
-    back =
-        rw (y .end) (sym (drop-drop (length t) r d′)
-        ∙ ap (drop (length t)) (ap (drop r) whole ∙ drop-at (take at d ++ s) (drop r d) r size)
-        ∙ drop-drop (length t) r d)
-
--- One text, then a byte.
-pub laid-next : {d d′ s : Str} {at r : ℕ} (c : ℕ) → Laid d d′ at r s → r < length d → Laid d (set d′ r c) at (r + 1) (s · c ∷ [])
-laid-next {d} {d′} {s} {at} {r} c x h =
-    laid-more x (record {
-      end = refl;
-      fits = omega (arith, laid-length x);
-      is = rw (add-one r) (set-split d′ r c (omega (arith, laid-length x)));
-    })
-
-pub laid-step : {d d′ : Str} {at i : ℕ} (text : Str) → Laid d d′ at (at + i) (take i text) → i < length text → at + i < length d → Laid d (set d′ (at + i) (getD text i 0)) at (at + (i + 1)) (take (i + 1) text)
-laid-step {at = at} {i} text x l h =
-    let q : at + (i + 1) ≡ at + i + 1 = omega arith in
-    rw (q, add-one i, take-suc text i 0 l) (laid-next (getD text i 0) x h)
+use Rattle.replies.specs.Replies.{digits, decimal, signed, Length, item-text, line-reply}
 
 -- ---- Numbers in decimal
 

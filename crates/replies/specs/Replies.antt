@@ -2,10 +2,9 @@
 use mathlib.Core.Path.{_≡_}
 use mathlib.Core.Bool.{true, false}
 use mathlib.Core.List.{[], _∷_, _++_}
-use Prim.Native.Nat.{ℕ, zero, suc, _+_, _/_, _%_, _≤_}
+use Prim.Native.Nat.{ℕ, zero, suc, _+_, _/_, _%_}
 use lib.Dec.{ltb}
 use lib.IntN.{ℤ, pos, negsuc}
-use lib.ListN.{length, take, drop}
 use Rattle.replies.specs.declared.Item.{Item}
 use Rattle.replies.specs.declared.Item.the-variants.{Number, Module, Namespace}
 use Rattle.script.specs.Script.{Str, bytes, _·_}
@@ -71,11 +70,3 @@ end-reply lines entered = bytes "[end " · decimal lines · bytes " " · decimal
 -- Room for any reply, the two texts of a line apart.
 abbrev pub reply-room : ℕ
 reply-room = 40
-
--- ---- Writing
-
--- From d came d′: s stands from at to r, and nothing else changed.
-pub record Laid (d d′ : Str) (at r : ℕ) (s : Str) : Type 0 where
-  pub end : r ≡ at + length s
-  pub fits : r ≤ length d
-  pub is : d′ ≡ take at d · s · drop r d

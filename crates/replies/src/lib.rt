@@ -2,8 +2,9 @@
 // Nothing is assumed.
 ghost use Prim.Native.Nat.{_+_, _≤_};
 ghost use lib.ListN.{length};
+ghost use Rattle.text.specs.Laid.{Laid};
 ghost use Rattle.script.specs.Script.{bytes, _·_};
-ghost use Rattle.replies.specs.Replies.{decimal, signed, Length, item-text, ok-reply, found-reply, none-reply, refused-reply, bad-reply, line-reply, end-reply, reply-room, Laid};
+ghost use Rattle.replies.specs.Replies.{decimal, signed, Length, item-text, ok-reply, found-reply, none-reply, refused-reply, bad-reply, line-reply, end-reply, reply-room};
 
 // The item of a line: its number in `complete`, module or namespace in `modules`.
 pub enum Item {

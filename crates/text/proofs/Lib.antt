@@ -1,3 +1,4 @@
 pub mod Texts
 pub mod Segments
 pub mod Surveys
+pub mod Laid

@@ -6,7 +6,8 @@ use lib.ListN.{length, length-set}
 use borrow.Author.Needs.{needs}
 use borrow.Fn.Kinds.{In}
 use borrow.Fn.PlainCycle.{Measures, is, falls, and}
-use Rattle.replies.proofs.Writing.{laid-length, laid-none, laid-next, decimal-small, decimal-large, decimal-tenth}
+use Rattle.text.proofs.Laid.{laid-length, laid-none, laid-next}
+use Rattle.replies.proofs.Writing.{decimal-small, decimal-large, decimal-tenth}
 use Rattle.replies.proofs.put_digits.Reads as reads
 use Rattle.replies.proofs.put_digits.Kinds as kinds
 use Rattle.replies.proofs.+put_digits.Lts-put_digits as lts

@@ -3,8 +3,8 @@ use Prim.Native.Nat.{_+_, _-_, _≤_}
 use native.Mathlib.Omega.{arith}
 use lib.ListN.{length, take}
 use lib.Seq.{take-all}
-use Rattle.replies.specs.Replies.{Laid}
-use Rattle.replies.proofs.Writing.{laid-length, laid-none, laid-step}
+use Rattle.text.specs.Laid.{Laid}
+use Rattle.text.proofs.Laid.{laid-length, laid-none, laid-step}
 use borrow.Author.Needs.{needs}
 use Rattle.replies.proofs.put.Statement.{statement}
 use Rattle.replies.proofs.put.Tie as tie

@@ -1,6 +1,6 @@
 -- `put_counted` writes its three parts.
 use Rattle.script.specs.Script.{bytes}
-use Rattle.replies.proofs.Writing.{laid-more}
+use Rattle.text.proofs.Laid.{laid-more}
 use borrow.Author.Needs.{needs}
 use Rattle.replies.proofs.put_counted.Statement.{statement}
 use Rattle.replies.proofs.put_counted.Tie as tie

@@ -1,7 +1,7 @@
 -- `put_end` writes its three parts.
 use Rattle.script.specs.Script.{bytes}
 use Rattle.replies.specs.Replies.{end-reply}
-use Rattle.replies.proofs.Writing.{laid-more}
+use Rattle.text.proofs.Laid.{laid-more}
 use borrow.Author.Needs.{needs}
 use Rattle.replies.proofs.put_end.Statement.{statement}
 use Rattle.replies.proofs.put_end.Tie as tie

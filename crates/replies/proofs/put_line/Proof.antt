@@ -4,8 +4,10 @@ use lib.IntN.{ℤ}
 use mir.Syntax.{w32}
 use mir.ValLaws.{toZ-ofZ}
 use Rattle.script.specs.Script.{bytes}
-use Rattle.replies.specs.Replies.{line-reply, Laid}
-use Rattle.replies.proofs.Writing.{laid-more, line-joined}
+use Rattle.text.specs.Laid.{Laid}
+use Rattle.replies.specs.Replies.{line-reply}
+use Rattle.text.proofs.Laid.{laid-more}
+use Rattle.replies.proofs.Writing.{line-joined}
 use borrow.Author.Needs.{needs}
 use Rattle.replies.proofs.put_line.Statement.{statement}
 use Rattle.replies.proofs.put_line.Tie as tie

@@ -4,8 +4,9 @@ use native.Mathlib.Omega.{arith}
 use mir.Syntax.{w32}
 use mir.ValLaws.{toZ-ofZ}
 use Rattle.script.specs.Script.{bytes}
-use Rattle.replies.specs.Replies.{signed, Laid}
-use Rattle.replies.proofs.Writing.{laid-more}
+use Rattle.text.specs.Laid.{Laid}
+use Rattle.replies.specs.Replies.{signed}
+use Rattle.text.proofs.Laid.{laid-more}
 use borrow.Author.Needs.{needs}
 use Rattle.replies.proofs.put_numbers.Statement.{statement}
 use Rattle.replies.proofs.put_numbers.Tie as tie

@@ -1,6 +1,6 @@
 -- `put_texts` writes its four parts.
 use Rattle.script.specs.Script.{bytes}
-use Rattle.replies.proofs.Writing.{laid-more}
+use Rattle.text.proofs.Laid.{laid-more}
 use borrow.Author.Needs.{needs}
 use Rattle.replies.proofs.put_texts.Statement.{statement}
 use Rattle.replies.proofs.put_texts.Tie as tie
