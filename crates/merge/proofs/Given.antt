@@ -33,7 +33,7 @@ module _ {ws txt : List ℕ} {w : Which} {v : Level} {x : ℕ} {p : Str} {m : Me
     pub gives-end : r .branch ≡ 0 → s ≡ []
     gives-end e = go s (f w v x s g)
       where
-        go : (s : List Entry) → GivesIn ws txt w v x p s r → s ≡ []
+        go : (s : List Entry) → GivesIn ws txt w v x p m s r → s ≡ []
         go [] d = refl
         go (y ∷ s) d = absurd (omega (arith, d .branch .some))
 
@@ -41,15 +41,15 @@ module _ {ws txt : List ℕ} {w : Which} {v : Level} {x : ℕ} {p : Str} {m : Me
     pub record More : Type 0 where
       pub after : List Entry
       pub is : s ≡ record { branch = r .branch; label = r .label } ∷ after
-      pub given : GivenIn ws txt w v x p (record { branch = r .branch; label = r .label }) after r
+      pub given : GivenIn ws txt w v x p m (record { branch = r .branch; label = r .label }) after r
 
     pub gives-more : (r .branch ≡ 0 → ⊥) → More
     gives-more n = go s refl (f w v x s g)
       where
-        go : (l : List Entry) → s ≡ l → GivesIn ws txt w v x p l r → More
+        go : (l : List Entry) → s ≡ l → GivesIn ws txt w v x p m l r → More
         go [] e d = absurd (n d)
         go (y ∷ l) e d = record {
           after = l;
           is = e ∙ rw (d .branch-is, d .label-is);
-          given = record { branch-is = refl; label-is = refl; branch = d .branch; begins = d .begins; label-ok = d .label-ok; rest = d .rest };
+          given = record { branch-is = refl; label-is = refl; branch = d .branch; begins = d .begins; label-ok = d .label-ok; rest = d .rest; fewer = d .fewer };
         }

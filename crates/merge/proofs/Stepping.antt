@@ -18,7 +18,7 @@ use Rattle.tree.specs.Tree.{AnyTree}
 use Rattle.tree.proofs.Links.{BranchOf}
 use Rattle.merge.specs.Entries.{Entry, entry-key}
 use Rattle.merge.specs.Lists.{LabelOk}
-use Rattle.merge.specs.Stream.{run-at, remaining, Holding, heap-of, Last, Rest, AnyRest, GivenIn, GivesIn, Gives, state, Takes, Ready}
+use Rattle.merge.specs.Stream.{run-at, remaining, Holding, heap-of, Last, Rest, AnyRest, left-in, GivenIn, GivesIn, Gives, state, Takes, Ready}
 use Rattle.merge.specs.declared.Merge.{Merge}
 use Rattle.merge.specs.declared.Step.{Step}
 use Rattle.merge.specs.declared.Taken.{Taken}
@@ -119,9 +119,10 @@ module _ {ws txt : List ℕ} {p : Str} {n root last : ℕ} {roots heads labels c
 -- What is left of the entries of m after those passed over.
 pub record Passing (ws txt : List ℕ) (p : Str) (m : Merge) (roots heads child next : List ℕ) (root : ℕ) : Type 0 where
   pub says : (w : Which) (v : Level) (x : ℕ) (s : List Entry) → Rest ws txt w v x p m s → Rest ws txt w v x p (state roots heads (m .labels) child next (m .n) root (m .last)) s
+  pub fewer : remaining ws txt p roots heads (m .n) ≤ left-in ws txt p m
 
 pub passing-none : {ws txt : List ℕ} {p : Str} (m : Merge) → Passing ws txt p m (m .roots) (m .heads) (m .child) (m .next) (m .root)
-passing-none m = record { says = λ w v x s g. g }
+passing-none m = record { says = λ w v x s g. g; fewer = omega arith }
 
 module _ {ws txt : List ℕ} {p : Str} {m : Merge} {roots heads child next : List ℕ} {root : ℕ} (o : Passing ws txt p m roots heads child next root) (y : AnyRest ws txt p m) where
   abbrev now-rest : Rest ws txt (y .which) (y .level) (y .link) p (state roots heads (m .labels) child next (m .n) root (m .last)) (y .entries)
@@ -141,7 +142,7 @@ module _ {ws txt : List ℕ} {p : Str} {m : Merge} {roots heads child next : Lis
   module _ {roots′ heads′ child′ next′ : List ℕ} {t : Taken} (takes : Takes ws txt p (m .n) root roots heads child next roots′ heads′ child′ next′ t) where
     pub passing-end : t .cell ≡ 96 → Gives ws txt p m (record { branch = 0; label = 0; m = m })
     passing-end e w v x s g =
-        subst (λ (s : List Entry). GivesIn ws txt w v x p s (record { branch = 0; label = 0; m = m })) (sym (step-end takes (o .says w v x s g) e)) refl
+        subst (λ (s : List Entry). GivesIn ws txt w v x p m s (record { branch = 0; label = 0; m = m })) (sym (step-end takes (o .says w v x s g) e)) refl
 
     module _ (ne : t .cell ≡ 96 → ⊥) where
       pub passing-cell : t .cell < m .n
@@ -166,6 +167,7 @@ module _ {ws txt : List ℕ} {p : Str} {m : Merge} {roots heads child next : Lis
             let k = steps takes r ne in
             subst (λ (s : List Entry). Rest ws txt w v x p (state roots′ heads′ (m .labels) child′ next′ (m .n) (t .root) (m .last)) s)
             (sym (k .splits ∙ rw (again-same ws txt w v x (m .last) (k .entry) (r .given) (r .last) n (rw (k .branch-is) at e)))) (k .passed-rest);
+        fewer = omega (arith, o .fewer, passing-fewer);
       }
 
       pub passing-gives : ((m .last ≡ 0 → ⊥) → same (key-at ws txt (t .branch)) (key-at ws txt (m .last)) ≡ false)
@@ -182,7 +184,15 @@ module _ {ws txt : List ℕ} {p : Str} {m : Merge} {roots heads child next : Lis
             label = getD (m .labels) (t .cell) 0;
             m = state roots′ heads′ (m .labels) child′ next′ (m .n) (t .root) (t .branch);
           } in
-          let d : GivenIn ws txt w v x p (k .entry) (k .after) step =
-          record { branch-is = k .branch-is; label-is = k .label-is; branch = k .branch; begins = k .begins; label-ok = k .label-ok; rest = k .after-rest } in
+          let d : GivenIn ws txt w v x p m (k .entry) (k .after) step =
+          record {
+            branch-is = k .branch-is;
+            label-is = k .label-is;
+            branch = k .branch;
+            begins = k .begins;
+            label-ok = k .label-ok;
+            rest = k .after-rest;
+            fewer = omega (arith, o .fewer, passing-fewer);
+          } in
           let e : s ≡ k .entry ∷ k .after = k .splits ∙ rw (again-new ws txt w v x (m .last) (k .entry) (r .given) (r .last) (λ n. rw (k .branch-is) at (f n))) in
-          subst (λ (s : List Entry). GivesIn ws txt w v x p s step) (sym e) d
+          subst (λ (s : List Entry). GivesIn ws txt w v x p m s step) (sym e) d

@@ -98,23 +98,28 @@ pub record StartIn (ws txt : List ℕ) (w : Which) (v : Level) (x : ℕ) (p : St
 abbrev pub Starts : (ws txt : List ℕ) (x : ℕ) (p : Str) (m : Merge) → Type 0
 Starts ws txt x p m = (w : Which) (v : Level) → ListAt ws txt w v x → StartIn ws txt w v x p m
 
+-- How many branches a state has left.
+abbrev pub left-in : (ws txt : List ℕ) (p : Str) (m : Merge) → ℕ
+left-in ws txt p m = remaining ws txt p (m .roots) (m .heads) (m .n)
+
 -- The first entry is given, a branch of a tree of the list, and the state gives the rest.
-pub record GivenIn (ws txt : List ℕ) (w : Which) (v : Level) (x : ℕ) (p : Str) (e : Entry) (s : List Entry) (r : Step) : Type 0 where
+pub record GivenIn (ws txt : List ℕ) (w : Which) (v : Level) (x : ℕ) (p : Str) (m : Merge) (e : Entry) (s : List Entry) (r : Step) : Type 0 where
   pub branch-is : r .branch ≡ e .branch
   pub label-is : r .label ≡ e .label
   pub branch : BranchOf ws w v x (r .branch)
   pub begins : starts-with (key-at ws txt (r .branch)) p ≡ true
   pub label-ok : LabelOk ws w v x (r .label)
   pub rest : Rest ws txt w v x p (r .m) s
+  pub fewer : left-in ws txt p (r .m) < left-in ws txt p m
 
 -- What a step gives of the entries: branch 0 at the end.
-abbrev pub GivesIn : (ws txt : List ℕ) (w : Which) (v : Level) (x : ℕ) (p : Str) → List Entry → Step → Type 0
-GivesIn ws txt w v x p [] r = r .branch ≡ 0
-GivesIn ws txt w v x p (e ∷ s) r = GivenIn ws txt w v x p e s r
+abbrev pub GivesIn : (ws txt : List ℕ) (w : Which) (v : Level) (x : ℕ) (p : Str) (m : Merge) → List Entry → Step → Type 0
+GivesIn ws txt w v x p m [] r = r .branch ≡ 0
+GivesIn ws txt w v x p m (e ∷ s) r = GivenIn ws txt w v x p m e s r
 
 -- The same, of whatever the state gives.
 abbrev pub Gives : (ws txt : List ℕ) (p : Str) (m : Merge) (r : Step) → Type 0
-Gives ws txt p m r = (w : Which) (v : Level) (x : ℕ) (s : List Entry) → Rest ws txt w v x p m s → GivesIn ws txt w v x p s r
+Gives ws txt p m r = (w : Which) (v : Level) (x : ℕ) (s : List Entry) → Rest ws txt w v x p m s → GivesIn ws txt w v x p m s r
 
 -- ---- One cell taken from the heap
 
