@@ -1,0 +1,56 @@
+-- What a branch, a label and a path of a sound memory give of their texts.
+use Prim.Native.Nat.{ℕ, _+_, _≤_, _<_}
+use mathlib.Core.Path.{_≡_}
+use mathlib.Core.Bool.{Bool, true, false}
+use mathlib.Core.List.{List}
+use native.Mathlib.Omega.{arith}
+use Rattle.source.specs.Text.{Str}
+use Rattle.source.specs.Types.{Level}
+use Rattle.memory.specs.Layout.{record-at, word, span, pick, Which, key-at}
+use Rattle.memory.specs.Sound.{LinkOk, TextOk, Sound}
+use Rattle.memory.proofs.Parts.{span-length}
+use Rattle.memory.proofs.Records.{branch-at, collection-at}
+use Rattle.memory.proofs.Seen.{link-fits, link-ok}
+use lib.Dec.{eqb}
+use lib.ListN.{length}
+use Rattle.lines.specs.Path.{BranchAt, LabelAt, PathOk}
+use Rattle.lines.specs.Output.{Small}
+use Rattle.lines.specs.Parts.{TextAt, PathAt, JobOk, outermost}
+use Rattle.lines.specs.declared.Path.{Path}
+use Rattle.lines.specs.declared.Limits.{Limits}
+use Rattle.lines.specs.declared.Tally.{Tally}
+
+module _ {ws txt : List ℕ} {n used x k : ℕ} (o : Sound ws txt 0 0 n used) (i : LinkOk ws (n + 1) x k) (p : 0 < x) where
+  text-at : {Rule : Str → Type 0} → TextOk Rule txt used (word (record-at ws x) 1) (word (record-at ws x) 2)
+      → length (span txt (word (record-at ws x) 1) (word (record-at ws x) 2)) ≤ 543 → TextAt ws txt x
+  unfolding key-at
+  text-at t h =
+      let e = span-length txt (word (record-at ws x) 1) (word (record-at ws x) 2) (omega (arith, t .inside, o .text-fits)) in
+      record { some = p; within = link-fits o i; inside = omega (arith, t .inside, o .text-fits); size = e; short = omega arith }
+
+module _ {ws txt : List ℕ} {w : Which} {v : Level} {x : ℕ} where
+  pub branch-text : BranchAt ws txt w v x → TextAt ws txt x
+  branch-text b =
+      let t = branch-at (link-ok (b .sound) (b .link) (b .some)) w v (b .link .of-kind (λ e. omega (arith, b .some))) .key in
+      text-at (b .sound) (b .link) (b .some) t (omega (arith, t .keeps))
+
+  pub label-text : LabelAt ws txt w v x → 0 < x → TextAt ws txt x
+  label-text b p =
+      let t = collection-at (link-ok (b .sound) (b .ok .link) p) w v (b .ok .link .of-kind (λ e. omega arith)) .label (b .ok .imports p) in
+      text-at (b .sound) (b .ok .link) p t (omega (arith, t .keeps))
+
+pub path-at : {ws txt : List ℕ} {w : Which} {p : Path} → PathOk ws txt w p → PathAt ws txt p
+path-at o = record { sized = o .sized; few = o .few; each = λ j h. branch-text (o .each j h); len-is = o .len-is; short = o .short }
+
+-- What line is given is what its parts need.
+module _ {ws txt : List ℕ} {w : Which} {p : Path} (o : PathOk ws txt w p) where
+  pub job-ok : {v : Level} {branch matched : ℕ} {lim : Limits} {tally : Tally} → BranchAt ws txt w v branch → Small lim
+      → JobOk ws txt (record { path = p; branch = branch; matched = matched; lim = lim; tally = tally })
+  job-ok b s = record { path = path-at o; branch = branch-text b; small = s }
+
+  pub outermost-text : {v : Level} {x label : ℕ} → LabelAt ws txt w v label → x ≡ outermost p label → 0 < x → TextAt ws txt x
+  outermost-text {label = label} l e h = rw e (go (eqb (p .n) 0) (rw e at h))
+    where
+      go : (b : Bool) → 0 < pick b label (p .label) → TextAt ws txt (pick b label (p .label))
+      go true h = label-text l h
+      go false h = label-text (o .label-ok) h

@@ -1,0 +1,8 @@
+pub mod Goes
+pub mod Counting
+pub mod Texts
+mod Kept
+mod Notes
+mod Given
+mod Lines
+mod Listed

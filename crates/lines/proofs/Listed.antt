@@ -1,0 +1,81 @@
+-- The line of a found element of bindings: what the branch, its label and its path say of it.
+use Prim.Native.Nat.{ℕ}
+use mathlib.Core.Path.{_≡_, refl, sym, ap, _∙_}
+use mathlib.Core.Bool.{Bool, true, false}
+use mathlib.Core.List.{List, [], _∷_, reverse}
+use mathlib.Core.Option.{Option, none, some}
+use native.Mathlib.Omega.{arith}
+use lib.ListN.{length}
+use borrow.Author.Tests.{ne-eqb}
+use Rattle.source.specs.Text.{Str}
+use Rattle.source.specs.Types.{Value, bind, the-item}
+use Rattle.source.specs.Trees.{PathElem}
+use Rattle.source.specs.Tries.{dflt}
+use Rattle.source.specs.Listing.{PathOf}
+use Rattle.source.specs.Table.{ModSymbol, string-of-path, first-import-of-path, completion-result-of-lid, completion-result-of-ns-or-mod, mod-annotation}
+use Rattle.source.specs.Calls as C
+use Rattle.source.specs.Calls.{keeps, filter-of}
+use Rattle.source.proofs.Paths.{candidate-is, first-import-one, first-import-more}
+use Rattle.source.proofs.Lines.{line, kept-line}
+use Rattle.memory.specs.Layout.{record-at, pick, Which, names, modules, Item, item-of}
+use Rattle.tree.specs.Tree.{held}
+use Rattle.tree.specs.Links.{row-at}
+use Rattle.merge.specs.Entries.{label-at, shown, outer}
+use Rattle.lines.specs.Ask.{filter-in}
+use Rattle.lines.specs.Path.{OnPath}
+use Rattle.lines.specs.Lines.{Listed}
+use Rattle.lines.specs.Parts.{candidate-of, note-at, outermost, PutLine, KeptLine}
+use Rattle.lines.specs.declared.Filter.{Filter}
+use Rattle.lines.specs.declared.Ask.the-variants.{Names, Modules}
+use Rattle.lines.specs.declared.Job.{Job}
+use Rattle.lines.specs.declared.Path.{Path}
+use Rattle.lines.specs.declared.Tally.{Tally}
+
+-- What a found element of bindings and its path say of its line.
+record Element (ws txt : List ℕ) (w : Which) (p : Path) (branch label : ℕ) (path : PathOf) (x : PathElem × Value (Item w) bind) : Type 0 where
+  pub candidate : string-of-path (reverse (x .0 ∷ path)) ≡ candidate-of ws txt p branch
+  pub import : first-import-of-path (reverse (x .0 ∷ path)) ≡ label-at ws txt (outermost p label)
+  pub item : the-item (x .1) ≡ item-of w txt (record-at ws branch)
+
+element : {ws txt : List ℕ} {p : Path} {path : PathOf} (w : Which) (branch label : ℕ) (x : PathElem × Value (Item w) bind) (q : Option Str) → OnPath ws txt p path
+    → outer x ≡ shown w ws txt bind q (record { branch = branch; label = label }) → Element ws txt w p branch label path x
+unfolding outer shown row-at held the-item
+element {ws} {txt} {p} {path} w branch label x q o e = record {
+  candidate = candidate-is (x .0) path ∙ rw (ap (λ y. y .1 .0 .completion) e, o .text);
+  import = go path (o .count) (o .label-is);
+  item = ap (λ y. the-item (y .1 .1)) e;
+}
+  where
+    go : (path : PathOf) → p .n ≡ length path → label-at ws txt (p .label) ≡ first-import-of-path (reverse path)
+        → first-import-of-path (reverse (x .0 ∷ path)) ≡ label-at ws txt (outermost p label)
+    go [] n i = rw n (first-import-one (x .0) ∙ ap (λ y. y .0) e)
+    go (el ∷ path) n i = rw (ne-eqb (p .n) 0 (λ z. omega arith)) (first-import-more (x .0) el path ∙ sym i)
+
+-- The line of a symbol m that the filter keeps.
+kept-is : (f : C.Filter) (y : PathOf × ModSymbol) (m : ModSymbol) → y .1 ≡ m → kept-line (filter-of f) y ≡ pick (keeps f m) (completion-result-of-ns-or-mod y ∷ []) []
+unfolding kept-line filter-of
+kept-is f y m e = go (keeps f (y .1)) ∙ rw e
+  where
+    go : (b : Bool) → elim (elim b as (λ _. Option (PathOf × ModSymbol)) [ true ↦ some y | false ↦ none ]) [ none ↦ [] | some z ↦ completion-result-of-ns-or-mod z ∷ [] ]
+        ≡ pick b (completion-result-of-ns-or-mod y ∷ []) []
+    go true = refl
+    go false = refl
+
+module _ {ws txt : List ℕ} {j : Job} (label : ℕ) {t : Tally} {flat flat′ out out′ : List ℕ} where
+  -- What line answers: of names, of modules and namespaces.
+  pub listed-names : PutLine ws txt j (note-at ws txt (outermost (j .path) label)) t flat flat′ out out′
+      → Listed ws txt Names (j .path) (j .branch) label (j .matched) (j .lim) (j .tally) t flat flat′ out out′
+  unfolding completion-result-of-lid
+  listed-names put path x q o e m =
+      let k = element names (j .branch) label x q o e in
+      put names (completion-result-of-lid (line path x))
+      (record { length-is = m; item-is = k .item; candidate-is = k .candidate; annotation-is = ap (dflt []) (k .import) })
+
+  pub listed-modules : (f : Filter) → KeptLine ws txt f j t flat flat′ out out′
+      → Listed ws txt (Modules f) (j .path) (j .branch) label (j .matched) (j .lim) (j .tally) t flat flat′ out out′
+  unfolding completion-result-of-ns-or-mod
+  listed-modules f put path x q o e m =
+      let k = element modules (j .branch) label x q o e in
+      rw (kept-is (filter-in f) (line path x) _ (k .item))
+      (put (completion-result-of-ns-or-mod (line path x))
+      (record { length-is = m; item-is = k .item; candidate-is = k .candidate; annotation-is = ap mod-annotation (k .item) }))

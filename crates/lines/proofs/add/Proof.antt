@@ -1,0 +1,17 @@
+-- `lines::add` meets its contract.
+use Rattle.lines.proofs.Counting.{capped-more, capped-past}
+use Rattle.lines.proofs.add.Statement.{statement}
+use Rattle.lines.proofs.add.Tie as tie
+use borrow.Author.Needs.{needs}
+use native.Mathlib.Omega.{arith}
+
+pub add-spec : {M : Type 1} → statement M
+add-spec =
+    tie.close
+    (tie.spec
+    {- add-result -}
+    (λ c. search needs)
+    {- returns -}
+    (λ c. λ x. capped-more _ (omega arith))
+    {- returns-2 -}
+    (λ c. λ x. capped-past _ (omega arith)))

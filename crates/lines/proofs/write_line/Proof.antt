@@ -1,0 +1,49 @@
+-- `lines::write_line` meets its contract.
+use Rattle.lines.proofs.Lines.{candidate-length, note-room, line-put}
+use Rattle.lines.proofs.write_line.Statement.{statement}
+use Rattle.lines.proofs.write_line.Tie as tie
+use borrow.Author.Needs.{needs}
+use native.Mathlib.Omega.{arith}
+
+pub write-line-spec : {M : Type 1} → statement M
+write-line-spec =
+    tie.close
+    (tie.spec
+    {- mul-base -}
+    (λ c. search needs)
+    {- put-candidate-requires -}
+    (λ c κs. search needs)
+    {- sub-put-text -}
+    (λ c. search needs)
+    {- part-put-text-start -}
+    (λ c. search needs)
+    {- part-put-text-end -}
+    (λ c. search needs)
+    {- put-text-requires -}
+    (λ c κs. omega (arith, note-room (c .before .before .before .before .before .before .before .before .before .before .before .before .before .pre .0) (c .before .before .before .before .before .before .before .before .before .before .before .before .before .pre .1) (c .before .before .before .put-candidate .ensures)))
+    {- cast-line-row -}
+    (λ c. search needs)
+    {- sub-line-row -}
+    (λ c. search needs)
+    {- cast-line-row-2 -}
+    (λ c. omega (arith, c .before .before .before .before .before .before .put-candidate .ensures .end, candidate-length (c .before .before .before .before .before .before .before .before .before .before .before .before .before .before .before .before .pre .0), c .before .before .before .before .before .before .before .before .before .before .before .before .before .before .before .before .pre .1 .small))
+    {- cast-line-row-3 -}
+    (λ c. search needs)
+    {- line-row-requires -}
+    (λ c κs. omega (arith, c .before .before .before .before .before .before .put-candidate .ensures .end, candidate-length (c .before .before .before .before .before .before .before .before .before .before .before .before .before .before .before .before .pre .0), c .before .before .before .before .before .before .before .before .before .before .before .before .before .before .before .before .pre .1 .small, c .before .before .before .before .before .before .before .before .before .before .before .before .before .before .before .before .pre .0 .branch .some, c .before .before .before .before .before .before .before .before .before .before .before .before .before .before .before .before .pre .0 .branch .within))
+    {- mul-put-row -}
+    (λ c. search needs)
+    {- sub-put-row -}
+    (λ c. search needs)
+    {- part-put-row-start -}
+    (λ c. search needs)
+    {- part-put-row-end -}
+    (λ c. search needs)
+    {- put-row-requires -}
+    (λ c κs. search needs)
+    {- same-length -}
+    (λ c. search needs)
+    {- same-length-2 -}
+    (λ c. search needs)
+    {- returns -}
+    (λ c. line-put (c .before .before .before .before .before .before .before .before .before .before .before .before .before .before .before .before .before .before .before .before .before .before .pre .0) (c .before .before .before .before .before .before .before .before .before .before .before .before .before .before .before .before .before .before .before .before .before .before .pre .1) (c .before .before .before .before .before .before .before .before .before .before .before .before .put-candidate .ensures) (c .before .before .before .before .before .before .before .before .put-text .ensures) (c .before .before .before .before .before .line-row .ensures) (c .before .before .put-row .ensures)))

@@ -1,0 +1,92 @@
+-- The lent output: lines as flat words, twelve to a line, and the text.
+--
+--   word   of a line
+--   0      match length, 4294967295 for -1
+--   1, 2   candidate: start, length in the output text
+--   3, 4   annotation: start, length in the output text
+--   5..10  item: as in the branch that it is from (memory's Layout)
+--   11     0
+use Prim.Native.Nat.{ℕ, _+_, _*_, _<_, _≤_}
+use mathlib.Core.Path.{_≡_}
+use mathlib.Core.Logic.{_⊎_}
+use mathlib.Core.List.{List, _++_, map, flatMap}
+use lib.Dec.{eqb}
+use lib.IntN.{ℤ, pos, negsuc}
+use lib.ListN.{length}
+use Rattle.source.specs.Table.{Line}
+use Rattle.source.specs.Calls.{LineRecord, output-text, output-lines}
+use Rattle.source.proofs.Lookup.{Allˡ}
+use Rattle.memory.specs.Layout.{word, pick, Which, Item, item-of}
+use Rattle.text.specs.Laid.{Laid}
+use Rattle.lines.specs.declared.Limits.{Limits}
+use Rattle.lines.specs.declared.Tally.{Tally}
+
+-- The number that a word holds in two's complement, of -1 and up.
+unfoldable pub signed-word : ℕ → ℤ
+signed-word m = pick (eqb m 4294967295) (negsuc 0) (pos m)
+
+-- The line record that twelve words hold, its item's texts in the table's text.
+unfoldable pub line-of : (w : Which) → List ℕ → List ℕ → LineRecord (Item w)
+line-of w txt r = record {
+  match-length = signed-word (word r 0);
+  item-of = item-of w txt r;
+  candidate = record { start = word r 1; len = word r 2 };
+  annotation = record { start = word r 3; len = word r 4 };
+}
+
+-- The rows one after another.
+unfoldable pub rows-flat : List (List ℕ) → List ℕ
+rows-flat rows = flatMap (λ r. r) rows
+
+-- The lines are written after the first l line records and the first b bytes, and nothing else changed.
+pub record Written (w : Which) (txt flat flat′ out out′ : List ℕ) (l b : ℕ) (lines : List (Line (Item w))) : Type 0 where
+  pub rows : List (List ℕ)
+  pub twelve : Allˡ (λ r. length r ≡ 12) rows
+  pub reads : map (line-of w txt) rows ≡ output-lines b lines
+  pub flat-laid : Laid flat flat′ (l * 12) ((l + length lines) * 12) (rows-flat rows)
+  pub out-laid : Laid out out′ b (b + length (output-text lines)) (output-text lines)
+
+-- ---- Counting
+
+-- What a part of a listing gives: its lines, and the tries entered.
+pub record Result (A : Type 0) : Type 0 where
+  pub lines : List (Line A)
+  pub entered : ℕ
+
+infixr 20 _⊕_
+-- One part, then the next.
+unfoldable pub _⊕_ : {A : Type 0} → Result A → Result A → Result A
+r ⊕ s = record { lines = r .lines ++ s .lines; entered = r .entered + s .entered }
+
+-- a is x, or both are past the limit.
+abbrev pub Capped : (limit x a : ℕ) → Type 0
+Capped limit x a = (a ≡ x) ⊎ ((limit < x) × (limit < a))
+
+-- A tally of e tries entered, l lines and b bytes; past the budget it says only that.
+pub record Shows (lim : Limits) (e l b : ℕ) (t : Tally) : Type 0 where
+  pub spent : lim .budget < e → lim .budget < t .entered
+  pub entered-is : e ≤ lim .budget → t .entered ≡ e
+  pub lines-are : e ≤ lim .budget → Capped (lim .lines) l (t .lines)
+  pub bytes-are : e ≤ lim .budget → Capped (lim .bytes) b (t .bytes)
+
+-- Limits that 32 bits hold.
+pub record Small (lim : Limits) : Type 0 where
+  pub budget-small : lim .budget ≤ 4294967295
+  pub lines-small : lim .lines ≤ 4294967295
+  pub bytes-small : lim .bytes ≤ 4294967295
+
+-- Totals within the limits, and these within what is lent.
+pub record Fit (lim : Limits) (flat out : List ℕ) (e l b : ℕ) : Type 0 where
+  pub entered-fit : e ≤ lim .budget
+  pub lines-fit : l ≤ lim .lines
+  pub bytes-fit : b ≤ lim .bytes
+  pub flat-lent : lim .lines * 12 ≤ length flat
+  pub out-lent : lim .bytes ≤ length out
+
+-- The run went on by the part r: it is counted, and where all fits it is written.
+pub record Goes (w : Which) (txt : List ℕ) (lim : Limits) (a t : Tally) (flat flat′ out out′ : List ℕ) (r : Result (Item w)) : Type 0 where
+  pub flat-size : length flat′ ≡ length flat
+  pub out-size : length out′ ≡ length out
+  pub shows : (e l b : ℕ) → Shows lim e l b a → Shows lim (e + r .entered) (l + length (r .lines)) (b + length (output-text (r .lines))) t
+  pub writes : (e l b : ℕ) → Shows lim e l b a → Fit lim flat out (e + r .entered) (l + length (r .lines)) (b + length (output-text (r .lines)))
+      → Written w txt flat flat′ out out′ l b (r .lines)

@@ -1,0 +1,284 @@
+-- The loops over a tree's branches and over a merge, and which of them serves a list.
+use Prim.Native.Nat.{ℕ, zero, suc, _+_, _<_, _≤_}
+use mathlib.Core.Path.{_≡_, refl, sym, ap, _∙_, subst}
+use mathlib.Core.Bool.{Bool, true, false, cond, true≢false}
+use mathlib.Core.List.{List, [], _∷_, _++_, map, reverse, reverse-cons, nil≢cons}
+use mathlib.Core.Option.{Option, some}
+use native.Mathlib.Omega.{arith}
+use native.Mathlib.Decide.{ℕ-discrete}
+use lib.Dec.{eqb}
+use lib.ListN.{length}
+use borrow.Author.Tests.{eq-eqb, ne-eqb}
+use Rattle.source.specs.Text.{Str, starts-with}
+use Rattle.source.specs.Types.{Level, Value, NameList, ns}
+use Rattle.source.specs.Trees.{PathElem}
+use Rattle.source.specs.Terms.{depth, depth-names}
+use Rattle.source.specs.Listing.{SearchTerm, NSTPrefix, names-find-rev}
+use Rattle.source.proofs.Lookup.{Allˡ, Allˡ-map, Increasing}
+use Rattle.source.proofs.Rows.{names-find-rev-depth}
+use Rattle.source.proofs.Found.{found}
+use Rattle.memory.specs.Layout.{Which, Item, tree, list, kind, what, key-at}
+use Rattle.memory.proofs.Seen.{link-later}
+use Rattle.tree.specs.Tree.{held, TreeAt, AnyTree}
+use Rattle.tree.specs.Links.{matches, head0, row-at}
+use Rattle.tree.proofs.Branches.{any-tree}
+use Rattle.tree.proofs.Matches.{MatchOf, matches-of, matches-increasing, after-first}
+use Rattle.tree.proofs.Kept.{all-append}
+use Rattle.names.specs.Names.{ListAt, AnyList}
+use Rattle.names.proofs.Collections.{no-link, tree-within}
+use Rattle.merge.specs.Entries.{Entry, shown, outer, Asks, by-prefix}
+use Rattle.merge.specs.Lists.{SingleIn, Single, LabelOk}
+use Rattle.merge.specs.Stream as M
+use Rattle.merge.specs.Stream.{later, left-in, AnyRest, StartIn, Starts, Gives}
+use Rattle.merge.specs.declared.Merge.{Merge}
+use Rattle.merge.specs.declared.Step.{Step}
+use Rattle.merge.proofs.Cells.{no-match, later-end, later-next}
+use Rattle.merge.proofs.Given.{rest-any, gives-end, gives-more}
+use Rattle.merge.proofs.OneTree.{single-found}
+use Rattle.lines.specs.Ask.{asked}
+use Rattle.lines.specs.Path.{BranchAt, LabelAt}
+use Rattle.lines.specs.declared.Ask.{Ask}
+use Rattle.lines.specs.declared.Path.{Path}
+use Rattle.lines.specs.declared.Limits.{Limits}
+use Rattle.lines.specs.declared.Tally.{Tally}
+use Rattle.listing.specs.Runs.{HasRoom, level-of, tree-entries, BranchReady, BranchRuns, TreeReady, EntriesRun, ListReady, ListRuns}
+use Rattle.listing.proofs.Down.{branch-tree}
+use Rattle.listing.proofs.Left.{Left, left-all, left-none, left-spent, left-next}
+
+all-reverse : {A : Type 0} (P : A → Type 0) (l : List A) → Allˡ P l → Allˡ P (reverse l)
+all-reverse P [] a = tt
+all-reverse P (x ∷ l) a = rw (reverse-cons x l) (all-append P (reverse l) (x ∷ []) (all-reverse P l (a .1)) (a .0, tt))
+
+-- What is found in a list of namespaces is less deep than the list.
+found-deep : {A : Type 0} {v : Level} (n : NameList A v) (term : SearchTerm) → Allˡ (λ x. depth (x .1) < depth-names n) (found n term)
+unfolding found
+found-deep n term = all-reverse _ (names-find-rev n term) (names-find-rev-depth n term)
+
+-- No label.
+no-label : {ws txt : List ℕ} {w : Which} {v u : Level} {x : ℕ} → BranchAt ws txt w u x → LabelAt ws txt w v 0
+no-label b = record { records = b .records; used = b .used; sound = b .sound; ok = record { link = no-link _ _; imports = λ h. absurd (omega arith) } }
+
+-- ---- A tree's branches
+
+-- The branch at and those after it, none for 0.
+unfoldable pub onward : (ws txt : List ℕ) (prefix : Str) (root at : ℕ) → List ℕ
+onward ws txt prefix root at = cond (eqb at 0) [] (at ∷ later ws txt prefix root at)
+
+abbrev bare : List ℕ → List Entry
+bare l = map (λ b. record { branch = b; label = 0 }) l
+
+module _ {ws txt : List ℕ} {w : Which} {v : Level} {root : ℕ} (t : TreeAt ws txt w v root) (prefix : Str) where
+  -- The branch stands among the matches.
+  pub record Standing (at : ℕ) : Type 0 where
+    pub matching : (at ≡ 0 → ⊥) → MatchOf ws txt w v root prefix at
+
+  first-onward : (at : ℕ) → at ≡ head0 (matches ws txt root prefix) → (onward ws txt prefix root at ≡ matches ws txt root prefix) × Standing at
+  unfolding onward
+  first-onward at e = go (matches ws txt root prefix) refl (matches-of t prefix) (matches-increasing t prefix) e
+    where
+      go : (l : List ℕ) → matches ws txt root prefix ≡ l → Allˡ (MatchOf ws txt w v root prefix) l → Increasing (key-at ws txt) l → at ≡ head0 l
+          → (cond (eqb at 0) [] (at ∷ later ws txt prefix root at) ≡ l) × Standing at
+      go [] q a i e = (rw (eq-eqb at 0 e), record { matching = λ n. absurd (n e) })
+      go (y ∷ l) q a i e = (
+        rw (e, ne-eqb y 0 (λ z. omega (arith, a .0 .branch .some)), q) (ap (_∷_ y) (after-first (key-at ws txt) y l i)),
+        record { matching = λ n. rw e (a .0) },
+      )
+
+  next-onward : (at r : ℕ) → (at ≡ 0 → ⊥) → r ≡ head0 (later ws txt prefix root at) → (onward ws txt prefix root at ≡ at ∷ onward ws txt prefix root r) × Standing r
+  unfolding onward
+  next-onward at r n e = go (ℕ-discrete r 0)
+    where
+      go : Dec (r ≡ 0) → (cond (eqb at 0) [] (at ∷ later ws txt prefix root at) ≡ at ∷ cond (eqb r 0) [] (r ∷ later ws txt prefix root r)) × Standing r
+      go (yes z) = (rw (ne-eqb at 0 n, eq-eqb r 0 z, later-end t prefix at (sym e ∙ z)), record { matching = λ m. absurd (m z) })
+      go (no m) = let k = later-next t prefix at r e m in (rw (ne-eqb at 0 n, ne-eqb r 0 m, k .is-next), record { matching = λ m. k .match })
+
+module _ (ws txt : List ℕ) (ask : Ask) (rest : Str) (p : Path) (lim : Limits) (matched : ℕ) (leaf : Bool) (root : ℕ) (prefix : Str) where
+  -- The run over a tree has come to the branch at.
+  pub record Walking (a t : Tally) (flat flat′ out out′ : List ℕ) (at : ℕ) : Type 0 where
+    pub tree-at : TreeAt ws txt (asked ask) (level-of leaf) root
+    pub left : Left ws txt ask rest p lim matched leaf a t flat flat′ out out′ (tree-entries ws txt root prefix) (bare (onward ws txt prefix root at))
+    pub standing : Standing tree-at prefix at
+
+module _ {ws txt : List ℕ} {ask : Ask} {rest : Str} {p : Path} {lim : Limits} {matched : ℕ} {leaf : Bool} {root : ℕ} {prefix : Str} where
+  pub walking-first : {a : Tally} {flat out : List ℕ} {at : ℕ} → TreeReady ws txt ask rest p lim leaf root prefix → at ≡ head0 (matches ws txt root prefix)
+      → Walking ws txt ask rest p lim matched leaf root prefix a a flat flat out out at
+  unfolding tree-entries
+  walking-first {at = at} r e =
+      let f = first-onward (r .tree-at) prefix at e in
+      record { tree-at = r .tree-at; left = rw (f .0) (left-all ws txt ask rest p lim matched leaf (r .room)); standing = f .1 }
+
+  module _ {a t : Tally} {flat flat′ out out′ : List ℕ} {at : ℕ} (g : Walking ws txt ask rest p lim matched leaf root prefix a t flat flat′ out out′ at) where
+    module _ (n : at ≡ 0 → ⊥) where
+      here : MatchOf ws txt (asked ask) (level-of leaf) root prefix at
+      here = g .standing .matching n
+
+      pub walking-earlier : at ≤ root
+      walking-earlier = omega (arith, here .branch .link .earlier)
+
+      branch-here : BranchAt ws txt (asked ask) (level-of leaf) at
+      branch-here = record { records = g .tree-at .records; used = g .tree-at .used; sound = g .tree-at .sound; some = here .branch .some; link = link-later (omega (arith, g .tree-at .link .earlier)) (here .branch .link) }
+
+      split : bare (onward ws txt prefix root at) ≡ record { branch = at; label = 0 } ∷ bare (later ws txt prefix root at)
+      unfolding onward
+      split = rw (ne-eqb at 0 n)
+
+      pub walking-branch : TreeReady ws txt ask rest p lim leaf root prefix → BranchReady ws txt ask rest p lim leaf at 0
+      walking-branch r = record {
+        ready = r .ready;
+        branch-at = branch-here;
+        label-at = no-label branch-here;
+        room = λ z. (rw split at (g .left .room z)) .0;
+      }
+
+      pub walking-tree : (0 < at) × AnyTree ws txt at
+      walking-tree = (here .branch .some, any-tree (branch-tree branch-here))
+
+      pub walking-begins : starts-with (key-at ws txt at) prefix ≡ true
+      walking-begins = here .begins
+
+      module _ {t′ : Tally} {flat″ out″ : List ℕ} (b : BranchRuns ws txt ask rest p lim matched t t′ flat′ flat″ out′ out″ leaf at 0) (lf : length flat″ ≡ length flat′) (lo : length out″ ≡ length out′) where
+        pub walking-spent : lim .budget < t′ .entered → EntriesRun ws txt ask rest p lim matched a t′ flat flat″ out out″ leaf (tree-entries ws txt root prefix)
+        walking-spent s = left-spent ws txt ask rest p lim matched leaf (left-next ws txt ask rest p lim matched leaf (rw split at (g .left)) b lf lo) s
+
+        module _ {r : ℕ} (e : r ≡ head0 (later ws txt prefix root at)) where
+          pub walking-next : Walking ws txt ask rest p lim matched leaf root prefix a t′ flat flat″ out out″ r
+          walking-next =
+              let f = next-onward (g .tree-at) prefix at r n e in
+              record {
+                tree-at = g .tree-at;
+                left = left-next ws txt ask rest p lim matched leaf (rw (f .0) at (g .left)) b lf lo;
+                standing = f .1;
+              }
+
+          pub walking-less : length (onward ws txt prefix root r) < length (onward ws txt prefix root at)
+          walking-less = let f = next-onward (g .tree-at) prefix at r n e in omega (arith, ap length (f .0))
+
+    pub walking-done : at ≡ 0 → EntriesRun ws txt ask rest p lim matched a t flat flat′ out out′ leaf (tree-entries ws txt root prefix)
+    unfolding onward
+    walking-done z = left-none ws txt ask rest p lim matched leaf (rw (eq-eqb at 0 z) at (g .left))
+
+-- ---- A list
+
+-- Entries that show what is found in a list leave room, where the list does.
+all-shown : (ws txt : List ℕ) (w : Which) (v : Level) (o : Option Str) (P : Value (Item w) v → Type 0) (xs : List (PathElem × Value (Item w) v)) (es : List Entry)
+    → map outer xs ≡ map (shown w ws txt v o) es → Allˡ (λ x. P (x .1)) xs → Allˡ (λ e. P (held w ws txt v (e .branch))) es
+unfolding outer shown row-at
+all-shown ws txt w v o P [] [] q a = tt
+all-shown ws txt w v o P [] (e ∷ es) q a = absurd (nil≢cons q)
+all-shown ws txt w v o P (x ∷ xs) [] q a = absurd (nil≢cons (sym q))
+all-shown ws txt w v o P (x ∷ xs) (e ∷ es) q a =
+    let h : outer x ≡ shown w ws txt v o e = cc in
+    let q′ : map outer xs ≡ map (shown w ws txt v o) es = cc in
+    (subst P (ap (λ y. y .1 .1) h) (a .0), all-shown ws txt w v o P xs es q′ (a .1))
+
+module _ {ws txt : List ℕ} {ask : Ask} {rest : Str} {p : Path} {lim : Limits} {leaf : Bool} {x : ℕ} (r : ListReady ws txt ask rest p lim leaf x) where
+  pub list-any : AnyList ws txt x
+  list-any = record { which = asked ask; level = level-of leaf; list = r .list-at }
+
+  pub list-room : (prefix : Str) (es : List Entry)
+      → ((term : SearchTerm) (o : Option Str) → Asks term prefix o → map outer (found (what (asked ask) ws txt x (list (level-of leaf))) term) ≡ map (shown (asked ask) ws txt (level-of leaf) o) es)
+      → leaf ≡ false → Allˡ (HasRoom ws txt ask p) es
+  list-room prefix es says e = go leaf e (says (NSTPrefix prefix) (some prefix) by-prefix)
+    where
+      go : (z : Bool) → z ≡ false → map outer (found (what (asked ask) ws txt x (list (level-of z))) (NSTPrefix prefix)) ≡ map (shown (asked ask) ws txt (level-of z) (some prefix)) es
+          → Allˡ (HasRoom ws txt ask p) es
+      go true z q = absurd (true≢false z)
+      go false z q =
+          let n : NameList (Item (asked ask)) ns = what (asked ask) ws txt x (list ns) in
+          all-shown ws txt (asked ask) ns (some prefix) (λ v. p .n + depth v < 16) (found n (NSTPrefix prefix)) es q
+          (Allˡ-map {P = λ y. depth (y .1) < depth-names n} {Q = λ y. p .n + depth (y .1) < 16} (found n (NSTPrefix prefix)) (λ y h. omega (arith, r .room e)) (found-deep n (NSTPrefix prefix)))
+
+-- What runs over entries that show what is found runs over the list.
+pub entries-list : {ws txt : List ℕ} {ask : Ask} {rest : Str} {p : Path} {lim : Limits} {matched : ℕ} {leaf : Bool} {x : ℕ} {prefix : Str} {es : List Entry} {a t : Tally} {flat flat′ out out′ : List ℕ}
+    → ((term : SearchTerm) (o : Option Str) → Asks term prefix o → map outer (found (what (asked ask) ws txt x (list (level-of leaf))) term) ≡ map (shown (asked ask) ws txt (level-of leaf) o) es)
+    → EntriesRun ws txt ask rest p lim matched a t flat flat′ out out′ leaf es → ListRuns ws txt ask rest p lim matched a t flat flat′ out out′ leaf x prefix
+entries-list {ws} {txt} {ask} {leaf = leaf} {x} says runs = record {
+  goes = λ path term o n on st asks dp.
+      let l : NameList (Item (asked ask)) (level-of leaf) = what (asked ask) ws txt x (list (level-of leaf)) in
+      runs .goes path (found l term) o n on st (says term o asks)
+      (λ z. Allˡ-map {P = λ y. depth (y .1) < depth-names l} {Q = λ y. depth (y .1) < n} (found l term) (λ y h. omega (arith, dp z)) (found-deep l term));
+}
+
+-- ---- One tree
+
+module _ {ws txt : List ℕ} {ask : Ask} {rest : Str} {p : Path} {lim : Limits} {leaf : Bool} {x root : ℕ} (r : ListReady ws txt ask rest p lim leaf x) (o : Single ws x root) (h : 0 < root) where
+  single-in : SingleIn ws txt (asked ask) (level-of leaf) x root
+  single-in = o txt (asked ask) (level-of leaf) (r .list-at) h
+
+  pub single-earlier : root ≤ x
+  single-earlier = omega (arith, single-in .link .earlier)
+
+  single-says : (prefix : Str) (term : SearchTerm) (o : Option Str) → Asks term prefix o
+      → map outer (found (what (asked ask) ws txt x (list (level-of leaf))) term) ≡ map (shown (asked ask) ws txt (level-of leaf) o) (tree-entries ws txt root prefix)
+  unfolding tree-entries
+  single-says prefix term o asks = single-found (r .list-at) single-in asks
+
+  pub single-ready : (prefix : Str) → TreeReady ws txt ask rest p lim leaf root prefix
+  single-ready prefix = record {
+    ready = r .ready;
+    tree-at = tree-within (r .list-at) (omega arith) (single-in .link);
+    room = list-room r prefix (tree-entries ws txt root prefix) (single-says prefix);
+  }
+
+  pub single-runs : {matched : ℕ} {prefix : Str} {a t : Tally} {flat flat′ out out′ : List ℕ} → EntriesRun ws txt ask rest p lim matched a t flat flat′ out out′ leaf (tree-entries ws txt root prefix)
+      → ListRuns ws txt ask rest p lim matched a t flat flat′ out out′ leaf x prefix
+  single-runs {prefix = prefix} runs = entries-list (single-says prefix) runs
+
+-- ---- A merge
+
+module _ (ws txt : List ℕ) (ask : Ask) (rest : Str) (p : Path) (lim : Limits) (matched : ℕ) (leaf : Bool) (x : ℕ) (prefix : Str) where
+  -- The run over a list has come to what the state m gives.
+  pub record Merging (a t : Tally) (flat flat′ out out′ : List ℕ) (m : Merge) : Type 0 where
+    pub all : List Entry
+    pub says : (term : SearchTerm) (o : Option Str) → Asks term prefix o
+        → map outer (found (what (asked ask) ws txt x (list (level-of leaf))) term) ≡ map (shown (asked ask) ws txt (level-of leaf) o) all
+    pub entries : List Entry
+    pub gives : M.Rest ws txt (asked ask) (level-of leaf) x prefix m entries
+    pub left : Left ws txt ask rest p lim matched leaf a t flat flat′ out out′ all entries
+
+module _ {ws txt : List ℕ} {ask : Ask} {rest : Str} {p : Path} {lim : Limits} {matched : ℕ} {leaf : Bool} {x : ℕ} {prefix : Str} where
+  pub merging-first : {a : Tally} {flat out : List ℕ} {m : Merge} → ListReady ws txt ask rest p lim leaf x → Starts ws txt x prefix m
+      → Merging ws txt ask rest p lim matched leaf x prefix a a flat flat out out m
+  merging-first r s =
+      let k = s (asked ask) (level-of leaf) (r .list-at) in
+      record { all = k .entries; says = k .says; entries = k .entries; gives = k .rest; left = left-all ws txt ask rest p lim matched leaf (list-room r prefix (k .entries) (k .says)) }
+
+  module _ {a t : Tally} {flat flat′ out out′ : List ℕ} {m : Merge} (g : Merging ws txt ask rest p lim matched leaf x prefix a t flat flat′ out out′ m) where
+    pub merging-any : AnyRest ws txt prefix m
+    merging-any = rest-any (g .gives)
+
+    module _ {s : Step} (f : Gives ws txt prefix m s) where
+      pub merging-done : s .branch ≡ 0 → ListRuns ws txt ask rest p lim matched a t flat flat′ out out′ leaf x prefix
+      merging-done z = entries-list (g .says) (left-none ws txt ask rest p lim matched leaf (rw (gives-end (g .gives) f z) at (g .left)))
+
+      module _ (n : s .branch ≡ 0 → ⊥) where
+        pub merging-earlier : s .branch ≤ x
+        merging-earlier = omega (arith, gives-more (g .gives) f n .given .branch .link .earlier)
+
+        pub merging-less : left-in ws txt prefix (s .m) < left-in ws txt prefix m
+        merging-less = gives-more (g .gives) f n .given .fewer
+
+        pub merging-branch : ListReady ws txt ask rest p lim leaf x → BranchReady ws txt ask rest p lim leaf (s .branch) (s .label)
+        merging-branch r =
+            let k = gives-more (g .gives) f n in
+            let t = r .list-at in
+            record {
+              ready = r .ready;
+              branch-at = record { records = t .records; used = t .used; sound = t .sound; some = k .given .branch .some; link = link-later (omega (arith, t .link .earlier)) (k .given .branch .link) };
+              label-at = record {
+                records = t .records;
+                used = t .used;
+                sound = t .sound;
+                ok = record { link = link-later (omega (arith, t .link .earlier)) (k .given .label-ok .link); imports = k .given .label-ok .imports };
+              };
+              room = λ z. (rw (k .is) at (g .left .room z)) .0;
+            }
+
+        module _ {t′ : Tally} {flat″ out″ : List ℕ} (b : BranchRuns ws txt ask rest p lim matched t t′ flat′ flat″ out′ out″ leaf (s .branch) (s .label)) (lf : length flat″ ≡ length flat′) (lo : length out″ ≡ length out′) where
+          pub merging-next : Merging ws txt ask rest p lim matched leaf x prefix a t′ flat flat″ out out″ (s .m)
+          merging-next =
+              let k = gives-more (g .gives) f n in
+              record { all = g .all; says = g .says; entries = k .after; gives = k .given .rest; left = left-next ws txt ask rest p lim matched leaf (rw (k .is) at (g .left)) b lf lo }
+
+          pub merging-spent : lim .budget < t′ .entered → ListRuns ws txt ask rest p lim matched a t′ flat flat″ out out″ leaf x prefix
+          merging-spent z = entries-list (merging-next .says) (left-spent ws txt ask rest p lim matched leaf (merging-next .left) z)

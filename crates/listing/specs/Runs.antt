@@ -1,0 +1,158 @@
+-- What the parts of a listing give, and what each function of the run requires and leaves.
+use Prim.Native.Nat.{ℕ, _+_, _*_, _<_, _≤_}
+use mathlib.Core.Path.{_≡_}
+use mathlib.Core.Bool.{Bool, true, false}
+use mathlib.Core.List.{List, [], _∷_, map, reverse, tail}
+use mathlib.Core.Option.{Option, some}
+use lib.Dec.{eqb}
+use lib.ListN.{length, take, drop, set}
+use Rattle.source.specs.Text.{Str, Query, segments, ends-in-dot}
+use Rattle.source.specs.Types.{Level, Value, Trie, bind, ns}
+use Rattle.source.specs.Trees.{PathElem}
+use Rattle.source.specs.Terms.{depth, depth-names}
+use Rattle.source.specs.Listing.{PathOf, SearchTerm, NSTNone, ns-search-term, bindings-search-term}
+use Rattle.source.specs.Table.{match-length-of-path}
+use Rattle.source.proofs.Counted.{entered}
+use Rattle.source.proofs.Lookup.{Allˡ}
+use Rattle.source.proofs.Found.{found}
+use Rattle.source.proofs.Lines.{line, made}
+use Rattle.source.proofs.Paths.{base}
+use Rattle.memory.specs.Layout.{record-at, word, pick, Which, Item, tree, list, trieˢ, what}
+use Rattle.tree.specs.Tree.{held, TreeAt}
+use Rattle.tree.specs.Links.{matches}
+use Rattle.names.specs.Names.{ListAt}
+use Rattle.trie.specs.Tries.{TrieAt}
+use Rattle.merge.specs.Entries.{Entry, shown, outer, Asks}
+use Rattle.lines.specs.Ask.{asked, line-for}
+use Rattle.lines.specs.Path.{BranchAt, LabelAt, PathOk, OnPath}
+use Rattle.lines.specs.Output.{signed-word, Result, _⊕_, Small, Goes}
+use Rattle.lines.specs.Lines.{only}
+use Rattle.lines.specs.declared.Ask.{Ask}
+use Rattle.lines.specs.declared.Path.{Path}
+use Rattle.lines.specs.declared.Limits.{Limits}
+use Rattle.lines.specs.declared.Tally.{Tally}
+use Rattle.listing.specs.declared.Cut.{Cut}
+
+-- ---- What is listed
+
+module _ (a : Ask) where
+  -- The listing of a trie below a path, with fuel n.
+  abbrev pub trie-gives : ℕ → Trie (Item (asked a)) → PathOf → Query → Result (Item (asked a))
+  trie-gives n tr path q = record { lines = made (line-for a) n tr path q; entered = entered n tr q }
+
+  -- What an element found in a list gives: its line, or the listing of its trie.
+  abbrev pub element-gives : (v : Level) → ℕ → PathOf → Query → PathElem × Value (Item (asked a)) v → Result (Item (asked a))
+  element-gives bind n path q x = only (line-for a (line path x))
+  element-gives ns n path q x = trie-gives n (x .1) (x .0 ∷ path) q
+
+  -- One after another.
+  unfoldable pub elements-give : (v : Level) → ℕ → PathOf → Query → List (PathElem × Value (Item (asked a)) v) → Result (Item (asked a))
+  elements-give v n path q [] = only []
+  elements-give v n path q (x ∷ xs) = element-gives v n path q x ⊕ elements-give v n path q xs
+
+-- ---- The place in the source's listing
+
+-- The match length of a path, by its word; where segments are left each element was matched.
+pub record Matching (path : PathOf) (q : Query) (m : ℕ) : Type 0 where
+  pub length-is : match-length-of-path (reverse path) ≡ signed-word m
+  pub all-matched : (q ≡ [] → ⊥) → Allˡ (λ el. (p : Str) × (el .segment .prefix ≡ some p)) path
+
+-- The same of each path that an element with the prefix field o makes.
+abbrev pub Steps : (path : PathOf) (o : Option Str) (q : Query) (m : ℕ) → Type 0
+Steps path o q m = (el : PathElem) → el .segment .prefix ≡ o → Matching (el ∷ path) q m
+
+-- Where a query is cut: before its first dot, and after it. An empty one has no segment.
+pub record Cuts (query : Str) (len matched : ℕ) (c : Cut) : Type 0 where
+  pub within : c .len ≤ c .next
+  pub inside : c .next ≤ length query
+  pub ends : ends-in-dot (drop (c .next) query) ≡ true
+  pub prefix-is : Option Str
+  pub asks : Asks (ns-search-term (segments query)) (take (c .len) query) prefix-is
+  pub rest : segments (drop (c .next) query) ≡ tail (segments query)
+  pub last-one : length query ≤ c .next → bindings-search-term (segments query) ≡ ns-search-term (segments query)
+  pub more : c .next < length query → bindings-search-term (segments query) ≡ NSTNone
+  pub steps : (path : PathOf) → len ≡ length (base path) → Matching path (segments query) matched → Steps path prefix-is (tail (segments query)) (c .matched)
+
+-- The path p with one more branch.
+pub record PathDown (ws : List ℕ) (p : Path) (branch label : ℕ) (r : Path) : Type 0 where
+  pub links-are : r .links ≡ set (p .links) (p .n) branch
+  pub count : r .n ≡ p .n + 1
+  pub len-is : r .len ≡ p .len + word (record-at ws branch) 2 + 1
+  pub label-is : r .label ≡ pick (eqb (p .n) 0) label (p .label)
+
+-- ---- What the functions require and leave
+
+-- The level that a flag says: bindings or namespaces.
+abbrev pub level-of : Bool → Level
+level-of leaf = pick leaf bind ns
+
+-- An entry's branch of namespaces leaves room in the path.
+abbrev pub HasRoom : (ws txt : List ℕ) (ask : Ask) (p : Path) → Entry → Type 0
+HasRoom ws txt ask p e = p .n + depth (held (asked ask) ws txt ns (e .branch)) < 16
+
+-- The matches of a tree, with no label.
+unfoldable pub tree-entries : (ws txt : List ℕ) (root : ℕ) (prefix : Str) → List Entry
+tree-entries ws txt root prefix = map (λ b. record { branch = b; label = 0 }) (matches ws txt root prefix)
+
+module _ (ws txt : List ℕ) (ask : Ask) (rest : Str) (p : Path) (lim : Limits) where
+  -- What each function requires of the rest of the query, the path and the limits.
+  pub record Ready : Type 0 where
+    pub path-ok : PathOk ws txt (asked ask) p
+    pub ends : ends-in-dot rest ≡ true
+    pub short : length rest ≤ 544
+    pub small : Small lim
+
+  pub record BranchReady (leaf : Bool) (branch label : ℕ) : Type 0 where
+    pub ready : Ready
+    pub branch-at : BranchAt ws txt (asked ask) (level-of leaf) branch
+    pub label-at : LabelAt ws txt (asked ask) (level-of leaf) label
+    pub room : leaf ≡ false → HasRoom ws txt ask p (record { branch = branch; label = label })
+
+  pub record TreeReady (leaf : Bool) (root : ℕ) (prefix : Str) : Type 0 where
+    pub ready : Ready
+    pub tree-at : TreeAt ws txt (asked ask) (level-of leaf) root
+    pub room : leaf ≡ false → Allˡ (HasRoom ws txt ask p) (tree-entries ws txt root prefix)
+
+  pub record ListReady (leaf : Bool) (x : ℕ) : Type 0 where
+    pub ready : Ready
+    pub list-at : ListAt ws txt (asked ask) (level-of leaf) x
+    pub room : leaf ≡ false → p .n + depth-names (what (asked ask) ws txt x (list ns)) ≤ 16
+
+  pub record TrieReady (trie : ℕ) : Type 0 where
+    pub ready : Ready
+    pub trie-at : TrieAt ws txt (asked ask) trie
+    pub room : p .n + depth (what (asked ask) ws txt trie trieˢ) ≤ 16
+
+  -- The run went on by what is listed, wherever in the source's listing it stands.
+  module _ (matched : ℕ) (a t : Tally) (flat flat′ out out′ : List ℕ) where
+    abbrev Went : Result (Item (asked ask)) → Type 0
+    Went r = Goes (asked ask) txt lim a t flat flat′ out out′ r
+
+    -- By an element that the branch and the label show.
+    pub record BranchRuns (leaf : Bool) (branch label : ℕ) : Type 0 where
+      pub goes : (path : PathOf) (x : PathElem × Value (Item (asked ask)) (level-of leaf)) (o : Option Str) (n : ℕ)
+          → OnPath ws txt p path → Steps path o (segments rest) matched
+          → outer x ≡ shown (asked ask) ws txt (level-of leaf) o (record { branch = branch; label = label })
+          → (leaf ≡ false → depth (x .1) < n)
+          → Went (element-gives ask (level-of leaf) n path (segments rest) x)
+
+    -- By the elements that entries show.
+    pub record EntriesRun (leaf : Bool) (es : List Entry) : Type 0 where
+      pub goes : (path : PathOf) (xs : List (PathElem × Value (Item (asked ask)) (level-of leaf))) (o : Option Str) (n : ℕ)
+          → OnPath ws txt p path → Steps path o (segments rest) matched
+          → map outer xs ≡ map (shown (asked ask) ws txt (level-of leaf) o) es
+          → (leaf ≡ false → Allˡ (λ x. depth (x .1) < n) xs)
+          → Went (elements-give ask (level-of leaf) n path (segments rest) xs)
+
+    -- By what is found in a list.
+    pub record ListRuns (leaf : Bool) (x : ℕ) (prefix : Str) : Type 0 where
+      pub goes : (path : PathOf) (term : SearchTerm) (o : Option Str) (n : ℕ)
+          → OnPath ws txt p path → Steps path o (segments rest) matched → Asks term prefix o
+          → (leaf ≡ false → depth-names (what (asked ask) ws txt x (list (level-of leaf))) ≤ n)
+          → Went (elements-give ask (level-of leaf) n path (segments rest) (found (what (asked ask) ws txt x (list (level-of leaf))) term))
+
+    -- By the listing of a trie.
+    pub record TrieRuns (trie : ℕ) : Type 0 where
+      pub goes : (path : PathOf) (n : ℕ)
+          → OnPath ws txt p path → Matching path (segments rest) matched → depth (what (asked ask) ws txt trie trieˢ) < n
+          → Went (trie-gives ask n (what (asked ask) ws txt trie trieˢ) path (segments rest))
