@@ -29,11 +29,11 @@ module _ {d d′ s t : List ℕ} where
 -- ---- The path of a candidate
 
 module _ (ws txt links : List ℕ) where
-  joined-more : (i : ℕ) → joined ws txt links (i + 1) ≡ joined ws txt links i ++ (key-at ws txt (getD links i 0) ++ (dot ∷ []))
+  pub joined-more : (i : ℕ) → joined ws txt links (i + 1) ≡ joined ws txt links i ++ (key-at ws txt (getD links i 0) ++ (dot ∷ []))
   unfolding joined
   joined-more i = rw (add-one i)
 
-  joined-length : (i : ℕ) → length (joined ws txt links (i + 1)) ≡ length (joined ws txt links i) + length (key-at ws txt (getD links i 0)) + 1
+  pub joined-length : (i : ℕ) → length (joined ws txt links (i + 1)) ≡ length (joined ws txt links i) + length (key-at ws txt (getD links i 0)) + 1
   joined-length i = rw (joined-more i) (simp length-append (omega arith))
 
   joined-grows : (i k : ℕ) → length (joined ws txt links i) ≤ length (joined ws txt links (i + k))

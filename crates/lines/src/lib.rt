@@ -187,10 +187,9 @@ fn put_line(
     requires { ⌜ length (now note) ≤ 543 ⌝ }
     ensures { λ r. ⌜ PutLine (now (words .entry)) (now (text .entry)) job (now (note .entry)) r (now (flat .entry)) (now (flat .exit)) (now (out .entry)) (now (out .exit)) ⌝ }
 {
-    let path = job.path;
     let lim = job.lim;
     let tally = job.tally;
-    let size = path.len + memory::word_of(words, job.branch, 2) as usize + note.len();
+    let size = job.path.len + memory::word_of(words, job.branch, 2) as usize + note.len();
     let counted = Tally {
         entered: tally.entered,
         lines: add(tally.lines, 1, lim.lines),

@@ -5,3 +5,4 @@ pub mod Left
 pub mod Branch
 pub mod Loops
 pub mod Trie
+pub mod Completing

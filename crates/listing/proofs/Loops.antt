@@ -18,6 +18,7 @@ use Rattle.source.proofs.Lookup.{Allˡ, Allˡ-map, Increasing}
 use Rattle.source.proofs.Rows.{names-find-rev-depth}
 use Rattle.source.proofs.Found.{found}
 use Rattle.memory.specs.Layout.{Which, Item, tree, list, kind, what, key-at}
+use Rattle.memory.specs.Sound.{Sound}
 use Rattle.memory.proofs.Seen.{link-later}
 use Rattle.tree.specs.Tree.{held, TreeAt, AnyTree}
 use Rattle.tree.specs.Links.{matches, head0, row-at}
@@ -55,8 +56,8 @@ unfolding found
 found-deep n term = all-reverse _ (names-find-rev n term) (names-find-rev-depth n term)
 
 -- No label.
-no-label : {ws txt : List ℕ} {w : Which} {v u : Level} {x : ℕ} → BranchAt ws txt w u x → LabelAt ws txt w v 0
-no-label b = record { records = b .records; used = b .used; sound = b .sound; ok = record { link = no-link _ _; imports = λ h. absurd (omega arith) } }
+pub no-label : {ws txt : List ℕ} {w : Which} {v : Level} {n used : ℕ} → Sound ws txt 0 0 n used → LabelAt ws txt w v 0
+no-label {n = n} {used} o = record { records = n; used = used; sound = o; ok = record { link = no-link _ _; imports = λ h. absurd (omega arith) } }
 
 -- ---- A tree's branches
 
@@ -126,7 +127,7 @@ module _ {ws txt : List ℕ} {ask : Ask} {rest : Str} {p : Path} {lim : Limits} 
       walking-branch r = record {
         ready = r .ready;
         branch-at = branch-here;
-        label-at = no-label branch-here;
+        label-at = no-label (branch-here .sound);
         room = λ z. (rw split at (g .left .room z)) .0;
       }
 

@@ -7,9 +7,12 @@ use lines::Path;
 use lines::Tally;
 ghost use mathlib.Core.Path.{_≡_};
 ghost use mathlib.Core.Bool.{true, false};
-ghost use Prim.Native.Nat.{_+_, _*_, _≤_, _<_};
+ghost use Prim.Native.Nat.{_+_, _*_, _≤_, _<_, min};
 ghost use lib.ListN.{length};
 ghost use Rattle.source.specs.Text.{ends-in-dot};
+ghost use Rattle.lines.specs.Ask.{asked};
+ghost use Rattle.trie.specs.Tries.{TrieAt};
+ghost use Rattle.listing.specs.Completes.{Completes};
 ghost use Rattle.listing.specs.Runs.{Cuts, PathDown, tree-entries, BranchReady, BranchRuns, TreeReady, EntriesRun, ListReady, ListRuns, TrieReady, TrieRuns};
 
 // Where a query is cut: the first segment's length, where the rest begins, and the match length of what the segment takes.
@@ -350,4 +353,96 @@ fn list_trie(
         flat,
         out,
     )
+}
+
+// What a completion of well-formed arguments hands back: the lines and the tries entered, or rows 9 and 10.
+pub enum Completion {
+    Listed(u32, u32),
+    Spent,
+    Lines,
+}
+
+// What can be lent of `n` lines or bytes: as many as 32 bits count.
+fn lent(n: usize) -> usize
+    ensures { λ r. ⌜ r ≡ min n 4294967295 ⌝ }
+{
+    if n < 4294967295 {
+        return n;
+    }
+    4294967295
+}
+
+// Completion on a root: counted first, so that a refusal writes nothing, then written.
+pub fn complete(
+    words: &[u32],
+    text: &[u8],
+    ask: Ask,
+    root: u32,
+    query: &[u8],
+    budget: u32,
+    flat: &mut [u32],
+    out: &mut [u8],
+) -> Completion
+    requires { ⌜ TrieAt (now words) (now text) (asked ask) root ⌝ }
+    requires { ⌜ (ends-in-dot (now query) ≡ true) × (length (now query) ≤ 544) ⌝ }
+    ensures { λ r. ⌜ Completes (now (words .entry)) (now (text .entry)) ask root (now (query .entry)) budget (now (flat .entry)) (now (flat .exit)) (now (out .entry)) (now (out .exit)) r ⌝ }
+{
+    let lines = lent(flat.len() / 12);
+    let bytes = lent(out.len());
+    let most = budget as usize;
+    let lim = Limits {
+        budget: most,
+        lines: lines,
+        bytes: bytes,
+    };
+    let path = Path {
+        links: [0; 16],
+        n: 0,
+        len: 0,
+        label: 0,
+    };
+    let none = Tally {
+        entered: 0,
+        lines: 0,
+        bytes: 0,
+    };
+    let counted = list_trie(
+        words,
+        text,
+        ask,
+        root,
+        query,
+        path,
+        4294967295,
+        lim,
+        none,
+        &mut flat[0..0],
+        &mut out[0..0],
+    );
+    let entered = counted.entered;
+    if most < entered {
+        return Completion::Spent;
+    }
+    let count = counted.lines;
+    let size = counted.bytes;
+    if lines < count {
+        return Completion::Lines;
+    }
+    if bytes < size {
+        return Completion::Lines;
+    }
+    list_trie(
+        words,
+        text,
+        ask,
+        root,
+        query,
+        path,
+        4294967295,
+        lim,
+        none,
+        flat,
+        out,
+    );
+    Completion::Listed(count as u32, entered as u32)
 }

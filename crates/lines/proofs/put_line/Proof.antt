@@ -24,16 +24,16 @@ put-line-spec =
     {- fits-requires -}
     (λ c κs. search needs)
     {- returns -}
-    (λ c. no-row (c .before .before .before .before .before .before .before .before .before .before .before .before .before .before .pre .0) (counted (omega (arith, c .before .before .before .before .before .word-of .ensures)) (c .before .before .before .add .ensures) (c .before .before .add2 .ensures)) (c .before .fits2 .result) (c .before .fits2 .ensures) (c .if1 .taken))
+    (λ c. no-row (c .before .before .before .before .before .before .before .before .before .before .before .before .before .pre .0) (counted (omega (arith, c .before .before .before .before .before .word-of .ensures)) (c .before .before .before .add .ensures) (c .before .before .add2 .ensures)) (c .before .fits2 .result) (c .before .fits2 .ensures) (c .if1 .taken))
     {- fits-requires-2 -}
     (λ c κs. search needs)
     {- returns-2 -}
-    (λ c. no-text (c .before .before .before .before .before .before .before .before .before .before .before .before .before .before .before .before .pre .0) (counted (omega (arith, c .before .before .before .before .before .before .before .word-of .ensures)) (c .before .before .before .before .before .add .ensures) (c .before .before .before .before .add2 .ensures)) (c .before .fits3 .result) (omega (arith, c .before .before .before .before .before .before .before .word-of .ensures)) (c .before .fits3 .ensures) (c .if2 .taken))
+    (λ c. no-text (c .before .before .before .before .before .before .before .before .before .before .before .before .before .before .before .pre .0) (counted (omega (arith, c .before .before .before .before .before .before .before .word-of .ensures)) (c .before .before .before .before .before .add .ensures) (c .before .before .before .before .add2 .ensures)) (c .before .fits3 .result) (omega (arith, c .before .before .before .before .before .before .before .word-of .ensures)) (c .before .fits3 .ensures) (c .if2 .taken))
     {- write-line-requires -}
-    (λ c κs. (c .before .before .before .before .before .before .before .before .before .before .before .before .before .before .before .before .before .before .pre .0, passed (c .before .before .before .before .before .before .before .before .before .before .before .before .before .before .before .before .before .before .pre .0) (c .before .before .before .before .before .fits2 .result) (c .before .before .before .fits3 .result) (omega (arith, c .before .before .before .before .before .before .before .before .before .word-of .ensures)) (c .before .before .before .before .before .fits2 .ensures) (c .before .before .before .before .if1 .left) (c .before .before .before .fits3 .ensures) (c .before .before .if2 .left)))
+    (λ c κs. (c .before .before .before .before .before .before .before .before .before .before .before .before .before .before .before .before .before .pre .0, passed (c .before .before .before .before .before .before .before .before .before .before .before .before .before .before .before .before .before .pre .0) (c .before .before .before .before .before .fits2 .result) (c .before .before .before .fits3 .result) (omega (arith, c .before .before .before .before .before .before .before .before .before .word-of .ensures)) (c .before .before .before .before .before .fits2 .ensures) (c .before .before .before .before .if1 .left) (c .before .before .before .fits3 .ensures) (c .before .before .if2 .left)))
     {- same-length -}
     (λ c. search needs)
     {- same-length-2 -}
     (λ c. search needs)
     {- returns-3 -}
-    (λ c. line-written (c .before .before .before .before .before .before .before .before .before .before .before .before .before .before .before .before .before .before .before .before .before .before .before .pre .0) (counted (omega (arith, c .before .before .before .before .before .before .before .before .before .before .before .before .before .before .word-of .ensures)) (c .before .before .before .before .before .before .before .before .before .before .before .before .add .ensures) (c .before .before .before .before .before .before .before .before .before .before .before .add2 .ensures)) (c .before .before .before .before .write-line .ensures)))
+    (λ c. line-written (c .before .before .before .before .before .before .before .before .before .before .before .before .before .before .before .before .before .before .before .before .before .before .pre .0) (counted (omega (arith, c .before .before .before .before .before .before .before .before .before .before .before .before .before .before .word-of .ensures)) (c .before .before .before .before .before .before .before .before .before .before .before .before .add .ensures) (c .before .before .before .before .before .before .before .before .before .before .before .add2 .ensures)) (c .before .before .before .before .write-line .ensures)))

@@ -234,17 +234,17 @@ pub +list-branch+list-merged+list-names+list-tree+list-trie-spec : {M : Type 1} 
     {- cut-query-requires -}
     (λ c κs. cut-ready (c .before .before .before .before .before .before .before .pre .1))
     {- sub-list-names -}
-    (λ c. search (needs, c .before .cut-query .ensures .within, c .before .cut-query .ensures .inside))
+    (λ c. search needs)
     {- part-list-names-start -}
-    (λ c. search (needs, c .before .cut-query .ensures .within, c .before .cut-query .ensures .inside))
+    (λ c. search needs)
     {- part-list-names-end -}
-    (λ c. search (needs, c .before .cut-query .ensures .within, c .before .cut-query .ensures .inside))
+    (λ c. search (needs, c .before .cut-query .ensures .inside))
     {- sub-list-names-2 -}
-    (λ c. search (needs, c .before .before .cut-query .ensures .within, c .before .before .cut-query .ensures .inside))
+    (λ c. search (needs, c .before .before .cut-query .ensures .inside))
     {- part-list-names-start-2 -}
-    (λ c. search (needs, c .before .before .cut-query .ensures .within, c .before .before .cut-query .ensures .inside))
+    (λ c. search (needs, c .before .before .cut-query .ensures .inside))
     {- part-list-names-end-2 -}
-    (λ c. search (needs, c .before .before .cut-query .ensures .within, c .before .before .cut-query .ensures .inside))
+    (λ c. search (needs, c .before .before .cut-query .ensures .inside))
     {- list-names-requires -}
     (λ c κs. (omega (arith, c .before .before .before .before .before .before .before .before .before .before .before .before .before .pre .0, namespaces-earlier (c .before .before .before .before .before .before .before .before .before .before .before .before .before .pre .1) (c .before .before .before .before .before .before .trie-of .ensures) (c .before .before .before .before .before .cut-query .ensures)), rw tail-is (namespaces-ready (c .before .before .before .before .before .before .before .before .before .before .before .before .before .pre .1) (c .before .before .before .before .before .before .trie-of .ensures) (c .before .before .before .before .before .cut-query .ensures))))
     {- same-length -}
@@ -254,31 +254,31 @@ pub +list-branch+list-merged+list-names+list-tree+list-trie-spec : {M : Type 1} 
     {- returns-2 -}
     (λ c. trie-spaces (c .before .before .before .before .before .before .before .before .before .before .before .before .before .before .before .before .before .before .pre .1) (c .before .before .before .before .before .before .before .before .before .before .before .trie-of .ensures) (c .before .before .before .before .before .before .before .before .before .before .cut-query .ensures) (omega (arith, c .before .before .before .before .before .before .before .before .before .before .before .before .if1 .left)) (c .before .before .before .before .before .before .before .before .before .if2 .taken) (rw (tail-is, front-is) at (c .before .before .before .before .list-names .ensures)))
     {- sub-list-names-3 -}
-    (λ c. search (needs, c .before .cut-query .ensures .within, c .before .cut-query .ensures .inside))
+    (λ c. search needs)
     {- part-list-names-start-3 -}
-    (λ c. search (needs, c .before .cut-query .ensures .within, c .before .cut-query .ensures .inside))
+    (λ c. search needs)
     {- part-list-names-end-3 -}
-    (λ c. search (needs, c .before .cut-query .ensures .within, c .before .cut-query .ensures .inside))
+    (λ c. search (needs, c .before .cut-query .ensures .inside))
     {- sub-list-names-4 -}
-    (λ c. search (needs, c .before .before .cut-query .ensures .within, c .before .before .cut-query .ensures .inside))
+    (λ c. search (needs, c .before .before .cut-query .ensures .inside))
     {- part-list-names-start-4 -}
-    (λ c. search (needs, c .before .before .cut-query .ensures .within, c .before .before .cut-query .ensures .inside))
+    (λ c. search (needs, c .before .before .cut-query .ensures .inside))
     {- part-list-names-end-4 -}
-    (λ c. search (needs, c .before .before .cut-query .ensures .within, c .before .before .cut-query .ensures .inside))
+    (λ c. search (needs, c .before .before .cut-query .ensures .inside))
     {- list-names-requires-2 -}
     (λ c κs. (omega (arith, c .before .before .before .before .before .before .before .before .before .before .before .before .before .pre .0, bindings-earlier (c .before .before .before .before .before .before .before .before .before .before .before .before .before .pre .1) (c .before .before .before .before .before .before .trie-of .ensures) (c .before .before .before .before .before .cut-query .ensures)), rw tail-is (bindings-ready (c .before .before .before .before .before .before .before .before .before .before .before .before .before .pre .1) (c .before .before .before .before .before .before .trie-of .ensures) (c .before .before .before .before .before .cut-query .ensures))))
     {- sub-list-names-5 -}
-    (λ c. search (needs, c .before .before .before .before .before .before .before .before .before .before .cut-query .ensures .within, c .before .before .before .before .before .before .before .before .before .before .cut-query .ensures .inside))
+    (λ c. search needs)
     {- part-list-names-start-5 -}
-    (λ c. search (needs, c .before .before .before .before .before .before .before .before .before .before .cut-query .ensures .within, c .before .before .before .before .before .before .before .before .before .before .cut-query .ensures .inside))
+    (λ c. search needs)
     {- part-list-names-end-5 -}
-    (λ c. search (needs, c .before .before .before .before .before .before .before .before .before .before .cut-query .ensures .within, c .before .before .before .before .before .before .before .before .before .before .cut-query .ensures .inside))
+    (λ c. search (needs, c .before .before .before .before .before .before .before .before .before .before .cut-query .ensures .inside))
     {- sub-list-names-6 -}
-    (λ c. search (needs, c .before .before .before .before .before .before .before .before .before .before .before .cut-query .ensures .within, c .before .before .before .before .before .before .before .before .before .before .before .cut-query .ensures .inside))
+    (λ c. search (needs, c .before .before .before .before .before .before .before .before .before .before .before .cut-query .ensures .inside))
     {- part-list-names-start-6 -}
-    (λ c. search (needs, c .before .before .before .before .before .before .before .before .before .before .before .cut-query .ensures .within, c .before .before .before .before .before .before .before .before .before .before .before .cut-query .ensures .inside))
+    (λ c. search (needs, c .before .before .before .before .before .before .before .before .before .before .before .cut-query .ensures .inside))
     {- part-list-names-end-6 -}
-    (λ c. search (needs, c .before .before .before .before .before .before .before .before .before .before .before .cut-query .ensures .within, c .before .before .before .before .before .before .before .before .before .before .before .cut-query .ensures .inside))
+    (λ c. search (needs, c .before .before .before .before .before .before .before .before .before .before .before .cut-query .ensures .inside))
     {- list-names-requires-3 -}
     (λ c κs. (omega (arith, c .before .before .before .before .before .before .before .before .before .before .before .before .before .before .before .before .before .before .before .before .before .before .pre .0, namespaces-earlier (c .before .before .before .before .before .before .before .before .before .before .before .before .before .before .before .before .before .before .before .before .before .before .pre .1) (c .before .before .before .before .before .before .before .before .before .before .before .before .before .before .before .trie-of .ensures) (c .before .before .before .before .before .before .before .before .before .before .before .before .before .before .cut-query .ensures)), rw tail-is (namespaces-ready (c .before .before .before .before .before .before .before .before .before .before .before .before .before .before .before .before .before .before .before .before .before .before .pre .1) (c .before .before .before .before .before .before .before .before .before .before .before .before .before .before .before .trie-of .ensures) (c .before .before .before .before .before .before .before .before .before .before .before .before .before .before .cut-query .ensures))))
     {- same-length-3 -}
