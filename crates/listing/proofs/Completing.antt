@@ -42,7 +42,7 @@ abbrev pub nothing-yet : Tally
 nothing-yet = record { entered = 0; lines = 0; bytes = 0 }
 
 -- A lent part of no element leaves all.
-pub lent-nothing : (d part : List ℕ) → length part ≡ 0 → putMid 0 0 d part ≡ d
+lent-nothing : (d part : List ℕ) → length part ≡ 0 → putMid 0 0 d part ≡ d
 lent-nothing d [] e = refl
 lent-nothing d (x ∷ part) e = absurd (omega arith)
 
@@ -98,11 +98,12 @@ module _ (ws txt : List ℕ) (ask : Ask) (root : ℕ) (query : Str) where
         let b : 0 + length (output-text listed) ≡ length (output-text listed) = omega arith in
         rw (e, ← l, ← b) (run-goes .shows 0 0 0 none-shown)
 
-    pub root-flat : length flat′ ≡ length flat
-    root-flat = run-goes .flat-size
+    -- Where nothing was lent nothing has changed.
+    pub flat-kept : (d : List ℕ) → length flat ≡ 0 → putMid 0 0 d flat′ ≡ d
+    flat-kept d e = lent-nothing d flat′ (run-goes .flat-size ∙ e)
 
-    pub root-out : length out′ ≡ length out
-    root-out = run-goes .out-size
+    pub out-kept : (d : List ℕ) → length out ≡ 0 → putMid 0 0 d out′ ≡ d
+    out-kept d e = lent-nothing d out′ (run-goes .out-size ∙ e)
 
     -- What it has written.
     root-writes : Fit lim flat out tries (length listed) (length (output-text listed)) → Written (asked ask) txt flat flat′ out out′ 0 0 listed

@@ -82,13 +82,13 @@ taken-is Alias host other key e = omega arith
 taken-is (Module loaded) host other key e = rw e (omega arith)
 
 -- ---- Rows
-lowest-stops : (xs ys : List Row) {n : ℕ} → lowest xs ≡ some n → lowest (xs ++ ys) ≡ some n
+pub lowest-stops : (xs ys : List Row) {n : ℕ} → lowest xs ≡ some n → lowest (xs ++ ys) ≡ some n
 unfolding lowest
 lowest-stops [] ys e = absurd (Option·none-ne-some _ e)
 lowest-stops ((k when true) ∷ xs) ys e = e
 lowest-stops ((k when false) ∷ xs) ys e = lowest-stops xs ys e
 
-lowest-past : (xs ys : List Row) → lowest xs ≡ none → lowest (xs ++ ys) ≡ lowest ys
+pub lowest-past : (xs ys : List Row) → lowest xs ≡ none → lowest (xs ++ ys) ≡ lowest ys
 unfolding lowest
 lowest-past [] ys e = refl
 lowest-past ((k when true) ∷ xs) ys e = absurd (Option·none-ne-some _ (sym e))

@@ -8,3 +8,4 @@ mod Changes
 mod Writing
 mod Registering
 pub mod Calls
+pub mod Completing

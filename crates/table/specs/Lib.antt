@@ -3,3 +3,4 @@ pub mod Answers
 pub mod Registrations
 pub mod Forms
 pub mod Writes
+pub mod Completions

@@ -1,5 +1,7 @@
 // The calls on a table: a header by value, with the lent words and text.
 // Each call has a form for callers that have proved the memory sound, and a total one that tests it first.
+use lines::Ask;
+use listing::Completion;
 use memory::ModSymbol;
 use memory::Span;
 use text::Flags;
@@ -18,6 +20,8 @@ ghost use Rattle.trie.specs.Plans.{Planned};
 ghost use Rattle.table.specs.Header.{IsSound, Fresh, state, table-in, names-in, modules-in};
 ghost use Rattle.table.specs.Answers.{row-of, flag-rows, LookedUp, name-found, module-found};
 ghost use Rattle.table.specs.Forms.{other-argument, key-argument, call-of, AllFlagged, both-flags, NoKey, Ready, Carries, plan-rows, Passes, Checks};
+ghost use Rattle.lines.specs.Ask.{asked};
+ghost use Rattle.table.specs.Completions.{answer-in, root-for, CompletesOn, Completes};
 ghost use Rattle.table.specs.Registrations.{Accepts, Answers, Total};
 ghost use Rattle.table.specs.Writes.{Laid, change-in, which-in, root-at, with-root};
 
@@ -101,6 +105,55 @@ fn look_up(words: &[u32], text: &[u8], root: u32, query: &[u8]) -> Looked
             }
             Looked::Branch(link)
         }
+    }
+}
+
+// ---- Completions
+
+// The answer of a completion: how many lines and tries entered, or a refusal.
+pub enum Completed {
+    Listed(u32, u32),
+    Refused(Refusal),
+}
+
+// The answer of a completion of well-formed arguments.
+fn answer_of(c: Completion) -> Completed
+    ensures { λ r. ⌜ r ≡ answer-in c ⌝ }
+{
+    match c {
+        Completion::Listed(lines, entered) => Completed::Listed(lines, entered),
+        Completion::Spent => Completed::Refused(Refusal::Spent),
+        Completion::Lines => Completed::Refused(Refusal::Lines),
+    }
+}
+
+// A completion on a root.
+fn complete_on(
+    words: &[u32],
+    text: &[u8],
+    ask: Ask,
+    root: u32,
+    query: &[u8],
+    budget: u32,
+    flat: &mut [u32],
+    out: &mut [u8],
+) -> Completed
+    requires { ⌜ TrieAt (now words) (now text) (asked ask) root ⌝ }
+    ensures { λ r. ⌜ CompletesOn (now (words .entry)) (now (text .entry)) ask root (now (query .entry)) budget (now (flat .entry)) (now (flat .exit)) (now (out .entry)) (now (out .exit)) r ⌝ }
+{
+    let a = admit(text::completion_flags(query));
+    match a {
+        Admission::Refused(x) => Completed::Refused(x),
+        Admission::Admitted => answer_of(listing::complete(
+            words,
+            text,
+            ask,
+            root,
+            query,
+            budget,
+            flat,
+            out,
+        )),
     }
 }
 
@@ -327,6 +380,53 @@ impl Table {
             self.records,
             self.text,
         )
+    }
+
+    // The root that is asked.
+    fn root_for(self, ask: Ask) -> u32
+        ensures { λ r. ⌜ r ≡ root-for self ask ⌝ }
+    {
+        match ask {
+            Ask::Names => self.names,
+            Ask::Modules(f) => self.modules,
+        }
+    }
+
+    // Completion of names, or of modules and namespaces, in a sound memory. Lines go into `flat`, twelve words to a line, their texts into `out`.
+    pub fn complete_sound(
+        self,
+        words: &[u32],
+        text: &[u8],
+        ask: Ask,
+        query: &[u8],
+        budget: u32,
+        flat: &mut [u32],
+        out: &mut [u8],
+    ) -> Completed
+        requires { ⌜ IsSound (now words) (now text) self ⌝ }
+        ensures { λ r. ⌜ Completes true (now (words .entry)) (now (text .entry)) self ask (now (query .entry)) budget (now (flat .entry)) (now (flat .exit)) (now (out .entry)) (now (out .exit)) r ⌝ }
+    {
+        let root = self.root_for(ask);
+        complete_on(words, text, ask, root, query, budget, flat, out)
+    }
+
+    // The same, in any memory.
+    pub fn complete(
+        self,
+        words: &[u32],
+        text: &[u8],
+        ask: Ask,
+        query: &[u8],
+        budget: u32,
+        flat: &mut [u32],
+        out: &mut [u8],
+    ) -> Completed
+        ensures { λ r. ⌜ ((b : Bool) → Says b (IsSound (now (words .entry)) (now (text .entry)) self) → Completes b (now (words .entry)) (now (text .entry)) self ask (now (query .entry)) budget (now (flat .entry)) (now (flat .exit)) (now (out .entry)) (now (out .exit)) r) ⌝ }
+    {
+        if self.is_sound(words, text) {
+            return self.complete_sound(words, text, ask, query, budget, flat, out);
+        }
+        Completed::Refused(Refusal::Unsound)
     }
 
     // Look-up of a name, in a sound memory.

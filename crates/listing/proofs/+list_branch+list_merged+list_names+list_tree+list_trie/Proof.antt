@@ -244,7 +244,7 @@ pub +list-branch+list-merged+list-names+list-tree+list-trie-spec : {M : Type 1} 
     {- part-list-names-start-2 -}
     (λ c. search (needs, c .before .before .cut-query .ensures .inside))
     {- part-list-names-end-2 -}
-    (λ c. search (needs, c .before .before .cut-query .ensures .inside))
+    (λ c. search needs)
     {- list-names-requires -}
     (λ c κs. (omega (arith, c .before .before .before .before .before .before .before .before .before .before .before .before .before .pre .0, namespaces-earlier (c .before .before .before .before .before .before .before .before .before .before .before .before .before .pre .1) (c .before .before .before .before .before .before .trie-of .ensures) (c .before .before .before .before .before .cut-query .ensures)), rw tail-is (namespaces-ready (c .before .before .before .before .before .before .before .before .before .before .before .before .before .pre .1) (c .before .before .before .before .before .before .trie-of .ensures) (c .before .before .before .before .before .cut-query .ensures))))
     {- same-length -}
@@ -264,7 +264,7 @@ pub +list-branch+list-merged+list-names+list-tree+list-trie-spec : {M : Type 1} 
     {- part-list-names-start-4 -}
     (λ c. search (needs, c .before .before .cut-query .ensures .inside))
     {- part-list-names-end-4 -}
-    (λ c. search (needs, c .before .before .cut-query .ensures .inside))
+    (λ c. search needs)
     {- list-names-requires-2 -}
     (λ c κs. (omega (arith, c .before .before .before .before .before .before .before .before .before .before .before .before .before .pre .0, bindings-earlier (c .before .before .before .before .before .before .before .before .before .before .before .before .before .pre .1) (c .before .before .before .before .before .before .trie-of .ensures) (c .before .before .before .before .before .cut-query .ensures)), rw tail-is (bindings-ready (c .before .before .before .before .before .before .before .before .before .before .before .before .before .pre .1) (c .before .before .before .before .before .before .trie-of .ensures) (c .before .before .before .before .before .cut-query .ensures))))
     {- sub-list-names-5 -}
@@ -278,7 +278,7 @@ pub +list-branch+list-merged+list-names+list-tree+list-trie-spec : {M : Type 1} 
     {- part-list-names-start-6 -}
     (λ c. search (needs, c .before .before .before .before .before .before .before .before .before .before .before .cut-query .ensures .inside))
     {- part-list-names-end-6 -}
-    (λ c. search (needs, c .before .before .before .before .before .before .before .before .before .before .before .cut-query .ensures .inside))
+    (λ c. search needs)
     {- list-names-requires-3 -}
     (λ c κs. (omega (arith, c .before .before .before .before .before .before .before .before .before .before .before .before .before .before .before .before .before .before .before .before .before .before .pre .0, namespaces-earlier (c .before .before .before .before .before .before .before .before .before .before .before .before .before .before .before .before .before .before .before .before .before .before .pre .1) (c .before .before .before .before .before .before .before .before .before .before .before .before .before .before .before .trie-of .ensures) (c .before .before .before .before .before .before .before .before .before .before .before .before .before .before .cut-query .ensures)), rw tail-is (namespaces-ready (c .before .before .before .before .before .before .before .before .before .before .before .before .before .before .before .before .before .before .before .before .before .before .pre .1) (c .before .before .before .before .before .before .before .before .before .before .before .before .before .before .before .trie-of .ensures) (c .before .before .before .before .before .before .before .before .before .before .before .before .before .before .cut-query .ensures))))
     {- same-length-3 -}

@@ -1,0 +1,25 @@
+-- Table::complete meets its contract.
+use mathlib.Core.Path.{_∙_}
+use borrow.Author.Needs.{needs}
+use Rattle.memory.proofs.Says.{holds}
+use Rattle.table.proofs.Decided.{decided}
+use Rattle.table.proofs.Completing.{completes-unsound}
+use Rattle.table.proofs.Table.complete.Statement.{statement}
+use Rattle.table.proofs.Table.complete.Tie as tie
+
+pub complete-spec : {M : Type 1} → statement M
+complete-spec =
+    tie.close
+    (tie.spec
+    {- is-sound-requires -}
+    (λ c κs. search needs)
+    {- complete-sound-requires -}
+    (λ c κs. holds _ (c .before .before .before .is-sound .ensures) (c .before .before .if1 .taken))
+    {- same-length -}
+    (λ c. search needs)
+    {- same-length-2 -}
+    (λ c. search needs)
+    {- returns -}
+    (λ c b h. rw (decided _ b (c .before .before .before .before .before .before .before .before .is-sound .result) h (c .before .before .before .before .before .before .before .before .is-sound .ensures) ∙ c .before .before .before .before .before .before .before .if1 .taken) (c .before .before .before .before .complete-sound .ensures))
+    {- returns-2 -}
+    (λ c b h. rw (decided _ b (c .before .is-sound .result) h (c .before .is-sound .ensures) ∙ c .if1 .left) completes-unsound))
