@@ -1,10 +1,10 @@
 mod Roots
-mod Decided
+pub mod Decided
 mod Arguments
 mod Lookups
 mod Checks
 mod Laying
 mod Changes
 mod Writing
-mod Registering
+pub mod Registering
 pub mod Calls

@@ -107,7 +107,7 @@ fn look_up(words: &[u32], text: &[u8], root: u32, query: &[u8]) -> Looked
 // ---- Registrations
 
 // A registration apart from its texts: a name with its item, an include, an open (of a module or not), an alias, a module path (loaded or not).
-enum Form {
+pub enum Form {
     Name(u32),
     Include,
     Open(bool),
@@ -536,8 +536,8 @@ impl Table {
         }
     }
 
-    // A registration.
-    fn register(
+    // A registration, by its form. Only an alias has a key.
+    pub fn register(
         self,
         words: &mut [u32],
         text: &mut [u8],

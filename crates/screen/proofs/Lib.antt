@@ -1,0 +1,5 @@
+pub mod Outsides
+pub mod Bytes
+pub mod Lent
+pub mod Replying
+pub mod Looking
