@@ -10,7 +10,7 @@ use Rattle.source.specs.Calls as C
 use Rattle.source.specs.Calls.{lowest, argument-rows, look-up}
 use Rattle.memory.specs.Sound.{Says}
 use Rattle.table.specs.Header.{IsSound, names-in, modules-in}
-use Rattle.table.specs.Answers.{name-found, module-found}
+use Rattle.table.specs.Answers.{name-found, module-found, FoundInside}
 use Rattle.table.specs.declared.Table.{Table}
 use Rattle.table.specs.declared.Found.{Found}
 use Rattle.table.specs.declared.FoundModule.{FoundModule}
@@ -32,7 +32,7 @@ module _ {st bs txt : List ℕ} {q : Str} (e : length st ≡ 16 → ⊥) where
   name-short p = record { says = λ b h. rw (says-short st bs txt b e h, look-up-unsound) p }
 
   pub module-short : {r : ModuleReply} → r ≡ no-module 1 → RepliesModule st bs txt q r
-  module-short p = record { says = λ b h. record { found = Refused Unsound; reply = p; says = rw (says-short st bs txt b e h, look-up-unsound) } }
+  module-short p = record { says = λ b h. record { found = Refused Unsound; reply = p; says = rw (says-short st bs txt b e h, look-up-unsound); inside = tt } }
 
 -- A look-up by crate table.
 module _ {st bs txt m : List ℕ} {t : Table} {q : Str} (h : Held st bs m t) where
@@ -42,5 +42,5 @@ module _ {st bs txt m : List ℕ} {t : Table} {q : Str} (h : Held st bs m t) whe
 
   pub module-looked : (f : FoundModule) {r : ModuleReply}
       → ((b : Bool) → Says b (IsSound m txt t) → module-found txt f ≡ look-up b (modules-in m txt t) q)
-      → r ≡ module-reply f → RepliesModule st bs txt q r
-  module-looked f g p = record { says = λ b i. record { found = f; reply = p; says = rw (← h .lent, h .spelt .header) (g b (says-memory txt h b i)) } }
+      → FoundInside (length txt) f → r ≡ module-reply f → RepliesModule st bs txt q r
+  module-looked f g k p = record { says = λ b i. record { found = f; reply = p; says = rw (← h .lent, h .spelt .header) (g b (says-memory txt h b i)); inside = k } }

@@ -13,7 +13,7 @@ use Rattle.memory.specs.Sound.{Says}
 use Rattle.table.specs.Header.{state, lent, names-in, modules-in}
 use Rattle.memory.specs.declared.ModSymbol.{ModSymbol}
 use Rattle.memory.specs.declared.ModSymbol.the-variants.{Module, Namespace}
-use Rattle.table.specs.Answers.{number, module-found}
+use Rattle.table.specs.Answers.{number, module-found, FoundInside}
 use Rattle.table.specs.Registrations.{Outside, Accepts}
 use Rattle.table.specs.declared.FoundModule.{FoundModule}
 use Rattle.table.specs.declared.FoundModule.the-variants.{Symbol, Nothing, Refused}
@@ -100,6 +100,7 @@ pub record SaysModule (txt : List ℕ) (a : C.Found S.ModSymbol) (r : ModuleRepl
   pub found : FoundModule
   pub reply : r ≡ module-reply found
   pub says : module-found txt found ≡ a
+  pub inside : FoundInside (length txt) found
 
 -- The reply r to a look-up of a module or namespace; b says whether the bytes are a sound table.
 pub record RepliesModule (st bs txt : List ℕ) (query : Str) (r : ModuleReply) : Type 0 where

@@ -16,7 +16,7 @@ ghost use Rattle.text.specs.Calls.{Flagged};
 ghost use Rattle.trie.specs.Tries.{TrieAt, AnyTrie};
 ghost use Rattle.trie.specs.Plans.{Planned};
 ghost use Rattle.table.specs.Header.{IsSound, Fresh, state, table-in, names-in, modules-in};
-ghost use Rattle.table.specs.Answers.{row-of, flag-rows, LookedUp, name-found, module-found};
+ghost use Rattle.table.specs.Answers.{row-of, flag-rows, LookedUp, name-found, module-found, FoundInside};
 ghost use Rattle.table.specs.Forms.{other-argument, key-argument, call-of, AllFlagged, both-flags, NoKey, Ready, Carries, plan-rows, Passes, Checks};
 ghost use Rattle.table.specs.Registrations.{Accepts, Answers, Total};
 ghost use Rattle.table.specs.Writes.{Laid, change-in, which-in, root-at, with-root};
@@ -356,6 +356,7 @@ impl Table {
     pub fn find_module_sound(self, words: &[u32], text: &[u8], query: &[u8]) -> FoundModule
         requires { ⌜ IsSound (now words) (now text) self ⌝ }
         ensures { λ r. ⌜ module-found (now (text .entry)) r ≡ look-up true (modules-in (now (words .entry)) (now (text .entry)) self) (now (query .entry)) ⌝ }
+        ensures { λ r. ⌜ FoundInside (length (now (text .entry))) r ⌝ }
     {
         let l = look_up(words, text, self.modules, query);
         match l {
@@ -368,6 +369,7 @@ impl Table {
     // Look-up of a module or namespace.
     pub fn find_module(self, words: &[u32], text: &[u8], query: &[u8]) -> FoundModule
         ensures { λ r. ⌜ ((b : Bool) → Says b (IsSound (now (words .entry)) (now (text .entry)) self) → module-found (now (text .entry)) r ≡ look-up b (modules-in (now (words .entry)) (now (text .entry)) self) (now (query .entry))) ⌝ }
+        ensures { λ r. ⌜ FoundInside (length (now (text .entry))) r ⌝ }
     {
         if self.is_sound(words, text) {
             return self.find_module_sound(words, text, query);
