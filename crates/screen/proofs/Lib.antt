@@ -3,3 +3,5 @@ pub mod Bytes
 pub mod Lent
 pub mod Replying
 pub mod Looking
+pub mod Kept
+mod Examples

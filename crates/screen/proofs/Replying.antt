@@ -106,7 +106,7 @@ module _ {st bs txt m ws txt′ : List ℕ} {t : Table} {c : Call} {r : Registra
       record {
         size = new .size;
         table = rw (new .header, words-back (a .1 .words)) (a .1);
-        bytes = rw (new .header) (rw (by-bytes, by-bytes) at (kept .rest));
+        bytes = rw (new .header) (rw (by-bytes (header-in st .records), by-bytes (r .table .records)) at (kept .rest));
       },
     )
     accepted-as (C.refused n) a = absurd (Option·none-ne-some n (sym taken ∙ a .0))

@@ -10,9 +10,9 @@ use Rattle.source.specs.Table as S
 use Rattle.source.specs.Calls as C
 use Rattle.source.specs.Calls.{State, Lent, Call, register, look-up}
 use Rattle.memory.specs.Sound.{Says}
-use Rattle.table.specs.Header.{state, lent, names-in, modules-in}
 use Rattle.memory.specs.declared.ModSymbol.{ModSymbol}
 use Rattle.memory.specs.declared.ModSymbol.the-variants.{Module, Namespace}
+use Rattle.table.specs.Header.{state, lent, names-in, modules-in}
 use Rattle.table.specs.Answers.{number, module-found, FoundInside}
 use Rattle.table.specs.Registrations.{Outside, Accepts}
 use Rattle.table.specs.declared.FoundModule.{FoundModule}

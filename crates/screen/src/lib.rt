@@ -42,12 +42,14 @@ pub struct ModuleReply {
 
 // ---- Words and bytes
 
+// A byte as a word.
 fn wide(x: u8) -> u32
     ensures { λ r. ⌜ (r ≡ x) × (r < 256) ⌝ }
 {
     x as u32
 }
 
+// A word as a byte.
 fn low(x: u32) -> u8
     requires { ⌜ x < 256 ⌝ }
     ensures { λ r. ⌜ r ≡ x ⌝ }
@@ -330,6 +332,7 @@ pub extern "C" fn name_console_module(
 
 // ---- Look-ups
 
+// The reply of a number alone.
 fn no_name(answer: u32) -> NameReply
     ensures { λ r. ⌜ r ≡ name-reply (refused answer) ⌝ }
 {
@@ -339,6 +342,7 @@ fn no_name(answer: u32) -> NameReply
     }
 }
 
+// The reply of a number alone.
 fn no_module(answer: u32) -> ModuleReply
     ensures { λ r. ⌜ r ≡ no-module answer ⌝ }
 {
@@ -353,6 +357,7 @@ fn no_module(answer: u32) -> ModuleReply
     }
 }
 
+// The reply of crate table's answer.
 fn name_reply(f: Found) -> NameReply
     ensures { λ r. ⌜ r ≡ name-reply (name-found f) ⌝ }
 {
@@ -363,6 +368,7 @@ fn name_reply(f: Found) -> NameReply
     }
 }
 
+// A yes or no as a number.
 fn flag_of(b: bool) -> u32
     ensures { λ r. ⌜ r ≡ flag b ⌝ }
 {
@@ -372,6 +378,7 @@ fn flag_of(b: bool) -> u32
     0
 }
 
+// The reply of a module or namespace.
 fn symbol_reply(s: ModSymbol) -> ModuleReply
     ensures { λ r. ⌜ r ≡ symbol-reply s ⌝ }
 {
@@ -397,6 +404,7 @@ fn symbol_reply(s: ModSymbol) -> ModuleReply
     }
 }
 
+// The reply of crate table's answer.
 fn module_reply(f: FoundModule) -> ModuleReply
     ensures { λ r. ⌜ r ≡ module-reply f ⌝ }
 {

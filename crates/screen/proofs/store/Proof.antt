@@ -1,7 +1,6 @@
 -- store meets its contract. The loop's invariant: the words before i are stored.
 use Prim.Native.Nat.{_-_}
 use native.Mathlib.Omega.{arith}
-use borrow.Author.Needs.{needs}
 use Rattle.screen.proofs.Bytes.{Storing, storing-none, storing-more, storing-done}
 use Rattle.screen.proofs.store.Statement.{statement}
 use Rattle.screen.proofs.store.Tie as tie
