@@ -1,11 +1,11 @@
 mod Roots
-mod Decided
+pub mod Decided
 mod Arguments
 mod Lookups
 mod Checks
 mod Laying
 mod Changes
 mod Writing
-mod Registering
+pub mod Registering
 pub mod Calls
 pub mod Completing

@@ -1,5 +1,5 @@
 -- A look-up: the rows of its query, and the item at its end.
-use Prim.Native.Nat.{ℕ, _*_, _<_, _≤_}
+use Prim.Native.Nat.{ℕ, _+_, _*_, _<_, _≤_}
 use mathlib.Core.Path.{_≡_}
 use mathlib.Core.Bool.{true}
 use mathlib.Core.List.{List, [], _∷_}
@@ -8,15 +8,21 @@ use native.Mathlib.Omega.{arith}
 use lib.ListN.{length}
 use borrow.Author.Tests.{ne-eqb}
 use Rattle.source.specs.Text.{Str, Query, segments, ends-in-dot}
-use Rattle.source.specs.Types.{Trie, the-item}
+use Rattle.source.specs.Types.{Trie, bind, the-item}
 use Rattle.source.specs.Tries.{trie-find-exact}
 use Rattle.source.specs.Calls.{a-look-up, lowest, argument-rows, Found, found, not-found, refused, found-of, look-up}
 use Rattle.source.proofs.Refusals.{argument-rows-none, look-up-whole}
-use Rattle.memory.specs.Layout.{record-at, Which, item-of, trieˢ, what}
-use Rattle.memory.proofs.Seen.{link-fits, link-later}
+use Rattle.memory.specs.Layout.{record-at, word, Which, modules, item-of, tree, trieˢ, kind, what}
+use Rattle.memory.specs.Sound.{LinkOk, SymbolOk}
+use Rattle.memory.specs.Read.{symbol-in}
+use Rattle.memory.proofs.Records.{zero-one, record-as}
+use Rattle.memory.proofs.Seen.{link-fits, link-later, link-ok}
 use Rattle.tree.specs.Tree.{held}
 use Rattle.trie.specs.Tries as T
 use Rattle.trie.specs.Tries.{AnyTrie, FoundIn}
+use Rattle.table.specs.Header.{IsSound}
+use Rattle.table.specs.Answers.{SymbolInside}
+use Rattle.table.specs.declared.Table.{Table}
 
 module _ (query : Str) where
   pub query-whole : lowest (argument-rows true (a-look-up query ∷ [])) ≡ none → ends-in-dot query ≡ true
@@ -42,3 +48,16 @@ module _ (query : Str) where
 -- The branch that is found is a record.
 pub branch-fits : {ws txt : List ℕ} {root r : ℕ} {q : Query} → AnyTrie ws txt root → T.Found ws txt root q r → (r ≡ 0 → ⊥) → (0 < r) × (r * 12 ≤ length ws)
 branch-fits a h z = (omega arith, link-fits (a .trie .sound) (link-later (omega (arith, a .trie .link .earlier)) (h (a .which) (a .trie) .link)))
+
+-- The texts of a right record's symbol lie in the lent text.
+module _ {txt r : List ℕ} {used : ℕ} (o : SymbolOk txt used r) (h : used ≤ length txt) where
+  symbol-in-inside : SymbolInside (length txt) (symbol-in r)
+  symbol-in-inside =
+      zero-one (word r 5) (o .sort) (λ z. rw z (omega (arith, o .name .inside), omega (arith, o .path z .inside))) (λ z. rw z (omega (arith, o .name .inside)))
+
+pub symbol-inside : {ws txt : List ℕ} {t : Table} {l : ℕ} → IsSound ws txt t → LinkOk ws (t .modules + 1) l (kind modules (tree bind)) → 0 < l
+    → SymbolInside (length txt) (symbol-in (record-at ws l))
+symbol-inside o i p =
+    symbol-in-inside
+    (record-as (link-ok o (link-later (omega (arith, o .modules-link .earlier)) i) p) modules (tree bind) (i .of-kind (λ e. omega arith)) .2)
+    (o .text-fits)

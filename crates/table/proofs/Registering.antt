@@ -22,7 +22,7 @@ module _ (b : Bool) (l : Lent) (s : State) (c : Call) where
   unfolding register
   register-accepted e = rw (register, e)
 
-register-unsound : (l : Lent) (s : State) (c : Call) → register false l s c ≡ refused 1
+pub register-unsound : (l : Lent) (s : State) (c : Call) → register false l s c ≡ refused 1
 unfolding register registration-rows argument-rows lowest
 register-unsound l s c = refl
 

@@ -1,16 +1,20 @@
 -- What the answers stand for: document 01's numbers and values.
-use Prim.Native.Nat.{ℕ, _*_, _≤_, _<_}
+use Prim.Native.Nat.{ℕ, _+_, _*_, _≤_, _<_}
 use mathlib.Core.Path.{_≡_}
 use mathlib.Core.Bool.{true}
 use mathlib.Core.List.{List, [], _∷_}
 use mathlib.Core.Option.{Option, none, some}
 use lib.ListN.{length}
 use Rattle.source.specs.Text.{Str}
+use Rattle.source.specs.Types.{bind}
 use Rattle.source.specs.Table.{ModSymbol}
 use Rattle.source.specs.Calls as C
 use Rattle.source.specs.Calls.{Row, _when_, look-up}
-use Rattle.memory.specs.Layout.{record-at, Which, Item, item-of, trieˢ, what}
+use Rattle.memory.specs.Layout.{record-at, Which, Item, item-of, tree, trieˢ, kind, what}
+use Rattle.memory.specs.Sound.{LinkOk}
 use Rattle.memory.specs.Read.{symbol-of}
+use Rattle.memory.specs.declared.ModSymbol as M
+use Rattle.memory.specs.declared.ModSymbol.the-variants.{Module, Namespace}
 use Rattle.text.specs.declared.Flags.{Flags}
 use Rattle.trie.specs.Tries.{TrieAt}
 use Rattle.table.specs.declared.Refusal.{Refusal}
@@ -49,6 +53,17 @@ module-found txt (Symbol s) = C.found (symbol-of txt s)
 module-found txt No-symbol = C.not-found
 module-found txt (Not-found r) = C.refused (number r)
 
+-- The texts of a symbol lie in a text of so many bytes.
+abbrev pub SymbolInside : ℕ → M.ModSymbol → Type 0
+SymbolInside size (Module name path loaded) = (name .start + name .len ≤ size) × (path .start + path .len ≤ size)
+SymbolInside size (Namespace name loaded) = name .start + name .len ≤ size
+
+-- So do those of an answer.
+abbrev pub FoundInside : ℕ → FoundModule → Type 0
+FoundInside size (Symbol s) = SymbolInside size s
+FoundInside size No-symbol = Unit {0}
+FoundInside size (Not-found r) = Unit {0}
+
 -- The number of the row that a call meets.
 abbrev pub row-of : Admission → Option ℕ
 row-of Admitted = none
@@ -70,7 +85,14 @@ BranchFits ws (Branch l) = (0 < l) × (l * 12 ≤ length ws)
 BranchFits ws No-branch = Unit {0}
 BranchFits ws (Not-looked r) = Unit {0}
 
+-- The branch is one of bindings, no later than the root.
+abbrev pub BranchOf : Which → (ws : List ℕ) (root : ℕ) → Looked → Type 0
+BranchOf w ws root (Branch l) = LinkOk ws (root + 1) l (kind w (tree bind))
+BranchOf w ws root No-branch = Unit {0}
+BranchOf w ws root (Not-looked r) = Unit {0}
+
 -- A look-up on a root, for any table that the trie is of.
 pub record LookedUp (ws txt : List ℕ) (root : ℕ) (query : Str) (r : Looked) : Type 0 where
   pub fits : BranchFits ws r
+  pub link : (w : Which) → TrieAt ws txt w root → BranchOf w ws root r
   pub says : (w : Which) → TrieAt ws txt w root → item-found w ws txt r ≡ look-up true (what w ws txt root trieˢ) query

@@ -18,7 +18,7 @@ ghost use Rattle.text.specs.Calls.{Flagged};
 ghost use Rattle.trie.specs.Tries.{TrieAt, AnyTrie};
 ghost use Rattle.trie.specs.Plans.{Planned};
 ghost use Rattle.table.specs.Header.{IsSound, Fresh, state, table-in, names-in, modules-in};
-ghost use Rattle.table.specs.Answers.{row-of, flag-rows, LookedUp, name-found, module-found};
+ghost use Rattle.table.specs.Answers.{row-of, flag-rows, LookedUp, name-found, module-found, FoundInside};
 ghost use Rattle.table.specs.Forms.{other-argument, key-argument, call-of, AllFlagged, both-flags, NoKey, Ready, Carries, plan-rows, Passes, Checks};
 ghost use Rattle.lines.specs.Ask.{asked};
 ghost use Rattle.table.specs.Completions.{answer-in, root-for, CompletesOn, Completes};
@@ -160,7 +160,7 @@ fn complete_on(
 // ---- Registrations
 
 // A registration apart from its texts: a name with its item, an include, an open (of a module or not), an alias, a module path (loaded or not).
-enum Form {
+pub enum Form {
     Name(u32),
     Include,
     Open(bool),
@@ -456,6 +456,7 @@ impl Table {
     pub fn find_module_sound(self, words: &[u32], text: &[u8], query: &[u8]) -> FoundModule
         requires { ⌜ IsSound (now words) (now text) self ⌝ }
         ensures { λ r. ⌜ module-found (now (text .entry)) r ≡ look-up true (modules-in (now (words .entry)) (now (text .entry)) self) (now (query .entry)) ⌝ }
+        ensures { λ r. ⌜ FoundInside (length (now (text .entry))) r ⌝ }
     {
         let l = look_up(words, text, self.modules, query);
         match l {
@@ -468,6 +469,7 @@ impl Table {
     // Look-up of a module or namespace.
     pub fn find_module(self, words: &[u32], text: &[u8], query: &[u8]) -> FoundModule
         ensures { λ r. ⌜ ((b : Bool) → Says b (IsSound (now (words .entry)) (now (text .entry)) self) → module-found (now (text .entry)) r ≡ look-up b (modules-in (now (words .entry)) (now (text .entry)) self) (now (query .entry))) ⌝ }
+        ensures { λ r. ⌜ FoundInside (length (now (text .entry))) r ⌝ }
     {
         if self.is_sound(words, text) {
             return self.find_module_sound(words, text, query);
@@ -636,8 +638,8 @@ impl Table {
         }
     }
 
-    // A registration.
-    fn register(
+    // A registration, by its form. Only an alias has a key.
+    pub fn register(
         self,
         words: &mut [u32],
         text: &mut [u8],

@@ -22,15 +22,18 @@ look-up-spec =
     {- returns -}
     (λ c. record {
       fits = tt;
+      link = λ w t. tt;
       says = λ w t. look-up-none _ (passes (one-flagged (c .before .before .before .before .before .look-up-flags .ensures)) (c .before .before .before .before .admit .ensures) (c .before .before .enum-told .given .1)) (c .before .trie-find-exact .ensures w t) (c .if1 .taken);
     })
     {- returns-2 -}
     (λ c. record {
       fits = tt;
+      link = λ w t. tt;
       says = λ w t. look-up-refused _ _ (stops (one-flagged (c .before .before .before .before .look-up-flags .ensures)) (c .before .before .before .admit .ensures) (c .before .a .given .1));
     })
     {- returns-3 -}
     (λ c. record {
       fits = branch-fits (c .before .before .before .before .before .before .before .before .before .pre) (c .before .trie-find-exact .ensures) (c .if1 .left);
+      link = λ w t. c .before .trie-find-exact .ensures w t .link;
       says = λ w t. look-up-found _ (passes (one-flagged (c .before .before .before .before .before .look-up-flags .ensures)) (c .before .before .before .before .admit .ensures) (c .before .before .enum-told .given .1)) (c .before .trie-find-exact .ensures w t) (c .if1 .left);
     }))

@@ -10,7 +10,7 @@ use Rattle.table.proofs.Table.find_module.Tie as tie
 {- returns-2 -}
 returns-2 : tie.Need-returns-2
 unfolding lowest argument-rows look-up
-returns-2 c b h = rw (decided _ b (c .before .is-sound .result) h (c .before .is-sound .ensures) ∙ c .if1 .left)
+returns-2 c = (λ b h. rw (decided _ b (c .before .is-sound .result) h (c .before .is-sound .ensures) ∙ c .if1 .left), tt)
 
 pub find-module-spec : {M : Type 1} → statement M
 find-module-spec =
@@ -21,5 +21,5 @@ find-module-spec =
     {- find-module-sound-requires -}
     (λ c κs. holds _ (c .before .is-sound .ensures) (c .if1 .taken))
     {- returns -}
-    (λ c b h. rw (decided _ b (c .before .before .is-sound .result) h (c .before .before .is-sound .ensures) ∙ c .before .if1 .taken) (c .find-module-sound .ensures))
+    (λ c. (λ b h. rw (decided _ b (c .before .before .is-sound .result) h (c .before .before .is-sound .ensures) ∙ c .before .if1 .taken) (c .find-module-sound .ensures .0), c .find-module-sound .ensures .1))
     returns-2)

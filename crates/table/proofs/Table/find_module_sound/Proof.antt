@@ -6,6 +6,7 @@ use Rattle.source.specs.Calls.{found}
 use Rattle.memory.specs.Layout.{record-at, modules}
 use Rattle.memory.specs.Read.{symbol-of}
 use Rattle.memory.proofs.Seen.{symbol-item}
+use Rattle.table.proofs.Lookups.{symbol-inside}
 use Rattle.table.proofs.Roots.{modules-trie, any-modules}
 use Rattle.table.proofs.Table.find_module_sound.Statement.{statement}
 use Rattle.table.proofs.Table.find_module_sound.Tie as tie
@@ -25,8 +26,8 @@ find-module-sound-spec =
     {- enum-known-l-2 -}
     (λ c. search needs)
     {- returns -}
-    (λ c. ap found (ap (symbol-of _) (c .symbol-of .ensures) ∙ symbol-item (c .before .before .before .before .before .before .before .before .args .text .now) (record-at (c .before .before .before .before .before .before .before .before .args .words .now) (c .before .before .l .given .0 .0))) ∙ rw (c .before .before .l .given .1) at (c .before .before .before .before .look-up .ensures .says modules (modules-trie (c .before .before .before .before .before .before .before .before .pre))))
+    (λ c. (ap found (ap (symbol-of _) (c .symbol-of .ensures) ∙ symbol-item (c .before .before .before .before .before .before .before .before .args .text .now) (record-at (c .before .before .before .before .before .before .before .before .args .words .now) (c .before .before .l .given .0 .0))) ∙ rw (c .before .before .l .given .1) at (c .before .before .before .before .look-up .ensures .says modules (modules-trie (c .before .before .before .before .before .before .before .before .pre))), let h = rw (c .before .before .l .given .1) at (c .before .before .before .before .look-up .ensures .fits) in rw (c .symbol-of .ensures) (symbol-inside (c .before .before .before .before .before .before .before .before .pre) (rw (c .before .before .l .given .1) at (c .before .before .before .before .look-up .ensures .link modules (modules-trie (c .before .before .before .before .before .before .before .before .pre)))) (h .0))))
     {- returns-2 -}
-    (λ c. rw (c .enum-told .given .1) at (c .before .before .look-up .ensures .says modules (modules-trie (c .before .before .before .before .before .before .pre))))
+    (λ c. (rw (c .enum-told .given .1) at (c .before .before .look-up .ensures .says modules (modules-trie (c .before .before .before .before .before .before .pre))), tt))
     {- returns-3 -}
-    (λ c. rw (c .before .l2 .given .1) at (c .before .before .before .look-up .ensures .says modules (modules-trie (c .before .before .before .before .before .before .before .pre)))))
+    (λ c. (rw (c .before .l2 .given .1) at (c .before .before .before .look-up .ensures .says modules (modules-trie (c .before .before .before .before .before .before .before .pre))), tt)))

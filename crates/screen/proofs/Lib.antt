@@ -1,0 +1,7 @@
+pub mod Outsides
+pub mod Bytes
+pub mod Lent
+pub mod Replying
+pub mod Looking
+pub mod Kept
+mod Examples

@@ -1,0 +1,29 @@
+-- malformed meets its contract.
+use borrow.Author.Needs.{needs}
+use Rattle.screen.proofs.Lent.{loaded-fits, loaded-count, held}
+use Rattle.screen.proofs.Replying.{reply-short, reply-none}
+use Rattle.screen.proofs.malformed.Statement.{statement}
+use Rattle.screen.proofs.malformed.Tie as tie
+
+pub malformed-spec : {M : Type 1} → statement M
+malformed-spec =
+    tie.close
+    (tie.spec
+    {- returns -}
+    (λ c. reply-short (c .if1 .taken))
+    {- slice-aggregate-load -}
+    (λ c. search needs)
+    {- load-requires -}
+    (λ c κs. search needs)
+    {- header-of-requires -}
+    (λ c κs. search needs)
+    {- array-share-prefix-memory -}
+    (λ c. loaded-fits (c .before .before .load .ensures))
+    {- slice-aggregate-is-sound -}
+    (λ c. loaded-count (c .before .before .before .load .ensures))
+    {- is-sound-requires -}
+    (λ c κs. search needs)
+    {- returns-2 -}
+    (λ c. reply-none (c .before .is-sound .result) (held (c .before .before .before .before .before .before .before .if1 .left) (c .before .before .before .header-of .ensures) (c .before .before .before .before .before .load .ensures .words)) (c .before .is-sound .ensures) (rw (c .if2 .taken)))
+    {- returns-3 -}
+    (λ c. reply-none (c .before .is-sound .result) (held (c .before .before .before .before .before .before .before .if1 .left) (c .before .before .before .header-of .ensures) (c .before .before .before .before .before .load .ensures .words)) (c .before .is-sound .ensures) (rw (c .if2 .left))))

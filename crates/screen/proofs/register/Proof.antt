@@ -1,0 +1,31 @@
+-- register meets its contract.
+use borrow.Author.Needs.{needs}
+use Rattle.screen.proofs.Lent.{loaded-fits, loaded-count}
+use Rattle.screen.proofs.Replying.{reply-short}
+use Rattle.screen.proofs.register.Statement.{statement}
+use Rattle.screen.proofs.register.Tie as tie
+
+pub register-spec : {M : Type 1} → statement M
+register-spec =
+    tie.close
+    (tie.spec
+    {- returns -}
+    (λ c. reply-short (c .if1 .taken))
+    {- slice-aggregate-load -}
+    (λ c. search needs)
+    {- load-requires -}
+    (λ c κs. search needs)
+    {- array-borrow-prefix-memory -}
+    (λ c. loaded-fits (c .before .before .before .before .load .ensures))
+    {- slice-aggregate-enter -}
+    (λ c. loaded-count (c .before .before .before .before .before .load .ensures))
+    {- enter-requires -}
+    (λ c κs. search needs)
+    {- same-length -}
+    (λ c. search needs)
+    {- same-length-2 -}
+    (λ c. search needs)
+    {- same-length-3 -}
+    (λ c. search needs)
+    {- returns-2 -}
+    (λ c. search needs))

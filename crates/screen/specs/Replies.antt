@@ -1,0 +1,107 @@
+-- What the exported calls reply, and what they leave of the bytes lent.
+use Prim.Native.Nat.{ℕ, zero, suc, _*_}
+use mathlib.Core.Path.{_≡_}
+use mathlib.Core.Bool.{Bool, true, false}
+use mathlib.Core.List.{List}
+use mathlib.Core.Option.{Option, none, some}
+use lib.ListN.{length}
+use Rattle.source.specs.Text.{Str}
+use Rattle.source.specs.Table as S
+use Rattle.source.specs.Calls as C
+use Rattle.source.specs.Calls.{State, Lent, Call, register, look-up}
+use Rattle.memory.specs.Sound.{Says}
+use Rattle.memory.specs.declared.ModSymbol.{ModSymbol}
+use Rattle.memory.specs.declared.ModSymbol.the-variants.{Module, Namespace}
+use Rattle.table.specs.Header.{state, lent, names-in, modules-in}
+use Rattle.table.specs.Answers.{number, module-found, FoundInside}
+use Rattle.table.specs.Registrations.{Outside, Accepts}
+use Rattle.table.specs.declared.FoundModule.{FoundModule}
+use Rattle.table.specs.declared.FoundModule.the-variants.{Symbol, Nothing, Refused}
+use Rattle.screen.specs.Memory.{header-in, words-in, SoundBytes}
+use Rattle.screen.specs.declared.NameReply.{NameReply}
+use Rattle.screen.specs.declared.ModuleReply.{ModuleReply}
+
+-- ---- Registrations
+
+-- A call with a yes or no given as a number: 0 is no, 1 is yes, another number gives no call.
+unfoldable pub chosen : (Bool → Call) → ℕ → Option Call
+chosen f zero = some (f false)
+chosen f (suc zero) = some (f true)
+chosen f (suc (suc n)) = none
+
+-- What no call hands back: it is malformed, and Unsound is lower.
+abbrev pub unchosen : (sound : Bool) → C.Registered
+unchosen true = C.refused 2
+unchosen false = C.refused 1
+
+-- What a registration hands back.
+abbrev pub answer-to : (sound : Bool) → Lent → State → Option Call → C.Registered
+answer-to sound l s (some c) = register sound l s c
+answer-to sound l s none = unchosen sound
+
+-- The bytes at exit stand for the state s, and only the free records and text that were taken have changed.
+pub record AcceptsBytes (st bs txt st′ bs′ txt′ : List ℕ) (s : State) : Type 0 where
+  pub size : length st′ ≡ 16
+  pub table : Accepts (words-in bs) txt (words-in bs′) txt′ (header-in st) (header-in st′) s
+  pub bytes : Outside (header-in st .records * 48) (header-in st′ .records * 48) bs bs′
+
+-- No byte has changed.
+pub record SameBytes (st bs txt st′ bs′ txt′ : List ℕ) : Type 0 where
+  pub state : st′ ≡ st
+  pub words : bs′ ≡ bs
+  pub text : txt′ ≡ txt
+
+-- The reply r, by what the definition hands back: 0, or the number of the refusal.
+abbrev pub RepliesAs : C.Registered → (st bs txt st′ bs′ txt′ : List ℕ) → ℕ → Type 0
+RepliesAs (C.accepted s) st bs txt st′ bs′ txt′ r = (r ≡ 0) × AcceptsBytes st bs txt st′ bs′ txt′ s
+RepliesAs (C.refused n) st bs txt st′ bs′ txt′ r = (r ≡ n) × SameBytes st bs txt st′ bs′ txt′
+
+-- The reply r to a registration; b says whether the bytes are a sound table.
+pub record Replies (st bs txt st′ bs′ txt′ : List ℕ) (c : Option Call) (r : ℕ) : Type 0 where
+  pub says : (b : Bool) → Says b (SoundBytes st bs txt)
+      → RepliesAs (answer-to b (lent (words-in bs) txt) (state (words-in bs) txt (header-in st)) c) st bs txt st′ bs′ txt′ r
+
+-- ---- Look-ups
+
+-- The reply to a look-up of a name: 0 with the item, 11 for none, else the number of the refusal.
+abbrev pub name-reply : C.Found ℕ → NameReply
+name-reply (C.found n) = record { answer = 0; item = n }
+name-reply C.not-found = record { answer = 11; item = 0 }
+name-reply (C.refused n) = record { answer = n; item = 0 }
+
+-- The reply r to a look-up of a name; b says whether the bytes are a sound table.
+pub record RepliesName (st bs txt : List ℕ) (query : Str) (r : NameReply) : Type 0 where
+  pub says : (b : Bool) → Says b (SoundBytes st bs txt) → r ≡ name-reply (look-up b (names-in (words-in bs) txt (header-in st)) query)
+
+-- A yes or no as a number.
+abbrev pub flag : Bool → ℕ
+flag true = 1
+flag false = 0
+
+-- The reply of a number alone.
+abbrev pub no-module : ℕ → ModuleReply
+no-module n = record { answer = n; sort = 0; «name_start» = 0; «name_len» = 0; «path_start» = 0; «path_len» = 0; loaded = 0 }
+
+-- The reply of a module or namespace, by the spans of its texts. A namespace has no path.
+abbrev pub symbol-reply : ModSymbol → ModuleReply
+symbol-reply (Module name path loaded) =
+    record { answer = 0; sort = 0; «name_start» = name .start; «name_len» = name .len; «path_start» = path .start; «path_len» = path .len; loaded = flag loaded }
+symbol-reply (Namespace name loaded) =
+    record { answer = 0; sort = 1; «name_start» = name .start; «name_len» = name .len; «path_start» = 0; «path_len» = 0; loaded = flag loaded }
+
+-- The reply to a look-up of a module or namespace: 0 with its symbol, 11 for none, else the number of the refusal.
+abbrev pub module-reply : FoundModule → ModuleReply
+module-reply (Symbol s) = symbol-reply s
+module-reply Nothing = no-module 11
+module-reply (Refused x) = no-module (number x)
+
+-- The reply r says the answer a, its texts being spans of the lent text.
+pub record SaysModule (txt : List ℕ) (a : C.Found S.ModSymbol) (r : ModuleReply) : Type 0 where
+  pub found : FoundModule
+  pub reply : r ≡ module-reply found
+  pub says : module-found txt found ≡ a
+  pub inside : FoundInside (length txt) found
+
+-- The reply r to a look-up of a module or namespace; b says whether the bytes are a sound table.
+pub record RepliesModule (st bs txt : List ℕ) (query : Str) (r : ModuleReply) : Type 0 where
+  pub says : (b : Bool) → Says b (SoundBytes st bs txt) → SaysModule txt (look-up b (modules-in (words-in bs) txt (header-in st)) query) r

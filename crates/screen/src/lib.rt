@@ -1,0 +1,454 @@
+// The exported layer for screen code in C: numbers and bytes in, numbers and bytes out.
+// A slice passes as a pointer and a length. The state is sixteen bytes and the words are four bytes each, lowest first;
+// the layer copies the words in, calls crate table, and copies out what an accepted call has taken.
+// Every exported call answers for whatever bytes are lent.
+use memory::ModSymbol;
+use table::Form;
+use table::Found;
+use table::FoundModule;
+use table::Refusal;
+use table::Registered;
+use table::Table;
+ghost use mathlib.Core.Path.{_≡_};
+ghost use mathlib.Core.Option.{none, some};
+ghost use Prim.Native.Nat.{_+_, _*_, _≤_, _<_};
+ghost use lib.ListN.{length};
+ghost use Rattle.source.specs.Calls.{name, include, opens, alias, module-path, refused};
+ghost use Rattle.table.specs.Answers.{number, name-found};
+ghost use Rattle.table.specs.Forms.{call-of, NoKey};
+ghost use Rattle.screen.specs.Bytes.{word-at, Put, Stored};
+ghost use Rattle.screen.specs.Memory.{header-in, Spells, records-lent, words-in, Loaded};
+ghost use Rattle.screen.specs.Replies.{chosen, Replies, name-reply, RepliesName, flag, no-module, symbol-reply, module-reply, RepliesModule};
+
+// The reply to a look-up of a name: 0 with its item, 11 for none, else the number of the refusal.
+#[repr(C)]
+pub struct NameReply {
+    pub answer: u32,
+    pub item: u32,
+}
+
+// The reply to a look-up of a module or namespace: 0 with its sort (0 a Module, 1 a Namespace), the spans of its full name and
+// path in the lent text, and 1 if it is loaded; 11 for none, else the number of the refusal. What does not apply is 0.
+#[repr(C)]
+pub struct ModuleReply {
+    pub answer: u32,
+    pub sort: u32,
+    pub name_start: u32,
+    pub name_len: u32,
+    pub path_start: u32,
+    pub path_len: u32,
+    pub loaded: u32,
+}
+
+// ---- Words and bytes
+
+// A byte as a word.
+fn wide(x: u8) -> u32
+    ensures { λ r. ⌜ (r ≡ x) × (r < 256) ⌝ }
+{
+    x as u32
+}
+
+// A word as a byte.
+fn low(x: u32) -> u8
+    requires { ⌜ x < 256 ⌝ }
+    ensures { λ r. ⌜ r ≡ x ⌝ }
+{
+    x as u8
+}
+
+// Word `k` of the bytes.
+fn word_at(bytes: &[u8], k: usize) -> u32
+    requires { ⌜ k * 4 + 4 ≤ length (now bytes) ⌝ }
+    ensures { λ r. ⌜ r ≡ word-at (now (bytes .entry)) k ⌝ }
+{
+    let at = k * 4;
+    let a = wide(bytes[at]);
+    let b = wide(bytes[at + 1]);
+    let c = wide(bytes[at + 2]);
+    let d = wide(bytes[at + 3]);
+    a + 256 * b + 65536 * c + 16777216 * d
+}
+
+// Writes word `k`.
+fn put_word(bytes: &mut [u8], k: usize, word: u32)
+    requires { ⌜ k * 4 + 4 ≤ length (now bytes) ⌝ }
+    ensures { λ _. ⌜ Put k word (now (bytes .entry)) (now (bytes .exit)) ⌝ }
+{
+    let at = k * 4;
+    bytes[at] = low(word % 256);
+    bytes[at + 1] = low(word / 256 % 256);
+    bytes[at + 2] = low(word / 65536 % 256);
+    bytes[at + 3] = low(word / 16777216);
+}
+
+// How many words count as lent, of so many bytes.
+fn words_lent(size: usize) -> usize
+    ensures { λ r. ⌜ r ≡ records-lent size * 12 ⌝ }
+{
+    let n = size / 48;
+    if n < 1024 {
+        return n * 12;
+    }
+    12288
+}
+
+// Copies the lent words in, and says how many they are.
+fn load(bytes: &[u8], words: &mut [u32]) -> usize
+    requires { ⌜ 12288 ≤ length (now words) ⌝ }
+    ensures { λ r. ⌜ Loaded (now (bytes .entry)) (now (words .exit)) r ⌝ }
+{
+    let n = words_lent(bytes.len());
+    let mut i = 0;
+    while i < n {
+        words[i] = word_at(bytes, i);
+        i += 1;
+    }
+    n
+}
+
+// Copies the words from `from` up to `to` out.
+fn store(bytes: &mut [u8], words: &[u32], from: usize, to: usize)
+    requires { ⌜ (to * 4 ≤ length (now bytes)) × (to ≤ length (now words)) ⌝ }
+    ensures { λ _. ⌜ Stored (now (words .entry)) from to (now (bytes .entry)) (now (bytes .exit)) ⌝ }
+{
+    let mut i = from;
+    while i < to {
+        put_word(bytes, i, words[i]);
+        i += 1;
+    }
+}
+
+// The table that a state spells.
+fn header_of(state: &[u8]) -> Table
+    requires { ⌜ length (now state) ≡ 16 ⌝ }
+    ensures { λ r. ⌜ r ≡ header-in (now (state .entry)) ⌝ }
+{
+    Table {
+        names: word_at(state, 0),
+        modules: word_at(state, 1),
+        records: word_at(state, 2),
+        text: word_at(state, 3),
+    }
+}
+
+// Writes the state of a table.
+fn put_header(state: &mut [u8], t: Table)
+    requires { ⌜ length (now state) ≡ 16 ⌝ }
+    ensures { λ _. ⌜ Spells (now (state .exit)) t ⌝ }
+{
+    put_word(state, 0, t.names);
+    put_word(state, 1, t.modules);
+    put_word(state, 2, t.records);
+    put_word(state, 3, t.text);
+}
+
+// ---- Replies
+
+// Document 01's number of a refusal.
+fn number(r: Refusal) -> u32
+    ensures { λ n. ⌜ n ≡ number r ⌝ }
+{
+    match r {
+        Refusal::Unsound => 1,
+        Refusal::Malformed => 2,
+        Refusal::Empty => 3,
+        Refusal::TooLong => 4,
+        Refusal::Crowded => 5,
+        Refusal::Deep => 6,
+        Refusal::Full => 7,
+        Refusal::TextFull => 8,
+        Refusal::Spent => 9,
+        Refusal::Lines => 10,
+    }
+}
+
+// ---- Registrations
+
+// A registration, where `memory` has the lent words.
+fn enter(
+    state: &mut [u8],
+    words: &mut [u8],
+    text: &mut [u8],
+    memory: &mut [u32],
+    form: Form,
+    host: &[u8],
+    other: &[u8],
+    key: &[u8],
+) -> u32
+    requires { ⌜ length (now state) ≡ 16 ⌝ }
+    requires { ⌜ now memory ≡ words-in (now words) ⌝ }
+    requires { ⌜ NoKey form (now key) ⌝ }
+    ensures { λ r. ⌜ Replies (now (state .entry)) (now (words .entry)) (now (text .entry)) (now (state .exit)) (now (words .exit)) (now (text .exit)) (some (call-of form (now (host .entry)) (now (other .entry)) (now (key .entry)))) r ⌝ }
+{
+    let t = header_of(state);
+    let r = t.register(memory, text, form, host, other, key);
+    let h = r.table;
+    let a = r.answer;
+    match a {
+        Registered::Accepted => {
+            let from = t.records as usize * 12;
+            let to = h.records as usize * 12;
+            store(words, memory, from, to);
+            put_header(state, h);
+            0
+        }
+        Registered::Refused(x) => number(x),
+    }
+}
+
+// A registration.
+fn register(
+    state: &mut [u8],
+    words: &mut [u8],
+    text: &mut [u8],
+    form: Form,
+    host: &[u8],
+    other: &[u8],
+    key: &[u8],
+) -> u32
+    requires { ⌜ NoKey form (now key) ⌝ }
+    ensures { λ r. ⌜ Replies (now (state .entry)) (now (words .entry)) (now (text .entry)) (now (state .exit)) (now (words .exit)) (now (text .exit)) (some (call-of form (now (host .entry)) (now (other .entry)) (now (key .entry)))) r ⌝ }
+{
+    if state.len() != 16 {
+        return 1;
+    }
+    let mut memory = [0u32; 12288];
+    let n = load(words, &mut memory);
+    enter(state, words, text, &mut memory[..n], form, host, other, key)
+}
+
+// The reply where a number stands for no choice.
+fn malformed(state: &[u8], words: &[u8], text: &[u8]) -> u32
+    ensures { λ r. ⌜ Replies (now (state .entry)) (now (words .entry)) (now (text .entry)) (now (state .entry)) (now (words .entry)) (now (text .entry)) none r ⌝ }
+{
+    if state.len() != 16 {
+        return 1;
+    }
+    let mut memory = [0u32; 12288];
+    let n = load(words, &mut memory);
+    let t = header_of(state);
+    if t.is_sound(&memory[..n], text) {
+        return 2;
+    }
+    1
+}
+
+// Registers a name with its item.
+#[no_mangle]
+pub extern "C" fn name_console_insert(
+    state: &mut [u8],
+    words: &mut [u8],
+    text: &mut [u8],
+    host: &[u8],
+    id: &[u8],
+    item: u32,
+) -> u32
+    ensures { λ r. ⌜ Replies (now (state .entry)) (now (words .entry)) (now (text .entry)) (now (state .exit)) (now (words .exit)) (now (text .exit)) (some (name (now (host .entry)) (now (id .entry)) item)) r ⌝ }
+{
+    register(state, words, text, Form::Name(item), host, id, &host[..0])
+}
+
+// Registers an include.
+#[no_mangle]
+pub extern "C" fn name_console_include(
+    state: &mut [u8],
+    words: &mut [u8],
+    text: &mut [u8],
+    host: &[u8],
+    query: &[u8],
+) -> u32
+    ensures { λ r. ⌜ Replies (now (state .entry)) (now (words .entry)) (now (text .entry)) (now (state .exit)) (now (words .exit)) (now (text .exit)) (some (include (now (host .entry)) (now (query .entry)))) r ⌝ }
+{
+    register(state, words, text, Form::Include, host, query, &host[..0])
+}
+
+// Registers an open: of a module if `flag` is 1, of a namespace if it is 0.
+#[no_mangle]
+pub extern "C" fn name_console_open(
+    state: &mut [u8],
+    words: &mut [u8],
+    text: &mut [u8],
+    flag: u32,
+    host: &[u8],
+    query: &[u8],
+) -> u32
+    ensures { λ r. ⌜ Replies (now (state .entry)) (now (words .entry)) (now (text .entry)) (now (state .exit)) (now (words .exit)) (now (text .exit)) (chosen (λ b. opens b (now (host .entry)) (now (query .entry))) flag) r ⌝ }
+{
+    if flag < 2 {
+        return register(
+            state,
+            words,
+            text,
+            Form::Open(flag == 1),
+            host,
+            query,
+            &host[..0],
+        );
+    }
+    malformed(state, words, text)
+}
+
+// Registers an alias.
+#[no_mangle]
+pub extern "C" fn name_console_alias(
+    state: &mut [u8],
+    words: &mut [u8],
+    text: &mut [u8],
+    key: &[u8],
+    host: &[u8],
+    query: &[u8],
+) -> u32
+    ensures { λ r. ⌜ Replies (now (state .entry)) (now (words .entry)) (now (text .entry)) (now (state .exit)) (now (words .exit)) (now (text .exit)) (some (alias (now (key .entry)) (now (host .entry)) (now (query .entry)))) r ⌝ }
+{
+    register(state, words, text, Form::Alias, host, query, key)
+}
+
+// Registers a module path: loaded if `loaded` is 1, not loaded if it is 0.
+#[no_mangle]
+pub extern "C" fn name_console_module(
+    state: &mut [u8],
+    words: &mut [u8],
+    text: &mut [u8],
+    loaded: u32,
+    query: &[u8],
+    path: &[u8],
+) -> u32
+    ensures { λ r. ⌜ Replies (now (state .entry)) (now (words .entry)) (now (text .entry)) (now (state .exit)) (now (words .exit)) (now (text .exit)) (chosen (λ b. module-path b (now (query .entry)) (now (path .entry))) loaded) r ⌝ }
+{
+    if loaded < 2 {
+        return register(
+            state,
+            words,
+            text,
+            Form::Module(loaded == 1),
+            query,
+            path,
+            &query[..0],
+        );
+    }
+    malformed(state, words, text)
+}
+
+// ---- Look-ups
+
+// The reply of a number alone.
+fn no_name(answer: u32) -> NameReply
+    ensures { λ r. ⌜ r ≡ name-reply (refused answer) ⌝ }
+{
+    NameReply {
+        answer: answer,
+        item: 0,
+    }
+}
+
+// The reply of a number alone.
+fn no_module(answer: u32) -> ModuleReply
+    ensures { λ r. ⌜ r ≡ no-module answer ⌝ }
+{
+    ModuleReply {
+        answer: answer,
+        sort: 0,
+        name_start: 0,
+        name_len: 0,
+        path_start: 0,
+        path_len: 0,
+        loaded: 0,
+    }
+}
+
+// The reply of crate table's answer.
+fn name_reply(f: Found) -> NameReply
+    ensures { λ r. ⌜ r ≡ name-reply (name-found f) ⌝ }
+{
+    match f {
+        Found::Item(n) => NameReply { answer: 0, item: n },
+        Found::Nothing => no_name(11),
+        Found::Refused(x) => no_name(number(x)),
+    }
+}
+
+// A yes or no as a number.
+fn flag_of(b: bool) -> u32
+    ensures { λ r. ⌜ r ≡ flag b ⌝ }
+{
+    if b {
+        return 1;
+    }
+    0
+}
+
+// The reply of a module or namespace.
+fn symbol_reply(s: ModSymbol) -> ModuleReply
+    ensures { λ r. ⌜ r ≡ symbol-reply s ⌝ }
+{
+    match s {
+        ModSymbol::Module(name, path, loaded) => ModuleReply {
+            answer: 0,
+            sort: 0,
+            name_start: name.start,
+            name_len: name.len,
+            path_start: path.start,
+            path_len: path.len,
+            loaded: flag_of(loaded),
+        },
+        ModSymbol::Namespace(name, loaded) => ModuleReply {
+            answer: 0,
+            sort: 1,
+            name_start: name.start,
+            name_len: name.len,
+            path_start: 0,
+            path_len: 0,
+            loaded: flag_of(loaded),
+        },
+    }
+}
+
+// The reply of crate table's answer.
+fn module_reply(f: FoundModule) -> ModuleReply
+    ensures { λ r. ⌜ r ≡ module-reply f ⌝ }
+{
+    match f {
+        FoundModule::Symbol(s) => symbol_reply(s),
+        FoundModule::Nothing => no_module(11),
+        FoundModule::Refused(x) => no_module(number(x)),
+    }
+}
+
+// Looks a name up.
+#[no_mangle]
+pub extern "C" fn name_console_find(
+    state: &[u8],
+    words: &[u8],
+    text: &[u8],
+    query: &[u8],
+) -> NameReply
+    ensures { λ r. ⌜ RepliesName (now (state .entry)) (now (words .entry)) (now (text .entry)) (now (query .entry)) r ⌝ }
+{
+    if state.len() != 16 {
+        return no_name(1);
+    }
+    let mut memory = [0u32; 12288];
+    let n = load(words, &mut memory);
+    let t = header_of(state);
+    name_reply(t.find(&memory[..n], text, query))
+}
+
+// Looks a module or namespace up.
+#[no_mangle]
+pub extern "C" fn name_console_find_module(
+    state: &[u8],
+    words: &[u8],
+    text: &[u8],
+    query: &[u8],
+) -> ModuleReply
+    ensures { λ r. ⌜ RepliesModule (now (state .entry)) (now (words .entry)) (now (text .entry)) (now (query .entry)) r ⌝ }
+{
+    if state.len() != 16 {
+        return no_module(1);
+    }
+    let mut memory = [0u32; 12288];
+    let n = load(words, &mut memory);
+    let t = header_of(state);
+    module_reply(t.find_module(&memory[..n], text, query))
+}
