@@ -9,3 +9,4 @@ mod Writing
 pub mod Registering
 pub mod Calls
 pub mod Completing
+pub mod Agreement

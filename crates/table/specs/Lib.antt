@@ -4,3 +4,4 @@ pub mod Registrations
 pub mod Forms
 pub mod Writes
 pub mod Completions
+pub mod Agreement
