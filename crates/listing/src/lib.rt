@@ -401,6 +401,8 @@ pub fn complete(
         len: 0,
         label: 0,
     };
+    // -1: no element was matched.
+    let unmatched = 4294967295;
     let none = Tally {
         entered: 0,
         lines: 0,
@@ -413,7 +415,7 @@ pub fn complete(
         root,
         query,
         path,
-        4294967295,
+        unmatched,
         lim,
         none,
         &mut flat[0..0],
@@ -438,7 +440,7 @@ pub fn complete(
         root,
         query,
         path,
-        4294967295,
+        unmatched,
         lim,
         none,
         flat,
