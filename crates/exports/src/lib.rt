@@ -1,5 +1,8 @@
 // Calls for tests and benchmarks outside Rattle: slices pass as a pointer and a length, a table as its four numbers.
 // They hand on what crate table answers; its contracts are the promises.
+use lines::Ask;
+use lines::Filter;
+use table::Completed;
 use table::Found;
 use table::Refusal;
 use table::Registered;
@@ -22,6 +25,46 @@ pub struct Reply {
 pub struct Looked {
     pub answer: u32,
     pub item: u32,
+}
+
+// A completion's reply: 0 or the number of the refusal, lines and tries entered.
+#[repr(C)]
+pub struct Listing {
+    pub refusal: u32,
+    pub lines: u32,
+    pub entered: u32,
+}
+
+// What is asked: 0 for names, else modules with a filter: 1 All, 2 Loaded, 3 ModulesOnly, any other NamespacesOnly.
+fn ask_of(n: u32) -> Ask {
+    if n == 0 {
+        return Ask::Names;
+    }
+    if n == 1 {
+        return Ask::Modules(Filter::All);
+    }
+    if n == 2 {
+        return Ask::Modules(Filter::Loaded);
+    }
+    if n == 3 {
+        return Ask::Modules(Filter::ModulesOnly);
+    }
+    Ask::Modules(Filter::NamespacesOnly)
+}
+
+fn listing_of(c: Completed) -> Listing {
+    match c {
+        Completed::Listed(lines, entered) => Listing {
+            refusal: 0,
+            lines: lines,
+            entered: entered,
+        },
+        Completed::Refused(x) => Listing {
+            refusal: number(x),
+            lines: 0,
+            entered: 0,
+        },
+    }
 }
 
 // Document 01's number of a refusal.
@@ -233,4 +276,47 @@ pub extern "C" fn name_table_find_sound(
         text: used,
     };
     looked_up(t.find_sound(words, text, query))
+}
+
+#[no_mangle]
+pub extern "C" fn name_table_complete(
+    words: &[u32],
+    text: &[u8],
+    names: u32,
+    modules: u32,
+    records: u32,
+    used: u32,
+    ask: u32,
+    query: &[u8],
+    budget: u32,
+    flat: &mut [u32],
+    out: &mut [u8],
+) -> Listing {
+    let t = table_of(names, modules, records, used);
+    listing_of(t.complete(words, text, ask_of(ask), query, budget, flat, out))
+}
+
+#[no_mangle]
+pub extern "C" fn name_table_complete_sound(
+    words: &[u32],
+    text: &[u8],
+    names: u32,
+    modules: u32,
+    records: u32,
+    used: u32,
+    ask: u32,
+    query: &[u8],
+    budget: u32,
+    flat: &mut [u32],
+    out: &mut [u8],
+) -> Listing
+    requires { ⌜ Sound (now words) (now text) names modules records used ⌝ }
+{
+    let t = Table {
+        names: names,
+        modules: modules,
+        records: records,
+        text: used,
+    };
+    listing_of(t.complete_sound(words, text, ask_of(ask), query, budget, flat, out))
 }

@@ -50,10 +50,13 @@ module _ (w : Which) (txt : List ℕ) where
       → line-seen w txt (pre ++ (l .candidate ++ (l .annotation ++ post))) r ≡ l
   unfolding line-of line-seen
   line-is pre post l r e =
-      rw (ap (λ x. x .match-length) e, ap (λ x. x .item-of) e,
-      span-between pre (l .candidate) (l .annotation ++ post) _ _ (ap (λ x. x .candidate .start) e) (ap (λ x. x .candidate .len) e),
-      ← append-assoc pre (l .candidate) (l .annotation ++ post),
-      span-between (pre ++ l .candidate) (l .annotation) post _ _ (ap (λ x. x .annotation .start) e ∙ sym (length-append pre (l .candidate))) (ap (λ x. x .annotation .len) e))
+      rw (
+        ap (λ x. x .match-length) e,
+        ap (λ x. x .item-of) e,
+        span-between pre (l .candidate) (l .annotation ++ post) _ _ (ap (λ x. x .candidate .start) e) (ap (λ x. x .candidate .len) e),
+        ← append-assoc pre (l .candidate) (l .annotation ++ post),
+        span-between (pre ++ l .candidate) (l .annotation) post _ _ (ap (λ x. x .annotation .start) e ∙ sym (length-append pre (l .candidate))) (ap (λ x. x .annotation .len) e),
+      )
 
   seen-from : (pre post after : List ℕ) (lines : List (Line (Item w))) (rows : List (List ℕ)) (at : ℕ) → at ≡ length pre → Allˡ (λ r. length r ≡ 12) rows
       → map (line-of w txt) rows ≡ output-lines at lines → lines-seen w txt (rows-flat rows ++ after) (pre ++ (output-text lines ++ post)) (length lines) ≡ lines
@@ -62,12 +65,12 @@ module _ (w : Which) (txt : List ℕ) where
   seen-from pre post after (l ∷ ls) [] at z a e = absurd (nil≢cons e)
   seen-from pre post after (l ∷ ls) (r ∷ rs) at z a e =
       let here : line-of w txt r
-          ≡ record {
-            match-length = l .match-length;
-            item-of = l .item-of;
-            candidate = record { start = at; len = length (l .candidate) };
-            annotation = record { start = at + length (l .candidate); len = length (l .annotation) };
-          } = cc in
+      ≡ record {
+        match-length = l .match-length;
+        item-of = l .item-of;
+        candidate = record { start = at; len = length (l .candidate) };
+        annotation = record { start = at + length (l .candidate); len = length (l .annotation) };
+      } = cc in
       let rest : map (line-of w txt) rs ≡ output-lines (at + length (l .candidate) + length (l .annotation)) ls = cc in
       let front : take 12 ((r ++ rows-flat rs) ++ after) ≡ r = ap (take 12) (append-assoc r (rows-flat rs) after) ∙ take-at r (rows-flat rs ++ after) 12 (a .0) in
       let back : drop 12 ((r ++ rows-flat rs) ++ after) ≡ rows-flat rs ++ after = ap (drop 12) (append-assoc r (rows-flat rs) after) ∙ drop-at r (rows-flat rs ++ after) 12 (a .0) in

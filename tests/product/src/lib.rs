@@ -1,7 +1,7 @@
 //! The product's calls, from the static library that `rt staticlib exports` writes.
 //! Nothing checks these declarations against crates/exports: keep them few.
 use model::layout::{Header, Memory};
-use model::model::Registration;
+use model::model::{CompletionResult, Filter, ModSymbol, Registration, Str};
 
 /// A registration's reply: 0 or the number of the refusal, and the header.
 #[repr(C)]
@@ -18,6 +18,14 @@ struct Reply {
 struct Looked {
     answer: u32,
     item: u32,
+}
+
+/// A completion's reply: 0 or the number of the refusal, lines and tries entered.
+#[repr(C)]
+struct Listing {
+    refusal: u32,
+    lines: u32,
+    entered: u32,
 }
 
 type Words = *mut u32;
@@ -42,6 +50,10 @@ extern "C" {
         host: Bytes, nhost: usize, id: Bytes, nid: usize, item: u32) -> Reply;
     fn name_table_find_sound(words: *const u32, nwords: usize, text: Bytes, ntext: usize, names: u32, modules: u32, records: u32, used: u32,
         query: Bytes, nquery: usize) -> Looked;
+    fn name_table_complete(words: *const u32, nwords: usize, text: Bytes, ntext: usize, names: u32, modules: u32, records: u32, used: u32,
+        ask: u32, query: Bytes, nquery: usize, budget: u32, flat: Words, nflat: usize, out: *mut u8, nout: usize) -> Listing;
+    fn name_table_complete_sound(words: *const u32, nwords: usize, text: Bytes, ntext: usize, names: u32, modules: u32, records: u32, used: u32,
+        ask: u32, query: Bytes, nquery: usize, budget: u32, flat: Words, nflat: usize, out: *mut u8, nout: usize) -> Listing;
 }
 
 /// The soundness test.
@@ -117,4 +129,85 @@ pub unsafe fn find_sound(m: &Memory, query: &[u8]) -> Result<Option<u32>, u32> {
     let r = name_table_find_sound(m.words.as_ptr(), m.words.len(), m.text.as_ptr(), m.text.len(), h.names, h.modules, h.records, h.text,
         query.as_ptr(), query.len());
     r.result()
+}
+
+/// What a completion asks: names, or modules and namespaces with a filter.
+#[derive(Clone, Copy, Debug)]
+pub enum Ask {
+    Names,
+    Modules(Filter),
+}
+
+impl Ask {
+    fn number(self) -> u32 {
+        match self {
+            Ask::Names => 0,
+            Ask::Modules(Filter::All) => 1,
+            Ask::Modules(Filter::Loaded) => 2,
+            Ask::Modules(Filter::ModulesOnly) => 3,
+            Ask::Modules(Filter::NamespacesOnly) => 4,
+        }
+    }
+}
+
+/// The output lent for a completion.
+#[derive(Clone, PartialEq)]
+pub struct Output {
+    pub flat: Vec<u32>,
+    pub text: Vec<u8>,
+}
+
+impl Listing {
+    fn result(&self) -> Result<(u32, u32), u32> {
+        match self.refusal {
+            0 => Ok((self.lines, self.entered)),
+            n => Err(n),
+        }
+    }
+}
+
+/// A completion for whatever is lent: lines and tries entered, or the number of the refusal.
+pub fn complete(m: &Memory, ask: Ask, query: &[u8], budget: u32, out: &mut Output) -> Result<(u32, u32), u32> {
+    let h = m.header;
+    #[rustfmt::skip]
+    let r = unsafe {
+        name_table_complete(m.words.as_ptr(), m.words.len(), m.text.as_ptr(), m.text.len(), h.names, h.modules, h.records, h.text,
+            ask.number(), query.as_ptr(), query.len(), budget, out.flat.as_mut_ptr(), out.flat.len(), out.text.as_mut_ptr(), out.text.len())
+    };
+    r.result()
+}
+
+/// A completion in a memory that is sound, without the test.
+///
+/// # Safety
+/// The memory is sound.
+pub unsafe fn complete_sound(m: &Memory, ask: Ask, query: &[u8], budget: u32, out: &mut Output) -> Result<(u32, u32), u32> {
+    let h = m.header;
+    #[rustfmt::skip]
+    let r = name_table_complete_sound(m.words.as_ptr(), m.words.len(), m.text.as_ptr(), m.text.len(), h.names, h.modules, h.records, h.text,
+        ask.number(), query.as_ptr(), query.len(), budget, out.flat.as_mut_ptr(), out.flat.len(), out.text.as_mut_ptr(), out.text.len());
+    r.result()
+}
+
+impl Output {
+    /// Room for so many lines and bytes, filled with what a call must leave where it writes nothing.
+    pub fn with_room(lines: usize, bytes: usize) -> Output {
+        Output { flat: vec![0xA5A5_A5A5; lines * 12], text: vec![0x5A; bytes] }
+    }
+
+    /// Line `k`, its item read by `item` from the twelve words.
+    pub fn line<A>(&self, k: usize, item: impl Fn(&[u32]) -> A) -> CompletionResult<A> {
+        let w = &self.flat[k * 12..k * 12 + 12];
+        let part = |start: u32, len: u32| Str::from(&self.text[start as usize..(start + len) as usize]);
+        CompletionResult { match_length: w[0] as i32, item: item(w), candidate: part(w[1], w[2]), annotation: part(w[3], w[4]) }
+    }
+}
+
+/// The mod symbol in a line's words.
+pub fn symbol(text: &[u8], w: &[u32]) -> ModSymbol {
+    let part = |start: u32, len: u32| Str::from(&text[start as usize..(start + len) as usize]);
+    match w[5] {
+        0 => ModSymbol::Module { mod_name: part(w[6], w[7]), mod_path: part(w[8], w[9]), mod_loaded: w[10] == 1 },
+        _ => ModSymbol::Namespace { ns_name: part(w[6], w[7]), ns_loaded: w[10] == 1 },
+    }
 }
