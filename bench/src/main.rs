@@ -3,7 +3,8 @@ mod baseline;
 
 use model::gen::Rng;
 use model::layout::Memory;
-use model::model::{find, register, Lent, Registration, Table};
+use model::model::{complete_names, find, register, Lent, Line, Registration, Span, Table};
+use product::{Ask, Output};
 use std::cell::RefCell;
 use std::hint::black_box;
 use std::time::Instant;
@@ -95,8 +96,67 @@ fn calls() {
     println!("| look a name up | {:.0} | {:.0} | {:.2} |", p / 1000.0, r / 1000.0, p / r);
 }
 
+/// `lists` namespaces are included in the root, each with names of its own and `shared` ones that all have.
+fn merged_table(lists: usize, own: usize, shared: usize) -> Memory {
+    let mut m = Memory::with_room(65536, 65536);
+    let mut put = |call: Registration| m.register(&call).expect("room");
+    for k in 0..lists {
+        let host = format!("part{k}.").into_bytes();
+        for i in 0..own {
+            put(Registration::Name { host: host.clone(), id: format!("n{i}of{k}").into_bytes(), item: 1 });
+        }
+        for i in 0..shared {
+            put(Registration::Name { host: host.clone(), id: format!("s{i}").into_bytes(), item: 1 });
+        }
+        put(Registration::Include { host: vec![], included: host });
+    }
+    m
+}
+
+/// One completion by the product, for callers whose memory is sound and for any, and by the independent implementation.
+fn completion(what: &str, memory: &Memory, query: &[u8]) {
+    let table = memory.table().expect("sound");
+    let out = RefCell::new(Output::with_room(4096, 65536));
+    let blank = Line { match_length: 0, item: 0, candidate: Span { start: 0, length: 0 }, annotation: Span { start: 0, length: 0 } };
+    let lines = RefCell::new(vec![blank; 4096]);
+    let text = RefCell::new(vec![0; 65536]);
+    let by_model = || complete_names(&table, query, u32::MAX, &mut lines.borrow_mut(), &mut text.borrow_mut()).expect("listed").lines;
+    let (sound, rust) = compare(
+        || unsafe { product::complete_sound(memory, Ask::Names, query, u32::MAX, &mut out.borrow_mut()) }.is_ok(),
+        || 0 < by_model(),
+    );
+    let (total, _) = compare(|| product::complete(memory, Ask::Names, query, u32::MAX, &mut out.borrow_mut()).is_ok(), || 0 < by_model());
+    let n = by_model();
+    println!(
+        "| {what} | {n} | {:.0} | {:.0} | {:.0} | {:.2} | {:.1} |",
+        sound, total, rust, sound / rust, n as f64 / sound * 1000.0
+    );
+}
+
+fn completions() {
+    println!("| completion | lines | proved callers, ns | any memory, ns | Rust, ns | proved / Rust | million lines a second |");
+    println!("|---|---|---|---|---|---|---|");
+    for count in [100, 1_000, 3_000] {
+        let mut m = Memory::with_room(65536, 65536);
+        let names = names(count);
+        assert!(registered(&mut m, &names));
+        completion(&format!("one line of {count} names"), &m, &names[count / 2].query);
+    }
+    let mut m = Memory::with_room(65536, 65536);
+    for i in 0..500 {
+        m.register(&Registration::Name { host: b"saved.bus.".to_vec(), id: format!("n{}", i * 7919 % 500).into_bytes(), item: i }).expect("room");
+    }
+    completion("500 lines of one tree", &m, b"saved.bus.n.");
+    completion("500 lines, one merged list", &merged_table(1, 500, 0), b".");
+    completion("500 lines of 10 lists", &merged_table(10, 50, 0), b".");
+    completion("10 lists, 250 names in each", &merged_table(10, 0, 250), b".");
+    completion("45 lists, 20 names in each", &merged_table(45, 0, 20), b".");
+}
+
 fn main() {
     calls();
+    println!();
+    completions();
     println!();
     println!("| soundness test | product, ns a record | C, ns a record | product / C |");
     println!("|---|---|---|---|");
