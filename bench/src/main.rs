@@ -1,5 +1,6 @@
 //! Compares the product with baselines on the same input, turn by turn in one run. Each figure is the least of many turns.
 mod baseline;
+mod plot;
 
 use model::gen::Rng;
 use model::layout::Memory;
@@ -10,6 +11,8 @@ use std::hint::black_box;
 use std::time::Instant;
 
 const TURNS: usize = 200;
+const SIZES: [usize; 4] = [100, 300, 1_000, 3_000];
+const BLANK: Line<u32> = Line { match_length: 0, item: 0, candidate: Span { start: 0, length: 0 }, annotation: Span { start: 0, length: 0 } };
 
 /// Nanoseconds of one call, the least over the turns, of each of two functions called in turn.
 fn compare(a: impl Fn() -> bool, b: impl Fn() -> bool) -> (f64, f64) {
@@ -60,40 +63,87 @@ fn names(count: usize) -> Vec<Name> {
         .collect()
 }
 
-/// The names registered one after another from the fresh table, for callers whose memory is sound.
-fn registered(memory: &mut Memory, names: &[Name]) -> bool {
-    memory.header = Default::default();
-    names.iter().all(|n| unsafe { product::insert_sound(memory, &n.host, &n.id, 1) } == 0)
-}
-
-/// The same by the independent implementation in Rust.
-fn registered_by_model(names: &[Name]) -> (bool, Table) {
+/// A memory and the model's table with these names.
+fn tables(names: &[Name]) -> (Memory, Table) {
+    let mut memory = Memory::with_room(65536, 65536);
     let lent = Lent { words: 65536 * 12, text: 65536 };
     let mut table = Table::default();
     for n in names {
-        match register(&table, lent, &Registration::Name { host: n.host.clone(), id: n.id.clone(), item: 1 }) {
-            Ok(new) => table = new,
-            Err(_) => return (false, table),
-        }
+        let call = Registration::Name { host: n.host.clone(), id: n.id.clone(), item: 1 };
+        assert_eq!(product::register(&mut memory, &call), 0);
+        table = register(&table, lent, &call).expect("room");
     }
-    (true, table)
+    (memory, table)
 }
 
-fn calls() {
-    println!("| calls on a table of 1,000 names | product, ns a call | Rust, ns a call | product / Rust |");
-    println!("|---|---|---|---|");
-    let names = names(1000);
-    let memory = RefCell::new(Memory::with_room(65536, 65536));
-    let (p, r) = compare(|| registered(&mut memory.borrow_mut(), &names), || registered_by_model(&names).0);
-    println!("| register a name | {:.0} | {:.0} | {:.2} |", p / 1000.0, r / 1000.0, p / r);
-    let memory = memory.into_inner();
-    assert!(memory.is_sound());
-    let table = registered_by_model(&names).1;
-    let (p, r) = compare(
-        || names.iter().all(|n| unsafe { product::find_sound(&memory, &n.query) } == Ok(Some(1))),
-        || names.iter().all(|n| matches!(find(&table.names, &n.query), Ok(Some(1)))),
-    );
-    println!("| look a name up | {:.0} | {:.0} | {:.2} |", p / 1000.0, r / 1000.0, p / r);
+/// What is measured of one call at several sizes: for proved callers, for any memory, and of the independent implementation.
+struct Measured {
+    what: &'static str,
+    rows: Vec<(usize, [f64; 3])>,
+}
+
+impl Measured {
+    fn print(&self) {
+        for (names, [sound, total, rust]) in &self.rows {
+            println!("| {} | {names} | {sound:.0} | {total:.0} | {rust:.0} | {:.2} |", self.what, sound / rust);
+        }
+    }
+
+    fn panel(&self) -> plot::Panel {
+        let series = |k: usize, name, colour| plot::Series { name, colour, points: self.rows.iter().map(|(n, t)| (*n as f64, t[k])).collect() };
+        plot::Panel {
+            title: self.what,
+            series: vec![
+                series(0, "product, proved callers", "#1b6e3c"),
+                series(1, "product, any memory", "#1f4e9c"),
+                series(2, "independent Rust", "#b5451b"),
+            ],
+        }
+    }
+}
+
+/// Ten more names at a table of each size; ten look-ups; ten completions of one line.
+fn calls() -> Vec<Measured> {
+    let mut all = [
+        Measured { what: "register a name", rows: vec![] },
+        Measured { what: "look a name up", rows: vec![] },
+        Measured { what: "complete, one line", rows: vec![] },
+    ];
+    for count in SIZES {
+        let names = names(count + 10);
+        let (memory, table) = tables(&names[..count]);
+        let header = memory.header;
+        let memory = RefCell::new(memory);
+        let lent = Lent { words: 65536 * 12, text: 65536 };
+        let more: Vec<Registration> = names[count..].iter().map(|n| Registration::Name { host: n.host.clone(), id: n.id.clone(), item: 1 }).collect();
+        let by_model = || more.iter().all(|c| register(&table, lent, c).is_ok());
+        let put = |f: &dyn Fn(&mut Memory, usize) -> bool| {
+            (0..10).all(|k| {
+                let m = &mut memory.borrow_mut();
+                let done = f(m, k);
+                m.header = header;
+                done
+            })
+        };
+        let (sound, rust) = compare(|| put(&|m, k| unsafe { product::insert_sound(m, &names[count + k].host, &names[count + k].id, 1) } == 0), by_model);
+        let (total, _) = compare(|| put(&|m, k| product::register(m, &more[k]) == 0), by_model);
+        all[0].rows.push((count, [sound / 10.0, total / 10.0, rust / 10.0]));
+
+        let m = &memory.borrow();
+        let asked: Vec<&[u8]> = (0..10).map(|k| &names[k * count / 10].query[..]).collect();
+        let by_model = || asked.iter().all(|q| matches!(find(&table.names, q), Ok(Some(1))));
+        let (sound, rust) = compare(|| asked.iter().all(|q| unsafe { product::find_sound(m, q) } == Ok(Some(1))), by_model);
+        let (total, _) = compare(|| asked.iter().all(|q| product::find(m, q) == Ok(Some(1))), by_model);
+        all[1].rows.push((count, [sound / 10.0, total / 10.0, rust / 10.0]));
+
+        let out = RefCell::new(Output::with_room(512, 32768));
+        let (lines, text) = (RefCell::new(vec![BLANK; 512]), RefCell::new(vec![0; 32768]));
+        let by_model = || asked.iter().all(|q| complete_names(&table, q, 4096, &mut lines.borrow_mut(), &mut text.borrow_mut()).is_ok());
+        let (sound, rust) = compare(|| asked.iter().all(|q| unsafe { product::complete_sound(m, Ask::Names, q, 4096, &mut out.borrow_mut()) }.is_ok()), by_model);
+        let (total, _) = compare(|| asked.iter().all(|q| product::complete(m, Ask::Names, q, 4096, &mut out.borrow_mut()).is_ok()), by_model);
+        all[2].rows.push((count, [sound / 10.0, total / 10.0, rust / 10.0]));
+    }
+    all.into()
 }
 
 /// `lists` namespaces are included in the root, each with names of its own and `shared` ones that all have.
@@ -117,8 +167,7 @@ fn merged_table(lists: usize, own: usize, shared: usize) -> Memory {
 fn completion(what: &str, memory: &Memory, query: &[u8]) {
     let table = memory.table().expect("sound");
     let out = RefCell::new(Output::with_room(4096, 65536));
-    let blank = Line { match_length: 0, item: 0, candidate: Span { start: 0, length: 0 }, annotation: Span { start: 0, length: 0 } };
-    let lines = RefCell::new(vec![blank; 4096]);
+    let lines = RefCell::new(vec![BLANK; 4096]);
     let text = RefCell::new(vec![0; 65536]);
     let by_model = || complete_names(&table, query, u32::MAX, &mut lines.borrow_mut(), &mut text.borrow_mut()).expect("listed").lines;
     let (sound, rust) = compare(
@@ -136,12 +185,6 @@ fn completion(what: &str, memory: &Memory, query: &[u8]) {
 fn completions() {
     println!("| completion | lines | proved callers, ns | any memory, ns | Rust, ns | proved / Rust | million lines a second |");
     println!("|---|---|---|---|---|---|---|");
-    for count in [100, 1_000, 3_000] {
-        let mut m = Memory::with_room(65536, 65536);
-        let names = names(count);
-        assert!(registered(&mut m, &names));
-        completion(&format!("one line of {count} names"), &m, &names[count / 2].query);
-    }
     let mut m = Memory::with_room(65536, 65536);
     for i in 0..500 {
         m.register(&Registration::Name { host: b"saved.bus.".to_vec(), id: format!("n{}", i * 7919 % 500).into_bytes(), item: i }).expect("room");
@@ -154,9 +197,16 @@ fn completions() {
 }
 
 fn main() {
-    calls();
+    let calls = calls();
+    println!("| call | names in the table | proved callers, ns | any memory, ns | Rust, ns | proved / Rust |");
+    println!("|---|---|---|---|---|---|");
+    calls.iter().for_each(Measured::print);
+    let panels: Vec<plot::Panel> = calls.iter().map(Measured::panel).collect();
+    let file = concat!(env!("CARGO_MANIFEST_DIR"), "/../docs/benchmarks.svg");
+    std::fs::write(file, plot::svg(&panels)).expect("docs/benchmarks.svg");
     println!();
     completions();
+    println!();
     println!();
     println!("| soundness test | product, ns a record | C, ns a record | product / C |");
     println!("|---|---|---|---|");

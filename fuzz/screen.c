@@ -1,0 +1,162 @@
+/* Fuzzes the C layer: any bytes as table, texts and output. Each call must answer a number that it may answer, leave
+   every byte equal where it refuses, never write outside what is lent, and leave a sound table where it accepts. */
+#include "name_console.h"
+#include <stdlib.h>
+#include <string.h>
+
+enum { GUARD = 64, MOST = 64 };
+
+static const uint8_t *data;
+static size_t left;
+
+static uint32_t byte(void) {
+  if (!left) return 0;
+  left--;
+  return *data++;
+}
+
+static uint32_t word(void) { return byte() | byte() << 8 | byte() << 16 | byte() << 24; }
+
+/* Stops here if it does not hold. */
+static void must(int holds) {
+  if (!holds) abort();
+}
+
+/* A lent buffer with guard bytes around it, and what it held before a call. */
+struct lent {
+  uint8_t *all, *bytes, *before;
+  size_t len;
+};
+
+static struct lent lend(size_t len) {
+  struct lent b = {malloc(len + 2 * GUARD), NULL, malloc(len + 1), len};
+  must(b.all && b.before);
+  memset(b.all, 0xA5, len + 2 * GUARD);
+  b.bytes = b.all + GUARD;
+  memset(b.bytes, 0, len);
+  return b;
+}
+
+static void keep(struct lent *b) { memcpy(b->before, b->bytes, b->len); }
+
+static void guards(const struct lent *b) {
+  for (size_t i = 0; i < GUARD; i++) must(b->all[i] == 0xA5 && b->bytes[b->len + i] == 0xA5);
+}
+
+static void same(const struct lent *b, size_t from) { must(from > b->len || !memcmp(b->bytes + from, b->before + from, b->len - from)); }
+
+static void done(struct lent *b) {
+  guards(b);
+  free(b->all);
+  free(b->before);
+}
+
+/* A text: a few of the names that collide, or bytes of the input. */
+static size_t text_of(uint8_t *out) {
+  static const char *const texts[] = {"",   "a",    "b",     "a.",   "b.",      "a.b.",   "a.b.c.", ".",
+                                      "..", "ab.",  "a..",   "c",    "io/bus",  "a.a.a.", "b.a.",   "longer.name.",
+                                      "z",  "z.z.", "a.b.d.", "offs", "Saved.", "Live.",  "x",      "x.y."};
+  uint32_t kind = byte();
+  if (kind < 200) {
+    const char *s = texts[kind % (sizeof texts / sizeof *texts)];
+    memcpy(out, s, strlen(s));
+    return strlen(s);
+  }
+  size_t n = byte() % MOST;
+  for (size_t i = 0; i < n; i++) out[i] = (uint8_t)byte();
+  return n;
+}
+
+static struct lent state, words, table_text, lines, out;
+
+static void registration(uint32_t kind) {
+  uint8_t a[MOST], b[MOST], c[MOST];
+  size_t an = text_of(a), bn = text_of(b), cn = text_of(c);
+  uint32_t n = word();
+  keep(&state), keep(&words), keep(&table_text);
+  uint32_t answer = 0;
+  switch (kind) {
+  case 0: answer = name_console_insert(state.bytes, state.len, words.bytes, words.len, table_text.bytes, table_text.len, a, an, b, bn, n); break;
+  case 1: answer = name_console_include(state.bytes, state.len, words.bytes, words.len, table_text.bytes, table_text.len, a, an, b, bn); break;
+  case 2: answer = name_console_open(state.bytes, state.len, words.bytes, words.len, table_text.bytes, table_text.len, n % 3, a, an, b, bn); break;
+  case 3: answer = name_console_alias(state.bytes, state.len, words.bytes, words.len, table_text.bytes, table_text.len, c, cn, a, an, b, bn); break;
+  default: answer = name_console_module(state.bytes, state.len, words.bytes, words.len, table_text.bytes, table_text.len, n % 3, a, an, b, bn); break;
+  }
+  must(answer <= NAME_CONSOLE_TEXT_FULL);
+  if (answer) {
+    same(&state, 0), same(&words, 0), same(&table_text, 0);
+  } else {
+    must(name_console_find(state.bytes, state.len, words.bytes, words.len, table_text.bytes, table_text.len, a, 0).answer == NAME_CONSOLE_EMPTY);
+  }
+}
+
+static void look_up(void) {
+  uint8_t a[MOST];
+  size_t an = text_of(a);
+  struct name_console_name f = name_console_find(state.bytes, state.len, words.bytes, words.len, table_text.bytes, table_text.len, a, an);
+  must(f.answer <= NAME_CONSOLE_TOO_LONG || f.answer == NAME_CONSOLE_NONE);
+  struct name_console_symbol m = name_console_find_module(state.bytes, state.len, words.bytes, words.len, table_text.bytes, table_text.len, a, an);
+  must(m.answer <= NAME_CONSOLE_TOO_LONG || m.answer == NAME_CONSOLE_NONE);
+  if (!m.answer) must((uint64_t)m.name_start + m.name_len <= table_text.len && (uint64_t)m.path_start + m.path_len <= table_text.len);
+}
+
+static struct name_console_listing complete(int modules, uint32_t filter, const uint8_t *q, size_t qn, uint32_t budget) {
+  keep(&lines), keep(&out);
+  struct name_console_listing r =
+      modules ? name_console_complete_modules(state.bytes, state.len, words.bytes, words.len, table_text.bytes, table_text.len, filter, q, qn, budget,
+                                              lines.bytes, lines.len, out.bytes, out.len)
+              : name_console_complete(state.bytes, state.len, words.bytes, words.len, table_text.bytes, table_text.len, q, qn, budget, lines.bytes,
+                                      lines.len, out.bytes, out.len);
+  must(r.answer <= NAME_CONSOLE_NO_ROOM);
+  if (r.answer) {
+    must(!r.lines && !r.entered);
+    same(&lines, 0), same(&out, 0);
+    return r;
+  }
+  must((uint64_t)r.lines * NAME_CONSOLE_LINE <= lines.len && 0 < r.entered && r.entered <= budget);
+  same(&lines, (size_t)r.lines * NAME_CONSOLE_LINE);
+  size_t at = 0;
+  for (uint32_t k = 0; k < r.lines; k++) {
+    const uint8_t *line = lines.bytes + (size_t)k * NAME_CONSOLE_LINE;
+    must(name_console_word(line, 1) == at), at += name_console_word(line, 2);
+    must(name_console_word(line, 3) == at), at += name_console_word(line, 4);
+  }
+  must(at <= out.len);
+  same(&out, at);
+  return r;
+}
+
+static void completion(int modules) {
+  uint8_t q[MOST];
+  size_t qn = text_of(q);
+  uint32_t filter = byte() % 5, budget = byte() < 128 ? word() : byte();
+  struct name_console_listing r = complete(modules, filter, q, qn, budget);
+  if (!r.answer) {
+    must(complete(modules, filter, q, qn, r.entered).answer == NAME_CONSOLE_OK);
+    must(complete(modules, filter, q, qn, r.entered - 1).answer == NAME_CONSOLE_SPENT);
+  }
+}
+
+int LLVMFuzzerTestOneInput(const uint8_t *bytes, size_t size) {
+  data = bytes, left = size;
+  uint32_t shape = byte();
+  state = lend(shape < 250 ? NAME_CONSOLE_STATE : shape - 240);
+  words = lend(byte() * (size_t)NAME_CONSOLE_RECORD + byte() % 50);
+  table_text = lend(byte() * (size_t)4);
+  lines = lend(byte() % 20 * (size_t)NAME_CONSOLE_LINE + byte() % 3);
+  out = lend(byte() * (size_t)2);
+  while (left) {
+    uint32_t op = byte() % 12;
+    if (op < 5) registration(op);
+    else if (op < 7) look_up();
+    else if (op < 9) completion(0);
+    else if (op < 11) completion(1);
+    else {
+      struct lent *b = byte() % 2 ? &words : &state;
+      if (b->len) b->bytes[(byte() | byte() << 8) % b->len] = (uint8_t)byte();
+    }
+    guards(&state), guards(&words), guards(&table_text), guards(&lines), guards(&out);
+  }
+  done(&state), done(&words), done(&table_text), done(&lines), done(&out);
+  return 0;
+}
