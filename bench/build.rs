@@ -3,14 +3,16 @@ use std::process::Command;
 
 fn main() {
     let out = std::env::var("OUT_DIR").unwrap();
-    let object = format!("{out}/sound.o");
     let archive = format!("{out}/libbaseline.a");
-    run(Command::new("cc").args(["-O3", "-c", "sound.c", "-o", &object]));
     let _ = std::fs::remove_file(&archive);
-    run(Command::new("ar").args(["rcs", &archive, &object]));
+    for name in ["sound", "complete"] {
+        let (source, object) = (format!("{name}.c"), format!("{out}/{name}.o"));
+        run(Command::new("cc").args(["-O3", "-Wall", "-Wextra", "-c", &source, "-o", &object]));
+        run(Command::new("ar").args(["rcs", &archive, &object]));
+        println!("cargo:rerun-if-changed={source}");
+    }
     println!("cargo:rustc-link-search=native={out}");
     println!("cargo:rustc-link-lib=static=baseline");
-    println!("cargo:rerun-if-changed=sound.c");
 }
 
 fn run(command: &mut Command) {

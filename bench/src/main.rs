@@ -163,28 +163,29 @@ fn merged_table(lists: usize, own: usize, shared: usize) -> Memory {
     m
 }
 
-/// One completion by the product, for callers whose memory is sound and for any, and by the independent implementation.
+/// One completion by the product, for callers whose memory is sound and for any, by hand in C, and by the independent implementation.
 fn completion(what: &str, memory: &Memory, query: &[u8]) {
     let table = memory.table().expect("sound");
-    let out = RefCell::new(Output::with_room(4096, 65536));
+    let (out, by_c) = (RefCell::new(Output::with_room(4096, 65536)), RefCell::new(Output::with_room(4096, 65536)));
     let lines = RefCell::new(vec![BLANK; 4096]);
     let text = RefCell::new(vec![0; 65536]);
     let by_model = || complete_names(&table, query, u32::MAX, &mut lines.borrow_mut(), &mut text.borrow_mut()).expect("listed").lines;
-    let (sound, rust) = compare(
-        || unsafe { product::complete_sound(memory, Ask::Names, query, u32::MAX, &mut out.borrow_mut()) }.is_ok(),
-        || 0 < by_model(),
-    );
-    let (total, _) = compare(|| product::complete(memory, Ask::Names, query, u32::MAX, &mut out.borrow_mut()).is_ok(), || 0 < by_model());
+    let sound = || unsafe { product::complete_sound(memory, Ask::Names, query, u32::MAX, &mut out.borrow_mut()) }.is_ok();
+    let (proved, c) = compare(sound, || 0 <= baseline::complete(memory, query, u32::MAX, &mut by_c.borrow_mut()));
+    assert!(*out.borrow() == *by_c.borrow(), "the product and the C baseline write the same: {what}");
+    let (total, rust) = compare(|| product::complete(memory, Ask::Names, query, u32::MAX, &mut out.borrow_mut()).is_ok(), || 0 < by_model());
     let n = by_model();
     println!(
-        "| {what} | {n} | {:.0} | {:.0} | {:.0} | {:.2} | {:.1} |",
-        sound, total, rust, sound / rust, n as f64 / sound * 1000.0
+        "| {what} | {n} | {proved:.0} | {total:.0} | {c:.0} | {rust:.0} | {:.2} | {:.2} | {:.1} |",
+        proved / c, proved / rust, n as f64 / proved * 1000.0
     );
 }
 
 fn completions() {
-    println!("| completion | lines | proved callers, ns | any memory, ns | Rust, ns | proved / Rust | million lines a second |");
-    println!("|---|---|---|---|---|---|---|");
+    println!("| completion | lines | proved callers, ns | any memory, ns | C, ns | Rust, ns | proved / C | proved / Rust | million lines a second |");
+    println!("|---|---|---|---|---|---|---|---|---|");
+    let names = names(1000);
+    completion("one line of 1000 names", &tables(&names).0, &names[500].query);
     let mut m = Memory::with_room(65536, 65536);
     for i in 0..500 {
         m.register(&Registration::Name { host: b"saved.bus.".to_vec(), id: format!("n{}", i * 7919 % 500).into_bytes(), item: i }).expect("room");
