@@ -6,7 +6,8 @@
 
    A slice passes as a pointer and a length. A pointer is not null, also where its length is 0. Buffers that a call writes
    overlap no other buffer of that call. The caller owns every buffer: a call keeps no pointer, takes no memory from the
-   heap and has no state of its own, so that different tables can be used in different threads. A call takes some 100 KB of stack.
+   heap and has no state of its own, so that different tables can be used in different threads. Measured on x86-64, a registration or
+   look-up takes some 60 KB of stack, a completion of a table of depth 16 some 200 KB.
 
    A query is a text in which each segment ends with a dot ("Live.offset."); the empty text is the query of no segment. */
 #ifndef NAME_CONSOLE_H
@@ -62,9 +63,9 @@ uint32_t name_console_insert(uint8_t *state, size_t state_len, uint8_t *words, s
 uint32_t name_console_include(uint8_t *state, size_t state_len, uint8_t *words, size_t words_len, uint8_t *text, size_t text_len,
                               const uint8_t *host, size_t host_len, const uint8_t *query, size_t query_len);
 
-/* Opens the query in the host: as a module if module is 1, as a namespace if it is 0. Another number is Malformed. */
+/* Opens the query in the host: as a module if flag is 1, as a namespace if it is 0. Another number is Malformed. */
 uint32_t name_console_open(uint8_t *state, size_t state_len, uint8_t *words, size_t words_len, uint8_t *text, size_t text_len,
-                           uint32_t module, const uint8_t *host, size_t host_len, const uint8_t *query, size_t query_len);
+                           uint32_t flag, const uint8_t *host, size_t host_len, const uint8_t *query, size_t query_len);
 
 /* Puts an alias of the query at the key, in the host. */
 uint32_t name_console_alias(uint8_t *state, size_t state_len, uint8_t *words, size_t words_len, uint8_t *text, size_t text_len,
