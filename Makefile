@@ -1,9 +1,9 @@
 # make          the archive of the C calls, and the example
 # make example  examples/prompt, a prompt with Tab completion
-# make test     drives the prompt in a pseudo-terminal
+# make test     the C calls from C, and the prompt typed into in a pseudo-terminal
 CC ?= cc
 CFLAGS ?= -O2 -g
-CFLAGS += -std=c11 -D_POSIX_C_SOURCE=200809L -Wall -Wextra -Werror -Iinclude
+FLAGS = -std=c11 -D_POSIX_C_SOURCE=200809L -Wall -Wextra -Werror -Iinclude
 ARCHIVE = target/staticlib/libscreen.a
 CRATES := crates.txt $(shell find crates -name '*.rt' -o -name '*.antt')
 
@@ -16,7 +16,7 @@ $(ARCHIVE): $(CRATES)
 	@touch $@
 
 examples/prompt: examples/prompt.c include/name_console.h $(ARCHIVE) | readline
-	$(CC) $(CFLAGS) examples/prompt.c $(ARCHIVE) -lreadline -o $@
+	$(CC) $(FLAGS) $(CFLAGS) examples/prompt.c $(ARCHIVE) -lreadline -o $@
 
 # The example alone needs GNU readline.
 readline:
