@@ -2,7 +2,10 @@
 // A slice passes as a pointer and a length. The state is sixteen bytes and the words are four bytes each, lowest first;
 // the layer copies the words in, calls crate table, and copies out what an accepted call has taken.
 // Every exported call answers for whatever bytes are lent.
+use lines::Ask;
+use lines::Filter;
 use memory::ModSymbol;
+use table::Completed;
 use table::Form;
 use table::Found;
 use table::FoundModule;
@@ -18,6 +21,8 @@ ghost use Rattle.table.specs.Answers.{number, name-found};
 ghost use Rattle.table.specs.Forms.{call-of, NoKey};
 ghost use Rattle.screen.specs.Bytes.{word-at, Put, Stored};
 ghost use Rattle.screen.specs.Memory.{header-in, Spells, records-lent, words-in, Loaded};
+ghost use Rattle.lines.specs.declared.Ask.the-variants.{Names};
+ghost use Rattle.screen.specs.Completions.{lines-lent, Room, modules-for, no-lines, RepliesLines, ListsIn};
 ghost use Rattle.screen.specs.Replies.{chosen, Replies, name-reply, RepliesName, flag, no-module, symbol-reply, module-reply, RepliesModule};
 
 // The reply to a look-up of a name: 0 with its item, 11 for none, else the number of the refusal.
@@ -38,6 +43,14 @@ pub struct ModuleReply {
     pub path_start: u32,
     pub path_len: u32,
     pub loaded: u32,
+}
+
+// The reply to a completion: 0 with the lines written and the tries entered, else the number of the refusal and zeros.
+#[repr(C)]
+pub struct CompleteReply {
+    pub answer: u32,
+    pub lines: u32,
+    pub entered: u32,
 }
 
 // ---- Words and bytes
@@ -451,4 +464,154 @@ pub extern "C" fn name_console_find_module(
     let n = load(words, &mut memory);
     let t = header_of(state);
     module_reply(t.find_module(&memory[..n], text, query))
+}
+
+// ---- Completions
+
+// How many words of line records count as lent, of so many bytes.
+fn line_words(size: usize) -> usize
+    ensures { λ r. ⌜ r ≡ lines-lent size * 12 ⌝ }
+{
+    let n = size / 48;
+    if n < 512 {
+        return n * 12;
+    }
+    6144
+}
+
+// The reply of a number alone.
+fn no_lines(answer: u32) -> CompleteReply
+    ensures { λ r. ⌜ r ≡ no-lines answer ⌝ }
+{
+    CompleteReply {
+        answer: answer,
+        lines: 0,
+        entered: 0,
+    }
+}
+
+// What a filter's number asks.
+fn ask_of(filter: u32) -> Ask
+    requires { ⌜ filter < 4 ⌝ }
+    ensures { λ r. ⌜ modules-for filter ≡ some r ⌝ }
+{
+    if filter == 0 {
+        return Ask::Modules(Filter::All);
+    }
+    if filter == 1 {
+        return Ask::Modules(Filter::Loaded);
+    }
+    if filter == 2 {
+        return Ask::Modules(Filter::ModulesOnly);
+    }
+    Ask::Modules(Filter::NamespacesOnly)
+}
+
+// A completion, where `memory` has the lent words and `flat` is for the lines.
+fn list(
+    t: Table,
+    memory: &[u32],
+    text: &[u8],
+    ask: Ask,
+    query: &[u8],
+    budget: u32,
+    flat: &mut [u32],
+    lines: &mut [u8],
+    out: &mut [u8],
+) -> CompleteReply
+    requires { ⌜ Room (now flat) (now lines) ⌝ }
+    ensures { λ r. ⌜ ListsIn (now (memory .entry)) (now (text .entry)) t ask (now (query .entry)) budget (now (lines .entry)) (now (lines .exit)) (now (out .entry)) (now (out .exit)) r ⌝ }
+{
+    let c = t.complete(memory, text, ask, query, budget, flat, out);
+    match c {
+        Completed::Listed(count, entered) => {
+            let to = count as usize * 12;
+            store(lines, flat, 0, to);
+            CompleteReply {
+                answer: 0,
+                lines: count,
+                entered: entered,
+            }
+        }
+        Completed::Refused(x) => no_lines(number(x)),
+    }
+}
+
+// A completion.
+fn complete(
+    state: &[u8],
+    words: &[u8],
+    text: &[u8],
+    ask: Ask,
+    query: &[u8],
+    budget: u32,
+    lines: &mut [u8],
+    out: &mut [u8],
+) -> CompleteReply
+    ensures { λ r. ⌜ RepliesLines (now (state .entry)) (now (words .entry)) (now (text .entry)) (some ask) (now (query .entry)) budget (now (lines .entry)) (now (lines .exit)) (now (out .entry)) (now (out .exit)) r ⌝ }
+{
+    if state.len() != 16 {
+        return no_lines(1);
+    }
+    let mut memory = [0u32; 12288];
+    let n = load(words, &mut memory);
+    let t = header_of(state);
+    let mut flat = [0u32; 6144];
+    let m = line_words(lines.len());
+    list(
+        t,
+        &memory[..n],
+        text,
+        ask,
+        query,
+        budget,
+        &mut flat[..m],
+        lines,
+        out,
+    )
+}
+
+// Completes a name: lines of 48 bytes into `lines`, their texts into `out`.
+#[no_mangle]
+pub extern "C" fn name_console_complete(
+    state: &[u8],
+    words: &[u8],
+    text: &[u8],
+    query: &[u8],
+    budget: u32,
+    lines: &mut [u8],
+    out: &mut [u8],
+) -> CompleteReply
+    ensures { λ r. ⌜ RepliesLines (now (state .entry)) (now (words .entry)) (now (text .entry)) (some Names) (now (query .entry)) budget (now (lines .entry)) (now (lines .exit)) (now (out .entry)) (now (out .exit)) r ⌝ }
+{
+    complete(state, words, text, Ask::Names, query, budget, lines, out)
+}
+
+// Completes a module or namespace: all if `filter` is 0, those loaded if 1, modules if 2, namespaces if 3.
+#[no_mangle]
+pub extern "C" fn name_console_complete_modules(
+    state: &[u8],
+    words: &[u8],
+    text: &[u8],
+    filter: u32,
+    query: &[u8],
+    budget: u32,
+    lines: &mut [u8],
+    out: &mut [u8],
+) -> CompleteReply
+    ensures { λ r. ⌜ RepliesLines (now (state .entry)) (now (words .entry)) (now (text .entry)) (modules-for filter) (now (query .entry)) budget (now (lines .entry)) (now (lines .exit)) (now (out .entry)) (now (out .exit)) r ⌝ }
+{
+    if filter < 4 {
+        return complete(
+            state,
+            words,
+            text,
+            ask_of(filter),
+            query,
+            budget,
+            lines,
+            out,
+        );
+    }
+    no_lines(malformed(state, words, text))
 }

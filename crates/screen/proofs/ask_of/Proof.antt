@@ -1,0 +1,19 @@
+-- ask_of meets its contract.
+use Rattle.screen.specs.Completions.{modules-for}
+use Rattle.screen.proofs.Completing.{modules-three}
+use Rattle.screen.proofs.ask_of.Statement.{statement}
+use Rattle.screen.proofs.ask_of.Tie as tie
+
+pub ask-of-spec : {M : Type 1} → statement M
+unfolding modules-for
+ask-of-spec =
+    tie.close
+    (tie.spec
+    {- returns -}
+    (λ c. rw (c .if1 .taken))
+    {- returns-2 -}
+    (λ c. rw (c .if2 .taken))
+    {- returns-3 -}
+    (λ c. rw (c .if3 .taken))
+    {- returns-4 -}
+    (λ c. modules-three _ (c .before .before .before .pre) (c .before .before .if1 .left) (c .before .if2 .left) (c .if3 .left)))

@@ -1,0 +1,26 @@
+-- name_console_complete_modules meets its contract.
+use borrow.Author.Needs.{needs}
+use Rattle.screen.proofs.Completing.{lines-asked, lines-unasked}
+use Rattle.screen.proofs.name_console_complete_modules.Statement.{statement}
+use Rattle.screen.proofs.name_console_complete_modules.Tie as tie
+
+pub name-console-complete-modules-spec : {M : Type 1} → statement M
+name-console-complete-modules-spec =
+    tie.close
+    (tie.spec
+    {- ask-of-requires -}
+    (λ c κs. search needs)
+    {- complete-requires -}
+    (λ c κs. search needs)
+    {- same-length -}
+    (λ c. search needs)
+    {- same-length-2 -}
+    (λ c. search needs)
+    {- returns -}
+    (λ c. lines-asked _ (c .before .before .before .before .before .before .before .ask-of .ensures) (c .before .before .before .before .complete .ensures))
+    {- malformed-requires -}
+    (λ c κs. search needs)
+    {- no-lines-requires -}
+    (λ c κs. search needs)
+    {- returns-2 -}
+    (λ c. lines-unasked _ (c .before .before .if1 .left) (c .before .malformed .ensures) (c .no-lines .ensures)))
