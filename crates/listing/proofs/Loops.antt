@@ -25,6 +25,8 @@ use Rattle.tree.specs.Links.{matches, head0, row-at}
 use Rattle.tree.proofs.Branches.{any-tree}
 use Rattle.tree.proofs.Matches.{MatchOf, matches-of, matches-increasing, after-first}
 use Rattle.tree.proofs.Kept.{all-append}
+use Rattle.walk.specs.Walk.{Noted, Walks}
+use Rattle.walk.specs.declared.Next.{Next}
 use Rattle.names.specs.Names.{ListAt, AnyList}
 use Rattle.names.proofs.Collections.{no-link, tree-within}
 use Rattle.merge.specs.Entries.{Entry, shown, outer, Asks, by-prefix}
@@ -157,6 +159,36 @@ module _ {ws txt : List ℕ} {ask : Ask} {rest : Str} {p : Path} {lim : Limits} 
     pub walking-done : at ≡ 0 → EntriesRun ws txt ask rest p lim matched a t flat flat′ out out′ leaf (tree-entries ws txt root prefix)
     unfolding onward
     walking-done z = left-none ws txt ask rest p lim matched leaf (rw (eq-eqb at 0 z) at (g .left))
+
+-- The run, with notes of the branches after the one at hand.
+module _ (ws txt : List ℕ) (ask : Ask) (rest : Str) (p : Path) (lim : Limits) (matched : ℕ) (leaf : Bool) (root : ℕ) (prefix : Str) where
+  pub record Stepping (a t : Tally) (flat flat′ out out′ notes : List ℕ) (s : Next) : Type 0 where
+    pub walking : Walking ws txt ask rest p lim matched leaf root prefix a t flat flat′ out out′ (s .link)
+    pub noted : (s .link ≡ 0 → ⊥) → Noted ws txt prefix notes (s .n) (later ws txt prefix root (s .link))
+
+noted-after : (ws txt : List ℕ) (prefix : Str) (root : ℕ) {notes : List ℕ} {l : List ℕ} {s : Next} → Walks ws txt prefix notes l s → onward ws txt prefix root (s .link) ≡ l → (s .link ≡ 0 → ⊥)
+    → Noted ws txt prefix notes (s .n) (later ws txt prefix root (s .link))
+unfolding onward
+noted-after ws txt prefix root {s = s} w e n = w .noted (s .link) (later ws txt prefix root (s .link)) (sym e ∙ rw (ne-eqb (s .link) 0 n))
+
+module _ {ws txt : List ℕ} {ask : Ask} {rest : Str} {p : Path} {lim : Limits} {matched : ℕ} {leaf : Bool} {root : ℕ} {prefix : Str} where
+  pub stepping-first : {a : Tally} {flat out notes : List ℕ} {s : Next} → TreeReady ws txt ask rest p lim leaf root prefix → Walks ws txt prefix notes (matches ws txt root prefix) s
+      → Stepping ws txt ask rest p lim matched leaf root prefix a a flat flat out out notes s
+  stepping-first {s = s} r w = record { walking = walking-first r (w .head); noted = noted-after ws txt prefix root w (first-onward (r .tree-at) prefix (s .link) (w .head) .0) }
+
+  pub stepping-next : {a t t′ : Tally} {flat flat′ flat″ out out′ out″ notes notes′ : List ℕ} {s s′ : Next}
+      → (g : Stepping ws txt ask rest p lim matched leaf root prefix a t flat flat′ out out′ notes s) (n : s .link ≡ 0 → ⊥)
+      → BranchRuns ws txt ask rest p lim matched t t′ flat′ flat″ out′ out″ leaf (s .link) 0 → length flat″ ≡ length flat′ → length out″ ≡ length out′
+      → Walks ws txt prefix notes′ (later ws txt prefix root (s .link)) s′
+      → Stepping ws txt ask rest p lim matched leaf root prefix a t′ flat flat″ out out″ notes′ s′
+  unfolding onward
+  stepping-next {s = s} {s′} g n b lf lo w = record {
+    walking = walking-next (g .walking) n b lf lo (w .head);
+    noted = noted-after ws txt prefix root w (let e = next-onward (g .walking .tree-at) prefix (s .link) (s′ .link) n (w .head) .0 in tail-of (sym (rw (ne-eqb (s .link) 0 n) at e)));
+  }
+    where
+      tail-of : {x : ℕ} {l m : List ℕ} → x ∷ l ≡ x ∷ m → l ≡ m
+      tail-of e = cc
 
 -- ---- A list
 

@@ -135,9 +135,11 @@ fn list_tree(
     ensures { λ r. ⌜ EntriesRun (now (words .entry)) (now (text .entry)) ask (now (rest .entry)) path lim matched tally r (now (flat .entry)) (now (flat .exit)) (now (out .entry)) (now (out .exit)) leaf (tree-entries (now (words .entry)) (now (text .entry)) root (now (prefix .entry))) ⌝ }
 {
     let budget = lim.budget;
+    let mut notes = [0; 48];
     let mut sum = tally;
-    let mut at = tree::tree_first(words, text, root, prefix);
-    while 0 < at {
+    let mut step = walk::walk_first(words, text, root, prefix, &mut notes);
+    while 0 < step.link {
+        let at = step.link;
         sum = list_branch(
             words,
             text,
@@ -157,7 +159,7 @@ fn list_tree(
         if budget < entered {
             return sum;
         }
-        at = tree::tree_next(words, text, root, prefix, at);
+        step = walk::walk_next(words, text, root, prefix, at, &mut notes, step.n);
     }
     sum
 }

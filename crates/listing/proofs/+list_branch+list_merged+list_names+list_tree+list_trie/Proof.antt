@@ -1,6 +1,6 @@
 -- The run over tries, lists and branches: a cycle of five functions, measured by the link.
 use Prim.Native.Nat.{ℕ, _+_, _*_, _<_}
-use mathlib.Core.Path.{_∙_}
+use mathlib.Core.Path.{refl, _∙_}
 use lib.ListN.{length}
 use native.Mathlib.Omega.{arith}
 use borrow.Author.Needs.{needs}
@@ -12,7 +12,7 @@ use Rattle.tree.proofs.Branches.{any-tree}
 use Rattle.names.proofs.Collections.{list-fits}
 use Rattle.listing.proofs.Cutting.{front-is}
 use Rattle.listing.proofs.Branch.{leaf-runs, line-ready, branch-named, space-at, below-ready, child-earlier, child-ready, space-runs}
-use Rattle.listing.proofs.Loops.{onward, Walking, walking-first, walking-earlier, walking-branch, walking-tree, walking-begins, walking-spent, walking-next, walking-less, walking-done, list-any, single-earlier, single-ready, single-runs, Merging, merging-first, merging-any, merging-done, merging-earlier, merging-less, merging-branch, merging-next, merging-spent}
+use Rattle.listing.proofs.Loops.{onward, walking-earlier, walking-branch, walking-tree, walking-begins, walking-spent, walking-less, walking-done, Stepping, stepping-first, stepping-next, list-any, single-earlier, single-ready, single-runs, Merging, merging-first, merging-any, merging-done, merging-earlier, merging-less, merging-branch, merging-next, merging-spent}
 use Rattle.listing.proofs.Trie.{trie-over, trie-named, cut-ready, bindings-earlier, namespaces-earlier, bindings-ready, namespaces-ready, trie-both, trie-spaces}
 use Rattle.listing.proofs.list_branch.Reads as list-branch
 use Rattle.listing.proofs.list_branch.Kinds as list-branch-kinds
@@ -37,8 +37,8 @@ use Rattle.memory.proofs.word_of.Reads as word-of-reads
 use Rattle.merge.proofs.merge_next.Reads as merge-next-reads
 use Rattle.merge.proofs.merge_start.Reads as merge-start-reads
 use Rattle.merge.proofs.single.Reads as single-reads
-use Rattle.tree.proofs.tree_first.Reads as tree-first-reads
-use Rattle.tree.proofs.tree_next.Reads as tree-next-reads
+use Rattle.walk.proofs.walk_first.Reads as walk-first-reads
+use Rattle.walk.proofs.walk_next.Reads as walk-next-reads
 use Rattle.listing.proofs.+list_branch+list_merged+list_names+list_tree+list_trie.{
   statement,
 }
@@ -108,12 +108,12 @@ list-merged-μ-loop words text ask leaf list prefix rest path matched lim flat�
     left-in words text prefix m
 
 abbrev list-tree-Inv-loop : list-tree-lts.InvT-loop
-list-tree-Inv-loop words text ask leaf root prefix rest path matched lim flat₀ out₀ budget sum₀ at₀ flat out sum at =
-    Walking words text ask rest path lim matched leaf root prefix sum₀ sum flat₀ flat out₀ out at
+list-tree-Inv-loop words text ask leaf root prefix rest path matched lim flat₀ out₀ budget notes₀ sum₀ step₀ flat out notes sum step =
+    Stepping words text ask rest path lim matched leaf root prefix sum₀ sum flat₀ flat out₀ out notes step
 
 abbrev list-tree-μ-loop : list-tree-lts.MeasureT-loop
-list-tree-μ-loop words text ask leaf root prefix rest path matched lim flat₀ out₀ budget sum₀ at₀ flat out sum at =
-    length (onward words text prefix root at)
+list-tree-μ-loop words text ask leaf root prefix rest path matched lim flat₀ out₀ budget notes₀ sum₀ step₀ flat out notes sum step =
+    length (onward words text prefix root (step .link))
 
 pub +list-branch+list-merged+list-names+list-tree+list-trie-spec : {M : Type 1} → statement M
 +list-branch+list-merged+list-names+list-tree+list-trie-spec =
@@ -191,35 +191,35 @@ pub +list-branch+list-merged+list-names+list-tree+list-trie-spec : {M : Type 1} 
     (λ c. search needs)
     {- returns-2 -}
     (λ c. c .before .before .before .before .list-merged .ensures))
-    (λ t. list-tree-lts.spec (tree-first-reads.Asked, tree-first-reads.Learnt, list-branch-below t, list-branch.Post, tree-next-reads.Asked, tree-next-reads.Learnt)
+    (λ t. list-tree-lts.spec (walk-first-reads.Asked, walk-first-reads.Learnt, list-branch-below t, list-branch.Post, walk-next-reads.Asked, walk-next-reads.Learnt)
     (list-tree-at t)
     list-tree.Post
     list-tree-Inv-loop
     list-tree-μ-loop
-    {- tree-first-requires -}
-    (λ c κs. any-tree (c .before .before .before .before .before .before .pre .1 .tree-at))
+    {- walk-first-requires -}
+    (λ c κs. (any-tree (c .before .before .before .before .before .before .before .pre .1 .tree-at), refl))
     {- loop-holds -}
-    (λ c. walking-first (c .before .before .before .before .before .before .before .pre .1) (c .tree-first .ensures))
+    (λ c. stepping-first (c .before .before .before .before .before .before .before .before .pre .1) (c .walk-first .ensures))
     {- list-branch-requires -}
-    (λ c κs. (omega (arith, c .before .before .before .before .before .before .before .before .before .before .before .pre .0, walking-earlier (c .before .before .before .loop .inv) (λ z. omega (arith, c .before .before .loop-test .taken))), walking-branch (c .before .before .before .loop .inv) (λ z. omega (arith, c .before .before .loop-test .taken)) (c .before .before .before .before .before .before .before .before .before .before .before .pre .1)))
+    (λ c κs. (omega (arith, c .before .before .before .before .before .before .before .before .before .before .before .before .before .pre .0, walking-earlier (c .before .before .before .before .loop .inv .walking) (λ z. omega (arith, c .before .before .if1 .taken))), walking-branch (c .before .before .before .before .loop .inv .walking) (λ z. omega (arith, c .before .before .if1 .taken)) (c .before .before .before .before .before .before .before .before .before .before .before .before .before .pre .1)))
     {- same-length -}
-    (λ c. c .before .before .before .before .flat .given ∙ c .before .before .before .before .before .before .before .before .before .loop .inv .left .flat-size)
+    (λ c. c .before .before .before .before .flat .given ∙ c .before .before .before .before .before .before .before .before .before .before .loop .inv .walking .left .flat-size)
     {- same-length-2 -}
-    (λ c. c .before .before .out .given ∙ c .before .before .before .before .before .before .before .before .before .loop .inv .left .out-size)
+    (λ c. c .before .before .out .given ∙ c .before .before .before .before .before .before .before .before .before .before .loop .inv .walking .left .out-size)
     {- returns -}
-    (λ c. walking-spent (c .before .before .before .before .before .before .before .before .before .loop .inv) (λ z. omega (arith, c .before .before .before .before .before .before .before .before .loop-test .taken)) (c .before .before .before .before .before .list-branch .ensures) (c .before .before .before .before .flat .given) (c .before .before .out .given) (c .if1 .taken))
-    {- tree-next-requires -}
-    (λ c κs. (any-tree (c .before .before .before .before .before .before .before .before .before .before .before .before .before .before .before .before .before .pre .1 .tree-at), (walking-tree (c .before .before .before .before .before .before .before .before .before .loop .inv) (λ z. omega (arith, c .before .before .before .before .before .before .before .before .loop-test .taken)), walking-begins (c .before .before .before .before .before .before .before .before .before .loop .inv) (λ z. omega (arith, c .before .before .before .before .before .before .before .before .loop-test .taken)))))
+    (λ c. walking-spent (c .before .before .before .before .before .before .before .before .before .before .loop .inv .walking) (λ z. omega (arith, c .before .before .before .before .before .before .before .before .if1 .taken)) (c .before .before .before .before .before .list-branch .ensures) (c .before .before .before .before .flat .given) (c .before .before .out .given) (c .if2 .taken))
+    {- walk-next-requires -}
+    (λ c κs. (any-tree (c .before .before .before .before .before .before .before .before .before .before .before .before .before .before .before .before .before .before .before .before .pre .1 .tree-at), (walking-tree (c .before .before .before .before .before .before .before .before .before .before .before .loop .inv .walking) (λ z. omega (arith, c .before .before .before .before .before .before .before .before .before .if1 .taken)), (walking-begins (c .before .before .before .before .before .before .before .before .before .before .before .loop .inv .walking) (λ z. omega (arith, c .before .before .before .before .before .before .before .before .before .if1 .taken)), c .before .before .before .before .before .before .before .before .before .before .before .loop .inv .noted (λ z. omega (arith, c .before .before .before .before .before .before .before .before .before .if1 .taken))))))
     {- loop-less -}
-    (λ c. walking-less (c .before .before .before .before .before .before .before .before .before .before .loop .inv) (λ z. omega (arith, c .before .before .before .before .before .before .before .before .before .loop-test .taken)) (c .before .before .before .before .before .before .list-branch .ensures) (c .before .before .before .before .before .flat .given) (c .before .before .before .out .given) (c .tree-next .ensures))
+    (λ c. walking-less (c .before .before .before .before .before .before .before .before .before .before .before .before .loop .inv .walking) (λ z. omega (arith, c .before .before .before .before .before .before .before .before .before .before .if1 .taken)) (c .before .before .before .before .before .before .before .list-branch .ensures) (c .before .before .before .before .before .before .flat .given) (c .before .before .before .before .out .given) (c .walk-next .ensures .head))
     {- loop-again -}
-    (λ c. walking-next (c .before .before .before .before .before .before .before .before .before .before .loop .inv) (λ z. omega (arith, c .before .before .before .before .before .before .before .before .before .loop-test .taken)) (c .before .before .before .before .before .before .list-branch .ensures) (c .before .before .before .before .before .flat .given) (c .before .before .before .out .given) (c .tree-next .ensures))
+    (λ c. stepping-next (c .before .before .before .before .before .before .before .before .before .before .before .before .loop .inv) (λ z. omega (arith, c .before .before .before .before .before .before .before .before .before .before .if1 .taken)) (c .before .before .before .before .before .before .before .list-branch .ensures) (c .before .before .before .before .before .before .flat .given) (c .before .before .before .before .out .given) (c .walk-next .ensures))
     {- same-length-3 -}
-    (λ c. c .before .loop .inv .left .flat-size)
+    (λ c. c .before .before .loop .inv .walking .left .flat-size)
     {- same-length-4 -}
-    (λ c. c .before .loop .inv .left .out-size)
+    (λ c. c .before .before .loop .inv .walking .left .out-size)
     {- returns-2 -}
-    (λ c. walking-done (c .before .loop .inv) (omega (arith, c .loop-test .left))))
+    (λ c. walking-done (c .before .before .loop .inv .walking) (omega (arith, c .if1 .left))))
     (λ t. list-trie-lts.spec (trie-of-reads.Asked, trie-of-reads.Learnt, cut-query-reads.Asked, cut-query-reads.Learnt, list-names-below t, list-names.Post)
     (list-trie-at t)
     list-trie.Post
