@@ -1,7 +1,7 @@
 -- The completion into the first of the flat words, as one into all of them.
 use mathlib.Core.Path.{_≡_, refl, sym, ap, _∙_, subst}
 use Prim.Native.Nat.{ℕ, _+_, _*_, _/_, _≤_, min, zero-le}
-use mathlib.Core.Bool.{Bool, true, false}
+use mathlib.Core.Bool.{true, false}
 use mathlib.Core.List.{List, _++_, append-assoc}
 use mathlib.Core.Option.{some, Option·none-ne-some}
 use native.Mathlib.Omega.{arith}
@@ -11,7 +11,6 @@ use Rattle.source.specs.Text.{Str}
 use Rattle.source.specs.Calls as C
 use Rattle.source.specs.Calls.{complete, complete-modules, completed, completion-rows, lowest, argument-rows}
 use Rattle.memory.specs.Layout.{Item}
-use Rattle.memory.specs.Sound.{Says}
 use Rattle.text.specs.Laid.{Laid}
 use Rattle.lines.specs.Ask.{asked}
 use Rattle.lines.specs.declared.Ask.{Ask}

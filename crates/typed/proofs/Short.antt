@@ -1,7 +1,6 @@
--- The match lengths of a sound table's lines: at most 543, so that 32 bits with a sign hold them.
+-- The match lengths of a sound table's lines: -1 or at most 543, so that 32 bits with a sign hold them.
 use Prim.Native.Nat.{ℕ, zero, suc, _+_, _*_, _≤_, _<_}
-use mathlib.Core.Path.{_≡_, refl, sym, ap, _∙_, subst}
-use mathlib.Core.Logic.{_⊎_, inl, inr}
+use mathlib.Core.Path.{_≡_, refl, sym, _∙_, subst}
 use mathlib.Core.Bool.{Bool, true, false, cond, _||_, true≢false}
 use mathlib.Core.List.{List, [], _∷_, _++_, map, flatMap, reverse, reverseAux, tail}
 use mathlib.Core.Option.{Option, none, some}
@@ -30,10 +29,10 @@ use Rattle.lines.specs.declared.Ask.{Ask}
 use Rattle.lines.specs.declared.Ask.the-variants as Asks
 use Rattle.table.specs.Completions.{completion}
 
--- A length that 32 bits with a sign hold.
+-- -1, or at most 543: 17 keys of 31 bytes with their dots.
 abbrev pub Held : ℤ → Type 0
-Held (pos m) = m ≤ 2147483647
-Held (negsuc m) = Unit {0}
+Held (pos m) = m ≤ 543
+Held (negsuc m) = m ≡ 0
 
 -- ---- lists
 module _ {A : Type 0} (P : A → Type 0) where
@@ -151,7 +150,7 @@ so-far-short (el ∷ path) a = go (el .segment .prefix) (so-far-short path (a .1
     go (some p) h = omega (arith, h, a .0 .0)
 
 path-held : (path : PathOf) → Allˡ Short path → length path ≤ 17 → Held (match-length-of-path (reverse path))
-path-held [] a h = subst Held (sym (match-length-none [] tt)) tt
+path-held [] a h = subst Held (sym (match-length-none [] tt)) refl
 path-held (el ∷ path) a h = go (el .segment .prefix) refl (a .0 .1) (path-held path (a .1) (omega arith))
   where
     go : (o : Option Str) → el .segment .prefix ≡ o → Begins o (el .segment .completion) → Held (match-length-of-path (reverse path)) → Held (match-length-of-path (reverse (el ∷ path)))

@@ -1,10 +1,10 @@
 -- Lines that are stored one after another are the lines of the rows that the flat words hold.
 use mathlib.Core.Path.{_≡_, refl, sym, ap, ap₂, _∙_}
-use Prim.Native.Nat.{ℕ, zero, suc, _+_, _*_, _-_, _≤_, _<_}
+use Prim.Native.Nat.{ℕ, zero, suc, _+_, _*_, _-_, _≤_}
 use mathlib.Core.List.{List, [], _∷_, _++_, map, flatMap, append-assoc}
 use native.Mathlib.Omega.{arith}
 use lib.ListN.{length, take, drop, set, length-append, length-drop}
-use lib.Seq.{take-all, take-at, drop-at, drop-drop, drop-append-le, set-split}
+use lib.Seq.{take-all, take-at, drop-at, drop-drop, set-split}
 use Rattle.source.proofs.Lookup.{Allˡ}
 use Rattle.memory.specs.Layout.{record-at}
 use Rattle.lines.specs.Output.{rows-flat}

@@ -3,9 +3,9 @@ use mathlib.Core.Path.{_≡_, refl, sym, ap, ap₂, _∙_, subst}
 use Prim.Native.Nat.{ℕ, _+_, _*_, _≤_}
 use mathlib.Core.Bool.{Bool, true, false}
 use mathlib.Core.List.{List, [], _∷_, _++_, map}
-use mathlib.Core.Option.{Option, none, some}
+use mathlib.Core.Option.{Option, some}
 use native.Mathlib.Omega.{arith}
-use lib.Dec.{eqb, ltb}
+use lib.Dec.{eqb}
 use lib.IntN.{pos, negsuc}
 use lib.ListN.{length, take, drop, length-map, length-append, length-drop}
 use lib.Seq.{take-at, drop-at}
@@ -13,7 +13,7 @@ use borrow.Author.Tests.{le-ltb}
 use Rattle.source.specs.Text.{Str}
 use Rattle.source.specs.Table as S
 use Rattle.source.specs.Calls as C
-use Rattle.source.specs.Calls.{LineRecord, Output, output-lines, output-text, complete, complete-modules, completed, completion-rows, lowest, argument-rows}
+use Rattle.source.specs.Calls.{LineRecord, Output, output-lines, complete, complete-modules, completed, completion-rows, lowest, argument-rows}
 use Rattle.source.proofs.Lookup.{Allˡ}
 use Rattle.source.proofs.Lines.{output-lines-length}
 use Rattle.memory.specs.Layout as L
@@ -45,7 +45,7 @@ length-seen m h = go (eqb m 4294967295) h
   where
     go : (b : Bool) → Held (pick b (negsuc 0) (pos m)) → pick b (negsuc 0) (held m) ≡ pick b (negsuc 0) (pos m)
     go true h = refl
-    go false h = rw (le-ltb 2147483647 m h)
+    go false h = rw (le-ltb 2147483647 m (omega (arith, h)))
 
 symbol-pick : (txt : List ℕ) (b : Bool) (x y : ModSymbol) → symbol-of txt (pick b x y) ≡ pick b (symbol-of txt x) (symbol-of txt y)
 symbol-pick txt true x y = refl
@@ -84,7 +84,6 @@ module _ (ask : Ask) (txt flat flat′ out out′ : List ℕ) (r : Completed) (l
         first = ap (λ l. map (line-seen (asked ask) txt) (take n l)) all ∙ ap (map (line-seen (asked ask) txt)) (take-at (map (line-in ask) rows) (drop n ls) n size)
             ∙ rows-seen ask txt rows (subst (Allˡ (λ s. Held (s .match-length))) (sym (w .reads)) (output-held 0 lines a)) ∙ ap (map some) (w .reads);
         after = ap (drop n) all ∙ drop-at (map (line-in ask) rows) (drop n ls) n size;
-        size = ap length all ∙ length-append (map (line-in ask) rows) (drop n ls) ∙ omega (arith, size, length-drop n ls, h);
       }
 
   shown-as : (x : C.Completed (L.Item (asked ask))) → CompletesAs ask txt flat flat′ out out′ r x → AnswerHeld x → lines-in r ≤ length ls → ls′ ≡ stored-lines (line-at ask flat′) ls (lines-in r) → ShownAs ask txt ls ls′ x

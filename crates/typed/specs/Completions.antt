@@ -29,7 +29,6 @@ output room flat out = record { lines = min (min (length flat / 12) room) 429496
 pub record Shown (w : L.Which) (txt : List ℕ) (ls ls′ : List Line) (lines : List (S.Line (L.Item w))) : Type 0 where
   pub first : map (line-seen w txt) (take (length lines) ls′) ≡ map some (output-lines 0 lines)
   pub after : drop (length lines) ls′ ≡ drop (length lines) ls
-  pub size : length ls′ ≡ length ls
 
 -- By document 01's answer: listed, the lines are shown; refused, no line has changed.
 abbrev pub ShownAs : (ask : Ask) (txt : List ℕ) (ls ls′ : List Line) → C.Completed (L.Item (asked ask)) → Type 0

@@ -9,7 +9,6 @@ use Rattle.source.specs.Calls.{LineRecord}
 use Rattle.memory.specs.Layout as L
 use Rattle.memory.specs.Layout.{Which, names, modules, word, pick}
 use Rattle.memory.specs.Read.{symbol-in, symbol-of}
-use Rattle.lines.specs.Ask.{asked}
 use Rattle.lines.specs.declared.Ask.{Ask}
 use Rattle.lines.specs.declared.Ask.the-variants.{Names, Modules}
 use Rattle.table.specs.declared.Completed.{Completed}
@@ -20,7 +19,7 @@ use Rattle.typed.specs.declared.Line.{Line}
 
 -- ---- From words
 
--- A length that 32 bits with a sign hold.
+-- A length that 32 bits with a sign hold. A longer one is never met: a sound table's lines have at most 543 (proofs/Short.antt).
 abbrev pub held : ℕ → ℤ
 held m = pick (ltb 2147483647 m) (pos 2147483647) (pos m)
 
@@ -58,14 +57,14 @@ lines-in (Refused r) = 0
 
 -- ---- To line records
 
--- The item that a line's item is in the table that is asked, none if it is one of the other table.
+-- The item of the table that is asked; none where a line has an item of the other table.
 abbrev pub item-seen : (w : Which) → List ℕ → Item → Option (L.Item w)
 item-seen names txt (Name n) = some n
 item-seen names txt (Symbol s) = none
 item-seen modules txt (Name n) = none
 item-seen modules txt (Symbol s) = some (symbol-of txt s)
 
--- A line record of a match length, an item if it is one, and the spans of a line.
+-- The line record of a line with this item.
 abbrev pub record-seen : {A : Type 0} → Line → Option A → Option (LineRecord A)
 record-seen l none = none
 record-seen l (some a) = some (record {

@@ -27,7 +27,7 @@ pub struct Line {
     pub annotation: Span,
 }
 
-// The match length that word 0 of a line holds. No line has one over 2147483647.
+// The match length that word 0 of a line holds. A completion never writes one over 2147483647.
 fn match_length(w: u32) -> i32
     ensures { λ r. ⌜ r ≡ length-in w ⌝ }
 {

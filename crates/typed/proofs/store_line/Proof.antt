@@ -1,7 +1,7 @@
 -- `typed::store_line` meets its contract: a walk of its MIR, by hand. The place of element `at` is computed, the borrow is opened, the element is taken out of the row and the whole record stored there, and the borrow is closed at the list with the record in it.
 -- Assumes nothing.
-use mathlib.Core.Path.{_≡_, refl, sym, ap, subst}
-use Prim.Native.Nat.{ℕ, _<_, _*_, _+_, _^_}
+use mathlib.Core.Path.{refl, sym, ap, subst}
+use Prim.Native.Nat.{ℕ, _<_, _*_, _^_}
 use native.Mathlib.Omega.{arith}
 use mathlib.Core.List.{[], _∷_, List}
 use lib.ListN.{length, set, length-set}
