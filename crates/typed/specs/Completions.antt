@@ -1,0 +1,52 @@
+-- What the typed completion hands back, and what it leaves of the lent output.
+use Prim.Native.Nat.{ℕ, _*_, _/_, _≤_, min}
+use mathlib.Core.Path.{_≡_}
+use mathlib.Core.Bool.{Bool}
+use mathlib.Core.List.{List, map}
+use mathlib.Core.Option.{some}
+use lib.ListN.{length, take, drop}
+use Rattle.source.specs.Text.{Str}
+use Rattle.source.specs.Table as S
+use Rattle.source.specs.Calls as C
+use Rattle.source.specs.Calls.{Output, output-lines}
+use Rattle.memory.specs.Layout as L
+use Rattle.memory.specs.Sound.{Says}
+use Rattle.lines.specs.Ask.{asked}
+use Rattle.lines.specs.declared.Ask.{Ask}
+use Rattle.table.specs.Header.{IsSound, table-in}
+use Rattle.table.specs.Completions as T
+use Rattle.table.specs.Completions.{completion}
+use Rattle.table.specs.declared.Table.{Table}
+use Rattle.table.specs.declared.Completed.{Completed}
+use Rattle.typed.specs.declared.Line.{Line}
+use Rattle.typed.specs.Lines.{lines-in, line-seen}
+
+-- The output lent: a line takes a line struct and twelve flat words; lines and bytes past those that 32 bits count are not lent.
+abbrev pub output : (room : ℕ) (flat out : List ℕ) → Output
+output room flat out = record { lines = min (min (length flat / 12) room) 4294967295; text = min (length out) 4294967295 }
+
+-- The lines stand in the first line structs, and those after are as they were.
+pub record Shown (w : L.Which) (txt : List ℕ) (ls ls′ : List Line) (lines : List (S.Line (L.Item w))) : Type 0 where
+  pub first : map (line-seen w txt) (take (length lines) ls′) ≡ map some (output-lines 0 lines)
+  pub after : drop (length lines) ls′ ≡ drop (length lines) ls
+
+-- By document 01's answer: listed, the lines are shown; refused, no line has changed.
+abbrev pub ShownAs : (ask : Ask) (txt : List ℕ) (ls ls′ : List Line) → C.Completed (L.Item (asked ask)) → Type 0
+ShownAs ask txt ls ls′ (C.listed lines entered) = Shown (asked ask) txt ls ls′ lines
+ShownAs ask txt ls ls′ (C.refused n) = ls′ ≡ ls
+
+module _ (ws txt : List ℕ) (t : Table) (ask : Ask) (query : Str) (budget : ℕ) where
+  -- Document 01's answer; b says whether the memory is sound.
+  abbrev pub answer : (b : Bool) → Output → C.Completed (L.Item (asked ask))
+  answer b out = completion b (table-in ws txt t) ask budget out query
+
+  -- The completion into flat words, lent for at most so many lines.
+  pub record FlatCompletes (room : ℕ) (flat flat′ out out′ : List ℕ) (r : Completed) : Type 0 where
+    pub says : (b : Bool) → Says b (IsSound ws txt t) → T.CompletesAs ask txt flat flat′ out out′ r (answer b (output room flat out))
+    pub fit : lines-in r ≤ room
+    pub lent : lines-in r * 12 ≤ length flat
+
+  -- The completion into line structs: as into flat words (table's CompletesAs), and the lines are shown.
+  pub record Completes (ls ls′ : List Line) (flat flat′ out out′ : List ℕ) (r : Completed) : Type 0 where
+    pub says : (b : Bool) → Says b (IsSound ws txt t) → T.CompletesAs ask txt flat flat′ out out′ r (answer b (output (length ls) flat out))
+    pub shows : (b : Bool) → Says b (IsSound ws txt t) → ShownAs ask txt ls ls′ (answer b (output (length ls) flat out))

@@ -1,0 +1,176 @@
+// The typed completion: a line is a struct, and lines go into a lent slice of these.
+// `store_line`, `store_lines` and `complete` are proved by hand; what they call is covered.
+use lines::Ask;
+use memory::ModSymbol;
+use memory::Span;
+use table::Completed;
+use table::Refusal;
+use table::Table;
+ghost use mathlib.Core.Path.{_≡_};
+ghost use Prim.Native.Nat.{_+_, _*_, _/_, _≤_, _<_, min};
+ghost use lib.ListN.{length, set};
+ghost use Rattle.memory.specs.Layout.{record-at};
+ghost use Rattle.typed.specs.Lines.{length-in, item-in, line-in, line-at, stored-lines, lines-in};
+ghost use Rattle.typed.specs.Completions.{FlatCompletes, Completes};
+
+// The item of a line: of names its number, of modules and namespaces the mod symbol.
+pub enum Item {
+    Name(u32),
+    Symbol(ModSymbol),
+}
+
+// A line record. Its spans are in the output text.
+pub struct Line {
+    pub match_length: i32,
+    pub item: Item,
+    pub candidate: Span,
+    pub annotation: Span,
+}
+
+// The match length that word 0 of a line holds. A completion never writes one over 2147483647.
+fn match_length(w: u32) -> i32
+    ensures { λ r. ⌜ r ≡ length-in w ⌝ }
+{
+    if w == 4294967295 {
+        return -1;
+    }
+    if 2147483647 < w {
+        return 2147483647;
+    }
+    w as i32
+}
+
+// The item in the first twelve words.
+fn item_in(row: &[u32], ask: Ask) -> Item
+    requires { ⌜ 12 ≤ length (now row) ⌝ }
+    ensures { λ r. ⌜ r ≡ item-in ask (record-at (now (row .entry)) 1) ⌝ }
+{
+    match ask {
+        Ask::Names => Item::Name(memory::word_of(row, 1, 5)),
+        Ask::Modules(f) => Item::Symbol(memory::symbol_of(row, 1)),
+    }
+}
+
+// The line in the first twelve words.
+fn line_in(row: &[u32], ask: Ask) -> Line
+    requires { ⌜ 12 ≤ length (now row) ⌝ }
+    ensures { λ r. ⌜ r ≡ line-in ask (record-at (now (row .entry)) 1) ⌝ }
+{
+    let long = match_length(memory::word_of(row, 1, 0));
+    let item = item_in(row, ask);
+    let candidate = Span {
+        start: memory::word_of(row, 1, 1),
+        len: memory::word_of(row, 1, 2),
+    };
+    let annotation = Span {
+        start: memory::word_of(row, 1, 3),
+        len: memory::word_of(row, 1, 4),
+    };
+    Line {
+        match_length: long,
+        item: item,
+        candidate: candidate,
+        annotation: annotation,
+    }
+}
+
+// Line `k` of the flat words.
+pub fn line_at(flat: &[u32], k: usize, ask: Ask) -> Line
+    requires { ⌜ k * 12 + 12 ≤ length (now flat) ⌝ }
+    ensures { λ r. ⌜ r ≡ line-at ask (now (flat .entry)) k ⌝ }
+{
+    let at = k * 12;
+    line_in(&flat[at..], ask)
+}
+
+// Stores one line.
+pub fn store_line(lines: &mut [Line], at: usize, line: Line)
+    requires { ⌜ at < length (now lines) ⌝ }
+    ensures { λ _. ⌜ now (lines .exit) ≡ set (now (lines .entry)) at line ⌝ }
+{
+    lines[at] = line;
+}
+
+// Stores the first `n` lines of the flat words.
+pub fn store_lines(lines: &mut [Line], flat: &[u32], n: usize, ask: Ask)
+    requires { ⌜ (n ≤ length (now lines)) × (n * 12 ≤ length (now flat)) ⌝ }
+    ensures { λ _. ⌜ now (lines .exit) ≡ stored-lines (line-at ask (now (flat .entry))) (now (lines .entry)) n ⌝ }
+{
+    let mut i = 0;
+    while i < n {
+        let line = line_at(flat, i, ask);
+        store_line(lines, i, line);
+        i += 1;
+    }
+}
+
+// How many lines an answer lists, none of a refusal.
+fn lines_in(r: Completed) -> usize
+    ensures { λ n. ⌜ n ≡ lines-in r ⌝ }
+{
+    match r {
+        Completed::Listed(lines, entered) => lines as usize,
+        Completed::Refused(x) => 0,
+    }
+}
+
+// How many of `flat` words are lent for at most `room` lines.
+fn words_for(flat: usize, room: usize) -> usize
+    ensures { λ r. ⌜ r ≡ min (flat / 12) room * 12 ⌝ }
+{
+    if flat / 12 <= room {
+        return flat / 12 * 12;
+    }
+    room * 12
+}
+
+// Completion into flat words, lent for at most `room` lines.
+fn complete_flat(
+    table: Table,
+    words: &[u32],
+    text: &[u8],
+    ask: Ask,
+    query: &[u8],
+    budget: u32,
+    room: usize,
+    flat: &mut [u32],
+    out: &mut [u8],
+) -> Completed
+    ensures { λ r. ⌜ FlatCompletes (now (words .entry)) (now (text .entry)) table ask (now (query .entry)) budget room (now (flat .entry)) (now (flat .exit)) (now (out .entry)) (now (out .exit)) r ⌝ }
+{
+    if table.is_sound(words, text) {
+        let lent = words_for(flat.len(), room);
+        return table.complete_sound(words, text, ask, query, budget, &mut flat[..lent], out);
+    }
+    Completed::Refused(Refusal::Unsound)
+}
+
+// Completion into a lent slice of lines, their texts into `out`. The flat words are lent for the work, twelve to a line.
+pub fn complete(
+    table: Table,
+    words: &[u32],
+    text: &[u8],
+    ask: Ask,
+    query: &[u8],
+    budget: u32,
+    lines: &mut [Line],
+    flat: &mut [u32],
+    out: &mut [u8],
+) -> Completed
+    ensures { λ r. ⌜ Completes (now (words .entry)) (now (text .entry)) table ask (now (query .entry)) budget (now (lines .entry)) (now (lines .exit)) (now (flat .entry)) (now (flat .exit)) (now (out .entry)) (now (out .exit)) r ⌝ }
+{
+    let r = complete_flat(
+        table,
+        words,
+        text,
+        ask,
+        query,
+        budget,
+        lines.len(),
+        flat,
+        out,
+    );
+    let n = lines_in(r);
+    store_lines(lines, flat, n, ask);
+    r
+}
