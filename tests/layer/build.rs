@@ -1,0 +1,9 @@
+// Links the product's static library.
+use std::path::Path;
+
+fn main() {
+    let library = Path::new("../../target/staticlib").canonicalize().expect("run 'rt staticlib screen' first");
+    println!("cargo:rustc-link-search=native={}", library.display());
+    println!("cargo:rustc-link-lib=static=screen");
+    println!("cargo:rerun-if-changed={}/libscreen.a", library.display());
+}

@@ -1,0 +1,194 @@
+//! The C layer's calls, from the static library that `rt staticlib screen` writes. tests/prompt holds include/name_console.h to the crate;
+//! nothing checks these declarations against it: keep them few.
+use model::layout::{Header, Memory};
+use model::model::{CompletionResult, Filter, ModSymbol, Registration, Str};
+
+#[repr(C)]
+struct NameReply {
+    answer: u32,
+    item: u32,
+}
+
+#[repr(C)]
+struct ModuleReply {
+    answer: u32,
+    sort: u32,
+    name: [u32; 2],
+    path: [u32; 2],
+    loaded: u32,
+}
+
+#[repr(C)]
+struct CompleteReply {
+    answer: u32,
+    lines: u32,
+    entered: u32,
+}
+
+type Out = *mut u8;
+type In = *const u8;
+
+#[rustfmt::skip]
+extern "C" {
+    fn name_console_insert(state: Out, n: usize, words: Out, m: usize, text: Out, k: usize, host: In, a: usize, id: In, b: usize, item: u32) -> u32;
+    fn name_console_include(state: Out, n: usize, words: Out, m: usize, text: Out, k: usize, host: In, a: usize, query: In, b: usize) -> u32;
+    fn name_console_open(state: Out, n: usize, words: Out, m: usize, text: Out, k: usize, flag: u32, host: In, a: usize, query: In, b: usize) -> u32;
+    fn name_console_alias(state: Out, n: usize, words: Out, m: usize, text: Out, k: usize, key: In, a: usize, host: In, b: usize, query: In, c: usize) -> u32;
+    fn name_console_module(state: Out, n: usize, words: Out, m: usize, text: Out, k: usize, loaded: u32, query: In, a: usize, path: In, b: usize) -> u32;
+    fn name_console_find(state: In, n: usize, words: In, m: usize, text: In, k: usize, query: In, a: usize) -> NameReply;
+    fn name_console_find_module(state: In, n: usize, words: In, m: usize, text: In, k: usize, query: In, a: usize) -> ModuleReply;
+    fn name_console_complete(state: In, n: usize, words: In, m: usize, text: In, k: usize, query: In, a: usize, budget: u32,
+        lines: Out, l: usize, out: Out, o: usize) -> CompleteReply;
+    fn name_console_complete_modules(state: In, n: usize, words: In, m: usize, text: In, k: usize, filter: u32, query: In, a: usize, budget: u32,
+        lines: Out, l: usize, out: Out, o: usize) -> CompleteReply;
+}
+
+/// A table as bytes.
+#[derive(Clone, PartialEq)]
+pub struct Bytes {
+    pub state: Vec<u8>,
+    pub words: Vec<u8>,
+    pub text: Vec<u8>,
+}
+
+fn bytes(words: &[u32]) -> Vec<u8> {
+    words.iter().flat_map(|w| w.to_le_bytes()).collect()
+}
+
+fn words(bytes: &[u8]) -> Vec<u32> {
+    bytes.chunks_exact(4).map(|b| u32::from_le_bytes(b.try_into().unwrap())).collect()
+}
+
+impl Bytes {
+    pub fn of(m: &Memory) -> Bytes {
+        let h = m.header;
+        Bytes { state: bytes(&[h.names, h.modules, h.records, h.text]), words: bytes(&m.words), text: m.text.clone() }
+    }
+
+    /// What the layer counts as lent: whole records, at most 1,024. None where the state is no state.
+    pub fn memory(&self) -> Option<Memory> {
+        let h: [u32; 4] = words(&self.state).try_into().ok().filter(|_| self.state.len() == 16)?;
+        let records = (self.words.len() / 48).min(1024);
+        let header = Header { names: h[0], modules: h[1], records: h[2], text: h[3] };
+        Some(Memory { words: words(&self.words[..records * 48]), text: self.text.clone(), header })
+    }
+}
+
+/// The number that stands for a yes or no; `odd` puts another one in its place.
+fn flag(yes: bool, odd: Option<u32>) -> u32 {
+    odd.unwrap_or(yes as u32)
+}
+
+/// A registration; `odd` in the place of a flag, where the call has one.
+pub fn register(t: &mut Bytes, call: &Registration, odd: Option<u32>) -> u32 {
+    let (s, n, w, m, x, k) = (t.state.as_mut_ptr(), t.state.len(), t.words.as_mut_ptr(), t.words.len(), t.text.as_mut_ptr(), t.text.len());
+    #[rustfmt::skip]
+    let answer = unsafe {
+        match call {
+            Registration::Name { host, id, item } => name_console_insert(s, n, w, m, x, k, host.as_ptr(), host.len(), id.as_ptr(), id.len(), *item),
+            Registration::Include { host, included: q } => name_console_include(s, n, w, m, x, k, host.as_ptr(), host.len(), q.as_ptr(), q.len()),
+            Registration::Open { module, host, included: q } =>
+                name_console_open(s, n, w, m, x, k, flag(*module, odd), host.as_ptr(), host.len(), q.as_ptr(), q.len()),
+            Registration::Alias { key, host, included: q } =>
+                name_console_alias(s, n, w, m, x, k, key.as_ptr(), key.len(), host.as_ptr(), host.len(), q.as_ptr(), q.len()),
+            Registration::Module { loaded, query: q, path } =>
+                name_console_module(s, n, w, m, x, k, flag(*loaded, odd), q.as_ptr(), q.len(), path.as_ptr(), path.len()),
+        }
+    };
+    answer
+}
+
+pub fn find(t: &Bytes, q: &[u8]) -> Result<Option<u32>, u32> {
+    #[rustfmt::skip]
+    let r = unsafe {
+        name_console_find(t.state.as_ptr(), t.state.len(), t.words.as_ptr(), t.words.len(), t.text.as_ptr(), t.text.len(), q.as_ptr(), q.len())
+    };
+    match r.answer {
+        0 => Ok(Some(r.item)),
+        11 => Ok(None),
+        n => Err(n),
+    }
+}
+
+fn part(text: &[u8], span: [u32; 2]) -> Str {
+    Str::from(&text[span[0] as usize..(span[0] + span[1]) as usize])
+}
+
+fn symbol(text: &[u8], sort: u32, name: [u32; 2], path: [u32; 2], loaded: u32) -> ModSymbol {
+    match sort {
+        0 => ModSymbol::Module { mod_name: part(text, name), mod_path: part(text, path), mod_loaded: loaded == 1 },
+        _ => ModSymbol::Namespace { ns_name: part(text, name), ns_loaded: loaded == 1 },
+    }
+}
+
+pub fn find_module(t: &Bytes, q: &[u8]) -> Result<Option<ModSymbol>, u32> {
+    #[rustfmt::skip]
+    let r = unsafe {
+        name_console_find_module(t.state.as_ptr(), t.state.len(), t.words.as_ptr(), t.words.len(), t.text.as_ptr(), t.text.len(), q.as_ptr(), q.len())
+    };
+    match r.answer {
+        0 => Ok(Some(symbol(&t.text, r.sort, r.name, r.path, r.loaded))),
+        11 => Ok(None),
+        n => Err(n),
+    }
+}
+
+/// The output lent: lines as bytes, 48 to a line, and text.
+#[derive(Clone, PartialEq)]
+pub struct Output {
+    pub lines: Vec<u8>,
+    pub text: Vec<u8>,
+}
+
+/// A completion of names, or of modules under the number of a filter.
+pub fn complete(t: &Bytes, modules: Option<u32>, q: &[u8], budget: u32, out: &mut Output) -> Result<(u32, u32), u32> {
+    let (l, ln, o, on) = (out.lines.as_mut_ptr(), out.lines.len(), out.text.as_mut_ptr(), out.text.len());
+    let (s, n, w, m, x, k) = (t.state.as_ptr(), t.state.len(), t.words.as_ptr(), t.words.len(), t.text.as_ptr(), t.text.len());
+    let r = unsafe {
+        match modules {
+            None => name_console_complete(s, n, w, m, x, k, q.as_ptr(), q.len(), budget, l, ln, o, on),
+            Some(f) => name_console_complete_modules(s, n, w, m, x, k, f, q.as_ptr(), q.len(), budget, l, ln, o, on),
+        }
+    };
+    match r.answer {
+        0 => Ok((r.lines, r.entered)),
+        n => {
+            assert_eq!((r.lines, r.entered), (0, 0));
+            Err(n)
+        }
+    }
+}
+
+impl Output {
+    pub fn with_room(lines: usize, text: usize) -> Output {
+        Output { lines: vec![0xC3; lines * 48], text: vec![0x3C; text] }
+    }
+
+    /// The words of line `k`.
+    pub fn words(&self, k: usize) -> Vec<u32> {
+        words(&self.lines[k * 48..k * 48 + 48])
+    }
+
+    /// Line `k` of a completion of names.
+    pub fn name(&self, k: usize) -> CompletionResult<u32> {
+        let w = self.words(k);
+        CompletionResult { match_length: w[0] as i32, item: w[5], candidate: part(&self.text, [w[1], w[2]]), annotation: part(&self.text, [w[3], w[4]]) }
+    }
+
+    /// Line `k` of a completion of modules, its texts in the table's text.
+    pub fn module(&self, table: &[u8], k: usize) -> CompletionResult<ModSymbol> {
+        let w = self.words(k);
+        let item = symbol(table, w[5], [w[6], w[7]], [w[8], w[9]], w[10]);
+        CompletionResult { match_length: w[0] as i32, item, candidate: part(&self.text, [w[1], w[2]]), annotation: part(&self.text, [w[3], w[4]]) }
+    }
+}
+
+/// The number of a filter.
+pub fn number(f: Filter) -> u32 {
+    match f {
+        Filter::All => 0,
+        Filter::Loaded => 1,
+        Filter::ModulesOnly => 2,
+        Filter::NamespacesOnly => 3,
+    }
+}

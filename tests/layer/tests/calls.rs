@@ -1,0 +1,155 @@
+//! The C layer against the independent implementation: answers, tables, lines, and every byte that a call may not change.
+use layer::{complete, find, find_module, number, register, Bytes, Output};
+use model::gen::{completion_query, damaged_query, damaged_registration, damages, full_name, registered_memory, registration, Rng, MIXES};
+use model::layout::{decode, same_table};
+use model::model::{self as independent, autocomplete_lid, autocomplete_mod_or_ns, CompletionResult, Filter, Refusal, Registration, Table};
+
+const FILTERS: [Filter; 4] = [Filter::All, Filter::Loaded, Filter::ModulesOnly, Filter::NamespacesOnly];
+
+/// The table that the bytes are, or Unsound.
+fn table(t: &Bytes) -> Result<Table, Refusal> {
+    t.memory().ok_or(Refusal::Unsound).and_then(|m| m.table())
+}
+
+/// What a registration must answer and leave. Counts answers by number.
+fn hold(t: &mut Bytes, call: &Registration, odd: Option<u32>, answers: &mut [u64; 9]) {
+    let before = t.clone();
+    let flagged = matches!(call, Registration::Open { .. } | Registration::Module { .. });
+    let expected = table(&before).and_then(|old| match odd {
+        Some(_) if flagged => Err(Refusal::Malformed),
+        _ => independent::register(&old, before.memory().unwrap().lent(), call),
+    });
+    let answer = register(t, call, odd);
+    answers[answer as usize] += 1;
+    match expected {
+        Err(refusal) => {
+            assert_eq!(answer, refusal.number(), "{call:?}");
+            assert!(*t == before, "a refused call changed something: {call:?}");
+        }
+        Ok(new) => {
+            assert_eq!(answer, 0, "{call:?}");
+            let (old, now) = (before.memory().unwrap(), t.memory().unwrap());
+            assert!(now.is_sound() && same_table(&decode(&now), &new), "another table: {call:?}");
+            assert_eq!((now.header.records, now.header.text), (new.records, new.text));
+            let (r, s) = (old.header.records as usize * 48, now.header.records as usize * 48);
+            assert!(t.words[..r] == before.words[..r] && t.words[s..] == before.words[s..]);
+            let (r, s) = (old.header.text as usize, now.header.text as usize);
+            assert!(t.text[..r] == before.text[..r] && t.text[s..] == before.text[s..]);
+        }
+    }
+}
+
+#[test]
+fn registrations_and_look_ups() {
+    let mut rng = Rng::new(Rng::seed_or(8));
+    let mut answers = [0; 9];
+    for round in 0..30 {
+        let mut t = Bytes::of(&registered_memory(&mut rng, 0, [40, 300, 1100][round % 3], [60, 700, 4000][round % 3]));
+        // Bytes that are no whole record.
+        t.words.extend((0..rng.below(48)).map(|i| i as u8));
+        let mix = *rng.pick(&MIXES);
+        for _ in 0..100 {
+            let call = if rng.one_in(6) { damaged_registration(&mut rng, &mix) } else { registration(&mut rng, &mix) };
+            let odd = rng.one_in(10).then(|| 2 + rng.word() % 0xFFFF_FFFE);
+            hold(&mut t, &call, odd, &mut answers);
+        }
+        let now = table(&t).expect("sound");
+        for _ in 0..100 {
+            let query = if rng.one_in(5) { damaged_query(&mut rng) } else { full_name(&mut rng) };
+            assert_eq!(find(&t, &query), independent::find(&now.names, &query).map_err(|r| r.number()), "{query:?}");
+            assert_eq!(find_module(&t, &query), independent::find(&now.modules, &query).map_err(|r| r.number()), "{query:?}");
+        }
+    }
+    println!("registrations by answer (0 accepted): {answers:?}; 6000 look-ups; 0 disagreements");
+    assert!([0, 2, 3, 4, 7, 8].iter().all(|&n| 0 < answers[n]), "{answers:?}");
+}
+
+/// What a completion must answer and leave.
+fn listed<A: PartialEq + std::fmt::Debug>(
+    t: &Bytes,
+    filter: Option<u32>,
+    query: &[u8],
+    budget: u32,
+    room: (usize, usize),
+    expected: Result<(Vec<CompletionResult<A>>, u32), Refusal>,
+    line: impl Fn(&Output, usize) -> CompletionResult<A>,
+    answers: &mut [u64; 11],
+) {
+    let mut out = Output::with_room(room.0, room.1);
+    let before = out.clone();
+    let answer = complete(t, filter, query, budget, &mut out);
+    let size = |l: &[CompletionResult<A>]| l.iter().map(|r| r.candidate.len() + r.annotation.len()).sum::<usize>();
+    let fits = |l: &[CompletionResult<A>]| l.len() <= room.0.min(512) && size(l) <= room.1;
+    let expected = expected.and_then(|(l, e)| if fits(&l) { Ok((l, e)) } else { Err(Refusal::Lines) });
+    match expected {
+        Err(r) => {
+            answers[r.number() as usize] += 1;
+            assert_eq!(answer, Err(r.number()), "{filter:?} {query:?}");
+            assert!(out == before);
+        }
+        Ok((lines, entered)) => {
+            answers[0] += 1;
+            assert_eq!(answer, Ok((lines.len() as u32, entered)), "{filter:?} {query:?}");
+            for (k, l) in lines.iter().enumerate() {
+                assert_eq!(&line(&out, k), l, "{filter:?} {query:?}");
+            }
+            assert!(out.lines[lines.len() * 48..] == before.lines[lines.len() * 48..]);
+            let used = size(&lines);
+            assert!(out.text[used..] == before.text[used..]);
+        }
+    }
+}
+
+fn complete_all(rng: &mut Rng, t: &Bytes, query: &[u8], answers: &mut [u64; 11]) {
+    let now = table(t);
+    let budget = if rng.one_in(3) { rng.below(12) as u32 } else { rng.word() };
+    let room = (rng.below(30) * rng.below(30), rng.below(60) * rng.below(60));
+    let names = now.as_ref().map_err(|&r| r).and_then(|n| autocomplete_lid(n, query, budget));
+    listed(t, None, query, budget, room, names, |o, k| o.name(k), answers);
+    for f in FILTERS {
+        let modules = now.as_ref().map_err(|&r| r).and_then(|n| autocomplete_mod_or_ns(n, query, f, budget));
+        listed(t, Some(number(f)), query, budget, room, modules, |o, k| o.module(&t.text, k), answers);
+    }
+    let odd = Err(now.map_or(Refusal::Unsound, |_| Refusal::Malformed));
+    listed(t, Some(4 + rng.word() % 0xFFFF_FFFC), query, budget, room, odd, |o, k| o.name(k), answers);
+}
+
+#[test]
+fn completions() {
+    let mut rng = Rng::new(Rng::seed_or(9));
+    let mut answers = [0; 11];
+    for round in 0..30 {
+        let t = Bytes::of(&registered_memory(&mut rng, [10, 40, 100][round % 3], 1000, 8000));
+        for _ in 0..20 {
+            let query = if rng.one_in(8) { damaged_query(&mut rng) } else { completion_query(&mut rng) };
+            complete_all(&mut rng, &t, &query, &mut answers);
+        }
+    }
+    println!("completions by answer (0 listed): {answers:?}; 0 disagreements");
+    assert!([0, 2, 4, 9, 10].iter().all(|&n| 0 < answers[n]), "{answers:?}");
+}
+
+#[test]
+fn damaged_bytes() {
+    let mut rng = Rng::new(Rng::seed_or(10));
+    let (mut registered, mut listed) = ([0; 9], [0; 11]);
+    for _ in 0..3 {
+        let memory = registered_memory(&mut rng, 8, 120, 400);
+        let mix = *rng.pick(&MIXES);
+        for damage in damages(&mut rng, &memory) {
+            if rng.one_in(20) {
+                let mut m = memory.clone();
+                damage.apply(&mut m);
+                let mut t = Bytes::of(&m);
+                if rng.one_in(10) {
+                    t.state.resize(rng.below(40), 0);
+                }
+                let query = completion_query(&mut rng);
+                complete_all(&mut rng, &t, &query, &mut listed);
+                hold(&mut t, &registration(&mut rng, &mix), None, &mut registered);
+            }
+        }
+    }
+    println!("on damaged bytes, by answer (1 Unsound): registrations {registered:?}, completions {listed:?}; 0 disagreements");
+    assert!(0 < registered[0] && 0 < registered[1] && 0 < listed[0] && 0 < listed[1]);
+}
