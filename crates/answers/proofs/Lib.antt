@@ -1,0 +1,5 @@
+pub mod Registering
+pub mod Rows
+pub mod Standing
+pub mod Completing
+pub mod Answering
