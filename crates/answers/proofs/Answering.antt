@@ -1,12 +1,10 @@
 -- The answer to a line is that of its command.
 use Prim.Native.Nat.{ℕ, _*_}
-use native.Mathlib.Omega.{arith}
-use mathlib.Core.Path.{_≡_, refl, subst}
+use mathlib.Core.Path.{_≡_, refl, ap, _∙_}
 use mathlib.Core.Bool.{Bool}
 use mathlib.Core.List.{List}
-use Rattle.source.specs.Calls.{Output}
+use Rattle.source.specs.Calls.{State, Output}
 use Rattle.text.specs.Laid.{Laid}
-use Rattle.text.proofs.Laid.{laid-length}
 use Rattle.script.specs.Script.{Str, Command, name, import, alias, module-path, ask, Reads}
 use Rattle.script.specs.declared.Import.{Import}
 use Rattle.script.specs.declared.Ask.{Ask}
@@ -35,14 +33,23 @@ module _ {line : Str} where
   pub ask-reads : {what : Ask} {q q′ : Str} → q ≡ q′ → Reads line (ask what q′) → Reads line (ask what q)
   ask-reads p r = rw p r
 
+-- What an outcome is, by its parts.
+same-outcome : {text : Str} {after : State} (o : Outcome) → text ≡ o .text → after ≡ o .after → record { text = text; after = after } ≡ o
+same-outcome o p q = rw (p, q) refl
+
 module _ {ws txt ws′ txt′ reply reply′ : List ℕ} {t : Table} {line : Str} {at : ℕ} {r : Done} (out : Output) where
   pub answered-by : {c : Command} → Reads line c → Leaves ws txt ws′ txt′ t reply reply′ at (outcome (lent ws txt) out (state ws txt t) c) r
       → Answered ws txt ws′ txt′ t line out reply reply′ at r
   answered-by {c} h l = record {
+    text = outcome (lent ws txt) out (state ws txt t) c .text;
+    replied = record {
+      says = λ d k. same-outcome (outcome (lent ws txt) out (state ws txt t) c) refl (l .reads) ∙ ap (outcome (lent ws txt) out (state ws txt t)) (reads-once line c d h k);
+      bad = λ n. absurd (n c h);
+    };
+    laid = l .laid;
     sound = l .sound;
-    says = λ d k. subst (λ (x : Command). Leaves ws txt ws′ txt′ t reply reply′ at (outcome (lent ws txt) out (state ws txt t) x) r) (reads-once line c d h k) l;
-    bad = λ n. absurd (n c h);
-    end-fits = omega (arith, l .laid .fits, laid-length (l .laid));
+    words = l .words;
+    texts = l .texts;
   }
 
 -- Nothing has changed but the reply.
@@ -57,8 +64,10 @@ module _ {ws txt reply reply′ : List ℕ} {t : Table} {line : Str} {at e : ℕ
 
   pub answered-bad : ((c : Command) → Reads line c → ⊥) → Laid reply reply′ at e bad-reply → Answered ws txt ws txt t line out reply reply′ at (record { table = t; end = e })
   answered-bad n l = record {
+    text = bad-reply;
+    replied = record { says = λ c h. absurd (n c h); bad = λ _. refl };
+    laid = l;
     sound = sound;
-    says = λ c h. absurd (n c h);
-    bad = λ _. leaves-same bad-reply sound l;
-    end-fits = omega (arith, l .fits, laid-length l);
+    words = outside-none (t .records * 12) ws;
+    texts = outside-none (t .text) txt;
   }

@@ -3,3 +3,4 @@ pub mod Rows
 pub mod Standing
 pub mod Completing
 pub mod Answering
+pub mod Talking

@@ -1,5 +1,6 @@
 -- What the program `console` replies to a line and what table it leaves, from the source's functions and document 01's replies.
 use Prim.Native.Nat.{ℕ}
+use mathlib.Core.Path.{_≡_}
 use mathlib.Core.Bool.{true, false}
 use mathlib.Core.List.{List, [], _∷_}
 use lib.ListN.{length}
@@ -8,7 +9,7 @@ use Rattle.source.specs.Table.{Line}
 use Rattle.source.specs.Calls as C
 use Rattle.source.specs.Calls.{State, Lent, Output, Call, register, look-up, complete, complete-modules}
 use Rattle.memory.specs.Layout.{Which, names, modules, Item}
-use Rattle.script.specs.Script.{Str, _·_, Command, name, import, alias, module-path, ask}
+use Rattle.script.specs.Script.{Str, _·_, Command, name, import, alias, module-path, ask, Reads}
 use Rattle.script.specs.declared.Import.{Import}
 use Rattle.script.specs.declared.Import.the-variants.{Include, OpenModule, OpenNamespace}
 use Rattle.script.specs.declared.Ask.{Ask}
@@ -84,3 +85,19 @@ outcome lent out s (ask what q) = record { text = asked-text out (s .table) what
 -- What a line that says none does.
 abbrev pub bad-outcome : State → Outcome
 bad-outcome s = record { text = bad-reply; after = s }
+
+-- The outcome of a line: that of the command that it says, or of none.
+pub record Replied (lent : Lent) (out : Output) (s : State) (line : Str) (o : Outcome) : Type 0 where
+  pub says : (c : Command) → Reads line c → o ≡ outcome lent out s c
+  pub bad : ((c : Command) → Reads line c → ⊥) → o ≡ bad-outcome s
+
+-- Lines one after another: their replies together, and the table after the last.
+pub data Session (lent : Lent) (out : Output) : State → List Str → Str → State → Type 0 where
+  none : {s : State} → Session lent out s [] [] s
+  then : {s s′ : State} {line : Str} {lines : List Str} {text : Str} (o : Outcome) → Replied lent out s line o → Session lent out (o .after) lines text s′
+      → Session lent out s (line ∷ lines) (o .text · text) s′
+
+-- The bytes of lines, each with its line feed.
+unfoldable pub unlines : List Str → Str
+unlines [] = []
+unlines (l ∷ ls) = l · (10 ∷ unlines ls)

@@ -26,13 +26,20 @@ ghost use Rattle.table.specs.Answers.{number, name-found};
 ghost use Rattle.table.specs.Registrations.{Answers};
 ghost use Rattle.table.specs.Completions.{completion};
 ghost use Rattle.answers.specs.Outcomes.{found-text, completed-text, import-call, asked-text};
-ghost use Rattle.answers.specs.Answers.{room, Registers, Answered, registered-text, Finished, Shown, shown-text};
+ghost use Rattle.answers.specs.Answers.{room, Registers, Answered, Talked, registered-text, Finished, Shown, shown-text};
 ghost use Rattle.answers.specs.Rows.{text-at, row-item, RowOk, row-room, row-text, RowsOk, rows-room, rows-text};
 
 // The table after a line, and where its reply ends.
 pub struct Done {
     pub table: Table,
     pub end: usize,
+}
+
+// The table after some lines of an input, where their replies end, and where the next line starts.
+pub struct Turn {
+    pub table: Table,
+    pub end: usize,
+    pub next: usize,
 }
 
 // Document 01's number of a refusal.
@@ -458,5 +465,43 @@ pub fn answer(
                 end: e,
             }
         }
+    }
+}
+
+// The answers to the lines of `input` from `from` on that end in a line feed, while there is room for a reply. The replies stand one
+// after another at the start of `reply`.
+pub fn answer_lines(
+    table: Table,
+    words: &mut [u32],
+    text: &mut [u8],
+    input: &[u8],
+    from: usize,
+    flat: &mut [u32],
+    pane: &mut [u8],
+    reply: &mut [u8],
+) -> Turn
+    requires { ⌜ IsSound (now words) (now text) table ⌝ }
+    requires { ⌜ room (now flat) (now pane) ≤ length (now reply) ⌝ }
+    requires { ⌜ from ≤ length (now input) ⌝ }
+    ensures { λ r. ⌜ Talked (now (words .entry)) (now (text .entry)) (now (words .exit)) (now (text .exit)) table (now (input .entry)) from (output (now (flat .entry)) (now (pane .entry))) (now (reply .exit)) r ⌝ }
+{
+    let size = flat.len() / 12 * 40 + pane.len() + 40;
+    let mut t = table;
+    let mut at = 0;
+    let mut i = from;
+    while size <= reply.len() - at {
+        let e = i + script::line_end(&input[i..]);
+        if e == input.len() {
+            break;
+        }
+        let d = answer(t, words, text, &input[i..e], flat, pane, reply, at);
+        t = d.table;
+        at = d.end;
+        i = e + 1;
+    }
+    Turn {
+        table: t,
+        end: at,
+        next: i,
     }
 }
