@@ -1,7 +1,8 @@
 // The program `console`: it reads a script from standard input to its end and replies line by line. Its memory is sound by proof, so
 // no call tests it. What is read and written no contract can say: `answers` says what the replies to a line and to lines are, and
 // here bytes are moved. Replies are written out before each read, so that whoever types a line sees its reply.
-ghost use Prim.Native.Nat.{_≤_, _+_};
+ghost use mathlib.Core.Path.{_≡_};
+ghost use Prim.Native.Nat.{_≤_, min};
 ghost use lib.ListN.{length};
 ghost use Rattle.table.specs.Header.{IsSound};
 ghost use Rattle.answers.specs.Answers.{room};
@@ -25,16 +26,23 @@ fn fill(input: &mut [u8], have: usize) -> usize
     have + io::count(got, &input[have..])
 }
 
+// At most 2,049.
+fn short(n: usize) -> usize
+    ensures { λ r. ⌜ r ≡ min n 2049 ⌝ }
+{
+    if n < 2049 {
+        return n;
+    }
+    2049
+}
+
 // Moves what follows `from`, of the first `have` bytes, to the start, and says how many bytes it is. Of a line that is too long
 // whatever follows, 2,049 bytes are kept.
 fn keep(input: &mut [u8], from: usize, have: usize) -> usize
     requires { ⌜ (from ≤ have) × (have ≤ length (now input)) ⌝ }
     ensures { λ r. ⌜ Kept (now (input .entry)) (now (input .exit)) from have r ⌝ }
 {
-    let mut n = have - from;
-    if 2049 < n {
-        n = 2049;
-    }
+    let n = short(have - from);
     let mut i = 0;
     while i < n {
         input[i] = input[from + i];
@@ -59,18 +67,15 @@ fn reply_all(
 {
     let mut t = table;
     let mut i = 0;
-    let mut more = true;
-    while more {
+    loop {
         let r = answers::answer_lines(t, words, text, input, i, flat, pane, reply);
         let e = r.end;
         io::write_all(STDOUT_FILENO, &reply[..e]);
-        more = i < r.next;
         t = r.table;
+        if r.next <= i {
+            return Rest { table: t, next: i };
+        }
         i = r.next;
-    }
-    Rest {
-        table: t,
-        next: i,
     }
 }
 
@@ -105,7 +110,18 @@ fn main() {
     while 0 < left {
         let n = fill(&mut input, have);
         if n == have {
-            break;
+            if 0 < have {
+                reply_last(
+                    table,
+                    &mut words,
+                    &mut text,
+                    &input[..n],
+                    &mut flat,
+                    &mut pane,
+                    &mut reply,
+                );
+            }
+            return;
         }
         let r = reply_all(
             table,
@@ -119,16 +135,5 @@ fn main() {
         table = r.table;
         have = keep(&mut input, r.next, n);
         left -= 1;
-    }
-    if 0 < have {
-        reply_last(
-            table,
-            &mut words,
-            &mut text,
-            &input[..have],
-            &mut flat,
-            &mut pane,
-            &mut reply,
-        );
     }
 }
