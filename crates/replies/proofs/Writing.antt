@@ -10,13 +10,13 @@ use lib.IntN.{ℤ, pos, negsuc, natAbs}
 use lib.Signed.{ltZ, nonNeg}
 use lib.ListN.{length, getD, take, drop, set, length-append, length-drop, take-append-drop}
 use lib.Seq.{length-take-le, take-at, drop-at, drop-drop, set-split, take-suc}
-use borrow.Author.Tests.{ltb-true, ltb-false, lt-ltb, le-ltb}
+use borrow.Author.Tests.{ltb-true, ltb-false, lt-ltb, le-ltb, eq-eqb, ne-eqb}
 use mir.Syntax.{w32}
 use mir.Val.{Fits, SFits, toZ, ofZ}
 use mir.ValLaws.{toZ-ofZ}
 use Rattle.replies.specs.declared.Item.{Item}
 use Rattle.script.specs.Script.{Str, _·_, bytes}
-use Rattle.replies.specs.Replies.{digits, decimal, signed, Length, item-text, line-reply}
+use Rattle.replies.specs.Replies.{digits, decimal, signed, Length, length-in, item-text, line-reply}
 
 -- ---- Numbers in decimal
 
@@ -102,3 +102,16 @@ module _ (z : ℤ) (f : SFits w32 z) where
 pub line-joined : (l : ℤ) (item : Item) (annotation candidate : Str) → (bytes "[line " · signed l · bytes " " · item-text item) · bytes " [" · annotation · bytes "] " · candidate · bytes "]\n" ≡ line-reply l item annotation candidate
 unfolding bytes line-reply
 line-joined l item annotation candidate = simp append-assoc
+
+-- A length that is a word.
+pub word-minus : (m : ℕ) → m ≡ 4294967295 → signed (length-in m) ≡ 45 ∷ 49 ∷ []
+unfolding length-in signed decimal digits bytes
+word-minus m h = rw (eq-eqb m 4294967295 h, signed) refl
+
+pub word-plus : (m : ℕ) → (m ≡ 4294967295 → ⊥) → signed (length-in m) ≡ decimal m
+unfolding length-in signed
+word-plus m h = rw (ne-eqb m 4294967295 h, signed) refl
+
+pub row-size : (annotation candidate : Str) → length (annotation · bytes "] " · candidate · bytes "]\n") ≡ length annotation + length candidate + 4
+unfolding bytes
+row-size annotation candidate = simp length-append (omega arith)

@@ -3,7 +3,7 @@ use mathlib.Core.Path.{_≡_}
 use mathlib.Core.Bool.{true, false}
 use mathlib.Core.List.{[], _∷_, _++_}
 use Prim.Native.Nat.{ℕ, zero, suc, _+_, _/_, _%_}
-use lib.Dec.{ltb}
+use lib.Dec.{eqb, ltb}
 use lib.IntN.{ℤ, pos, negsuc}
 use Rattle.replies.specs.declared.Item.{Item}
 use Rattle.replies.specs.declared.Item.the-variants.{Number, Module, Namespace}
@@ -29,6 +29,10 @@ signed (negsuc n) = bytes "-" · decimal (suc n)
 abbrev pub Length : ℤ → Type 0
 Length (pos n) = Unit {0}
 Length (negsuc n) = n ≡ 0
+
+-- The match length that a word holds in two's complement, of -1 and up.
+unfoldable pub length-in : ℕ → ℤ
+length-in m = elim (eqb m 4294967295) [ true ↦ negsuc 0 | false ↦ pos m ]
 
 -- ---- Replies
 

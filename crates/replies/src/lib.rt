@@ -4,7 +4,7 @@ ghost use Prim.Native.Nat.{_+_, _≤_};
 ghost use lib.ListN.{length};
 ghost use Rattle.text.specs.Laid.{Laid};
 ghost use Rattle.script.specs.Script.{bytes, _·_};
-ghost use Rattle.replies.specs.Replies.{decimal, signed, Length, item-text, ok-reply, found-reply, none-reply, refused-reply, bad-reply, line-reply, end-reply, reply-room};
+ghost use Rattle.replies.specs.Replies.{decimal, signed, Length, length-in, item-text, ok-reply, found-reply, none-reply, refused-reply, bad-reply, line-reply, end-reply, reply-room};
 
 // The item of a line: its number in `complete`, module or namespace in `modules`.
 pub enum Item {
@@ -155,6 +155,45 @@ pub fn put_line(
     ensures { λ r. ⌜ Laid (now (out .entry)) (now (out .exit)) at r (line-reply len item (now (annotation .entry)) (now (candidate .entry))) ⌝ }
 {
     let a = put_numbers(out, at, len, item);
+    let b = put(out, a, b" [");
+    put_texts(out, b, annotation, candidate)
+}
+
+// Writes a match length that is a word: 4294967295 for -1.
+fn put_word(out: &mut [u8], at: usize, word: u32) -> usize
+    requires { ⌜ at + 10 ≤ length (now out) ⌝ }
+    ensures { λ r. ⌜ Laid (now (out .entry)) (now (out .exit)) at r (signed (length-in word)) × (r ≤ at + 10) ⌝ }
+{
+    if word == 4294967295 {
+        return put(out, at, b"-1");
+    }
+    put_number(out, at, word)
+}
+
+// Writes a line's numbers, its length as a word.
+fn put_words(out: &mut [u8], at: usize, word: u32, item: Item) -> usize
+    requires { ⌜ at + 27 ≤ length (now out) ⌝ }
+    ensures { λ r. ⌜ Laid (now (out .entry)) (now (out .exit)) at r (bytes "[line " · signed (length-in word) · bytes " " · item-text item) × (r ≤ at + 27) ⌝ }
+{
+    let a = put(out, at, b"[line ");
+    let b = put_word(out, a, word);
+    let c = put(out, b, b" ");
+    put_item(out, c, item)
+}
+
+// `[line L I [annotation] candidate]`, where L is a word: 4294967295 for -1.
+pub fn put_row(
+    out: &mut [u8],
+    at: usize,
+    word: u32,
+    item: Item,
+    annotation: &[u8],
+    candidate: &[u8],
+) -> usize
+    requires { ⌜ at + reply-room + length (now annotation) + length (now candidate) ≤ length (now out) ⌝ }
+    ensures { λ r. ⌜ Laid (now (out .entry)) (now (out .exit)) at r (line-reply (length-in word) item (now (annotation .entry)) (now (candidate .entry))) × (r ≤ at + reply-room + length (now (annotation .entry)) + length (now (candidate .entry))) ⌝ }
+{
+    let a = put_words(out, at, word, item);
     let b = put(out, a, b" [");
     put_texts(out, b, annotation, candidate)
 }

@@ -1,0 +1,63 @@
+-- Bytes that are moved, and what holds from one turn to the next.
+use Prim.Native.Nat.{ℕ, suc, _+_, _-_, _<_, _≤_, min}
+use native.Mathlib.Omega.{arith}
+use native.Mathlib.Numerals.{add-one}
+use mathlib.Core.Path.{_≡_, refl, sym, ap, ap₂, _∙_}
+use mathlib.Core.List.{List, [], _∷_, _++_}
+use lib.ListN.{length, getD, take, drop, set, length-set, length-drop}
+use lib.Seq.{length-take-le, take-suc, take-suc-set, drop-set-lt, drop-drop, getD-drop}
+use Rattle.text.specs.Laid.{Laid}
+use Rattle.text.proofs.Laid.{laid-length}
+use Rattle.table.specs.Header.{IsSound}
+use Rattle.table.specs.declared.Table.{Table}
+use Rattle.console.specs.Moves.{Holds}
+
+pub laid-fits : {d d′ s : List ℕ} {at r : ℕ} → Laid d d′ at r s → r ≤ length d′
+laid-fits x = omega (arith, x .fits, laid-length x)
+
+-- The first i bytes are moved.
+pub record Moved (input₀ input : List ℕ) (from i : ℕ) : Type 0 where
+  pub size : length input ≡ length input₀
+  pub done : take i input ≡ take i (drop from input₀)
+  pub left : drop i input ≡ drop i input₀
+
+pub moved-start : (input : List ℕ) (from : ℕ) → Moved input input from 0
+moved-start input from = record { size = refl; done = refl; left = refl }
+
+module _ {input₀ input : List ℕ} {from i : ℕ} (m : Moved input₀ input from i) (h : from + i < length input₀) where
+  byte-is : getD input (from + i) 0 ≡ getD (drop from input₀) i 0
+  byte-is =
+      let e : from + i ≡ i + from = omega arith in
+      ap (λ (k : ℕ). getD input k 0) e
+      ∙ sym (getD-drop i input from 0)
+      ∙ ap (λ (l : List ℕ). getD l from 0) (m .left)
+      ∙ getD-drop i input₀ from 0
+      ∙ ap (λ (k : ℕ). getD input₀ k 0) (sym e)
+      ∙ sym (getD-drop from input₀ i 0)
+
+  pub moved-on : Moved input₀ (set input i (getD input (from + i) 0)) from (i + 1)
+  moved-on =
+      let l : i < length input = omega (arith, m .size) in
+      let k : i < length (drop from input₀) = omega (arith, length-drop from input₀) in
+      record {
+        size = length-set input i (getD input (from + i) 0) ∙ m .size;
+        done = rw (add-one i) (take-suc-set input i (getD input (from + i) 0) l
+            ∙ ap₂ (λ (s : List ℕ) (b : ℕ). s ++ (b ∷ [])) (m .done) byte-is
+            ∙ sym (take-suc (drop from input₀) i 0 k));
+        left = drop-set-lt (i + 1) input i (getD input (from + i) 0) (omega arith)
+            ∙ sym (drop-drop 1 i input) ∙ ap (drop 1) (m .left) ∙ drop-drop 1 i input₀;
+      }
+
+-- What holds before each turn over an input.
+pub record Steady (words₀ text₀ input flat₀ pane₀ reply₀ words text flat pane reply : List ℕ) (t : Table) (i : ℕ) : Type 0 where
+  pub sound : IsSound words text t
+  pub inside : i ≤ length input
+  pub words-size : length words ≡ length words₀
+  pub text-size : length text ≡ length text₀
+  pub flat-size : length flat ≡ length flat₀
+  pub pane-size : length pane ≡ length pane₀
+  pub reply-size : length reply ≡ length reply₀
+
+-- What follows the lines that were answered lies in what was read.
+pub rest-inside : {words text : List ℕ} {t : Table} {next : ℕ} (n : ℕ) (input : List ℕ) → Holds words text t next (take n input) → n ≤ length input → (next ≤ n) × (n ≤ length input)
+rest-inside n input x h = (omega (arith, x .inside, length-take-le n input h), h)
