@@ -1,0 +1,78 @@
+//! Scripts, random and at every limit. SCRIPTS says how many random ones, SEED where they begin.
+use console::console;
+use model::gen::{limit_scripts, script, Rng};
+use model::script::run;
+
+/// Both write the same; if not, the first line that differs.
+fn agree(what: &str, input: &[u8]) {
+    let (ours, theirs) = (console(input), run(input));
+    if ours != theirs {
+        let at = ours.iter().zip(&theirs).take_while(|(a, b)| a == b).count();
+        let from = at.saturating_sub(80);
+        let part = |s: &[u8]| String::from_utf8_lossy(&s[from.min(s.len())..(at + 80).min(s.len())]).into_owned();
+        panic!("{what}: at byte {at} console has {:?}, the model {:?}", part(&ours), part(&theirs));
+    }
+}
+
+#[test]
+fn random_scripts() {
+    let mut rng = Rng::new(Rng::seed_or(12));
+    let count = std::env::var("SCRIPTS").ok().and_then(|n| n.parse().ok()).unwrap_or(400);
+    let mut bytes = 0;
+    for k in 0..count {
+        let lines = [3, 20, 80, 300][k % 4];
+        let input = script(&mut rng, lines);
+        bytes += input.len();
+        agree(&format!("random script {k}"), &input);
+    }
+    println!("{count} random scripts of {bytes} bytes; 0 disagreements");
+}
+
+#[test]
+fn scripts_at_limits() {
+    for (what, input) in limit_scripts() {
+        agree(what, &input);
+    }
+}
+
+#[test]
+fn the_printed_session() {
+    let input = b"[name [Saved.] offset 1]\n[include [Live.] [Saved.]]\n[name [Live.] offset 3]\n[find [Live.offset.]]\n[complete [Live.off.]]\n";
+    let output = b"[ok 6]\n[ok 12]\n[ok 19]\n[found 3]\n[line 8 1 [] Live.offset]\n[end 1 2]\n";
+    assert_eq!(console(input), output);
+    assert_eq!(console(&input[..input.len() - 1]), output);
+}
+
+#[test]
+fn lines_of_every_size() {
+    assert_eq!(console(b""), b"");
+    assert_eq!(console(b"\n"), b"[bad]\n");
+    for n in [2047, 2048, 2049, 5000, 65535, 65536, 65537, 1_000_000] {
+        let mut input = b"[find [".to_vec();
+        input.resize(n - 2, b'a');
+        input.extend(b"]]\n[find [a.]]\n");
+        agree(&format!("a line of {n} bytes"), &input);
+        agree(&format!("a last line of {n} bytes"), &input[..n]);
+    }
+    let many = b"[find [a.]]\n".repeat(100_000);
+    assert_eq!(console(&many), b"[none]\n".repeat(100_000));
+}
+
+/// Whoever types a line sees its reply before the next one is typed.
+#[test]
+fn replies_come_before_the_next_line() {
+    use std::io::{BufRead, BufReader, Write};
+    use std::process::{Command, Stdio};
+    let program = concat!(env!("CARGO_MANIFEST_DIR"), "/../../target/bin/console");
+    let mut run = Command::new(program).stdin(Stdio::piped()).stdout(Stdio::piped()).spawn().unwrap();
+    let mut input = run.stdin.take().unwrap();
+    let mut output = BufReader::new(run.stdout.take().unwrap());
+    for (line, reply) in [("[name [] tick 5]\n", "[ok 3]\n"), ("[find [tick.]]\n", "[found 5]\n"), ("tick\n", "[bad]\n")] {
+        input.write_all(line.as_bytes()).unwrap();
+        let mut got = String::new();
+        output.read_line(&mut got).unwrap();
+        assert_eq!(got, reply);
+    }
+    drop(input);
+    assert!(run.wait().unwrap().success());
+}
