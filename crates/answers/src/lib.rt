@@ -43,7 +43,7 @@ pub struct Turn {
 }
 
 // Document 01's number of a refusal.
-fn number(r: Refusal) -> u32
+pub fn number(r: Refusal) -> u32
     ensures { λ n. ⌜ n ≡ number r ⌝ }
 {
     match r {
@@ -80,8 +80,8 @@ fn put_registered(reply: &mut [u8], at: usize, records: u32, r: Registered) -> u
     match r {
         Registered::Accepted => replies::put_ok(reply, at, records),
         Registered::Refused(x) => {
-            let n = number(x);
-            replies::put_refused(reply, at, n)
+            let code = number(x);
+            replies::put_refused(reply, at, code)
         }
     }
 }
