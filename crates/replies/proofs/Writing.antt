@@ -4,19 +4,13 @@ use mathlib.Core.Bool.{Bool, true, false}
 use mathlib.Core.List.{[], _∷_, _++_, append-assoc}
 use Prim.Native.Nat.{ℕ, zero, suc, _+_, _*_, _/_, _%_, _<_, _≤_}
 use native.Mathlib.Omega.{arith}
-use native.Mathlib.Numerals.{add-one}
-use lib.Dec.{T, ltb}
-use lib.IntN.{ℤ, pos, negsuc, natAbs}
-use lib.Signed.{ltZ, nonNeg}
-use lib.ListN.{length, getD, take, drop, set, length-append, length-drop, take-append-drop}
-use lib.Seq.{length-take-le, take-at, drop-at, drop-drop, set-split, take-suc}
+use lib.Dec.{ltb}
+use lib.IntN.{ℤ}
+use lib.ListN.{length, length-append}
 use borrow.Author.Tests.{ltb-true, ltb-false, lt-ltb, le-ltb, eq-eqb, ne-eqb}
-use mir.Syntax.{w32}
-use mir.Val.{Fits, SFits, toZ, ofZ}
-use mir.ValLaws.{toZ-ofZ}
 use Rattle.replies.specs.declared.Item.{Item}
 use Rattle.script.specs.Script.{Str, _·_, bytes}
-use Rattle.replies.specs.Replies.{digits, decimal, signed, Length, length-in, item-text, line-reply}
+use Rattle.replies.specs.Replies.{digits, decimal, signed, length-in, item-text, line-reply}
 
 -- ---- Numbers in decimal
 
@@ -74,30 +68,6 @@ unfolding ten
 decimal-short n h = decimal-length 9 n (omega arith)
 
 -- ---- A line's parts
-
-length-below : (z : ℤ) → Length z → ltZ z (pos 0) ≡ true → signed z ≡ 45 ∷ 49 ∷ []
-unfolding signed decimal digits bytes
-length-below (pos n) l h = absurd (omega (arith, ltb-true n 0 h))
-length-below (negsuc n) l h = rw l refl
-
--- What the code passes on for a length that is 0 or more.
-pub record Plain (z : ℤ) : Type 0 where
-  pub sign : T (nonNeg z)
-  pub fits : Fits w32 (natAbs z)
-  pub text : signed z ≡ decimal (natAbs z)
-
-length-above : (z : ℤ) → SFits w32 z → ltZ z (pos 0) ≡ false → Plain z
-unfolding signed
-length-above (pos n) f h = record { sign = tt; fits = record { fits = omega (arith, f .sfits) }; text = refl }
-length-above (negsuc n) f h = let z : _≡_ {A = ℕ} 0 1 = cc in absurd (omega arith)
-
--- A length is passed on as its bits, and read back.
-module _ (z : ℤ) (f : SFits w32 z) where
-  pub length-minus : Length z → ltZ (toZ w32 (ofZ w32 z)) (pos 0) ≡ true → signed z ≡ 45 ∷ 49 ∷ []
-  length-minus l h = length-below z l (rw (toZ-ofZ w32 z f) at h)
-
-  pub length-plus : ltZ (toZ w32 (ofZ w32 z)) (pos 0) ≡ false → Plain (toZ w32 (ofZ w32 z))
-  length-plus h = rw (toZ-ofZ w32 z f) (length-above z f (rw (toZ-ofZ w32 z f) at h))
 
 pub line-joined : (l : ℤ) (item : Item) (annotation candidate : Str) → (bytes "[line " · signed l · bytes " " · item-text item) · bytes " [" · annotation · bytes "] " · candidate · bytes "]\n" ≡ line-reply l item annotation candidate
 unfolding bytes line-reply

@@ -1,5 +1,4 @@
 -- The replies of the program `console`, and what it is to write one into a lent text.
-use mathlib.Core.Path.{_≡_}
 use mathlib.Core.Bool.{true, false}
 use mathlib.Core.List.{[], _∷_, _++_}
 use Prim.Native.Nat.{ℕ, zero, suc, _+_, _/_, _%_}
@@ -24,11 +23,6 @@ decimal n = digits (suc n) n
 unfoldable pub signed : ℤ → Str
 signed (pos n) = decimal n
 signed (negsuc n) = bytes "-" · decimal (suc n)
-
--- The length is -1 or more.
-abbrev pub Length : ℤ → Type 0
-Length (pos n) = Unit {0}
-Length (negsuc n) = n ≡ 0
 
 -- The match length that a word holds in two's complement, of -1 and up.
 unfoldable pub length-in : ℕ → ℤ

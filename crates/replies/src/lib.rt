@@ -4,7 +4,7 @@ ghost use Prim.Native.Nat.{_+_, _≤_};
 ghost use lib.ListN.{length};
 ghost use Rattle.text.specs.Laid.{Laid};
 ghost use Rattle.script.specs.Script.{bytes, _·_};
-ghost use Rattle.replies.specs.Replies.{decimal, signed, Length, length-in, item-text, ok-reply, found-reply, none-reply, refused-reply, bad-reply, line-reply, end-reply, reply-room};
+ghost use Rattle.replies.specs.Replies.{decimal, signed, length-in, item-text, ok-reply, found-reply, none-reply, refused-reply, bad-reply, line-reply, end-reply, reply-room};
 
 // The item of a line: its number in `complete`, module or namespace in `modules`.
 pub enum Item {
@@ -98,17 +98,7 @@ pub fn put_bad(out: &mut [u8], at: usize) -> usize
     put(out, at, b"[bad]\n")
 }
 
-// Writes a match length.
-fn put_length(out: &mut [u8], at: usize, len: i32) -> usize
-    requires { ⌜ (at + 10 ≤ length (now out)) × Length len ⌝ }
-    ensures { λ r. ⌜ Laid (now (out .entry)) (now (out .exit)) at r (signed len) × (r ≤ at + 10) ⌝ }
-{
-    if len < 0 {
-        return put(out, at, b"-1");
-    }
-    put_number(out, at, len as u32)
-}
-
+// Writes an item.
 fn put_item(out: &mut [u8], at: usize, item: Item) -> usize
     requires { ⌜ at + 10 ≤ length (now out) ⌝ }
     ensures { λ r. ⌜ Laid (now (out .entry)) (now (out .exit)) at r (item-text item) × (r ≤ at + 10) ⌝ }
@@ -129,34 +119,6 @@ fn put_texts(out: &mut [u8], at: usize, annotation: &[u8], candidate: &[u8]) -> 
     let b = put(out, a, b"] ");
     let c = put(out, b, candidate);
     put(out, c, b"]\n")
-}
-
-// Writes a line's numbers, each with what stands before it.
-fn put_numbers(out: &mut [u8], at: usize, len: i32, item: Item) -> usize
-    requires { ⌜ (at + 27 ≤ length (now out)) × Length len ⌝ }
-    ensures { λ r. ⌜ Laid (now (out .entry)) (now (out .exit)) at r (bytes "[line " · signed len · bytes " " · item-text item) × (r ≤ at + 27) ⌝ }
-{
-    let a = put(out, at, b"[line ");
-    let b = put_length(out, a, len);
-    let c = put(out, b, b" ");
-    put_item(out, c, item)
-}
-
-// `[line L I [annotation] candidate]`
-pub fn put_line(
-    out: &mut [u8],
-    at: usize,
-    len: i32,
-    item: Item,
-    annotation: &[u8],
-    candidate: &[u8],
-) -> usize
-    requires { ⌜ (at + reply-room + length (now annotation) + length (now candidate) ≤ length (now out)) × Length len ⌝ }
-    ensures { λ r. ⌜ Laid (now (out .entry)) (now (out .exit)) at r (line-reply len item (now (annotation .entry)) (now (candidate .entry))) ⌝ }
-{
-    let a = put_numbers(out, at, len, item);
-    let b = put(out, a, b" [");
-    put_texts(out, b, annotation, candidate)
 }
 
 // Writes a match length that is a word: 4294967295 for -1.
