@@ -12,7 +12,7 @@ use Rattle.script.proofs.Once.{reads-once}
 use Rattle.replies.specs.Replies.{bad-reply}
 use Rattle.table.specs.Header.{IsSound, state, lent, table-in}
 use Rattle.table.specs.declared.Table.{Table}
-use Rattle.answers.specs.Outcomes.{Outcome, outcome, bad-outcome, asked-text}
+use Rattle.answers.specs.Outcomes.{Outcome, outcome, asked-text}
 use Rattle.answers.specs.Answers.{Leaves, Answered}
 use Rattle.answers.specs.declared.Done.{Done}
 use Rattle.answers.proofs.Registering.{outside-none}

@@ -1,7 +1,7 @@
 -- The reply to a completion is that of the definition.
-use Prim.Native.Nat.{ℕ, _+_, _*_, _/_, _≤_}
+use Prim.Native.Nat.{ℕ}
 use native.Mathlib.Omega.{arith}
-use mathlib.Core.Path.{_≡_, refl, sym, ap, _∙_, subst}
+use mathlib.Core.Path.{_≡_, ap}
 use mathlib.Core.Bool.{true}
 use mathlib.Core.List.{List}
 use mathlib.Core.Option.{some}
@@ -10,7 +10,7 @@ use Rattle.source.specs.Calls as C
 use Rattle.memory.specs.Layout.{Item}
 use Rattle.text.proofs.Laid.{laid-length}
 use Rattle.script.specs.Script.{Str, _·_}
-use Rattle.replies.specs.Replies.{reply-room, refused-reply, end-reply}
+use Rattle.replies.specs.Replies.{refused-reply, end-reply}
 use Rattle.lines.specs.Ask.{asked}
 use Rattle.lines.specs.declared.Ask.{Ask}
 use Rattle.listing.specs.Completes.{output}
@@ -21,7 +21,7 @@ use Rattle.table.specs.declared.Table.{Table}
 use Rattle.table.specs.declared.Completed.{Completed}
 use Rattle.table.specs.declared.Completed.the-variants.{Listed, Refused}
 use Rattle.answers.specs.Outcomes.{completed-text}
-use Rattle.answers.specs.Answers.{room, Shown, shown-text}
+use Rattle.answers.specs.Answers.{Shown, shown-text}
 use Rattle.answers.proofs.Standing.{written-stands}
 
 -- What is written of a completion, and that it can be.

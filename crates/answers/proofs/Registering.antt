@@ -1,7 +1,7 @@
 -- The reply to a registration is that of the definition.
 use Prim.Native.Nat.{ℕ, _*_}
 use native.Mathlib.Omega.{arith}
-use mathlib.Core.Path.{_≡_, refl, sym, ap, _∙_, subst}
+use mathlib.Core.Path.{_≡_, refl, ap, _∙_, subst}
 use mathlib.Core.Bool.{true}
 use mathlib.Core.List.{List}
 use mathlib.Core.Option.{none, some}
@@ -11,12 +11,12 @@ use Rattle.text.specs.Laid.{Laid}
 use Rattle.replies.specs.Replies.{ok-reply, refused-reply}
 use Rattle.table.specs.Header.{IsSound, state, lent}
 use Rattle.table.specs.Answers.{number}
-use Rattle.table.specs.Registrations.{refusal-of, Outside, Accepts, Unchanged, AnswersAs, Answers}
+use Rattle.table.specs.Registrations.{refusal-of, Outside, AnswersAs, Answers}
 use Rattle.table.specs.declared.Table.{Table}
 use Rattle.table.specs.declared.Registered.{Registered}
 use Rattle.table.specs.declared.Registered.the-variants.{Accepted, Refused}
 use Rattle.table.specs.declared.Registration.{Registration}
-use Rattle.answers.specs.Outcomes.{Outcome, registration}
+use Rattle.answers.specs.Outcomes.{registration}
 use Rattle.answers.specs.Answers.{Leaves, Registers, registered-text, Finished}
 use Rattle.answers.specs.declared.Done.{Done}
 

@@ -1,22 +1,19 @@
 -- Lines that a completion wrote, read off row by row, give the replies of the definition.
-use Prim.Native.Nat.{ℕ, zero, suc, _+_, _-_, _*_, _/_, _<_, _≤_}
+use Prim.Native.Nat.{ℕ, _+_, _-_, _*_, _<_, _≤_}
 use native.Mathlib.Omega.{arith}
-use native.Mathlib.Numerals.{add-one}
-use mathlib.Core.Path.{_≡_, refl, sym, ap, ap₂, _∙_, subst}
+use mathlib.Core.Path.{_≡_, refl, sym, ap, ap₂, _∙_}
 use mathlib.Core.Bool.{Bool, true, false}
-use mathlib.Core.List.{List, [], _∷_, _++_, map, flatMap, append-assoc, append-nil}
+use mathlib.Core.List.{List, [], _∷_, _++_, map, flatMap, append-assoc}
 use lib.Dec.{eqb}
-use lib.IntN.{ℤ}
 use lib.ListN.{length, getD, take, drop, length-append, length-drop, List·getD-append}
 use lib.Seq.{take-at, drop-at, drop-drop, getD-drop}
-use Rattle.source.specs.Table as S
 use Rattle.source.specs.Table.{Line}
 use Rattle.source.specs.Calls.{LineRecord, output-text, output-lines}
-use Rattle.source.proofs.Lookup.{Allˡ}
-use Rattle.memory.specs.Layout.{Which, names, modules, Item, word, span, pick, item-of}
+use Rattle.source.specs.Shared.{Allˡ}
+use Rattle.memory.specs.Layout.{Which, names, modules, Item, word, span, item-of}
 use Rattle.text.specs.Laid.{Laid}
 use Rattle.script.specs.Script.{Str, _·_}
-use Rattle.replies.specs.Replies.{reply-room, length-in, line-reply}
+use Rattle.replies.specs.Replies.{reply-room, length-in}
 use Rattle.lines.specs.Output.{signed-word, line-of, rows-flat, Written}
 use Rattle.answers.specs.Outcomes.{item-in, line-text, lines-text}
 use Rattle.answers.specs.Rows.{text-at, row-item, RowOk, row-room, row-text, RowsOk, rows-room, rows-text}

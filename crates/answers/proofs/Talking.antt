@@ -1,13 +1,12 @@
 -- Lines one after another: their session goes on by one.
-use Prim.Native.Nat.{ℕ, zero, suc, _+_, _-_, _*_, _/_, _<_, _≤_}
+use Prim.Native.Nat.{ℕ, zero, suc, _+_, _-_, _<_, _≤_}
 use native.Mathlib.Omega.{arith}
-use native.Mathlib.Numerals.{add-one}
 use mathlib.Core.Path.{_≡_, refl, sym, ap, ap₂, _∙_, subst}
 use mathlib.Core.List.{List, [], _∷_, _++_, append-assoc, append-nil}
-use lib.ListN.{length, getD, take, drop, length-drop, take-append-drop}
+use lib.ListN.{length, getD, take, drop, length-drop}
 use lib.Seq.{take-all, take-at, take-suc, drop-drop}
 use Rattle.source.specs.Calls.{State, Lent, Output}
-use Rattle.source.proofs.Lookup.{Allˡ}
+use Rattle.source.specs.Shared.{Allˡ}
 use Rattle.text.specs.Laid.{Laid}
 use Rattle.text.proofs.Laid.{laid-none, laid-more, laid-length}
 use Rattle.script.specs.Script.{Str, _·_, All, LineEnd}
@@ -18,7 +17,6 @@ use Rattle.table.specs.declared.Table.{Table}
 use Rattle.answers.specs.Outcomes.{Outcome, Replied, Session, none, then, unlines}
 use Rattle.answers.specs.Answers.{room, Answered, Talked}
 use Rattle.answers.specs.declared.Done.{Done}
-use Rattle.answers.specs.declared.Turn.{Turn}
 
 session-on : {k : Lent} {out : Output} {s m : State} {lines : List Str} {text : Str} {line : Str} (o : Outcome) → Session k out s lines text m → Replied k out m line o
     → Session k out s (lines ++ (line ∷ [])) (text · o .text) (o .after)

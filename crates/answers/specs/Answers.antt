@@ -5,7 +5,7 @@ use mathlib.Core.Bool.{true}
 use mathlib.Core.List.{List}
 use lib.ListN.{length, take, drop}
 use Rattle.source.specs.Calls.{Output, Call, register}
-use Rattle.source.proofs.Lookup.{Allˡ}
+use Rattle.source.specs.Shared.{Allˡ}
 use Rattle.memory.specs.Layout.{Which}
 use Rattle.text.specs.Laid.{Laid}
 use Rattle.script.specs.Script.{Str, _·_, All}

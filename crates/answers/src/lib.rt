@@ -6,7 +6,6 @@ use script::Import;
 use script::Span;
 use table::Completed;
 use table::Found;
-use table::Refusal;
 use table::Registered;
 use table::Registration;
 use table::Table;
@@ -15,14 +14,13 @@ ghost use mathlib.Core.Bool.{true};
 ghost use Prim.Native.Nat.{_+_, _*_, _/_, _≤_, _<_};
 ghost use lib.ListN.{length, getD};
 ghost use Rattle.source.specs.Calls.{name, alias, module-path, look-up};
-ghost use Rattle.memory.specs.Layout.{Which};
 ghost use Rattle.text.specs.Laid.{Laid};
 ghost use Rattle.script.specs.Script.{Within, part-of};
 ghost use Rattle.replies.specs.Replies.{reply-room};
 ghost use Rattle.lines.specs.Ask.{asked};
 ghost use Rattle.listing.specs.Completes.{output};
-ghost use Rattle.table.specs.Header.{IsSound, names-in, table-in};
-ghost use Rattle.table.specs.Answers.{number, name-found};
+ghost use Rattle.table.specs.Header.{IsSound, table-in};
+ghost use Rattle.table.specs.Answers.{name-found};
 ghost use Rattle.table.specs.Registrations.{Answers};
 ghost use Rattle.table.specs.Completions.{completion};
 ghost use Rattle.answers.specs.Outcomes.{found-text, completed-text, import-call, asked-text};
@@ -40,24 +38,6 @@ pub struct Turn {
     pub table: Table,
     pub end: usize,
     pub next: usize,
-}
-
-// Document 01's number of a refusal.
-pub fn number(r: Refusal) -> u32
-    ensures { λ n. ⌜ n ≡ number r ⌝ }
-{
-    match r {
-        Refusal::Unsound => 1,
-        Refusal::Malformed => 2,
-        Refusal::Empty => 3,
-        Refusal::TooLong => 4,
-        Refusal::Crowded => 5,
-        Refusal::Deep => 6,
-        Refusal::Full => 7,
-        Refusal::TextFull => 8,
-        Refusal::Spent => 9,
-        Refusal::Lines => 10,
-    }
 }
 
 // The bytes of a span.
@@ -80,7 +60,7 @@ fn put_registered(reply: &mut [u8], at: usize, records: u32, r: Registered) -> u
     match r {
         Registered::Accepted => replies::put_ok(reply, at, records),
         Registered::Refused(x) => {
-            let code = number(x);
+            let code = table::number(x);
             replies::put_refused(reply, at, code)
         }
     }
@@ -203,7 +183,7 @@ fn put_found(reply: &mut [u8], at: usize, f: Found) -> usize
         Found::Item(n) => replies::put_found(reply, at, n),
         Found::Nothing => replies::put_none(reply, at),
         Found::Refused(x) => {
-            let n = number(x);
+            let n = table::number(x);
             replies::put_refused(reply, at, n)
         }
     }
@@ -308,7 +288,7 @@ fn put_completed(
             replies::put_end(reply, e, lines, entered)
         }
         Completed::Refused(x) => {
-            let n = number(x);
+            let n = table::number(x);
             replies::put_refused(reply, at, n)
         }
     }

@@ -62,7 +62,7 @@ fn code(r: Registration) -> u32 {
     let a = r.answer;
     match a {
         Registered::Accepted => 0,
-        Registered::Refused(x) => answers::number(x),
+        Registered::Refused(x) => table::number(x),
     }
 }
 
@@ -109,7 +109,7 @@ fn listed(
     );
     match c {
         Completed::Listed(n, entered) => 0,
-        Completed::Refused(x) => answers::number(x),
+        Completed::Refused(x) => table::number(x),
     }
 }
 
@@ -119,7 +119,7 @@ fn looked(t: Table, words: &[u32], text: &[u8]) -> u32 {
     match f {
         Found::Item(n) => 0,
         Found::Nothing => 0,
-        Found::Refused(x) => answers::number(x),
+        Found::Refused(x) => table::number(x),
     }
 }
 

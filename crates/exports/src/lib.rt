@@ -4,7 +4,6 @@ use lines::Ask;
 use lines::Filter;
 use table::Completed;
 use table::Found;
-use table::Refusal;
 use table::Registered;
 use table::Registration;
 use table::Table;
@@ -60,33 +59,17 @@ fn listing_of(c: Completed) -> Listing {
             entered: entered,
         },
         Completed::Refused(x) => Listing {
-            refusal: number(x),
+            refusal: table::number(x),
             lines: 0,
             entered: 0,
         },
     }
 }
 
-// Document 01's number of a refusal.
-fn number(r: Refusal) -> u32 {
-    match r {
-        Refusal::Unsound => 1,
-        Refusal::Malformed => 2,
-        Refusal::Empty => 3,
-        Refusal::TooLong => 4,
-        Refusal::Crowded => 5,
-        Refusal::Deep => 6,
-        Refusal::Full => 7,
-        Refusal::TextFull => 8,
-        Refusal::Spent => 9,
-        Refusal::Lines => 10,
-    }
-}
-
 fn refusal_of(r: Registered) -> u32 {
     match r {
         Registered::Accepted => 0,
-        Registered::Refused(x) => number(x),
+        Registered::Refused(x) => table::number(x),
     }
 }
 
@@ -110,7 +93,7 @@ fn looked_up(f: Found) -> Looked {
             item: 0,
         },
         Found::Refused(x) => Looked {
-            answer: number(x),
+            answer: table::number(x),
             item: 0,
         },
     }

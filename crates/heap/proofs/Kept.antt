@@ -7,7 +7,8 @@ use native.Mathlib.Omega.{arith}
 use lib.ListN.{getD}
 use borrow.Author.Tests.{eq-eqb, ne-eqb}
 use Rattle.source.specs.Heap.{Heap, Forest, EmptyHeap, HeapOf, []ᶠ, _∷ᶠ_, heap-pop}
-use Rattle.source.proofs.Heap.{sumᶠ, sum-pop, All, Allᶠ}
+use Rattle.source.specs.Forward.{sumᶠ}
+use Rattle.source.proofs.Heap.{sum-pop, All, Allᶠ}
 use Rattle.heap.specs.Cells.{Root, Holds, Holdsᶠ, is, count, Sized, Rep, Repᶠ, Apart, Same, Makes}
 
 pub is-self : (v : ℕ) → is v v ≡ 1

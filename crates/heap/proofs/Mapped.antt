@@ -5,8 +5,9 @@ use mathlib.Core.Bool.{Bool, true, false, cond}
 use mathlib.Core.List.{List, [], _∷_, map}
 use mathlib.Core.Option.{some, Option·map}
 use Rattle.source.specs.Heap.{Heap, Forest, EmptyHeap, HeapOf, []ᶠ, _∷ᶠ_, is-lt, heap-merge, heap-insert, heap-merge-pairs, heap-pair-up, heap-pop, heap-insert-all, heap-from-list}
-use Rattle.source.proofs.Heap.{All, Allᶠ, All-merge, All-pairs, heap-map, forest-map}
-use Rattle.source.proofs.Lookup.{Allˡ}
+use Rattle.source.specs.Forward.{heap-map, forest-map}
+use Rattle.source.proofs.Heap.{All, Allᶠ, All-merge, All-pairs}
+use Rattle.source.specs.Shared.{Allˡ}
 
 module _ {A B : Type 0} (f : A → B) (cmp : A → A → Ordering) (cmp′ : B → B → Ordering)
     (P : A → Type 0) (agree : (a b : A) → P a → P b → cmp′ (f a) (f b) ≡ cmp a b) where

@@ -9,7 +9,8 @@ use lib.Dec.{eqb}
 use lib.ListN.{getD}
 use borrow.Author.Tests.{eq-eqb, ne-eqb}
 use Rattle.source.specs.Heap.{Heap, Forest, []ᶠ, _∷ᶠ_, heap-merge, heap-merge-pairs}
-use Rattle.source.proofs.Heap.{sumᶠ, sum-merge, sum-pairs}
+use Rattle.source.specs.Forward.{sumᶠ}
+use Rattle.source.proofs.Heap.{sum-merge, sum-pairs}
 use Rattle.heap.specs.Cells.{Root, Holdsᶠ, is, count, Repᶠ, Makes, Merges, Pairs}
 use Rattle.heap.proofs.Kept.{root-in, root-small, root-counted, rep-kept, rep-keptᶠ, unchanged, same-trans}
 

@@ -8,8 +8,9 @@ use lib.ListN.{length}
 use Rattle.source.specs.Text.{Str}
 use Rattle.source.specs.Heap.{Heap, Forest, heap-insert, heap-merge-pairs, heap-pop, heap-from-list}
 use Rattle.source.specs.Lists.{Run, run, add-priorities, run-cmp}
-use Rattle.source.proofs.Heap.{All, Allᶠ, heap-map, forest-map}
-use Rattle.source.proofs.Lookup.{Allˡ}
+use Rattle.source.specs.Forward.{heap-map, forest-map}
+use Rattle.source.proofs.Heap.{All, Allᶠ}
+use Rattle.source.specs.Shared.{Allˡ}
 use Rattle.heap.specs.Compare.{cell-cmp, Stands}
 use Rattle.heap.specs.Cells.{count, first-cells}
 use Rattle.heap.proofs.Compare.{cell-cmp-run}

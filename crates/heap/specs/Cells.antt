@@ -7,7 +7,7 @@ use mathlib.Core.Option.{Option, none, some}
 use lib.Dec.{eqb}
 use lib.ListN.{length, getD}
 use Rattle.source.specs.Heap.{Heap, Forest, EmptyHeap, HeapOf, []ᶠ, _∷ᶠ_, heap-merge, heap-insert, heap-merge-pairs, heap-pop}
-use Rattle.source.proofs.Heap.{sum, sumᶠ}
+use Rattle.source.specs.Forward.{sum, sumᶠ}
 use Rattle.heap.specs.declared.Popped.{Popped}
 use Rattle.heap.specs.declared.Popped.the-variants.{Nothing, Least}
 

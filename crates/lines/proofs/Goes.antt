@@ -6,7 +6,7 @@ use native.Mathlib.Omega.{arith}
 use lib.ListN.{length, length-append}
 use Rattle.source.specs.Table.{Line}
 use Rattle.source.specs.Calls.{output-text, output-lines}
-use Rattle.source.proofs.Lookup.{Allˡ}
+use Rattle.source.specs.Shared.{Allˡ}
 use Rattle.source.proofs.Lines.{flatMap-append, output-text-append, output-lines-append}
 use Rattle.memory.specs.Layout.{Which, Item}
 use Rattle.text.proofs.Laid.{laid-none, laid-more}

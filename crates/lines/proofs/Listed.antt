@@ -16,7 +16,7 @@ use Rattle.source.specs.Table.{ModSymbol, string-of-path, first-import-of-path,
 use Rattle.source.specs.Calls as C
 use Rattle.source.specs.Calls.{keeps, filter-of}
 use Rattle.source.proofs.Paths.{candidate-is, first-import-one, first-import-more}
-use Rattle.source.proofs.Lines.{line, kept-line}
+use Rattle.source.specs.Forward.{line, kept-line}
 use Rattle.memory.specs.Layout.{record-at, pick, Which, names, modules, Item, item-of}
 use Rattle.tree.specs.Tree.{held}
 use Rattle.tree.specs.Links.{row-at}

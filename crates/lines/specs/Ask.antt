@@ -4,7 +4,7 @@ use Rattle.source.specs.Listing.{PathOf}
 use Rattle.source.specs.Table.{Line, completion-result-of-lid}
 use Rattle.source.specs.Calls as C
 use Rattle.source.specs.Calls.{filter-of}
-use Rattle.source.proofs.Lines.{kept-line}
+use Rattle.source.specs.Forward.{kept-line}
 use Rattle.memory.specs.Layout.{Which, names, modules, Item}
 use Rattle.lines.specs.declared.Filter.{Filter}
 use Rattle.lines.specs.declared.Filter.the-variants.{All, Loaded, ModulesOnly, NamespacesOnly}

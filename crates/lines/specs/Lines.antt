@@ -8,7 +8,7 @@ use Rattle.source.specs.Types.{Value, bind}
 use Rattle.source.specs.Trees.{PathElem}
 use Rattle.source.specs.Listing.{PathOf}
 use Rattle.source.specs.Table.{Line, match-length-of-path}
-use Rattle.source.proofs.Lines.{line}
+use Rattle.source.specs.Forward.{line}
 use Rattle.memory.specs.Layout.{record-at, Which, Item, item-of, key-at}
 use Rattle.merge.specs.Entries.{shown, outer}
 use Rattle.lines.specs.Ask.{asked, line-for}

@@ -15,7 +15,7 @@ use lib.IntN.{ℤ, pos, negsuc}
 use lib.ListN.{length}
 use Rattle.source.specs.Table.{Line}
 use Rattle.source.specs.Calls.{LineRecord, output-text, output-lines}
-use Rattle.source.proofs.Lookup.{Allˡ}
+use Rattle.source.specs.Shared.{Allˡ}
 use Rattle.memory.specs.Layout.{word, pick, Which, Item, item-of}
 use Rattle.text.specs.Laid.{Laid}
 use Rattle.lines.specs.declared.Limits.{Limits}

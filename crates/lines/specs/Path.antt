@@ -7,7 +7,7 @@ use Rattle.source.specs.Text.{Str, dot}
 use Rattle.source.specs.Types.{Level, ns}
 use Rattle.source.specs.Listing.{PathOf}
 use Rattle.source.specs.Table.{first-import-of-path}
-use Rattle.source.proofs.Paths.{base}
+use Rattle.source.specs.Forward.{base}
 use Rattle.memory.specs.Layout.{Which, tree, kind, key-at}
 use Rattle.memory.specs.Sound.{LinkOk, Sound}
 use Rattle.merge.specs.Entries.{label-at}

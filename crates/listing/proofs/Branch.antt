@@ -1,5 +1,5 @@
 -- list_branch: a line, or the listing of the trie below.
-use Prim.Native.Nat.{ℕ, _+_, _*_, _<_, _≤_}
+use Prim.Native.Nat.{ℕ, _*_, _<_, _≤_}
 use mathlib.Core.Path.{_≡_, refl, sym, ap, _∙_}
 use mathlib.Core.Bool.{Bool, true, false, true≢false}
 use mathlib.Core.List.{List, _∷_}
@@ -26,7 +26,7 @@ use Rattle.lines.specs.declared.Ask.{Ask}
 use Rattle.lines.specs.declared.Path.{Path}
 use Rattle.lines.specs.declared.Limits.{Limits}
 use Rattle.lines.specs.declared.Tally.{Tally}
-use Rattle.listing.specs.Runs.{PathDown, level-of, Ready, BranchReady, BranchRuns, TrieReady, TrieRuns}
+use Rattle.listing.specs.Runs.{PathDown, level-of, BranchReady, BranchRuns, TrieReady, TrieRuns}
 use Rattle.listing.proofs.Down.{branch-fits, path-down, on-path-down}
 
 -- The trie that a branch of namespaces holds.

@@ -1,10 +1,9 @@
 -- Completion on a root: the run begins at the root with nothing counted, first over an empty output, then over the one lent.
-use Prim.Native.Nat.{ℕ, suc, _+_, _/_, _*_, _<_, _≤_, min}
-use mathlib.Core.Path.{_≡_, refl, sym, ap, _∙_}
+use Prim.Native.Nat.{ℕ, suc, _+_, _/_, _<_, _≤_, min}
+use mathlib.Core.Path.{_≡_, refl, _∙_}
 use mathlib.Core.Bool.{Bool, true, false, or-true}
 use mathlib.Core.List.{List, [], _∷_}
-use mathlib.Core.Logic.{_⊎_, inl, inr}
-use mathlib.Core.Option.{none, some}
+use mathlib.Core.Logic.{inl, inr}
 use native.Mathlib.Omega.{arith}
 use lib.Dec.{ltb}
 use lib.ListN.{length, replicate}
@@ -15,12 +14,13 @@ use Rattle.source.specs.Types.{Trie, bind}
 use Rattle.source.specs.Terms.{depth}
 use Rattle.source.specs.Table.{Line, first-import-of-path}
 use Rattle.source.specs.Calls.{lowest, output-text, tries-entered}
-use Rattle.source.proofs.Counted.{entered, tries-entered-count}
-use Rattle.source.proofs.Paths.{base, match-length-none}
-use Rattle.memory.specs.Layout.{Which, Item, trieˢ, what}
+use Rattle.source.specs.Forward.{entered}
+use Rattle.source.proofs.Counted.{tries-entered-count}
+use Rattle.source.specs.Forward.{base}
+use Rattle.source.proofs.Paths.{match-length-none}
+use Rattle.memory.specs.Layout.{Item, trieˢ, what}
 use Rattle.trie.specs.Tries.{TrieAt}
 use Rattle.trie.proofs.Links.{trie-shallow}
-use Rattle.merge.specs.Entries.{label-at}
 use Rattle.lines.specs.Ask.{asked}
 use Rattle.lines.specs.Path.{joined, PathOk, OnPath}
 use Rattle.lines.specs.Output.{signed-word, Written, Shows, Small, Fit, Goes, Capped}
@@ -29,7 +29,7 @@ use Rattle.lines.specs.declared.Path.{Path}
 use Rattle.lines.specs.declared.Limits.{Limits}
 use Rattle.lines.specs.declared.Tally.{Tally}
 use Rattle.listing.specs.Runs.{trie-gives, Matching, TrieReady, TrieRuns}
-use Rattle.listing.specs.Completes.{output, lines-of, CompletesAs, Completes}
+use Rattle.listing.specs.Completes.{output, lines-of, Completes}
 use Rattle.listing.specs.declared.Completion.{Completion}
 use Rattle.listing.specs.declared.Completion.the-variants.{Listed, Spent, Lines}
 use Rattle.listing.proofs.Loops.{no-label}

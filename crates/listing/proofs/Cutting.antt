@@ -3,7 +3,7 @@ use Prim.Native.Nat.{ℕ, suc, _+_, _-_, _≤_, _<_}
 use mathlib.Core.Path.{_≡_, refl, sym, ap, _∙_}
 use mathlib.Core.Bool.{true}
 use mathlib.Core.List.{[], _∷_, nil≢cons}
-use mathlib.Core.Option.{Option, none, some}
+use mathlib.Core.Option.{none, some}
 use native.Mathlib.Omega.{arith}
 use native.Mathlib.Numerals.{add-one}
 use lib.IntN.{pos}
@@ -11,15 +11,13 @@ use lib.ListN.{length, take, drop, length-drop}
 use lib.Seq.{length-take-le}
 use borrow.Author.Tests.{ne-eqb}
 use Rattle.source.specs.Text.{Str, Query, segments, ends-in-dot}
-use Rattle.source.specs.Trees.{PathElem}
-use Rattle.source.specs.Listing.{PathOf, NSTNone, ns-search-term, bindings-search-term}
-use Rattle.source.specs.Table.{match-length-of-path}
-use Rattle.source.proofs.Paths.{base, match-length-skip, match-length-some, so-far-is}
+use Rattle.source.specs.Listing.{NSTNone, ns-search-term, bindings-search-term}
+use Rattle.source.proofs.Paths.{match-length-skip, match-length-some, so-far-is}
 use Rattle.text.specs.Text.{before-dot}
-use Rattle.text.proofs.Segments.{First, first-segment, before-inside, ends-none}
-use Rattle.merge.specs.Entries.{Asks, by-prefix, by-all}
+use Rattle.text.proofs.Segments.{first-segment, before-inside}
+use Rattle.merge.specs.Entries.{by-prefix, by-all}
 use Rattle.lines.specs.Output.{signed-word}
-use Rattle.listing.specs.Runs.{Matching, Steps, Cuts}
+use Rattle.listing.specs.Runs.{Cuts}
 
 signed-small : (m : ℕ) → m < 4294967295 → signed-word m ≡ pos m
 unfolding signed-word

@@ -16,7 +16,8 @@ use Rattle.source.specs.Types.{Level, Trie, ns}
 use Rattle.source.specs.Trees.{PathElem}
 use Rattle.source.specs.Listing.{PathOf}
 use Rattle.source.specs.Table.{first-import-of-path}
-use Rattle.source.proofs.Paths.{base, first-import-one, first-import-more}
+use Rattle.source.specs.Forward.{base}
+use Rattle.source.proofs.Paths.{first-import-one, first-import-more}
 use Rattle.memory.specs.Layout.{record-at, word, span, pick, Which, Item, key-at}
 use Rattle.memory.proofs.Parts.{span-length}
 use Rattle.memory.proofs.Seen.{link-fits}

@@ -7,10 +7,11 @@ use Rattle.source.specs.Text.{Query}
 use Rattle.source.specs.Types.{Value, Trie, bind, ns, bindings, namespaces}
 use Rattle.source.specs.Trees.{PathElem}
 use Rattle.source.specs.Listing.{PathOf, ns-search-term, bindings-search-term}
-use Rattle.source.proofs.Heap.{sumˡ}
-use Rattle.source.proofs.Counted.{entered}
-use Rattle.source.proofs.Found.{found}
-use Rattle.source.proofs.Lines.{line, made, made-is, entered-is}
+use Rattle.source.specs.Shared.{sumˡ}
+use Rattle.source.specs.Forward.{entered}
+use Rattle.source.specs.Forward.{found}
+use Rattle.source.specs.Forward.{line, made}
+use Rattle.source.proofs.Lines.{made-is, entered-is}
 use Rattle.memory.specs.Layout.{Item}
 use Rattle.lines.specs.Ask.{asked, line-for}
 use Rattle.lines.specs.Output.{Result, _⊕_}

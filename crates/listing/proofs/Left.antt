@@ -1,5 +1,5 @@
 -- A run over entries: what is left of them says the whole.
-use Prim.Native.Nat.{ℕ, _+_, _<_}
+use Prim.Native.Nat.{ℕ, _<_}
 use mathlib.Core.Path.{_≡_, refl, sym, _∙_}
 use mathlib.Core.Bool.{Bool, false}
 use mathlib.Core.List.{List, [], _∷_, map, nil≢cons}
@@ -10,7 +10,7 @@ use Rattle.source.specs.Types.{Value}
 use Rattle.source.specs.Trees.{PathElem}
 use Rattle.source.specs.Terms.{depth}
 use Rattle.source.specs.Listing.{PathOf}
-use Rattle.source.proofs.Lookup.{Allˡ}
+use Rattle.source.specs.Shared.{Allˡ}
 use Rattle.memory.specs.Layout.{Item}
 use Rattle.merge.specs.Entries.{Entry, shown, outer}
 use Rattle.lines.specs.Ask.{asked}

@@ -1,8 +1,8 @@
 -- The loops over a tree's branches and over a merge, and which of them serves a list.
-use Prim.Native.Nat.{ℕ, zero, suc, _+_, _<_, _≤_}
+use Prim.Native.Nat.{ℕ, _+_, _<_, _≤_}
 use mathlib.Core.Path.{_≡_, refl, sym, ap, _∙_, subst}
 use mathlib.Core.Bool.{Bool, true, false, cond, true≢false}
-use mathlib.Core.List.{List, [], _∷_, _++_, map, reverse, reverse-cons, nil≢cons}
+use mathlib.Core.List.{List, [], _∷_, map, reverse, reverse-cons, nil≢cons}
 use mathlib.Core.Option.{Option, some}
 use native.Mathlib.Omega.{arith}
 use native.Mathlib.Decide.{ℕ-discrete}
@@ -14,10 +14,11 @@ use Rattle.source.specs.Types.{Level, Value, NameList, ns}
 use Rattle.source.specs.Trees.{PathElem}
 use Rattle.source.specs.Terms.{depth, depth-names}
 use Rattle.source.specs.Listing.{SearchTerm, NSTPrefix, names-find-rev}
-use Rattle.source.proofs.Lookup.{Allˡ, Allˡ-map, Increasing}
+use Rattle.source.specs.Shared.{Allˡ}
+use Rattle.source.proofs.Lookup.{Allˡ-map, Increasing}
 use Rattle.source.proofs.Rows.{names-find-rev-depth}
-use Rattle.source.proofs.Found.{found}
-use Rattle.memory.specs.Layout.{Which, Item, tree, list, kind, what, key-at}
+use Rattle.source.specs.Forward.{found}
+use Rattle.memory.specs.Layout.{Which, Item, tree, list, what, key-at}
 use Rattle.memory.specs.Sound.{Sound}
 use Rattle.memory.proofs.Seen.{link-later}
 use Rattle.tree.specs.Tree.{held, TreeAt, AnyTree}
@@ -27,15 +28,15 @@ use Rattle.tree.proofs.Matches.{MatchOf, matches-of, matches-increasing, after-
 use Rattle.tree.proofs.Kept.{all-append}
 use Rattle.walk.specs.Walk.{Noted, Walks}
 use Rattle.walk.specs.declared.Next.{Next}
-use Rattle.names.specs.Names.{ListAt, AnyList}
+use Rattle.names.specs.Names.{AnyList}
 use Rattle.names.proofs.Collections.{no-link, tree-within}
 use Rattle.merge.specs.Entries.{Entry, shown, outer, Asks, by-prefix}
-use Rattle.merge.specs.Lists.{SingleIn, Single, LabelOk}
+use Rattle.merge.specs.Lists.{SingleIn, Single}
 use Rattle.merge.specs.Stream as M
-use Rattle.merge.specs.Stream.{later, left-in, AnyRest, StartIn, Starts, Gives}
+use Rattle.merge.specs.Stream.{later, left-in, AnyRest, Starts, Gives}
 use Rattle.merge.specs.declared.Merge.{Merge}
 use Rattle.merge.specs.declared.Step.{Step}
-use Rattle.merge.proofs.Cells.{no-match, later-end, later-next}
+use Rattle.merge.proofs.Cells.{later-end, later-next}
 use Rattle.merge.proofs.Given.{rest-any, gives-end, gives-more}
 use Rattle.merge.proofs.OneTree.{single-found}
 use Rattle.lines.specs.Ask.{asked}

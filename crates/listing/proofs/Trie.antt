@@ -1,30 +1,27 @@
 -- list_trie: the trie is entered, then its bindings are listed, then its namespaces.
 use Prim.Native.Nat.{ℕ, zero, suc, _+_, _*_, _<_, _≤_}
-use mathlib.Core.Path.{_≡_, refl, sym, ap, _∙_}
+use mathlib.Core.Path.{_≡_, refl, ap, _∙_}
 use mathlib.Core.Bool.{Bool, true, false, true≢false}
-use mathlib.Core.List.{List, [], tail}
-use mathlib.Core.Logic.{inl, inr}
+use mathlib.Core.List.{List, []}
 use native.Mathlib.Omega.{arith}
 use lib.Dec.{ltb}
 use borrow.Author.Tests.{ltb-true, ltb-false}
 use lib.ListN.{length, take, drop, length-drop}
 use Rattle.source.specs.Text.{Str, segments, ends-in-dot}
-use Rattle.source.specs.Types.{Level, Value, NameList, trie, bind, ns, bindings, namespaces}
+use Rattle.source.specs.Types.{Level, Value, NameList, trie, ns, bindings, namespaces}
 use Rattle.source.specs.Terms.{depth, depth-names}
-use Rattle.source.specs.Listing.{PathOf, NSTNone, ns-search-term, bindings-search-term, matching-values, names-find-rev}
+use Rattle.source.specs.Listing.{PathOf, NSTNone, matching-values, names-find-rev}
 use Rattle.source.specs.Calls.{output-text}
-use Rattle.source.proofs.Counted.{entered}
+use Rattle.source.specs.Forward.{entered}
 use Rattle.source.specs.Lists.{nonempty, merge-nonempty, merge-increasing-lists-rev}
-use Rattle.source.proofs.Found.{found}
+use Rattle.source.specs.Forward.{found}
 use Rattle.memory.specs.Layout.{Which, Item, list, trieˢ, what}
 use Rattle.memory.specs.Read.{ReadTrie}
 use Rattle.memory.specs.declared.Trie.{Trie}
-use Rattle.names.specs.Names.{ListAt}
-use Rattle.trie.specs.Tries.{TrieAt}
 use Rattle.trie.proofs.Links.{trie-fits, lists-seen, bindings-at, namespaces-at, bindings-read, namespaces-read}
 use Rattle.lines.specs.Ask.{asked}
 use Rattle.lines.specs.Path.{OnPath}
-use Rattle.lines.specs.Output.{Result, _⊕_, Shows, Goes, Capped}
+use Rattle.lines.specs.Output.{Result, Shows, Goes}
 use Rattle.lines.specs.Lines.{only}
 use Rattle.lines.specs.declared.Ask.{Ask}
 use Rattle.lines.specs.declared.Path.{Path}

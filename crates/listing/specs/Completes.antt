@@ -11,7 +11,7 @@ use Rattle.source.specs.Types.{Trie}
 use Rattle.source.specs.Terms.{depth}
 use Rattle.source.specs.Table.{Line}
 use Rattle.source.specs.Calls.{Row, _when_, lowest, Output, output-text, tries-entered}
-use Rattle.source.proofs.Lines.{made}
+use Rattle.source.specs.Forward.{made}
 use Rattle.memory.specs.Layout.{Item, trieˢ, what}
 use Rattle.lines.specs.Ask.{asked, line-for}
 use Rattle.lines.specs.Output.{Written}

@@ -1,5 +1,5 @@
 -- What the parts of a listing give, and what each function of the run requires and leaves.
-use Prim.Native.Nat.{ℕ, _+_, _*_, _<_, _≤_}
+use Prim.Native.Nat.{ℕ, _+_, _<_, _≤_}
 use mathlib.Core.Path.{_≡_}
 use mathlib.Core.Bool.{Bool, true, false}
 use mathlib.Core.List.{List, [], _∷_, map, reverse, tail}
@@ -12,12 +12,12 @@ use Rattle.source.specs.Trees.{PathElem}
 use Rattle.source.specs.Terms.{depth, depth-names}
 use Rattle.source.specs.Listing.{PathOf, SearchTerm, NSTNone, ns-search-term, bindings-search-term}
 use Rattle.source.specs.Table.{match-length-of-path}
-use Rattle.source.proofs.Counted.{entered}
-use Rattle.source.proofs.Lookup.{Allˡ}
-use Rattle.source.proofs.Found.{found}
-use Rattle.source.proofs.Lines.{line, made}
-use Rattle.source.proofs.Paths.{base}
-use Rattle.memory.specs.Layout.{record-at, word, pick, Which, Item, tree, list, trieˢ, what}
+use Rattle.source.specs.Forward.{entered}
+use Rattle.source.specs.Shared.{Allˡ}
+use Rattle.source.specs.Forward.{found}
+use Rattle.source.specs.Forward.{line, made}
+use Rattle.source.specs.Forward.{base}
+use Rattle.memory.specs.Layout.{record-at, word, pick, Item, tree, list, trieˢ, what}
 use Rattle.tree.specs.Tree.{held, TreeAt}
 use Rattle.tree.specs.Links.{matches}
 use Rattle.names.specs.Names.{ListAt}

@@ -9,14 +9,14 @@ use Rattle.source.specs.Text.{Str}
 use Rattle.source.specs.Types.{Level}
 use Rattle.source.specs.Heap.{Heap}
 use Rattle.source.specs.Lists.{first, priority}
-use Rattle.source.proofs.Lookup.{Allˡ}
+use Rattle.source.specs.Shared.{Allˡ}
 use Rattle.memory.specs.Layout.{Which, tree, key-at}
 use Rattle.memory.proofs.Seen.{link-later}
 use Rattle.heap.specs.Compare.{Head, Heads, Stands}
 use Rattle.tree.specs.Tree.{TreeAt, AnyTree}
 use Rattle.tree.specs.Links.{matches, head0}
 use Rattle.tree.proofs.Branches.{tree-fits, key-inside}
-use Rattle.tree.proofs.Links.{BranchOf}
+use Rattle.tree.specs.Links.{BranchOf}
 use Rattle.tree.proofs.Matches.{MatchOf, matches-of, matches-increasing, all-after, after-next}
 use Rattle.names.specs.Names.{ListAt}
 use Rattle.names.proofs.Collections.{tree-within}

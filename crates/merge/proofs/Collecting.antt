@@ -16,9 +16,10 @@ use Rattle.source.specs.Terms.{weight}
 use Rattle.source.specs.Lists.{nonempty}
 use Rattle.source.specs.Listing.{SearchTerm, NSTPrefix, with-imports}
 use Rattle.source.specs.Table.{last-opt}
-use Rattle.source.proofs.Names.{tree-matches}
+use Rattle.source.specs.Forward.{tree-matches}
 use Rattle.source.proofs.Forward.{nonempty-append}
-use Rattle.source.proofs.Flat.{last-import, flat-in}
+use Rattle.source.specs.Forward.{flat-in}
+use Rattle.source.proofs.Flat.{last-import}
 use Rattle.memory.specs.Layout.{record-at, word, span, Which, Item, tree, list, what, key-at}
 use Rattle.memory.specs.Stored.{stored}
 use Rattle.memory.proofs.Readings.{what-none}

@@ -10,8 +10,9 @@ use Rattle.source.specs.Trees.{PathElem}
 use Rattle.source.specs.Lists.{nonempty}
 use Rattle.source.specs.Listing.{SearchTerm, with-imports}
 use Rattle.source.specs.Table.{last-opt}
-use Rattle.source.proofs.Flat.{flat-in}
-use Rattle.source.proofs.Found.{found, match-lists, found-empty, found-one}
+use Rattle.source.specs.Forward.{flat-in}
+use Rattle.source.specs.Forward.{found}
+use Rattle.source.proofs.Found.{match-lists, found-empty, found-one}
 use Rattle.memory.specs.Layout.{record-at, word, Which, Item, list, what}
 use Rattle.memory.proofs.Readings.{what-none}
 use Rattle.memory.proofs.Seen.{link-later}

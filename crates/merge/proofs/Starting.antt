@@ -14,11 +14,13 @@ use Rattle.source.specs.Heap.{Heap, EmptyHeap, HeapOf, []ᶠ, heap-insert, heap
 use Rattle.source.specs.Lists.{Run, run, first, priority, run-cmp}
 use Rattle.source.specs.Listing.{elem-key, with-imports}
 use Rattle.source.specs.Table.{last-opt}
-use Rattle.source.proofs.Heap.{insert-all-more, All, All-merge, counted, heap-map}
-use Rattle.source.proofs.Lists.{rest}
+use Rattle.source.specs.Forward.{heap-map}
+use Rattle.source.proofs.Heap.{insert-all-more, All, All-merge, counted}
+use Rattle.source.specs.Forward.{rest}
 use Rattle.source.proofs.Names.{OrderedN}
 use Rattle.source.proofs.Listed.{formed-orderedN}
-use Rattle.source.proofs.Forward.{held, forward, AreRuns, built, map-run, map-heap, held-map, forward-map, built-map}
+use Rattle.source.specs.Forward.{held, forward}
+use Rattle.source.proofs.Forward.{AreRuns, built, map-run, map-heap, held-map, forward-map, built-map}
 use Rattle.source.proofs.Found.{match-lists, found-read}
 use Rattle.memory.specs.Layout.{Which, Item, list, what, key-at}
 use Rattle.memory.proofs.Seen.{link-later}

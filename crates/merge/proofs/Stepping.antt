@@ -10,12 +10,13 @@ use Rattle.source.specs.Text.{Str, starts-with}
 use Rattle.source.specs.Types.{Level}
 use Rattle.source.specs.Heap.{Heap, EmptyHeap, HeapOf}
 use Rattle.source.specs.Lists.{first}
-use Rattle.source.proofs.Heap.{forest-map}
-use Rattle.source.proofs.Lookup.{same}
-use Rattle.source.proofs.Forward.{held, again, forward, held-popped, forward-empty, forward-step}
+use Rattle.source.specs.Forward.{forest-map}
+use Rattle.source.specs.Shared.{same}
+use Rattle.source.specs.Forward.{held, again, forward}
+use Rattle.source.proofs.Forward.{held-popped, forward-empty, forward-step}
 use Rattle.memory.specs.Layout.{Which, key-at}
 use Rattle.tree.specs.Tree.{AnyTree}
-use Rattle.tree.proofs.Links.{BranchOf}
+use Rattle.tree.specs.Links.{BranchOf}
 use Rattle.merge.specs.Entries.{Entry, entry-key}
 use Rattle.merge.specs.Lists.{LabelOk}
 use Rattle.merge.specs.Stream.{run-at, remaining, Holding, heap-of, Last, Rest, AnyRest, left-in, GivenIn, GivesIn, Gives, state, Takes, Ready}

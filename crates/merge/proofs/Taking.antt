@@ -12,8 +12,9 @@ use Rattle.source.specs.Text.{Str, starts-with}
 use Rattle.source.specs.Types.{Level}
 use Rattle.source.specs.Heap.{Heap, Forest, EmptyHeap, HeapOf, []ᶠ, heap-insert, heap-merge-pairs, heap-pop}
 use Rattle.source.specs.Lists.{Run, put-back, run-cmp}
-use Rattle.source.proofs.Heap.{sum-merge, sum-pairs, heap-map, forest-map}
-use Rattle.source.proofs.Forward.{popped}
+use Rattle.source.specs.Forward.{heap-map, forest-map}
+use Rattle.source.proofs.Heap.{sum-merge, sum-pairs}
+use Rattle.source.specs.Forward.{popped}
 use Rattle.memory.specs.Layout.{Which, key-at}
 use Rattle.heap.specs.Compare.{Heads, cell-cmp}
 use Rattle.heap.specs.Cells.{Root, is, count, Rep, Makes, Inserts, Pops}

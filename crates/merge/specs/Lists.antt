@@ -10,8 +10,8 @@ use Rattle.source.specs.Trees.{PathElem}
 use Rattle.source.specs.Lists.{nonempty}
 use Rattle.source.specs.Listing.{SearchTerm, with-imports}
 use Rattle.source.specs.Table.{last-opt}
-use Rattle.source.proofs.Names.{tree-matches}
-use Rattle.source.proofs.Flat.{flat-in}
+use Rattle.source.specs.Forward.{tree-matches}
+use Rattle.source.specs.Forward.{flat-in}
 use Rattle.memory.specs.Layout.{record-at, word, Which, Item, tree, list, kind, what}
 use Rattle.memory.specs.Sound.{LinkOk}
 use Rattle.tree.specs.Links.{matches, row-at}

@@ -11,14 +11,14 @@ use Rattle.source.specs.Types.{Level}
 use Rattle.source.specs.Heap.{Heap, Forest, EmptyHeap, HeapOf}
 use Rattle.source.specs.Lists.{Run, run}
 use Rattle.source.specs.Listing.{SearchTerm}
-use Rattle.source.proofs.Heap.{heap-map, forest-map}
-use Rattle.source.proofs.Forward.{held, popped, forward}
-use Rattle.source.proofs.Found.{found}
+use Rattle.source.specs.Forward.{heap-map, forest-map}
+use Rattle.source.specs.Forward.{held, popped, forward}
+use Rattle.source.specs.Forward.{found}
 use Rattle.memory.specs.Layout.{Which, tree, list, kind, what, key-at}
 use Rattle.memory.specs.Sound.{LinkOk}
 use Rattle.heap.specs.Cells.{count, Rep}
 use Rattle.tree.specs.Links.{matches, after}
-use Rattle.tree.proofs.Links.{BranchOf}
+use Rattle.tree.specs.Links.{BranchOf}
 use Rattle.names.specs.Names.{ListAt}
 use Rattle.merge.specs.Entries.{Entry, entry-key, shown, outer, Asks}
 use Rattle.merge.specs.Lists.{LabelOk, Full}

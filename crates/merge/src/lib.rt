@@ -5,7 +5,7 @@ use text::Order;
 ghost use mathlib.Core.Path.{_≡_};
 ghost use Prim.Native.Nat.{_+_, _<_, _≤_, _*_};
 ghost use lib.ListN.{length};
-ghost use Rattle.source.proofs.Lookup.{same};
+ghost use Rattle.source.specs.Shared.{same};
 ghost use Rattle.memory.specs.Layout.{key-at};
 ghost use Rattle.memory.specs.Stored.{stored};
 ghost use Rattle.tree.specs.Tree.{AnyTree};

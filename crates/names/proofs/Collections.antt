@@ -6,7 +6,7 @@ use native.Mathlib.Omega.{arith}
 use lib.ListN.{length}
 use Rattle.source.specs.Types.{Level, Names, ImportedNames}
 use Rattle.source.specs.Terms.{weight}
-use Rattle.source.proofs.Counted.{first-tree}
+use Rattle.source.specs.Plans.{first-tree}
 use Rattle.memory.specs.Layout.{record-at, word, span, Which, tree, list, kind, what}
 use Rattle.memory.specs.Sound.{LinkOk, CollectionOk, RecordOk, Sound}
 use Rattle.memory.specs.Stored.{stored}

@@ -7,7 +7,7 @@ use Rattle.source.specs.Text.{Str}
 use Rattle.source.specs.Types.{Level, bind, ns}
 use Rattle.source.specs.Trees.{btree-insert-replace}
 use Rattle.source.specs.Terms.{weight}
-use Rattle.source.proofs.Counted.{insert-branches}
+use Rattle.source.specs.Plans.{insert-branches}
 use Rattle.memory.specs.Layout.{word, span, Which, names, modules, Item, Sort, tree, list, trieˢ, Of, kind, value, what, key-at}
 use Rattle.memory.specs.Stored.{stored}
 use Rattle.memory.proofs.Readings.{what-none}

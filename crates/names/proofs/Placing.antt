@@ -9,7 +9,7 @@ use Rattle.source.specs.Types.{Level, Value, NameList, []ᴺ, Names, ImportedNa
 use Rattle.source.specs.Trees.{btree-insert-replace, btree-find-exact}
 use Rattle.source.specs.Tries.{or-else, names-find-exact, names-insert}
 use Rattle.source.specs.Terms.{weight}
-use Rattle.source.proofs.Counted.{first-tree}
+use Rattle.source.specs.Plans.{first-tree}
 use Rattle.memory.specs.Stored.{stored}
 use Rattle.memory.proofs.Seen.{link-later}
 use Rattle.tree.specs.Tree.{Found, Placed}

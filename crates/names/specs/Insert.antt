@@ -5,7 +5,7 @@ use mathlib.Core.List.{List}
 use Rattle.source.specs.Types.{Level, NameList}
 use Rattle.source.specs.Tries.{names-insert}
 use Rattle.source.specs.Terms.{weight}
-use Rattle.source.proofs.Counted.{insert-branches, first-tree}
+use Rattle.source.specs.Plans.{insert-branches, first-tree}
 use Rattle.memory.specs.Layout.{word, span, Which, Item, list, kind, value, what}
 use Rattle.memory.specs.Sound.{LinkOk, Sound}
 use Rattle.tree.specs.Insert.{NewBranch}

@@ -8,7 +8,7 @@ use Rattle.source.specs.Text.{Str}
 use Rattle.source.specs.Types.{Level, Value, NameList, []ᴺ, Names, ImportedNames}
 use Rattle.source.specs.Tries.{names-find-exact, names-insert}
 use Rattle.source.specs.Terms.{weight}
-use Rattle.source.proofs.Counted.{insert-branches, first-tree}
+use Rattle.source.specs.Plans.{insert-branches, first-tree}
 use Rattle.memory.specs.Layout.{pick, Which, Item, tree, list, kind, what, key-at}
 use Rattle.memory.specs.Sound.{LinkOk, Sound}
 use Rattle.tree.specs.Tree.{held}

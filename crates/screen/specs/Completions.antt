@@ -15,7 +15,7 @@ use Rattle.memory.specs.Sound.{Says}
 use Rattle.lines.specs.Ask.{asked}
 use Rattle.lines.specs.Output.{Written}
 use Rattle.lines.specs.declared.Ask.{Ask}
-use Rattle.lines.specs.declared.Ask.the-variants.{Names, Modules}
+use Rattle.lines.specs.declared.Ask.the-variants.{Modules}
 use Rattle.lines.specs.declared.Filter.the-variants.{All, Loaded, ModulesOnly, NamespacesOnly}
 use Rattle.table.specs.Header.{IsSound, table-in}
 use Rattle.table.specs.Completions.{completion}

@@ -9,7 +9,6 @@ use table::Completed;
 use table::Form;
 use table::Found;
 use table::FoundModule;
-use table::Refusal;
 use table::Registered;
 use table::Table;
 ghost use mathlib.Core.Path.{_≡_};
@@ -17,7 +16,7 @@ ghost use mathlib.Core.Option.{none, some};
 ghost use Prim.Native.Nat.{_+_, _*_, _≤_, _<_};
 ghost use lib.ListN.{length};
 ghost use Rattle.source.specs.Calls.{name, include, opens, alias, module-path, refused};
-ghost use Rattle.table.specs.Answers.{number, name-found};
+ghost use Rattle.table.specs.Answers.{name-found};
 ghost use Rattle.table.specs.Forms.{call-of, NoKey};
 ghost use Rattle.screen.specs.Bytes.{word-at, Put, Stored};
 ghost use Rattle.screen.specs.Memory.{header-in, Spells, records-lent, words-in, Loaded};
@@ -158,24 +157,6 @@ fn put_header(state: &mut [u8], t: Table)
 
 // ---- Replies
 
-// Document 01's number of a refusal.
-fn number(r: Refusal) -> u32
-    ensures { λ n. ⌜ n ≡ number r ⌝ }
-{
-    match r {
-        Refusal::Unsound => 1,
-        Refusal::Malformed => 2,
-        Refusal::Empty => 3,
-        Refusal::TooLong => 4,
-        Refusal::Crowded => 5,
-        Refusal::Deep => 6,
-        Refusal::Full => 7,
-        Refusal::TextFull => 8,
-        Refusal::Spent => 9,
-        Refusal::Lines => 10,
-    }
-}
-
 // ---- Registrations
 
 // A registration, where `memory` has the lent words.
@@ -206,7 +187,7 @@ fn enter(
             put_header(state, h);
             0
         }
-        Registered::Refused(x) => number(x),
+        Registered::Refused(x) => table::number(x),
     }
 }
 
@@ -377,7 +358,7 @@ fn name_reply(f: Found) -> NameReply
     match f {
         Found::Item(n) => NameReply { answer: 0, item: n },
         Found::Nothing => no_name(11),
-        Found::Refused(x) => no_name(number(x)),
+        Found::Refused(x) => no_name(table::number(x)),
     }
 }
 
@@ -424,7 +405,7 @@ fn module_reply(f: FoundModule) -> ModuleReply
     match f {
         FoundModule::Symbol(s) => symbol_reply(s),
         FoundModule::Nothing => no_module(11),
-        FoundModule::Refused(x) => no_module(number(x)),
+        FoundModule::Refused(x) => no_module(table::number(x)),
     }
 }
 
@@ -533,7 +514,7 @@ fn list(
                 entered: entered,
             }
         }
-        Completed::Refused(x) => no_lines(number(x)),
+        Completed::Refused(x) => no_lines(table::number(x)),
     }
 }
 

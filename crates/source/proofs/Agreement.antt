@@ -18,7 +18,7 @@ use Rattle.source.specs.Table.{ModSymbol, Line, string-of-path, completi
 use Rattle.source.specs.Rules.{Formed, IsKey, IsLabel, NameItem, ModItem, SoundTrie, all}
 use Rattle.source.specs.Calls.{Found, refused, found-of, look-up, Completed, listed, Output, All, keeps, filter-of, completed, complete, complete-modules, lowest, argument-rows, completion-rows, a-look-up, is-empty}
 use Rattle.source.specs.Agreement.{Covers, without-last, NotRefused, lines-of-text, Shows, OneHolder, Agreement, Demand3}
-use Rattle.source.proofs.Lookup.{same, Allˡ}
+use Rattle.source.specs.Shared.{same, Allˡ}
 use Rattle.source.proofs.Queries.{and-parts, string-is}
 use Rattle.source.proofs.Refusals.{Admitted, argument-rows-none, look-up-whole, look-up-segment}
 use Rattle.source.proofs.Listed.{look-up-is-walk, to-list}

@@ -13,7 +13,9 @@ use Rattle.source.specs.Listing.{PathOf, fold-left, rev-map-onto, ns-sea
 use Rattle.source.specs.Table.{Table, ModSymbol, Module, Namespace, insert, register-alias, register-include, register-open, ns-inserts, ins-ns, ins-mod, ins, name-of-revq, register-module-path}
 use Rattle.source.specs.Counted.{Counted, pure, one, _>>=_, MutNodeᶜ, MutLeafᶜ, btree-insert-replaceᶜ, names-insertᶜ, trie-mutateᶜ, trie-mutate-leafᶜ, trie-insertᶜ, trie-importᶜ, trie-includeᶜ, trie-open-namespaceᶜ, trie-add-aliasᶜ, lids, insertᶜ, register-aliasᶜ, register-includeᶜ, register-openᶜ, ins-nsᶜ, ins-modᶜ, insᶜ, register-module-pathᶜ, fold-leftᶜ, find-prefix-fuelᶜ, trie-find-prefixᶜ}
 use Rattle.source.specs.Calls.{Call, name, include, opens, alias, module-path, registered, records, tries-entered}
-use Rattle.source.proofs.Heap.{sumˡ}
+use Rattle.source.specs.Shared.{sumˡ}
+use Rattle.source.specs.Plans.{insert-branches, first-tree}
+use Rattle.source.specs.Forward.{entered}
 
 -- A function of a choice by an order, case by case.
 by-order : {B C : Type 0} (f : B → C) (o : Ordering) {x y z : B} {x′ y′ z′ : C} → f x ≡ x′ → f y ≡ y′ → f z ≡ z′
@@ -32,16 +34,6 @@ module _ {A : Type 0} where
       by-order (λ (c : Counted (Tree A _)). c .value) (string-compare k k′)
       (ap (λ t. StrBranch k′ v′ t rbt) (btree-insert-replace-value lbt k v)) refl (ap (StrBranch k′ v′ lbt) (btree-insert-replace-value rbt k v))
 
-  -- The branches that btree_insert_replace builds.
-  unfoldable pub insert-branches : {l : Level} → Tree A l → Str → ℕ
-  insert-branches StrEmpty k = 1
-  insert-branches (StrBranch k′ v lbt rbt) k =
-      elim (string-compare k k′) [
-        | Ordering·lt ↦ suc (insert-branches lbt k)
-        | Ordering·eq ↦ 1
-        | Ordering·gt ↦ suc (insert-branches rbt k)
-      ]
-
   pub btree-insert-replace-count : {l : Level} (t : Tree A l) (k : Str) (v : Value A l) → btree-insert-replaceᶜ t k v .count ≡ insert-branches t k
   unfolding btree-insert-replaceᶜ insert-branches _>>=_ one
   btree-insert-replace-count StrEmpty k v = refl
@@ -54,12 +46,6 @@ module _ {A : Type 0} where
   names-insert-value []ᴺ id v = rw btree-insert-replace-value
   names-insert-value (Names bt tl) id v = rw btree-insert-replace-value
   names-insert-value (ImportedNames label inner tl) id v = rw btree-insert-replace-value
-
-  -- The tree that names_insert inserts into.
-  unfoldable pub first-tree : {l : Level} → NameList A l → Tree A l
-  first-tree []ᴺ = StrEmpty
-  first-tree (Names bt tl) = bt
-  first-tree (ImportedNames label inner tl) = StrEmpty
 
   pub names-insert-count : {l : Level} (n : NameList A l) (id : Str) (v : Value A l) → names-insertᶜ n id v .count ≡ suc (insert-branches (first-tree n) id)
   unfolding names-insertᶜ first-tree _>>=_ one
@@ -215,11 +201,6 @@ module _ {A : Type 0} where
   pub trie-find-prefix-value : (tr : Trie A) (q : Query) → trie-find-prefixᶜ tr q .value ≡ trie-find-prefix tr q
   unfolding trie-find-prefixᶜ trie-find-prefix trie-find-prefix′
   trie-find-prefix-value tr q = find-prefix-fuel-value (suc (depth tr)) tr [] q []
-
-  -- The tries entered from a trie: itself, and those entered from each row of its namespaces.
-  unfoldable pub entered : ℕ → Trie A → Query → ℕ
-  entered zero tr q = 0
-  entered (suc n) tr q = suc (sumˡ (λ x. entered n (x .1) (tail q)) (names-find-rev (namespaces tr) (ns-search-term q)))
 
   -- The count depends neither on the path nor on acc.
   pub find-prefix-fuel-count : (n : ℕ) (tr : Trie A) (path : PathOf) (q : Query) (acc : List (PathOf × A))

@@ -11,7 +11,9 @@ use Rattle.source.specs.Tries.{dflt}
 use Rattle.source.specs.Terms.{flatten, weight}
 use Rattle.source.specs.Listing.{NSTAll, NSTPrefix, revmap-onto, names-revmap, matching-values}
 use Rattle.source.specs.Table.{last-opt}
-use Rattle.source.proofs.Names.{tree-matches, values-all, values-prefix}
+use Rattle.source.specs.Forward.{tree-matches}
+use Rattle.source.proofs.Names.{values-all, values-prefix}
+use Rattle.source.specs.Forward.{flat-in, flat}
 
 pub last-import : (label : Str) (imports : List Str) → last-opt (label ∷ imports) ≡ some (dflt label (last-opt imports))
 unfolding last-opt dflt
@@ -19,15 +21,6 @@ last-import label [] = refl
 last-import label (i ∷ imports) = rw (last-import i imports)
 
 module _ {A : Type 0} {l : Level} where
-  -- Below some imports, the innermost first.
-  unfoldable pub flat-in : List Str → NameList A l → List (List Str × Tree A l)
-  flat-in imports []ᴺ = []
-  flat-in imports (Names bt tl) = (imports, bt) ∷ flat-in imports tl
-  flat-in imports (ImportedNames label inner tl) = flat-in (label ∷ imports) inner ++ flat-in imports tl
-
-  abbrev pub flat : NameList A l → List (List Str × Tree A l)
-  flat n = flat-in [] n
-
   revmap-onto-is : {B : Type 0} (fn : Tree A l → B) (acc : List (List Str × B)) (imports : List Str) (n : NameList A l)
       → revmap-onto fn acc imports n ≡ reverseAux (map (λ x. (x .0, fn (x .1))) (flat-in imports n)) acc
   unfolding revmap-onto flat-in

@@ -10,57 +10,40 @@ use Rattle.source.specs.Text.{Str}
 use Rattle.source.specs.Rules.{_<ˢ_}
 use Rattle.source.proofs.Order.{<ˢ-irrefl}
 use Rattle.source.specs.Heap.{Heap, Forest, EmptyHeap, HeapOf, []ᶠ, _∷ᶠ_, is-lt, heap-merge, heap-insert, heap-merge-pairs, heap-pair-up, heap-insert-all, heap-from-list}
-use Rattle.source.proofs.Heap.{sum, sumᶠ}
+use Rattle.source.specs.Forward.{sum, sumᶠ}
 use Rattle.source.specs.Lists.{Run, run, first, priority, nonempty, add-priorities, total, push-nodup, run-cmp, put-back, merge-aux, merge-nonempty, merge-increasing-lists-rev}
-use Rattle.source.proofs.Lookup.{same, same-ne, Allˡ, Increasing}
-use Rattle.source.proofs.Lists.{rest, size, put-back-size, from-list-size, nonempty-all}
-
--- How many elements the heap's lists have.
-unfoldable pub held : {A : Type 0} → Heap (Run A) → ℕ
-held h = sum size h
+use Rattle.source.specs.Shared.{same, Allˡ}
+use Rattle.source.proofs.Lookup.{same-ne, Increasing}
+use Rattle.source.specs.Forward.{rest, size}
+use Rattle.source.proofs.Lists.{put-back-size, from-list-size, nonempty-all}
+use Rattle.source.specs.Forward.{held, again, popped, forward}
 
 module _ {A : Type 0} (key : A → Str) where
-  -- x has the key of the last one given.
-  unfoldable pub again : A → Option A → Bool
-  again x none = false
-  again x (some y) = same (key x) (key y)
-
-  -- The heap without its least element.
-  abbrev pub popped : Run A → Forest (Run A) → Heap (Run A)
-  popped r hh = put-back key r (heap-merge-pairs (run-cmp key) hh)
-
-  -- What the heap still gives, in order, after last.
-  unfoldable pub forward : ℕ → Heap (Run A) → Option A → List A
-  forward zero h last = []
-  forward (suc n) EmptyHeap last = []
-  forward (suc n) (HeapOf r hh) last =
-      cond (again (first r) last) (forward n (popped r hh) last) (first r ∷ forward n (popped r hh) (some (first r)))
-
   -- ---- fuel
-  pub held-popped : (r : Run A) (hh : Forest (Run A)) → suc (held (popped r hh)) ≡ held (HeapOf r hh)
+  pub held-popped : (r : Run A) (hh : Forest (Run A)) → suc (held (popped key r hh)) ≡ held (HeapOf r hh)
   unfolding held
   held-popped r hh = sym (put-back-size key r hh)
 
-  pub forward-empty : (n : ℕ) (last : Option A) → forward n EmptyHeap last ≡ []
+  pub forward-empty : (n : ℕ) (last : Option A) → forward key n EmptyHeap last ≡ []
   unfolding forward
   forward-empty zero last = refl
   forward-empty (suc n) last = refl
 
-  pub forward-fuel : (m n : ℕ) (h : Heap (Run A)) (last : Option A) → held h ≤ m → held h ≤ n → forward m h last ≡ forward n h last
+  pub forward-fuel : (m n : ℕ) (h : Heap (Run A)) (last : Option A) → held h ≤ m → held h ≤ n → forward key m h last ≡ forward key n h last
   unfolding forward
   forward-fuel zero n EmptyHeap last a b = sym (forward-empty n last)
   forward-fuel zero n (HeapOf r hh) last a b = absurd (omega (arith, held-popped r hh))
   forward-fuel (suc m) n EmptyHeap last a b = sym (forward-empty n last)
   forward-fuel (suc m) zero (HeapOf r hh) last a b = absurd (omega (arith, held-popped r hh))
   forward-fuel (suc m) (suc n) (HeapOf r hh) last a b =
-      let a′ : held (popped r hh) ≤ m = omega (arith, held-popped r hh) in
-      let b′ : held (popped r hh) ≤ n = omega (arith, held-popped r hh) in
-      ap₂ (λ x y. cond (again (first r) last) x (first r ∷ y))
-      (forward-fuel m n (popped r hh) last a′ b′) (forward-fuel m n (popped r hh) (some (first r)) a′ b′)
+      let a′ : held (popped key r hh) ≤ m = omega (arith, held-popped r hh) in
+      let b′ : held (popped key r hh) ≤ n = omega (arith, held-popped r hh) in
+      ap₂ (λ x y. cond (again key (first r) last) x (first r ∷ y))
+      (forward-fuel m n (popped key r hh) last a′ b′) (forward-fuel m n (popped key r hh) (some (first r)) a′ b′)
 
   -- One step, at the same fuel.
   pub forward-step : (n : ℕ) (r : Run A) (hh : Forest (Run A)) (last : Option A) → held (HeapOf r hh) ≤ n
-      → forward n (HeapOf r hh) last ≡ cond (again (first r) last) (forward n (popped r hh) last) (first r ∷ forward n (popped r hh) (some (first r)))
+      → forward key n (HeapOf r hh) last ≡ cond (again key (first r) last) (forward key n (popped key r hh) last) (first r ∷ forward key n (popped key r hh) (some (first r)))
   unfolding forward
   forward-step n r hh last a = forward-fuel n (suc n) (HeapOf r hh) last a (omega arith)
 
@@ -69,16 +52,16 @@ module _ {A : Type 0} (key : A → Str) where
   last-given [] = none
   last-given (a ∷ acc) = some a
 
-  merge-aux-is : (n : ℕ) (h : Heap (Run A)) (acc : List A) → merge-aux key n h acc ≡ reverseAux (forward n h (last-given acc)) acc
+  merge-aux-is : (n : ℕ) (h : Heap (Run A)) (acc : List A) → merge-aux key n h acc ≡ reverseAux (forward key n h (last-given acc)) acc
   unfolding merge-aux forward push-nodup again
   merge-aux-is zero h acc = refl
   merge-aux-is (suc n) EmptyHeap acc = refl
-  merge-aux-is (suc n) (HeapOf r hh) [] = merge-aux-is n (popped r hh) (first r ∷ [])
-  merge-aux-is (suc n) (HeapOf r hh) (a ∷ acc) = go (same (key (first r)) (key a)) (λ acc. merge-aux-is n (popped r hh) acc)
+  merge-aux-is (suc n) (HeapOf r hh) [] = merge-aux-is n (popped key r hh) (first r ∷ [])
+  merge-aux-is (suc n) (HeapOf r hh) (a ∷ acc) = go (same (key (first r)) (key a)) (λ acc. merge-aux-is n (popped key r hh) acc)
     where
-      go : (z : Bool) → ((acc : List A) → merge-aux key n (popped r hh) acc ≡ reverseAux (forward n (popped r hh) (last-given acc)) acc)
-          → merge-aux key n (popped r hh) (cond z (a ∷ acc) (first r ∷ (a ∷ acc)))
-          ≡ reverseAux (cond z (forward n (popped r hh) (some a)) (first r ∷ forward n (popped r hh) (some (first r)))) (a ∷ acc)
+      go : (z : Bool) → ((acc : List A) → merge-aux key n (popped key r hh) acc ≡ reverseAux (forward key n (popped key r hh) (last-given acc)) acc)
+          → merge-aux key n (popped key r hh) (cond z (a ∷ acc) (first r ∷ (a ∷ acc)))
+          ≡ reverseAux (cond z (forward key n (popped key r hh) (some a)) (first r ∷ forward key n (popped key r hh) (some (first r)))) (a ∷ acc)
       go true ih = ih (a ∷ acc)
       go false ih = ih (first r ∷ (a ∷ acc))
 
@@ -87,13 +70,13 @@ module _ {A : Type 0} (key : A → Str) where
   Past none v = Unit {0}
   Past (some y) v = key y <ˢ key v
 
-  not-again : (last : Option A) (v : A) → Past last v → again v last ≡ false
+  not-again : (last : Option A) (v : A) → Past last v → again key v last ≡ false
   unfolding again
   not-again none v p = refl
   not-again (some y) v p = same-ne (key v) (key y) (λ e. <ˢ-irrefl (key v) (rw (← e) at p))
 
   forward-one : (pr : ℕ) (v : A) (tl : List A) (last : Option A) → Increasing key (v ∷ tl) → Past last v
-      → forward (suc (length tl)) (HeapOf (run pr v tl) []ᶠ) last ≡ v ∷ tl
+      → forward key (suc (length tl)) (HeapOf (run pr v tl) []ᶠ) last ≡ v ∷ tl
   unfolding forward first put-back heap-merge-pairs heap-insert heap-merge
   forward-one pr v [] last i p = rw (not-again last v p)
   forward-one pr v (w ∷ tl) last i p = rw (not-again last v p) (ap (_∷_ v) (forward-one pr w tl (some v) (i .1) (i .0 .0)))
@@ -105,16 +88,16 @@ module _ {A : Type 0} (key : A → Str) where
   unfolding held
   held-start ls = from-list-size key ls
 
-  merge-nonempty-is : (ls : List (List A)) → Allˡ (Increasing key) ls → merge-nonempty key ls ≡ reverse (forward (total ls) (start ls) none)
+  merge-nonempty-is : (ls : List (List A)) → Allˡ (Increasing key) ls → merge-nonempty key ls ≡ reverse (forward key (total ls) (start ls) none)
   unfolding merge-nonempty total heap-from-list add-priorities heap-insert-all heap-insert heap-merge forward
   merge-nonempty-is [] a = refl
   merge-nonempty-is ([] ∷ []) a = refl
   merge-nonempty-is ((v ∷ tl) ∷ []) a = let e : suc (length tl) + 0 ≡ suc (length tl) = omega arith in
-      ap reverse (sym (ap (λ n. forward n (HeapOf (run 0 v tl) []ᶠ) none) e ∙ forward-one 0 v tl none (a .0) tt))
+      ap reverse (sym (ap (λ n. forward key n (HeapOf (run 0 v tl) []ᶠ) none) e ∙ forward-one 0 v tl none (a .0) tt))
   merge-nonempty-is (l ∷ (m ∷ ms)) a = merge-aux-is (total (l ∷ (m ∷ ms))) (start (l ∷ (m ∷ ms))) []
 
   pub merge-is : (ls : List (List A)) → Allˡ (Increasing key) ls
-      → merge-increasing-lists-rev key ls ≡ reverse (forward (total (nonempty ls)) (heap-from-list (run-cmp key) (add-priorities 0 [] (nonempty ls))) none)
+      → merge-increasing-lists-rev key ls ≡ reverse (forward key (total (nonempty ls)) (heap-from-list (run-cmp key) (add-priorities 0 [] (nonempty ls))) none)
   unfolding merge-increasing-lists-rev
   merge-is ls a = merge-nonempty-is (nonempty ls) (nonempty-all key (Increasing key) ls a)
 

@@ -11,18 +11,19 @@ use Rattle.source.specs.Trees.{PathElem}
 use Rattle.source.specs.Heap.{Heap, heap-from-list}
 use Rattle.source.specs.Lists.{Run, nonempty, add-priorities, total, run-cmp, merge-nonempty, merge-increasing-lists-rev}
 use Rattle.source.specs.Listing.{SearchTerm, NSTAll, NSTNone, NSTPrefix, matching-values, with-imports, elem-key, names-find-rev}
-use Rattle.source.proofs.Names.{OrderedN, tree-matches, values-none, values-increasing}
-use Rattle.source.proofs.Forward.{held, held-start, forward, forward-fuel, merge-is, nonempty-reverse, AreRuns, built, built-is, map-run, map-heap, held-map, forward-map, built-map}
-use Rattle.source.proofs.Flat.{flat, values-all-is, values-prefix-is}
+use Rattle.source.specs.Forward.{tree-matches}
+use Rattle.source.proofs.Names.{OrderedN, values-none, values-increasing}
+use Rattle.source.specs.Forward.{held, forward}
+use Rattle.source.proofs.Forward.{held-start, forward-fuel, merge-is, nonempty-reverse, AreRuns, built, built-is, map-run, map-heap, held-map, forward-map, built-map}
+use Rattle.source.specs.Forward.{flat}
+use Rattle.source.proofs.Flat.{values-all-is, values-prefix-is}
+use Rattle.source.specs.Forward.{found}
 
 map-reverse : {A B : Type 0} (f : A → B) (l acc : List A) → map f (reverseAux l acc) ≡ reverseAux (map f l) (map f acc)
 map-reverse f [] acc = refl
 map-reverse f (a ∷ l) acc = map-reverse f l (a ∷ acc)
 
 module _ {A : Type 0} {l : Level} where
-  unfoldable pub found : NameList A l → SearchTerm → List (PathElem × Value A l)
-  found n term = reverse (names-find-rev n term)
-
   -- Each tree's matches with its imports, in flattened order.
   unfoldable pub match-lists : SearchTerm → NameList A l → List (List (PathElem × Value A l))
   match-lists term n = map (λ x. with-imports (x .0, tree-matches term (x .1))) (flat n)

@@ -13,9 +13,11 @@ use Rattle.source.specs.Terms.{depth}
 use Rattle.source.specs.Listing.{PathOf, fold-left, rev-map-onto, ns-search-term, bindings-search-term, names-find-rev, find-prefix-fuel, trie-find-prefix′}
 use Rattle.source.specs.Counted.{Counted, one, _>>=_, fold-leftᶜ, find-prefix-fuelᶜ, trie-find-prefixᶜ}
 use Rattle.source.specs.Calls.{tries-entered}
-use Rattle.source.proofs.Heap.{sum, sumˡ}
-use Rattle.source.proofs.Lookup.{Allˡ}
-use Rattle.source.proofs.Lists.{size, put-back-size, from-list-size}
+use Rattle.source.specs.Forward.{sum}
+use Rattle.source.specs.Shared.{sumˡ}
+use Rattle.source.specs.Shared.{Allˡ}
+use Rattle.source.specs.Forward.{size}
+use Rattle.source.proofs.Lists.{put-back-size, from-list-size}
 use Rattle.source.proofs.Rows.{names-find-rev-depth}
 use Rattle.source.proofs.Counted.{fold-left-value, fold-left-count, find-prefix-fuel-value, find-prefix-fuel-count, tries-entered-count}
 

@@ -6,38 +6,15 @@ use mathlib.Core.List.{List, [], _∷_, _++_}
 use mathlib.Core.Option.{some, Option·none-ne-some, Option·some-injective}
 use native.Mathlib.Omega.{arith}
 use Rattle.source.specs.Heap.{Heap, Forest, EmptyHeap, HeapOf, []ᶠ, _∷ᶠ_, is-lt, heap-merge, heap-insert, heap-merge-pairs, heap-pair-up, heap-pop, heap-insert-all, heap-from-list}
+use Rattle.source.specs.Forward.{sum, sumᶠ}
+use Rattle.source.specs.Shared.{sumˡ}
 
 -- something counted in one of two parts
 abbrev pick : {C : Type 0} (m n : ℕ) → 0 < m + n → (0 < m → C) → (0 < n → C) → C
 pick zero n l f g = g (omega arith)
 pick (suc m) n l f g = f (omega arith)
 
--- The sum over a list.
-abbrev pub sumˡ : {A : Type 0} → (A → ℕ) → List A → ℕ
-sumˡ f [] = 0
-sumˡ f (a ∷ l) = f a + sumˡ f l
-
--- A heap with each element replaced.
-module _ {A B : Type 0} (f : A → B) where
-  abbrev mutual
-    pub heap-map : Heap A → Heap B
-    heap-map EmptyHeap = EmptyHeap
-    heap-map (HeapOf v hh) = HeapOf (f v) (forest-map hh)
-
-    pub forest-map : Forest A → Forest B
-    forest-map []ᶠ = []ᶠ
-    forest-map (h ∷ᶠ hh) = heap-map h ∷ᶠ forest-map hh
-
 module _ {A : Type 0} where
-  abbrev mutual
-    pub sum : (A → ℕ) → Heap A → ℕ
-    sum f EmptyHeap = 0
-    sum f (HeapOf v hh) = f v + sumᶠ f hh
-
-    pub sumᶠ : (A → ℕ) → Forest A → ℕ
-    sumᶠ f []ᶠ = 0
-    sumᶠ f (h ∷ᶠ hh) = sum f h + sumᶠ f hh
-
   abbrev mutual
     pub All : (A → Type 0) → Heap A → Type 0
     All P EmptyHeap = Unit {0}

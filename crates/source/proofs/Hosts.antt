@@ -5,7 +5,7 @@ use mathlib.Core.Option.{Option, none, some}
 use Rattle.source.specs.Text.{Str, Query}
 use Rattle.source.specs.Types.{Trie, namespaces, trie-empty}
 use Rattle.source.specs.Tries.{dflt, bind-option, names-find-exact, trie-descend-exact, scope-of, included}
-use Rattle.source.proofs.Imports.{host-of}
+use Rattle.source.specs.Plans.{host-of}
 
 module _ {A : Type 0} where
   pub host-of-step : (tr : Trie A) (s : Str) (q : Query) → host-of tr (s ∷ q) ≡ host-of (scope-of (namespaces tr) s) q

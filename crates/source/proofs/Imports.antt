@@ -8,6 +8,7 @@ use Rattle.source.specs.Types.{Level, Value, Trie, Tree, NameList, trie,
 use Rattle.source.specs.Trees.{btree-insert-replace, btree-find-exact}
 use Rattle.source.specs.Tries.{or-else, bind-option, names-find-exact, names-insert, scope-of, trie-descend-exact, trie-mutate, trie-mutate-leaf, included, trie-import, trie-include, trie-open-namespace, trie-add-alias}
 use Rattle.source.proofs.Order.{compare-self}
+use Rattle.source.specs.Plans.{host-of}
 
 module _ {A : Type 0} where
   -- a key that was inserted is found
@@ -31,11 +32,6 @@ module _ {A : Type 0} where
   names-find-inserted []ᴺ k v = rw (find-inserted StrEmpty k v)
   names-find-inserted (Names bt tl) k v = rw (find-inserted bt k v)
   names-find-inserted (ImportedNames label inner tl) k v = rw (find-inserted StrEmpty k v)
-
-  -- the trie at a query, a namespace that is not there counting as empty
-  unfoldable pub host-of : Trie A → Query → Trie A
-  host-of tr [] = tr
-  host-of tr (s ∷ q) = host-of (scope-of (namespaces tr) s) q
 
   module _ (leaf : Trie A → Trie A) where
     descend-mutated : (tr : Trie A) (q rev-acc rest : Query)

@@ -11,8 +11,9 @@ use Rattle.source.specs.Lists.{Run, run, first, priority, nonempty, add-
 use Rattle.source.specs.Types.{Value, Trie, bind, bindings, namespaces}
 use Rattle.source.specs.Tries.{bind-option as _>>=_, names-find-exact, trie-find-exact}
 use Rattle.source.specs.Calls.{a-look-up, is-empty}
-use Rattle.source.proofs.Heap.{heap-map, forest-map, sum}
-use Rattle.source.proofs.Lists.{size, put-back-size, from-list-size}
+use Rattle.source.specs.Forward.{heap-map, forest-map, sum}
+use Rattle.source.specs.Forward.{size}
+use Rattle.source.proofs.Lists.{put-back-size, from-list-size}
 use Rattle.source.proofs.Fuel.{merge-aux-fuel}
 use Rattle.source.proofs.Refusals.{Admitted, look-up-segment}
 

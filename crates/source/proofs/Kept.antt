@@ -16,9 +16,12 @@ use Rattle.source.specs.Table.{ModSymbol, Namespace, Table, empty, inser
 use Rattle.source.specs.Rules.{all, IsKey, IsLabel, IsFullName, IsPath, NameItem, ModItem, _<ˢ_, AllKeys, Formed, FormedTree, FormedNames, SoundTable}
 use Rattle.source.specs.Calls.{Argument, a-query, a-name, a-path, a-look-up, a-completion, is-empty, any, malformed, empty-name, too-long, State, fresh, Lent, Call, name, include, opens, alias, module-path, arguments, registered, crowded, deep, after, accepted, register}
 use Rattle.source.proofs.Order.{View, compare-strings}
-use Rattle.source.proofs.Lookup.{Allˡ, Allˡ-zip}
-use Rattle.source.proofs.Queries.{or-parts, any-false, nonempty-length, IsQuery, IsCompletion, name-key, path-fits, segments-query, segments-completion, query-to-string-label, name-of-revq-full-name}
+use Rattle.source.specs.Shared.{Allˡ}
+use Rattle.source.proofs.Lookup.{Allˡ-zip}
+use Rattle.source.specs.Queries.{IsQuery, IsCompletion}
+use Rattle.source.proofs.Queries.{or-parts, any-false, nonempty-length, name-key, path-fits, segments-query, segments-completion, query-to-string-label, name-of-revq-full-name}
 use Rattle.source.proofs.Refusals.{Admitted, accepted-is, accepted-acceptable}
+use Rattle.source.specs.Queries.{Keeps}
 
 module _ {A : Type 0} {l : Level} where
   -- An insert adds no key but its own.
@@ -202,14 +205,6 @@ module _ (path : Str) (loaded : Bool) (p : IsPath path) where
       (λ tr r t. t) i (i .keys) g
 
 -- ---- calls
-
--- What rows 2 to 4 give of an argument.
-abbrev pub Keeps : Argument → Type 0
-Keeps (a-query s) = IsQuery (segments s)
-Keeps (a-name s) = IsKey s
-Keeps (a-path s) = IsPath s
-Keeps (a-look-up s) = IsQuery (segments s) × (1 ≤ length (segments s))
-Keeps (a-completion s) = IsCompletion (segments s)
 
 argument-keeps : (a : Argument) → malformed a ≡ false → empty-name a ≡ false → too-long a ≡ false → Keeps a
 unfolding malformed empty-name too-long

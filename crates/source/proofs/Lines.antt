@@ -12,10 +12,11 @@ use Rattle.source.specs.Trees.{PathElem}
 use Rattle.source.specs.Terms.{depth}
 use Rattle.source.specs.Listing.{PathOf, fold-left, rev-map-onto, ns-search-term, bindings-search-term, names-find-rev, find-prefix-fuel, trie-find-prefix′, trie-find-prefix}
 use Rattle.source.specs.Table.{Table, ModSymbol, Line, completion-result-of-lid, completion-result-of-ns-or-mod, filter-map, autocomplete-lid, autocomplete-mod-or-ns}
-use Rattle.source.proofs.Counted.{entered}
+use Rattle.source.specs.Forward.{entered}
 use Rattle.source.specs.Calls.{output-text, output-lines}
-use Rattle.source.proofs.Heap.{sumˡ}
-use Rattle.source.proofs.Found.{found}
+use Rattle.source.specs.Shared.{sumˡ}
+use Rattle.source.specs.Forward.{found}
+use Rattle.source.specs.Forward.{line, lines, made, kept-line}
 
 -- ---- lists
 module _ {A B : Type 0} where
@@ -66,15 +67,6 @@ module _ {A : Type 0} where
 
 -- ---- the listing
 module _ {A : Type 0} where
-  abbrev pub line : PathOf → PathElem × Value A bind → PathOf × A
-  line path x = (reverse (x .0 ∷ path), the-item (x .1))
-
-  unfoldable pub lines : ℕ → Trie A → PathOf → Query → List (PathOf × A)
-  lines zero tr path q = []
-  lines (suc n) tr path q =
-      map (line path) (found (bindings tr) (bindings-search-term q))
-      ++ flatMap (λ x. lines n (x .1) (x .0 ∷ path) (tail q)) (found (namespaces tr) (ns-search-term q))
-
   pub listing-is : (n : ℕ) (tr : Trie A) (path : PathOf) (q : Query) (acc : List (PathOf × A)) → find-prefix-fuel n tr path q acc ≡ lines n tr path q ++ acc
   unfolding find-prefix-fuel lines found
   listing-is zero tr path q acc = refl
@@ -100,10 +92,6 @@ module _ {A : Type 0} where
       + sumˡ (λ x. length (lines n (x .1) (x .0 ∷ path) (tail q))) (found (namespaces tr) (ns-search-term q))
   unfolding lines
   lines-count n tr path q = rw (length-append, length-map, length-flatMap)
-
-  -- What is made of each path and item, one after another.
-  unfoldable pub made : {B : Type 0} → (PathOf × A → List B) → ℕ → Trie A → PathOf → Query → List B
-  made mk n tr path q = flatMap mk (lines n tr path q)
 
   module _ {B : Type 0} (mk : PathOf × A → List B) (n : ℕ) (tr : Trie A) (path : PathOf) (q : Query) where
     abbrev here : PathElem × Value A bind → List B
@@ -169,10 +157,6 @@ pub autocomplete-lid-is : (tbl : Table) (q : Query)
     → autocomplete-lid tbl q ≡ made (λ x. completion-result-of-lid x ∷ []) (suc (depth (tbl .tbl-lids))) (tbl .tbl-lids) [] q
 unfolding autocomplete-lid made
 autocomplete-lid-is tbl q = ap (map completion-result-of-lid) (trie-find-prefix-is (tbl .tbl-lids) q) ∙ map-is-flatMap completion-result-of-lid _
-
--- The line of a symbol that the filter keeps.
-unfoldable pub kept-line : (PathOf × ModSymbol → Option (PathOf × ModSymbol)) → PathOf × ModSymbol → List (Line ModSymbol)
-kept-line filter x = elim (filter x) [ none ↦ [] | some y ↦ completion-result-of-ns-or-mod y ∷ [] ]
 
 filter-map-is : (filter : PathOf × ModSymbol → Option (PathOf × ModSymbol)) (l : List (PathOf × ModSymbol))
     → map completion-result-of-ns-or-mod (filter-map filter l) ≡ flatMap (kept-line filter) l

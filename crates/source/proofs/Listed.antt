@@ -15,7 +15,8 @@ use Rattle.source.specs.Listing.{PathOf, SearchTerm, fold-left, rev-map-
 use Rattle.source.specs.Rules.{Ordered, Formed, FormedTree, FormedNames}
 use Rattle.source.specs.Agreement.{Covers}
 use Rattle.source.proofs.Order.{<ˢ-irrefl}
-use Rattle.source.proofs.Lookup.{same, Same, same-view, same-self, Allˡ, lookup, lookup-hit, lookup-miss, Below, Decreasing, Allˡ-zip}
+use Rattle.source.specs.Shared.{same, Allˡ}
+use Rattle.source.proofs.Lookup.{Same, same-view, same-self, lookup, lookup-hit, lookup-miss, Below, Decreasing, Allˡ-zip}
 use Rattle.source.proofs.Trees.{gate, valof}
 use Rattle.source.proofs.Rows.{AllBranches, AllNamed, names-find-rev-all, names-find-rev-depth}
 use Rattle.source.proofs.Names.{accepts, last-holder, first-of-holders, last-of-holders, find-exact-is-first, OrderedN, find-rev-decreasing, find-rev-at}

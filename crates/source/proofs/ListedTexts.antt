@@ -12,7 +12,8 @@ use Rattle.source.specs.Listing.{PathOf, fold-left, rev-map-onto, elem-k
 use Rattle.source.specs.Table.{string-of-path}
 use Rattle.source.specs.Rules.{Formed}
 use Rattle.source.specs.Agreement.{Covers}
-use Rattle.source.proofs.Lookup.{same, same-self, same-ne, Allˡ, Allˡ-map}
+use Rattle.source.specs.Shared.{same, Allˡ}
+use Rattle.source.proofs.Lookup.{same-self, same-ne, Allˡ-map}
 use Rattle.source.proofs.Listed.{rows-formed, keys, same-names, same-names-eq, same-names-self, keys-reverse, items, parts, to-list, listed-items}
 
 -- ---- names without dots: the text tells the segments

@@ -15,10 +15,14 @@ use Rattle.source.specs.Text.{Str, then, string-compare}
 use Rattle.source.specs.Rules.{_<ˢ_}
 use Rattle.source.proofs.Order.{View, Viewℕ, compare-view, compare-strings, <ˢ-trans}
 use Rattle.source.specs.Heap.{Heap, Forest, EmptyHeap, HeapOf, []ᶠ, is-lt, heap-merge, heap-insert, heap-merge-pairs, heap-insert-all, heap-from-list}
-use Rattle.source.proofs.Heap.{sumˡ, sum, sumᶠ, All, Allᶠ, Heaped, All-map, Allᶠ-map, Allᶠ-zip, none-countedᶠ, counted, sum-merge, sum-pairs, All-merge, All-pairs, Heaped-merge, Heaped-pairs, sum-from-list, Heaped-from-list}
+use Rattle.source.specs.Shared.{sumˡ}
+use Rattle.source.specs.Forward.{sum, sumᶠ}
+use Rattle.source.proofs.Heap.{All, Allᶠ, Heaped, All-map, Allᶠ-map, Allᶠ-zip, none-countedᶠ, counted, sum-merge, sum-pairs, All-merge, All-pairs, Heaped-merge, Heaped-pairs, sum-from-list, Heaped-from-list}
 use Rattle.source.specs.Lists.{Run, run, first, priority, nonempty, add-priorities, total, push-nodup, run-cmp, put-back, merge-aux, merge-nonempty, merge-increasing-lists-rev}
-use Rattle.source.proofs.Lookup.{same, Same, same-view, Allˡ, Allˡ-map, or-else-none, lt-ne, lookup, first-lookup, Above, Below, Increasing, Decreasing, lookup-hit, lookup-miss, lookup-above, lookup-below}
+use Rattle.source.specs.Shared.{same, Allˡ}
+use Rattle.source.proofs.Lookup.{Same, same-view, Allˡ-map, or-else-none, lt-ne, lookup, first-lookup, Above, Below, Increasing, Decreasing, lookup-hit, lookup-miss, lookup-above, lookup-below}
 use Rattle.source.specs.Tries.{or-else}
+use Rattle.source.specs.Forward.{rest, size}
 
 ≤ˢ-lt : Str → Str → Type 0
 ≤ˢ-lt s t = (s <ˢ t) ⊎ (s ≡ t)
@@ -26,9 +30,6 @@ use Rattle.source.specs.Tries.{or-else}
 abbrev live : {A : Type 0} → List A → ℕ
 live [] = 0
 live (x ∷ l) = 1
-
-unfoldable pub rest : {A : Type 0} → Run A → List A
-rest (run pr v tl) = tl
 
 -- one at the runs of that priority
 at : {A : Type 0} → ℕ → Run A → ℕ
@@ -52,10 +53,6 @@ at-pos q r h = go (compare (priority r) q) (compare-view (priority r) q)
 
 at-zero : {A : Type 0} (q : ℕ) (r : Run A) → at q r ≡ 0 → priority r ≢ q
 at-zero q r h e = omega (arith, at-same q r e)
-
--- The elements of a run.
-unfoldable pub size : {A : Type 0} → Run A → ℕ
-size r = suc (length (rest r))
 
 module _ {A : Type 0} (key : A → Str) where
   -- ---- the order of runs

@@ -10,11 +10,9 @@ use Rattle.source.specs.Text.{Str, string-compare}
 use Rattle.source.specs.Rules.{_<ˢ_}
 use Rattle.source.proofs.Order.{View, compare-strings, <ˢ-irrefl}
 use Rattle.source.specs.Tries.{or-else}
+use Rattle.source.specs.Shared.{same, Allˡ}
 
 -- ---- equal strings, as a test
-abbrev pub same : Str → Str → Bool
-same s t = isEq (string-compare s t)
-
 unfoldable pub Same : Str → Str → Type 0
 Same s t = ((same s t ≡ true) × (s ≡ t)) ⊎ ((same s t ≡ false) × ((s <ˢ t) ⊎ (t <ˢ s)))
 
@@ -43,10 +41,6 @@ same-ne s t n = go (same-view s t)
     go : Same s t → same s t ≡ false
     go (inl h) = absurd (n (h .1))
     go (inr h) = h .0
-
-abbrev pub Allˡ : {A : Type 0} → (A → Type 0) → List A → Type 0
-Allˡ P [] = Unit {0}
-Allˡ P (x ∷ l) = P x × Allˡ P l
 
 pub Allˡ-map : {A : Type 0} {P Q : A → Type 0} → (l : List A) → ((a : A) → P a → Q a) → Allˡ P l → Allˡ Q l
 Allˡ-map [] f p = tt

@@ -13,8 +13,8 @@ use Rattle.source.specs.Types.{Level, Value, Trie, Tree, NameList, ns, t
 use Rattle.source.specs.Trees.{btree-insert-replace, btree-find-exact}
 use Rattle.source.specs.Tries.{or-else, dflt, names-find-exact, names-insert, scope-of}
 use Rattle.source.specs.Terms.{weight, heaviest, heaviest-tree, heaviest-names, depth, depth-tree, depth-names}
-use Rattle.source.proofs.Imports.{host-of}
-use Rattle.source.proofs.Planning.{inserted-weight}
+use Rattle.source.specs.Plans.{host-of}
+use Rattle.source.specs.Plans.{inserted-weight}
 
 -- ---- Numbers that are equal over m: max m x ≡ max m y
 pub over-right : (m x y : ℕ) → x ≤ m → max m (max x y) ≡ max m y

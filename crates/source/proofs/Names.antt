@@ -8,11 +8,13 @@ use Rattle.source.specs.Rules.{Ordered}
 use Rattle.source.specs.Types.{Level, Value, Tree, NameList, []ᴺ, Names, ImportedNames}
 use Rattle.source.specs.Trees.{PrefixMatch, PathElem, btree-find-exact, btree-find-all, btree-find-prefix}
 use Rattle.source.specs.Tries.{or-else, names-find-exact}
-use Rattle.source.proofs.Lookup.{same, Allˡ, lookup, first-lookup, Above, Increasing, Decreasing, or-else-none}
+use Rattle.source.specs.Shared.{same, Allˡ}
+use Rattle.source.proofs.Lookup.{lookup, first-lookup, Above, Increasing, Decreasing, or-else-none}
 use Rattle.source.proofs.Lists.{merge-decreasing, merge-at}
 use Rattle.source.specs.Listing.{SearchTerm, NSTAll, NSTNone, NSTPrefix, revmap-onto, names-revmap, matching-values, with-imports, elem-key, names-find-rev}
 use Rattle.source.specs.Terms.{flatten, found-onto, holders, first-of, last-of}
 use Rattle.source.proofs.Trees.{gate, valof, or-assoc, gate-or, gate-none, entry-key, find-prefix-ascends, find-prefix-exactly, find-all-ascends, find-all-exactly}
+use Rattle.source.specs.Forward.{tree-matches}
 
 abbrev pub accepts : SearchTerm → Str → Bool
 accepts NSTAll k = true
@@ -84,12 +86,6 @@ module _ {A : Type 0} where
   OrderedN (ImportedNames label inner tl) = OrderedN inner × OrderedN tl
 
   -- ---- one tree: what names_find_rev asks of it
-  unfoldable pub tree-matches : {l : Level} → SearchTerm → Tree A l → List (PrefixMatch × Value A l)
-  tree-matches NSTAll bt = btree-find-all none bt
-  tree-matches NSTNone bt = []
-  tree-matches (NSTPrefix []) bt = btree-find-all (some []) bt
-  tree-matches (NSTPrefix (c ∷ p)) bt = btree-find-prefix bt (c ∷ p)
-
   Shows : {l : Level} → SearchTerm → Tree A l → List (PrefixMatch × Value A l) → Type 0
   Shows term t m = Increasing entry-key m × ((k : Str) → valof (lookup entry-key k m) ≡ gate (accepts term k) (btree-find-exact t k))
 

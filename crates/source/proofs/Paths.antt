@@ -11,15 +11,11 @@ use Rattle.source.specs.Text.{Str, Query, dot, query-to-string, string-l
 use Rattle.source.specs.Trees.{PathElem}
 use Rattle.source.specs.Listing.{PathOf, fold-left}
 use Rattle.source.specs.Table.{Matched, match-elem, match-length-of-path, string-of-path, first-import-of-path, last-opt}
-use Rattle.source.proofs.Lookup.{Allˡ}
+use Rattle.source.specs.Shared.{Allˡ}
 use Rattle.source.proofs.Listed.{keys}
+use Rattle.source.specs.Forward.{base}
 
 -- ---- candidate
--- The keys of a path, outermost first, each with a dot after it.
-unfoldable pub base : PathOf → Str
-base [] = []
-base (el ∷ path) = base path ++ (el .segment .completion ++ (dot ∷ []))
-
 pub base-length : (el : PathElem) (path : PathOf) → length (base (el ∷ path)) ≡ length (base path) + length (el .segment .completion) + 1
 unfolding base
 base-length el path = simp length-append (omega arith)

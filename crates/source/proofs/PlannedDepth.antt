@@ -13,8 +13,8 @@ use Rattle.source.specs.Terms.{depth, depth-names}
 use Rattle.source.specs.Table.{Table, insert, register-alias, register-include, register-open, register-module-path}
 use Rattle.source.specs.Rules.{SoundTable}
 use Rattle.source.specs.Calls.{Call, name, include, opens, alias, module-path, registered, deep}
-use Rattle.source.proofs.Imports.{host-of}
-use Rattle.source.proofs.Planning.{plan-depth}
+use Rattle.source.specs.Plans.{host-of}
+use Rattle.source.specs.Plans.{plan-depth}
 use Rattle.source.proofs.Measures.{depth-namespaces, scope-of-depth, host-of-depth, names-insert-depth, over-left, over-right, over-ltb}
 
 -- One step down: the depth x after an insertion of depth y, where l + d is planned for y.

@@ -12,7 +12,7 @@ use Rattle.source.specs.Table.{Table, ModSymbol, Namespace, ns-inserts, 
 use Rattle.source.specs.Counted.{Counted, pure, one, _>>=_, MutNodeᶜ, MutLeafᶜ, names-insertᶜ, trie-mutateᶜ, trie-mutate-leafᶜ, trie-insertᶜ, trie-importᶜ, trie-includeᶜ, trie-open-namespaceᶜ, trie-add-aliasᶜ, lids, insertᶜ, register-aliasᶜ, register-includeᶜ, register-openᶜ, ins-nsᶜ, ins-modᶜ, insᶜ, register-module-pathᶜ}
 use Rattle.source.specs.Calls.{Call, name, include, opens, alias, module-path, records}
 use Rattle.source.proofs.Counted.{names-insert-count}
-use Rattle.source.proofs.Planning.{along, inserted-records, ins-inserts, step-records, name-records, import-records, alias-records, module-step-records, module-host, plan-records}
+use Rattle.source.specs.Plans.{along, inserted-records, ins-inserts, step-records, name-records, import-records, alias-records, module-step-records, module-host, plan-records}
 
 module _ {A : Type 0} where
   names-insert-records : {l : Level} (n : NameList A l) (id : Str) (v : Value A l) → names-insertᶜ n id v .count ≡ inserted-records n id

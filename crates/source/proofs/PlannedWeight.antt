@@ -13,7 +13,7 @@ use Rattle.source.specs.Table.{Table, ModSymbol, Namespace, insert, regi
 use Rattle.source.specs.Rules.{SoundTable}
 use Rattle.source.specs.Calls.{Call, name, include, opens, alias, module-path, registered, crowded}
 use Rattle.source.proofs.Hosts.{included-host}
-use Rattle.source.proofs.Planning.{along, inserted-weight, ins-inserts, step-weight, name-weight, include-weight, open-weight, alias-weight, module-step-weight, module-host, plan-weight, plan-crowded}
+use Rattle.source.specs.Plans.{along, inserted-weight, ins-inserts, step-weight, name-weight, include-weight, open-weight, alias-weight, module-step-weight, module-host, plan-weight, plan-crowded}
 use Rattle.source.proofs.Measures.{over-left, over-right, over-both, over-ltb, ltb-max, heaviest-lists, scope-of-heaviest, host-of-heaviest, names-insert-heaviest}
 
 -- ---- Changes, where no old list weighs more than m

@@ -12,7 +12,9 @@ use Rattle.source.specs.Text.{Str, Query, dot, query-to-string, onto-fir
 use Rattle.source.specs.Rules.{all, Fits, IsKey, IsLabel, IsFullName, IsPath}
 use Rattle.source.specs.Table.{name-of-revq}
 use Rattle.source.specs.Calls.{is-empty, any, bad-query, long-query}
-use Rattle.source.proofs.Lookup.{Allˡ, Allˡ-zip}
+use Rattle.source.specs.Shared.{Allˡ}
+use Rattle.source.proofs.Lookup.{Allˡ-zip}
+use Rattle.source.specs.Queries.{IsQuery, IsCompletion}
 
 -- ---- tests
 pub and-parts : (a b : Bool) → a && b ≡ true → (a ≡ true) × (b ≡ true)
@@ -66,16 +68,6 @@ segments-name-bytes (b ∷ s) e = let h = and-parts (query-byte b) (all query-by
     go false h a = onto (sym (or-false (name-byte b)) ∙ h) (segments s) a
 
 -- ---- texts that pass rows 2 to 4
-
--- At most 17 segments, each a key.
-pub record IsQuery (q : Query) : Type 0 where
-  pub keys : Allˡ IsKey q
-  pub few : length q ≤ 17
-
--- At most 17 segments, which may be empty.
-pub record IsCompletion (q : Query) : Type 0 where
-  pub prefixes : Allˡ (λ g. Fits name-byte 0 31 g) q
-  pub few : length q ≤ 17
 
 pub name-key : (s : Str) → all name-byte s ≡ true → is-empty s ≡ false → ltb 31 (length s) ≡ false → IsKey s
 name-key s b e l = record { bytes = b; long = nonempty-length s e; short = ltb-false 31 (length s) l }

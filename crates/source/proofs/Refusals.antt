@@ -12,7 +12,8 @@ use Rattle.source.specs.Text.{Str, segments, ends-in-dot}
 use Rattle.source.specs.Table.{Line}
 use Rattle.source.specs.Calls.{Argument, a-look-up, a-completion, is-empty, any, bad-query, malformed, empty-name, too-long, Row, _when_, lowest, argument-rows, State, Lent, whole-records, free, Call, arguments, registered, records, text-taken, crowded, deep, registration-rows, after, Registered, accepted, refused, register, Output, output-text, completion-rows}
 use Rattle.source.proofs.Queries.{or-parts}
-use Rattle.source.proofs.Lookup.{Allˡ, Allˡ-map}
+use Rattle.source.specs.Shared.{Allˡ}
+use Rattle.source.proofs.Lookup.{Allˡ-map}
 
 -- A row's number, and whether its condition holds.
 abbrev pub number : Row → ℕ

@@ -10,7 +10,7 @@ use Rattle.source.specs.Types.{Level, Value, Tree, NameList, StrEmpty, S
 use Rattle.source.specs.Trees.{PrefixMatch, PathElem, find-prefix-onto, btree-find-prefix, btree-fold, btree-find-all}
 use Rattle.source.specs.Terms.{depth, depth-tree, depth-names}
 use Rattle.source.specs.Listing.{SearchTerm, NSTAll, NSTNone, NSTPrefix, revmap-onto, names-revmap, matching-values, with-imports, elem-key, names-find-rev}
-use Rattle.source.proofs.Lookup.{Allˡ}
+use Rattle.source.specs.Shared.{Allˡ}
 use Rattle.source.proofs.Lists.{merge-all}
 
 module _ {A : Type 0} {l : Level} (P : Str → Value A l → Type 0) where

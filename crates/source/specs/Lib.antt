@@ -1,4 +1,5 @@
 pub mod Text
+pub mod Shared
 pub mod Heap
 pub mod Lists
 pub mod Types
@@ -7,7 +8,10 @@ pub mod Tries
 pub mod Terms
 pub mod Listing
 pub mod Table
+pub mod Forward
 pub mod Rules
 pub mod Counted
 pub mod Calls
+pub mod Queries
+pub mod Plans
 pub mod Agreement

@@ -1,18 +1,18 @@
 -- Demand 3 of the calls follows from their contracts and from the theorem over the definitions.
 use Prim.Native.Nat.{ℕ, _+_}
-use mathlib.Core.Path.{_≡_, refl, sym, ap, ap₂, _∙_, subst}
+use mathlib.Core.Path.{_≡_, refl, sym, ap, ap₂, _∙_}
 use mathlib.Core.Bool.{Bool, true, false}
 use mathlib.Core.List.{List, [], _∷_, _++_, map, flatMap, append-assoc, nil≢cons}
-use mathlib.Core.Option.{none, some, Option·none-ne-some}
+use mathlib.Core.Option.{Option·none-ne-some}
 use native.Mathlib.Omega.{arith}
 use lib.ListN.{length, take, drop, length-append}
 use lib.Seq.{take-at, drop-at}
 use Rattle.source.specs.Text.{Str, segments}
 use Rattle.source.specs.Table.{ModSymbol, Line}
 use Rattle.source.specs.Calls as C
-use Rattle.source.specs.Calls.{LineRecord, look-up, output-text, output-lines, argument-rows, lowest, a-look-up, complete, complete-modules}
+use Rattle.source.specs.Calls.{look-up, output-text, output-lines, argument-rows, lowest, complete, complete-modules}
 use Rattle.source.specs.Agreement.{Covers, NotRefused, Agreement}
-use Rattle.source.proofs.Lookup.{Allˡ}
+use Rattle.source.specs.Shared.{Allˡ}
 use Rattle.source.proofs.Agreement.{agreement}
 use Rattle.memory.specs.Layout.{span, Which, names, modules, Item}
 use Rattle.memory.specs.Sound.{Says}

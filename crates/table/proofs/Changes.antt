@@ -11,7 +11,8 @@ use Rattle.source.specs.Types as T
 use Rattle.source.specs.Types.{bind, ns, bindings, namespaces}
 use Rattle.source.specs.Rules.{IsLabel}
 use Rattle.source.specs.Calls.{Call, registered, records, crowded, deep}
-use Rattle.source.proofs.Queries.{IsQuery, query-to-string-label, string-is}
+use Rattle.source.specs.Queries.{IsQuery}
+use Rattle.source.proofs.Queries.{query-to-string-label, string-is}
 use Rattle.memory.specs.Layout.{span, names, list, trieˢ, kind, what}
 use Rattle.memory.specs.Stored.{stored}
 use Rattle.memory.specs.Sound.{LinkOk, TextOk, Sound}

@@ -9,9 +9,11 @@ use lib.ListN.{length, length-take}
 use Rattle.source.specs.Text.{Str, segments, ends-in-dot}
 use Rattle.source.specs.Rules.{SoundTable}
 use Rattle.source.specs.Calls.{Argument, a-query, any, malformed, Row, _when_, lowest, argument-rows, State, Lent, Call, arguments, records, text-of, text-taken, crowded, deep, registration-rows}
-use Rattle.source.proofs.Lookup.{Allˡ}
-use Rattle.source.proofs.Queries.{or-parts, IsQuery, query-to-string-label, string-is}
-use Rattle.source.proofs.Kept.{Keeps, admitted-keeps}
+use Rattle.source.specs.Shared.{Allˡ}
+use Rattle.source.specs.Queries.{IsQuery}
+use Rattle.source.proofs.Queries.{or-parts, query-to-string-label, string-is}
+use Rattle.source.specs.Queries.{Keeps}
+use Rattle.source.proofs.Kept.{admitted-keeps}
 use Rattle.source.proofs.Refusals.{Admitted}
 use Rattle.source.proofs.PlannedDepth.{deep-planned}
 use Rattle.source.proofs.PlannedWeight.{crowded-planned}

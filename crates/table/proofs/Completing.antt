@@ -1,7 +1,7 @@
 -- A completion: the rows of its query, and what the listing hands back.
 use Prim.Native.Nat.{ℕ, zero, suc, _-_, _*_, _≤_, _<_}
-use mathlib.Core.Path.{_≡_, refl, sym, ap, _∙_, subst}
-use mathlib.Core.Bool.{Bool, true, false, not}
+use mathlib.Core.Path.{_≡_, refl, ap, _∙_, subst}
+use mathlib.Core.Bool.{true, false, not}
 use mathlib.Core.List.{List, [], _∷_}
 use mathlib.Core.Option.{Option, none, some}
 use native.Mathlib.Omega.{arith}
@@ -21,7 +21,7 @@ use Rattle.text.specs.Text.{before-dot}
 use Rattle.text.proofs.Segments.{First, first-segment, before-inside}
 use Rattle.memory.specs.Layout.{Item, trieˢ, what}
 use Rattle.trie.specs.Tries.{TrieAt}
-use Rattle.lines.specs.Ask.{asked, filter-in}
+use Rattle.lines.specs.Ask.{asked}
 use Rattle.lines.specs.declared.Ask.{Ask}
 use Rattle.lines.specs.declared.Ask.the-variants.{Names, Modules}
 use Rattle.listing.specs.Completes as L

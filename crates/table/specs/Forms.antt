@@ -8,9 +8,9 @@ use lib.Dec.{ltb}
 use Rattle.source.specs.Text.{Str, segments, ends-in-dot}
 use Rattle.source.specs.Tries as T
 use Rattle.source.specs.Calls.{Argument, a-query, a-name, a-path, any, malformed, empty-name, too-long, Row, _when_, lowest, Call, name, include, opens, alias, module-path, whole-records, free, registration-rows}
-use Rattle.source.proofs.Lookup.{Allˡ}
-use Rattle.source.proofs.Queries.{IsQuery}
-use Rattle.source.proofs.Kept.{Keeps}
+use Rattle.source.specs.Shared.{Allˡ}
+use Rattle.source.specs.Queries.{IsQuery}
+use Rattle.source.specs.Queries.{Keeps}
 use Rattle.memory.specs.Layout.{names, trieˢ, what}
 use Rattle.text.specs.declared.Flags.{Flags}
 use Rattle.trie.specs.Tries.{Reads}

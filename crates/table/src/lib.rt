@@ -18,7 +18,7 @@ ghost use Rattle.text.specs.Calls.{Flagged};
 ghost use Rattle.trie.specs.Tries.{TrieAt, AnyTrie};
 ghost use Rattle.trie.specs.Plans.{Planned};
 ghost use Rattle.table.specs.Header.{IsSound, Fresh, state, table-in, names-in, modules-in};
-ghost use Rattle.table.specs.Answers.{row-of, flag-rows, LookedUp, name-found, module-found, FoundInside};
+ghost use Rattle.table.specs.Answers.{number, row-of, flag-rows, LookedUp, name-found, module-found, FoundInside};
 ghost use Rattle.table.specs.Forms.{other-argument, key-argument, call-of, AllFlagged, both-flags, NoKey, Ready, Carries, plan-rows, Passes, Checks};
 ghost use Rattle.lines.specs.Ask.{asked};
 ghost use Rattle.table.specs.Completions.{answer-in, root-for, CompletesOn, Completes};
@@ -45,6 +45,24 @@ pub enum Refusal {
     TextFull,
     Spent,
     Lines,
+}
+
+// Document 01's number of a refusal.
+pub fn number(r: Refusal) -> u32
+    ensures { λ n. ⌜ n ≡ number r ⌝ }
+{
+    match r {
+        Refusal::Unsound => 1,
+        Refusal::Malformed => 2,
+        Refusal::Empty => 3,
+        Refusal::TooLong => 4,
+        Refusal::Crowded => 5,
+        Refusal::Deep => 6,
+        Refusal::Full => 7,
+        Refusal::TextFull => 8,
+        Refusal::Spent => 9,
+        Refusal::Lines => 10,
+    }
 }
 
 // Whether a call passes the rows that were tested, or the first that it meets.

@@ -13,6 +13,7 @@ use Rattle.source.specs.Text.{Str, dot, onto-first, segments, ends-in-dot}
 use Rattle.text.specs.Text.{before-dot}
 use Rattle.source.proofs.Queries.{segments-dot, segments-other}
 use Rattle.text.proofs.Texts.{drop-at, tail-is}
+use Rattle.text.specs.Text.{Segment}
 
 -- ---- The last byte
 
@@ -120,12 +121,6 @@ before-end s i h = rw (drop-of-length-le s h)
 pub segments-end : (s : Str) (i : ℕ) → length s ≤ i → segments (drop i s) ≡ []
 unfolding segments
 segments-end s i h = rw (drop-of-length-le s h)
-
--- The n bytes from at on are a segment, with a dot after them.
-pub record Segment (s : Str) (at n : ℕ) : Type 0 where
-  pub inside : at + n < length s
-  pub splits : segments (drop at s) ≡ take n (drop at s) ∷ segments (drop (at + n + 1) s)
-  pub ends : ends-in-dot (drop (at + n + 1) s) ≡ ends-in-dot (drop at s)
 
 pub segment-at : (s : Str) (at n : ℕ) → n ≡ before-dot (drop at s) → at + n < length s → Segment s at n
 segment-at s at n e h =

@@ -12,7 +12,8 @@ use Rattle.source.specs.Calls.{is-empty, any, bad-query, long-query}
 use Rattle.text.specs.Text.{before-dot}
 use Rattle.text.specs.Calls.{Surveyed}
 use Rattle.text.proofs.Texts.{other-byte, Passing, pass-byte, pass-end}
-use Rattle.text.proofs.Segments.{before-at-dot, before-at-other, before-end, no-dot, undotted, segments-end, Segment, segment-at}
+use Rattle.text.specs.Text.{Segment}
+use Rattle.text.proofs.Segments.{before-at-dot, before-at-other, before-end, no-dot, undotted, segments-end, segment-at}
 
 abbrev over : Str → Bool
 over g = ltb 31 (length g)

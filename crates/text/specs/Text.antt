@@ -1,9 +1,11 @@
 -- What the functions on bytes are proved against, beside the source's definitions.
-use Prim.Native.Nat.{ℕ, suc, Ordering, Ordering·lt, Ordering·eq, Ordering·gt}
+use Prim.Native.Nat.{ℕ, suc, _+_, _<_, Ordering, Ordering·lt, Ordering·eq, Ordering·gt}
+use mathlib.Core.Path.{_≡_}
 use mathlib.Core.Bool.{Bool, cond}
 use mathlib.Core.List.{[], _∷_}
 use lib.Dec.{eqb}
-use Rattle.source.specs.Text.{Str, dot, name-byte, query-byte, path-byte}
+use lib.ListN.{length, take, drop}
+use Rattle.source.specs.Text.{Str, dot, segments, ends-in-dot, name-byte, query-byte, path-byte}
 use Rattle.text.specs.declared.Order.{Order}
 use Rattle.text.specs.declared.Order.the-variants.{Less, Same, More}
 use Rattle.text.specs.declared.Rule.{Rule}
@@ -25,3 +27,9 @@ byte-rule Path b = path-byte b
 unfoldable pub before-dot : Str → ℕ
 before-dot [] = 0
 before-dot (b ∷ s) = cond (eqb b dot) 0 (suc (before-dot s))
+
+-- The n bytes from at on are a segment, with a dot after them.
+pub record Segment (s : Str) (at n : ℕ) : Type 0 where
+  pub inside : at + n < length s
+  pub splits : segments (drop at s) ≡ take n (drop at s) ∷ segments (drop (at + n + 1) s)
+  pub ends : ends-in-dot (drop (at + n + 1) s) ≡ ends-in-dot (drop at s)

@@ -5,7 +5,8 @@ use mathlib.Core.Bool.{Bool, true, false, _&&_, and-true, and-false}
 use mathlib.Core.List.{List, [], _∷_, _++_, map}
 use Rattle.source.specs.Text.{Str}
 use Rattle.source.specs.Rules.{_<ˢ_}
-use Rattle.source.proofs.Lookup.{Allˡ, Allˡ-map, Increasing}
+use Rattle.source.specs.Shared.{Allˡ}
+use Rattle.source.proofs.Lookup.{Allˡ-map, Increasing}
 use Rattle.tree.specs.Links.{keep}
 
 -- By cases on a test's answer.

@@ -11,7 +11,8 @@ use Rattle.source.specs.Text.{Str}
 use Rattle.source.specs.Types.{Level, Value}
 use Rattle.source.specs.Trees.{PrefixMatch, btree-fold, btree-find-all}
 use Rattle.source.specs.Rules.{AllKeys, Ordered}
-use Rattle.source.proofs.Lookup.{Allˡ, Allˡ-map}
+use Rattle.source.specs.Shared.{Allˡ}
+use Rattle.source.proofs.Lookup.{Allˡ-map}
 use Rattle.memory.specs.Layout.{record-at, word, Which, Item, tree, kind, what, key-at}
 use Rattle.memory.specs.Sound.{LinkOk}
 use Rattle.memory.proofs.Readings.{what-none}
@@ -21,6 +22,7 @@ use Rattle.tree.specs.Tree.{TreeAt}
 use Rattle.tree.specs.Links.{branches-among, branches, row-at}
 use Rattle.tree.proofs.Branches.{branch-right, branch-ordered, branch-reads, left-tree, right-tree}
 use Rattle.tree.proofs.Kept.{all-append, map-append}
+use Rattle.tree.specs.Links.{BranchOf}
 
 module _ (ws : List ℕ) where
   branches-own : (n l : ℕ) → l ≤ n → branches-among ws n l ≡ branches ws l
@@ -39,11 +41,6 @@ module _ (ws : List ℕ) where
   branches-some zero p a b = absurd (omega arith)
   branches-some (suc n) p a b =
       rw (eq-eqb (suc n) (suc n) refl, branches-own n (word (record-at ws (suc n)) 3) (omega arith), branches-own n (word (record-at ws (suc n)) 4) (omega arith))
-
--- A branch of the tree of link root.
-pub record BranchOf (ws : List ℕ) (w : Which) (v : Level) (root x : ℕ) : Type 0 where
-  pub some : 0 < x
-  pub link : LinkOk ws (root + 1) x (kind w (tree v))
 
 branch-later : {ws : List ℕ} {w : Which} {v : Level} {l root x : ℕ} → l < root → BranchOf ws w v l x → BranchOf ws w v root x
 branch-later h o = record { some = o .some; link = link-later (omega arith) (o .link) }

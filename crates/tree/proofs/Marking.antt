@@ -7,7 +7,7 @@ use native.Mathlib.Numerals.{add-one}
 use lib.ListN.{length, drop}
 use Rattle.source.specs.Text.{Str, string-compare}
 use Rattle.source.specs.Types.{Level, Tree, StrEmpty, StrBranch}
-use Rattle.source.proofs.Counted.{insert-branches}
+use Rattle.source.specs.Plans.{insert-branches}
 use Rattle.memory.specs.Layout.{record-at, word, tree, what, key-at}
 use Rattle.memory.specs.Grown.{Stays}
 use Rattle.memory.proofs.Growing.{record-stays, stays-same, stays-on}

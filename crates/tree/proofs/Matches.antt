@@ -11,7 +11,8 @@ use Rattle.source.specs.Types.{Level, Value}
 use Rattle.source.specs.Trees.{PrefixMatch, find-prefix-onto, btree-find-prefix, btree-find-all}
 use Rattle.source.specs.Rules.{_<ˢ_}
 use Rattle.source.proofs.Order.{<ˢ-irrefl, <ˢ-trans}
-use Rattle.source.proofs.Lookup.{Allˡ, Allˡ-map, Above, Increasing}
+use Rattle.source.specs.Shared.{Allˡ}
+use Rattle.source.proofs.Lookup.{Allˡ-map, Above, Increasing}
 use Rattle.source.proofs.Trees.{AllKeys-map, before-prefix, past-prefix, entry-key, find-all-ascends}
 use Rattle.memory.specs.Layout.{record-at, word, Which, Item, tree, what, key-at}
 use Rattle.memory.proofs.Readings.{what-none}
@@ -19,7 +20,8 @@ use Rattle.tree.specs.Tree.{TreeAt, AnyTree}
 use Rattle.tree.specs.Links.{branches, keep, matches, past-by, past, after, head0, wanted, row-at}
 use Rattle.tree.proofs.Branches.{any-tree, tree-of, branch-reads, left-tree, right-tree}
 use Rattle.tree.proofs.Kept.{by-test, map-append, keep-append, keep-none, keep-all, keep-ext, keep-keep, all-keep, keep-increasing}
-use Rattle.tree.proofs.Links.{BranchOf, tree-ordered, branches-none, branches-at, branches-keys, branches-of, branches-rows, by-sides}
+use Rattle.tree.specs.Links.{BranchOf}
+use Rattle.tree.proofs.Links.{tree-ordered, branches-none, branches-at, branches-keys, branches-of, branches-rows, by-sides}
 use Rattle.tree.proofs.Seeking.{by-order, past-low}
 
 -- ---- The first, and the next

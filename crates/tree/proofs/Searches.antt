@@ -9,7 +9,7 @@ use Rattle.source.specs.Text.{Str, string-compare}
 use Rattle.source.specs.Types.{Level}
 use Rattle.source.specs.Trees.{btree-find-exact}
 use Rattle.source.proofs.Order.{View, compare-strings}
-use Rattle.source.proofs.Counted.{insert-branches}
+use Rattle.source.specs.Plans.{insert-branches}
 use Rattle.memory.specs.Layout.{record-at, word, Which, tree, what, key-at}
 use Rattle.memory.proofs.Readings.{what-none}
 use Rattle.tree.specs.Tree.{TreeAt, AnyTree, Placed}

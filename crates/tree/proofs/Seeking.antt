@@ -9,7 +9,7 @@ use Rattle.source.specs.Text.{Str, string-compare, starts-with}
 use Rattle.source.specs.Rules.{_<ˢ_, Ordered}
 use Rattle.source.proofs.Order.{View, compare-strings, <ˢ-irrefl, <ˢ-trans}
 use Rattle.source.proofs.Trees.{AllKeys-map, before-prefix, past-prefix}
-use Rattle.source.proofs.Lookup.{Allˡ}
+use Rattle.source.specs.Shared.{Allˡ}
 use Rattle.memory.specs.Layout.{record-at, word, tree, what, key-at}
 use Rattle.tree.specs.Tree.{AnyTree}
 use Rattle.tree.specs.Links.{branches, keep, past-by, past, wanted, head0}

@@ -1,5 +1,5 @@
 -- The branches of a tree as links: those whose keys begin with a prefix, and what is left of them after a key.
-use Prim.Native.Nat.{ℕ, zero, suc, Ordering, Ordering·lt, Ordering·eq, Ordering·gt}
+use Prim.Native.Nat.{ℕ, zero, suc, _+_, _<_, Ordering, Ordering·lt, Ordering·eq, Ordering·gt}
 use mathlib.Core.Bool.{Bool, true, false, cond, not, _&&_}
 use mathlib.Core.List.{List, [], _∷_, _++_}
 use mathlib.Core.Option.{Option}
@@ -7,7 +7,8 @@ use lib.Dec.{eqb}
 use Rattle.source.specs.Text.{Str, string-compare, starts-with}
 use Rattle.source.specs.Types.{Level, Value}
 use Rattle.source.specs.Trees.{PrefixMatch}
-use Rattle.memory.specs.Layout.{record-at, word, Which, Item, key-at}
+use Rattle.memory.specs.Layout.{record-at, word, Which, Item, tree, kind, key-at}
+use Rattle.memory.specs.Sound.{LinkOk}
 use Rattle.tree.specs.Tree.{held}
 
 -- The links of the branches of the tree of link l, in order, among the first n records.
@@ -57,3 +58,8 @@ wanted strict low p k = past strict low k && starts-with k p
 -- The row of btree_find_prefix that the branch of link l gives.
 unfoldable pub row-at : (w : Which) → List ℕ → List ℕ → (v : Level) → Option Str → ℕ → PrefixMatch × Value (Item w) v
 row-at w ws txt v p l = (record { prefix = p; completion = key-at ws txt l }, held w ws txt v l)
+
+-- A branch of the tree of link root.
+pub record BranchOf (ws : List ℕ) (w : Which) (v : Level) (root x : ℕ) : Type 0 where
+  pub some : 0 < x
+  pub link : LinkOk ws (root + 1) x (kind w (tree v))

@@ -7,7 +7,7 @@ use lib.Dec.{eqb}
 use Rattle.source.specs.Text.{Str}
 use Rattle.source.specs.Types.{Level, Value}
 use Rattle.source.specs.Trees.{btree-find-exact}
-use Rattle.source.proofs.Counted.{insert-branches}
+use Rattle.source.specs.Plans.{insert-branches}
 use Rattle.memory.specs.Layout.{key-at, record-at, pick, Which, Item, tree, kind, value, what}
 use Rattle.memory.specs.Sound.{LinkOk, Sound}
 

@@ -10,10 +10,12 @@ use lib.Seq.{take-add, take-take, drop-drop, drop-at, length-take-le}
 use Rattle.source.specs.Text.{Str, Query, dot, onto-first, segments, ends-in-dot}
 use Rattle.source.specs.Rules.{IsKey, IsFullName}
 use Rattle.source.specs.Table.{name-of-revq}
-use Rattle.source.proofs.Lookup.{Allˡ}
-use Rattle.source.proofs.Queries.{IsQuery, segments-dot, segments-other, string-is, name-of-revq-full-name}
+use Rattle.source.specs.Shared.{Allˡ}
+use Rattle.source.specs.Queries.{IsQuery}
+use Rattle.source.proofs.Queries.{segments-dot, segments-other, string-is, name-of-revq-full-name}
 use Rattle.text.specs.Text.{before-dot}
-use Rattle.text.proofs.Segments.{Segment, segment-at, before-inside}
+use Rattle.text.specs.Text.{Segment}
+use Rattle.text.proofs.Segments.{segment-at, before-inside}
 use Rattle.memory.specs.Layout.{span}
 use Rattle.memory.specs.Sound.{TextOk}
 use Rattle.trie.specs.Changes.{between, passed, Place, Cut}

@@ -9,10 +9,11 @@ use lib.ListN.{length, take, drop, length-drop}
 use Rattle.source.specs.Text.{Str, Query, segments, ends-in-dot}
 use Rattle.source.specs.Types.{Trie, bind, namespaces, bindings, trie-empty}
 use Rattle.source.specs.Tries.{dflt, bind-option, names-find-exact, trie-find-exact, scope-of, included}
-use Rattle.source.proofs.Imports.{host-of}
+use Rattle.source.specs.Plans.{host-of}
 use Rattle.source.proofs.Hosts.{host-of-step, included-host}
 use Rattle.text.proofs.Texts.{part-is}
-use Rattle.text.proofs.Segments.{Segment, first-segment, before-inside, segments-end}
+use Rattle.text.specs.Text.{Segment}
+use Rattle.text.proofs.Segments.{first-segment, before-inside, segments-end}
 use Rattle.memory.specs.Layout.{Which, Item, trieˢ, what}
 use Rattle.memory.specs.Read.{ReadTrie}
 use Rattle.memory.specs.declared.Trie as M

@@ -17,7 +17,8 @@ use Rattle.source.specs.Table as S
 use Rattle.source.specs.Calls.{name, include, opens, alias, module-path, is-empty}
 use Rattle.source.proofs.Hosts.{host-of-step}
 use Rattle.source.proofs.Measures.{ltb-max}
-use Rattle.source.proofs.Planning.{along, along-host, inserted-records, inserted-weight, ins-inserts, step-records, step-weight, name-records, name-weight, import-records, include-weight, open-weight, alias-records, alias-weight, module-step-records, module-step-weight, module-host, plan-depth, plan-weight, plan-crowded, plan-records}
+use Rattle.source.specs.Plans.{along, inserted-records, inserted-weight, ins-inserts, step-records, step-weight, name-records, name-weight, import-records, include-weight, open-weight, alias-records, alias-weight, module-step-records, module-step-weight, module-host, plan-depth, plan-weight, plan-crowded, plan-records}
+use Rattle.source.proofs.Planning.{along-host}
 use Rattle.source.proofs.PlannedRecords.{records-onto}
 use Rattle.source.proofs.PlannedWeight.{crowded-onto}
 use Rattle.memory.specs.Layout.{record-at, Which, Item, names, modules, list, trieˢ, what}
@@ -35,7 +36,8 @@ use Rattle.trie.specs.declared.Plan.{Plan}
 use Rattle.trie.specs.Tries.{TrieAt}
 use Rattle.trie.specs.Plans.{StepIn, Stepped, Steps, Path, NsInserts, Inserted, Planned}
 use Rattle.text.proofs.Texts.{part-is}
-use Rattle.text.proofs.Segments.{Segment, segments-end}
+use Rattle.text.specs.Text.{Segment}
+use Rattle.text.proofs.Segments.{segments-end}
 use Rattle.trie.proofs.Lookups.{Stands, stands-next, stands-last, some-left}
 use Rattle.trie.proofs.Links.{bindings-at, namespaces-at, bindings-read, namespaces-read, lists-seen, scope-up, holder-scope}
 

@@ -9,7 +9,7 @@ use Rattle.source.specs.Tries.{scope-of}
 use Rattle.source.specs.Terms.{heaviest, heaviest-names, depth, depth-names}
 use Rattle.source.specs.Rules.{IsKey, IsLabel, IsPath}
 use Rattle.source.specs.Counted.{Counted, pure, one, _>>=_, MutNodeᶜ, names-insertᶜ, trie-mutateᶜ, insᶜ}
-use Rattle.source.proofs.Queries.{IsQuery}
+use Rattle.source.specs.Queries.{IsQuery}
 use Rattle.memory.specs.Layout.{span, Which, names, modules, Item, Sort, list, trieˢ, Of, kind, what}
 use Rattle.memory.specs.Sound.{LinkOk, TextOk, Sound}
 use Rattle.memory.specs.Read.{text-of}

@@ -11,8 +11,8 @@ use Rattle.source.specs.Types.{Trie, bind, bindings, namespaces}
 use Rattle.source.specs.Tries.{scope-of, included}
 use Rattle.source.specs.Table.{Table, ns-inserts}
 use Rattle.source.specs.Calls.{Call, name, include, opens, alias, module-path, is-empty}
-use Rattle.source.proofs.Imports.{host-of}
-use Rattle.source.proofs.Planning.{along, inserted-records, inserted-weight, ins-inserts, step-records, step-weight, plan-depth, plan-crowded, plan-records}
+use Rattle.source.specs.Plans.{host-of}
+use Rattle.source.specs.Plans.{along, inserted-records, inserted-weight, ins-inserts, step-records, step-weight, plan-depth, plan-crowded, plan-records}
 use Rattle.memory.specs.Layout.{pick, Which, names, modules, trieˢ, what}
 use Rattle.tree.specs.Tree.{held}
 use Rattle.trie.specs.Tries.{TrieAt, Reads}

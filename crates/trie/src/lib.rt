@@ -7,7 +7,7 @@ ghost use mathlib.Core.Bool.{true, cond};
 ghost use Prim.Native.Nat.{_+_, _-_, _*_, _<_, _≤_};
 ghost use lib.ListN.{length, drop};
 ghost use Rattle.source.specs.Text.{segments, ends-in-dot};
-ghost use Rattle.text.proofs.Segments.{Segment};
+ghost use Rattle.text.specs.Text.{Segment};
 ghost use Rattle.names.specs.Names.{AnyList};
 ghost use Rattle.memory.specs.Layout.{span, names, modules, Sort, kind-in, kind};
 ghost use Rattle.trie.specs.Tries.{TrieAt, AnyTrie, Scope, Included, Found};

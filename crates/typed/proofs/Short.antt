@@ -17,11 +17,13 @@ use Rattle.source.specs.Listing.{PathOf, SearchTerm, NSTAll, NSTNone, NSTPrefix
 use Rattle.source.specs.Table.{Table, ModSymbol, Line, Matched, match-elem, match-length-of-path, completion-result-of-lid, completion-result-of-ns-or-mod}
 use Rattle.source.specs.Rules.{IsKey, IsLabel, NameItem, ModItem, Formed, FormedNames, SoundTrie, SoundTable}
 use Rattle.source.specs.Calls.{Completed, listed, refused, Output, completed, completion-rows, lowest, complete, complete-modules, keeps, filter-of}
-use Rattle.source.proofs.Lookup.{Allˡ, Allˡ-map, Allˡ-zip}
+use Rattle.source.specs.Shared.{Allˡ}
+use Rattle.source.proofs.Lookup.{Allˡ-map, Allˡ-zip}
 use Rattle.source.proofs.Lists.{merge-all}
 use Rattle.source.proofs.Listed.{rows-formed, parts}
-use Rattle.source.proofs.Found.{found}
-use Rattle.source.proofs.Lines.{line, lines, made, kept-line, autocomplete-lid-is, autocomplete-mod-or-ns-is}
+use Rattle.source.specs.Forward.{found}
+use Rattle.source.specs.Forward.{line, lines, made, kept-line}
+use Rattle.source.proofs.Lines.{autocomplete-lid-is, autocomplete-mod-or-ns-is}
 use Rattle.source.proofs.Paths.{matched, match-length-skip, match-length-some, match-length-none}
 use Rattle.text.proofs.Texts.{starts-short}
 use Rattle.lines.specs.Ask.{filter-in}

@@ -5,7 +5,7 @@ use mathlib.Core.List.{List, [], _∷_, _++_, map, flatMap, append-assoc}
 use native.Mathlib.Omega.{arith}
 use lib.ListN.{length, take, drop, set, length-append, length-drop}
 use lib.Seq.{take-all, take-at, drop-at, drop-drop, set-split}
-use Rattle.source.proofs.Lookup.{Allˡ}
+use Rattle.source.specs.Shared.{Allˡ}
 use Rattle.memory.specs.Layout.{record-at}
 use Rattle.lines.specs.Output.{rows-flat}
 use Rattle.lines.specs.declared.Ask.{Ask}

@@ -7,14 +7,14 @@ use mathlib.Core.Option.{Option, some}
 use native.Mathlib.Omega.{arith}
 use lib.Dec.{eqb}
 use lib.IntN.{pos, negsuc}
-use lib.ListN.{length, take, drop, length-map, length-append, length-drop}
+use lib.ListN.{length, take, drop, length-map}
 use lib.Seq.{take-at, drop-at}
 use borrow.Author.Tests.{le-ltb}
 use Rattle.source.specs.Text.{Str}
 use Rattle.source.specs.Table as S
 use Rattle.source.specs.Calls as C
 use Rattle.source.specs.Calls.{LineRecord, Output, output-lines, complete, complete-modules, completed, completion-rows, lowest, argument-rows}
-use Rattle.source.proofs.Lookup.{Allˡ}
+use Rattle.source.specs.Shared.{Allˡ}
 use Rattle.source.proofs.Lines.{output-lines-length}
 use Rattle.memory.specs.Layout as L
 use Rattle.memory.specs.Layout.{word, pick}

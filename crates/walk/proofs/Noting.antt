@@ -11,7 +11,7 @@ use lib.ListN.{length, getD, set, length-set}
 use lib.Seq.{getD-set-same, getD-set-other}
 use Rattle.source.specs.Text.{Str, starts-with}
 use Rattle.source.specs.Rules.{_<ˢ_}
-use Rattle.source.proofs.Lookup.{Allˡ}
+use Rattle.source.specs.Shared.{Allˡ}
 use Rattle.source.proofs.Order.{<ˢ-trans}
 use Rattle.source.proofs.Trees.{AllKeys-map, before-prefix, past-prefix}
 use Rattle.memory.specs.Layout.{record-at, word, tree, what, key-at}
@@ -19,9 +19,9 @@ use Rattle.tree.specs.Tree.{AnyTree}
 use Rattle.tree.specs.Links.{branches, keep, matches, past, past-by, head0}
 use Rattle.tree.proofs.Branches.{branch-reads, branch-ordered, left-tree, right-tree, any-left, any-right}
 use Rattle.tree.proofs.Kept.{keep-append, keep-none}
-use Rattle.tree.proofs.Links.{branches-none, branches-at, branches-keys}
+use Rattle.tree.proofs.Links.{branches-at, branches-keys}
 use Rattle.tree.proofs.Matches.{matches-none, starts-self}
-use Rattle.tree.proofs.Seeking.{by-order, past-low}
+use Rattle.tree.proofs.Seeking.{by-order}
 use Rattle.walk.specs.Walk.{to-come, Noted, NotedAt, Descends, Taken, Pops, Walks}
 use Rattle.walk.specs.declared.Next.{Next}
 

@@ -1,77 +1,56 @@
+-- `ask_line` meets its contract.
 use borrow.Author.Needs.{needs}
 use Rattle.answers.proofs.ask_line.Statement.{statement}
 use Rattle.answers.proofs.ask_line.Tie as tie
-use Rattle.answers.proofs.ask_line.Reads as reads
-use Rattle.answers.proofs.ask_line.Lts as lts
-use Rattle.answers.proofs.complete_line.Reads as complete-line-reads
-use Rattle.answers.proofs.put_found.Reads as put-found-reads
-use Rattle.table.proofs.Table.find_sound.Reads as find-sound-reads
 
--- src/lib.rt:330:17
 enum-told : tie.Need-enum-told
 enum-told c = search needs
 
--- src/lib.rt:330:17
 find-sound-requires : tie.Need-find-sound-requires
 find-sound-requires c κs = search needs
 
--- src/lib.rt:331:13
 put-found-requires : tie.Need-put-found-requires
 put-found-requires c κs = search needs
 
--- src/lib.rt:337:13
 enum-told-2 : tie.Need-enum-told-2
 enum-told-2 c = search needs
 
--- src/lib.rt:333:34
 complete-line-requires : tie.Need-complete-line-requires
 complete-line-requires c κs = search needs
 
--- src/lib.rt:348:33
 enum-told-3 : tie.Need-enum-told-3
 enum-told-3 c = search needs
 
--- src/lib.rt:344:33
 complete-line-requires-2 : tie.Need-complete-line-requires-2
 complete-line-requires-2 c κs = search needs
 
--- src/lib.rt:313:1
 same-length : tie.Need-same-length
 same-length c = search needs
 
--- src/lib.rt:313:1
 returns : tie.Need-returns
 returns c = rw (c .before .before .before .before .before .enum-told .given .1) (rw (c .before .before .before .before .find-sound .ensures) at (c .before .before .put-found .ensures))
 
--- src/lib.rt:313:1
 same-length-2 : tie.Need-same-length-2
 same-length-2 c = search needs
 
--- src/lib.rt:313:1
 same-length-3 : tie.Need-same-length-3
 same-length-3 c = search needs
 
--- src/lib.rt:313:1
 same-length-4 : tie.Need-same-length-4
 same-length-4 c = search needs
 
--- src/lib.rt:313:1
 returns-2 : tie.Need-returns-2
 returns-2 c = rw (c .before .before .before .before .before .before .before .before .before .before .enum-told2 .given .1) (c .before .before .before .before .before .before .complete-line .ensures)
 
--- src/lib.rt:313:1
 same-length-5 : tie.Need-same-length-5
 same-length-5 c = search needs
 
--- src/lib.rt:313:1
 same-length-6 : tie.Need-same-length-6
 same-length-6 c = search needs
 
--- src/lib.rt:313:1
 same-length-7 : tie.Need-same-length-7
 same-length-7 c = search needs
 
--- src/lib.rt:313:1
 returns-3 : tie.Need-returns-3
 returns-3 c = rw (c .before .before .before .before .before .before .before .before .before .before .enum-told3 .given .1) (c .before .before .before .before .before .before .complete-line2 .ensures)
 

@@ -1,14 +1,11 @@
+-- `put_lines` meets its contract.
 use Rattle.answers.proofs.Rows.{Going, going-start, going-ok, going-space, going-on, going-end}
 use Rattle.text.proofs.Laid.{laid-length}
 use Rattle.lines.specs.Ask.{asked}
 use Prim.Native.Nat.{_-_, _<_}
 use native.Mathlib.Omega.{arith}
-use borrow.Author.Needs.{needs}
 use Rattle.answers.proofs.put_lines.Statement.{statement}
 use Rattle.answers.proofs.put_lines.Tie as tie
-use Rattle.answers.proofs.put_lines.Reads as reads
-use Rattle.answers.proofs.put_lines.Lts as lts
-use Rattle.answers.proofs.put_line.Reads as put-line-reads
 
 abbrev Inv-loop : tie.InvT-loop
 Inv-loop flat pane ask n reply₀ at e₀ i₀ reply e i = Going (asked ask) flat pane reply₀ reply at e i n
@@ -16,31 +13,24 @@ Inv-loop flat pane ask n reply₀ at e₀ i₀ reply e i = Going (asked ask) fla
 abbrev μ-loop : tie.MeasureT-loop
 μ-loop flat pane ask n reply₀ at e₀ i₀ reply e i = n - i
 
--- src/lib.rt:267:5
 loop-holds : tie.Need-loop-holds Inv-loop μ-loop
 loop-holds c = going-start (c .before .before .before .pre .0) (omega (arith, c .before .before .before .pre .1))
 
--- src/lib.rt:268:9
 put-line-requires : tie.Need-put-line-requires Inv-loop μ-loop
 put-line-requires c κs = let l : c .before .before .loop .i < c .before .before .before .before .before .before .args .n = omega arith in (going-ok (c .before .before .loop .inv) l .0, omega (arith, going-space (c .before .before .loop .inv) l, c .before .before .before .before .before .before .pre .1, laid-length (c .before .before .loop .inv .laid)))
 
--- src/lib.rt:269:9
 add-i : tie.Need-add-i Inv-loop μ-loop
 add-i c = omega arith
 
--- src/lib.rt:267:5
 loop-less : tie.Need-loop-less Inv-loop μ-loop
 loop-less c = omega arith
 
--- src/lib.rt:267:5
 loop-again : tie.Need-loop-again Inv-loop μ-loop
 loop-again c = let l : c .before .before .before .before .before .loop .i < c .before .before .before .before .before .before .before .before .before .args .n = omega arith in going-on (c .before .before .before .before .before .loop .inv) l (c .before .before .put-line .ensures .0) (c .before .before .put-line .ensures .1)
 
--- src/lib.rt:260:1
 same-length : tie.Need-same-length Inv-loop μ-loop
 same-length c = laid-length (c .before .loop .inv .laid)
 
--- src/lib.rt:260:1
 returns : tie.Need-returns Inv-loop μ-loop
 returns c = going-end (c .before .loop .inv) (omega arith)
 

@@ -2,7 +2,7 @@
 use Prim.Native.Nat.{_-_}
 use lib.ListN.{length}
 use Rattle.source.specs.Text.{segments}
-use Rattle.source.proofs.Planning.{step-records, step-weight}
+use Rattle.source.specs.Plans.{step-records, step-weight}
 use Rattle.memory.specs.Layout.{names, trieˢ, what}
 use Rattle.trie.specs.Plans.{Steps}
 use Rattle.trie.proofs.Lookups.{Stands, stands-first}

@@ -3,7 +3,6 @@ use mathlib.Core.Path.{sym, _∙_}
 use native.Mathlib.Omega.{arith}
 use Rattle.tree.proofs.Branches.{tree-fits, sides-earlier}
 use Rattle.walk.proofs.Noting.{Descending, descending-all, descending-note, descending-left, descending-right, descending-done}
-use borrow.Author.Needs.{needs}
 use Rattle.walk.proofs.descend.Statement.{statement}
 use Rattle.walk.proofs.descend.Tie as tie
 

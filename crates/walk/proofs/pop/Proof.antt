@@ -4,7 +4,6 @@ use native.Mathlib.Omega.{arith}
 use Prim.Native.Nat.{_-_}
 use Rattle.tree.proofs.Branches.{tree-fits, any-right}
 use Rattle.walk.proofs.Noting.{pops}
-use borrow.Author.Needs.{needs}
 use Rattle.walk.proofs.pop.Statement.{statement}
 use Rattle.walk.proofs.pop.Tie as tie
 

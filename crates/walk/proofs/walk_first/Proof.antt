@@ -1,7 +1,6 @@
 -- `walk_first` gives the first match and notes the others.
 use native.Mathlib.Omega.{arith}
 use Rattle.walk.proofs.Noting.{first-noted, walks-popped, walks-searched}
-use borrow.Author.Needs.{needs}
 use Rattle.walk.proofs.walk_first.Statement.{statement}
 use Rattle.walk.proofs.walk_first.Tie as tie
 

@@ -1,6 +1,5 @@
 -- `walk_next` gives the next match by the notes, or searches for it.
 use Rattle.walk.proofs.Noting.{walks-popped, walks-searched}
-use borrow.Author.Needs.{needs}
 use Rattle.walk.proofs.walk_next.Statement.{statement}
 use Rattle.walk.proofs.walk_next.Tie as tie
 
