@@ -7,7 +7,7 @@ use native.Mathlib.Omega.{arith}
 use Rattle.source.specs.Text.{Str}
 use Rattle.source.specs.Types.{Level}
 use Rattle.memory.specs.Layout.{record-at, word, span, pick, Which, key-at}
-use Rattle.memory.specs.Sound.{LinkOk, TextOk, Sound}
+use Rattle.memory.specs.Sound.{LinkOk, TextOk, Used}
 use Rattle.memory.proofs.Parts.{span-length}
 use Rattle.memory.proofs.Records.{branch-at, collection-at}
 use Rattle.memory.proofs.Seen.{link-fits, link-ok}
@@ -20,7 +20,7 @@ use Rattle.lines.specs.declared.Path.{Path}
 use Rattle.lines.specs.declared.Limits.{Limits}
 use Rattle.lines.specs.declared.Tally.{Tally}
 
-module _ {ws txt : List ℕ} {n used x k : ℕ} (o : Sound ws txt 0 0 n used) (i : LinkOk ws (n + 1) x k) (p : 0 < x) where
+module _ {ws txt : List ℕ} {n used x k : ℕ} (o : Used ws txt n used) (i : LinkOk ws (n + 1) x k) (p : 0 < x) where
   text-at : {Rule : Str → Type 0} → TextOk Rule txt used (word (record-at ws x) 1) (word (record-at ws x) 2)
       → length (span txt (word (record-at ws x) 1) (word (record-at ws x) 2)) ≤ 543 → TextAt ws txt x
   unfolding key-at

@@ -9,7 +9,7 @@ use Rattle.source.specs.Listing.{PathOf}
 use Rattle.source.specs.Table.{first-import-of-path}
 use Rattle.source.specs.Forward.{base}
 use Rattle.memory.specs.Layout.{Which, tree, kind, key-at}
-use Rattle.memory.specs.Sound.{LinkOk, Sound}
+use Rattle.memory.specs.Sound.{LinkOk, Used}
 use Rattle.merge.specs.Entries.{label-at}
 use Rattle.merge.specs.Lists.{LabelOk}
 use Rattle.lines.specs.declared.Path.{Path}
@@ -23,7 +23,7 @@ joined ws txt links (suc n) = joined ws txt links n ++ (key-at ws txt (getD link
 pub record BranchAt (ws txt : List ℕ) (w : Which) (v : Level) (x : ℕ) : Type 0 where
   pub records : ℕ
   pub used : ℕ
-  pub sound : Sound ws txt 0 0 records used
+  pub sound : Used ws txt records used
   pub some : 0 < x
   pub link : LinkOk ws (records + 1) x (kind w (tree v))
 
@@ -31,7 +31,7 @@ pub record BranchAt (ws txt : List ℕ) (w : Which) (v : Level) (x : ℕ) : Type
 pub record LabelAt (ws txt : List ℕ) (w : Which) (v : Level) (x : ℕ) : Type 0 where
   pub records : ℕ
   pub used : ℕ
-  pub sound : Sound ws txt 0 0 records used
+  pub sound : Used ws txt records used
   pub ok : LabelOk ws w v records x
 
 -- The links are branches of namespaces, at most 16, and the length is that of their text.

@@ -11,12 +11,11 @@ use Rattle.source.specs.Types.{Level, Value, bind, ns}
 use Rattle.source.specs.Trees.{PathElem}
 use Rattle.source.specs.Terms.{depth}
 use Rattle.memory.specs.Layout.{record-at, word, Which, Item, tree, trieˢ, kind, what}
-use Rattle.memory.specs.Sound.{LinkOk}
+use Rattle.memory.specs.Sound.{LinkOk, At}
 use Rattle.memory.proofs.Records.{record-as}
 use Rattle.memory.proofs.Seen.{link-ok, link-later}
 use Rattle.tree.specs.Tree.{held}
 use Rattle.tree.specs.Links.{row-at}
-use Rattle.trie.specs.Tries.{TrieAt}
 use Rattle.merge.specs.Entries.{shown, outer}
 use Rattle.lines.specs.Ask.{asked}
 use Rattle.lines.specs.Path.{BranchAt, LabelAt, PathOk}
@@ -37,7 +36,7 @@ module _ {ws txt : List ℕ} {w : Which} {branch : ℕ} (b : BranchAt ws txt w n
   pub child-earlier : word (record-at ws branch) 5 < branch
   child-earlier = child-link .earlier
 
-  pub child-trie : TrieAt ws txt w (word (record-at ws branch) 5)
+  pub child-trie : At ws txt w trieˢ (word (record-at ws branch) 5)
   child-trie = record { records = b .records; used = b .used; sound = b .sound; link = link-later (omega (arith, b .link .earlier)) child-link }
 
   pub child-reads : held w ws txt ns branch ≡ what w ws txt (word (record-at ws branch) 5) trieˢ

@@ -19,8 +19,7 @@ use Rattle.source.proofs.Counted.{tries-entered-count}
 use Rattle.source.specs.Forward.{base}
 use Rattle.source.proofs.Paths.{match-length-none}
 use Rattle.memory.specs.Layout.{Item, trieˢ, what}
-use Rattle.trie.specs.Tries.{TrieAt}
-use Rattle.trie.proofs.Links.{trie-shallow}
+use Rattle.memory.proofs.Tries.{trie-shallow}
 use Rattle.lines.specs.Ask.{asked}
 use Rattle.lines.specs.Path.{joined, PathOk, OnPath}
 use Rattle.lines.specs.Output.{signed-word, Written, Shows, Small, Fit, Goes, Capped}
@@ -33,6 +32,7 @@ use Rattle.listing.specs.Completes.{output, lines-of, Completes}
 use Rattle.listing.specs.declared.Completion.{Completion}
 use Rattle.listing.specs.declared.Completion.the-variants.{Listed, Spent, Lines}
 use Rattle.listing.proofs.Loops.{no-label}
+use Rattle.memory.specs.Sound.{At}
 
 -- The path to the root, and nothing counted.
 abbrev pub root-path : Path
@@ -56,7 +56,7 @@ module _ (ws txt : List ℕ) (ask : Ask) (root : ℕ) (query : Str) where
   abbrev tries : ℕ
   tries = tries-entered tr (segments query)
 
-  root-ok : TrieAt ws txt (asked ask) root → PathOk ws txt (asked ask) root-path
+  root-ok : At ws txt (asked ask) trieˢ root → PathOk ws txt (asked ask) root-path
   unfolding joined
   root-ok t = record {
     sized = refl;
@@ -68,7 +68,7 @@ module _ (ws txt : List ℕ) (ask : Ask) (root : ℕ) (query : Str) where
     label-ok = no-label (t .sound);
   }
 
-  pub root-ready : {lim : Limits} → TrieAt ws txt (asked ask) root → (ends-in-dot query ≡ true) × (length query ≤ 544) → Small lim → TrieReady ws txt ask query root-path lim root
+  pub root-ready : {lim : Limits} → At ws txt (asked ask) trieˢ root → (ends-in-dot query ≡ true) × (length query ≤ 544) → Small lim → TrieReady ws txt ask query root-path lim root
   root-ready t q s = record {
     ready = record { path-ok = root-ok t; ends = q .0; short = q .1; small = s };
     trie-at = t;

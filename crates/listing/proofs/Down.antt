@@ -18,20 +18,20 @@ use Rattle.source.specs.Listing.{PathOf}
 use Rattle.source.specs.Table.{first-import-of-path}
 use Rattle.source.specs.Forward.{base}
 use Rattle.source.proofs.Paths.{first-import-one, first-import-more}
-use Rattle.memory.specs.Layout.{record-at, word, span, pick, Which, Item, key-at}
+use Rattle.memory.specs.Layout.{record-at, word, span, pick, Which, Item, key-at, tree}
 use Rattle.memory.proofs.Parts.{span-length}
 use Rattle.memory.proofs.Seen.{link-fits}
-use Rattle.tree.specs.Tree.{TreeAt}
 use Rattle.tree.specs.Links.{row-at}
 use Rattle.tree.proofs.Branches.{branch-right, any-tree, key-inside}
 use Rattle.merge.specs.Entries.{label-at, shown, outer}
 use Rattle.lines.specs.Path.{joined, BranchAt, LabelAt, PathOk, OnPath}
 use Rattle.lines.specs.declared.Path.{Path}
 use Rattle.listing.specs.Runs.{PathDown}
+use Rattle.memory.specs.Sound.{At}
 
 -- A branch is a tree.
 module _ {ws txt : List ℕ} {w : Which} {v : Level} {x : ℕ} (b : BranchAt ws txt w v x) where
-  pub branch-tree : TreeAt ws txt w v x
+  pub branch-tree : At ws txt w (tree v) x
   branch-tree = record { records = b .records; used = b .used; sound = b .sound; link = b .link }
 
   pub branch-fits : (0 < x) × (x * 12 ≤ length ws)

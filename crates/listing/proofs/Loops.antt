@@ -19,9 +19,9 @@ use Rattle.source.proofs.Lookup.{Allˡ-map, Increasing}
 use Rattle.source.proofs.Rows.{names-find-rev-depth}
 use Rattle.source.specs.Forward.{found}
 use Rattle.memory.specs.Layout.{Which, Item, tree, list, what, key-at}
-use Rattle.memory.specs.Sound.{Sound}
+use Rattle.memory.specs.Sound.{Used, At}
 use Rattle.memory.proofs.Seen.{link-later}
-use Rattle.tree.specs.Tree.{held, TreeAt, AnyTree}
+use Rattle.tree.specs.Tree.{held, AnyTree}
 use Rattle.tree.specs.Links.{matches, head0, row-at}
 use Rattle.tree.proofs.Branches.{any-tree}
 use Rattle.tree.proofs.Matches.{MatchOf, matches-of, matches-increasing, after-first}
@@ -29,7 +29,6 @@ use Rattle.tree.proofs.Kept.{all-append}
 use Rattle.walk.specs.Walk.{Noted, Walks}
 use Rattle.walk.specs.declared.Next.{Next}
 use Rattle.names.specs.Names.{AnyList}
-use Rattle.names.proofs.Collections.{no-link, tree-within}
 use Rattle.merge.specs.Entries.{Entry, shown, outer, Asks, by-prefix}
 use Rattle.merge.specs.Lists.{SingleIn, Single}
 use Rattle.merge.specs.Stream as M
@@ -48,6 +47,7 @@ use Rattle.lines.specs.declared.Tally.{Tally}
 use Rattle.listing.specs.Runs.{HasRoom, level-of, tree-entries, BranchReady, BranchRuns, TreeReady, EntriesRun, ListReady, ListRuns}
 use Rattle.listing.proofs.Down.{branch-tree}
 use Rattle.listing.proofs.Left.{Left, left-all, left-none, left-spent, left-next}
+use Rattle.memory.proofs.At.{no-link, at-of}
 
 all-reverse : {A : Type 0} (P : A → Type 0) (l : List A) → Allˡ P l → Allˡ P (reverse l)
 all-reverse P [] a = tt
@@ -59,7 +59,7 @@ unfolding found
 found-deep n term = all-reverse _ (names-find-rev n term) (names-find-rev-depth n term)
 
 -- No label.
-pub no-label : {ws txt : List ℕ} {w : Which} {v : Level} {n used : ℕ} → Sound ws txt 0 0 n used → LabelAt ws txt w v 0
+pub no-label : {ws txt : List ℕ} {w : Which} {v : Level} {n used : ℕ} → Used ws txt n used → LabelAt ws txt w v 0
 no-label {n = n} {used} o = record { records = n; used = used; sound = o; ok = record { link = no-link _ _; imports = λ h. absurd (omega arith) } }
 
 -- ---- A tree's branches
@@ -71,7 +71,7 @@ onward ws txt prefix root at = cond (eqb at 0) [] (at ∷ later ws txt prefix ro
 abbrev bare : List ℕ → List Entry
 bare l = map (λ b. record { branch = b; label = 0 }) l
 
-module _ {ws txt : List ℕ} {w : Which} {v : Level} {root : ℕ} (t : TreeAt ws txt w v root) (prefix : Str) where
+module _ {ws txt : List ℕ} {w : Which} {v : Level} {root : ℕ} (t : At ws txt w (tree v) root) (prefix : Str) where
   -- The branch stands among the matches.
   pub record Standing (at : ℕ) : Type 0 where
     pub matching : (at ≡ 0 → ⊥) → MatchOf ws txt w v root prefix at
@@ -99,7 +99,7 @@ module _ {ws txt : List ℕ} {w : Which} {v : Level} {root : ℕ} (t : TreeAt ws
 module _ (ws txt : List ℕ) (ask : Ask) (rest : Str) (p : Path) (lim : Limits) (matched : ℕ) (leaf : Bool) (root : ℕ) (prefix : Str) where
   -- The run over a tree has come to the branch at.
   pub record Walking (a t : Tally) (flat flat′ out out′ : List ℕ) (at : ℕ) : Type 0 where
-    pub tree-at : TreeAt ws txt (asked ask) (level-of leaf) root
+    pub tree-at : At ws txt (asked ask) (tree (level-of leaf)) root
     pub left : Left ws txt ask rest p lim matched leaf a t flat flat′ out out′ (tree-entries ws txt root prefix) (bare (onward ws txt prefix root at))
     pub standing : Standing tree-at prefix at
 
@@ -250,7 +250,7 @@ module _ {ws txt : List ℕ} {ask : Ask} {rest : Str} {p : Path} {lim : Limits} 
   pub single-ready : (prefix : Str) → TreeReady ws txt ask rest p lim leaf root prefix
   single-ready prefix = record {
     ready = r .ready;
-    tree-at = tree-within (r .list-at) (omega arith) (single-in .link);
+    tree-at = at-of (r .list-at) (tree _) (omega arith) (single-in .link);
     room = list-room r prefix (tree-entries ws txt root prefix) (single-says prefix);
   }
 

@@ -18,7 +18,7 @@ use Rattle.source.specs.Forward.{found}
 use Rattle.memory.specs.Layout.{Which, Item, list, trieˢ, what}
 use Rattle.memory.specs.Read.{ReadTrie}
 use Rattle.memory.specs.declared.Trie.{Trie}
-use Rattle.trie.proofs.Links.{trie-fits, lists-seen, bindings-at, namespaces-at, bindings-read, namespaces-read}
+use Rattle.memory.proofs.Tries.{lists-seen, bindings-at, namespaces-at, bindings-read, namespaces-read}
 use Rattle.lines.specs.Ask.{asked}
 use Rattle.lines.specs.Path.{OnPath}
 use Rattle.lines.specs.Output.{Result, Shows, Goes}
@@ -31,6 +31,7 @@ use Rattle.lines.proofs.Goes.{written-none, goes-none, goes-then}
 use Rattle.listing.specs.Runs.{trie-gives, elements-give, Matching, Cuts, Ready, ListReady, ListRuns, TrieReady, TrieRuns}
 use Rattle.listing.specs.declared.Cut.{Cut}
 use Rattle.listing.proofs.Gives.{once, trie-gives-is}
+use Rattle.memory.proofs.At.{at-fits}
 
 -- One more trie entered.
 abbrev pub inside : Tally → Tally
@@ -96,7 +97,7 @@ module _ {ws txt : List ℕ} {ask : Ask} {query : Str} {p : Path} {lim : Limits}
       some-entered (suc n) d = omega arith
 
   pub trie-named : trie-link * 12 ≤ length ws
-  trie-named = trie-fits (r .trie-at)
+  trie-named = at-fits (r .trie-at)
 
   pub cut-ready : (ends-in-dot query ≡ true) × (length query ≤ 544) × (p .len ≤ 544)
   cut-ready = (r .ready .ends, r .ready .short, omega (arith, r .ready .path-ok .short, r .ready .path-ok .few))

@@ -18,10 +18,8 @@ use Rattle.source.specs.Forward.{found}
 use Rattle.source.specs.Forward.{line, made}
 use Rattle.source.specs.Forward.{base}
 use Rattle.memory.specs.Layout.{record-at, word, pick, Item, tree, list, trieˢ, what}
-use Rattle.tree.specs.Tree.{held, TreeAt}
+use Rattle.tree.specs.Tree.{held}
 use Rattle.tree.specs.Links.{matches}
-use Rattle.names.specs.Names.{ListAt}
-use Rattle.trie.specs.Tries.{TrieAt}
 use Rattle.merge.specs.Entries.{Entry, shown, outer, Asks}
 use Rattle.lines.specs.Ask.{asked, line-for}
 use Rattle.lines.specs.Path.{BranchAt, LabelAt, PathOk, OnPath}
@@ -32,6 +30,7 @@ use Rattle.lines.specs.declared.Path.{Path}
 use Rattle.lines.specs.declared.Limits.{Limits}
 use Rattle.lines.specs.declared.Tally.{Tally}
 use Rattle.listing.specs.declared.Cut.{Cut}
+use Rattle.memory.specs.Sound.{At}
 
 -- ---- What is listed
 
@@ -110,17 +109,17 @@ module _ (ws txt : List ℕ) (ask : Ask) (rest : Str) (p : Path) (lim : Limits) 
 
   pub record TreeReady (leaf : Bool) (root : ℕ) (prefix : Str) : Type 0 where
     pub ready : Ready
-    pub tree-at : TreeAt ws txt (asked ask) (level-of leaf) root
+    pub tree-at : At ws txt (asked ask) (tree (level-of leaf)) root
     pub room : leaf ≡ false → Allˡ (HasRoom ws txt ask p) (tree-entries ws txt root prefix)
 
   pub record ListReady (leaf : Bool) (x : ℕ) : Type 0 where
     pub ready : Ready
-    pub list-at : ListAt ws txt (asked ask) (level-of leaf) x
+    pub list-at : At ws txt (asked ask) (list (level-of leaf)) x
     pub room : leaf ≡ false → p .n + depth-names (what (asked ask) ws txt x (list ns)) ≤ 16
 
   pub record TrieReady (trie : ℕ) : Type 0 where
     pub ready : Ready
-    pub trie-at : TrieAt ws txt (asked ask) trie
+    pub trie-at : At ws txt (asked ask) trieˢ trie
     pub room : p .n + depth (what (asked ask) ws txt trie trieˢ) ≤ 16
 
   -- The run went on by what is listed, wherever in the source's listing it stands.

@@ -11,9 +11,10 @@ ghost use Prim.Native.Nat.{_+_, _*_, _≤_, _<_, min};
 ghost use lib.ListN.{length};
 ghost use Rattle.source.specs.Text.{ends-in-dot};
 ghost use Rattle.lines.specs.Ask.{asked};
-ghost use Rattle.trie.specs.Tries.{TrieAt};
 ghost use Rattle.listing.specs.Completes.{Completes};
 ghost use Rattle.listing.specs.Runs.{Cuts, PathDown, tree-entries, BranchReady, BranchRuns, TreeReady, EntriesRun, ListReady, ListRuns, TrieReady, TrieRuns};
+ghost use Rattle.memory.specs.Sound.{At};
+ghost use Rattle.memory.specs.Layout.{trieˢ};
 
 // Where a query is cut: the first segment's length, where the rest begins, and the match length of what the segment takes.
 struct Cut {
@@ -385,7 +386,7 @@ pub fn complete(
     flat: &mut [u32],
     out: &mut [u8],
 ) -> Completion
-    requires { ⌜ TrieAt (now words) (now text) (asked ask) root ⌝ }
+    requires { ⌜ At (now words) (now text) (asked ask) trieˢ root ⌝ }
     requires { ⌜ (ends-in-dot (now query) ≡ true) × (length (now query) ≤ 544) ⌝ }
     ensures { λ r. ⌜ Completes (now (words .entry)) (now (text .entry)) ask root (now (query .entry)) budget (now (flat .entry)) (now (flat .exit)) (now (out .entry)) (now (out .exit)) r ⌝ }
 {

@@ -8,9 +8,10 @@ use Rattle.source.specs.Types.{Level, bind, ns}
 use Rattle.source.specs.Terms.{weight, depth, depth-names, heaviest, heaviest-tree, heaviest-names}
 use Rattle.source.specs.Rules.{IsKey, IsLabel, NameItem, ModItem, Ordered, Formed, FormedTree, FormedNames, SoundTrie, SoundTable}
 use Rattle.memory.specs.Layout.{record-at, word, Which, names, modules, Item, item-of, Sort, tree, list, trieˢ, Of, kind, value, row, what, table-of}
-use Rattle.memory.specs.Sound.{LinkOk, BranchOk, CollectionOk, ItemOk, RecordAs, Sound}
+use Rattle.memory.specs.Sound.{LinkOk, BranchOk, CollectionOk, ItemOk, RecordAs, Used, Sound}
 use Rattle.memory.proofs.Readings.{what-none, what-row}
 use Rattle.memory.proofs.Records.{zero-one, zero-some, as-earlier, record-as, by-links}
+use Rattle.memory.specs.declared.Header.{Header}
 
 abbrev pub IsItem : (w : Which) → Item w → Type 0
 IsItem names = NameItem
@@ -61,7 +62,7 @@ module _ (ws txt : List ℕ) (used l : ℕ) (w : Which) (r : List ℕ) (ih : (x 
       let j = ih (word r 4) (list ns) (a .0 .namespaces) in
       ((i .0, j .0), max-le (i .1) (j .1))
 
-module _ {ws txt : List ℕ} {a b n used : ℕ} (o : Sound ws txt a b n used) where
+module _ {ws txt : List ℕ} {n used : ℕ} (o : Used ws txt n used) where
   -- Of every link of a sound memory.
   pub link-fine : (w : Which) (s : Sort) {l x : ℕ} → l ≤ n + 1 → LinkOk ws l x (kind w s) → Fine w s (what w ws txt x s)
   link-fine =
@@ -81,6 +82,6 @@ module _ {ws txt : List ℕ} {a b n used : ℕ} (o : Sound ws txt a b n used) wh
   trie-sound : (w : Which) {x : ℕ} → LinkOk ws (n + 1) x (kind w trieˢ) → SoundTrie (IsItem w) (what w ws txt x trieˢ)
   trie-sound w i = let f = link-fine w trieˢ (omega arith) i in record { formed = f .0; light = f .1; shallow = link-shallow w (omega arith) i }
 
-  -- The table of the two roots.
-  pub sound-table : SoundTable (table-of ws txt a b)
-  sound-table = record { lids = trie-sound names (o .names-link); mods = trie-sound modules (o .modules-link) }
+-- The table of the two roots.
+pub sound-table : {ws txt : List ℕ} {h : Header} → Sound ws txt h → SoundTable (table-of ws txt h)
+sound-table o = record { lids = trie-sound (o .right) names (o .names-link); mods = trie-sound (o .right) modules (o .modules-link) }

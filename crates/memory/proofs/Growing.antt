@@ -12,11 +12,12 @@ use Rattle.source.specs.Table.{empty}
 use Rattle.source.specs.Calls.{fresh}
 use Rattle.memory.specs.Layout.{record-at, Which, names, modules, trieˢ, kind, Reading, among, what, table-of, state-of}
 use Rattle.memory.specs.Stored.{stored}
-use Rattle.memory.specs.Sound.{LinkOk, RecordOk, Sound}
+use Rattle.memory.specs.Sound.{LinkOk, RecordOk, Used, Sound}
 use Rattle.memory.specs.Grown.{Stays}
 use Rattle.memory.proofs.Parts.{part-stays}
 use Rattle.memory.proofs.Readings.{what-none}
 use Rattle.memory.proofs.Records.{zero-some, as-map}
+use Rattle.memory.specs.declared.Header.{Header}
 
 pub stays-same : (n : ℕ) (ws : List ℕ) → Stays n ws ws
 stays-same n ws = record { same = refl; size = refl }
@@ -61,46 +62,41 @@ module _ {n : ℕ} {ws ws′ : List ℕ} (y : Stays n ws ws′) where
         (as-map {ws = ws} {ws′ = ws′} {txt = txt} {txt′ = txt} {used = used} {used′ = used} {l = l} {l′ = l} (λ x k a. link-stays (omega arith) (omega arith) a) (λ Rule s m a. a) (o .which) (o .sort) _ _ (o .right));
   }
 
-pub table-stays : {n : ℕ} {ws ws′ : List ℕ} → Stays n ws ws′ → (txt : List ℕ) (a b : ℕ) → a ≤ n → b ≤ n → table-of ws′ txt a b ≡ table-of ws txt a b
-table-stays y txt a b h k = rw (what-stays y names txt a h, what-stays y modules txt b k)
+pub table-stays : {n : ℕ} {ws ws′ : List ℕ} → Stays n ws ws′ → (txt : List ℕ) (h : Header) → h .names ≤ n → h .modules ≤ n → table-of ws′ txt h ≡ table-of ws txt h
+table-stays y txt h k m = rw (what-stays y names txt (h .names) k, what-stays y modules txt (h .modules) m)
 
--- A right record after the used ones, and roots among the records then used.
-pub sound-more : {ws ws′ txt : List ℕ} {a b a′ b′ n used : ℕ} → Sound ws txt a b n used → Stays n ws ws′ → n < 65536 → n * 12 + 12 ≤ length ws → RecordOk ws′ txt used (n + 1)
-    → LinkOk ws′ (n + 1 + 1) a′ (kind names trieˢ) → LinkOk ws′ (n + 1 + 1) b′ (kind modules trieˢ) → Sound ws′ txt a′ b′ (n + 1) used
-sound-more o y few room r i j = record {
+-- A right record after the used ones.
+pub used-more : {ws ws′ txt : List ℕ} {n used : ℕ} → Used ws txt n used → Stays n ws ws′ → n < 65536 → n * 12 + 12 ≤ length ws → RecordOk ws′ txt used (n + 1)
+    → Used ws′ txt (n + 1) used
+used-more o y few room r = record {
   few = omega arith;
   short = o .short;
   records-fit = omega (arith, y .size);
   text-fits = o .text-fits;
-  names-link = i;
-  modules-link = j;
   rows = λ l p h. ⊎-elim (λ e. rw e r) (λ k. ok-stays y p (omega arith) (o .rows l p (omega arith))) (eq-or-lt-of-le h);
 }
 
--- Other roots.
-pub sound-roots : {ws txt : List ℕ} {a b a′ b′ n used : ℕ} → Sound ws txt a b n used → LinkOk ws (n + 1) a′ (kind names trieˢ) → LinkOk ws (n + 1) b′ (kind modules trieˢ) → Sound ws txt a′ b′ n used
-sound-roots o i j = record {
-  few = o .few;
+-- The first of them.
+pub used-first : {ws txt : List ℕ} {n used : ℕ} (x : ℕ) → Used ws txt n used → x ≤ n → Used ws txt x used
+used-first x o h = record {
+  few = omega (arith, o .few);
   short = o .short;
-  records-fit = o .records-fit;
+  records-fit = omega (arith, o .records-fit);
   text-fits = o .text-fits;
-  names-link = i;
-  modules-link = j;
-  rows = o .rows;
+  rows = λ l p k. o .rows l p (omega arith);
 }
 
--- The fresh table.
-pub fresh-sound : (ws txt : List ℕ) → Sound ws txt 0 0 0 0
+-- The header of the fresh table.
+abbrev fresh-header : Header
+fresh-header = record { names = 0; modules = 0; records = 0; text = 0 }
+
+pub fresh-sound : (ws txt : List ℕ) → Sound ws txt fresh-header
 fresh-sound ws txt = record {
-  few = omega arith;
-  short = omega arith;
-  records-fit = omega arith;
-  text-fits = omega arith;
+  right = record { few = omega arith; short = omega arith; records-fit = omega arith; text-fits = omega arith; rows = λ l p h. absurd (omega arith) };
   names-link = record { earlier = omega arith; of-kind = λ z. absurd (z refl) };
   modules-link = record { earlier = omega arith; of-kind = λ z. absurd (z refl) };
-  rows = λ l p h. absurd (omega arith);
 }
 
-pub fresh-state : (ws txt : List ℕ) → state-of ws txt 0 0 0 0 ≡ fresh
+pub fresh-state : (ws txt : List ℕ) → state-of ws txt fresh-header ≡ fresh
 unfolding fresh empty trie-empty
 fresh-state ws txt = rw (what-none names ws txt, what-none modules ws txt)

@@ -8,11 +8,12 @@ use lib.Seq.{length-paste, take-length}
 use Rattle.source.specs.Types.{Level, bind, ns}
 use Rattle.source.specs.Text.{Str}
 use Rattle.memory.specs.Layout.{record-at, word, span, Which, names, modules, item-of, Sort, tree, list, trieˢ, kind, row, what, table-of}
-use Rattle.memory.specs.Sound.{LinkOk, TextOk, CollectionOk, ItemOk, RecordAs, Sound}
+use Rattle.memory.specs.Sound.{LinkOk, TextOk, CollectionOk, ItemOk, RecordAs, Used, Sound}
 use Rattle.memory.specs.Grown.{Keeps, put-text}
 use Rattle.memory.proofs.Parts.{part-stays, paste-front, paste-part}
 use Rattle.memory.proofs.Readings.{what-none, what-row}
 use Rattle.memory.proofs.Records.{zero-one, as-earlier, as-map, by-links}
+use Rattle.memory.specs.declared.Header.{Header}
 
 -- A text put after the used ones.
 module _ (txt : List ℕ) (used : ℕ) (s : List ℕ) (room : used + length s ≤ length txt) where
@@ -56,7 +57,7 @@ module _ {txt txt′ : List ℕ} {used : ℕ} (y : Keeps used txt txt′) where
     row-keeps (list ns) a = collection-keeps ns (a .0)
     row-keeps trieˢ a = rw (ih (word r 3) (list bind) (a .0 .bindings), ih (word r 4) (list ns) (a .0 .namespaces))
 
-module _ {ws txt txt′ : List ℕ} {a b n used : ℕ} (o : Sound ws txt a b n used) (y : Keeps used txt txt′) where
+module _ {ws txt txt′ : List ℕ} {n used : ℕ} (o : Used ws txt n used) (y : Keeps used txt txt′) where
   pub what-keeps : (w : Which) (s : Sort) {l x : ℕ} → l ≤ n + 1 → LinkOk ws l x (kind w s) → what w ws txt′ x s ≡ what w ws txt x s
   what-keeps =
       by-links (o .rows) (λ w s x. what w ws txt′ x s ≡ what w ws txt x s)
@@ -65,17 +66,12 @@ module _ {ws txt txt′ : List ℕ} {a b n used : ℕ} (o : Sound ws txt a b n u
       let e = as-earlier ws txt used l w s (record-at ws l) (what w ws txt l s) r in
       what-row w ws txt′ s l p e ∙ row-keeps y ws l w (record-at ws l) ih s r ∙ sym (what-row w ws txt s l p e))
 
-  pub table-keeps : table-of ws txt′ a b ≡ table-of ws txt a b
-  table-keeps = rw (what-keeps names trieˢ (omega arith) (o .names-link), what-keeps modules trieˢ (omega arith) (o .modules-link))
-
-  pub sound-text : {used′ : ℕ} → used ≤ used′ → used′ ≤ 65536 → used′ ≤ length txt′ → Sound ws txt′ a b n used′
-  sound-text {used′} more short fits = record {
+  pub used-text : {used′ : ℕ} → used ≤ used′ → used′ ≤ 65536 → used′ ≤ length txt′ → Used ws txt′ n used′
+  used-text {used′} more short fits = record {
     few = o .few;
     short = short;
     records-fit = o .records-fit;
     text-fits = fits;
-    names-link = o .names-link;
-    modules-link = o .modules-link;
     rows = λ l p h.
         let r = o .rows l p h in
         record {
@@ -86,3 +82,8 @@ module _ {ws txt txt′ : List ℕ} {a b n used : ℕ} (o : Sound ws txt a b n u
               (as-map {ws = ws} {ws′ = ws} {txt = txt} {txt′ = txt′} {used = used} {used′ = used′} {l = l} {l′ = l} (λ x k i. i) (text-keeps y more) (r .which) (r .sort) _ _ (r .right));
         };
   }
+
+-- A table of which only free text changes.
+module _ {ws txt txt′ : List ℕ} {h : Header} (o : Sound ws txt h) (y : Keeps (h .text) txt txt′) where
+  pub table-keeps : table-of ws txt′ h ≡ table-of ws txt h
+  table-keeps = rw (what-keeps (o .right) y names trieˢ (omega arith) (o .names-link), what-keeps (o .right) y modules trieˢ (omega arith) (o .modules-link))

@@ -11,3 +11,5 @@ mod Examples
 pub mod Rows
 pub mod Putting
 pub mod Seen
+pub mod At
+pub mod Tries

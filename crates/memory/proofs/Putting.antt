@@ -7,12 +7,12 @@ use lib.ListN.{length}
 use lib.Seq.{length-paste, take-all}
 use Rattle.source.specs.Types.{bind, ns}
 use Rattle.memory.specs.Layout.{record-at, word, Which, Sort, tree, list, trieˢ, kind, Reading, row, what}
-use Rattle.memory.specs.Sound.{LinkOk, RecordAs, RecordOk, Sound}
+use Rattle.memory.specs.Sound.{LinkOk, RecordAs, RecordOk, Used}
 use Rattle.memory.specs.Grown.{Stays, put}
 use Rattle.memory.proofs.Parts.{paste-front, paste-part}
 use Rattle.memory.proofs.Readings.{Earlier, what-row}
 use Rattle.memory.proofs.Records.{as-earlier, as-map}
-use Rattle.memory.proofs.Growing.{what-stays, link-stays, sound-more}
+use Rattle.memory.proofs.Growing.{what-stays, link-stays, used-more}
 
 module _ (ws r : List ℕ) (n : ℕ) (room : n * 12 + 12 ≤ length ws) (twelve : length r ≡ 12) where
   pub put-stays : Stays n ws (put ws n r)
@@ -33,7 +33,7 @@ row-agrees w txt r l f g h (list v) e = rw (h (word r 3) (e .first), h (word r 4
 row-agrees w txt r l f g h trieˢ e = rw (h (word r 3) (e .first), h (word r 4) (e .second))
 
 -- The record r, right as s of the table w, is put as record number n.
-module _ {ws txt : List ℕ} {a b n used : ℕ} (o : Sound ws txt a b n used) (few : n < 65536) (room : n * 12 + 12 ≤ length ws)
+module _ {ws txt : List ℕ} {n used : ℕ} (o : Used ws txt n used) (few : n < 65536) (room : n * 12 + 12 ≤ length ws)
     (r : List ℕ) (twelve : length r ≡ 12) (w : Which) (s : Sort) (known : word r 0 ≡ kind w s)
     (right : RecordAs ws txt used (n + 1) w s r (row w txt r (what w ws txt) s)) where
   abbrev after : List ℕ
@@ -63,8 +63,8 @@ module _ {ws txt : List ℕ} {a b n used : ℕ} (o : Sound ws txt a b n used) (f
         (as-map {ws = ws} {ws′ = after} {txt = txt} {txt′ = txt} {used = used} {used′ = used} {l = n + 1} {l′ = n + 1} (λ x k i. link-stays stays (omega arith) (omega arith) i) (λ Rule x k i. i) w s r _ right);
   }
 
-  pub put-sound : Sound after txt a b (n + 1) used
-  put-sound = sound-more o stays few room put-ok (link-stays stays (omega arith) (omega arith) (o .names-link)) (link-stays stays (omega arith) (omega arith) (o .modules-link))
+  pub put-used : Used after txt (n + 1) used
+  put-used = used-more o stays few room put-ok
 
   -- The new link is one of the kind.
   pub put-link : LinkOk after (n + 1 + 1) (n + 1) (kind w s)

@@ -11,7 +11,7 @@ use Rattle.source.specs.Terms.{weight, depth}
 use Rattle.source.specs.Rules.{IsKey, IsLabel, Ordered}
 use Rattle.memory.specs.Layout.{record-at, word, pick, Which, names, modules, Item, item-of, Sort, tree, list, trieˢ, kind, Reading, value, row, what}
 use Rattle.memory.specs.Stored.{stored}
-use Rattle.memory.specs.Sound.{LinkOk, TextOk, RecordOk, Sound}
+use Rattle.memory.specs.Sound.{LinkOk, TextOk, RecordOk, Used}
 use Rattle.memory.specs.Read.{text-of, symbol-in, symbol-of, ReadBranch, ReadCollection, ReadTrie}
 use Rattle.memory.specs.declared.Branch.{Branch}
 use Rattle.memory.specs.declared.Collection.{Collection}
@@ -65,7 +65,7 @@ pub record SeenTrie (ws txt : List ℕ) (n x : ℕ) (w : Which) (t : Trie) : Typ
   pub namespaces : LinkOk ws (n + 1) (t .namespaces) (kind w (list ns))
   pub deep : t .depth ≡ depth (what w ws txt x trieˢ)
 
-module _ {ws txt : List ℕ} {a b n used : ℕ} (o : Sound ws txt a b n used) where
+module _ {ws txt : List ℕ} {n used : ℕ} (o : Used ws txt n used) where
   pub link-fits : {x k : ℕ} → LinkOk ws (n + 1) x k → x * 12 ≤ length ws
   link-fits i = omega (arith, i .earlier, o .records-fit)
 

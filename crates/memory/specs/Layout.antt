@@ -19,6 +19,7 @@ use Rattle.source.specs.Text.{Str}
 use Rattle.source.specs.Types.{Level, Value, Tree, NameList, bind, ns, item, trie, StrEmpty, StrBranch, []ᴺ, Names, ImportedNames}
 use Rattle.source.specs.Table.{ModSymbol, Module, Namespace, Table}
 use Rattle.source.specs.Calls.{State}
+use Rattle.memory.specs.declared.Header.{Header}
 
 -- The twelve words of the record that link l names.
 unfoldable pub record-at : List ℕ → ℕ → List ℕ
@@ -27,6 +28,76 @@ record-at ws l = take 12 (drop ((l - 1) * 12) ws)
 -- Word k of a record.
 abbrev pub word : List ℕ → ℕ → ℕ
 word r k = getD r k 0
+
+-- ---- The words of a record by name
+
+-- The kind; the key of a branch, or the label of a collection, as a span.
+abbrev pub kind-word : List ℕ → ℕ
+kind-word r = word r 0
+
+abbrev pub text-start : List ℕ → ℕ
+text-start r = word r 1
+
+abbrev pub text-len : List ℕ → ℕ
+text-len r = word r 2
+
+-- Of a branch: its sides; its trie, of namespaces; its number, of names.
+abbrev pub left-link : List ℕ → ℕ
+left-link r = word r 3
+
+abbrev pub right-link : List ℕ → ℕ
+right-link r = word r 4
+
+abbrev pub trie-link : List ℕ → ℕ
+trie-link r = word r 5
+
+abbrev pub number-word : List ℕ → ℕ
+number-word r = word r 5
+
+-- Of a bindings branch of modules: 0 for a Module, 1 for a Namespace; full name; path; 1 if loaded.
+abbrev pub symbol-word : List ℕ → ℕ
+symbol-word r = word r 5
+
+abbrev pub name-start : List ℕ → ℕ
+name-start r = word r 6
+
+abbrev pub name-len : List ℕ → ℕ
+name-len r = word r 7
+
+abbrev pub path-start : List ℕ → ℕ
+path-start r = word r 8
+
+abbrev pub path-len : List ℕ → ℕ
+path-len r = word r 9
+
+abbrev pub loaded-word : List ℕ → ℕ
+loaded-word r = word r 10
+
+-- Of a collection: its tree or imported list; the rest of the list; 0 for a tree, 1 for an imported list; the weight of the list.
+abbrev pub own-link : List ℕ → ℕ
+own-link r = word r 3
+
+abbrev pub rest-link : List ℕ → ℕ
+rest-link r = word r 4
+
+abbrev pub sort-word : List ℕ → ℕ
+sort-word r = word r 5
+
+abbrev pub weight-word : List ℕ → ℕ
+weight-word r = word r 10
+
+-- Of a trie: its two lists.
+abbrev pub bindings-link : List ℕ → ℕ
+bindings-link r = word r 3
+
+abbrev pub namespaces-link : List ℕ → ℕ
+namespaces-link r = word r 4
+
+-- The depth of a branch or a list of namespaces, or of a trie.
+abbrev pub depth-word : List ℕ → ℕ
+depth-word r = word r 11
+
+-- ---- Texts
 
 -- The text of a span.
 unfoldable pub span : List ℕ → ℕ → ℕ → Str
@@ -119,10 +190,10 @@ among w ws txt (suc n) l = pick (eqb l (suc n)) (row w txt (record-at ws (suc n)
 unfoldable pub what : (w : Which) → List ℕ → List ℕ → ℕ → Reading w
 what w ws txt l = among w ws txt l l
 
--- The table of two roots.
-abbrev pub table-of : List ℕ → List ℕ → (names-root modules-root : ℕ) → Table
-table-of ws txt a b = record { tbl-lids = what names ws txt a trieˢ; tbl-mods = what modules ws txt b trieˢ }
+-- The source's table, by the header.
+abbrev pub table-of : List ℕ → List ℕ → Header → Table
+table-of ws txt h = record { tbl-lids = what names ws txt (h .names) trieˢ; tbl-mods = what modules ws txt (h .modules) trieˢ }
 
--- The state of a table by value.
-abbrev pub state-of : List ℕ → List ℕ → (names-root modules-root records used : ℕ) → State
-state-of ws txt a b n used = record { table = table-of ws txt a b; records-used = n; text-used = used }
+-- The table by value, as the source's table and what is used.
+abbrev pub state-of : List ℕ → List ℕ → Header → State
+state-of ws txt h = record { table = table-of ws txt h; records-used = h .records; text-used = h .text }

@@ -1,11 +1,12 @@
 -- What the readers give of the words of a record.
-use Prim.Native.Nat.{ℕ}
+use Prim.Native.Nat.{ℕ, _+_, _*_, _<_, _≤_}
 use mathlib.Core.Path.{_≡_}
 use mathlib.Core.List.{List}
 use lib.Dec.{eqb}
+use lib.ListN.{length}
 use Rattle.source.specs.Text.{Str}
 use Rattle.source.specs.Table as S
-use Rattle.memory.specs.Layout.{word, span, pick}
+use Rattle.memory.specs.Layout.{record-at, word, text-start, text-len, span, pick}
 use Rattle.memory.specs.Stored.{stored}
 use Rattle.memory.specs.declared.Span.{Span}
 use Rattle.memory.specs.declared.ModSymbol.{ModSymbol}
@@ -17,6 +18,12 @@ use Rattle.memory.specs.declared.Trie.{Trie}
 -- The text of a span.
 abbrev pub text-of : List ℕ → Span → Str
 text-of txt s = span txt (s .start) (s .len)
+
+-- Link x names a record whose key or label lies in the text.
+pub record TextIn (ws txt : List ℕ) (x : ℕ) : Type 0 where
+  pub some : 0 < x
+  pub within : x * 12 ≤ length ws
+  pub inside : text-start (record-at ws x) + text-len (record-at ws x) ≤ length txt
 
 -- The mod symbol that the words of a bindings branch of the module table hold.
 abbrev pub symbol-in : List ℕ → ModSymbol

@@ -9,6 +9,7 @@ use Rattle.source.specs.Types.{Level, NameList, bind, ns}
 use Rattle.source.specs.Terms.{weight, depth, depth-tree, depth-names}
 use Rattle.source.specs.Rules.{IsKey, IsLabel, IsFullName, IsPath, Ordered}
 use Rattle.memory.specs.Layout.{record-at, word, span, Which, names, modules, Item, Sort, tree, list, trieˢ, Of, kind, what}
+use Rattle.memory.specs.declared.Header.{Header}
 
 -- What a test's answer says of a statement.
 abbrev pub Says : Bool → Type 0 → Type 0
@@ -78,12 +79,23 @@ pub record RecordOk (ws txt : List ℕ) (used l : ℕ) : Type 0 where
   pub known : word (record-at ws l) 0 ≡ kind which sort
   pub right : RecordAs ws txt used l which sort (record-at ws l) (what which ws txt l sort)
 
--- A table: its words and text, two roots, records used, text used. Used parts fit, roots are tries or none, each used record is right.
-pub record Sound (ws txt : List ℕ) (names-root modules-root records used : ℕ) : Type 0 where
+-- The records in use, and the text in use: they fit, and each record is right.
+pub record Used (ws txt : List ℕ) (records used : ℕ) : Type 0 where
   pub few : records ≤ 65536
   pub short : used ≤ 65536
   pub records-fit : records * 12 ≤ length ws
   pub text-fits : used ≤ length txt
-  pub names-link : LinkOk ws (records + 1) names-root (kind names trieˢ)
-  pub modules-link : LinkOk ws (records + 1) modules-root (kind modules trieˢ)
   pub rows : (l : ℕ) → 0 < l → l ≤ records → RecordOk ws txt used l
+
+-- A sound table: its used records are right, and its roots are tries or none.
+pub record Sound (ws txt : List ℕ) (h : Header) : Type 0 where
+  pub right : Used ws txt (h .records) (h .text)
+  pub names-link : LinkOk ws (h .records + 1) (h .names) (kind names trieˢ)
+  pub modules-link : LinkOk ws (h .records + 1) (h .modules) (kind modules trieˢ)
+
+-- Link x names a tree, a list or a trie of the table w, or none, in a memory whose used records are right.
+pub record At (ws txt : List ℕ) (w : Which) (s : Sort) (x : ℕ) : Type 0 where
+  pub records : ℕ
+  pub used : ℕ
+  pub sound : Used ws txt records used
+  pub link : LinkOk ws (records + 1) x (kind w s)

@@ -2,10 +2,64 @@
 ghost use mathlib.Core.Path.{_≡_};
 ghost use Prim.Native.Nat.{_+_, _*_, _≤_, _<_};
 ghost use lib.ListN.{length};
-ghost use Rattle.memory.specs.Layout.{record-at, word};
-ghost use Rattle.memory.specs.Stored.{stored};
+ghost use Rattle.memory.specs.Layout.{record-at, word, text-len, left-link, right-link, trie-link, number-word, own-link, rest-link, sort-word, key-at};
+ghost use Rattle.memory.specs.Stored.{stored, weight-in, depth-in, trie-in, left-in, right-in};
 ghost use Rattle.memory.specs.Grown.{put, put-text};
-ghost use Rattle.memory.specs.Read.{symbol-in, ReadBranch, ReadCollection, ReadTrie};
+ghost use Rattle.memory.specs.Read.{TextIn, symbol-in, ReadBranch, ReadCollection, ReadTrie};
+
+// The words of a record, by what they hold (specs/Layout.antt).
+pub const KIND: usize = 0;
+
+pub const TEXT_START: usize = 1;
+
+pub const TEXT_LEN: usize = 2;
+
+pub const LEFT: usize = 3;
+
+pub const RIGHT: usize = 4;
+
+pub const HELD: usize = 5;
+
+pub const NUMBER: usize = 5;
+
+pub const SYMBOL: usize = 5;
+
+pub const NAME_START: usize = 6;
+
+pub const NAME_LEN: usize = 7;
+
+pub const PATH_START: usize = 8;
+
+pub const PATH_LEN: usize = 9;
+
+pub const LOADED: usize = 10;
+
+pub const OWN: usize = 3;
+
+pub const REST: usize = 4;
+
+pub const SORT: usize = 5;
+
+pub const WEIGHT: usize = 10;
+
+pub const BINDINGS: usize = 3;
+
+pub const NAMESPACES: usize = 4;
+
+pub const DEPTH: usize = 11;
+
+// The sort of a collection.
+pub const OF_TREE: u32 = 0;
+
+pub const IMPORTED: u32 = 1;
+
+// The table by value: the links of its two roots, records used, text used.
+pub struct Header {
+    pub names: u32,
+    pub modules: u32,
+    pub records: u32,
+    pub text: u32,
+}
 
 // A text: a start and a length in the lent text.
 pub struct Span {
@@ -64,6 +118,126 @@ pub fn stored(words: &[u32], link: u32, k: usize) -> u32
     word_of(words, link, k)
 }
 
+// ---- One word of a record, by name
+
+// The length of the key of a branch, or of the label of a collection.
+pub fn text_len(words: &[u32], link: u32) -> u32
+    requires { ⌜ (0 < link) × (link * 12 ≤ length (now words)) ⌝ }
+    ensures { λ r. ⌜ r ≡ text-len (record-at (now (words .entry)) link) ⌝ }
+{
+    word_of(words, link, TEXT_LEN)
+}
+
+// The left side of a branch.
+pub fn left_of(words: &[u32], link: u32) -> u32
+    requires { ⌜ (0 < link) × (link * 12 ≤ length (now words)) ⌝ }
+    ensures { λ r. ⌜ r ≡ left-link (record-at (now (words .entry)) link) ⌝ }
+{
+    word_of(words, link, LEFT)
+}
+
+// The right side of a branch.
+pub fn right_of(words: &[u32], link: u32) -> u32
+    requires { ⌜ (0 < link) × (link * 12 ≤ length (now words)) ⌝ }
+    ensures { λ r. ⌜ r ≡ right-link (record-at (now (words .entry)) link) ⌝ }
+{
+    word_of(words, link, RIGHT)
+}
+
+// The trie that a branch of namespaces holds.
+pub fn held_of(words: &[u32], link: u32) -> u32
+    requires { ⌜ (0 < link) × (link * 12 ≤ length (now words)) ⌝ }
+    ensures { λ r. ⌜ r ≡ trie-link (record-at (now (words .entry)) link) ⌝ }
+{
+    word_of(words, link, HELD)
+}
+
+// The number of a name.
+pub fn number_of(words: &[u32], link: u32) -> u32
+    requires { ⌜ (0 < link) × (link * 12 ≤ length (now words)) ⌝ }
+    ensures { λ r. ⌜ r ≡ number-word (record-at (now (words .entry)) link) ⌝ }
+{
+    word_of(words, link, NUMBER)
+}
+
+// The tree of a collection, or its imported list.
+pub fn own_of(words: &[u32], link: u32) -> u32
+    requires { ⌜ (0 < link) × (link * 12 ≤ length (now words)) ⌝ }
+    ensures { λ r. ⌜ r ≡ own-link (record-at (now (words .entry)) link) ⌝ }
+{
+    word_of(words, link, OWN)
+}
+
+// The list after a collection.
+pub fn rest_of(words: &[u32], link: u32) -> u32
+    requires { ⌜ (0 < link) × (link * 12 ≤ length (now words)) ⌝ }
+    ensures { λ r. ⌜ r ≡ rest-link (record-at (now (words .entry)) link) ⌝ }
+{
+    word_of(words, link, REST)
+}
+
+// The sort of a collection: OF_TREE or IMPORTED.
+pub fn sort_of(words: &[u32], link: u32) -> u32
+    requires { ⌜ (0 < link) × (link * 12 ≤ length (now words)) ⌝ }
+    ensures { λ r. ⌜ r ≡ sort-word (record-at (now (words .entry)) link) ⌝ }
+{
+    word_of(words, link, SORT)
+}
+
+// ---- The same, 0 of the link 0
+
+// The weight of a list.
+pub fn weight_of(words: &[u32], link: u32) -> u32
+    requires { ⌜ link * 12 ≤ length (now words) ⌝ }
+    ensures { λ r. ⌜ r ≡ weight-in (now (words .entry)) link ⌝ }
+{
+    stored(words, link, WEIGHT)
+}
+
+// The depth of a tree or a list of namespaces, or of a trie.
+pub fn depth_of(words: &[u32], link: u32) -> u32
+    requires { ⌜ link * 12 ≤ length (now words) ⌝ }
+    ensures { λ r. ⌜ r ≡ depth-in (now (words .entry)) link ⌝ }
+{
+    stored(words, link, DEPTH)
+}
+
+// The trie that a branch of namespaces holds.
+pub fn trie_held(words: &[u32], link: u32) -> u32
+    requires { ⌜ link * 12 ≤ length (now words) ⌝ }
+    ensures { λ r. ⌜ r ≡ trie-in (now (words .entry)) link ⌝ }
+{
+    stored(words, link, HELD)
+}
+
+// The left side of a branch.
+pub fn left_side(words: &[u32], link: u32) -> u32
+    requires { ⌜ link * 12 ≤ length (now words) ⌝ }
+    ensures { λ r. ⌜ r ≡ left-in (now (words .entry)) link ⌝ }
+{
+    stored(words, link, LEFT)
+}
+
+// The right side of a branch.
+pub fn right_side(words: &[u32], link: u32) -> u32
+    requires { ⌜ link * 12 ≤ length (now words) ⌝ }
+    ensures { λ r. ⌜ r ≡ right-in (now (words .entry)) link ⌝ }
+{
+    stored(words, link, RIGHT)
+}
+
+// The key of a branch, or the label of a collection.
+pub fn key_of<'a>(words: &[u32], text: &'a [u8], link: u32) -> &'a [u8]
+    requires { ⌜ TextIn (now words) (now text) link ⌝ }
+    ensures { λ r. ⌜ now r ≡ key-at (now (words .entry)) (now (text .entry)) link ⌝ }
+{
+    let start = word_of(words, link, TEXT_START) as usize;
+    let len = word_of(words, link, TEXT_LEN) as usize;
+    &text[start..start + len]
+}
+
+// ---- Whole records
+
 // The twelve words of the record that `link` names.
 pub fn row_of(words: &[u32], link: u32) -> [u32; 12]
     requires { ⌜ (0 < link) × (link * 12 ≤ length (now words)) ⌝ }
@@ -84,14 +258,14 @@ pub fn symbol_of(words: &[u32], link: u32) -> ModSymbol
     ensures { λ r. ⌜ r ≡ symbol-in (record-at (now (words .entry)) link) ⌝ }
 {
     let name = Span {
-        start: word_of(words, link, 6),
-        len: word_of(words, link, 7),
+        start: word_of(words, link, NAME_START),
+        len: word_of(words, link, NAME_LEN),
     };
-    let loaded = word_of(words, link, 10) == 1;
-    if word_of(words, link, 5) == 0 {
+    let loaded = word_of(words, link, LOADED) == 1;
+    if word_of(words, link, SYMBOL) == 0 {
         let path = Span {
-            start: word_of(words, link, 8),
-            len: word_of(words, link, 9),
+            start: word_of(words, link, PATH_START),
+            len: word_of(words, link, PATH_LEN),
         };
         return ModSymbol::Module(name, path, loaded);
     }
@@ -104,14 +278,14 @@ pub fn branch_of(words: &[u32], link: u32) -> Branch
     ensures { λ r. ⌜ ReadBranch (record-at (now (words .entry)) link) r ⌝ }
 {
     let key = Span {
-        start: word_of(words, link, 1),
-        len: word_of(words, link, 2),
+        start: word_of(words, link, TEXT_START),
+        len: word_of(words, link, TEXT_LEN),
     };
     Branch {
         key: key,
-        left: word_of(words, link, 3),
-        right: word_of(words, link, 4),
-        value: word_of(words, link, 5),
+        left: word_of(words, link, LEFT),
+        right: word_of(words, link, RIGHT),
+        value: word_of(words, link, HELD),
         symbol: symbol_of(words, link),
     }
 }
@@ -122,15 +296,15 @@ pub fn collection_of(words: &[u32], link: u32) -> Collection
     ensures { λ r. ⌜ ReadCollection (record-at (now (words .entry)) link) r ⌝ }
 {
     let label = Span {
-        start: word_of(words, link, 1),
-        len: word_of(words, link, 2),
+        start: word_of(words, link, TEXT_START),
+        len: word_of(words, link, TEXT_LEN),
     };
     Collection {
-        imported: word_of(words, link, 5) == 1,
+        imported: word_of(words, link, SORT) == IMPORTED,
         label: label,
-        own: word_of(words, link, 3),
-        rest: word_of(words, link, 4),
-        weight: word_of(words, link, 10),
+        own: word_of(words, link, OWN),
+        rest: word_of(words, link, REST),
+        weight: word_of(words, link, WEIGHT),
     }
 }
 
@@ -140,9 +314,9 @@ pub fn trie_of(words: &[u32], link: u32) -> Trie
     ensures { λ r. ⌜ ReadTrie (now (words .entry)) link r ⌝ }
 {
     Trie {
-        bindings: stored(words, link, 3),
-        namespaces: stored(words, link, 4),
-        depth: stored(words, link, 11),
+        bindings: stored(words, link, BINDINGS),
+        namespaces: stored(words, link, NAMESPACES),
+        depth: stored(words, link, DEPTH),
     }
 }
 

@@ -10,29 +10,29 @@ use Rattle.source.specs.Types.{Level}
 use Rattle.source.specs.Heap.{Heap}
 use Rattle.source.specs.Lists.{first, priority}
 use Rattle.source.specs.Shared.{Allˡ}
-use Rattle.memory.specs.Layout.{Which, tree, key-at}
+use Rattle.memory.specs.Layout.{Which, tree, key-at, list}
 use Rattle.memory.proofs.Seen.{link-later}
 use Rattle.heap.specs.Compare.{Head, Heads, Stands}
-use Rattle.tree.specs.Tree.{TreeAt, AnyTree}
+use Rattle.tree.specs.Tree.{AnyTree}
 use Rattle.tree.specs.Links.{matches, head0}
 use Rattle.tree.proofs.Branches.{tree-fits, key-inside}
 use Rattle.tree.specs.Links.{BranchOf}
 use Rattle.tree.proofs.Matches.{MatchOf, matches-of, matches-increasing, all-after, after-next}
-use Rattle.names.specs.Names.{ListAt}
-use Rattle.names.proofs.Collections.{tree-within}
 use Rattle.merge.specs.Entries.{entry-key}
 use Rattle.merge.specs.Stream.{later, run-at, left, remaining, Holding}
 use Rattle.merge.specs.declared.Merge.{Merge}
+use Rattle.memory.specs.Sound.{At}
+use Rattle.memory.proofs.At.{at-of}
 
 -- ---- The next match
 
-module _ {ws txt : List ℕ} {w : Which} {v : Level} {root : ℕ} (t : TreeAt ws txt w v root) (p : Str) where
+module _ {ws txt : List ℕ} {w : Which} {v : Level} {root : ℕ} (t : At ws txt w (tree v) root) (p : Str) where
   -- Where the first of some matches is none, there are none.
   pub no-match : (l : List ℕ) → Allˡ (MatchOf ws txt w v root p) l → head0 l ≡ 0 → l ≡ []
   no-match [] a e = refl
   no-match (y ∷ l) a e = absurd (omega (arith, a .0 .branch .some))
 
-module _ {ws txt : List ℕ} {w : Which} {v : Level} {root : ℕ} (t : TreeAt ws txt w v root) (p : Str) (head : ℕ) where
+module _ {ws txt : List ℕ} {w : Which} {v : Level} {root : ℕ} (t : At ws txt w (tree v) root) (p : Str) (head : ℕ) where
   later-of : Allˡ (MatchOf ws txt w v root p) (later ws txt p root head)
   later-of = all-after (key-at ws txt) (MatchOf ws txt w v root p) (key-at ws txt head) (matches ws txt root p) (matches-of t p)
 
@@ -55,16 +55,16 @@ module _ {ws txt : List ℕ} {w : Which} {v : Level} {root : ℕ} (t : TreeAt ws
       }
 
 -- ---- What a cell names
-module _ {ws txt : List ℕ} {w : Which} {v : Level} {x : ℕ} (here : ListAt ws txt w v x) where
+module _ {ws txt : List ℕ} {w : Which} {v : Level} {x : ℕ} (here : At ws txt w (list v) x) where
   pub branch-tree : {y : ℕ} → BranchOf ws w v x y → (0 < y) × AnyTree ws txt y
-  branch-tree o = (o .some, record { which = w; level = v; tree = tree-within here (omega arith) (o .link) })
+  branch-tree o = (o .some, record { which = w; level = v; tree = at-of here (tree _) (omega arith) (o .link) })
 
   pub branch-head : {y : ℕ} → BranchOf ws w v x y → Head ws txt y
   branch-head o = let t = branch-tree o in record { named = t .0; within = tree-fits (t .1); key = key-inside (t .1) (t .0) }
 
 module _ {ws txt : List ℕ} {w : Which} {v : Level} {x : ℕ} {p : Str} {m : Merge} {h : Heap ℕ} (g : Holding ws txt w v x p m h) where
-  pub cell-tree : (j : ℕ) → j < m .n → TreeAt ws txt w v (getD (m .roots) j 0)
-  cell-tree j l = tree-within (g .here) (omega arith) (g .cells j l .root-link)
+  pub cell-tree : (j : ℕ) → j < m .n → At ws txt w (tree v) (getD (m .roots) j 0)
+  cell-tree j l = at-of (g .here) (tree _) (omega arith) (g .cells j l .root-link)
 
   pub heads-of : Heads ws txt (m .heads) (m .n)
   heads-of = record { few = g .few; each = λ j l. branch-head (g .here) (g .cells j l .branch) }

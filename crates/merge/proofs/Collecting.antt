@@ -24,17 +24,18 @@ use Rattle.memory.specs.Layout.{record-at, word, span, Which, Item, tree, list,
 use Rattle.memory.specs.Stored.{stored}
 use Rattle.memory.proofs.Readings.{what-none}
 use Rattle.memory.proofs.Seen.{link-later}
-use Rattle.tree.specs.Tree.{TreeAt, AnyTree}
+use Rattle.tree.specs.Tree.{AnyTree}
 use Rattle.tree.specs.Links.{matches, head0, row-at}
 use Rattle.tree.proofs.Matches.{matches-of, prefix-rows, all-rows}
-use Rattle.names.specs.Names.{ListAt, AnyList}
+use Rattle.names.specs.Names.{AnyList}
 use Rattle.names.proofs.Collections.{any-imported, any-own, collection-right, sort-tree, rest-list, own-tree, names-reads, imported-list, imported-reads, list-weight, rest-lighter}
 use Rattle.merge.specs.Entries.{label-at, Asks, by-prefix, by-all}
 use Rattle.merge.specs.Lists.{Part, elements, LabelOk, Full, SameCell, HasParts, no-more, more, match-lists-in, CollectedIn, Collected}
 use Rattle.merge.proofs.Cells.{no-match}
+use Rattle.memory.specs.Sound.{At}
 
 -- ---- What a tree's matches are
-module _ {ws txt : List ℕ} {w : Which} {v : Level} {root : ℕ} (t : TreeAt ws txt w v root) where
+module _ {ws txt : List ℕ} {w : Which} {v : Level} {root : ℕ} (t : At ws txt w (tree v) root) where
   rows-prefix : (p : Str) → tree-matches (NSTPrefix p) (what w ws txt root (tree v)) ≡ map (row-at w ws txt v (some p)) (matches ws txt root p)
   unfolding tree-matches
   rows-prefix [] = sym (all-rows t (some []))
@@ -56,7 +57,7 @@ abbrev pub outermost : (label x : ℕ) → ℕ
 outermost zero x = x
 outermost (suc l) x = suc l
 
-module _ {ws txt : List ℕ} {w : Which} {v : Level} {l x : ℕ} (t : ListAt ws txt w v x) (p : 0 < x) (h : x ≤ l) (e : word (record-at ws x) 5 ≡ 1) where
+module _ {ws txt : List ℕ} {w : Which} {v : Level} {l x : ℕ} (t : At ws txt w (list v) x) (p : 0 < x) (h : x ≤ l) (e : word (record-at ws x) 5 ≡ 1) where
   outermost-ok : (label : ℕ) → LabelOk ws w v l label → LabelOk ws w v l (outermost label x)
   outermost-ok zero o = record { link = record { earlier = omega arith; of-kind = t .link .of-kind }; imports = λ _. e }
   outermost-ok (suc label) o = o
@@ -106,8 +107,8 @@ module _ {ws txt : List ℕ} {x own rest sort : ℕ} (s : Seen ws txt x own rest
   seen-tree n = any-own (s .any) (s .some) (s .own-is) (λ e. n (s .sort-is ∙ e))
 
   -- Of any table and level that the list is of.
-  module _ {w : Which} {v : Level} (t : ListAt ws txt w v x) where
-    rest-at : ListAt ws txt w v rest
+  module _ {w : Which} {v : Level} (t : At ws txt w (list v) x) where
+    rest-at : At ws txt w (list v) rest
     rest-at = rw (s .rest-is) (rest-list t (s .some))
 
     rest-before : rest < x
@@ -117,7 +118,7 @@ module _ {ws txt : List ℕ} {x own rest sort : ℕ} (s : Seen ws txt x own rest
       of-tree : word (record-at ws x) 5 ≡ 0
       of-tree = sort-tree t (s .some) (λ e. n (s .sort-is ∙ e))
 
-      own-at : TreeAt ws txt w v own
+      own-at : At ws txt w (tree v) own
       own-at = rw (s .own-is) (own-tree t (s .some) of-tree)
 
 -- ---- Cells that have parts
@@ -159,7 +160,7 @@ collected-none {ws} {txt} e f = record {
 }
 
 -- What the first collection adds.
-module _ {ws txt : List ℕ} {w : Which} {v : Level} {x own rest sort : ℕ} (s : Seen ws txt x own rest sort) (t : ListAt ws txt w v x) (imports : List Str) where
+module _ {ws txt : List ℕ} {w : Which} {v : Level} {x own rest sort : ℕ} (s : Seen ws txt x own rest sort) (t : At ws txt w (list v) x) (imports : List Str) where
   lists-imported : word (record-at ws x) 5 ≡ 1 → (term : SearchTerm) → match-lists-in w ws txt v term imports x
       ≡ match-lists-in w ws txt v term (span txt (word (record-at ws x) 1) (word (record-at ws x) 2) ∷ imports) own ++ match-lists-in w ws txt v term imports rest
   unfolding flat-in
@@ -180,7 +181,7 @@ module _ {ws txt : List ℕ} {w : Which} {v : Level} {x own rest sort : ℕ} (s 
 module _ {ws txt : List ℕ} {p : Str} {x own rest sort label i r : ℕ} {roots heads labels roots′ heads′ labels′ : List ℕ} (s : Seen ws txt x own rest sort) where
   -- An imported list, and then the rest.
   module _ {mid inner : ℕ} {roots₁ heads₁ labels₁ : List ℕ} (e : sort ≡ 1) where
-    imported-in : {w : Which} {v : Level} {l : ℕ} {imports : List Str} → ListAt ws txt w v x → ((j : ℕ) → j < mid → SameCell roots₁ heads₁ labels₁ roots′ heads′ labels′ j)
+    imported-in : {w : Which} {v : Level} {l : ℕ} {imports : List Str} → At ws txt w (list v) x → ((j : ℕ) → j < mid → SameCell roots₁ heads₁ labels₁ roots′ heads′ labels′ j)
         → CollectedIn ws txt p own inner i mid roots heads labels roots₁ heads₁ labels₁ w v l (span txt (word (record-at ws x) 1) (word (record-at ws x) 2) ∷ imports)
         → CollectedIn ws txt p rest label mid r roots₁ heads₁ labels₁ roots′ heads′ labels′ w v l imports
         → CollectedIn ws txt p x label i r roots heads labels roots′ heads′ labels′ w v l imports
@@ -220,7 +221,7 @@ module _ {ws txt : List ℕ} {p : Str} {x own rest sort label i r : ℕ} {roots 
       says = λ w v l imports t h o q. skip-in t (b .says w v l imports (rest-at s t) (omega (arith, rest-before s t)) o q);
     }
       where
-        skip-in : {w : Which} {v : Level} {l : ℕ} {imports : List Str} → ListAt ws txt w v x
+        skip-in : {w : Which} {v : Level} {l : ℕ} {imports : List Str} → At ws txt w (list v) x
             → CollectedIn ws txt p rest label i r roots heads labels roots′ heads′ labels′ w v l imports → CollectedIn ws txt p x label i r roots heads labels roots′ heads′ labels′ w v l imports
         skip-in {imports = imports} t b = record {
           parts = b .parts;
@@ -231,7 +232,7 @@ module _ {ws txt : List ℕ} {p : Str} {x own rest sort label i r : ℕ} {roots 
 
     -- A tree with one.
     module _ (z : first ≡ 0 → ⊥) (f : Full roots heads labels) (small : i < 96) where
-      cell-in : {w : Which} {v : Level} {l : ℕ} {imports : List Str} → ListAt ws txt w v x → x ≤ l → LabelOk ws w v l label → label-at ws txt label ≡ last-opt imports
+      cell-in : {w : Which} {v : Level} {l : ℕ} {imports : List Str} → At ws txt w (list v) x → x ≤ l → LabelOk ws w v l label → label-at ws txt label ≡ last-opt imports
           → SameCell (set roots i own) (set heads i first) (set labels i label) roots′ heads′ labels′ i
           → CollectedIn ws txt p rest label (i + 1) r (set roots i own) (set heads i first) (set labels i label) roots′ heads′ labels′ w v l imports
           → CollectedIn ws txt p x label i r roots heads labels roots′ heads′ labels′ w v l imports

@@ -6,10 +6,9 @@ use native.Mathlib.Omega.{arith}
 use Rattle.source.specs.Text.{Str}
 use Rattle.source.specs.Types.{Level}
 use Rattle.source.specs.Rules.{IsLabel}
-use Rattle.memory.specs.Layout.{record-at, word, Which}
-use Rattle.memory.specs.Sound.{TextOk}
+use Rattle.memory.specs.Layout.{record-at, word, Which, list}
+use Rattle.memory.specs.Sound.{TextOk, At}
 use Rattle.memory.proofs.Seen.{link-later}
-use Rattle.names.specs.Names.{ListAt}
 use Rattle.names.proofs.Collections.{collection-right}
 use Rattle.merge.specs.Entries.{Entry}
 use Rattle.merge.specs.Lists.{LabelOk}
@@ -18,10 +17,10 @@ use Rattle.merge.specs.declared.Merge.{Merge}
 use Rattle.merge.specs.declared.Step.{Step}
 
 -- The text of a label.
-pub label-text : {ws txt : List ℕ} {w : Which} {v : Level} {x label : ℕ} (t : ListAt ws txt w v x) → LabelOk ws w v x label → 0 < label
+pub label-text : {ws txt : List ℕ} {w : Which} {v : Level} {x label : ℕ} (t : At ws txt w (list v) x) → LabelOk ws w v x label → 0 < label
     → TextOk IsLabel txt (t .used) (word (record-at ws label) 1) (word (record-at ws label) 2)
 label-text {ws} {txt} {w} {v} {x} {label} t o p =
-    let k : ListAt ws txt w v label = record { records = t .records; used = t .used; sound = t .sound; link = link-later (omega (arith, t .link .earlier)) (o .link) } in
+    let k : At ws txt w (list v) label = record { records = t .records; used = t .used; sound = t .sound; link = link-later (omega (arith, t .link .earlier)) (o .link) } in
     collection-right k p .label (o .imports p)
 
 module _ {ws txt : List ℕ} {w : Which} {v : Level} {x : ℕ} {p : Str} {m : Merge} {s : List Entry} (g : Rest ws txt w v x p m s) where

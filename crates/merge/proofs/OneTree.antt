@@ -13,15 +13,16 @@ use Rattle.source.specs.Table.{last-opt}
 use Rattle.source.specs.Forward.{flat-in}
 use Rattle.source.specs.Forward.{found}
 use Rattle.source.proofs.Found.{match-lists, found-empty, found-one}
-use Rattle.memory.specs.Layout.{record-at, word, Which, Item, list, what}
+use Rattle.memory.specs.Layout.{record-at, word, Which, Item, list, what, tree}
 use Rattle.memory.proofs.Readings.{what-none}
 use Rattle.memory.proofs.Seen.{link-later}
 use Rattle.tree.specs.Links.{matches, row-at}
-use Rattle.names.specs.Names.{ListAt}
-use Rattle.names.proofs.Collections.{tree-within, collection-right, sort-tree, names-reads}
+use Rattle.names.proofs.Collections.{collection-right, sort-tree, names-reads}
 use Rattle.merge.specs.Entries.{shown, outer, Asks}
 use Rattle.merge.specs.Lists.{SingleIn, Single}
 use Rattle.merge.proofs.Collecting.{term-rows}
+use Rattle.memory.specs.Sound.{At}
+use Rattle.memory.proofs.At.{at-of}
 
 pub single-none : {ws : List ℕ} {x : ℕ} → Single ws x 0
 single-none txt w v t p = absurd (omega arith)
@@ -34,10 +35,10 @@ single-tree {ws} {x} {r} p n z e txt w v t q =
       reads = names-reads t p (sort-tree t p n) ∙ rw (f, e, what-none w ws txt);
     }
 
-module _ {ws txt : List ℕ} {w : Which} {v : Level} {x r : ℕ} (t : ListAt ws txt w v x) (o : SingleIn ws txt w v x r) {term : SearchTerm} {p : Str} {q : Option Str} (asks : Asks term p q) where
+module _ {ws txt : List ℕ} {w : Which} {v : Level} {x r : ℕ} (t : At ws txt w (list v) x) (o : SingleIn ws txt w v x r) {term : SearchTerm} {p : Str} {q : Option Str} (asks : Asks term p q) where
   lists-single : match-lists term (what w ws txt x (list v)) ≡ with-imports ([], map (row-at w ws txt v q) (matches ws txt r p)) ∷ []
   unfolding match-lists flat-in
-  lists-single = rw (o .reads, term-rows (tree-within t (omega arith) (o .link)) asks)
+  lists-single = rw (o .reads, term-rows (at-of t (tree _) (omega arith) (o .link)) asks)
 
   -- The entries of the tree's matches show what is found.
   pub single-found : map outer (found (what w ws txt x (list v)) term) ≡ map (shown w ws txt v q) (map (λ b. record { branch = b; label = 0 }) (matches ws txt r p))

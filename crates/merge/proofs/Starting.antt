@@ -22,7 +22,7 @@ use Rattle.source.proofs.Listed.{formed-orderedN}
 use Rattle.source.specs.Forward.{held, forward}
 use Rattle.source.proofs.Forward.{AreRuns, built, map-run, map-heap, held-map, forward-map, built-map}
 use Rattle.source.proofs.Found.{match-lists, found-read}
-use Rattle.memory.specs.Layout.{Which, Item, list, what, key-at}
+use Rattle.memory.specs.Layout.{Which, Item, list, what, key-at, tree}
 use Rattle.memory.proofs.Seen.{link-later}
 use Rattle.memory.proofs.Given.{IsItem, link-fine}
 use Rattle.heap.specs.Compare.{Heads, cell-cmp}
@@ -30,15 +30,14 @@ use Rattle.heap.specs.Cells.{is, count, Rep, first-cells}
 use Rattle.heap.proofs.Compare.{cell-cmp-run}
 use Rattle.heap.proofs.Kept.{rep-below, is-other}
 use Rattle.heap.proofs.Mapped.{map-insert}
-use Rattle.tree.specs.Tree.{TreeAt}
 use Rattle.tree.specs.Links.{matches, row-at}
 use Rattle.tree.proofs.Matches.{matches-none, matches-of, matches-increasing, after-first}
-use Rattle.names.specs.Names.{ListAt}
-use Rattle.names.proofs.Collections.{no-link, tree-within}
 use Rattle.merge.specs.Entries.{Entry, entry-key, label-at, shown, outer}
 use Rattle.merge.specs.Lists.{Part, elements, HasPart, HasParts, more, CollectedIn, Collected}
 use Rattle.merge.specs.Stream.{later, run-at, CellOk, Starts, state}
 use Rattle.merge.proofs.Cells.{branch-head, stands}
+use Rattle.memory.specs.Sound.{At}
+use Rattle.memory.proofs.At.{no-link, at-of}
 
 getD-map : {A B : Type 0} (f : A → B) (l : List A) (k : ℕ) (a : A) (b : B) → k < length l → getD (map f l) k b ≡ f (getD l k a)
 getD-map f [] k a b h = absurd (omega arith)
@@ -125,7 +124,7 @@ module _ (ws txt : List ℕ) where
     unfolding outer shown row-at
     element-shows m = rw (m .labelled)
 
-module _ {ws txt : List ℕ} {w : Which} {v : Level} {x : ℕ} {p : Str} {roots heads labels : List ℕ} (here : ListAt ws txt w v x) where
+module _ {ws txt : List ℕ} {w : Which} {v : Level} {x : ℕ} {p : Str} {roots heads labels : List ℕ} (here : At ws txt w (list v) x) where
   part-at : (i : ℕ) (parts : List (Part ws txt)) → HasParts ws txt w v x p roots heads labels i parts → (k j : ℕ) → j ≡ i + k → k < length parts
       → HasPart ws txt w v x p roots heads labels j (getD parts k (no-part ws txt))
   part-at i [] a k j e h = absurd (omega arith)
@@ -133,8 +132,8 @@ module _ {ws txt : List ℕ} {w : Which} {v : Level} {x : ℕ} {p : Str} {roots 
   part-at i (c ∷ parts) (more b a) (suc k) j e h = part-at (suc i) parts a k j (omega arith) (omega arith)
 
   module _ {j : ℕ} {c : Part ws txt} (o : HasPart ws txt w v x p roots heads labels j c) where
-    part-tree : TreeAt ws txt w v (c .root)
-    part-tree = tree-within here (omega arith) (o .root-link)
+    part-tree : At ws txt w (tree v) (c .root)
+    part-tree = at-of here (tree _) (omega arith) (o .root-link)
 
     part-later : matches ws txt (c .root) p ≡ getD heads j 0 ∷ later ws txt p (c .root) (getD heads j 0)
     part-later =
@@ -180,18 +179,18 @@ module _ {ws txt : List ℕ} {w : Which} {v : Level} {x : ℕ} {p : Str} {roots 
         rw (e, o .root-is, o .label-is, map-map)
 
 -- ---- merge_start
-ordered : {ws txt : List ℕ} {w : Which} {v : Level} {x : ℕ} (t : ListAt ws txt w v x) → OrderedN (what w ws txt x (list v))
+ordered : {ws txt : List ℕ} {w : Which} {v : Level} {x : ℕ} (t : At ws txt w (list v) x) → OrderedN (what w ws txt x (list v))
 ordered {ws} {txt} {w} {v} {x} t = formed-orderedN IsKey IsLabel (IsItem w) {l = v} (what w ws txt x (list v)) (link-fine (t .sound) w (list v) (omega arith) (t .link) .0)
 
 is-cell : (j k : ℕ) → 0 < is j k → j ≡ k
 is-cell j k l = elim (ℕ-discrete j k) [ yes e ↦ e | no n ↦ absurd (omega (arith, is-other j k n)) ]
 
 module _ {ws txt : List ℕ} {p : Str} {x n : ℕ} {roots₀ heads₀ labels₀ roots heads labels : List ℕ} (d : Collected ws txt p x 0 0 n roots₀ heads₀ labels₀ roots heads labels) where
-  collected : (w : Which) (v : Level) → ListAt ws txt w v x → CollectedIn ws txt p x 0 0 n roots₀ heads₀ labels₀ roots heads labels w v x []
+  collected : (w : Which) (v : Level) → At ws txt w (list v) x → CollectedIn ws txt p x 0 0 n roots₀ heads₀ labels₀ roots heads labels w v x []
   unfolding last-opt
   collected w v t = d .says w v x [] t (omega arith) (record { link = no-link x _; imports = λ l. absurd (omega arith) }) refl
 
-  module _ {w : Which} {v : Level} (t : ListAt ws txt w v x) where
+  module _ {w : Which} {v : Level} (t : At ws txt w (list v) x) where
     has-cell : (j : ℕ) → j < n → HasPart ws txt w v x p roots heads labels j (getD (collected w v t .parts) j (no-part ws txt))
     has-cell j l = part-at t 0 (collected w v t .parts) (collected w v t .has) j j (omega arith) (omega (arith, collected w v t .count))
 

@@ -24,11 +24,11 @@ use Rattle.heap.proofs.Mapped.{map-same}
 use Rattle.heap.proofs.Standing.{stands-pairs, stands-insert}
 use Rattle.tree.specs.Tree.{AnyTree}
 use Rattle.tree.specs.Links.{head0}
-use Rattle.names.proofs.Collections.{no-link}
 use Rattle.merge.specs.Entries.{Entry, entry-key}
 use Rattle.merge.specs.Stream.{later, run-at, left, Holding, state, TookCell, TookIn, Takes, Ready}
 use Rattle.merge.specs.declared.Taken.{Taken}
 use Rattle.merge.proofs.Cells.{Next, later-end, later-next, branch-tree, branch-head, cell-tree, next-branch, stands, remaining-less}
+use Rattle.memory.proofs.At.{no-link}
 
 -- A cell's lists before and after a change of another cell.
 run-same : (ws txt : List ℕ) (p : Str) (roots heads roots′ heads′ labels : List ℕ) (n j : ℕ)

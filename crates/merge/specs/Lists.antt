@@ -13,9 +13,8 @@ use Rattle.source.specs.Table.{last-opt}
 use Rattle.source.specs.Forward.{tree-matches}
 use Rattle.source.specs.Forward.{flat-in}
 use Rattle.memory.specs.Layout.{record-at, word, Which, Item, tree, list, kind, what}
-use Rattle.memory.specs.Sound.{LinkOk}
+use Rattle.memory.specs.Sound.{LinkOk, At}
 use Rattle.tree.specs.Links.{matches, row-at}
-use Rattle.names.specs.Names.{ListAt}
 use Rattle.merge.specs.Entries.{label-at, Asks}
 
 -- A tree, the collection of its outermost label, 0 for none, and its imports.
@@ -79,7 +78,7 @@ module _ (ws txt : List ℕ) (p : Str) (x label i r : ℕ) (roots heads labels r
     pub from : i ≤ r
     pub full : Full roots′ heads′ labels′
     pub kept : (j : ℕ) → j < i → SameCell roots heads labels roots′ heads′ labels′ j
-    pub says : (w : Which) (v : Level) (l : ℕ) (imports : List Str) → ListAt ws txt w v x → x ≤ l → LabelOk ws w v l label
+    pub says : (w : Which) (v : Level) (l : ℕ) (imports : List Str) → At ws txt w (list v) x → x ≤ l → LabelOk ws w v l label
         → label-at ws txt label ≡ last-opt imports → CollectedIn w v l imports
 
 -- The tree of root r is all that the list x has.
@@ -89,4 +88,4 @@ pub record SingleIn (ws txt : List ℕ) (w : Which) (v : Level) (x r : ℕ) : Ty
 
 -- The same, where r is not 0, for any text, table and level that the list is of.
 abbrev pub Single : (ws : List ℕ) (x r : ℕ) → Type 0
-Single ws x r = (txt : List ℕ) (w : Which) (v : Level) → ListAt ws txt w v x → 0 < r → SingleIn ws txt w v x r
+Single ws x r = (txt : List ℕ) (w : Which) (v : Level) → At ws txt w (list v) x → 0 < r → SingleIn ws txt w v x r

@@ -15,11 +15,10 @@ use Rattle.source.specs.Forward.{heap-map, forest-map}
 use Rattle.source.specs.Forward.{held, popped, forward}
 use Rattle.source.specs.Forward.{found}
 use Rattle.memory.specs.Layout.{Which, tree, list, kind, what, key-at}
-use Rattle.memory.specs.Sound.{LinkOk}
+use Rattle.memory.specs.Sound.{LinkOk, At}
 use Rattle.heap.specs.Cells.{count, Rep}
 use Rattle.tree.specs.Links.{matches, after}
 use Rattle.tree.specs.Links.{BranchOf}
-use Rattle.names.specs.Names.{ListAt}
 use Rattle.merge.specs.Entries.{Entry, entry-key, shown, outer, Asks}
 use Rattle.merge.specs.Lists.{LabelOk, Full}
 use Rattle.merge.specs.declared.Merge.{Merge}
@@ -54,7 +53,7 @@ pub record CellOk (ws txt : List ℕ) (w : Which) (v : Level) (x : ℕ) (p : Str
 
 -- The state has the heap h of cells of the list x. A cell in the heap has its tree.
 pub record Holding (ws txt : List ℕ) (w : Which) (v : Level) (x : ℕ) (p : Str) (m : Merge) (h : Heap ℕ) : Type 0 where
-  pub here : ListAt ws txt w v x
+  pub here : At ws txt w (list v) x
   pub few : m .n ≤ 96
   pub full : Full (m .roots) (m .heads) (m .labels)
   pub cells : (j : ℕ) → j < m .n → CellOk ws txt w v x p (getD (m .roots) j 0) (getD (m .heads) j 0) (getD (m .labels) j 0)
@@ -96,7 +95,7 @@ pub record StartIn (ws txt : List ℕ) (w : Which) (v : Level) (x : ℕ) (p : St
 
 -- The same, for any table and level that the list is of.
 abbrev pub Starts : (ws txt : List ℕ) (x : ℕ) (p : Str) (m : Merge) → Type 0
-Starts ws txt x p m = (w : Which) (v : Level) → ListAt ws txt w v x → StartIn ws txt w v x p m
+Starts ws txt x p m = (w : Which) (v : Level) → At ws txt w (list v) x → StartIn ws txt w v x p m
 
 -- How many branches a state has left.
 abbrev pub left-in : (ws txt : List ℕ) (p : Str) (m : Merge) → ℕ

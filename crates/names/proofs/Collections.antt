@@ -8,40 +8,21 @@ use Rattle.source.specs.Types.{Level, Names, ImportedNames}
 use Rattle.source.specs.Terms.{weight}
 use Rattle.source.specs.Plans.{first-tree}
 use Rattle.memory.specs.Layout.{record-at, word, span, Which, tree, list, kind, what}
-use Rattle.memory.specs.Sound.{LinkOk, CollectionOk, RecordOk, Sound}
+use Rattle.memory.specs.Sound.{LinkOk, CollectionOk, RecordOk, Used, At}
 use Rattle.memory.specs.Stored.{stored}
 use Rattle.memory.proofs.Readings.{what-none}
 use Rattle.memory.proofs.Records.{zero-one, zero-some, collection-at, weight-at}
 use Rattle.memory.proofs.Sizes.{stored-none, stored-weight}
 use Rattle.memory.proofs.Seen.{link-fits, link-ok, link-what, link-later}
-use Rattle.tree.specs.Tree.{TreeAt, AnyTree}
-use Rattle.tree.proofs.Branches.{no-roots, any-tree}
-use Rattle.names.specs.Names.{first-rest, ListAt, AnyList, Led}
+use Rattle.tree.specs.Tree.{AnyTree}
+use Rattle.tree.proofs.Branches.{any-tree}
+use Rattle.names.specs.Names.{first-rest, AnyList, Led}
+use Rattle.memory.proofs.At.{no-link, rows-before, at-of}
 
-pub no-link : {ws : List ℕ} (l k : ℕ) → LinkOk ws (l + 1) 0 k
-no-link l k = record { earlier = omega arith; of-kind = λ z. absurd (z refl) }
-
-pub rows-before : {ws txt : List ℕ} {a b n used : ℕ} → Sound ws txt a b n used → (j : ℕ) → 0 < j → j < n + 1 → RecordOk ws txt used j
-rows-before o j p h = o .rows j p (omega arith)
-
--- A list of a sound memory.
-pub list-in : {ws txt : List ℕ} {a b n used : ℕ} → Sound ws txt a b n used → (w : Which) (v : Level) {x : ℕ} → LinkOk ws (n + 1) x (kind w (list v)) → ListAt ws txt w v x
-list-in {n = n} {used} o w v i = record { records = n; used = used; sound = no-roots o; link = i }
-
-pub any-list : {ws txt : List ℕ} {w : Which} {v : Level} {x : ℕ} → ListAt ws txt w v x → AnyList ws txt x
+pub any-list : {ws txt : List ℕ} {w : Which} {v : Level} {x : ℕ} → At ws txt w (list v) x → AnyList ws txt x
 any-list {w = w} {v} t = record { which = w; level = v; list = t }
 
-module _ {ws txt : List ℕ} {w : Which} {v : Level} {x : ℕ} (t : ListAt ws txt w v x) where
-  pub list-fits : x * 12 ≤ length ws
-  list-fits = link-fits (t .sound) (t .link)
-
-  -- A list and a tree that come no later.
-  pub list-of : {l y : ℕ} → l ≤ x + 1 → LinkOk ws l y (kind w (list v)) → ListAt ws txt w v y
-  list-of h i = record { records = t .records; used = t .used; sound = t .sound; link = link-later (omega (arith, t .link .earlier)) i }
-
-  pub tree-within : {l y : ℕ} → l ≤ x + 1 → LinkOk ws l y (kind w (tree v)) → TreeAt ws txt w v y
-  tree-within h i = record { records = t .records; used = t .used; sound = t .sound; link = link-later (omega (arith, t .link .earlier)) i }
-
+module _ {ws txt : List ℕ} {w : Which} {v : Level} {x : ℕ} (t : At ws txt w (list v) x) where
   pub list-weight : stored ws x 10 ≡ weight (what w ws txt x (list v))
   list-weight = stored-weight (rows-before (t .sound)) w v x (t .link)
 
@@ -51,26 +32,26 @@ module _ {ws txt : List ℕ} {w : Which} {v : Level} {x : ℕ} (t : ListAt ws tx
       (λ p. rw list-weight (weight-at (link-ok (t .sound) (t .link) p) w v (t .link .of-kind (λ e. omega arith)) .light))
 
 -- Its first record.
-module _ {ws txt : List ℕ} {w : Which} {v : Level} {x : ℕ} (t : ListAt ws txt w v x) (p : 0 < x) where
+module _ {ws txt : List ℕ} {w : Which} {v : Level} {x : ℕ} (t : At ws txt w (list v) x) (p : 0 < x) where
   pub collection-right : CollectionOk ws txt (t .used) x w (record-at ws x) v
   collection-right = collection-at (link-ok (t .sound) (t .link) p) w v (t .link .of-kind (λ e. omega arith))
 
   pub sort-tree : (word (record-at ws x) 5 ≡ 1 → ⊥) → word (record-at ws x) 5 ≡ 0
   sort-tree n = omega (arith, collection-right .sort, n)
 
-  pub rest-list : ListAt ws txt w v (word (record-at ws x) 4)
-  rest-list = list-of t (omega arith) (collection-right .rest)
+  pub rest-list : At ws txt w (list v) (word (record-at ws x) 4)
+  rest-list = at-of t (list _) (omega arith) (collection-right .rest)
 
   module _ (e : word (record-at ws x) 5 ≡ 0) where
-    pub own-tree : TreeAt ws txt w v (word (record-at ws x) 3)
-    own-tree = tree-within t (omega arith) (collection-right .own e)
+    pub own-tree : At ws txt w (tree v) (word (record-at ws x) 3)
+    own-tree = at-of t (tree _) (omega arith) (collection-right .own e)
 
     pub names-reads : what w ws txt x (list v) ≡ Names (what w ws txt (word (record-at ws x) 3) (tree v)) (what w ws txt (word (record-at ws x) 4) (list v))
     names-reads = link-what (t .sound) w (list v) (t .link) p ∙ rw e
 
   module _ (e : word (record-at ws x) 5 ≡ 1) where
-    pub imported-list : ListAt ws txt w v (word (record-at ws x) 3)
-    imported-list = list-of t (omega arith) (collection-right .imported e)
+    pub imported-list : At ws txt w (list v) (word (record-at ws x) 3)
+    imported-list = at-of t (list _) (omega arith) (collection-right .imported e)
 
     pub imported-reads : what w ws txt x (list v)
         ≡ ImportedNames (span txt (word (record-at ws x) 1) (word (record-at ws x) 2)) (what w ws txt (word (record-at ws x) 3) (list v)) (what w ws txt (word (record-at ws x) 4) (list v))
@@ -98,10 +79,10 @@ module _ {ws txt : List ℕ} {x y : ℕ} (a : AnyList ws txt x) (p : 0 < x) (q :
 -- ---- the first tree and the rest
 module _ {ws txt : List ℕ} {x first rest : ℕ} (a : AnyList ws txt x) (d : Led ws x first rest) where
   pub any-first : AnyTree ws txt first
-  any-first = any-tree (tree-within (a .list) (omega arith) (d txt _ _ (a .list) .first-link))
+  any-first = any-tree (at-of (a .list) (tree _) (omega arith) (d txt _ _ (a .list) .first-link))
 
   pub any-rest : AnyList ws txt rest
-  any-rest = any-list (list-of (a .list) (omega arith) (d txt _ _ (a .list) .rest-link))
+  any-rest = any-list (at-of (a .list) (list _) (omega arith) (d txt _ _ (a .list) .rest-link))
 
 pub led-none : {ws : List ℕ} {x : ℕ} → x ≡ 0 → Led ws x 0 0
 unfolding first-tree first-rest

@@ -10,16 +10,17 @@ use Rattle.source.specs.Text.{Str}
 use Rattle.source.specs.Types.{Level}
 use Rattle.source.specs.Tries.{or-else, names-find-exact}
 use Rattle.memory.specs.Layout.{record-at, word, pick, Which, tree, list, kind, what, key-at}
-use Rattle.memory.specs.Sound.{LinkOk}
+use Rattle.memory.specs.Sound.{LinkOk, At}
 use Rattle.memory.specs.Stored.{stored}
 use Rattle.memory.proofs.Readings.{what-none}
 use Rattle.memory.proofs.Seen.{link-later}
 use Rattle.tree.specs.Tree.{held, Found}
-use Rattle.names.specs.Names.{ListAt, AnyList, Holder}
-use Rattle.names.proofs.Collections.{no-link, any-list, collection-right, sort-tree, rest-list, own-tree, names-reads, imported-list, imported-reads, rest-lighter}
+use Rattle.names.specs.Names.{AnyList, Holder}
+use Rattle.names.proofs.Collections.{any-list, collection-right, sort-tree, rest-list, own-tree, names-reads, imported-list, imported-reads, rest-lighter}
+use Rattle.memory.proofs.At.{no-link}
 
 pub record FindIn (ws txt : List ℕ) (w : Which) (v : Level) (x : ℕ) (key : Str) (link : ℕ) : Type 0 where
-  pub here : ListAt ws txt w v link
+  pub here : At ws txt w (list v) link
   pub finds : names-find-exact (what w ws txt x (list v)) key ≡ names-find-exact (what w ws txt link (list v)) key
 
 -- The find stands at link: no collection before it has the key.
@@ -27,7 +28,7 @@ pub record Find (ws txt : List ℕ) (x : ℕ) (key : Str) (link : ℕ) : Type 0 
   pub earlier : link ≤ x
   pub lighter : stored ws link 10 ≤ stored ws x 10
   pub any : AnyList ws txt link
-  pub says : (w : Which) (v : Level) → ListAt ws txt w v x → FindIn ws txt w v x key link
+  pub says : (w : Which) (v : Level) → At ws txt w (list v) x → FindIn ws txt w v x key link
 
 -- The branch r is what the first collection of a list has, 0 for none.
 pub record FirstIn (ws txt : List ℕ) (w : Which) (v : Level) (link : ℕ) (key : Str) (r : ℕ) : Type 0 where
@@ -37,7 +38,7 @@ pub record FirstIn (ws txt : List ℕ) (w : Which) (v : Level) (link : ℕ) (key
       ≡ or-else (pick (eqb r 0) none (some (held w ws txt v r))) (names-find-exact (what w ws txt (word (record-at ws link) 4) (list v)) key)
 
 abbrev pub First : (ws txt : List ℕ) (link : ℕ) (key : Str) (r : ℕ) → Type 0
-First ws txt link key r = (w : Which) (v : Level) → ListAt ws txt w v link → FirstIn ws txt w v link key r
+First ws txt link key r = (w : Which) (v : Level) → At ws txt w (list v) link → FirstIn ws txt w v link key r
 
 module _ {ws txt : List ℕ} {key : Str} {link own r : ℕ} (p : 0 < link) (q : own ≡ word (record-at ws link) 3) where
   pub first-imported : word (record-at ws link) 5 ≡ 1 → Holder ws txt own key r → First ws txt link key r

@@ -13,17 +13,19 @@ use Rattle.memory.specs.Stored.{stored}
 use Rattle.memory.proofs.Readings.{what-none}
 use Rattle.memory.proofs.Records.{zero-some, kind-one}
 use Rattle.memory.proofs.Seen.{link-later}
-use Rattle.tree.specs.Tree.{TreeAt, Builds}
+use Rattle.tree.specs.Tree.{Builds}
 use Rattle.tree.specs.Insert.{NewBranch, Insertion, Inserted}
 use Rattle.tree.proofs.Branches.{branch-right, branch-reads}
 use Rattle.tree.proofs.Links.{by-sides}
 use Rattle.tree.proofs.Seeking.{by-order}
-use Rattle.names.specs.Names.{ListAt, LedIn, Led, NamesPlaced}
+use Rattle.names.specs.Names.{LedIn, Led, NamesPlaced}
 use Rattle.names.specs.Made.{Room, Made, MadeNames}
 use Rattle.names.specs.Insert.{inserted, NamesInsertion}
-use Rattle.names.proofs.Collections.{tree-within, list-of, list-weight}
+use Rattle.names.proofs.Collections.{list-weight}
 use Rattle.names.proofs.Placing.{names-insert-first, names-insert-weight}
 use Rattle.names.proofs.Making.{made-as, made-what, made-stored, made-link, made-room, made-then}
+use Rattle.memory.specs.Sound.{At}
+use Rattle.memory.proofs.At.{at-of}
 
 -- ---- The count
 
@@ -35,7 +37,7 @@ branches-into k w trieˢ t = 0
 
 module _ {ws txt : List ℕ} (key : Str) where
   -- A tree is of one table and level.
-  one-count : {w w′ : Which} {v v′ : Level} (x : ℕ) → TreeAt ws txt w v x → TreeAt ws txt w′ v′ x
+  one-count : {w w′ : Which} {v v′ : Level} (x : ℕ) → At ws txt w (tree v) x → At ws txt w′ (tree v′) x
       → insert-branches (what w ws txt x (tree v)) key ≡ insert-branches (what w′ ws txt x (tree v′)) key
   unfolding branches-into insert-branches
   one-count {w} {w′} {v} {v′} x t t′ =
@@ -45,7 +47,7 @@ module _ {ws txt : List ℕ} (key : Str) where
       let e = sym (t .link .of-kind (λ z. omega arith)) ∙ t′ .link .of-kind (λ z. omega arith) in
       ap (λ (q : Which × Sort). branches-into key (q .0) (q .1) (what (q .0) ws txt x (q .1))) (kind-one w (tree v) w′ (tree v′) e))
 
-  few-branches : {w : Which} {v : Level} (x : ℕ) → TreeAt ws txt w v x → insert-branches (what w ws txt x (tree v)) key ≤ x + 1
+  few-branches : {w : Which} {v : Level} (x : ℕ) → At ws txt w (tree v) x → insert-branches (what w ws txt x (tree v)) key ≤ x + 1
   unfolding insert-branches
   few-branches {w} {v} =
       by-sides (λ x. insert-branches (what w ws txt x (tree v)) key ≤ x + 1)
@@ -58,12 +60,12 @@ module _ {ws txt : List ℕ} (key : Str) where
       (λ e _. rw (insert-branches, e) (omega arith))
       (λ e _. rw (insert-branches, e) (omega (arith, g, b .right .earlier)))))
 
-  pub builds-of : {w : Which} {v : Level} {x count : ℕ} → TreeAt ws txt w v x → count ≡ insert-branches (what w ws txt x (tree v)) key → Builds ws txt x key count
+  pub builds-of : {w : Which} {v : Level} {x count : ℕ} → At ws txt w (tree v) x → count ≡ insert-branches (what w ws txt x (tree v)) key → Builds ws txt x key count
   builds-of {x = x} t e = record { small = omega (arith, e, few-branches x t); says = λ w′ v′ t′. e ∙ one-count x t t′ }
 
 -- The place of a key, found before other writes, serves an insertion after them.
 pub insertion-after : {ws ws′ txt : List ℕ} {n n′ used : ℕ} {w : Which} {s : Sort} {y : ℕ} {t : Of (Item w) s} → Made ws ws′ txt n n′ used w s y t
-    → {v : Level} {x holder count wt : ℕ} → ListAt ws txt w v x → x ≤ n → (r : List ℕ) → NamesPlaced ws txt x (span txt (word r 1) (word r 2)) holder count wt → wt ≤ 96
+    → {v : Level} {x holder count wt : ℕ} → At ws txt w (list v) x → x ≤ n → (r : List ℕ) → NamesPlaced ws txt x (span txt (word r 1) (word r 2)) holder count wt → wt ≤ 96
     → Room ws′ n′ (count + 1) → NewBranch ws′ txt used (n′ + 1) w r v → NamesInsertion ws′ txt w v n′ used x count r
 insertion-after {ws′ = ws′} {txt = txt} {w = w} m {v} {x} l h r p g o b =
     let q = p .inserts w v l in
@@ -91,7 +93,7 @@ kind-small modules bind = omega arith
 kind-small modules ns = omega arith
 
 module _ {ws txt : List ℕ} {w : Which} {v : Level} {records used x count : ℕ} {r : List ℕ} (i : NamesInsertion ws txt w v records used x count r) where
-  pub insertion-list : ListAt ws txt w v x
+  pub insertion-list : At ws txt w (list v) x
   insertion-list = record { records = records; used = used; sound = i .sound; link = i .link }
 
   module _ {first rest : ℕ} (d : Led ws x first rest) where
@@ -103,7 +105,7 @@ module _ {ws txt : List ℕ} {w : Which} {v : Level} {records used x count : ℕ
       sound = i .sound;
       link = link-later (omega (arith, i .link .earlier)) (led .first-link);
       new = i .new;
-      counted = builds-of _ (tree-within insertion-list (omega arith) (led .first-link)) (i .counted ∙ rw (led .first-reads));
+      counted = builds-of _ (at-of insertion-list (tree _) (omega arith) (led .first-link)) (i .counted ∙ rw (led .first-reads));
       room = omega (arith, i .room .fits);
       few = omega (arith, i .room .few);
     }
@@ -113,7 +115,7 @@ module _ {ws txt : List ℕ} {w : Which} {v : Level} {records used x count : ℕ
 
     rest-light : stored ws rest 10 < 96
     rest-light =
-        omega (arith, list-weight (list-of insertion-list (omega arith) (led .rest-link)), ap weight (led .rest-reads), names-insert-weight (what w ws txt x (list v)) (span txt (word r 1) (word r 2)) (value w txt r (what w ws txt) v), i .light)
+        omega (arith, list-weight (at-of insertion-list (list _) (omega arith) (led .rest-link)), ap weight (led .rest-reads), names-insert-weight (what w ws txt x (list v)) (span txt (word r 1) (word r 2)) (value w txt r (what w ws txt) v), i .light)
 
     module _ {ws′ : List ℕ} {root : ℕ} (h : Inserted ws ws′ txt w v records used first count r root) where
       pub made-first : Made ws ws′ txt records (records + count) used w (tree v) root (btree-insert-replace (what w ws txt first (tree v)) (span txt (word r 1) (word r 2)) (value w txt r (what w ws txt) v))

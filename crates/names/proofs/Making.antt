@@ -9,19 +9,19 @@ use Rattle.source.specs.Text.{Str}
 use Rattle.source.specs.Types.{Level, NameList, trie, bind, ns, ImportedNames}
 use Rattle.source.specs.Terms.{weight, depth}
 use Rattle.memory.specs.Layout.{word, Which, Item, Sort, list, trieˢ, Of, kind, row, what}
-use Rattle.memory.specs.Sound.{LinkOk, CollectionOk, TrieOk, WeightOk, RecordAs, Sound}
+use Rattle.memory.specs.Sound.{LinkOk, CollectionOk, TrieOk, WeightOk, RecordAs, Used}
 use Rattle.memory.specs.Stored.{stored, weight-of, depth-of}
 use Rattle.memory.specs.Grown.{put}
 use Rattle.memory.proofs.Growing.{stays-same, stays-on, what-stays, stored-stays, link-stays}
 use Rattle.memory.proofs.Sizes.{stored-weight, stored-list, weight-row, depth-collection, depth-trie}
-use Rattle.memory.proofs.Putting.{put-stays, put-what, put-sound, put-link}
+use Rattle.memory.proofs.Putting.{put-stays, put-what, put-used, put-link}
 use Rattle.tree.proofs.Changes.{drop-more}
-use Rattle.names.proofs.Collections.{rows-before}
 use Rattle.names.specs.Made.{Room, Made, collection-row, MadeNames, MadeImported, MadeTrie}
+use Rattle.memory.proofs.At.{rows-before}
 
 module _ {ws txt : List ℕ} {n used : ℕ} {w : Which} where
   -- Nothing made.
-  pub made-none : (s : Sort) {r : ℕ} → Sound ws txt 0 0 n used → LinkOk ws (n + 1) r (kind w s) → Made ws ws txt n n used w s r (what w ws txt r s)
+  pub made-none : (s : Sort) {r : ℕ} → Used ws txt n used → LinkOk ws (n + 1) r (kind w s) → Made ws ws txt n n used w s r (what w ws txt r s)
   made-none s o i = record { grows = omega arith; sound = o; stays = stays-same n ws; beyond = refl; link = i; reads = refl }
 
   module _ {ws′ : List ℕ} {n′ : ℕ} {s : Sort} {r : ℕ} {t : Of (Item w) s} (m : Made ws ws′ txt n n′ used w s r t) where
@@ -55,7 +55,7 @@ module _ {ws txt : List ℕ} {n used : ℕ} {w : Which} where
     }
 
 -- The record r, right as s of the table w, put after the first n.
-pub made-put : {ws txt : List ℕ} {n used : ℕ} → Sound ws txt 0 0 n used → Room ws n 1
+pub made-put : {ws txt : List ℕ} {n used : ℕ} → Used ws txt n used → Room ws n 1
     → (r : List ℕ) → length r ≡ 12 → (w : Which) (s : Sort) → word r 0 ≡ kind w s
     → RecordAs ws txt used (n + 1) w s r (row w txt r (what w ws txt) s)
     → Made ws (put ws n r) txt n (n + 1) used w s (n + 1) (row w txt r (what w ws txt) s)
@@ -66,7 +66,7 @@ made-put {ws} {txt} {n} o m r z w s k a =
     let e : (n + 1) * 12 ≡ n * 12 + 12 = omega arith in
     record {
       grows = omega arith;
-      sound = put-sound o few room r z w s k a;
+      sound = put-used o few room r z w s k a;
       stays = put-stays ws r n room z;
       beyond = rw e (drop-paste ws (n * 12) r 12 (omega arith) (omega arith));
       link = put-link o few room r z w s k a;
@@ -83,7 +83,7 @@ module _ {ws : List ℕ} {n : ℕ} (m : Room ws n 1) where
 
   -- A collection whose weight and depth are by what its links store.
   made-list : (r : List ℕ) → length r ≡ 12 → word r 10 ≡ weight-of ws r → word r 10 ≤ 96 → word r 11 ≡ depth-of ws r
-      → {txt : List ℕ} {used : ℕ} → Sound ws txt 0 0 n used → (w : Which) (v : Level) → word r 0 ≡ kind w (list v) → CollectionOk ws txt used (n + 1) w r v
+      → {txt : List ℕ} {used : ℕ} → Used ws txt n used → (w : Which) (v : Level) → word r 0 ≡ kind w (list v) → CollectionOk ws txt used (n + 1) w r v
       → Made ws (put ws n r) txt n (n + 1) used w (list v) (n + 1) (row w txt r (what w ws txt) (list v))
   made-list r z e h f {txt} {used} o w v k c = made-put o m r z w (list v) k (right v c)
     where
@@ -108,7 +108,7 @@ module _ {ws : List ℕ} {n : ℕ} (m : Room ws n 1) where
       (record { sort = omega arith; own = λ e. absurd (omega arith); imported = λ _. i; label = λ _. x; rest = j })
 
 -- ---- What the writers ask of weights and depths
-module _ {ws txt : List ℕ} {a b n used : ℕ} (o : Sound ws txt a b n used) (w : Which) where
+module _ {ws txt : List ℕ} {n used : ℕ} (o : Used ws txt n used) (w : Which) where
   pub imported-light : (v : Level) {own rest : ℕ} (label : Str) → LinkOk ws (n + 1) own (kind w (list v)) → LinkOk ws (n + 1) rest (kind w (list v))
       → weight (ImportedNames label (what w ws txt own (list v)) (what w ws txt rest (list v))) ≤ 96 → stored ws own 10 + stored ws rest 10 < 96
   unfolding weight

@@ -14,7 +14,9 @@ use Rattle.memory.specs.Stored.{stored}
 use Rattle.memory.proofs.Seen.{link-later}
 use Rattle.tree.specs.Tree.{Found, Placed}
 use Rattle.names.specs.Names.{first-rest, AnyList, Led, Holder, NamesPlaced}
-use Rattle.names.proofs.Collections.{tree-within, list-of, list-weight, list-light, any-rest}
+use Rattle.names.proofs.Collections.{list-weight, list-light, any-rest}
+use Rattle.memory.proofs.At.{at-of}
+use Rattle.memory.specs.Layout.{tree, list}
 
 module _ {A : Type 0} {l : Level} where
   pub names-find-exact-first : (n : NameList A l) (k : Str) → names-find-exact n k ≡ or-else (btree-find-exact (first-tree n) k) (names-find-exact (first-rest n) k)
@@ -39,7 +41,7 @@ module _ {ws txt : List ℕ} {x first rest : ℕ} {key : Str} (d : Led ws x firs
   unfolding or-else
   holder-first p w v t =
       let e = d txt w v t in
-      let g = f w v (tree-within t (omega arith) (e .first-link)) in
+      let g = f w v (at-of t (tree _) (omega arith) (e .first-link)) in
       record {
         link = link-later (omega (arith, e .first-link .earlier)) (g .link);
         has-key = g .has-key;
@@ -51,8 +53,8 @@ module _ {ws txt : List ℕ} {x first rest : ℕ} {key : Str} (d : Led ws x firs
   unfolding or-else
   holder-rest z h w v t =
       let e = d txt w v t in
-      let g = f w v (tree-within t (omega arith) (e .first-link)) in
-      let s = h w v (list-of t (omega arith) (e .rest-link)) in
+      let g = f w v (at-of t (tree _) (omega arith) (e .first-link)) in
+      let s = h w v (at-of t (list _) (omega arith) (e .rest-link)) in
       record {
         link = link-later (omega (arith, e .rest-link .earlier)) (s .link);
         has-key = s .has-key;
@@ -68,7 +70,7 @@ names-placed {ws} {txt} {x} {first} {rest} {key} a d p h q = record {
   inserts = λ w v t.
       let e = d txt w v t in
       record {
-        builds = p .builds .says w v (tree-within t (omega arith) (e .first-link)) ∙ rw (e .first-reads);
-        weighs = λ b. rw (names-insert-weight, e .rest-reads) (omega (arith, q, list-weight (list-of t (omega arith) (e .rest-link))));
+        builds = p .builds .says w v (at-of t (tree _) (omega arith) (e .first-link)) ∙ rw (e .first-reads);
+        weighs = λ b. rw (names-insert-weight, e .rest-reads) (omega (arith, q, list-weight (at-of t (list _) (omega arith) (e .rest-link))));
       };
 }

@@ -7,7 +7,7 @@ use Rattle.source.specs.Tries.{names-insert}
 use Rattle.source.specs.Terms.{weight}
 use Rattle.source.specs.Plans.{insert-branches, first-tree}
 use Rattle.memory.specs.Layout.{word, span, Which, Item, list, kind, value, what}
-use Rattle.memory.specs.Sound.{LinkOk, Sound}
+use Rattle.memory.specs.Sound.{LinkOk, Used}
 use Rattle.tree.specs.Insert.{NewBranch}
 use Rattle.names.specs.Made.{Room, Made}
 
@@ -17,7 +17,7 @@ inserted w ws txt v x r = names-insert (what w ws txt x (list v)) (span txt (wor
 
 -- The new branch r goes into the list of link x; count is that of the branches it builds, after which one collection is put.
 pub record NamesInsertion (ws txt : List ℕ) (w : Which) (v : Level) (records used x count : ℕ) (r : List ℕ) : Type 0 where
-  pub sound : Sound ws txt 0 0 records used
+  pub sound : Used ws txt records used
   pub link : LinkOk ws (records + 1) x (kind w (list v))
   pub new : NewBranch ws txt used (records + 1) w r v
   pub counted : count ≡ insert-branches (first-tree (what w ws txt x (list v))) (span txt (word r 1) (word r 2))

@@ -6,7 +6,7 @@ use lib.ListN.{length, drop}
 use Rattle.source.specs.Types.{Level, trie, bind, ns, Names, ImportedNames}
 use Rattle.source.specs.Rules.{IsLabel}
 use Rattle.memory.specs.Layout.{span, Which, Item, Sort, tree, list, trieˢ, Of, kind, what}
-use Rattle.memory.specs.Sound.{LinkOk, TextOk, Sound}
+use Rattle.memory.specs.Sound.{LinkOk, TextOk, Used}
 use Rattle.memory.specs.Stored.{stored}
 use Rattle.memory.specs.Grown.{Stays}
 
@@ -18,7 +18,7 @@ pub record Room (ws : List ℕ) (n m : ℕ) : Type 0 where
 -- After the first n records, which stay, those up to n′ are right; link r reads as t; no word past them has changed.
 pub record Made (ws ws′ txt : List ℕ) (n n′ used : ℕ) (w : Which) (s : Sort) (r : ℕ) (t : Of (Item w) s) : Type 0 where
   pub grows : n ≤ n′
-  pub sound : Sound ws′ txt 0 0 n′ used
+  pub sound : Used ws′ txt n′ used
   pub stays : Stays n ws ws′
   pub beyond : drop (n′ * 12) ws′ ≡ drop (n′ * 12) ws
   pub link : LinkOk ws′ (n′ + 1) r (kind w s)
@@ -32,20 +32,20 @@ collection-row ws kd start len own rest sort weight =
 -- Names of a tree in front of a list, as the record after the first n.
 abbrev pub MadeNames : (ws ws′ : List ℕ) (n kd own rest r : ℕ) → Type 0
 MadeNames ws ws′ n kd own rest r =
-    (txt : List ℕ) (used : ℕ) (w : Which) (v : Level) → Sound ws txt 0 0 n used → kd ≡ kind w (list v)
+    (txt : List ℕ) (used : ℕ) (w : Which) (v : Level) → Used ws txt n used → kd ≡ kind w (list v)
     → LinkOk ws (n + 1) own (kind w (tree v)) → LinkOk ws (n + 1) rest (kind w (list v))
     → Made ws ws′ txt n (n + 1) used w (list v) r (Names (what w ws txt own (tree v)) (what w ws txt rest (list v)))
 
 -- ImportedNames of a label and a list in front of a list, as the record after the first n.
 abbrev pub MadeImported : (ws ws′ : List ℕ) (n kd start len own rest r : ℕ) → Type 0
 MadeImported ws ws′ n kd start len own rest r =
-    (txt : List ℕ) (used : ℕ) (w : Which) (v : Level) → Sound ws txt 0 0 n used → kd ≡ kind w (list v) → TextOk IsLabel txt used start len
+    (txt : List ℕ) (used : ℕ) (w : Which) (v : Level) → Used ws txt n used → kd ≡ kind w (list v) → TextOk IsLabel txt used start len
     → LinkOk ws (n + 1) own (kind w (list v)) → LinkOk ws (n + 1) rest (kind w (list v))
     → Made ws ws′ txt n (n + 1) used w (list v) r (ImportedNames (span txt start len) (what w ws txt own (list v)) (what w ws txt rest (list v)))
 
 -- The trie of two lists, as the record after the first n.
 abbrev pub MadeTrie : (ws ws′ : List ℕ) (n kd a b r : ℕ) → Type 0
 MadeTrie ws ws′ n kd a b r =
-    (txt : List ℕ) (used : ℕ) (w : Which) → Sound ws txt 0 0 n used → kd ≡ kind w trieˢ
+    (txt : List ℕ) (used : ℕ) (w : Which) → Used ws txt n used → kd ≡ kind w trieˢ
     → LinkOk ws (n + 1) a (kind w (list bind)) → LinkOk ws (n + 1) b (kind w (list ns))
     → Made ws ws′ txt n (n + 1) used w trieˢ r (trie (what w ws txt a (list bind)) (what w ws txt b (list ns)))

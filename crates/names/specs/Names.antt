@@ -10,7 +10,7 @@ use Rattle.source.specs.Tries.{names-find-exact, names-insert}
 use Rattle.source.specs.Terms.{weight}
 use Rattle.source.specs.Plans.{insert-branches, first-tree}
 use Rattle.memory.specs.Layout.{pick, Which, Item, tree, list, kind, what, key-at}
-use Rattle.memory.specs.Sound.{LinkOk, Sound}
+use Rattle.memory.specs.Sound.{LinkOk, Used, At}
 use Rattle.tree.specs.Tree.{held}
 
 -- What names_insert puts the first tree in front of.
@@ -19,18 +19,11 @@ first-rest []ᴺ = []ᴺ
 first-rest (Names bt tl) = tl
 first-rest (ImportedNames label inner tl) = ImportedNames label inner tl
 
--- Link x names a list of the table w and the level v, in a memory whose used records are right.
-pub record ListAt (ws txt : List ℕ) (w : Which) (v : Level) (x : ℕ) : Type 0 where
-  pub records : ℕ
-  pub used : ℕ
-  pub sound : Sound ws txt 0 0 records used
-  pub link : LinkOk ws (records + 1) x (kind w (list v))
-
 -- The same, of some table and level.
 pub record AnyList (ws txt : List ℕ) (x : ℕ) : Type 0 where
   pub which : Which
   pub level : Level
-  pub list : ListAt ws txt which level x
+  pub list : At ws txt which (list level) x
 
 -- The links of the first tree and of the rest.
 pub record LedIn (ws txt : List ℕ) (w : Which) (v : Level) (x first rest : ℕ) : Type 0 where
@@ -41,7 +34,7 @@ pub record LedIn (ws txt : List ℕ) (w : Which) (v : Level) (x first rest : ℕ
 
 -- The same, for any text, table and level that the list is of.
 abbrev pub Led : (ws : List ℕ) (x first rest : ℕ) → Type 0
-Led ws x first rest = (txt : List ℕ) (w : Which) (v : Level) → ListAt ws txt w v x → LedIn ws txt w v x first rest
+Led ws x first rest = (txt : List ℕ) (w : Which) (v : Level) → At ws txt w (list v) x → LedIn ws txt w v x first rest
 
 -- The link r is that of the first holder's branch, 0 for none.
 pub record HolderIn (ws txt : List ℕ) (w : Which) (v : Level) (x : ℕ) (key : Str) (r : ℕ) : Type 0 where
@@ -51,7 +44,7 @@ pub record HolderIn (ws txt : List ℕ) (w : Which) (v : Level) (x : ℕ) (key :
 
 -- names_find_exact, for any table and level that the list is of.
 abbrev pub Holder : (ws txt : List ℕ) (x : ℕ) (key : Str) (r : ℕ) → Type 0
-Holder ws txt x key r = (w : Which) (v : Level) → ListAt ws txt w v x → HolderIn ws txt w v x key r
+Holder ws txt x key r = (w : Which) (v : Level) → At ws txt w (list v) x → HolderIn ws txt w v x key r
 
 -- The branches that names_insert builds, and the weight of what it gives.
 pub record InsertIn (ws txt : List ℕ) (w : Which) (v : Level) (x : ℕ) (key : Str) (count wt : ℕ) : Type 0 where
@@ -63,4 +56,4 @@ pub record NamesPlaced (ws txt : List ℕ) (x : ℕ) (key : Str) (holder count w
   pub found : Holder ws txt x key holder
   pub small : count ≤ x + 1
   pub light : wt ≤ 97
-  pub inserts : (w : Which) (v : Level) → ListAt ws txt w v x → InsertIn ws txt w v x key count wt
+  pub inserts : (w : Which) (v : Level) → At ws txt w (list v) x → InsertIn ws txt w v x key count wt

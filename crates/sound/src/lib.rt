@@ -1,4 +1,5 @@
 // Is the lent memory a sound table? One pass over the used records, each tested by what the records before it store.
+use memory::Header;
 use text::Order;
 use text::Rule;
 ghost use mathlib.Core.Path.{_≡_};
@@ -332,10 +333,12 @@ fn record_ok(words: &[u32], text: &[u8], used: u32, link: u32, r: &[u32]) -> boo
     }
 }
 
-// Is the lent memory a sound table, with these two roots and these numbers of records and text bytes used?
-pub fn sound(words: &[u32], text: &[u8], names: u32, modules: u32, records: u32, used: u32) -> bool
-    ensures { λ r. ⌜ Says r (Sound (now (words .entry)) (now (text .entry)) names modules records used) ⌝ }
+// Is the lent memory a sound table, with this header?
+pub fn sound(words: &[u32], text: &[u8], header: Header) -> bool
+    ensures { λ r. ⌜ Says r (Sound (now (words .entry)) (now (text .entry)) header) ⌝ }
 {
+    let records = header.records;
+    let used = header.text;
     if 65536 < records {
         return false;
     }
@@ -348,10 +351,10 @@ pub fn sound(words: &[u32], text: &[u8], names: u32, modules: u32, records: u32,
     if text.len() < used as usize {
         return false;
     }
-    if !link_ok(words, records + 1, names, 5) {
+    if !link_ok(words, records + 1, header.names, 5) {
         return false;
     }
-    if !link_ok(words, records + 1, modules, 10) {
+    if !link_ok(words, records + 1, header.modules, 10) {
         return false;
     }
     let mut link = 1;

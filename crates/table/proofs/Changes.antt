@@ -22,12 +22,12 @@ use Rattle.names.specs.Made.{Room}
 use Rattle.trie.specs.Tries.{Reads}
 use Rattle.trie.specs.Changes.{between, which-of, mutated, Texts, Mutation}
 use Rattle.trie.specs.declared.Change.{Change}
-use Rattle.trie.proofs.Links.{sound-first, Lists, lists-in}
+use Rattle.memory.proofs.Tries.{Lists, lists-in}
 use Rattle.trie.proofs.Between.{place-first}
 use Rattle.trie.proofs.Registered.{Registers, name-registers, include-registers, open-module-registers, alias-registers, open-registers, module-registers, registers-fits}
 use Rattle.table.specs.Header.{table-in}
 use Rattle.table.specs.Forms.{call-of, Ready, Carries}
-use Rattle.table.specs.Writes.{Stand, label-in, change-in, which-in, root-at}
+use Rattle.table.specs.Writes.{Stand, label-in, change-in, which-in, root-at, with-text}
 use Rattle.table.specs.declared.Table.{Table}
 use Rattle.table.specs.declared.Form.{Form}
 use Rattle.table.specs.declared.Form.the-variants.{Name, Include, Open, Alias, Module}
@@ -42,11 +42,11 @@ module _ (txt : List ℕ) (at : ℕ) (s : Str) (e : span txt at (length s) ≡ s
   pub label-right : {used : ℕ} → at + length s ≤ used → IsQuery (segments s) → TextOk IsLabel txt used at (length s - 1)
   label-right h q = record { inside = omega arith; keeps = rw label-is (query-to-string-label (segments s) q) }
 
-module _ {ws txt : List ℕ} (t : Table) {used : ℕ} (o : Sound ws txt (t .names) (t .modules) (t .records) used) where
+module _ {ws txt : List ℕ} (t : Table) {used : ℕ} (o : Sound ws txt (with-text (t .header) used)) where
   -- The lists of the included trie.
-  module _ {inc : ℕ} {x : T.Trie ℕ} (r : Reads ws txt names (t .names) inc x) where
-    lists : Lists ws txt (t .records) names inc (record { bindings = stored ws inc 3; namespaces = stored ws inc 4; depth = stored ws inc 11 })
-    lists = lists-in (sound-first (t .records) o (omega arith))
+  module _ {inc : ℕ} {x : T.Trie ℕ} (r : Reads ws txt names (t .header .names) inc x) where
+    lists : Lists ws txt (t .header .records) names inc (record { bindings = stored ws inc 3; namespaces = stored ws inc 4; depth = stored ws inc 11 })
+    lists = lists-in (o .right)
         (record { earlier = omega (arith, r .link .earlier, o .names-link .earlier); of-kind = r .link .of-kind })
         (record { bindings = refl; namespaces = refl; deep = refl })
 
@@ -58,15 +58,15 @@ module _ {ws txt : List ℕ} (t : Table) {used : ℕ} (o : Sound ws txt (t .name
 
   -- The change ch of the trie x asks for right texts and links, and is that of the call.
   pub record Right (at mid : ℕ) (c : Call) (ch : Change) (x : ℕ) : Type 0 where
-    pub texts : Texts ws txt (t .records) used ch
-    pub link : LinkOk ws (t .records + 1) x (kind (which-of ch) trieˢ)
+    pub texts : Texts ws txt (t .header .records) used ch
+    pub link : LinkOk ws (t .header .records + 1) x (kind (which-of ch) trieˢ)
     pub registers : Registers (table-in ws txt t) c (which-of ch) (mutated ws txt ch (what (which-of ch) ws txt x trieˢ) at at mid)
 
   module _ (at : ℕ) (host other key : Str) (p : Stand txt at host other key) (room : at + length host + length other + length key ≤ used) where
     host-is : between txt at (at + length host) ≡ segments host
     host-is = let z : at + length host - at ≡ length host = omega arith in rw (z, p .host-at)
 
-    pub change-right : (form : Form) (inc : ℕ) → Ready form host other key → Carries form ws txt (t .names) other inc
+    pub change-right : (form : Form) (inc : ℕ) → Ready form host other key → Carries form ws txt (t .header .names) other inc
         → Right at (at + length host) (call-of form host other key) (change-in ws form inc (at + length host) (length other) (at + length host + length other) (length key)) (root-at (which-in form) t)
     change-right (Name number) inc r i = record {
       texts = record { inside = omega arith; keeps = rw (p .other-at) (r .other-keeps) };
@@ -105,10 +105,10 @@ module _ {ws txt : List ℕ} (t : Table) {used : ℕ} (o : Sound ws txt (t .name
 
     -- What trie_mutate asks.
     pub right-mutation : {c : Call} {ch : Change} {x : ℕ} → Right at (at + length host) c ch x → ends-in-dot host ≡ true → IsQuery (segments host)
-        → crowded (registered (table-in ws txt t) c) ≡ false → deep (registered (table-in ws txt t) c) ≡ false → Room ws (t .records) (records (table-in ws txt t) c)
-        → Mutation ws txt (t .records) used x at at (at + length host) ch
+        → crowded (registered (table-in ws txt t) c) ≡ false → deep (registered (table-in ws txt t) c) ≡ false → Room ws (t .header .records) (records (table-in ws txt t) c)
+        → Mutation ws txt (t .header .records) used x at at (at + length host) ch
     right-mutation {ch = ch} r d q light shallow free = let z : at + length host - at ≡ length host = omega arith in record {
-      change = record { sound = sound-first (t .records) o (omega arith); texts = r .texts };
+      change = record { sound = o .right; texts = r .texts };
       link = r .link;
       place = place-first (omega arith) (omega arith) (rw (z, p .host-at) d) (rw host-is q);
       fits = registers-fits (which-of ch) (r .registers) light shallow free;

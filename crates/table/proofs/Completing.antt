@@ -20,7 +20,6 @@ use Rattle.source.proofs.Lines.{autocomplete-lid-is, autocomplete-mod-or-ns-is}
 use Rattle.text.specs.Text.{before-dot}
 use Rattle.text.proofs.Segments.{First, first-segment, before-inside}
 use Rattle.memory.specs.Layout.{Item, trieˢ, what}
-use Rattle.trie.specs.Tries.{TrieAt}
 use Rattle.lines.specs.Ask.{asked}
 use Rattle.lines.specs.declared.Ask.{Ask}
 use Rattle.lines.specs.declared.Ask.the-variants.{Names, Modules}
@@ -38,6 +37,7 @@ use Rattle.table.specs.declared.Completed.{Completed}
 use Rattle.table.specs.declared.Completed.the-variants.{Refused}
 use Rattle.table.proofs.Checks.{lowest-stops, lowest-past}
 use Rattle.table.proofs.Roots.{names-trie, modules-trie}
+use Rattle.memory.specs.Sound.{At}
 
 -- ---- The query
 
@@ -107,11 +107,11 @@ module _ {ws txt : List ℕ} {ask : Ask} {root : ℕ} {query : Str} {budget : �
 
 -- ---- On a table
 
-root-trie : {ws txt : List ℕ} {t : Table} → IsSound ws txt t → (ask : Ask) → TrieAt ws txt (asked ask) (root-for t ask)
+root-trie : {ws txt : List ℕ} {t : Table} → IsSound ws txt t → (ask : Ask) → At ws txt (asked ask) trieˢ (root-for t ask)
 root-trie o Names = names-trie o
 root-trie o (Modules f) = modules-trie o
 
-pub root-at : {ws txt : List ℕ} {t : Table} → IsSound ws txt t → (ask : Ask) {r : ℕ} → r ≡ root-for t ask → TrieAt ws txt (asked ask) r
+pub root-at : {ws txt : List ℕ} {t : Table} → IsSound ws txt t → (ask : Ask) {r : ℕ} → r ≡ root-for t ask → At ws txt (asked ask) trieˢ r
 root-at o ask e = rw e (root-trie o ask)
 
 on-table : (ws txt : List ℕ) (t : Table) (ask : Ask) (budget : ℕ) (out : Output) (query : Str)

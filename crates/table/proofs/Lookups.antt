@@ -55,9 +55,9 @@ module _ {txt r : List ℕ} {used : ℕ} (o : SymbolOk txt used r) (h : used ≤
   symbol-in-inside =
       zero-one (word r 5) (o .sort) (λ z. rw z (omega (arith, o .name .inside), omega (arith, o .path z .inside))) (λ z. rw z (omega (arith, o .name .inside)))
 
-pub symbol-inside : {ws txt : List ℕ} {t : Table} {l : ℕ} → IsSound ws txt t → LinkOk ws (t .modules + 1) l (kind modules (tree bind)) → 0 < l
+pub symbol-inside : {ws txt : List ℕ} {t : Table} {l : ℕ} → IsSound ws txt t → LinkOk ws (t .header .modules + 1) l (kind modules (tree bind)) → 0 < l
     → SymbolInside (length txt) (symbol-in (record-at ws l))
 symbol-inside o i p =
     symbol-in-inside
-    (record-as (link-ok o (link-later (omega (arith, o .modules-link .earlier)) i) p) modules (tree bind) (i .of-kind (λ e. omega arith)) .2)
+    (record-as (link-ok (o .right) (link-later (omega (arith, o .modules-link .earlier)) i) p) modules (tree bind) (i .of-kind (λ e. omega arith)) .2)
     (o .text-fits)

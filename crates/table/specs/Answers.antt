@@ -11,12 +11,11 @@ use Rattle.source.specs.Table.{ModSymbol}
 use Rattle.source.specs.Calls as C
 use Rattle.source.specs.Calls.{Row, _when_, look-up}
 use Rattle.memory.specs.Layout.{record-at, Which, Item, item-of, tree, trieˢ, kind, what}
-use Rattle.memory.specs.Sound.{LinkOk}
+use Rattle.memory.specs.Sound.{LinkOk, At}
 use Rattle.memory.specs.Read.{symbol-of}
 use Rattle.memory.specs.declared.ModSymbol as M
 use Rattle.memory.specs.declared.ModSymbol.the-variants.{Module, Namespace}
 use Rattle.text.specs.declared.Flags.{Flags}
-use Rattle.trie.specs.Tries.{TrieAt}
 use Rattle.table.specs.declared.Refusal.{Refusal}
 use Rattle.table.specs.declared.Refusal.the-variants.{Unsound, Malformed, Empty, TooLong, Crowded, Deep, Full, TextFull, Spent, Lines}
 use Rattle.table.specs.declared.Admission.{Admission}
@@ -94,5 +93,5 @@ BranchOf w ws root (Not-looked r) = Unit {0}
 -- A look-up on a root, for any table that the trie is of.
 pub record LookedUp (ws txt : List ℕ) (root : ℕ) (query : Str) (r : Looked) : Type 0 where
   pub fits : BranchFits ws r
-  pub link : (w : Which) → TrieAt ws txt w root → BranchOf w ws root r
-  pub says : (w : Which) → TrieAt ws txt w root → item-found w ws txt r ≡ look-up true (what w ws txt root trieˢ) query
+  pub link : (w : Which) → At ws txt w trieˢ root → BranchOf w ws root r
+  pub says : (w : Which) → At ws txt w trieˢ root → item-found w ws txt r ≡ look-up true (what w ws txt root trieˢ) query

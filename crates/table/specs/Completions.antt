@@ -48,8 +48,8 @@ pub record Completes (b : Bool) (ws txt : List ℕ) (t : Table) (ask : Ask) (que
 
 -- The root that is asked.
 abbrev pub root-for : Table → Ask → ℕ
-root-for t Names = t .names
-root-for t (Modules f) = t .modules
+root-for t Names = t .header .names
+root-for t (Modules f) = t .header .modules
 
 -- The answer of a completion of well-formed arguments.
 abbrev pub answer-in : Completion → Completed

@@ -95,7 +95,7 @@ pub record Passes (ws txt : List ℕ) (t : Table) (form : Form) (host other key 
   pub sound : IsSound ws txt t
   pub no-key : NoKey form key
   pub rows : lowest (registration-rows true (lent ws txt) (state ws txt t) (call-of form host other key)) ≡ none
-  pub carries : Carries form ws txt (t .names) other inc
+  pub carries : Carries form ws txt (t .header .names) other inc
 
 -- The answer of a check: that it passes, or the first row that it meets.
 abbrev pub Checks : (ws txt : List ℕ) (t : Table) (form : Form) (host other key : Str) → Checked → Type 0

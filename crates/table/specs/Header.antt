@@ -13,23 +13,23 @@ use Rattle.table.specs.declared.Table.{Table}
 
 -- The lent memory is a sound table.
 abbrev pub IsSound : (ws txt : List ℕ) → Table → Type 0
-IsSound ws txt t = Sound ws txt (t .names) (t .modules) (t .records) (t .text)
+IsSound ws txt t = Sound ws txt (t .header)
 
 -- The source's table.
 abbrev pub table-in : (ws txt : List ℕ) → Table → S.Table
-table-in ws txt t = table-of ws txt (t .names) (t .modules)
+table-in ws txt t = table-of ws txt (t .header)
 
 -- The table by value.
 abbrev pub state : (ws txt : List ℕ) → Table → State
-state ws txt t = state-of ws txt (t .names) (t .modules) (t .records) (t .text)
+state ws txt t = state-of ws txt (t .header)
 
 -- Its root of names.
 abbrev pub names-in : (ws txt : List ℕ) → Table → Trie ℕ
-names-in ws txt t = what names ws txt (t .names) trieˢ
+names-in ws txt t = what names ws txt (t .header .names) trieˢ
 
 -- Its root of modules.
 abbrev pub modules-in : (ws txt : List ℕ) → Table → Trie ModSymbol
-modules-in ws txt t = what modules ws txt (t .modules) trieˢ
+modules-in ws txt t = what modules ws txt (t .header .modules) trieˢ
 
 -- The fresh table, whatever is lent.
 pub record Fresh (t : Table) : Type 0 where

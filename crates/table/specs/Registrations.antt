@@ -30,8 +30,8 @@ pub record Outside (from to : ℕ) (l l′ : List ℕ) : Type 0 where
 pub record Accepts (ws txt ws′ txt′ : List ℕ) (t t′ : Table) (s : State) : Type 0 where
   pub reads : state ws′ txt′ t′ ≡ s
   pub sound : IsSound ws′ txt′ t′
-  pub words : Outside (t .records * 12) (t′ .records * 12) ws ws′
-  pub text : Outside (t .text) (t′ .text) txt txt′
+  pub words : Outside (t .header .records * 12) (t′ .header .records * 12) ws ws′
+  pub text : Outside (t .header .text) (t′ .header .text) txt txt′
 
 -- Nothing has changed.
 pub record Unchanged (ws txt ws′ txt′ : List ℕ) (t t′ : Table) : Type 0 where

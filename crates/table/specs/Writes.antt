@@ -8,6 +8,7 @@ use Rattle.source.specs.Text.{Str}
 use Rattle.memory.specs.Layout.{span, Which, names, modules}
 use Rattle.memory.specs.Stored.{stored}
 use Rattle.memory.specs.Grown.{Keeps}
+use Rattle.memory.specs.declared.Header.{Header}
 use Rattle.memory.specs.declared.Span.{Span}
 use Rattle.trie.specs.declared.Change.{Change}
 use Rattle.trie.specs.declared.Change.the-variants as to
@@ -50,10 +51,14 @@ which-in (Module loaded) = modules
 
 -- A root of the header.
 abbrev pub root-at : Which → Table → ℕ
-root-at names t = t .names
-root-at modules t = t .modules
+root-at names t = t .header .names
+root-at modules t = t .header .modules
+
+-- The header with so much text used.
+abbrev pub with-text : Header → ℕ → Header
+with-text h used = record { names = h .names; modules = h .modules; records = h .records; text = used }
 
 -- The header with another root and other numbers.
 abbrev pub with-root : Which → Table → (link records text : ℕ) → Table
-with-root names t link records text = record { names = link; modules = t .modules; records = records; text = text }
-with-root modules t link records text = record { names = t .names; modules = link; records = records; text = text }
+with-root names t link records text = record { header = record { names = link; modules = t .header .modules; records = records; text = text } }
+with-root modules t link records text = record { header = record { names = t .header .names; modules = link; records = records; text = text } }

@@ -2,6 +2,7 @@
 // Each call has a form for callers that have proved the memory sound, and a total one that tests it first.
 use lines::Ask;
 use listing::Completion;
+use memory::Header;
 use memory::ModSymbol;
 use memory::Span;
 use text::Flags;
@@ -12,10 +13,10 @@ ghost use Prim.Native.Nat.{_+_, _-_, _*_, _≤_};
 ghost use lib.ListN.{length};
 ghost use mathlib.Core.Bool.{Bool, true, false};
 ghost use Rattle.source.specs.Calls.{malformed, lowest, name, include, opens, alias, module-path, arguments, free, after, look-up};
-ghost use Rattle.memory.specs.Layout.{names};
-ghost use Rattle.memory.specs.Sound.{Says};
+ghost use Rattle.memory.specs.Layout.{names, trieˢ};
+ghost use Rattle.memory.specs.Sound.{Says, At};
 ghost use Rattle.text.specs.Calls.{Flagged};
-ghost use Rattle.trie.specs.Tries.{TrieAt, AnyTrie};
+ghost use Rattle.trie.specs.Tries.{AnyTrie};
 ghost use Rattle.trie.specs.Plans.{Planned};
 ghost use Rattle.table.specs.Header.{IsSound, Fresh, state, table-in, names-in, modules-in};
 ghost use Rattle.table.specs.Answers.{number, row-of, flag-rows, LookedUp, name-found, module-found, FoundInside};
@@ -25,12 +26,9 @@ ghost use Rattle.table.specs.Completions.{answer-in, root-for, Completes
 ghost use Rattle.table.specs.Registrations.{Accepts, Answers, Total};
 ghost use Rattle.table.specs.Writes.{Laid, change-in, which-in, root-at, with-root};
 
-// A table: the links of its two roots, records used, text used.
+// A table: its header by value.
 pub struct Table {
-    pub names: u32,
-    pub modules: u32,
-    pub records: u32,
-    pub text: u32,
+    pub header: Header,
 }
 
 // The refusals of document 01, by number.
@@ -156,7 +154,7 @@ fn complete_on(
     flat: &mut [u32],
     out: &mut [u8],
 ) -> Completed
-    requires { ⌜ TrieAt (now words) (now text) (asked ask) root ⌝ }
+    requires { ⌜ At (now words) (now text) (asked ask) trieˢ root ⌝ }
     ensures { λ r. ⌜ CompletesOn (now (words .entry)) (now (text .entry)) ask root (now (query .entry)) budget (now (flat .entry)) (now (flat .exit)) (now (out .entry)) (now (out .exit)) r ⌝ }
 {
     let a = admit(text::completion_flags(query));
@@ -258,7 +256,7 @@ fn flags_of(form: Form, host: &[u8], other: &[u8], key: &[u8]) -> Flags
 
 // The trie that a registration includes; 0 where it includes none.
 fn included(words: &[u32], text: &[u8], root: u32, form: Form, other: &[u8]) -> u32
-    requires { ⌜ TrieAt (now words) (now text) names root ⌝ }
+    requires { ⌜ At (now words) (now text) names trieˢ root ⌝ }
     requires { ⌜ malformed (other-argument form (now other)) ≡ false ⌝ }
     ensures { λ r. ⌜ Carries form (now (words .entry)) (now (text .entry)) root (now (other .entry)) r ⌝ }
 {
@@ -379,10 +377,12 @@ impl Table {
         ensures { λ r. ⌜ Fresh r ⌝ }
     {
         Table {
-            names: 0,
-            modules: 0,
-            records: 0,
-            text: 0,
+            header: Header {
+                names: 0,
+                modules: 0,
+                records: 0,
+                text: 0,
+            },
         }
     }
 
@@ -390,14 +390,7 @@ impl Table {
     pub fn is_sound(self, words: &[u32], text: &[u8]) -> bool
         ensures { λ r. ⌜ Says r (IsSound (now (words .entry)) (now (text .entry)) self) ⌝ }
     {
-        sound::sound(
-            words,
-            text,
-            self.names,
-            self.modules,
-            self.records,
-            self.text,
-        )
+        sound::sound(words, text, self.header)
     }
 
     // The root that is asked.
@@ -405,8 +398,8 @@ impl Table {
         ensures { λ r. ⌜ r ≡ root-for self ask ⌝ }
     {
         match ask {
-            Ask::Names => self.names,
-            Ask::Modules(f) => self.modules,
+            Ask::Names => self.header.names,
+            Ask::Modules(f) => self.header.modules,
         }
     }
 
@@ -452,7 +445,7 @@ impl Table {
         requires { ⌜ IsSound (now words) (now text) self ⌝ }
         ensures { λ r. ⌜ name-found r ≡ look-up true (names-in (now (words .entry)) (now (text .entry)) self) (now (query .entry)) ⌝ }
     {
-        let l = look_up(words, text, self.names, query);
+        let l = look_up(words, text, self.header.names, query);
         match l {
             Looked::Branch(link) => Found::Item(memory::word_of(words, link, 5)),
             Looked::Nothing => Found::Nothing,
@@ -476,7 +469,7 @@ impl Table {
         ensures { λ r. ⌜ module-found (now (text .entry)) r ≡ look-up true (modules-in (now (words .entry)) (now (text .entry)) self) (now (query .entry)) ⌝ }
         ensures { λ r. ⌜ FoundInside (length (now (text .entry))) r ⌝ }
     {
-        let l = look_up(words, text, self.modules, query);
+        let l = look_up(words, text, self.header.modules, query);
         match l {
             Looked::Branch(link) => FoundModule::Symbol(memory::symbol_of(words, link)),
             Looked::Nothing => FoundModule::Nothing,
@@ -508,20 +501,26 @@ impl Table {
     ) -> Plan
         requires { ⌜ IsSound (now words) (now text) self ⌝ }
         requires { ⌜ Ready form (now host) (now other) (now key) ⌝ }
-        requires { ⌜ Carries form (now words) (now text) (self .names) (now other) inc ⌝ }
+        requires { ⌜ Carries form (now words) (now text) (self .header .names) (now other) inc ⌝ }
         ensures { λ r. ⌜ Planned (table-in (now (words .entry)) (now (text .entry)) self) (call-of form (now (host .entry)) (now (other .entry)) (now (key .entry))) r ⌝ }
     {
         match form {
-            Form::Name(_) => trie::plan_name(words, text, self.names, host, other),
-            Form::Include => trie::plan_include(words, text, self.names, host, inc),
+            Form::Name(_) => trie::plan_name(words, text, self.header.names, host, other),
+            Form::Include => trie::plan_include(words, text, self.header.names, host, inc),
             Form::Open(flag) => {
                 if flag {
-                    return trie::plan_include(words, text, self.names, host, inc);
+                    return trie::plan_include(words, text, self.header.names, host, inc);
                 }
-                trie::plan_open(words, text, self.names, host, inc)
+                trie::plan_open(words, text, self.header.names, host, inc)
             }
-            Form::Alias => trie::plan_alias(words, text, self.names, key, host, inc),
-            Form::Module(loaded) => trie::plan_module(words, text, self.modules, host, loaded),
+            Form::Alias => trie::plan_alias(words, text, self.header.names, key, host, inc),
+            Form::Module(loaded) => trie::plan_module(
+                words,
+                text,
+                self.header.modules,
+                host,
+                loaded,
+            ),
         }
     }
 
@@ -543,10 +542,17 @@ impl Table {
         match a {
             Admission::Refused(x) => Checked::Refused(x),
             Admission::Admitted => {
-                let inc = included(words, text, self.names, form, other);
+                let inc = included(words, text, self.header.names, form, other);
                 let p = self.plan(words, text, form, inc, host, other, key);
                 let taken = host.len() + other.len() + key.len();
-                let b = afford(p, words.len(), text.len(), self.records, self.text, taken);
+                let b = afford(
+                    p,
+                    words.len(),
+                    text.len(),
+                    self.header.records,
+                    self.header.text,
+                    taken,
+                );
                 match b {
                     Admission::Refused(x) => Checked::Refused(x),
                     Admission::Admitted => Checked::Passed(inc),
@@ -560,11 +566,11 @@ impl Table {
         ensures { λ r. ⌜ r ≡ root-at (which-in form) self ⌝ }
     {
         match form {
-            Form::Name(_) => self.names,
-            Form::Include => self.names,
-            Form::Open(_) => self.names,
-            Form::Alias => self.names,
-            Form::Module(_) => self.modules,
+            Form::Name(_) => self.header.names,
+            Form::Include => self.header.names,
+            Form::Open(_) => self.header.names,
+            Form::Alias => self.header.names,
+            Form::Module(_) => self.header.modules,
         }
     }
 
@@ -572,23 +578,24 @@ impl Table {
     fn changed(self, form: Form, link: u32, records: u32, text: u32) -> Table
         ensures { λ r. ⌜ r ≡ with-root (which-in form) self link records text ⌝ }
     {
-        let of_names = Table {
+        let of_names = Header {
             names: link,
-            modules: self.modules,
+            modules: self.header.modules,
+            records: records,
+            text: text,
+        };
+        let of_modules = Header {
+            names: self.header.names,
+            modules: link,
             records: records,
             text: text,
         };
         match form {
-            Form::Name(_) => of_names,
-            Form::Include => of_names,
-            Form::Open(_) => of_names,
-            Form::Alias => of_names,
-            Form::Module(_) => Table {
-                names: self.names,
-                modules: link,
-                records: records,
-                text: text,
-            },
+            Form::Name(_) => Table { header: of_names },
+            Form::Include => Table { header: of_names },
+            Form::Open(_) => Table { header: of_names },
+            Form::Alias => Table { header: of_names },
+            Form::Module(_) => Table { header: of_modules },
         }
     }
 
@@ -608,18 +615,18 @@ impl Table {
     {
         let len = other.len() as u32;
         let size = key.len() as u32;
-        let start = self.text + host.len() as u32;
+        let start = self.header.text + host.len() as u32;
         let end = start + len;
-        put_texts(text, self.text, host, other, key);
+        put_texts(text, self.header.text, host, other, key);
         let change = change_of(words, form, inc, start, len, end, size);
         let root = self.root_of(form);
         let b = trie::trie_mutate(
             words,
             text,
-            self.records,
+            self.header.records,
             root,
-            self.text,
-            self.text,
+            self.header.text,
+            self.header.text,
             start,
             change,
         );

@@ -7,31 +7,17 @@ use lib.ListN.{length, take, drop}
 use Rattle.source.specs.Types.{Level, StrBranch}
 use Rattle.source.specs.Rules.{Ordered}
 use Rattle.memory.specs.Layout.{record-at, word, span, Which, tree, kind, what, key-at}
-use Rattle.memory.specs.Sound.{LinkOk, BranchOk, Sound}
+use Rattle.memory.specs.Sound.{LinkOk, BranchOk, Used, At}
 use Rattle.memory.proofs.Records.{links-earlier, branch-at, ordered-at}
-use Rattle.memory.proofs.Growing.{sound-roots}
 use Rattle.memory.proofs.Seen.{link-fits, link-ok, link-what, link-later}
 use Rattle.text.proofs.Texts.{part-is}
-use Rattle.tree.specs.Tree.{held, TreeAt, AnyTree}
+use Rattle.tree.specs.Tree.{held, AnyTree}
+use Rattle.memory.proofs.At.{at-of}
 
--- A sound memory with its roots left out, and a tree of it.
-pub no-roots : {ws txt : List ℕ} {a b n used : ℕ} → Sound ws txt a b n used → Sound ws txt 0 0 n used
-no-roots {ws} {n = n} o = sound-roots o (none _) (none _)
-  where
-    none : (k : ℕ) → LinkOk ws (n + 1) 0 k
-    none k = record { earlier = omega arith; of-kind = λ z. absurd (z refl) }
-
-pub tree-in : {ws txt : List ℕ} {a b n used : ℕ} → Sound ws txt a b n used → (w : Which) (v : Level) {x : ℕ} → LinkOk ws (n + 1) x (kind w (tree v)) → TreeAt ws txt w v x
-tree-in {n = n} {used} o w v i = record { records = n; used = used; sound = no-roots o; link = i }
-
-pub any-tree : {ws txt : List ℕ} {w : Which} {v : Level} {x : ℕ} → TreeAt ws txt w v x → AnyTree ws txt x
+pub any-tree : {ws txt : List ℕ} {w : Which} {v : Level} {x : ℕ} → At ws txt w (tree v) x → AnyTree ws txt x
 any-tree {w = w} {v} t = record { which = w; level = v; tree = t }
 
-module _ {ws txt : List ℕ} {w : Which} {v : Level} {x : ℕ} (t : TreeAt ws txt w v x) where
-  -- A link of the same kind that comes no later.
-  pub tree-of : {l y : ℕ} → l ≤ x + 1 → LinkOk ws l y (kind w (tree v)) → TreeAt ws txt w v y
-  tree-of h i = record { records = t .records; used = t .used; sound = t .sound; link = link-later (omega (arith, t .link .earlier)) i }
-
+module _ {ws txt : List ℕ} {w : Which} {v : Level} {x : ℕ} (t : At ws txt w (tree v) x) where
   module _ (p : 0 < x) where
     pub branch-right : BranchOk ws txt (t .used) x w (record-at ws x) v
     branch-right = branch-at (link-ok (t .sound) (t .link) p) w v (t .link .of-kind (λ e. omega arith))
@@ -43,11 +29,11 @@ module _ {ws txt : List ℕ} {w : Which} {v : Level} {x : ℕ} (t : TreeAt ws tx
     unfolding key-at held
     branch-reads = link-what (t .sound) w (tree v) (t .link) p
 
-    pub left-tree : TreeAt ws txt w v (word (record-at ws x) 3)
-    left-tree = tree-of (omega arith) (branch-right .left)
+    pub left-tree : At ws txt w (tree v) (word (record-at ws x) 3)
+    left-tree = at-of t (tree v) (omega arith) (branch-right .left)
 
-    pub right-tree : TreeAt ws txt w v (word (record-at ws x) 4)
-    right-tree = tree-of (omega arith) (branch-right .right)
+    pub right-tree : At ws txt w (tree v) (word (record-at ws x) 4)
+    right-tree = at-of t (tree v) (omega arith) (branch-right .right)
 
 module _ {ws txt : List ℕ} {x : ℕ} (a : AnyTree ws txt x) where
   pub tree-fits : x * 12 ≤ length ws

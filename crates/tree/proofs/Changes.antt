@@ -8,12 +8,12 @@ use lib.Seq.{drop-drop, drop-paste, take-set-le, drop-set-lt, getD-set-same, get
 use Rattle.source.specs.Text.{Str}
 use Rattle.source.specs.Types.{Level}
 use Rattle.memory.specs.Layout.{record-at, Which, tree, key-at}
-use Rattle.memory.specs.Sound.{Sound}
+use Rattle.memory.specs.Sound.{Used, At}
 use Rattle.memory.specs.Grown.{Stays, put}
 use Rattle.memory.proofs.Growing.{record-stays, link-stays, ok-stays}
 use Rattle.memory.proofs.Putting.{put-stays}
 use Rattle.memory.proofs.Rows.{word-at}
-use Rattle.tree.specs.Tree.{TreeAt, AnyTree}
+use Rattle.tree.specs.Tree.{AnyTree}
 use Rattle.tree.specs.Insert.{Turn, Trail, top, turn, Changed, Noted}
 use Rattle.tree.proofs.Branches.{any-tree}
 
@@ -60,19 +60,17 @@ module _ {n : ℕ} {ws ws′ : List ℕ} (y : Stays n ws ws′) where
   unfolding key-at
   key-stays txt x p h = rw (record-stays y x p h)
 
-  pub sound-stays : {txt : List ℕ} {m x used : ℕ} → x ≤ n → x ≤ m → Sound ws txt 0 0 m used → Sound ws′ txt 0 0 x used
+  pub sound-stays : {txt : List ℕ} {m x used : ℕ} → x ≤ n → x ≤ m → Used ws txt m used → Used ws′ txt x used
   sound-stays h k o = record {
     few = omega (arith, o .few);
     short = o .short;
     records-fit = omega (arith, o .records-fit, y .size);
     text-fits = o .text-fits;
-    names-link = record { earlier = omega arith; of-kind = λ z. absurd (z refl) };
-    modules-link = record { earlier = omega arith; of-kind = λ z. absurd (z refl) };
     rows = λ l p q. ok-stays y p (omega arith) (o .rows l p (omega arith));
   }
 
   -- Only the records up to the link count.
-  pub tree-stays : {txt : List ℕ} {w : Which} {v : Level} {x : ℕ} → x ≤ n → TreeAt ws txt w v x → TreeAt ws′ txt w v x
+  pub tree-stays : {txt : List ℕ} {w : Which} {v : Level} {x : ℕ} → x ≤ n → At ws txt w (tree v) x → At ws′ txt w (tree v) x
   tree-stays {x = x} h t = record {
     records = x;
     used = t .used;

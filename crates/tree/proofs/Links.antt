@@ -14,11 +14,10 @@ use Rattle.source.specs.Rules.{AllKeys, Ordered}
 use Rattle.source.specs.Shared.{Allˡ}
 use Rattle.source.proofs.Lookup.{Allˡ-map}
 use Rattle.memory.specs.Layout.{record-at, word, Which, Item, tree, kind, what, key-at}
-use Rattle.memory.specs.Sound.{LinkOk}
+use Rattle.memory.specs.Sound.{LinkOk, At}
 use Rattle.memory.proofs.Readings.{what-none}
 use Rattle.memory.proofs.Records.{zero-some}
 use Rattle.memory.proofs.Seen.{link-later}
-use Rattle.tree.specs.Tree.{TreeAt}
 use Rattle.tree.specs.Links.{branches-among, branches, row-at}
 use Rattle.tree.proofs.Branches.{branch-right, branch-ordered, branch-reads, left-tree, right-tree}
 use Rattle.tree.proofs.Kept.{all-append, map-append}
@@ -46,16 +45,16 @@ branch-later : {ws : List ℕ} {w : Which} {v : Level} {l root x : ℕ} → l < 
 branch-later h o = record { some = o .some; link = link-later (omega arith) (o .link) }
 
 module _ {ws txt : List ℕ} {w : Which} {v : Level} where
-  pub branches-at : {x : ℕ} → TreeAt ws txt w v x → 0 < x → branches ws x ≡ branches ws (word (record-at ws x) 3) ++ (x ∷ branches ws (word (record-at ws x) 4))
+  pub branches-at : {x : ℕ} → At ws txt w (tree v) x → 0 < x → branches ws x ≡ branches ws (word (record-at ws x) 3) ++ (x ∷ branches ws (word (record-at ws x) 4))
   branches-at {x} t p = branches-some ws x p (branch-right t p .left .earlier) (branch-right t p .right .earlier)
 
-  pub tree-ordered : {x : ℕ} → TreeAt ws txt w v x → Ordered (what w ws txt x (tree v))
+  pub tree-ordered : {x : ℕ} → At ws txt w (tree v) x → Ordered (what w ws txt x (tree v))
   tree-ordered {x} t = zero-some x (λ z. rw (z, what-none w ws txt) tt) (branch-ordered t)
 
   -- What holds of none, and of a branch where it holds of its two sides, holds of every tree.
   module _ (P : ℕ → Type 0) (none : P 0)
-      (step : (x : ℕ) → TreeAt ws txt w v x → 0 < x → P (word (record-at ws x) 3) → P (word (record-at ws x) 4) → P x) where
-    upto : (m x : ℕ) → x ≤ m → TreeAt ws txt w v x → P x
+      (step : (x : ℕ) → At ws txt w (tree v) x → 0 < x → P (word (record-at ws x) 3) → P (word (record-at ws x) 4) → P x) where
+    upto : (m x : ℕ) → x ≤ m → At ws txt w (tree v) x → P x
     upto zero x h t = subst P (let z : 0 ≡ x = omega arith in z) none
     upto (suc m) x h t =
         zero-some x
@@ -65,16 +64,16 @@ module _ {ws txt : List ℕ} {w : Which} {v : Level} where
         (upto m (word (record-at ws x) 3) (omega (arith, branch-right t p .left .earlier)) (left-tree t p))
         (upto m (word (record-at ws x) 4) (omega (arith, branch-right t p .right .earlier)) (right-tree t p)))
 
-    pub by-sides : (x : ℕ) → TreeAt ws txt w v x → P x
+    pub by-sides : (x : ℕ) → At ws txt w (tree v) x → P x
     by-sides x = upto x x (omega arith)
 
-  pub branches-keys : (P : Str → Type 0) (x : ℕ) → TreeAt ws txt w v x → AllKeys P (what w ws txt x (tree v)) → Allˡ (λ y. P (key-at ws txt y)) (branches ws x)
+  pub branches-keys : (P : Str → Type 0) (x : ℕ) → At ws txt w (tree v) x → AllKeys P (what w ws txt x (tree v)) → Allˡ (λ y. P (key-at ws txt y)) (branches ws x)
   branches-keys P =
       by-sides (λ x. AllKeys P (what w ws txt x (tree v)) → Allˡ (λ y. P (key-at ws txt y)) (branches ws x))
       (λ a. rw (branches-none ws) tt)
       (λ x t p f g a. let b = rw (branch-reads t p) at a in rw (branches-at t p) (all-append (λ y. P (key-at ws txt y)) (branches ws (word (record-at ws x) 3)) (x ∷ branches ws (word (record-at ws x) 4)) (f (b .1)) (b .0, g (b .2))))
 
-  pub branches-of : (x : ℕ) → TreeAt ws txt w v x → Allˡ (BranchOf ws w v x) (branches ws x)
+  pub branches-of : (x : ℕ) → At ws txt w (tree v) x → Allˡ (BranchOf ws w v x) (branches ws x)
   branches-of =
       by-sides (λ x. Allˡ (BranchOf ws w v x) (branches ws x))
       (rw (branches-none ws) tt)
@@ -90,7 +89,7 @@ module _ {ws txt : List ℕ} {w : Which} {v : Level} where
 
   -- The rows of all branches.
   module _ (q : Option Str) where
-    rows-onto : (x : ℕ) → TreeAt ws txt w v x → (acc : List (PrefixMatch × Value (Item w) v))
+    rows-onto : (x : ℕ) → At ws txt w (tree v) x → (acc : List (PrefixMatch × Value (Item w) v))
         → map (row-at w ws txt v q) (branches ws x) ++ acc ≡ btree-fold (what w ws txt x (tree v)) (λ k y acc. (record { prefix = q; completion = k }, y) ∷ acc) acc
     unfolding btree-fold row-at
     rows-onto =
@@ -100,6 +99,6 @@ module _ {ws txt : List ℕ} {w : Which} {v : Level} where
         (λ acc. rw (branches-none ws, what-none w ws txt))
         (λ x t p f g acc. rw (branches-at t p, branch-reads t p, map-append, append-assoc, g acc) (f _))
 
-    pub branches-rows : (x : ℕ) → TreeAt ws txt w v x → map (row-at w ws txt v q) (branches ws x) ≡ btree-find-all q (what w ws txt x (tree v))
+    pub branches-rows : (x : ℕ) → At ws txt w (tree v) x → map (row-at w ws txt v q) (branches ws x) ≡ btree-find-all q (what w ws txt x (tree v))
     unfolding btree-find-all
     branches-rows x t = sym (append-nil _) ∙ rows-onto x t []

@@ -16,13 +16,15 @@ use Rattle.source.proofs.Lookup.{Allˡ-map, Above, Increasing}
 use Rattle.source.proofs.Trees.{AllKeys-map, before-prefix, past-prefix, entry-key, find-all-ascends}
 use Rattle.memory.specs.Layout.{record-at, word, Which, Item, tree, what, key-at}
 use Rattle.memory.proofs.Readings.{what-none}
-use Rattle.tree.specs.Tree.{TreeAt, AnyTree}
+use Rattle.tree.specs.Tree.{AnyTree}
 use Rattle.tree.specs.Links.{branches, keep, matches, past-by, past, after, head0, wanted, row-at}
-use Rattle.tree.proofs.Branches.{any-tree, tree-of, branch-reads, left-tree, right-tree}
+use Rattle.tree.proofs.Branches.{any-tree, branch-reads, left-tree, right-tree}
 use Rattle.tree.proofs.Kept.{by-test, map-append, keep-append, keep-none, keep-all, keep-ext, keep-keep, all-keep, keep-increasing}
 use Rattle.tree.specs.Links.{BranchOf}
 use Rattle.tree.proofs.Links.{tree-ordered, branches-none, branches-at, branches-keys, branches-of, branches-rows, by-sides}
 use Rattle.tree.proofs.Seeking.{by-order, past-low}
+use Rattle.memory.specs.Sound.{At}
+use Rattle.memory.proofs.At.{at-of}
 
 -- ---- The first, and the next
 
@@ -104,7 +106,7 @@ module _ (ws txt : List ℕ) (w : Which) (v : Level) (p : Str) where
   abbrev Onto : ℕ → Type 0
   Onto x = (acc : Rows) → rows (kept x) ++ acc ≡ find-prefix-onto (what w ws txt x (tree v)) p acc
 
-  module _ (x : ℕ) (t : TreeAt ws txt w v x) (q : 0 < x) where
+  module _ (x : ℕ) (t : At ws txt w (tree v) x) (q : 0 < x) where
     abbrev key : Str
     key = key-at ws txt x
 
@@ -143,7 +145,7 @@ module _ (ws txt : List ℕ) (w : Which) (v : Level) (p : Str) where
         (λ e h. rw (branch-reads t q, find-prefix-onto, e, i, none-left (λ y z. rw h at z), g acc))
         (λ e h. rw (branch-reads t q, find-prefix-onto, e, i, none-right h i) (f _)))
 
-  prefix-onto : (x : ℕ) → TreeAt ws txt w v x → Onto x
+  prefix-onto : (x : ℕ) → At ws txt w (tree v) x → Onto x
   unfolding find-prefix-onto keep
   prefix-onto = by-sides Onto (λ acc. rw (branches-none ws, what-none w ws txt)) prefix-step
 
@@ -152,10 +154,10 @@ pub record MatchOf (ws txt : List ℕ) (w : Which) (v : Level) (root : ℕ) (p :
   pub branch : BranchOf ws w v root x
   pub begins : starts-with (key-at ws txt x) p ≡ true
 
-module _ {ws txt : List ℕ} {w : Which} {v : Level} {root : ℕ} (t : TreeAt ws txt w v root) where
+module _ {ws txt : List ℕ} {w : Which} {v : Level} {root : ℕ} (t : At ws txt w (tree v) root) where
   -- What tree_next asks of a match.
   pub match-tree : {x : ℕ} → BranchOf ws w v root x → AnyTree ws txt x
-  match-tree o = any-tree (tree-of t (omega arith) (o .link))
+  match-tree o = any-tree (at-of t (tree _) (omega arith) (o .link))
 
   pub matches-of : (p : Str) → Allˡ (MatchOf ws txt w v root p) (matches ws txt root p)
   unfolding matches

@@ -13,7 +13,7 @@ use Rattle.source.proofs.Listed.{formed-ordered}
 use Rattle.source.proofs.Kept.{btree-insert-replace-formed}
 use Rattle.memory.specs.Layout.{record-at, word, span, Which, Item, tree, trieˢ, kind, value, what, key-at}
 use Rattle.memory.specs.Stored.{stored}
-use Rattle.memory.specs.Sound.{LinkOk, Sound}
+use Rattle.memory.specs.Sound.{LinkOk, Used, At}
 use Rattle.memory.specs.Grown.{Stays, put}
 use Rattle.memory.proofs.Readings.{what-none}
 use Rattle.memory.proofs.Records.{zero-some}
@@ -22,19 +22,20 @@ use Rattle.memory.proofs.Growing.{what-stays, link-stays, stays-on}
 use Rattle.memory.proofs.Rows.{record-length}
 use Rattle.memory.proofs.Given.{IsItem, link-fine}
 use Rattle.memory.proofs.Seen.{link-later, link-fits}
-use Rattle.tree.specs.Tree.{held, TreeAt, AnyTree, Builds}
+use Rattle.tree.specs.Tree.{held, AnyTree, Builds}
 use Rattle.tree.specs.Insert.{NewBranch, HeldOk, Insertion, Inserted, note, Turn, Trail, top, turn, Changed, Marked, with-sides, raised-row, RaiseOk, lowest-row, LowestOk}
-use Rattle.tree.proofs.Branches.{part-span, tree-in, any-tree, tree-of, branch-right, branch-reads}
+use Rattle.tree.proofs.Branches.{part-span, any-tree, branch-right, branch-reads}
 use Rattle.tree.proofs.Searches.{same-key}
 use Rattle.tree.proofs.Changes.{drop-more, put-changes, sound-stays, trail-stays}
 use Rattle.tree.proofs.Sided.{sided-length, held-fine, depth-ok, old-branch, branch-sound, branch-what, branch-link}
+use Rattle.memory.proofs.At.{at-in, at-of}
 
 -- ---- Trails
 
-pub trail-link : {ws txt : List ℕ} {key : Str} {w : Which} {v : Level} {root d n link : ℕ} → TreeAt ws txt w v root → Trail ws txt key root d n link → LinkOk ws (root + 1) link (kind w (tree v))
+pub trail-link : {ws txt : List ℕ} {key : Str} {w : Which} {v : Level} {root d n link : ℕ} → At ws txt w (tree v) root → Trail ws txt key root d n link → LinkOk ws (root + 1) link (kind w (tree v))
 trail-link t top = record { earlier = omega arith; of-kind = t .link .of-kind }
 trail-link {ws} {n = n} t (turn x r) =
-    let y = branch-right (tree-of t (omega arith) (trail-link t r)) (x .some) in
+    let y = branch-right (at-of t (tree _) (omega arith) (trail-link t r)) (x .some) in
     zero-some (note ws n 1)
     (λ e. rw (x .left e .1) (link-later (omega (arith, x .within)) (y .left)))
     (λ p. rw (x .right (λ e. omega arith) .1) (link-later (omega (arith, x .within)) (y .right)))
@@ -53,7 +54,7 @@ trail-top (turn x r) e = absurd (omega arith)
 
 -- What all of them rest on: the memory base before the call, and what is inserted.
 pub record Ready (base ws txt : List ℕ) (w : Which) (v : Level) (used : ℕ) (key : Str) (val : Value (Item w) v) (records root total n : ℕ) : Type 0 where
-  pub sound : Sound ws txt 0 0 n used
+  pub sound : Used ws txt n used
   pub stays : Stays records base ws
   pub rest : drop (total * 12) ws ≡ drop (total * 12) base
   pub few : total ≤ 65536
@@ -76,8 +77,8 @@ pub record Risen (base ws txt : List ℕ) (w : Which) (v : Level) (used : ℕ) (
 
 module _ {base ws txt : List ℕ} {w : Which} {v : Level} {used : ℕ} {key : Str} {val : Value (Item w) v} {records root total n : ℕ}
     (g : Ready base ws txt w v used key val records root total n) where
-  root-tree : TreeAt ws txt w v root
-  root-tree = tree-in (g .sound) w v (g .root-link)
+  root-tree : At ws txt w (tree v) root
+  root-tree = at-in (g .sound) w (tree v) (g .root-link)
 
   base-of : (x : ℕ) → x ≤ root → what w ws txt x (tree v) ≡ what w base txt x (tree v)
   base-of x h = ap (λ f. f (tree v)) (what-stays (g .stays) w txt x (omega (arith, g .within)))
@@ -150,8 +151,8 @@ module _ {base ws txt : List ℕ} {w : Which} {v : Level} {used : ℕ} {key : St
   l-link : LinkOk ws (n + 1) l (kind w (tree v))
   l-link = link-later (omega (arith, g .ready .root-link .earlier)) (trail-link (root-tree (g .ready)) (up .1))
 
-  l-tree : TreeAt ws txt w v l
-  l-tree = tree-in (g .ready .sound) w v l-link
+  l-tree : At ws txt w (tree v) l
+  l-tree = at-in (g .ready .sound) w (tree v) l-link
 
   old : NewBranch ws txt used (n + 1) w r v
   old = old-branch (g .ready .sound) w v l-link (up .0 .some)
@@ -226,7 +227,7 @@ module _ {ws txt : List ℕ} {w : Which} {v : Level} {records used root count : 
   insertion-marked m = rw (part-span txt (word r 1) (word r 2)) at m
 
   pub insertion-tree : AnyTree ws txt root
-  insertion-tree = any-tree (tree-in (g .sound) w v (g .link))
+  insertion-tree = any-tree (at-in (g .sound) w (tree v) (g .link))
 
 -- ---- The lowest one
 
@@ -252,8 +253,8 @@ module _ {ws ws′ txt : List ℕ} {w : Which} {v : Level} {records used root co
   x-link : LinkOk ws′ (records + 1) x (kind w (tree v))
   x-link = link-later (omega (arith, g .link .earlier)) (trail-link (root-tree ready) (m .trail))
 
-  x-tree : TreeAt ws′ txt w v x
-  x-tree = tree-in (ready .sound) w v x-link
+  x-tree : At ws′ txt w (tree v) x
+  x-tree = at-in (ready .sound) w (tree v) x-link
 
   held-stays : (v : Level) → HeldOk ws txt used (records + 1) w r v → HeldOk ws′ txt used (records + 1) w r v
   held-stays bind o = o

@@ -12,15 +12,16 @@ use Rattle.source.proofs.Order.{View, compare-strings}
 use Rattle.source.specs.Plans.{insert-branches}
 use Rattle.memory.specs.Layout.{record-at, word, Which, tree, what, key-at}
 use Rattle.memory.proofs.Readings.{what-none}
-use Rattle.tree.specs.Tree.{TreeAt, AnyTree, Placed}
+use Rattle.tree.specs.Tree.{AnyTree, Placed}
 use Rattle.tree.proofs.Branches.{branch-reads, left-tree, right-tree, sides-earlier, any-left, any-right}
+use Rattle.memory.specs.Sound.{At}
 
 pub same-key : (s t : Str) → Ordering·eq ≡ string-compare s t → s ≡ t
 same-key s t e = subst (View s t) (sym e) (compare-strings s t)
 
 -- The same search in the whole tree and in that of link, for one table and level.
 pub record SearchIn (ws txt : List ℕ) (w : Which) (v : Level) (root : ℕ) (key : Str) (link count : ℕ) : Type 0 where
-  pub here : TreeAt ws txt w v link
+  pub here : At ws txt w (tree v) link
   pub finds : btree-find-exact (what w ws txt root (tree v)) key ≡ btree-find-exact (what w ws txt link (tree v)) key
   pub builds : insert-branches (what w ws txt root (tree v)) key + 1 ≡ insert-branches (what w ws txt link (tree v)) key + count
 
@@ -29,7 +30,7 @@ pub record Search (ws txt : List ℕ) (root : ℕ) (key : Str) (link count : ℕ
   pub some : 0 < count
   pub small : count + link ≤ root + 1
   pub any : AnyTree ws txt link
-  pub says : (w : Which) (v : Level) → TreeAt ws txt w v root → SearchIn ws txt w v root key link count
+  pub says : (w : Which) (v : Level) → At ws txt w (tree v) root → SearchIn ws txt w v root key link count
 
 pub search-all : {ws txt : List ℕ} {root : ℕ} {key : Str} → AnyTree ws txt root → Search ws txt root key root 1
 search-all a = record { some = omega arith; small = omega arith; any = a; says = λ w v t. record { here = t; finds = refl; builds = refl } }
@@ -38,8 +39,8 @@ module _ {ws txt : List ℕ} {root : ℕ} {key : Str} {link count : ℕ} (g : Se
   module _ (p : 0 < link) where
     -- The search goes on at the side x, which says what the branch says.
     search-on : (x : ℕ) → x < link → AnyTree ws txt x
-        → ((w : Which) (v : Level) → TreeAt ws txt w v link
-        → TreeAt ws txt w v x
+        → ((w : Which) (v : Level) → At ws txt w (tree v) link
+        → At ws txt w (tree v) x
         × (btree-find-exact (what w ws txt link (tree v)) key ≡ btree-find-exact (what w ws txt x (tree v)) key)
         × (insert-branches (what w ws txt link (tree v)) key ≡ insert-branches (what w ws txt x (tree v)) key + 1))
         → Search ws txt root key x (count + 1)

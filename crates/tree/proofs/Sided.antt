@@ -12,11 +12,11 @@ use Rattle.source.specs.Terms.{depth-tree}
 use Rattle.source.specs.Rules.{IsKey, IsLabel, Ordered, Formed}
 use Rattle.memory.specs.Layout.{record-at, word, span, Which, names, modules, Item, tree, trieˢ, kind, Reading, value, row, what}
 use Rattle.memory.specs.Stored.{stored, depth-of}
-use Rattle.memory.specs.Sound.{LinkOk, BranchOk, ItemOk, RecordAs, Sound}
+use Rattle.memory.specs.Sound.{LinkOk, BranchOk, ItemOk, RecordAs, Used}
 use Rattle.memory.specs.Grown.{put}
 use Rattle.memory.proofs.Records.{record-as, branch-at}
 use Rattle.memory.proofs.Sizes.{stored-trie, depth-branch}
-use Rattle.memory.proofs.Putting.{put-sound, put-what, put-link}
+use Rattle.memory.proofs.Putting.{put-used, put-what, put-link}
 use Rattle.memory.proofs.Given.{IsItem, item-fine, link-fine, link-shallow}
 use Rattle.memory.proofs.Seen.{link-fits, link-ok, link-later}
 use Rattle.tree.specs.Insert.{HeldOk, NewBranch, of-namespaces, branch-depth, DepthOk, with-sides}
@@ -76,7 +76,7 @@ bind-kind : (w : Which) → of-namespaces (kind w (tree bind)) ≡ false
 bind-kind names = refl
 bind-kind modules = refl
 
-module _ {ws txt : List ℕ} {n used : ℕ} (o : Sound ws txt 0 0 n used) (w : Which) (r : List ℕ) where
+module _ {ws txt : List ℕ} {n used : ℕ} (o : Used ws txt n used) (w : Which) (r : List ℕ) where
   -- What a right branch holds is formed.
   pub held-fine : (v : Level) → HeldOk ws txt used (n + 1) w r v → Formed IsKey IsLabel (IsItem w) (value w txt r (what w ws txt) v)
   held-fine bind h = item-fine txt used w r h
@@ -98,7 +98,7 @@ module _ {ws txt : List ℕ} {n used : ℕ} (o : Sound ws txt 0 0 n used) (w : W
     }
 
 -- An old branch as a new one.
-pub old-branch : {ws txt : List ℕ} {n used : ℕ} → Sound ws txt 0 0 n used → (w : Which) (v : Level) {x : ℕ} → LinkOk ws (n + 1) x (kind w (tree v)) → 0 < x
+pub old-branch : {ws txt : List ℕ} {n used : ℕ} → Used ws txt n used → (w : Which) (v : Level) {x : ℕ} → LinkOk ws (n + 1) x (kind w (tree v)) → 0 < x
     → NewBranch ws txt used (n + 1) w (record-at ws x) v
 old-branch {ws} {txt} {n} {used} o w v {x} i p = record { known = k; key = branch-at (link-ok o i p) w v k .key; holds = holds v k }
   where
@@ -111,7 +111,7 @@ old-branch {ws} {txt} {n} {used} o w v {x} i p = record { known = k; key = branc
 
 -- ---- The branch r is put with the sides a and b
 
-module _ {ws txt : List ℕ} {n used : ℕ} (o : Sound ws txt 0 0 n used) (r : List ℕ) (twelve : length r ≡ 12) (w : Which) (a b : ℕ) where
+module _ {ws txt : List ℕ} {n used : ℕ} (o : Used ws txt n used) (r : List ℕ) (twelve : length r ≡ 12) (w : Which) (a b : ℕ) where
   deep : word r 0 ≡ kind w (tree ns) → BranchOk ws txt used (n + 1) w (with-sides ws r a b) ns → LinkOk ws (n + 1) (word (with-sides ws r a b) 5) (kind w trieˢ)
       → word (with-sides ws r a b) 11 ≡ depth-tree (row w txt (with-sides ws r a b) (what w ws txt) (tree ns))
   unfolding branch-depth depth-of
@@ -129,7 +129,7 @@ module _ {ws txt : List ℕ} {n used : ℕ} (o : Sound ws txt 0 0 n used) (r : L
       let h : LinkOk ws (n + 1) (word (with-sides ws r a b) 5) (kind w trieˢ) = rw (sided-word ws r a b twelve 5 refl) (g .holds) in
       (y, q, h, deep (g .known) y h)
 
-module _ {ws txt : List ℕ} {n used : ℕ} (o : Sound ws txt 0 0 n used) (few : n < 65536) (room : n * 12 + 12 ≤ length ws) (r : List ℕ) (twelve : length r ≡ 12)
+module _ {ws txt : List ℕ} {n used : ℕ} (o : Used ws txt n used) (few : n < 65536) (room : n * 12 + 12 ≤ length ws) (r : List ℕ) (twelve : length r ≡ 12)
     (w : Which) (v : Level) (g : NewBranch ws txt used (n + 1) w r v) (a b : ℕ) (i : LinkOk ws (n + 1) a (kind w (tree v))) (j : LinkOk ws (n + 1) b (kind w (tree v)))
     (ordered : Ordered (StrBranch (span txt (word r 1) (word r 2)) (value w txt r (what w ws txt) v) (what w ws txt a (tree v)) (what w ws txt b (tree v)))) where
   abbrev new : List ℕ
@@ -152,8 +152,8 @@ module _ {ws txt : List ℕ} {n used : ℕ} (o : Sound ws txt 0 0 n used) (few :
   right : RecordAs ws txt used (n + 1) w (tree v) new (row w txt new (what w ws txt) (tree v))
   right = as-row o r twelve w a b v g branch (subst (λ (t : Tree (Item w) v). Ordered t) (sym row-is) ordered)
 
-  pub branch-sound : Sound (put ws n new) txt 0 0 (n + 1) used
-  branch-sound = put-sound o few room new (sided-length ws r a b twelve) w (tree v) known right
+  pub branch-sound : Used (put ws n new) txt (n + 1) used
+  branch-sound = put-used o few room new (sided-length ws r a b twelve) w (tree v) known right
 
   pub branch-what : what w (put ws n new) txt (n + 1) (tree v) ≡ StrBranch (span txt (word r 1) (word r 2)) (value w txt r (what w ws txt) v) (what w ws txt a (tree v)) (what w ws txt b (tree v))
   branch-what = put-what o few room new (sided-length ws r a b twelve) w (tree v) known right ∙ row-is

@@ -11,7 +11,7 @@ use Rattle.source.specs.Trees.{btree-insert-replace}
 use Rattle.source.specs.Rules.{IsKey}
 use Rattle.memory.specs.Layout.{record-at, word, span, Which, tree, trieˢ, kind, value, what, key-at}
 use Rattle.memory.specs.Stored.{stored}
-use Rattle.memory.specs.Sound.{LinkOk, TextOk, ItemOk, Sound}
+use Rattle.memory.specs.Sound.{LinkOk, TextOk, ItemOk, Used}
 use Rattle.memory.specs.Grown.{Stays}
 use Rattle.tree.specs.Tree.{Builds}
 
@@ -30,7 +30,7 @@ pub record NewBranch (ws txt : List ℕ) (used l : ℕ) (w : Which) (r : List �
 
 -- The new branch r goes into the tree of root, which takes count of the records after the used ones.
 pub record Insertion (ws txt : List ℕ) (w : Which) (v : Level) (records used root count : ℕ) (r : List ℕ) : Type 0 where
-  pub sound : Sound ws txt 0 0 records used
+  pub sound : Used ws txt records used
   pub link : LinkOk ws (records + 1) root (kind w (tree v))
   pub new : NewBranch ws txt used (records + 1) w r v
   pub counted : Builds ws txt root (span txt (word r 1) (word r 2)) count
@@ -133,7 +133,7 @@ pub record LowestOk (ws : List ℕ) (n : ℕ) (r : List ℕ) : Type 0 where
 -- The link root′ of the last new record names the tree with the new branch r; the used records and those after the new ones stay.
 pub record Inserted (ws ws′ txt : List ℕ) (w : Which) (v : Level) (records used root count : ℕ) (r : List ℕ) (root′ : ℕ) : Type 0 where
   pub last : root′ ≡ records + count
-  pub sound : Sound ws′ txt 0 0 (records + count) used
+  pub sound : Used ws′ txt (records + count) used
   pub stays : Stays records ws ws′
   pub rest : drop ((records + count) * 12) ws′ ≡ drop ((records + count) * 12) ws
   pub link : LinkOk ws′ (records + count + 1) root′ (kind w (tree v))

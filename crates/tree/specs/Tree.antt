@@ -9,24 +9,17 @@ use Rattle.source.specs.Types.{Level, Value}
 use Rattle.source.specs.Trees.{btree-find-exact}
 use Rattle.source.specs.Plans.{insert-branches}
 use Rattle.memory.specs.Layout.{key-at, record-at, pick, Which, Item, tree, kind, value, what}
-use Rattle.memory.specs.Sound.{LinkOk, Sound}
+use Rattle.memory.specs.Sound.{LinkOk, Used, At}
 
 -- What that key stands for.
 unfoldable pub held : (w : Which) → List ℕ → List ℕ → (v : Level) → ℕ → Value (Item w) v
 held w ws txt v l = value w txt (record-at ws l) (what w ws txt) v
 
--- Link x names a tree of the table w and the level v, in a memory whose used records are right.
-pub record TreeAt (ws txt : List ℕ) (w : Which) (v : Level) (x : ℕ) : Type 0 where
-  pub records : ℕ
-  pub used : ℕ
-  pub sound : Sound ws txt 0 0 records used
-  pub link : LinkOk ws (records + 1) x (kind w (tree v))
-
 -- The same, of some table and level.
 pub record AnyTree (ws txt : List ℕ) (x : ℕ) : Type 0 where
   pub which : Which
   pub level : Level
-  pub tree : TreeAt ws txt which level x
+  pub tree : At ws txt which (tree level) x
 
 -- The link r is that of the branch that has the key, 0 for none.
 pub record FoundIn (ws txt : List ℕ) (w : Which) (v : Level) (root : ℕ) (key : Str) (r : ℕ) : Type 0 where
@@ -36,12 +29,12 @@ pub record FoundIn (ws txt : List ℕ) (w : Which) (v : Level) (root : ℕ) (key
 
 -- btree_find_exact, for any table and level that the tree is of.
 abbrev pub Found : (ws txt : List ℕ) (root : ℕ) (key : Str) (r : ℕ) → Type 0
-Found ws txt root key r = (w : Which) (v : Level) → TreeAt ws txt w v root → FoundIn ws txt w v root key r
+Found ws txt root key r = (w : Which) (v : Level) → At ws txt w (tree v) root → FoundIn ws txt w v root key r
 
 -- How many branches btree_insert_replace builds, for any table and level that the tree is of.
 pub record Builds (ws txt : List ℕ) (root : ℕ) (key : Str) (r : ℕ) : Type 0 where
   pub small : r ≤ root + 1
-  pub says : (w : Which) (v : Level) → TreeAt ws txt w v root → r ≡ insert-branches (what w ws txt root (tree v)) key
+  pub says : (w : Which) (v : Level) → At ws txt w (tree v) root → r ≡ insert-branches (what w ws txt root (tree v)) key
 
 -- Both.
 pub record Placed (ws txt : List ℕ) (root : ℕ) (key : Str) (link count : ℕ) : Type 0 where

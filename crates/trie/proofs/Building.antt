@@ -15,8 +15,8 @@ use Rattle.source.specs.Rules.{IsKey}
 use Rattle.text.proofs.Texts.{part-is}
 use Rattle.memory.specs.Layout.{word, span, Which, Item, Sort, tree, list, trieˢ, Of, kind, value, what}
 use Rattle.memory.specs.Stored.{stored}
-use Rattle.memory.specs.Sound.{LinkOk, TextOk, Sound}
-use Rattle.names.specs.Names.{ListAt, NamesPlaced}
+use Rattle.memory.specs.Sound.{LinkOk, TextOk, Used, At}
+use Rattle.names.specs.Names.{NamesPlaced}
 use Rattle.names.specs.Made.{Room, Made, MadeTrie}
 use Rattle.names.specs.Insert.{NamesInsertion, NamesInserts}
 use Rattle.names.proofs.Making.{made-none, made-as, made-then, made-room, made-link, made-what, trie-shallow}
@@ -31,7 +31,7 @@ module _ {ws ws′ txt : List ℕ} {n n′ used : ℕ} {w : Which} {s : Sort} {c
   builds-then f d = record { number = omega (arith, b .number, d .number); made = made-then (b .made) (d .made) }
 
 -- Nothing is built.
-pub builds-none : {ws txt : List ℕ} {n used : ℕ} {w : Which} (s : Sort) {x : ℕ} → Sound ws txt 0 0 n used → LinkOk ws (n + 1) x (kind w s)
+pub builds-none : {ws txt : List ℕ} {n used : ℕ} {w : Which} (s : Sort) {x : ℕ} → Used ws txt n used → LinkOk ws (n + 1) x (kind w s)
     → Builds ws ws txt n used w s (pure (what w ws txt x s)) x n
 unfolding pure
 builds-none s o i = record { number = omega arith; made = made-none s o i }
@@ -131,7 +131,7 @@ unfolding span
 placed-part {txt = txt} s l z = rw (part-is txt s l) at z
 
 -- The place of a key weighs what the list with it does.
-module _ {ws txt : List ℕ} {w : Which} {v : Level} {x holder count wt : ℕ} {key : Str} (a : ListAt ws txt w v x) (z : NamesPlaced ws txt x key holder count wt) (t : Value (Item w) v) where
+module _ {ws txt : List ℕ} {w : Which} {v : Level} {x holder count wt : ℕ} {key : Str} (a : At ws txt w (list v) x) (z : NamesPlaced ws txt x key holder count wt) (t : Value (Item w) v) where
   pub placed-light : heaviest-names (names-insert (what w ws txt x (list v)) key t) ≤ 96 → wt ≤ 96
   placed-light h = omega (arith, z .inserts w v a .weighs t, inserted-within (what w ws txt x (list v)) key t .weighs)
 
@@ -140,9 +140,9 @@ module _ {ws txt : List ℕ} {w : Which} {v : Level} {x holder count wt : ℕ} {
 
 -- A trie, built before, goes into a list of namespaces that stood.
 module _ {ws ws₁ txt : List ℕ} {n n₁ used : ℕ} {w : Which} {c : Counted (Trie (Item w))} {s : ℕ} (S : Builds ws ws₁ txt n used w trieˢ c s n₁)
-    (o : Sound ws txt 0 0 n used) {x kd start len holder count wt : ℕ} (j : LinkOk ws (n + 1) x (kind w (list ns))) (k : kd ≡ kind w (tree ns))
+    (o : Used ws txt n used) {x kd start len holder count wt : ℕ} (j : LinkOk ws (n + 1) x (kind w (list ns))) (k : kd ≡ kind w (tree ns))
     (i : TextOk IsKey txt used start len) (z : NamesPlaced ws txt x (span txt start len) holder count wt) where
-  at-list : ListAt ws txt w ns x
+  at-list : At ws txt w (list ns) x
   at-list = record { records = n; used = used; sound = o; link = j }
 
   pub scope-insertion : Room ws n ((c >>= λ scope. names-insertᶜ (what w ws txt x (list ns)) (span txt start len) scope) .count)

@@ -13,12 +13,12 @@ use Rattle.source.specs.Rules.{IsKey}
 use Rattle.source.specs.Counted.{Counted, one, _>>=_, names-insertᶜ, trie-mutateᶜ}
 use Rattle.source.proofs.Counted.{names-insert-value}
 use Rattle.memory.specs.Layout.{span, Which, Item, Sort, tree, list, trieˢ, Of, kind, what}
-use Rattle.memory.specs.Sound.{TextOk}
+use Rattle.memory.specs.Sound.{TextOk, At}
 use Rattle.memory.specs.Stored.{stored}
 use Rattle.memory.specs.Read.{ReadTrie}
 use Rattle.memory.specs.declared.Trie as M
 use Rattle.memory.proofs.Seen.{link-later}
-use Rattle.names.specs.Names.{ListAt, NamesPlaced}
+use Rattle.names.specs.Names.{NamesPlaced}
 use Rattle.names.specs.Made.{Made}
 use Rattle.names.specs.Insert.{NamesInsertion, AnyNamesInsertion, NamesInserts}
 use Rattle.names.proofs.Making.{made-then, made-what, made-link, made-room}
@@ -26,7 +26,8 @@ use Rattle.trie.specs.declared.Change.{Change}
 use Rattle.trie.specs.declared.Change.the-variants.{Name, Include, Open, Alias, Module}
 use Rattle.trie.specs.Tries.{Reads}
 use Rattle.trie.specs.Changes.{between, passed, which-of, node-of, leaf-of, mutated, namespaces-mutated, Cut, ChangeOk, Leaf, Node, NamespacesMutation, Mutation, Builds, LeafBuilt, NodeBuilt, NamespacesMutated, Mutated}
-use Rattle.trie.proofs.Links.{Lists, lists-in, holder-scope}
+use Rattle.memory.proofs.Tries.{Lists, lists-in}
+use Rattle.trie.proofs.Links.{holder-scope}
 use Rattle.trie.proofs.Between.{place-next, passed-next, key-in}
 use Rattle.trie.proofs.Building.{inserted-within, scope-insertion, scope-built}
 use Rattle.trie.proofs.Leaves.{less-room}
@@ -37,7 +38,7 @@ module _ {ws txt : List ℕ} {n used x from at len end : ℕ} {ch : Change} (g :
   pub spaces-key : TextOk IsKey txt used at len
   spaces-key = key-in (g .place) (g .cut)
 
-  pub spaces-list : ListAt ws txt (which-of ch) ns x
+  pub spaces-list : At ws txt (which-of ch) (list ns) x
   spaces-list = record { records = n; used = used; sound = g .change .sound; link = g .link }
 
   module _ {holder count wt scope : ℕ} (z : NamesPlaced ws txt x (span txt at len) holder count wt) (e : scope ≡ stored ws holder 5) where

@@ -16,17 +16,18 @@ use Rattle.memory.specs.Read.{ReadTrie}
 use Rattle.memory.specs.declared.Trie as M
 use Rattle.memory.specs.declared.Span.{Span}
 use Rattle.memory.proofs.Readings.{what-none}
-use Rattle.names.specs.Names.{ListAt, NamesPlaced}
+use Rattle.names.specs.Names.{NamesPlaced}
 use Rattle.names.specs.Made.{Room, MadeTrie, MadeImported}
 use Rattle.names.specs.Insert.{NamesInsertion, NamesInserts}
-use Rattle.names.proofs.Collections.{no-link}
 use Rattle.names.proofs.Making.{made-none, made-as, imported-light}
 use Rattle.names.proofs.Inserting.{insertion-after}
 use Rattle.trie.specs.declared.Change.{Change}
 use Rattle.trie.specs.declared.Change.the-variants.{Name, Include, Open, Alias, Module}
 use Rattle.trie.specs.Changes.{leaf-of, Some, Leaf, Builds, LeafBuilt}
-use Rattle.trie.proofs.Links.{Lists, lists-in}
+use Rattle.memory.proofs.Tries.{Lists, lists-in}
 use Rattle.trie.proofs.Building.{inserted-within, builds-one, builds-none, builds-insert, bindings-ready, bindings-built, namespaces-ready, namespaces-built, placed-light, placed-count, scope-insertion, scope-built}
+use Rattle.memory.specs.Sound.{At}
+use Rattle.memory.proofs.At.{no-link}
 
 pub less-room : {ws : List ℕ} {n m k : ℕ} → Room ws n m → k ≤ m → Room ws n k
 less-room o h = record { few = omega (arith, o .few); fits = omega (arith, o .fits) }
@@ -105,7 +106,7 @@ module _ {ws txt : List ℕ} {n used x item-number : ℕ} {id : Span} {p : M.Tri
   name-lists : Lists ws txt n names x p
   name-lists = lists-in (l .change .sound) (l .link) q
 
-  pub name-list : ListAt ws txt names bind (p .bindings)
+  pub name-list : At ws txt names (list bind) (p .bindings)
   name-list = record { records = n; used = used; sound = l .change .sound; link = name-lists .b-link }
 
   module _ {holder count wt : ℕ} (z : NamesPlaced ws txt (p .bindings) (span txt (id .start) (id .len)) holder count wt) where
@@ -144,7 +145,7 @@ module _ {ws txt : List ℕ} {n used x inc : ℕ} {key label : Span} {p : M.Trie
   alias-lists : Lists ws txt n names x p
   alias-lists = lists-in (l .change .sound) (l .link) q
 
-  pub alias-list : ListAt ws txt names ns (p .namespaces)
+  pub alias-list : At ws txt names (list ns) (p .namespaces)
   alias-list = record { records = n; used = used; sound = l .change .sound; link = alias-lists .n-link }
 
   -- The fresh trie.

@@ -19,19 +19,21 @@ use Rattle.memory.specs.Read.{ReadTrie}
 use Rattle.memory.specs.declared.Trie as M
 use Rattle.memory.proofs.Seen.{link-later}
 use Rattle.names.specs.Names.{Holder}
-use Rattle.names.proofs.Collections.{no-link}
-use Rattle.trie.specs.Tries.{TrieAt, Reads, Scope, FoundIn}
-use Rattle.trie.proofs.Links.{trie-of, lists-seen, bindings-at, namespaces-at, bindings-read, scope-up}
+use Rattle.trie.specs.Tries.{Reads, Scope, FoundIn}
+use Rattle.memory.proofs.Tries.{lists-seen, bindings-at, namespaces-at, bindings-read}
+use Rattle.trie.proofs.Links.{scope-up}
+use Rattle.memory.specs.Sound.{At}
+use Rattle.memory.proofs.At.{no-link, at-of}
 
 -- The walk stands at the trie of link, with the segments from at on before it, of which C holds.
 pub record Stands (ws txt : List ℕ) (w : Which) (query : Str) (root link at : ℕ) (C : Trie (Item w) → Query → Type 0) : Type 0 where
   pub inside : at ≤ length query
   pub ends : ends-in-dot (drop at query) ≡ true
   pub earlier : link ≤ root
-  pub here : TrieAt ws txt w link
+  pub here : At ws txt w trieˢ link
   pub says : C (what w ws txt link trieˢ) (segments (drop at query))
 
-pub stands-first : {ws txt : List ℕ} {w : Which} {query : Str} {root : ℕ} (C : Trie (Item w) → Query → Type 0) → ends-in-dot query ≡ true → TrieAt ws txt w root
+pub stands-first : {ws txt : List ℕ} {w : Which} {query : Str} {root : ℕ} (C : Trie (Item w) → Query → Type 0) → ends-in-dot query ≡ true → At ws txt w trieˢ root
     → C (what w ws txt root trieˢ) (segments query) → Stands ws txt w query root root 0 C
 stands-first C e t c = record { inside = omega arith; ends = e; earlier = omega arith; here = t; says = c }
 
@@ -46,7 +48,7 @@ module _ {ws txt : List ℕ} {w : Which} {query : Str} {root link at : ℕ} {C :
     inside = omega (arith, s .inside);
     ends = s .ends ∙ g .ends;
     earlier = omega (arith, r .link .earlier, g .earlier);
-    here = trie-of (g .here) (r .link);
+    here = at-of (g .here) trieˢ (omega arith) (r .link);
     says = rw (r .says) (f (rw (s .splits) at (g .says)));
   }
 
@@ -55,7 +57,7 @@ module _ {ws txt : List ℕ} {w : Which} {query : Str} {root link at : ℕ} {C :
   stands-last h = rw (segments-end query at h) at (g .says)
 
 -- The scope of a segment, as the loops cut it.
-pub scope-next : {ws txt : List ℕ} {w : Which} {link at n next : ℕ} {p : M.Trie} {query : Str} → TrieAt ws txt w link → Segment query at n → ReadTrie ws link p
+pub scope-next : {ws txt : List ℕ} {w : Which} {link at n next : ℕ} {p : M.Trie} {query : Str} → At ws txt w trieˢ link → Segment query at n → ReadTrie ws link p
     → Scope ws txt (p .namespaces) (take (at + n - at) (drop at query)) next → Reads ws txt w link next (scope-of (namespaces (what w ws txt link trieˢ)) (take n (drop at query)))
 scope-next {w = w} {at = at} {n} {query = query} t y q h = scope-up t q _ (rw (part-is query at n) at (h w (namespaces-at t q)))
 

@@ -21,11 +21,11 @@ use Rattle.memory.specs.Layout.{span, modules, item-of, Sort, list, trieˢ, kin
 use Rattle.memory.specs.Stored.{stored}
 use Rattle.memory.specs.Read.{ReadTrie}
 use Rattle.memory.specs.declared.Trie as M
-use Rattle.memory.specs.Sound.{TextOk, SymbolOk}
+use Rattle.memory.specs.Sound.{TextOk, SymbolOk, At}
 use Rattle.memory.specs.declared.Span.{Span}
 use Rattle.trie.specs.declared.Change.{Change}
 use Rattle.trie.specs.declared.Change.the-variants.{Name, Include, Open, Alias, Module}
-use Rattle.names.specs.Names.{ListAt, NamesPlaced}
+use Rattle.names.specs.Names.{NamesPlaced}
 use Rattle.names.specs.Made.{Room, MadeTrie}
 use Rattle.names.specs.Insert.{NamesInsertion, AnyNamesInsertion, NamesInserts}
 use Rattle.names.proofs.Making.{made-none}
@@ -34,7 +34,7 @@ use Rattle.trie.specs.Plans.{NsInserts}
 use Rattle.trie.specs.Changes.{between, passed, which-of, bindings-of, node-of, symbol-row, Some, Bindings, Node, Builds, BindingsBuilt}
 use Rattle.trie.proofs.Lookups.{some-left}
 use Rattle.trie.proofs.Between.{span-length, place-next, key-in, full-name-is, full-name-in}
-use Rattle.trie.proofs.Links.{Lists, lists-in}
+use Rattle.memory.proofs.Tries.{Lists, lists-in}
 use Rattle.trie.proofs.Building.{builds-none, builds-insert, placed-light, placed-count, bindings-ready, bindings-built}
 use Rattle.trie.proofs.Leaves.{less-room}
 
@@ -111,7 +111,7 @@ symbol-reads txt at len from path false true = refl
 symbol-reads txt at len from path false false = refl
 
 module _ {ws txt : List ℕ} {n used x from at len end : ℕ} {loaded : Bool} {path : Span} (i : Bindings ws txt n used x from at len end (Module loaded path)) where
-  pub ins-list : ListAt ws txt modules bind x
+  pub ins-list : At ws txt modules (list bind) x
   ins-list = record { records = n; used = used; sound = i .change .sound; link = i .link }
 
   pub ins-key : TextOk IsKey txt used at len

@@ -30,16 +30,17 @@ use Rattle.memory.specs.declared.ModSymbol.{ModSymbol}
 use Rattle.memory.specs.declared.ModSymbol.the-variants.{Module, Namespace}
 use Rattle.memory.proofs.Seen.{symbol-item}
 use Rattle.tree.specs.Tree.{held}
-use Rattle.names.specs.Names.{ListAt, AnyList, NamesPlaced, InsertIn}
+use Rattle.names.specs.Names.{AnyList, NamesPlaced, InsertIn}
 use Rattle.names.proofs.Collections.{list-weight}
 use Rattle.trie.specs.declared.Plan.{Plan}
-use Rattle.trie.specs.Tries.{TrieAt}
 use Rattle.trie.specs.Plans.{StepIn, Stepped, Steps, Path, NsInserts, Inserted, Planned}
 use Rattle.text.proofs.Texts.{part-is}
 use Rattle.text.specs.Text.{Segment}
 use Rattle.text.proofs.Segments.{segments-end}
 use Rattle.trie.proofs.Lookups.{Stands, stands-next, stands-last, some-left}
-use Rattle.trie.proofs.Links.{bindings-at, namespaces-at, bindings-read, namespaces-read, lists-seen, scope-up, holder-scope}
+use Rattle.memory.proofs.Tries.{bindings-at, namespaces-at, bindings-read, namespaces-read, lists-seen}
+use Rattle.trie.proofs.Links.{scope-up, holder-scope}
+use Rattle.memory.specs.Sound.{At}
 
 -- ---- an insertion
 pub insert-weight : {A : Type 0} {l : Level} (n : NameList A l) (k : Str) (v : Value A l) → weight (names-insert n k v) ≡ inserted-weight n
@@ -61,7 +62,7 @@ pub placed-small : {ws txt : List ℕ} {x : ℕ} {key : Str} {holder count wt : 
 placed-small a z = omega (arith, z .small, a .list .link .earlier, a .list .sound .few)
 
 -- ---- a path
-pub stepped : {ws txt : List ℕ} {w : Which} {x : ℕ} {p : M.Trie} {s : Str} {holder count wt y : ℕ} → TrieAt ws txt w x → ReadTrie ws x p
+pub stepped : {ws txt : List ℕ} {w : Which} {x : ℕ} {p : M.Trie} {s : Str} {holder count wt y : ℕ} → At ws txt w trieˢ x → ReadTrie ws x p
     → NamesPlaced ws txt (p .namespaces) s holder count wt → y ≡ stored ws holder 5 → StepIn ws txt w x s y (count + 2) (ltb 96 wt)
 stepped {ws} {txt} {w} {x} {s = s} t q z e =
     let a = namespaces-at t q in
@@ -132,9 +133,9 @@ module _ {ws txt : List ℕ} {root link steps records : ℕ} {crowded : Bool} (h
           deep = rw number-is;
         }
 
-    module _ {inc : ℕ} {p′ : M.Trie} (t : TrieAt ws txt names inc) (q′ : ReadTrie ws inc p′) (query : Str)
+    module _ {inc : ℕ} {p′ : M.Trie} (t : At ws txt names trieˢ inc) (q′ : ReadTrie ws inc p′) (query : Str)
         (f : what names ws txt inc trieˢ ≡ included (what names ws txt root trieˢ) (segments query)) where
-      weights : (v : Level) {x y a b : ℕ} → ListAt ws txt names v x → ListAt ws txt names v y → a ≡ stored ws x 10 → b ≡ stored ws y 10
+      weights : (v : Level) {x y a b : ℕ} → At ws txt names (list v) x → At ws txt names (list v) y → a ≡ stored ws x 10 → b ≡ stored ws y 10
           → a + b + 1 ≡ suc (weight (what names ws txt x (list v)) + weight (what names ws txt y (list v)))
       weights v i j k l = omega (arith, list-weight i, list-weight j)
 
@@ -206,7 +207,7 @@ module _ {ws : List ℕ} {holder : ℕ} {loaded : Bool} where
     unfolding by-symbol
     ns-inserts-namespace k = rw k at by-holder
 
-module _ {ws txt : List ℕ} {x : ℕ} {p : M.Trie} {s : Str} {holder count wt : ℕ} {last loaded b : Bool} (t : TrieAt ws txt modules x) (q : ReadTrie ws x p)
+module _ {ws txt : List ℕ} {x : ℕ} {p : M.Trie} {s : Str} {holder count wt : ℕ} {last loaded b : Bool} (t : At ws txt modules trieˢ x) (q : ReadTrie ws x p)
     (z : NamesPlaced ws txt (p .bindings) s holder count wt) (n : NsInserts ws holder loaded b) where
   ins-inserts-is : (r : Query) → last ≡ is-empty r → ins-inserts loaded (bindings (what modules ws txt x trieˢ)) s r ≡ last || b
   unfolding ins-inserts is-empty

@@ -11,7 +11,7 @@ use Rattle.source.specs.Rules.{IsKey, IsLabel, IsPath}
 use Rattle.source.specs.Counted.{Counted, pure, one, _>>=_, MutNodeᶜ, names-insertᶜ, trie-mutateᶜ, insᶜ}
 use Rattle.source.specs.Queries.{IsQuery}
 use Rattle.memory.specs.Layout.{span, Which, names, modules, Item, Sort, list, trieˢ, Of, kind, what}
-use Rattle.memory.specs.Sound.{LinkOk, TextOk, Sound}
+use Rattle.memory.specs.Sound.{LinkOk, TextOk, Used}
 use Rattle.memory.specs.Read.{text-of}
 use Rattle.memory.specs.declared.Span.{Span}
 use Rattle.names.specs.Made.{Room, Made}
@@ -111,7 +111,7 @@ Texts ws txt n used (Module loaded path) = TextOk IsPath txt used (path .start) 
 
 -- A memory with a change to make.
 pub record ChangeOk (ws txt : List ℕ) (n used : ℕ) (ch : Change) : Type 0 where
-  pub sound : Sound ws txt 0 0 n used
+  pub sound : Used ws txt n used
   pub texts : Texts ws txt n used ch
 
 -- Room for the records of a trie, and no list of it too heavy, nor itself too deep.

@@ -15,8 +15,9 @@ use Rattle.source.specs.Plans.{host-of}
 use Rattle.source.specs.Plans.{along, inserted-records, inserted-weight, ins-inserts, step-records, step-weight, plan-depth, plan-crowded, plan-records}
 use Rattle.memory.specs.Layout.{pick, Which, names, modules, trieˢ, what}
 use Rattle.tree.specs.Tree.{held}
-use Rattle.trie.specs.Tries.{TrieAt, Reads}
+use Rattle.trie.specs.Tries.{Reads}
 use Rattle.trie.specs.declared.Plan.{Plan}
+use Rattle.memory.specs.Sound.{At}
 
 -- One step: the trie that it goes to, the records, whether the new list weighs over 96.
 pub record StepIn (ws txt : List ℕ) (w : Which) (x : ℕ) (s : Str) (link records : ℕ) (crowded : Bool) : Type 0 where
@@ -27,7 +28,7 @@ pub record StepIn (ws txt : List ℕ) (w : Which) (x : ℕ) (s : Str) (link reco
 
 -- The same, for any table that the trie is of.
 abbrev pub Stepped : (ws txt : List ℕ) (x : ℕ) (s : Str) (link records : ℕ) (crowded : Bool) → Type 0
-Stepped ws txt x s link records crowded = (w : Which) → TrieAt ws txt w x → StepIn ws txt w x s link records crowded
+Stepped ws txt x s link records crowded = (w : Which) → At ws txt w trieˢ x → StepIn ws txt w x s link records crowded
 
 -- What the steps of a path give down to the trie at, with the segments rest left.
 pub record Steps {A : Type 0} (builds weighs : Trie A → Str → Query → ℕ) (tr : Trie A) (q : Query) (steps records : ℕ) (crowded : Bool) (at : Trie A) (rest : Query) : Type 0 where
@@ -40,7 +41,7 @@ pub record Steps {A : Type 0} (builds weighs : Trie A → Str → Query → ℕ)
 -- The path to the host of a query.
 pub record Path (ws txt : List ℕ) (root : ℕ) (q : Query) (link steps records : ℕ) (crowded : Bool) : Type 0 where
   pub few : steps ≤ 17
-  pub here : TrieAt ws txt names link
+  pub here : At ws txt names trieˢ link
   pub gives : Steps step-records step-weight (what names ws txt root trieˢ) q steps records crowded (what names ws txt link trieˢ) []
 
 -- Whether ins_ns inserts, where holder is the branch that has the name, 0 for none.

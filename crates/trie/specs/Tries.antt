@@ -8,21 +8,13 @@ use Rattle.source.specs.Text.{Str, Query}
 use Rattle.source.specs.Types.{Trie, bind, ns}
 use Rattle.source.specs.Tries.{trie-find-exact, scope-of, included}
 use Rattle.memory.specs.Layout.{pick, Which, Item, tree, list, trieˢ, kind, what}
-use Rattle.memory.specs.Sound.{LinkOk, Sound}
+use Rattle.memory.specs.Sound.{LinkOk, Used, At}
 use Rattle.tree.specs.Tree.{held}
-use Rattle.names.specs.Names.{ListAt}
-
--- Link x names a trie of the table w, in a memory whose used records are right.
-pub record TrieAt (ws txt : List ℕ) (w : Which) (x : ℕ) : Type 0 where
-  pub records : ℕ
-  pub used : ℕ
-  pub sound : Sound ws txt 0 0 records used
-  pub link : LinkOk ws (records + 1) x (kind w trieˢ)
 
 -- The same, of some table.
 pub record AnyTrie (ws txt : List ℕ) (x : ℕ) : Type 0 where
   pub which : Which
-  pub trie : TrieAt ws txt which x
+  pub trie : At ws txt which trieˢ x
 
 -- The link r, no later than x, reads as the trie t.
 pub record Reads (ws txt : List ℕ) (w : Which) (x r : ℕ) (t : Trie (Item w)) : Type 0 where
@@ -31,11 +23,11 @@ pub record Reads (ws txt : List ℕ) (w : Which) (x r : ℕ) (t : Trie (Item w))
 
 -- The trie that namespaces_mutate goes on with.
 abbrev pub Scope : (ws txt : List ℕ) (x : ℕ) (s : Str) (r : ℕ) → Type 0
-Scope ws txt x s r = (w : Which) → ListAt ws txt w ns x → Reads ws txt w x r (scope-of (what w ws txt x (list ns)) s)
+Scope ws txt x s r = (w : Which) → At ws txt w (list ns) x → Reads ws txt w x r (scope-of (what w ws txt x (list ns)) s)
 
 -- The included trie of a query.
 abbrev pub Included : (ws txt : List ℕ) (root : ℕ) (q : Query) (r : ℕ) → Type 0
-Included ws txt root q r = (w : Which) → TrieAt ws txt w root → Reads ws txt w root r (included (what w ws txt root trieˢ) q)
+Included ws txt root q r = (w : Which) → At ws txt w trieˢ root → Reads ws txt w root r (included (what w ws txt root trieˢ) q)
 
 -- The link r is that of the branch that trie_find_exact ends at, 0 for none.
 pub record FoundIn (ws txt : List ℕ) (w : Which) (root : ℕ) (q : Query) (r : ℕ) : Type 0 where
@@ -44,4 +36,4 @@ pub record FoundIn (ws txt : List ℕ) (w : Which) (root : ℕ) (q : Query) (r :
 
 -- trie_find_exact, for any table that the trie is of.
 abbrev pub Found : (ws txt : List ℕ) (root : ℕ) (q : Query) (r : ℕ) → Type 0
-Found ws txt root q r = (w : Which) → TrieAt ws txt w root → FoundIn ws txt w root q r
+Found ws txt root q r = (w : Which) → At ws txt w trieˢ root → FoundIn ws txt w root q r

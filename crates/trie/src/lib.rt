@@ -9,11 +9,12 @@ ghost use lib.ListN.{length, drop};
 ghost use Rattle.source.specs.Text.{segments, ends-in-dot};
 ghost use Rattle.text.specs.Text.{Segment};
 ghost use Rattle.names.specs.Names.{AnyList};
-ghost use Rattle.memory.specs.Layout.{span, names, modules, Sort, kind-in, kind};
-ghost use Rattle.trie.specs.Tries.{TrieAt, AnyTrie, Scope, Included, Found};
+ghost use Rattle.memory.specs.Layout.{span, names, modules, Sort, kind-in, kind, trieˢ};
+ghost use Rattle.trie.specs.Tries.{AnyTrie, Scope, Included, Found};
 ghost use Rattle.trie.specs.Changes.{which-of, symbol-row, Cut, Some, Leaf, Bindings, Node, NamespacesMutation, Mutation, LeafBuilt, BindingsBuilt, NodeBuilt, NamespacesMutated, Mutated};
 ghost use Rattle.trie.specs.declared.Change.the-variants.{Name, Include, Open, Alias, Module};
 ghost use Rattle.trie.specs.Plans.{NsInserts, Stepped, Inserted, Path, NamePlanned, IncludePlanned, OpenPlanned, AliasPlanned, ModulePlanned};
+ghost use Rattle.memory.specs.Sound.{At};
 
 // The length of the segment of `query` that begins at `at`.
 fn segment_at(query: &[u8], at: usize) -> usize
@@ -98,7 +99,7 @@ struct Walk {
 }
 
 fn plan_path(words: &[u32], text: &[u8], root: u32, host: &[u8]) -> Walk
-    requires { ⌜ TrieAt (now words) (now text) names root ⌝ }
+    requires { ⌜ At (now words) (now text) names trieˢ root ⌝ }
     requires { ⌜ (ends-in-dot (now host) ≡ true) × (length (segments (now host)) ≤ 17) ⌝ }
     ensures { λ r. ⌜ Path (now (words .entry)) (now (text .entry)) root (segments (now (host .entry))) (r .link) (r .segments) (r .records) (r .crowded) ⌝ }
 {
@@ -133,7 +134,7 @@ pub struct Plan {
 
 // The plan of a name.
 pub fn plan_name(words: &[u32], text: &[u8], root: u32, host: &[u8], id: &[u8]) -> Plan
-    requires { ⌜ TrieAt (now words) (now text) names root ⌝ }
+    requires { ⌜ At (now words) (now text) names trieˢ root ⌝ }
     requires { ⌜ (ends-in-dot (now host) ≡ true) × (length (segments (now host)) ≤ 17) ⌝ }
     ensures { λ r. ⌜ NamePlanned (now (words .entry)) (now (text .entry)) root (now (host .entry)) (now (id .entry)) r ⌝ }
 {
@@ -149,7 +150,7 @@ pub fn plan_name(words: &[u32], text: &[u8], root: u32, host: &[u8], id: &[u8]) 
 
 // The plan of an include, and of an open of a module. The included trie is `inc`.
 pub fn plan_include(words: &[u32], text: &[u8], root: u32, host: &[u8], inc: u32) -> Plan
-    requires { ⌜ TrieAt (now words) (now text) names root × TrieAt (now words) (now text) names inc ⌝ }
+    requires { ⌜ At (now words) (now text) names trieˢ root × At (now words) (now text) names trieˢ inc ⌝ }
     requires { ⌜ (ends-in-dot (now host) ≡ true) × (length (segments (now host)) ≤ 17) ⌝ }
     ensures { λ r. ⌜ IncludePlanned (now (words .entry)) (now (text .entry)) root inc (now (host .entry)) r ⌝ }
 {
@@ -166,7 +167,7 @@ pub fn plan_include(words: &[u32], text: &[u8], root: u32, host: &[u8], inc: u32
 
 // The plan of an open of a namespace. The included trie is `inc`.
 pub fn plan_open(words: &[u32], text: &[u8], root: u32, host: &[u8], inc: u32) -> Plan
-    requires { ⌜ TrieAt (now words) (now text) names root × TrieAt (now words) (now text) names inc ⌝ }
+    requires { ⌜ At (now words) (now text) names trieˢ root × At (now words) (now text) names trieˢ inc ⌝ }
     requires { ⌜ (ends-in-dot (now host) ≡ true) × (length (segments (now host)) ≤ 17) ⌝ }
     ensures { λ r. ⌜ OpenPlanned (now (words .entry)) (now (text .entry)) root inc (now (host .entry)) r ⌝ }
 {
@@ -185,7 +186,7 @@ pub fn plan_open(words: &[u32], text: &[u8], root: u32, host: &[u8], inc: u32) -
 
 // The plan of an alias. The included trie is `inc`.
 pub fn plan_alias(words: &[u32], text: &[u8], root: u32, key: &[u8], host: &[u8], inc: u32) -> Plan
-    requires { ⌜ TrieAt (now words) (now text) names root × TrieAt (now words) (now text) names inc ⌝ }
+    requires { ⌜ At (now words) (now text) names trieˢ root × At (now words) (now text) names trieˢ inc ⌝ }
     requires { ⌜ (ends-in-dot (now host) ≡ true) × (length (segments (now host)) ≤ 17) ⌝ }
     ensures { λ r. ⌜ AliasPlanned (now (words .entry)) (now (text .entry)) root inc (now (key .entry)) (now (host .entry)) r ⌝ }
 {
@@ -222,7 +223,7 @@ struct Insertion {
 }
 
 fn plan_ins(words: &[u32], text: &[u8], trie: u32, s: &[u8], last: bool, loaded: bool) -> Insertion
-    requires { ⌜ TrieAt (now words) (now text) modules trie ⌝ }
+    requires { ⌜ At (now words) (now text) modules trieˢ trie ⌝ }
     ensures { λ r. ⌜ Inserted (now (words .entry)) (now (text .entry)) trie (now (s .entry)) last loaded (r .records) (r .crowded) ⌝ }
 {
     let t = memory::trie_of(words, trie);
@@ -241,7 +242,7 @@ fn plan_ins(words: &[u32], text: &[u8], trie: u32, s: &[u8], last: bool, loaded:
 
 // The plan of a module path.
 pub fn plan_module(words: &[u32], text: &[u8], root: u32, query: &[u8], loaded: bool) -> Plan
-    requires { ⌜ TrieAt (now words) (now text) modules root ⌝ }
+    requires { ⌜ At (now words) (now text) modules trieˢ root ⌝ }
     requires { ⌜ (ends-in-dot (now query) ≡ true) × (length (segments (now query)) ≤ 17) ⌝ }
     ensures { λ r. ⌜ ModulePlanned (now (words .entry)) (now (text .entry)) root loaded (now (query .entry)) r ⌝ }
 {

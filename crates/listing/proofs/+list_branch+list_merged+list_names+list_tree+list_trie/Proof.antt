@@ -9,7 +9,7 @@ use borrow.Fn.PlainCycle.{Measures, is, falls, and}
 use Rattle.merge.specs.Stream.{left-in}
 use Rattle.text.proofs.Texts.{tail-is}
 use Rattle.tree.proofs.Branches.{any-tree}
-use Rattle.names.proofs.Collections.{list-fits}
+use Rattle.memory.proofs.At.{at-fits}
 use Rattle.listing.proofs.Cutting.{front-is}
 use Rattle.listing.proofs.Branch.{leaf-runs, line-ready, branch-named, space-at, below-ready, child-earlier, child-ready, space-runs}
 use Rattle.listing.proofs.Loops.{onward, walking-earlier, walking-branch, walking-tree, walking-begins, walking-spent, walking-less, walking-done, Stepping, stepping-first, stepping-next, list-any, single-earlier, single-ready, single-runs, Merging, merging-first, merging-any, merging-done, merging-earlier, merging-less, merging-branch, merging-next, merging-spent}
@@ -174,7 +174,7 @@ pub +list-branch+list-merged+list-names+list-tree+list-trie-spec : {M : Type 1} 
     (list-names-at t)
     list-names.Post
     {- single-requires -}
-    (λ c κs. list-fits (c .before .before .before .before .before .before .pre .1 .list-at))
+    (λ c κs. at-fits (c .before .before .before .before .before .before .pre .1 .list-at))
     {- list-tree-requires -}
     (λ c κs. (omega (arith, c .before .before .before .before .before .before .before .before .before .before .pre .0, single-earlier (c .before .before .before .before .before .before .before .before .before .before .pre .1) (c .before .before .before .single .ensures) (c .before .before .if1 .taken)), single-ready (c .before .before .before .before .before .before .before .before .before .before .pre .1) (c .before .before .before .single .ensures) (c .before .before .if1 .taken) _))
     {- same-length -}

@@ -7,7 +7,6 @@ use borrow.Author.Needs.{needs}
 use borrow.Fn.Kinds.{In}
 use borrow.Fn.PlainCycle.{Measures, is, falls, and}
 use Rattle.memory.specs.Stored.{stored}
-use Rattle.names.proofs.Collections.{list-fits}
 use Rattle.merge.proofs.Collecting.{outermost-none, outermost-some, Seen, seen-rest, rest-less, seen-list, both-less, seen-tree, collected-none, full-set, collected-imported, collected-skip, collected-cell}
 use Rattle.merge.proofs.collect.Reads as collect
 use Rattle.merge.proofs.collect.Kinds as kinds
@@ -16,6 +15,7 @@ use Rattle.memory.proofs.word_of.Reads as word-of-reads
 use Rattle.tree.proofs.tree_first.Reads as tree-first-reads
 use Rattle.merge.proofs.+collect.{statement}
 use Rattle.merge.proofs.+collect.Tie.{close}
+use Rattle.memory.proofs.At.{at-fits}
 
 abbrev μ-collect : Measures 6 kinds.ps ℕ
 μ-collect κs a = stored (a .0 .now) (a .1 .1 .0) 10
@@ -47,11 +47,11 @@ pub +collect-spec : {M : Type 1} → statement M
     {- returns -}
     (λ c. (omega arith, collected-none (c .if1 .taken) (c .before .before .before .before .pre .1 .1 .1)))
     {- word-of-requires -}
-    (λ c κs. omega (arith, list-fits (c .before .before .before .before .pre .1 .0 .list), c .if1 .left))
+    (λ c κs. omega (arith, at-fits (c .before .before .before .before .pre .1 .0 .list), c .if1 .left))
     {- word-of-requires-2 -}
-    (λ c κs. omega (arith, list-fits (c .before .before .before .before .before .pre .1 .0 .list), c .before .if1 .left))
+    (λ c κs. omega (arith, at-fits (c .before .before .before .before .before .pre .1 .0 .list), c .before .if1 .left))
     {- word-of-requires-3 -}
-    (λ c κs. omega (arith, list-fits (c .before .before .before .before .before .before .pre .1 .0 .list), c .before .before .if1 .left))
+    (λ c κs. omega (arith, at-fits (c .before .before .before .before .before .before .pre .1 .0 .list), c .before .before .if1 .left))
     {- collect-requires -}
     (λ c κs.
     let s = seen t (c .before .before .before .before .before) in

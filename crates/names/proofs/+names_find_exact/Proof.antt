@@ -6,7 +6,7 @@ use native.Mathlib.Omega.{arith}
 use borrow.Fn.Kinds.{In}
 use borrow.Fn.PlainCycle.{Measures, is, falls, and}
 use Rattle.memory.specs.Stored.{stored}
-use Rattle.names.proofs.Collections.{list-fits, collection-right, imported-lighter, any-imported, any-own}
+use Rattle.names.proofs.Collections.{collection-right, imported-lighter, any-imported, any-own}
 use Rattle.names.proofs.Finding.{Find, First, find-all, first-imported, first-names, find-here, find-on, find-none}
 use Rattle.names.proofs.names_find_exact.Reads as names-find-exact
 use Rattle.names.proofs.names_find_exact.Kinds as kinds
@@ -15,6 +15,7 @@ use Rattle.memory.proofs.word_of.Reads as word-of-reads
 use Rattle.tree.proofs.btree_find_exact.Reads as btree-find-exact-reads
 use Rattle.names.proofs.+names_find_exact.{statement}
 use Rattle.names.proofs.+names_find_exact.Tie.{close}
+use Rattle.memory.proofs.At.{at-fits}
 
 abbrev μ-names-find-exact : Measures 3 kinds.ps ℕ
 μ-names-find-exact κs a = stored (a .0 .now) (a .1 .1 .0) 10
@@ -54,9 +55,9 @@ pub +names-find-exact-spec : {M : Type 1} → statement M
     {- loop-holds -}
     (λ c. find-all (c .before .before .before .pre .1))
     {- word-of-requires -}
-    (λ c κs. omega (arith, list-fits (c .before .loop .inv .any .list), c .loop-test .taken))
+    (λ c κs. omega (arith, at-fits (c .before .loop .inv .any .list), c .loop-test .taken))
     {- word-of-requires-2 -}
-    (λ c κs. omega (arith, list-fits (c .before .before .loop .inv .any .list), c .before .loop-test .taken))
+    (λ c κs. omega (arith, at-fits (c .before .before .loop .inv .any .list), c .before .loop-test .taken))
     {- names-find-exact-requires -}
     (λ c κs.
     let g = c .before .before .before .before .loop .inv in
@@ -69,7 +70,7 @@ pub +names-find-exact-spec : {M : Type 1} → statement M
     {- returns -}
     (λ c. find-here (c .before .before .before .before .before .loop .inv) (first t (c .before)) (omega (arith, c .if2 .taken)))
     {- word-of-requires-3 -}
-    (λ c κs. omega (arith, list-fits (c .before .before .before .before .before .loop .inv .any .list), c .before .before .before .before .loop-test .taken))
+    (λ c κs. omega (arith, at-fits (c .before .before .before .before .before .loop .inv .any .list), c .before .before .before .before .loop-test .taken))
     {- loop-less -}
     (λ c. omega (arith, c .word-of3 .ensures, collection-right (c .before .before .before .before .before .before .loop .inv .any .list) (c .before .before .before .before .before .loop-test .taken) .rest .earlier))
     {- loop-again -}

@@ -1,23 +1,24 @@
 -- `names::names_place` meets its contract.
 use mathlib.Core.Logic.{⊎-elim}
 use native.Mathlib.Omega.{arith}
-use Rattle.names.proofs.Collections.{list-fits, list-light, any-first, any-rest}
+use Rattle.names.proofs.Collections.{list-light, any-first, any-rest}
 use Rattle.names.proofs.Placing.{holder-first, holder-rest, names-placed}
 use Rattle.names.proofs.names_place.Statement.{statement}
 use Rattle.names.proofs.names_place.Tie as tie
+use Rattle.memory.proofs.At.{at-fits}
 
 pub names-place-spec : {M : Type 1} → statement M
 names-place-spec =
     tie.close
     (tie.spec
     {- lead-of-requires -}
-    (λ c κs. list-fits (c .before .before .before .pre .list))
+    (λ c κs. at-fits (c .before .before .before .pre .list))
     {- place-of-requires -}
     (λ c κs. any-first (c .before .before .before .before .pre) (c .lead-of .ensures))
     {- names-find-exact-requires -}
     (λ c κs. any-rest (c .before .before .before .before .before .before .pre) (c .before .before .lead-of .ensures))
     {- stored-requires -}
-    (λ c κs. (omega arith, list-fits (any-rest (c .before .before .before .before .before .before .pre) (c .before .before .lead-of .ensures) .list)))
+    (λ c κs. (omega arith, at-fits (any-rest (c .before .before .before .before .before .before .pre) (c .before .before .lead-of .ensures) .list)))
     {- add-t10 -}
     (λ c. omega (arith, c .stored .ensures, list-light (any-rest (c .before .before .before .before .before .before .before .pre) (c .before .before .before .lead-of .ensures) .list)))
     {- returns -}

@@ -7,10 +7,10 @@ use Rattle.memory.proofs.Says.{passes, refuses}
 use Rattle.sound.proofs.Answers.{part-record, Rows, rows-more}
 
 abbrev Inv-loop : tie.InvT-loop
-Inv-loop words text names modules records used link₀ link = (0 < link) × (link ≤ records + 1) × Rows words text used link
+Inv-loop words text records used link₀ link = (0 < link) × (link ≤ records + 1) × Rows words text used link
 
 abbrev μ-loop : tie.MeasureT-loop
-μ-loop words text names modules records used link₀ link = records + 1 - link
+μ-loop words text records used link₀ link = records + 1 - link
 
 pub sound-spec : {M : Type 1} → statement M
 sound-spec =
@@ -19,15 +19,19 @@ sound-spec =
     Inv-loop
     μ-loop
     {- returns -}
-    (λ c o. omega (arith, o .few))
+    (λ c o. omega (arith, o .right .few))
     {- returns-2 -}
-    (λ c o. omega (arith, o .short))
+    (λ c o. omega (arith, o .right .short))
+    {- cast-if3 -}
+    (λ c. omega arith)
     {- mul-if3 -}
     (λ c. omega arith)
     {- returns-3 -}
-    (λ c o. omega (arith, o .records-fit))
+    (λ c o. omega (arith, o .right .records-fit))
+    {- cast-if4 -}
+    (λ c. omega arith)
     {- returns-4 -}
-    (λ c o. omega (arith, o .text-fits))
+    (λ c o. omega (arith, o .right .text-fits))
     {- add-link-ok -}
     (λ c. omega arith)
     {- link-ok-requires -}
@@ -61,7 +65,7 @@ sound-spec =
     {- record-ok-requires -}
     (λ c κs. (record { some = omega arith; fits = omega arith; text = omega arith; rows = c .before .before .loop .inv .2 .right }, part-record (c .before .before .before .before .before .before .before .before .before .before .before .before .before .args .words .now) (c .before .before .loop .link)))
     {- returns-7 -}
-    (λ c o. refuses (c .before .record-ok .result) (c .before .record-ok .ensures) (c .if7 .taken) (o .rows (c .before .before .before .before .loop .link) (omega arith) (omega arith)))
+    (λ c o. refuses (c .before .record-ok .result) (c .before .record-ok .ensures) (c .if7 .taken) (o .right .rows (c .before .before .before .before .loop .link) (omega arith) (omega arith)))
     {- add-link -}
     (λ c. omega arith)
     {- loop-less -}
@@ -70,11 +74,7 @@ sound-spec =
     (λ c. (omega arith, omega arith, rows-more (c .before .before .before .before .loop .inv .2) (passes (c .before .record-ok .result) (c .before .record-ok .ensures) (c .if7 .left))))
     {- returns-8 -}
     (λ c. record {
-      few = omega arith;
-      short = omega arith;
-      records-fit = omega arith;
-      text-fits = omega arith;
+      right = record { few = omega arith; short = omega arith; records-fit = omega arith; text-fits = omega arith; rows = λ l p h. c .before .loop .inv .2 .right l p (omega arith) };
       names-link = (let u = c .before .before .before .before in passes (u .before .link-ok .result) (u .before .link-ok .ensures) (u .if5 .left));
       modules-link = (let u = c .before .before in passes (u .before .link-ok2 .result) (u .before .link-ok2 .ensures) (u .if6 .left));
-      rows = λ l p h. c .before .loop .inv .2 .right l p (omega arith);
     }))

@@ -1,11 +1,13 @@
 -- plan_alias meets its contract.
-use Rattle.names.proofs.Collections.{list-fits, list-light}
-use Rattle.trie.proofs.Links.{trie-fits, any-namespaces, bindings-at}
+use Rattle.names.proofs.Collections.{list-light}
+use Rattle.memory.proofs.Tries.{bindings-at}
+use Rattle.trie.proofs.Links.{any-namespaces}
 use Rattle.trie.proofs.Plans.{placed-small, alias-planned}
 use native.Mathlib.Omega.{arith}
 use borrow.Author.Needs.{needs}
 use Rattle.trie.proofs.plan_alias.Statement.{statement}
 use Rattle.trie.proofs.plan_alias.Tie as tie
+use Rattle.memory.proofs.At.{at-fits}
 
 pub plan-alias-spec : {M : Type 1} → statement M
 plan-alias-spec =
@@ -14,13 +16,13 @@ plan-alias-spec =
     {- plan-path-requires -}
     (λ c κs. search needs)
     {- trie-of-requires -}
-    (λ c κs. trie-fits (c .plan-path .ensures .here))
+    (λ c κs. at-fits (c .plan-path .ensures .here))
     {- trie-of-requires-2 -}
-    (λ c κs. trie-fits (c .before .before .before .before .before .before .pre .0 .1))
+    (λ c κs. at-fits (c .before .before .before .before .before .before .pre .0 .1))
     {- names-place-requires -}
     (λ c κs. any-namespaces (c .before .before .plan-path .ensures .here) (c .before .trie-of .ensures))
     {- stored-requires -}
-    (λ c κs. omega (arith, list-fits (bindings-at (c .before .before .before .before .before .before .before .before .pre .0 .1) (c .before .trie-of2 .ensures))))
+    (λ c κs. omega (arith, at-fits (bindings-at (c .before .before .before .before .before .before .before .before .pre .0 .1) (c .before .trie-of2 .ensures))))
     {- add-weight -}
     (λ c. omega (arith, list-light (bindings-at (c .before .before .before .before .before .before .before .before .before .pre .0 .1) (c .before .before .trie-of2 .ensures)), c .stored .ensures))
     {- add-t12 -}

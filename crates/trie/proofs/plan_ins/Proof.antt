@@ -1,16 +1,17 @@
 -- plan_ins meets its contract.
-use Rattle.trie.proofs.Links.{trie-fits, any-bindings, holder-fits}
+use Rattle.trie.proofs.Links.{any-bindings, holder-fits}
 use Rattle.trie.proofs.Plans.{placed-small, inserted, not-inserted}
 use native.Mathlib.Omega.{arith}
 use Rattle.trie.proofs.plan_ins.Statement.{statement}
 use Rattle.trie.proofs.plan_ins.Tie as tie
+use Rattle.memory.proofs.At.{at-fits}
 
 pub plan-ins-spec : {M : Type 1} → statement M
 plan-ins-spec =
     tie.close
     (tie.spec
     {- trie-of-requires -}
-    (λ c κs. trie-fits (c .before .before .before .pre))
+    (λ c κs. at-fits (c .before .before .before .pre))
     {- names-place-requires -}
     (λ c κs. any-bindings (c .before .before .before .before .pre) (c .trie-of .ensures))
     {- ns-inserts-requires -}

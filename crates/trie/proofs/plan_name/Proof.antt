@@ -1,10 +1,11 @@
 -- plan_name meets its contract.
-use Rattle.trie.proofs.Links.{trie-fits, any-bindings}
+use Rattle.trie.proofs.Links.{any-bindings}
 use Rattle.trie.proofs.Plans.{placed-small, name-planned}
 use native.Mathlib.Omega.{arith}
 use borrow.Author.Needs.{needs}
 use Rattle.trie.proofs.plan_name.Statement.{statement}
 use Rattle.trie.proofs.plan_name.Tie as tie
+use Rattle.memory.proofs.At.{at-fits}
 
 pub plan-name-spec : {M : Type 1} → statement M
 plan-name-spec =
@@ -13,7 +14,7 @@ plan-name-spec =
     {- plan-path-requires -}
     (λ c κs. search needs)
     {- trie-of-requires -}
-    (λ c κs. trie-fits (c .plan-path .ensures .here))
+    (λ c κs. at-fits (c .plan-path .ensures .here))
     {- names-place-requires -}
     (λ c κs. any-bindings (c .before .plan-path .ensures .here) (c .trie-of .ensures))
     {- add-t9 -}

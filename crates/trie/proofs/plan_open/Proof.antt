@@ -1,11 +1,12 @@
 -- plan_open meets its contract.
-use Rattle.names.proofs.Collections.{list-fits, list-light}
-use Rattle.trie.proofs.Links.{trie-fits, namespaces-at, lists-seen, trie-shallow}
+use Rattle.names.proofs.Collections.{list-light}
+use Rattle.memory.proofs.Tries.{namespaces-at, lists-seen, trie-shallow}
 use Rattle.trie.proofs.Plans.{open-planned}
 use native.Mathlib.Omega.{arith}
 use borrow.Author.Needs.{needs}
 use Rattle.trie.proofs.plan_open.Statement.{statement}
 use Rattle.trie.proofs.plan_open.Tie as tie
+use Rattle.memory.proofs.At.{at-fits}
 
 pub plan-open-spec : {M : Type 1} → statement M
 plan-open-spec =
@@ -14,13 +15,13 @@ plan-open-spec =
     {- plan-path-requires -}
     (λ c κs. search needs)
     {- trie-of-requires -}
-    (λ c κs. trie-fits (c .plan-path .ensures .here))
+    (λ c κs. at-fits (c .plan-path .ensures .here))
     {- trie-of-requires-2 -}
-    (λ c κs. trie-fits (c .before .before .before .before .before .pre .0 .1))
+    (λ c κs. at-fits (c .before .before .before .before .before .pre .0 .1))
     {- stored-requires -}
-    (λ c κs. omega (arith, list-fits (namespaces-at (c .before .before .before .before .before .before .pre .0 .1) (c .trie-of2 .ensures))))
+    (λ c κs. omega (arith, at-fits (namespaces-at (c .before .before .before .before .before .before .pre .0 .1) (c .trie-of2 .ensures))))
     {- stored-requires-2 -}
-    (λ c κs. omega (arith, list-fits (namespaces-at (c .before .before .before .plan-path .ensures .here) (c .before .before .trie-of .ensures))))
+    (λ c κs. omega (arith, at-fits (namespaces-at (c .before .before .before .plan-path .ensures .here) (c .before .before .trie-of .ensures))))
     {- add-weight -}
     (λ c. omega (arith, list-light (namespaces-at (c .before .before .before .before .plan-path .ensures .here) (c .before .before .before .trie-of .ensures)), list-light (namespaces-at (c .before .before .before .before .before .before .before .before .pre .0 .1) (c .before .before .trie-of2 .ensures)), c .before .stored .ensures, c .stored2 .ensures))
     {- add-weight-2 -}

@@ -1,16 +1,17 @@
 -- plan_step meets its contract.
-use Rattle.trie.proofs.Links.{trie-fits, any-namespaces, holder-fits}
+use Rattle.trie.proofs.Links.{any-namespaces, holder-fits}
 use Rattle.trie.proofs.Plans.{placed-small, stepped}
 use native.Mathlib.Omega.{arith}
 use Rattle.trie.proofs.plan_step.Statement.{statement}
 use Rattle.trie.proofs.plan_step.Tie as tie
+use Rattle.memory.proofs.At.{at-fits}
 
 pub plan-step-spec : {M : Type 1} → statement M
 plan-step-spec =
     tie.close
     (tie.spec
     {- trie-of-requires -}
-    (λ c κs. trie-fits (c .before .before .before .pre .trie))
+    (λ c κs. at-fits (c .before .before .before .pre .trie))
     {- names-place-requires -}
     (λ c κs. any-namespaces (c .before .before .before .before .pre .trie) (c .trie-of .ensures))
     {- stored-requires -}
