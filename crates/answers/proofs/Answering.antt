@@ -55,7 +55,7 @@ module _ {ws txt ws′ txt′ reply reply′ : List ℕ} {t : Table} {line : Str
 -- Nothing has changed but the reply.
 leaves-same : {ws txt reply reply′ : List ℕ} {t : Table} {at e : ℕ} (s : Str) → IsSound ws txt t → Laid reply reply′ at e s
     → Leaves ws txt ws txt t reply reply′ at (record { text = s; after = state ws txt t }) (record { table = t; end = e })
-leaves-same {ws} {txt} {t = t} s sound l = record { sound = sound; reads = refl; words = outside-none (t .records * 12) ws; texts = outside-none (t .text) txt; laid = l }
+leaves-same {ws} {txt} {t = t} s sound l = record { sound = sound; reads = refl; words = outside-none (t .header .records * 12) ws; texts = outside-none (t .header .text) txt; laid = l }
 
 module _ {ws txt reply reply′ : List ℕ} {t : Table} {line : Str} {at e : ℕ} (out : Output) (sound : IsSound ws txt t) where
   pub answered-ask : {what : Ask} {q : Str} → Reads line (ask what q) → Laid reply reply′ at e (asked-text out (table-in ws txt t) what q)
@@ -68,6 +68,6 @@ module _ {ws txt reply reply′ : List ℕ} {t : Table} {line : Str} {at e : ℕ
     replied = record { says = λ c h. absurd (n c h); bad = λ _. refl };
     laid = l;
     sound = sound;
-    words = outside-none (t .records * 12) ws;
-    texts = outside-none (t .text) txt;
+    words = outside-none (t .header .records * 12) ws;
+    texts = outside-none (t .header .text) txt;
   }

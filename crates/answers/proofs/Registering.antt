@@ -39,15 +39,15 @@ module _ {ws txt ws′ txt′ reply reply′ : List ℕ} {t : Table} {at : ℕ} 
         reads = x .reads;
         words = x .words;
         texts = x .text;
-        laid = subst (Laid reply reply′ at (a .end)) (text-accepted (r .table .records) (r .answer) e ∙ ap (λ (s : State). ok-reply (s .records-used)) (x .reads)) (f .laid);
+        laid = subst (Laid reply reply′ at (a .end)) (text-accepted (r .table .header .records) (r .answer) e ∙ ap (λ (s : State). ok-reply (s .records-used)) (x .reads)) (f .laid);
       })
   leaves sound (C.refused n) (e, x) =
       rw (f .table-is, x .table, x .words, x .text) (record {
         sound = sound;
         reads = refl;
-        words = outside-none (t .records * 12) ws;
-        texts = outside-none (t .text) txt;
-        laid = subst (Laid reply reply′ at (a .end)) (text-refused (r .table .records) n (r .answer) e) (f .laid);
+        words = outside-none (t .header .records * 12) ws;
+        texts = outside-none (t .header .text) txt;
+        laid = subst (Laid reply reply′ at (a .end)) (text-refused (r .table .header .records) n (r .answer) e) (f .laid);
       })
 
   pub registers : {c : Call} → IsSound ws txt t → Answers true ws txt ws′ txt′ t c r → Registers ws txt ws′ txt′ t c reply reply′ at a

@@ -34,8 +34,8 @@ room flat pane = length flat / 12 * reply-room + length pane + reply-room
 pub record Leaves (ws txt ws′ txt′ : List ℕ) (t : Table) (reply reply′ : List ℕ) (at : ℕ) (o : Outcome) (r : Done) : Type 0 where
   pub sound : IsSound ws′ txt′ (r .table)
   pub reads : state ws′ txt′ (r .table) ≡ o .after
-  pub words : Outside (t .records * 12) (r .table .records * 12) ws ws′
-  pub texts : Outside (t .text) (r .table .text) txt txt′
+  pub words : Outside (t .header .records * 12) (r .table .header .records * 12) ws ws′
+  pub texts : Outside (t .header .text) (r .table .header .text) txt txt′
   pub laid : Laid reply reply′ at (r .end) (o .text)
 
 -- A registration.
@@ -50,8 +50,8 @@ pub record Answered (ws txt ws′ txt′ : List ℕ) (t : Table) (line : Str) (o
   pub replied : Replied (lent ws txt) out (state ws txt t) line (record { text = text; after = state ws′ txt′ (r .table) })
   pub laid : Laid reply reply′ at (r .end) text
   pub sound : IsSound ws′ txt′ (r .table)
-  pub words : Outside (t .records * 12) (r .table .records * 12) ws ws′
-  pub texts : Outside (t .text) (r .table .text) txt txt′
+  pub words : Outside (t .header .records * 12) (r .table .header .records * 12) ws ws′
+  pub texts : Outside (t .header .text) (r .table .header .text) txt txt′
 
 -- The answer r to the lines of an input from a place on, up to another: their session, its replies at the start of the reply text.
 -- It stops where no line feed is left, or where the reply text is too full for one more.
@@ -73,7 +73,7 @@ registered-text records (Refused x) = refused-reply (number x)
 
 -- The reply to a registration has been written.
 pub record Finished (reply reply′ : List ℕ) (at : ℕ) (r : Registration) (a : Done) : Type 0 where
-  pub laid : Laid reply reply′ at (a .end) (registered-text (r .table .records) (r .answer))
+  pub laid : Laid reply reply′ at (a .end) (registered-text (r .table .header .records) (r .answer))
   pub table-is : a .table ≡ r .table
 
 -- The lines of a completion stand in flat and pane.

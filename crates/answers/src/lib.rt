@@ -73,7 +73,7 @@ fn finish(reply: &mut [u8], at: usize, r: Registration) -> Done
 {
     let t = r.table;
     let a = r.answer;
-    let e = put_registered(reply, at, t.records, a);
+    let e = put_registered(reply, at, t.header.records, a);
     Done { table: t, end: e }
 }
 

@@ -156,8 +156,8 @@ fn used() {
     let mut text = [0u8; 64];
     let t = build(&mut words, &mut text);
     say(b"case 2\n");
-    say_number(t.records);
-    say_number(t.text);
+    say_number(t.header.records);
+    say_number(t.header.text);
 }
 
 fn limits() {

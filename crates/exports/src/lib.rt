@@ -2,6 +2,7 @@
 // They hand on what crate table answers; its contracts are the promises.
 use lines::Ask;
 use lines::Filter;
+use memory::Header;
 use table::Completed;
 use table::Found;
 use table::Registered;
@@ -78,10 +79,10 @@ fn reply_of(r: Registration) -> Reply {
     let a = r.answer;
     Reply {
         refusal: refusal_of(a),
-        names: t.names,
-        modules: t.modules,
-        records: t.records,
-        text: t.text,
+        names: t.header.names,
+        modules: t.header.modules,
+        records: t.header.records,
+        text: t.header.text,
     }
 }
 
@@ -101,10 +102,12 @@ fn looked_up(f: Found) -> Looked {
 
 fn table_of(names: u32, modules: u32, records: u32, used: u32) -> Table {
     Table {
-        names: names,
-        modules: modules,
-        records: records,
-        text: used,
+        header: Header {
+            names: names,
+            modules: modules,
+            records: records,
+            text: used,
+        },
     }
 }
 
@@ -118,9 +121,15 @@ pub extern "C" fn name_table_sound(
     records: u32,
     used: u32,
 ) -> bool
-    ensures { λ r. ⌜ Says r (Sound (now (words .entry)) (now (text .entry)) names modules records used) ⌝ }
+    ensures { λ r. ⌜ Says r (Sound (now (words .entry)) (now (text .entry)) (record { names = names; modules = modules; records = records; text = used })) ⌝ }
 {
-    sound::sound(words, text, names, modules, records, used)
+    let header = Header {
+        names: names,
+        modules: modules,
+        records: records,
+        text: used,
+    };
+    sound::sound(words, text, header)
 }
 
 #[no_mangle]
@@ -229,13 +238,15 @@ pub extern "C" fn name_table_insert_sound(
     id: &[u8],
     item: u32,
 ) -> Reply
-    requires { ⌜ Sound (now words) (now text) names modules records used ⌝ }
+    requires { ⌜ Sound (now words) (now text) (record { names = names; modules = modules; records = records; text = used }) ⌝ }
 {
     let t = Table {
-        names: names,
-        modules: modules,
-        records: records,
-        text: used,
+        header: Header {
+            names: names,
+            modules: modules,
+            records: records,
+            text: used,
+        },
     };
     reply_of(t.insert_sound(words, text, host, id, item))
 }
@@ -250,13 +261,15 @@ pub extern "C" fn name_table_find_sound(
     used: u32,
     query: &[u8],
 ) -> Looked
-    requires { ⌜ Sound (now words) (now text) names modules records used ⌝ }
+    requires { ⌜ Sound (now words) (now text) (record { names = names; modules = modules; records = records; text = used }) ⌝ }
 {
     let t = Table {
-        names: names,
-        modules: modules,
-        records: records,
-        text: used,
+        header: Header {
+            names: names,
+            modules: modules,
+            records: records,
+            text: used,
+        },
     };
     looked_up(t.find_sound(words, text, query))
 }
@@ -293,13 +306,15 @@ pub extern "C" fn name_table_complete_sound(
     flat: &mut [u32],
     out: &mut [u8],
 ) -> Listing
-    requires { ⌜ Sound (now words) (now text) names modules records used ⌝ }
+    requires { ⌜ Sound (now words) (now text) (record { names = names; modules = modules; records = records; text = used }) ⌝ }
 {
     let t = Table {
-        names: names,
-        modules: modules,
-        records: records,
-        text: used,
+        header: Header {
+            names: names,
+            modules: modules,
+            records: records,
+            text: used,
+        },
     };
     listing_of(t.complete_sound(words, text, ask_of(ask), query, budget, flat, out))
 }

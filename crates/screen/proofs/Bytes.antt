@@ -175,14 +175,16 @@ module _ {bs bs′ ws new : List ℕ} (n : ℕ) {from to : ℕ} (changed : Outsi
 
 -- A header put word by word.
 pub header-put : {s s₁ s₂ s₃ s₄ : List ℕ} {a b c d : ℕ} → length s ≡ 16 → Put 0 a s s₁ → Put 1 b s₁ s₂ → Put 2 c s₂ s₃ → Put 3 d s₃ s₄
-    → Spells s₄ (record { names = a; modules = b; records = c; text = d })
+    → Spells s₄ (record { header = record { names = a; modules = b; records = c; text = d } })
 unfolding header-in
 header-put h p q r t = record {
   size = t .rest .size ∙ r .rest .size ∙ q .rest .size ∙ p .rest .size ∙ h;
   header = λ i. record {
-    names = (word-before (t .rest) 0 (omega arith) ∙ word-before (r .rest) 0 (omega arith) ∙ word-before (q .rest) 0 (omega arith) ∙ p .word) i;
-    modules = (word-before (t .rest) 1 (omega arith) ∙ word-before (r .rest) 1 (omega arith) ∙ q .word) i;
-    records = (word-before (t .rest) 2 (omega arith) ∙ r .word) i;
-    text = t .word i;
+    header = record {
+      names = (word-before (t .rest) 0 (omega arith) ∙ word-before (r .rest) 0 (omega arith) ∙ word-before (q .rest) 0 (omega arith) ∙ p .word) i;
+      modules = (word-before (t .rest) 1 (omega arith) ∙ word-before (r .rest) 1 (omega arith) ∙ q .word) i;
+      records = (word-before (t .rest) 2 (omega arith) ∙ r .word) i;
+      text = t .word i;
+    };
   };
 }

@@ -64,24 +64,24 @@ module _ {st bs txt st′ bs′ txt′ : List ℕ} {r : ℕ} (f : Bool → Call)
 
 -- The records of an accepted call fit the words lent.
 module _ (ws txt ws′ txt′ : List ℕ) (t : Table) (r : Registration) (taken : refusal-of (r .answer) ≡ none) where
-  fit-as : (x : C.Registered) → AnswersAs x ws txt ws′ txt′ t r → r .table .records * 12 ≤ length ws
-  fit-as (C.accepted s) a = omega (arith, a .1 .sound .records-fit, a .1 .words .size)
+  fit-as : (x : C.Registered) → AnswersAs x ws txt ws′ txt′ t r → r .table .header .records * 12 ≤ length ws
+  fit-as (C.accepted s) a = omega (arith, a .1 .sound .right .records-fit, a .1 .words .size)
   fit-as (C.refused n) a = absurd (Option·none-ne-some n (sym taken ∙ a .0))
 
-  fit-or : (c : Call) → Total ws txt ws′ txt′ t c r → (b : Bool) → leb (r .table .records * 12) (length ws) ≡ b → r .table .records * 12 ≤ length ws
+  fit-or : (c : Call) → Total ws txt ws′ txt′ t c r → (b : Bool) → leb (r .table .header .records * 12) (length ws) ≡ b → r .table .header .records * 12 ≤ length ws
   fit-or c total true e = leb-true _ _ e
   fit-or c total false e =
       fit-as (C.refused 1)
-      (rw register-unsound at (total false (λ s. let h = fit-as (register true (lent ws txt) (state ws txt t) c) (total true s .says) in omega (arith, leb-false (r .table .records * 12) (length ws) e)) .says))
+      (rw register-unsound at (total false (λ s. let h = fit-as (register true (lent ws txt) (state ws txt t) c) (total true s .says) in omega (arith, leb-false (r .table .header .records * 12) (length ws) e)) .says))
 
 by-bytes : (n : ℕ) → n * 12 * 4 ≡ n * 48
 by-bytes n = omega arith
 
 module _ {st bs txt m ws txt′ : List ℕ} {t : Table} {c : Call} {r : Registration} (h : Held st bs m t) (total : Total m txt ws txt′ t c r) where
-  accepted-fits : refusal-of (r .answer) ≡ none → r .table .records * 12 ≤ length (words-in bs)
+  accepted-fits : refusal-of (r .answer) ≡ none → r .table .header .records * 12 ≤ length (words-in bs)
   accepted-fits taken = rw (h .lent) at (fit-or m txt ws txt′ t r taken c total _ refl)
 
-  pub store-fits : refusal-of (r .answer) ≡ none → length ws ≡ length m → (r .table .records * 12 * 4 ≤ length bs) × (r .table .records * 12 ≤ length ws)
+  pub store-fits : refusal-of (r .answer) ≡ none → length ws ≡ length m → (r .table .header .records * 12 * 4 ≤ length bs) × (r .table .header .records * 12 ≤ length ws)
   store-fits taken e = let f = accepted-fits taken in (omega (arith, words-in-fit bs), omega (arith, ap length (h .lent)))
 
   answers : (b : Bool) → Says b (SoundBytes st bs txt)
@@ -89,12 +89,12 @@ module _ {st bs txt m ws txt′ : List ℕ} {t : Table} {c : Call} {r : Registra
   answers b i = rw (← h .lent, h .spelt .header) (total b (says-memory txt h b i) .says)
 
   -- It is accepted, and the new words and the new header are stored.
-  module _ {st′ bs′ : List ℕ} (taken : refusal-of (r .answer) ≡ none) (stored : Stored ws (t .records * 12) (r .table .records * 12) bs bs′)
+  module _ {st′ bs′ : List ℕ} (taken : refusal-of (r .answer) ≡ none) (stored : Stored ws (t .header .records * 12) (r .table .header .records * 12) bs bs′)
       (new : Spells st′ (r .table)) where
-    kept : Stored ws (header-in st .records * 12) (r .table .records * 12) bs bs′
+    kept : Stored ws (header-in st .header .records * 12) (r .table .header .records * 12) bs bs′
     kept = rw (h .spelt .header) stored
 
-    words-back : Outside (header-in st .records * 12) (r .table .records * 12) (words-in bs) ws → words-in bs′ ≡ ws
+    words-back : Outside (header-in st .header .records * 12) (r .table .header .records * 12) (words-in bs) ws → words-in bs′ ≡ ws
     unfolding words-in
     words-back o =
         rw (kept .rest .size)
@@ -106,7 +106,7 @@ module _ {st bs txt m ws txt′ : List ℕ} {t : Table} {c : Call} {r : Registra
       record {
         size = new .size;
         table = rw (new .header, words-back (a .1 .words)) (a .1);
-        bytes = rw (new .header) (rw (by-bytes (header-in st .records), by-bytes (r .table .records)) at (kept .rest));
+        bytes = rw (new .header) (rw (by-bytes (header-in st .header .records), by-bytes (r .table .header .records)) at (kept .rest));
       },
     )
     accepted-as (C.refused n) a = absurd (Option·none-ne-some n (sym taken ∙ a .0))

@@ -9,7 +9,7 @@ use Rattle.screen.specs.Bytes.{word-at, words-at}
 
 -- The state: names root, modules root, records used, text used.
 unfoldable pub header-in : List ℕ → Table
-header-in st = record { names = word-at st 0; modules = word-at st 1; records = word-at st 2; text = word-at st 3 }
+header-in st = record { header = record { names = word-at st 0; modules = word-at st 1; records = word-at st 2; text = word-at st 3 } }
 
 -- A state of sixteen bytes that spells t.
 pub record Spells (st : List ℕ) (t : Table) : Type 0 where

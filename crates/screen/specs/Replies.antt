@@ -43,7 +43,7 @@ answer-to sound l s none = unchosen sound
 pub record AcceptsBytes (st bs txt st′ bs′ txt′ : List ℕ) (s : State) : Type 0 where
   pub size : length st′ ≡ 16
   pub table : Accepts (words-in bs) txt (words-in bs′) txt′ (header-in st) (header-in st′) s
-  pub bytes : Outside (header-in st .records * 48) (header-in st′ .records * 48) bs bs′
+  pub bytes : Outside (header-in st .header .records * 48) (header-in st′ .header .records * 48) bs bs′
 
 -- No byte has changed.
 pub record SameBytes (st bs txt st′ bs′ txt′ : List ℕ) : Type 0 where

@@ -4,6 +4,7 @@
 // Every exported call answers for whatever bytes are lent.
 use lines::Ask;
 use lines::Filter;
+use memory::Header;
 use memory::ModSymbol;
 use table::Completed;
 use table::Form;
@@ -137,10 +138,12 @@ fn header_of(state: &[u8]) -> Table
     ensures { λ r. ⌜ r ≡ header-in (now (state .entry)) ⌝ }
 {
     Table {
-        names: word_at(state, 0),
-        modules: word_at(state, 1),
-        records: word_at(state, 2),
-        text: word_at(state, 3),
+        header: Header {
+            names: word_at(state, 0),
+            modules: word_at(state, 1),
+            records: word_at(state, 2),
+            text: word_at(state, 3),
+        },
     }
 }
 
@@ -149,10 +152,10 @@ fn put_header(state: &mut [u8], t: Table)
     requires { ⌜ length (now state) ≡ 16 ⌝ }
     ensures { λ _. ⌜ Spells (now (state .exit)) t ⌝ }
 {
-    put_word(state, 0, t.names);
-    put_word(state, 1, t.modules);
-    put_word(state, 2, t.records);
-    put_word(state, 3, t.text);
+    put_word(state, 0, t.header.names);
+    put_word(state, 1, t.header.modules);
+    put_word(state, 2, t.header.records);
+    put_word(state, 3, t.header.text);
 }
 
 // ---- Replies
@@ -181,8 +184,8 @@ fn enter(
     let a = r.answer;
     match a {
         Registered::Accepted => {
-            let from = t.records as usize * 12;
-            let to = h.records as usize * 12;
+            let from = t.header.records as usize * 12;
+            let to = h.header.records as usize * 12;
             store(words, memory, from, to);
             put_header(state, h);
             0

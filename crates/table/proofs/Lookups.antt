@@ -60,4 +60,4 @@ pub symbol-inside : {ws txt : List ℕ} {t : Table} {l : ℕ} → IsSound ws txt
 symbol-inside o i p =
     symbol-in-inside
     (record-as (link-ok (o .right) (link-later (omega (arith, o .modules-link .earlier)) i) p) modules (tree bind) (i .of-kind (λ e. omega arith)) .2)
-    (o .text-fits)
+    (o .right .text-fits)

@@ -123,13 +123,13 @@ module _ {ws txt : List ℕ} {t : Table} {form : Form} {host other key : Str} {i
   unfolding free
   text-room =
       let h = ltb-false (free (length txt) (t .header .text)) (text-taken (arguments (call-of form host other key))) (passed .text-fits) in
-      omega (arith, p .sound .short, p .sound .text-fits, taken-is form host other key (p .no-key))
+      omega (arith, p .sound .right .short, p .sound .right .text-fits, taken-is form host other key (p .no-key))
 
   records-room : Room ws (t .header .records) (records (table-in ws txt t) (call-of form host other key))
   unfolding free whole-records
   records-room =
       let h = ltb-false (free (whole-records (length ws)) (t .header .records)) (records (table-in ws txt t) (call-of form host other key)) (passed .records-fit) in
-      record { few = omega (arith, p .sound .few, p .sound .right .records-fit); fits = omega (arith, p .sound .few, p .sound .right .records-fit) }
+      record { few = omega (arith, p .sound .right .few, p .sound .right .records-fit); fits = omega (arith, p .sound .right .few, p .sound .right .records-fit) }
 
   -- The link of the included trie is that of a record, or none.
   pub inc-fits : inc * 12 ≤ length ws
