@@ -80,13 +80,18 @@ fn half(words: &mut [u32], text: &mut [u8]) -> Table {
     b.table
 }
 
-// Table T.
-fn build(words: &mut [u32], text: &mut [u8]) -> Table {
-    let t = half(words, text);
+// The other two calls of T.
+fn rest(t: Table, words: &mut [u32], text: &mut [u8]) -> Table {
     let a = t.insert(words, text, b"Saved.", b"late", 2);
     let u = a.table;
     let b = u.insert(words, text, b"Live.", b"offset", 3);
     b.table
+}
+
+// Table T.
+fn build(words: &mut [u32], text: &mut [u8]) -> Table {
+    let t = half(words, text);
+    rest(t, words, text)
 }
 
 // 0 for a listing, else its refusal's number.
