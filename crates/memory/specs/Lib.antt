@@ -3,3 +3,4 @@ pub mod Sound
 pub mod Stored
 pub mod Grown
 pub mod Read
+pub mod Made

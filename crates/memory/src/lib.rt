@@ -1,9 +1,11 @@
 // Reading and writing of records in the lent words. specs/Layout.antt has the layout, specs/Sound.antt what a sound table is.
 ghost use mathlib.Core.Path.{_≡_};
+ghost use mathlib.Core.Bool.{cond};
 ghost use Prim.Native.Nat.{_+_, _*_, _≤_, _<_};
 ghost use lib.ListN.{length};
 ghost use Rattle.memory.specs.Layout.{record-at, word, text-len, left-link, right-link, trie-link, number-word, own-link, rest-link, sort-word, key-at};
 ghost use Rattle.memory.specs.Stored.{stored, weight-in, depth-in, trie-in, left-in, right-in};
+ghost use Rattle.memory.specs.Made.{binding-row, symbol-row, namespace-row, sided-row, collection-row, trie-row};
 ghost use Rattle.memory.specs.Grown.{put, put-text};
 ghost use Rattle.memory.specs.Read.{TextIn, symbol-in, ReadBranch, ReadCollection, ReadTrie};
 
@@ -47,6 +49,29 @@ pub const BINDINGS: usize = 3;
 pub const NAMESPACES: usize = 4;
 
 pub const DEPTH: usize = 11;
+
+// Words to a record; records, and bytes of text, that a table uses at most.
+pub const ROW: usize = 12;
+
+pub const CAPACITY: u32 = 65536;
+
+// What a list weighs, and how deep a trie is, at most.
+pub const HEAVIEST: u32 = 96;
+
+pub const DEEPEST: u32 = 16;
+
+// The kinds of records of the names table. Those of the module table are OF_MODULES more.
+pub const BINDING_KIND: u32 = 1;
+
+pub const NAMESPACE_KIND: u32 = 2;
+
+pub const BINDINGS_KIND: u32 = 3;
+
+pub const NAMESPACES_KIND: u32 = 4;
+
+pub const TRIE_KIND: u32 = 5;
+
+pub const OF_MODULES: u32 = 5;
 
 // The sort of a collection.
 pub const OF_TREE: u32 = 0;
@@ -103,7 +128,7 @@ pub fn word_of(words: &[u32], link: u32, k: usize) -> u32
     requires { ⌜ (0 < link) × (k < 12) × (link * 12 ≤ length (now words)) ⌝ }
     ensures { λ r. ⌜ r ≡ word (record-at (now (words .entry)) link) k ⌝ }
 {
-    let at = (link as usize - 1) * 12 + k;
+    let at = (link as usize - 1) * ROW + k;
     words[at]
 }
 
@@ -239,13 +264,13 @@ pub fn key_of<'a>(words: &[u32], text: &'a [u8], link: u32) -> &'a [u8]
 // ---- Whole records
 
 // The twelve words of the record that `link` names.
-pub fn row_of(words: &[u32], link: u32) -> [u32; 12]
+pub fn row_of(words: &[u32], link: u32) -> [u32; ROW]
     requires { ⌜ (0 < link) × (link * 12 ≤ length (now words)) ⌝ }
     ensures { λ r. ⌜ r ≡ record-at (now (words .entry)) link ⌝ }
 {
-    let mut row = [0; 12];
+    let mut row = [0; ROW];
     let mut i = 0;
-    while i < 12 {
+    while i < ROW {
         row[i] = word_of(words, link, i);
         i += 1;
     }
@@ -320,14 +345,157 @@ pub fn trie_of(words: &[u32], link: u32) -> Trie
     }
 }
 
+// ---- The words of new records
+
+// A branch of names: its key and its number. Its sides are none.
+pub fn binding_row(key: Span, number: u32) -> [u32; ROW]
+    ensures { λ r. ⌜ r ≡ binding-row key number ⌝ }
+{
+    [
+        BINDING_KIND,
+        key.start,
+        key.len,
+        0,
+        0,
+        number,
+        0,
+        0,
+        0,
+        0,
+        0,
+        0,
+    ]
+}
+
+// 1 for true.
+fn flag_of(b: bool) -> u32
+    ensures { λ r. ⌜ r ≡ cond b 1 0 ⌝ }
+{
+    if b {
+        return 1;
+    }
+    0
+}
+
+// A branch of modules: its key and its mod symbol.
+pub fn symbol_row(key: Span, symbol: ModSymbol) -> [u32; ROW]
+    ensures { λ r. ⌜ r ≡ symbol-row key symbol ⌝ }
+{
+    match symbol {
+        ModSymbol::Module(name, path, loaded) => [
+            BINDING_KIND + OF_MODULES,
+            key.start,
+            key.len,
+            0,
+            0,
+            0,
+            name.start,
+            name.len,
+            path.start,
+            path.len,
+            flag_of(loaded),
+            0,
+        ],
+        ModSymbol::Namespace(name, loaded) => [
+            BINDING_KIND + OF_MODULES,
+            key.start,
+            key.len,
+            0,
+            0,
+            1,
+            name.start,
+            name.len,
+            0,
+            0,
+            flag_of(loaded),
+            0,
+        ],
+    }
+}
+
+// A branch of namespaces: its key and its trie. `of` is 0, or OF_MODULES.
+pub fn namespace_row(of: u32, key: Span, trie: u32) -> [u32; ROW]
+    requires { ⌜ of ≤ 5 ⌝ }
+    ensures { λ r. ⌜ r ≡ namespace-row of key trie ⌝ }
+{
+    [
+        NAMESPACE_KIND + of,
+        key.start,
+        key.len,
+        0,
+        0,
+        trie,
+        0,
+        0,
+        0,
+        0,
+        0,
+        0,
+    ]
+}
+
+// A branch with other sides and another depth.
+pub fn with_sides(row: [u32; ROW], left: u32, right: u32, depth: u32) -> [u32; ROW]
+    requires { ⌜ length row ≡ 12 ⌝ }
+    ensures { λ r. ⌜ r ≡ sided-row row left right depth ⌝ }
+{
+    let mut new = row;
+    new[LEFT] = left;
+    new[RIGHT] = right;
+    new[DEPTH] = depth;
+    new
+}
+
+// A collection.
+pub fn collection_row(kind: u32, c: Collection, depth: u32) -> [u32; ROW]
+    ensures { λ r. ⌜ r ≡ collection-row kind c depth ⌝ }
+{
+    [
+        kind,
+        c.label.start,
+        c.label.len,
+        c.own,
+        c.rest,
+        flag_of(c.imported),
+        0,
+        0,
+        0,
+        0,
+        c.weight,
+        depth,
+    ]
+}
+
+// A trie.
+pub fn trie_row(kind: u32, t: Trie) -> [u32; ROW]
+    ensures { λ r. ⌜ r ≡ trie-row kind t ⌝ }
+{
+    [
+        kind,
+        0,
+        0,
+        t.bindings,
+        t.namespaces,
+        0,
+        0,
+        0,
+        0,
+        0,
+        0,
+        t.depth,
+    ]
+}
+
+// ---- Writing
+
 // Writes the twelve words of `row` as record number `used`.
-pub fn put_row(words: &mut [u32], used: u32, row: &[u32; 12])
+pub fn put_row(words: &mut [u32], used: u32, row: &[u32; ROW])
     requires { ⌜ (used * 12 + 12 ≤ length (now words)) × (length (now row) ≡ 12) ⌝ }
     ensures { λ _. ⌜ now (words .exit) ≡ put (now (words .entry)) used (now (row .entry)) ⌝ }
 {
-    let base = used as usize * 12;
+    let base = used as usize * ROW;
     let mut i = 0;
-    while i < 12 {
+    while i < ROW {
         words[base + i] = row[i];
         i += 1;
     }
