@@ -1,7 +1,7 @@
--- `memory::symbol_row` meets its contract.
+-- `memory::make::symbol_row` meets its contract.
 use borrow.Author.Needs.{needs}
-use Rattle.memory.proofs.symbol_row.Statement.{statement}
-use Rattle.memory.proofs.symbol_row.Tie as tie
+use Rattle.memory.proofs.make.symbol_row.Statement.{statement}
+use Rattle.memory.proofs.make.symbol_row.Tie as tie
 
 pub symbol-row-spec : {M : Type 1} → statement M
 symbol-row-spec =

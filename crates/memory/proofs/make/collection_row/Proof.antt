@@ -1,7 +1,7 @@
--- `memory::collection_row` meets its contract.
+-- `memory::make::collection_row` meets its contract.
 use borrow.Author.Needs.{needs}
-use Rattle.memory.proofs.collection_row.Statement.{statement}
-use Rattle.memory.proofs.collection_row.Tie as tie
+use Rattle.memory.proofs.make.collection_row.Statement.{statement}
+use Rattle.memory.proofs.make.collection_row.Tie as tie
 
 pub collection-row-spec : {M : Type 1} → statement M
 collection-row-spec =
