@@ -97,6 +97,13 @@ namespaces-link r = word r 4
 abbrev pub depth-word : List ℕ → ℕ
 depth-word r = word r 11
 
+-- Of a free record as a note: a link, and a side.
+abbrev pub note-link : List ℕ → ℕ
+note-link r = word r 0
+
+abbrev pub note-side : List ℕ → ℕ
+note-side r = word r 1
+
 -- ---- Texts
 
 -- The text of a span.

@@ -2,7 +2,7 @@
 ghost use mathlib.Core.Path.{_≡_};
 ghost use Prim.Native.Nat.{_+_, _*_, _≤_, _<_};
 ghost use lib.ListN.{length};
-ghost use Rattle.memory.specs.Layout.{record-at, word, text-len, left-link, right-link, trie-link, number-word, own-link, rest-link, sort-word, key-at};
+ghost use Rattle.memory.specs.Layout.{record-at, word, text-len, left-link, right-link, trie-link, number-word, own-link, rest-link, sort-word, note-link, note-side, key-at};
 ghost use Rattle.memory.specs.Stored.{stored, weight-in, depth-in, trie-in, left-in, right-in};
 ghost use Rattle.memory.specs.Grown.{put, put-text};
 ghost use Rattle.memory.specs.Read.{TextIn, symbol-in, ReadBranch, ReadCollection, ReadTrie};
@@ -50,6 +50,11 @@ pub const BINDINGS: usize = 3;
 pub const NAMESPACES: usize = 4;
 
 pub const DEPTH: usize = 11;
+
+// A free record as a note: a link and a side.
+pub const NOTE_LINK: usize = 0;
+
+pub const NOTE_SIDE: usize = 1;
 
 // Words to a record; records, and bytes of text, that a table uses at most.
 pub const ROW: usize = 12;
@@ -208,6 +213,22 @@ pub fn sort_of(words: &[u32], link: u32) -> u32
     ensures { λ r. ⌜ r ≡ sort-word (record-at (now (words .entry)) link) ⌝ }
 {
     word_of(words, link, SORT)
+}
+
+// The link that a note has.
+pub fn note_link(words: &[u32], link: u32) -> u32
+    requires { ⌜ (0 < link) × (link * 12 ≤ length (now words)) ⌝ }
+    ensures { λ r. ⌜ r ≡ note-link (record-at (now (words .entry)) link) ⌝ }
+{
+    word_of(words, link, NOTE_LINK)
+}
+
+// The side that a note has.
+pub fn note_side(words: &[u32], link: u32) -> u32
+    requires { ⌜ (0 < link) × (link * 12 ≤ length (now words)) ⌝ }
+    ensures { λ r. ⌜ r ≡ note-side (record-at (now (words .entry)) link) ⌝ }
+{
+    word_of(words, link, NOTE_SIDE)
 }
 
 // ---- The same, 0 of the link 0

@@ -23,15 +23,15 @@ pub fn lead_of(words: &[u32], list: u32) -> Lead
     if list == 0 {
         return Lead { tree: 0, rest: 0 };
     }
-    if memory::word_of(words, list, 5) == 1 {
+    if memory::sort_of(words, list) == memory::IMPORTED {
         return Lead {
             tree: 0,
             rest: list,
         };
     }
     Lead {
-        tree: memory::word_of(words, list, 3),
-        rest: memory::word_of(words, list, 4),
+        tree: memory::own_of(words, list),
+        rest: memory::rest_of(words, list),
     }
 }
 
@@ -42,8 +42,8 @@ pub fn names_find_exact(words: &[u32], text: &[u8], list: u32, key: &[u8]) -> u3
 {
     let mut link = list;
     while 0 < link {
-        let own = memory::word_of(words, link, 3);
-        let found = if memory::word_of(words, link, 5) == 1 {
+        let own = memory::own_of(words, link);
+        let found = if memory::sort_of(words, link) == memory::IMPORTED {
             names_find_exact(words, text, own, key)
         } else {
             tree::btree_find_exact(words, text, own, key)
@@ -51,7 +51,7 @@ pub fn names_find_exact(words: &[u32], text: &[u8], list: u32, key: &[u8]) -> u3
         if 0 < found {
             return found;
         }
-        link = memory::word_of(words, link, 4);
+        link = memory::rest_of(words, link);
     }
     0
 }
@@ -76,7 +76,7 @@ pub fn names_place(words: &[u32], text: &[u8], list: u32, key: &[u8]) -> NamesPl
     NamesPlace {
         holder: holder,
         count: place.count,
-        weight: memory::stored(words, lead.rest, 10) + 1,
+        weight: memory::weight_of(words, lead.rest) + 1,
     }
 }
 
@@ -96,8 +96,8 @@ fn put_collection(
     ensures { λ r. ⌜ r ≡ records + 1 ⌝ }
     ensures { λ r. ⌜ now (words .exit) ≡ put (now (words .entry)) records (collection-row (now (words .entry)) kind (label .start) (label .len) own rest imported weight) ⌝ }
 {
-    let mut depth = memory::stored(words, own, 11);
-    let other = memory::stored(words, rest, 11);
+    let mut depth = memory::depth_of(words, own);
+    let other = memory::depth_of(words, rest);
     if depth < other {
         depth = other;
     }
@@ -127,7 +127,7 @@ pub fn put_names(words: &mut [u32], records: u32, kind: u32, own: u32, rest: u32
     ensures { λ r. ⌜ MadeNames (now (words .entry)) (now (words .exit)) records kind own rest r ⌝ }
 {
     let label = Span { start: 0, len: 0 };
-    let weight = memory::stored(words, rest, 10) + 1;
+    let weight = memory::weight_of(words, rest) + 1;
     put_collection(words, records, kind, label, own, rest, 0, weight)
 }
 
@@ -164,7 +164,7 @@ pub fn imported(
     ensures { λ r. ⌜ r ≡ records + 1 ⌝ }
     ensures { λ r. ⌜ MadeImported (now (words .entry)) (now (words .exit)) records kind (label .start) (label .len) inner list r ⌝ }
 {
-    let weight = memory::stored(words, inner, 10) + memory::stored(words, list, 10) + 1;
+    let weight = memory::weight_of(words, inner) + memory::weight_of(words, list) + 1;
     put_collection(words, records, kind, label, inner, list, 1, weight)
 }
 
@@ -175,7 +175,7 @@ pub fn put_trie(words: &mut [u32], records: u32, kind: u32, bindings: u32, names
     ensures { λ r. ⌜ r ≡ records + 1 ⌝ }
     ensures { λ r. ⌜ MadeTrie (now (words .entry)) (now (words .exit)) records kind bindings namespaces r ⌝ }
 {
-    let depth = memory::stored(words, namespaces, 11);
+    let depth = memory::depth_of(words, namespaces);
     let row = [kind, 0, 0, bindings, namespaces, 0, 0, 0, 0, 0, 0, depth];
     memory::put_row(words, records, &row);
     records + 1

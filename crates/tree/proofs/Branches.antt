@@ -7,6 +7,7 @@ use lib.ListN.{length, take, drop}
 use Rattle.source.specs.Types.{Level, StrBranch}
 use Rattle.source.specs.Rules.{Ordered}
 use Rattle.memory.specs.Layout.{record-at, word, span, Which, tree, kind, what, key-at}
+use Rattle.memory.specs.Read.{TextIn}
 use Rattle.memory.specs.Sound.{LinkOk, BranchOk, Used, At}
 use Rattle.memory.proofs.Records.{links-earlier, branch-at, ordered-at}
 use Rattle.memory.proofs.Seen.{link-fits, link-ok, link-what, link-later}
@@ -42,6 +43,9 @@ module _ {ws txt : List ℕ} {x : ℕ} (a : AnyTree ws txt x) where
   module _ (p : 0 < x) where
     pub key-inside : word (record-at ws x) 1 + word (record-at ws x) 2 ≤ length txt
     key-inside = omega (arith, branch-right (a .tree) p .key .inside, a .tree .sound .text-fits)
+
+    pub text-in : TextIn ws txt x
+    text-in = record { some = p; within = tree-fits; inside = key-inside }
 
     pub sides-earlier : (word (record-at ws x) 3 < x) × (word (record-at ws x) 4 < x)
     sides-earlier = links-earlier (link-ok (a .tree .sound) (a .tree .link) p)

@@ -12,7 +12,7 @@ use Rattle.memory.specs.Layout.{record-at, word, tree, what, key-at}
 use Rattle.memory.specs.Grown.{Stays}
 use Rattle.memory.proofs.Growing.{record-stays, stays-same, stays-on}
 use Rattle.tree.specs.Tree.{AnyTree, Builds}
-use Rattle.tree.specs.Insert.{note, Turn, Trail, top, turn, Noted, Marked}
+use Rattle.tree.specs.Insert.{noted-link, noted-side, Turn, Trail, top, turn, Noted, Marked}
 use Rattle.tree.proofs.Searches.{Search, search-all, search-left, search-right, search-here, search-none}
 use Rattle.tree.proofs.Seeking.{by-order}
 use Rattle.tree.proofs.Changes.{drop-more, key-stays, any-stays, trail-stays}
@@ -89,7 +89,7 @@ module _ {ws txt : List ℕ} {key : Str} {records root count : ℕ} {ws′ : Lis
     rest-more : drop ((records + count) * 12) ws″ ≡ drop ((records + count) * 12) ws
     rest-more = drop-more ((n + 1) * 12) ((records + count) * 12) ws′ ws″ (omega (arith, g .level)) past ∙ g .rest
 
-    trail-more : Trail ws″ txt key root (g .d) (n + 1) (note ws″ n 0)
+    trail-more : Trail ws″ txt key root (g .d) (n + 1) (noted-link ws″ n)
     trail-more = rw (q .of-link) (trail-stays (q .changed .stays) (omega (arith, mark-above, g .asked .within)) (n + 1) (omega arith) past (g .trail))
 
     -- The way goes on at j.

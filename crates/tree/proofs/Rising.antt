@@ -23,7 +23,7 @@ use Rattle.memory.proofs.Rows.{record-length}
 use Rattle.memory.proofs.Given.{IsItem, link-fine}
 use Rattle.memory.proofs.Seen.{link-later, link-fits}
 use Rattle.tree.specs.Tree.{held, AnyTree, Builds}
-use Rattle.tree.specs.Insert.{NewBranch, HeldOk, Insertion, Inserted, note, Turn, Trail, top, turn, Changed, Marked, with-sides, raised-row, RaiseOk, lowest-row, LowestOk}
+use Rattle.tree.specs.Insert.{NewBranch, HeldOk, Insertion, Inserted, noted-link, noted-side, Turn, Trail, top, turn, Changed, Marked, with-sides, raised-row, RaiseOk, lowest-row, LowestOk}
 use Rattle.tree.proofs.Branches.{part-span, any-tree, branch-right, branch-reads}
 use Rattle.tree.proofs.Searches.{same-key}
 use Rattle.tree.proofs.Changes.{drop-more, put-changes, sound-stays, trail-stays}
@@ -36,13 +36,13 @@ pub trail-link : {ws txt : List ℕ} {key : Str} {w : Which} {v : Level} {root d
 trail-link t top = record { earlier = omega arith; of-kind = t .link .of-kind }
 trail-link {ws} {n = n} t (turn x r) =
     let y = branch-right (at-of t (tree _) (omega arith) (trail-link t r)) (x .some) in
-    zero-some (note ws n 1)
+    zero-some (noted-side ws n)
     (λ e. rw (x .left e .1) (link-later (omega (arith, x .within)) (y .left)))
     (λ p. rw (x .right (λ e. omega arith) .1) (link-later (omega (arith, x .within)) (y .right)))
 
 -- The next branch up.
 trail-up : {ws txt : List ℕ} {key : Str} {root d n link : ℕ} → Trail ws txt key root d n link → 0 < d
-    → Turn ws txt key root (note ws n 0) (note ws n 1) link × Trail ws txt key root (d - 1) (n + 1) (note ws n 0)
+    → Turn ws txt key root (noted-link ws n) (noted-side ws n) link × Trail ws txt key root (d - 1) (n + 1) (noted-link ws n)
 trail-up top p = absurd (omega arith)
 trail-up (turn {d = d} x r) p = let e : suc d - 1 ≡ d = omega arith in (x, rw e r)
 
@@ -140,12 +140,12 @@ module _ {base ws txt : List ℕ} {w : Which} {v : Level} {used : ℕ} {key : St
 module _ {base ws txt : List ℕ} {w : Which} {v : Level} {used : ℕ} {key : Str} {val : Value (Item w) v} {records root total n : ℕ}
     (g : Risen base ws txt w v used key val records root total n) (h : n < total) where
   abbrev l : ℕ
-  l = note ws n 0
+  l = noted-link ws n
 
   abbrev r : List ℕ
   r = record-at ws l
 
-  up : Turn ws txt key root l (note ws n 1) (g .below) × Trail ws txt key root (g .d - 1) (n + 1) l
+  up : Turn ws txt key root l (noted-side ws n) (g .below) × Trail ws txt key root (g .d - 1) (n + 1) l
   up = trail-up (g .trail) (omega (arith, g .level))
 
   l-link : LinkOk ws (n + 1) l (kind w (tree v))
@@ -173,13 +173,13 @@ module _ {base ws txt : List ℕ} {w : Which} {v : Level} {used : ℕ} {key : St
     right = depth-ok (g .ready .sound) w r v old left-link (g .link);
   }
 
-  raised-left : note ws n 1 ≡ 0 → raised-row ws n ≡ with-sides ws r n (word r 4)
+  raised-left : noted-side ws n ≡ 0 → raised-row ws n ≡ with-sides ws r n (word r 4)
   unfolding raised-row
   raised-left z = rw z
 
-  raised-right : 0 < note ws n 1 → raised-row ws n ≡ with-sides ws r (word r 3) n
+  raised-right : 0 < noted-side ws n → raised-row ws n ≡ with-sides ws r (word r 3) n
   unfolding raised-row
-  raised-right p = rw (ne-eqb (note ws n 1) 0 (λ z. omega arith))
+  raised-right p = rw (ne-eqb (noted-side ws n) 0 (λ z. omega arith))
 
   with-copy : (a b : ℕ) → LinkOk ws (n + 1) a (kind w (tree v)) → LinkOk ws (n + 1) b (kind w (tree v))
       → StrBranch (key-at ws txt l) (held w ws txt v l) (what w ws txt a (tree v)) (what w ws txt b (tree v)) ≡ btree-insert-replace (what w base txt l (tree v)) key val
@@ -206,7 +206,7 @@ module _ {base ws txt : List ℕ} {w : Which} {v : Level} {used : ℕ} {key : St
 
   pub risen-up : Risen base (put ws n (raised-row ws n)) txt w v used key val records root total (n + 1)
   risen-up =
-      zero-some (note ws n 1)
+      zero-some (noted-side ws n)
       (λ z. let t = up .0 .left z in rw (raised-left z) (with-copy n (word r 4) (g .link) right-link (into-left (t .0) (t .1))))
       (λ p. let t = up .0 .right (λ z. omega arith) in rw (raised-right p) (with-copy (word r 3) n left-link (g .link) (into-right (t .0) (t .1))))
 
@@ -234,7 +234,7 @@ module _ {ws txt : List ℕ} {w : Which} {v : Level} {records used root count : 
 module _ {ws ws′ txt : List ℕ} {w : Which} {v : Level} {records used root count : ℕ} {r : List ℕ} (g : Insertion ws txt w v records used root count r) (twelve : length r ≡ 12)
     (m : Marked ws ws′ txt (span txt (word r 1) (word r 2)) records root count) where
   abbrev x : ℕ
-  x = note ws′ records 0
+  x = noted-link ws′ records
 
   ready : Ready ws ws′ txt w v used (span txt (word r 1) (word r 2)) (value w txt r (what w ws txt) v) records root (records + count) records
   ready = record {

@@ -7,7 +7,7 @@ use lib.Dec.{eqb}
 use Rattle.source.specs.Text.{Str, string-compare, starts-with}
 use Rattle.source.specs.Types.{Level, Value}
 use Rattle.source.specs.Trees.{PrefixMatch}
-use Rattle.memory.specs.Layout.{record-at, word, Which, Item, tree, kind, key-at}
+use Rattle.memory.specs.Layout.{record-at, left-link, right-link, Which, Item, tree, kind, key-at}
 use Rattle.memory.specs.Sound.{LinkOk}
 use Rattle.tree.specs.Tree.{held}
 
@@ -16,7 +16,7 @@ unfoldable pub branches-among : List ℕ → ℕ → ℕ → List ℕ
 branches-among ws zero l = []
 branches-among ws (suc n) l =
     cond (eqb l (suc n))
-    (branches-among ws n (word (record-at ws (suc n)) 3) ++ (suc n ∷ branches-among ws n (word (record-at ws (suc n)) 4)))
+    (branches-among ws n (left-link (record-at ws (suc n))) ++ (suc n ∷ branches-among ws n (right-link (record-at ws (suc n)))))
     (branches-among ws n l)
 
 -- The links of the branches of the tree of link l, in order.

@@ -17,9 +17,7 @@ pub fn key_order(words: &[u32], text: &[u8], link: u32, key: &[u8]) -> Order
     requires { ⌜ (0 < link) × AnyTree (now words) (now text) link ⌝ }
     ensures { λ r. ⌜ ordering r ≡ string-compare (now (key .entry)) (key-at (now (words .entry)) (now (text .entry)) link) ⌝ }
 {
-    let start = memory::word_of(words, link, 1) as usize;
-    let len = memory::word_of(words, link, 2) as usize;
-    text::string_compare(key, &text[start..start + len])
+    text::string_compare(key, memory::key_of(words, text, link))
 }
 
 // Whether the key of a branch begins with `prefix`.
@@ -27,9 +25,7 @@ pub fn key_begins(words: &[u32], text: &[u8], link: u32, prefix: &[u8]) -> bool
     requires { ⌜ (0 < link) × AnyTree (now words) (now text) link ⌝ }
     ensures { λ r. ⌜ r ≡ starts-with (key-at (now (words .entry)) (now (text .entry)) link) (now (prefix .entry)) ⌝ }
 {
-    let start = memory::word_of(words, link, 1) as usize;
-    let len = memory::word_of(words, link, 2) as usize;
-    text::starts_with(&text[start..start + len], prefix)
+    text::starts_with(memory::key_of(words, text, link), prefix)
 }
 
 // Where a key stands in a tree: its branch, 0 for none, and how many branches an insertion builds.
@@ -48,7 +44,7 @@ pub fn place_of(words: &[u32], text: &[u8], root: u32, key: &[u8]) -> Place
     while 0 < link {
         match key_order(words, text, link, key) {
             Order::Less => {
-                link = memory::word_of(words, link, 3);
+                link = memory::left_of(words, link);
                 count += 1;
             }
             Order::Same => {
@@ -58,7 +54,7 @@ pub fn place_of(words: &[u32], text: &[u8], root: u32, key: &[u8]) -> Place
                 };
             }
             Order::More => {
-                link = memory::word_of(words, link, 4);
+                link = memory::right_of(words, link);
                 count += 1;
             }
         }
@@ -75,14 +71,6 @@ pub fn btree_find_exact(words: &[u32], text: &[u8], root: u32, key: &[u8]) -> u3
     ensures { λ r. ⌜ Found (now (words .entry)) (now (text .entry)) root (now (key .entry)) r ⌝ }
 {
     place_of(words, text, root, key).link
-}
-
-// How many branches an insertion of the key builds.
-pub fn insert_count(words: &[u32], text: &[u8], root: u32, key: &[u8]) -> u32
-    requires { ⌜ AnyTree (now words) (now text) root ⌝ }
-    ensures { λ r. ⌜ Builds (now (words .entry)) (now (text .entry)) root (now (key .entry)) r ⌝ }
-{
-    place_of(words, text, root, key).count
 }
 
 // Whether the key of a branch is after `low`, or at least as great where `strict` is false.
@@ -117,9 +105,9 @@ pub fn tree_above(
             if key_begins(words, text, at, prefix) {
                 found = at;
             }
-            at = memory::word_of(words, at, 3);
+            at = memory::left_of(words, at);
         } else {
-            at = memory::word_of(words, at, 4);
+            at = memory::right_of(words, at);
         }
     }
     found
@@ -140,9 +128,8 @@ pub fn tree_next(words: &[u32], text: &[u8], root: u32, prefix: &[u8], at: u32) 
     requires { ⌜ starts-with (key-at (now words) (now text) at) (now prefix) ≡ true ⌝ }
     ensures { λ r. ⌜ r ≡ head0 (after (key-at (now (words .entry)) (now (text .entry))) (key-at (now (words .entry)) (now (text .entry)) at) (matches (now (words .entry)) (now (text .entry)) root (now (prefix .entry)))) ⌝ }
 {
-    let start = memory::word_of(words, at, 1) as usize;
-    let len = memory::word_of(words, at, 2) as usize;
-    tree_above(words, text, root, prefix, &text[start..start + len], true)
+    let low = memory::key_of(words, text, at);
+    tree_above(words, text, root, prefix, low, true)
 }
 
 // ---- Insertion
@@ -161,7 +148,7 @@ fn larger(a: u32, b: u32) -> u32
 fn of_namespaces(kind: u32) -> bool
     ensures { λ r. ⌜ r ≡ of-namespaces kind ⌝ }
 {
-    (kind == 2) | (kind == 7)
+    (kind == memory::NAMESPACE_KIND) | (kind == memory::NAMESPACE_KIND + memory::OF_MODULES)
 }
 
 // The depth that a branch stores, by what its links store.
@@ -171,50 +158,46 @@ fn branch_depth(words: &[u32], kind: u32, held: u32, left: u32, right: u32) -> u
 {
     if of_namespaces(kind) {
         let sides = larger(
-            memory::stored(words, left, 11),
-            memory::stored(words, right, 11),
+            memory::depth_of(words, left),
+            memory::depth_of(words, right),
         );
-        return larger(memory::stored(words, held, 11) + 1, sides);
+        return larger(memory::depth_of(words, held) + 1, sides);
     }
     0
 }
 
 // The words of a branch with other sides.
-fn with_sides(words: &[u32], row: [u32; 12], left: u32, right: u32) -> [u32; 12]
+fn with_sides(words: &[u32], row: [u32; memory::ROW], left: u32, right: u32) -> [u32; memory::ROW]
     requires { ⌜ DepthOk (now words) (word row 0) (word row 5) left right ⌝ }
     ensures { λ r. ⌜ r ≡ with-sides (now (words .entry)) row left right ⌝ }
 {
-    let depth = branch_depth(words, row[0], row[5], left, right);
-    let mut new = row;
-    new[3] = left;
-    new[4] = right;
-    new[11] = depth;
-    new
+    let depth = branch_depth(words, row[memory::KIND], row[memory::HELD], left, right);
+    memory::make::with_sides(row, left, right, depth)
 }
 
 // The copy of the branch that record number `at` notes, with the link `at` on the side taken.
-fn raised_row(words: &[u32], at: u32) -> [u32; 12]
+fn raised_row(words: &[u32], at: u32) -> [u32; memory::ROW]
     requires { ⌜ RaiseOk (now words) at ⌝ }
     ensures { λ r. ⌜ r ≡ raised-row (now (words .entry)) at ⌝ }
 {
-    let old = memory::row_of(words, memory::word_of(words, at + 1, 0));
-    if memory::word_of(words, at + 1, 1) == 0 {
-        return with_sides(words, old, at, old[4]);
+    let old = memory::row_of(words, memory::note_link(words, at + 1));
+    if memory::note_side(words, at + 1) == 0 {
+        return with_sides(words, old, at, old[memory::RIGHT]);
     }
-    with_sides(words, old, old[3], at)
+    with_sides(words, old, old[memory::LEFT], at)
 }
 
 // The new branch with the sides of the one that record number `at` notes.
-fn lowest_row(words: &[u32], at: u32, row: [u32; 12]) -> [u32; 12]
+fn lowest_row(words: &[u32], at: u32, row: [u32; memory::ROW]) -> [u32; memory::ROW]
     requires { ⌜ LowestOk (now words) at row ⌝ }
     ensures { λ r. ⌜ r ≡ lowest-row (now (words .entry)) at row ⌝ }
 {
-    let link = memory::word_of(words, at + 1, 0);
+    let link = memory::note_link(words, at + 1);
     with_sides(
         words,
         row,
-        memory::stored(words, link, 3),
-        memory::stored(words, link, 4),
+        memory::left_side(words, link),
+        memory::right_side(words, link),
     )
 }
 
@@ -223,9 +206,9 @@ fn put_note(words: &mut [u32], at: u32, link: u32, side: u32)
     requires { ⌜ at * 12 + 12 ≤ length (now words) ⌝ }
     ensures { λ _. ⌜ Noted (now (words .entry)) (now (words .exit)) at link side ⌝ }
 {
-    let base = at as usize * 12;
+    let base = at as usize * memory::ROW;
     words[base] = link;
-    words[base + 1] = side;
+    words[base + memory::NOTE_SIDE] = side;
 }
 
 // Notes the way down to the key: the root in the last of the `count` records after the used ones, each branch before the one above it.
@@ -240,7 +223,7 @@ fn note_path(words: &mut [u32], text: &[u8], records: u32, root: u32, count: u32
     while 0 < link {
         match key_order(words, text, link, key) {
             Order::Less => {
-                let next = memory::word_of(words, link, 3);
+                let next = memory::left_of(words, link);
                 put_note(words, at, link, 0);
                 link = next;
                 at -= 1;
@@ -250,7 +233,7 @@ fn note_path(words: &mut [u32], text: &[u8], records: u32, root: u32, count: u32
                 return;
             }
             Order::More => {
-                let next = memory::word_of(words, link, 4);
+                let next = memory::right_of(words, link);
                 put_note(words, at, link, 1);
                 link = next;
                 at -= 1;
@@ -260,7 +243,7 @@ fn note_path(words: &mut [u32], text: &[u8], records: u32, root: u32, count: u32
     put_note(words, at, 0, 0);
 }
 
-// Puts the new branch `row` into the tree of `root`, in place of a branch with its key: the branches on the way down are copied, as many as insert_count says.
+// Puts the new branch `row` into the tree of `root`, in place of a branch with its key: the branches on the way down are copied, as many as place_of says.
 // The new branches are the `count` records after the `records` used ones; the new root is the last.
 pub fn btree_insert_replace(
     words: &mut [u32],
@@ -268,13 +251,13 @@ pub fn btree_insert_replace(
     records: u32,
     root: u32,
     count: u32,
-    row: [u32; 12],
+    row: [u32; memory::ROW],
 ) -> u32
     requires { ⌜ AnyInsertion (now words) (now text) records root count row ⌝ }
     ensures { λ r. ⌜ Inserts (now (words .entry)) (now (words .exit)) (now (text .entry)) records root count row r ⌝ }
 {
-    let start = row[1] as usize;
-    let len = row[2] as usize;
+    let start = row[memory::TEXT_START] as usize;
+    let len = row[memory::TEXT_LEN] as usize;
     note_path(words, text, records, root, count, &text[start..start + len]);
     let low = lowest_row(words, records, row);
     memory::put_row(words, records, &low);

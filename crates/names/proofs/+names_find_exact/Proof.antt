@@ -5,20 +5,22 @@ use mathlib.Core.Logic.{⊎-elim}
 use native.Mathlib.Omega.{arith}
 use borrow.Fn.Kinds.{In}
 use borrow.Fn.PlainCycle.{Measures, is, falls, and}
-use Rattle.memory.specs.Stored.{stored}
+use Rattle.memory.specs.Stored.{weight-in}
 use Rattle.names.proofs.Collections.{collection-right, imported-lighter, any-imported, any-own}
 use Rattle.names.proofs.Finding.{Find, First, find-all, first-imported, first-names, find-here, find-on, find-none}
 use Rattle.names.proofs.names_find_exact.Reads as names-find-exact
 use Rattle.names.proofs.names_find_exact.Kinds as kinds
 use Rattle.names.proofs.+names_find_exact.Lts-names_find_exact as lts
-use Rattle.memory.proofs.word_of.Reads as word-of-reads
-use Rattle.tree.proofs.btree_find_exact.Reads as btree-find-exact-reads
+use Rattle.memory.proofs.own_of.Reads as own-of
+use Rattle.memory.proofs.sort_of.Reads as sort-of
+use Rattle.memory.proofs.rest_of.Reads as rest-of
+use Rattle.tree.proofs.btree_find_exact.Reads as btree-find-exact
 use Rattle.names.proofs.+names_find_exact.{statement}
 use Rattle.names.proofs.+names_find_exact.Tie.{close}
 use Rattle.memory.proofs.At.{at-fits}
 
 abbrev μ-names-find-exact : Measures 3 kinds.ps ℕ
-μ-names-find-exact κs a = stored (a .0 .now) (a .1 .1 .0) 10
+μ-names-find-exact κs a = weight-in (a .0 .now) (a .1 .1 .0)
 
 abbrev at : ℕ → In 3 kinds.ps
 at t = and 3 kinds.ps (is 3 kinds.ps μ-names-find-exact t) names-find-exact.Pre
@@ -33,12 +35,12 @@ abbrev μ-loop : lts.MeasureT-loop
 μ-loop words text list key link₀ link = link
 
 -- What the collection at hand has, after the branch.
-first : (t : ℕ) (c : lts.Joined1 (word-of-reads.Asked, word-of-reads.Learnt, below t, names-find-exact.Post, btree-find-exact-reads.Asked, btree-find-exact-reads.Learnt) (at t) names-find-exact.Post Inv-loop μ-loop)
+first : (t : ℕ) (c : lts.Joined1 (own-of.Asked, own-of.Learnt, sort-of.Asked, sort-of.Learnt, below t, names-find-exact.Post, btree-find-exact.Asked, btree-find-exact.Learnt, rest-of.Asked, rest-of.Learnt) (at t) names-find-exact.Post Inv-loop μ-loop)
     → (let s = c .before .before .before .before in let a = s .before .before .before .before .args in First (a .words .now) (a .text .now) (s .loop .link) (a .key .now) (c .if1 .found))
 first t c =
     let p = c .before .before .before .loop-test .taken in
-    let own = c .before .before .word-of .ensures in
-    let sort = c .before .word-of2 .ensures in
+    let own = c .before .before .own-of .ensures in
+    let sort = c .before .sort-of .ensures in
     ⊎-elim
     (λ w. rw (w .2) (first-imported p own (sym sort ∙ w .0 .taken) (w .1 .ensures)))
     (λ w. rw (w .2) (first-names p own (λ e. w .0 .left (sort ∙ e)) (w .1 .ensures)))
@@ -47,33 +49,33 @@ first t c =
 pub +names-find-exact-spec : {M : Type 1} → statement M
 +names-find-exact-spec =
     close μ-names-find-exact λ t. lts.spec
-    (word-of-reads.Asked, word-of-reads.Learnt, below t, names-find-exact.Post, btree-find-exact-reads.Asked, btree-find-exact-reads.Learnt)
+    (own-of.Asked, own-of.Learnt, sort-of.Asked, sort-of.Learnt, below t, names-find-exact.Post, btree-find-exact.Asked, btree-find-exact.Learnt, rest-of.Asked, rest-of.Learnt)
     (at t)
     names-find-exact.Post
     Inv-loop
     μ-loop
     {- loop-holds -}
     (λ c. find-all (c .before .before .before .pre .1))
-    {- word-of-requires -}
+    {- own-of-requires -}
     (λ c κs. omega (arith, at-fits (c .before .loop .inv .any .list), c .loop-test .taken))
-    {- word-of-requires-2 -}
+    {- sort-of-requires -}
     (λ c κs. omega (arith, at-fits (c .before .before .loop .inv .any .list), c .before .loop-test .taken))
     {- names-find-exact-requires -}
     (λ c κs.
     let g = c .before .before .before .before .loop .inv in
     let p = c .before .before .before .loop-test .taken in
-    let own = c .before .before .word-of .ensures in
-    let e = sym (c .before .word-of2 .ensures) ∙ c .if1 .taken in
+    let own = c .before .before .own-of .ensures in
+    let e = sym (c .before .sort-of .ensures) ∙ c .if1 .taken in
     (rw own (omega (arith, imported-lighter (g .any .list) p e, g .lighter, c .before .before .before .before .before .before .before .before .pre .0)), any-imported (g .any) p own e))
     {- btree-find-exact-requires -}
-    (λ c κs. any-own (c .before .before .before .before .loop .inv .any) (c .before .before .before .loop-test .taken) (c .before .before .word-of .ensures) (λ e. c .if1 .left (c .before .word-of2 .ensures ∙ e)))
+    (λ c κs. any-own (c .before .before .before .before .loop .inv .any) (c .before .before .before .loop-test .taken) (c .before .before .own-of .ensures) (λ e. c .if1 .left (c .before .sort-of .ensures ∙ e)))
     {- returns -}
     (λ c. find-here (c .before .before .before .before .before .loop .inv) (first t (c .before)) (omega (arith, c .if2 .taken)))
-    {- word-of-requires-3 -}
+    {- rest-of-requires -}
     (λ c κs. omega (arith, at-fits (c .before .before .before .before .before .loop .inv .any .list), c .before .before .before .before .loop-test .taken))
     {- loop-less -}
-    (λ c. omega (arith, c .word-of3 .ensures, collection-right (c .before .before .before .before .before .before .loop .inv .any .list) (c .before .before .before .before .before .loop-test .taken) .rest .earlier))
+    (λ c. omega (arith, c .rest-of .ensures, collection-right (c .before .before .before .before .before .before .loop .inv .any .list) (c .before .before .before .before .before .loop-test .taken) .rest .earlier))
     {- loop-again -}
-    (λ c. find-on (c .before .before .before .before .before .before .loop .inv) (c .before .before .before .before .before .loop-test .taken) (first t (c .before .before)) (omega (arith, c .before .if2 .left)) (c .word-of3 .ensures))
+    (λ c. find-on (c .before .before .before .before .before .before .loop .inv) (c .before .before .before .before .before .loop-test .taken) (first t (c .before .before)) (omega (arith, c .before .if2 .left)) (c .rest-of .ensures))
     {- returns-2 -}
     (λ c. find-none (c .before .loop .inv) (c .loop-test .left))

@@ -8,9 +8,9 @@ pub imported-spec : {M : Type 1} → statement M
 imported-spec =
     tie.close
     (tie.spec
-    {- stored-requires -}
+    {- weight-of-requires -}
     (λ c κs. search needs)
-    {- stored-requires-2 -}
+    {- weight-of-requires-2 -}
     (λ c κs. search needs)
     {- add-weight -}
     (λ c. search needs)
@@ -23,5 +23,5 @@ imported-spec =
     {- returns -}
     (λ c. (
       c .before .before .put-collection .ensures .0,
-      rw (c .before .before .put-collection .ensures .1, c .before .before .put-collection .ensures .0, c .before .before .before .before .before .before .stored .ensures, c .before .before .before .before .stored2 .ensures) (made-imported (c .before .before .before .before .before .before .before .before .before .pre .0) _ _ _ _ _ (c .before .before .before .before .before .before .before .before .before .pre .1 .2)),
+      rw (c .before .before .put-collection .ensures .1, c .before .before .put-collection .ensures .0, c .before .before .before .before .before .before .weight-of .ensures, c .before .before .before .before .weight-of2 .ensures) (made-imported (c .before .before .before .before .before .before .before .before .before .pre .0) _ _ _ _ _ (c .before .before .before .before .before .before .before .before .before .pre .1 .2)),
     )))

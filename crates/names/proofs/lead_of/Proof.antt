@@ -12,13 +12,13 @@ lead-of-spec =
     (tie.spec
     {- returns -}
     (λ c. led-none (c .if1 .taken))
-    {- word-of-requires -}
+    {- sort-of-requires -}
     (λ c κs. search needs)
     {- returns-2 -}
-    (λ c. led-imported (omega arith) (sym (c .before .word-of .ensures) ∙ c .if2 .taken))
-    {- word-of-requires-2 -}
+    (λ c. led-imported (omega arith) (sym (c .before .sort-of .ensures) ∙ c .if2 .taken))
+    {- own-of-requires -}
     (λ c κs. search needs)
-    {- word-of-requires-3 -}
+    {- rest-of-requires -}
     (λ c κs. search needs)
     {- returns-3 -}
-    (λ c. led-names (omega arith) (λ e. c .before .before .if2 .left (c .before .before .before .word-of .ensures ∙ e)) (c .before .word-of2 .ensures) (c .word-of3 .ensures)))
+    (λ c. led-names (omega arith) (λ e. c .before .before .if2 .left (c .before .before .before .sort-of .ensures ∙ e)) (c .before .own-of .ensures) (c .rest-of .ensures)))

@@ -17,10 +17,10 @@ names-place-spec =
     (λ c κs. any-first (c .before .before .before .before .pre) (c .lead-of .ensures))
     {- names-find-exact-requires -}
     (λ c κs. any-rest (c .before .before .before .before .before .before .pre) (c .before .before .lead-of .ensures))
-    {- stored-requires -}
-    (λ c κs. (omega arith, at-fits (any-rest (c .before .before .before .before .before .before .pre) (c .before .before .lead-of .ensures) .list)))
+    {- weight-of-requires -}
+    (λ c κs. at-fits (any-rest (c .before .before .before .before .before .before .pre) (c .before .before .lead-of .ensures) .list))
     {- add-t10 -}
-    (λ c. omega (arith, c .stored .ensures, list-light (any-rest (c .before .before .before .before .before .before .before .pre) (c .before .before .before .lead-of .ensures) .list)))
+    (λ c. omega (arith, c .weight-of .ensures, list-light (any-rest (c .before .before .before .before .before .before .before .pre) (c .before .before .before .lead-of .ensures) .list)))
     {- returns -}
     (λ c.
     let d = c .before .before .before .lead-of .ensures in
@@ -30,4 +30,4 @@ names-place-spec =
     (λ w. rw (w .2) (holder-rest d (p .found) (omega (arith, w .0 .taken)) (w .1 .ensures)))
     (λ w. rw (w .1) (holder-first d (p .found) (omega (arith, w .0 .left))))
     (c .before .if1 .came))
-    (omega (arith, c .stored .ensures))))
+    (omega (arith, c .weight-of .ensures))))

@@ -11,9 +11,9 @@ pub put-collection-spec : {M : Type 1} → statement M
 put-collection-spec =
     tie.close
     (tie.spec
-    {- stored-requires -}
+    {- depth-of-requires -}
     (λ c κs. search needs)
-    {- stored-requires-2 -}
+    {- depth-of-requires-2 -}
     (λ c κs. search needs)
     {- put-row-requires -}
     (λ c κs. search needs)
@@ -23,5 +23,5 @@ put-collection-spec =
     (λ c. search needs)
     {- returns -}
     (λ c.
-    let d : c .before .before .before .before .before .if1 .depth ≡ max (c .before .before .before .before .before .before .before .before .stored .result) (c .before .before .before .before .before .before .stored2 .result) = ⊎-elim (λ w. omega arith) (λ w. omega arith) (c .before .before .before .before .before .if1 .came) in
-    (refl, c .before .before .put-row .ensures ∙ rw (d, c .before .before .before .before .before .before .before .before .stored .ensures, c .before .before .before .before .before .before .stored2 .ensures))))
+    let d : c .before .before .before .before .before .if1 .depth ≡ max (c .before .before .before .before .before .before .before .before .depth-of .result) (c .before .before .before .before .before .before .depth-of2 .result) = ⊎-elim (λ w. omega arith) (λ w. omega arith) (c .before .before .before .before .before .if1 .came) in
+    (refl, c .before .before .put-row .ensures ∙ rw (d, c .before .before .before .before .before .before .before .before .depth-of .ensures, c .before .before .before .before .before .before .depth-of2 .ensures))))

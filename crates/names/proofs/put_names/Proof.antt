@@ -8,7 +8,7 @@ pub put-names-spec : {M : Type 1} → statement M
 put-names-spec =
     tie.close
     (tie.spec
-    {- stored-requires -}
+    {- weight-of-requires -}
     (λ c κs. search needs)
     {- add-weight -}
     (λ c. search needs)
@@ -19,5 +19,5 @@ put-names-spec =
     {- returns -}
     (λ c. (
       c .before .before .put-collection .ensures .0,
-      rw (c .before .before .put-collection .ensures .1, c .before .before .put-collection .ensures .0, c .before .before .before .before .stored .ensures) (made-names (c .before .before .before .before .before .before .before .pre .0) _ _ _ (c .before .before .before .before .before .before .before .pre .1 .2)),
+      rw (c .before .before .put-collection .ensures .1, c .before .before .put-collection .ensures .0, c .before .before .before .before .weight-of .ensures) (made-names (c .before .before .before .before .before .before .before .pre .0) _ _ _ (c .before .before .before .before .before .before .before .pre .1 .2)),
     )))

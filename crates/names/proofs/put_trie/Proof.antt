@@ -9,7 +9,7 @@ pub put-trie-spec : {M : Type 1} → statement M
 put-trie-spec =
     tie.close
     (tie.spec
-    {- stored-requires -}
+    {- depth-of-requires -}
     (λ c κs. search needs)
     {- put-row-requires -}
     (λ c κs. search needs)
@@ -18,4 +18,4 @@ put-trie-spec =
     {- same-length -}
     (λ c. search needs)
     {- returns -}
-    (λ c. (refl, rw (c .before .before .put-row .ensures, c .before .before .before .before .before .stored .ensures) (made-trie (c .before .before .before .before .before .before .before .before .pre .0) _ _ _ (c .before .before .before .before .before .before .before .before .pre .1 .1)))))
+    (λ c. (refl, rw (c .before .before .put-row .ensures, c .before .before .before .before .before .depth-of .ensures) (made-trie (c .before .before .before .before .before .before .before .before .pre .0) _ _ _ (c .before .before .before .before .before .before .before .before .pre .1 .1)))))

@@ -14,19 +14,19 @@ branch-depth-spec =
     (tie.spec
     {- of-namespaces-requires -}
     (λ c κs. search needs)
-    {- stored-requires -}
+    {- depth-of-requires -}
     (λ c κs. search needs)
-    {- stored-requires-2 -}
+    {- depth-of-requires-2 -}
     (λ c κs. search needs)
     {- larger-requires -}
     (λ c κs. search needs)
-    {- stored-requires-3 -}
-    (λ c κs. (search needs, c .before .before .before .before .before .before .pre .held-fits (sym (c .before .before .before .before .of-namespaces .ensures) ∙ c .before .before .before .if1 .taken)))
+    {- depth-of-requires-3 -}
+    (λ c κs. c .before .before .before .before .before .before .pre .held-fits (sym (c .before .before .before .before .of-namespaces .ensures) ∙ c .before .before .before .if1 .taken))
     {- add-larger -}
-    (λ c. omega (arith, c .stored3 .ensures, c .before .before .before .before .before .before .before .pre .shallow (sym (c .before .before .before .before .before .of-namespaces .ensures) ∙ c .before .before .before .before .if1 .taken)))
+    (λ c. omega (arith, c .depth-of3 .ensures, c .before .before .before .before .before .before .before .pre .shallow (sym (c .before .before .before .before .before .of-namespaces .ensures) ∙ c .before .before .before .before .if1 .taken)))
     {- larger-requires-2 -}
     (λ c κs. search needs)
     {- returns -}
-    (λ c. rw (sym (c .before .before .before .before .before .before .of-namespaces .ensures) ∙ c .before .before .before .before .before .if1 .taken) (c .larger2 .ensures ∙ rw (c .before .before .larger .ensures, c .before .before .before .before .stored .ensures, c .before .before .before .stored2 .ensures, c .before .stored3 .ensures, add-one)))
+    (λ c. rw (sym (c .before .before .before .before .before .before .of-namespaces .ensures) ∙ c .before .before .before .before .before .if1 .taken) (c .larger2 .ensures ∙ rw (c .before .before .larger .ensures, c .before .before .before .before .depth-of .ensures, c .before .before .before .depth-of2 .ensures, c .before .depth-of3 .ensures, add-one)))
     {- returns-2 -}
     (λ c. rw (sym (c .before .of-namespaces .ensures) ∙ c .if1 .left)))

@@ -12,13 +12,13 @@ lowest-row-spec =
     (tie.spec
     {- add-word-of -}
     (λ c. search needs)
-    {- word-of-requires -}
+    {- note-link-requires -}
     (λ c κs. search needs)
-    {- stored-requires -}
+    {- left-side-requires -}
     (λ c κs. search needs)
-    {- stored-requires-2 -}
+    {- right-side-requires -}
     (λ c κs. search needs)
     {- with-sides-requires -}
-    (λ c κs. rw (c .before .stored .ensures, c .stored2 .ensures, c .before .before .word-of .ensures) (c .before .before .before .before .pre .sides))
+    (λ c κs. rw (c .before .left-side .ensures, c .right-side .ensures, c .before .before .note-link .ensures) (c .before .before .before .before .pre .sides))
     {- returns -}
-    (λ c. c .with-sides .ensures ∙ rw (c .before .before .stored .ensures, c .before .stored2 .ensures, c .before .before .before .word-of .ensures)))
+    (λ c. c .with-sides .ensures ∙ rw (c .before .before .left-side .ensures, c .before .right-side .ensures, c .before .before .before .note-link .ensures)))

@@ -22,16 +22,16 @@ note-path-spec =
     (λ c κs. (c .before .loop-test .taken, mark-tree (c .before .before .loop .inv)))
     {- enum-told -}
     (λ c. search needs)
-    {- word-of-requires -}
+    {- left-of-requires -}
     (λ c κs. omega (arith, tree-fits (mark-tree (c .before .before .before .before .before .before .loop .inv)), c .before .before .before .before .before .loop-test .taken))
     {- put-note-requires -}
     (λ c κs. mark-fits (c .before .before .before .before .before .before .before .before .loop .inv))
     {- sub-at-2 -}
     (λ c. left-room (c .before .before .before .before .before .before .before .before .before .before .before .loop .inv) (c .before .before .before .before .before .before .before .before .before .before .loop-test .taken) (rw (c .before .before .before .before .before .before .enum-told .given .1) at (c .before .before .before .before .before .before .before .before .key-order .ensures)))
     {- loop-less -}
-    (λ c. omega (arith, c .before .before .before .before .word-of .ensures, sides-earlier (mark-tree (c .before .before .before .before .before .before .before .before .before .before .before .loop .inv)) (c .before .before .before .before .before .before .before .before .before .before .loop-test .taken)))
+    (λ c. omega (arith, c .before .before .before .before .left-of .ensures, sides-earlier (mark-tree (c .before .before .before .before .before .before .before .before .before .before .before .loop .inv)) (c .before .before .before .before .before .before .before .before .before .before .loop-test .taken)))
     {- loop-again -}
-    (λ c. mark-left (c .before .before .before .before .before .before .before .before .before .before .before .loop .inv) (c .before .before .before .before .before .before .before .before .before .before .loop-test .taken) (rw (c .before .before .before .before .before .before .enum-told .given .1) at (c .before .before .before .before .before .before .before .before .key-order .ensures)) (c .before .before .before .before .word-of .ensures) (c .before .before .put-note .ensures))
+    (λ c. mark-left (c .before .before .before .before .before .before .before .before .before .before .before .loop .inv) (c .before .before .before .before .before .before .before .before .before .before .loop-test .taken) (rw (c .before .before .before .before .before .before .enum-told .given .1) at (c .before .before .before .before .before .before .before .before .key-order .ensures)) (c .before .before .before .before .left-of .ensures) (c .before .before .put-note .ensures))
     {- enum-told-2 -}
     (λ c. search needs)
     {- put-note-requires-2 -}
@@ -42,16 +42,16 @@ note-path-spec =
     (λ c. mark-here (c .before .before .before .before .before .before .before .before .before .loop .inv) (c .before .before .before .before .before .before .before .before .loop-test .taken) (rw (c .before .before .before .before .enum-told2 .given .1) at (c .before .before .before .before .before .before .key-order .ensures)) (c .before .before .put-note2 .ensures))
     {- enum-told-3 -}
     (λ c. search needs)
-    {- word-of-requires-2 -}
+    {- right-of-requires -}
     (λ c κs. omega (arith, tree-fits (mark-tree (c .before .before .before .before .before .before .loop .inv)), c .before .before .before .before .before .loop-test .taken))
     {- put-note-requires-3 -}
     (λ c κs. mark-fits (c .before .before .before .before .before .before .before .before .loop .inv))
     {- sub-at-3 -}
     (λ c. right-room (c .before .before .before .before .before .before .before .before .before .before .before .loop .inv) (c .before .before .before .before .before .before .before .before .before .before .loop-test .taken) (rw (c .before .before .before .before .before .before .enum-told3 .given .1) at (c .before .before .before .before .before .before .before .before .key-order .ensures)))
     {- loop-less-2 -}
-    (λ c. omega (arith, c .before .before .before .before .word-of2 .ensures, sides-earlier (mark-tree (c .before .before .before .before .before .before .before .before .before .before .before .loop .inv)) (c .before .before .before .before .before .before .before .before .before .before .loop-test .taken)))
+    (λ c. omega (arith, c .before .before .before .before .right-of .ensures, sides-earlier (mark-tree (c .before .before .before .before .before .before .before .before .before .before .before .loop .inv)) (c .before .before .before .before .before .before .before .before .before .before .loop-test .taken)))
     {- loop-again-2 -}
-    (λ c. mark-right (c .before .before .before .before .before .before .before .before .before .before .before .loop .inv) (c .before .before .before .before .before .before .before .before .before .before .loop-test .taken) (rw (c .before .before .before .before .before .before .enum-told3 .given .1) at (c .before .before .before .before .before .before .before .before .key-order .ensures)) (c .before .before .before .before .word-of2 .ensures) (c .before .before .put-note3 .ensures))
+    (λ c. mark-right (c .before .before .before .before .before .before .before .before .before .before .before .loop .inv) (c .before .before .before .before .before .before .before .before .before .before .loop-test .taken) (rw (c .before .before .before .before .before .before .enum-told3 .given .1) at (c .before .before .before .before .before .before .before .before .key-order .ensures)) (c .before .before .before .before .right-of .ensures) (c .before .before .put-note3 .ensures))
     {- put-note-requires-4 -}
     (λ c κs. mark-fits (c .before .before .loop .inv))
     {- same-length-2 -}

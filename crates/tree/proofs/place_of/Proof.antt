@@ -18,27 +18,27 @@ place-of-spec =
     (λ c κs. (c .loop-test .taken, c .before .loop .inv .any))
     {- enum-told -}
     (λ c. search needs)
-    {- word-of-requires -}
+    {- left-of-requires -}
     (λ c κs. omega (arith, tree-fits (c .before .before .before .before .loop .inv .any), c .before .before .before .loop-test .taken))
     {- add-count -}
     (λ c. omega (arith, c .before .before .before .before .before .loop .inv .small))
     {- loop-less -}
-    (λ c. omega (arith, c .word-of .ensures, sides-earlier (c .before .before .before .before .before .loop .inv .any) (c .before .before .before .before .loop-test .taken)))
+    (λ c. omega (arith, c .left-of .ensures, sides-earlier (c .before .before .before .before .before .loop .inv .any) (c .before .before .before .before .loop-test .taken)))
     {- loop-again -}
-    (λ c. search-left (c .before .before .before .before .before .loop .inv) (c .before .before .before .before .loop-test .taken) (rw (c .before .enum-told .given .1) at (c .before .before .before .key-order .ensures)) (c .word-of .ensures))
+    (λ c. search-left (c .before .before .before .before .before .loop .inv) (c .before .before .before .before .loop-test .taken) (rw (c .before .enum-told .given .1) at (c .before .before .before .key-order .ensures)) (c .left-of .ensures))
     {- enum-told-2 -}
     (λ c. search needs)
     {- returns -}
     (λ c. search-here (c .before .before .before .before .loop .inv) (c .before .before .before .loop-test .taken) (rw (c .enum-told2 .given .1) at (c .before .before .key-order .ensures)))
     {- enum-told-3 -}
     (λ c. search needs)
-    {- word-of-requires-2 -}
+    {- right-of-requires -}
     (λ c κs. omega (arith, tree-fits (c .before .before .before .before .loop .inv .any), c .before .before .before .loop-test .taken))
     {- add-count-2 -}
     (λ c. omega (arith, c .before .before .before .before .before .loop .inv .small))
     {- loop-less-2 -}
-    (λ c. omega (arith, c .word-of2 .ensures, sides-earlier (c .before .before .before .before .before .loop .inv .any) (c .before .before .before .before .loop-test .taken)))
+    (λ c. omega (arith, c .right-of .ensures, sides-earlier (c .before .before .before .before .before .loop .inv .any) (c .before .before .before .before .loop-test .taken)))
     {- loop-again-2 -}
-    (λ c. search-right (c .before .before .before .before .before .loop .inv) (c .before .before .before .before .loop-test .taken) (rw (c .before .enum-told3 .given .1) at (c .before .before .before .key-order .ensures)) (c .word-of2 .ensures))
+    (λ c. search-right (c .before .before .before .before .before .loop .inv) (c .before .before .before .before .loop-test .taken) (rw (c .before .enum-told3 .given .1) at (c .before .before .before .key-order .ensures)) (c .right-of .ensures))
     {- returns-2 -}
     (λ c. search-none (c .before .loop .inv) (c .loop-test .left)))

@@ -1,7 +1,7 @@
 -- raised_row meets its contract, by the side that is noted.
 use mathlib.Core.Path.{sym, _∙_}
 use borrow.Author.Tests.{eq-eqb, ne-eqb}
-use Rattle.tree.specs.Insert.{note, raised-row}
+use Rattle.tree.specs.Insert.{noted-link, noted-side, raised-row}
 use borrow.Author.Needs.{needs}
 use Rattle.tree.proofs.raised_row.Statement.{statement}
 use Rattle.tree.proofs.raised_row.Tie as tie
@@ -13,23 +13,23 @@ raised-row-spec =
     (tie.spec
     {- add-word-of -}
     (λ c. search needs)
-    {- word-of-requires -}
+    {- note-link-requires -}
     (λ c κs. search needs)
     {- row-of-requires -}
     (λ c κs. search needs)
     {- add-word-of-2 -}
     (λ c. search needs)
-    {- word-of-requires-2 -}
+    {- note-side-requires -}
     (λ c κs. search needs)
     {- array-read-with-sides -}
     (λ c. search needs)
     {- with-sides-requires -}
-    (λ c κs. rw (c .before .before .row-of .ensures, c .before .before .before .word-of .ensures) (c .before .before .before .before .before .pre .left))
+    (λ c κs. rw (c .before .before .row-of .ensures, c .before .before .before .note-link .ensures) (c .before .before .before .before .before .pre .left))
     {- returns -}
-    (λ c. rw (eq-eqb (note (c .before .before .before .before .before .before .args .words .now) (c .before .before .before .before .before .before .args .at) 1) 0 (sym (c .before .before .word-of2 .ensures) ∙ c .before .if1 .taken)) (c .with-sides .ensures ∙ rw (c .before .before .before .row-of .ensures, c .before .before .before .before .word-of .ensures)))
+    (λ c. rw (eq-eqb (noted-side (c .before .before .before .before .before .before .args .words .now) (c .before .before .before .before .before .before .args .at)) 0 (sym (c .before .before .note-side .ensures) ∙ c .before .if1 .taken)) (c .with-sides .ensures ∙ rw (c .before .before .before .row-of .ensures, c .before .before .before .before .note-link .ensures)))
     {- array-read-with-sides-2 -}
     (λ c. search needs)
     {- with-sides-requires-2 -}
-    (λ c κs. rw (c .before .before .row-of .ensures, c .before .before .before .word-of .ensures) (c .before .before .before .before .before .pre .right))
+    (λ c κs. rw (c .before .before .row-of .ensures, c .before .before .before .note-link .ensures) (c .before .before .before .before .before .pre .right))
     {- returns-2 -}
-    (λ c. rw (ne-eqb (note (c .before .before .before .before .before .before .args .words .now) (c .before .before .before .before .before .before .args .at) 1) 0 (λ e. c .before .if1 .left (c .before .before .word-of2 .ensures ∙ e))) (c .with-sides2 .ensures ∙ rw (c .before .before .before .row-of .ensures, c .before .before .before .before .word-of .ensures))))
+    (λ c. rw (ne-eqb (noted-side (c .before .before .before .before .before .before .args .words .now) (c .before .before .before .before .before .before .args .at)) 0 (λ e. c .before .if1 .left (c .before .before .note-side .ensures ∙ e))) (c .with-sides2 .ensures ∙ rw (c .before .before .before .row-of .ensures, c .before .before .before .before .note-link .ensures))))

@@ -19,17 +19,17 @@ tree-above-spec =
     (λ c κs. (c .loop-test .taken, c .before .loop .inv .any))
     {- key-begins-requires -}
     (λ c κs. (c .before .before .loop-test .taken, c .before .before .before .loop .inv .any))
-    {- word-of-requires -}
+    {- left-of-requires -}
     (λ c κs. omega (arith, tree-fits (c .before .before .before .before .before .loop .inv .any), c .before .before .before .before .loop-test .taken))
     {- loop-less -}
-    (λ c. omega (arith, c .word-of .ensures, sides-earlier (c .before .before .before .before .before .before .loop .inv .any) (c .before .before .before .before .before .loop-test .taken)))
+    (λ c. omega (arith, c .left-of .ensures, sides-earlier (c .before .before .before .before .before .before .loop .inv .any) (c .before .before .before .before .before .loop-test .taken)))
     {- loop-again -}
-    (λ c. ⊎-elim (λ w. rw (w .1) (take-left (c .before .before .before .before .before .before .loop .inv) (c .before .before .before .before .before .loop-test .taken) (sym (c .before .before .before .before .key-past .ensures) ∙ c .before .before .before .if1 .taken) (sym (c .before .before .key-begins .ensures) ∙ w .0 .taken) (c .word-of .ensures))) (λ w. rw (w .1) (skip-left (c .before .before .before .before .before .before .loop .inv) (c .before .before .before .before .before .loop-test .taken) (sym (c .before .before .before .before .key-past .ensures) ∙ c .before .before .before .if1 .taken) (sym (c .before .before .key-begins .ensures) ∙ w .0 .left) (c .word-of .ensures))) (c .before .if2 .came))
-    {- word-of-requires-2 -}
+    (λ c. ⊎-elim (λ w. rw (w .1) (take-left (c .before .before .before .before .before .before .loop .inv) (c .before .before .before .before .before .loop-test .taken) (sym (c .before .before .before .before .key-past .ensures) ∙ c .before .before .before .if1 .taken) (sym (c .before .before .key-begins .ensures) ∙ w .0 .taken) (c .left-of .ensures))) (λ w. rw (w .1) (skip-left (c .before .before .before .before .before .before .loop .inv) (c .before .before .before .before .before .loop-test .taken) (sym (c .before .before .before .before .key-past .ensures) ∙ c .before .before .before .if1 .taken) (sym (c .before .before .key-begins .ensures) ∙ w .0 .left) (c .left-of .ensures))) (c .before .if2 .came))
+    {- right-of-requires -}
     (λ c κs. omega (arith, tree-fits (c .before .before .before .loop .inv .any), c .before .before .loop-test .taken))
     {- loop-less-2 -}
-    (λ c. omega (arith, c .word-of2 .ensures, sides-earlier (c .before .before .before .before .loop .inv .any) (c .before .before .before .loop-test .taken)))
+    (λ c. omega (arith, c .right-of .ensures, sides-earlier (c .before .before .before .before .loop .inv .any) (c .before .before .before .loop-test .taken)))
     {- loop-again-2 -}
-    (λ c. go-right (c .before .before .before .before .loop .inv) (c .before .before .before .loop-test .taken) (sym (c .before .before .key-past .ensures) ∙ c .before .if1 .left) (c .word-of2 .ensures))
+    (λ c. go-right (c .before .before .before .before .loop .inv) (c .before .before .before .loop-test .taken) (sym (c .before .before .key-past .ensures) ∙ c .before .if1 .left) (c .right-of .ensures))
     {- returns -}
     (λ c. seek-end (c .before .loop .inv) (c .loop-test .left)))

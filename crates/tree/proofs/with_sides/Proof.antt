@@ -1,4 +1,5 @@
 -- with_sides meets its contract.
+use mathlib.Core.Path.{_∙_}
 use Rattle.tree.specs.Insert.{with-sides}
 use borrow.Author.Needs.{needs}
 use Rattle.tree.proofs.with_sides.Statement.{statement}
@@ -15,11 +16,7 @@ with-sides-spec =
     (λ c. search needs)
     {- branch-depth-requires -}
     (λ c κs. search needs)
-    {- array-write-new -}
-    (λ c. search needs)
-    {- array-write-new-2 -}
-    (λ c. search needs)
-    {- array-write-new-3 -}
-    (λ c. search needs)
+    {- with-sides-requires -}
+    (λ c κs. search needs)
     {- returns -}
-    (λ c. rw (c .branch-depth .ensures)))
+    (λ c. c .with-sides .ensures ∙ rw (c .before .branch-depth .ensures)))
