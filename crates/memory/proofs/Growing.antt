@@ -10,7 +10,7 @@ use lib.Seq.{take-take}
 use Rattle.source.specs.Types.{trie-empty}
 use Rattle.source.specs.Table.{empty}
 use Rattle.source.specs.Calls.{fresh}
-use Rattle.memory.specs.Layout.{record-at, Which, names, modules, trieˢ, kind, Reading, among, what, table-of, state-of}
+use Rattle.memory.specs.Layout.{record-at, Which, names, modules, Reading, among, what, table-of, state-of}
 use Rattle.memory.specs.Stored.{stored}
 use Rattle.memory.specs.Sound.{LinkOk, RecordOk, Used, Sound}
 use Rattle.memory.specs.Grown.{Stays}

@@ -78,6 +78,8 @@ pub const NAMESPACES_KIND: u32 = 4;
 pub const TRIE_KIND: u32 = 5;
 
 pub const OF_MODULES: u32 = 5;
+// From the kind of a tree's branches to that of a list of such trees.
+pub const LIST_OF: u32 = 2;
 
 // The sort of a collection.
 pub const OF_TREE: u32 = 0;

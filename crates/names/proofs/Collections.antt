@@ -1,19 +1,18 @@
 -- A list of collections by its first record: what it reads as, its links, its weight, its first tree and rest.
-use Prim.Native.Nat.{ℕ, _+_, _*_, _≤_, _<_}
-use mathlib.Core.Path.{_≡_, refl, _∙_}
+use Prim.Native.Nat.{ℕ, _≤_, _<_}
+use mathlib.Core.Path.{_≡_, _∙_}
 use mathlib.Core.List.{List}
 use native.Mathlib.Omega.{arith}
-use lib.ListN.{length}
 use Rattle.source.specs.Types.{Level, Names, ImportedNames}
 use Rattle.source.specs.Terms.{weight}
 use Rattle.source.specs.Plans.{first-tree}
-use Rattle.memory.specs.Layout.{record-at, word, span, Which, tree, list, kind, what}
-use Rattle.memory.specs.Sound.{LinkOk, CollectionOk, RecordOk, Used, At}
+use Rattle.memory.specs.Layout.{record-at, word, span, Which, tree, list, what}
+use Rattle.memory.specs.Sound.{CollectionOk, At}
 use Rattle.memory.specs.Stored.{stored}
 use Rattle.memory.proofs.Readings.{what-none}
 use Rattle.memory.proofs.Records.{zero-one, zero-some, collection-at, weight-at}
 use Rattle.memory.proofs.Sizes.{stored-none, stored-weight}
-use Rattle.memory.proofs.Seen.{link-fits, link-ok, link-what, link-later}
+use Rattle.memory.proofs.Seen.{link-ok, link-what, link-later}
 use Rattle.tree.specs.Tree.{AnyTree}
 use Rattle.tree.proofs.Branches.{any-tree}
 use Rattle.names.specs.Names.{first-rest, AnyList, Led}

@@ -1,22 +1,26 @@
 -- Writers one after another, and one record put after the first n.
 use Prim.Native.Nat.{ℕ, _+_, _*_, _≤_, _<_}
 use mathlib.Core.Path.{_≡_, refl, _∙_}
-use mathlib.Core.List.{List, [], _∷_}
+use mathlib.Core.Bool.{true, false}
+use mathlib.Core.List.{List}
 use native.Mathlib.Omega.{arith}
 use lib.ListN.{length}
 use lib.Seq.{drop-paste}
 use Rattle.source.specs.Text.{Str}
 use Rattle.source.specs.Types.{Level, NameList, trie, bind, ns, ImportedNames}
 use Rattle.source.specs.Terms.{weight, depth}
-use Rattle.memory.specs.Layout.{word, Which, Item, Sort, list, trieˢ, Of, kind, row, what}
+use Rattle.memory.specs.Layout.{kind-word, weight-word, depth-word, Which, Item, Sort, list, trieˢ, Of, kind, row, what}
 use Rattle.memory.specs.Sound.{LinkOk, CollectionOk, TrieOk, WeightOk, RecordAs, Used}
-use Rattle.memory.specs.Stored.{stored, weight-of, depth-of}
+use Rattle.memory.specs.Stored.{stored, weight-in, depth-in, weight-of, depth-of}
+use Rattle.memory.specs.Made.{trie-row}
+use Rattle.memory.specs.declared.Span.{Span}
+use Rattle.memory.specs.declared.Collection.{Collection}
 use Rattle.memory.specs.Grown.{put}
 use Rattle.memory.proofs.Growing.{stays-same, stays-on, what-stays, stored-stays, link-stays}
 use Rattle.memory.proofs.Sizes.{stored-weight, stored-list, weight-row, depth-collection, depth-trie}
 use Rattle.memory.proofs.Putting.{put-stays, put-what, put-used, put-link}
 use Rattle.tree.proofs.Changes.{drop-more}
-use Rattle.names.specs.Made.{Room, Made, collection-row, MadeNames, MadeImported, MadeTrie}
+use Rattle.names.specs.Made.{Room, Made, collection-over, MadeNames, MadeImported, MadeTrie}
 use Rattle.memory.proofs.At.{rows-before}
 
 module _ {ws txt : List ℕ} {n used : ℕ} {w : Which} where
@@ -56,7 +60,7 @@ module _ {ws txt : List ℕ} {n used : ℕ} {w : Which} where
 
 -- The record r, right as s of the table w, put after the first n.
 pub made-put : {ws txt : List ℕ} {n used : ℕ} → Used ws txt n used → Room ws n 1
-    → (r : List ℕ) → length r ≡ 12 → (w : Which) (s : Sort) → word r 0 ≡ kind w s
+    → (r : List ℕ) → length r ≡ 12 → (w : Which) (s : Sort) → kind-word r ≡ kind w s
     → RecordAs ws txt used (n + 1) w s r (row w txt r (what w ws txt) s)
     → Made ws (put ws n r) txt n (n + 1) used w s (n + 1) (row w txt r (what w ws txt) s)
 unfolding put
@@ -74,16 +78,16 @@ made-put {ws} {txt} {n} o m r z w s k a =
     }
 
 module _ {ws : List ℕ} {n : ℕ} (m : Room ws n 1) where
-  pub made-trie : (kd a b : ℕ) → stored ws b 11 ≤ 16 → MadeTrie ws (put ws n (kd ∷ 0 ∷ 0 ∷ a ∷ b ∷ 0 ∷ 0 ∷ 0 ∷ 0 ∷ 0 ∷ 0 ∷ stored ws b 11 ∷ [])) n kd a b (n + 1)
+  pub made-trie : (kd a b : ℕ) → depth-in ws b ≤ 16 → MadeTrie ws (put ws n (trie-row kd (record { bindings = a; namespaces = b; depth = depth-in ws b }))) n kd a b (n + 1)
   made-trie kd a b h txt used w o k i j =
-      let r = kd ∷ 0 ∷ 0 ∷ a ∷ b ∷ 0 ∷ 0 ∷ 0 ∷ 0 ∷ 0 ∷ 0 ∷ stored ws b 11 ∷ [] in
+      let r = trie-row kd (record { bindings = a; namespaces = b; depth = depth-in ws b }) in
       let t : TrieOk ws txt used (n + 1) w r = record { bindings = i; namespaces = j } in
-      let d : stored ws b 11 ≡ depth (trie (what w ws txt a (list bind)) (what w ws txt b (list ns))) = depth-trie (rows-before o) w t in
+      let d : depth-in ws b ≡ depth (trie (what w ws txt a (list bind)) (what w ws txt b (list ns))) = depth-trie (rows-before o) w t in
       made-put o m r refl w trieˢ k (t, d, omega arith)
 
   -- A collection whose weight and depth are by what its links store.
-  made-list : (r : List ℕ) → length r ≡ 12 → word r 10 ≡ weight-of ws r → word r 10 ≤ 96 → word r 11 ≡ depth-of ws r
-      → {txt : List ℕ} {used : ℕ} → Used ws txt n used → (w : Which) (v : Level) → word r 0 ≡ kind w (list v) → CollectionOk ws txt used (n + 1) w r v
+  made-list : (r : List ℕ) → length r ≡ 12 → weight-word r ≡ weight-of ws r → weight-word r ≤ 96 → depth-word r ≡ depth-of ws r
+      → {txt : List ℕ} {used : ℕ} → Used ws txt n used → (w : Which) (v : Level) → kind-word r ≡ kind w (list v) → CollectionOk ws txt used (n + 1) w r v
       → Made ws (put ws n r) txt n (n + 1) used w (list v) (n + 1) (row w txt r (what w ws txt) (list v))
   made-list r z e h f {txt} {used} o w v k c = made-put o m r z w (list v) k (right v c)
     where
@@ -94,26 +98,34 @@ module _ {ws : List ℕ} {n : ℕ} (m : Room ws n 1) where
       right bind c = (c, weighed bind c)
       right ns c = (c, weighed ns c, f ∙ depth-collection (rows-before o) w c)
 
-  pub made-names : (kd own rest : ℕ) → stored ws rest 10 < 96 → MadeNames ws (put ws n (collection-row ws kd 0 0 own rest 0 (stored ws rest 10 + 1))) n kd own rest (n + 1)
+  -- A tree in front of a list.
+  abbrev names-of : (own rest : ℕ) → Collection
+  names-of own rest = record { imported = false; label = record { start = 0; len = 0 }; own = own; rest = rest; weight = weight-in ws rest + 1 }
+
+  pub made-names : (kd own rest : ℕ) → weight-in ws rest < 96 → MadeNames ws (put ws n (collection-over ws kd (names-of own rest))) n kd own rest (n + 1)
   unfolding weight-of depth-of
   made-names kd own rest h txt used w v o k i j =
-      made-list (collection-row ws kd 0 0 own rest 0 (stored ws rest 10 + 1)) refl (omega arith) (omega arith) refl o w v k
+      made-list (collection-over ws kd (names-of own rest)) refl (omega arith) (omega arith) refl o w v k
       (record { sort = omega arith; own = λ _. i; imported = λ e. absurd (omega arith); label = λ e. absurd (omega arith); rest = j })
 
-  pub made-imported : (kd start len own rest : ℕ) → stored ws own 10 + stored ws rest 10 < 96
-      → MadeImported ws (put ws n (collection-row ws kd start len own rest 1 (stored ws own 10 + stored ws rest 10 + 1))) n kd start len own rest (n + 1)
+  -- A list imported under a label in front of a list.
+  abbrev import-of : Span → (own rest : ℕ) → Collection
+  import-of label own rest = record { imported = true; label = label; own = own; rest = rest; weight = weight-in ws own + weight-in ws rest + 1 }
+
+  pub made-imported : (kd : ℕ) (label : Span) (own rest : ℕ) → weight-in ws own + weight-in ws rest < 96
+      → MadeImported ws (put ws n (collection-over ws kd (import-of label own rest))) n kd (label .start) (label .len) own rest (n + 1)
   unfolding weight-of depth-of
-  made-imported kd start len own rest h txt used w v o k x i j =
-      made-list (collection-row ws kd start len own rest 1 (stored ws own 10 + stored ws rest 10 + 1)) refl (omega arith) (omega arith) refl o w v k
+  made-imported kd label own rest h txt used w v o k x i j =
+      made-list (collection-over ws kd (import-of label own rest)) refl (omega arith) (omega arith) refl o w v k
       (record { sort = omega arith; own = λ e. absurd (omega arith); imported = λ _. i; label = λ _. x; rest = j })
 
 -- ---- What the writers ask of weights and depths
 module _ {ws txt : List ℕ} {n used : ℕ} (o : Used ws txt n used) (w : Which) where
   pub imported-light : (v : Level) {own rest : ℕ} (label : Str) → LinkOk ws (n + 1) own (kind w (list v)) → LinkOk ws (n + 1) rest (kind w (list v))
-      → weight (ImportedNames label (what w ws txt own (list v)) (what w ws txt rest (list v))) ≤ 96 → stored ws own 10 + stored ws rest 10 < 96
+      → weight (ImportedNames label (what w ws txt own (list v)) (what w ws txt rest (list v))) ≤ 96 → weight-in ws own + weight-in ws rest < 96
   unfolding weight
   imported-light v label i j h = omega (arith, stored-weight (rows-before o) w v _ i, stored-weight (rows-before o) w v _ j, h)
 
-  pub trie-shallow : {y : ℕ} (t : NameList (Item w) bind) → LinkOk ws (n + 1) y (kind w (list ns)) → depth (trie t (what w ws txt y (list ns))) ≤ 16 → stored ws y 11 ≤ 16
+  pub trie-shallow : {y : ℕ} (t : NameList (Item w) bind) → LinkOk ws (n + 1) y (kind w (list ns)) → depth (trie t (what w ws txt y (list ns))) ≤ 16 → depth-in ws y ≤ 16
   unfolding depth
   trie-shallow t i h = omega (arith, stored-list (rows-before o) w _ i, h)

@@ -1,13 +1,15 @@
 -- What a writer of records makes.
 use Prim.Native.Nat.{ℕ, _+_, _*_, _≤_, max}
 use mathlib.Core.Path.{_≡_}
-use mathlib.Core.List.{List, [], _∷_}
+use mathlib.Core.List.{List}
 use lib.ListN.{length, drop}
 use Rattle.source.specs.Types.{Level, trie, bind, ns, Names, ImportedNames}
 use Rattle.source.specs.Rules.{IsLabel}
 use Rattle.memory.specs.Layout.{span, Which, Item, Sort, tree, list, trieˢ, Of, kind, what}
 use Rattle.memory.specs.Sound.{LinkOk, TextOk, Used}
-use Rattle.memory.specs.Stored.{stored}
+use Rattle.memory.specs.Stored.{depth-in}
+use Rattle.memory.specs.Made.{collection-row}
+use Rattle.memory.specs.declared.Collection.{Collection}
 use Rattle.memory.specs.Grown.{Stays}
 
 -- Room for m records after the first n.
@@ -25,9 +27,8 @@ pub record Made (ws ws′ txt : List ℕ) (n n′ used : ℕ) (w : Which) (s : S
   pub reads : what w ws′ txt r s ≡ t
 
 -- The words of a collection, its depth by what its two links store.
-abbrev pub collection-row : (ws : List ℕ) (kd start len own rest sort weight : ℕ) → List ℕ
-collection-row ws kd start len own rest sort weight =
-    kd ∷ start ∷ len ∷ own ∷ rest ∷ sort ∷ 0 ∷ 0 ∷ 0 ∷ 0 ∷ weight ∷ max (stored ws own 11) (stored ws rest 11) ∷ []
+abbrev pub collection-over : (ws : List ℕ) (kd : ℕ) → Collection → List ℕ
+collection-over ws kd c = collection-row kd c (max (depth-in ws (c .own)) (depth-in ws (c .rest)))
 
 -- Names of a tree in front of a list, as the record after the first n.
 abbrev pub MadeNames : (ws ws′ : List ℕ) (n kd own rest r : ℕ) → Type 0

@@ -10,7 +10,7 @@ use Rattle.source.specs.Tries.{names-find-exact, names-insert}
 use Rattle.source.specs.Terms.{weight}
 use Rattle.source.specs.Plans.{insert-branches, first-tree}
 use Rattle.memory.specs.Layout.{pick, Which, Item, tree, list, kind, what, key-at}
-use Rattle.memory.specs.Sound.{LinkOk, Used, At}
+use Rattle.memory.specs.Sound.{LinkOk, At}
 use Rattle.tree.specs.Tree.{held}
 
 -- What names_insert puts the first tree in front of.

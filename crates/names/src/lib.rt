@@ -1,14 +1,16 @@
 // Lists of collections of the record memory: find, insertion and imports, and the record of a trie.
 // A list is the link of its first collection; the same functions serve both tables and both levels.
+use memory::Collection;
 use memory::Span;
+use memory::Trie;
 ghost use mathlib.Core.Path.{_≡_};
 ghost use Prim.Native.Nat.{_+_, _*_, _<_, _≤_};
 ghost use lib.ListN.{length};
-ghost use Rattle.memory.specs.Stored.{stored};
+ghost use Rattle.memory.specs.Stored.{weight-in, depth-in};
 ghost use Rattle.memory.specs.Grown.{put};
 ghost use Rattle.names.specs.Names.{AnyList, Led, Holder, NamesPlaced};
 ghost use Rattle.names.specs.Insert.{AnyNamesInsertion, NamesInserts};
-ghost use Rattle.names.specs.Made.{Room, collection-row, MadeNames, MadeImported, MadeTrie};
+ghost use Rattle.names.specs.Made.{Room, collection-over, MadeNames, MadeImported, MadeTrie};
 
 // The tree that a list begins with, 0 for none, and the rest after it.
 pub struct Lead {
@@ -81,40 +83,18 @@ pub fn names_place(words: &[u32], text: &[u8], list: u32, key: &[u8]) -> NamesPl
 }
 
 // Puts the record of a collection, with the greater depth of its two links. The answer is its link.
-fn put_collection(
-    words: &mut [u32],
-    records: u32,
-    kind: u32,
-    label: Span,
-    own: u32,
-    rest: u32,
-    imported: u32,
-    weight: u32,
-) -> u32
+fn put_collection(words: &mut [u32], records: u32, kind: u32, c: Collection) -> u32
     requires { ⌜ Room (now words) records 1 ⌝ }
-    requires { ⌜ (own ≤ records) × (rest ≤ records) ⌝ }
+    requires { ⌜ (c .own ≤ records) × (c .rest ≤ records) ⌝ }
     ensures { λ r. ⌜ r ≡ records + 1 ⌝ }
-    ensures { λ r. ⌜ now (words .exit) ≡ put (now (words .entry)) records (collection-row (now (words .entry)) kind (label .start) (label .len) own rest imported weight) ⌝ }
+    ensures { λ r. ⌜ now (words .exit) ≡ put (now (words .entry)) records (collection-over (now (words .entry)) kind c) ⌝ }
 {
-    let mut depth = memory::depth_of(words, own);
-    let other = memory::depth_of(words, rest);
+    let mut depth = memory::depth_of(words, c.own);
+    let other = memory::depth_of(words, c.rest);
     if depth < other {
         depth = other;
     }
-    let row = [
-        kind,
-        label.start,
-        label.len,
-        own,
-        rest,
-        imported,
-        0,
-        0,
-        0,
-        0,
-        weight,
-        depth,
-    ];
+    let row = memory::make::collection_row(kind, c, depth);
     memory::put_row(words, records, &row);
     records + 1
 }
@@ -122,13 +102,19 @@ fn put_collection(
 // Puts the tree `own` in front of the list `rest`. The answer is the new list.
 pub fn put_names(words: &mut [u32], records: u32, kind: u32, own: u32, rest: u32) -> u32
     requires { ⌜ Room (now words) records 1 ⌝ }
-    requires { ⌜ (own ≤ records) × (rest ≤ records) × (stored (now words) rest 10 < 96) ⌝ }
+    requires { ⌜ (own ≤ records) × (rest ≤ records) × (weight-in (now words) rest < 96) ⌝ }
     ensures { λ r. ⌜ r ≡ records + 1 ⌝ }
     ensures { λ r. ⌜ MadeNames (now (words .entry)) (now (words .exit)) records kind own rest r ⌝ }
 {
-    let label = Span { start: 0, len: 0 };
     let weight = memory::weight_of(words, rest) + 1;
-    put_collection(words, records, kind, label, own, rest, 0, weight)
+    let c = Collection {
+        imported: false,
+        label: Span { start: 0, len: 0 },
+        own: own,
+        rest: rest,
+        weight: weight,
+    };
+    put_collection(words, records, kind, c)
 }
 
 // Inserts the branch `row` into the first tree of a list, which builds `count` branches, and puts that tree in front of the rest.
@@ -139,7 +125,7 @@ pub fn names_insert(
     records: u32,
     list: u32,
     count: u32,
-    row: [u32; 12],
+    row: [u32; memory::ROW],
 ) -> u32
     requires { ⌜ AnyNamesInsertion (now words) (now text) records list count row ⌝ }
     ensures { λ r. ⌜ r ≡ records + count + 1 ⌝ }
@@ -147,7 +133,13 @@ pub fn names_insert(
 {
     let lead = lead_of(words, list);
     let tree = tree::btree_insert_replace(words, text, records, lead.tree, count, row);
-    put_names(words, records + count, row[0] + 2, tree, lead.rest)
+    put_names(
+        words,
+        records + count,
+        row[memory::KIND] + memory::LIST_OF,
+        tree,
+        lead.rest,
+    )
 }
 
 // Puts the list `inner`, imported under a label, in front of `list`. The answer is the new list.
@@ -160,23 +152,34 @@ pub fn imported(
     list: u32,
 ) -> u32
     requires { ⌜ Room (now words) records 1 ⌝ }
-    requires { ⌜ (inner ≤ records) × (list ≤ records) × (stored (now words) inner 10 + stored (now words) list 10 < 96) ⌝ }
+    requires { ⌜ (inner ≤ records) × (list ≤ records) × (weight-in (now words) inner + weight-in (now words) list < 96) ⌝ }
     ensures { λ r. ⌜ r ≡ records + 1 ⌝ }
     ensures { λ r. ⌜ MadeImported (now (words .entry)) (now (words .exit)) records kind (label .start) (label .len) inner list r ⌝ }
 {
     let weight = memory::weight_of(words, inner) + memory::weight_of(words, list) + 1;
-    put_collection(words, records, kind, label, inner, list, 1, weight)
+    let c = Collection {
+        imported: true,
+        label: label,
+        own: inner,
+        rest: list,
+        weight: weight,
+    };
+    put_collection(words, records, kind, c)
 }
 
 // Puts the trie of two lists. The answer is its link.
 pub fn put_trie(words: &mut [u32], records: u32, kind: u32, bindings: u32, namespaces: u32) -> u32
     requires { ⌜ Room (now words) records 1 ⌝ }
-    requires { ⌜ (namespaces ≤ records) × (stored (now words) namespaces 11 ≤ 16) ⌝ }
+    requires { ⌜ (namespaces ≤ records) × (depth-in (now words) namespaces ≤ 16) ⌝ }
     ensures { λ r. ⌜ r ≡ records + 1 ⌝ }
     ensures { λ r. ⌜ MadeTrie (now (words .entry)) (now (words .exit)) records kind bindings namespaces r ⌝ }
 {
-    let depth = memory::depth_of(words, namespaces);
-    let row = [kind, 0, 0, bindings, namespaces, 0, 0, 0, 0, 0, 0, depth];
+    let t = Trie {
+        bindings: bindings,
+        namespaces: namespaces,
+        depth: memory::depth_of(words, namespaces),
+    };
+    let row = memory::make::trie_row(kind, t);
     memory::put_row(words, records, &row);
     records + 1
 }

@@ -1,11 +1,10 @@
 -- Registrations keep tries formed and look-ups give formed values; accepted calls keep tables sound (accepted-sound, made-sound).
-use Prim.Native.Nat.{_≤_, max, Ordering, Ordering·lt, Ordering·eq, Ordering·gt}
+use Prim.Native.Nat.{max, Ordering, Ordering·lt, Ordering·eq, Ordering·gt}
 use mathlib.Core.Path.{_≡_}
 use mathlib.Core.Bool.{Bool, true, false, cond}
 use mathlib.Core.List.{List, [], _∷_, reverseAux}
 use mathlib.Core.Option.{Option, none, some}
 use native.Mathlib.Omega.{arith}
-use lib.ListN.{length}
 use borrow.Author.Tests.{ltb-false, not-false}
 use Rattle.source.specs.Text.{Str, Query, string-compare, query-to-string, segments, name-byte, path-byte}
 use Rattle.source.specs.Types.{Level, Value, Trie, Tree, NameList, bind, ns, item, trie, StrEmpty, StrBranch, []ᴺ, Names, ImportedNames, bindings, namespaces, trie-empty}
@@ -18,7 +17,7 @@ use Rattle.source.specs.Calls.{Argument, a-query, a-name, a-path, a-look
 use Rattle.source.proofs.Order.{View, compare-strings}
 use Rattle.source.specs.Shared.{Allˡ}
 use Rattle.source.proofs.Lookup.{Allˡ-zip}
-use Rattle.source.specs.Queries.{IsQuery, IsCompletion}
+use Rattle.source.specs.Queries.{IsQuery}
 use Rattle.source.proofs.Queries.{or-parts, any-false, nonempty-length, name-key, path-fits, segments-query, segments-completion, query-to-string-label, name-of-revq-full-name}
 use Rattle.source.proofs.Refusals.{Admitted, accepted-is, accepted-acceptable}
 use Rattle.source.specs.Queries.{Keeps}

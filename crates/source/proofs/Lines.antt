@@ -7,7 +7,7 @@ use mathlib.Core.Option.{Option, none, some}
 use native.Mathlib.Omega.{arith}
 use lib.ListN.{length, length-append, length-map}
 use Rattle.source.specs.Text.{Query}
-use Rattle.source.specs.Types.{Value, Trie, bind, the-item, bindings, namespaces}
+use Rattle.source.specs.Types.{Value, Trie, bind, bindings, namespaces}
 use Rattle.source.specs.Trees.{PathElem}
 use Rattle.source.specs.Terms.{depth}
 use Rattle.source.specs.Listing.{PathOf, fold-left, rev-map-onto, ns-search-term, bindings-search-term, names-find-rev, find-prefix-fuel, trie-find-prefix′, trie-find-prefix}

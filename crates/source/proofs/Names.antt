@@ -6,7 +6,7 @@ use mathlib.Core.Option.{Option, none, some}
 use Rattle.source.specs.Text.{Str, starts-with}
 use Rattle.source.specs.Rules.{Ordered}
 use Rattle.source.specs.Types.{Level, Value, Tree, NameList, []ᴺ, Names, ImportedNames}
-use Rattle.source.specs.Trees.{PrefixMatch, PathElem, btree-find-exact, btree-find-all, btree-find-prefix}
+use Rattle.source.specs.Trees.{PrefixMatch, PathElem, btree-find-exact}
 use Rattle.source.specs.Tries.{or-else, names-find-exact}
 use Rattle.source.specs.Shared.{same, Allˡ}
 use Rattle.source.proofs.Lookup.{lookup, first-lookup, Above, Increasing, Decreasing, or-else-none}

@@ -9,7 +9,7 @@ use lib.ListN.{length, take, length-append, length-reverse}
 use native.Mathlib.Numerals.{sub-one}
 use borrow.Author.Tests.{eqb-true, ltb-false, not-false}
 use Rattle.source.specs.Text.{Str, Query, dot, query-to-string, onto-first, segments, ends-in-dot, name-byte, query-byte, path-byte}
-use Rattle.source.specs.Rules.{all, Fits, IsKey, IsLabel, IsFullName, IsPath}
+use Rattle.source.specs.Rules.{all, IsKey, IsLabel, IsFullName, IsPath}
 use Rattle.source.specs.Table.{name-of-revq}
 use Rattle.source.specs.Calls.{is-empty, any, bad-query, long-query}
 use Rattle.source.specs.Shared.{Allˡ}

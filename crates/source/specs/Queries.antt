@@ -1,5 +1,5 @@
 -- What the texts of a call keep once rows 2 to 4 are passed.
-use Prim.Native.Nat.{ℕ, _≤_}
+use Prim.Native.Nat.{_≤_}
 use lib.ListN.{length}
 use Rattle.source.specs.Text.{Query, segments, name-byte}
 use Rattle.source.specs.Rules.{Fits, IsKey, IsPath}

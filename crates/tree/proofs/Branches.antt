@@ -1,16 +1,16 @@
 -- A branch of a tree: what it reads as, its key, and its two sides.
 use Prim.Native.Nat.{ℕ, _+_, _-_, _*_, _≤_, _<_}
-use mathlib.Core.Path.{_≡_, refl, _∙_}
+use mathlib.Core.Path.{_≡_, _∙_}
 use mathlib.Core.List.{List}
 use native.Mathlib.Omega.{arith}
 use lib.ListN.{length, take, drop}
 use Rattle.source.specs.Types.{Level, StrBranch}
 use Rattle.source.specs.Rules.{Ordered}
-use Rattle.memory.specs.Layout.{record-at, word, span, Which, tree, kind, what, key-at}
+use Rattle.memory.specs.Layout.{record-at, word, span, Which, tree, what, key-at}
 use Rattle.memory.specs.Read.{TextIn}
-use Rattle.memory.specs.Sound.{LinkOk, BranchOk, Used, At}
+use Rattle.memory.specs.Sound.{BranchOk, At}
 use Rattle.memory.proofs.Records.{links-earlier, branch-at, ordered-at}
-use Rattle.memory.proofs.Seen.{link-fits, link-ok, link-what, link-later}
+use Rattle.memory.proofs.Seen.{link-fits, link-ok, link-what}
 use Rattle.text.proofs.Texts.{part-is}
 use Rattle.tree.specs.Tree.{held, AnyTree}
 use Rattle.memory.proofs.At.{at-of}

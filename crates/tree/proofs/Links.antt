@@ -1,5 +1,5 @@
 -- The branches of a tree as links: each in its place, what holds of each, and the rows that they give.
-use Prim.Native.Nat.{ℕ, zero, suc, _+_, _≤_, _<_}
+use Prim.Native.Nat.{ℕ, zero, suc, _≤_, _<_}
 use mathlib.Core.Path.{_≡_, refl, sym, _∙_, subst}
 use mathlib.Core.List.{List, [], _∷_, _++_, map, append-assoc, append-nil}
 use mathlib.Core.Logic.{⊎-elim}
@@ -13,8 +13,8 @@ use Rattle.source.specs.Trees.{PrefixMatch, btree-fold, btree-find-all}
 use Rattle.source.specs.Rules.{AllKeys, Ordered}
 use Rattle.source.specs.Shared.{Allˡ}
 use Rattle.source.proofs.Lookup.{Allˡ-map}
-use Rattle.memory.specs.Layout.{record-at, word, Which, Item, tree, kind, what, key-at}
-use Rattle.memory.specs.Sound.{LinkOk, At}
+use Rattle.memory.specs.Layout.{record-at, word, Which, Item, tree, what, key-at}
+use Rattle.memory.specs.Sound.{At}
 use Rattle.memory.proofs.Readings.{what-none}
 use Rattle.memory.proofs.Records.{zero-some}
 use Rattle.memory.proofs.Seen.{link-later}

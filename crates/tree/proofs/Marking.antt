@@ -12,7 +12,7 @@ use Rattle.memory.specs.Layout.{record-at, word, tree, what, key-at}
 use Rattle.memory.specs.Grown.{Stays}
 use Rattle.memory.proofs.Growing.{record-stays, stays-same, stays-on}
 use Rattle.tree.specs.Tree.{AnyTree, Builds}
-use Rattle.tree.specs.Insert.{noted-link, noted-side, Turn, Trail, top, turn, Noted, Marked}
+use Rattle.tree.specs.Insert.{noted-link, Turn, Trail, top, turn, Noted, Marked}
 use Rattle.tree.proofs.Searches.{Search, search-all, search-left, search-right, search-here, search-none}
 use Rattle.tree.proofs.Seeking.{by-order}
 use Rattle.tree.proofs.Changes.{drop-more, key-stays, any-stays, trail-stays}

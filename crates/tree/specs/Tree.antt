@@ -9,7 +9,7 @@ use Rattle.source.specs.Types.{Level, Value}
 use Rattle.source.specs.Trees.{btree-find-exact}
 use Rattle.source.specs.Plans.{insert-branches}
 use Rattle.memory.specs.Layout.{key-at, record-at, pick, Which, Item, tree, kind, value, what}
-use Rattle.memory.specs.Sound.{LinkOk, Used, At}
+use Rattle.memory.specs.Sound.{LinkOk, At}
 
 -- What that key stands for.
 unfoldable pub held : (w : Which) → List ℕ → List ℕ → (v : Level) → ℕ → Value (Item w) v

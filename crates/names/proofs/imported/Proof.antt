@@ -23,5 +23,5 @@ imported-spec =
     {- returns -}
     (λ c. (
       c .before .before .put-collection .ensures .0,
-      rw (c .before .before .put-collection .ensures .1, c .before .before .put-collection .ensures .0, c .before .before .before .before .before .before .weight-of .ensures, c .before .before .before .before .weight-of2 .ensures) (made-imported (c .before .before .before .before .before .before .before .before .before .pre .0) _ _ _ _ _ (c .before .before .before .before .before .before .before .before .before .pre .1 .2)),
+      rw (c .before .before .put-collection .ensures .1, c .before .before .put-collection .ensures .0, c .before .before .before .before .before .before .weight-of .ensures, c .before .before .before .before .weight-of2 .ensures) (made-imported (c .before .before .before .before .before .before .before .before .before .pre .0) _ _ _ _ (c .before .before .before .before .before .before .before .before .before .pre .1 .2)),
     )))

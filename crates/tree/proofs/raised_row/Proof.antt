@@ -1,7 +1,7 @@
 -- raised_row meets its contract, by the side that is noted.
 use mathlib.Core.Path.{sym, _∙_}
 use borrow.Author.Tests.{eq-eqb, ne-eqb}
-use Rattle.tree.specs.Insert.{noted-link, noted-side, raised-row}
+use Rattle.tree.specs.Insert.{noted-side, raised-row}
 use borrow.Author.Needs.{needs}
 use Rattle.tree.proofs.raised_row.Statement.{statement}
 use Rattle.tree.proofs.raised_row.Tie as tie
