@@ -6,9 +6,9 @@ use native.Mathlib.Omega.{arith}
 use Rattle.source.specs.Types.{Level, Names, ImportedNames}
 use Rattle.source.specs.Terms.{weight}
 use Rattle.source.specs.Plans.{first-tree}
-use Rattle.memory.specs.Layout.{record-at, word, span, Which, tree, list, what}
+use Rattle.memory.specs.Layout.{record-at, span, Which, tree, list, what, own-link, rest-link, sort-word, text-len, text-start}
 use Rattle.memory.specs.Sound.{CollectionOk, At}
-use Rattle.memory.specs.Stored.{stored}
+use Rattle.memory.specs.Stored.{weight-in}
 use Rattle.memory.proofs.Readings.{what-none}
 use Rattle.memory.proofs.Records.{zero-one, zero-some, collection-at, weight-at}
 use Rattle.memory.proofs.Sizes.{stored-none, stored-weight}
@@ -22,10 +22,10 @@ pub any-list : {ws txt : List ℕ} {w : Which} {v : Level} {x : ℕ} → At ws t
 any-list {w = w} {v} t = record { which = w; level = v; list = t }
 
 module _ {ws txt : List ℕ} {w : Which} {v : Level} {x : ℕ} (t : At ws txt w (list v) x) where
-  pub list-weight : stored ws x 10 ≡ weight (what w ws txt x (list v))
+  pub list-weight : weight-in ws x ≡ weight (what w ws txt x (list v))
   list-weight = stored-weight (rows-before (t .sound)) w v x (t .link)
 
-  pub list-light : stored ws x 10 ≤ 96
+  pub list-light : weight-in ws x ≤ 96
   list-light =
       zero-some x (λ e. rw (e, stored-none ws 10) (omega arith))
       (λ p. rw list-weight (weight-at (link-ok (t .sound) (t .link) p) w v (t .link .of-kind (λ e. omega arith)) .light))
@@ -35,44 +35,44 @@ module _ {ws txt : List ℕ} {w : Which} {v : Level} {x : ℕ} (t : At ws txt w 
   pub collection-right : CollectionOk ws txt (t .used) x w (record-at ws x) v
   collection-right = collection-at (link-ok (t .sound) (t .link) p) w v (t .link .of-kind (λ e. omega arith))
 
-  pub sort-tree : (word (record-at ws x) 5 ≡ 1 → ⊥) → word (record-at ws x) 5 ≡ 0
+  pub sort-tree : (sort-word (record-at ws x) ≡ 1 → ⊥) → sort-word (record-at ws x) ≡ 0
   sort-tree n = omega (arith, collection-right .sort, n)
 
-  pub rest-list : At ws txt w (list v) (word (record-at ws x) 4)
+  pub rest-list : At ws txt w (list v) (rest-link (record-at ws x))
   rest-list = at-of t (list _) (omega arith) (collection-right .rest)
 
-  module _ (e : word (record-at ws x) 5 ≡ 0) where
-    pub own-tree : At ws txt w (tree v) (word (record-at ws x) 3)
+  module _ (e : sort-word (record-at ws x) ≡ 0) where
+    pub own-tree : At ws txt w (tree v) (own-link (record-at ws x))
     own-tree = at-of t (tree _) (omega arith) (collection-right .own e)
 
-    pub names-reads : what w ws txt x (list v) ≡ Names (what w ws txt (word (record-at ws x) 3) (tree v)) (what w ws txt (word (record-at ws x) 4) (list v))
+    pub names-reads : what w ws txt x (list v) ≡ Names (what w ws txt (own-link (record-at ws x)) (tree v)) (what w ws txt (rest-link (record-at ws x)) (list v))
     names-reads = link-what (t .sound) w (list v) (t .link) p ∙ rw e
 
-  module _ (e : word (record-at ws x) 5 ≡ 1) where
-    pub imported-list : At ws txt w (list v) (word (record-at ws x) 3)
+  module _ (e : sort-word (record-at ws x) ≡ 1) where
+    pub imported-list : At ws txt w (list v) (own-link (record-at ws x))
     imported-list = at-of t (list _) (omega arith) (collection-right .imported e)
 
     pub imported-reads : what w ws txt x (list v)
-        ≡ ImportedNames (span txt (word (record-at ws x) 1) (word (record-at ws x) 2)) (what w ws txt (word (record-at ws x) 3) (list v)) (what w ws txt (word (record-at ws x) 4) (list v))
+        ≡ ImportedNames (span txt (text-start (record-at ws x)) (text-len (record-at ws x))) (what w ws txt (own-link (record-at ws x)) (list v)) (what w ws txt (rest-link (record-at ws x)) (list v))
     imported-reads = link-what (t .sound) w (list v) (t .link) p ∙ rw e
 
-    pub imported-lighter : stored ws (word (record-at ws x) 3) 10 < stored ws x 10
+    pub imported-lighter : weight-in ws (own-link (record-at ws x)) < weight-in ws x
     unfolding weight
     imported-lighter = rw (list-weight t, imported-reads, list-weight imported-list) (omega arith)
 
-  pub rest-lighter : stored ws (word (record-at ws x) 4) 10 < stored ws x 10
+  pub rest-lighter : weight-in ws (rest-link (record-at ws x)) < weight-in ws x
   unfolding weight
   rest-lighter =
-      zero-one (word (record-at ws x) 5) (collection-right .sort)
+      zero-one (sort-word (record-at ws x)) (collection-right .sort)
       (λ e. rw (list-weight t, names-reads e, list-weight rest-list) (omega arith))
       (λ e. rw (list-weight t, imported-reads e, list-weight rest-list) (omega arith))
 
 -- What the first record's own link names.
-module _ {ws txt : List ℕ} {x y : ℕ} (a : AnyList ws txt x) (p : 0 < x) (q : y ≡ word (record-at ws x) 3) where
-  pub any-imported : word (record-at ws x) 5 ≡ 1 → AnyList ws txt y
+module _ {ws txt : List ℕ} {x y : ℕ} (a : AnyList ws txt x) (p : 0 < x) (q : y ≡ own-link (record-at ws x)) where
+  pub any-imported : sort-word (record-at ws x) ≡ 1 → AnyList ws txt y
   any-imported e = rw q (any-list (imported-list (a .list) p e))
 
-  pub any-own : (word (record-at ws x) 5 ≡ 1 → ⊥) → AnyTree ws txt y
+  pub any-own : (sort-word (record-at ws x) ≡ 1 → ⊥) → AnyTree ws txt y
   any-own n = rw q (any-tree (own-tree (a .list) p (sort-tree (a .list) p n)))
 
 -- ---- the first tree and the rest
@@ -93,7 +93,7 @@ led-none {ws} e txt w v t = rw e (record {
 })
 
 module _ {ws : List ℕ} {x : ℕ} (p : 0 < x) where
-  pub led-imported : word (record-at ws x) 5 ≡ 1 → Led ws x 0 x
+  pub led-imported : sort-word (record-at ws x) ≡ 1 → Led ws x 0 x
   unfolding first-tree first-rest
   led-imported e txt w v t = record {
     first-link = no-link x _;
@@ -102,7 +102,7 @@ module _ {ws : List ℕ} {x : ℕ} (p : 0 < x) where
     rest-reads = rw (imported-reads t p e);
   }
 
-  pub led-names : {a b : ℕ} → (word (record-at ws x) 5 ≡ 1 → ⊥) → a ≡ word (record-at ws x) 3 → b ≡ word (record-at ws x) 4 → Led ws x a b
+  pub led-names : {a b : ℕ} → (sort-word (record-at ws x) ≡ 1 → ⊥) → a ≡ own-link (record-at ws x) → b ≡ rest-link (record-at ws x) → Led ws x a b
   unfolding first-tree first-rest
   led-names n ea eb txt w v t =
       let o = collection-right t p in

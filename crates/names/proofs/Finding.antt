@@ -9,9 +9,9 @@ use borrow.Author.Tests.{ne-eqb}
 use Rattle.source.specs.Text.{Str}
 use Rattle.source.specs.Types.{Level}
 use Rattle.source.specs.Tries.{or-else, names-find-exact}
-use Rattle.memory.specs.Layout.{record-at, word, pick, Which, tree, list, kind, what, key-at}
+use Rattle.memory.specs.Layout.{record-at, pick, Which, tree, list, kind, what, key-at, own-link, rest-link, sort-word}
 use Rattle.memory.specs.Sound.{LinkOk, At}
-use Rattle.memory.specs.Stored.{stored}
+use Rattle.memory.specs.Stored.{weight-in}
 use Rattle.memory.proofs.Readings.{what-none}
 use Rattle.memory.proofs.Seen.{link-later}
 use Rattle.tree.specs.Tree.{held, Found}
@@ -26,7 +26,7 @@ pub record FindIn (ws txt : List ℕ) (w : Which) (v : Level) (x : ℕ) (key : S
 -- The find stands at link: no collection before it has the key.
 pub record Find (ws txt : List ℕ) (x : ℕ) (key : Str) (link : ℕ) : Type 0 where
   pub earlier : link ≤ x
-  pub lighter : stored ws link 10 ≤ stored ws x 10
+  pub lighter : weight-in ws link ≤ weight-in ws x
   pub any : AnyList ws txt link
   pub says : (w : Which) (v : Level) → At ws txt w (list v) x → FindIn ws txt w v x key link
 
@@ -35,13 +35,13 @@ pub record FirstIn (ws txt : List ℕ) (w : Which) (v : Level) (link : ℕ) (key
   pub found : LinkOk ws (link + 1) r (kind w (tree v))
   pub has-key : 0 < r → key-at ws txt r ≡ key
   pub says : names-find-exact (what w ws txt link (list v)) key
-      ≡ or-else (pick (eqb r 0) none (some (held w ws txt v r))) (names-find-exact (what w ws txt (word (record-at ws link) 4) (list v)) key)
+      ≡ or-else (pick (eqb r 0) none (some (held w ws txt v r))) (names-find-exact (what w ws txt (rest-link (record-at ws link)) (list v)) key)
 
 abbrev pub First : (ws txt : List ℕ) (link : ℕ) (key : Str) (r : ℕ) → Type 0
 First ws txt link key r = (w : Which) (v : Level) → At ws txt w (list v) link → FirstIn ws txt w v link key r
 
-module _ {ws txt : List ℕ} {key : Str} {link own r : ℕ} (p : 0 < link) (q : own ≡ word (record-at ws link) 3) where
-  pub first-imported : word (record-at ws link) 5 ≡ 1 → Holder ws txt own key r → First ws txt link key r
+module _ {ws txt : List ℕ} {key : Str} {link own r : ℕ} (p : 0 < link) (q : own ≡ own-link (record-at ws link)) where
+  pub first-imported : sort-word (record-at ws link) ≡ 1 → Holder ws txt own key r → First ws txt link key r
   unfolding names-find-exact
   first-imported e h w v t =
       let g = h w v (rw q (imported-list t p e)) in
@@ -51,7 +51,7 @@ module _ {ws txt : List ℕ} {key : Str} {link own r : ℕ} (p : 0 < link) (q : 
         says = rw (imported-reads t p e, ← q, g .says);
       }
 
-  pub first-names : (word (record-at ws link) 5 ≡ 1 → ⊥) → Found ws txt own key r → First ws txt link key r
+  pub first-names : (sort-word (record-at ws link) ≡ 1 → ⊥) → Found ws txt own key r → First ws txt link key r
   unfolding names-find-exact
   first-names n h w v t =
       let e = sort-tree t p n in
@@ -77,7 +77,7 @@ module _ {ws txt : List ℕ} {x : ℕ} {key : Str} {link : ℕ} (g : Find ws txt
         says = s .finds ∙ h .says ∙ rw (ne-eqb r 0 (λ z. omega arith));
       }
 
-  pub find-on : {r j : ℕ} → 0 < link → First ws txt link key r → r ≤ 0 → j ≡ word (record-at ws link) 4 → Find ws txt x key j
+  pub find-on : {r j : ℕ} → 0 < link → First ws txt link key r → r ≤ 0 → j ≡ rest-link (record-at ws link) → Find ws txt x key j
   unfolding or-else
   find-on {r} {j} p f n q =
       let z : r ≡ 0 = omega arith in

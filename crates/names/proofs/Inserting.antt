@@ -8,8 +8,8 @@ use Rattle.source.specs.Types.{Level, bind, ns}
 use Rattle.source.specs.Trees.{btree-insert-replace}
 use Rattle.source.specs.Terms.{weight}
 use Rattle.source.specs.Plans.{insert-branches}
-use Rattle.memory.specs.Layout.{word, span, Which, names, modules, Item, Sort, tree, list, trieˢ, Of, kind, value, what, key-at}
-use Rattle.memory.specs.Stored.{stored}
+use Rattle.memory.specs.Layout.{span, Which, names, modules, Item, Sort, tree, list, trieˢ, Of, kind, value, what, key-at, kind-word, text-len, text-start}
+use Rattle.memory.specs.Stored.{weight-in}
 use Rattle.memory.proofs.Readings.{what-none}
 use Rattle.memory.proofs.Records.{zero-some, kind-one}
 use Rattle.memory.proofs.Seen.{link-later}
@@ -65,7 +65,7 @@ module _ {ws txt : List ℕ} (key : Str) where
 
 -- The place of a key, found before other writes, serves an insertion after them.
 pub insertion-after : {ws ws′ txt : List ℕ} {n n′ used : ℕ} {w : Which} {s : Sort} {y : ℕ} {t : Of (Item w) s} → Made ws ws′ txt n n′ used w s y t
-    → {v : Level} {x holder count wt : ℕ} → At ws txt w (list v) x → x ≤ n → (r : List ℕ) → NamesPlaced ws txt x (span txt (word r 1) (word r 2)) holder count wt → wt ≤ 96
+    → {v : Level} {x holder count wt : ℕ} → At ws txt w (list v) x → x ≤ n → (r : List ℕ) → NamesPlaced ws txt x (span txt (text-start r) (text-len r)) holder count wt → wt ≤ 96
     → Room ws′ n′ (count + 1) → NewBranch ws′ txt used (n′ + 1) w r v → NamesInsertion ws′ txt w v n′ used x count r
 insertion-after {ws′ = ws′} {txt = txt} {w = w} m {v} {x} l h r p g o b =
     let q = p .inserts w v l in
@@ -113,12 +113,12 @@ module _ {ws txt : List ℕ} {w : Which} {v : Level} {records used x count : ℕ
     rest-within : rest ≤ records
     rest-within = omega (arith, led .rest-link .earlier, i .link .earlier)
 
-    rest-light : stored ws rest 10 < 96
+    rest-light : weight-in ws rest < 96
     rest-light =
-        omega (arith, list-weight (at-of insertion-list (list _) (omega arith) (led .rest-link)), ap weight (led .rest-reads), names-insert-weight (what w ws txt x (list v)) (span txt (word r 1) (word r 2)) (value w txt r (what w ws txt) v), i .light)
+        omega (arith, list-weight (at-of insertion-list (list _) (omega arith) (led .rest-link)), ap weight (led .rest-reads), names-insert-weight (what w ws txt x (list v)) (span txt (text-start r) (text-len r)) (value w txt r (what w ws txt) v), i .light)
 
     module _ {ws′ : List ℕ} {root : ℕ} (h : Inserted ws ws′ txt w v records used first count r root) where
-      pub made-first : Made ws ws′ txt records (records + count) used w (tree v) root (btree-insert-replace (what w ws txt first (tree v)) (span txt (word r 1) (word r 2)) (value w txt r (what w ws txt) v))
+      pub made-first : Made ws ws′ txt records (records + count) used w (tree v) root (btree-insert-replace (what w ws txt first (tree v)) (span txt (text-start r) (text-len r)) (value w txt r (what w ws txt) v))
       made-first = record {
         grows = omega arith;
         sound = h .sound;
@@ -129,13 +129,13 @@ module _ {ws txt : List ℕ} {w : Which} {v : Level} {records used x count : ℕ
       }
 
       -- What put_names asks.
-      pub rest-ready : Room ws′ (records + count) 1 × ((root ≤ records + count) × (rest ≤ records + count) × (stored ws′ rest 10 < 96))
+      pub rest-ready : Room ws′ (records + count) 1 × ((root ≤ records + count) × (rest ≤ records + count) × (weight-in ws′ rest < 96))
       rest-ready = (
         made-room made-first count refl (i .room),
         (omega (arith, h .last), omega (arith, rest-within), rw (made-stored made-first rest 10 rest-within) rest-light),
       )
 
-      pub names-inserted : {ws″ : List ℕ} {kd link : ℕ} → kd ≡ word r 0 + 2 → MadeNames ws′ ws″ (records + count) kd root rest link
+      pub names-inserted : {ws″ : List ℕ} {kd link : ℕ} → kd ≡ kind-word r + 2 → MadeNames ws′ ws″ (records + count) kd root rest link
           → Made ws ws″ txt records (records + count + 1) used w (list v) link (inserted w ws txt v x r)
       names-inserted q m =
           made-as

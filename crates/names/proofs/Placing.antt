@@ -10,7 +10,7 @@ use Rattle.source.specs.Trees.{btree-insert-replace, btree-find-exact}
 use Rattle.source.specs.Tries.{or-else, names-find-exact, names-insert}
 use Rattle.source.specs.Terms.{weight}
 use Rattle.source.specs.Plans.{first-tree}
-use Rattle.memory.specs.Stored.{stored}
+use Rattle.memory.specs.Stored.{weight-in}
 use Rattle.memory.proofs.Seen.{link-later}
 use Rattle.tree.specs.Tree.{Found, Placed}
 use Rattle.names.specs.Names.{first-rest, AnyList, Led, Holder, NamesPlaced}
@@ -62,7 +62,7 @@ module _ {ws txt : List ℕ} {x first rest : ℕ} {key : Str} (d : Led ws x firs
       }
 
 pub names-placed : {ws txt : List ℕ} {x first rest : ℕ} {key : Str} {link holder count wt : ℕ} → AnyList ws txt x → Led ws x first rest
-    → Placed ws txt first key link count → Holder ws txt x key holder → wt ≡ stored ws rest 10 + 1 → NamesPlaced ws txt x key holder count wt
+    → Placed ws txt first key link count → Holder ws txt x key holder → wt ≡ weight-in ws rest + 1 → NamesPlaced ws txt x key holder count wt
 names-placed {ws} {txt} {x} {first} {rest} {key} a d p h q = record {
   found = h;
   small = omega (arith, p .builds .small, d txt _ _ (a .list) .first-link .earlier);

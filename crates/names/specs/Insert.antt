@@ -6,21 +6,21 @@ use Rattle.source.specs.Types.{Level, NameList}
 use Rattle.source.specs.Tries.{names-insert}
 use Rattle.source.specs.Terms.{weight}
 use Rattle.source.specs.Plans.{insert-branches, first-tree}
-use Rattle.memory.specs.Layout.{word, span, Which, Item, list, kind, value, what}
+use Rattle.memory.specs.Layout.{span, Which, Item, list, kind, value, what, text-len, text-start}
 use Rattle.memory.specs.Sound.{LinkOk, Used}
 use Rattle.tree.specs.Insert.{NewBranch}
 use Rattle.names.specs.Made.{Room, Made}
 
 -- names_insert of the key and the value of a new branch r into the list of link x.
 abbrev pub inserted : (w : Which) (ws txt : List ℕ) (v : Level) (x : ℕ) (r : List ℕ) → NameList (Item w) v
-inserted w ws txt v x r = names-insert (what w ws txt x (list v)) (span txt (word r 1) (word r 2)) (value w txt r (what w ws txt) v)
+inserted w ws txt v x r = names-insert (what w ws txt x (list v)) (span txt (text-start r) (text-len r)) (value w txt r (what w ws txt) v)
 
 -- The new branch r goes into the list of link x; count is that of the branches it builds, after which one collection is put.
 pub record NamesInsertion (ws txt : List ℕ) (w : Which) (v : Level) (records used x count : ℕ) (r : List ℕ) : Type 0 where
   pub sound : Used ws txt records used
   pub link : LinkOk ws (records + 1) x (kind w (list v))
   pub new : NewBranch ws txt used (records + 1) w r v
-  pub counted : count ≡ insert-branches (first-tree (what w ws txt x (list v))) (span txt (word r 1) (word r 2))
+  pub counted : count ≡ insert-branches (first-tree (what w ws txt x (list v))) (span txt (text-start r) (text-len r))
   pub light : weight (inserted w ws txt v x r) ≤ 96
   pub room : Room ws records (count + 1)
 

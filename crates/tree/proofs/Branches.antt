@@ -6,7 +6,7 @@ use native.Mathlib.Omega.{arith}
 use lib.ListN.{length, take, drop}
 use Rattle.source.specs.Types.{Level, StrBranch}
 use Rattle.source.specs.Rules.{Ordered}
-use Rattle.memory.specs.Layout.{record-at, word, span, Which, tree, what, key-at}
+use Rattle.memory.specs.Layout.{record-at, span, Which, tree, what, key-at, left-link, right-link, text-len, text-start}
 use Rattle.memory.specs.Read.{TextIn}
 use Rattle.memory.specs.Sound.{BranchOk, At}
 use Rattle.memory.proofs.Records.{links-earlier, branch-at, ordered-at}
@@ -26,14 +26,14 @@ module _ {ws txt : List ℕ} {w : Which} {v : Level} {x : ℕ} (t : At ws txt w 
     pub branch-ordered : Ordered (what w ws txt x (tree v))
     branch-ordered = ordered-at (link-ok (t .sound) (t .link) p) w v (t .link .of-kind (λ e. omega arith))
 
-    pub branch-reads : what w ws txt x (tree v) ≡ StrBranch (key-at ws txt x) (held w ws txt v x) (what w ws txt (word (record-at ws x) 3) (tree v)) (what w ws txt (word (record-at ws x) 4) (tree v))
+    pub branch-reads : what w ws txt x (tree v) ≡ StrBranch (key-at ws txt x) (held w ws txt v x) (what w ws txt (left-link (record-at ws x)) (tree v)) (what w ws txt (right-link (record-at ws x)) (tree v))
     unfolding key-at held
     branch-reads = link-what (t .sound) w (tree v) (t .link) p
 
-    pub left-tree : At ws txt w (tree v) (word (record-at ws x) 3)
+    pub left-tree : At ws txt w (tree v) (left-link (record-at ws x))
     left-tree = at-of t (tree v) (omega arith) (branch-right .left)
 
-    pub right-tree : At ws txt w (tree v) (word (record-at ws x) 4)
+    pub right-tree : At ws txt w (tree v) (right-link (record-at ws x))
     right-tree = at-of t (tree v) (omega arith) (branch-right .right)
 
 module _ {ws txt : List ℕ} {x : ℕ} (a : AnyTree ws txt x) where
@@ -41,19 +41,19 @@ module _ {ws txt : List ℕ} {x : ℕ} (a : AnyTree ws txt x) where
   tree-fits = link-fits (a .tree .sound) (a .tree .link)
 
   module _ (p : 0 < x) where
-    pub key-inside : word (record-at ws x) 1 + word (record-at ws x) 2 ≤ length txt
+    pub key-inside : text-start (record-at ws x) + text-len (record-at ws x) ≤ length txt
     key-inside = omega (arith, branch-right (a .tree) p .key .inside, a .tree .sound .text-fits)
 
     pub text-in : TextIn ws txt x
     text-in = record { some = p; within = tree-fits; inside = key-inside }
 
-    pub sides-earlier : (word (record-at ws x) 3 < x) × (word (record-at ws x) 4 < x)
+    pub sides-earlier : (left-link (record-at ws x) < x) × (right-link (record-at ws x) < x)
     sides-earlier = links-earlier (link-ok (a .tree .sound) (a .tree .link) p)
 
-    pub any-left : AnyTree ws txt (word (record-at ws x) 3)
+    pub any-left : AnyTree ws txt (left-link (record-at ws x))
     any-left = any-tree (left-tree (a .tree) p)
 
-    pub any-right : AnyTree ws txt (word (record-at ws x) 4)
+    pub any-right : AnyTree ws txt (right-link (record-at ws x))
     any-right = any-tree (right-tree (a .tree) p)
 
 -- What `&text[s..s + n]` holds, and of a branch its key.
@@ -61,6 +61,6 @@ pub part-span : (txt : List ℕ) (s n : ℕ) → take (s + n - s) (drop s txt) �
 unfolding span
 part-span txt s n = part-is txt s n
 
-pub key-part : (ws txt : List ℕ) (x : ℕ) {s n : ℕ} → s ≡ word (record-at ws x) 1 → n ≡ word (record-at ws x) 2 → take (s + n - s) (drop s txt) ≡ key-at ws txt x
+pub key-part : (ws txt : List ℕ) (x : ℕ) {s n : ℕ} → s ≡ text-start (record-at ws x) → n ≡ text-len (record-at ws x) → take (s + n - s) (drop s txt) ≡ key-at ws txt x
 unfolding key-at
 key-part ws txt x {s} {n} p q = part-span txt s n ∙ rw (p, q)

@@ -13,7 +13,7 @@ use Rattle.source.specs.Trees.{PrefixMatch, btree-fold, btree-find-all}
 use Rattle.source.specs.Rules.{AllKeys, Ordered}
 use Rattle.source.specs.Shared.{Allˡ}
 use Rattle.source.proofs.Lookup.{Allˡ-map}
-use Rattle.memory.specs.Layout.{record-at, word, Which, Item, tree, what, key-at}
+use Rattle.memory.specs.Layout.{record-at, Which, Item, tree, what, key-at, left-link, right-link}
 use Rattle.memory.specs.Sound.{At}
 use Rattle.memory.proofs.Readings.{what-none}
 use Rattle.memory.proofs.Records.{zero-some}
@@ -34,18 +34,18 @@ module _ (ws : List ℕ) where
   unfolding branches branches-among
   branches-none = refl
 
-  branches-some : (l : ℕ) → 0 < l → word (record-at ws l) 3 < l → word (record-at ws l) 4 < l
-      → branches ws l ≡ branches ws (word (record-at ws l) 3) ++ (l ∷ branches ws (word (record-at ws l) 4))
+  branches-some : (l : ℕ) → 0 < l → left-link (record-at ws l) < l → right-link (record-at ws l) < l
+      → branches ws l ≡ branches ws (left-link (record-at ws l)) ++ (l ∷ branches ws (right-link (record-at ws l)))
   unfolding branches branches-among
   branches-some zero p a b = absurd (omega arith)
   branches-some (suc n) p a b =
-      rw (eq-eqb (suc n) (suc n) refl, branches-own n (word (record-at ws (suc n)) 3) (omega arith), branches-own n (word (record-at ws (suc n)) 4) (omega arith))
+      rw (eq-eqb (suc n) (suc n) refl, branches-own n (left-link (record-at ws (suc n))) (omega arith), branches-own n (right-link (record-at ws (suc n))) (omega arith))
 
 branch-later : {ws : List ℕ} {w : Which} {v : Level} {l root x : ℕ} → l < root → BranchOf ws w v l x → BranchOf ws w v root x
 branch-later h o = record { some = o .some; link = link-later (omega arith) (o .link) }
 
 module _ {ws txt : List ℕ} {w : Which} {v : Level} where
-  pub branches-at : {x : ℕ} → At ws txt w (tree v) x → 0 < x → branches ws x ≡ branches ws (word (record-at ws x) 3) ++ (x ∷ branches ws (word (record-at ws x) 4))
+  pub branches-at : {x : ℕ} → At ws txt w (tree v) x → 0 < x → branches ws x ≡ branches ws (left-link (record-at ws x)) ++ (x ∷ branches ws (right-link (record-at ws x)))
   branches-at {x} t p = branches-some ws x p (branch-right t p .left .earlier) (branch-right t p .right .earlier)
 
   pub tree-ordered : {x : ℕ} → At ws txt w (tree v) x → Ordered (what w ws txt x (tree v))
@@ -53,7 +53,7 @@ module _ {ws txt : List ℕ} {w : Which} {v : Level} where
 
   -- What holds of none, and of a branch where it holds of its two sides, holds of every tree.
   module _ (P : ℕ → Type 0) (none : P 0)
-      (step : (x : ℕ) → At ws txt w (tree v) x → 0 < x → P (word (record-at ws x) 3) → P (word (record-at ws x) 4) → P x) where
+      (step : (x : ℕ) → At ws txt w (tree v) x → 0 < x → P (left-link (record-at ws x)) → P (right-link (record-at ws x)) → P x) where
     upto : (m x : ℕ) → x ≤ m → At ws txt w (tree v) x → P x
     upto zero x h t = subst P (let z : 0 ≡ x = omega arith in z) none
     upto (suc m) x h t =
@@ -61,8 +61,8 @@ module _ {ws txt : List ℕ} {w : Which} {v : Level} where
         (λ z. subst P (sym z) none)
         (λ p.
         step x t p
-        (upto m (word (record-at ws x) 3) (omega (arith, branch-right t p .left .earlier)) (left-tree t p))
-        (upto m (word (record-at ws x) 4) (omega (arith, branch-right t p .right .earlier)) (right-tree t p)))
+        (upto m (left-link (record-at ws x)) (omega (arith, branch-right t p .left .earlier)) (left-tree t p))
+        (upto m (right-link (record-at ws x)) (omega (arith, branch-right t p .right .earlier)) (right-tree t p)))
 
     pub by-sides : (x : ℕ) → At ws txt w (tree v) x → P x
     by-sides x = upto x x (omega arith)
@@ -71,15 +71,15 @@ module _ {ws txt : List ℕ} {w : Which} {v : Level} where
   branches-keys P =
       by-sides (λ x. AllKeys P (what w ws txt x (tree v)) → Allˡ (λ y. P (key-at ws txt y)) (branches ws x))
       (λ a. rw (branches-none ws) tt)
-      (λ x t p f g a. let b = rw (branch-reads t p) at a in rw (branches-at t p) (all-append (λ y. P (key-at ws txt y)) (branches ws (word (record-at ws x) 3)) (x ∷ branches ws (word (record-at ws x) 4)) (f (b .1)) (b .0, g (b .2))))
+      (λ x t p f g a. let b = rw (branch-reads t p) at a in rw (branches-at t p) (all-append (λ y. P (key-at ws txt y)) (branches ws (left-link (record-at ws x))) (x ∷ branches ws (right-link (record-at ws x))) (f (b .1)) (b .0, g (b .2))))
 
   pub branches-of : (x : ℕ) → At ws txt w (tree v) x → Allˡ (BranchOf ws w v x) (branches ws x)
   branches-of =
       by-sides (λ x. Allˡ (BranchOf ws w v x) (branches ws x))
       (rw (branches-none ws) tt)
       (λ x t p f g.
-      let left = word (record-at ws x) 3 in
-      let right = word (record-at ws x) 4 in
+      let left = left-link (record-at ws x) in
+      let right = right-link (record-at ws x) in
       rw (branches-at t p)
       (all-append (BranchOf ws w v x) (branches ws left) (x ∷ branches ws right)
       (Allˡ-map {P = BranchOf ws w v left} {Q = BranchOf ws w v x} (branches ws left) (λ y. branch-later (branch-right t p .left .earlier)) f) (

@@ -8,7 +8,7 @@ use lib.ListN.{length, drop}
 use Rattle.source.specs.Text.{Str, string-compare}
 use Rattle.source.specs.Types.{Level, Tree, StrEmpty, StrBranch}
 use Rattle.source.specs.Plans.{insert-branches}
-use Rattle.memory.specs.Layout.{record-at, word, tree, what, key-at}
+use Rattle.memory.specs.Layout.{record-at, tree, what, key-at, left-link, right-link}
 use Rattle.memory.specs.Grown.{Stays}
 use Rattle.memory.proofs.Growing.{record-stays, stays-same, stays-on}
 use Rattle.tree.specs.Tree.{AnyTree, Builds}
@@ -135,17 +135,17 @@ module _ {ws txt : List ℕ} {key : Str} {records root count : ℕ} {ws′ : Lis
 
     module _ {ws″ : List ℕ} {j : ℕ} where
       new-turn : {side : ℕ} → Noted ws′ ws″ n link side
-          → (side ≡ 0 → (Ordering·lt ≡ string-compare key (key-at ws′ txt link)) × (j ≡ word (record-at ws′ link) 3))
-          → ((side ≡ 0 → ⊥) → (Ordering·gt ≡ string-compare key (key-at ws′ txt link)) × (j ≡ word (record-at ws′ link) 4)) → Turn ws″ txt key root link side j
+          → (side ≡ 0 → (Ordering·lt ≡ string-compare key (key-at ws′ txt link)) × (j ≡ left-link (record-at ws′ link)))
+          → ((side ≡ 0 → ⊥) → (Ordering·gt ≡ string-compare key (key-at ws′ txt link)) × (j ≡ right-link (record-at ws′ link))) → Turn ws″ txt key root link side j
       new-turn q f h =
           let k = key-stays (q .changed .stays) txt link p (omega (arith, mark-within, mark-above)) in
           let r = record-stays (q .changed .stays) link p (omega (arith, mark-within, mark-above)) in
           record { some = p; within = omega (arith, g .search .small); left = λ z. rw (k, r) (f z); right = λ z. rw (k, r) (h z) }
 
-      pub mark-left : Ordering·lt ≡ string-compare key (key-at ws′ txt link) → j ≡ word (record-at ws′ link) 3 → Noted ws′ ws″ n link 0 → Marking ws txt key records root count ws″ (n - 1) j
+      pub mark-left : Ordering·lt ≡ string-compare key (key-at ws′ txt link) → j ≡ left-link (record-at ws′ link) → Noted ws′ ws″ n link 0 → Marking ws txt key records root count ws″ (n - 1) j
       mark-left e i q = mark-more q j p (search-left (g .search) p (rw old-key at e) (rw old-record at i)) (new-turn q (λ _. (e, i)) (λ z. absurd (z refl)))
 
-      pub mark-right : Ordering·gt ≡ string-compare key (key-at ws′ txt link) → j ≡ word (record-at ws′ link) 4 → Noted ws′ ws″ n link 1 → Marking ws txt key records root count ws″ (n - 1) j
+      pub mark-right : Ordering·gt ≡ string-compare key (key-at ws′ txt link) → j ≡ right-link (record-at ws′ link) → Noted ws′ ws″ n link 1 → Marking ws txt key records root count ws″ (n - 1) j
       mark-right e i q = mark-more q j p (search-right (g .search) p (rw old-key at e) (rw old-record at i)) (new-turn q (λ z. absurd (omega arith)) (λ _. (e, i)))
 
     pub mark-here : {ws″ : List ℕ} → Ordering·eq ≡ string-compare key (key-at ws′ txt link) → Noted ws′ ws″ n link 0 → Marked ws ws″ txt key records root count

@@ -14,7 +14,7 @@ use Rattle.source.proofs.Order.{<ˢ-irrefl, <ˢ-trans}
 use Rattle.source.specs.Shared.{Allˡ}
 use Rattle.source.proofs.Lookup.{Allˡ-map, Above, Increasing}
 use Rattle.source.proofs.Trees.{AllKeys-map, before-prefix, past-prefix, entry-key, find-all-ascends}
-use Rattle.memory.specs.Layout.{record-at, word, Which, Item, tree, what, key-at}
+use Rattle.memory.specs.Layout.{record-at, Which, Item, tree, what, key-at, left-link, right-link}
 use Rattle.memory.proofs.Readings.{what-none}
 use Rattle.tree.specs.Tree.{AnyTree}
 use Rattle.tree.specs.Links.{branches, keep, matches, past-by, past, after, head0, wanted, row-at}
@@ -111,10 +111,10 @@ module _ (ws txt : List ℕ) (w : Which) (v : Level) (p : Str) where
     key = key-at ws txt x
 
     abbrev left : ℕ
-    left = word (record-at ws x) 3
+    left = left-link (record-at ws x)
 
     abbrev right : ℕ
-    right = word (record-at ws x) 4
+    right = right-link (record-at ws x)
 
     none-left : ((y : Str) → y <ˢ key → y <ˢ p) → kept left ≡ []
     none-left h =

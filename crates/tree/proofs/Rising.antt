@@ -11,8 +11,8 @@ use Rattle.source.specs.Trees.{btree-insert-replace}
 use Rattle.source.specs.Rules.{IsKey, IsLabel, Ordered, Formed}
 use Rattle.source.proofs.Listed.{formed-ordered}
 use Rattle.source.proofs.Kept.{btree-insert-replace-formed}
-use Rattle.memory.specs.Layout.{record-at, word, span, Which, Item, tree, trieˢ, kind, value, what, key-at}
-use Rattle.memory.specs.Stored.{stored}
+use Rattle.memory.specs.Layout.{record-at, span, Which, Item, tree, trieˢ, kind, value, what, key-at, left-link, right-link, text-len, text-start, trie-link}
+use Rattle.memory.specs.Stored.{left-in, right-in}
 use Rattle.memory.specs.Sound.{LinkOk, Used, At}
 use Rattle.memory.specs.Grown.{Stays, put}
 use Rattle.memory.proofs.Readings.{what-none}
@@ -87,7 +87,7 @@ module _ {base ws txt : List ℕ} {w : Which} {v : Level} {used : ℕ} {key : St
   module _ (h : n < total) (r : List ℕ) (twelve : length r ≡ 12) (c : NewBranch ws txt used (n + 1) w r v) (a b : ℕ)
       (i : LinkOk ws (n + 1) a (kind w (tree v))) (j : LinkOk ws (n + 1) b (kind w (tree v)))
       (d x : ℕ) (level : n + 1 + d ≡ total) (t : Trail ws txt key root d (n + 1) x)
-      (e : StrBranch (span txt (word r 1) (word r 2)) (value w txt r (what w ws txt) v) (what w ws txt a (tree v)) (what w ws txt b (tree v)) ≡ btree-insert-replace (what w base txt x (tree v)) key val) where
+      (e : StrBranch (span txt (text-start r) (text-len r)) (value w txt r (what w ws txt) v) (what w ws txt a (tree v)) (what w ws txt b (tree v)) ≡ btree-insert-replace (what w base txt x (tree v)) key val) where
     abbrev new : List ℕ
     new = with-sides ws r a b
 
@@ -100,7 +100,7 @@ module _ {base ws txt : List ℕ} {w : Which} {v : Level} {used : ℕ} {key : St
     few : n < 65536
     few = omega (arith, g .few)
 
-    ordered : Ordered (StrBranch (span txt (word r 1) (word r 2)) (value w txt r (what w ws txt) v) (what w ws txt a (tree v)) (what w ws txt b (tree v)))
+    ordered : Ordered (StrBranch (span txt (text-start r) (text-len r)) (value w txt r (what w ws txt) v) (what w ws txt a (tree v)) (what w ws txt b (tree v)))
     ordered =
         let x-link = trail-link root-tree t in
         subst (λ (t : Tree (Item w) v). Ordered t) (ap (λ t. btree-insert-replace t key val) (base-of x (omega (arith, x-link .earlier))) ∙ sym e)
@@ -157,11 +157,11 @@ module _ {base ws txt : List ℕ} {w : Which} {v : Level} {used : ℕ} {key : St
   old : NewBranch ws txt used (n + 1) w r v
   old = old-branch (g .ready .sound) w v l-link (up .0 .some)
 
-  left-link : LinkOk ws (n + 1) (word r 3) (kind w (tree v))
-  left-link = link-later (omega (arith, l-link .earlier)) (branch-right l-tree (up .0 .some) .left)
+  left-ok : LinkOk ws (n + 1) (left-link r) (kind w (tree v))
+  left-ok = link-later (omega (arith, l-link .earlier)) (branch-right l-tree (up .0 .some) .left)
 
-  right-link : LinkOk ws (n + 1) (word r 4) (kind w (tree v))
-  right-link = link-later (omega (arith, l-link .earlier)) (branch-right l-tree (up .0 .some) .right)
+  right-ok : LinkOk ws (n + 1) (right-link r) (kind w (tree v))
+  right-ok = link-later (omega (arith, l-link .earlier)) (branch-right l-tree (up .0 .some) .right)
 
   pub risen-ok : RaiseOk ws n
   risen-ok = record {
@@ -169,15 +169,15 @@ module _ {base ws txt : List ℕ} {w : Which} {v : Level} {used : ℕ} {key : St
     room = omega (arith, g .ready .room, g .ready .stays .size);
     some = up .0 .some;
     fits = link-fits (g .ready .sound) l-link;
-    left = depth-ok (g .ready .sound) w r v old (g .link) right-link;
-    right = depth-ok (g .ready .sound) w r v old left-link (g .link);
+    left = depth-ok (g .ready .sound) w r v old (g .link) right-ok;
+    right = depth-ok (g .ready .sound) w r v old left-ok (g .link);
   }
 
-  raised-left : noted-side ws n ≡ 0 → raised-row ws n ≡ with-sides ws r n (word r 4)
+  raised-left : noted-side ws n ≡ 0 → raised-row ws n ≡ with-sides ws r n (right-link r)
   unfolding raised-row
   raised-left z = rw z
 
-  raised-right : 0 < noted-side ws n → raised-row ws n ≡ with-sides ws r (word r 3) n
+  raised-right : 0 < noted-side ws n → raised-row ws n ≡ with-sides ws r (left-link r) n
   unfolding raised-row
   raised-right p = rw (ne-eqb (noted-side ws n) 0 (λ z. omega arith))
 
@@ -194,37 +194,37 @@ module _ {base ws txt : List ℕ} {w : Which} {v : Level} {used : ℕ} {key : St
   l-old : what w base txt l (tree v) ≡ what w ws txt l (tree v)
   l-old = sym (base-of (g .ready) l (up .0 .within))
 
-  into-left : Ordering·lt ≡ string-compare key (key-at ws txt l) → g .below ≡ word r 3
-      → StrBranch (key-at ws txt l) (held w ws txt v l) (what w ws txt n (tree v)) (what w ws txt (word r 4) (tree v)) ≡ btree-insert-replace (what w base txt l (tree v)) key val
+  into-left : Ordering·lt ≡ string-compare key (key-at ws txt l) → g .below ≡ left-link r
+      → StrBranch (key-at ws txt l) (held w ws txt v l) (what w ws txt n (tree v)) (what w ws txt (right-link r) (tree v)) ≡ btree-insert-replace (what w base txt l (tree v)) key val
   unfolding btree-insert-replace
   into-left c q = rw (g .reads, below-old, l-old, branch-reads l-tree (up .0 .some), btree-insert-replace, ← c, q)
 
-  into-right : Ordering·gt ≡ string-compare key (key-at ws txt l) → g .below ≡ word r 4
-      → StrBranch (key-at ws txt l) (held w ws txt v l) (what w ws txt (word r 3) (tree v)) (what w ws txt n (tree v)) ≡ btree-insert-replace (what w base txt l (tree v)) key val
+  into-right : Ordering·gt ≡ string-compare key (key-at ws txt l) → g .below ≡ right-link r
+      → StrBranch (key-at ws txt l) (held w ws txt v l) (what w ws txt (left-link r) (tree v)) (what w ws txt n (tree v)) ≡ btree-insert-replace (what w base txt l (tree v)) key val
   unfolding btree-insert-replace
   into-right c q = rw (g .reads, below-old, l-old, branch-reads l-tree (up .0 .some), btree-insert-replace, ← c, q)
 
   pub risen-up : Risen base (put ws n (raised-row ws n)) txt w v used key val records root total (n + 1)
   risen-up =
       zero-some (noted-side ws n)
-      (λ z. let t = up .0 .left z in rw (raised-left z) (with-copy n (word r 4) (g .link) right-link (into-left (t .0) (t .1))))
-      (λ p. let t = up .0 .right (λ z. omega arith) in rw (raised-right p) (with-copy (word r 3) n left-link (g .link) (into-right (t .0) (t .1))))
+      (λ z. let t = up .0 .left z in rw (raised-left z) (with-copy n (right-link r) (g .link) right-ok (into-left (t .0) (t .1))))
+      (λ p. let t = up .0 .right (λ z. omega arith) in rw (raised-right p) (with-copy (left-link r) n left-ok (g .link) (into-right (t .0) (t .1))))
 
 -- ---- The call
 
 module _ {ws txt : List ℕ} {w : Which} {v : Level} {records used root count : ℕ} {r : List ℕ} (g : Insertion ws txt w v records used root count r) where
-  pub insertion-key : word r 1 + word r 2 ≤ length txt
+  pub insertion-key : text-start r + text-len r ≤ length txt
   insertion-key = omega (arith, g .new .key .inside, g .sound .text-fits)
 
   -- The key as the call cuts it out of the text.
   abbrev cut : Str
-  cut = take (word r 1 + word r 2 - word r 1) (drop (word r 1) txt)
+  cut = take (text-start r + text-len r - text-start r) (drop (text-start r) txt)
 
   pub insertion-builds : Builds ws txt root cut count
-  insertion-builds = rw (part-span txt (word r 1) (word r 2)) (g .counted)
+  insertion-builds = rw (part-span txt (text-start r) (text-len r)) (g .counted)
 
-  pub insertion-marked : {ws′ : List ℕ} → Marked ws ws′ txt cut records root count → Marked ws ws′ txt (span txt (word r 1) (word r 2)) records root count
-  insertion-marked m = rw (part-span txt (word r 1) (word r 2)) at m
+  pub insertion-marked : {ws′ : List ℕ} → Marked ws ws′ txt cut records root count → Marked ws ws′ txt (span txt (text-start r) (text-len r)) records root count
+  insertion-marked m = rw (part-span txt (text-start r) (text-len r)) at m
 
   pub insertion-tree : AnyTree ws txt root
   insertion-tree = any-tree (at-in (g .sound) w (tree v) (g .link))
@@ -232,11 +232,11 @@ module _ {ws txt : List ℕ} {w : Which} {v : Level} {records used root count : 
 -- ---- The lowest one
 
 module _ {ws ws′ txt : List ℕ} {w : Which} {v : Level} {records used root count : ℕ} {r : List ℕ} (g : Insertion ws txt w v records used root count r) (twelve : length r ≡ 12)
-    (m : Marked ws ws′ txt (span txt (word r 1) (word r 2)) records root count) where
+    (m : Marked ws ws′ txt (span txt (text-start r) (text-len r)) records root count) where
   abbrev x : ℕ
   x = noted-link ws′ records
 
-  ready : Ready ws ws′ txt w v used (span txt (word r 1) (word r 2)) (value w txt r (what w ws txt) v) records root (records + count) records
+  ready : Ready ws ws′ txt w v used (span txt (text-start r) (text-len r)) (value w txt r (what w ws txt) v) records root (records + count) records
   ready = record {
     sound = sound-stays (m .stays) (omega arith) (omega arith) (g .sound);
     stays = m .stays;
@@ -262,12 +262,12 @@ module _ {ws ws′ txt : List ℕ} {w : Which} {v : Level} {records used root co
 
   value-stays : (v : Level) → HeldOk ws txt used (records + 1) w r v → value w txt r (what w ws′ txt) v ≡ value w txt r (what w ws txt) v
   value-stays bind o = refl
-  value-stays ns o = ap (λ f. f trieˢ) (what-stays (m .stays) w txt (word r 5) (omega (arith, o .earlier)))
+  value-stays ns o = ap (λ f. f trieˢ) (what-stays (m .stays) w txt (trie-link r) (omega (arith, o .earlier)))
 
   new-branch : NewBranch ws′ txt used (records + 1) w r v
   new-branch = record { known = g .new .known; key = g .new .key; holds = held-stays v (g .new .holds) }
 
-  sides : LinkOk ws′ (records + 1) (stored ws′ x 3) (kind w (tree v)) × LinkOk ws′ (records + 1) (stored ws′ x 4) (kind w (tree v))
+  sides : LinkOk ws′ (records + 1) (left-in ws′ x) (kind w (tree v)) × LinkOk ws′ (records + 1) (right-in ws′ x) (kind w (tree v))
   sides =
       zero-some x
       (λ z. rw (z, stored-none ws′ 3, stored-none ws′ 4) (none, none))
@@ -286,21 +286,21 @@ module _ {ws ws′ txt : List ℕ} {w : Which} {v : Level} {records used root co
     sides = depth-ok (ready .sound) w r v new-branch (sides .0) (sides .1);
   }
 
-  lowest-reads : StrBranch (span txt (word r 1) (word r 2)) (value w txt r (what w ws′ txt) v) (what w ws′ txt (stored ws′ x 3) (tree v)) (what w ws′ txt (stored ws′ x 4) (tree v))
-      ≡ btree-insert-replace (what w ws txt x (tree v)) (span txt (word r 1) (word r 2)) (value w txt r (what w ws txt) v)
+  lowest-reads : StrBranch (span txt (text-start r) (text-len r)) (value w txt r (what w ws′ txt) v) (what w ws′ txt (left-in ws′ x) (tree v)) (what w ws′ txt (right-in ws′ x) (tree v))
+      ≡ btree-insert-replace (what w ws txt x (tree v)) (span txt (text-start r) (text-len r)) (value w txt r (what w ws txt) v)
   unfolding btree-insert-replace
   lowest-reads =
       zero-some x
       (λ z. rw (value-stays v (g .new .holds), z, stored-none ws′ 3, stored-none ws′ 4, what-none w ws′ txt, what-none w ws txt))
       (λ p.
-      rw (value-stays v (g .new .holds), stored-some ws′ x 3 p, stored-some ws′ x 4 p, ← base-of ready x (omega (arith, trail-link (root-tree ready) (m .trail) .earlier)), branch-reads x-tree p, btree-insert-replace, ← m .here p, ← same-key (span txt (word r 1) (word r 2)) (key-at ws′ txt x) (m .here p)))
+      rw (value-stays v (g .new .holds), stored-some ws′ x 3 p, stored-some ws′ x 4 p, ← base-of ready x (omega (arith, trail-link (root-tree ready) (m .trail) .earlier)), branch-reads x-tree p, btree-insert-replace, ← m .here p, ← same-key (span txt (text-start r) (text-len r)) (key-at ws′ txt x) (m .here p)))
 
   pub lowest-risen : {ws″ low : List ℕ} → low ≡ lowest-row ws′ records r → ws″ ≡ put ws′ records low
-      → Risen ws ws″ txt w v used (span txt (word r 1) (word r 2)) (value w txt r (what w ws txt) v) records root (records + count) (records + 1)
+      → Risen ws ws″ txt w v used (span txt (text-start r) (text-len r)) (value w txt r (what w ws txt) v) records root (records + count) (records + 1)
   unfolding lowest-row
   lowest-risen e q =
       rw (q, e)
-      (put-risen ready (omega (arith, m .some)) r twelve new-branch (stored ws′ x 3) (stored ws′ x 4) (sides .0) (sides .1) (count - 1) x (omega (arith, m .some)) (m .trail) lowest-reads)
+      (put-risen ready (omega (arith, m .some)) r twelve new-branch (left-in ws′ x) (right-in ws′ x) (sides .0) (sides .1) (count - 1) x (omega (arith, m .some)) (m .trail) lowest-reads)
 
 -- ---- The loop
 
@@ -344,7 +344,7 @@ rising-up g h e q = record {
 
 -- The last one is the new root.
 pub all-risen : {base ws txt : List ℕ} {w : Which} {v : Level} {used records root count n : ℕ} {r : List ℕ}
-    → Risen base ws txt w v used (span txt (word r 1) (word r 2)) (value w txt r (what w base txt) v) records root (records + count) n → records + count ≤ n
+    → Risen base ws txt w v used (span txt (text-start r) (text-len r)) (value w txt r (what w base txt) v) records root (records + count) n → records + count ≤ n
     → Inserted base ws txt w v records used root count r (records + count)
 all-risen {records = records} {count = count} {n = n} g h =
     let e : records + count ≡ n = omega (arith, g .level) in

@@ -10,7 +10,7 @@ use Rattle.source.specs.Types.{Level}
 use Rattle.source.specs.Trees.{btree-find-exact}
 use Rattle.source.proofs.Order.{View, compare-strings}
 use Rattle.source.specs.Plans.{insert-branches}
-use Rattle.memory.specs.Layout.{record-at, word, Which, tree, what, key-at}
+use Rattle.memory.specs.Layout.{record-at, Which, tree, what, key-at, left-link, right-link}
 use Rattle.memory.proofs.Readings.{what-none}
 use Rattle.tree.specs.Tree.{AnyTree, Placed}
 use Rattle.tree.proofs.Branches.{branch-reads, left-tree, right-tree, sides-earlier, any-left, any-right}
@@ -54,18 +54,18 @@ module _ {ws txt : List ℕ} {root : ℕ} {key : Str} {link count : ℕ} (g : Se
           record { here = y .0; finds = s .finds ∙ y .1; builds = omega (arith, s .builds, y .2) };
     }
 
-    pub search-left : {j : ℕ} → Ordering·lt ≡ string-compare key (key-at ws txt link) → j ≡ word (record-at ws link) 3 → Search ws txt root key j (count + 1)
+    pub search-left : {j : ℕ} → Ordering·lt ≡ string-compare key (key-at ws txt link) → j ≡ left-link (record-at ws link) → Search ws txt root key j (count + 1)
     unfolding btree-find-exact insert-branches
     search-left e q =
         rw q
-        (search-on (word (record-at ws link) 3) (sides-earlier (g .any) p .0) (any-left (g .any) p)
+        (search-on (left-link (record-at ws link)) (sides-earlier (g .any) p .0) (any-left (g .any) p)
         (λ w v t. (left-tree t p, rw (branch-reads t p, ← e), rw (branch-reads t p, insert-branches, ← e) (sym (add-one _)))))
 
-    pub search-right : {j : ℕ} → Ordering·gt ≡ string-compare key (key-at ws txt link) → j ≡ word (record-at ws link) 4 → Search ws txt root key j (count + 1)
+    pub search-right : {j : ℕ} → Ordering·gt ≡ string-compare key (key-at ws txt link) → j ≡ right-link (record-at ws link) → Search ws txt root key j (count + 1)
     unfolding btree-find-exact insert-branches
     search-right e q =
         rw q
-        (search-on (word (record-at ws link) 4) (sides-earlier (g .any) p .1) (any-right (g .any) p)
+        (search-on (right-link (record-at ws link)) (sides-earlier (g .any) p .1) (any-right (g .any) p)
         (λ w v t. (right-tree t p, rw (branch-reads t p, ← e), rw (branch-reads t p, insert-branches, ← e) (sym (add-one _)))))
 
     pub search-here : Ordering·eq ≡ string-compare key (key-at ws txt link) → Placed ws txt root key link count

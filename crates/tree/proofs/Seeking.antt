@@ -10,7 +10,7 @@ use Rattle.source.specs.Rules.{_<ˢ_, Ordered}
 use Rattle.source.proofs.Order.{View, compare-strings, <ˢ-irrefl, <ˢ-trans}
 use Rattle.source.proofs.Trees.{AllKeys-map, before-prefix, past-prefix}
 use Rattle.source.specs.Shared.{Allˡ}
-use Rattle.memory.specs.Layout.{record-at, word, tree, what, key-at}
+use Rattle.memory.specs.Layout.{record-at, tree, what, key-at, left-link, right-link}
 use Rattle.tree.specs.Tree.{AnyTree}
 use Rattle.tree.specs.Links.{branches, keep, past-by, past, wanted, head0}
 use Rattle.tree.proofs.Branches.{branch-reads, branch-ordered, left-tree, right-tree, any-left, any-right}
@@ -95,10 +95,10 @@ module _ {ws txt : List ℕ} {strict : Bool} {low pre : Str} {root link found : 
 
   module _ (p : 0 < link) where
     abbrev left : ℕ
-    left = word (record-at ws link) 3
+    left = left-link (record-at ws link)
 
     abbrev right : ℕ
-    right = word (record-at ws link) 4
+    right = right-link (record-at ws link)
 
     here : first found (kept link) ≡ first (first found (keep (key-at ws txt) b (link ∷ branches ws right))) (kept left)
     here = rw (branches-at (g .any .tree) p, keep-append (key-at ws txt) b (branches ws left) (link ∷ branches ws right)) (first-append found (kept left) _)

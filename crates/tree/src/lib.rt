@@ -6,7 +6,7 @@ ghost use mathlib.Core.Bool.{true};
 ghost use Prim.Native.Nat.{_+_, _*_, _≤_, _<_, max};
 ghost use lib.ListN.{length};
 ghost use Rattle.source.specs.Text.{string-compare, starts-with};
-ghost use Rattle.memory.specs.Layout.{word, key-at};
+ghost use Rattle.memory.specs.Layout.{key-at, kind-word, trie-link};
 ghost use Rattle.text.specs.Text.{ordering};
 ghost use Rattle.tree.specs.Tree.{AnyTree, Found, Builds, Placed};
 ghost use Rattle.tree.specs.Insert.{of-namespaces, branch-depth, DepthOk, with-sides, raised-row, RaiseOk, lowest-row, LowestOk, Noted, Marked, AnyInsertion, Inserts};
@@ -168,7 +168,7 @@ fn branch_depth(words: &[u32], kind: u32, held: u32, left: u32, right: u32) -> u
 
 // The words of a branch with other sides.
 fn with_sides(words: &[u32], row: [u32; memory::ROW], left: u32, right: u32) -> [u32; memory::ROW]
-    requires { ⌜ DepthOk (now words) (word row 0) (word row 5) left right ⌝ }
+    requires { ⌜ DepthOk (now words) (kind-word row) (trie-link row) left right ⌝ }
     ensures { λ r. ⌜ r ≡ with-sides (now (words .entry)) row left right ⌝ }
 {
     let depth = branch_depth(words, row[memory::KIND], row[memory::HELD], left, right);
