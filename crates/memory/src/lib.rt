@@ -50,6 +50,10 @@ pub const BINDINGS: usize = 3;
 pub const NAMESPACES: usize = 4;
 
 pub const DEPTH: usize = 11;
+// The first two links of a record of any kind.
+pub const FIRST: usize = 3;
+
+pub const SECOND: usize = 4;
 
 // A free record as a note: a link and a side.
 pub const NOTE_LINK: usize = 0;
@@ -78,8 +82,25 @@ pub const NAMESPACES_KIND: u32 = 4;
 pub const TRIE_KIND: u32 = 5;
 
 pub const OF_MODULES: u32 = 5;
-// From the kind of a tree's branches to that of a list of such trees.
+
+pub const MODULE_BINDING_KIND: u32 = 6;
+
+pub const MODULE_NAMESPACE_KIND: u32 = 7;
+
+pub const MODULE_BINDINGS_KIND: u32 = 8;
+
+pub const MODULE_NAMESPACES_KIND: u32 = 9;
+
+pub const MODULE_TRIE_KIND: u32 = 10;
+// In either table: from the branches of a tree to the list of such trees, from a branch of namespaces to the trie that it holds,
+// from a trie to its two lists.
 pub const LIST_OF: u32 = 2;
+
+pub const TRIE_IN: u32 = 3;
+
+pub const BINDINGS_OF: u32 = 2;
+
+pub const NAMESPACES_OF: u32 = 1;
 
 // The sort of a collection.
 pub const OF_TREE: u32 = 0;

@@ -9,8 +9,8 @@ use native.Mathlib.Nat.{eq-or-lt-of-le, max-eq-left, max-eq-right}
 use lib.ListN.{length, take, drop}
 use Rattle.source.specs.Types.{Level, bind, ns}
 use Rattle.source.specs.Terms.{depth-tree}
-use Rattle.memory.specs.Layout.{record-at, word, Which, names, modules, Item, Sort, tree, list, trieˢ, Of, kind, kind-in, row, what}
-use Rattle.memory.specs.Stored.{stored, weight-of, depth-of}
+use Rattle.memory.specs.Layout.{record-at, word, Which, names, modules, Item, Sort, tree, list, trieˢ, Of, kind, kind-in, row, what, kind-word, trie-link, rest-link, own-link, sort-word, weight-word, depth-word}
+use Rattle.memory.specs.Stored.{stored, weight-of, depth-of, weight-in, depth-in}
 use Rattle.memory.specs.Sound.{Says, LinkOk, BranchOk, CollectionOk, WeightOk, TrieOk, RecordAs, RecordOk}
 use Rattle.memory.proofs.Says.{says-iff}
 use Rattle.memory.proofs.Readings.{what-row}
@@ -23,8 +23,8 @@ pub says-equal : (b : Bool) {x y x′ y′ : ℕ} → x ≡ x′ → y ≡ y′ 
 says-equal b e f h = says-iff b h (λ q. sym e ∙ q ∙ f) (λ q. e ∙ q ∙ sym f)
 
 -- The depth of a branch of namespaces: x its trie's, e its links'.
-module _ {ws txt : List ℕ} {used l : ℕ} (b : Before ws txt used l) {w : Which} {r : List ℕ} (o : BranchOk ws txt used l w r ns) (h : LinkOk ws l (word r 5) (kind w trieˢ))
-    {x e : ℕ} (i : x ≡ stored ws (word r 5) 11) (j : e ≡ depth-of ws r) where
+module _ {ws txt : List ℕ} {used l : ℕ} (b : Before ws txt used l) {w : Which} {r : List ℕ} (o : BranchOk ws txt used l w r ns) (h : LinkOk ws l (trie-link r) (kind w trieˢ))
+    {x e : ℕ} (i : x ≡ depth-in ws (trie-link r)) (j : e ≡ depth-of ws r) where
   both : max (suc x) e ≡ depth-tree (row w txt r (what w ws txt) (tree ns))
   both = rw (i, j) (depth-branch (b .rows) w o h)
 
@@ -35,22 +35,22 @@ module _ {ws txt : List ℕ} {used l : ℕ} (b : Before ws txt used l) {w : Whic
   depth-held g = let z : 1 + x ≡ suc x = omega arith in z ∙ sym (max-eq-left {n = suc x} {m = e} (omega arith)) ∙ both
 
 -- The weight of a collection's list, by what its links store.
-module _ (ws r : List ℕ) {a : ℕ} (e : a ≡ stored ws (word r 4) 10) where
-  pub weight-tree : word r 5 ≡ 0 → 1 + a ≡ weight-of ws r
+module _ (ws r : List ℕ) {a : ℕ} (e : a ≡ weight-in ws (rest-link r)) where
+  pub weight-tree : sort-word r ≡ 0 → 1 + a ≡ weight-of ws r
   unfolding weight-of
   weight-tree z = rw (z, ← e) (omega arith)
 
-  pub weight-imported : {i : ℕ} → i ≡ stored ws (word r 3) 10 → word r 5 ≡ 1 → 1 + i + a ≡ weight-of ws r
+  pub weight-imported : {i : ℕ} → i ≡ weight-in ws (own-link r) → sort-word r ≡ 1 → 1 + i + a ≡ weight-of ws r
   unfolding weight-of
   weight-imported f z = rw (z, ← e, ← f) (omega arith)
 
 pub says-collection : (b : Bool) {ws txt : List ℕ} {used l : ℕ} → Before ws txt used l → {w : Which} {v : Level} {r : List ℕ} → CollectionOk ws txt used l w r v → {n : ℕ} → n ≡ weight-of ws r
-    → Says b ((word r 10 ≡ n) × (n ≤ 96)) → Says b (CollectionOk ws txt used l w r v × WeightOk r (row w txt r (what w ws txt) (list v)))
+    → Says b ((weight-word r ≡ n) × (n ≤ 96)) → Says b (CollectionOk ws txt used l w r v × WeightOk r (row w txt r (what w ws txt) (list v)))
 says-collection b before {w} {r = r} o {n} e h =
     let d = e ∙ weight-row (before .rows) w o in
     says-iff b h (λ q. (o, record { weighs = q .0 ∙ d; light = omega (arith, q .1) })) (λ q. (q .1 .weighs ∙ sym d, omega (arith, q .1 .light)))
 
-pub says-trie : (b : Bool) {ws txt : List ℕ} {used l : ℕ} → Before ws txt used l → (w : Which) (r : List ℕ) → TrieOk ws txt used l w r → {s d : ℕ} → s ≡ word r 11 → d ≡ stored ws (word r 4) 11 → d ≤ 16
+pub says-trie : (b : Bool) {ws txt : List ℕ} {used l : ℕ} → Before ws txt used l → (w : Which) (r : List ℕ) → TrieOk ws txt used l w r → {s d : ℕ} → s ≡ depth-word r → d ≡ stored ws (word r 4) 11 → d ≤ 16
     → Says b (s ≡ d) → Says b (RecordAs ws txt used l w trieˢ r (row w txt r (what w ws txt) trieˢ))
 says-trie b before w r o e f h k =
     let g = f ∙ depth-trie (before .rows) w o in
@@ -79,7 +79,7 @@ no-kind modules (list ns) e a b c d f g = f (inr e)
 no-kind modules trieˢ e a b c d f g = g (inr e)
 
 -- The record r of link l, tested as what its words say, is tested as what the link reads as.
-module _ {ws txt : List ℕ} {used l : ℕ} (before : Before ws txt used l) {r : List ℕ} (at : r ≡ record-at ws l) (w : Which) (s : Sort) (known : word r 0 ≡ kind w s) where
+module _ {ws txt : List ℕ} {used l : ℕ} (before : Before ws txt used l) {r : List ℕ} (at : r ≡ record-at ws l) (w : Which) (s : Sort) (known : kind-word r ≡ kind w s) where
   abbrev Right : Of (Item w) s → Type 0
   Right t = RecordAs ws txt used l w s (record-at ws l) t
 

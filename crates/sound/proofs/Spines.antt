@@ -10,7 +10,7 @@ use Rattle.source.specs.Types.{Level, Tree, StrEmpty, StrBranch}
 use Rattle.source.specs.Rules.{_<ˢ_, AllKeys, Ordered}
 use Rattle.source.proofs.Order.{<ˢ-trans}
 use Rattle.source.proofs.Trees.{AllKeys-map}
-use Rattle.memory.specs.Layout.{record-at, word, span, key-of, Which, Item, tree, kind, row, what}
+use Rattle.memory.specs.Layout.{record-at, word, span, key-of, Which, Item, tree, kind, row, what, kind-word, text-start, text-len, left-link, right-link}
 use Rattle.memory.specs.Sound.{Says, LinkOk, RecordOk}
 use Rattle.memory.proofs.Says.{says-iff}
 use Rattle.memory.proofs.Readings.{what-none}
@@ -77,7 +77,7 @@ some-key (StrBranch k v lbt rbt) P Q s a b = (k, (a .0, b .0))
 pub record End (ws txt : List ℕ) (used l r : ℕ) (P : Str → Type 0) (All : Type 0) : Type 0 where
   pub some : 0 < r
   pub before : r < l
-  pub inside : word (record-at ws r) 1 + word (record-at ws r) 2 ≤ used
+  pub inside : text-start (record-at ws r) + text-len (record-at ws r) ≤ used
   pub to : P (key-of txt (record-at ws r)) → All
   pub fro : All → P (key-of txt (record-at ws r))
 
@@ -96,7 +96,7 @@ module _ {ws txt : List ℕ} {used l : ℕ} (b : Before ws txt used l) where
     pub none-all : (P : Str → Type 0) (x : ℕ) → x ≡ 0 → AllKeys P (the x)
     none-all P x e = rw (e, what-none w ws txt) tt
 
-    module _ (s : Side) (x : ℕ) (p : 0 < x) (h : x < l) (e : word (record-at ws x) 0 ≡ kind w (tree v)) where
+    module _ (s : Side) (x : ℕ) (p : 0 < x) (h : x < l) (e : kind-word (record-at ws x) ≡ kind w (tree v)) where
       ok : RecordOk ws txt used x
       ok = b .rows x p h
 
@@ -123,7 +123,7 @@ module _ {ws txt : List ℕ} {used l : ℕ} (b : Before ws txt used l) where
       at-all : (P : Str → Type 0) → AllKeys P (the x) → P (key-of txt (record-at ws x)) × AllKeys P (the (word (record-at ws x) (toward s)))
       at-all P a = go s (rw seen at a)
         where
-          go : (s : Side) → P (key-of txt (record-at ws x)) × AllKeys P (the (word (record-at ws x) 3)) × AllKeys P (the (word (record-at ws x) 4)) → P (key-of txt (record-at ws x)) × AllKeys P (the (word (record-at ws x) (toward s)))
+          go : (s : Side) → P (key-of txt (record-at ws x)) × AllKeys P (the (left-link (record-at ws x))) × AllKeys P (the (right-link (record-at ws x))) → P (key-of txt (record-at ws x)) × AllKeys P (the (word (record-at ws x) (toward s)))
           go left a = (a .0, a .2)
           go right a = (a .0, a .1)
 
@@ -139,7 +139,7 @@ module _ {ws txt : List ℕ} {used l : ℕ} (b : Before ws txt used l) where
       away-all : (k : Str) → On s (key-of txt (record-at ws x)) k → AllKeys (λ y. On s y k) (the (word (record-at ws x) (away s)))
       away-all k q = AllKeys-map (the (word (record-at ws x) (away s))) (λ y i. on-trans s y (key-of txt (record-at ws x)) k i q) (sides .0)
 
-    pub outermost : (s : Side) (k : Str) {x r : ℕ} → Far ws (toward s) x r → 0 < x → x < l → word (record-at ws x) 0 ≡ kind w (tree v)
+    pub outermost : (s : Side) (k : Str) {x r : ℕ} → Far ws (toward s) x r → 0 < x → x < l → kind-word (record-at ws x) ≡ kind w (tree v)
         → End ws txt used l r (λ y. On s y k) (AllKeys (λ y. On s y k) (the x))
     outermost s k {x} (here z) p h e = record {
       some = p;
@@ -151,7 +151,7 @@ module _ {ws txt : List ℕ} {used l : ℕ} (b : Before ws txt used l) where
     outermost s k {x} {r} (on z f) p h e =
         let n = next s x p h e in
         let y = word (record-at ws x) (toward s) in
-        let c : word (record-at ws y) 0 ≡ kind w (tree v) = n .of-kind (λ q. omega arith) in
+        let c : kind-word (record-at ws y) ≡ kind w (tree v) = n .of-kind (λ q. omega arith) in
         let m : y < l = omega (arith, n .earlier) in
         let i : End ws txt used l r (λ y. On s y k) (AllKeys (λ y. On s y k) (the y)) = outermost s k f z m c in
         record {
@@ -169,7 +169,7 @@ module _ {ws txt : List ℕ} {used l : ℕ} (b : Before ws txt used l) where
 pub record EndLent (ws txt : List ℕ) (r : ℕ) : Type 0 where
   pub some : 0 < r
   pub fits : r * 12 ≤ length ws
-  pub inside : word (record-at ws r) 1 + word (record-at ws r) 2 ≤ length txt
+  pub inside : text-start (record-at ws r) + text-len (record-at ws r) ≤ length txt
 
 module _ {ws txt : List ℕ} {used l k top start len : ℕ} (q : Subtree ws txt used l k top start len) (s : Side) where
   pub subtree-end : {r : ℕ} → (w : Which) (v : Level) → k ≡ kind w (tree v) → (top ≡ 0 → ⊥) → Far ws (toward s) top r

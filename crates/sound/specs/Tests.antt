@@ -7,7 +7,7 @@ use lib.ListN.{length}
 use Rattle.source.specs.Types.{Level, bind, ns}
 use Rattle.source.specs.Terms.{depth-tree}
 use Rattle.source.specs.Rules.{_<ˢ_, AllKeys, Ordered}
-use Rattle.memory.specs.Layout.{record-at, word, span, Which, tree, list, trieˢ, kind, row, what}
+use Rattle.memory.specs.Layout.{record-at, word, trie-link, depth-word, span, Which, tree, list, trieˢ, kind, row, what}
 use Rattle.memory.specs.Sound.{Says, LinkOk, BranchOk, CollectionOk, WeightOk, RecordAs, RecordOk}
 
 -- The record of link l and the used text are lent, and the records before l are right.
@@ -53,7 +53,7 @@ module _ (ws txt : List ℕ) where
     abbrev pub SaysHeld : (t : ℕ) → Bool → Type 0
     SaysHeld t b =
         (w : Which) → t ≡ kind w trieˢ → BranchOk ws txt used l w r ns
-        → Says b (LinkOk ws l (word r 5) (kind w trieˢ) × (word r 11 ≡ depth-tree (row w txt r (what w ws txt) (tree ns))))
+        → Says b (LinkOk ws l (trie-link r) (kind w trieˢ) × (depth-word r ≡ depth-tree (row w txt r (what w ws txt) (tree ns))))
 
     -- The links and the label of a collection, and the weight of its list, are right.
     abbrev pub SaysCollection : (k t : ℕ) → Bool → Type 0

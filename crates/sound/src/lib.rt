@@ -6,14 +6,22 @@ ghost use mathlib.Core.Path.{_≡_};
 ghost use Prim.Native.Nat.{ℕ, _+_, _*_, _≤_, _<_};
 ghost use lib.ListN.{length};
 ghost use Rattle.source.specs.Rules.{Fits, _<ˢ_};
-ghost use Rattle.memory.specs.Layout.{record-at, word, span};
+ghost use Rattle.memory.specs.Layout.{record-at, word, left-link, right-link, weight-word, span};
 ghost use Rattle.memory.specs.Stored.{depth-of};
 ghost use Rattle.memory.specs.Sound.{Says, LinkOk, TextOk, SymbolOk, RecordOk, Sound};
 ghost use Rattle.text.specs.Text.{byte-rule};
 ghost use Rattle.sound.specs.Tests.{Before, TreeKind, Subtree, Far, SaysLeft, SaysRight, SaysBranch, SaysHeld, SaysCollection, SaysTrie};
 
 // Is the span in the used part, `low` to `high` bytes long, and does each byte keep the rule?
-fn text_ok(text: &[u8], used: u32, start: u32, len: u32, low: u32, high: u32, rule: Rule) -> bool
+fn text_ok(
+    text: &[u8],
+    used: u32,
+    start: u32,
+    len: u32,
+    low: usize,
+    high: usize,
+    rule: Rule,
+) -> bool
     requires { ⌜ used ≤ length (now text) ⌝ }
     ensures { λ r. ⌜ Says r (TextOk (Fits (byte-rule rule) low high) (now (text .entry)) used start len) ⌝ }
 {
@@ -22,10 +30,10 @@ fn text_ok(text: &[u8], used: u32, start: u32, len: u32, low: u32, high: u32, ru
     if (used as usize) < s + n {
         return false;
     }
-    if len < low {
+    if n < low {
         return false;
     }
-    if high < len {
+    if high < n {
         return false;
     }
     text::all_allowed(rule, &text[s..s + n])
@@ -59,7 +67,7 @@ fn link_ok(words: &[u32], link: u32, x: u32, k: u32) -> bool
     if link <= x {
         return false;
     }
-    if memory::word_of(words, x, 0) == k {
+    if memory::word_of(words, x, memory::KIND) == k {
         return true;
     }
     false
@@ -118,9 +126,9 @@ fn left_ok(
     if top == 0 {
         return true;
     }
-    let x = far(words, top, 4);
-    let s = memory::word_of(words, x, 1);
-    let n = memory::word_of(words, x, 2);
+    let x = far(words, top, memory::RIGHT);
+    let s = memory::word_of(words, x, memory::TEXT_START);
+    let n = memory::word_of(words, x, memory::TEXT_LEN);
     spans_less(text, s, n, start, len)
 }
 
@@ -141,9 +149,9 @@ fn right_ok(
     if top == 0 {
         return true;
     }
-    let x = far(words, top, 3);
-    let s = memory::word_of(words, x, 1);
-    let n = memory::word_of(words, x, 2);
+    let x = far(words, top, memory::LEFT);
+    let s = memory::word_of(words, x, memory::TEXT_START);
+    let n = memory::word_of(words, x, memory::TEXT_LEN);
     spans_less(text, start, len, s, n)
 }
 
@@ -154,17 +162,17 @@ fn branch_ok(words: &[u32], text: &[u8], used: u32, link: u32, r: &[u32], k: u32
     requires { ⌜ length (now r) ≡ 12 ⌝ }
     ensures { λ b. ⌜ SaysBranch (now (words .entry)) (now (text .entry)) used link (now (r .entry)) k b ⌝ }
 {
-    let start = r[1];
-    let len = r[2];
-    let first = r[3];
-    let second = r[4];
+    let start = r[memory::TEXT_START];
+    let len = r[memory::TEXT_LEN];
+    let first = r[memory::LEFT];
+    let second = r[memory::RIGHT];
     if !link_ok(words, link, first, k) {
         return false;
     }
     if !link_ok(words, link, second, k) {
         return false;
     }
-    if !text_ok(text, used, start, len, 1, 31, Rule::Name) {
+    if !text_ok(text, used, start, len, 1, text::NAME_MOST, Rule::Name) {
         return false;
     }
     if !left_ok(words, text, used, link, k, first, start, len) {
@@ -178,28 +186,44 @@ fn symbol_ok(text: &[u8], used: u32, r: &[u32]) -> bool
     requires { ⌜ (used ≤ length (now text)) × (length (now r) ≡ 12) ⌝ }
     ensures { λ b. ⌜ Says b (SymbolOk (now (text .entry)) used (now (r .entry))) ⌝ }
 {
-    if 1 < r[5] {
+    if 1 < r[memory::SYMBOL] {
         return false;
     }
-    if 1 < r[10] {
+    if 1 < r[memory::LOADED] {
         return false;
     }
-    if !text_ok(text, used, r[6], r[7], 1, 543, Rule::Query) {
+    if !text_ok(
+        text,
+        used,
+        r[memory::NAME_START],
+        r[memory::NAME_LEN],
+        1,
+        text::FULL_NAME_MOST,
+        Rule::Query,
+    ) {
         return false;
     }
-    if r[5] == 1 {
+    if r[memory::SYMBOL] == 1 {
         return true;
     }
-    text_ok(text, used, r[8], r[9], 0, 120, Rule::Path)
+    text_ok(
+        text,
+        used,
+        r[memory::PATH_START],
+        r[memory::PATH_LEN],
+        0,
+        text::PATH_MOST,
+        Rule::Path,
+    )
 }
 
 // The greater depth of the first two links of a record.
 fn deeper(words: &[u32], link: u32, r: &[u32]) -> u32
-    requires { ⌜ (link * 12 ≤ length (now words)) × (length (now r) ≡ 12) × (word (now r) 3 < link) × (word (now r) 4 < link) ⌝ }
+    requires { ⌜ (link * 12 ≤ length (now words)) × (length (now r) ≡ 12) × (left-link (now r) < link) × (right-link (now r) < link) ⌝ }
     ensures { λ d. ⌜ d ≡ depth-of (now (words .entry)) (now (r .entry)) ⌝ }
 {
-    let a = memory::stored(words, r[3], 11);
-    let b = memory::stored(words, r[4], 11);
+    let a = memory::depth_of(words, r[memory::FIRST]);
+    let b = memory::depth_of(words, r[memory::SECOND]);
     if a < b {
         return b;
     }
@@ -210,16 +234,16 @@ fn deeper(words: &[u32], link: u32, r: &[u32]) -> u32
 fn held_ok(words: &[u32], text: &[u8], used: u32, link: u32, r: &[u32], t: u32) -> bool
     requires { ⌜ Before (now words) (now text) used link ⌝ }
     requires { ⌜ length (now r) ≡ 12 ⌝ }
-    requires { ⌜ (word (now r) 3 < link) × (word (now r) 4 < link) ⌝ }
+    requires { ⌜ (left-link (now r) < link) × (right-link (now r) < link) ⌝ }
     ensures { λ b. ⌜ SaysHeld (now (words .entry)) (now (text .entry)) used link (now (r .entry)) t b ⌝ }
 {
-    let held = r[5];
+    let held = r[memory::HELD];
     if !link_ok(words, link, held, t) {
         return false;
     }
-    let d = 1 + wide(memory::stored(words, held, 11));
+    let d = 1 + wide(memory::depth_of(words, held));
     let e = wide(deeper(words, link, r));
-    let s = wide(r[11]);
+    let s = wide(r[memory::DEPTH]);
     if d < e {
         return same(s, e);
     }
@@ -229,12 +253,12 @@ fn held_ok(words: &[u32], text: &[u8], used: u32, link: u32, r: &[u32], t: u32) 
 // Is `weight` stored, and at most 96?
 fn weight_ok(r: &[u32], weight: u64) -> bool
     requires { ⌜ length (now r) ≡ 12 ⌝ }
-    ensures { λ b. ⌜ Says b ((word (now (r .entry)) 10 ≡ weight) × (weight ≤ 96)) ⌝ }
+    ensures { λ b. ⌜ Says b ((weight-word (now (r .entry)) ≡ weight) × (weight ≤ 96)) ⌝ }
 {
-    if 96 < weight {
+    if wide(memory::HEAVIEST) < weight {
         return false;
     }
-    if wide(r[10]) == weight {
+    if wide(r[memory::WEIGHT]) == weight {
         return true;
     }
     false
@@ -254,26 +278,28 @@ fn collection_ok(
     requires { ⌜ length (now r) ≡ 12 ⌝ }
     ensures { λ b. ⌜ SaysCollection (now (words .entry)) (now (text .entry)) used link (now (r .entry)) k t b ⌝ }
 {
-    let own = r[3];
-    let rest = r[4];
+    let own = r[memory::OWN];
+    let rest = r[memory::REST];
     if !link_ok(words, link, rest, k) {
         return false;
     }
-    let after = wide(memory::stored(words, rest, 10));
-    if r[5] == 0 {
+    let after = wide(memory::weight_of(words, rest));
+    if r[memory::SORT] == memory::OF_TREE {
         if !link_ok(words, link, own, t) {
             return false;
         }
         return weight_ok(r, 1 + after);
     }
-    if r[5] == 1 {
+    if r[memory::SORT] == memory::IMPORTED {
         if !link_ok(words, link, own, k) {
             return false;
         }
-        if !text_ok(text, used, r[1], r[2], 0, 543, Rule::Query) {
+        let start = r[memory::TEXT_START];
+        let len = r[memory::TEXT_LEN];
+        if !text_ok(text, used, start, len, 0, text::FULL_NAME_MOST, Rule::Query) {
             return false;
         }
-        let inner = wide(memory::stored(words, own, 10));
+        let inner = wide(memory::weight_of(words, own));
         return weight_ok(r, 1 + inner + after);
     }
     false
@@ -285,19 +311,19 @@ fn trie_ok(words: &[u32], text: &[u8], used: u32, link: u32, r: &[u32], b: u32, 
     requires { ⌜ length (now r) ≡ 12 ⌝ }
     ensures { λ o. ⌜ SaysTrie (now (words .entry)) (now (text .entry)) used link (now (r .entry)) b n o ⌝ }
 {
-    let first = r[3];
-    let second = r[4];
+    let first = r[memory::BINDINGS];
+    let second = r[memory::NAMESPACES];
     if !link_ok(words, link, first, b) {
         return false;
     }
     if !link_ok(words, link, second, n) {
         return false;
     }
-    let d = memory::stored(words, second, 11);
-    if 16 < d {
+    let d = memory::depth_of(words, second);
+    if memory::DEEPEST < d {
         return false;
     }
-    same(wide(r[11]), wide(d))
+    same(wide(r[memory::DEPTH]), wide(d))
 }
 
 // Is the record `r` of `link` right, given that those before it are?
@@ -306,29 +332,45 @@ fn record_ok(words: &[u32], text: &[u8], used: u32, link: u32, r: &[u32]) -> boo
     requires { ⌜ now r ≡ record-at (now words) link ⌝ }
     ensures { λ b. ⌜ Says b (RecordOk (now (words .entry)) (now (text .entry)) used link) ⌝ }
 {
-    let k = r[0];
+    let k = r[memory::KIND];
     match k {
-        1 => branch_ok(words, text, used, link, r, k),
-        6 => {
+        memory::BINDING_KIND => branch_ok(words, text, used, link, r, k),
+        memory::MODULE_BINDING_KIND => {
             if !branch_ok(words, text, used, link, r, k) {
                 return false;
             }
             symbol_ok(text, used, r)
         }
-        2 | 7 => {
+        memory::NAMESPACE_KIND | memory::MODULE_NAMESPACE_KIND => {
             if !branch_ok(words, text, used, link, r, k) {
                 return false;
             }
-            held_ok(words, text, used, link, r, k + 3)
+            held_ok(words, text, used, link, r, k + memory::TRIE_IN)
         }
-        3 | 8 => collection_ok(words, text, used, link, r, k, k - 2),
-        4 | 9 => {
-            if !collection_ok(words, text, used, link, r, k, k - 2) {
+        memory::BINDINGS_KIND | memory::MODULE_BINDINGS_KIND => collection_ok(
+            words,
+            text,
+            used,
+            link,
+            r,
+            k,
+            k - memory::LIST_OF,
+        ),
+        memory::NAMESPACES_KIND | memory::MODULE_NAMESPACES_KIND => {
+            if !collection_ok(words, text, used, link, r, k, k - memory::LIST_OF) {
                 return false;
             }
-            same(wide(r[11]), wide(deeper(words, link, r)))
+            same(wide(r[memory::DEPTH]), wide(deeper(words, link, r)))
         }
-        5 | 10 => trie_ok(words, text, used, link, r, k - 2, k - 1),
+        memory::TRIE_KIND | memory::MODULE_TRIE_KIND => trie_ok(
+            words,
+            text,
+            used,
+            link,
+            r,
+            k - memory::BINDINGS_OF,
+            k - memory::NAMESPACES_OF,
+        ),
         _ => false,
     }
 }
@@ -339,28 +381,28 @@ pub fn sound(words: &[u32], text: &[u8], header: Header) -> bool
 {
     let records = header.records;
     let used = header.text;
-    if 65536 < records {
+    if memory::CAPACITY < records {
         return false;
     }
-    if 65536 < used {
+    if memory::CAPACITY < used {
         return false;
     }
-    if words.len() < records as usize * 12 {
+    if words.len() < records as usize * memory::ROW {
         return false;
     }
     if text.len() < used as usize {
         return false;
     }
-    if !link_ok(words, records + 1, header.names, 5) {
+    if !link_ok(words, records + 1, header.names, memory::TRIE_KIND) {
         return false;
     }
-    if !link_ok(words, records + 1, header.modules, 10) {
+    if !link_ok(words, records + 1, header.modules, memory::MODULE_TRIE_KIND) {
         return false;
     }
     let mut link = 1;
     while link <= records {
-        let at = (link as usize - 1) * 12;
-        if !record_ok(words, text, used, link, &words[at..at + 12]) {
+        let at = (link as usize - 1) * memory::ROW;
+        if !record_ok(words, text, used, link, &words[at..at + memory::ROW]) {
             return false;
         }
         link += 1;

@@ -7,6 +7,20 @@ ghost use Rattle.source.specs.Calls.{a-query, a-name, a-path, a-look-up, a-comp
 ghost use Rattle.text.specs.Text.{ordering, byte-rule, before-dot};
 ghost use Rattle.text.specs.Calls.{Surveyed, Flagged};
 
+// Bytes of a name, segments of a query, bytes of a query, of a full name or label (a query without its last dot), of a file path, at most.
+pub const NAME_MOST: usize = 31;
+
+pub const SEGMENTS_MOST: usize = 17;
+
+pub const QUERY_MOST: usize = 544;
+
+pub const FULL_NAME_MOST: usize = 543;
+
+pub const PATH_MOST: usize = 120;
+
+// The dot that ends a segment.
+pub const DOT: u8 = 46;
+
 // How one text compares with another.
 pub enum Order {
     Less,
@@ -79,7 +93,7 @@ pub enum Rule {
 fn name_byte(b: u8) -> bool
     ensures { λ r. ⌜ r ≡ name-byte b ⌝ }
 {
-    (33 <= b) & (b <= 126) & !((b == 46) | (b == 91) | (b == 93))
+    (33 <= b) & (b <= 126) & !((b == DOT) | (b == 91) | (b == 93))
 }
 
 // Whether a rule lets a byte through.
@@ -88,7 +102,7 @@ pub fn allowed(rule: Rule, b: u8) -> bool
 {
     match rule {
         Rule::Name => name_byte(b),
-        Rule::Query => name_byte(b) | (b == 46),
+        Rule::Query => name_byte(b) | (b == DOT),
         Rule::Path => (32 <= b) & (b <= 126),
     }
 }
@@ -112,7 +126,7 @@ pub fn segment_length(s: &[u8]) -> usize
 {
     let mut i = 0;
     while i < s.len() {
-        if s[i] == 46 {
+        if s[i] == DOT {
             return i;
         }
         i += 1;
@@ -128,7 +142,7 @@ pub fn ends_in_dot(s: &[u8]) -> bool
     if n == 0 {
         return true;
     }
-    s[n - 1] == 46
+    s[n - 1] == DOT
 }
 
 // Of a query: whether it is malformed, has an empty segment, is too long, and how many segments it has.
@@ -150,10 +164,10 @@ pub fn query_survey(s: &[u8]) -> Survey
     let mut start = 0;
     let mut i = 0;
     while i < s.len() {
-        if s[i] == 46 {
+        if s[i] == DOT {
             let n = i - start;
             empty = empty | (n == 0);
-            long = long | (31 < n);
+            long = long | (NAME_MOST < n);
             segments += 1;
             start = i + 1;
         } else {
@@ -166,14 +180,14 @@ pub fn query_survey(s: &[u8]) -> Survey
         return Survey {
             malformed: true,
             empty: empty,
-            long: long | (31 < i - start) | (17 < all),
+            long: long | (NAME_MOST < i - start) | (SEGMENTS_MOST < all),
             segments: all,
         };
     }
     Survey {
         malformed: !ok,
         empty: empty,
-        long: long | (17 < segments),
+        long: long | (SEGMENTS_MOST < segments),
         segments: segments,
     }
 }
@@ -204,7 +218,7 @@ pub fn name_flags(s: &[u8]) -> Flags
     Flags {
         malformed: !all_allowed(Rule::Name, s),
         empty: s.len() == 0,
-        long: 31 < s.len(),
+        long: NAME_MOST < s.len(),
     }
 }
 
@@ -215,7 +229,7 @@ pub fn path_flags(s: &[u8]) -> Flags
     Flags {
         malformed: !all_allowed(Rule::Path, s),
         empty: false,
-        long: 120 < s.len(),
+        long: PATH_MOST < s.len(),
     }
 }
 

@@ -19,7 +19,7 @@ collection-ok-spec =
     (λ c κs. search needs)
     {- returns -}
     (λ c w v e f o. refuses (c .before .link-ok .result) (c .before .link-ok .ensures) (c .if1 .taken) (rw e (o .0 .rest)))
-    {- stored-requires -}
+    {- weight-of-requires -}
     (λ c κs. let h = (passes (c .before .link-ok .result) (c .before .link-ok .ensures) (c .if1 .left)) .earlier in omega (arith, c .before .before .before .before .before .before .before .pre .0 .fits))
     {- wide-requires -}
     (λ c κs. search needs)
@@ -44,7 +44,7 @@ collection-ok-spec =
       label = λ z. absurd (omega (arith, c .before .before .before .if2 .taken));
       rest = rw e at (let u = c .before .before .before .before .before .before .before in passes (u .before .link-ok .result) (u .before .link-ok .ensures) (u .if1 .left));
     })
-    (weight-tree (s .args .words .now) (s .args .r .now) (c .before .before .before .before .before .wide .ensures ∙ c .before .before .before .before .before .before .stored .ensures) (c .before .before .before .if2 .taken)) (c .weight-ok .ensures))
+    (weight-tree (s .args .words .now) (s .args .r .now) (c .before .before .before .before .before .wide .ensures ∙ c .before .before .before .before .before .before .weight-of .ensures) (c .before .before .before .if2 .taken)) (c .weight-ok .ensures))
     {- shared-slice-read-if4 -}
     (λ c. search needs)
     {- link-ok-requires-3 -}
@@ -59,7 +59,7 @@ collection-ok-spec =
     (λ c κs. c .before .before .before .before .before .before .before .before .before .before .before .before .before .before .before .before .before .pre .0 .text)
     {- returns-5 -}
     (λ c w v e f o. refuses (c .before .text-ok .result) (c .before .text-ok .ensures) (c .if6 .taken) (o .0 .label (c .before .before .before .before .before .before .if4 .taken)))
-    {- stored-requires-2 -}
+    {- weight-of-requires-2 -}
     (λ c κs. let h = (let u = c .before .before .before .before in passes (u .before .link-ok3 .result) (u .before .link-ok3 .ensures) (u .if5 .left)) .earlier in omega (arith, c .before .before .before .before .before .before .before .before .before .before .before .before .before .before .before .before .before .before .before .pre .0 .fits))
     {- wide-requires-2 -}
     (λ c κs. search needs)
@@ -81,8 +81,8 @@ collection-ok-spec =
       rest = rw e at (let u = c .before .before .before .before .before .before .before .before .before .before .before .before .before .before .before in passes (u .before .link-ok .result) (u .before .link-ok .ensures) (u .if1 .left));
     })
     (weight-imported (s .args .words .now) (s .args .r .now)
-    (c .before .before .before .before .before .before .before .before .before .before .before .before .before .wide .ensures ∙ c .before .before .before .before .before .before .before .before .before .before .before .before .before .before .stored .ensures)
-    (c .before .wide2 .ensures ∙ c .before .before .stored2 .ensures)
+    (c .before .before .before .before .before .before .before .before .before .before .before .before .before .wide .ensures ∙ c .before .before .before .before .before .before .before .before .before .before .before .before .before .before .weight-of .ensures)
+    (c .before .wide2 .ensures ∙ c .before .before .weight-of2 .ensures)
     (c .before .before .before .before .before .before .before .before .before .if4 .taken))
     (c .weight-ok2 .ensures))
     {- returns-7 -}

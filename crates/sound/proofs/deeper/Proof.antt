@@ -14,13 +14,13 @@ deeper-spec =
     (tie.spec
     {- shared-slice-read-stored -}
     (λ c. search needs)
-    {- stored-requires -}
+    {- depth-of-requires -}
     (λ c κs. search needs)
     {- shared-slice-read-stored-2 -}
     (λ c. search needs)
-    {- stored-requires-2 -}
+    {- depth-of-requires-2 -}
     (λ c κs. search needs)
     {- returns -}
-    (λ c. rw (← c .before .before .before .stored .ensures, ← c .before .stored2 .ensures) (sym (max-eq-right (omega arith))))
+    (λ c. rw (← c .before .before .before .depth-of .ensures, ← c .before .depth-of2 .ensures) (sym (max-eq-right (omega arith))))
     {- returns-2 -}
-    (λ c. rw (← c .before .before .before .stored .ensures, ← c .before .stored2 .ensures) (sym (max-eq-left (c .if1 .left)))))
+    (λ c. rw (← c .before .before .before .depth-of .ensures, ← c .before .depth-of2 .ensures) (sym (max-eq-left (c .if1 .left)))))

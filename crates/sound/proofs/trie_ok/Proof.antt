@@ -24,10 +24,10 @@ trie-ok-spec =
     (λ c κs. search needs)
     {- returns-2 -}
     (λ c w e f r. refuses (c .before .link-ok2 .result) (c .before .link-ok2 .ensures) (c .if2 .taken) (rw f (r .0 .namespaces)))
-    {- stored-requires -}
+    {- depth-of-requires -}
     (λ c κs. let h = (passes (c .before .link-ok2 .result) (c .before .link-ok2 .ensures) (c .if2 .left)) .earlier in omega (arith, c .before .before .before .before .before .before .before .before .before .pre .0 .fits))
     {- returns-3 -}
-    (λ c w e f r. omega (arith, r .2, c .before .stored .ensures, depth-trie (c .before .before .before .before .before .before .before .before .before .before .before .pre .0 .rows) w (r .0)))
+    (λ c w e f r. omega (arith, r .2, c .before .depth-of .ensures, depth-trie (c .before .before .before .before .before .before .before .before .before .before .before .pre .0 .rows) w (r .0)))
     {- shared-slice-read-wide -}
     (λ c. search needs)
     {- wide-requires -}
@@ -45,6 +45,6 @@ trie-ok-spec =
       namespaces = rw f at (let u = c .before .before .before .before .before .before in passes (u .before .link-ok2 .result) (u .before .link-ok2 .ensures) (u .if2 .left));
     })
     (c .before .before .wide .ensures)
-    (c .before .wide2 .ensures ∙ c .before .before .before .before .before .stored .ensures)
+    (c .before .wide2 .ensures ∙ c .before .before .before .before .before .depth-of .ensures)
     (omega (arith, c .before .wide2 .ensures, c .before .before .before .before .if3 .left))
     (c .same .ensures)))
