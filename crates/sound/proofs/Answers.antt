@@ -17,7 +17,7 @@ use Rattle.memory.proofs.Readings.{what-row}
 use Rattle.memory.proofs.Records.{as-earlier, record-as}
 use Rattle.memory.proofs.Rows.{record-length}
 use Rattle.memory.proofs.Sizes.{weight-row, depth-branch, depth-trie}
-use Rattle.sound.specs.Tests.{Before}
+use Rattle.fields.specs.Fields.{Before}
 
 pub says-equal : (b : Bool) {x y x′ y′ : ℕ} → x ≡ x′ → y ≡ y′ → Says b (x ≡ y) → Says b (x′ ≡ y′)
 says-equal b e f h = says-iff b h (λ q. sym e ∙ q ∙ f) (λ q. e ∙ q ∙ sym f)

@@ -1,3 +1,1 @@
-mod Spans
-mod Spines
 mod Answers

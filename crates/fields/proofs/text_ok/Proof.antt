@@ -1,10 +1,10 @@
--- `sound::text_ok` meets its contract.
+-- `fields::text_ok` meets its contract.
 use borrow.Author.Needs.{needs}
-use Rattle.sound.proofs.text_ok.Statement.{statement}
-use Rattle.sound.proofs.text_ok.Tie as tie
+use Rattle.fields.proofs.text_ok.Statement.{statement}
+use Rattle.fields.proofs.text_ok.Tie as tie
 use native.Mathlib.Omega.{arith}
 use Rattle.text.specs.Text.{byte-rule}
-use Rattle.sound.proofs.Spans.{says-text, text-long}
+use Rattle.fields.proofs.Spans.{says-text, text-long}
 
 pub text-ok-spec : {M : Type 1} → statement M
 text-ok-spec =

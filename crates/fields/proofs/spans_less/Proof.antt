@@ -1,8 +1,8 @@
--- `sound::spans_less` meets its contract.
+-- `fields::spans_less` meets its contract.
 use borrow.Author.Needs.{needs}
-use Rattle.sound.proofs.spans_less.Statement.{statement}
-use Rattle.sound.proofs.spans_less.Tie as tie
-use Rattle.sound.proofs.Spans.{part-span}
+use Rattle.fields.proofs.spans_less.Statement.{statement}
+use Rattle.fields.proofs.spans_less.Tie as tie
+use Rattle.fields.proofs.Spans.{part-span}
 
 pub spans-less-spec : {M : Type 1} → statement M
 spans-less-spec =

@@ -1,8 +1,8 @@
--- `sound::left_ok` meets its contract.
-use Rattle.sound.proofs.left_ok.Statement.{statement}
-use Rattle.sound.proofs.left_ok.Tie as tie
+-- `fields::left_ok` meets its contract.
+use Rattle.fields.proofs.left_ok.Statement.{statement}
+use Rattle.fields.proofs.left_ok.Tie as tie
 use native.Mathlib.Omega.{arith}
-use Rattle.sound.proofs.Spines.{left, falls, none-all, subtree-end, end-lent, says-end}
+use Rattle.fields.proofs.Spines.{left, falls, none-all, subtree-end, end-lent, says-end}
 
 pub left-ok-spec : {M : Type 1} → statement M
 left-ok-spec =

@@ -1,7 +1,7 @@
--- `sound::link_ok` meets its contract.
+-- `fields::link_ok` meets its contract.
 use borrow.Author.Needs.{needs}
-use Rattle.sound.proofs.link_ok.Statement.{statement}
-use Rattle.sound.proofs.link_ok.Tie as tie
+use Rattle.fields.proofs.link_ok.Statement.{statement}
+use Rattle.fields.proofs.link_ok.Tie as tie
 use mathlib.Core.Path.{_∙_}
 
 pub link-ok-spec : {M : Type 1} → statement M

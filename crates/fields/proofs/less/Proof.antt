@@ -5,8 +5,8 @@ use borrow.Author.Needs.{needs}
 use Rattle.source.specs.Text.{Str, string-compare}
 use Rattle.source.specs.Rules.{_<ˢ_}
 use Rattle.source.proofs.Order.{View, compare-strings, <ˢ-irrefl, <ˢ-trans}
-use Rattle.sound.proofs.less.Statement.{statement}
-use Rattle.sound.proofs.less.Tie as tie
+use Rattle.fields.proofs.less.Statement.{statement}
+use Rattle.fields.proofs.less.Tie as tie
 
 told : (s t : Str) (o : Ordering) → o ≡ string-compare s t → View s t o
 told s t o e = subst (View s t) (sym e) (compare-strings s t)

@@ -15,7 +15,7 @@ use Rattle.memory.specs.Sound.{Says, LinkOk, RecordOk}
 use Rattle.memory.proofs.Says.{says-iff}
 use Rattle.memory.proofs.Readings.{what-none}
 use Rattle.memory.proofs.Records.{zero-some, record-what, branch-at, ordered-at, links-earlier}
-use Rattle.sound.specs.Tests.{Before, Subtree, Far, here, on}
+use Rattle.fields.specs.Fields.{Before, Subtree, Far, here, on}
 
 -- A loop along a spine.
 pub record Going (ws : List ℕ) (k from x next : ℕ) : Type 0 where

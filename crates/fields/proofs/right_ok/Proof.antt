@@ -1,8 +1,8 @@
--- `sound::right_ok` meets its contract.
-use Rattle.sound.proofs.right_ok.Statement.{statement}
-use Rattle.sound.proofs.right_ok.Tie as tie
+-- `fields::right_ok` meets its contract.
+use Rattle.fields.proofs.right_ok.Statement.{statement}
+use Rattle.fields.proofs.right_ok.Tie as tie
 use native.Mathlib.Omega.{arith}
-use Rattle.sound.proofs.Spines.{right, falls, none-all, subtree-end, end-lent, says-end}
+use Rattle.fields.proofs.Spines.{right, falls, none-all, subtree-end, end-lent, says-end}
 
 pub right-ok-spec : {M : Type 1} → statement M
 right-ok-spec =

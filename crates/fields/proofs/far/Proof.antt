@@ -1,8 +1,8 @@
--- `sound::far` meets its contract. The loop's invariant: the way goes on from here.
-use Rattle.sound.proofs.far.Statement.{statement}
-use Rattle.sound.proofs.far.Tie as tie
+-- `fields::far` meets its contract. The loop's invariant: the way goes on from here.
+use Rattle.fields.proofs.far.Statement.{statement}
+use Rattle.fields.proofs.far.Tie as tie
 use native.Mathlib.Omega.{arith}
-use Rattle.sound.proofs.Spines.{Going, going-start, going-on, going-done}
+use Rattle.fields.proofs.Spines.{Going, going-start, going-on, going-done}
 
 abbrev Inv-loop : tie.InvT-loop
 Inv-loop words from k x₀ next₀ x next = Going words k from x next

@@ -1,0 +1,154 @@
+// The parts of the soundness test that look at one field of a record: a text, a link, the keys of a side.
+use text::Order;
+use text::Rule;
+ghost use mathlib.Core.Path.{_≡_};
+ghost use Prim.Native.Nat.{ℕ, _+_, _*_, _≤_, _<_};
+ghost use lib.ListN.{length};
+ghost use Rattle.source.specs.Rules.{Fits, _<ˢ_};
+ghost use Rattle.memory.specs.Layout.{record-at, word, span};
+ghost use Rattle.memory.specs.Sound.{Says, LinkOk, TextOk};
+ghost use Rattle.text.specs.Text.{byte-rule};
+ghost use Rattle.fields.specs.Fields.{Subtree, Far, SaysLeft, SaysRight};
+
+// Is the span in the used part, `low` to `high` bytes long, and does each byte keep the rule?
+pub fn text_ok(
+    text: &[u8],
+    used: u32,
+    start: u32,
+    len: u32,
+    low: usize,
+    high: usize,
+    rule: Rule,
+) -> bool
+    requires { ⌜ used ≤ length (now text) ⌝ }
+    ensures { λ r. ⌜ Says r (TextOk (Fits (byte-rule rule) low high) (now (text .entry)) used start len) ⌝ }
+{
+    let s = start as usize;
+    let n = len as usize;
+    if (used as usize) < s + n {
+        return false;
+    }
+    if n < low {
+        return false;
+    }
+    if high < n {
+        return false;
+    }
+    text::all_allowed(rule, &text[s..s + n])
+}
+
+// The same number, in 64 bits.
+pub fn wide(x: u32) -> u64
+    ensures { λ r. ⌜ r ≡ x ⌝ }
+{
+    x as u64
+}
+
+// Are the numbers equal?
+pub fn same(a: u64, b: u64) -> bool
+    ensures { λ r. ⌜ Says r (a ≡ b) ⌝ }
+{
+    if a == b {
+        return true;
+    }
+    false
+}
+
+// Does the link `x`, in the record of `link`, name none or an earlier record of the kind `k`?
+pub fn link_ok(words: &[u32], link: u32, x: u32, k: u32) -> bool
+    requires { ⌜ (0 < link) × (link * 12 ≤ length (now words) + 12) ⌝ }
+    ensures { λ r. ⌜ Says r (LinkOk (now (words .entry)) link x k) ⌝ }
+{
+    if x == 0 {
+        return true;
+    }
+    if link <= x {
+        return false;
+    }
+    if memory::word_of(words, x, memory::KIND) == k {
+        return true;
+    }
+    false
+}
+
+// Is `a` before `b`?
+fn less(a: &[u8], b: &[u8]) -> bool
+    ensures { λ r. ⌜ Says r (now (a .entry) <ˢ now (b .entry)) ⌝ }
+{
+    match text::string_compare(a, b) {
+        Order::Less => true,
+        Order::Same => false,
+        Order::More => false,
+    }
+}
+
+// Is the text of the first span before that of the second?
+fn spans_less(text: &[u8], s: u32, n: u32, t: u32, m: u32) -> bool
+    requires { ⌜ (s + n ≤ length (now text)) × (t + m ≤ length (now text)) ⌝ }
+    ensures { λ r. ⌜ Says r (span (now (text .entry)) s n <ˢ span (now (text .entry)) t m) ⌝ }
+{
+    let a = s as usize;
+    let b = t as usize;
+    less(&text[a..a + n as usize], &text[b..b + m as usize])
+}
+
+// The last record on the way from `from` by the links in word `k`.
+fn far(words: &[u32], from: u32, k: usize) -> u32
+    requires { ⌜ (0 < from) × (k < 12) × (from * 12 ≤ length (now words)) ⌝ }
+    requires { ⌜ ((j : ℕ) → 0 < j → j ≤ from → word (record-at (now words) j) k < j) ⌝ }
+    ensures { λ r. ⌜ Far (now (words .entry)) k from r ⌝ }
+{
+    let mut x = from;
+    let mut next = memory::word_of(words, x, k);
+    while 0 < next {
+        x = next;
+        next = memory::word_of(words, x, k);
+    }
+    x
+}
+
+// Are all keys of the tree `top` before the key, a span of the used text?
+pub fn left_ok(
+    words: &[u32],
+    text: &[u8],
+    used: u32,
+    link: u32,
+    k: u32,
+    top: u32,
+    start: u32,
+    len: u32,
+) -> bool
+    requires { ⌜ Subtree (now words) (now text) used link k top start len ⌝ }
+    ensures { λ r. ⌜ SaysLeft (now (words .entry)) (now (text .entry)) k top start len r ⌝ }
+{
+    if top == 0 {
+        return true;
+    }
+    let x = far(words, top, memory::RIGHT);
+    let s = memory::word_of(words, x, memory::TEXT_START);
+    let n = memory::word_of(words, x, memory::TEXT_LEN);
+    spans_less(text, s, n, start, len)
+}
+
+// Are all keys of the tree `top` after the key, a span of the used text?
+pub fn right_ok(
+    words: &[u32],
+    text: &[u8],
+    used: u32,
+    link: u32,
+    k: u32,
+    top: u32,
+    start: u32,
+    len: u32,
+) -> bool
+    requires { ⌜ Subtree (now words) (now text) used link k top start len ⌝ }
+    ensures { λ r. ⌜ SaysRight (now (words .entry)) (now (text .entry)) k top start len r ⌝ }
+{
+    if top == 0 {
+        return true;
+    }
+    let x = far(words, top, memory::LEFT);
+    let s = memory::word_of(words, x, memory::TEXT_START);
+    let n = memory::word_of(words, x, memory::TEXT_LEN);
+    spans_less(text, start, len, s, n)
+}
