@@ -72,6 +72,14 @@ impl Bytes {
         let header = Header { names: h[0], modules: h[1], records: h[2], text: h[3] };
         Some(Memory { words: words(&self.words[..records * 48]), text: self.text.clone(), header })
     }
+
+    /// Puts the bytes in a memory of the same size.
+    pub fn put_in(&self, m: &mut Memory) {
+        let h = words(&self.state);
+        m.header = Header { names: h[0], modules: h[1], records: h[2], text: h[3] };
+        m.words.copy_from_slice(&words(&self.words));
+        m.text.copy_from_slice(&self.text);
+    }
 }
 
 /// The number that stands for a yes or no; `odd` puts another one in its place.
