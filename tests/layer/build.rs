@@ -1,12 +1,7 @@
-// Links the product's static library, and the C function that measures stack.
-use std::path::Path;
+// Compiles and links the C function that measures stack.
 use std::process::Command;
 
 fn main() {
-    let library = Path::new("../../target/staticlib").canonicalize().expect("run 'rt staticlib screen' first");
-    println!("cargo:rustc-link-search=native={}", library.display());
-    println!("cargo:rustc-link-lib=static=screen");
-    println!("cargo:rerun-if-changed={}/libscreen.a", library.display());
     let out = std::env::var("OUT_DIR").unwrap();
     let (object, archive) = (format!("{out}/stack.o"), format!("{out}/libstack.a"));
     run(Command::new("cc").args(["-O2", "-Wall", "-Wextra", "-Werror", "-c", "stack.c", "-o", &object]));
