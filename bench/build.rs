@@ -5,9 +5,11 @@ fn main() {
     let out = std::env::var("OUT_DIR").unwrap();
     let archive = format!("{out}/libbaseline.a");
     let _ = std::fs::remove_file(&archive);
-    for name in ["sound", "complete"] {
+    for name in ["sound", "complete", "register", "source"] {
         let (source, object) = (format!("{name}.c"), format!("{out}/{name}.o"));
-        run(Command::new("cc").args(["-O3", "-Wall", "-Wextra", "-c", &source, "-o", &object]));
+        // The source's functions are calls, as they are where an ML compiler has made them.
+        let inline = if name == "source" { "-fno-inline" } else { "-finline" };
+        run(Command::new("cc").args(["-O3", inline, "-Wall", "-Wextra", "-c", &source, "-o", &object]));
         run(Command::new("ar").args(["rcs", &archive, &object]));
         println!("cargo:rerun-if-changed={source}");
     }
