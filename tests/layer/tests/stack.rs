@@ -1,7 +1,8 @@
 //! Every call on a thread with exactly the stack that include/name_console.h states and a guard page below it, on the tables that need most.
 use layer::{complete, find, find_module, register, Bytes, Output};
-use model::layout::{Header, Memory, Record};
+use model::layout::{BINDINGS_LIST, MODULES, NAMESPACES_LIST};
 use model::model::Registration;
+use model::written::{with_free, Key, Written};
 use std::ffi::c_void;
 
 extern "C" {
@@ -23,88 +24,6 @@ fn stated(name: &str) -> usize {
     line.split_whitespace().nth(2).unwrap().parse().expect(name)
 }
 
-/// A table written record by record, of names (base 0) or of modules (base 5).
-#[derive(Clone, Default)]
-struct Made {
-    base: u32,
-    all: Vec<Record>,
-    text: Vec<u8>,
-}
-
-impl Made {
-    fn put(&mut self, words: &[(usize, u32)]) -> u32 {
-        let mut r = Record::default();
-        words.iter().for_each(|&(at, word)| r[at] = word);
-        r[0] += self.base;
-        self.all.push(r);
-        self.all.len() as u32
-    }
-
-    fn word(&self, link: u32, at: usize) -> u32 {
-        if link == 0 { 0 } else { self.all[link as usize - 1][at] }
-    }
-
-    fn key(&mut self, key: &str) -> u32 {
-        self.text.extend(key.bytes());
-        (self.text.len() - key.len()) as u32
-    }
-
-    /// A bindings branch; of modules, a Namespace.
-    fn leaf(&mut self, key: &str, left: u32, right: u32) -> u32 {
-        let (start, length) = (self.key(key), key.len() as u32);
-        self.put(&[(0, 1), (1, start), (2, length), (3, left), (4, right), (5, 1), (6, start), (7, length)])
-    }
-
-    /// A namespaces branch.
-    fn space(&mut self, key: &str, left: u32, right: u32, trie: u32) -> u32 {
-        let depth = (1 + self.word(trie, 11)).max(self.word(left, 11)).max(self.word(right, 11));
-        let (start, length) = (self.key(key), key.len() as u32);
-        self.put(&[(0, 2), (1, start), (2, length), (3, left), (4, right), (5, trie), (11, depth)])
-    }
-
-    /// A collection in front of the rest: a tree (sort 0) or an imported list (sort 1); kind 3 of bindings, 4 of namespaces.
-    fn collection(&mut self, kind: u32, sort: u32, own: u32, rest: u32) -> u32 {
-        let weight = 1 + sort * self.word(own, 10) + self.word(rest, 10);
-        let depth = if kind == 4 { self.word(own, 11).max(self.word(rest, 11)) } else { 0 };
-        self.put(&[(0, kind), (3, own), (4, rest), (5, sort), (10, weight), (11, depth)])
-    }
-
-    fn trie(&mut self, bindings: u32, namespaces: u32) -> u32 {
-        let depth = self.word(namespaces, 11);
-        self.put(&[(0, 5), (3, bindings), (4, namespaces), (11, depth)])
-    }
-
-    /// A list of weight 96 around a tree.
-    fn list(&mut self, shape: Shape, kind: u32, tree: u32) -> u32 {
-        let mut list = self.collection(kind, 0, tree, 0);
-        while self.word(list, 10) < 96 {
-            list = match shape {
-                Shape::Flat => self.collection(kind, 0, tree, list),
-                Shape::Nested => self.collection(kind, 1, list, 0),
-                Shape::Doubled if 2 * self.word(list, 10) + 2 <= 96 => {
-                    let second = self.collection(kind, 1, list, 0);
-                    self.collection(kind, 1, list, second)
-                }
-                Shape::Doubled => self.collection(kind, 0, tree, list),
-            };
-        }
-        list
-    }
-
-    /// The table with this root, and records free up to the 1,024 that count.
-    fn table(mut self, root: u32) -> Bytes {
-        let records = self.all.len() as u32;
-        assert!(records <= 1024, "{records}");
-        self.all.resize(1024, Record::default());
-        let text = self.text.len() as u32;
-        let (names, modules) = if self.base == 0 { (root, 0) } else { (0, root) };
-        self.text.resize(65536, 0);
-        let memory = Memory { words: self.all.concat(), text: self.text, header: Header { names, modules, records, text } };
-        assert!(memory.is_sound());
-        Bytes::of(&memory)
-    }
-}
-
 #[derive(Clone, Copy, Debug)]
 enum Shape {
     Flat,
@@ -112,55 +31,62 @@ enum Shape {
     Doubled,
 }
 
-/// Seventeen tries below each other; every trie has the same bindings, in a list of weight 96, and reaches the next by merged lists.
-fn deep(base: u32, shape: Shape) -> Bytes {
-    let mut t = Made { base, ..Made::default() };
-    let leaf = t.leaf("s", 0, 0);
-    let bindings = t.list(shape, 3, leaf);
-    // The last trie's namespaces are a heavy list too, of no key.
-    let last = t.list(shape, 4, 0);
-    let mut trie = t.trie(bindings, last);
-    for _ in 0..16 {
-        let space = t.space("s", 0, 0, trie);
-        let mut list = t.collection(4, 0, space, 0);
-        list = t.collection(4, 1, list, 0);
-        list = t.collection(4, 0, space, list);
-        trie = t.trie(bindings, list);
+/// A list of weight 96 around a tree.
+fn list(t: &mut Written, shape: Shape, kind: u32, tree: u32) -> u32 {
+    let mut list = t.tree(kind, tree, 0);
+    while t.word(list, 10) < 96 {
+        list = match shape {
+            Shape::Flat => t.tree(kind, tree, list),
+            Shape::Nested => t.import(kind, list, 0),
+            Shape::Doubled if 2 * t.word(list, 10) + 2 <= 96 => {
+                let second = t.import(kind, list, 0);
+                t.import(kind, list, second)
+            }
+            Shape::Doubled => t.tree(kind, tree, list),
+        };
     }
-    t.table(trie)
+    list
 }
 
-/// One tree of 750 branches in a row, to the left, to the right, or by turns; and the last 200 of them as namespaces.
-fn chain(base: u32, left: impl Fn(usize) -> bool) -> Bytes {
-    let mut t = Made { base, ..Made::default() };
-    let (mut low, mut high) = (0, 999);
-    let mut keys: Vec<(String, bool)> = (0..750)
-        .map(|k| {
-            // What is below goes to the left: this key is above all of it.
-            let at = if left(k) { high } else { low };
-            if left(k) { high -= 1 } else { low += 1 };
-            (format!("k{at:03}"), left(k))
-        })
-        .collect();
-    keys.reverse();
-    let (mut leaf, mut space) = (0, 0);
-    for (key, left) in keys.iter().take(200) {
-        let side = |link| if *left { (link, 0) } else { (0, link) };
-        space = t.space(key, side(space).0, side(space).1, 0);
+/// The table with this root; as much is lent as counts.
+fn lent(t: Written, root: u32) -> Bytes {
+    Bytes::of(&with_free(t.memory(root), 1024, 65536))
+}
+
+/// Seventeen tries below each other; every trie has the same bindings, in a list of weight 96, and reaches the next by merged lists.
+fn deep(base: u32, shape: Shape) -> Bytes {
+    let mut t = Written { base, ..Written::default() };
+    let key = t.key("s");
+    let leaf = t.leaf(key, 0, 0);
+    let bindings = list(&mut t, shape, BINDINGS_LIST, leaf);
+    // The last trie's namespaces are a heavy list too, of no key.
+    let last = list(&mut t, shape, NAMESPACES_LIST, 0);
+    let mut trie = t.trie(bindings, last);
+    for _ in 0..16 {
+        let space = t.space(key, 0, 0, trie);
+        let mut list = t.tree(NAMESPACES_LIST, space, 0);
+        list = t.import(NAMESPACES_LIST, list, 0);
+        list = t.tree(NAMESPACES_LIST, space, list);
+        trie = t.trie(bindings, list);
     }
-    for (key, left) in &keys {
-        let side = |link| if *left { (link, 0) } else { (0, link) };
-        leaf = t.leaf(key, side(leaf).0, side(leaf).1);
-    }
-    let bindings = t.collection(3, 0, leaf, 0);
-    let namespaces = t.collection(4, 0, space, 0);
+    lent(t, trie)
+}
+
+/// One tree of 750 branches in a row, to the left, to the right, or by turns; and 200 namespaces in the same way.
+fn chain(base: u32, left: fn(usize) -> bool) -> Bytes {
+    let mut t = Written { base, ..Written::default() };
+    let keys: Vec<Key> = (0..750).map(|k| t.key(&format!("k{k:03}"))).collect();
+    let leaf = t.chain(&keys, left, &Written::leaf);
+    let space = t.chain(&keys[..200], left, &|t, key, left, right| t.space(key, left, right, 0));
+    let bindings = t.tree(BINDINGS_LIST, leaf, 0);
+    let namespaces = t.tree(NAMESPACES_LIST, space, 0);
     let root = t.trie(bindings, namespaces);
-    t.table(root)
+    lent(t, root)
 }
 
 fn tables() -> Vec<(String, Bytes)> {
     let mut all = Vec::new();
-    for base in [0, 5] {
+    for base in [0, MODULES] {
         for shape in [Shape::Flat, Shape::Nested, Shape::Doubled] {
             all.push((format!("deep {base} {shape:?}"), deep(base, shape)));
         }

@@ -7,3 +7,4 @@ pub mod limits;
 pub mod model;
 pub mod naive;
 pub mod script;
+pub mod written;

@@ -4,6 +4,7 @@
 
 use crate::layout::{Header, Memory, Record};
 use crate::model::{Filter, Registration};
+use crate::written::record;
 
 pub const UNSOUND: u32 = 1;
 pub const MALFORMED: u32 = 2;
@@ -189,13 +190,6 @@ fn written(records: &[Record], text: &[u8]) -> Memory {
     let (used, length) = (records.len() as u32, text.len() as u32);
     let header = Header { records: used, text: length, ..Header::default() };
     Memory { words: records.concat(), text: text.into(), header }
-}
-
-/// A record with these words at these places, and 0 at the others.
-fn record(words: &[(usize, u32)]) -> Record {
-    let mut r = Record::default();
-    words.iter().for_each(|&(at, word)| r[at] = word);
-    r
 }
 
 /// A bindings branch of the names table with a key of one byte.
