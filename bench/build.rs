@@ -1,20 +1,9 @@
-// Compiles and links the baselines written in C.
-use std::process::Command;
+// Links the baselines written in C.
+include!("../tests/c.rs");
 
 fn main() {
-    let out = std::env::var("OUT_DIR").unwrap();
-    let archive = format!("{out}/libbaseline.a");
-    let _ = std::fs::remove_file(&archive);
-    for name in ["sound", "complete"] {
-        let (source, object) = (format!("{name}.c"), format!("{out}/{name}.o"));
-        run(Command::new("cc").args(["-O3", "-Wall", "-Wextra", "-c", &source, "-o", &object]));
-        run(Command::new("ar").args(["rcs", &archive, &object]));
-        println!("cargo:rerun-if-changed={source}");
-    }
-    println!("cargo:rustc-link-search=native={out}");
-    println!("cargo:rustc-link-lib=static=baseline");
-}
-
-fn run(command: &mut Command) {
-    assert!(command.status().expect("a C compiler").success(), "{command:?}");
+    let fast: &[&str] = &["-O3"];
+    // The source's functions are calls, as they are where an ML compiler has made them.
+    let calls: &[&str] = &["-O3", "-fno-inline"];
+    link_c("baseline", &[("sound.c", fast), ("complete.c", fast), ("register.c", fast), ("source.c", calls)]);
 }

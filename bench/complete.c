@@ -111,7 +111,8 @@ static void list(struct run *r, uint32_t trie, const uint8_t *q, size_t qn, size
     const uint8_t *dot = qn ? memchr(q, '.', qn) : NULL;
     size_t n = dot ? (size_t)(dot - q) : 0, next = dot ? n + 1 : 0;
     if (dot) matched = (uint32_t)(base + n);
-    if (next == qn) {
+    // Once they do not fit, lines need no more counting.
+    if (next == qn && r->count <= r->lines && r->used <= r->bytes) {
         struct list l = search(r, t[3], q, n);
         for (size_t i = 0; i < l.n; i++) {
             const uint32_t *b = record(r, l.at[i].branch);

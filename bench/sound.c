@@ -1,13 +1,21 @@
-/* The soundness test by hand in C: the same conditions as crates/sound, one pass over the used records, for comparing speed. */
+/* The soundness test by hand in C: the same conditions as crates/sound, one pass over the used records, for comparing speed.
+   The least and the greatest key of each tree are noted on the heap, so that the pass is linear. */
 #include <stdbool.h>
 #include <stddef.h>
 #include <stdint.h>
+#include <stdlib.h>
 #include <string.h>
+
+/* The branches with the least and the greatest key of a tree, by links. */
+typedef struct {
+  uint32_t least, greatest;
+} Ends;
 
 typedef struct {
   const uint32_t *w;
   const uint8_t *t;
   uint32_t used;
+  Ends *ends;
 } Mem;
 
 static inline uint32_t at(const Mem *m, uint32_t link, int k) { return m->w[(size_t)(link - 1) * 12 + k]; }
@@ -38,17 +46,14 @@ static inline bool less(const Mem *m, uint32_t a, uint32_t b) {
   return c < 0 || (c == 0 && la < lb);
 }
 
-static inline uint32_t far_end(const Mem *m, uint32_t x, int k) {
-  for (uint32_t y; (y = at(m, x, k)); x = y) {}
-  return x;
-}
-
 static bool branch_ok(const Mem *m, uint32_t l, uint32_t kind) {
   uint32_t left = at(m, l, 3), right = at(m, l, 4);
   if (!text_ok(m, at(m, l, 1), at(m, l, 2), 1, 31, NAME)) return false;
   if (!link_ok(m, l, left, kind) || !link_ok(m, l, right, kind)) return false;
-  if (left && !less(m, far_end(m, left, 4), l)) return false;
-  return !right || less(m, l, far_end(m, right, 3));
+  if (left && !less(m, m->ends[left].greatest, l)) return false;
+  if (right && !less(m, l, m->ends[right].least)) return false;
+  m->ends[l] = (Ends){left ? m->ends[left].least : l, right ? m->ends[right].greatest : l};
+  return true;
 }
 
 static bool symbol_ok(const Mem *m, uint32_t l) {
@@ -61,7 +66,8 @@ static inline uint32_t max(uint32_t a, uint32_t b) { return a < b ? b : a; }
 
 static bool collection_ok(const Mem *m, uint32_t l, uint32_t kind) {
   uint32_t own = at(m, l, 3), rest = at(m, l, 4);
-  uint64_t weight = 1 + (uint64_t)stored(m, rest, 10);
+  if (!link_ok(m, l, rest, kind)) return false;
+  uint32_t weight = 1 + stored(m, rest, 10);
   if (at(m, l, 5) == 0) {
     if (!link_ok(m, l, own, kind - 2)) return false;
   } else if (at(m, l, 5) == 1) {
@@ -70,39 +76,46 @@ static bool collection_ok(const Mem *m, uint32_t l, uint32_t kind) {
   } else {
     return false;
   }
-  return link_ok(m, l, rest, kind) && weight <= 96 && at(m, l, 10) == weight;
+  return weight <= 96 && at(m, l, 10) == weight;
 }
 
-bool c_sound(const uint32_t *words, size_t nwords, const uint8_t *text, size_t ntext, uint32_t names, uint32_t modules, uint32_t records,
-             uint32_t used) {
-  Mem m = {words, text, used};
-  if (records > 65536 || used > 65536 || nwords < (size_t)records * 12 || ntext < used) return false;
-  if (!link_ok(&m, records + 1, names, 5) || !link_ok(&m, records + 1, modules, 10)) return false;
+static bool records_ok(const Mem *m, uint32_t records) {
   for (uint32_t l = 1; l <= records; l++) {
-    uint32_t k = at(&m, l, 0);
+    uint32_t k = at(m, l, 0);
     bool ok;
     switch (k) {
-      case 1: ok = branch_ok(&m, l, k); break;
-      case 6: ok = branch_ok(&m, l, k) && symbol_ok(&m, l); break;
+      case 1: ok = branch_ok(m, l, k); break;
+      case 6: ok = branch_ok(m, l, k) && symbol_ok(m, l); break;
       case 2:
       case 7:
-        ok = branch_ok(&m, l, k) && link_ok(&m, l, at(&m, l, 5), k + 3) &&
-             at(&m, l, 11) == max(1 + stored(&m, at(&m, l, 5), 11), max(stored(&m, at(&m, l, 3), 11), stored(&m, at(&m, l, 4), 11)));
+        ok = branch_ok(m, l, k) && link_ok(m, l, at(m, l, 5), k + 3) &&
+             at(m, l, 11) == max(1 + stored(m, at(m, l, 5), 11), max(stored(m, at(m, l, 3), 11), stored(m, at(m, l, 4), 11)));
         break;
       case 3:
-      case 8: ok = collection_ok(&m, l, k); break;
+      case 8: ok = collection_ok(m, l, k); break;
       case 4:
       case 9:
-        ok = collection_ok(&m, l, k) && at(&m, l, 11) == max(stored(&m, at(&m, l, 3), 11), stored(&m, at(&m, l, 4), 11));
+        ok = collection_ok(m, l, k) && at(m, l, 11) == max(stored(m, at(m, l, 3), 11), stored(m, at(m, l, 4), 11));
         break;
       case 5:
       case 10:
-        ok = link_ok(&m, l, at(&m, l, 3), k - 2) && link_ok(&m, l, at(&m, l, 4), k - 1) && at(&m, l, 11) == stored(&m, at(&m, l, 4), 11) &&
-             at(&m, l, 11) <= 16;
+        ok = link_ok(m, l, at(m, l, 3), k - 2) && link_ok(m, l, at(m, l, 4), k - 1) && at(m, l, 11) == stored(m, at(m, l, 4), 11) &&
+             at(m, l, 11) <= 16;
         break;
       default: ok = false;
     }
     if (!ok) return false;
   }
   return true;
+}
+
+bool c_sound(const uint32_t *words, size_t nwords, const uint8_t *text, size_t ntext, uint32_t names, uint32_t modules, uint32_t records,
+             uint32_t used) {
+  Mem m = {words, text, used, NULL};
+  if (records > 65536 || used > 65536 || nwords < (size_t)records * 12 || ntext < used) return false;
+  if (!link_ok(&m, records + 1, names, 5) || !link_ok(&m, records + 1, modules, 10)) return false;
+  m.ends = malloc((records + 1) * sizeof *m.ends);
+  bool ok = m.ends && records_ok(&m, records);
+  free(m.ends);
+  return ok;
 }

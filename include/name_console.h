@@ -6,8 +6,8 @@
 
    A slice passes as a pointer and a length. A pointer is not null, also where its length is 0. Buffers that a call writes
    overlap no other buffer of that call. The caller owns every buffer: a call keeps no pointer, takes no memory from the
-   heap and has no state of its own, so that different tables can be used in different threads. Measured on x86-64, a registration or
-   look-up takes some 60 KB of stack, a completion of a table of depth 16 some 200 KB.
+   heap and has no state of its own, so that different tables can be used in different threads. Its stack is bounded whatever
+   is lent: NAME_CONSOLE_STACK and NAME_CONSOLE_STACK_COMPLETE below.
 
    A query is a text in which each segment ends with a dot ("Live.offset."); the empty text is the query of no segment. */
 #ifndef NAME_CONSOLE_H
@@ -25,6 +25,10 @@ extern "C" {
 #define NAME_CONSOLE_RECORDS 1024 /* records past these count as not lent */
 #define NAME_CONSOLE_LINE 48      /* bytes of a line record */
 #define NAME_CONSOLE_LINES 512    /* line records past these count as not lent */
+
+/* Bytes of stack that are enough for a call on x86-64, measured on the tables that need most (tests/layer/tests/stack.rs). */
+#define NAME_CONSOLE_STACK 131072          /* for a registration or look-up */
+#define NAME_CONSOLE_STACK_COMPLETE 327680 /* for a completion */
 
 /* What a call answers. Where several refusals apply, the lowest number is given. A refusal changes no byte that is lent. */
 enum name_console_answer {

@@ -1,4 +1,6 @@
-/* Completions through the C calls: document 01's cases, and what each call leaves of the bytes. One line a check: ok or FAILED. */
+/* The C calls from C: sizes and places of the header's structs, document 01's cases, each refusal by name, and what each call
+   leaves of the bytes. One line a check: ok or FAILED. */
+#include <stddef.h>
 #include <stdio.h>
 #include <stdlib.h>
 #include <string.h>
@@ -8,6 +10,7 @@
 static uint8_t state[NAME_CONSOLE_STATE], words[NAME_CONSOLE_RECORDS * NAME_CONSOLE_RECORD], text[32768];
 static uint8_t lines[(NAME_CONSOLE_LINES + 88) * NAME_CONSOLE_LINE], out[65536];
 static uint8_t lines_before[sizeof lines], out_before[sizeof out];
+static uint8_t state_before[sizeof state], words_before[sizeof words], text_before[sizeof text];
 static size_t lines_len = sizeof lines, out_len = sizeof out;
 static uint32_t budget = 4096;
 static int failures;
@@ -19,6 +22,59 @@ static void check(const char *what, int good) {
   printf("%s %s\n", good ? "ok" : "FAILED", what);
   failures += !good;
 }
+
+/* ---- The structs: fields of 32 bits one after another */
+
+#define SIZE(s, n) check("size of " #s, sizeof(struct name_console_##s) == (n))
+#define PLACE(s, f, n) check("place of " #s "." #f, offsetof(struct name_console_##s, f) == (n) && sizeof(((struct name_console_##s *)0)->f) == 4)
+
+static void structs(void) {
+  SIZE(name, 8);
+  PLACE(name, answer, 0);
+  PLACE(name, item, 4);
+  SIZE(symbol, 28);
+  PLACE(symbol, answer, 0);
+  PLACE(symbol, sort, 4);
+  PLACE(symbol, name_start, 8);
+  PLACE(symbol, name_len, 12);
+  PLACE(symbol, path_start, 16);
+  PLACE(symbol, path_len, 20);
+  PLACE(symbol, loaded, 24);
+  SIZE(listing, 12);
+  PLACE(listing, answer, 0);
+  PLACE(listing, lines, 4);
+  PLACE(listing, entered, 8);
+  SIZE(line, 44);
+  PLACE(line, match_length, 0);
+  PLACE(line, candidate, 4);
+  PLACE(line, candidate_len, 8);
+  PLACE(line, annotation, 12);
+  PLACE(line, annotation_len, 16);
+  PLACE(line, item, 20);
+  PLACE(line, name, 24);
+  PLACE(line, name_len, 28);
+  PLACE(line, path, 32);
+  PLACE(line, path_len, 36);
+  PLACE(line, loaded, 40);
+  check("sizes", NAME_CONSOLE_STATE == 16 && NAME_CONSOLE_RECORD == 48 && NAME_CONSOLE_RECORDS == 1024 && NAME_CONSOLE_LINE == 48);
+  check("filters", NAME_CONSOLE_ALL == 0 && NAME_CONSOLE_LOADED == 1 && NAME_CONSOLE_MODULES_ONLY == 2 && NAME_CONSOLE_NAMESPACES_ONLY == 3);
+}
+
+/* Line record words 0 to 11 are read in the header's order. */
+static void words_of_a_line(void) {
+  uint8_t record[2 * NAME_CONSOLE_LINE];
+  for (uint32_t k = 0; k < 24; k++)
+    for (uint32_t b = 0; b < 4; b++) record[k * 4 + b] = (uint8_t)(b ? 16 * b : 100 + k);
+  const uint32_t high = 0x30201000u + 100;
+  struct name_console_line l = name_console_line_at(record, 1);
+  check("a line's words", (uint32_t)l.match_length == high + 12 && l.candidate == high + 13 && l.candidate_len == high + 14 && l.annotation == high + 15 &&
+                              l.annotation_len == high + 16 && l.item == high + 17 && l.name == high + 18 && l.name_len == high + 19 &&
+                              l.path == high + 20 && l.path_len == high + 21 && l.loaded == high + 22);
+  memset(record, 0xFF, 4);
+  check("a match length of -1", name_console_line_at(record, 0).match_length == -1);
+}
+
+/* ---- Completions */
 
 static void fill(void) {
   for (size_t i = 0; i < sizeof lines; i++) lines[i] = (uint8_t)(i * 7 + 3);
@@ -112,11 +168,104 @@ static void filters(void) {
   check("no filter", refused(modules(4, "I."), NAME_CONSOLE_MALFORMED) && refused(modules(UINT32_MAX, "I."), NAME_CONSOLE_MALFORMED));
 }
 
+/* ---- Registrations and look-ups */
+
+static void keep(void) {
+  memcpy(state_before, state, sizeof state);
+  memcpy(words_before, words, sizeof words);
+  memcpy(text_before, text, sizeof text);
+}
+
+static int kept(void) {
+  return memcmp(state, state_before, sizeof state) == 0 && memcmp(words, words_before, sizeof words) == 0 && memcmp(text, text_before, sizeof text) == 0;
+}
+
+/* The call answers n, and no byte has changed. */
+#define REFUSES(what, call, n) (keep(), check(what, (call) == (n) && kept()))
+/* The call is accepted, and so many records and bytes are used then. */
+#define ACCEPTS(what, call, records, bytes) check(what, (call) == NAME_CONSOLE_OK && name_console_word(state, 2) == (records) && name_console_word(state, 3) == (bytes))
+
+static int finds(const char *q, uint32_t answer, uint32_t item) {
+  struct name_console_name r = name_console_find(TABLE, S(q));
+  return r.answer == answer && r.item == item;
+}
+
+static int span(uint32_t start, uint32_t len, const char *s) { return len == strlen(s) && start + len <= sizeof text && memcmp(text + start, s, len) == 0; }
+
+static int finds_symbol(const char *q, uint32_t sort, const char *full, const char *path, uint32_t loaded) {
+  struct name_console_symbol r = name_console_find_module(TABLE, S(q));
+  return r.answer == NAME_CONSOLE_OK && r.sort == sort && span(r.name_start, r.name_len, full) && span(r.path_start, r.path_len, path) && r.loaded == loaded;
+}
+
+static int finds_no_symbol(const char *q, uint32_t answer) {
+  struct name_console_symbol r = name_console_find_module(TABLE, S(q)), none = {.answer = answer};
+  return memcmp(&r, &none, sizeof r) == 0;
+}
+
+static void registrations(void) {
+  fresh();
+  ACCEPTS("case 1", name("", "tick", 5), 3, 4);
+  table_t();
+  check("case 3", finds("Live.late.", NAME_CONSOLE_NONE, 0) && finds("Saved.late.", NAME_CONSOLE_OK, 2));
+  check("case 4", finds("Live.offset.", NAME_CONSOLE_OK, 3));
+  ACCEPTS("case 8", name_console_alias(TABLE, S("K"), S("Live."), S("Saved.")), 35, 56);
+  check("case 8: the alias", finds("Live.K.late.", NAME_CONSOLE_OK, 2));
+  fresh();
+  ACCEPTS("case 10", name_console_module(TABLE, 0, S("IO.Bus."), S("io/bus")), 10, 13);
+  check("a module", finds_symbol("IO.Bus.", 0, "IO.Bus", "io/bus", 0));
+  check("a namespace", finds_symbol("IO.", 1, "IO", "", 0));
+  check("no module", finds_no_symbol("Bus.", NAME_CONSOLE_NONE) && finds_no_symbol("IO.Bus", NAME_CONSOLE_MALFORMED));
+  check("a loaded module", name_console_module(TABLE, 1, S("IO.Bus."), S("x")) == 0 && finds_symbol("IO.Bus.", 0, "IO.Bus", "x", 1));
+  check("its namespace", finds_symbol("IO.", 1, "IO", "", 1));
+  fresh();
+  check("names to open", name("m.", "x", 1) == 0 && name("m.s.", "y", 2) == 0);
+  check("open of a module", name_console_open(TABLE, 1, S("o."), S("m.")) == 0);
+  check("carries bindings", finds("o.x.", NAME_CONSOLE_OK, 1) && finds("o.s.y.", NAME_CONSOLE_NONE, 0));
+  check("open of a namespace", name_console_open(TABLE, 0, S("n."), S("m.")) == 0);
+  check("carries namespaces", finds("n.x.", NAME_CONSOLE_NONE, 0) && finds("n.s.y.", NAME_CONSOLE_OK, 2));
+  check("include", name_console_include(TABLE, S("i."), S("m.")) == 0 && finds("i.x.", NAME_CONSOLE_OK, 1) && finds("i.s.y.", NAME_CONSOLE_NONE, 0));
+}
+
+static void refusals(void) {
+  const char *n32 = "nnnnnnnnnnnnnnnnnnnnnnnnnnnnnnnn", *s17 = "s.s.s.s.s.s.s.s.s.s.s.s.s.s.s.s.s.";
+  check("numbers", NAME_CONSOLE_OK == 0 && NAME_CONSOLE_UNSOUND == 1 && NAME_CONSOLE_MALFORMED == 2 && NAME_CONSOLE_EMPTY == 3 && NAME_CONSOLE_TOO_LONG == 4 &&
+                       NAME_CONSOLE_CROWDED == 5 && NAME_CONSOLE_DEEP == 6 && NAME_CONSOLE_FULL == 7 && NAME_CONSOLE_TEXT_FULL == 8 && NAME_CONSOLE_SPENT == 9 &&
+                       NAME_CONSOLE_NO_ROOM == 10 && NAME_CONSOLE_NONE == 11);
+  fresh();
+  REFUSES("Malformed, name", name("", "a.b", 1), NAME_CONSOLE_MALFORMED);
+  REFUSES("Malformed, include", name_console_include(TABLE, S("a"), S("")), NAME_CONSOLE_MALFORMED);
+  REFUSES("Malformed, open", name_console_open(TABLE, 2, S(""), S("")), NAME_CONSOLE_MALFORMED);
+  REFUSES("Malformed, alias", name_console_alias(TABLE, S("k"), S(""), S("[.")), NAME_CONSOLE_MALFORMED);
+  REFUSES("Malformed, module", name_console_module(TABLE, 0, S("A."), S("\n")), NAME_CONSOLE_MALFORMED);
+  REFUSES("Empty, name", name("", "", 1), NAME_CONSOLE_EMPTY);
+  REFUSES("Empty, open", name_console_open(TABLE, 1, S("."), S("")), NAME_CONSOLE_EMPTY);
+  check("Empty, find", finds("", NAME_CONSOLE_EMPTY, 0) && finds_no_symbol("a..", NAME_CONSOLE_EMPTY));
+  REFUSES("TooLong, alias", name_console_alias(TABLE, S(n32), S(""), S("")), NAME_CONSOLE_TOO_LONG);
+  check("a name of 31 bytes", name("", n32 + 1, 1) == 0 && finds("s.s.s.s.s.s.s.s.s.s.s.s.s.s.s.s.s.s.", NAME_CONSOLE_TOO_LONG, 0));
+  REFUSES("Deep", name(s17, "n", 1), NAME_CONSOLE_DEEP);
+  check("a host of 16 segments", name(s17 + 2, "n", 1) == 0);
+  fresh();
+  int good = 1;
+  for (int i = 0; i < 96; i++) good &= name_console_include(TABLE, S(""), S("x.")) == 0;
+  check("a list of 96", good);
+  REFUSES("Crowded", name_console_include(TABLE, S(""), S("x.")), NAME_CONSOLE_CROWDED);
+  fresh();
+  REFUSES("Full", name_console_insert(state, sizeof state, words, 3 * NAME_CONSOLE_RECORD - 1, text, sizeof text, S(""), S("tick"), 5), NAME_CONSOLE_FULL);
+  REFUSES("TextFull", name_console_insert(state, sizeof state, words, 3 * NAME_CONSOLE_RECORD, text, 3, S(""), S("tick"), 5), NAME_CONSOLE_TEXT_FULL);
+  check("room enough", name_console_insert(state, sizeof state, words, 3 * NAME_CONSOLE_RECORD, text, 4, S(""), S("tick"), 5) == 0);
+}
+
 static void unsound(void) {
   table_t();
   words[0] ^= 64;
   check("unsound", refused(complete(""), NAME_CONSOLE_UNSOUND) && refused(modules(0, ""), NAME_CONSOLE_UNSOUND));
   check("unsound before no filter", refused(modules(4, ""), NAME_CONSOLE_UNSOUND));
+  REFUSES("Unsound, name", name("", "tick", 5), NAME_CONSOLE_UNSOUND);
+  REFUSES("Unsound, include", name_console_include(TABLE, S(""), S("")), NAME_CONSOLE_UNSOUND);
+  REFUSES("Unsound, open", name_console_open(TABLE, 2, S(""), S("")), NAME_CONSOLE_UNSOUND);
+  REFUSES("Unsound, alias", name_console_alias(TABLE, S("k"), S(""), S("")), NAME_CONSOLE_UNSOUND);
+  REFUSES("Unsound, module", name_console_module(TABLE, 0, S(""), S("")), NAME_CONSOLE_UNSOUND);
+  check("Unsound, look-ups", finds("Saved.late.", NAME_CONSOLE_UNSOUND, 0) && finds_no_symbol("IO.", NAME_CONSOLE_UNSOUND));
   words[0] ^= 64;
   fill();
   check("a short state", refused(name_console_complete(state, 15, words, sizeof words, text, sizeof text, S(""), 9, lines, lines_len, out, out_len), NAME_CONSOLE_UNSOUND));
@@ -142,6 +291,10 @@ static void many(void) {
 }
 
 int main(void) {
+  structs();
+  words_of_a_line();
+  registrations();
+  refusals();
   cases();
   filters();
   unsound();

@@ -1,155 +1,85 @@
 //! Compares the product with baselines on the same input, turn by turn in one run. Each figure is the least of many turns.
+//! `cargo run --release --offline` prints the tables; with the word `write` after `--` it puts them and the plot into docs/.
 mod baseline;
+mod calls;
+mod layer;
+mod measure;
 mod plot;
+mod shapes;
+mod source;
 
+use calls::{completions, fresh, look_ups, made, registrations, Name};
+use measure::{compare, least, Row};
 use model::gen::Rng;
 use model::layout::Memory;
-use model::model::{complete_names, find, register, Lent, Line, Registration, Span, Table};
+use model::model::Registration;
 use product::{Ask, Output};
 use std::cell::RefCell;
-use std::hint::black_box;
-use std::time::Instant;
 
-const TURNS: usize = 200;
 const SIZES: [usize; 4] = [100, 300, 1_000, 3_000];
-const BLANK: Line<u32> = Line { match_length: 0, item: 0, candidate: Span { start: 0, length: 0 }, annotation: Span { start: 0, length: 0 } };
 
-/// Nanoseconds of one call, the least over the turns, of each of two functions called in turn.
-fn compare(a: impl Fn() -> bool, b: impl Fn() -> bool) -> (f64, f64) {
-    let mut least = (f64::MAX, f64::MAX);
-    for _ in 0..TURNS {
-        let start = Instant::now();
-        assert!(black_box(a()));
-        let middle = Instant::now();
-        assert!(black_box(b()));
-        let end = Instant::now();
-        least.0 = least.0.min((middle - start).as_nanos() as f64);
-        least.1 = least.1.min((end - middle).as_nanos() as f64);
-    }
-    least
+/// The modules: `Mod<i>.Sub<i mod 7>.`
+fn module(i: usize) -> Vec<u8> {
+    format!("Mod{i}.Sub{}.", i % 7).into_bytes()
 }
 
-/// Names in random order below a few hosts until so many records are used.
-fn named_table(records: u32) -> Memory {
-    let mut rng = Rng::new(7);
-    let mut m = Memory::with_room(65536, 65536);
-    let hosts: [&[u8]; 4] = [b"", b"io.", b"live.", b"saved.bus."];
-    while m.header.records < records {
-        let host = hosts[rng.below(hosts.len())].to_vec();
-        let id = format!("{:x}", rng.below(4096)).into_bytes();
-        m.register(&Registration::Name { host, id, item: rng.word() }).expect("room");
+/// 1,000 names in random order over 20 modules in turn, then ten includes, each of module k in module k + 1.
+fn work() -> Vec<Row> {
+    let mut rng = Rng::new(3);
+    let mut numbers: Vec<u32> = (0..1000).collect();
+    for k in (1..numbers.len()).rev() {
+        numbers.swap(k, rng.below(k + 1));
     }
-    m
-}
-
-/// A name to register, and the query that looks it up.
-struct Name {
-    host: Vec<u8>,
-    id: Vec<u8>,
-    query: Vec<u8>,
+    let names: Vec<Name> = numbers.iter().enumerate().map(|(k, n)| Name::new(module(k % 20), format!("id{n}").into_bytes(), *n)).collect();
+    let mut rows = vec![registrations("register 1,000 names", &fresh(), &names)];
+    let mut m = made(&names);
+    for k in 0..10 {
+        let call = Registration::Include { host: module(k + 1), included: module(k) };
+        assert_eq!(product::register(&mut m, &call), 0);
+    }
+    // A number stands in the module where it was registered, or in one of the includes before it.
+    let there: Vec<(&[u8], Option<u32>)> = names.iter().map(|n| (&n.query[..], Some(n.item))).collect();
+    rows.push(look_ups("look full names up", &m, &there));
+    let missing: Vec<Vec<u8>> = (0..1000).map(|k| [&module(k % 20)[..], format!("no{k}.").as_bytes()].concat()).collect();
+    let missing: Vec<(&[u8], Option<u32>)> = missing.iter().map(|q| (&q[..], None)).collect();
+    rows.push(look_ups("look missing names up", &m, &missing));
+    let begun: Vec<Vec<u8>> = (0..20).map(|i| [&module(i)[..], b"id1."].concat()).collect();
+    rows.push(completions("complete Mod<i>.Sub<k>.id1.", &m, &begun.iter().map(|q| &q[..]).collect::<Vec<_>>()));
+    rows.push(completions("list all names", &m, &[b""]));
+    rows
 }
 
 /// So many names below four hosts, in random order.
 fn names(count: usize) -> Vec<Name> {
     let mut rng = Rng::new(11);
     let hosts: [&[u8]; 4] = [b"", b"io.", b"live.", b"saved.bus."];
-    (0..count)
-        .map(|_| {
-            let host = hosts[rng.below(hosts.len())].to_vec();
-            let id = format!("{:x}", rng.below(1 << 16)).into_bytes();
-            let query = [&host[..], &id[..], b"."].concat();
-            Name { host, id, query }
+    (0..count).map(|_| Name::new(hosts[rng.below(hosts.len())].to_vec(), format!("{:x}", rng.below(1 << 16)).into_bytes(), 1)).collect()
+}
+
+/// The calls at tables of several sizes: ten more names, a hundred look-ups, ten completions of one line, the listing of all.
+fn sizes() -> Vec<[Row; 4]> {
+    SIZES
+        .map(|count| {
+            let names = names(count + 10);
+            let m = made(&names[..count]);
+            let asked: Vec<&[u8]> = (0..100).map(|k| &names[k * count / 100].query[..]).collect();
+            let found: Vec<(&[u8], Option<u32>)> = asked.iter().map(|q| (*q, Some(1))).collect();
+            let few: Vec<&[u8]> = asked.iter().step_by(10).copied().collect();
+            let what = |call: &str| format!("{call}, {count} names");
+            [
+                registrations(&what("register a name"), &m, &names[count..]),
+                look_ups(&what("look a name up"), &m, &found),
+                completions(&what("complete, one line"), &m, &few),
+                completions(&what("list all names"), &m, &[b""]),
+            ]
         })
-        .collect()
-}
-
-/// A memory and the model's table with these names.
-fn tables(names: &[Name]) -> (Memory, Table) {
-    let mut memory = Memory::with_room(65536, 65536);
-    let lent = Lent { words: 65536 * 12, text: 65536 };
-    let mut table = Table::default();
-    for n in names {
-        let call = Registration::Name { host: n.host.clone(), id: n.id.clone(), item: 1 };
-        assert_eq!(product::register(&mut memory, &call), 0);
-        table = register(&table, lent, &call).expect("room");
-    }
-    (memory, table)
-}
-
-/// What is measured of one call at several sizes: for proved callers, for any memory, and of the independent implementation.
-struct Measured {
-    what: &'static str,
-    rows: Vec<(usize, [f64; 3])>,
-}
-
-impl Measured {
-    fn print(&self) {
-        for (names, [sound, total, rust]) in &self.rows {
-            println!("| {} | {names} | {sound:.0} | {total:.0} | {rust:.0} | {:.2} |", self.what, sound / rust);
-        }
-    }
-
-    fn panel(&self) -> plot::Panel {
-        let series = |k: usize, name, colour| plot::Series { name, colour, points: self.rows.iter().map(|(n, t)| (*n as f64, t[k])).collect() };
-        plot::Panel {
-            title: self.what,
-            series: vec![
-                series(0, "product, proved callers", "#1b6e3c"),
-                series(1, "product, any memory", "#1f4e9c"),
-                series(2, "independent Rust", "#b5451b"),
-            ],
-        }
-    }
-}
-
-/// Ten more names at a table of each size; ten look-ups; ten completions of one line.
-fn calls() -> Vec<Measured> {
-    let mut all = [
-        Measured { what: "register a name", rows: vec![] },
-        Measured { what: "look a name up", rows: vec![] },
-        Measured { what: "complete, one line", rows: vec![] },
-    ];
-    for count in SIZES {
-        let names = names(count + 10);
-        let (memory, table) = tables(&names[..count]);
-        let header = memory.header;
-        let memory = RefCell::new(memory);
-        let lent = Lent { words: 65536 * 12, text: 65536 };
-        let more: Vec<Registration> = names[count..].iter().map(|n| Registration::Name { host: n.host.clone(), id: n.id.clone(), item: 1 }).collect();
-        let by_model = || more.iter().all(|c| register(&table, lent, c).is_ok());
-        let put = |f: &dyn Fn(&mut Memory, usize) -> bool| {
-            (0..10).all(|k| {
-                let m = &mut memory.borrow_mut();
-                let done = f(m, k);
-                m.header = header;
-                done
-            })
-        };
-        let (sound, rust) = compare(|| put(&|m, k| unsafe { product::insert_sound(m, &names[count + k].host, &names[count + k].id, 1) } == 0), by_model);
-        let (total, _) = compare(|| put(&|m, k| product::register(m, &more[k]) == 0), by_model);
-        all[0].rows.push((count, [sound / 10.0, total / 10.0, rust / 10.0]));
-
-        let m = &memory.borrow();
-        let asked: Vec<&[u8]> = (0..10).map(|k| &names[k * count / 10].query[..]).collect();
-        let by_model = || asked.iter().all(|q| matches!(find(&table.names, q), Ok(Some(1))));
-        let (sound, rust) = compare(|| asked.iter().all(|q| unsafe { product::find_sound(m, q) } == Ok(Some(1))), by_model);
-        let (total, _) = compare(|| asked.iter().all(|q| product::find(m, q) == Ok(Some(1))), by_model);
-        all[1].rows.push((count, [sound / 10.0, total / 10.0, rust / 10.0]));
-
-        let out = RefCell::new(Output::with_room(512, 32768));
-        let (lines, text) = (RefCell::new(vec![BLANK; 512]), RefCell::new(vec![0; 32768]));
-        let by_model = || asked.iter().all(|q| complete_names(&table, q, 4096, &mut lines.borrow_mut(), &mut text.borrow_mut()).is_ok());
-        let (sound, rust) = compare(|| asked.iter().all(|q| unsafe { product::complete_sound(m, Ask::Names, q, 4096, &mut out.borrow_mut()) }.is_ok()), by_model);
-        let (total, _) = compare(|| asked.iter().all(|q| product::complete(m, Ask::Names, q, 4096, &mut out.borrow_mut()).is_ok()), by_model);
-        all[2].rows.push((count, [sound / 10.0, total / 10.0, rust / 10.0]));
-    }
-    all.into()
+        .into()
 }
 
 /// `lists` namespaces are included in the root, each with names of its own and `shared` ones that all have.
 fn merged_table(lists: usize, own: usize, shared: usize) -> Memory {
-    let mut m = Memory::with_room(65536, 65536);
-    let mut put = |call: Registration| m.register(&call).expect("room");
+    let mut m = fresh();
+    let mut put = |call: Registration| assert_eq!(product::register(&mut m, &call), 0);
     for k in 0..lists {
         let host = format!("part{k}.").into_bytes();
         for i in 0..own {
@@ -163,58 +93,156 @@ fn merged_table(lists: usize, own: usize, shared: usize) -> Memory {
     m
 }
 
-/// One completion by the product, for callers whose memory is sound and for any, by hand in C, and by the independent implementation.
-fn completion(what: &str, memory: &Memory, query: &[u8]) {
-    let table = memory.table().expect("sound");
-    let (out, by_c) = (RefCell::new(Output::with_room(4096, 65536)), RefCell::new(Output::with_room(4096, 65536)));
-    let lines = RefCell::new(vec![BLANK; 4096]);
-    let text = RefCell::new(vec![0; 65536]);
-    let by_model = || complete_names(&table, query, u32::MAX, &mut lines.borrow_mut(), &mut text.borrow_mut()).expect("listed").lines;
-    let sound = || unsafe { product::complete_sound(memory, Ask::Names, query, u32::MAX, &mut out.borrow_mut()) }.is_ok();
-    let (proved, c) = compare(sound, || 0 <= baseline::complete(memory, query, u32::MAX, &mut by_c.borrow_mut()));
-    assert!(*out.borrow() == *by_c.borrow(), "the product and the C baseline write the same: {what}");
-    let (total, rust) = compare(|| product::complete(memory, Ask::Names, query, u32::MAX, &mut out.borrow_mut()).is_ok(), || 0 < by_model());
-    let n = by_model();
-    println!(
-        "| {what} | {n} | {proved:.0} | {total:.0} | {c:.0} | {rust:.0} | {:.2} | {:.2} | {:.1} |",
-        proved / c, proved / rust, n as f64 / proved * 1000.0
-    );
-}
-
-fn completions() {
-    println!("| completion | lines | proved callers, ns | any memory, ns | C, ns | Rust, ns | proved / C | proved / Rust | million lines a second |");
-    println!("|---|---|---|---|---|---|---|---|---|");
+fn merges() -> Vec<Row> {
     let names = names(1000);
-    completion("one line of 1000 names", &tables(&names).0, &names[500].query);
-    let mut m = Memory::with_room(65536, 65536);
-    for i in 0..500 {
-        m.register(&Registration::Name { host: b"saved.bus.".to_vec(), id: format!("n{}", i * 7919 % 500).into_bytes(), item: i }).expect("room");
-    }
-    completion("500 lines of one tree", &m, b"saved.bus.n.");
-    completion("500 lines, one merged list", &merged_table(1, 500, 0), b".");
-    completion("500 lines of 10 lists", &merged_table(10, 50, 0), b".");
-    completion("10 lists, 250 names in each", &merged_table(10, 0, 250), b".");
-    completion("45 lists, 20 names in each", &merged_table(45, 0, 20), b".");
+    let one_tree: Vec<Name> = (0..500).map(|i| Name::new(b"saved.bus.".to_vec(), format!("n{}", i * 7919 % 500).into_bytes(), i)).collect();
+    vec![
+        completions("one line of 1000 names", &made(&names), &[&names[500].query]),
+        completions("500 lines of one tree", &made(&one_tree), &[b"saved.bus.n."]),
+        completions("500 lines, one merged list", &merged_table(1, 500, 0), &[b"."]),
+        completions("500 lines of 10 lists", &merged_table(10, 50, 0), &[b"."]),
+        completions("10 lists, 250 names in each", &merged_table(10, 0, 250), &[b"."]),
+        completions("45 lists, 20 names in each", &merged_table(45, 0, 20), &[b"."]),
+    ]
 }
 
-fn main() {
-    let calls = calls();
-    println!("| call | names in the table | proved callers, ns | any memory, ns | Rust, ns | proved / Rust |");
-    println!("|---|---|---|---|---|---|");
-    calls.iter().for_each(Measured::print);
-    let panels: Vec<plot::Panel> = calls.iter().map(Measured::panel).collect();
-    let file = concat!(env!("CARGO_MANIFEST_DIR"), "/../docs/benchmarks.svg");
-    std::fs::write(file, plot::svg(&panels)).expect("docs/benchmarks.svg");
-    println!();
-    completions();
-    println!();
-    println!();
-    println!("| soundness test | product, ns a record | C, ns a record | product / C |");
-    println!("|---|---|---|---|");
-    for records in [1_000, 8_000, 60_000] {
-        let m = named_table(records);
-        let used = m.header.records as f64;
-        let (p, c) = compare(|| product::sound(&m), || baseline::sound(&m));
-        println!("| {} records | {:.1} | {:.1} | {:.2} |", m.header.records, p / used, c / used, p / c);
+/// Trees of 21,000 branches, listed.
+fn trees(keys: &shapes::Keys) -> Vec<Row> {
+    const LINES: usize = 21_000;
+    vec![
+        completions("balanced tree", &shapes::balanced(keys, LINES), &[b""]),
+        completions("chain to the left", &shapes::chain(keys, LINES, |_| true), &[b""]),
+        completions("chain to the right", &shapes::chain(keys, LINES, |_| false), &[b""]),
+        completions("zigzag", &shapes::chain(keys, LINES, |k| k % 2 == 0), &[b""]),
+    ]
+}
+
+/// A listing that is sure to be refused with 10, and one of the same tries that fits.
+fn refused(keys: &shapes::Keys) -> String {
+    let mut all = String::from("| table | answer | proved callers, ns | C, ns | proved / C | ns a trie |\n|---|---|---|---|---|---|\n");
+    for (names, answer) in [(0, Ok((0, 3_001))), (1_000, Err(10))] {
+        let m = shapes::shared_lists(keys, 3_000, names);
+        let (out, by_c) = (RefCell::new(Output::with_room(512, 32768)), RefCell::new(Output::with_room(512, 32768)));
+        let [proved, c] = compare([
+            // SAFETY: the memory is sound.
+            &mut || unsafe { product::complete_sound(&m, Ask::Names, b"", 4096, &mut out.borrow_mut()) } == answer,
+            &mut || baseline::complete(&m, b"", 4096, &mut by_c.borrow_mut()) == answer.map(|(lines, _)| lines),
+        ]);
+        let answer = answer.map_or("refused with 10", |_| "listed");
+        all += &format!("| 3,000 namespaces of one list of {names} names | {answer} | {proved:.0} | {c:.0} | {:.2} | {:.0} |\n", proved / c, proved / 3001.0);
     }
+    all
+}
+
+/// Names in random order below a few hosts until so many records are used.
+fn named_table(records: u32) -> Memory {
+    let mut rng = Rng::new(7);
+    let mut m = fresh();
+    let hosts: [&[u8]; 4] = [b"", b"io.", b"live.", b"saved.bus."];
+    while m.header.records < records {
+        let host = hosts[rng.below(hosts.len())];
+        let id = format!("{:x}", rng.below(4096)).into_bytes();
+        // SAFETY: the memory is sound.
+        assert_eq!(unsafe { product::insert_sound(&mut m, host, &id, rng.word()) }, 0);
+    }
+    m
+}
+
+fn sound(keys: &shapes::Keys) -> String {
+    const HIGH: usize = 60_000;
+    let mut tables: Vec<(String, Memory)> = [1_000, 8_000, 60_000].iter().map(|&n| ("made by calls".to_string(), named_table(n))).collect();
+    for (what, m) in [
+        ("balanced tree", shapes::balanced(keys, HIGH)),
+        ("chain to the left", shapes::chain(keys, HIGH, |_| true)),
+        ("chain to the right", shapes::chain(keys, HIGH, |_| false)),
+        ("zigzag", shapes::chain(keys, HIGH, |k| k % 2 == 0)),
+        ("comb", shapes::comb(keys, HIGH)),
+        ("shared spine", shapes::shared_spine(keys, HIGH)),
+    ] {
+        tables.push((what.into(), m));
+    }
+    let mut all = String::from("| table | records | product, ns a record | C, ns a record | product / C | product / memcpy |\n|---|---|---|---|---|---|\n");
+    for (what, m) in tables {
+        let used = m.header.records;
+        let [p, c] = [least(|| product::sound(&m)), least(|| baseline::sound(&m))];
+        let limit = measure::copy(used as usize * 48);
+        all += &format!("| {what} | {used} | {:.1} | {:.1} | {:.2} | {:.1} |\n", p / used as f64, c / used as f64, p / c, p / limit);
+    }
+    all
+}
+
+/// Where and under what load this runs.
+fn machine() -> String {
+    let read = |file| std::fs::read_to_string(file).unwrap_or_default();
+    let cpu = read("/proc/cpuinfo").lines().find_map(|l| l.strip_prefix("model name").map(|n| n.trim_start_matches([' ', '\t', ':']).to_string()));
+    let load = read("/proc/loadavg").split(' ').next().unwrap_or("unknown").to_string();
+    let count = std::thread::available_parallelism().map_or(1, |n| n.get());
+    format!("Measured on {}, {count} processors, with a load of {load} at the start.\n", cpu.unwrap_or("an unknown processor".into()))
+}
+
+/// The product's time over a baseline's, by the size of the table, a panel for each call.
+fn panels(sizes: &[[Row; 4]]) -> Vec<plot::Panel> {
+    ["register a name", "look a name up", "complete, one line", "list all names"]
+        .into_iter()
+        .enumerate()
+        .map(|(k, title)| {
+            let series = |name, colour, ratio: &dyn Fn(&Row) -> f64| plot::Series {
+                name,
+                colour,
+                points: SIZES.iter().zip(sizes).map(|(n, rows)| (*n as f64, ratio(&rows[k]))).collect(),
+            };
+            plot::Panel {
+                title,
+                series: vec![
+                    series("product / C", "#1f4e9c", &|r| r.proved / r.c),
+                    series("product / source", "#1b6e3c", &|r| r.proved / r.source),
+                ],
+            }
+        })
+        .collect()
+}
+
+fn run() {
+    let write = match std::env::args().nth(1).as_deref() {
+        None => false,
+        Some("write") => true,
+        Some(other) => panic!("{other:?}: the only word is 'write'"),
+    };
+    let machine = machine();
+    baseline::check();
+    let keys = shapes::Keys::new();
+    let sizes = sizes();
+    let by_call: Vec<&Row> = (0..4).flat_map(|k| sizes.iter().map(move |rows| &rows[k])).collect();
+    let by_call = by_call.iter().fold(measure::HEAD.to_string(), |all, row| all + &row.print());
+    let sections = [
+        ("machine", machine),
+        ("work", measure::table(&work())),
+        ("sizes", by_call),
+        ("merges", measure::table(&merges())),
+        ("trees", measure::table(&trees(&keys))),
+        ("refused", refused(&keys)),
+        ("sound", sound(&keys)),
+        ("layer", layer::parts(&names(200))),
+    ];
+    for (name, text) in &sections {
+        println!("{name}\n\n{text}");
+    }
+    if write {
+        let docs = concat!(env!("CARGO_MANIFEST_DIR"), "/../docs/");
+        std::fs::write(format!("{docs}benchmarks.svg"), plot::svg(&panels(&sizes))).expect("docs/benchmarks.svg");
+        let file = format!("{docs}BENCHMARKS.md");
+        let mut page = std::fs::read_to_string(&file).expect("docs/BENCHMARKS.md");
+        for (name, text) in &sections {
+            let (begin, end) = (format!("<!-- {name} -->\n"), format!("<!-- end of {name} -->\n"));
+            let from = page.find(&begin).unwrap_or_else(|| panic!("no place for {name}")) + begin.len();
+            let to = page.find(&end).unwrap_or_else(|| panic!("no end of {name}"));
+            page.replace_range(from..to, text);
+        }
+        std::fs::write(&file, page).expect("docs/BENCHMARKS.md");
+    }
+}
+
+/// The baselines recurse along the trees.
+fn main() {
+    std::thread::Builder::new().stack_size(1 << 30).spawn(run).unwrap().join().unwrap();
 }

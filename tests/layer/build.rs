@@ -1,9 +1,6 @@
-// Links the product's static library.
-use std::path::Path;
+// Links the C function that measures stack.
+include!("../c.rs");
 
 fn main() {
-    let library = Path::new("../../target/staticlib").canonicalize().expect("run 'rt staticlib screen' first");
-    println!("cargo:rustc-link-search=native={}", library.display());
-    println!("cargo:rustc-link-lib=static=screen");
-    println!("cargo:rerun-if-changed={}/libscreen.a", library.display());
+    link_c("stack", &[("stack.c", &["-O2"])]);
 }

@@ -1,6 +1,6 @@
-//! Scripts, random and at every limit. SCRIPTS says how many random ones, SEED where they begin.
+//! Scripts, random and at every limit. SCRIPTS says how many random ones, 400 at least; SEED says where they begin.
 use console::console;
-use model::gen::{limit_scripts, script, Rng};
+use model::gen::{at_least, limit_scripts, script, times, Rng};
 use model::script::run;
 
 /// Both write the same; if not, the first line that differs.
@@ -17,7 +17,7 @@ fn agree(what: &str, input: &[u8]) {
 #[test]
 fn random_scripts() {
     let mut rng = Rng::new(Rng::seed_or(12));
-    let count = std::env::var("SCRIPTS").ok().and_then(|n| n.parse().ok()).unwrap_or(400);
+    let count = times("SCRIPTS", 400);
     let mut bytes = 0;
     for k in 0..count {
         let lines = [3, 20, 80, 300][k % 4];
@@ -26,6 +26,15 @@ fn random_scripts() {
         agree(&format!("random script {k}"), &input);
     }
     println!("{count} random scripts of {bytes} bytes; 0 disagreements");
+}
+
+/// SCRIPTS cannot empty the test above.
+#[test]
+fn fewer_scripts_are_an_error() {
+    for few in ["0", "399", "-1", "", "all", "4e3", " 400"] {
+        assert!(at_least(few, 400).is_err(), "{few:?}");
+    }
+    assert_eq!((at_least("400", 400), at_least("10000", 400)), (Ok(400), Ok(10_000)));
 }
 
 #[test]

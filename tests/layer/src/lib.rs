@@ -1,47 +1,7 @@
-//! The C layer's calls, from the static library that `rt staticlib screen` writes. tests/prompt holds include/name_console.h to the crate;
-//! nothing checks these declarations against it: keep them few.
+//! The C layer's calls (bindings/rust) on the independent implementation's terms.
 use model::layout::{Header, Memory};
 use model::model::{CompletionResult, Filter, ModSymbol, Registration, Str};
-
-#[repr(C)]
-struct NameReply {
-    answer: u32,
-    item: u32,
-}
-
-#[repr(C)]
-struct ModuleReply {
-    answer: u32,
-    sort: u32,
-    name: [u32; 2],
-    path: [u32; 2],
-    loaded: u32,
-}
-
-#[repr(C)]
-struct CompleteReply {
-    answer: u32,
-    lines: u32,
-    entered: u32,
-}
-
-type Out = *mut u8;
-type In = *const u8;
-
-#[rustfmt::skip]
-extern "C" {
-    fn name_console_insert(state: Out, n: usize, words: Out, m: usize, text: Out, k: usize, host: In, a: usize, id: In, b: usize, item: u32) -> u32;
-    fn name_console_include(state: Out, n: usize, words: Out, m: usize, text: Out, k: usize, host: In, a: usize, query: In, b: usize) -> u32;
-    fn name_console_open(state: Out, n: usize, words: Out, m: usize, text: Out, k: usize, flag: u32, host: In, a: usize, query: In, b: usize) -> u32;
-    fn name_console_alias(state: Out, n: usize, words: Out, m: usize, text: Out, k: usize, key: In, a: usize, host: In, b: usize, query: In, c: usize) -> u32;
-    fn name_console_module(state: Out, n: usize, words: Out, m: usize, text: Out, k: usize, loaded: u32, query: In, a: usize, path: In, b: usize) -> u32;
-    fn name_console_find(state: In, n: usize, words: In, m: usize, text: In, k: usize, query: In, a: usize) -> NameReply;
-    fn name_console_find_module(state: In, n: usize, words: In, m: usize, text: In, k: usize, query: In, a: usize) -> ModuleReply;
-    fn name_console_complete(state: In, n: usize, words: In, m: usize, text: In, k: usize, query: In, a: usize, budget: u32,
-        lines: Out, l: usize, out: Out, o: usize) -> CompleteReply;
-    fn name_console_complete_modules(state: In, n: usize, words: In, m: usize, text: In, k: usize, filter: u32, query: In, a: usize, budget: u32,
-        lines: Out, l: usize, out: Out, o: usize) -> CompleteReply;
-}
+use name_console::bytes as calls;
 
 /// A table as bytes.
 #[derive(Clone, PartialEq)]
@@ -72,6 +32,14 @@ impl Bytes {
         let header = Header { names: h[0], modules: h[1], records: h[2], text: h[3] };
         Some(Memory { words: words(&self.words[..records * 48]), text: self.text.clone(), header })
     }
+
+    /// Puts the bytes in a memory of the same size.
+    pub fn put_in(&self, m: &mut Memory) {
+        let h = words(&self.state);
+        m.header = Header { names: h[0], modules: h[1], records: h[2], text: h[3] };
+        m.words.copy_from_slice(&words(&self.words));
+        m.text.copy_from_slice(&self.text);
+    }
 }
 
 /// The number that stands for a yes or no; `odd` puts another one in its place.
@@ -81,28 +49,18 @@ fn flag(yes: bool, odd: Option<u32>) -> u32 {
 
 /// A registration; `odd` in the place of a flag, where the call has one.
 pub fn register(t: &mut Bytes, call: &Registration, odd: Option<u32>) -> u32 {
-    let (s, n, w, m, x, k) = (t.state.as_mut_ptr(), t.state.len(), t.words.as_mut_ptr(), t.words.len(), t.text.as_mut_ptr(), t.text.len());
-    #[rustfmt::skip]
-    let answer = unsafe {
-        match call {
-            Registration::Name { host, id, item } => name_console_insert(s, n, w, m, x, k, host.as_ptr(), host.len(), id.as_ptr(), id.len(), *item),
-            Registration::Include { host, included: q } => name_console_include(s, n, w, m, x, k, host.as_ptr(), host.len(), q.as_ptr(), q.len()),
-            Registration::Open { module, host, included: q } =>
-                name_console_open(s, n, w, m, x, k, flag(*module, odd), host.as_ptr(), host.len(), q.as_ptr(), q.len()),
-            Registration::Alias { key, host, included: q } =>
-                name_console_alias(s, n, w, m, x, k, key.as_ptr(), key.len(), host.as_ptr(), host.len(), q.as_ptr(), q.len()),
-            Registration::Module { loaded, query: q, path } =>
-                name_console_module(s, n, w, m, x, k, flag(*loaded, odd), q.as_ptr(), q.len(), path.as_ptr(), path.len()),
-        }
-    };
-    answer
+    let (s, w, x) = (&mut t.state[..], &mut t.words[..], &mut t.text[..]);
+    match call {
+        Registration::Name { host, id, item } => calls::insert(s, w, x, host, id, *item),
+        Registration::Include { host, included } => calls::include(s, w, x, host, included),
+        Registration::Open { module, host, included } => calls::open(s, w, x, flag(*module, odd), host, included),
+        Registration::Alias { key, host, included } => calls::alias(s, w, x, key, host, included),
+        Registration::Module { loaded, query, path } => calls::module(s, w, x, flag(*loaded, odd), query, path),
+    }
 }
 
 pub fn find(t: &Bytes, q: &[u8]) -> Result<Option<u32>, u32> {
-    #[rustfmt::skip]
-    let r = unsafe {
-        name_console_find(t.state.as_ptr(), t.state.len(), t.words.as_ptr(), t.words.len(), t.text.as_ptr(), t.text.len(), q.as_ptr(), q.len())
-    };
+    let r = calls::find(&t.state, &t.words, &t.text, q);
     match r.answer {
         0 => Ok(Some(r.item)),
         11 => Ok(None),
@@ -122,12 +80,9 @@ fn symbol(text: &[u8], sort: u32, name: [u32; 2], path: [u32; 2], loaded: u32) -
 }
 
 pub fn find_module(t: &Bytes, q: &[u8]) -> Result<Option<ModSymbol>, u32> {
-    #[rustfmt::skip]
-    let r = unsafe {
-        name_console_find_module(t.state.as_ptr(), t.state.len(), t.words.as_ptr(), t.words.len(), t.text.as_ptr(), t.text.len(), q.as_ptr(), q.len())
-    };
+    let r = calls::find_module(&t.state, &t.words, &t.text, q);
     match r.answer {
-        0 => Ok(Some(symbol(&t.text, r.sort, r.name, r.path, r.loaded))),
+        0 => Ok(Some(symbol(&t.text, r.sort, [r.name_start, r.name_len], [r.path_start, r.path_len], r.loaded))),
         11 => Ok(None),
         n => Err(n),
     }
@@ -142,13 +97,10 @@ pub struct Output {
 
 /// A completion of names, or of modules under the number of a filter.
 pub fn complete(t: &Bytes, modules: Option<u32>, q: &[u8], budget: u32, out: &mut Output) -> Result<(u32, u32), u32> {
-    let (l, ln, o, on) = (out.lines.as_mut_ptr(), out.lines.len(), out.text.as_mut_ptr(), out.text.len());
-    let (s, n, w, m, x, k) = (t.state.as_ptr(), t.state.len(), t.words.as_ptr(), t.words.len(), t.text.as_ptr(), t.text.len());
-    let r = unsafe {
-        match modules {
-            None => name_console_complete(s, n, w, m, x, k, q.as_ptr(), q.len(), budget, l, ln, o, on),
-            Some(f) => name_console_complete_modules(s, n, w, m, x, k, f, q.as_ptr(), q.len(), budget, l, ln, o, on),
-        }
+    let (lines, text) = (&mut out.lines, &mut out.text);
+    let r = match modules {
+        None => calls::complete(&t.state, &t.words, &t.text, q, budget, lines, text),
+        Some(f) => calls::complete_modules(&t.state, &t.words, &t.text, f, q, budget, lines, text),
     };
     match r.answer {
         0 => Ok((r.lines, r.entered)),

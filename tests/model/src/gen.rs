@@ -23,10 +23,7 @@ impl Rng {
 
     /// The seed in the environment's SEED, or this one.
     pub fn seed_or(default: u64) -> u64 {
-        match std::env::var("SEED") {
-            Ok(seed) => seed.parse().expect("SEED must be a decimal number"),
-            Err(_) => default,
-        }
+        set("SEED").map_or(default, |s| s.parse().expect("SEED must be a decimal number"))
     }
 
     fn step(&mut self) -> u64 {
@@ -51,6 +48,25 @@ impl Rng {
 
     pub fn word(&mut self) -> u32 {
         (self.step() >> 32) as u32
+    }
+}
+
+/// What the environment has under this name.
+fn set(name: &str) -> Option<String> {
+    std::env::var_os(name).map(|value| value.into_string().expect("a variable that is text"))
+}
+
+/// How often a test runs: the number in the environment, if there is one.
+/// Less than the test's own number is an error, so that no test is emptied.
+pub fn times(name: &str, least: usize) -> usize {
+    set(name).map_or(least, |value| at_least(&value, least).expect(name))
+}
+
+/// The number, which is not below the least.
+pub fn at_least(value: &str, least: usize) -> Result<usize, String> {
+    match value.parse() {
+        Ok(n) if n >= least => Ok(n),
+        _ => Err(format!("{value:?} is no number from {least} on")),
     }
 }
 

@@ -3,6 +3,8 @@
 
 pub mod gen;
 pub mod layout;
+pub mod limits;
 pub mod model;
 pub mod naive;
 pub mod script;
+pub mod written;

@@ -1,0 +1,79 @@
+//! The C layer's cost by part, on a table of 1,024 records.
+use crate::calls::{made, Name};
+use crate::measure::{compare, copy, zero};
+use model::layout::Memory;
+use name_console::bytes;
+use product::{Ask, Output};
+use std::cell::RefCell;
+
+/// A table as bytes.
+struct Lent {
+    state: Vec<u8>,
+    words: Vec<u8>,
+    text: Vec<u8>,
+}
+
+fn lent(m: &Memory) -> Lent {
+    let h = m.header;
+    let bytes = |words: &[u32]| words.iter().flat_map(|w| w.to_le_bytes()).collect();
+    Lent { state: bytes(&[h.names, h.modules, h.records, h.text]), words: bytes(&m.words), text: m.text.clone() }
+}
+
+/// 1,024 records, of which one more name takes the last ones; that name.
+fn table(names: &[Name]) -> (Memory, Name) {
+    let n = (0..names.len()).find(|&n| 1024 < made(&names[..n + 2]).header.records).expect("names enough");
+    let mut m = made(&names[..n]);
+    m.words.truncate(1024 * 12);
+    (m, names[n].clone())
+}
+
+pub fn parts(names: &[Name]) -> String {
+    let (memory, more) = table(names);
+    let (t, changed) = (RefCell::new(lent(&memory)), RefCell::new(memory.clone()));
+    let (lines, text) = (RefCell::new(vec![0; 512 * 48]), RefCell::new(vec![0; 32768]));
+    let output = RefCell::new(Output::with_room(512, 32768));
+    let there = &names[0].query;
+
+    // A state that says that more is used than can be is refused once the words are copied in.
+    let unsound = [[0; 8], [255; 8]].concat();
+    let mut copy_in = || {
+        let t = &t.borrow();
+        bytes::find(&unsound, &t.words, &t.text, there).answer == 1
+    };
+    let mut test = || product::sound(&memory);
+
+    let mut find = || {
+        let t = &t.borrow();
+        bytes::find(&t.state, &t.words, &t.text, there).answer == 0
+    };
+    let mut insert = || {
+        let t = &mut *t.borrow_mut();
+        let mut state = t.state.clone();
+        bytes::insert(&mut state, &mut t.words, &mut t.text, &more.host, &more.id, 1) == 0
+    };
+    let mut complete = || {
+        let t = &t.borrow();
+        bytes::complete(&t.state, &t.words, &t.text, b"", u32::MAX, &mut lines.borrow_mut(), &mut text.borrow_mut()).answer == 0
+    };
+    // SAFETY, of all three: the memory is sound.
+    let mut find_work = || unsafe { product::find_sound(&memory, there) } == Ok(Some(1));
+    let mut insert_work = || {
+        let m = &mut changed.borrow_mut();
+        m.header = memory.header;
+        (unsafe { product::insert_sound(m, &more.host, &more.id, 1) }) == 0
+    };
+    let mut complete_work = || unsafe { product::complete_sound(&memory, Ask::Names, b"", u32::MAX, &mut output.borrow_mut()) }.is_ok();
+
+    let mut all = String::from("| call | whole, ns | copy in | test | work | the rest: copy out |\n|---|---|---|---|---|---|\n");
+    let calls: [(&str, &mut dyn FnMut() -> bool, &mut dyn FnMut() -> bool); 3] = [
+        ("look a name up", &mut find, &mut find_work),
+        ("register a name", &mut insert, &mut insert_work),
+        ("list all names", &mut complete, &mut complete_work),
+    ];
+    for (what, whole, work) in calls {
+        let [whole, copy_in, test, work] = compare([whole, &mut copy_in, &mut test, work]);
+        all += &format!("| {what} | {whole:.0} | {copy_in:.0} | {test:.0} | {work:.0} | {:.0} |\n", whole - copy_in - test - work);
+    }
+    let words = 1024 * 48;
+    all + &format!("\nThe words are {words} bytes: memcpy of so many takes {:.0} ns, memset {:.0}.\n", copy(words), zero(words))
+}

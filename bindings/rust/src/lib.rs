@@ -1,0 +1,36 @@
+//! The name console: a table of dotted names that is completed and looked up. What each call answers is proved (docs/PROMISES.md of the
+//! repository); this crate hands it on.
+//!
+//! A query is a text in which each segment ends with a dot, `Live.offset.`; the empty text is the query of no segment.
+//!
+//! ```
+//! use name_console::{Output, Refusal, Table};
+//!
+//! let mut table = Table::new(100, 1000);
+//! table.insert("Saved.", "offset", 1)?;
+//! table.register_include("Live.", "Saved.")?;
+//! table.insert("Live.", "offset", 3)?;
+//! assert_eq!(table.find("Live.offset.")?, Some(3));
+//!
+//! let mut output = Output::new(10, 100);
+//! let listing = table.complete("Live.off.", 4096, &mut output)?;
+//! let line = listing.line(0).unwrap();
+//! assert_eq!((line.candidate, line.item, line.match_length), (&b"Live.offset"[..], 1, 8));
+//!
+//! assert_eq!(table.insert("Live", "offset", 3), Err(Refusal::Malformed));
+//! # Ok::<(), Refusal>(())
+//! ```
+//!
+//! [`Table`] owns its buffers. [`bytes`] has the same calls over any lent slices, and [`sys`] the C declarations.
+#![deny(missing_docs)]
+#![warn(unsafe_op_in_unsafe_fn)]
+
+pub mod bytes;
+mod lines;
+mod refusal;
+pub mod sys;
+mod table;
+
+pub use lines::{Line, Listing, Output, Symbol};
+pub use refusal::Refusal;
+pub use table::{Filter, Opened, Table};

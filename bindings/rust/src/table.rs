@@ -1,0 +1,128 @@
+use crate::lines::{number, symbol, Listing, Output, Symbol};
+use crate::{bytes, sys, Refusal};
+
+/// How a query is opened in a host.
+#[derive(Clone, Copy, Debug, PartialEq, Eq)]
+pub enum Opened {
+    /// Its namespaces are carried over.
+    Namespace = 0,
+    /// Its bindings are carried over, as an include does.
+    Module = 1,
+}
+
+/// Which lines a completion of modules keeps.
+#[derive(Clone, Copy, Debug, PartialEq, Eq)]
+pub enum Filter {
+    /// All of them.
+    All = 0,
+    /// Modules and namespaces that are loaded.
+    Loaded = 1,
+    /// Modules.
+    ModulesOnly = 2,
+    /// Namespaces.
+    NamespacesOnly = 3,
+}
+
+/// A table with its memory. Every call answers for whatever texts it is given; a refused call leaves the table as it was.
+#[derive(Clone, Debug, PartialEq, Eq)]
+pub struct Table {
+    state: [u8; sys::STATE],
+    words: Vec<u8>,
+    text: Vec<u8>,
+}
+
+impl Table {
+    /// The fresh table, with room for so many records and bytes of text. At most 1,024 records and 65,536 bytes are used.
+    pub fn new(records: usize, text: usize) -> Table {
+        Table { state: [0; sys::STATE], words: vec![0; records * sys::RECORD], text: vec![0; text] }
+    }
+
+    /// A table from its bytes, as [`into_parts`](Table::into_parts) gave them. Each call tests them: of others it answers
+    /// [`Refusal::Unsound`] where they are not a sound table.
+    pub fn from_parts(state: [u8; sys::STATE], words: Vec<u8>, text: Vec<u8>) -> Table {
+        Table { state, words, text }
+    }
+
+    /// State, words and text.
+    pub fn into_parts(self) -> ([u8; sys::STATE], Vec<u8>, Vec<u8>) {
+        (self.state, self.words, self.text)
+    }
+
+    fn word(&self, k: usize) -> u32 {
+        u32::from_le_bytes(std::array::from_fn(|b| self.state[k * 4 + b]))
+    }
+
+    /// Records used.
+    pub fn records_used(&self) -> u32 {
+        self.word(2)
+    }
+
+    /// Bytes of text used.
+    pub fn text_used(&self) -> u32 {
+        self.word(3)
+    }
+
+    /// Registers a name with its item, in the host.
+    pub fn insert(&mut self, host: impl AsRef<[u8]>, id: impl AsRef<[u8]>, item: u32) -> Result<(), Refusal> {
+        Refusal::check(bytes::insert(&mut self.state, &mut self.words, &mut self.text, host.as_ref(), id.as_ref(), item))
+    }
+
+    /// Includes the query's bindings in the host, as they are now.
+    pub fn register_include(&mut self, host: impl AsRef<[u8]>, query: impl AsRef<[u8]>) -> Result<(), Refusal> {
+        Refusal::check(bytes::include(&mut self.state, &mut self.words, &mut self.text, host.as_ref(), query.as_ref()))
+    }
+
+    /// Opens the query in the host.
+    pub fn register_open(&mut self, opened: Opened, host: impl AsRef<[u8]>, query: impl AsRef<[u8]>) -> Result<(), Refusal> {
+        Refusal::check(bytes::open(&mut self.state, &mut self.words, &mut self.text, opened as u32, host.as_ref(), query.as_ref()))
+    }
+
+    /// Puts an alias of the query at the key, in the host: its bindings, and no namespaces.
+    pub fn register_alias(&mut self, key: impl AsRef<[u8]>, host: impl AsRef<[u8]>, query: impl AsRef<[u8]>) -> Result<(), Refusal> {
+        Refusal::check(bytes::alias(&mut self.state, &mut self.words, &mut self.text, key.as_ref(), host.as_ref(), query.as_ref()))
+    }
+
+    /// Registers a module with its file path, loaded or not.
+    pub fn register_module(&mut self, loaded: bool, query: impl AsRef<[u8]>, path: impl AsRef<[u8]>) -> Result<(), Refusal> {
+        Refusal::check(bytes::module(&mut self.state, &mut self.words, &mut self.text, loaded as u32, query.as_ref(), path.as_ref()))
+    }
+
+    /// Looks a name up: its item, or none.
+    pub fn find(&self, query: impl AsRef<[u8]>) -> Result<Option<u32>, Refusal> {
+        let reply = bytes::find(&self.state, &self.words, &self.text, query.as_ref());
+        if reply.answer == sys::NONE {
+            return Ok(None);
+        }
+        Refusal::check(reply.answer).map(|()| Some(reply.item))
+    }
+
+    /// Looks a module or namespace up.
+    pub fn find_module(&self, query: impl AsRef<[u8]>) -> Result<Option<Symbol<'_>>, Refusal> {
+        let r = bytes::find_module(&self.state, &self.words, &self.text, query.as_ref());
+        if r.answer == sys::NONE {
+            return Ok(None);
+        }
+        Refusal::check(r.answer)?;
+        Ok(Some(Symbol::new(&self.text, r.sort, [r.name_start, r.name_len], [r.path_start, r.path_len], r.loaded)))
+    }
+
+    /// Lists the names that the query covers, entering no more tries than the budget.
+    pub fn complete<'a>(&'a self, query: impl AsRef<[u8]>, budget: u32, output: &'a mut Output) -> Result<Listing<'a, u32>, Refusal> {
+        let (lines, out) = (&mut output.lines, &mut output.text);
+        let reply = bytes::complete(&self.state, &self.words, &self.text, query.as_ref(), budget, lines, out);
+        Refusal::check(reply.answer).map(|()| Listing::new(reply, output, &self.text, number))
+    }
+
+    /// Lists the modules and namespaces that the query covers and the filter keeps.
+    pub fn complete_modules<'a>(
+        &'a self,
+        filter: Filter,
+        query: impl AsRef<[u8]>,
+        budget: u32,
+        output: &'a mut Output,
+    ) -> Result<Listing<'a, Symbol<'a>>, Refusal> {
+        let (lines, out) = (&mut output.lines, &mut output.text);
+        let reply = bytes::complete_modules(&self.state, &self.words, &self.text, filter as u32, query.as_ref(), budget, lines, out);
+        Refusal::check(reply.answer).map(|()| Listing::new(reply, output, &self.text, symbol))
+    }
+}

@@ -1,0 +1,152 @@
+//! Document 01's cases and refusals through the safe calls. Every expected number and text is that document's.
+use name_console::{Filter, Opened, Output, Refusal, Symbol, Table};
+
+/// Table T.
+fn t() -> Table {
+    let mut t = Table::new(100, 1000);
+    t.insert("Saved.", "offset", 1).unwrap();
+    t.register_include("Live.", "Saved.").unwrap();
+    t.insert("Saved.", "late", 2).unwrap();
+    t.insert("Live.", "offset", 3).unwrap();
+    t
+}
+
+/// The lines of a completion as (match length, item, annotation, candidate), and the tries entered.
+fn listed(t: &Table, query: &str) -> (Vec<(i32, u32, String, String)>, u32) {
+    let mut output = Output::new(10, 200);
+    let listing = t.complete(query, 4096, &mut output).unwrap();
+    let text = |s: &[u8]| String::from_utf8(s.to_vec()).unwrap();
+    let lines: Vec<_> = listing.iter().map(|l| (l.match_length, l.item, text(l.annotation), text(l.candidate))).collect();
+    assert_eq!((listing.len(), listing.is_empty(), listing.line(lines.len())), (lines.len(), lines.is_empty(), None));
+    (lines, listing.entered)
+}
+
+fn line(length: i32, item: u32, annotation: &str, candidate: &str) -> (i32, u32, String, String) {
+    (length, item, annotation.into(), candidate.into())
+}
+
+#[test]
+fn names() {
+    let mut fresh = Table::new(3, 4);
+    fresh.insert("", "tick", 5).unwrap();
+    assert_eq!((fresh.records_used(), fresh.text_used()), (3, 4));
+    let mut t = t();
+    assert_eq!((t.records_used(), t.text_used()), (26, 44));
+    assert_eq!(t.find("Live.late."), Ok(None));
+    assert_eq!(t.find("Saved.late."), Ok(Some(2)));
+    assert_eq!(t.find(b"Live.offset."), Ok(Some(3)));
+    t.register_alias("K", "Live.", "Saved.").unwrap();
+    assert_eq!((t.records_used(), t.find("Live.K.late.")), (35, Ok(Some(2))));
+}
+
+#[test]
+fn completions() {
+    let mut t = t();
+    assert_eq!(listed(&t, "Live.off."), (vec![line(8, 1, "", "Live.offset")], 2));
+    let all = |l| vec![line(l, 1, "", "Live.offset"), line(l, 2, "", "Saved.late"), line(l, 1, "", "Saved.offset")];
+    assert_eq!(listed(&t, ""), (all(-1), 3));
+    assert_eq!(listed(&t, "."), (all(0), 3));
+    assert_eq!(listed(&t, "None."), (vec![], 1));
+    t.register_include("", "Saved.").unwrap();
+    assert_eq!(listed(&t, "off.").0, vec![line(3, 1, "Saved", "offset")]);
+}
+
+#[test]
+fn modules() {
+    let mut t = Table::new(100, 1000);
+    t.register_module(false, "IO.Bus.", "io/bus").unwrap();
+    assert_eq!(t.records_used(), 10);
+    let namespace = Symbol::Namespace { name: b"IO", loaded: false };
+    let module = Symbol::Module { name: b"IO.Bus", path: b"io/bus", loaded: false };
+    assert_eq!(t.find_module("IO."), Ok(Some(namespace)));
+    assert_eq!(t.find_module("IO.Bus."), Ok(Some(module)));
+    assert_eq!(t.find_module("Bus."), Ok(None));
+    let mut output = Output::new(10, 200);
+    let kept = |filter: Filter, output: &mut Output| -> Vec<(i32, bool, Vec<u8>, Vec<u8>)> {
+        let listing = t.complete_modules(filter, "I.", 3, output).unwrap();
+        assert_eq!(listing.entered, 3);
+        listing.iter().map(|l| (l.match_length, l.item == module, l.annotation.to_vec(), l.candidate.to_vec())).collect()
+    };
+    let (ns, md) = ((1, false, b"(ns)".to_vec(), b"IO".to_vec()), (1, true, b"(mod)".to_vec(), b"IO.Bus".to_vec()));
+    assert_eq!(kept(Filter::All, &mut output), [ns.clone(), md.clone()]);
+    assert_eq!(kept(Filter::Loaded, &mut output), []);
+    assert_eq!(kept(Filter::ModulesOnly, &mut output), [md]);
+    assert_eq!(kept(Filter::NamespacesOnly, &mut output), [ns]);
+    t.register_module(true, "IO.Bus.", "x").unwrap();
+    assert_eq!(t.find_module("IO.Bus."), Ok(Some(Symbol::Module { name: b"IO.Bus", path: b"x", loaded: true })));
+    assert_eq!(t.find_module("IO."), Ok(Some(Symbol::Namespace { name: b"IO", loaded: true })));
+}
+
+#[test]
+fn opens() {
+    let mut t = Table::new(200, 1000);
+    t.insert("m.", "x", 1).unwrap();
+    t.insert("m.s.", "y", 2).unwrap();
+    t.register_open(Opened::Module, "o.", "m.").unwrap();
+    t.register_open(Opened::Namespace, "n.", "m.").unwrap();
+    assert_eq!((t.find("o.x."), t.find("o.s.y.")), (Ok(Some(1)), Ok(None)));
+    assert_eq!((t.find("n.x."), t.find("n.s.y.")), (Ok(None), Ok(Some(2))));
+}
+
+/// Each refusal by a call, and the table as it was.
+#[test]
+fn refusals() {
+    let before = t();
+    let mut t = before.clone();
+    let long = "n".repeat(32);
+    assert_eq!(t.insert("Saved", "a", 1), Err(Refusal::Malformed));
+    assert_eq!(t.insert("Saved.", "", 1), Err(Refusal::Empty));
+    assert_eq!(t.find(""), Err(Refusal::Empty));
+    assert_eq!(t.register_alias(&long, "", ""), Err(Refusal::TooLong));
+    assert_eq!(t.register_module(true, "A.", vec![b'p'; 121]), Err(Refusal::TooLong));
+    assert_eq!(t.insert("s.".repeat(17), "n", 1), Err(Refusal::Deep));
+    let mut output = Output::new(2, 33);
+    assert_eq!(t.complete("", 2, &mut output).err(), Some(Refusal::Spent));
+    assert_eq!(t.complete("", 3, &mut output).err(), Some(Refusal::Lines));
+    assert_eq!(t.complete_modules(Filter::All, "", 0, &mut output).err(), Some(Refusal::Spent));
+    assert!(t == before);
+    assert_eq!(Table::new(2, 100).insert("", "tick", 5), Err(Refusal::Full));
+    assert_eq!(Table::new(100, 3).insert("", "tick", 5), Err(Refusal::TextFull));
+    let mut crowded = Table::new(200, 200);
+    (0..96).for_each(|_| crowded.register_include("", "x.").unwrap());
+    assert_eq!(crowded.register_include("", "x."), Err(Refusal::Crowded));
+    let (state, mut words, text) = t.into_parts();
+    words[0] ^= 64;
+    let mut unsound = Table::from_parts(state, words, text);
+    assert_eq!(unsound.find("Saved.late."), Err(Refusal::Unsound));
+    assert_eq!(unsound.find_module("IO."), Err(Refusal::Unsound));
+    assert_eq!(unsound.register_open(Opened::Module, "", ""), Err(Refusal::Unsound));
+    assert_eq!(unsound.complete("", 3, &mut output).err(), Some(Refusal::Unsound));
+}
+
+#[test]
+fn numbers_and_names() {
+    let names = ["Unsound", "Malformed", "Empty", "TooLong", "Crowded", "Deep", "Full", "TextFull", "Spent", "Lines"];
+    for (k, name) in names.iter().enumerate() {
+        let refusal = Refusal::from_number(k as u32 + 1).unwrap();
+        assert_eq!((format!("{refusal:?}"), refusal.number()), (name.to_string(), k as u32 + 1));
+        assert!(refusal.to_string().starts_with(&format!("{} {name}: ", k + 1)));
+    }
+    assert_eq!((Refusal::from_number(0), Refusal::from_number(11)), (None, None));
+}
+
+/// A table goes on from its bytes.
+#[test]
+fn parts() {
+    let (state, words, text) = t().into_parts();
+    let mut again = Table::from_parts(state, words, text);
+    assert!(again == t());
+    again.insert("", "tick", 5).unwrap();
+    assert_eq!((again.find("tick."), again.find("Live.offset.")), (Ok(Some(5)), Ok(Some(3))));
+}
+
+/// Tables are of use in several threads.
+#[test]
+fn threads() {
+    let t = t();
+    std::thread::scope(|s| {
+        let run = || (0..100).map(|_| t.find("Saved.late.")).collect::<Result<Vec<_>, _>>();
+        let (a, b) = (s.spawn(run), s.spawn(run));
+        assert_eq!((a.join().unwrap(), b.join().unwrap()), (Ok(vec![Some(2); 100]), Ok(vec![Some(2); 100])));
+    });
+}

@@ -1,0 +1,92 @@
+//! Each refusal of the C layer at its limit and just inside it (tests/model/src/limits.rs), and what is the layer's own.
+use layer::{complete, find, find_module, number, register, Bytes, Output};
+use model::layout::Memory;
+use model::limits::{Calls, MALFORMED, UNSOUND};
+use model::model::{Filter, Registration};
+
+struct Screen;
+
+impl Calls for Screen {
+    const MOST_RECORDS: usize = 1_024;
+
+    fn register(memory: &mut Memory, call: &Registration) -> u32 {
+        let mut t = Bytes::of(memory);
+        let before = t.clone();
+        let answer = register(&mut t, call, None);
+        assert!(answer == 0 || t == before, "a refused call changed something: {call:?}");
+        t.put_in(memory);
+        answer
+    }
+
+    /// Both roots are refused alike.
+    fn find(memory: &Memory, query: &[u8]) -> Result<Option<u32>, u32> {
+        let t = Bytes::of(memory);
+        let answer = find(&t, query);
+        assert_eq!(find_module(&t, query).err(), answer.err(), "{query:?}");
+        answer
+    }
+
+    fn complete(memory: &Memory, modules: Option<Filter>, query: &[u8], budget: u32, room: (usize, usize)) -> Result<(u32, u32), u32> {
+        let mut out = Output::with_room(room.0, room.1);
+        let before = out.clone();
+        let answer = complete(&Bytes::of(memory), modules.map(number), query, budget, &mut out);
+        assert!(answer.is_ok() || out == before, "a refused completion changed something: {query:?}");
+        answer
+    }
+}
+
+model::at_limits! {
+    Screen: unsound malformed empty too_long crowded deep full text_full spent lines lowest_first
+}
+
+/// The fresh table, with a state of so many bytes.
+fn fresh(state: usize) -> Bytes {
+    Bytes { state: vec![0; state], words: vec![0; 480], text: vec![0; 100] }
+}
+
+#[test]
+fn a_state_is_sixteen_bytes() {
+    for (bytes, answer) in [(0, UNSOUND), (15, UNSOUND), (16, 0), (17, UNSOUND)] {
+        let t = fresh(bytes);
+        let call = Registration::Name { host: vec![], id: b"tick".to_vec(), item: 5 };
+        assert_eq!(register(&mut t.clone(), &call, None), answer);
+        assert_eq!(find(&t, b"a.").err().unwrap_or(0), answer);
+        assert_eq!(find_module(&t, b"a.").err().unwrap_or(0), answer);
+        for ask in [None, Some(0), Some(3)] {
+            assert_eq!(complete(&t, ask, b"", 1, &mut Output::with_room(0, 0)).err().unwrap_or(0), answer);
+        }
+    }
+}
+
+#[test]
+fn a_number_that_is_no_choice_is_malformed() {
+    for (flag, answer) in [(0, 0), (1, 0), (2, MALFORMED), (256, MALFORMED), (u32::MAX, MALFORMED)] {
+        let open = Registration::Open { module: true, host: vec![], included: vec![] };
+        assert_eq!(register(&mut fresh(16), &open, Some(flag)), answer);
+        let module = Registration::Module { loaded: true, query: vec![], path: vec![] };
+        assert_eq!(register(&mut fresh(16), &module, Some(flag)), answer);
+        // Unsound comes first.
+        assert_eq!(register(&mut fresh(15), &open, Some(flag)), UNSOUND);
+        assert_eq!(register(&mut fresh(15), &module, Some(flag)), UNSOUND);
+    }
+    for (filter, answer) in [(3, 0), (4, MALFORMED), (259, MALFORMED), (u32::MAX, MALFORMED)] {
+        assert_eq!(complete(&fresh(16), Some(filter), b"", 1, &mut Output::with_room(0, 0)).err().unwrap_or(0), answer);
+        assert_eq!(complete(&fresh(15), Some(filter), b"", 1, &mut Output::with_room(0, 0)), Err(UNSOUND));
+    }
+}
+
+/// Bytes that make no whole record or line record count as not lent.
+#[test]
+fn whole_records_count() {
+    let call = Registration::Name { host: vec![], id: b"tick".to_vec(), item: 5 };
+    for (bytes, answer) in [(143, 7), (144, 0), (191, 0)] {
+        let mut t = Bytes { words: vec![0; bytes], ..fresh(16) };
+        assert_eq!(register(&mut t, &call, None), answer);
+    }
+    let mut t = fresh(16);
+    assert_eq!(register(&mut t, &call, None), 0);
+    for (bytes, answer) in [(47, Err(10)), (48, Ok((1, 1))), (95, Ok((1, 1)))] {
+        let mut out = Output { lines: vec![0; bytes], text: vec![0; 4] };
+        assert_eq!(complete(&t, None, b"", 1, &mut out), answer);
+    }
+}

@@ -1,0 +1,31 @@
+//! Each refusal of the product at its limit and just inside it (tests/model/src/limits.rs).
+use model::layout::Memory;
+use model::limits::Calls;
+use model::model::{Filter, Registration};
+use product::{Ask, Output};
+
+struct Exports;
+
+impl Calls for Exports {
+    const MOST_RECORDS: usize = 65_536;
+
+    fn register(memory: &mut Memory, call: &Registration) -> u32 {
+        product::register(memory, call)
+    }
+
+    fn find(memory: &Memory, query: &[u8]) -> Result<Option<u32>, u32> {
+        product::find(memory, query)
+    }
+
+    fn complete(memory: &Memory, modules: Option<Filter>, query: &[u8], budget: u32, room: (usize, usize)) -> Result<(u32, u32), u32> {
+        let mut out = Output::with_room(room.0, room.1);
+        let before = out.clone();
+        let answer = product::complete(memory, modules.map_or(Ask::Names, Ask::Modules), query, budget, &mut out);
+        assert!(answer.is_ok() || out == before, "a refused completion changed something: {query:?}");
+        answer
+    }
+}
+
+model::at_limits! {
+    Exports: unsound malformed empty too_long crowded deep full text_full spent lines lowest_first
+}
