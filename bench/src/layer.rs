@@ -1,23 +1,10 @@
 //! The C layer's cost by part, on a table of 1,024 records.
 use crate::calls::{made, Name};
 use crate::measure::{compare, copy, zero};
+use layer::Bytes;
 use model::layout::Memory;
-use name_console::bytes;
 use product::{Ask, Output};
 use std::cell::RefCell;
-
-/// A table as bytes.
-struct Lent {
-    state: Vec<u8>,
-    words: Vec<u8>,
-    text: Vec<u8>,
-}
-
-fn lent(m: &Memory) -> Lent {
-    let h = m.header;
-    let bytes = |words: &[u32]| words.iter().flat_map(|w| w.to_le_bytes()).collect();
-    Lent { state: bytes(&[h.names, h.modules, h.records, h.text]), words: bytes(&m.words), text: m.text.clone() }
-}
 
 /// 1,024 records, of which one more name takes the last ones; that name.
 fn table(names: &[Name]) -> (Memory, Name) {
@@ -29,32 +16,23 @@ fn table(names: &[Name]) -> (Memory, Name) {
 
 pub fn parts(names: &[Name]) -> String {
     let (memory, more) = table(names);
-    let (t, changed) = (RefCell::new(lent(&memory)), RefCell::new(memory.clone()));
-    let (lines, text) = (RefCell::new(vec![0; 512 * 48]), RefCell::new(vec![0; 32768]));
-    let output = RefCell::new(Output::with_room(512, 32768));
+    let (t, call) = (Bytes::of(&memory), more.call());
+    let (changed_bytes, changed) = (RefCell::new(t.clone()), RefCell::new(memory.clone()));
+    let (output_bytes, output) = (RefCell::new(layer::Output::with_room(512, 32768)), RefCell::new(Output::with_room(512, 32768)));
     let there = &names[0].query;
 
     // A state that says that more is used than can be is refused once the words are copied in.
-    let unsound = [[0; 8], [255; 8]].concat();
-    let mut copy_in = || {
-        let t = &t.borrow();
-        bytes::find(&unsound, &t.words, &t.text, there).answer == 1
-    };
+    let unsound = Bytes { state: [[0; 8], [255; 8]].concat(), ..t.clone() };
+    let mut copy_in = || layer::find(&unsound, there) == Err(1);
     let mut test = || product::sound(&memory);
 
-    let mut find = || {
-        let t = &t.borrow();
-        bytes::find(&t.state, &t.words, &t.text, there).answer == 0
-    };
+    let mut find = || layer::find(&t, there) == Ok(Some(1));
     let mut insert = || {
-        let t = &mut *t.borrow_mut();
-        let mut state = t.state.clone();
-        bytes::insert(&mut state, &mut t.words, &mut t.text, &more.host, &more.id, 1) == 0
+        let now = &mut changed_bytes.borrow_mut();
+        now.state.copy_from_slice(&t.state);
+        layer::register(now, &call, None) == 0
     };
-    let mut complete = || {
-        let t = &t.borrow();
-        bytes::complete(&t.state, &t.words, &t.text, b"", u32::MAX, &mut lines.borrow_mut(), &mut text.borrow_mut()).answer == 0
-    };
+    let mut complete = || layer::complete(&t, None, b"", u32::MAX, &mut output_bytes.borrow_mut()).is_ok();
     // SAFETY, of all three: the memory is sound.
     let mut find_work = || unsafe { product::find_sound(&memory, there) } == Ok(Some(1));
     let mut insert_work = || {

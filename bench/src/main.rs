@@ -37,7 +37,7 @@ fn work() -> Vec<Row> {
         let call = Registration::Include { host: module(k + 1), included: module(k) };
         assert_eq!(product::register(&mut m, &call), 0);
     }
-    // A number stands in the module where it was registered, or in one of the includes before it.
+    // No id stands in two modules, so that an include hides none.
     let there: Vec<(&[u8], Option<u32>)> = names.iter().map(|n| (&n.query[..], Some(n.item))).collect();
     rows.push(look_ups("look full names up", &m, &there));
     let missing: Vec<Vec<u8>> = (0..1000).map(|k| [&module(k % 20)[..], format!("no{k}.").as_bytes()].concat()).collect();
