@@ -25,15 +25,16 @@ pub fn lead_of(words: &[u32], list: u32) -> Lead
     if list == 0 {
         return Lead { tree: 0, rest: 0 };
     }
-    if memory::sort_of(words, list) == memory::IMPORTED {
+    let c = memory::collection_of(words, list);
+    if c.imported {
         return Lead {
             tree: 0,
             rest: list,
         };
     }
     Lead {
-        tree: memory::own_of(words, list),
-        rest: memory::rest_of(words, list),
+        tree: c.own,
+        rest: c.rest,
     }
 }
 

@@ -1,7 +1,7 @@
 // Texts as bytes: comparison, prefix, byte rules, the segments of a query, and what a call asks of its texts.
 ghost use mathlib.Core.Path.{_≡_};
 ghost use Prim.Native.Nat.{min};
-ghost use Rattle.source.specs.Text.{string-compare, starts-with, ends-in-dot, name-byte};
+ghost use Rattle.source.specs.Text.{string-compare, starts-with, name-byte};
 ghost use Rattle.source.specs.Rules.{all};
 ghost use Rattle.source.specs.Calls.{a-query, a-name, a-path, a-look-up, a-completion};
 ghost use Rattle.text.specs.Text.{ordering, byte-rule, before-dot};
@@ -132,17 +132,6 @@ pub fn segment_length(s: &[u8]) -> usize
         i += 1;
     }
     i
-}
-
-// Whether `s` is empty or its last byte is a dot.
-pub fn ends_in_dot(s: &[u8]) -> bool
-    ensures { λ r. ⌜ r ≡ ends-in-dot (now (s .entry)) ⌝ }
-{
-    let n = s.len();
-    if n == 0 {
-        return true;
-    }
-    s[n - 1] == DOT
 }
 
 // Of a query: whether it is malformed, has an empty segment, is too long, and how many segments it has.

@@ -1,5 +1,6 @@
 -- `names::lead_of` meets its contract.
 use borrow.Author.Needs.{needs}
+use borrow.Author.Tests.{eqb-true, eqb-false}
 use native.Mathlib.Omega.{arith}
 use mathlib.Core.Path.{sym, _∙_}
 use Rattle.names.proofs.Collections.{led-none, led-imported, led-names}
@@ -12,13 +13,9 @@ lead-of-spec =
     (tie.spec
     {- returns -}
     (λ c. led-none (c .if1 .taken))
-    {- sort-of-requires -}
+    {- collection-of-requires -}
     (λ c κs. search needs)
     {- returns-2 -}
-    (λ c. led-imported (omega arith) (sym (c .before .sort-of .ensures) ∙ c .if2 .taken))
-    {- own-of-requires -}
-    (λ c κs. search needs)
-    {- rest-of-requires -}
-    (λ c κs. search needs)
+    (λ c. let k = c .before .collection-of .ensures in led-imported (omega arith) (eqb-true _ 1 (sym (k .imported) ∙ c .if2 .taken)))
     {- returns-3 -}
-    (λ c. led-names (omega arith) (λ e. c .before .before .if2 .left (c .before .before .before .sort-of .ensures ∙ e)) (c .before .own-of .ensures) (c .rest-of .ensures)))
+    (λ c. let k = c .before .collection-of .ensures in led-names (omega arith) (eqb-false _ 1 (sym (k .imported) ∙ c .if2 .left)) (k .own) (k .rest)))
