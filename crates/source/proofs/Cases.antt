@@ -1,13 +1,12 @@
 -- The ten starred cases of document 01, through what the calls hand back: `starred-cases`, by computation.
 use Prim.Native.Nat.{ℕ}
-use Prim.Native.Char.{code}
 use Prim.Native.String as S
 use mathlib.Core.Path.{_≡_, refl}
 use mathlib.Core.Bool.{true, false}
 use mathlib.Core.List.{List, [], _∷_}
 use mathlib.Core.Option.{Option, none, some}
 use lib.IntN.{ℤ, pos, negsuc}
-use Rattle.source.specs.Text.{Str, then, string-compare, starts-with, string-length, query-to-string, onto-first, segments, ends-in-dot, name-byte, query-byte, path-byte}
+use Rattle.source.specs.Text.{then, string-compare, starts-with, string-length, query-to-string, onto-first, segments, ends-in-dot, name-byte, query-byte, path-byte}
 use Rattle.source.specs.Heap.{is-lt, heap-merge, heap-insert, heap-insert-all, heap-from-list, heap-merge-pairs, heap-pair-up}
 use Rattle.source.specs.Lists.{first, priority, nonempty, add-priorities, total, push-nodup, run-cmp, put-back, merge-aux, merge-nonempty, merge-increasing-lists-rev}
 use Rattle.source.specs.Types.{the-item, bindings, namespaces, trie-empty}
@@ -19,11 +18,7 @@ use Rattle.source.specs.Table.{Line, ModSymbol, Module, Namespace, empty
 use Rattle.source.specs.Counted.{pure, one, _>>=_, btree-insert-replaceᶜ, names-insertᶜ, trie-mutateᶜ, trie-mutate-leafᶜ, trie-insertᶜ, trie-importᶜ, trie-includeᶜ, trie-add-aliasᶜ, lids, insertᶜ, register-aliasᶜ, register-includeᶜ, ins-nsᶜ, ins-modᶜ, insᶜ, register-module-pathᶜ, fold-leftᶜ, find-prefix-fuelᶜ, trie-find-prefixᶜ}
 use Rattle.source.specs.Calls.{Lent, Output, State, Call, name, include, alias, module-path, Registered, accepted, refused, Found, found, not-found, Completed, listed, All, text-of, is-empty, any, bad-query, malformed, empty-name, long-query, too-long, lowest, argument-rows, fresh, whole-records, free, arguments, registered, records, text-taken, crowded, deep, registration-rows, after, register, found-of, look-up, output-text, completion-rows, completed, tries-entered, keeps, filter-of, complete, complete-modules}
 use Rattle.source.specs.Rules.{all}
-
--- A quoted text's bytes.
-unfoldable pub bytes : S.String → Str
-bytes S.[] = []
-bytes (S._∷_ c s) = code c ∷ bytes s
+use Rattle.source.proofs.Quoted.{bytes}
 
 -- What the program console lends.
 unfoldable pub console : Lent

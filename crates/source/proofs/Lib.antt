@@ -28,4 +28,8 @@ pub mod PlannedDepth
 pub mod PlannedWeight
 pub mod PlannedRecords
 pub mod Agreement
+pub mod Quoted
+pub mod Bytes
+pub mod Filters
+pub mod ModuleRules
 pub mod Cases

@@ -16,7 +16,7 @@ use Rattle.source.proofs.Imports.{names-find-inserted}
 use Rattle.source.proofs.Refusals.{accepted-is}
 
 -- two keys are equal or not
-same-key : (j k : Str) → (j ≡ k) ⊎ (j ≡ k → ⊥)
+pub same-key : (j k : Str) → (j ≡ k) ⊎ (j ≡ k → ⊥)
 same-key j k = go (string-compare j k) (compare-strings j k)
   where
     go : (o : Ordering) → View j k o → (j ≡ k) ⊎ (j ≡ k → ⊥)
@@ -58,7 +58,7 @@ module _ {A : Type 0} where
       go Ordering·eq w f g = same w (string-compare j k′) (compare-strings j k′)
       go Ordering·gt w f g = ap (λ x. elim (string-compare j k′) [ Ordering·lt ↦ btree-find-exact lbt j | Ordering·eq ↦ some v′ | Ordering·gt ↦ x ]) g
 
-  names-find-other : {l : Level} (n : NameList A l) (k j : Str) (v : Value A l) → (j ≡ k → ⊥) → names-find-exact (names-insert n k v) j ≡ names-find-exact n j
+  pub names-find-other : {l : Level} (n : NameList A l) (k j : Str) (v : Value A l) → (j ≡ k → ⊥) → names-find-exact (names-insert n k v) j ≡ names-find-exact n j
   unfolding names-insert names-find-exact or-else btree-find-exact
   names-find-other []ᴺ k j v d = rw (find-other StrEmpty k j v d)
   names-find-other (Names bt tl) k j v d = rw (find-other bt k j v d)
@@ -71,7 +71,7 @@ module _ {A : Type 0} where
   find-in-empty (s ∷ []) = refl
   find-in-empty (s ∷ (t ∷ q)) = refl
 
-  find-in-scope : (tr : Trie A) (s t : Str) (q : Query)
+  pub find-in-scope : (tr : Trie A) (s t : Str) (q : Query)
       → trie-find-exact (scope-of (namespaces tr) s) (t ∷ q) ≡ trie-find-exact tr (s ∷ (t ∷ q))
   unfolding trie-find-exact scope-of dflt bind-option
   find-in-scope tr s t q = go (names-find-exact (namespaces tr) s)
