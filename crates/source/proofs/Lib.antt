@@ -19,7 +19,7 @@ pub mod Listed
 pub mod ListedTexts
 pub mod Queries
 pub mod Refusals
-pub mod Unchanged
+pub mod Elsewhere
 pub mod Kept
 pub mod Hosts
 pub mod Planning
@@ -28,6 +28,7 @@ pub mod PlannedDepth
 pub mod PlannedWeight
 pub mod PlannedRecords
 pub mod Agreement
+pub mod Unchanged
 pub mod Quoted
 pub mod Bytes
 pub mod Filters

@@ -5,13 +5,12 @@ use mathlib.Core.Bool.{Bool, true, false, cond}
 use mathlib.Core.List.{[], _∷_, _++_, reverse, reverseAux, reverse-cons, reverse-reverse}
 use mathlib.Core.Option.{Option, none, some}
 use Rattle.source.specs.Text.{Str, Query, query-to-string}
-use Rattle.source.specs.Types.{Value, Trie, NameList, bind, item, trie, bindings, namespaces, trie-empty}
+use Rattle.source.specs.Types.{Trie, NameList, bind, item, trie, bindings, namespaces, trie-empty}
 use Rattle.source.specs.Tries.{dflt, bind-option, MutNode, MutLeaf, names-find-exact, names-insert, scope-of, trie-find-exact, trie-mutate}
 use Rattle.source.specs.Table.{ModSymbol, Module, Namespace, Table, ns-inserts, ins-ns, ins-mod, name-of-revq, ins, register-module-path, find-module-or-ns}
 use Rattle.source.specs.Plans.{host-of}
 use Rattle.source.proofs.Imports.{names-find-inserted}
-use Rattle.source.proofs.Hosts.{host-of-step}
-use Rattle.source.proofs.Unchanged.{same-key, names-find-other, find-in-scope}
+use Rattle.source.proofs.Elsewhere.{same-key, names-find-other}
 
 -- ---- look-up below a namespace
 module _ {A : Type 0} where
@@ -21,16 +20,22 @@ module _ {A : Type 0} where
   find-step tr h [] s = refl
   find-step tr h (k ∷ p) s = refl
 
-  find-in : (tr : Trie A) (h : Str) (p : Query) (s : Str)
-      → trie-find-exact (scope-of (namespaces tr) h) (p ++ (s ∷ [])) ≡ trie-find-exact tr (h ∷ (p ++ (s ∷ [])))
-  find-in tr h [] s = find-in-scope tr h s []
-  find-in tr h (k ∷ p) s = find-in-scope tr h k (p ++ (s ∷ []))
+  find-in : (tr : Trie A) (h : Str) (q : Query)
+      → trie-find-exact (scope-of (namespaces tr) h) q ≡ bind-option (names-find-exact (namespaces tr) h) (λ scope. trie-find-exact scope q)
+  unfolding scope-of dflt bind-option trie-find-exact trie-empty bindings namespaces names-find-exact
+  find-in tr h q = go (names-find-exact (namespaces tr) h) q
+    where
+      go : (o : Option (Trie A)) (q : Query) → trie-find-exact (dflt trie-empty o) q ≡ bind-option o (λ scope. trie-find-exact scope q)
+      go none [] = refl
+      go none (s ∷ []) = refl
+      go none (s ∷ (t ∷ q)) = refl
+      go (some scope) q = refl
 
   -- look-up of a full name is a find in the bindings of its host
   find-at-host : (tr : Trie A) (p : Query) (s : Str) → trie-find-exact tr (p ++ (s ∷ [])) ≡ names-find-exact (bindings (host-of tr p)) s
   unfolding trie-find-exact host-of
   find-at-host tr [] s = refl
-  find-at-host tr (h ∷ p) s = sym (find-in tr h p s) ∙ find-at-host (scope-of (namespaces tr) h) p s
+  find-at-host tr (h ∷ p) s = find-step tr h p s ∙ sym (find-in tr h (p ++ (s ∷ []))) ∙ find-at-host (scope-of (namespaces tr) h) p s
 
 -- ---- the change
 module _ (path : Str) (loaded : Bool) where
@@ -81,7 +86,7 @@ module _ (path : Str) (loaded : Bool) where
           ap (λ k. bind-option (names-find-exact (names-insert (namespaces tr) h below) k) (λ scope. trie-find-exact scope (t ∷ o))) e
           ∙ ap (λ x. bind-option x (λ scope. trie-find-exact scope (t ∷ o))) (names-find-inserted (namespaces tr) h below)
           ∙ ih (λ rest f. d rest (cc))
-          ∙ find-in-scope tr h t o
+          ∙ find-in tr h (t ∷ o)
           ∙ ap (λ k. bind-option (names-find-exact (namespaces tr) k) (λ scope. trie-find-exact scope (t ∷ o))) (sym e)
       go (inr n) ih = ap (λ x. bind-option x (λ scope. trie-find-exact scope (t ∷ o))) (names-find-other (namespaces tr) h s below n)
 
