@@ -7,7 +7,7 @@ use mathlib.Core.Option.{Option, none, some, Option·none-ne-some}
 use Rattle.source.specs.Text.{Str, Query, string-compare}
 use Rattle.source.specs.Types.{Level, Value, Trie, Tree, NameList, bind, ns, trie, StrEmpty, StrBranch, []ᴺ, Names, ImportedNames, bindings, namespaces, trie-empty}
 use Rattle.source.specs.Trees.{btree-insert-replace, btree-find-exact}
-use Rattle.source.specs.Tries.{or-else, dflt, bind-option, MutNode, names-find-exact, names-insert, scope-of, trie-find-exact, trie-mutate, trie-mutate-leaf}
+use Rattle.source.specs.Tries.{or-else, dflt, bind-option, names-find-exact, names-insert, scope-of, trie-find-exact, trie-mutate, trie-mutate-leaf}
 use Rattle.source.specs.Terms.{flatten, walk-last}
 use Rattle.source.specs.Plans.{host-of}
 use Rattle.source.proofs.Order.{View, compare-strings, <ˢ-irrefl}

@@ -33,4 +33,6 @@ pub mod Quoted
 pub mod Bytes
 pub mod Filters
 pub mod ModuleRules
+pub mod Taken
+pub mod Spans
 pub mod Cases

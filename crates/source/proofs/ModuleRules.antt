@@ -7,8 +7,9 @@ use mathlib.Core.Option.{Option, none, some}
 use Rattle.source.specs.Text.{Str, Query, query-to-string}
 use Rattle.source.specs.Types.{Trie, NameList, bind, item, trie, bindings, namespaces, trie-empty}
 use Rattle.source.specs.Tries.{dflt, bind-option, MutNode, MutLeaf, names-find-exact, names-insert, scope-of, trie-find-exact, trie-mutate}
-use Rattle.source.specs.Table.{ModSymbol, Module, Namespace, Table, ns-inserts, ins-ns, ins-mod, name-of-revq, ins, register-module-path, find-module-or-ns}
+use Rattle.source.specs.Table.{ModSymbol, Module, Namespace, Table, ns-inserts, ins-ns, ins-mod, name-of-revq, ins, register-module-path, mod-annotation, find-module-or-ns}
 use Rattle.source.specs.Plans.{host-of}
+use Rattle.source.proofs.Quoted.{bytes}
 use Rattle.source.proofs.Imports.{names-find-inserted}
 use Rattle.source.proofs.Elsewhere.{same-key, names-find-other}
 
@@ -164,3 +165,12 @@ module _ (tbl : Table) (path : Str) (p : Query) (s t : Str) (q : Query) where
       → find-module-or-ns (register-module-path tbl true path (p ++ (s ∷ (t ∷ q)))) (p ++ (s ∷ [])) ≡ some (item (Namespace (query-to-string (p ++ (s ∷ []))) true))
   unfolding ins ins-ns ns-inserts
   namespace-replaces name e = after tbl true path p s (t ∷ q) ∙ rw (sym (before tbl true path p s) ∙ e) (names-find-inserted _ s _ ∙ rw full-name)
+
+-- Annotations: with spaces when loaded, else in brackets.
+pub annotations : (name path : Str)
+    → (mod-annotation (Module name path true) ≡ bytes " mod ")
+    × (mod-annotation (Module name path false) ≡ bytes "(mod)")
+    × (mod-annotation (Namespace name true) ≡ bytes " ns ")
+    × (mod-annotation (Namespace name false) ≡ bytes "(ns)")
+unfolding mod-annotation bytes
+annotations name path = (refl, refl, refl, refl)

@@ -4,10 +4,10 @@ use Prim.Native.Nat.{ℕ}
 use mathlib.Core.Path.{_≡_, refl, sym, ap, _∙_}
 use mathlib.Core.Bool.{Bool, true, false}
 use mathlib.Core.List.{List, [], _∷_, _++_, nil≢cons, tail-eq-of-cons-eq}
-use mathlib.Core.Option.{Option, none, some}
+use mathlib.Core.Option.{none, some}
 use Rattle.source.specs.Text.{Str, Query, query-to-string, segments}
-use Rattle.source.specs.Types.{Value, Trie, bind, item, trie, []ᴺ, ImportedNames, bindings, namespaces}
-use Rattle.source.specs.Tries.{names-insert, trie-find-exact, trie-mutate-leaf, trie-insert, included, trie-import, trie-include, trie-open-namespace, trie-add-alias}
+use Rattle.source.specs.Types.{Trie, bind, item, trie, []ᴺ, ImportedNames, bindings, namespaces}
+use Rattle.source.specs.Tries.{names-insert, trie-find-exact, trie-insert, included, trie-import, trie-include, trie-open-namespace, trie-add-alias}
 use Rattle.source.specs.Terms.{walk-last}
 use Rattle.source.specs.Table.{Table, Line, insert, register-alias, register-include, register-open, register-module-path}
 use Rattle.source.specs.Rules.{SoundTable}
