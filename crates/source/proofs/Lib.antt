@@ -21,6 +21,7 @@ pub mod Queries
 pub mod Refusals
 pub mod Elsewhere
 pub mod Kept
+pub mod Modules
 pub mod Hosts
 pub mod Planning
 pub mod Measures
