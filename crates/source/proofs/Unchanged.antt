@@ -168,3 +168,37 @@ pub include-copies : (sound : Bool) (lent : Lent) (s s′ : State) (c : Call) (h
 include-copies sound lent s s′ c host x query e a i =
     let d : Touches c (segments query) → ⊥ = rw i (apart-untouched host x c a) in
     record { found = look-up-unchanged sound lent s s′ c e query d; shown = lines-unchanged sound lent s s′ c e query d }
+
+-- ---- all below a host
+
+-- Neither is a beginning of the other.
+abbrev pub Diverge : Query → Query → Type 0
+Diverge p q = ((r : Query) → p ≡ q ++ r → ⊥) × ((r : Query) → q ≡ p ++ r → ⊥)
+
+-- The call's host diverges from the given one.
+abbrev pub Beside : Query → Call → Type 0
+Beside host (name at id number) = Diverge host (segments at)
+Beside host (include at q) = Diverge host (segments at)
+Beside host (opens is-module at q) = Diverge host (segments at)
+Beside host (alias key at q) = Diverge host (segments at)
+Beside host (module-path loaded query path) = Unit {0}
+
+diverging : (p q r t : Query) → Diverge p q → p ++ r ≡ q ++ t → ⊥
+diverging [] q r t d e = d .1 q refl
+diverging (h ∷ p) [] r t d e = d .0 (h ∷ p) refl
+diverging (h ∷ p) (k ∷ q) r t d e = diverging p q r t (λ x f. d .0 x (cc), λ x f. d .1 x (cc)) (tail-eq-of-cons-eq e)
+
+beside-untouched : (host r : Query) (c : Call) → Beside host c → Touches c (host ++ r) → ⊥
+beside-untouched host r (name at id number) b t = diverging host (segments at) r _ b t
+beside-untouched host r (include at q) b t = diverging host (segments at) r _ b (t .1)
+beside-untouched host r (opens true at q) b t = diverging host (segments at) r _ b (t .1)
+beside-untouched host r (opens false at q) b t = diverging host (segments at) r _ b (t .3)
+beside-untouched host r (alias key at q) b t = diverging host (segments at) r _ b (t .2)
+beside-untouched host r (module-path loaded query path) b t = t
+
+-- A registration beside a host changes no look-up and no line of any name below that host.
+pub beside-copies : (sound : Bool) (lent : Lent) (s s′ : State) (c : Call) (host r : Query) (query : Str)
+    → register sound lent s c ≡ accepted s′ → Beside host c → segments query ≡ host ++ r → Copied s s′ query
+beside-copies sound lent s s′ c host r query e b i =
+    let d : Touches c (segments query) → ⊥ = rw i (beside-untouched host r c b) in
+    record { found = look-up-unchanged sound lent s s′ c e query d; shown = lines-unchanged sound lent s s′ c e query d }
