@@ -30,14 +30,11 @@ use Rattle.walk.specs.Walk.{Noted, Walks}
 use Rattle.walk.specs.declared.Next.{Next}
 use Rattle.names.specs.Names.{AnyList}
 use Rattle.merge.specs.Entries.{Entry, shown, outer, Asks, by-prefix}
-use Rattle.merge.specs.Lists.{SingleIn, Single}
+use Rattle.merge.specs.Lists.{LabelOk}
 use Rattle.merge.specs.Stream as M
-use Rattle.merge.specs.Stream.{later, left-in, AnyRest, Starts, Gives}
-use Rattle.merge.specs.declared.Merge.{Merge}
-use Rattle.merge.specs.declared.Step.{Step}
+use Rattle.merge.specs.Stream.{Merge, Step, later, left-in, AnyRest, Starts, Gives, OneTree}
 use Rattle.merge.proofs.Cells.{later-end, later-next}
 use Rattle.merge.proofs.Given.{rest-any, gives-end, gives-more}
-use Rattle.merge.proofs.OneTree.{single-found}
 use Rattle.lines.specs.Output.{Tally}
 use Rattle.lines.specs.Ask.{asked}
 use Rattle.lines.specs.Path.{Path, BranchAt, LabelAt}
@@ -65,6 +62,10 @@ found-deep n term = all-reverse _ (names-find-rev n term) (names-find-rev-depth 
 -- No label.
 pub no-label : {ws txt : List ℕ} {w : Which} {v : Level} {n used : ℕ} → Used ws txt n used → LabelAt ws txt w v 0
 no-label {n = n} {used} o = record { records = n; used = used; sound = o; ok = record { link = no-link _ _; imports = λ h. absurd (omega arith) } }
+
+-- A label no later than a list.
+label-here : {ws txt : List ℕ} {w : Which} {v : Level} {x label : ℕ} → At ws txt w (list v) x → LabelOk ws w v x label → LabelAt ws txt w v label
+label-here t o = record { records = t .records; used = t .used; sound = t .sound; ok = record { link = link-later (omega (arith, t .link .earlier)) (o .link); imports = o .imports } }
 
 -- ---- A tree's branches
 
@@ -261,35 +262,33 @@ entries-list {ws} {txt} {ask} {leaf = leaf} {x} says runs = record {
 
 -- ---- One tree
 
-module _ {ws txt : List ℕ} {query : Str} {place : Place} {run : List ℕ} {x root : ℕ} (r : ListAsked ws txt query place run x) (o : Single ws x root) (h : 0 < root) where
+module _ {ws txt : List ℕ} {query : Str} {place : Place} {run : List ℕ} {x root label : ℕ} (r : ListAsked ws txt query place run x)
+    (o : OneTree ws txt (asked (place .task .ask)) (level-of (place .leaf)) x (take (place .len) query) root label) where
   abbrev pub alone : Found
-  alone = record { link = root; label = 0 }
+  alone = record { link = root; label = label }
 
-  single-in : SingleIn ws txt (asked (place .task .ask)) (level-of (place .leaf)) x root
-  single-in = o txt (asked (place .task .ask)) (level-of (place .leaf)) (r .can .list-at) h
+  pub one-earlier : root ≤ x
+  one-earlier = omega (arith, o .root-link .earlier)
 
-  pub single-earlier : root ≤ x
-  single-earlier = omega (arith, single-in .link .earlier)
-
-  single-says : (term : SearchTerm) (o : Option Str) → Asks term (take (place .len) query) o
+  one-says : (term : SearchTerm) (q : Option Str) → Asks term (take (place .len) query) q
       → map outer (found (what (asked (place .task .ask)) ws txt x (list (level-of (place .leaf)))) term)
-      ≡ map (shown (asked (place .task .ask)) ws txt (level-of (place .leaf)) o) (tree-entries ws txt root 0 (take (place .len) query))
+      ≡ map (shown (asked (place .task .ask)) ws txt (level-of (place .leaf)) q) (tree-entries ws txt root label (take (place .len) query))
   unfolding tree-entries
-  single-says term o asks = single-found (r .can .list-at) single-in asks
+  one-says term q asks = o .says term q asks
 
-  pub single-ready : TreeAsked ws txt query place run alone
-  single-ready = record {
+  pub one-ready : TreeAsked ws txt query place run alone
+  one-ready = record {
     place-ok = r .place-ok;
     can = record {
       ready = r .can .ready;
-      tree-at = at-of (r .can .list-at) (tree _) (omega arith) (single-in .link);
-      label-at = no-label (r .can .list-at .sound);
-      room = list-room (r .can) (take (place .len) query) (tree-entries ws txt root 0 (take (place .len) query)) single-says;
+      tree-at = at-of (r .can .list-at) (tree _) (omega arith) (o .root-link);
+      label-at = label-here (r .can .list-at) (o .label-ok);
+      room = list-room (r .can) (take (place .len) query) (tree-entries ws txt root label (take (place .len) query)) one-says;
     };
   }
 
-  pub single-runs : {run′ flat flat′ out out′ : List ℕ} → TreeListed ws txt query place run run′ flat flat′ out out′ alone → ListListed ws txt query place run run′ flat flat′ out out′ x
-  single-runs t = record { same = t .same; runs = entries-list single-says (t .runs) }
+  pub one-runs : {run′ flat flat′ out out′ : List ℕ} → TreeListed ws txt query place run run′ flat flat′ out out′ alone → ListListed ws txt query place run run′ flat flat′ out out′ x
+  one-runs t = record { same = t .same; runs = entries-list one-says (t .runs) }
 
 -- ---- A merge
 

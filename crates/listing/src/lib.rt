@@ -5,6 +5,7 @@ use lines::Ask;
 use lines::Found;
 use lines::Limits;
 use lines::Task;
+use merge::Turn;
 ghost use mathlib.Core.Path.{_≡_};
 ghost use mathlib.Core.Bool.{true};
 ghost use Prim.Native.Nat.{_+_, _*_, _≤_, _<_, min};
@@ -141,6 +142,7 @@ fn list_tree(
 }
 
 // What the branches of a list that begin with a prefix give, in order, one of each key. Stops once the budget is passed.
+// A merge of one tree is the walk of that tree.
 fn list_merged(
     words: &[u32],
     text: &[u8],
@@ -156,22 +158,60 @@ fn list_merged(
 {
     let budget = place.task.lim.budget;
     let len = place.len;
-    let mut m = merge::merge_start(words, text, list, &query[0..len]);
+    let mut roots = [0; merge::CELLS];
+    let mut heads = [0; merge::CELLS];
+    let mut labels = [0; merge::CELLS];
+    let start = merge::merge_start(
+        words,
+        text,
+        &query[0..len],
+        list,
+        &mut roots,
+        &mut heads,
+        &mut labels,
+    );
+    let n = start.n;
+    if n == 1 {
+        let alone = Found {
+            link: roots[0],
+            label: labels[0],
+        };
+        list_tree(words, text, query, place, alone, run, flat, out);
+        return;
+    }
+    let mut child = start.child;
+    let mut next = start.next;
+    let mut turn = Turn {
+        n: n,
+        root: start.root,
+        last: 0,
+    };
     loop {
-        let step = merge::merge_next(words, text, m, &query[0..len]);
-        let branch = step.branch;
+        let t = merge::merge_next(
+            words,
+            text,
+            &query[0..len],
+            &mut roots,
+            &mut heads,
+            &mut child,
+            &mut next,
+            turn,
+        );
+        let branch = t.branch;
         if branch == 0 {
             return;
         }
-        m = step.m;
+        let cell = t.cell;
         let here = Found {
             link: branch,
-            label: step.label,
+            label: labels[cell],
         };
         list_branch(words, text, query, place, here, run, flat, out);
         if budget < run[lines::ENTERED] {
             return;
         }
+        turn.root = t.root;
+        turn.last = branch;
     }
 }
 

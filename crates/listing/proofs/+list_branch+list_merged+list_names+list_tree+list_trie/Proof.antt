@@ -4,14 +4,15 @@ use mathlib.Core.Path.{refl, _∙_}
 use lib.ListN.{length, take}
 use native.Mathlib.Omega.{arith}
 use borrow.Author.Needs.{needs}
-use Rattle.merge.specs.Stream.{left-in}
+use Rattle.merge.specs.Stream.{state, left-in}
+use Rattle.merge.proofs.OneTree.{single-one}
 use Rattle.text.proofs.Texts.{tail-is}
 use Rattle.tree.proofs.Branches.{any-tree}
 use Rattle.memory.proofs.At.{at-fits}
 use Rattle.lines.proofs.Run.{same-path}
 use Rattle.listing.proofs.Cutting.{front-is}
 use Rattle.listing.proofs.Branch.{leaf-runs, line-ready, branch-named, space-at, below-ready, child-earlier, namespace-ready, namespace-sized, namespace-runs}
-use Rattle.listing.proofs.Loops.{onward, walking-earlier, walking-tree, walking-begins, Stepping, stepping-first, stepping-branch, stepping-next, stepping-less, stepping-spent, stepping-done, list-any, single-earlier, single-ready, single-runs, Merging, merging-first, merging-any, merging-done, merging-earlier, merging-less, merging-branch, merging-next, merging-spent}
+use Rattle.listing.proofs.Loops.{onward, walking-earlier, walking-tree, walking-begins, Stepping, stepping-first, stepping-branch, stepping-next, stepping-less, stepping-spent, stepping-done, list-any, one-earlier, one-ready, one-runs, Merging, merging-first, merging-any, merging-done, merging-earlier, merging-less, merging-branch, merging-next, merging-spent}
 use Rattle.listing.proofs.Trie.{trie-spent, trie-named, cut-ready, bindings-earlier, namespaces-earlier, bindings-asked, namespaces-asked, trie-all, trie-few}
 use Prim.Native.Nat.{ℕ, _<_}
 use borrow.Fn.Kinds.{In}
@@ -50,19 +51,19 @@ use Rattle.listing.proofs.+list_branch+list_merged+list_names+list_tree
 }
 
 abbrev μ-list-branch : Measures 6 list-branch-kinds.ps ℕ
-μ-list-branch κs a = 4 * a .1 .1 .1 .1 .0 .link
+μ-list-branch κs a = 5 * a .1 .1 .1 .1 .0 .link
 
 abbrev μ-list-merged : Measures 6 list-merged-kinds.ps ℕ
-μ-list-merged κs a = 4 * a .1 .1 .1 .1 .0 + 1
+μ-list-merged κs a = 5 * a .1 .1 .1 .1 .0 + 2
 
 abbrev μ-list-names : Measures 6 list-names-kinds.ps ℕ
-μ-list-names κs a = 4 * a .1 .1 .1 .1 .0 + 2
+μ-list-names κs a = 5 * a .1 .1 .1 .1 .0 + 3
 
 abbrev μ-list-tree : Measures 6 list-tree-kinds.ps ℕ
-μ-list-tree κs a = 4 * a .1 .1 .1 .1 .0 .link + 1
+μ-list-tree κs a = 5 * a .1 .1 .1 .1 .0 .link + 1
 
 abbrev μ-list-trie : Measures 6 list-trie-kinds.ps ℕ
-μ-list-trie κs a = 4 * a .1 .1 .1 .1 .0 + 3
+μ-list-trie κs a = 5 * a .1 .1 .1 .1 .0 + 4
 
 abbrev list-branch-at : ℕ → In 6 list-branch-kinds.ps
 list-branch-at t =
@@ -103,12 +104,12 @@ list-trie-below t =
     and 6 list-trie-kinds.ps (falls 6 list-trie-kinds.ps _<_ μ-list-trie t) list-trie.Pre
 
 abbrev list-merged-Inv-loop : list-merged-lts.InvT-loop
-list-merged-Inv-loop words text query place list run₀ flat₀ out₀ budget len m₀ run flat out m =
-    Merging words text query place list run₀ run flat₀ flat out₀ out m
+list-merged-Inv-loop words text query place list run₀ flat₀ out₀ budget len roots₀ heads₀ labels n child₀ next₀ turn₀ run flat out roots heads child next turn =
+    Merging words text query place list run₀ run flat₀ flat out₀ out (state roots heads labels child next (turn .n) (turn .root) (turn .last))
 
 abbrev list-merged-μ-loop : list-merged-lts.MeasureT-loop
-list-merged-μ-loop words text query place list run₀ flat₀ out₀ budget len m₀ run flat out m =
-    left-in words text (take (place .len) query) m
+list-merged-μ-loop words text query place list run₀ flat₀ out₀ budget len roots₀ heads₀ labels n child₀ next₀ turn₀ run flat out roots heads child next turn =
+    left-in words text (take (place .len) query) (state roots heads labels child next (turn .n) (turn .root) (turn .last))
 
 abbrev list-tree-Inv-loop : list-tree-lts.InvT-loop
 list-tree-Inv-loop words text query place found run₀ flat₀ out₀ budget len root notes₀ step₀ run flat out notes step =
@@ -163,7 +164,7 @@ pub +list-branch+list-merged+list-names+list-tree+list-trie-spec : {M : Type 1} 
     (λ c. search needs)
     {- returns-2 -}
     (λ c. namespace-runs (c .before .before .before .before .before .before .before .before .before .before .before .before .before .before .before .before .before .before .before .before .before .before .before .before .pre .1) (c .before .before .before .before .before .before .before .before .before .before .before .before .before .before .before .before .before .if1 .left) (c .before .before .before .before .before .before .before .before .before .before .before .enter .ensures) (c .before .before .before .before .before .before .before .before .before .before .before .before .before .before .before .before .held-of .ensures) (rw tail-is at (c .before .before .before .before .before .before .list-trie .ensures)) (c .set-path .ensures)))
-    (λ t. list-merged-lts.spec (merge-start-reads.Asked, merge-start-reads.Learnt, merge-next-reads.Asked, merge-next-reads.Learnt, list-branch-below t, list-branch.Post)
+    (λ t. list-merged-lts.spec (merge-start-reads.Asked, merge-start-reads.Learnt, list-tree-below t, list-tree.Post, merge-next-reads.Asked, merge-next-reads.Learnt, list-branch-below t, list-branch.Post)
     (list-merged-at t)
     list-merged.Post
     list-merged-Inv-loop
@@ -175,50 +176,66 @@ pub +list-branch+list-merged+list-names+list-tree+list-trie-spec : {M : Type 1} 
     {- part-merge-start-end -}
     (λ c. omega (arith, c .before .before .before .before .before .pre .1 .place-ok .len-inside))
     {- merge-start-requires -}
-    (λ c κs. list-any (c .before .before .before .before .before .before .pre .1 .can))
+    (λ c κs. (list-any (c .before .before .before .before .before .before .before .before .before .pre .1 .can), record { of-roots = refl; of-heads = refl; of-labels = refl }))
+    {- array-read-t34 -}
+    (λ c. search needs)
+    {- array-read-t37 -}
+    (λ c. search needs)
+    {- list-tree-requires -}
+    (λ c κs. (omega (arith, c .before .before .before .before .before .before .before .before .before .before .before .before .before .before .pre .0, one-earlier (c .before .before .before .before .before .before .before .before .before .before .before .before .before .before .pre .1) ((rw front-is at (c .before .before .before .before .merge-start .ensures)) .one (c .before .before .before .if1 .taken) _ _ (c .before .before .before .before .before .before .before .before .before .before .before .before .before .before .pre .1 .can .list-at))), one-ready (c .before .before .before .before .before .before .before .before .before .before .before .before .before .before .pre .1) ((rw front-is at (c .before .before .before .before .merge-start .ensures)) .one (c .before .before .before .if1 .taken) _ _ (c .before .before .before .before .before .before .before .before .before .before .before .before .before .before .pre .1 .can .list-at))))
+    {- same-length -}
+    (λ c. search needs)
+    {- same-length-2 -}
+    (λ c. search needs)
+    {- returns -}
+    (λ c. one-runs (c .before .before .before .before .before .before .before .before .before .before .before .before .before .before .before .before .before .before .before .pre .1) ((rw front-is at (c .before .before .before .before .before .before .before .before .before .merge-start .ensures)) .one (c .before .before .before .before .before .before .before .before .if1 .taken) _ _ (c .before .before .before .before .before .before .before .before .before .before .before .before .before .before .before .before .before .before .before .pre .1 .can .list-at)) (c .before .before .before .before .list-tree .ensures))
     {- loop-holds -}
-    (λ c. merging-first (c .before .before .before .before .before .before .before .pre .1) (rw front-is at (c .merge-start .ensures)))
+    (λ c. merging-first (c .before .before .before .before .before .before .before .before .before .before .before .before .before .pre .1) ((rw front-is at (c .before .before .before .merge-start .ensures)) .starts))
     {- sub-merge-next -}
     (λ c. search needs)
     {- part-merge-next-start -}
     (λ c. search needs)
     {- part-merge-next-end -}
-    (λ c. omega (arith, c .before .before .before .before .before .before .before .before .pre .1 .place-ok .len-inside))
+    (λ c. omega (arith, c .before .before .before .before .before .before .before .before .before .before .before .before .before .before .pre .1 .place-ok .len-inside))
     {- merge-next-requires -}
-    (λ c κs. rw front-is (merging-any (c .before .loop .inv)))
-    {- same-length -}
-    (λ c. c .before .before .before .loop .inv .left .flat-size)
-    {- same-length-2 -}
-    (λ c. c .before .before .before .loop .inv .left .out-size)
-    {- returns -}
-    (λ c. merging-done (c .before .before .before .loop .inv) (rw front-is at (c .before .merge-next .ensures)) (c .if1 .taken))
-    {- list-branch-requires -}
-    (λ c κs. (omega (arith, c .before .before .before .before .before .before .before .before .before .before .before .before .before .before .before .pre .0, merging-earlier (c .before .before .before .before .before .before .before .loop .inv) (rw front-is at (c .before .before .before .before .before .merge-next .ensures)) (c .before .before .before .before .if1 .left)), merging-branch (c .before .before .before .before .before .before .before .loop .inv) (rw front-is at (c .before .before .before .before .before .merge-next .ensures)) (c .before .before .before .before .if1 .left) (c .before .before .before .before .before .before .before .before .before .before .before .before .before .before .before .pre .1)))
-    {- element-copy-out-if2 -}
-    (λ c. search needs)
+    (λ c κs. rw front-is (record { labels = _; any = merging-any (c .before .before .before .before .before .loop .inv) }))
     {- same-length-3 -}
-    (λ c. merging-next (c .before .before .before .before .before .before .before .before .before .before .before .before .before .before .loop .inv) (rw front-is at (c .before .before .before .before .before .before .before .before .before .before .before .before .merge-next .ensures)) (c .before .before .before .before .before .before .before .before .before .before .before .if1 .left) (c .before .before .before .before .before .before .list-branch .ensures) (c .before .before .before .before .before .flat .given) (c .before .before .before .out .given) .left .flat-size)
+    (λ c. c .before .before .before .before .before .before .before .loop .inv .left .flat-size)
     {- same-length-4 -}
-    (λ c. merging-next (c .before .before .before .before .before .before .before .before .before .before .before .before .before .before .loop .inv) (rw front-is at (c .before .before .before .before .before .before .before .before .before .before .before .before .merge-next .ensures)) (c .before .before .before .before .before .before .before .before .before .before .before .if1 .left) (c .before .before .before .before .before .before .list-branch .ensures) (c .before .before .before .before .before .flat .given) (c .before .before .before .out .given) .left .out-size)
+    (λ c. c .before .before .before .before .before .before .before .loop .inv .left .out-size)
     {- returns-2 -}
-    (λ c. merging-spent (c .before .before .before .before .before .before .before .before .before .before .before .before .before .before .loop .inv) (rw front-is at (c .before .before .before .before .before .before .before .before .before .before .before .before .merge-next .ensures)) (c .before .before .before .before .before .before .before .before .before .before .before .if1 .left) (c .before .before .before .before .before .before .list-branch .ensures) (c .before .before .before .before .before .flat .given) (c .before .before .before .out .given) (c .if2 .taken))
+    (λ c. merging-done (c .before .before .before .before .before .before .before .loop .inv) ((rw front-is at (c .before .merge-next .ensures)) .gives _) (c .if2 .taken))
+    {- mul-t45 -}
+    (λ c. omega (arith, c .before .merge-next .ensures .small (c .if2 .left)))
+    {- array-read-t55 -}
+    (λ c. c .before .merge-next .ensures .small (c .if2 .left))
+    {- list-branch-requires -}
+    (λ c κs. (omega (arith, c .before .before .before .before .before .before .before .before .before .before .before .before .before .before .before .before .before .before .before .before .before .before .before .before .pre .0, merging-earlier (c .before .before .before .before .before .before .before .before .before .before .loop .inv) ((rw front-is at (c .before .before .before .before .merge-next .ensures)) .gives _) (c .before .before .before .if2 .left)), merging-branch (c .before .before .before .before .before .before .before .before .before .before .loop .inv) ((rw front-is at (c .before .before .before .before .merge-next .ensures)) .gives _) (c .before .before .before .if2 .left) (c .before .before .before .before .before .before .before .before .before .before .before .before .before .before .before .before .before .before .before .before .before .before .before .before .pre .1)))
+    {- element-copy-out-if3 -}
+    (λ c. search needs)
+    {- same-length-5 -}
+    (λ c. merging-next (c .before .before .before .before .before .before .before .before .before .before .before .before .before .before .before .before .before .loop .inv) ((rw front-is at (c .before .before .before .before .before .before .before .before .before .before .before .merge-next .ensures)) .gives _) (c .before .before .before .before .before .before .before .before .before .before .if2 .left) (c .before .before .before .before .before .before .list-branch .ensures) (c .before .before .before .before .before .flat2 .given) (c .before .before .before .out2 .given) .left .flat-size)
+    {- same-length-6 -}
+    (λ c. merging-next (c .before .before .before .before .before .before .before .before .before .before .before .before .before .before .before .before .before .loop .inv) ((rw front-is at (c .before .before .before .before .before .before .before .before .before .before .before .merge-next .ensures)) .gives _) (c .before .before .before .before .before .before .before .before .before .before .if2 .left) (c .before .before .before .before .before .before .list-branch .ensures) (c .before .before .before .before .before .flat2 .given) (c .before .before .before .out2 .given) .left .out-size)
+    {- returns-3 -}
+    (λ c. merging-spent (c .before .before .before .before .before .before .before .before .before .before .before .before .before .before .before .before .before .loop .inv) ((rw front-is at (c .before .before .before .before .before .before .before .before .before .before .before .merge-next .ensures)) .gives _) (c .before .before .before .before .before .before .before .before .before .before .if2 .left) (c .before .before .before .before .before .before .list-branch .ensures) (c .before .before .before .before .before .flat2 .given) (c .before .before .before .out2 .given) (c .if3 .taken))
     {- loop-less -}
-    (λ c. merging-less (c .before .before .before .before .before .before .before .before .before .before .before .before .before .before .loop .inv) (rw front-is at (c .before .before .before .before .before .before .before .before .before .before .before .before .merge-next .ensures)) (c .before .before .before .before .before .before .before .before .before .before .before .if1 .left))
+    (λ c. merging-less (c .before .before .before .before .before .before .before .before .before .before .before .before .before .before .before .before .before .loop .inv) ((rw front-is at (c .before .before .before .before .before .before .before .before .before .before .before .merge-next .ensures)) .gives _) (c .before .before .before .before .before .before .before .before .before .before .if2 .left))
     {- loop-again -}
-    (λ c. merging-next (c .before .before .before .before .before .before .before .before .before .before .before .before .before .before .loop .inv) (rw front-is at (c .before .before .before .before .before .before .before .before .before .before .before .before .merge-next .ensures)) (c .before .before .before .before .before .before .before .before .before .before .before .if1 .left) (c .before .before .before .before .before .before .list-branch .ensures) (c .before .before .before .before .before .flat .given) (c .before .before .before .out .given)))
+    (λ c. merging-next (c .before .before .before .before .before .before .before .before .before .before .before .before .before .before .before .before .before .loop .inv) ((rw front-is at (c .before .before .before .before .before .before .before .before .before .before .before .merge-next .ensures)) .gives _) (c .before .before .before .before .before .before .before .before .before .before .if2 .left) (c .before .before .before .before .before .before .list-branch .ensures) (c .before .before .before .before .before .flat2 .given) (c .before .before .before .out2 .given)))
     (λ t. list-names-lts.spec (single-reads.Asked, single-reads.Learnt, list-tree-below t, list-tree.Post, list-merged-below t, list-merged.Post)
     (list-names-at t)
     list-names.Post
     {- single-requires -}
     (λ c κs. at-fits (c .before .before .before .before .before .pre .1 .can .list-at))
     {- list-tree-requires -}
-    (λ c κs. (omega (arith, c .before .before .before .before .before .before .before .before .before .before .pre .0, single-earlier (c .before .before .before .before .before .before .before .before .before .before .pre .1) (c .before .before .before .before .single .ensures) (c .before .before .before .if1 .taken)), single-ready (c .before .before .before .before .before .before .before .before .before .before .pre .1) (c .before .before .before .before .single .ensures) (c .before .before .before .if1 .taken)))
+    (λ c κs. (omega (arith, c .before .before .before .before .before .before .before .before .before .before .pre .0, one-earlier (c .before .before .before .before .before .before .before .before .before .before .pre .1) (single-one _ (c .before .before .before .before .before .before .before .before .before .before .pre .1 .can .list-at) (c .before .before .before .before .single .ensures) (c .before .before .before .if1 .taken))), one-ready (c .before .before .before .before .before .before .before .before .before .before .pre .1) (single-one _ (c .before .before .before .before .before .before .before .before .before .before .pre .1 .can .list-at) (c .before .before .before .before .single .ensures) (c .before .before .before .if1 .taken))))
     {- same-length -}
     (λ c. search needs)
     {- same-length-2 -}
     (λ c. search needs)
     {- returns -}
-    (λ c. single-runs (c .before .before .before .before .before .before .before .before .before .before .before .before .before .before .before .pre .1) (c .before .before .before .before .before .before .before .before .before .single .ensures) (c .before .before .before .before .before .before .before .before .if1 .taken) (c .before .before .before .before .list-tree .ensures))
+    (λ c. one-runs (c .before .before .before .before .before .before .before .before .before .before .before .before .before .before .before .pre .1) (single-one _ (c .before .before .before .before .before .before .before .before .before .before .before .before .before .before .before .pre .1 .can .list-at) (c .before .before .before .before .before .before .before .before .before .single .ensures) (c .before .before .before .before .before .before .before .before .if1 .taken)) (c .before .before .before .before .list-tree .ensures))
     {- list-merged-requires -}
     (λ c κs. (omega (arith, c .before .before .before .before .before .before .before .before .before .before .pre .0), c .before .before .before .before .before .before .before .before .before .before .pre .1))
     {- same-length-3 -}
