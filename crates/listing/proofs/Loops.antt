@@ -26,8 +26,8 @@ use Rattle.tree.specs.Links.{matches, head0, row-at}
 use Rattle.tree.proofs.Branches.{any-tree}
 use Rattle.tree.proofs.Matches.{MatchOf, matches-of, matches-increasing, after-first}
 use Rattle.tree.proofs.Kept.{all-append}
-use Rattle.walk.specs.Walk.{Noted, Walks}
-use Rattle.walk.specs.declared.Next.{Next}
+use Rattle.matches.specs.Notes.{Noted, Matched}
+use Rattle.matches.specs.declared.Next.{Next}
 use Rattle.names.specs.Names.{AnyList}
 use Rattle.merge.specs.Entries.{Entry, shown, outer, Asks, by-prefix}
 use Rattle.merge.specs.Lists.{LabelOk}
@@ -103,26 +103,26 @@ module _ {ws txt : List ℕ} {w : Which} {v : Level} {root : ℕ} (t : At ws txt
 
 module _ (ws txt : List ℕ) (ask : Ask) (rest : Str) (p : Path) (lim : Limits) (matched : ℕ) (leaf : Bool) (root label : ℕ) (prefix : Str) where
   -- The run over a tree has come to the branch at.
-  pub record Walking (a t : Tally) (flat flat′ out out′ : List ℕ) (at : ℕ) : Type 0 where
+  pub record Along (a t : Tally) (flat flat′ out out′ : List ℕ) (at : ℕ) : Type 0 where
     pub tree-at : At ws txt (asked ask) (tree (level-of leaf)) root
     pub left : Left ws txt ask rest p lim matched leaf a t flat flat′ out out′ (tree-entries ws txt root label prefix) (labelled label (onward ws txt prefix root at))
     pub standing : Standing tree-at prefix at
 
 module _ {ws txt : List ℕ} {ask : Ask} {rest : Str} {p : Path} {lim : Limits} {matched : ℕ} {leaf : Bool} {root label : ℕ} {prefix : Str} where
-  pub walking-first : {a : Tally} {flat out : List ℕ} {at : ℕ} → TreeReady ws txt ask rest p lim leaf root label prefix → at ≡ head0 (matches ws txt root prefix)
-      → Walking ws txt ask rest p lim matched leaf root label prefix a a flat flat out out at
+  pub along-first : {a : Tally} {flat out : List ℕ} {at : ℕ} → TreeReady ws txt ask rest p lim leaf root label prefix → at ≡ head0 (matches ws txt root prefix)
+      → Along ws txt ask rest p lim matched leaf root label prefix a a flat flat out out at
   unfolding tree-entries
-  walking-first {at = at} r e =
+  along-first {at = at} r e =
       let f = first-onward (r .tree-at) prefix at e in
       record { tree-at = r .tree-at; left = rw (f .0) (left-all ws txt ask rest p lim matched leaf (r .room)); standing = f .1 }
 
-  module _ {a t : Tally} {flat flat′ out out′ : List ℕ} {at : ℕ} (g : Walking ws txt ask rest p lim matched leaf root label prefix a t flat flat′ out out′ at) where
+  module _ {a t : Tally} {flat flat′ out out′ : List ℕ} {at : ℕ} (g : Along ws txt ask rest p lim matched leaf root label prefix a t flat flat′ out out′ at) where
     module _ (n : at ≡ 0 → ⊥) where
       here : MatchOf ws txt (asked ask) (level-of leaf) root prefix at
       here = g .standing .matching n
 
-      pub walking-earlier : at ≤ root
-      walking-earlier = omega (arith, here .branch .link .earlier)
+      pub along-earlier : at ≤ root
+      along-earlier = omega (arith, here .branch .link .earlier)
 
       branch-here : BranchAt ws txt (asked ask) (level-of leaf) at
       branch-here = record { records = g .tree-at .records; used = g .tree-at .used; sound = g .tree-at .sound; some = here .branch .some; link = link-later (omega (arith, g .tree-at .link .earlier)) (here .branch .link) }
@@ -131,27 +131,27 @@ module _ {ws txt : List ℕ} {ask : Ask} {rest : Str} {p : Path} {lim : Limits} 
       unfolding onward
       split = rw (ne-eqb at 0 n)
 
-      pub walking-branch : TreeReady ws txt ask rest p lim leaf root label prefix → BranchReady ws txt ask rest p lim leaf at label
-      walking-branch r = record {
+      pub along-branch : TreeReady ws txt ask rest p lim leaf root label prefix → BranchReady ws txt ask rest p lim leaf at label
+      along-branch r = record {
         ready = r .ready;
         branch-at = branch-here;
         label-at = r .label-at;
         room = λ z. (rw split at (g .left .room z)) .0;
       }
 
-      pub walking-tree : (0 < at) × AnyTree ws txt at
-      walking-tree = (here .branch .some, any-tree (branch-tree branch-here))
+      pub along-tree : (0 < at) × AnyTree ws txt at
+      along-tree = (here .branch .some, any-tree (branch-tree branch-here))
 
-      pub walking-begins : starts-with (key-at ws txt at) prefix ≡ true
-      walking-begins = here .begins
+      pub along-begins : starts-with (key-at ws txt at) prefix ≡ true
+      along-begins = here .begins
 
       module _ {t′ : Tally} {flat″ out″ : List ℕ} (b : BranchRuns ws txt ask rest p lim matched t t′ flat′ flat″ out′ out″ leaf at label) (lf : length flat″ ≡ length flat′) (lo : length out″ ≡ length out′) where
-        pub walking-spent : lim .budget < t′ .entered → EntriesRun ws txt ask rest p lim matched a t′ flat flat″ out out″ leaf (tree-entries ws txt root label prefix)
-        walking-spent s = left-spent ws txt ask rest p lim matched leaf (left-next ws txt ask rest p lim matched leaf (rw split at (g .left)) b lf lo) s
+        pub along-spent : lim .budget < t′ .entered → EntriesRun ws txt ask rest p lim matched a t′ flat flat″ out out″ leaf (tree-entries ws txt root label prefix)
+        along-spent s = left-spent ws txt ask rest p lim matched leaf (left-next ws txt ask rest p lim matched leaf (rw split at (g .left)) b lf lo) s
 
         module _ {r : ℕ} (e : r ≡ head0 (later ws txt prefix root at)) where
-          pub walking-next : Walking ws txt ask rest p lim matched leaf root label prefix a t′ flat flat″ out out″ r
-          walking-next =
+          pub along-next : Along ws txt ask rest p lim matched leaf root label prefix a t′ flat flat″ out out″ r
+          along-next =
               let f = next-onward (g .tree-at) prefix at r n e in
               record {
                 tree-at = g .tree-at;
@@ -159,32 +159,32 @@ module _ {ws txt : List ℕ} {ask : Ask} {rest : Str} {p : Path} {lim : Limits} 
                 standing = f .1;
               }
 
-          pub walking-less : length (onward ws txt prefix root r) < length (onward ws txt prefix root at)
-          walking-less = let f = next-onward (g .tree-at) prefix at r n e in omega (arith, ap length (f .0))
+          pub along-less : length (onward ws txt prefix root r) < length (onward ws txt prefix root at)
+          along-less = let f = next-onward (g .tree-at) prefix at r n e in omega (arith, ap length (f .0))
 
-    pub walking-done : at ≡ 0 → EntriesRun ws txt ask rest p lim matched a t flat flat′ out out′ leaf (tree-entries ws txt root label prefix)
+    pub along-done : at ≡ 0 → EntriesRun ws txt ask rest p lim matched a t flat flat′ out out′ leaf (tree-entries ws txt root label prefix)
     unfolding onward
-    walking-done z = left-none ws txt ask rest p lim matched leaf (rw (eq-eqb at 0 z) at (g .left))
+    along-done z = left-none ws txt ask rest p lim matched leaf (rw (eq-eqb at 0 z) at (g .left))
 
 -- The run, with notes of the branches after the one at hand.
 module _ (ws txt : List ℕ) (query : Str) (place : Place) (f : Found) (run run′ flat flat′ out out′ notes : List ℕ) (s : Next) where
   pub record Stepping : Type 0 where
     pub same : SamePath run run′
-    pub walking : Walking ws txt (place .task .ask) (drop (place .next) query) (path-in run) (place .task .lim) (place .task .matched) (place .leaf) (f .link) (f .label) (take (place .len) query)
+    pub along : Along ws txt (place .task .ask) (drop (place .next) query) (path-in run) (place .task .lim) (place .task .matched) (place .leaf) (f .link) (f .label) (take (place .len) query)
         (tally-in run) (tally-in run′) flat flat′ out out′ (s .link)
     pub noted : (s .link ≡ 0 → ⊥) → Noted ws txt (take (place .len) query) notes (s .n) (later ws txt (take (place .len) query) (f .link) (s .link))
 
-noted-after : (ws txt : List ℕ) (prefix : Str) (root : ℕ) {notes : List ℕ} {l : List ℕ} {s : Next} → Walks ws txt prefix notes l s → onward ws txt prefix root (s .link) ≡ l → (s .link ≡ 0 → ⊥)
+noted-after : (ws txt : List ℕ) (prefix : Str) (root : ℕ) {notes : List ℕ} {l : List ℕ} {s : Next} → Matched ws txt prefix notes l s → onward ws txt prefix root (s .link) ≡ l → (s .link ≡ 0 → ⊥)
     → Noted ws txt prefix notes (s .n) (later ws txt prefix root (s .link))
 unfolding onward
 noted-after ws txt prefix root {s = s} w e n = w .noted (s .link) (later ws txt prefix root (s .link)) (sym e ∙ rw (ne-eqb (s .link) 0 n))
 
 module _ {ws txt : List ℕ} {query : Str} {place : Place} {f : Found} {run : List ℕ} where
-  pub stepping-first : {flat out notes : List ℕ} {s : Next} → TreeAsked ws txt query place run f → Walks ws txt (take (place .len) query) notes (matches ws txt (f .link) (take (place .len) query)) s
+  pub stepping-first : {flat out notes : List ℕ} {s : Next} → TreeAsked ws txt query place run f → Matched ws txt (take (place .len) query) notes (matches ws txt (f .link) (take (place .len) query)) s
       → Stepping ws txt query place f run run flat flat out out notes s
   stepping-first {s = s} r w = record {
     same = same-path run;
-    walking = walking-first (r .can) (w .head);
+    along = along-first (r .can) (w .head);
     noted = noted-after ws txt (take (place .len) query) (f .link) w (first-onward (r .can .tree-at) (take (place .len) query) (s .link) (w .head) .0);
   }
 
@@ -193,30 +193,30 @@ module _ {ws txt : List ℕ} {query : Str} {place : Place} {f : Found} {run : Li
     at-hand = record { link = s .link; label = f .label }
 
     pub stepping-done : s .link ≡ 0 → TreeListed ws txt query place run run′ flat flat′ out out′ f
-    stepping-done z = record { same = g .same; runs = walking-done (g .walking) z }
+    stepping-done z = record { same = g .same; runs = along-done (g .along) z }
 
     module _ (n : s .link ≡ 0 → ⊥) where
       pub stepping-branch : TreeAsked ws txt query place run f → BranchAsked ws txt query place run′ at-hand
-      stepping-branch r = record { place-ok = r .place-ok; can = branch-ready-at (g .same) (walking-branch (g .walking) n (r .can)) }
+      stepping-branch r = record { place-ok = r .place-ok; can = branch-ready-at (g .same) (along-branch (g .along) n (r .can)) }
 
       module _ {run″ flat″ out″ : List ℕ} (b : BranchListed ws txt query place run′ run″ flat′ flat″ out′ out″ at-hand) (lf : length flat″ ≡ length flat′) (lo : length out″ ≡ length out′) where
         pub stepping-spent : place .task .lim .budget < getD run″ 19 0 → TreeListed ws txt query place run run″ flat flat″ out out″ f
-        stepping-spent k = record { same = same-then (g .same) (b .same); runs = walking-spent (g .walking) n (branch-runs-at (g .same) (b .runs)) lf lo k }
+        stepping-spent k = record { same = same-then (g .same) (b .same); runs = along-spent (g .along) n (branch-runs-at (g .same) (b .runs)) lf lo k }
 
-        module _ {notes′ : List ℕ} {s′ : Next} (w : Walks ws txt (take (place .len) query) notes′ (later ws txt (take (place .len) query) (f .link) (s .link)) s′) where
+        module _ {notes′ : List ℕ} {s′ : Next} (w : Matched ws txt (take (place .len) query) notes′ (later ws txt (take (place .len) query) (f .link) (s .link)) s′) where
           pub stepping-next : Stepping ws txt query place f run run″ flat flat″ out out″ notes′ s′
           unfolding onward
           stepping-next = record {
             same = same-then (g .same) (b .same);
-            walking = walking-next (g .walking) n (branch-runs-at (g .same) (b .runs)) lf lo (w .head);
-            noted = noted-after ws txt (take (place .len) query) (f .link) w (let e = next-onward (g .walking .tree-at) (take (place .len) query) (s .link) (s′ .link) n (w .head) .0 in tail-of (sym (rw (ne-eqb (s .link) 0 n) at e)));
+            along = along-next (g .along) n (branch-runs-at (g .same) (b .runs)) lf lo (w .head);
+            noted = noted-after ws txt (take (place .len) query) (f .link) w (let e = next-onward (g .along .tree-at) (take (place .len) query) (s .link) (s′ .link) n (w .head) .0 in tail-of (sym (rw (ne-eqb (s .link) 0 n) at e)));
           }
             where
               tail-of : {x : ℕ} {l m : List ℕ} → x ∷ l ≡ x ∷ m → l ≡ m
               tail-of e = cc
 
           pub stepping-less : length (onward ws txt (take (place .len) query) (f .link) (s′ .link)) < length (onward ws txt (take (place .len) query) (f .link) (s .link))
-          stepping-less = walking-less (g .walking) n (branch-runs-at (g .same) (b .runs)) lf lo (w .head)
+          stepping-less = along-less (g .along) n (branch-runs-at (g .same) (b .runs)) lf lo (w .head)
 
 -- ---- A list
 

@@ -125,8 +125,8 @@ fn list_tree(
     let budget = place.task.lim.budget;
     let len = place.len;
     let root = found.link;
-    let mut notes = [0; 48];
-    let mut step = walk::walk_first(words, text, root, &query[0..len], &mut notes);
+    let mut notes = [0; matches::NOTES];
+    let mut step = matches::first_match(words, text, root, &query[0..len], &mut notes);
     while 0 < step.link {
         let at = step.link;
         let here = Found {
@@ -137,12 +137,12 @@ fn list_tree(
         if budget < run[lines::ENTERED] {
             return;
         }
-        step = walk::walk_next(words, text, root, &query[0..len], at, &mut notes, step.n);
+        step = matches::next_match(words, text, root, &query[0..len], at, &mut notes, step.n);
     }
 }
 
 // What the branches of a list that begin with a prefix give, in order, one of each key. Stops once the budget is passed.
-// A merge of one tree is the walk of that tree.
+// A merge of one tree is a run over that tree.
 fn list_merged(
     words: &[u32],
     text: &[u8],

@@ -12,7 +12,7 @@ use Rattle.memory.proofs.At.{at-fits}
 use Rattle.lines.proofs.Run.{same-path}
 use Rattle.listing.proofs.Cutting.{front-is}
 use Rattle.listing.proofs.Branch.{leaf-runs, line-ready, branch-named, space-at, below-ready, child-earlier, namespace-ready, namespace-sized, namespace-runs}
-use Rattle.listing.proofs.Loops.{onward, walking-earlier, walking-tree, walking-begins, Stepping, stepping-first, stepping-branch, stepping-next, stepping-less, stepping-spent, stepping-done, list-any, one-earlier, one-ready, one-runs, Merging, merging-first, merging-any, merging-done, merging-earlier, merging-less, merging-branch, merging-next, merging-spent}
+use Rattle.listing.proofs.Loops.{onward, along-earlier, along-tree, along-begins, Stepping, stepping-first, stepping-branch, stepping-next, stepping-less, stepping-spent, stepping-done, list-any, one-earlier, one-ready, one-runs, Merging, merging-first, merging-any, merging-done, merging-earlier, merging-less, merging-branch, merging-next, merging-spent}
 use Rattle.listing.proofs.Trie.{trie-spent, trie-named, cut-ready, bindings-earlier, namespaces-earlier, bindings-asked, namespaces-asked, trie-all, trie-few}
 use Prim.Native.Nat.{ℕ, _<_}
 use borrow.Fn.Kinds.{In}
@@ -41,8 +41,8 @@ use Rattle.memory.proofs.trie_of.Reads as trie-of-reads
 use Rattle.merge.proofs.merge_next.Reads as merge-next-reads
 use Rattle.merge.proofs.merge_start.Reads as merge-start-reads
 use Rattle.merge.proofs.single.Reads as single-reads
-use Rattle.walk.proofs.walk_first.Reads as walk-first-reads
-use Rattle.walk.proofs.walk_next.Reads as walk-next-reads
+use Rattle.matches.proofs.first_match.Reads as first-match-reads
+use Rattle.matches.proofs.next_match.Reads as next-match-reads
 use Rattle.listing.proofs.+list_branch+list_merged+list_names+list_tree+list_trie.{
   statement,
 }
@@ -244,47 +244,47 @@ pub +list-branch+list-merged+list-names+list-tree+list-trie-spec : {M : Type 1} 
     (λ c. search needs)
     {- returns-2 -}
     (λ c. c .before .before .before .before .list-merged .ensures))
-    (λ t. list-tree-lts.spec (walk-first-reads.Asked, walk-first-reads.Learnt, list-branch-below t, list-branch.Post, walk-next-reads.Asked, walk-next-reads.Learnt)
+    (λ t. list-tree-lts.spec (first-match-reads.Asked, first-match-reads.Learnt, list-branch-below t, list-branch.Post, next-match-reads.Asked, next-match-reads.Learnt)
     (list-tree-at t)
     list-tree.Post
     list-tree-Inv-loop
     list-tree-μ-loop
-    {- sub-walk-first -}
+    {- sub-first-match -}
     (λ c. search needs)
-    {- part-walk-first-start -}
+    {- part-first-match-start -}
     (λ c. search needs)
-    {- part-walk-first-end -}
+    {- part-first-match-end -}
     (λ c. omega (arith, c .before .before .before .before .before .pre .1 .place-ok .len-inside))
-    {- walk-first-requires -}
+    {- first-match-requires -}
     (λ c κs. (any-tree (c .before .before .before .before .before .before .before .pre .1 .can .tree-at), refl))
     {- loop-holds -}
-    (λ c. stepping-first (c .before .before .before .before .before .before .before .before .pre .1) (rw front-is at (c .walk-first .ensures)))
+    (λ c. stepping-first (c .before .before .before .before .before .before .before .before .pre .1) (rw front-is at (c .first-match .ensures)))
     {- list-branch-requires -}
-    (λ c κs. (omega (arith, c .before .before .before .before .before .before .before .before .before .before .before .before .before .before .pre .0, walking-earlier (c .before .before .before .before .before .loop .inv .walking) (λ z. omega (arith, c .before .before .before .if1 .taken))), stepping-branch (c .before .before .before .before .before .loop .inv) (λ z. omega (arith, c .before .before .before .if1 .taken)) (c .before .before .before .before .before .before .before .before .before .before .before .before .before .before .pre .1)))
+    (λ c κs. (omega (arith, c .before .before .before .before .before .before .before .before .before .before .before .before .before .before .pre .0, along-earlier (c .before .before .before .before .before .loop .inv .along) (λ z. omega (arith, c .before .before .before .if1 .taken))), stepping-branch (c .before .before .before .before .before .loop .inv) (λ z. omega (arith, c .before .before .before .if1 .taken)) (c .before .before .before .before .before .before .before .before .before .before .before .before .before .before .pre .1)))
     {- element-copy-out-if2 -}
     (λ c. search needs)
     {- same-length -}
-    (λ c. c .before .before .before .before .before .flat .given ∙ c .before .before .before .before .before .before .before .before .before .before .before .before .loop .inv .walking .left .flat-size)
+    (λ c. c .before .before .before .before .before .flat .given ∙ c .before .before .before .before .before .before .before .before .before .before .before .before .loop .inv .along .left .flat-size)
     {- same-length-2 -}
-    (λ c. c .before .before .before .out .given ∙ c .before .before .before .before .before .before .before .before .before .before .before .before .loop .inv .walking .left .out-size)
+    (λ c. c .before .before .before .out .given ∙ c .before .before .before .before .before .before .before .before .before .before .before .before .loop .inv .along .left .out-size)
     {- returns -}
     (λ c. stepping-spent (c .before .before .before .before .before .before .before .before .before .before .before .before .loop .inv) (λ z. omega (arith, c .before .before .before .before .before .before .before .before .before .before .if1 .taken)) (c .before .before .before .before .before .before .list-branch .ensures) (c .before .before .before .before .before .flat .given) (c .before .before .before .out .given) (c .if2 .taken))
-    {- sub-walk-next -}
+    {- sub-next-match -}
     (λ c. search needs)
-    {- part-walk-next-start -}
+    {- part-next-match-start -}
     (λ c. search needs)
-    {- part-walk-next-end -}
+    {- part-next-match-end -}
     (λ c. omega (arith, c .before .before .before .before .before .before .before .before .before .before .before .before .before .before .before .before .before .before .before .before .before .pre .1 .place-ok .len-inside))
-    {- walk-next-requires -}
-    (λ c κs. (any-tree (c .before .before .before .before .before .before .before .before .before .before .before .before .before .before .before .before .before .before .before .before .before .before .before .pre .1 .can .tree-at), (walking-tree (c .before .before .before .before .before .before .before .before .before .before .before .before .before .before .loop .inv .walking) (λ z. omega (arith, c .before .before .before .before .before .before .before .before .before .before .before .before .if1 .taken)), (rw front-is (walking-begins (c .before .before .before .before .before .before .before .before .before .before .before .before .before .before .loop .inv .walking) (λ z. omega (arith, c .before .before .before .before .before .before .before .before .before .before .before .before .if1 .taken))), rw front-is (c .before .before .before .before .before .before .before .before .before .before .before .before .before .before .loop .inv .noted (λ z. omega (arith, c .before .before .before .before .before .before .before .before .before .before .before .before .if1 .taken)))))))
+    {- next-match-requires -}
+    (λ c κs. (any-tree (c .before .before .before .before .before .before .before .before .before .before .before .before .before .before .before .before .before .before .before .before .before .before .before .pre .1 .can .tree-at), (along-tree (c .before .before .before .before .before .before .before .before .before .before .before .before .before .before .loop .inv .along) (λ z. omega (arith, c .before .before .before .before .before .before .before .before .before .before .before .before .if1 .taken)), (rw front-is (along-begins (c .before .before .before .before .before .before .before .before .before .before .before .before .before .before .loop .inv .along) (λ z. omega (arith, c .before .before .before .before .before .before .before .before .before .before .before .before .if1 .taken))), rw front-is (c .before .before .before .before .before .before .before .before .before .before .before .before .before .before .loop .inv .noted (λ z. omega (arith, c .before .before .before .before .before .before .before .before .before .before .before .before .if1 .taken)))))))
     {- loop-less -}
-    (λ c. stepping-less (c .before .before .before .before .before .before .before .before .before .before .before .before .before .before .before .loop .inv) (λ z. omega (arith, c .before .before .before .before .before .before .before .before .before .before .before .before .before .if1 .taken)) (c .before .before .before .before .before .before .before .before .before .list-branch .ensures) (c .before .before .before .before .before .before .before .before .flat .given) (c .before .before .before .before .before .before .out .given) (rw front-is at (c .walk-next .ensures)))
+    (λ c. stepping-less (c .before .before .before .before .before .before .before .before .before .before .before .before .before .before .before .loop .inv) (λ z. omega (arith, c .before .before .before .before .before .before .before .before .before .before .before .before .before .if1 .taken)) (c .before .before .before .before .before .before .before .before .before .list-branch .ensures) (c .before .before .before .before .before .before .before .before .flat .given) (c .before .before .before .before .before .before .out .given) (rw front-is at (c .next-match .ensures)))
     {- loop-again -}
-    (λ c. stepping-next (c .before .before .before .before .before .before .before .before .before .before .before .before .before .before .before .loop .inv) (λ z. omega (arith, c .before .before .before .before .before .before .before .before .before .before .before .before .before .if1 .taken)) (c .before .before .before .before .before .before .before .before .before .list-branch .ensures) (c .before .before .before .before .before .before .before .before .flat .given) (c .before .before .before .before .before .before .out .given) (rw front-is at (c .walk-next .ensures)))
+    (λ c. stepping-next (c .before .before .before .before .before .before .before .before .before .before .before .before .before .before .before .loop .inv) (λ z. omega (arith, c .before .before .before .before .before .before .before .before .before .before .before .before .before .if1 .taken)) (c .before .before .before .before .before .before .before .before .before .list-branch .ensures) (c .before .before .before .before .before .before .before .before .flat .given) (c .before .before .before .before .before .before .out .given) (rw front-is at (c .next-match .ensures)))
     {- same-length-3 -}
-    (λ c. c .before .before .loop .inv .walking .left .flat-size)
+    (λ c. c .before .before .loop .inv .along .left .flat-size)
     {- same-length-4 -}
-    (λ c. c .before .before .loop .inv .walking .left .out-size)
+    (λ c. c .before .before .loop .inv .along .left .out-size)
     {- returns-2 -}
     (λ c. stepping-done (c .before .before .loop .inv) (omega (arith, c .if1 .left))))
     λ t. list-trie-lts.spec (trie-of-reads.Asked, trie-of-reads.Learnt, cut-query-reads.Asked, cut-query-reads.Learnt, list-names-below t, list-names.Post)
