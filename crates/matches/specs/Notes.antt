@@ -5,16 +5,16 @@ use mathlib.Core.List.{List, [], _∷_, _++_}
 use lib.ListN.{length, getD, set}
 use mathlib.Core.Logic.{_⊎_}
 use Rattle.source.specs.Text.{Str}
-use Rattle.memory.specs.Layout.{record-at, word}
+use Rattle.memory.specs.Layout.{record-at, right-link}
 use Rattle.tree.specs.Tree.{AnyTree}
 use Rattle.tree.specs.Links.{matches, head0}
-use Rattle.walk.specs.declared.Next.{Next}
+use Rattle.matches.specs.declared.Next.{Next}
 
 -- What the first n notes say is to come: the last one, the matches to its right, then what the others say.
 unfoldable pub to-come : (ws txt : List ℕ) (prefix : Str) (notes : List ℕ) → ℕ → List ℕ
 to-come ws txt prefix notes zero = []
 to-come ws txt prefix notes (suc n) =
-    getD notes n 0 ∷ (matches ws txt (word (record-at ws (getD notes n 0)) 4) prefix ++ to-come ws txt prefix notes n)
+    getD notes n 0 ∷ (matches ws txt (right-link (record-at ws (getD notes n 0))) prefix ++ to-come ws txt prefix notes n)
 
 -- The list l begins with what the first n notes say. Each is a branch.
 pub record Noted (ws txt : List ℕ) (prefix : Str) (notes : List ℕ) (n : ℕ) (l : List ℕ) : Type 0 where
@@ -43,16 +43,16 @@ pub record CanPop (ws txt : List ℕ) (prefix : Str) (notes : List ℕ) (n : ℕ
   pub some : 0 < n
 
 -- The first of the list is taken, and the notes are of the rest.
-pub record Taken (ws txt : List ℕ) (prefix : Str) (notes : List ℕ) (l : List ℕ) (r : Next) : Type 0 where
+pub record TopTaken (ws txt : List ℕ) (prefix : Str) (notes : List ℕ) (l : List ℕ) (r : Next) : Type 0 where
   pub after : List ℕ
   pub splits : l ≡ r .link ∷ after
   pub noted : Noted ws txt prefix notes (r .n) after
 
 pub record Pops (ws txt : List ℕ) (prefix : Str) (notes notes′ : List ℕ) (n : ℕ) (r : Next) : Type 0 where
-  pub takes : (l : List ℕ) → Noted ws txt prefix notes n l → Taken ws txt prefix notes′ l r
+  pub takes : (l : List ℕ) → Noted ws txt prefix notes n l → TopTaken ws txt prefix notes′ l r
 
 -- The first of the list l, 0 where it is empty, and notes of the rest.
-pub record Walks (ws txt : List ℕ) (prefix : Str) (notes : List ℕ) (l : List ℕ) (r : Next) : Type 0 where
+pub record Matched (ws txt : List ℕ) (prefix : Str) (notes : List ℕ) (l : List ℕ) (r : Next) : Type 0 where
   pub head : r .link ≡ head0 l
   pub sized : length notes ≡ 48
   pub noted : (x : ℕ) (after : List ℕ) → l ≡ x ∷ after → Noted ws txt prefix notes (r .n) after

@@ -22,8 +22,8 @@ use Rattle.tree.proofs.Kept.{keep-append, keep-none}
 use Rattle.tree.proofs.Links.{branches-at, branches-keys}
 use Rattle.tree.proofs.Matches.{matches-none, starts-self}
 use Rattle.tree.proofs.Seeking.{by-order}
-use Rattle.walk.specs.Walk.{to-come, Noted, NotedAt, Descends, Taken, Pops, Walks}
-use Rattle.walk.specs.declared.Next.{Next}
+use Rattle.matches.specs.Notes.{to-come, Noted, NotedAt, Descends, TopTaken, Pops, Matched}
+use Rattle.matches.specs.declared.Next.{Next}
 
 -- ---- The matches of a tree by its root
 module _ {ws txt : List ℕ} {x : ℕ} (a : AnyTree ws txt x) (q : 0 < x) (p : Str) where
@@ -196,11 +196,11 @@ module _ {ws txt : List ℕ} {p : Str} {notes : List ℕ} where
   noted-zero s l = record { sized = s; few = omega arith; each = λ j h. absurd (omega arith); rest = l; says = refl }
 
   -- With no note the branch was searched for.
-  pub walks-searched : {l : List ℕ} {x : ℕ} → length notes ≡ 48 → x ≡ head0 l → Walks ws txt p notes l (record { link = x; n = 0 })
-  walks-searched s e = record { head = e; sized = s; noted = λ x after f. noted-zero s after }
+  pub matched-searched : {l : List ℕ} {x : ℕ} → length notes ≡ 48 → x ≡ head0 l → Matched ws txt p notes l (record { link = x; n = 0 })
+  matched-searched s e = record { head = e; sized = s; noted = λ x after f. noted-zero s after }
 
-  pub walks-popped : {l : List ℕ} {r : Next} → Taken ws txt p notes l r → Walks ws txt p notes l r
-  walks-popped t = record {
+  pub matched-popped : {l : List ℕ} {r : Next} → TopTaken ws txt p notes l r → Matched ws txt p notes l r
+  matched-popped t = record {
     head = sym (ap head0 (t .splits));
     sized = t .noted .sized;
     noted = λ x after f. let e : t .after ≡ after = tail-is (sym (t .splits) ∙ f) in subst (Noted ws txt p notes _) e (t .noted);

@@ -8,7 +8,10 @@ ghost use Rattle.tree.specs.Tree.{AnyTree};
 ghost use Rattle.source.specs.Text.{starts-with};
 ghost use Rattle.memory.specs.Layout.{key-at};
 ghost use Rattle.tree.specs.Links.{matches, after};
-ghost use Rattle.walk.specs.Walk.{NotedAt, Noted, Descends, CanPop, Pops, Walks};
+ghost use Rattle.matches.specs.Notes.{NotedAt, Noted, Descends, CanPop, Pops, Matched};
+
+// How many branches can be noted.
+pub const NOTES: usize = 48;
 
 // A branch, 0 for none, and how many notes there are after it.
 pub struct Next {
@@ -17,11 +20,11 @@ pub struct Next {
 }
 
 // Notes a branch after the others. Where the notes are full the others are dropped.
-fn note(notes: &mut [u32; 48], n: usize, branch: u32) -> usize
+fn note(notes: &mut [u32; NOTES], n: usize, branch: u32) -> usize
     requires { ⌜ (length (now notes) ≡ 48) × (n ≤ 48) ⌝ }
     ensures { λ r. ⌜ NotedAt (now (notes .entry)) (now (notes .exit)) n branch r ⌝ }
 {
-    if n == 48 {
+    if n == NOTES {
         notes[0] = branch;
         return 1;
     }
@@ -35,7 +38,7 @@ fn descend(
     text: &[u8],
     prefix: &[u8],
     from: u32,
-    notes: &mut [u32; 48],
+    notes: &mut [u32; NOTES],
     count: usize,
 ) -> usize
     requires { ⌜ AnyTree (now words) (now text) from ⌝ }
@@ -48,39 +51,39 @@ fn descend(
         if tree::key_past(words, text, at, prefix, false) {
             if tree::key_begins(words, text, at, prefix) {
                 n = note(notes, n, at);
-                at = memory::word_of(words, at, 3);
+                at = memory::left_of(words, at);
             } else {
-                at = memory::word_of(words, at, 3);
+                at = memory::left_of(words, at);
             }
         } else {
-            at = memory::word_of(words, at, 4);
+            at = memory::right_of(words, at);
         }
     }
     n
 }
 
 // Takes the last note, and notes what is to its right.
-fn pop(words: &[u32], text: &[u8], prefix: &[u8], notes: &mut [u32; 48], n: usize) -> Next
+fn pop(words: &[u32], text: &[u8], prefix: &[u8], notes: &mut [u32; NOTES], n: usize) -> Next
     requires { ⌜ CanPop (now words) (now text) (now prefix) (now notes) n ⌝ }
     ensures { λ r. ⌜ Pops (now (words .entry)) (now (text .entry)) (now (prefix .entry)) (now (notes .entry)) (now (notes .exit)) n r ⌝ }
 {
     let top = notes[n - 1];
-    let right = memory::word_of(words, top, 4);
+    let right = memory::right_of(words, top);
     let m = descend(words, text, prefix, right, notes, n - 1);
     Next { link: top, n: m }
 }
 
 // The first branch of a tree that begins with `prefix`, 0 for none, and notes of those after it.
-pub fn walk_first(
+pub fn first_match(
     words: &[u32],
     text: &[u8],
     root: u32,
     prefix: &[u8],
-    notes: &mut [u32; 48],
+    notes: &mut [u32; NOTES],
 ) -> Next
     requires { ⌜ AnyTree (now words) (now text) root ⌝ }
     requires { ⌜ length (now notes) ≡ 48 ⌝ }
-    ensures { λ r. ⌜ Walks (now (words .entry)) (now (text .entry)) (now (prefix .entry)) (now (notes .exit)) (matches (now (words .entry)) (now (text .entry)) root (now (prefix .entry))) r ⌝ }
+    ensures { λ r. ⌜ Matched (now (words .entry)) (now (text .entry)) (now (prefix .entry)) (now (notes .exit)) (matches (now (words .entry)) (now (text .entry)) root (now (prefix .entry))) r ⌝ }
 {
     let n = descend(words, text, prefix, root, notes, 0);
     if 0 < n {
@@ -93,20 +96,20 @@ pub fn walk_first(
 }
 
 // The next one after the branch `at`, of which there are `n` notes.
-pub fn walk_next(
+pub fn next_match(
     words: &[u32],
     text: &[u8],
     root: u32,
     prefix: &[u8],
     at: u32,
-    notes: &mut [u32; 48],
+    notes: &mut [u32; NOTES],
     n: usize,
 ) -> Next
     requires { ⌜ AnyTree (now words) (now text) root ⌝ }
     requires { ⌜ (0 < at) × AnyTree (now words) (now text) at ⌝ }
     requires { ⌜ starts-with (key-at (now words) (now text) at) (now prefix) ≡ true ⌝ }
     requires { ⌜ Noted (now words) (now text) (now prefix) (now notes) n (after (key-at (now words) (now text)) (key-at (now words) (now text) at) (matches (now words) (now text) root (now prefix))) ⌝ }
-    ensures { λ r. ⌜ Walks (now (words .entry)) (now (text .entry)) (now (prefix .entry)) (now (notes .exit)) (after (key-at (now (words .entry)) (now (text .entry))) (key-at (now (words .entry)) (now (text .entry)) at) (matches (now (words .entry)) (now (text .entry)) root (now (prefix .entry)))) r ⌝ }
+    ensures { λ r. ⌜ Matched (now (words .entry)) (now (text .entry)) (now (prefix .entry)) (now (notes .exit)) (after (key-at (now (words .entry)) (now (text .entry))) (key-at (now (words .entry)) (now (text .entry)) at) (matches (now (words .entry)) (now (text .entry)) root (now (prefix .entry)))) r ⌝ }
 {
     if 0 < n {
         return pop(words, text, prefix, notes, n);
