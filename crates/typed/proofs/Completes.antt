@@ -16,11 +16,8 @@ use Rattle.source.specs.Calls as C
 use Rattle.source.specs.Calls.{LineRecord, Output, output-lines, complete, complete-modules, completed, completion-rows, lowest, argument-rows}
 use Rattle.source.specs.Shared.{Allˡ}
 use Rattle.source.proofs.Lines.{output-lines-length}
-use Rattle.memory.specs.Layout as L
-use Rattle.memory.specs.Layout.{word, pick}
-use Rattle.memory.specs.Read.{symbol-of}
+use Rattle.memory.specs.Layout.{Which, Item, pick}
 use Rattle.memory.specs.Sound.{Says}
-use Rattle.memory.specs.declared.ModSymbol.{ModSymbol}
 use Rattle.memory.proofs.Given.{sound-table}
 use Rattle.lines.specs.Ask.{asked}
 use Rattle.lines.specs.Output.{signed-word, line-of, Written}
@@ -30,16 +27,19 @@ use Rattle.table.specs.Header.{IsSound, table-in}
 use Rattle.table.specs.Completions.{CompletesAs, completion}
 use Rattle.table.specs.declared.Table.{Table}
 use Rattle.table.specs.declared.Completed.{Completed}
-use Rattle.typed.specs.Lines.{held, length-in, line-in, line-at, stored-lines, lines-in, line-seen}
+use Rattle.rows.specs.Rows.{matched-word, words-from, row-in}
+use Rattle.rows.proofs.Rows.{item-seen-is}
+use Rattle.rows.proofs.Written.{written-records}
+use Rattle.typed.specs.Lines.{held, held-length, line-of-row, line-at, stored-lines, lines-in, record-seen}
 use Rattle.typed.specs.Completions.{output, Shown, ShownAs, FlatCompletes, Completes}
 use Rattle.typed.specs.declared.Line.{Line}
-use Rattle.typed.proofs.Stored.{stored-rows}
-use Rattle.typed.proofs.Parts.{refused-none}
-use Rattle.typed.proofs.Short.{Held, AnswerHeld, answer-held}
+use Rattle.typed.proofs.Lines.{stored-rows}
+use Rattle.typed.proofs.FlatCompletes.{refused-none}
+use Rattle.typed.proofs.MatchLength.{Held, AnswerHeld, answer-held}
 
 -- ---- one line
 
-length-seen : (m : ℕ) → Held (signed-word m) → length-in m ≡ signed-word m
+length-seen : (m : ℕ) → Held (signed-word m) → held-length m ≡ signed-word m
 unfolding signed-word
 length-seen m h = go (eqb m 4294967295) h
   where
@@ -47,14 +47,9 @@ length-seen m h = go (eqb m 4294967295) h
     go true h = refl
     go false h = rw (le-ltb 2147483647 m (omega (arith, h)))
 
-symbol-pick : (txt : List ℕ) (b : Bool) (x y : ModSymbol) → symbol-of txt (pick b x y) ≡ pick b (symbol-of txt x) (symbol-of txt y)
-symbol-pick txt true x y = refl
-symbol-pick txt false x y = refl
-
-line-seen-is : (ask : Ask) (txt r : List ℕ) → Held (signed-word (word r 0)) → line-seen (asked ask) txt (line-in ask r) ≡ some (line-of (asked ask) txt r)
+record-seen-is : (w : Which) (txt r : List ℕ) → Held (signed-word (matched-word r)) → record-seen w txt (line-of-row (row-in w r)) ≡ some (line-of w txt r)
 unfolding line-of
-line-seen-is Names txt r h = rw (length-seen (word r 0) h)
-line-seen-is (Modules f) txt r h = rw (length-seen (word r 0) h, symbol-pick txt (eqb (word r 5) 0))
+record-seen-is w txt r h = rw (item-seen-is w txt r, length-seen (matched-word r) h)
 
 -- ---- the lines
 
@@ -63,30 +58,28 @@ unfolding output-lines
 output-held at [] a = tt
 output-held at (l ∷ lines) a = (a .0, output-held (at + length (l .candidate) + length (l .annotation)) lines (a .1))
 
-rows-seen : (ask : Ask) (txt : List ℕ) (rows : List (List ℕ)) → Allˡ (λ s. Held (s .match-length)) (map (line-of (asked ask) txt) rows)
-    → map (line-seen (asked ask) txt) (map (line-in ask) rows) ≡ map some (map (line-of (asked ask) txt) rows)
+rows-seen : (w : Which) (txt : List ℕ) (rows : List (List ℕ)) → Allˡ (λ s. Held (s .match-length)) (map (line-of w txt) rows)
+    → map (record-seen w txt) (map (λ r. line-of-row (row-in w r)) rows) ≡ map some (map (line-of w txt) rows)
 unfolding line-of
-rows-seen ask txt [] a = refl
-rows-seen ask txt (r ∷ rows) a = ap₂ (λ (x : Option (LineRecord (L.Item (asked ask)))) (xs : List (Option (LineRecord (L.Item (asked ask))))). x ∷ xs) (line-seen-is ask txt r (a .0)) (rows-seen ask txt rows (a .1))
+rows-seen w txt [] a = refl
+rows-seen w txt (r ∷ rows) a = ap₂ (λ (x : Option (LineRecord (Item w))) (xs : List (Option (LineRecord (Item w)))). x ∷ xs) (record-seen-is w txt r (a .0)) (rows-seen w txt rows (a .1))
 
 module _ (ask : Ask) (txt flat flat′ out out′ : List ℕ) (r : Completed) (ls ls′ : List Line) where
-  shown : (lines : List (S.Line (L.Item (asked ask)))) → Written (asked ask) txt flat flat′ out out′ 0 0 lines → Allˡ (λ l. Held (l .match-length)) lines
+  shown : (lines : List (S.Line (Item (asked ask)))) → Written (asked ask) txt flat flat′ out out′ 0 0 lines → Allˡ (λ l. Held (l .match-length)) lines
       → length lines ≤ length ls → ls′ ≡ stored-lines (line-at ask flat′) ls (length lines) → Shown (asked ask) txt ls ls′ lines
   shown lines w a h e =
-      let rows : List (List ℕ) = w .rows in
       let n : ℕ = length lines in
-      let count : length rows ≡ n = sym (length-map rows (line-of (asked ask) txt)) ∙ ap length (w .reads) ∙ output-lines-length 0 lines in
-      let all : ls′ ≡ map (line-in ask) rows ++ drop n ls =
-      e ∙ ap (stored-lines (line-at ask flat′) ls) (sym count) ∙ stored-rows ask flat′ (drop ((0 + n) * 12) flat) rows ls (w .twelve) (w .flat-laid .is) (omega (arith, count, h))
-      ∙ ap (λ m. map (line-in ask) rows ++ drop m ls) count in
-      let size : length (map (line-in ask) rows) ≡ n = length-map rows (line-in ask) ∙ count in
+      let rows : List (List ℕ) = words-from flat′ 0 n in
+      let made : List Line = map (λ r. line-of-row (row-in (asked ask) r)) rows in
+      let all : ls′ ≡ made ++ drop n ls = e ∙ stored-rows ask flat′ n ls h in
+      let size : length made ≡ n = length-map rows _ ∙ sym (length-map rows (line-of (asked ask) txt)) ∙ ap length (written-records w) ∙ output-lines-length 0 lines in
       record {
-        first = ap (λ l. map (line-seen (asked ask) txt) (take n l)) all ∙ ap (map (line-seen (asked ask) txt)) (take-at (map (line-in ask) rows) (drop n ls) n size)
-            ∙ rows-seen ask txt rows (subst (Allˡ (λ s. Held (s .match-length))) (sym (w .reads)) (output-held 0 lines a)) ∙ ap (map some) (w .reads);
-        after = ap (drop n) all ∙ drop-at (map (line-in ask) rows) (drop n ls) n size;
+        first = ap (λ l. map (record-seen (asked ask) txt) (take n l)) all ∙ ap (map (record-seen (asked ask) txt)) (take-at made (drop n ls) n size)
+            ∙ rows-seen (asked ask) txt rows (subst (Allˡ (λ s. Held (s .match-length))) (sym (written-records w)) (output-held 0 lines a)) ∙ ap (map some) (written-records w);
+        after = ap (drop n) all ∙ drop-at made (drop n ls) n size;
       }
 
-  shown-as : (x : C.Completed (L.Item (asked ask))) → CompletesAs ask txt flat flat′ out out′ r x → AnswerHeld x → lines-in r ≤ length ls → ls′ ≡ stored-lines (line-at ask flat′) ls (lines-in r) → ShownAs ask txt ls ls′ x
+  shown-as : (x : C.Completed (Item (asked ask))) → CompletesAs ask txt flat flat′ out out′ r x → AnswerHeld x → lines-in r ≤ length ls → ls′ ≡ stored-lines (line-at ask flat′) ls (lines-in r) → ShownAs ask txt ls ls′ x
   shown-as (C.listed lines entered) c a h e = shown lines (c .1) a (omega (arith, h, ap lines-in (c .0))) (e ∙ ap (stored-lines (line-at ask flat′) ls) (ap lines-in (c .0)))
   shown-as (C.refused n) c a h e = e ∙ ap (stored-lines (line-at ask flat′) ls) (refused-none r (c .0))
 
