@@ -12,7 +12,7 @@ use Rattle.source.proofs.Lines.{output-lines-length}
 use Rattle.memory.specs.Layout.{Which, Item, word, span}
 use Rattle.text.specs.Laid.{Laid}
 use Rattle.lines.specs.Output.{line-of, rows-flat, Written}
-use Rattle.rows.specs.Rows.{words-at, words-from, line-seen, lines-seen, TextsIn}
+use Rattle.rows.specs.Rows.{words-at, words-from, row-in, line-seen, lines-seen, TextsIn}
 
 -- ---- A list that stands at a place of another
 
@@ -96,14 +96,14 @@ module _ (w : Which) (txt out : List ℕ) where
           stands-span (stands-next (l .candidate) (l .annotation) o),
         )
 
-    texts-in : TextsIn out r
+    texts-in : TextsIn out (row-in w r)
     texts-in = record {
       candidate = omega (arith, start-is, len-is, stands-size (stands-first (l .candidate) (l .annotation) o));
       annotation = omega (arith, note-is, note-len-is, stands-size (stands-next (l .candidate) (l .annotation) o));
     }
 
   lines-are : (rows : List (List ℕ)) (b : ℕ) (lines : List (Line (Item w))) → map (line-of w txt) rows ≡ output-lines b lines → Stands out b (output-text lines)
-      → (map (line-seen w txt out) rows ≡ lines) × Allˡ (TextsIn out) rows
+      → (map (line-seen w txt out) rows ≡ lines) × Allˡ (λ r. TextsIn out (row-in w r)) rows
   unfolding output-lines output-text
   lines-are [] b [] e o = (refl, tt)
   lines-are [] b (l ∷ ls) e o = let z : _≡_ {A = ℕ} 0 1 = cc in absurd (omega arith)
@@ -129,11 +129,13 @@ module _ {w : Which} {txt flat flat′ out out′ : List ℕ} {lines : List (Lin
   pub written-records : map (line-of w txt) (words-from flat′ 0 (length lines)) ≡ output-lines 0 lines
   written-records = rw written-words (x .reads)
 
-  -- The lines.
+  -- The lines, and their texts.
+  pub written-lines : map (line-seen w txt out′) (words-from flat′ 0 (length lines)) ≡ lines
+  written-lines = rw written-words (lines-are w txt out′ (x .rows) 0 lines (x .reads) (stands-laid (x .out-laid)) .0)
+
   pub written-seen : lines-seen w txt flat′ out′ (length lines) ≡ lines
   unfolding lines-seen
-  written-seen = rw written-words (lines-are w txt out′ (x .rows) 0 lines (x .reads) (stands-laid (x .out-laid)) .0)
+  written-seen = written-lines
 
-  -- Their texts.
-  pub written-texts : Allˡ (TextsIn out′) (words-from flat′ 0 (length lines))
+  pub written-texts : Allˡ (λ r. TextsIn out′ (row-in w r)) (words-from flat′ 0 (length lines))
   written-texts = rw written-words (lines-are w txt out′ (x .rows) 0 lines (x .reads) (stands-laid (x .out-laid)) .1)

@@ -4,7 +4,6 @@ use mathlib.Core.List.{List, [], _∷_, map}
 use mathlib.Core.Option.{Option, none, some}
 use lib.ListN.{length, take, drop}
 use Rattle.source.specs.Table.{Line}
-use Rattle.source.specs.Shared.{Allˡ}
 use Rattle.memory.specs.Layout.{Which, names, modules, Item, item-of, word, number-word, span}
 use Rattle.memory.specs.Read.{symbol-in, symbol-of}
 use Rattle.lines.specs.Output.{signed-word}
@@ -75,6 +74,6 @@ unfoldable pub lines-seen : (w : Which) (txt flat out : List ℕ) → ℕ → Li
 lines-seen w txt flat out n = map (line-seen w txt out) (words-from flat 0 n)
 
 -- The texts of a row lie in the output text.
-pub record TextsIn (out r : List ℕ) : Type 0 where
-  pub candidate : candidate-start r + candidate-len r ≤ length out
-  pub annotation : annotation-start r + annotation-len r ≤ length out
+pub record TextsIn (out : List ℕ) (r : Row) : Type 0 where
+  pub candidate : r .candidate .start + r .candidate .len ≤ length out
+  pub annotation : r .annotation .start + r .annotation .len ≤ length out

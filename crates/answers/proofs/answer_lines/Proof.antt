@@ -1,6 +1,6 @@
 -- `answer_lines` meets its contract.
-use Rattle.answers.proofs.Talking.{Going, going-start, going-on, talked-out, talked-full}
-use Rattle.answers.specs.Answers.{room}
+use Rattle.answers.proofs.Talked.{Going, going-start, going-on, talked-out, talked-full}
+use Rattle.questions.specs.RowReplies.{room}
 use lib.ListN.{length}
 use Prim.Native.Nat.{_-_}
 use mathlib.Core.Path.{_≡_, refl}
