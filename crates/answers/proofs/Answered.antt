@@ -1,5 +1,6 @@
 -- The answer to a line is that of its command (`Answered`).
 use Prim.Native.Nat.{ℕ, _*_}
+use native.Mathlib.Omega.{arith}
 use mathlib.Core.Path.{_≡_, refl, ap, _∙_}
 use mathlib.Core.Bool.{Bool, true}
 use mathlib.Core.List.{List}
@@ -55,6 +56,7 @@ module _ {ws txt ws′ txt′ reply reply′ : List ℕ} {t : Table} {line : Str
     sound = l .sound;
     words = l .words;
     texts = l .texts;
+    grows = l .grows;
     still = λ n. k (n c h);
   }
 
@@ -71,7 +73,7 @@ module _ {ws txt ws′ txt′ reply reply′ : List ℕ} {t : Table} {line : Str
 -- Nothing has changed but the reply.
 leaves-same : {ws txt reply reply′ : List ℕ} {t : Table} {at e : ℕ} (s : Str) → IsSound ws txt t → Laid reply reply′ at e s
     → Leaves ws txt ws txt t reply reply′ at (record { text = s; after = state ws txt t }) (record { table = t; end = e })
-leaves-same {ws} {txt} {t = t} s sound l = record { sound = sound; reads = refl; words = outside-none (t .header .records * 12) ws; texts = outside-none (t .header .text) txt; laid = l }
+leaves-same {ws} {txt} {t = t} s sound l = record { sound = sound; reads = refl; words = outside-none (t .header .records * 12) ws; texts = outside-none (t .header .text) txt; grows = (omega arith, omega arith); laid = l }
 
 same : {ws txt : List ℕ} {t : Table} → Unchanged ws txt ws txt t t
 same = record { table = refl; words = refl; text = refl }
@@ -89,5 +91,6 @@ module _ {ws txt reply reply′ : List ℕ} {t : Table} {line : Str} {at e : ℕ
     sound = sound;
     words = outside-none (t .header .records * 12) ws;
     texts = outside-none (t .header .text) txt;
+    grows = (omega arith, omega arith);
     still = λ _. same;
   }

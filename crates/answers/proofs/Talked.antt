@@ -1,10 +1,10 @@
 -- Lines one after another (`Talked`): their session goes on by one.
-use Prim.Native.Nat.{ℕ, zero, suc, _+_, _-_, _<_, _≤_}
+use Prim.Native.Nat.{ℕ, suc, _+_, _-_, _*_, _<_, _≤_}
 use native.Mathlib.Omega.{arith}
 use mathlib.Core.Path.{_≡_, refl, sym, ap, ap₂, _∙_, subst}
 use mathlib.Core.List.{List, [], _∷_, _++_, append-assoc, append-nil}
 use lib.ListN.{length, getD, take, drop, length-drop}
-use lib.Seq.{take-all, take-at, take-suc, drop-drop}
+use lib.Seq.{take-all, take-add, take-suc, drop-drop}
 use Rattle.source.specs.Calls.{State, Lent, Output}
 use Rattle.source.specs.Shared.{Allˡ}
 use Rattle.text.specs.Laid.{Laid}
@@ -13,9 +13,11 @@ use Rattle.script.specs.Script.{Str, _·_, All, LineEnd}
 use Rattle.script.specs.declared.Sort.the-variants.{Line}
 use Rattle.listing.specs.Completes.{output}
 use Rattle.table.specs.Header.{IsSound, state, lent}
+use Rattle.table.specs.Registrations.{Outside}
 use Rattle.table.specs.declared.Table.{Table}
 use Rattle.registrations.specs.Registers.{Outcome}
 use Rattle.registrations.specs.declared.Done.{Done}
+use Rattle.registrations.proofs.Registers.{outside-none, outside-then}
 use Rattle.questions.specs.RowReplies.{room}
 use Rattle.answers.specs.Outcomes.{Replied, Session, none, then, unlines}
 use Rattle.answers.specs.Answers.{Answered, Talked}
@@ -36,15 +38,6 @@ unfolding unlines
 unlines-on [] line = refl
 unlines-on (l ∷ ls) line = ap (λ (s : Str). l · (10 ∷ s)) (unlines-on ls line) ∙ sym (append-assoc l (10 ∷ unlines ls) (line · (10 ∷ [])))
 
-take-none : (m : ℕ) → _≡_ {A = List ℕ} (take m []) []
-take-none zero = refl
-take-none (suc m) = refl
-
-take-more : (k m : ℕ) (l : List ℕ) → take (k + m) l ≡ take k l ++ take m (drop k l)
-take-more zero m l = let e : 0 + m ≡ m = omega arith in rw e refl
-take-more (suc k) m [] = let e : suc k + m ≡ suc (k + m) = omega arith in rw e (sym (take-none m))
-take-more (suc k) m (x ∷ l) = let e : suc k + m ≡ suc (k + m) = omega arith in rw e (ap (λ (r : List ℕ). x ∷ r) (take-more k m l))
-
 -- The lines up to i are answered.
 pub record Going (ws₀ txt₀ : List ℕ) (t₀ : Table) (input : Str) (from : ℕ) (flat₀ pane₀ reply₀ : List ℕ) (ws txt flat pane reply : List ℕ) (t : Table) (at i : ℕ) : Type 0 where
   pub lines : List Str
@@ -54,8 +47,9 @@ pub record Going (ws₀ txt₀ : List ℕ) (t₀ : Table) (input : Str) (from : 
   pub laid : Laid reply₀ reply 0 at text
   pub session : Session (lent ws₀ txt₀) (output flat₀ pane₀) (state ws₀ txt₀ t₀) lines text (state ws txt t)
   pub sound : IsSound ws txt t
-  pub words-size : length ws ≡ length ws₀
-  pub text-size : length txt ≡ length txt₀
+  pub words : Outside (t₀ .header .records * 12) (t .header .records * 12) ws₀ ws
+  pub texts : Outside (t₀ .header .text) (t .header .text) txt₀ txt
+  pub grows : (t₀ .header .records ≤ t .header .records) × (t₀ .header .text ≤ t .header .text)
   pub flat-size : length flat ≡ length flat₀
   pub pane-size : length pane ≡ length pane₀
   pub reply-size : length reply ≡ length reply₀
@@ -67,7 +61,7 @@ pub record Going (ws₀ txt₀ : List ℕ) (t₀ : Table) (input : Str) (from : 
 pub going-start : {ws txt flat pane reply : List ℕ} {t : Table} {input : Str} {from : ℕ} → IsSound ws txt t → from ≤ length input
     → Going ws txt t input from flat pane reply ws txt flat pane reply t 0 from
 unfolding unlines
-going-start {reply = reply} {input = input} {from} s h =
+going-start {ws} {txt} {reply = reply} {t} {from = from} s h =
     let z : from - from ≡ 0 = omega arith in
     record {
       lines = [];
@@ -77,8 +71,9 @@ going-start {reply = reply} {input = input} {from} s h =
       laid = laid-none reply 0 0 refl (omega arith);
       session = none;
       sound = s;
-      words-size = refl;
-      text-size = refl;
+      words = outside-none (t .header .records * 12) ws;
+      texts = outside-none (t .header .text) txt;
+      grows = (omega arith, omega arith);
       flat-size = refl;
       pane-size = refl;
       reply-size = refl;
@@ -111,16 +106,17 @@ module _ {ws₀ txt₀ flat₀ pane₀ reply₀ ws txt flat pane reply : List �
         record {
           lines = g .lines ++ (take r (drop i input) ∷ []);
           each = each-on (g .lines) (take r (drop i input)) (g .each) (rw rest-is at (x .line));
-          cut = rw n (take-more (i - from) (suc r) (drop from input)
+          cut = rw n (take-add (i - from) (suc r) (drop from input)
               ∙ ap₂ (λ (u v : Str). u · take (suc r) v) (g .cut) (drop-drop (i - from) from input ∙ ap (λ (j : ℕ). drop j input) k)
               ∙ ap (λ (u : Str). unlines (g .lines) · u) line-cut
               ∙ sym (unlines-on (g .lines) (take r (drop i input))));
           text = g .text · a .text;
           laid = laid-more (g .laid) (a .laid);
-          session = session-on (record { text = a .text; after = _ }) (g .session) (rw (q, g .words-size, g .text-size, g .flat-size, g .pane-size) at (a .replied));
+          session = session-on (record { text = a .text; after = _ }) (g .session) (rw (q, g .words .size, g .texts .size, g .flat-size, g .pane-size) at (a .replied));
           sound = a .sound;
-          words-size = a .words .size ∙ g .words-size;
-          text-size = a .texts .size ∙ g .text-size;
+          words = outside-then (omega (arith, g .grows .0)) (omega (arith, a .grows .0)) (g .words) (a .words);
+          texts = outside-then (g .grows .1) (a .grows .1) (g .texts) (a .texts);
+          grows = (omega (arith, g .grows .0, a .grows .0), omega (arith, g .grows .1, a .grows .1));
           flat-size = f ∙ g .flat-size;
           pane-size = p ∙ g .pane-size;
           reply-size = laid-length (a .laid) ∙ g .reply-size;
@@ -130,32 +126,33 @@ module _ {ws₀ txt₀ flat₀ pane₀ reply₀ ws txt flat pane reply : List �
           started = λ e. absurd (omega (arith, g .after));
         }
 
-  talked : (i ≡ from → All Line (drop from input)) → Talked ws₀ txt₀ ws txt t₀ input from (output flat₀ pane₀) reply (record { table = t; end = at; next = i })
+  abbrev Says : Type 0
+  Says = Talked ws₀ txt₀ ws txt t₀ input from (output flat₀ pane₀) reply₀ reply (record { table = t; end = at; next = i })
+
+  talked : (i ≡ from → All Line (drop from input)) → Says
   talked h = record {
     lines = g .lines;
     each = g .each;
     cut = g .cut;
-    session = subst (λ (u : Str). Session (lent ws₀ txt₀) (output flat₀ pane₀) (state ws₀ txt₀ t₀) (g .lines) u (state ws txt t)) text-there (g .session);
+    text = g .text;
+    session = g .session;
+    laid = g .laid;
     sound = g .sound;
-    end-fits = omega (arith, g .fits, g .reply-size);
+    words = g .words;
+    texts = g .texts;
     next-fits = (g .after, g .inside);
-    goes-on = h;
+    goes-on = λ z. (g .started z, h z);
   }
-    where
-      text-there : g .text ≡ take at reply
-      text-there = sym (ap (take at) (g .laid .is) ∙ take-at (g .text) (drop at reply₀) at (omega (arith, g .laid .end)))
 
   -- No line feed is left.
-  pub talked-out : {r : ℕ} → LineEnd (take (length input - i) (drop i input)) r → i + r ≡ length input
-      → Talked ws₀ txt₀ ws txt t₀ input from (output flat₀ pane₀) reply (record { table = t; end = at; next = i })
-  talked-out {r} x e = talked (λ z. subst (λ (j : ℕ). All Line (drop j input)) z (subst (All Line) (whole x e) (x .line)))
+  pub talked-out : {r : ℕ} → LineEnd (take (length input - i) (drop i input)) r → i + r ≡ length input → Says
+  talked-out {r} x e = talked (λ z. subst (λ (j : ℕ). All Line (drop j input)) z (subst (All Line) whole (x .line)))
     where
-      whole : {r : ℕ} → LineEnd (take (length input - i) (drop i input)) r → i + r ≡ length input → take r (take (length input - i) (drop i input)) ≡ drop i input
-      whole {r} y f =
+      whole : take r (take (length input - i) (drop i input)) ≡ drop i input
+      whole =
           let h : length (drop i input) ≤ length input - i = omega (arith, length-drop i input) in
           ap (take r) (take-all (length input - i) (drop i input) h) ∙ take-all r (drop i input) (omega (arith, length-drop i input))
 
   -- The reply text is full.
-  pub talked-full : room flat₀ pane₀ ≤ length reply₀ → length reply - at < room flat₀ pane₀
-      → Talked ws₀ txt₀ ws txt t₀ input from (output flat₀ pane₀) reply (record { table = t; end = at; next = i })
+  pub talked-full : room flat₀ pane₀ ≤ length reply₀ → length reply - at < room flat₀ pane₀ → Says
   talked-full h f = talked (λ z. absurd (omega (arith, g .started z, g .reply-size)))

@@ -26,16 +26,21 @@ pub record Answered (ws txt ws′ txt′ : List ℕ) (t : Table) (line : Str) (o
   pub sound : IsSound ws′ txt′ (r .table)
   pub words : Outside (t .header .records * 12) (r .table .header .records * 12) ws ws′
   pub texts : Outside (t .header .text) (r .table .header .text) txt txt′
+  pub grows : (t .header .records ≤ r .table .header .records) × (t .header .text ≤ r .table .header .text)
   pub still : ((c : Command) → Reads line c → Accepted (lent ws txt) (state ws txt t) c → ⊥) → Unchanged ws txt ws′ txt′ t (r .table)
 
--- The answer r to the lines of an input from a place on, up to another: their session, its replies at the start of the reply text.
--- It stops where no line feed is left, or where the reply text is too full for one more.
-pub record Talked (ws txt ws′ txt′ : List ℕ) (t : Table) (input : Str) (from : ℕ) (out : Output) (reply′ : List ℕ) (r : Turn) : Type 0 where
+-- The answer r to the lines of an input from a place on, up to another: their session, its replies at the start of the reply text,
+-- which is as it was past them. Of words and text only the free part that was taken has changed. It stops where no line feed is left,
+-- or where the reply text is too full for one more.
+pub record Talked (ws txt ws′ txt′ : List ℕ) (t : Table) (input : Str) (from : ℕ) (out : Output) (reply reply′ : List ℕ) (r : Turn) : Type 0 where
   pub lines : List Str
   pub each : Allˡ (All Line) lines
   pub cut : take (r .next - from) (drop from input) ≡ unlines lines
-  pub session : Session (lent ws txt) out (state ws txt t) lines (take (r .end) reply′) (state ws′ txt′ (r .table))
+  pub text : Str
+  pub session : Session (lent ws txt) out (state ws txt t) lines text (state ws′ txt′ (r .table))
+  pub laid : Laid reply reply′ 0 (r .end) text
   pub sound : IsSound ws′ txt′ (r .table)
-  pub end-fits : r .end ≤ length reply′
+  pub words : Outside (t .header .records * 12) (r .table .header .records * 12) ws ws′
+  pub texts : Outside (t .header .text) (r .table .header .text) txt txt′
   pub next-fits : (from ≤ r .next) × (r .next ≤ length input)
-  pub goes-on : r .next ≡ from → All Line (drop from input)
+  pub goes-on : r .next ≡ from → (r .end ≡ 0) × All Line (drop from input)

@@ -20,7 +20,7 @@ pub struct Turn {
     pub next: usize,
 }
 
-// The bytes of a span.
+// The bytes of a part of the line.
 fn part(line: &[u8], s: Extent) -> &[u8]
     requires { ⌜ Within (now line) s ⌝ }
     ensures { λ r. ⌜ now r ≡ part-of (now (line .entry)) s ⌝ }
@@ -30,7 +30,7 @@ fn part(line: &[u8], s: Extent) -> &[u8]
     &line[a..e]
 }
 
-// The answer to a line, without its line feed: its call is made and its reply written at `at`. Lines go through `flat` and `pane`.
+// The answer to a line, without its line feed: its call is made and its reply written at `at`. `flat` and `pane` are scratch.
 pub fn answer(
     table: Table,
     words: &mut [u32],
@@ -119,7 +119,7 @@ pub fn answer(
 }
 
 // The answers to the lines of `input` from `from` on that end in a line feed, while there is room for a reply. The replies stand one
-// after another at the start of `reply`.
+// after another at the start of `reply`. `flat` and `pane` are scratch.
 pub fn answer_lines(
     table: Table,
     words: &mut [u32],
@@ -133,7 +133,7 @@ pub fn answer_lines(
     requires { ⌜ IsSound (now words) (now text) table ⌝ }
     requires { ⌜ room (now flat) (now pane) ≤ length (now reply) ⌝ }
     requires { ⌜ from ≤ length (now input) ⌝ }
-    ensures { λ r. ⌜ Talked (now (words .entry)) (now (text .entry)) (now (words .exit)) (now (text .exit)) table (now (input .entry)) from (output (now (flat .entry)) (now (pane .entry))) (now (reply .exit)) r ⌝ }
+    ensures { λ r. ⌜ Talked (now (words .entry)) (now (text .entry)) (now (words .exit)) (now (text .exit)) table (now (input .entry)) from (output (now (flat .entry)) (now (pane .entry))) (now (reply .entry)) (now (reply .exit)) r ⌝ }
 {
     let size = flat.len() / 12 * 40 + pane.len() + 40;
     let mut t = table;

@@ -1,5 +1,5 @@
 -- The line of a registration: what it replies and what it leaves.
-use Prim.Native.Nat.{ℕ, _*_}
+use Prim.Native.Nat.{ℕ, _*_, _≤_}
 use mathlib.Core.Path.{_≡_}
 use mathlib.Core.Bool.{true, false}
 use mathlib.Core.List.{List}
@@ -42,6 +42,7 @@ pub record Leaves (ws txt ws′ txt′ : List ℕ) (t : Table) (reply reply′ :
   pub reads : state ws′ txt′ (r .table) ≡ o .after
   pub words : Outside (t .header .records * 12) (r .table .header .records * 12) ws ws′
   pub texts : Outside (t .header .text) (r .table .header .text) txt txt′
+  pub grows : (t .header .records ≤ r .table .header .records) × (t .header .text ≤ r .table .header .text)
   pub laid : Laid reply reply′ at (r .end) (o .text)
 
 -- A registration; a refused one leaves header, words and text as they were.
