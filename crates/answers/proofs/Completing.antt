@@ -15,7 +15,7 @@ use Rattle.lines.specs.Ask.{asked}
 use Rattle.lines.specs.declared.Ask.{Ask}
 use Rattle.listing.specs.Completes.{output}
 use Rattle.table.specs.Header.{table-in}
-use Rattle.table.specs.Answers.{number}
+use Rattle.refusals.specs.Refusals.{number}
 use Rattle.table.specs.Completions.{completion, refused-by, CompletesAs, Completes}
 use Rattle.table.specs.declared.Table.{Table}
 use Rattle.table.specs.declared.Completed.{Completed}

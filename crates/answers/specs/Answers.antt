@@ -12,7 +12,7 @@ use Rattle.script.specs.Script.{Str, _·_, All}
 use Rattle.script.specs.declared.Sort.the-variants.{Line}
 use Rattle.replies.specs.Replies.{reply-room, ok-reply, refused-reply, end-reply}
 use Rattle.table.specs.Header.{IsSound, state, lent}
-use Rattle.table.specs.Answers.{number}
+use Rattle.refusals.specs.Refusals.{number}
 use Rattle.table.specs.Registrations.{Outside}
 use Rattle.table.specs.declared.Table.{Table}
 use Rattle.table.specs.declared.Registered.{Registered}

@@ -60,7 +60,7 @@ fn put_registered(reply: &mut [u8], at: usize, records: u32, r: Registered) -> u
     match r {
         Registered::Accepted => replies::put_ok(reply, at, records),
         Registered::Refused(x) => {
-            let code = table::number(x);
+            let code = refusals::number(x);
             replies::put_refused(reply, at, code)
         }
     }
@@ -183,7 +183,7 @@ fn put_found(reply: &mut [u8], at: usize, f: Found) -> usize
         Found::Item(n) => replies::put_found(reply, at, n),
         Found::Nothing => replies::put_none(reply, at),
         Found::Refused(x) => {
-            let n = table::number(x);
+            let n = refusals::number(x);
             replies::put_refused(reply, at, n)
         }
     }
@@ -288,7 +288,7 @@ fn put_completed(
             replies::put_end(reply, e, lines, entered)
         }
         Completed::Refused(x) => {
-            let n = table::number(x);
+            let n = refusals::number(x);
             replies::put_refused(reply, at, n)
         }
     }

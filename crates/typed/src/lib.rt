@@ -4,7 +4,7 @@ use lines::Ask;
 use memory::ModSymbol;
 use memory::Span;
 use table::Completed;
-use table::Refusal;
+use refusals::Refusal;
 use table::Table;
 ghost use mathlib.Core.Path.{_≡_};
 ghost use Prim.Native.Nat.{_+_, _*_, _/_, _≤_, _<_, min};
