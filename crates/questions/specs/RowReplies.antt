@@ -14,7 +14,7 @@ use Rattle.rows.specs.Rows.{words-from, row-in, TextsIn}
 use Rattle.rows.specs.declared.RowItem.{RowItem}
 use Rattle.rows.specs.declared.RowItem.the-variants.{Name, Symbol}
 use Rattle.rows.specs.declared.Row.{Row}
-use Rattle.table.specs.Answers.{number}
+use Rattle.refusals.specs.Refusals.{number}
 use Rattle.table.specs.declared.Completed.{Completed}
 use Rattle.table.specs.declared.Completed.the-variants.{Listed, Refused}
 

@@ -30,7 +30,7 @@ fn put_found(reply: &mut [u8], at: usize, f: Found) -> usize
         Found::Item(n) => replies::put_found(reply, at, n),
         Found::Nothing => replies::put_none(reply, at),
         Found::Refused(x) => {
-            let n = table::number(x);
+            let n = refusals::number(x);
             replies::put_refused(reply, at, n)
         }
     }
@@ -111,7 +111,7 @@ fn put_completed(
             replies::put_end(reply, e, lines, entered)
         }
         Completed::Refused(x) => {
-            let n = table::number(x);
+            let n = refusals::number(x);
             replies::put_refused(reply, at, n)
         }
     }

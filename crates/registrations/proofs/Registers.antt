@@ -12,7 +12,7 @@ use Rattle.source.specs.Calls.{Call, State, Lent, register, registration-rows, 
 use Rattle.text.specs.Laid.{Laid}
 use Rattle.replies.specs.Replies.{ok-reply, refused-reply}
 use Rattle.table.specs.Header.{IsSound, state, lent}
-use Rattle.table.specs.Answers.{number}
+use Rattle.refusals.specs.Refusals.{number}
 use Rattle.table.specs.Registrations.{refusal-of, Outside, Unchanged, AnswersAs, Answers}
 use Rattle.table.specs.declared.Table.{Table}
 use Rattle.table.specs.declared.Registered.{Registered}

@@ -11,7 +11,7 @@ use Rattle.script.specs.declared.Import.{Import}
 use Rattle.script.specs.declared.Import.the-variants.{Include, OpenModule, OpenNamespace}
 use Rattle.replies.specs.Replies.{ok-reply, refused-reply}
 use Rattle.table.specs.Header.{IsSound, state, lent}
-use Rattle.table.specs.Answers.{number}
+use Rattle.refusals.specs.Refusals.{number}
 use Rattle.table.specs.Registrations.{Outside, Unchanged}
 use Rattle.table.specs.declared.Table.{Table}
 use Rattle.table.specs.declared.Registered.{Registered}

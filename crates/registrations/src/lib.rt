@@ -27,7 +27,7 @@ fn put_registered(reply: &mut [u8], at: usize, records: u32, r: Registered) -> u
     match r {
         Registered::Accepted => replies::put_ok(reply, at, records),
         Registered::Refused(x) => {
-            let code = table::number(x);
+            let code = refusals::number(x);
             replies::put_refused(reply, at, code)
         }
     }

@@ -100,7 +100,7 @@ kept-rows f sound budget out query ls entered e =
     let p = or-parts (ltb (out .lines) (length ls)) (ltb (out .text) (length (output-text ls))) (h .1 .1 .1 .1 .1 .0) in
     let a : ltb (out .lines) (length (kept f ls)) ≡ false = le-ltb (out .lines) (length (kept f ls)) (omega (arith, kept-length f ls, ltb-false (out .lines) (length ls) (p .0))) in
     let b : ltb (out .text) (length (output-text (kept f ls))) ≡ false =
-        le-ltb (out .text) (length (output-text (kept f ls))) (omega (arith, kept-text f ls, ltb-false (out .text) (length (output-text ls)) (p .1))) in
+    le-ltb (out .text) (length (output-text (kept f ls))) (omega (arith, kept-text f ls, ltb-false (out .text) (length (output-text ls)) (p .1))) in
     none-lowest (completion-rows sound budget out query (kept f ls) entered)
     (h .0, (h .1 .0, (h .1 .1 .0, (h .1 .1 .1 .0, (h .1 .1 .1 .1 .0, (rw (a, b) refl, tt))))))
 

@@ -38,9 +38,15 @@ module _ {A : Type 0} where
       let e₂ : length (before ++ c) ≡ at + length c = simp length-append (omega arith) in
       let f₂ : text ≡ (before ++ c) ++ (a ++ output-text ls) = f ∙ sym (append-assoc before c _) in
       let e₃ : length ((before ++ c) ++ a) ≡ at + length c + length a = simp length-append (omega arith) in
-      let f₃ : text ≡ ((before ++ c) ++ a) ++ output-text ls = f₂ ∙ sym (append-assoc (before ++ c) a _) in
-      (refl, refl, refl, cut-at text before c _ at e f, refl, cut-at text (before ++ c) a _ (at + length c) e₂ f₂,
-        spelled text ((before ++ c) ++ a) (at + length c + length a) ls e₃ f₃)
+      let f₃ : text ≡ ((before ++ c) ++ a) ++ output-text ls = f₂ ∙ sym (append-assoc (before ++ c) a _) in (
+        refl,
+        refl,
+        refl,
+        cut-at text before c _ at e f,
+        refl,
+        cut-at text (before ++ c) a _ (at + length c) e₂ f₂,
+        spelled text ((before ++ c) ++ a) (at + length c + length a) ls e₃ f₃,
+      )
 
   -- The records of a listing, from the start of the output text.
   pub lines-spelled : (ls : List (Line A)) → Spell (output-text ls) 0 (output-lines 0 ls) ls

@@ -107,10 +107,11 @@ module _ (sound : Bool) (lent : Lent) (s s′ : State) (c : Call) (e : register 
       → (typed : Str) → Covers (segments typed) (segments query) → (budget budget′ : ℕ) (out out′ : Output) (lines lines′ : List (Line ℕ)) (entered entered′ : ℕ)
       → complete true (s .table) budget out typed ≡ listed lines entered → complete true (s′ .table) budget′ out′ typed ≡ listed lines′ entered′
       → (w : Found ℕ) × Shows (lines-of-text (without-last query) lines) w × Shows (lines-of-text (without-last query) lines′) w
-  lines-unchanged t asked typed covers budget budget′ out out′ lines lines′ entered entered′ f f′ =
-      (found-of (walk-last (s .table .tbl-lids) (segments query)),
-        agreement .names (s .table) t query typed budget out lines entered asked f covers .pane,
-        rw same-walk at (agreement .names (s′ .table) (accepted-sound sound lent s s′ c t e) query typed budget′ out′ lines′ entered′ (rw look-up-unchanged asked) f′ covers .pane))
+  lines-unchanged t asked typed covers budget budget′ out out′ lines lines′ entered entered′ f f′ = (
+    found-of (walk-last (s .table .tbl-lids) (segments query)),
+    agreement .names (s .table) t query typed budget out lines entered asked f covers .pane,
+    rw same-walk at (agreement .names (s′ .table) (accepted-sound sound lent s s′ c t e) query typed budget′ out′ lines′ entered′ (rw look-up-unchanged asked) f′ covers .pane),
+  )
 
 -- An accepted name changes no look-up on the names root but that of its own full name.
 pub name-unchanged : (sound : Bool) (lent : Lent) (s s′ : State) (host id : Str) (number : ℕ) (query : Str)

@@ -20,7 +20,7 @@ use Rattle.table.specs.Header.{IsSound, table-in}
 use Rattle.table.specs.Completions as T
 use Rattle.table.specs.Completions.{CompletesAs, completion, refused-by}
 use Rattle.table.specs.declared.Table.{Table}
-use Rattle.table.specs.declared.Refusal.the-variants.{Unsound}
+use Rattle.refusals.specs.declared.Refusal.the-variants.{Unsound}
 use Rattle.table.specs.declared.Completed.{Completed}
 use Rattle.table.specs.declared.Completed.the-variants.{Listed, Refused}
 use Rattle.table.proofs.Decided.{decided}

@@ -2,10 +2,10 @@
 // `store_line`, `store_lines` and `complete` are proved by hand; what they call is covered.
 use lines::Ask;
 use memory::Span;
+use refusals::Refusal;
 use rows::Row;
 use rows::RowItem;
 use table::Completed;
-use table::Refusal;
 use table::Table;
 ghost use mathlib.Core.Path.{_≡_};
 ghost use Prim.Native.Nat.{_+_, _*_, _/_, _≤_, _<_, min};
