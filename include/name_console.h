@@ -42,9 +42,11 @@ enum name_console_answer {
   NAME_CONSOLE_FULL = 7,      /* more records needed than are free */
   NAME_CONSOLE_TEXT_FULL = 8, /* more text needed than is free */
   NAME_CONSOLE_SPENT = 9,     /* more tries to enter than the budget */
-  NAME_CONSOLE_NO_ROOM = 10,  /* the lines, or their texts, do not fit the lent output (document 01's Lines) */
-  NAME_CONSOLE_NONE = 11      /* a look-up that finds nothing */
+  NAME_CONSOLE_NO_ROOM = 10   /* the lines, or their texts, do not fit the lent output (document 01's Lines) */
 };
+
+/* The answer of a look-up that finds nothing: no refusal has this number. */
+#define NAME_CONSOLE_NONE UINT32_MAX
 
 /* Which lines a completion of modules keeps. */
 enum name_console_filter {
@@ -82,12 +84,12 @@ uint32_t name_console_module(uint8_t *state, size_t state_len, uint8_t *words, s
 /* ---- Look-ups, which change nothing */
 
 struct name_console_name {
-  uint32_t answer; /* 0 found, 11 none, else the refusal */
+  uint32_t answer; /* 0 found, NAME_CONSOLE_NONE, else the refusal */
   uint32_t item;   /* 0 unless found */
 };
 
 struct name_console_symbol {
-  uint32_t answer;               /* 0 found, 11 none, else the refusal; what does not apply is 0 */
+  uint32_t answer;               /* 0 found, NAME_CONSOLE_NONE, else the refusal; what does not apply is 0 */
   uint32_t sort;                 /* 0 a module, 1 a namespace */
   uint32_t name_start, name_len; /* full name, in the table's text */
   uint32_t path_start, path_len; /* a module's file path, in the table's text */

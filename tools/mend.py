@@ -17,6 +17,7 @@ from paths import answered, functions, generate, places, walk
 
 KEPT = 'target/mend'
 LINK = re.compile(r'\bc((?: \.before)*) \.([A-Za-z0-9\-]+)')
+ANY = re.compile(r'(?<![\w.])([a-z]\w*)((?: \.before)*)(?: \.(?!before\b)([A-Za-z0-9\-]+))?(?![\w\-·])')
 
 
 def plain(place):
@@ -42,21 +43,38 @@ def renamed(field, old_fields, new_fields):
     return same[0] if len(same) == 1 else None
 
 
-def lead_by_match(line, old, new, lost):
+def lead_by_match(line, old, new, lost, bound):
+    """The line with its chains led to the matching places. `bound` has the names that a `let` gave to a chain: their old and new places."""
     pairs = matched(old, new)
 
-    def lead(m):
-        n, field = m.group(1).count('.before'), m.group(2)
-        if n >= len(old) or field not in old[n][1]:
+    def chain(m):
+        name, n, field = m.group(1), m.group(2).count('.before'), m.group(3)
+        if name != 'c' and name not in bound or not n and not field:
+            return m.group(0)
+        base, led = bound.get(name, (0, 0))
+        n += base
+        if n >= len(old) or field and field not in old[n][1]:
             return m.group(0)
         k = pairs.get(n)
-        name = renamed(field, old[n][1], new[k][1]) if k is not None else None
-        if name is None:
+        label = field and k is not None and renamed(field, old[n][1], new[k][1])
+        if k is None or field and not label:
             lost.append(m.group(0))
             return m.group(0)
-        return 'c' + ' .before' * k + ' .' + name
+        if k < led:
+            name, led = 'c', 0
+        return name + ' .before' * (k - led) + (f' .{label}' if label else '')
 
-    return LINK.sub(lead, line)
+    out, done = '', 0
+    for m in re.finditer(r'\blet (\w+) = ', line):
+        out += ANY.sub(chain, line[done:m.end()])
+        done = m.end()
+        v = re.match(r'c((?: \.before)+) in\b', line[done:])
+        if v and v.group(1).count('.before') in pairs:
+            n = v.group(1).count('.before')
+            bound[m.group(1)] = (n, pairs[n])
+        else:
+            bound.pop(m.group(1), None)
+    return out + ANY.sub(chain, line[done:])
 
 
 def lead_by_name(line, new, lost):
@@ -109,17 +127,19 @@ def main():
             continue
         path = os.path.join(folder, 'Proof.antt')
         lines = open(path, encoding='utf-8').read().split('\n')
-        mended, lost, seen = 0, [], set()
+        mended, lost, seen, bound, last = 0, [], set(), {}, None
         for i, at, need in walk(lines, new):
+            if (at, need) != last:
+                bound, last = {}, (at, need)
             if not need:
                 continue
             seen.add((at, need))
             there = places(new[at][0], new[at][1][need])
             if at in old and need in old[at][1]:
-                line = lead_by_match(lines[i], places(old[at][0], old[at][1][need]), there, lost)
+                line = lead_by_match(lines[i], places(old[at][0], old[at][1][need]), there, lost, bound)
             else:
                 line = lead_by_name(lines[i], there, lost)
-            mended += sum(a != b for a, b in zip(LINK.findall(lines[i]), LINK.findall(line)))
+            mended += sum(a != b for a, b in zip(re.findall(r'(?: \.before)+', lines[i]), re.findall(r'(?: \.before)+', line)))
             lines[i] = line
         if mended:
             open(path, 'w', encoding='utf-8').write('\n'.join(lines))

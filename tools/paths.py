@@ -7,12 +7,14 @@ It runs `rt dev CRATE --generated target/gen` first (whether that proves or not)
 """
 import os
 import re
+import shutil
 import subprocess
 import sys
 
 
 def generate(crate, out='target/gen'):
     """The folder of the generated files of a crate's proofs."""
+    shutil.rmtree(os.path.join(out, f'Rattle.{crate}.proofs'), ignore_errors=True)
     subprocess.run(['rt', 'dev', crate, '--generated', out], capture_output=True)
     return os.path.join(out, f'Rattle.{crate}.proofs', 'proofs')
 

@@ -1,6 +1,2 @@
-pub mod Registering
-pub mod Rows
-pub mod Standing
-pub mod Completing
-pub mod Answering
-pub mod Talking
+pub mod Answered
+pub mod Talked

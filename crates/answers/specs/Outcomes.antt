@@ -1,78 +1,14 @@
 -- What the program `console` replies to a line and what table it leaves, from the source's functions and document 01's replies.
-use Prim.Native.Nat.{ℕ}
 use mathlib.Core.Path.{_≡_}
-use mathlib.Core.Bool.{true, false}
+use mathlib.Core.Bool.{true}
 use mathlib.Core.List.{List, [], _∷_}
-use lib.ListN.{length}
-use Rattle.source.specs.Table as S
-use Rattle.source.specs.Table.{Line}
+use mathlib.Core.Option.{Option, some, none as no-call}
 use Rattle.source.specs.Calls as C
-use Rattle.source.specs.Calls.{State, Lent, Output, Call, register, look-up, complete, complete-modules}
-use Rattle.memory.specs.Layout.{Which, names, modules, Item}
+use Rattle.source.specs.Calls.{State, Lent, Output, Call, register}
 use Rattle.script.specs.Script.{Str, _·_, Command, name, import, alias, module-path, ask, Reads}
-use Rattle.script.specs.declared.Import.{Import}
-use Rattle.script.specs.declared.Import.the-variants.{Include, OpenModule, OpenNamespace}
-use Rattle.script.specs.declared.Ask.{Ask}
-use Rattle.script.specs.declared.Ask.the-variants.{Find, Complete, Modules}
-use Rattle.replies.specs.declared.Item as R
-use Rattle.replies.specs.declared.Item.the-variants.{Number, Module, Namespace}
-use Rattle.replies.specs.Replies.{ok-reply, found-reply, none-reply, refused-reply, bad-reply, line-reply, end-reply}
-
--- The reply to a line, with the table after it.
-pub record Outcome : Type 0 where
-  pub text : Str
-  pub after : State
-
--- Document 01's budget of a completion.
-abbrev pub budget : ℕ
-budget = 4096
-
--- ---- Registrations
-
--- Accepted: all records used. Refused: the table is as before.
-abbrev pub registration : State → C.Registered → Outcome
-registration s (C.accepted s′) = record { text = ok-reply (s′ .records-used); after = s′ }
-registration s (C.refused n) = record { text = refused-reply n; after = s }
-
--- An open of a module, of a namespace, or an include.
-abbrev pub import-call : Import → (host q : Str) → Call
-import-call Include host q = C.include host q
-import-call OpenModule host q = C.opens true host q
-import-call OpenNamespace host q = C.opens false host q
-
--- ---- Look-ups and completions
-
-abbrev pub found-text : C.Found ℕ → Str
-found-text (C.found n) = found-reply n
-found-text C.not-found = none-reply
-found-text (C.refused n) = refused-reply n
-
--- The item of a line: its number in `complete`, m or n in `modules`.
-abbrev pub item-in : (w : Which) → Item w → R.Item
-item-in names n = Number n
-item-in modules (S.Module full path loaded) = Module
-item-in modules (S.Namespace full loaded) = Namespace
-
--- One `[line ..]`.
-unfoldable pub line-text : (w : Which) → Line (Item w) → Str
-line-text w l = line-reply (l .match-length) (item-in w (l .item-of)) (l .annotation) (l .candidate)
-
--- One after another.
-unfoldable pub lines-text : (w : Which) → List (Line (Item w)) → Str
-lines-text w [] = []
-lines-text w (l ∷ ls) = line-text w l · lines-text w ls
-
--- The lines, then `[end lines entered]`.
-abbrev pub completed-text : (w : Which) → C.Completed (Item w) → Str
-completed-text w (C.listed lines entered) = lines-text w lines · end-reply (length lines) entered
-completed-text w (C.refused n) = refused-reply n
-
-abbrev pub asked-text : Output → S.Table → Ask → Str → Str
-asked-text out tbl Find q = found-text (look-up true (tbl .tbl-lids) q)
-asked-text out tbl Complete q = completed-text names (complete true tbl budget out q)
-asked-text out tbl Modules q = completed-text modules (complete-modules true tbl C.All budget out q)
-
--- ---- Lines
+use Rattle.replies.specs.Replies.{bad-reply}
+use Rattle.registrations.specs.Registers.{Outcome, registration, import-call}
+use Rattle.questions.specs.Questions.{asked-text}
 
 -- What a line that says a command does, where so much memory and so much output is lent.
 abbrev pub outcome : Lent → Output → State → Command → Outcome
@@ -81,6 +17,21 @@ outcome lent out s (import how host q) = registration s (register true lent s (i
 outcome lent out s (alias word host q) = registration s (register true lent s (C.alias word host q))
 outcome lent out s (module-path loaded q path) = registration s (register true lent s (C.module-path loaded q path))
 outcome lent out s (ask what q) = record { text = asked-text out (s .table) what q; after = s }
+
+-- The registration that a command asks for, none of a question.
+abbrev pub call-of : Command → Option Call
+call-of (name host id n) = some (C.name host id n)
+call-of (import how host q) = some (import-call how host q)
+call-of (alias word host q) = some (C.alias word host q)
+call-of (module-path loaded q path) = some (C.module-path loaded q path)
+call-of (ask what q) = no-call
+
+-- The command registers: its call is accepted.
+pub record Accepted (lent : Lent) (s : State) (c : Command) : Type 0 where
+  pub call : Call
+  pub is : call-of c ≡ some call
+  pub after : State
+  pub accepted : register true lent s call ≡ C.accepted after
 
 -- What a line that says none does.
 abbrev pub bad-outcome : State → Outcome

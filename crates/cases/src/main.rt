@@ -62,7 +62,7 @@ fn code(r: Registration) -> u32 {
     let a = r.answer;
     match a {
         Registered::Accepted => 0,
-        Registered::Refused(x) => table::number(x),
+        Registered::Refused(x) => refusals::number(x),
     }
 }
 
@@ -114,7 +114,7 @@ fn listed(
     );
     match c {
         Completed::Listed(n, entered) => 0,
-        Completed::Refused(x) => table::number(x),
+        Completed::Refused(x) => refusals::number(x),
     }
 }
 
@@ -124,7 +124,7 @@ fn looked(t: Table, words: &[u32], text: &[u8]) -> u32 {
     match f {
         Found::Item(n) => 0,
         Found::Nothing => 0,
-        Found::Refused(x) => table::number(x),
+        Found::Refused(x) => refusals::number(x),
     }
 }
 

@@ -20,7 +20,10 @@ pub struct Reply {
     pub text: u32,
 }
 
-// A look-up's reply: 0 for an item, 11 for none, else the number of the refusal.
+// The answer of a look-up that finds nothing: no refusal has this number.
+pub const NONE: u32 = 4294967295;
+
+// A look-up's reply: 0 for an item, NONE, else the number of the refusal.
 #[repr(C)]
 pub struct Looked {
     pub answer: u32,
@@ -60,7 +63,7 @@ fn listing_of(c: Completed) -> Listing {
             entered: entered,
         },
         Completed::Refused(x) => Listing {
-            refusal: table::number(x),
+            refusal: refusals::number(x),
             lines: 0,
             entered: 0,
         },
@@ -70,7 +73,7 @@ fn listing_of(c: Completed) -> Listing {
 fn refusal_of(r: Registered) -> u32 {
     match r {
         Registered::Accepted => 0,
-        Registered::Refused(x) => table::number(x),
+        Registered::Refused(x) => refusals::number(x),
     }
 }
 
@@ -90,11 +93,11 @@ fn looked_up(f: Found) -> Looked {
     match f {
         Found::Item(n) => Looked { answer: 0, item: n },
         Found::Nothing => Looked {
-            answer: 11,
+            answer: NONE,
             item: 0,
         },
         Found::Refused(x) => Looked {
-            answer: table::number(x),
+            answer: refusals::number(x),
             item: 0,
         },
     }

@@ -14,32 +14,8 @@ use Rattle.memory.specs.Layout.{record-at, word, span, key-of, Which, Item, tre
 use Rattle.memory.specs.Sound.{Says, LinkOk, RecordOk}
 use Rattle.memory.proofs.Says.{says-iff}
 use Rattle.memory.proofs.Readings.{what-none}
-use Rattle.memory.proofs.Records.{zero-some, record-what, branch-at, ordered-at, links-earlier}
+use Rattle.memory.proofs.Records.{zero-some, record-what, branch-at, ordered-at}
 use Rattle.fields.specs.Fields.{Before, Subtree, Far, here, on}
-
--- A loop along a spine.
-pub record Going (ws : List ℕ) (k from x next : ℕ) : Type 0 where
-  pub some : 0 < x
-  pub within : x ≤ from
-  pub less : next < x
-  pub is : next ≡ word (record-at ws x) k
-  pub back : (r : ℕ) → Far ws k x r → Far ws k from r
-
-module _ {ws : List ℕ} {k from : ℕ} (f : (j : ℕ) → 0 < j → j ≤ from → word (record-at ws j) k < j) where
-  pub going-start : {next : ℕ} → 0 < from → next ≡ word (record-at ws from) k → Going ws k from from next
-  going-start p e = record { some = p; within = omega arith; less = omega (arith, f from p (omega arith)); is = e; back = λ r h. h }
-
-  pub going-on : {x next next′ : ℕ} → Going ws k from x next → 0 < next → next′ ≡ word (record-at ws next) k → Going ws k from next next′
-  going-on {x} {next} g p e = record {
-    some = p;
-    within = omega arith;
-    less = omega (arith, f next p (omega arith));
-    is = e;
-    back = λ r h. g .back r (on (rw (← g .is) p) (rw (← g .is) h));
-  }
-
-pub going-done : {ws : List ℕ} {k from x next : ℕ} → Going ws k from x next → next ≤ 0 → Far ws k from x
-going-done g h = g .back _ (here (omega (arith, g .is)))
 
 -- The side of a key that a tree stands on: its keys are before the key, or after it.
 pub data Side : Type 0 where
@@ -85,10 +61,6 @@ pub says-end : (b : Bool) {ws txt : List ℕ} {used l r : ℕ} {P : Str → Type
 says-end b i h = says-iff b h (i .to) (i .fro)
 
 module _ {ws txt : List ℕ} {used l : ℕ} (b : Before ws txt used l) where
-  pub falls : (s : Side) (from : ℕ) → from < l → (j : ℕ) → 0 < j → j ≤ from → word (record-at ws j) (toward s) < j
-  falls left from h j p q = links-earlier (b .rows j p (omega arith)) .1
-  falls right from h j p q = links-earlier (b .rows j p (omega arith)) .0
-
   module _ (w : Which) (v : Level) where
     abbrev the : ℕ → Tree (Item w) v
     the x = what w ws txt x (tree v)

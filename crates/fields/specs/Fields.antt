@@ -3,7 +3,7 @@ use Prim.Native.Nat.{ℕ, _+_, _*_, _≤_, _<_}
 use mathlib.Core.Path.{_≡_}
 use mathlib.Core.Bool.{Bool}
 use mathlib.Core.List.{List}
-use lib.ListN.{length}
+use lib.ListN.{length, getD}
 use Rattle.source.specs.Types.{Level}
 use Rattle.source.specs.Rules.{_<ˢ_, AllKeys}
 use Rattle.memory.specs.Layout.{record-at, word, span, Which, tree, kind, what}
@@ -33,6 +33,19 @@ pub record Subtree (ws txt : List ℕ) (used l k top start len : ℕ) : Type 0 w
 pub data Far (ws : List ℕ) (k : ℕ) : ℕ → ℕ → Type 0 where
   here : {x : ℕ} → word (record-at ws x) k ≡ 0 → Far ws k x x
   on : {x r : ℕ} → 0 < word (record-at ws x) k → Far ws k (word (record-at ws x) k) r → Far ws k x r
+
+-- The notes of the records before link l: where their ways by the links in word k end.
+pub record Noted (ws : List ℕ) (k l : ℕ) (notes : List ℕ) : Type 0 where
+  pub far : (j : ℕ) → 0 < j → j < l → Far ws k j (getD notes j 0)
+
+-- The record of link l can be noted next.
+pub record Noting (ws : List ℕ) (k l : ℕ) (notes : List ℕ) : Type 0 where
+  pub some : 0 < l
+  pub fits : l * 12 ≤ length ws
+  pub word-of : k < 12
+  pub room : l < length notes
+  pub earlier : word (record-at ws l) k < l
+  pub noted : Noted ws k l notes
 
 -- What the answer b says, of each table and level that the kinds are of.
 module _ (ws txt : List ℕ) where

@@ -1,14 +1,15 @@
 // The parts of the soundness test that look at one field of a record: a text, a link, the keys of a side.
+use memory::Span;
 use text::Order;
 use text::Rule;
 ghost use mathlib.Core.Path.{_≡_};
-ghost use Prim.Native.Nat.{ℕ, _+_, _*_, _≤_, _<_};
+ghost use Prim.Native.Nat.{_+_, _*_, _≤_, _<_};
 ghost use lib.ListN.{length};
 ghost use Rattle.source.specs.Rules.{Fits, _<ˢ_};
-ghost use Rattle.memory.specs.Layout.{record-at, word, span};
+ghost use Rattle.memory.specs.Layout.{span};
 ghost use Rattle.memory.specs.Sound.{Says, LinkOk, TextOk};
 ghost use Rattle.text.specs.Text.{byte-rule};
-ghost use Rattle.fields.specs.Fields.{Subtree, Far, SaysLeft, SaysRight};
+ghost use Rattle.fields.specs.Fields.{Subtree, Far, Noted, Noting, SaysLeft, SaysRight};
 
 // Is the span in the used part, `low` to `high` bytes long, and does each byte keep the rule?
 pub fn text_ok(
@@ -92,22 +93,22 @@ fn spans_less(text: &[u8], s: u32, n: u32, t: u32, m: u32) -> bool
     less(&text[a..a + n as usize], &text[b..b + m as usize])
 }
 
-// The last record on the way from `from` by the links in word `k`.
-fn far(words: &[u32], from: u32, k: usize) -> u32
-    requires { ⌜ (0 < from) × (k < 12) × (from * 12 ≤ length (now words)) ⌝ }
-    requires { ⌜ ((j : ℕ) → 0 < j → j ≤ from → word (record-at (now words) j) k < j) ⌝ }
-    ensures { λ r. ⌜ Far (now (words .entry)) k from r ⌝ }
+// Notes for the record of `link` where the way by the links in word `k` ends: at itself, or where that of the next record does.
+pub fn note(words: &[u32], link: u32, k: usize, notes: &mut [u32])
+    requires { ⌜ Noting (now words) k link (now notes) ⌝ }
+    ensures { λ _. ⌜ Noted (now (words .entry)) k (link + 1) (now (notes .exit)) ⌝ }
+    ensures { λ _. ⌜ length (now (notes .exit)) ≡ length (now (notes .entry)) ⌝ }
 {
-    let mut x = from;
-    let mut next = memory::word_of(words, x, k);
-    while 0 < next {
-        x = next;
-        next = memory::word_of(words, x, k);
+    let at = link as usize;
+    let next = memory::word_of(words, link, k);
+    let mut end = link;
+    if 0 < next {
+        end = notes[next as usize];
     }
-    x
+    notes[at] = end;
 }
 
-// Are all keys of the tree `top` before the key, a span of the used text?
+// Are all keys of the tree `top` before the key, a span of the used text? `end` is the branch with the greatest of them.
 pub fn left_ok(
     words: &[u32],
     text: &[u8],
@@ -115,22 +116,22 @@ pub fn left_ok(
     link: u32,
     k: u32,
     top: u32,
-    start: u32,
-    len: u32,
+    end: u32,
+    key: Span,
 ) -> bool
-    requires { ⌜ Subtree (now words) (now text) used link k top start len ⌝ }
-    ensures { λ r. ⌜ SaysLeft (now (words .entry)) (now (text .entry)) k top start len r ⌝ }
+    requires { ⌜ Subtree (now words) (now text) used link k top (key .start) (key .len) ⌝ }
+    requires { ⌜ (0 < top → Far (now words) 4 top end) ⌝ }
+    ensures { λ r. ⌜ SaysLeft (now (words .entry)) (now (text .entry)) k top (key .start) (key .len) r ⌝ }
 {
     if top == 0 {
         return true;
     }
-    let x = far(words, top, memory::RIGHT);
-    let s = memory::word_of(words, x, memory::TEXT_START);
-    let n = memory::word_of(words, x, memory::TEXT_LEN);
-    spans_less(text, s, n, start, len)
+    let s = memory::word_of(words, end, memory::TEXT_START);
+    let n = memory::word_of(words, end, memory::TEXT_LEN);
+    spans_less(text, s, n, key.start, key.len)
 }
 
-// Are all keys of the tree `top` after the key, a span of the used text?
+// Are all keys of the tree `top` after the key, a span of the used text? `end` is the branch with the least of them.
 pub fn right_ok(
     words: &[u32],
     text: &[u8],
@@ -138,17 +139,17 @@ pub fn right_ok(
     link: u32,
     k: u32,
     top: u32,
-    start: u32,
-    len: u32,
+    end: u32,
+    key: Span,
 ) -> bool
-    requires { ⌜ Subtree (now words) (now text) used link k top start len ⌝ }
-    ensures { λ r. ⌜ SaysRight (now (words .entry)) (now (text .entry)) k top start len r ⌝ }
+    requires { ⌜ Subtree (now words) (now text) used link k top (key .start) (key .len) ⌝ }
+    requires { ⌜ (0 < top → Far (now words) 3 top end) ⌝ }
+    ensures { λ r. ⌜ SaysRight (now (words .entry)) (now (text .entry)) k top (key .start) (key .len) r ⌝ }
 {
     if top == 0 {
         return true;
     }
-    let x = far(words, top, memory::LEFT);
-    let s = memory::word_of(words, x, memory::TEXT_START);
-    let n = memory::word_of(words, x, memory::TEXT_LEN);
-    spans_less(text, start, len, s, n)
+    let s = memory::word_of(words, end, memory::TEXT_START);
+    let n = memory::word_of(words, end, memory::TEXT_LEN);
+    spans_less(text, key.start, key.len, s, n)
 }

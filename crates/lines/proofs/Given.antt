@@ -13,12 +13,12 @@ use Rattle.memory.proofs.Records.{branch-at, collection-at}
 use Rattle.memory.proofs.Seen.{link-fits, link-ok}
 use lib.Dec.{eqb}
 use lib.ListN.{length}
-use Rattle.lines.specs.Path.{BranchAt, LabelAt, PathOk}
-use Rattle.lines.specs.Output.{Small}
+use Rattle.lines.specs.Path.{Path, BranchAt, LabelAt, PathOk}
+use Rattle.lines.specs.Run.{path-in, job-in}
+use Rattle.lines.specs.Lines.{CanList}
 use Rattle.lines.specs.Parts.{TextAt, PathAt, JobOk, outermost}
-use Rattle.lines.specs.declared.Path.{Path}
-use Rattle.lines.specs.declared.Limits.{Limits}
-use Rattle.lines.specs.declared.Tally.{Tally}
+use Rattle.lines.specs.declared.Task.{Task}
+use Rattle.lines.specs.declared.Found.{Found}
 
 module _ {ws txt : List ℕ} {n used x k : ℕ} (o : Used ws txt n used) (i : LinkOk ws (n + 1) x k) (p : 0 < x) where
   text-at : {Rule : Str → Type 0} → TextOk Rule txt used (word (record-at ws x) 1) (word (record-at ws x) 2)
@@ -26,7 +26,7 @@ module _ {ws txt : List ℕ} {n used x k : ℕ} (o : Used ws txt n used) (i : Li
   unfolding key-at
   text-at t h =
       let e = span-length txt (word (record-at ws x) 1) (word (record-at ws x) 2) (omega (arith, t .inside, o .text-fits)) in
-      record { some = p; within = link-fits o i; inside = omega (arith, t .inside, o .text-fits); size = e; short = omega arith }
+      record { some = p; within = link-fits o i; inside = omega (arith, t .inside, o .text-fits); size = e; short = omega arith; few = omega (arith, i .earlier, o .few) }
 
 module _ {ws txt : List ℕ} {w : Which} {v : Level} {x : ℕ} where
   pub branch-text : BranchAt ws txt w v x → TextAt ws txt x
@@ -43,14 +43,16 @@ pub path-at : {ws txt : List ℕ} {w : Which} {p : Path} → PathOk ws txt w p �
 path-at o = record { sized = o .sized; few = o .few; each = λ j h. branch-text (o .each j h); len-is = o .len-is; short = o .short }
 
 -- What line is given is what its parts need.
-module _ {ws txt : List ℕ} {w : Which} {p : Path} (o : PathOk ws txt w p) where
-  pub job-ok : {v : Level} {branch matched : ℕ} {lim : Limits} {tally : Tally} → BranchAt ws txt w v branch → Small lim
-      → JobOk ws txt (record { path = p; branch = branch; matched = matched; lim = lim; tally = tally })
-  job-ok b s = record { path = path-at o; branch = branch-text b; small = s }
+module _ {ws txt : List ℕ} {k : Task} {f : Found} {run : List ℕ} (o : CanList ws txt k f run) where
+  pub job-ok : JobOk ws txt (job-in k (f .link) run)
+  job-ok = record { path = path-at (o .path-ok); branch = branch-text (o .branch-at); small = o .small }
 
-  pub outermost-text : {v : Level} {x label : ℕ} → LabelAt ws txt w v label → x ≡ outermost p label → 0 < x → TextAt ws txt x
-  outermost-text {label = label} l e h = rw e (go (eqb (p .n) 0) (rw e at h))
+  pub label-small : path-in run .label ≤ 65536
+  label-small = let l = o .path-ok .label-ok in omega (arith, l .ok .link .earlier, l .sound .few)
+
+  pub outermost-text : {x : ℕ} → x ≡ outermost (path-in run) (f .label) → 0 < x → TextAt ws txt x
+  outermost-text e h = rw e (go (eqb (path-in run .n) 0) (rw e at h))
     where
-      go : (b : Bool) → 0 < pick b label (p .label) → TextAt ws txt (pick b label (p .label))
-      go true h = label-text l h
-      go false h = label-text (o .label-ok) h
+      go : (b : Bool) → 0 < pick b (f .label) (path-in run .label) → TextAt ws txt (pick b (f .label) (path-in run .label))
+      go true h = label-text (o .label-at) h
+      go false h = label-text (o .path-ok .label-ok) h

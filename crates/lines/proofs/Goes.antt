@@ -10,10 +10,9 @@ use Rattle.source.specs.Shared.{Allˡ}
 use Rattle.source.proofs.Lines.{flatMap-append, output-text-append, output-lines-append}
 use Rattle.memory.specs.Layout.{Which, Item}
 use Rattle.text.proofs.Laid.{laid-none, laid-more}
-use Rattle.lines.specs.Output.{line-of, rows-flat, Written, Result, _⊕_, Goes}
+use Rattle.lines.specs.Output.{Tally, line-of, rows-flat, Written, Result, _⊕_, Goes}
 use Rattle.lines.specs.Lines.{only}
 use Rattle.lines.specs.declared.Limits.{Limits}
-use Rattle.lines.specs.declared.Tally.{Tally}
 
 all-append : {A : Type 0} (P : A → Type 0) (xs ys : List A) → Allˡ P xs → Allˡ P ys → Allˡ P (xs ++ ys)
 all-append P [] ys a b = b

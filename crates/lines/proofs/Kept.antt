@@ -1,20 +1,24 @@
 -- What a filter keeps, by the sort of the symbol and whether it is loaded.
 use Prim.Native.Nat.{ℕ}
-use mathlib.Core.Path.{_≡_, refl}
+use mathlib.Core.Path.{_≡_, refl, sym, ap, _∙_}
 use mathlib.Core.Bool.{Bool, true, false, not}
 use mathlib.Core.List.{List, []}
-use lib.Dec.{eqb}
 use borrow.Author.Tests.{not-true, not-false}
 use Rattle.source.specs.Text.{Str}
-use Rattle.source.specs.Table.{Module, Namespace, mod-annotation}
+use Rattle.source.specs.Table.{ModSymbol, Module, Namespace, mod-annotation}
 use Rattle.source.specs.Calls as C
 use Rattle.source.specs.Calls.{Loaded, ModulesOnly, NamespacesOnly, keeps}
-use Rattle.memory.specs.Layout.{record-at, word, pick, modules}
+use Rattle.memory.specs.Layout.{record-at, pick, modules}
+use Rattle.memory.specs.Read.{text-of, symbol-in, symbol-of}
+use Rattle.memory.specs.declared.Span.{Span}
+use Rattle.memory.specs.declared.ModSymbol.{ModSymbol as Read}
+use Rattle.memory.specs.declared.ModSymbol.the-variants.{Module as ReadModule, Namespace as ReadNamespace}
+use Rattle.memory.proofs.Seen.{symbol-item}
 use Rattle.lines.specs.Ask.{filter-in}
 use Rattle.lines.specs.Parts.{symbol-at, PutLine, KeptLine}
 use Rattle.lines.specs.declared.Filter.{Filter}
-use Rattle.lines.specs.declared.Job.{Job}
-use Rattle.lines.specs.declared.Tally.{Tally}
+use Rattle.lines.specs.Output.{Tally}
+use Rattle.lines.specs.Run.{Job}
 use Rattle.lines.proofs.Goes.{goes-none}
 
 -- ---- What a filter keeps
@@ -52,17 +56,29 @@ same-note true false name path = refl
 same-note false true name path = refl
 same-note false false name path = refl
 
-module _ (ws txt : List ℕ) (j : Job) (f : Filter) {sort loaded : ℕ} {r : Bool} (p : sort ≡ word (record-at ws (j .branch)) 5) (q : loaded ≡ word (record-at ws (j .branch)) 10)
-    (h : (name path : Str) → r ≡ keeps (filter-in f) (pick (eqb sort 0) (Module name path (eqb loaded 1)) (Namespace name (eqb loaded 1)))) where
+-- The symbol of a branch, by the one that was read.
+abbrev sym-as : (m loaded : Bool) (name path : Str) → ModSymbol
+sym-as m loaded name path = pick m (Module name path loaded) (Namespace name loaded)
+
+pub module-at : (ws txt : List ℕ) (branch : ℕ) {x : Read} {name path : Span} {loaded : Bool} → x ≡ symbol-in (record-at ws branch) → x ≡ ReadModule name path loaded
+    → symbol-at ws txt branch ≡ Module (text-of txt name) (text-of txt path) loaded
+module-at ws txt branch e f = sym (symbol-item txt (record-at ws branch)) ∙ ap (symbol-of txt) (sym e ∙ f)
+
+pub namespace-at : (ws txt : List ℕ) (branch : ℕ) {x : Read} {name : Span} {loaded : Bool} → x ≡ symbol-in (record-at ws branch) → x ≡ ReadNamespace name loaded
+    → symbol-at ws txt branch ≡ Namespace (text-of txt name) loaded
+namespace-at ws txt branch e f = sym (symbol-item txt (record-at ws branch)) ∙ ap (symbol-of txt) (sym e ∙ f)
+
+module _ (ws txt : List ℕ) (j : Job) (f : Filter) (m loaded : Bool) (name path : Str) {r : Bool} (p : symbol-at ws txt (j .branch) ≡ sym-as m loaded name path)
+    (h : (name path : Str) → r ≡ keeps (filter-in f) (sym-as m loaded name path)) where
   answer : r ≡ keeps (filter-in f) (symbol-at ws txt (j .branch))
-  answer = rw (← p, ← q) (h _ _)
+  answer = rw p (h _ _)
 
   pub line-dropped : not r ≡ true → (flat out : List ℕ) → KeptLine ws txt f j (j .tally) flat flat out out
   line-dropped e flat out l s = rw (← answer, not-true r e) (goes-none (j .tally) flat out)
 
-  pub line-kept : not r ≡ false → (m l : Bool) → eqb sort 0 ≡ m → eqb loaded 1 ≡ l → {t : Tally} {flat flat′ out out′ : List ℕ}
-      → PutLine ws txt j (annotation m l) t flat flat′ out out′ → KeptLine ws txt f j t flat flat′ out out′
-  line-kept e m b em eb put l s = rw (← answer, not-false r e) (put modules l (rw note at s))
+  pub line-kept : not r ≡ false → {t : Tally} {flat flat′ out out′ : List ℕ}
+      → PutLine ws txt j (annotation m loaded) t flat flat′ out out′ → KeptLine ws txt f j t flat flat′ out out′
+  line-kept e put l s = rw (← answer, not-false r e) (put modules l (rw note at s))
     where
-      note : mod-annotation (symbol-at ws txt (j .branch)) ≡ annotation m b
-      note = rw (← p, ← q, em, eb) (same-note m b _ _)
+      note : mod-annotation (symbol-at ws txt (j .branch)) ≡ annotation m loaded
+      note = rw p (same-note m loaded _ _)

@@ -1,4 +1,5 @@
 pub mod Goes
+pub mod Run
 pub mod Counting
 pub mod Texts
 mod Kept

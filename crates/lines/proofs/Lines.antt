@@ -16,11 +16,10 @@ use Rattle.memory.proofs.Says.{passes, refuses}
 use Rattle.text.specs.Laid.{Laid}
 use Rattle.text.proofs.Laid.{laid-length, laid-more, lent-laid, room-left}
 use Rattle.lines.specs.Path.{joined}
-use Rattle.lines.specs.Output.{line-of, rows-flat, Written, Capped, Fit}
+use Rattle.lines.specs.Output.{Tally, line-of, rows-flat, Written, Capped, Fit}
 use Rattle.lines.specs.Lines.{Spells}
-use Rattle.lines.specs.Parts.{JobOk, candidate-of, line-row, size-of, Room, LinePut, PutLine}
-use Rattle.lines.specs.declared.Job.{Job}
-use Rattle.lines.specs.declared.Tally.{Tally}
+use Rattle.lines.specs.Parts.{JobOk, candidate-of, line-row, size-of, Room, LinePut, TriedLine, PutLine}
+use Rattle.lines.specs.Run.{Job}
 use Rattle.lines.proofs.Counting.{capped-is}
 use Rattle.lines.proofs.Texts.{text-laid, row-laid}
 
@@ -116,17 +115,21 @@ module _ {ws txt : List ℕ} {j : Job} (ok : JobOk ws txt j) where
               }));
         }
 
-    -- It is written.
-    pub line-written : {flat flat′ out out′ : List ℕ} → LinePut ws txt j note flat flat′ out out′ → PutLine ws txt j note t flat flat′ out out′
-    line-written p = goes-line (laid-length (p .flat-laid)) (laid-length (p .out-laid)) (λ w l s e f. written-line s p)
+    -- It is written where it fits.
+    pub line-counted : {flat flat′ out out′ : List ℕ} → TriedLine ws txt j note flat flat′ out out′ → PutLine ws txt j note t flat flat′ out out′
+    line-counted p = goes-line (p .flat-size) (p .out-size) (λ w l s e f. written-line s (p .put e f))
+
+  module _ {note : Str} where
+    pub tried-put : {flat flat′ out out′ : List ℕ} → LinePut ws txt j note flat flat′ out out′ → TriedLine ws txt j note flat flat′ out out′
+    tried-put p = record { flat-size = laid-length (p .flat-laid); out-size = laid-length (p .out-laid); put = λ e f. p }
 
     -- The test of room for the row, or for the texts, refuses it: nothing is written.
-    pub no-row : {flat out : List ℕ} (b : Bool) → Says b (RowFits j flat) → not b ≡ true → PutLine ws txt j note t flat flat out out
-    no-row b says e = goes-line refl refl (λ w l s i f. absurd (refuses b says e (f .lines-fit, omega (arith, f .lines-fit, f .flat-lent))))
+    pub no-row : {flat out : List ℕ} (b : Bool) → Says b (RowFits j flat) → not b ≡ true → TriedLine ws txt j note flat flat out out
+    no-row b says e = record { flat-size = refl; out-size = refl; put = λ i f. absurd (refuses b says e (f .lines-fit, omega (arith, f .lines-fit, f .flat-lent))) }
 
-    pub no-text : {flat out : List ℕ} {n : ℕ} (b : Bool) → n ≡ size-of ws j note → Says b (TextFits j n out) → not b ≡ true → PutLine ws txt j note t flat flat out out
+    pub no-text : {flat out : List ℕ} {n : ℕ} (b : Bool) → n ≡ size-of ws j note → Says b (TextFits j n out) → not b ≡ true → TriedLine ws txt j note flat flat out out
     no-text b z says e =
-        goes-line refl refl (λ w l s i f. absurd (refuses b says e (omega (arith, f .bytes-fit), omega (arith, f .bytes-fit, f .out-lent))))
+        record { flat-size = refl; out-size = refl; put = λ i f. absurd (refuses b says e (omega (arith, f .bytes-fit), omega (arith, f .bytes-fit, f .out-lent))) }
 
   -- Both let it pass.
   pub passed : {note flat out : List ℕ} {n : ℕ} (a b : Bool) → n ≡ size-of ws j note → Says a (RowFits j flat) → not a ≡ false → Says b (TextFits j n out) → not b ≡ false

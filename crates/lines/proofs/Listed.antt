@@ -1,6 +1,6 @@
 -- The line of a found element of bindings: what the branch, its label and its path say of it.
 use Prim.Native.Nat.{ℕ}
-use mathlib.Core.Path.{_≡_, refl, sym, ap, _∙_}
+use mathlib.Core.Path.{_≡_, refl, sym, ap, subst, _∙_}
 use mathlib.Core.Bool.{Bool, true, false}
 use mathlib.Core.List.{List, [], _∷_, reverse}
 use mathlib.Core.Option.{Option, none, some}
@@ -12,7 +12,7 @@ use Rattle.source.specs.Types.{Value, bind, the-item}
 use Rattle.source.specs.Trees.{PathElem}
 use Rattle.source.specs.Tries.{dflt}
 use Rattle.source.specs.Listing.{PathOf}
-use Rattle.source.specs.Table.{ModSymbol, string-of-path, first-import-of-path, completion-result-of-lid, completion-result-of-ns-or-mod, mod-annotation}
+use Rattle.source.specs.Table.{ModSymbol, string-of-path, first-import-of-path, match-length-of-path, completion-result-of-lid, completion-result-of-ns-or-mod, mod-annotation}
 use Rattle.source.specs.Calls as C
 use Rattle.source.specs.Calls.{keeps, filter-of}
 use Rattle.source.proofs.Paths.{candidate-is, first-import-one, first-import-more}
@@ -21,15 +21,17 @@ use Rattle.memory.specs.Layout.{record-at, pick, Which, names, modules, Item, i
 use Rattle.tree.specs.Tree.{held}
 use Rattle.tree.specs.Links.{row-at}
 use Rattle.merge.specs.Entries.{label-at, shown, outer}
-use Rattle.lines.specs.Ask.{filter-in}
-use Rattle.lines.specs.Path.{OnPath}
-use Rattle.lines.specs.Lines.{Listed}
+use Rattle.lines.specs.Ask.{filter-in, asked, line-for}
+use Rattle.lines.specs.Path.{Path, OnPath}
+use Rattle.lines.specs.Lines.{only, Listed}
 use Rattle.lines.specs.Parts.{candidate-of, note-at, outermost, PutLine, KeptLine}
 use Rattle.lines.specs.declared.Filter.{Filter}
+use Rattle.lines.specs.declared.Ask.{Ask}
+use Rattle.lines.specs.declared.Task.{Task}
+use Rattle.lines.specs.declared.Found.{Found}
 use Rattle.lines.specs.declared.Ask.the-variants.{Names, Modules}
-use Rattle.lines.specs.declared.Job.{Job}
-use Rattle.lines.specs.declared.Path.{Path}
-use Rattle.lines.specs.declared.Tally.{Tally}
+use Rattle.lines.specs.Output.{signed-word, Goes}
+use Rattle.lines.specs.Run.{path-in, tally-in, job-in, SamePath}
 
 -- What a found element of bindings and its path say of its line.
 record Element (ws txt : List ℕ) (w : Which) (p : Path) (branch label : ℕ) (path : PathOf) (x : PathElem × Value (Item w) bind) : Type 0 where
@@ -61,21 +63,35 @@ kept-is f y m e = go (keeps f (y .1)) ∙ rw e
     go true = refl
     go false = refl
 
-module _ {ws txt : List ℕ} {j : Job} (label : ℕ) {t : Tally} {flat flat′ out out′ : List ℕ} where
-  -- What line answers: of names, of modules and namespaces.
-  pub listed-names : PutLine ws txt j (note-at ws txt (outermost (j .path) label)) t flat flat′ out out′
-      → Listed ws txt Names (j .path) (j .branch) label (j .matched) (j .lim) (j .tally) t flat flat′ out out′
-  unfolding completion-result-of-lid
-  listed-names put path x q o e m =
-      let k = element names (j .branch) label x q o e in
-      put names (completion-result-of-lid (line path x))
-      (record { length-is = m; item-is = k .item; candidate-is = k .candidate; annotation-is = ap (dflt []) (k .import) })
+module _ (ws txt : List ℕ) (k : Task) (f : Found) (run run′ flat flat′ out out′ : List ℕ) where
+  abbrev ListedAs : Ask → Type 0
+  ListedAs ask =
+      (path : PathOf) (x : PathElem × Value (Item (asked ask)) bind) (q : Option Str) → OnPath ws txt (path-in run) path
+      → outer x ≡ shown (asked ask) ws txt bind q (record { branch = f .link; label = f .label })
+      → match-length-of-path (reverse (x .0 ∷ path)) ≡ signed-word (k .matched)
+      → Goes (asked ask) txt (k .lim) (tally-in run) (tally-in run′) flat flat′ out out′ (only (line-for ask (line path x)))
 
-  pub listed-modules : (f : Filter) → KeptLine ws txt f j t flat flat′ out out′
-      → Listed ws txt (Modules f) (j .path) (j .branch) label (j .matched) (j .lim) (j .tally) t flat flat′ out out′
+  as-names : PutLine ws txt (job-in k (f .link) run) (note-at ws txt (outermost (path-in run) (f .label))) (tally-in run′) flat flat′ out out′ → ListedAs Names
+  unfolding completion-result-of-lid
+  as-names put path x q o e m =
+      let i = element names (f .link) (f .label) x q o e in
+      put names (completion-result-of-lid (line path x))
+      (record { length-is = m; item-is = i .item; candidate-is = i .candidate; annotation-is = ap (dflt []) (i .import) })
+
+  as-modules : (filter : Filter) → KeptLine ws txt filter (job-in k (f .link) run) (tally-in run′) flat flat′ out out′ → ListedAs (Modules filter)
   unfolding completion-result-of-ns-or-mod
-  listed-modules f put path x q o e m =
-      let k = element modules (j .branch) label x q o e in
-      rw (kept-is (filter-in f) (line path x) _ (k .item))
+  as-modules filter put path x q o e m =
+      let i = element modules (f .link) (f .label) x q o e in
+      rw (kept-is (filter-in filter) (line path x) _ (i .item))
       (put (completion-result-of-ns-or-mod (line path x))
-      (record { length-is = m; item-is = k .item; candidate-is = k .candidate; annotation-is = ap mod-annotation (k .item) }))
+      (record { length-is = m; item-is = i .item; candidate-is = i .candidate; annotation-is = ap mod-annotation (i .item) }))
+
+-- What line answers: of names, of modules and namespaces.
+module _ {ws txt : List ℕ} {k : Task} {f : Found} {run run′ flat flat′ out out′ : List ℕ} (s : SamePath run run′) where
+  pub listed-names : k .ask ≡ Names → PutLine ws txt (job-in k (f .link) run) (note-at ws txt (outermost (path-in run) (f .label))) (tally-in run′) flat flat′ out out′
+      → Listed ws txt k f run run′ flat flat′ out out′
+  listed-names e put = record { same = s; goes = subst (ListedAs ws txt k f run run′ flat flat′ out out′) (sym e) (as-names ws txt k f run run′ flat flat′ out out′ put) }
+
+  pub listed-modules : (filter : Filter) → k .ask ≡ Modules filter → KeptLine ws txt filter (job-in k (f .link) run) (tally-in run′) flat flat′ out out′
+      → Listed ws txt k f run run′ flat flat′ out out′
+  listed-modules filter e put = record { same = s; goes = subst (ListedAs ws txt k f run run′ flat flat′ out out′) (sym e) (as-modules ws txt k f run run′ flat flat′ out out′ filter put) }

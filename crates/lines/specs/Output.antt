@@ -19,7 +19,6 @@ use Rattle.source.specs.Shared.{Allˡ}
 use Rattle.memory.specs.Layout.{word, pick, Which, Item, item-of}
 use Rattle.text.specs.Laid.{Laid}
 use Rattle.lines.specs.declared.Limits.{Limits}
-use Rattle.lines.specs.declared.Tally.{Tally}
 
 -- The number that a word holds in two's complement, of -1 and up.
 unfoldable pub signed-word : ℕ → ℤ
@@ -61,6 +60,12 @@ r ⊕ s = record { lines = r .lines ++ s .lines; entered = r .entered + s .enter
 -- a is x, or both are past the limit.
 abbrev pub Capped : (limit x a : ℕ) → Type 0
 Capped limit x a = (a ≡ x) ⊎ ((limit < x) × (limit < a))
+
+-- What a completion has taken.
+pub record Tally : Type 0 where
+  pub entered : ℕ
+  pub lines : ℕ
+  pub bytes : ℕ
 
 -- A tally of e tries entered, l lines and b bytes; past the budget it says only that.
 pub record Shows (lim : Limits) (e l b : ℕ) (t : Tally) : Type 0 where

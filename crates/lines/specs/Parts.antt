@@ -12,13 +12,11 @@ use Rattle.memory.specs.Layout.{record-at, word, pick, Which, modules, Item, it
 use Rattle.text.specs.Laid.{Laid}
 use Rattle.merge.specs.Entries.{label-at}
 use Rattle.lines.specs.Ask.{filter-in}
-use Rattle.lines.specs.Path.{joined}
-use Rattle.lines.specs.Output.{Small, Goes}
+use Rattle.lines.specs.Path.{Path, joined}
+use Rattle.lines.specs.Output.{Tally, Small, Fit, Goes}
+use Rattle.lines.specs.Run.{Job}
 use Rattle.lines.specs.Lines.{Spells, only}
 use Rattle.lines.specs.declared.Filter.{Filter}
-use Rattle.lines.specs.declared.Path.{Path}
-use Rattle.lines.specs.declared.Job.{Job}
-use Rattle.lines.specs.declared.Tally.{Tally}
 
 -- ---- What is read
 
@@ -29,10 +27,11 @@ pub record TextAt (ws txt : List ℕ) (x : ℕ) : Type 0 where
   pub inside : word (record-at ws x) 1 + word (record-at ws x) 2 ≤ length txt
   pub size : length (key-at ws txt x) ≡ word (record-at ws x) 2
   pub short : word (record-at ws x) 2 ≤ 543
+  pub few : x ≤ 65536
 
 -- The links of a path name keys, and the length is that of their text.
 pub record PathAt (ws txt : List ℕ) (p : Path) : Type 0 where
-  pub sized : length (p .links) ≡ 16
+  pub sized : length (p .links) ≡ 22
   pub few : p .n ≤ 16
   pub each : (j : ℕ) → j < p .n → TextAt ws txt (getD (p .links) j 0)
   pub len-is : p .len ≡ length (joined ws txt (p .links) (p .n))
@@ -79,6 +78,12 @@ pub record LinePut (ws txt : List ℕ) (j : Job) (note flat flat′ out out′ :
       (line-row (record-at ws (j .branch)) (j .matched) (j .tally .bytes) (length (candidate-of ws txt (j .path) (j .branch))) (length note))
   pub out-laid : Laid out out′ (j .tally .bytes) (j .tally .bytes + length (candidate-of ws txt (j .path) (j .branch) ++ note))
       (candidate-of ws txt (j .path) (j .branch) ++ note)
+
+-- It is written where it fits.
+pub record TriedLine (ws txt : List ℕ) (j : Job) (note flat flat′ out out′ : List ℕ) : Type 0 where
+  pub flat-size : length flat′ ≡ length flat
+  pub out-size : length out′ ≡ length out
+  pub put : (e : ℕ) → Fit (j .lim) flat out e (j .tally .lines + 1) (j .tally .bytes + size-of ws j note) → LinePut ws txt j note flat flat′ out out′
 
 -- ---- What a run shows
 

@@ -12,7 +12,14 @@ use Rattle.memory.specs.Layout.{Which, tree, kind, key-at}
 use Rattle.memory.specs.Sound.{LinkOk, Used}
 use Rattle.merge.specs.Entries.{label-at}
 use Rattle.merge.specs.Lists.{LabelOk}
-use Rattle.lines.specs.declared.Path.{Path}
+
+-- The numbers of a run, of which the first are branches of namespaces from the root on, how many, the bytes of their keys with a dot after each,
+-- and the collection of the outermost label of the first, 0 for none.
+pub record Path : Type 0 where
+  pub links : List ℕ
+  pub n : ℕ
+  pub len : ℕ
+  pub label : ℕ
 
 -- The keys of the first n links, each with a dot after it.
 unfoldable pub joined : (ws txt links : List ℕ) → ℕ → Str
@@ -36,7 +43,7 @@ pub record LabelAt (ws txt : List ℕ) (w : Which) (v : Level) (x : ℕ) : Type 
 
 -- The links are branches of namespaces, at most 16, and the length is that of their text.
 pub record PathOk (ws txt : List ℕ) (w : Which) (p : Path) : Type 0 where
-  pub sized : length (p .links) ≡ 16
+  pub sized : length (p .links) ≡ 22
   pub few : p .n ≤ 16
   pub each : (j : ℕ) → j < p .n → BranchAt ws txt w ns (getD (p .links) j 0)
   pub len-is : p .len ≡ length (joined ws txt (p .links) (p .n))

@@ -1,19 +1,19 @@
 // One line of a listing: counted, and written where it fits the lent output.
+use memory::ModSymbol;
 ghost use mathlib.Core.Path.{_≡_};
 ghost use Prim.Native.Nat.{ℕ, _+_, _*_, _<_, _≤_};
 ghost use lib.ListN.{length};
 ghost use Rattle.source.specs.Text.{Str};
-ghost use Rattle.source.specs.Types.{bind};
 ghost use Rattle.source.specs.Table.{Module, Namespace};
 ghost use Rattle.source.specs.Calls as C;
 ghost use Rattle.memory.specs.Layout.{record-at, pick, key-at};
 ghost use Rattle.memory.specs.Sound.{Says};
 ghost use Rattle.text.specs.Laid.{Laid};
-ghost use Rattle.lines.specs.Ask.{filter-in, asked};
-ghost use Rattle.lines.specs.Path.{BranchAt, LabelAt, PathOk};
-ghost use Rattle.lines.specs.Output.{Capped, Small};
-ghost use Rattle.lines.specs.Lines.{Listed};
-ghost use Rattle.lines.specs.Parts.{TextAt, PathAt, JobOk, Room, candidate-of, note-at, outermost, line-row, LinePut, PutLine, KeptLine};
+ghost use Rattle.lines.specs.Ask.{filter-in};
+ghost use Rattle.lines.specs.Run.{path-in, tally-in, job-in, SamePath};
+ghost use Rattle.lines.specs.Output.{Capped};
+ghost use Rattle.lines.specs.Lines.{CanList, Listed};
+ghost use Rattle.lines.specs.Parts.{TextAt, PathAt, JobOk, Room, candidate-of, note-at, outermost, line-row, LinePut, TriedLine, PutLine, KeptLine};
 
 // The filter argument: Loaded is of either sort.
 pub enum Filter {
@@ -29,15 +29,6 @@ pub enum Ask {
     Modules(Filter),
 }
 
-// The path to a trie: branches of namespaces from the root on, how many, the bytes of their keys with a dot after each,
-// and the collection of the outermost label of the first, 0 for none.
-pub struct Path {
-    pub links: [u32; 16],
-    pub n: usize,
-    pub len: usize,
-    pub label: u32,
-}
-
 // What a completion may take: tries entered, lines, bytes.
 pub struct Limits {
     pub budget: usize,
@@ -45,21 +36,39 @@ pub struct Limits {
     pub bytes: usize,
 }
 
-// What it has taken.
-pub struct Tally {
-    pub entered: usize,
-    pub lines: usize,
-    pub bytes: usize,
+// What the lines of a list have in common: what is asked, what may be taken, and the match length, 4294967295 for -1.
+pub struct Task {
+    pub ask: Ask,
+    pub lim: Limits,
+    pub matched: u32,
 }
 
-// A line to list: its path and branch, what matched, what the completion may take and what it has taken.
-struct Job {
-    path: Path,
-    branch: u32,
-    matched: u32,
-    lim: Limits,
-    tally: Tally,
+// A branch or a tree that was found, and the collection of its outermost label, 0 for none.
+pub struct Found {
+    pub link: u32,
+    pub label: u32,
 }
+
+// A run is lent as numbers. First the links of the path to the trie at hand, branches of namespaces from the root on, 16 at most. Then:
+// how many they are,
+pub const COUNT: usize = 16;
+
+// the bytes of their keys with a dot after each,
+pub const LENGTH: usize = 17;
+
+// the collection of the outermost label of the first, 0 for none;
+pub const LABEL: usize = 18;
+
+// what the completion has taken: tries entered,
+pub const ENTERED: usize = 19;
+
+// lines,
+pub const LINES: usize = 20;
+
+// bytes.
+pub const BYTES: usize = 21;
+
+pub const RUN: usize = 22;
 
 // The sum, where `a` is not past the limit already.
 fn add(a: usize, n: usize, limit: usize) -> usize
@@ -94,32 +103,30 @@ fn put_key(words: &[u32], text: &[u8], branch: u32, out: &mut [u8], at: usize) -
     requires { ⌜ at + length (key-at (now words) (now text) branch) ≤ length (now out) ⌝ }
     ensures { λ r. ⌜ Laid (now (out .entry)) (now (out .exit)) at r (key-at (now (words .entry)) (now (text .entry)) branch) ⌝ }
 {
-    let start = memory::word_of(words, branch, 1) as usize;
-    let len = memory::word_of(words, branch, 2) as usize;
-    memory::put_text(&mut out[at..], 0, &text[start..start + len]);
-    at + len
+    let key = memory::key_of(words, text, branch);
+    memory::put_text(&mut out[at..], 0, key);
+    at + key.len()
 }
 
-// Writes the candidate of a branch below a path from `at` on.
+// Writes the candidate of a branch below the path from `at` on.
 fn put_candidate(
     words: &[u32],
     text: &[u8],
-    path: Path,
+    run: &[usize; RUN],
     branch: u32,
     out: &mut [u8],
     at: usize,
 ) -> usize
-    requires { ⌜ PathAt (now words) (now text) path ⌝ }
+    requires { ⌜ PathAt (now words) (now text) (path-in (now run)) ⌝ }
     requires { ⌜ TextAt (now words) (now text) branch ⌝ }
-    requires { ⌜ at + path .len + length (key-at (now words) (now text) branch) ≤ length (now out) ⌝ }
-    ensures { λ r. ⌜ Laid (now (out .entry)) (now (out .exit)) at r (candidate-of (now (words .entry)) (now (text .entry)) path branch) ⌝ }
+    requires { ⌜ at + path-in (now run) .len + length (key-at (now words) (now text) branch) ≤ length (now out) ⌝ }
+    ensures { λ r. ⌜ Laid (now (out .entry)) (now (out .exit)) at r (candidate-of (now (words .entry)) (now (text .entry)) (path-in (now (run .entry))) branch) ⌝ }
 {
-    let n = path.n;
-    let links = path.links;
+    let n = run[COUNT];
     let mut end = at;
     let mut i = 0;
     while i < n {
-        let link = links[i];
+        let link = run[i] as u32;
         end = put_key(words, text, link, out, end);
         out[end] = 46;
         end += 1;
@@ -150,23 +157,29 @@ fn line_row(words: &[u32], branch: u32, matched: u32, start: u32, len: u32, note
     ]
 }
 
-// Writes a line with the annotation `note`, as line record number `tally.lines`, its texts from `tally.bytes` on.
-fn write_line(words: &[u32], text: &[u8], job: Job, note: &[u8], flat: &mut [u32], out: &mut [u8])
-    requires { ⌜ JobOk (now words) (now text) job ⌝ }
-    requires { ⌜ Room (now words) job (now note) (now flat) (now out) ⌝ }
-    ensures { λ _. ⌜ LinePut (now (words .entry)) (now (text .entry)) job (now (note .entry)) (now (flat .entry)) (now (flat .exit)) (now (out .entry)) (now (out .exit)) ⌝ }
+// Writes a line with the annotation `note`, after the lines and bytes that the run has taken.
+fn write_line(
+    words: &[u32],
+    text: &[u8],
+    task: Task,
+    branch: u32,
+    note: &[u8],
+    run: &[usize; RUN],
+    flat: &mut [u32],
+    out: &mut [u8],
+)
+    requires { ⌜ JobOk (now words) (now text) (job-in task branch (now run)) ⌝ }
+    requires { ⌜ Room (now words) (job-in task branch (now run)) (now note) (now flat) (now out) ⌝ }
+    ensures { λ _. ⌜ LinePut (now (words .entry)) (now (text .entry)) (job-in task branch (now (run .entry))) (now (note .entry)) (now (flat .entry)) (now (flat .exit)) (now (out .entry)) (now (out .exit)) ⌝ }
 {
-    let path = job.path;
-    let branch = job.branch;
-    let tally = job.tally;
-    let at = tally.bytes;
-    let base = tally.lines * 12;
-    let end = put_candidate(words, text, path, branch, out, at);
+    let at = run[BYTES];
+    let base = run[LINES] * 12;
+    let end = put_candidate(words, text, run, branch, out, at);
     memory::put_text(&mut out[end..], 0, note);
     let row = line_row(
         words,
         branch,
-        job.matched,
+        task.matched,
         at as u32,
         (end - at) as u32,
         note.len() as u32,
@@ -174,66 +187,98 @@ fn write_line(words: &[u32], text: &[u8], job: Job, note: &[u8], flat: &mut [u32
     memory::put_row(&mut flat[base..], 0, &row);
 }
 
+// Writes it where it fits.
+fn try_line(
+    words: &[u32],
+    text: &[u8],
+    task: Task,
+    branch: u32,
+    note: &[u8],
+    run: &[usize; RUN],
+    flat: &mut [u32],
+    out: &mut [u8],
+)
+    requires { ⌜ JobOk (now words) (now text) (job-in task branch (now run)) ⌝ }
+    requires { ⌜ length (now note) ≤ 543 ⌝ }
+    ensures { λ _. ⌜ TriedLine (now (words .entry)) (now (text .entry)) (job-in task branch (now (run .entry))) (now (note .entry)) (now (flat .entry)) (now (flat .exit)) (now (out .entry)) (now (out .exit)) ⌝ }
+{
+    let lim = task.lim;
+    if !fits(run[LINES], 1, lim.lines, flat.len() / 12) {
+        return;
+    }
+    let size = run[LENGTH] + memory::text_len(words, branch) as usize + note.len();
+    if !fits(run[BYTES], size, lim.bytes, out.len()) {
+        return;
+    }
+    write_line(words, text, task, branch, note, run, flat, out);
+}
+
 // Counts the line with the annotation `note`, and writes it where it fits.
 fn put_line(
     words: &[u32],
     text: &[u8],
-    job: Job,
+    task: Task,
+    branch: u32,
     note: &[u8],
+    run: &mut [usize; RUN],
     flat: &mut [u32],
     out: &mut [u8],
-) -> Tally
-    requires { ⌜ JobOk (now words) (now text) job ⌝ }
+)
+    requires { ⌜ JobOk (now words) (now text) (job-in task branch (now run)) ⌝ }
     requires { ⌜ length (now note) ≤ 543 ⌝ }
-    ensures { λ r. ⌜ PutLine (now (words .entry)) (now (text .entry)) job (now (note .entry)) r (now (flat .entry)) (now (flat .exit)) (now (out .entry)) (now (out .exit)) ⌝ }
+    ensures { λ _. ⌜ SamePath (now (run .entry)) (now (run .exit)) ⌝ }
+    ensures { λ _. ⌜ PutLine (now (words .entry)) (now (text .entry)) (job-in task branch (now (run .entry))) (now (note .entry)) (tally-in (now (run .exit))) (now (flat .entry)) (now (flat .exit)) (now (out .entry)) (now (out .exit)) ⌝ }
 {
-    let lim = job.lim;
-    let tally = job.tally;
-    let size = job.path.len + memory::word_of(words, job.branch, 2) as usize + note.len();
-    let counted = Tally {
-        entered: tally.entered,
-        lines: add(tally.lines, 1, lim.lines),
-        bytes: add(tally.bytes, size, lim.bytes),
-    };
-    if !fits(tally.lines, 1, lim.lines, flat.len() / 12) {
-        return counted;
-    }
-    if !fits(tally.bytes, size, lim.bytes, out.len()) {
-        return counted;
-    }
-    write_line(words, text, job, note, flat, out);
-    counted
+    let lim = task.lim;
+    let lines = run[LINES];
+    let bytes = run[BYTES];
+    let size = run[LENGTH] + memory::text_len(words, branch) as usize + note.len();
+    try_line(words, text, task, branch, note, run, flat, out);
+    run[LINES] = add(lines, 1, lim.lines);
+    run[BYTES] = add(bytes, size, lim.bytes);
 }
 
-// The collection of the outermost label of a path and the branch below it, 0 for none.
-fn outermost(path: Path, label: u32) -> u32
-    ensures { λ r. ⌜ r ≡ outermost path label ⌝ }
+// The collection of the outermost label of the path and the branch below it, 0 for none.
+fn outermost(run: &[usize; RUN], label: u32) -> u32
+    requires { ⌜ path-in (now run) .label ≤ 65536 ⌝ }
+    ensures { λ r. ⌜ r ≡ outermost (path-in (now (run .entry))) label ⌝ }
 {
-    if path.n == 0 {
+    if run[COUNT] == 0 {
         return label;
     }
-    path.label
+    run[LABEL] as u32
 }
 
-// The line of a name: its annotation is the label of the collection `label`.
+// The line of a name: its annotation is the label of the collection `found.label`.
 fn name_line(
     words: &[u32],
     text: &[u8],
-    job: Job,
-    label: u32,
+    task: Task,
+    found: Found,
+    run: &mut [usize; RUN],
     flat: &mut [u32],
     out: &mut [u8],
-) -> Tally
-    requires { ⌜ JobOk (now words) (now text) job ⌝ }
-    requires { ⌜ (0 < label → TextAt (now words) (now text) label) ⌝ }
-    ensures { λ r. ⌜ PutLine (now (words .entry)) (now (text .entry)) job (note-at (now (words .entry)) (now (text .entry)) label) r (now (flat .entry)) (now (flat .exit)) (now (out .entry)) (now (out .exit)) ⌝ }
+)
+    requires { ⌜ JobOk (now words) (now text) (job-in task (found .link) (now run)) ⌝ }
+    requires { ⌜ (0 < found .label → TextAt (now words) (now text) (found .label)) ⌝ }
+    ensures { λ _. ⌜ SamePath (now (run .entry)) (now (run .exit)) ⌝ }
+    ensures { λ _. ⌜ PutLine (now (words .entry)) (now (text .entry)) (job-in task (found .link) (now (run .entry))) (note-at (now (words .entry)) (now (text .entry)) (found .label)) (tally-in (now (run .exit))) (now (flat .entry)) (now (flat .exit)) (now (out .entry)) (now (out .exit)) ⌝ }
 {
+    let label = found.label;
     if label == 0 {
-        return put_line(words, text, job, b"", flat, out);
+        put_line(words, text, task, found.link, b"", run, flat, out);
+        return;
     }
-    let start = memory::word_of(words, label, 1) as usize;
-    let len = memory::word_of(words, label, 2) as usize;
-    put_line(words, text, job, &text[start..start + len], flat, out)
+    put_line(
+        words,
+        text,
+        task,
+        found.link,
+        memory::key_of(words, text, label),
+        run,
+        flat,
+        out,
+    );
 }
 
 // Whether the filter keeps a symbol: a module where `m`, else a namespace, loaded or not.
@@ -253,60 +298,63 @@ fn module_line(
     words: &[u32],
     text: &[u8],
     f: Filter,
-    job: Job,
+    task: Task,
+    branch: u32,
+    run: &mut [usize; RUN],
     flat: &mut [u32],
     out: &mut [u8],
-) -> Tally
-    requires { ⌜ JobOk (now words) (now text) job ⌝ }
-    ensures { λ r. ⌜ KeptLine (now (words .entry)) (now (text .entry)) f job r (now (flat .entry)) (now (flat .exit)) (now (out .entry)) (now (out .exit)) ⌝ }
+)
+    requires { ⌜ JobOk (now words) (now text) (job-in task branch (now run)) ⌝ }
+    ensures { λ _. ⌜ SamePath (now (run .entry)) (now (run .exit)) ⌝ }
+    ensures { λ _. ⌜ KeptLine (now (words .entry)) (now (text .entry)) f (job-in task branch (now (run .entry))) (tally-in (now (run .exit))) (now (flat .entry)) (now (flat .exit)) (now (out .entry)) (now (out .exit)) ⌝ }
 {
-    let tally = job.tally;
-    let m = memory::word_of(words, job.branch, 5) == 0;
-    let loaded = memory::word_of(words, job.branch, 10) == 1;
-    if !keeps(f, m, loaded) {
-        return tally;
-    }
-    if m {
-        if loaded {
-            return put_line(words, text, job, b" mod ", flat, out);
+    let symbol = memory::symbol_of(words, branch);
+    match symbol {
+        ModSymbol::Module(_, _, loaded) => {
+            if !keeps(f, true, loaded) {
+                return;
+            }
+            if loaded {
+                put_line(words, text, task, branch, b" mod ", run, flat, out);
+                return;
+            }
+            put_line(words, text, task, branch, b"(mod)", run, flat, out);
         }
-        return put_line(words, text, job, b"(mod)", flat, out);
+        ModSymbol::Namespace(_, loaded) => {
+            if !keeps(f, false, loaded) {
+                return;
+            }
+            if loaded {
+                put_line(words, text, task, branch, b" ns ", run, flat, out);
+                return;
+            }
+            put_line(words, text, task, branch, b"(ns)", run, flat, out);
+        }
     }
-    if loaded {
-        return put_line(words, text, job, b" ns ", flat, out);
-    }
-    put_line(words, text, job, b"(ns)", flat, out)
 }
 
-// The line of a branch of bindings below a path, if the filter keeps it. `label` is the collection of the branch's outermost label, 0 for none.
+// The line of a found branch of bindings below the path, if the filter keeps it.
 pub fn line(
     words: &[u32],
     text: &[u8],
-    ask: Ask,
-    path: Path,
-    branch: u32,
-    label: u32,
-    matched: u32,
-    lim: Limits,
-    tally: Tally,
+    task: Task,
+    found: Found,
+    run: &mut [usize; RUN],
     flat: &mut [u32],
     out: &mut [u8],
-) -> Tally
-    requires { ⌜ PathOk (now words) (now text) (asked ask) path ⌝ }
-    requires { ⌜ BranchAt (now words) (now text) (asked ask) bind branch ⌝ }
-    requires { ⌜ LabelAt (now words) (now text) (asked ask) bind label ⌝ }
-    requires { ⌜ Small lim ⌝ }
-    ensures { λ r. ⌜ Listed (now (words .entry)) (now (text .entry)) ask path branch label matched lim tally r (now (flat .entry)) (now (flat .exit)) (now (out .entry)) (now (out .exit)) ⌝ }
+)
+    requires { ⌜ CanList (now words) (now text) task found (now run) ⌝ }
+    ensures { λ _. ⌜ Listed (now (words .entry)) (now (text .entry)) task found (now (run .entry)) (now (run .exit)) (now (flat .entry)) (now (flat .exit)) (now (out .entry)) (now (out .exit)) ⌝ }
 {
-    let job = Job {
-        path: path,
-        branch: branch,
-        matched: matched,
-        lim: lim,
-        tally: tally,
-    };
+    let ask = task.ask;
     match ask {
-        Ask::Names => name_line(words, text, job, outermost(path, label), flat, out),
-        Ask::Modules(f) => module_line(words, text, f, job, flat, out),
+        Ask::Names => {
+            let named = Found {
+                link: found.link,
+                label: outermost(run, found.label),
+            };
+            name_line(words, text, task, named, run, flat, out);
+        }
+        Ask::Modules(f) => module_line(words, text, f, task, found.link, run, flat, out),
     }
 }

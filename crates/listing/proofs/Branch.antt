@@ -5,12 +5,12 @@ use mathlib.Core.Bool.{Bool, true, false, true≢false}
 use mathlib.Core.List.{List, _∷_}
 use mathlib.Core.Option.{Option}
 use native.Mathlib.Omega.{arith}
-use lib.ListN.{length}
+use lib.ListN.{length, getD, drop}
 use Rattle.source.specs.Text.{Str}
 use Rattle.source.specs.Types.{Level, Value, bind, ns}
 use Rattle.source.specs.Trees.{PathElem}
 use Rattle.source.specs.Terms.{depth}
-use Rattle.memory.specs.Layout.{record-at, word, Which, Item, tree, trieˢ, kind, what}
+use Rattle.memory.specs.Layout.{record-at, trie-link, Which, Item, tree, trieˢ, kind, what}
 use Rattle.memory.specs.Sound.{LinkOk, At}
 use Rattle.memory.proofs.Records.{record-as}
 use Rattle.memory.proofs.Seen.{link-ok, link-later}
@@ -18,28 +18,29 @@ use Rattle.tree.specs.Tree.{held}
 use Rattle.tree.specs.Links.{row-at}
 use Rattle.merge.specs.Entries.{shown, outer}
 use Rattle.lines.specs.Ask.{asked}
-use Rattle.lines.specs.Path.{BranchAt, LabelAt, PathOk}
-use Rattle.lines.specs.Output.{Small}
-use Rattle.lines.specs.Lines.{Listed}
+use Rattle.lines.specs.Path.{Path, BranchAt, LabelAt}
+use Rattle.lines.specs.Output.{Tally}
+use Rattle.lines.specs.Run.{path-in, tally-in}
+use Rattle.lines.specs.Lines.{CanList, Listed}
 use Rattle.lines.specs.declared.Ask.{Ask}
-use Rattle.lines.specs.declared.Path.{Path}
 use Rattle.lines.specs.declared.Limits.{Limits}
-use Rattle.lines.specs.declared.Tally.{Tally}
-use Rattle.listing.specs.Runs.{PathDown, level-of, BranchReady, BranchRuns, TrieReady, TrieRuns}
+use Rattle.lines.specs.declared.Found.{Found}
+use Rattle.listing.specs.Runs.{PathDown, Entered, PathSet, level-of, BranchReady, BranchRuns, TrieReady, TrieRuns, BranchAsked, BranchListed, TrieAsked, TrieListed}
+use Rattle.listing.specs.declared.Place.{Place}
 use Rattle.listing.proofs.Down.{branch-fits, path-down, on-path-down}
 
 -- The trie that a branch of namespaces holds.
 module _ {ws txt : List ℕ} {w : Which} {branch : ℕ} (b : BranchAt ws txt w ns branch) where
-  child-link : LinkOk ws branch (word (record-at ws branch) 5) (kind w trieˢ)
+  child-link : LinkOk ws branch (trie-link (record-at ws branch)) (kind w trieˢ)
   child-link = record-as (link-ok (b .sound) (b .link) (b .some)) w (tree ns) (b .link .of-kind (λ z. omega (arith, b .some))) .2
 
-  pub child-earlier : word (record-at ws branch) 5 < branch
+  pub child-earlier : trie-link (record-at ws branch) < branch
   child-earlier = child-link .earlier
 
-  pub child-trie : At ws txt w trieˢ (word (record-at ws branch) 5)
+  pub child-trie : At ws txt w trieˢ (trie-link (record-at ws branch))
   child-trie = record { records = b .records; used = b .used; sound = b .sound; link = link-later (omega (arith, b .link .earlier)) child-link }
 
-  pub child-reads : held w ws txt ns branch ≡ what w ws txt (word (record-at ws branch) 5) trieˢ
+  pub child-reads : held w ws txt ns branch ≡ what w ws txt (trie-link (record-at ws branch)) trieˢ
   unfolding held
   child-reads = refl
 
@@ -54,27 +55,24 @@ module _ (ws txt : List ℕ) (w : Which) (v : Level) (o : Option Str) (branch la
   shown-prefix = ap (λ y. y .1 .0 .prefix) e
 
 -- The line of a branch of bindings.
-pub leaf-runs : {ws txt : List ℕ} {ask : Ask} {rest : Str} {p : Path} {lim : Limits} {leaf : Bool} {branch label matched : ℕ} {a t : Tally} {flat flat′ out out′ : List ℕ}
-    → leaf ≡ true → Listed ws txt ask p branch label matched lim a t flat flat′ out out′
-    → BranchRuns ws txt ask rest p lim matched a t flat flat′ out out′ leaf branch label
-leaf-runs {ws} {txt} {ask} {rest} {p} {lim} {leaf} {branch} {label} {matched} {a} {t} {flat} {flat′} {out} {out′} e l = go leaf e
+pub leaf-runs : {ws txt : List ℕ} {query : Str} {place : Place} {f : Found} {run run′ flat flat′ out out′ : List ℕ} → place .leaf ≡ true → Listed ws txt (place .task) f run run′ flat flat′ out out′
+    → BranchListed ws txt query place run run′ flat flat′ out out′ f
+leaf-runs {ws} {txt} {query} {place} {f} {run} {run′} {flat} {flat′} {out} {out′} e l = record { same = l .same; runs = go (place .leaf) e }
   where
-    go : (z : Bool) → z ≡ true → BranchRuns ws txt ask rest p lim matched a t flat flat′ out out′ z branch label
+    go : (z : Bool) → z ≡ true
+        → BranchRuns ws txt (place .task .ask) (drop (place .next) query) (path-in run) (place .task .lim) (place .task .matched) (tally-in run) (tally-in run′) flat flat′ out out′ z (f .link) (f .label)
     go false e = absurd (true≢false (sym e))
-    go true e = record { goes = λ path x o n on st sh dp. l path x o on sh (st (x .0) (shown-prefix ws txt (asked ask) bind o branch label x sh) .length-is) }
+    go true e = record { goes = λ path x o n on st sh dp. l .goes path x o on sh (st (x .0) (shown-prefix ws txt (asked (place .task .ask)) bind o (f .link) (f .label) x sh) .length-is) }
 
 module _ {ws txt : List ℕ} {ask : Ask} {rest : Str} {p : Path} {lim : Limits} where
   module _ {leaf : Bool} {branch label : ℕ} (r : BranchReady ws txt ask rest p lim leaf branch label) where
-    leaf-at : leaf ≡ true → BranchAt ws txt (asked ask) bind branch × LabelAt ws txt (asked ask) bind label
+    pub leaf-at : leaf ≡ true → BranchAt ws txt (asked ask) bind branch × LabelAt ws txt (asked ask) bind label
     leaf-at e = go leaf e (r .branch-at) (r .label-at)
       where
         go : (z : Bool) → z ≡ true → BranchAt ws txt (asked ask) (level-of z) branch → LabelAt ws txt (asked ask) (level-of z) label
             → BranchAt ws txt (asked ask) bind branch × LabelAt ws txt (asked ask) bind label
         go true e b l = (b, l)
         go false e b l = absurd (true≢false (sym e))
-
-    pub line-ready : leaf ≡ true → PathOk ws txt (asked ask) p × BranchAt ws txt (asked ask) bind branch × LabelAt ws txt (asked ask) bind label × Small lim
-    line-ready e = (r .ready .path-ok, leaf-at e .0, leaf-at e .1, r .ready .small)
 
     pub branch-named : (0 < branch) × (branch * 12 ≤ length ws)
     branch-named = branch-fits (r .branch-at)
@@ -88,10 +86,10 @@ module _ {ws txt : List ℕ} {ask : Ask} {rest : Str} {p : Path} {lim : Limits} 
           go false e b l = (b, l)
           go true e b l = absurd (true≢false e)
 
-      pub below-ready : (length (p .links) ≡ 16) × (p .n < 16) × (p .len ≤ 544)
+      pub below-ready : (length (p .links) ≡ 22) × (p .n < 16) × (p .len ≤ 544)
       below-ready = let ok = r .ready .path-ok in (ok .sized, omega (arith, r .room e), omega (arith, ok .short, ok .few))
 
-      module _ {longer : Path} {child : ℕ} (d : PathDown ws p branch label longer) (c : child ≡ word (record-at ws branch) 5) where
+      module _ {longer : Path} {child : ℕ} (d : PathDown ws p branch label longer) (c : child ≡ trie-link (record-at ws branch)) where
         pub child-ready : TrieReady ws txt ask rest longer lim child
         child-ready = record {
           ready = record {
@@ -115,3 +113,29 @@ module _ {ws txt : List ℕ} {ask : Ask} {rest : Str} {p : Path} {lim : Limits} 
                   let v : x .1 ≡ what (asked ask) ws txt child trieˢ = shown-value ws txt (asked ask) ns o branch label x sh ∙ child-reads (space-at .0) ∙ rw (← c) in
                   rw v (runs .goes (x .0 ∷ path) n (on-path-down (r .ready .path-ok) (below-ready .1) (space-at .0) d path x o on sh) (st (x .0) (shown-prefix ws txt (asked ask) ns o branch label x sh)) (rw v at (dp refl)));
             }
+
+-- A line can be listed.
+pub line-ready : {ws txt : List ℕ} {query : Str} {place : Place} {f : Found} {run : List ℕ} → BranchAsked ws txt query place run f → place .leaf ≡ true → CanList ws txt (place .task) f run
+line-ready r e = record { path-ok = r .can .ready .path-ok; branch-at = leaf-at (r .can) e .0; label-at = leaf-at (r .can) e .1; small = r .can .ready .small }
+
+-- A namespace is entered, listed and left.
+module _ {ws txt : List ℕ} {query : Str} {place : Place} {f : Found} {run run₁ : List ℕ} {child : ℕ} (r : BranchAsked ws txt query place run f) (e : place .leaf ≡ false) (d : Entered ws f run run₁)
+    (c : child ≡ trie-link (record-at ws (f .link))) where
+  pub namespace-ready : TrieAsked ws txt (drop (place .next) query) (place .task) run₁ child
+  namespace-ready = record { can = child-ready (r .can) e (d .down) c }
+
+  module _ {run₂ flat flat′ out out′ : List ℕ} (t : TrieListed ws txt (drop (place .next) query) (place .task) run₁ run₂ flat flat′ out out′ child) where
+    pub namespace-sized : length run₂ ≡ 22
+    namespace-sized = t .same .size ∙ d .down .size ∙ r .can .ready .path-ok .sized
+
+    pub namespace-runs : {run₃ : List ℕ} → PathSet run₂ run₃ (getD run 16 0) (getD run 17 0) (getD run 18 0) → BranchListed ws txt query place run run₃ flat flat′ out out′ f
+    namespace-runs z = record {
+      same = record {
+        size = z .size ∙ t .same .size ∙ d .down .size;
+        links = λ j h. z .links j (omega (arith, r .can .ready .path-ok .few)) ∙ t .same .links j (omega (arith, d .down .count)) ∙ d .down .before j h;
+        count = z .count;
+        len-is = z .len-is;
+        label-is = z .label-is;
+      };
+      runs = space-runs (r .can) e (d .down) c (rw (z .tally-same, ← d .tally-same) (t .runs));
+    }

@@ -21,12 +21,11 @@ use Rattle.source.proofs.Paths.{match-length-none}
 use Rattle.memory.specs.Layout.{Item, trieˢ, what}
 use Rattle.memory.proofs.Tries.{trie-shallow}
 use Rattle.lines.specs.Ask.{asked}
-use Rattle.lines.specs.Path.{joined, PathOk, OnPath}
-use Rattle.lines.specs.Output.{signed-word, Written, Shows, Small, Fit, Goes, Capped}
+use Rattle.lines.specs.Path.{Path, joined, PathOk, OnPath}
+use Rattle.lines.specs.Output.{Tally, signed-word, Written, Shows, Small, Fit, Goes, Capped}
+use Rattle.lines.specs.Run.{path-in, tally-in}
 use Rattle.lines.specs.declared.Ask.{Ask}
-use Rattle.lines.specs.declared.Path.{Path}
 use Rattle.lines.specs.declared.Limits.{Limits}
-use Rattle.lines.specs.declared.Tally.{Tally}
 use Rattle.listing.specs.Runs.{trie-gives, Matching, TrieReady, TrieRuns}
 use Rattle.listing.specs.Completes.{output, lines-of, Completes}
 use Rattle.listing.specs.declared.Completion.{Completion}
@@ -35,11 +34,11 @@ use Rattle.listing.proofs.Loops.{no-label}
 use Rattle.memory.specs.Sound.{At}
 
 -- The path to the root, and nothing counted.
-abbrev pub root-path : Path
-root-path = record { links = replicate 16 0; n = 0; len = 0; label = 0 }
+abbrev root-path : Path
+root-path = path-in (replicate 22 0)
 
-abbrev pub nothing-yet : Tally
-nothing-yet = record { entered = 0; lines = 0; bytes = 0 }
+abbrev nothing-yet : Tally
+nothing-yet = tally-in (replicate 22 0)
 
 -- A lent part of no element leaves all.
 lent-nothing : (d part : List ℕ) → length part ≡ 0 → putMid 0 0 d part ≡ d

@@ -1,6 +1,6 @@
 -- The path with one more branch spells the source's path with one more element.
-use Prim.Native.Nat.{ℕ, zero, suc, _+_, _*_, _<_, _≤_}
-use mathlib.Core.Path.{_≡_, refl, sym, ap, _∙_}
+use Prim.Native.Nat.{ℕ, _+_, _*_, _<_, _≤_}
+use mathlib.Core.Path.{_≡_, sym, ap, _∙_}
 use mathlib.Core.Bool.{Bool, true, false}
 use mathlib.Core.List.{List, [], _∷_, _++_, reverse}
 use mathlib.Core.Option.{Option}
@@ -18,15 +18,16 @@ use Rattle.source.specs.Listing.{PathOf}
 use Rattle.source.specs.Table.{first-import-of-path}
 use Rattle.source.specs.Forward.{base}
 use Rattle.source.proofs.Paths.{first-import-one, first-import-more}
-use Rattle.memory.specs.Layout.{record-at, word, span, pick, Which, Item, key-at, tree}
+use Rattle.memory.specs.Layout.{record-at, word, text-len, span, pick, Which, Item, key-at, tree}
 use Rattle.memory.proofs.Parts.{span-length}
 use Rattle.memory.proofs.Seen.{link-fits}
 use Rattle.tree.specs.Links.{row-at}
 use Rattle.tree.proofs.Branches.{branch-right, any-tree, key-inside}
 use Rattle.merge.specs.Entries.{label-at, shown, outer}
-use Rattle.lines.specs.Path.{joined, BranchAt, LabelAt, PathOk, OnPath}
-use Rattle.lines.specs.declared.Path.{Path}
-use Rattle.listing.specs.Runs.{PathDown}
+use Rattle.lines.specs.Path.{Path, joined, BranchAt, LabelAt, PathOk, OnPath}
+use Rattle.lines.proofs.Run.{joined-same}
+use Rattle.lines.specs.declared.Found.{Found}
+use Rattle.listing.specs.Runs.{PathDown, Entered, PathSet}
 use Rattle.memory.specs.Sound.{At}
 
 -- A branch is a tree.
@@ -45,25 +46,16 @@ module _ {ws txt : List ℕ} {w : Which} {v : Level} {x : ℕ} (b : BranchAt ws 
       span-length txt (word (record-at ws x) 1) (word (record-at ws x) 2) (key-inside (any-tree branch-tree) (b .some)) in
       (e, omega (arith, e, k .keeps .short))
 
-module _ (ws txt links : List ℕ) (n b : ℕ) where
-  joined-before : (m : ℕ) → m ≤ n → joined ws txt (set links n b) m ≡ joined ws txt links m
-  unfolding joined
-  joined-before zero h = refl
-  joined-before (suc m) h = rw (joined-before m (omega arith), getD-set-other links n m b 0 (λ e. omega arith))
-
-  pub joined-more : n < length links → joined ws txt (set links n b) (n + 1) ≡ joined ws txt links n ++ (key-at ws txt b ++ (dot ∷ []))
-  unfolding joined
-  joined-more h = rw (add-one n, joined-before n (omega arith), getD-set-same links n b 0 h)
-
 module _ {ws txt : List ℕ} {w : Which} {p r : Path} {branch label : ℕ} (ok : PathOk ws txt w p) (room : p .n < 16) (b : BranchAt ws txt w ns branch) (d : PathDown ws p branch label r) where
   text-more : joined ws txt (r .links) (r .n) ≡ joined ws txt (p .links) (p .n) ++ (key-at ws txt branch ++ (dot ∷ []))
-  text-more = rw (d .links-are, d .count) (joined-more ws txt (p .links) (p .n) branch (omega (arith, ok .sized)))
+  unfolding joined
+  text-more = rw (d .count, add-one (p .n), d .last, joined-same ws txt (p .links) (r .links) (p .n) (d .before))
 
-  each-down : (j : ℕ) → j < p .n + 1 → BranchAt ws txt w ns (getD (set (p .links) (p .n) branch) j 0)
+  each-down : (j : ℕ) → j < p .n + 1 → BranchAt ws txt w ns (getD (r .links) j 0)
   each-down j h =
       elim (ℕ-discrete j (p .n)) [
-        | yes e ↦ rw (e, getD-set-same (p .links) (p .n) branch 0 (omega (arith, ok .sized))) b
-        | no ne ↦ rw (getD-set-other (p .links) (p .n) j branch 0 ne) (ok .each j (omega arith))
+        | yes e ↦ rw (e, d .last) b
+        | no ne ↦ let i : j < p .n = omega arith in rw (d .before j i) (ok .each j i)
       ]
 
   label-down : LabelAt ws txt w ns label → (v : Level) × LabelAt ws txt w v (r .label)
@@ -75,9 +67,9 @@ module _ {ws txt : List ℕ} {w : Which} {p r : Path} {branch label : ℕ} (ok :
 
   pub path-down : LabelAt ws txt w ns label → PathOk ws txt w r
   path-down l = record {
-    sized = rw (d .links-are) (length-set (p .links) (p .n) branch ∙ ok .sized);
+    sized = d .size ∙ ok .sized;
     few = omega (arith, d .count);
-    each = λ j h. rw (d .links-are) (each-down j (omega (arith, d .count)));
+    each = λ j h. each-down j (omega (arith, d .count));
     len-is =
         omega (arith, d .len-is, ok .len-is, ap length text-more, length-append (joined ws txt (p .links) (p .n)) (key-at ws txt branch ++ (dot ∷ [])), length-append (key-at ws txt branch) (dot ∷ []), key-size b .0);
     short = omega (arith, d .len-is, d .count, ok .short, key-size b .1);
@@ -98,3 +90,40 @@ module _ {ws txt : List ℕ} {w : Which} {p r : Path} {branch label : ℕ} (ok :
       go : (path : PathOf) → p .n ≡ length path → label-at ws txt (p .label) ≡ first-import-of-path (reverse path) → label-at ws txt (r .label) ≡ first-import-of-path (reverse (x .0 ∷ path))
       go [] c l = rw (d .label-is, eq-eqb (p .n) 0 c) (sym (ap (λ y. y .0) e) ∙ sym (first-import-one (x .0)))
       go (y ∷ path) c l = rw (d .label-is, ne-eqb (p .n) 0 (λ z. omega arith)) (l ∙ sym (first-import-more (x .0) y path))
+
+-- ---- The path of a run
+
+module _ (run : List ℕ) (n len label : ℕ) where
+  abbrev given : List ℕ
+  given = set (set (set run 16 n) 17 len) 18 label
+
+  kept : (k : ℕ) → (k ≡ 16 → ⊥) → (k ≡ 17 → ⊥) → (k ≡ 18 → ⊥) → getD given k 0 ≡ getD run k 0
+  kept k a b c = getD-set-other (set (set run 16 n) 17 len) 18 k label 0 c ∙ getD-set-other (set run 16 n) 17 k len 0 b ∙ getD-set-other run 16 k n 0 a
+
+  pub path-set : length run ≡ 22 → PathSet run given n len label
+  path-set e = record {
+    size = simp length-set;
+    links = λ j h. kept j (λ z. omega arith) (λ z. omega arith) (λ z. omega arith);
+    count = getD-set-other (set (set run 16 n) 17 len) 18 16 label 0 (λ z. omega arith) ∙ getD-set-other (set run 16 n) 17 16 len 0 (λ z. omega arith) ∙ getD-set-same run 16 n 0 (omega arith);
+    len-is = getD-set-other (set (set run 16 n) 17 len) 18 17 label 0 (λ z. omega arith) ∙ getD-set-same (set run 16 n) 17 len 0 (omega (arith, length-set run 16 n));
+    label-is = getD-set-same (set (set run 16 n) 17 len) 18 label 0 (omega (arith, length-set (set run 16 n) 17 len, length-set run 16 n));
+    tally-same = rw (kept 19 (λ z. omega arith) (λ z. omega arith) (λ z. omega arith), kept 20 (λ z. omega arith) (λ z. omega arith) (λ z. omega arith), kept 21 (λ z. omega arith) (λ z. omega arith) (λ z. omega arith));
+  }
+
+pub entered : {ws : List ℕ} (f : Found) {run run′ : List ℕ} {len label : ℕ} → (length run ≡ 22) × (getD run 16 0 < 16) × (getD run 17 0 ≤ 544)
+    → PathSet (set run (getD run 16 0) (f .link)) run′ (getD run 16 0 + 1) len label
+    → len ≡ getD run 17 0 + text-len (record-at ws (f .link)) + 1 → label ≡ pick (eqb (getD run 16 0) 0) (f .label) (getD run 18 0) → Entered ws f run run′
+entered f {run} r s l b = record {
+  down = record {
+    size = s .size ∙ length-set run (getD run 16 0) (f .link);
+    before = λ j h. s .links j (omega (arith, r .1)) ∙ apart j (λ z. omega arith);
+    last = s .links (getD run 16 0) (r .1) ∙ getD-set-same run (getD run 16 0) (f .link) 0 (omega (arith, r .0, r .1));
+    count = s .count;
+    len-is = s .len-is ∙ l;
+    label-is = s .label-is ∙ b;
+  };
+  tally-same = s .tally-same ∙ rw (apart 19 (λ z. omega (arith, r .1)), apart 20 (λ z. omega (arith, r .1)), apart 21 (λ z. omega (arith, r .1)));
+}
+  where
+    apart : (j : ℕ) → (j ≡ getD run 16 0 → ⊥) → getD (set run (getD run 16 0) (f .link)) j 0 ≡ getD run j 0
+    apart j h = getD-set-other run (getD run 16 0) j (f .link) 0 h

@@ -14,12 +14,10 @@ use Rattle.source.specs.Shared.{Allˡ}
 use Rattle.memory.specs.Layout.{Item}
 use Rattle.merge.specs.Entries.{Entry, shown, outer}
 use Rattle.lines.specs.Ask.{asked}
-use Rattle.lines.specs.Path.{OnPath}
-use Rattle.lines.specs.Output.{Goes}
+use Rattle.lines.specs.Path.{Path, OnPath}
+use Rattle.lines.specs.Output.{Tally, Goes}
 use Rattle.lines.specs.declared.Ask.{Ask}
-use Rattle.lines.specs.declared.Path.{Path}
 use Rattle.lines.specs.declared.Limits.{Limits}
-use Rattle.lines.specs.declared.Tally.{Tally}
 use Rattle.lines.proofs.Goes.{goes-none, goes-then, goes-spent}
 use Rattle.listing.specs.Runs.{Steps, HasRoom, level-of, elements-give, BranchRuns, EntriesRun}
 

@@ -1,4 +1,5 @@
 pub mod Gives
+pub mod Runs
 pub mod Down
 pub mod Cutting
 pub mod Left

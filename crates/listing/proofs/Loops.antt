@@ -7,7 +7,7 @@ use mathlib.Core.Option.{Option, some}
 use native.Mathlib.Omega.{arith}
 use native.Mathlib.Decide.{ℕ-discrete}
 use lib.Dec.{eqb}
-use lib.ListN.{length}
+use lib.ListN.{length, getD, take, drop}
 use borrow.Author.Tests.{eq-eqb, ne-eqb}
 use Rattle.source.specs.Text.{Str, starts-with}
 use Rattle.source.specs.Types.{Level, Value, NameList, ns}
@@ -26,26 +26,27 @@ use Rattle.tree.specs.Links.{matches, head0, row-at}
 use Rattle.tree.proofs.Branches.{any-tree}
 use Rattle.tree.proofs.Matches.{MatchOf, matches-of, matches-increasing, after-first}
 use Rattle.tree.proofs.Kept.{all-append}
-use Rattle.walk.specs.Walk.{Noted, Walks}
-use Rattle.walk.specs.declared.Next.{Next}
+use Rattle.matches.specs.Notes.{Noted, Matched}
+use Rattle.matches.specs.declared.Next.{Next}
 use Rattle.names.specs.Names.{AnyList}
 use Rattle.merge.specs.Entries.{Entry, shown, outer, Asks, by-prefix}
-use Rattle.merge.specs.Lists.{SingleIn, Single}
+use Rattle.merge.specs.Lists.{LabelOk}
 use Rattle.merge.specs.Stream as M
-use Rattle.merge.specs.Stream.{later, left-in, AnyRest, Starts, Gives}
-use Rattle.merge.specs.declared.Merge.{Merge}
-use Rattle.merge.specs.declared.Step.{Step}
+use Rattle.merge.specs.Stream.{Merge, Step, later, left-in, AnyRest, Starts, Gives, OneTree}
 use Rattle.merge.proofs.Cells.{later-end, later-next}
 use Rattle.merge.proofs.Given.{rest-any, gives-end, gives-more}
-use Rattle.merge.proofs.OneTree.{single-found}
+use Rattle.lines.specs.Output.{Tally}
 use Rattle.lines.specs.Ask.{asked}
-use Rattle.lines.specs.Path.{BranchAt, LabelAt}
+use Rattle.lines.specs.Path.{Path, BranchAt, LabelAt}
+use Rattle.lines.specs.Run.{path-in, tally-in, SamePath}
 use Rattle.lines.specs.declared.Ask.{Ask}
-use Rattle.lines.specs.declared.Path.{Path}
 use Rattle.lines.specs.declared.Limits.{Limits}
-use Rattle.lines.specs.declared.Tally.{Tally}
-use Rattle.listing.specs.Runs.{HasRoom, level-of, tree-entries, BranchReady, BranchRuns, TreeReady, EntriesRun, ListReady, ListRuns}
+use Rattle.lines.specs.declared.Found.{Found}
+use Rattle.lines.proofs.Run.{same-path, same-then}
+use Rattle.listing.specs.Runs.{HasRoom, level-of, tree-entries, BranchReady, BranchRuns, TreeReady, EntriesRun, ListReady, ListRuns, BranchAsked, BranchListed, TreeAsked, TreeListed, ListAsked, ListListed}
+use Rattle.listing.specs.declared.Place.{Place}
 use Rattle.listing.proofs.Down.{branch-tree}
+use Rattle.listing.proofs.Runs.{branch-ready-at, branch-runs-at}
 use Rattle.listing.proofs.Left.{Left, left-all, left-none, left-spent, left-next}
 use Rattle.memory.proofs.At.{no-link, at-of}
 
@@ -62,14 +63,18 @@ found-deep n term = all-reverse _ (names-find-rev n term) (names-find-rev-depth 
 pub no-label : {ws txt : List ℕ} {w : Which} {v : Level} {n used : ℕ} → Used ws txt n used → LabelAt ws txt w v 0
 no-label {n = n} {used} o = record { records = n; used = used; sound = o; ok = record { link = no-link _ _; imports = λ h. absurd (omega arith) } }
 
+-- A label no later than a list.
+label-here : {ws txt : List ℕ} {w : Which} {v : Level} {x label : ℕ} → At ws txt w (list v) x → LabelOk ws w v x label → LabelAt ws txt w v label
+label-here t o = record { records = t .records; used = t .used; sound = t .sound; ok = record { link = link-later (omega (arith, t .link .earlier)) (o .link); imports = o .imports } }
+
 -- ---- A tree's branches
 
 -- The branch at and those after it, none for 0.
 unfoldable pub onward : (ws txt : List ℕ) (prefix : Str) (root at : ℕ) → List ℕ
 onward ws txt prefix root at = cond (eqb at 0) [] (at ∷ later ws txt prefix root at)
 
-abbrev bare : List ℕ → List Entry
-bare l = map (λ b. record { branch = b; label = 0 }) l
+abbrev labelled : ℕ → List ℕ → List Entry
+labelled label l = map (λ b. record { branch = b; label = label }) l
 
 module _ {ws txt : List ℕ} {w : Which} {v : Level} {root : ℕ} (t : At ws txt w (tree v) root) (prefix : Str) where
   -- The branch stands among the matches.
@@ -96,57 +101,57 @@ module _ {ws txt : List ℕ} {w : Which} {v : Level} {root : ℕ} (t : At ws txt
       go (yes z) = (rw (ne-eqb at 0 n, eq-eqb r 0 z, later-end t prefix at (sym e ∙ z)), record { matching = λ m. absurd (m z) })
       go (no m) = let k = later-next t prefix at r e m in (rw (ne-eqb at 0 n, ne-eqb r 0 m, k .is-next), record { matching = λ m. k .match })
 
-module _ (ws txt : List ℕ) (ask : Ask) (rest : Str) (p : Path) (lim : Limits) (matched : ℕ) (leaf : Bool) (root : ℕ) (prefix : Str) where
+module _ (ws txt : List ℕ) (ask : Ask) (rest : Str) (p : Path) (lim : Limits) (matched : ℕ) (leaf : Bool) (root label : ℕ) (prefix : Str) where
   -- The run over a tree has come to the branch at.
-  pub record Walking (a t : Tally) (flat flat′ out out′ : List ℕ) (at : ℕ) : Type 0 where
+  pub record Along (a t : Tally) (flat flat′ out out′ : List ℕ) (at : ℕ) : Type 0 where
     pub tree-at : At ws txt (asked ask) (tree (level-of leaf)) root
-    pub left : Left ws txt ask rest p lim matched leaf a t flat flat′ out out′ (tree-entries ws txt root prefix) (bare (onward ws txt prefix root at))
+    pub left : Left ws txt ask rest p lim matched leaf a t flat flat′ out out′ (tree-entries ws txt root label prefix) (labelled label (onward ws txt prefix root at))
     pub standing : Standing tree-at prefix at
 
-module _ {ws txt : List ℕ} {ask : Ask} {rest : Str} {p : Path} {lim : Limits} {matched : ℕ} {leaf : Bool} {root : ℕ} {prefix : Str} where
-  pub walking-first : {a : Tally} {flat out : List ℕ} {at : ℕ} → TreeReady ws txt ask rest p lim leaf root prefix → at ≡ head0 (matches ws txt root prefix)
-      → Walking ws txt ask rest p lim matched leaf root prefix a a flat flat out out at
+module _ {ws txt : List ℕ} {ask : Ask} {rest : Str} {p : Path} {lim : Limits} {matched : ℕ} {leaf : Bool} {root label : ℕ} {prefix : Str} where
+  pub along-first : {a : Tally} {flat out : List ℕ} {at : ℕ} → TreeReady ws txt ask rest p lim leaf root label prefix → at ≡ head0 (matches ws txt root prefix)
+      → Along ws txt ask rest p lim matched leaf root label prefix a a flat flat out out at
   unfolding tree-entries
-  walking-first {at = at} r e =
+  along-first {at = at} r e =
       let f = first-onward (r .tree-at) prefix at e in
       record { tree-at = r .tree-at; left = rw (f .0) (left-all ws txt ask rest p lim matched leaf (r .room)); standing = f .1 }
 
-  module _ {a t : Tally} {flat flat′ out out′ : List ℕ} {at : ℕ} (g : Walking ws txt ask rest p lim matched leaf root prefix a t flat flat′ out out′ at) where
+  module _ {a t : Tally} {flat flat′ out out′ : List ℕ} {at : ℕ} (g : Along ws txt ask rest p lim matched leaf root label prefix a t flat flat′ out out′ at) where
     module _ (n : at ≡ 0 → ⊥) where
       here : MatchOf ws txt (asked ask) (level-of leaf) root prefix at
       here = g .standing .matching n
 
-      pub walking-earlier : at ≤ root
-      walking-earlier = omega (arith, here .branch .link .earlier)
+      pub along-earlier : at ≤ root
+      along-earlier = omega (arith, here .branch .link .earlier)
 
       branch-here : BranchAt ws txt (asked ask) (level-of leaf) at
       branch-here = record { records = g .tree-at .records; used = g .tree-at .used; sound = g .tree-at .sound; some = here .branch .some; link = link-later (omega (arith, g .tree-at .link .earlier)) (here .branch .link) }
 
-      split : bare (onward ws txt prefix root at) ≡ record { branch = at; label = 0 } ∷ bare (later ws txt prefix root at)
+      split : labelled label (onward ws txt prefix root at) ≡ record { branch = at; label = label } ∷ labelled label (later ws txt prefix root at)
       unfolding onward
       split = rw (ne-eqb at 0 n)
 
-      pub walking-branch : TreeReady ws txt ask rest p lim leaf root prefix → BranchReady ws txt ask rest p lim leaf at 0
-      walking-branch r = record {
+      pub along-branch : TreeReady ws txt ask rest p lim leaf root label prefix → BranchReady ws txt ask rest p lim leaf at label
+      along-branch r = record {
         ready = r .ready;
         branch-at = branch-here;
-        label-at = no-label (branch-here .sound);
+        label-at = r .label-at;
         room = λ z. (rw split at (g .left .room z)) .0;
       }
 
-      pub walking-tree : (0 < at) × AnyTree ws txt at
-      walking-tree = (here .branch .some, any-tree (branch-tree branch-here))
+      pub along-tree : (0 < at) × AnyTree ws txt at
+      along-tree = (here .branch .some, any-tree (branch-tree branch-here))
 
-      pub walking-begins : starts-with (key-at ws txt at) prefix ≡ true
-      walking-begins = here .begins
+      pub along-begins : starts-with (key-at ws txt at) prefix ≡ true
+      along-begins = here .begins
 
-      module _ {t′ : Tally} {flat″ out″ : List ℕ} (b : BranchRuns ws txt ask rest p lim matched t t′ flat′ flat″ out′ out″ leaf at 0) (lf : length flat″ ≡ length flat′) (lo : length out″ ≡ length out′) where
-        pub walking-spent : lim .budget < t′ .entered → EntriesRun ws txt ask rest p lim matched a t′ flat flat″ out out″ leaf (tree-entries ws txt root prefix)
-        walking-spent s = left-spent ws txt ask rest p lim matched leaf (left-next ws txt ask rest p lim matched leaf (rw split at (g .left)) b lf lo) s
+      module _ {t′ : Tally} {flat″ out″ : List ℕ} (b : BranchRuns ws txt ask rest p lim matched t t′ flat′ flat″ out′ out″ leaf at label) (lf : length flat″ ≡ length flat′) (lo : length out″ ≡ length out′) where
+        pub along-spent : lim .budget < t′ .entered → EntriesRun ws txt ask rest p lim matched a t′ flat flat″ out out″ leaf (tree-entries ws txt root label prefix)
+        along-spent s = left-spent ws txt ask rest p lim matched leaf (left-next ws txt ask rest p lim matched leaf (rw split at (g .left)) b lf lo) s
 
         module _ {r : ℕ} (e : r ≡ head0 (later ws txt prefix root at)) where
-          pub walking-next : Walking ws txt ask rest p lim matched leaf root prefix a t′ flat flat″ out out″ r
-          walking-next =
+          pub along-next : Along ws txt ask rest p lim matched leaf root label prefix a t′ flat flat″ out out″ r
+          along-next =
               let f = next-onward (g .tree-at) prefix at r n e in
               record {
                 tree-at = g .tree-at;
@@ -154,42 +159,64 @@ module _ {ws txt : List ℕ} {ask : Ask} {rest : Str} {p : Path} {lim : Limits} 
                 standing = f .1;
               }
 
-          pub walking-less : length (onward ws txt prefix root r) < length (onward ws txt prefix root at)
-          walking-less = let f = next-onward (g .tree-at) prefix at r n e in omega (arith, ap length (f .0))
+          pub along-less : length (onward ws txt prefix root r) < length (onward ws txt prefix root at)
+          along-less = let f = next-onward (g .tree-at) prefix at r n e in omega (arith, ap length (f .0))
 
-    pub walking-done : at ≡ 0 → EntriesRun ws txt ask rest p lim matched a t flat flat′ out out′ leaf (tree-entries ws txt root prefix)
+    pub along-done : at ≡ 0 → EntriesRun ws txt ask rest p lim matched a t flat flat′ out out′ leaf (tree-entries ws txt root label prefix)
     unfolding onward
-    walking-done z = left-none ws txt ask rest p lim matched leaf (rw (eq-eqb at 0 z) at (g .left))
+    along-done z = left-none ws txt ask rest p lim matched leaf (rw (eq-eqb at 0 z) at (g .left))
 
 -- The run, with notes of the branches after the one at hand.
-module _ (ws txt : List ℕ) (ask : Ask) (rest : Str) (p : Path) (lim : Limits) (matched : ℕ) (leaf : Bool) (root : ℕ) (prefix : Str) where
-  pub record Stepping (a t : Tally) (flat flat′ out out′ notes : List ℕ) (s : Next) : Type 0 where
-    pub walking : Walking ws txt ask rest p lim matched leaf root prefix a t flat flat′ out out′ (s .link)
-    pub noted : (s .link ≡ 0 → ⊥) → Noted ws txt prefix notes (s .n) (later ws txt prefix root (s .link))
+module _ (ws txt : List ℕ) (query : Str) (place : Place) (f : Found) (run run′ flat flat′ out out′ notes : List ℕ) (s : Next) where
+  pub record Stepping : Type 0 where
+    pub same : SamePath run run′
+    pub along : Along ws txt (place .task .ask) (drop (place .next) query) (path-in run) (place .task .lim) (place .task .matched) (place .leaf) (f .link) (f .label) (take (place .len) query)
+        (tally-in run) (tally-in run′) flat flat′ out out′ (s .link)
+    pub noted : (s .link ≡ 0 → ⊥) → Noted ws txt (take (place .len) query) notes (s .n) (later ws txt (take (place .len) query) (f .link) (s .link))
 
-noted-after : (ws txt : List ℕ) (prefix : Str) (root : ℕ) {notes : List ℕ} {l : List ℕ} {s : Next} → Walks ws txt prefix notes l s → onward ws txt prefix root (s .link) ≡ l → (s .link ≡ 0 → ⊥)
+noted-after : (ws txt : List ℕ) (prefix : Str) (root : ℕ) {notes : List ℕ} {l : List ℕ} {s : Next} → Matched ws txt prefix notes l s → onward ws txt prefix root (s .link) ≡ l → (s .link ≡ 0 → ⊥)
     → Noted ws txt prefix notes (s .n) (later ws txt prefix root (s .link))
 unfolding onward
 noted-after ws txt prefix root {s = s} w e n = w .noted (s .link) (later ws txt prefix root (s .link)) (sym e ∙ rw (ne-eqb (s .link) 0 n))
 
-module _ {ws txt : List ℕ} {ask : Ask} {rest : Str} {p : Path} {lim : Limits} {matched : ℕ} {leaf : Bool} {root : ℕ} {prefix : Str} where
-  pub stepping-first : {a : Tally} {flat out notes : List ℕ} {s : Next} → TreeReady ws txt ask rest p lim leaf root prefix → Walks ws txt prefix notes (matches ws txt root prefix) s
-      → Stepping ws txt ask rest p lim matched leaf root prefix a a flat flat out out notes s
-  stepping-first {s = s} r w = record { walking = walking-first r (w .head); noted = noted-after ws txt prefix root w (first-onward (r .tree-at) prefix (s .link) (w .head) .0) }
-
-  pub stepping-next : {a t t′ : Tally} {flat flat′ flat″ out out′ out″ notes notes′ : List ℕ} {s s′ : Next}
-      → (g : Stepping ws txt ask rest p lim matched leaf root prefix a t flat flat′ out out′ notes s) (n : s .link ≡ 0 → ⊥)
-      → BranchRuns ws txt ask rest p lim matched t t′ flat′ flat″ out′ out″ leaf (s .link) 0 → length flat″ ≡ length flat′ → length out″ ≡ length out′
-      → Walks ws txt prefix notes′ (later ws txt prefix root (s .link)) s′
-      → Stepping ws txt ask rest p lim matched leaf root prefix a t′ flat flat″ out out″ notes′ s′
-  unfolding onward
-  stepping-next {s = s} {s′} g n b lf lo w = record {
-    walking = walking-next (g .walking) n b lf lo (w .head);
-    noted = noted-after ws txt prefix root w (let e = next-onward (g .walking .tree-at) prefix (s .link) (s′ .link) n (w .head) .0 in tail-of (sym (rw (ne-eqb (s .link) 0 n) at e)));
+module _ {ws txt : List ℕ} {query : Str} {place : Place} {f : Found} {run : List ℕ} where
+  pub stepping-first : {flat out notes : List ℕ} {s : Next} → TreeAsked ws txt query place run f → Matched ws txt (take (place .len) query) notes (matches ws txt (f .link) (take (place .len) query)) s
+      → Stepping ws txt query place f run run flat flat out out notes s
+  stepping-first {s = s} r w = record {
+    same = same-path run;
+    along = along-first (r .can) (w .head);
+    noted = noted-after ws txt (take (place .len) query) (f .link) w (first-onward (r .can .tree-at) (take (place .len) query) (s .link) (w .head) .0);
   }
-    where
-      tail-of : {x : ℕ} {l m : List ℕ} → x ∷ l ≡ x ∷ m → l ≡ m
-      tail-of e = cc
+
+  module _ {run′ flat flat′ out out′ notes : List ℕ} {s : Next} (g : Stepping ws txt query place f run run′ flat flat′ out out′ notes s) where
+    abbrev pub at-hand : Found
+    at-hand = record { link = s .link; label = f .label }
+
+    pub stepping-done : s .link ≡ 0 → TreeListed ws txt query place run run′ flat flat′ out out′ f
+    stepping-done z = record { same = g .same; runs = along-done (g .along) z }
+
+    module _ (n : s .link ≡ 0 → ⊥) where
+      pub stepping-branch : TreeAsked ws txt query place run f → BranchAsked ws txt query place run′ at-hand
+      stepping-branch r = record { place-ok = r .place-ok; can = branch-ready-at (g .same) (along-branch (g .along) n (r .can)) }
+
+      module _ {run″ flat″ out″ : List ℕ} (b : BranchListed ws txt query place run′ run″ flat′ flat″ out′ out″ at-hand) (lf : length flat″ ≡ length flat′) (lo : length out″ ≡ length out′) where
+        pub stepping-spent : place .task .lim .budget < getD run″ 19 0 → TreeListed ws txt query place run run″ flat flat″ out out″ f
+        stepping-spent k = record { same = same-then (g .same) (b .same); runs = along-spent (g .along) n (branch-runs-at (g .same) (b .runs)) lf lo k }
+
+        module _ {notes′ : List ℕ} {s′ : Next} (w : Matched ws txt (take (place .len) query) notes′ (later ws txt (take (place .len) query) (f .link) (s .link)) s′) where
+          pub stepping-next : Stepping ws txt query place f run run″ flat flat″ out out″ notes′ s′
+          unfolding onward
+          stepping-next = record {
+            same = same-then (g .same) (b .same);
+            along = along-next (g .along) n (branch-runs-at (g .same) (b .runs)) lf lo (w .head);
+            noted = noted-after ws txt (take (place .len) query) (f .link) w (let e = next-onward (g .along .tree-at) (take (place .len) query) (s .link) (s′ .link) n (w .head) .0 in tail-of (sym (rw (ne-eqb (s .link) 0 n) at e)));
+          }
+            where
+              tail-of : {x : ℕ} {l m : List ℕ} → x ∷ l ≡ x ∷ m → l ≡ m
+              tail-of e = cc
+
+          pub stepping-less : length (onward ws txt (take (place .len) query) (f .link) (s′ .link)) < length (onward ws txt (take (place .len) query) (f .link) (s .link))
+          stepping-less = along-less (g .along) n (branch-runs-at (g .same) (b .runs)) lf lo (w .head)
 
 -- ---- A list
 
@@ -235,84 +262,109 @@ entries-list {ws} {txt} {ask} {leaf = leaf} {x} says runs = record {
 
 -- ---- One tree
 
-module _ {ws txt : List ℕ} {ask : Ask} {rest : Str} {p : Path} {lim : Limits} {leaf : Bool} {x root : ℕ} (r : ListReady ws txt ask rest p lim leaf x) (o : Single ws x root) (h : 0 < root) where
-  single-in : SingleIn ws txt (asked ask) (level-of leaf) x root
-  single-in = o txt (asked ask) (level-of leaf) (r .list-at) h
+module _ {ws txt : List ℕ} {query : Str} {place : Place} {run : List ℕ} {x root label : ℕ} (r : ListAsked ws txt query place run x)
+    (o : OneTree ws txt (asked (place .task .ask)) (level-of (place .leaf)) x (take (place .len) query) root label) where
+  abbrev pub alone : Found
+  alone = record { link = root; label = label }
 
-  pub single-earlier : root ≤ x
-  single-earlier = omega (arith, single-in .link .earlier)
+  pub one-earlier : root ≤ x
+  one-earlier = omega (arith, o .root-link .earlier)
 
-  single-says : (prefix : Str) (term : SearchTerm) (o : Option Str) → Asks term prefix o
-      → map outer (found (what (asked ask) ws txt x (list (level-of leaf))) term) ≡ map (shown (asked ask) ws txt (level-of leaf) o) (tree-entries ws txt root prefix)
+  one-says : (term : SearchTerm) (q : Option Str) → Asks term (take (place .len) query) q
+      → map outer (found (what (asked (place .task .ask)) ws txt x (list (level-of (place .leaf)))) term)
+      ≡ map (shown (asked (place .task .ask)) ws txt (level-of (place .leaf)) q) (tree-entries ws txt root label (take (place .len) query))
   unfolding tree-entries
-  single-says prefix term o asks = single-found (r .list-at) single-in asks
+  one-says term q asks = o .says term q asks
 
-  pub single-ready : (prefix : Str) → TreeReady ws txt ask rest p lim leaf root prefix
-  single-ready prefix = record {
-    ready = r .ready;
-    tree-at = at-of (r .list-at) (tree _) (omega arith) (single-in .link);
-    room = list-room r prefix (tree-entries ws txt root prefix) (single-says prefix);
+  pub one-ready : TreeAsked ws txt query place run alone
+  one-ready = record {
+    place-ok = r .place-ok;
+    can = record {
+      ready = r .can .ready;
+      tree-at = at-of (r .can .list-at) (tree _) (omega arith) (o .root-link);
+      label-at = label-here (r .can .list-at) (o .label-ok);
+      room = list-room (r .can) (take (place .len) query) (tree-entries ws txt root label (take (place .len) query)) one-says;
+    };
   }
 
-  pub single-runs : {matched : ℕ} {prefix : Str} {a t : Tally} {flat flat′ out out′ : List ℕ} → EntriesRun ws txt ask rest p lim matched a t flat flat′ out out′ leaf (tree-entries ws txt root prefix)
-      → ListRuns ws txt ask rest p lim matched a t flat flat′ out out′ leaf x prefix
-  single-runs {prefix = prefix} runs = entries-list (single-says prefix) runs
+  pub one-runs : {run′ flat flat′ out out′ : List ℕ} → TreeListed ws txt query place run run′ flat flat′ out out′ alone → ListListed ws txt query place run run′ flat flat′ out out′ x
+  one-runs t = record { same = t .same; runs = entries-list one-says (t .runs) }
 
 -- ---- A merge
 
-module _ (ws txt : List ℕ) (ask : Ask) (rest : Str) (p : Path) (lim : Limits) (matched : ℕ) (leaf : Bool) (x : ℕ) (prefix : Str) where
+module _ (ws txt : List ℕ) (query : Str) (place : Place) (x : ℕ) (run run′ flat flat′ out out′ : List ℕ) (m : Merge) where
   -- The run over a list has come to what the state m gives.
-  pub record Merging (a t : Tally) (flat flat′ out out′ : List ℕ) (m : Merge) : Type 0 where
+  pub record Merging : Type 0 where
+    pub same : SamePath run run′
     pub all : List Entry
-    pub says : (term : SearchTerm) (o : Option Str) → Asks term prefix o
-        → map outer (found (what (asked ask) ws txt x (list (level-of leaf))) term) ≡ map (shown (asked ask) ws txt (level-of leaf) o) all
+    pub says : (term : SearchTerm) (o : Option Str) → Asks term (take (place .len) query) o
+        → map outer (found (what (asked (place .task .ask)) ws txt x (list (level-of (place .leaf)))) term) ≡ map (shown (asked (place .task .ask)) ws txt (level-of (place .leaf)) o) all
     pub entries : List Entry
-    pub gives : M.Rest ws txt (asked ask) (level-of leaf) x prefix m entries
-    pub left : Left ws txt ask rest p lim matched leaf a t flat flat′ out out′ all entries
+    pub gives : M.Rest ws txt (asked (place .task .ask)) (level-of (place .leaf)) x (take (place .len) query) m entries
+    pub left : Left ws txt (place .task .ask) (drop (place .next) query) (path-in run) (place .task .lim) (place .task .matched) (place .leaf) (tally-in run) (tally-in run′) flat flat′ out out′ all entries
 
-module _ {ws txt : List ℕ} {ask : Ask} {rest : Str} {p : Path} {lim : Limits} {matched : ℕ} {leaf : Bool} {x : ℕ} {prefix : Str} where
-  pub merging-first : {a : Tally} {flat out : List ℕ} {m : Merge} → ListReady ws txt ask rest p lim leaf x → Starts ws txt x prefix m
-      → Merging ws txt ask rest p lim matched leaf x prefix a a flat flat out out m
+module _ {ws txt : List ℕ} {query : Str} {place : Place} {x : ℕ} {run : List ℕ} where
+  pub merging-first : {flat out : List ℕ} {m : Merge} → ListAsked ws txt query place run x → Starts ws txt x (take (place .len) query) m → Merging ws txt query place x run run flat flat out out m
   merging-first r s =
-      let k = s (asked ask) (level-of leaf) (r .list-at) in
-      record { all = k .entries; says = k .says; entries = k .entries; gives = k .rest; left = left-all ws txt ask rest p lim matched leaf (list-room r prefix (k .entries) (k .says)) }
+      let k = s (asked (place .task .ask)) (level-of (place .leaf)) (r .can .list-at) in
+      record {
+        same = same-path run;
+        all = k .entries;
+        says = k .says;
+        entries = k .entries;
+        gives = k .rest;
+        left = left-all ws txt (place .task .ask) (drop (place .next) query) (path-in run) (place .task .lim) (place .task .matched) (place .leaf) (list-room (r .can) (take (place .len) query) (k .entries) (k .says));
+      }
 
-  module _ {a t : Tally} {flat flat′ out out′ : List ℕ} {m : Merge} (g : Merging ws txt ask rest p lim matched leaf x prefix a t flat flat′ out out′ m) where
-    pub merging-any : AnyRest ws txt prefix m
+  module _ {run′ flat flat′ out out′ : List ℕ} {m : Merge} (g : Merging ws txt query place x run run′ flat flat′ out out′ m) where
+    pub merging-any : AnyRest ws txt (take (place .len) query) m
     merging-any = rest-any (g .gives)
 
-    module _ {s : Step} (f : Gives ws txt prefix m s) where
-      pub merging-done : s .branch ≡ 0 → ListRuns ws txt ask rest p lim matched a t flat flat′ out out′ leaf x prefix
-      merging-done z = entries-list (g .says) (left-none ws txt ask rest p lim matched leaf (rw (gives-end (g .gives) f z) at (g .left)))
+    module _ {s : Step} (f : Gives ws txt (take (place .len) query) m s) where
+      abbrev pub given : Found
+      given = record { link = s .branch; label = s .label }
+
+      pub merging-done : s .branch ≡ 0 → ListListed ws txt query place run run′ flat flat′ out out′ x
+      merging-done z = record { same = g .same; runs = entries-list (g .says) (left-none ws txt _ _ _ _ _ _ (rw (gives-end (g .gives) f z) at (g .left))) }
 
       module _ (n : s .branch ≡ 0 → ⊥) where
         pub merging-earlier : s .branch ≤ x
         merging-earlier = omega (arith, gives-more (g .gives) f n .given .branch .link .earlier)
 
-        pub merging-less : left-in ws txt prefix (s .m) < left-in ws txt prefix m
+        pub merging-less : left-in ws txt (take (place .len) query) (s .m) < left-in ws txt (take (place .len) query) m
         merging-less = gives-more (g .gives) f n .given .fewer
 
-        pub merging-branch : ListReady ws txt ask rest p lim leaf x → BranchReady ws txt ask rest p lim leaf (s .branch) (s .label)
+        pub merging-branch : ListAsked ws txt query place run x → BranchAsked ws txt query place run′ given
         merging-branch r =
             let k = gives-more (g .gives) f n in
-            let t = r .list-at in
+            let t = r .can .list-at in
             record {
-              ready = r .ready;
-              branch-at = record { records = t .records; used = t .used; sound = t .sound; some = k .given .branch .some; link = link-later (omega (arith, t .link .earlier)) (k .given .branch .link) };
-              label-at = record {
-                records = t .records;
-                used = t .used;
-                sound = t .sound;
-                ok = record { link = link-later (omega (arith, t .link .earlier)) (k .given .label-ok .link); imports = k .given .label-ok .imports };
-              };
-              room = λ z. (rw (k .is) at (g .left .room z)) .0;
+              place-ok = r .place-ok;
+              can = branch-ready-at (g .same) (record {
+                ready = r .can .ready;
+                branch-at = record { records = t .records; used = t .used; sound = t .sound; some = k .given .branch .some; link = link-later (omega (arith, t .link .earlier)) (k .given .branch .link) };
+                label-at = record {
+                  records = t .records;
+                  used = t .used;
+                  sound = t .sound;
+                  ok = record { link = link-later (omega (arith, t .link .earlier)) (k .given .label-ok .link); imports = k .given .label-ok .imports };
+                };
+                room = λ z. (rw (k .is) at (g .left .room z)) .0;
+              });
             }
 
-        module _ {t′ : Tally} {flat″ out″ : List ℕ} (b : BranchRuns ws txt ask rest p lim matched t t′ flat′ flat″ out′ out″ leaf (s .branch) (s .label)) (lf : length flat″ ≡ length flat′) (lo : length out″ ≡ length out′) where
-          pub merging-next : Merging ws txt ask rest p lim matched leaf x prefix a t′ flat flat″ out out″ (s .m)
+        module _ {run″ flat″ out″ : List ℕ} (b : BranchListed ws txt query place run′ run″ flat′ flat″ out′ out″ given) (lf : length flat″ ≡ length flat′) (lo : length out″ ≡ length out′) where
+          pub merging-next : Merging ws txt query place x run run″ flat flat″ out out″ (s .m)
           merging-next =
               let k = gives-more (g .gives) f n in
-              record { all = g .all; says = g .says; entries = k .after; gives = k .given .rest; left = left-next ws txt ask rest p lim matched leaf (rw (k .is) at (g .left)) b lf lo }
+              record {
+                same = same-then (g .same) (b .same);
+                all = g .all;
+                says = g .says;
+                entries = k .after;
+                gives = k .given .rest;
+                left = left-next ws txt _ _ _ _ _ _ (rw (k .is) at (g .left)) (branch-runs-at (g .same) (b .runs)) lf lo;
+              }
 
-          pub merging-spent : lim .budget < t′ .entered → ListRuns ws txt ask rest p lim matched a t′ flat flat″ out out″ leaf x prefix
-          merging-spent z = entries-list (merging-next .says) (left-spent ws txt ask rest p lim matched leaf (merging-next .left) z)
+          pub merging-spent : place .task .lim .budget < getD run″ 19 0 → ListListed ws txt query place run run″ flat flat″ out out″ x
+          merging-spent z = record { same = merging-next .same; runs = entries-list (merging-next .says) (left-spent ws txt _ _ _ _ _ _ (merging-next .left) z) }

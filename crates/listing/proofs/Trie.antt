@@ -6,7 +6,7 @@ use mathlib.Core.List.{List, []}
 use native.Mathlib.Omega.{arith}
 use lib.Dec.{ltb}
 use borrow.Author.Tests.{ltb-true, ltb-false}
-use lib.ListN.{length, take, drop, length-drop}
+use lib.ListN.{length, getD, set, take, drop, length-drop}
 use Rattle.source.specs.Text.{Str, segments, ends-in-dot}
 use Rattle.source.specs.Types.{Level, Value, NameList, trie, ns, bindings, namespaces}
 use Rattle.source.specs.Terms.{depth, depth-names}
@@ -20,16 +20,19 @@ use Rattle.memory.specs.Read.{ReadTrie}
 use Rattle.memory.specs.declared.Trie.{Trie}
 use Rattle.memory.proofs.Tries.{lists-seen, bindings-at, namespaces-at, bindings-read, namespaces-read}
 use Rattle.lines.specs.Ask.{asked}
-use Rattle.lines.specs.Path.{OnPath}
-use Rattle.lines.specs.Output.{Result, Shows, Goes}
+use Rattle.lines.specs.Path.{Path, OnPath}
+use Rattle.lines.specs.Output.{Tally, Result, Shows, Goes}
 use Rattle.lines.specs.Lines.{only}
+use Rattle.lines.specs.Run.{SamePath}
 use Rattle.lines.specs.declared.Ask.{Ask}
-use Rattle.lines.specs.declared.Path.{Path}
 use Rattle.lines.specs.declared.Limits.{Limits}
-use Rattle.lines.specs.declared.Tally.{Tally}
+use Rattle.lines.specs.declared.Task.{Task}
+use Rattle.lines.proofs.Run.{same-then, same-set, tally-entered}
 use Rattle.lines.proofs.Goes.{written-none, goes-none, goes-then}
-use Rattle.listing.specs.Runs.{trie-gives, elements-give, Matching, Cuts, Ready, ListReady, ListRuns, TrieReady, TrieRuns}
+use Rattle.listing.specs.Runs.{trie-gives, elements-give, Matching, Cuts, Ready, ListReady, ListRuns, TrieReady, TrieRuns, PlaceOk, ListAsked, ListListed, TrieAsked, TrieListed}
+use Rattle.listing.specs.declared.Place.{Place}
 use Rattle.listing.specs.declared.Cut.{Cut}
+use Rattle.listing.proofs.Runs.{list-ready-at, list-runs-at}
 use Rattle.listing.proofs.Gives.{once, trie-gives-is}
 use Rattle.memory.proofs.At.{at-fits}
 
@@ -159,3 +162,45 @@ module _ {ws txt : List ℕ} {ask : Ask} {query : Str} {p : Path} {lim : Limits}
               (goes-then (goes-once a flat out h)
               (goes-then (goes-none (inside a) flat out)
               (n .goes path _ (cut .prefix-is) k on (rw (cut .rest) st) (cut .asks) (λ z. omega (arith, deep)))))
+
+-- ---- The lent run
+
+module _ {ws txt : List ℕ} {query : Str} {task : Task} {run : List ℕ} {x : ℕ} (r : TrieAsked ws txt query task run x) where
+  pub trie-spent : {flat out : List ℕ} → task .lim .budget ≤ getD run 19 0 → TrieListed ws txt query task run (set run 19 (task .lim .budget + 1)) flat flat out out x
+  trie-spent h = record {
+    same = same-set run 19 (task .lim .budget + 1) (r .can .ready .path-ok .few) (omega arith);
+    runs = rw (tally-entered run (task .lim .budget + 1) (r .can .ready .path-ok .sized)) (trie-over (r .can) h);
+  }
+
+  module _ {t : Trie} (seen : ReadTrie ws x t) {c : Cut} (cut : Cuts query (getD run 17 0) (task .matched) c) (h : getD run 19 0 < task .lim .budget) where
+    abbrev pub down : Bool → Place
+    down leaf = record { task = record { ask = task .ask; lim = task .lim; matched = c .matched }; leaf = leaf; len = c .len; next = c .next }
+
+    abbrev pub run₁ : List ℕ
+    run₁ = set run 19 (getD run 19 0 + 1)
+
+    same₁ : SamePath run run₁
+    same₁ = same-set run 19 (getD run 19 0 + 1) (r .can .ready .path-ok .few) (omega arith)
+
+    place-ok : (leaf : Bool) → PlaceOk query (down leaf)
+    place-ok leaf = record { len-inside = omega (arith, cut .within, cut .inside); next-inside = cut .inside }
+
+    pub bindings-asked : ListAsked ws txt query (down true) run₁ (t .bindings)
+    bindings-asked = record { place-ok = place-ok true; can = list-ready-at same₁ (bindings-ready (r .can) seen cut) }
+
+    pub namespaces-asked : {run₂ : List ℕ} → SamePath run₁ run₂ → ListAsked ws txt query (down false) run₂ (t .namespaces)
+    namespaces-asked s = record { place-ok = place-ok false; can = list-ready-at (same-then same₁ s) (namespaces-ready (r .can) seen cut) }
+
+    module _ {run₂ flat flat₁ out out₁ : List ℕ} where
+      pub trie-few : c .next < length query → ListListed ws txt query (down false) run₁ run₂ flat flat₁ out out₁ (t .namespaces) → TrieListed ws txt query task run run₂ flat flat₁ out out₁ x
+      trie-few more n = record {
+        same = same-then same₁ (n .same);
+        runs = trie-spaces (r .can) seen cut h more (rw (tally-entered run (getD run 19 0 + 1) (r .can .ready .path-ok .sized)) at (list-runs-at same₁ (n .runs)));
+      }
+
+      pub trie-all : {run₃ flat₂ out₂ : List ℕ} → length query ≤ c .next → ListListed ws txt query (down true) run₁ run₂ flat flat₁ out out₁ (t .bindings)
+          → ListListed ws txt query (down false) run₂ run₃ flat₁ flat₂ out₁ out₂ (t .namespaces) → TrieListed ws txt query task run run₃ flat flat₂ out out₂ x
+      trie-all last b n = record {
+        same = same-then same₁ (same-then (b .same) (n .same));
+        runs = trie-both (r .can) seen cut h last (rw (tally-entered run (getD run 19 0 + 1) (r .can .ready .path-ok .sized)) at (list-runs-at same₁ (b .runs))) (list-runs-at (same-then same₁ (b .same)) (n .runs));
+      }

@@ -5,7 +5,7 @@ use mathlib.Core.Bool.{Bool, true, false}
 use mathlib.Core.List.{List, [], _∷_, map, reverse, tail}
 use mathlib.Core.Option.{Option, some}
 use lib.Dec.{eqb}
-use lib.ListN.{length, take, drop, set}
+use lib.ListN.{length, getD, take, drop}
 use Rattle.source.specs.Text.{Str, Query, segments, ends-in-dot}
 use Rattle.source.specs.Types.{Level, Value, Trie, bind, ns}
 use Rattle.source.specs.Trees.{PathElem}
@@ -17,19 +17,21 @@ use Rattle.source.specs.Shared.{Allˡ}
 use Rattle.source.specs.Forward.{found}
 use Rattle.source.specs.Forward.{line, made}
 use Rattle.source.specs.Forward.{base}
-use Rattle.memory.specs.Layout.{record-at, word, pick, Item, tree, list, trieˢ, what}
+use Rattle.memory.specs.Layout.{record-at, text-len, pick, Item, tree, list, trieˢ, what}
 use Rattle.tree.specs.Tree.{held}
 use Rattle.tree.specs.Links.{matches}
 use Rattle.merge.specs.Entries.{Entry, shown, outer, Asks}
 use Rattle.lines.specs.Ask.{asked, line-for}
-use Rattle.lines.specs.Path.{BranchAt, LabelAt, PathOk, OnPath}
-use Rattle.lines.specs.Output.{signed-word, Result, _⊕_, Small, Goes}
+use Rattle.lines.specs.Path.{Path, BranchAt, LabelAt, PathOk, OnPath}
+use Rattle.lines.specs.Output.{signed-word, Result, Tally, _⊕_, Small, Goes}
 use Rattle.lines.specs.Lines.{only}
+use Rattle.lines.specs.Run.{path-in, tally-in, SamePath}
 use Rattle.lines.specs.declared.Ask.{Ask}
-use Rattle.lines.specs.declared.Path.{Path}
 use Rattle.lines.specs.declared.Limits.{Limits}
-use Rattle.lines.specs.declared.Tally.{Tally}
+use Rattle.lines.specs.declared.Task.{Task}
+use Rattle.lines.specs.declared.Found.{Found}
 use Rattle.listing.specs.declared.Cut.{Cut}
+use Rattle.listing.specs.declared.Place.{Place}
 use Rattle.memory.specs.Sound.{At}
 
 -- ---- What is listed
@@ -74,10 +76,26 @@ pub record Cuts (query : Str) (len matched : ℕ) (c : Cut) : Type 0 where
 
 -- The path p with one more branch.
 pub record PathDown (ws : List ℕ) (p : Path) (branch label : ℕ) (r : Path) : Type 0 where
-  pub links-are : r .links ≡ set (p .links) (p .n) branch
+  pub size : length (r .links) ≡ length (p .links)
+  pub before : (j : ℕ) → j < p .n → getD (r .links) j 0 ≡ getD (p .links) j 0
+  pub last : getD (r .links) (p .n) 0 ≡ branch
   pub count : r .n ≡ p .n + 1
-  pub len-is : r .len ≡ p .len + word (record-at ws branch) 2 + 1
+  pub len-is : r .len ≡ p .len + text-len (record-at ws branch) + 1
   pub label-is : r .label ≡ pick (eqb (p .n) 0) label (p .label)
+
+-- The run's path has one more branch.
+pub record Entered (ws : List ℕ) (f : Found) (run run′ : List ℕ) : Type 0 where
+  pub down : PathDown ws (path-in run) (f .link) (f .label) (path-in run′)
+  pub tally-same : tally-in run′ ≡ tally-in run
+
+-- The run's path has n of its links, the length and the label.
+pub record PathSet (run run′ : List ℕ) (n len label : ℕ) : Type 0 where
+  pub size : length run′ ≡ length run
+  pub links : (j : ℕ) → j < 16 → getD run′ j 0 ≡ getD run j 0
+  pub count : getD run′ 16 0 ≡ n
+  pub len-is : getD run′ 17 0 ≡ len
+  pub label-is : getD run′ 18 0 ≡ label
+  pub tally-same : tally-in run′ ≡ tally-in run
 
 -- ---- What the functions require and leave
 
@@ -89,9 +107,9 @@ level-of leaf = pick leaf bind ns
 abbrev pub HasRoom : (ws txt : List ℕ) (ask : Ask) (p : Path) → Entry → Type 0
 HasRoom ws txt ask p e = p .n + depth (held (asked ask) ws txt ns (e .branch)) < 16
 
--- The matches of a tree, with no label.
-unfoldable pub tree-entries : (ws txt : List ℕ) (root : ℕ) (prefix : Str) → List Entry
-tree-entries ws txt root prefix = map (λ b. record { branch = b; label = 0 }) (matches ws txt root prefix)
+-- The matches of a tree, each with the tree's label.
+unfoldable pub tree-entries : (ws txt : List ℕ) (root label : ℕ) (prefix : Str) → List Entry
+tree-entries ws txt root label prefix = map (λ b. record { branch = b; label = label }) (matches ws txt root prefix)
 
 module _ (ws txt : List ℕ) (ask : Ask) (rest : Str) (p : Path) (lim : Limits) where
   -- What each function requires of the rest of the query, the path and the limits.
@@ -107,10 +125,11 @@ module _ (ws txt : List ℕ) (ask : Ask) (rest : Str) (p : Path) (lim : Limits) 
     pub label-at : LabelAt ws txt (asked ask) (level-of leaf) label
     pub room : leaf ≡ false → HasRoom ws txt ask p (record { branch = branch; label = label })
 
-  pub record TreeReady (leaf : Bool) (root : ℕ) (prefix : Str) : Type 0 where
+  pub record TreeReady (leaf : Bool) (root label : ℕ) (prefix : Str) : Type 0 where
     pub ready : Ready
     pub tree-at : At ws txt (asked ask) (tree (level-of leaf)) root
-    pub room : leaf ≡ false → Allˡ (HasRoom ws txt ask p) (tree-entries ws txt root prefix)
+    pub label-at : LabelAt ws txt (asked ask) (level-of leaf) label
+    pub room : leaf ≡ false → Allˡ (HasRoom ws txt ask p) (tree-entries ws txt root label prefix)
 
   pub record ListReady (leaf : Bool) (x : ℕ) : Type 0 where
     pub ready : Ready
@@ -155,3 +174,45 @@ module _ (ws txt : List ℕ) (ask : Ask) (rest : Str) (p : Path) (lim : Limits) 
       pub goes : (path : PathOf) (n : ℕ)
           → OnPath ws txt p path → Matching path (segments rest) matched → depth (what (asked ask) ws txt trie trieˢ) < n
           → Went (trie-gives ask n (what (asked ask) ws txt trie trieˢ) path (segments rest))
+
+-- ---- The contracts: of a query that is cut, and the lent run
+
+-- The query is cut within.
+pub record PlaceOk (query : Str) (place : Place) : Type 0 where
+  pub len-inside : place .len ≤ length query
+  pub next-inside : place .next ≤ length query
+
+module _ (ws txt : List ℕ) (query : Str) (place : Place) (run : List ℕ) where
+  pub record BranchAsked (f : Found) : Type 0 where
+    pub place-ok : PlaceOk query place
+    pub can : BranchReady ws txt (place .task .ask) (drop (place .next) query) (path-in run) (place .task .lim) (place .leaf) (f .link) (f .label)
+
+  pub record TreeAsked (f : Found) : Type 0 where
+    pub place-ok : PlaceOk query place
+    pub can : TreeReady ws txt (place .task .ask) (drop (place .next) query) (path-in run) (place .task .lim) (place .leaf) (f .link) (f .label) (take (place .len) query)
+
+  pub record ListAsked (x : ℕ) : Type 0 where
+    pub place-ok : PlaceOk query place
+    pub can : ListReady ws txt (place .task .ask) (drop (place .next) query) (path-in run) (place .task .lim) (place .leaf) x
+
+  module _ (run′ flat flat′ out out′ : List ℕ) where
+    pub record BranchListed (f : Found) : Type 0 where
+      pub same : SamePath run run′
+      pub runs : BranchRuns ws txt (place .task .ask) (drop (place .next) query) (path-in run) (place .task .lim) (place .task .matched) (tally-in run) (tally-in run′) flat flat′ out out′ (place .leaf) (f .link) (f .label)
+
+    pub record TreeListed (f : Found) : Type 0 where
+      pub same : SamePath run run′
+      pub runs : EntriesRun ws txt (place .task .ask) (drop (place .next) query) (path-in run) (place .task .lim) (place .task .matched) (tally-in run) (tally-in run′) flat flat′ out out′ (place .leaf)
+          (tree-entries ws txt (f .link) (f .label) (take (place .len) query))
+
+    pub record ListListed (x : ℕ) : Type 0 where
+      pub same : SamePath run run′
+      pub runs : ListRuns ws txt (place .task .ask) (drop (place .next) query) (path-in run) (place .task .lim) (place .task .matched) (tally-in run) (tally-in run′) flat flat′ out out′ (place .leaf) x (take (place .len) query)
+
+module _ (ws txt : List ℕ) (query : Str) (task : Task) (run : List ℕ) where
+  pub record TrieAsked (x : ℕ) : Type 0 where
+    pub can : TrieReady ws txt (task .ask) query (path-in run) (task .lim) x
+
+  pub record TrieListed (run′ flat flat′ out out′ : List ℕ) (x : ℕ) : Type 0 where
+    pub same : SamePath run run′
+    pub runs : TrieRuns ws txt (task .ask) query (path-in run) (task .lim) (task .matched) (tally-in run) (tally-in run′) flat flat′ out out′ x

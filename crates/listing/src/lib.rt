@@ -2,17 +2,19 @@
 // One run serves counting and writing: a line is written where it fits what is lent, and counting lends nothing.
 // The calls go no deeper than five to a trie, and tries no deeper than 17.
 use lines::Ask;
+use lines::Found;
 use lines::Limits;
-use lines::Path;
-use lines::Tally;
+use lines::Task;
+use merge::Turn;
 ghost use mathlib.Core.Path.{_≡_};
-ghost use mathlib.Core.Bool.{true, false};
+ghost use mathlib.Core.Bool.{true};
 ghost use Prim.Native.Nat.{_+_, _*_, _≤_, _<_, min};
 ghost use lib.ListN.{length};
 ghost use Rattle.source.specs.Text.{ends-in-dot};
 ghost use Rattle.lines.specs.Ask.{asked};
+ghost use Rattle.lines.specs.Run.{path-in};
 ghost use Rattle.listing.specs.Completes.{Completes};
-ghost use Rattle.listing.specs.Runs.{Cuts, PathDown, tree-entries, BranchReady, BranchRuns, TreeReady, EntriesRun, ListReady, ListRuns, TrieReady, TrieRuns};
+ghost use Rattle.listing.specs.Runs.{Cuts, Entered, PathSet, BranchAsked, BranchListed, TreeAsked, TreeListed, ListAsked, ListListed, TrieAsked, TrieListed};
 ghost use Rattle.memory.specs.Sound.{At};
 ghost use Rattle.memory.specs.Layout.{trieˢ};
 
@@ -21,6 +23,14 @@ struct Cut {
     len: usize,
     next: usize,
     matched: u32,
+}
+
+// Where a run stands in a trie: what the lines of the list have in common, whether it is of bindings, and where the query is cut.
+struct Place {
+    task: Task,
+    leaf: bool,
+    len: usize,
+    next: usize,
 }
 
 // Cuts the first segment off, if there is one.
@@ -43,176 +53,165 @@ fn cut_query(query: &[u8], base: usize, matched: u32) -> Cut
     }
 }
 
-// The path to the trie of a branch of namespaces.
-fn below(words: &[u32], path: Path, branch: u32, label: u32) -> Path
-    requires { ⌜ (0 < branch) × (branch * 12 ≤ length (now words)) ⌝ }
-    requires { ⌜ (length (path .links) ≡ 16) × (path .n < 16) × (path .len ≤ 544) ⌝ }
-    ensures { λ r. ⌜ PathDown (now (words .entry)) path branch label r ⌝ }
+// Gives the path as many of its links, the length and the label.
+fn set_path(run: &mut [usize; lines::RUN], n: usize, len: usize, label: usize)
+    requires { ⌜ length (now run) ≡ 22 ⌝ }
+    ensures { λ _. ⌜ PathSet (now (run .entry)) (now (run .exit)) n len label ⌝ }
 {
-    let n = path.n;
-    let size = memory::word_of(words, branch, 2) as usize;
-    let mut links = path.links;
-    links[n] = branch;
-    let mut outer = path.label;
+    run[lines::COUNT] = n;
+    run[lines::LENGTH] = len;
+    run[lines::LABEL] = label;
+}
+
+// Puts a branch of namespaces onto the path.
+fn enter(words: &[u32], found: Found, run: &mut [usize; lines::RUN])
+    requires { ⌜ (0 < found .link) × (found .link * 12 ≤ length (now words)) ⌝ }
+    requires { ⌜ (length (now run) ≡ 22) × (path-in (now run) .n < 16) × (path-in (now run) .len ≤ 544) ⌝ }
+    ensures { λ _. ⌜ Entered (now (words .entry)) found (now (run .entry)) (now (run .exit)) ⌝ }
+{
+    let n = run[lines::COUNT];
+    let len = run[lines::LENGTH] + memory::text_len(words, found.link) as usize + 1;
+    let mut label = run[lines::LABEL];
     if n == 0 {
-        outer = label;
+        label = found.label as usize;
     }
-    Path {
-        links: links,
-        n: n + 1,
-        len: path.len + size + 1,
-        label: outer,
-    }
+    run[n] = found.link as usize;
+    set_path(run, n + 1, len, label);
 }
 
 // What a found branch gives: the line of a branch of bindings, the listing of a namespace.
 fn list_branch(
     words: &[u32],
     text: &[u8],
-    ask: Ask,
-    leaf: bool,
-    branch: u32,
-    label: u32,
-    rest: &[u8],
-    path: Path,
-    matched: u32,
-    lim: Limits,
-    tally: Tally,
+    query: &[u8],
+    place: Place,
+    found: Found,
+    run: &mut [usize; lines::RUN],
     flat: &mut [u32],
     out: &mut [u8],
-) -> Tally
-    requires { ⌜ BranchReady (now words) (now text) ask (now rest) path lim leaf branch label ⌝ }
-    ensures { λ r. ⌜ BranchRuns (now (words .entry)) (now (text .entry)) ask (now (rest .entry)) path lim matched tally r (now (flat .entry)) (now (flat .exit)) (now (out .entry)) (now (out .exit)) leaf branch label ⌝ }
+)
+    requires { ⌜ BranchAsked (now words) (now text) (now query) place (now run) found ⌝ }
+    ensures { λ _. ⌜ BranchListed (now (words .entry)) (now (text .entry)) (now (query .entry)) place (now (run .entry)) (now (run .exit)) (now (flat .entry)) (now (flat .exit)) (now (out .entry)) (now (out .exit)) found ⌝ }
 {
-    if leaf {
-        return lines::line(
-            words,
-            text,
-            ask,
-            path,
-            branch,
-            label,
-            matched,
-            lim,
-            tally,
-            flat,
-            out,
-        );
+    let task = place.task;
+    if place.leaf {
+        lines::line(words, text, task, found, run, flat, out);
+        return;
     }
-    let child = memory::word_of(words, branch, 5);
-    let longer = below(words, path, branch, label);
-    list_trie(
-        words,
-        text,
-        ask,
-        child,
-        rest,
-        longer,
-        matched,
-        lim,
-        tally,
-        flat,
-        out,
-    )
+    let next = place.next;
+    let child = memory::held_of(words, found.link);
+    let n = run[lines::COUNT];
+    let len = run[lines::LENGTH];
+    let label = run[lines::LABEL];
+    enter(words, found, run);
+    list_trie(words, text, &query[next..], task, child, run, flat, out);
+    set_path(run, n, len, label);
 }
 
-// What the branches of a tree that begin with a prefix give, in order. Stops once the budget is passed.
+// What the branches of a tree that begin with a prefix give, in order, each with the tree's label. Stops once the budget is passed.
 fn list_tree(
     words: &[u32],
     text: &[u8],
-    ask: Ask,
-    leaf: bool,
-    root: u32,
-    prefix: &[u8],
-    rest: &[u8],
-    path: Path,
-    matched: u32,
-    lim: Limits,
-    tally: Tally,
+    query: &[u8],
+    place: Place,
+    found: Found,
+    run: &mut [usize; lines::RUN],
     flat: &mut [u32],
     out: &mut [u8],
-) -> Tally
-    requires { ⌜ TreeReady (now words) (now text) ask (now rest) path lim leaf root (now prefix) ⌝ }
-    ensures { λ r. ⌜ EntriesRun (now (words .entry)) (now (text .entry)) ask (now (rest .entry)) path lim matched tally r (now (flat .entry)) (now (flat .exit)) (now (out .entry)) (now (out .exit)) leaf (tree-entries (now (words .entry)) (now (text .entry)) root (now (prefix .entry))) ⌝ }
+)
+    requires { ⌜ TreeAsked (now words) (now text) (now query) place (now run) found ⌝ }
+    ensures { λ _. ⌜ TreeListed (now (words .entry)) (now (text .entry)) (now (query .entry)) place (now (run .entry)) (now (run .exit)) (now (flat .entry)) (now (flat .exit)) (now (out .entry)) (now (out .exit)) found ⌝ }
 {
-    let budget = lim.budget;
-    let mut notes = [0; 48];
-    let mut sum = tally;
-    let mut step = walk::walk_first(words, text, root, prefix, &mut notes);
+    let budget = place.task.lim.budget;
+    let len = place.len;
+    let root = found.link;
+    let mut notes = [0; matches::NOTES];
+    let mut step = matches::first_match(words, text, root, &query[0..len], &mut notes);
     while 0 < step.link {
         let at = step.link;
-        sum = list_branch(
-            words,
-            text,
-            ask,
-            leaf,
-            at,
-            0,
-            rest,
-            path,
-            matched,
-            lim,
-            sum,
-            flat,
-            out,
-        );
-        let entered = sum.entered;
-        if budget < entered {
-            return sum;
+        let here = Found {
+            link: at,
+            label: found.label,
+        };
+        list_branch(words, text, query, place, here, run, flat, out);
+        if budget < run[lines::ENTERED] {
+            return;
         }
-        step = walk::walk_next(words, text, root, prefix, at, &mut notes, step.n);
+        step = matches::next_match(words, text, root, &query[0..len], at, &mut notes, step.n);
     }
-    sum
 }
 
 // What the branches of a list that begin with a prefix give, in order, one of each key. Stops once the budget is passed.
+// A merge of one tree is a run over that tree.
 fn list_merged(
     words: &[u32],
     text: &[u8],
-    ask: Ask,
-    leaf: bool,
+    query: &[u8],
+    place: Place,
     list: u32,
-    prefix: &[u8],
-    rest: &[u8],
-    path: Path,
-    matched: u32,
-    lim: Limits,
-    tally: Tally,
+    run: &mut [usize; lines::RUN],
     flat: &mut [u32],
     out: &mut [u8],
-) -> Tally
-    requires { ⌜ ListReady (now words) (now text) ask (now rest) path lim leaf list ⌝ }
-    ensures { λ r. ⌜ ListRuns (now (words .entry)) (now (text .entry)) ask (now (rest .entry)) path lim matched tally r (now (flat .entry)) (now (flat .exit)) (now (out .entry)) (now (out .exit)) leaf list (now (prefix .entry)) ⌝ }
+)
+    requires { ⌜ ListAsked (now words) (now text) (now query) place (now run) list ⌝ }
+    ensures { λ _. ⌜ ListListed (now (words .entry)) (now (text .entry)) (now (query .entry)) place (now (run .entry)) (now (run .exit)) (now (flat .entry)) (now (flat .exit)) (now (out .entry)) (now (out .exit)) list ⌝ }
 {
-    let budget = lim.budget;
-    let mut sum = tally;
-    let mut m = merge::merge_start(words, text, list, prefix);
+    let budget = place.task.lim.budget;
+    let len = place.len;
+    let mut roots = [0; merge::CELLS];
+    let mut heads = [0; merge::CELLS];
+    let mut labels = [0; merge::CELLS];
+    let start = merge::merge_start(
+        words,
+        text,
+        &query[0..len],
+        list,
+        &mut roots,
+        &mut heads,
+        &mut labels,
+    );
+    let n = start.n;
+    if n == 1 {
+        let alone = Found {
+            link: roots[0],
+            label: labels[0],
+        };
+        list_tree(words, text, query, place, alone, run, flat, out);
+        return;
+    }
+    let mut child = start.child;
+    let mut next = start.next;
+    let mut turn = Turn {
+        n: n,
+        root: start.root,
+        last: 0,
+    };
     loop {
-        let step = merge::merge_next(words, text, m, prefix);
-        let branch = step.branch;
-        if branch == 0 {
-            return sum;
-        }
-        m = step.m;
-        sum = list_branch(
+        let t = merge::merge_next(
             words,
             text,
-            ask,
-            leaf,
-            branch,
-            step.label,
-            rest,
-            path,
-            matched,
-            lim,
-            sum,
-            flat,
-            out,
+            &query[0..len],
+            &mut roots,
+            &mut heads,
+            &mut child,
+            &mut next,
+            turn,
         );
-        let entered = sum.entered;
-        if budget < entered {
-            return sum;
+        let branch = t.branch;
+        if branch == 0 {
+            return;
         }
+        let cell = t.cell;
+        let here = Found {
+            link: branch,
+            label: labels[cell],
+        };
+        list_branch(words, text, query, place, here, run, flat, out);
+        if budget < run[lines::ENTERED] {
+            return;
+        }
+        turn.root = t.root;
+        turn.last = branch;
     }
 }
 
@@ -220,142 +219,79 @@ fn list_merged(
 fn list_names(
     words: &[u32],
     text: &[u8],
-    ask: Ask,
-    leaf: bool,
+    query: &[u8],
+    place: Place,
     list: u32,
-    prefix: &[u8],
-    rest: &[u8],
-    path: Path,
-    matched: u32,
-    lim: Limits,
-    tally: Tally,
+    run: &mut [usize; lines::RUN],
     flat: &mut [u32],
     out: &mut [u8],
-) -> Tally
-    requires { ⌜ ListReady (now words) (now text) ask (now rest) path lim leaf list ⌝ }
-    ensures { λ r. ⌜ ListRuns (now (words .entry)) (now (text .entry)) ask (now (rest .entry)) path lim matched tally r (now (flat .entry)) (now (flat .exit)) (now (out .entry)) (now (out .exit)) leaf list (now (prefix .entry)) ⌝ }
+)
+    requires { ⌜ ListAsked (now words) (now text) (now query) place (now run) list ⌝ }
+    ensures { λ _. ⌜ ListListed (now (words .entry)) (now (text .entry)) (now (query .entry)) place (now (run .entry)) (now (run .exit)) (now (flat .entry)) (now (flat .exit)) (now (out .entry)) (now (out .exit)) list ⌝ }
 {
     let root = merge::single(words, list);
     if 0 < root {
-        return list_tree(
-            words,
-            text,
-            ask,
-            leaf,
-            root,
-            prefix,
-            rest,
-            path,
-            matched,
-            lim,
-            tally,
-            flat,
-            out,
-        );
+        let tree = Found {
+            link: root,
+            label: 0,
+        };
+        list_tree(words, text, query, place, tree, run, flat, out);
+        return;
     }
-    list_merged(
-        words,
-        text,
-        ask,
-        leaf,
-        list,
-        prefix,
-        rest,
-        path,
-        matched,
-        lim,
-        tally,
-        flat,
-        out,
-    )
+    list_merged(words, text, query, place, list, run, flat, out);
 }
 
 // The source's trie_find_prefix': the trie is entered, then its bindings, where at most one segment is left, and its namespaces.
 fn list_trie(
     words: &[u32],
     text: &[u8],
-    ask: Ask,
-    trie: u32,
     query: &[u8],
-    path: Path,
-    matched: u32,
-    lim: Limits,
-    tally: Tally,
+    task: Task,
+    trie: u32,
+    run: &mut [usize; lines::RUN],
     flat: &mut [u32],
     out: &mut [u8],
-) -> Tally
-    requires { ⌜ TrieReady (now words) (now text) ask (now query) path lim trie ⌝ }
-    ensures { λ r. ⌜ TrieRuns (now (words .entry)) (now (text .entry)) ask (now (query .entry)) path lim matched tally r (now (flat .entry)) (now (flat .exit)) (now (out .entry)) (now (out .exit)) trie ⌝ }
+)
+    requires { ⌜ TrieAsked (now words) (now text) (now query) task (now run) trie ⌝ }
+    ensures { λ _. ⌜ TrieListed (now (words .entry)) (now (text .entry)) (now (query .entry)) task (now (run .entry)) (now (run .exit)) (now (flat .entry)) (now (flat .exit)) (now (out .entry)) (now (out .exit)) trie ⌝ }
 {
-    let budget = lim.budget;
-    let before = tally.entered;
-    let lines = tally.lines;
-    let bytes = tally.bytes;
+    let budget = task.lim.budget;
+    let before = run[lines::ENTERED];
+    let base = run[lines::LENGTH];
     if budget <= before {
-        return Tally {
-            entered: budget + 1,
-            lines: lines,
-            bytes: bytes,
-        };
+        run[lines::ENTERED] = budget + 1;
+        return;
     }
-    let entered = Tally {
-        entered: before + 1,
-        lines: lines,
-        bytes: bytes,
-    };
+    run[lines::ENTERED] = before + 1;
     let t = memory::trie_of(words, trie);
-    let c = cut_query(query, path.len, matched);
+    let c = cut_query(query, base, task.matched);
+    let ask = task.ask;
+    let lim = task.lim;
+    let below = Task {
+        ask: ask,
+        lim: lim,
+        matched: c.matched,
+    };
     let len = c.len;
     let next = c.next;
-    let length = c.matched;
-    let size = query.len();
-    if next < size {
-        return list_names(
-            words,
-            text,
-            ask,
-            false,
-            t.namespaces,
-            &query[0..len],
-            &query[next..size],
-            path,
-            length,
-            lim,
-            entered,
-            flat,
-            out,
-        );
+    let namespaces = Place {
+        task: below,
+        leaf: false,
+        len: len,
+        next: next,
+    };
+    if next < query.len() {
+        list_names(words, text, query, namespaces, t.namespaces, run, flat, out);
+        return;
     }
-    let listed = list_names(
-        words,
-        text,
-        ask,
-        true,
-        t.bindings,
-        &query[0..len],
-        &query[next..size],
-        path,
-        length,
-        lim,
-        entered,
-        flat,
-        out,
-    );
-    list_names(
-        words,
-        text,
-        ask,
-        false,
-        t.namespaces,
-        &query[0..len],
-        &query[next..size],
-        path,
-        length,
-        lim,
-        listed,
-        flat,
-        out,
-    )
+    let bindings = Place {
+        task: below,
+        leaf: true,
+        len: len,
+        next: next,
+    };
+    list_names(words, text, query, bindings, t.bindings, run, flat, out);
+    list_names(words, text, query, namespaces, t.namespaces, run, flat, out);
 }
 
 // What a completion of well-formed arguments hands back: the lines and the tries entered, or rows 9 and 10.
@@ -398,56 +334,36 @@ pub fn complete(
         lines: lines,
         bytes: bytes,
     };
-    let path = Path {
-        links: [0; 16],
-        n: 0,
-        len: 0,
-        label: 0,
-    };
     // -1: no element was matched.
-    let unmatched = 4294967295;
-    let none = Tally {
-        entered: 0,
-        lines: 0,
-        bytes: 0,
+    let task = Task {
+        ask: ask,
+        lim: lim,
+        matched: 4294967295,
     };
-    let counted = list_trie(
+    let mut run = [0; lines::RUN];
+    list_trie(
         words,
         text,
-        ask,
-        root,
         query,
-        path,
-        unmatched,
-        lim,
-        none,
+        task,
+        root,
+        &mut run,
         &mut flat[0..0],
         &mut out[0..0],
     );
-    let entered = counted.entered;
+    let entered = run[lines::ENTERED];
     if most < entered {
         return Completion::Spent;
     }
-    let count = counted.lines;
-    let size = counted.bytes;
+    let count = run[lines::LINES];
+    let size = run[lines::BYTES];
     if lines < count {
         return Completion::Lines;
     }
     if bytes < size {
         return Completion::Lines;
     }
-    list_trie(
-        words,
-        text,
-        ask,
-        root,
-        query,
-        path,
-        unmatched,
-        lim,
-        none,
-        flat,
-        out,
-    );
+    let mut again = [0; lines::RUN];
+    list_trie(words, text, query, task, root, &mut again, flat, out);
     Completion::Listed(count as u32, entered as u32)
 }

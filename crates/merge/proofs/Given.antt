@@ -12,9 +12,7 @@ use Rattle.memory.proofs.Seen.{link-later}
 use Rattle.names.proofs.Collections.{collection-right}
 use Rattle.merge.specs.Entries.{Entry}
 use Rattle.merge.specs.Lists.{LabelOk}
-use Rattle.merge.specs.Stream.{Rest, AnyRest, GivenIn, GivesIn, Gives}
-use Rattle.merge.specs.declared.Merge.{Merge}
-use Rattle.merge.specs.declared.Step.{Step}
+use Rattle.merge.specs.Stream.{Merge, Step, Rest, AnyRest, GivenIn, GivesIn, Gives}
 
 -- The text of a label.
 pub label-text : {ws txt : List ℕ} {w : Which} {v : Level} {x label : ℕ} (t : At ws txt w (list v) x) → LabelOk ws w v x label → 0 < label

@@ -20,9 +20,10 @@ use Rattle.tree.specs.Links.{matches, row-at}
 use Rattle.names.proofs.Collections.{collection-right, sort-tree, names-reads}
 use Rattle.merge.specs.Entries.{shown, outer, Asks}
 use Rattle.merge.specs.Lists.{SingleIn, Single}
+use Rattle.merge.specs.Stream.{OneTree}
 use Rattle.merge.proofs.Collecting.{term-rows}
 use Rattle.memory.specs.Sound.{At}
-use Rattle.memory.proofs.At.{at-of}
+use Rattle.memory.proofs.At.{no-link, at-of}
 
 pub single-none : {ws : List ℕ} {x : ℕ} → Single ws x 0
 single-none txt w v t p = absurd (omega arith)
@@ -55,3 +56,8 @@ module _ {ws txt : List ℕ} {w : Which} {v : Level} {x r : ℕ} (t : At ws txt 
       shows : (l : List ℕ) → map outer (rows l) ≡ map (shown w ws txt v q) (map (λ b. record { branch = b; label = 0 }) l)
       shows [] = refl
       shows (b ∷ l) = ap (_∷_ (shown w ws txt v q (record { branch = b; label = 0 }))) (shows l)
+
+pub single-one : {ws txt : List ℕ} {w : Which} {v : Level} {x r : ℕ} (p : Str) → At ws txt w (list v) x → Single ws x r → 0 < r → OneTree ws txt w v x p r 0
+single-one {txt = txt} {w} {v} p t s h =
+    let o = s txt w v t h in
+    record { root-link = o .link; label-ok = record { link = no-link _ _; imports = λ i. absurd (omega arith) }; says = λ term q asks. single-found t o asks }

@@ -11,8 +11,8 @@ use Rattle.source.specs.Types.{Level, Value}
 use Rattle.source.specs.Trees.{PathElem}
 use Rattle.source.specs.Rules.{IsKey, IsLabel}
 use Rattle.source.specs.Heap.{Heap, EmptyHeap, HeapOf, []ᶠ, heap-insert, heap-insert-all, heap-from-list}
-use Rattle.source.specs.Lists.{Run, run, first, priority, run-cmp}
-use Rattle.source.specs.Listing.{elem-key, with-imports}
+use Rattle.source.specs.Lists.{Run, run, first, priority, run-cmp, nonempty}
+use Rattle.source.specs.Listing.{SearchTerm, elem-key, with-imports}
 use Rattle.source.specs.Table.{last-opt}
 use Rattle.source.specs.Forward.{heap-map}
 use Rattle.source.proofs.Heap.{insert-all-more, All, All-merge, counted}
@@ -21,7 +21,7 @@ use Rattle.source.proofs.Names.{OrderedN}
 use Rattle.source.proofs.Listed.{formed-orderedN}
 use Rattle.source.specs.Forward.{held, forward}
 use Rattle.source.proofs.Forward.{AreRuns, built, map-run, map-heap, held-map, forward-map, built-map}
-use Rattle.source.proofs.Found.{match-lists, found-read}
+use Rattle.source.proofs.Found.{match-lists, found-one, found-read}
 use Rattle.memory.specs.Layout.{Which, Item, list, what, key-at, tree}
 use Rattle.memory.proofs.Seen.{link-later}
 use Rattle.memory.proofs.Given.{IsItem, link-fine}
@@ -32,9 +32,9 @@ use Rattle.heap.proofs.Kept.{rep-below, is-other}
 use Rattle.heap.proofs.Mapped.{map-insert}
 use Rattle.tree.specs.Links.{matches, row-at}
 use Rattle.tree.proofs.Matches.{matches-none, matches-of, matches-increasing, after-first}
-use Rattle.merge.specs.Entries.{Entry, entry-key, label-at, shown, outer}
-use Rattle.merge.specs.Lists.{Part, elements, HasPart, HasParts, more, CollectedIn, Collected}
-use Rattle.merge.specs.Stream.{later, run-at, CellOk, Starts, state}
+use Rattle.merge.specs.Entries.{Entry, entry-key, label-at, shown, outer, Asks}
+use Rattle.merge.specs.Lists.{Part, elements, HasPart, HasParts, more, match-lists-in, CollectedIn, Collected}
+use Rattle.merge.specs.Stream.{later, run-at, CellOk, Starts, state, OneTree}
 use Rattle.merge.proofs.Cells.{branch-head, stands}
 use Rattle.memory.specs.Sound.{At}
 use Rattle.memory.proofs.At.{no-link, at-of}
@@ -241,3 +241,23 @@ module _ {ws txt : List ℕ} {p : Str} {x n : ℕ} {roots₀ heads₀ labels₀ 
             ∙ ap (map (shown w ws txt v q)) (sym (forward-map (entry-of ws txt) (match-key ws txt) (entry-key ws txt) (λ m. refl) fuel (built (match-key ws txt) r n) none)
             ∙ ap (λ (g : Heap (Run Entry)). forward (entry-key ws txt) fuel g none) (sym same-heap));
       }
+
+  -- One cell: what is found are its tree's matches.
+  pub starts-one : n ≡ 1 → (w : Which) (v : Level) → At ws txt w (list v) x → OneTree ws txt w v x p (getD roots 0 0) (getD labels 0 0)
+  unfolding match-lists nonempty elements with-imports outer shown row-at
+  starts-one e w v t = go (collected w v t .parts) (omega (arith, collected w v t .count)) (collected w v t .has) (collected w v t .lists)
+    where
+      shows : (q : Option Str) (c : Part ws txt) (l : List ℕ) → map outer (with-imports (c .imports, map (row-at w ws txt v q) l)) ≡ map (shown w ws txt v q) (map (λ b. record { branch = b; label = c .label }) l)
+      shows q c [] = refl
+      shows q c (b ∷ l) = ap₂ _∷_ (rw (c .labelled)) (shows q c l)
+
+      go : (parts : List (Part ws txt)) → length parts ≡ 1 → HasParts ws txt w v x p roots heads labels 0 parts
+          → ((term : SearchTerm) (q : Option Str) → Asks term p q → match-lists-in w ws txt v term [] x ≡ map (elements w ws txt v q p) parts)
+          → OneTree ws txt w v x p (getD roots 0 0) (getD labels 0 0)
+      go [] k a f = absurd (omega arith)
+      go (c ∷ d ∷ parts) k a f = absurd (omega arith)
+      go (c ∷ []) k (more o a) f = rw (o .root-is, o .label-is) (record {
+        root-link = o .root-link;
+        label-ok = o .label-ok;
+        says = λ term q asks. ap (map outer) (found-one (what w ws txt x (list v)) term (elements w ws txt v q p c) (f term q asks)) ∙ shows q c (matches ws txt (c .root) p);
+      })

@@ -19,9 +19,7 @@ use Rattle.tree.specs.Tree.{AnyTree}
 use Rattle.tree.specs.Links.{BranchOf}
 use Rattle.merge.specs.Entries.{Entry, entry-key}
 use Rattle.merge.specs.Lists.{LabelOk}
-use Rattle.merge.specs.Stream.{run-at, remaining, Holding, heap-of, Last, Rest, AnyRest, left-in, GivenIn, GivesIn, Gives, state, Takes, Ready}
-use Rattle.merge.specs.declared.Merge.{Merge}
-use Rattle.merge.specs.declared.Step.{Step}
+use Rattle.merge.specs.Stream.{Merge, Step, run-at, remaining, Holding, heap-of, Last, Rest, AnyRest, left-in, GivenIn, GivesIn, Gives, state, Takes, Ready}
 use Rattle.merge.specs.declared.Taken.{Taken}
 use Rattle.merge.proofs.Cells.{branch-tree}
 
@@ -140,60 +138,59 @@ module _ {ws txt : List ℕ} {p : Str} {m : Merge} {roots heads child next : Lis
     holding = now-rest .holding;
   }
 
-  module _ {roots′ heads′ child′ next′ : List ℕ} {t : Taken} (takes : Takes ws txt p (m .n) root roots heads child next roots′ heads′ child′ next′ t) where
-    pub passing-end : t .cell ≡ 96 → Gives ws txt p m (record { branch = 0; label = 0; m = m })
-    passing-end e w v x s g =
-        subst (λ (s : List Entry). GivesIn ws txt w v x p m s (record { branch = 0; label = 0; m = m })) (sym (step-end takes (o .says w v x s g) e)) refl
+  module _ {roots′ heads′ child′ next′ : List ℕ} {t : Taken} (takes : Takes ws txt p (m .n) root roots heads child next roots′ heads′ child′ next′ t) (ne : t .cell ≡ 96 → ⊥) where
+    pub passing-small : t .cell < 96
+    passing-small = omega (arith, steps takes now-rest ne .below, now-rest .holding .few)
 
-    module _ (ne : t .cell ≡ 96 → ⊥) where
-      pub passing-cell : t .cell < m .n
-      passing-cell = steps takes now-rest ne .below
+    pub passing-fewer : remaining ws txt p roots′ heads′ (m .n) < remaining ws txt p roots heads (m .n)
+    passing-fewer = steps takes now-rest ne .fewer
 
-      pub passing-small : t .cell < 96
-      passing-small = omega (arith, passing-cell, now-rest .holding .few)
+    pub passing-branch : (0 < t .branch) × AnyTree ws txt (t .branch)
+    passing-branch = let k = steps takes now-rest ne in branch-tree (now-rest .holding .here) (k .branch)
 
-      pub passing-fewer : remaining ws txt p roots′ heads′ (m .n) < remaining ws txt p roots heads (m .n)
-      passing-fewer = steps takes now-rest ne .fewer
+    pub passing-last : (m .last ≡ 0 → ⊥) → (0 < m .last) × AnyTree ws txt (m .last)
+    passing-last n = branch-tree (now-rest .holding .here) (last-branch ws (y .which) (y .level) (y .link) (m .last) (now-rest .given) (now-rest .last) n)
 
-      pub passing-branch : (0 < t .branch) × AnyTree ws txt (t .branch)
-      passing-branch = let k = steps takes now-rest ne in branch-tree (now-rest .holding .here) (k .branch)
+module _ {ws txt : List ℕ} {p : Str} {m : Merge} {roots heads child next : List ℕ} {root : ℕ} (o : Passing ws txt p m roots heads child next root)
+    {roots′ heads′ child′ next′ : List ℕ} {t : Taken} (takes : Takes ws txt p (m .n) root roots heads child next roots′ heads′ child′ next′ t) where
+  pub passing-end : (r : Step) → r .branch ≡ 0 → t .cell ≡ 96 → Gives ws txt p m r
+  passing-end r z e w v x s g = subst (λ (s : List Entry). GivesIn ws txt w v x p m s r) (sym (step-end takes (o .says w v x s g) e)) z
 
-      pub passing-last : (m .last ≡ 0 → ⊥) → (0 < m .last) × AnyTree ws txt (m .last)
-      passing-last n = branch-tree (now-rest .holding .here) (last-branch ws (y .which) (y .level) (y .link) (m .last) (now-rest .given) (now-rest .last) n)
-
-      pub passing-on : (m .last ≡ 0 → ⊥) → same (key-at ws txt (t .branch)) (key-at ws txt (m .last)) ≡ true → Passing ws txt p m roots′ heads′ child′ next′ (t .root)
-      passing-on n e = record {
-        says = λ w v x s g.
-            let r = o .says w v x s g in
-            let k = steps takes r ne in
-            subst (λ (s : List Entry). Rest ws txt w v x p (state roots′ heads′ (m .labels) child′ next′ (m .n) (t .root) (m .last)) s)
-            (sym (k .splits ∙ rw (again-same ws txt w v x (m .last) (k .entry) (r .given) (r .last) n (rw (k .branch-is) at e)))) (k .passed-rest);
-        fewer = omega (arith, o .fewer, passing-fewer);
-      }
-
-      pub passing-gives : ((m .last ≡ 0 → ⊥) → same (key-at ws txt (t .branch)) (key-at ws txt (m .last)) ≡ false)
-          → Gives ws txt p m (record {
-            branch = t .branch;
-            label = getD (m .labels) (t .cell) 0;
-            m = state roots′ heads′ (m .labels) child′ next′ (m .n) (t .root) (t .branch);
-          })
-      passing-gives f w v x s g =
+  module _ (ne : t .cell ≡ 96 → ⊥) where
+    pub passing-on : remaining ws txt p roots′ heads′ (m .n) < remaining ws txt p roots heads (m .n) → (m .last ≡ 0 → ⊥) → same (key-at ws txt (t .branch)) (key-at ws txt (m .last)) ≡ true
+        → Passing ws txt p m roots′ heads′ child′ next′ (t .root)
+    passing-on f n e = record {
+      says = λ w v x s g.
           let r = o .says w v x s g in
           let k = steps takes r ne in
-          let step : Step = record {
-            branch = t .branch;
-            label = getD (m .labels) (t .cell) 0;
-            m = state roots′ heads′ (m .labels) child′ next′ (m .n) (t .root) (t .branch);
-          } in
-          let d : GivenIn ws txt w v x p m (k .entry) (k .after) step =
-          record {
-            branch-is = k .branch-is;
-            label-is = k .label-is;
-            branch = k .branch;
-            begins = k .begins;
-            label-ok = k .label-ok;
-            rest = k .after-rest;
-            fewer = omega (arith, o .fewer, passing-fewer);
-          } in
-          let e : s ≡ k .entry ∷ k .after = k .splits ∙ rw (again-new ws txt w v x (m .last) (k .entry) (r .given) (r .last) (λ n. rw (k .branch-is) at (f n))) in
-          subst (λ (s : List Entry). GivesIn ws txt w v x p m s step) (sym e) d
+          subst (λ (s : List Entry). Rest ws txt w v x p (state roots′ heads′ (m .labels) child′ next′ (m .n) (t .root) (m .last)) s)
+          (sym (k .splits ∙ rw (again-same ws txt w v x (m .last) (k .entry) (r .given) (r .last) n (rw (k .branch-is) at e)))) (k .passed-rest);
+      fewer = omega (arith, o .fewer);
+    }
+
+    pub passing-gives : ((m .last ≡ 0 → ⊥) → same (key-at ws txt (t .branch)) (key-at ws txt (m .last)) ≡ false)
+        → Gives ws txt p m (record {
+          branch = t .branch;
+          label = getD (m .labels) (t .cell) 0;
+          m = state roots′ heads′ (m .labels) child′ next′ (m .n) (t .root) (t .branch);
+        })
+    passing-gives f w v x s g =
+        let r = o .says w v x s g in
+        let k = steps takes r ne in
+        let step : Step = record {
+          branch = t .branch;
+          label = getD (m .labels) (t .cell) 0;
+          m = state roots′ heads′ (m .labels) child′ next′ (m .n) (t .root) (t .branch);
+        } in
+        let d : GivenIn ws txt w v x p m (k .entry) (k .after) step =
+        record {
+          branch-is = k .branch-is;
+          label-is = k .label-is;
+          branch = k .branch;
+          begins = k .begins;
+          label-ok = k .label-ok;
+          rest = k .after-rest;
+          fewer = omega (arith, o .fewer, k .fewer);
+        } in
+        let e : s ≡ k .entry ∷ k .after = k .splits ∙ rw (again-new ws txt w v x (m .last) (k .entry) (r .given) (r .last) (λ n. rw (k .branch-is) at (f n))) in
+        subst (λ (s : List Entry). GivesIn ws txt w v x p m s step) (sym e) d

@@ -21,9 +21,31 @@ use Rattle.tree.specs.Links.{matches, after}
 use Rattle.tree.specs.Links.{BranchOf}
 use Rattle.merge.specs.Entries.{Entry, entry-key, shown, outer, Asks}
 use Rattle.merge.specs.Lists.{LabelOk, Full}
-use Rattle.merge.specs.declared.Merge.{Merge}
-use Rattle.merge.specs.declared.Step.{Step}
+use Rattle.merge.specs.declared.Start.{Start}
+use Rattle.merge.specs.declared.Turn.{Turn}
 use Rattle.merge.specs.declared.Taken.{Taken}
+
+-- The state of a merge: the cells of the heap, each with a tree, its current branch and its label, and the last branch given.
+pub record Merge : Type 0 where
+  pub roots : List ℕ
+  pub heads : List ℕ
+  pub labels : List ℕ
+  pub child : List ℕ
+  pub next : List ℕ
+  pub n : ℕ
+  pub root : ℕ
+  pub last : ℕ
+
+-- The state of these cells.
+abbrev pub state : (roots heads labels child next : List ℕ) (n root last : ℕ) → Merge
+state roots heads labels child next n root last =
+    record { roots = roots; heads = heads; labels = labels; child = child; next = next; n = n; root = root; last = last }
+
+-- A branch, 0 at the end, the collection of its outermost label, and the state after it.
+pub record Step : Type 0 where
+  pub branch : ℕ
+  pub label : ℕ
+  pub m : Merge
 
 -- The matches of a tree after a branch.
 abbrev pub later : (ws txt : List ℕ) (p : Str) (root head : ℕ) → List ℕ
@@ -122,11 +144,6 @@ Gives ws txt p m r = (w : Which) (v : Level) (x : ℕ) (s : List Entry) → Rest
 
 -- ---- One cell taken from the heap
 
--- The state of these cells.
-abbrev pub state : (roots heads labels child next : List ℕ) (n root last : ℕ) → Merge
-state roots heads labels child next n root last =
-    record { roots = roots; heads = heads; labels = labels; child = child; next = next; n = n; root = root; last = last }
-
 -- The least cell c is taken, and the rest of its list put back.
 pub record TookCell (ws txt : List ℕ) (w : Which) (v : Level) (x : ℕ) (p : Str) (m m′ : Merge) (t : Taken) (c : ℕ) (hh : Forest ℕ) : Type 0 where
   pub cell-is : t .cell ≡ c
@@ -157,3 +174,27 @@ pub record Ready (ws txt : List ℕ) (p : Str) (n root : ℕ) (roots heads child
   pub link : ℕ
   pub heap : Heap ℕ
   pub holding : Holding ws txt which level link p (state roots heads labels child next n root last) heap
+
+-- ---- The contracts: labels are read by the caller
+
+-- The merge of a list of one tree with a match shows what is found by the tree's matches.
+pub record OneTree (ws txt : List ℕ) (w : Which) (v : Level) (x : ℕ) (p : Str) (root label : ℕ) : Type 0 where
+  pub root-link : LinkOk ws (x + 1) root (kind w (tree v))
+  pub label-ok : LabelOk ws w v x label
+  pub says : (term : SearchTerm) (q : Option Str) → Asks term p q
+      → map outer (found (what w ws txt x (list v)) term) ≡ map (shown w ws txt v q) (map (λ b. record { branch = b; label = label }) (matches ws txt root p))
+
+pub record Begins (ws txt : List ℕ) (p : Str) (x : ℕ) (roots heads labels : List ℕ) (r : Start) : Type 0 where
+  pub starts : Starts ws txt x p (state roots heads labels (r .child) (r .next) (r .n) (r .root) 0)
+  pub one : r .n ≡ 1 → (w : Which) (v : Level) → At ws txt w (list v) x → OneTree ws txt w v x p (getD roots 0 0) (getD labels 0 0)
+
+-- The cells, with some labels, still give some entries.
+pub record Stands (ws txt : List ℕ) (p : Str) (roots heads child next : List ℕ) (t : Turn) : Type 0 where
+  pub labels : List ℕ
+  pub any : AnyRest ws txt p (state roots heads labels child next (t .n) (t .root) (t .last))
+
+-- The next entry is given, whatever the labels.
+pub record Steps (ws txt : List ℕ) (p : Str) (roots heads child next : List ℕ) (t : Turn) (roots′ heads′ child′ next′ : List ℕ) (r : Taken) : Type 0 where
+  pub small : (r .branch ≡ 0 → ⊥) → r .cell < 96
+  pub gives : (labels : List ℕ) → Gives ws txt p (state roots heads labels child next (t .n) (t .root) (t .last))
+      (record { branch = r .branch; label = getD labels (r .cell) 0; m = state roots′ heads′ labels child′ next′ (t .n) (r .root) (r .branch) })

@@ -7,36 +7,41 @@ ghost use Prim.Native.Nat.{_+_, _<_, _≤_, _*_};
 ghost use lib.ListN.{length};
 ghost use Rattle.source.specs.Shared.{same};
 ghost use Rattle.memory.specs.Layout.{key-at};
-ghost use Rattle.memory.specs.Stored.{stored};
+ghost use Rattle.memory.specs.Stored.{weight-in};
 ghost use Rattle.tree.specs.Tree.{AnyTree};
 ghost use Rattle.names.specs.Names.{AnyList};
 ghost use Rattle.merge.specs.Lists.{Full, Collected, Single};
-ghost use Rattle.merge.specs.Stream.{Ready, Takes, AnyRest, Starts, Gives};
+ghost use Rattle.merge.specs.Stream.{Ready, Takes, Begins, Stands, Steps};
 
-// The state of a merge: the cells of the heap, each with a tree, its current branch and its label, and the last branch given.
-pub struct Merge {
-    pub roots: [u32; 96],
-    pub heads: [u32; 96],
-    pub labels: [u32; 96],
-    pub child: [u8; 96],
-    pub next: [u8; 96],
+// The most trees of a list: its weight is at most 96.
+pub const CELLS: usize = 96;
+
+// The heap at the start of a merge: its cells, each with a tree, its current branch and its label in lent arrays, how many they are, and its root.
+pub struct Start {
+    pub child: [u8; CELLS],
+    pub next: [u8; CELLS],
+    pub n: usize,
+    pub root: usize,
+}
+
+// How many cells a merge has, the root of their heap, and the last branch given, 0 for none.
+pub struct Turn {
     pub n: usize,
     pub root: usize,
     pub last: u32,
 }
 
-// A branch, 0 at the end, the collection of its outermost label, 0 for none, and the state after it.
-pub struct Step {
+// A cell, 96 for none, its branch, 0 for none, and the root of the heap after it.
+pub struct Taken {
+    pub cell: usize,
     pub branch: u32,
-    pub label: u32,
-    pub m: Merge,
+    pub root: usize,
 }
 
-// The least cell, 96 for none, its branch, and the root of the heap after it.
-struct Taken {
-    cell: usize,
-    branch: u32,
-    root: usize,
+// A list, and the collection of the outermost label above it, 0 for none.
+struct Labelled {
+    list: u32,
+    label: u32,
 }
 
 // The root of the only tree of a list, 0 where it is not one tree.
@@ -47,13 +52,13 @@ pub fn single(words: &[u32], list: u32) -> u32
     if list == 0 {
         return 0;
     }
-    if memory::word_of(words, list, 5) == 1 {
+    if memory::sort_of(words, list) == memory::IMPORTED {
         return 0;
     }
-    if 0 < memory::word_of(words, list, 4) {
+    if 0 < memory::rest_of(words, list) {
         return 0;
     }
-    memory::word_of(words, list, 3)
+    memory::own_of(words, list)
 }
 
 // The trees of a list that have a match, in flattened order, each with its first match and its outermost label, from the cell `at` on.
@@ -61,51 +66,49 @@ pub fn single(words: &[u32], list: u32) -> u32
 fn collect(
     words: &[u32],
     text: &[u8],
-    list: u32,
-    label: u32,
     prefix: &[u8],
-    roots: &mut [u32; 96],
-    heads: &mut [u32; 96],
-    labels: &mut [u32; 96],
+    part: Labelled,
+    roots: &mut [u32; CELLS],
+    heads: &mut [u32; CELLS],
+    labels: &mut [u32; CELLS],
     at: usize,
 ) -> usize
-    requires { ⌜ AnyList (now words) (now text) list ⌝ }
-    requires { ⌜ at + stored (now words) list 10 ≤ 96 ⌝ }
+    requires { ⌜ AnyList (now words) (now text) (part .list) ⌝ }
+    requires { ⌜ at + weight-in (now words) (part .list) ≤ 96 ⌝ }
     requires { ⌜ Full (now roots) (now heads) (now labels) ⌝ }
-    ensures { λ r. ⌜ r ≤ at + stored (now (words .entry)) list 10 ⌝ }
-    ensures { λ r. ⌜ Collected (now (words .entry)) (now (text .entry)) (now (prefix .entry)) list label at r (now (roots .entry)) (now (heads .entry)) (now (labels .entry)) (now (roots .exit)) (now (heads .exit)) (now (labels .exit)) ⌝ }
+    ensures { λ r. ⌜ r ≤ at + weight-in (now (words .entry)) (part .list) ⌝ }
+    ensures { λ r. ⌜ Collected (now (words .entry)) (now (text .entry)) (now (prefix .entry)) (part .list) (part .label) at r (now (roots .entry)) (now (heads .entry)) (now (labels .entry)) (now (roots .exit)) (now (heads .exit)) (now (labels .exit)) ⌝ }
 {
+    let list = part.list;
+    let label = part.label;
     if list == 0 {
         return at;
     }
-    let own = memory::word_of(words, list, 3);
-    let rest = memory::word_of(words, list, 4);
-    if memory::word_of(words, list, 5) == 1 {
+    let own = memory::own_of(words, list);
+    let rest = Labelled {
+        list: memory::rest_of(words, list),
+        label: label,
+    };
+    if memory::sort_of(words, list) == memory::IMPORTED {
         let mut outer = label;
         if label == 0 {
             outer = list;
         }
-        let mid = collect(words, text, own, outer, prefix, roots, heads, labels, at);
-        return collect(words, text, rest, label, prefix, roots, heads, labels, mid);
+        let imported = Labelled {
+            list: own,
+            label: outer,
+        };
+        let mid = collect(words, text, prefix, imported, roots, heads, labels, at);
+        return collect(words, text, prefix, rest, roots, heads, labels, mid);
     }
     let first = tree::tree_first(words, text, own, prefix);
     if first == 0 {
-        return collect(words, text, rest, label, prefix, roots, heads, labels, at);
+        return collect(words, text, prefix, rest, roots, heads, labels, at);
     }
     roots[at] = own;
     heads[at] = first;
     labels[at] = label;
-    collect(
-        words,
-        text,
-        rest,
-        label,
-        prefix,
-        roots,
-        heads,
-        labels,
-        at + 1,
-    )
+    collect(words, text, prefix, rest, roots, heads, labels, at + 1)
 }
 
 // Whether two branches have the same key.
@@ -114,9 +117,7 @@ fn same_key(words: &[u32], text: &[u8], a: u32, b: u32) -> bool
     requires { ⌜ (0 < b) × AnyTree (now words) (now text) b ⌝ }
     ensures { λ r. ⌜ r ≡ same (key-at (now (words .entry)) (now (text .entry)) a) (key-at (now (words .entry)) (now (text .entry)) b) ⌝ }
 {
-    let start = memory::word_of(words, a, 1) as usize;
-    let len = memory::word_of(words, a, 2) as usize;
-    match tree::key_order(words, text, b, &text[start..start + len]) {
+    match tree::key_order(words, text, b, memory::key_of(words, text, a)) {
         Order::Less => false,
         Order::Same => true,
         Order::More => false,
@@ -128,21 +129,21 @@ fn take(
     words: &[u32],
     text: &[u8],
     prefix: &[u8],
-    roots: &mut [u32; 96],
-    heads: &mut [u32; 96],
-    child: &mut [u8; 96],
-    next: &mut [u8; 96],
-    n: usize,
-    root: usize,
+    roots: &mut [u32; CELLS],
+    heads: &mut [u32; CELLS],
+    child: &mut [u8; CELLS],
+    next: &mut [u8; CELLS],
+    turn: Turn,
 ) -> Taken
-    requires { ⌜ Ready (now words) (now text) (now prefix) n root (now roots) (now heads) (now child) (now next) ⌝ }
-    ensures { λ r. ⌜ Takes (now (words .entry)) (now (text .entry)) (now (prefix .entry)) n root (now (roots .entry)) (now (heads .entry)) (now (child .entry)) (now (next .entry)) (now (roots .exit)) (now (heads .exit)) (now (child .exit)) (now (next .exit)) r ⌝ }
+    requires { ⌜ Ready (now words) (now text) (now prefix) (turn .n) (turn .root) (now roots) (now heads) (now child) (now next) ⌝ }
+    ensures { λ r. ⌜ Takes (now (words .entry)) (now (text .entry)) (now (prefix .entry)) (turn .n) (turn .root) (now (roots .entry)) (now (heads .entry)) (now (child .entry)) (now (next .entry)) (now (roots .exit)) (now (heads .exit)) (now (child .exit)) (now (next .exit)) r ⌝ }
 {
-    match heap::heap_pop(child, next, words, text, heads, n, root) {
+    let n = turn.n;
+    match heap::heap_pop(child, next, words, text, heads, n, turn.root) {
         Popped::Nothing => Taken {
-            cell: 96,
+            cell: CELLS,
             branch: 0,
-            root: 96,
+            root: CELLS,
         },
         Popped::Least(cell, rest) => {
             let branch = heads[cell];
@@ -167,91 +168,71 @@ fn take(
     }
 }
 
-// The merge of a list.
-pub fn merge_start(words: &[u32], text: &[u8], list: u32, prefix: &[u8]) -> Merge
+// The merge of a list: one cell for each tree that has a match.
+pub fn merge_start(
+    words: &[u32],
+    text: &[u8],
+    prefix: &[u8],
+    list: u32,
+    roots: &mut [u32; CELLS],
+    heads: &mut [u32; CELLS],
+    labels: &mut [u32; CELLS],
+) -> Start
     requires { ⌜ AnyList (now words) (now text) list ⌝ }
-    ensures { λ r. ⌜ Starts (now (words .entry)) (now (text .entry)) list (now (prefix .entry)) r ⌝ }
+    requires { ⌜ Full (now roots) (now heads) (now labels) ⌝ }
+    ensures { λ r. ⌜ Begins (now (words .entry)) (now (text .entry)) (now (prefix .entry)) list (now (roots .exit)) (now (heads .exit)) (now (labels .exit)) r ⌝ }
 {
-    let mut roots = [0; 96];
-    let mut heads = [0; 96];
-    let mut labels = [0; 96];
-    let n = collect(
-        words,
-        text,
-        list,
-        0,
-        prefix,
-        &mut roots,
-        &mut heads,
-        &mut labels,
-        0,
-    );
-    let cells = heap::heap_from_list(words, text, &heads, n);
+    let whole = Labelled {
+        list: list,
+        label: 0,
+    };
+    let n = collect(words, text, prefix, whole, roots, heads, labels, 0);
+    let cells = heap::heap_from_list(words, text, heads, n);
     let child = cells.child;
     let next = cells.next;
-    Merge {
-        roots: roots,
-        heads: heads,
-        labels: labels,
+    Start {
         child: child,
         next: next,
         n: n,
         root: cells.root,
-        last: 0,
     }
 }
 
-// The next branch, 0 at the end: of the branches with a key the first that the heap gives.
-pub fn merge_next(words: &[u32], text: &[u8], m: Merge, prefix: &[u8]) -> Step
-    requires { ⌜ AnyRest (now words) (now text) (now prefix) m ⌝ }
-    ensures { λ r. ⌜ Gives (now (words .entry)) (now (text .entry)) (now (prefix .entry)) m r ⌝ }
+// The next branch, 0 at the end, and its cell: of the branches with a key the first that the heap gives.
+pub fn merge_next(
+    words: &[u32],
+    text: &[u8],
+    prefix: &[u8],
+    roots: &mut [u32; CELLS],
+    heads: &mut [u32; CELLS],
+    child: &mut [u8; CELLS],
+    next: &mut [u8; CELLS],
+    turn: Turn,
+) -> Taken
+    requires { ⌜ Stands (now words) (now text) (now prefix) (now roots) (now heads) (now child) (now next) turn ⌝ }
+    ensures { λ r. ⌜ Steps (now (words .entry)) (now (text .entry)) (now (prefix .entry)) (now (roots .entry)) (now (heads .entry)) (now (child .entry)) (now (next .entry)) turn (now (roots .exit)) (now (heads .exit)) (now (child .exit)) (now (next .exit)) r ⌝ }
 {
-    let labels = m.labels;
-    let n = m.n;
-    let last = m.last;
-    let mut roots = m.roots;
-    let mut heads = m.heads;
-    let mut child = m.child;
-    let mut next = m.next;
-    let mut root = m.root;
+    let n = turn.n;
+    let last = turn.last;
+    let mut root = turn.root;
     loop {
-        let t = take(
-            words,
-            text,
-            prefix,
-            &mut roots,
-            &mut heads,
-            &mut child,
-            &mut next,
-            n,
-            root,
-        );
-        let cell = t.cell;
-        if cell == 96 {
-            return Step {
-                branch: 0,
-                label: 0,
-                m: m,
-            };
-        }
+        let here = Turn {
+            n: n,
+            root: root,
+            last: last,
+        };
+        let t = take(words, text, prefix, roots, heads, child, next, here);
         let branch = t.branch;
-        root = t.root;
-        if last == 0 || !same_key(words, text, branch, last) {
-            let label = labels[cell];
-            return Step {
-                branch: branch,
-                label: label,
-                m: Merge {
-                    roots: roots,
-                    heads: heads,
-                    labels: labels,
-                    child: child,
-                    next: next,
-                    n: n,
-                    root: root,
-                    last: branch,
-                },
+        if t.cell == CELLS {
+            return Taken {
+                cell: CELLS,
+                branch: 0,
+                root: CELLS,
             };
         }
+        if last == 0 || !same_key(words, text, branch, last) {
+            return t;
+        }
+        root = t.root;
     }
 }

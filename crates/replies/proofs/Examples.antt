@@ -6,7 +6,7 @@ use lib.IntN.{pos, negsuc}
 use Rattle.script.specs.declared.Sort.the-variants.{Query, Word}
 use Rattle.script.specs.declared.Import.the-variants.{Include}
 use Rattle.script.specs.declared.Ask.the-variants.{Complete}
-use Rattle.replies.specs.declared.Item.the-variants.{Number, Module}
+use Rattle.replies.specs.declared.ItemReply.the-variants.{Number, Module}
 use Rattle.script.specs.Script.{bytes, byte-ok, value-from, key, name, import, module-path, ask, Reads}
 use Rattle.script.specs.Parts.{run-length}
 use Rattle.replies.specs.Replies.{digits, decimal, signed, item-text, ok-reply, line-reply, end-reply}

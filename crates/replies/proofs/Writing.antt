@@ -8,7 +8,7 @@ use lib.Dec.{ltb}
 use lib.IntN.{ℤ}
 use lib.ListN.{length, length-append}
 use borrow.Author.Tests.{ltb-true, ltb-false, lt-ltb, le-ltb, eq-eqb, ne-eqb}
-use Rattle.replies.specs.declared.Item.{Item}
+use Rattle.replies.specs.declared.ItemReply.{ItemReply}
 use Rattle.script.specs.Script.{Str, _·_, bytes}
 use Rattle.replies.specs.Replies.{digits, decimal, signed, length-in, item-text, line-reply}
 
@@ -69,7 +69,7 @@ decimal-short n h = decimal-length 9 n (omega arith)
 
 -- ---- A line's parts
 
-pub line-joined : (l : ℤ) (item : Item) (annotation candidate : Str) → (bytes "[line " · signed l · bytes " " · item-text item) · bytes " [" · annotation · bytes "] " · candidate · bytes "]\n" ≡ line-reply l item annotation candidate
+pub line-joined : (l : ℤ) (item : ItemReply) (annotation candidate : Str) → (bytes "[line " · signed l · bytes " " · item-text item) · bytes " [" · annotation · bytes "] " · candidate · bytes "]\n" ≡ line-reply l item annotation candidate
 unfolding bytes line-reply
 line-joined l item annotation candidate = simp append-assoc
 

@@ -4,8 +4,8 @@ use mathlib.Core.List.{[], _∷_, _++_}
 use Prim.Native.Nat.{ℕ, zero, suc, _+_, _/_, _%_}
 use lib.Dec.{eqb, ltb}
 use lib.IntN.{ℤ, pos, negsuc}
-use Rattle.replies.specs.declared.Item.{Item}
-use Rattle.replies.specs.declared.Item.the-variants.{Number, Module, Namespace}
+use Rattle.replies.specs.declared.ItemReply.{ItemReply}
+use Rattle.replies.specs.declared.ItemReply.the-variants.{Number, Module, Namespace}
 use Rattle.script.specs.Script.{Str, bytes, _·_}
 
 -- ---- Numbers
@@ -31,7 +31,7 @@ length-in m = elim (eqb m 4294967295) [ true ↦ negsuc 0 | false ↦ pos m ]
 -- ---- Replies
 
 -- The item of a line: its number in `complete`, m or n in `modules`.
-unfoldable pub item-text : Item → Str
+unfoldable pub item-text : ItemReply → Str
 item-text (Number n) = decimal n
 item-text Module = bytes "m"
 item-text Namespace = bytes "n"
@@ -57,7 +57,7 @@ unfoldable pub bad-reply : Str
 bad-reply = bytes "[bad]\n"
 
 -- `[line L I [annotation] candidate]`
-unfoldable pub line-reply : ℤ → Item → Str → Str → Str
+unfoldable pub line-reply : ℤ → ItemReply → Str → Str → Str
 line-reply l item annotation candidate =
     bytes "[line " · signed l · bytes " " · item-text item · bytes " [" · annotation · bytes "] " · candidate · bytes "]\n"
 

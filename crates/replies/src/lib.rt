@@ -7,7 +7,7 @@ ghost use Rattle.script.specs.Script.{bytes, _·_};
 ghost use Rattle.replies.specs.Replies.{decimal, signed, length-in, item-text, ok-reply, found-reply, none-reply, refused-reply, bad-reply, line-reply, end-reply, reply-room};
 
 // The item of a line: its number in `complete`, module or namespace in `modules`.
-pub enum Item {
+pub enum ItemReply {
     Number(u32),
     Module,
     Namespace,
@@ -99,14 +99,14 @@ pub fn put_bad(out: &mut [u8], at: usize) -> usize
 }
 
 // Writes an item.
-fn put_item(out: &mut [u8], at: usize, item: Item) -> usize
+fn put_item(out: &mut [u8], at: usize, item: ItemReply) -> usize
     requires { ⌜ at + 10 ≤ length (now out) ⌝ }
     ensures { λ r. ⌜ Laid (now (out .entry)) (now (out .exit)) at r (item-text item) × (r ≤ at + 10) ⌝ }
 {
     match item {
-        Item::Number(n) => put_number(out, at, n),
-        Item::Module => put(out, at, b"m"),
-        Item::Namespace => put(out, at, b"n"),
+        ItemReply::Number(n) => put_number(out, at, n),
+        ItemReply::Module => put(out, at, b"m"),
+        ItemReply::Namespace => put(out, at, b"n"),
     }
 }
 
@@ -133,7 +133,7 @@ fn put_word(out: &mut [u8], at: usize, word: u32) -> usize
 }
 
 // Writes a line's numbers, its length as a word.
-fn put_words(out: &mut [u8], at: usize, word: u32, item: Item) -> usize
+fn put_words(out: &mut [u8], at: usize, word: u32, item: ItemReply) -> usize
     requires { ⌜ at + 27 ≤ length (now out) ⌝ }
     ensures { λ r. ⌜ Laid (now (out .entry)) (now (out .exit)) at r (bytes "[line " · signed (length-in word) · bytes " " · item-text item) × (r ≤ at + 27) ⌝ }
 {
@@ -148,7 +148,7 @@ pub fn put_row(
     out: &mut [u8],
     at: usize,
     word: u32,
-    item: Item,
+    item: ItemReply,
     annotation: &[u8],
     candidate: &[u8],
 ) -> usize

@@ -15,7 +15,7 @@ use Rattle.table.specs.declared.Table.{Table}
 use Rattle.table.specs.declared.Found.{Found}
 use Rattle.table.specs.declared.FoundModule.{FoundModule}
 use Rattle.table.specs.declared.FoundModule.the-variants.{Refused}
-use Rattle.table.specs.declared.Refusal.the-variants.{Unsound}
+use Rattle.refusals.specs.declared.Refusal.the-variants.{Unsound}
 use Rattle.screen.specs.Replies.{name-reply, RepliesName, no-module, module-reply, RepliesModule}
 use Rattle.screen.specs.declared.NameReply.{NameReply}
 use Rattle.screen.specs.declared.ModuleReply.{ModuleReply}

@@ -13,7 +13,8 @@ use Rattle.memory.specs.Sound.{Says}
 use Rattle.memory.specs.declared.ModSymbol.{ModSymbol}
 use Rattle.memory.specs.declared.ModSymbol.the-variants.{Module, Namespace}
 use Rattle.table.specs.Header.{state, lent, names-in, modules-in}
-use Rattle.table.specs.Answers.{number, module-found, FoundInside}
+use Rattle.table.specs.Answers.{module-found, FoundInside}
+use Rattle.refusals.specs.Refusals.{number}
 use Rattle.table.specs.Registrations.{Outside, Accepts}
 use Rattle.table.specs.declared.FoundModule.{FoundModule}
 use Rattle.table.specs.declared.FoundModule.the-variants.{Symbol, Nothing, Refused}
@@ -63,10 +64,14 @@ pub record Replies (st bs txt st′ bs′ txt′ : List ℕ) (c : Option Call) (
 
 -- ---- Look-ups
 
--- The reply to a look-up of a name: 0 with the item, 11 for none, else the number of the refusal.
+-- The answer of a look-up that finds nothing: no refusal has this number.
+abbrev pub no-answer : ℕ
+no-answer = 4294967295
+
+-- The reply to a look-up of a name: 0 with the item, no-answer, else the number of the refusal.
 abbrev pub name-reply : C.Found ℕ → NameReply
 name-reply (C.found n) = record { answer = 0; item = n }
-name-reply C.not-found = record { answer = 11; item = 0 }
+name-reply C.not-found = record { answer = no-answer; item = 0 }
 name-reply (C.refused n) = record { answer = n; item = 0 }
 
 -- The reply r to a look-up of a name; b says whether the bytes are a sound table.
@@ -89,10 +94,10 @@ symbol-reply (Module name path loaded) =
 symbol-reply (Namespace name loaded) =
     record { answer = 0; sort = 1; «name_start» = name .start; «name_len» = name .len; «path_start» = 0; «path_len» = 0; loaded = flag loaded }
 
--- The reply to a look-up of a module or namespace: 0 with its symbol, 11 for none, else the number of the refusal.
+-- The reply to a look-up of a module or namespace: 0 with its symbol, no-answer, else the number of the refusal.
 abbrev pub module-reply : FoundModule → ModuleReply
 module-reply (Symbol s) = symbol-reply s
-module-reply Nothing = no-module 11
+module-reply Nothing = no-module no-answer
 module-reply (Refused x) = no-module (number x)
 
 -- The reply r says the answer a, its texts being spans of the lent text.

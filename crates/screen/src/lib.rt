@@ -25,7 +25,10 @@ ghost use Rattle.lines.specs.declared.Ask.the-variants.{Names};
 ghost use Rattle.screen.specs.Completions.{lines-lent, Room, modules-for, no-lines, RepliesLines, ListsIn};
 ghost use Rattle.screen.specs.Replies.{chosen, Replies, name-reply, RepliesName, flag, no-module, symbol-reply, module-reply, RepliesModule};
 
-// The reply to a look-up of a name: 0 with its item, 11 for none, else the number of the refusal.
+// The answer of a look-up that finds nothing: no refusal has this number.
+pub const NONE: u32 = 4294967295;
+
+// The reply to a look-up of a name: 0 with its item, NONE, else the number of the refusal.
 #[repr(C)]
 pub struct NameReply {
     pub answer: u32,
@@ -33,7 +36,7 @@ pub struct NameReply {
 }
 
 // The reply to a look-up of a module or namespace: 0 with its sort (0 a Module, 1 a Namespace), the spans of its full name and
-// path in the lent text, and 1 if it is loaded; 11 for none, else the number of the refusal. What does not apply is 0.
+// path in the lent text, and 1 if it is loaded; NONE, else the number of the refusal. What does not apply is 0.
 #[repr(C)]
 pub struct ModuleReply {
     pub answer: u32,
@@ -190,7 +193,7 @@ fn enter(
             put_header(state, h);
             0
         }
-        Registered::Refused(x) => table::number(x),
+        Registered::Refused(x) => refusals::number(x),
     }
 }
 
@@ -360,8 +363,8 @@ fn name_reply(f: Found) -> NameReply
 {
     match f {
         Found::Item(n) => NameReply { answer: 0, item: n },
-        Found::Nothing => no_name(11),
-        Found::Refused(x) => no_name(table::number(x)),
+        Found::Nothing => no_name(NONE),
+        Found::Refused(x) => no_name(refusals::number(x)),
     }
 }
 
@@ -407,8 +410,8 @@ fn module_reply(f: FoundModule) -> ModuleReply
 {
     match f {
         FoundModule::Symbol(s) => symbol_reply(s),
-        FoundModule::Nothing => no_module(11),
-        FoundModule::Refused(x) => no_module(table::number(x)),
+        FoundModule::Nothing => no_module(NONE),
+        FoundModule::Refused(x) => no_module(refusals::number(x)),
     }
 }
 
@@ -517,7 +520,7 @@ fn list(
                 entered: entered,
             }
         }
-        Completed::Refused(x) => no_lines(table::number(x)),
+        Completed::Refused(x) => no_lines(refusals::number(x)),
     }
 }
 

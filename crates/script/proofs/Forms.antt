@@ -13,7 +13,7 @@ use Rattle.script.specs.declared.Ask.{Ask}
 use Rattle.script.specs.declared.Ask.the-variants.{Find, Complete, Modules}
 use Rattle.script.specs.declared.Key.{Key}
 use Rattle.script.specs.declared.Key.the-variants.{Name as NameKey, Alias as AliasKey, Import as ImportKey, Module as ModuleKey, Ask as AskKey}
-use Rattle.script.specs.declared.Span.{Span}
+use Rattle.script.specs.declared.Extent.{Extent}
 use Rattle.script.specs.declared.Form.the-variants.{Name, Import as ImportForm, Alias, Module, Ask as AskForm}
 use Rattle.script.specs.declared.Pair.the-variants.{At as AtPair}
 use Rattle.script.specs.declared.Tail.the-variants.{At as AtTail}
@@ -116,7 +116,7 @@ module _ {line : Str} {at : ℕ} (o : Only line NameKey) (w : WordAt line (key N
     pub name-no : ((id : Str) (n : ℕ) → IdEnd (drop (e + 2) line) id n → ⊥) → (c : Command) → Reads line c → ⊥
     name-no n = refused o (λ c k. n (k .1) (k .2) (name-id (k .4) (sym (rest-found p stops-query (name-piece (k .4) (after-word w (k .4 .spelled)))))))
 
-    pub name-yes : (id : Span) (n : ℕ) → IdSays line (e + 2) (AtTail id n) → Parsed line (Name (record { start = at; len = e - at }) id n)
+    pub name-yes : (id : Extent) (n : ℕ) → IdSays line (e + 2) (AtTail id n) → Parsed line (Name (record { start = at; len = e - at }) id n)
     unfolding bytes
     name-yes id n r = (
       omega (arith, p .start, p .end),
@@ -138,7 +138,7 @@ module _ {how : Import} {line : Str} {at : ℕ} (o : Only line (ImportKey how)) 
   pub import-no : ((host q : Str) → PairEnd (drop at line) host q → ⊥) → (c : Command) → Reads line c → ⊥
   import-no n = refused o (λ c k. n (k .0) (k .1) (import-pair (k .3) (after-word w (k .3 .spelled))))
 
-  pub import-yes : (host q : Span) → PairSays line at (AtPair host q) → Parsed line (ImportForm how host q)
+  pub import-yes : (host q : Extent) → PairSays line at (AtPair host q) → Parsed line (ImportForm how host q)
   import-yes host q r = (
     r .0,
     r .1,
@@ -163,7 +163,7 @@ module _ {line : Str} {at : ℕ} (o : Only line AliasKey) (w : WordAt line (key 
     pub alias-no : ((host q : Str) → PairEnd (drop (e + 2) line) host q → ⊥) → (c : Command) → Reads line c → ⊥
     alias-no n = refused o (λ c k. n (k .1) (k .2) (alias-pair (k .4) (sym (rest-found p stops-word (alias-piece (k .4) (after-word w (k .4 .spelled)))))))
 
-    pub alias-yes : (e ≡ at → ⊥) → (host q : Span) → PairSays line (e + 2) (AtPair host q) → Parsed line (Alias (record { start = at; len = e - at }) host q)
+    pub alias-yes : (e ≡ at → ⊥) → (host q : Extent) → PairSays line (e + 2) (AtPair host q) → Parsed line (Alias (record { start = at; len = e - at }) host q)
     unfolding bytes
     alias-yes some host q r = (
       omega (arith, p .start, p .end),

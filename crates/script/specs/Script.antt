@@ -15,7 +15,7 @@ use Rattle.script.specs.declared.Ask.{Ask}
 use Rattle.script.specs.declared.Ask.the-variants.{Find, Complete, Modules}
 use Rattle.script.specs.declared.Key.{Key}
 use Rattle.script.specs.declared.Key.the-variants.{Name as NameKey, Alias as AliasKey, Import as ImportKey, Module as ModuleKey, Ask as AskKey}
-use Rattle.script.specs.declared.Span.{Span}
+use Rattle.script.specs.declared.Extent.{Extent}
 use Rattle.script.specs.declared.Form.{Form}
 use Rattle.script.specs.declared.Form.the-variants.{Name, Import as ImportForm, Alias, Module, Ask as AskForm, Bad}
 
@@ -132,11 +132,11 @@ pub record Reads (line : Str) (command : Command) : Type 0 where
 -- ---- What is answered
 
 -- The span lies in the line.
-abbrev pub Within : Str → Span → Type 0
+abbrev pub Within : Str → Extent → Type 0
 Within line s = s .start + s .len ≤ length line
 
 -- The bytes of a span.
-abbrev pub part-of : Str → Span → Str
+abbrev pub part-of : Str → Extent → Str
 part-of line s = take (s .len) (drop (s .start) line)
 
 -- The form that the line is, its parts as spans of the line; or `Bad`, and the line is no form.

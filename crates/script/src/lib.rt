@@ -7,7 +7,7 @@ ghost use Rattle.script.specs.Script.{byte-ok, key, Parsed, LineEnd};
 ghost use Rattle.script.specs.Parts.{run-length, StartsSays, Stops, PieceSays, QuerySays, PairSays, LastSays, ValueSays, NumberSays, WordSays, IdSays, key-by, key-of, Only};
 
 // A part of a line: where it starts, and its length.
-pub struct Span {
+pub struct Extent {
     pub start: usize,
     pub len: usize,
 }
@@ -29,28 +29,28 @@ pub enum Ask {
 // What a line is: its form, with its parts.
 pub enum Form {
     Name {
-        host: Span,
-        id: Span,
+        host: Extent,
+        id: Extent,
         item: u32,
     },
     Import {
         how: Import,
-        host: Span,
-        query: Span,
+        host: Extent,
+        query: Extent,
     },
     Alias {
-        word: Span,
-        host: Span,
-        query: Span,
+        word: Extent,
+        host: Extent,
+        query: Extent,
     },
     Module {
         loaded: bool,
-        query: Span,
-        path: Span,
+        query: Extent,
+        path: Extent,
     },
     Ask {
         what: Ask,
-        query: Span,
+        query: Extent,
     },
     Bad,
 }
@@ -79,12 +79,12 @@ enum Part {
 }
 
 enum Pair {
-    At { host: Span, query: Span },
+    At { host: Extent, query: Extent },
     No,
 }
 
 enum Tail {
-    At { id: Span, item: u32 },
+    At { id: Extent, item: u32 },
     No,
 }
 
@@ -187,11 +187,11 @@ fn pair_end(line: &[u8], at: usize) -> Pair
     match piece(line, at, Sort::Query, b"] [") {
         Part::At(e) => match query_end(line, e + 3) {
             Part::At(f) => Pair::At {
-                host: Span {
+                host: Extent {
                     start: at,
                     len: e - at,
                 },
-                query: Span {
+                query: Extent {
                     start: e + 3,
                     len: f - (e + 3),
                 },
@@ -272,7 +272,7 @@ fn id_end(line: &[u8], at: usize) -> Tail
             match last_end(line, e + 1) {
                 Part::At(f) => match numeral(&line[e + 1..f]) {
                     Number::At(n) => Tail::At {
-                        id: Span {
+                        id: Extent {
                             start: at,
                             len: e - at,
                         },
@@ -389,7 +389,7 @@ fn name_form(line: &[u8]) -> Form
         Part::At(at) => match piece(line, at, Sort::Query, b"] ") {
             Part::At(e) => match id_end(line, e + 2) {
                 Tail::At { id, item } => Form::Name {
-                    host: Span {
+                    host: Extent {
                         start: at,
                         len: e - at,
                     },
@@ -435,7 +435,7 @@ fn alias_form(line: &[u8]) -> Form
                 }
                 match pair_end(line, e + 2) {
                     Pair::At { host, query } => Form::Alias {
-                        word: Span {
+                        word: Extent {
                             start: at,
                             len: e - at,
                         },
@@ -461,11 +461,11 @@ fn module_form(line: &[u8], loaded: bool) -> Form
             Part::At(e) => match last_end(line, e + 2) {
                 Part::At(f) => Form::Module {
                     loaded: loaded,
-                    query: Span {
+                    query: Extent {
                         start: at,
                         len: e - at,
                     },
-                    path: Span {
+                    path: Extent {
                         start: e + 2,
                         len: f - (e + 2),
                     },
@@ -487,7 +487,7 @@ fn ask_form(line: &[u8], what: Ask) -> Form
         Part::At(at) => match query_end(line, at) {
             Part::At(e) => Form::Ask {
                 what: what,
-                query: Span {
+                query: Extent {
                     start: at,
                     len: e - at,
                 },

@@ -1,5 +1,6 @@
 // Is the lent memory a sound table? One pass over the used records, each tested by what the records before it store.
 use memory::Header;
+use memory::Span;
 use text::Order;
 use text::Rule;
 ghost use mathlib.Core.Path.{_≡_};
@@ -9,13 +10,23 @@ ghost use Rattle.memory.specs.Layout.{record-at, left-link, right-link, weight-
 ghost use Rattle.memory.specs.Stored.{depth-of};
 ghost use Rattle.memory.specs.Sound.{Says, SymbolOk, RecordOk, Sound};
 ghost use Rattle.fields.specs.Fields.{Before, TreeKind};
-ghost use Rattle.sound.specs.Tests.{SaysBranch, SaysHeld, SaysCollection, SaysTrie};
+ghost use Rattle.sound.specs.Tests.{Notes, CanNote, NotesOn, SaysBranch, SaysHeld, SaysCollection, SaysTrie};
 
-// A branch of the kind `k`, whose keys ascend.
-fn branch_ok(words: &[u32], text: &[u8], used: u32, link: u32, r: &[u32], k: u32) -> bool
+// A branch of the kind `k`, whose keys ascend. The notes have the branch with the least and the greatest key of each tree before it.
+fn branch_ok(
+    words: &[u32],
+    text: &[u8],
+    used: u32,
+    link: u32,
+    r: &[u32],
+    k: u32,
+    least: &[u32],
+    greatest: &[u32],
+) -> bool
     requires { ⌜ Before (now words) (now text) used link ⌝ }
     requires { ⌜ TreeKind k ⌝ }
     requires { ⌜ length (now r) ≡ 12 ⌝ }
+    requires { ⌜ Notes (now words) link (now least) (now greatest) ⌝ }
     ensures { λ b. ⌜ SaysBranch (now (words .entry)) (now (text .entry)) used link (now (r .entry)) k b ⌝ }
 {
     let start = r[memory::TEXT_START];
@@ -31,10 +42,16 @@ fn branch_ok(words: &[u32], text: &[u8], used: u32, link: u32, r: &[u32], k: u32
     if !fields::text_ok(text, used, start, len, 1, text::NAME_MOST, Rule::Name) {
         return false;
     }
-    if !fields::left_ok(words, text, used, link, k, first, start, len) {
+    let key = Span {
+        start: start,
+        len: len,
+    };
+    let most = greatest[first as usize];
+    if !fields::left_ok(words, text, used, link, k, first, most, key) {
         return false;
     }
-    fields::right_ok(words, text, used, link, k, second, start, len)
+    let fewest = least[second as usize];
+    fields::right_ok(words, text, used, link, k, second, fewest, key)
 }
 
 // The item of a bindings branch of the module table.
@@ -183,22 +200,31 @@ fn trie_ok(words: &[u32], text: &[u8], used: u32, link: u32, r: &[u32], b: u32, 
 }
 
 // Is the record `r` of `link` right, given that those before it are?
-fn record_ok(words: &[u32], text: &[u8], used: u32, link: u32, r: &[u32]) -> bool
+fn record_ok(
+    words: &[u32],
+    text: &[u8],
+    used: u32,
+    link: u32,
+    r: &[u32],
+    least: &[u32],
+    greatest: &[u32],
+) -> bool
     requires { ⌜ Before (now words) (now text) used link ⌝ }
     requires { ⌜ now r ≡ record-at (now words) link ⌝ }
+    requires { ⌜ Notes (now words) link (now least) (now greatest) ⌝ }
     ensures { λ b. ⌜ Says b (RecordOk (now (words .entry)) (now (text .entry)) used link) ⌝ }
 {
     let k = r[memory::KIND];
     match k {
-        memory::BINDING_KIND => branch_ok(words, text, used, link, r, k),
+        memory::BINDING_KIND => branch_ok(words, text, used, link, r, k, least, greatest),
         memory::MODULE_BINDING_KIND => {
-            if !branch_ok(words, text, used, link, r, k) {
+            if !branch_ok(words, text, used, link, r, k, least, greatest) {
                 return false;
             }
             symbol_ok(text, used, r)
         }
         memory::NAMESPACE_KIND | memory::MODULE_NAMESPACE_KIND => {
-            if !branch_ok(words, text, used, link, r, k) {
+            if !branch_ok(words, text, used, link, r, k, least, greatest) {
                 return false;
             }
             held_ok(words, text, used, link, r, k + memory::TRIE_IN)
@@ -234,8 +260,18 @@ fn record_ok(words: &[u32], text: &[u8], used: u32, link: u32, r: &[u32]) -> boo
     }
 }
 
-// Is the lent memory a sound table, with this header?
-pub fn sound(words: &[u32], text: &[u8], header: Header) -> bool
+// Notes the record of `link`, which is right.
+fn note(words: &[u32], link: u32, least: &mut [u32], greatest: &mut [u32])
+    requires { ⌜ CanNote (now words) link (now least) (now greatest) ⌝ }
+    ensures { λ _. ⌜ NotesOn (now (words .entry)) (link + 1) (now (least .entry)) (now (greatest .entry)) (now (least .exit)) (now (greatest .exit)) ⌝ }
+{
+    fields::note(words, link, memory::LEFT, least);
+    fields::note(words, link, memory::RIGHT, greatest);
+}
+
+// One pass over the used records, with notes for so many.
+fn pass(words: &[u32], text: &[u8], header: Header, least: &mut [u32], greatest: &mut [u32]) -> bool
+    requires { ⌜ (header .records < length (now least)) × (header .records < length (now greatest)) ⌝ }
     ensures { λ r. ⌜ Says r (Sound (now (words .entry)) (now (text .entry)) header) ⌝ }
 {
     let records = header.records;
@@ -261,10 +297,68 @@ pub fn sound(words: &[u32], text: &[u8], header: Header) -> bool
     let mut link = 1;
     while link <= records {
         let at = (link as usize - 1) * memory::ROW;
-        if !record_ok(words, text, used, link, &words[at..at + memory::ROW]) {
+        if !record_ok(
+            words,
+            text,
+            used,
+            link,
+            &words[at..at + memory::ROW],
+            least,
+            greatest,
+        ) {
             return false;
         }
+        note(words, link, least, greatest);
         link += 1;
     }
     true
+}
+
+// Notes for small tables, for those ten times as large, and for all.
+const FEW: u32 = 1024;
+
+const SOME: u32 = 8192;
+
+fn sound_few(words: &[u32], text: &[u8], header: Header) -> bool
+    requires { ⌜ header .records ≤ 1024 ⌝ }
+    ensures { λ r. ⌜ Says r (Sound (now (words .entry)) (now (text .entry)) header) ⌝ }
+{
+    let mut least = [0; 1025];
+    let mut greatest = [0; 1025];
+    pass(words, text, header, &mut least, &mut greatest)
+}
+
+fn sound_some(words: &[u32], text: &[u8], header: Header) -> bool
+    requires { ⌜ header .records ≤ 8192 ⌝ }
+    ensures { λ r. ⌜ Says r (Sound (now (words .entry)) (now (text .entry)) header) ⌝ }
+{
+    let mut least = [0; 8193];
+    let mut greatest = [0; 8193];
+    pass(words, text, header, &mut least, &mut greatest)
+}
+
+fn sound_all(words: &[u32], text: &[u8], header: Header) -> bool
+    requires { ⌜ header .records ≤ 65536 ⌝ }
+    ensures { λ r. ⌜ Says r (Sound (now (words .entry)) (now (text .entry)) header) ⌝ }
+{
+    let mut least = [0; 65537];
+    let mut greatest = [0; 65537];
+    pass(words, text, header, &mut least, &mut greatest)
+}
+
+// Is the lent memory a sound table, with this header?
+pub fn sound(words: &[u32], text: &[u8], header: Header) -> bool
+    ensures { λ r. ⌜ Says r (Sound (now (words .entry)) (now (text .entry)) header) ⌝ }
+{
+    let records = header.records;
+    if records <= FEW {
+        return sound_few(words, text, header);
+    }
+    if records <= SOME {
+        return sound_some(words, text, header);
+    }
+    if memory::CAPACITY < records {
+        return false;
+    }
+    sound_all(words, text, header)
 }

@@ -1,10 +1,9 @@
 -- The ten starred cases of document 01, through what the calls hand back: `starred-cases`, by computation.
-use Prim.Native.Nat.{ℕ}
-use Prim.Native.Char.{code}
+use Prim.Native.Nat.{ℕ, zero, suc}
 use Prim.Native.String as S
 use mathlib.Core.Path.{_≡_, refl}
 use mathlib.Core.Bool.{true, false}
-use mathlib.Core.List.{List, [], _∷_}
+use mathlib.Core.List.{List, [], _∷_, _++_}
 use mathlib.Core.Option.{Option, none, some}
 use lib.IntN.{ℤ, pos, negsuc}
 use Rattle.source.specs.Text.{Str, then, string-compare, starts-with, string-length, query-to-string, onto-first, segments, ends-in-dot, name-byte, query-byte, path-byte}
@@ -15,15 +14,11 @@ use Rattle.source.specs.Trees.{btree-insert-replace, btree-find-exact, f
 use Rattle.source.specs.Tries.{or-else, dflt, bind-option, names-find-exact, trie-descend-exact, trie-find-exact, names-insert, scope-of, trie-mutate, trie-mutate-leaf, trie-insert, included, trie-import, trie-include, trie-open-namespace, trie-add-alias}
 use Rattle.source.specs.Terms.{weight, heaviest, heaviest-tree, heaviest-names, depth, depth-tree, depth-names}
 use Rattle.source.specs.Listing.{fold-left, rev-map-onto, ns-search-term, bindings-search-term, revmap-onto, names-revmap, matching-values, with-imports, elem-key, names-find-rev, find-prefix-fuel, trie-find-prefix′, trie-find-prefix}
-use Rattle.source.specs.Table.{Line, ModSymbol, Module, Namespace, empty, insert, register-alias, register-include, ns-inserts, ins-ns, ins-mod, name-of-revq, ins, register-module-path, string-of-path, match-elem, match-length-of-path, last-opt, first-import-of-path, completion-result-of-lid, mod-annotation, completion-result-of-ns-or-mod, autocomplete-lid, filter-map, autocomplete-mod-or-ns}
-use Rattle.source.specs.Counted.{pure, one, _>>=_, btree-insert-replaceᶜ, names-insertᶜ, trie-mutateᶜ, trie-mutate-leafᶜ, trie-insertᶜ, trie-importᶜ, trie-includeᶜ, trie-add-aliasᶜ, lids, insertᶜ, register-aliasᶜ, register-includeᶜ, ins-nsᶜ, ins-modᶜ, insᶜ, register-module-pathᶜ, fold-leftᶜ, find-prefix-fuelᶜ, trie-find-prefixᶜ}
-use Rattle.source.specs.Calls.{Lent, Output, State, Call, name, include, alias, module-path, Registered, accepted, refused, Found, found, not-found, Completed, listed, All, text-of, is-empty, any, bad-query, malformed, empty-name, long-query, too-long, lowest, argument-rows, fresh, whole-records, free, arguments, registered, records, text-taken, crowded, deep, registration-rows, after, register, found-of, look-up, output-text, completion-rows, completed, tries-entered, keeps, filter-of, complete, complete-modules}
+use Rattle.source.specs.Table.{Line, ModSymbol, Module, Namespace, empty, insert, register-alias, register-include, register-open, ns-inserts, ins-ns, ins-mod, name-of-revq, ins, register-module-path, string-of-path, match-elem, match-length-of-path, last-opt, first-import-of-path, completion-result-of-lid, mod-annotation, completion-result-of-ns-or-mod, autocomplete-lid, filter-map, autocomplete-mod-or-ns}
+use Rattle.source.specs.Counted.{pure, one, _>>=_, btree-insert-replaceᶜ, names-insertᶜ, trie-mutateᶜ, trie-mutate-leafᶜ, trie-insertᶜ, trie-importᶜ, trie-includeᶜ, trie-open-namespaceᶜ, trie-add-aliasᶜ, lids, insertᶜ, register-aliasᶜ, register-includeᶜ, register-openᶜ, ins-nsᶜ, ins-modᶜ, insᶜ, register-module-pathᶜ, fold-leftᶜ, find-prefix-fuelᶜ, trie-find-prefixᶜ}
+use Rattle.source.specs.Calls.{Lent, Output, State, Call, name, include, opens, alias, module-path, Registered, accepted, refused, Found, found, not-found, Completed, listed, All, text-of, is-empty, any, bad-query, malformed, empty-name, long-query, too-long, lowest, argument-rows, fresh, whole-records, free, arguments, registered, records, text-taken, crowded, deep, registration-rows, after, register, found-of, look-up, output-text, completion-rows, completed, tries-entered, keeps, filter-of, complete, complete-modules}
 use Rattle.source.specs.Rules.{all}
-
--- A quoted text's bytes.
-unfoldable pub bytes : S.String → Str
-bytes S.[] = []
-bytes (S._∷_ c s) = code c ∷ bytes s
+use Rattle.source.proofs.Quoted.{bytes}
 
 -- What the program console lends.
 unfoldable pub console : Lent
@@ -78,6 +73,15 @@ included-here = then-call T (include (bytes "") (bytes "Saved."))
 unfoldable pub bus : Registered
 bus = then-call (accepted fresh) (module-path false (bytes "IO.Bus.") (bytes "io/bus"))
 
+-- A text repeated.
+unfoldable pub repeated : ℕ → S.String → Str
+repeated zero t = []
+repeated (suc n) t = bytes t ++ repeated n t
+
+-- After an open of a namespace at the root that holds a namespace `Live` of its own.
+unfoldable pub shadow : Registered
+shadow = then-call (then-call T (name (bytes "Lib.Live.") (bytes "late") 7)) (opens false (bytes "") (bytes "Lib."))
+
 pub record StarredCases : Type 0 where
   pub case-1 : records-of (then-call (accepted fresh) (name (bytes "") (bytes "tick") 5)) ≡ some 3
   pub case-2 : (records-of T ≡ some 26) × (ask T (λ s. s .text-used) ≡ some 44)
@@ -94,8 +98,9 @@ pub record StarredCases : Type 0 where
       ∷ line (pos 1) (Module (bytes "IO.Bus") (bytes "io/bus") false) "IO.Bus" "(mod)"
       ∷ []) 3))
 
-pub starred-cases : StarredCases
-unfolding bytes console pane then-call ask records-of find names modules line three T aliased included-here bus
+-- Unfolding this unfolds all that the cases compute with.
+unfoldable compute : Unit {0}
+unfolding bytes console pane then-call ask records-of find names modules line three T aliased included-here bus shadow repeated
     then string-compare starts-with string-length query-to-string onto-first segments ends-in-dot name-byte query-byte path-byte
     is-lt heap-merge heap-insert heap-insert-all heap-from-list heap-merge-pairs heap-pair-up
     first priority nonempty add-priorities total push-nodup run-cmp put-back merge-aux merge-nonempty merge-increasing-lists-rev
@@ -104,10 +109,14 @@ unfolding bytes console pane then-call ask records-of find names modules line th
     or-else dflt bind-option names-find-exact trie-descend-exact trie-find-exact names-insert scope-of trie-mutate trie-mutate-leaf trie-insert included trie-import trie-include trie-open-namespace trie-add-alias
     weight heaviest heaviest-tree heaviest-names depth depth-tree depth-names
     fold-left rev-map-onto ns-search-term bindings-search-term revmap-onto names-revmap matching-values with-imports elem-key names-find-rev find-prefix-fuel trie-find-prefix′ trie-find-prefix
-    empty insert register-alias register-include ns-inserts ins-ns ins-mod name-of-revq ins register-module-path string-of-path match-elem match-length-of-path last-opt first-import-of-path completion-result-of-lid mod-annotation completion-result-of-ns-or-mod autocomplete-lid filter-map autocomplete-mod-or-ns
-    pure one _>>=_ btree-insert-replaceᶜ names-insertᶜ trie-mutateᶜ trie-mutate-leafᶜ trie-insertᶜ trie-importᶜ trie-includeᶜ trie-add-aliasᶜ lids insertᶜ register-aliasᶜ register-includeᶜ ins-nsᶜ ins-modᶜ insᶜ register-module-pathᶜ fold-leftᶜ find-prefix-fuelᶜ trie-find-prefixᶜ
+    empty insert register-alias register-include register-open ns-inserts ins-ns ins-mod name-of-revq ins register-module-path string-of-path match-elem match-length-of-path last-opt first-import-of-path completion-result-of-lid mod-annotation completion-result-of-ns-or-mod autocomplete-lid filter-map autocomplete-mod-or-ns
+    pure one _>>=_ btree-insert-replaceᶜ names-insertᶜ trie-mutateᶜ trie-mutate-leafᶜ trie-insertᶜ trie-importᶜ trie-includeᶜ trie-open-namespaceᶜ trie-add-aliasᶜ lids insertᶜ register-aliasᶜ register-includeᶜ register-openᶜ ins-nsᶜ ins-modᶜ insᶜ register-module-pathᶜ fold-leftᶜ find-prefix-fuelᶜ trie-find-prefixᶜ
     text-of is-empty any bad-query malformed empty-name long-query too-long lowest argument-rows fresh whole-records free arguments registered records text-taken crowded deep registration-rows after register found-of look-up output-text completion-rows completed tries-entered keeps filter-of complete complete-modules
     all
+compute = tt
+
+pub starred-cases : StarredCases
+unfolding compute
 starred-cases = record {
   case-1 = refl;
   case-2 = (refl, refl);
@@ -120,3 +129,35 @@ starred-cases = record {
   case-9 = refl;
   case-10 = (refl, refl);
 }
+
+-- The other cases of document 01.
+pub record OtherCases : Type 0 where
+  pub case-11 : (records-of (then-call (accepted fresh) (name (bytes "") (repeated 31 "x") 5)) ≡ some 3)
+      × (then-call (accepted fresh) (name (bytes "") (repeated 32 "x") 5) ≡ refused 4)
+      × (records-of (then-call (accepted fresh) (name (repeated 16 "x.") (bytes "x") 5)) ≡ some 51)
+      × (then-call (accepted fresh) (name (repeated 17 "x.") (bytes "x") 5) ≡ refused 6)
+      × (then-call (accepted fresh) (name (repeated 18 "x.") (bytes "x") 5) ≡ refused 4)
+  pub case-12 : (register true (record { words = 35; text = 4 }) fresh (name (bytes "") (bytes "tick") 5) ≡ refused 7)
+      × (records-of (register true (record { words = 36; text = 4 }) fresh (name (bytes "") (bytes "tick") 5)) ≡ some 3)
+      × (register true (record { words = 36; text = 3 }) fresh (name (bytes "") (bytes "tick") 5) ≡ refused 8)
+  pub case-13 : (ask T (λ s. complete true (s .table) 1 pane (bytes "Live.off.")) ≡ some (refused 9))
+      × (ask T (λ s. complete true (s .table) 2 pane (bytes "Live.off.")) ≡ some (listed (line (pos 8) 1 "Live.offset" "" ∷ []) 2))
+      × (ask T (λ s. complete true (s .table) 2 (record { lines = 0; text = 32768 }) (bytes "Live.off.")) ≡ some (refused 10))
+  -- A file path may be empty, and has at most 120 bytes.
+  pub paths : (records-of (then-call (accepted fresh) (module-path true (bytes "M.") (bytes ""))) ≡ some 5)
+      × (records-of (then-call (accepted fresh) (module-path true (bytes "M.") (repeated 120 "x"))) ≡ some 5)
+      × (then-call (accepted fresh) (module-path true (bytes "M.") (repeated 121 "x")) ≡ refused 4)
+
+pub other-cases : OtherCases
+unfolding compute
+other-cases = record {
+  case-11 = (refl, refl, refl, refl, refl);
+  case-12 = (refl, refl, refl);
+  case-13 = (refl, refl, refl);
+  paths = (refl, refl, refl);
+}
+
+-- An open of a namespace above an including host changes what its name leads to (Apart, in Unchanged).
+pub shadowed : (find T "Live.late." ≡ some not-found) × (find shadow "Live.late." ≡ some (found 7))
+unfolding compute
+shadowed = (refl, refl)

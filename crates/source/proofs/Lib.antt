@@ -19,8 +19,9 @@ pub mod Listed
 pub mod ListedTexts
 pub mod Queries
 pub mod Refusals
-pub mod Unchanged
+pub mod Elsewhere
 pub mod Kept
+pub mod Modules
 pub mod Hosts
 pub mod Planning
 pub mod Measures
@@ -28,4 +29,11 @@ pub mod PlannedDepth
 pub mod PlannedWeight
 pub mod PlannedRecords
 pub mod Agreement
+pub mod Unchanged
+pub mod Quoted
+pub mod Bytes
+pub mod Filters
+pub mod ModuleRules
+pub mod Taken
+pub mod Spans
 pub mod Cases

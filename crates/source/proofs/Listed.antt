@@ -23,11 +23,11 @@ use Rattle.source.proofs.Names.{accepts, last-holder, first-of-holders,
 
 -- ---- the walks, a step at a time
 module _ {A : Type 0} where
-  walk-last-end : (tr : Trie A) (s : Str) → walk-last tr (s ∷ []) ≡ last-holder (flatten (bindings tr)) s
+  pub walk-last-end : (tr : Trie A) (s : Str) → walk-last tr (s ∷ []) ≡ last-holder (flatten (bindings tr)) s
   unfolding walk-last
   walk-last-end tr s = last-of-holders (flatten (bindings tr)) s
 
-  walk-last-on : (tr : Trie A) (s t : Str) (q : Query)
+  pub walk-last-on : (tr : Trie A) (s t : Str) (q : Query)
       → walk-last tr (s ∷ (t ∷ q)) ≡ bind-option (last-holder (flatten (namespaces tr)) s) (λ scope. walk-last scope (t ∷ q))
   unfolding walk-last
   walk-last-on tr s t q = ap (λ o. bind-option o (λ scope. walk-last scope (t ∷ q))) (last-of-holders (flatten (namespaces tr)) s)

@@ -1,136 +1,205 @@
--- An accepted name changes no look-up but that of its own full name; so what is registered in an included module later does not come along.
-use Prim.Native.Nat.{Ordering, Ordering·lt, Ordering·eq, Ordering·gt, ℕ}
+-- What an accepted registration leaves as it was: the look-ups and the lines of all names that it does not touch.
+-- So an include copies: what is registered in the included module later does not come along.
+use Prim.Native.Nat.{ℕ}
 use mathlib.Core.Path.{_≡_, refl, sym, ap, _∙_}
-use mathlib.Core.Logic.{_⊎_, inl, inr}
-use mathlib.Core.Bool.{Bool, true}
-use mathlib.Core.List.{[], _∷_, _++_, append-cancel-right}
-use mathlib.Core.Option.{Option, none, some}
-use Rattle.source.specs.Text.{Str, Query, string-compare, segments}
-use Rattle.source.specs.Types.{Level, Value, Trie, Tree, NameList, item, trie, StrEmpty, StrBranch, []ᴺ, Names, ImportedNames, bindings, namespaces, trie-empty}
-use Rattle.source.specs.Trees.{btree-insert-replace, btree-find-exact}
-use Rattle.source.specs.Tries.{or-else, dflt, bind-option, MutNode, MutLeaf, names-find-exact, names-insert, scope-of, trie-find-exact, trie-mutate, trie-mutate-leaf, trie-insert}
-use Rattle.source.specs.Calls.{State, Lent, name, accepted, register, registered, after, look-up, lowest, argument-rows, a-look-up, Found, found-of, refused}
-use Rattle.source.specs.Table.{insert}
-use Rattle.source.proofs.Order.{View, compare-strings, <ˢ-irrefl}
-use Rattle.source.proofs.Imports.{names-find-inserted}
+use mathlib.Core.Bool.{Bool, true, false}
+use mathlib.Core.List.{List, [], _∷_, _++_, nil≢cons, tail-eq-of-cons-eq}
+use mathlib.Core.Option.{none, some}
+use Rattle.source.specs.Text.{Str, Query, query-to-string, segments}
+use Rattle.source.specs.Types.{Trie, bind, item, trie, []ᴺ, ImportedNames, bindings, namespaces}
+use Rattle.source.specs.Tries.{names-insert, trie-find-exact, trie-insert, included, trie-import, trie-include, trie-open-namespace, trie-add-alias}
+use Rattle.source.specs.Terms.{walk-last}
+use Rattle.source.specs.Table.{Table, Line, insert, register-alias, register-include, register-open, register-module-path}
+use Rattle.source.specs.Rules.{SoundTable}
+use Rattle.source.specs.Calls.{State, Lent, Call, name, include, opens, alias, module-path, accepted, register, registered, after, look-up, lowest, argument-rows, a-look-up, Found, found-of, refused, Output, listed, complete}
+use Rattle.source.specs.Agreement.{Covers, without-last, NotRefused, lines-of-text, Shows}
+use Rattle.source.specs.Plans.{host-of}
+use Rattle.source.proofs.Elsewhere.{Pick, Picks, walk, first-pick, last-pick, first-picks, last-picks, first-walk, last-walk, leaf-elsewhere}
 use Rattle.source.proofs.Refusals.{accepted-is}
+use Rattle.source.proofs.Kept.{accepted-sound}
+use Rattle.source.proofs.Agreement.{agreement}
 
--- two keys are equal or not
-same-key : (j k : Str) → (j ≡ k) ⊎ (j ≡ k → ⊥)
-same-key j k = go (string-compare j k) (compare-strings j k)
-  where
-    go : (o : Ordering) → View j k o → (j ≡ k) ⊎ (j ≡ k → ⊥)
-    go Ordering·lt w = inr (λ e. <ˢ-irrefl k (rw e at w))
-    go Ordering·eq w = inl w
-    go Ordering·gt w = inr (λ e. <ˢ-irrefl k (rw e at w))
+-- The full names whose look-up or line a call may change: its own name; the names right at the host; those below a namespace of the host; those below the key.
+abbrev pub Touches : Call → Query → Type 0
+Touches (name host id number) n = n ≡ segments host ++ (id ∷ [])
+Touches (include host q) n = (x : Str) × (n ≡ segments host ++ (x ∷ []))
+Touches (opens true host q) n = (x : Str) × (n ≡ segments host ++ (x ∷ []))
+Touches (opens false host q) n = (x : Str) × (y : Str) × (r : Query) × (n ≡ segments host ++ (x ∷ (y ∷ r)))
+Touches (alias key host q) n = (y : Str) × (r : Query) × (n ≡ segments host ++ (key ∷ (y ∷ r)))
+Touches (module-path loaded query path) n = ⊥
 
-module _ {A : Type 0} where
-  -- another key is found as before
-  find-other : {l : Level} (t : Tree A l) (k j : Str) (v : Value A l) → (j ≡ k → ⊥) → btree-find-exact (btree-insert-replace t k v) j ≡ btree-find-exact t j
-  unfolding btree-insert-replace btree-find-exact
-  find-other {l} StrEmpty k j v n = go (string-compare j k) (compare-strings j k)
+module _ {A : Type 0} (pick : Pick A) (laws : Picks pick) where
+  name-walk : (tr : Trie A) (host : Query) (id : Str) (v : A) (n : Query) → (n ≡ host ++ (id ∷ []) → ⊥) → walk pick (trie-insert tr host id v) n ≡ walk pick tr n
+  unfolding trie-insert walk bindings namespaces
+  name-walk tr host id v n d = leaf-elsewhere pick laws _ tr host n (λ rest e. go (host-of tr host) rest (λ f. d (e ∙ ap (λ r. host ++ r) f)))
     where
-      go : (o : Ordering) → View j k o
-          → _≡_ {A = Option (Value A l)} (elim o [ Ordering·lt ↦ none | Ordering·eq ↦ some v | Ordering·gt ↦ none ]) none
-      go Ordering·lt w = refl
-      go Ordering·eq w = absurd (n w)
-      go Ordering·gt w = refl
-  find-other {l} (StrBranch k′ v′ lbt rbt) k j v n = go (string-compare k k′) (compare-strings k k′) (find-other lbt k j v n) (find-other rbt k j v n)
+      go : (at : Trie A) (rest : Query) → (rest ≡ id ∷ [] → ⊥)
+          → walk pick (trie (names-insert (bindings at) id (item v)) (namespaces at)) rest ≡ walk pick at rest
+      go at [] d = refl
+      go at (x ∷ []) d = laws .other bind (bindings at) id x (item v) (λ e. d (cc))
+      go at (x ∷ (y ∷ r)) d = refl
+
+  include-walk : (tr : Trie A) (host q n : Query) → ((x : Str) → n ≡ host ++ (x ∷ []) → ⊥) → walk pick (trie-include tr host q) n ≡ walk pick tr n
+  unfolding trie-include trie-import walk bindings namespaces
+  include-walk tr host q n d = leaf-elsewhere pick laws _ tr host n (λ rest e. go (host-of tr host) rest (λ x f. d x (e ∙ ap (λ r. host ++ r) f)))
     where
-      same : k ≡ k′ → (p : Ordering) → View j k′ p
-          → _≡_ {A = Option (Value A l)}
-          (elim p [ Ordering·lt ↦ btree-find-exact lbt j | Ordering·eq ↦ some v | Ordering·gt ↦ btree-find-exact rbt j ])
-          (elim p [ Ordering·lt ↦ btree-find-exact lbt j | Ordering·eq ↦ some v′ | Ordering·gt ↦ btree-find-exact rbt j ])
-      same e Ordering·lt w = refl
-      same e Ordering·eq w = absurd (n (w ∙ sym e))
-      same e Ordering·gt w = refl
+      go : (at : Trie A) (rest : Query) → ((x : Str) → rest ≡ x ∷ [] → ⊥)
+          → walk pick (trie (ImportedNames (query-to-string q) (bindings (included tr q)) (bindings at)) (namespaces at)) rest ≡ walk pick at rest
+      go at [] d = refl
+      go at (x ∷ []) d = absurd (d x refl)
+      go at (x ∷ (y ∷ r)) d = refl
 
-      go : (o : Ordering) → View k k′ o
-          → btree-find-exact (btree-insert-replace lbt k v) j ≡ btree-find-exact lbt j
-          → btree-find-exact (btree-insert-replace rbt k v) j ≡ btree-find-exact rbt j
-          → btree-find-exact {A = A} {l = l} (elim o [
-            | Ordering·lt ↦ StrBranch k′ v′ (btree-insert-replace lbt k v) rbt
-            | Ordering·eq ↦ StrBranch k′ v lbt rbt
-            | Ordering·gt ↦ StrBranch k′ v′ lbt (btree-insert-replace rbt k v)
-          ]) j
-          ≡ btree-find-exact (StrBranch k′ v′ lbt rbt) j
-      go Ordering·lt w f g = ap (λ x. elim (string-compare j k′) [ Ordering·lt ↦ x | Ordering·eq ↦ some v′ | Ordering·gt ↦ btree-find-exact rbt j ]) f
-      go Ordering·eq w f g = same w (string-compare j k′) (compare-strings j k′)
-      go Ordering·gt w f g = ap (λ x. elim (string-compare j k′) [ Ordering·lt ↦ btree-find-exact lbt j | Ordering·eq ↦ some v′ | Ordering·gt ↦ x ]) g
-
-  names-find-other : {l : Level} (n : NameList A l) (k j : Str) (v : Value A l) → (j ≡ k → ⊥) → names-find-exact (names-insert n k v) j ≡ names-find-exact n j
-  unfolding names-insert names-find-exact or-else btree-find-exact
-  names-find-other []ᴺ k j v d = rw (find-other StrEmpty k j v d)
-  names-find-other (Names bt tl) k j v d = rw (find-other bt k j v d)
-  names-find-other (ImportedNames label inner tl) k j v d = rw (find-other StrEmpty k j v d)
-
-  -- nothing is found in the empty trie
-  find-in-empty : (q : Query) → trie-find-exact {A = A} trie-empty q ≡ none
-  unfolding trie-find-exact trie-empty names-find-exact bindings namespaces bind-option
-  find-in-empty [] = refl
-  find-in-empty (s ∷ []) = refl
-  find-in-empty (s ∷ (t ∷ q)) = refl
-
-  find-in-scope : (tr : Trie A) (s t : Str) (q : Query)
-      → trie-find-exact (scope-of (namespaces tr) s) (t ∷ q) ≡ trie-find-exact tr (s ∷ (t ∷ q))
-  unfolding trie-find-exact scope-of dflt bind-option
-  find-in-scope tr s t q = go (names-find-exact (namespaces tr) s)
+  open-walk : (tr : Trie A) (host q n : Query) → ((x y : Str) (r : Query) → n ≡ host ++ (x ∷ (y ∷ r)) → ⊥) → walk pick (trie-open-namespace tr host q) n ≡ walk pick tr n
+  unfolding trie-open-namespace trie-import walk bindings namespaces
+  open-walk tr host q n d = leaf-elsewhere pick laws _ tr host n (λ rest e. go (host-of tr host) rest (λ x y r f. d x y r (e ∙ ap (λ r. host ++ r) f)))
     where
-      go : (o : Option (Trie A)) → trie-find-exact (dflt trie-empty o) (t ∷ q) ≡ bind-option o (λ scope. trie-find-exact scope (t ∷ q))
-      go none = find-in-empty (t ∷ q)
-      go (some scope) = refl
+      go : (at : Trie A) (rest : Query) → ((x y : Str) (r : Query) → rest ≡ x ∷ (y ∷ r) → ⊥)
+          → walk pick (trie (bindings at) (ImportedNames (query-to-string q) (namespaces (included tr q)) (namespaces at))) rest ≡ walk pick at rest
+      go at [] d = refl
+      go at (x ∷ []) d = refl
+      go at (x ∷ (y ∷ r)) d = absurd (d x y r refl)
 
-  -- trie_insert's mut_node and mut_leaf
-  abbrev node : MutNode A
-  node = λ tr _ _ _ n. trie (bindings tr) n
-
-  abbrev leaf : Str → A → MutLeaf A
-  leaf id v = λ tr _. trie (names-insert (bindings tr) id (item v)) (namespaces tr)
-
-  insert-elsewhere : (tr : Trie A) (host rev : Query) (id : Str) (v : A) (q : Query) → (q ≡ host ++ (id ∷ []) → ⊥)
-      → trie-find-exact (trie-mutate tr host rev node (leaf id v)) q ≡ trie-find-exact tr q
-  unfolding trie-mutate trie-find-exact bindings namespaces bind-option
-  insert-elsewhere tr [] rev id v [] d = refl
-  insert-elsewhere tr [] rev id v (s ∷ []) d = names-find-other (bindings tr) id s (item v) (λ e. d (ap (λ k. k ∷ []) e))
-  insert-elsewhere tr [] rev id v (s ∷ (t ∷ q)) d = refl
-  insert-elsewhere tr (h ∷ host) rev id v [] d = refl
-  insert-elsewhere tr (h ∷ host) rev id v (s ∷ []) d = refl
-  insert-elsewhere tr (h ∷ host) rev id v (s ∷ (t ∷ q)) d =
-      go (same-key s h) (λ n. insert-elsewhere (scope-of (namespaces tr) h) host (h ∷ rev) id v (t ∷ q) n)
+  alias-walk : (tr : Trie A) (key : Str) (host q n : Query) → ((y : Str) (r : Query) → n ≡ host ++ (key ∷ (y ∷ r)) → ⊥) → walk pick (trie-add-alias tr key host q) n ≡ walk pick tr n
+  unfolding trie-add-alias trie-import walk
+  alias-walk tr key host q n d =
+      leaf-elsewhere pick laws _ tr host n (λ rest e. leaf-elsewhere pick laws (λ _. put) (host-of tr host) (key ∷ []) rest (λ r f. go rest r e f))
     where
-      below : Trie A
-      below = trie-mutate (scope-of (namespaces tr) h) host (h ∷ rev) node (leaf id v)
+      put : Trie A
+      put = trie (ImportedNames (query-to-string q) (bindings (included tr q)) []ᴺ) []ᴺ
 
-      go : (s ≡ h) ⊎ (s ≡ h → ⊥) → ((t ∷ q ≡ host ++ (id ∷ []) → ⊥) → trie-find-exact below (t ∷ q) ≡ trie-find-exact (scope-of (namespaces tr) h) (t ∷ q))
-          → bind-option (names-find-exact (names-insert (namespaces tr) h below) s) (λ scope. trie-find-exact scope (t ∷ q))
-          ≡ bind-option (names-find-exact (namespaces tr) s) (λ scope. trie-find-exact scope (t ∷ q))
-      go (inl e) ih =
-          ap (λ k. bind-option (names-find-exact (names-insert (namespaces tr) h below) k) (λ scope. trie-find-exact scope (t ∷ q))) e
-          ∙ ap (λ o. bind-option o (λ scope. trie-find-exact scope (t ∷ q))) (names-find-inserted (namespaces tr) h below)
-          ∙ ih (λ f. d (cc))
-          ∙ find-in-scope tr h t q
-          ∙ ap (λ k. bind-option (names-find-exact (namespaces tr) k) (λ scope. trie-find-exact scope (t ∷ q))) (sym e)
-      go (inr n) ih = ap (λ o. bind-option o (λ scope. trie-find-exact scope (t ∷ q))) (names-find-other (namespaces tr) h s below n)
+      go : (rest r : Query) → n ≡ host ++ rest → rest ≡ (key ∷ []) ++ r → walk pick put r ≡ walk pick (host-of (host-of tr host) (key ∷ [])) r
+      go rest [] e f = refl
+      go rest (y ∷ r) e f = absurd (d y r (e ∙ ap (λ r. host ++ r) f))
 
-  -- trie_insert changes no look-up but that of its own full name
-  pub insert-unchanged : (tr : Trie A) (host : Query) (id : Str) (v : A) (q : Query) → (q ≡ host ++ (id ∷ []) → ⊥)
-      → trie-find-exact (trie-insert tr host id v) q ≡ trie-find-exact tr q
-  unfolding trie-insert trie-mutate-leaf
-  insert-unchanged tr host id v q d = insert-elsewhere tr host [] id v q d
+module _ (pick : Pick ℕ) (laws : Picks pick) where
+  registered-walk : (tbl : Table) (c : Call) (n : Query) → (Touches c n → ⊥) → walk pick (registered tbl c .tbl-lids) n ≡ walk pick (tbl .tbl-lids) n
+  unfolding registered insert register-include register-open register-alias register-module-path
+  registered-walk tbl (name host id number) n d = name-walk pick laws (tbl .tbl-lids) (segments host) id number n d
+  registered-walk tbl (include host q) n d = include-walk pick laws (tbl .tbl-lids) (segments host) (segments q) n (λ x e. d (x, e))
+  registered-walk tbl (opens true host q) n d = include-walk pick laws (tbl .tbl-lids) (segments host) (segments q) n (λ x e. d (x, e))
+  registered-walk tbl (opens false host q) n d = open-walk pick laws (tbl .tbl-lids) (segments host) (segments q) n (λ x y r e. d (x, y, r, e))
+  registered-walk tbl (alias key host q) n d = alias-walk pick laws (tbl .tbl-lids) key (segments host) (segments q) n (λ y r e. d (y, r, e))
+  registered-walk tbl (module-path loaded query path) n d = refl
+
+-- The two walks for a name that the call does not touch.
+pub find-unchanged : (tbl : Table) (c : Call) (n : Query) → (Touches c n → ⊥) → trie-find-exact (registered tbl c .tbl-lids) n ≡ trie-find-exact (tbl .tbl-lids) n
+find-unchanged tbl c n d = first-walk _ n ∙ registered-walk first-pick first-picks tbl c n d ∙ sym (first-walk _ n)
+
+pub last-unchanged : (tbl : Table) (c : Call) (n : Query) → (Touches c n → ⊥) → walk-last (registered tbl c .tbl-lids) n ≡ walk-last (tbl .tbl-lids) n
+last-unchanged tbl c n d = last-walk _ n ∙ registered-walk last-pick last-picks tbl c n d ∙ sym (last-walk _ n)
+
+-- ---- the calls
+module _ (sound : Bool) (lent : Lent) (s s′ : State) (c : Call) (e : register sound lent s c ≡ accepted s′) (query : Str) (d : Touches c (segments query) → ⊥) where
+  -- An accepted registration changes no look-up on the names root but of the names that it touches.
+  pub look-up-unchanged : look-up true (s′ .table .tbl-lids) query ≡ look-up true (s .table .tbl-lids) query
+  unfolding look-up after
+  look-up-unchanged =
+      ap (λ t. look-up true (t .table .tbl-lids) query) (accepted-is sound lent s s′ c e)
+      ∙ ap (λ o. elim (lowest (argument-rows true (a-look-up query ∷ []))) as (λ _. Found ℕ) [ none ↦ found-of o | some n ↦ refused n ])
+      (find-unchanged (s .table) c (segments query) d)
+
+  same-walk : walk-last (s′ .table .tbl-lids) (segments query) ≡ walk-last (s .table .tbl-lids) (segments query)
+  unfolding after
+  same-walk = ap (λ t. walk-last (t .table .tbl-lids) (segments query)) (accepted-is sound lent s s′ c e) ∙ last-unchanged (s .table) c (segments query) d
+
+  -- Nor does it change the lines of other names: completions before and after, of one query that covers the name, both show it with the same item, or neither does.
+  pub lines-unchanged : SoundTable (s .table) → NotRefused (look-up true (s .table .tbl-lids) query)
+      → (typed : Str) → Covers (segments typed) (segments query) → (budget budget′ : ℕ) (out out′ : Output) (lines lines′ : List (Line ℕ)) (entered entered′ : ℕ)
+      → complete true (s .table) budget out typed ≡ listed lines entered → complete true (s′ .table) budget′ out′ typed ≡ listed lines′ entered′
+      → (w : Found ℕ) × Shows (lines-of-text (without-last query) lines) w × Shows (lines-of-text (without-last query) lines′) w
+  lines-unchanged t asked typed covers budget budget′ out out′ lines lines′ entered entered′ f f′ = (
+    found-of (walk-last (s .table .tbl-lids) (segments query)),
+    agreement .names (s .table) t query typed budget out lines entered asked f covers .pane,
+    rw same-walk at (agreement .names (s′ .table) (accepted-sound sound lent s s′ c t e) query typed budget′ out′ lines′ entered′ (rw look-up-unchanged asked) f′ covers .pane),
+  )
 
 -- An accepted name changes no look-up on the names root but that of its own full name.
 pub name-unchanged : (sound : Bool) (lent : Lent) (s s′ : State) (host id : Str) (number : ℕ) (query : Str)
     → register sound lent s (name host id number) ≡ accepted s′ → (segments query ≡ segments host ++ (id ∷ []) → ⊥)
     → look-up true (s′ .table .tbl-lids) query ≡ look-up true (s .table .tbl-lids) query
-unfolding look-up after registered insert
-name-unchanged sound lent s s′ host id number query e d =
-    ap (λ t. look-up true (t .table .tbl-lids) query) (accepted-is sound lent s s′ (name host id number) e)
-    ∙ ap (λ o. elim (lowest (argument-rows true (a-look-up query ∷ []))) as (λ _. Found ℕ) [ none ↦ found-of o | some n ↦ refused n ])
-    (insert-unchanged (s .table .tbl-lids) (segments host) id number (segments query) d)
+name-unchanged sound lent s s′ host id number query e d = look-up-unchanged sound lent s s′ (name host id number) e query d
 
--- The customer's point C: a name registered in a module does not come along to another host that has included it before.
-pub include-copies : (sound : Bool) (lent : Lent) (s s′ : State) (included id : Str) (number : ℕ) (host : Query) (query : Str)
-    → register sound lent s (name included id number) ≡ accepted s′ → (host ≡ segments included → ⊥) → segments query ≡ host ++ (id ∷ [])
-    → look-up true (s′ .table .tbl-lids) query ≡ look-up true (s .table .tbl-lids) query
-include-copies sound lent s s′ included id number host query e d i =
-    name-unchanged sound lent s s′ included id number query e (λ f. d (append-cancel-right host (segments included) (id ∷ []) (sym i ∙ f)))
+-- ---- the customer's point C
+
+-- A call that leaves the names right at a host alone: its own host is another. An open of a namespace must not stand above the host,
+-- and an alias must not put its key on the host's path: those two change what the path leads to (`shadowed` in Cases).
+abbrev pub Apart : Query → Call → Type 0
+Apart host (name at id number) = host ≡ segments at → ⊥
+Apart host (include at q) = host ≡ segments at → ⊥
+Apart host (opens true at q) = host ≡ segments at → ⊥
+Apart host (opens false at q) = (x : Str) (r : Query) → host ≡ segments at ++ (x ∷ r) → ⊥
+Apart host (alias key at q) = (r : Query) → host ≡ segments at ++ (key ∷ r) → ⊥
+Apart host (module-path loaded query path) = Unit {0}
+
+not-empty : (q : Query) (x : Str) (r : Query) → [] ≡ q ++ (x ∷ r) → ⊥
+not-empty [] x r e = nil≢cons e
+not-empty (y ∷ q) x r e = nil≢cons e
+
+same-host : (p q : Query) (x y : Str) → p ++ (x ∷ []) ≡ q ++ (y ∷ []) → p ≡ q
+same-host [] [] x y e = refl
+same-host [] (k ∷ q) x y e = absurd (not-empty q y [] (tail-eq-of-cons-eq e))
+same-host (h ∷ p) [] x y e = absurd (not-empty p x [] (sym (tail-eq-of-cons-eq e)))
+same-host (h ∷ p) (k ∷ q) x y e = let f : p ≡ q = same-host p q x y (tail-eq-of-cons-eq e) in cc
+
+beginning : (p q : Query) (x y z : Str) (r : Query) → p ++ (x ∷ []) ≡ q ++ (y ∷ (z ∷ r)) → (t : Query) × (p ≡ q ++ (y ∷ t))
+beginning [] [] x y z r e = absurd (nil≢cons (tail-eq-of-cons-eq e))
+beginning [] (k ∷ q) x y z r e = absurd (not-empty q y (z ∷ r) (tail-eq-of-cons-eq e))
+beginning (h ∷ p) [] x y z r e = (p, cc)
+beginning (h ∷ p) (k ∷ q) x y z r e = let f = beginning p q x y z r (tail-eq-of-cons-eq e) in (f .0, let g : p ≡ q ++ (y ∷ f .0) = f .1 in cc)
+
+apart-untouched : (host : Query) (x : Str) (c : Call) → Apart host c → Touches c (host ++ (x ∷ [])) → ⊥
+apart-untouched host x (name at id number) a t = a (same-host host (segments at) x id t)
+apart-untouched host x (include at q) a t = a (same-host host (segments at) x (t .0) (t .1))
+apart-untouched host x (opens true at q) a t = a (same-host host (segments at) x (t .0) (t .1))
+apart-untouched host x (opens false at q) a t = let f = beginning host (segments at) x (t .0) (t .1) (t .2) (t .3) in a (t .0) (f .0) (f .1)
+apart-untouched host x (alias key at q) a t = let f = beginning host (segments at) x key (t .0) (t .1) (t .2) in a (f .0) (f .1)
+apart-untouched host x (module-path loaded query path) a t = t
+
+-- An include copies the names as they are at that moment: no later registration apart from the including host, so none in the included module,
+-- changes what look-up finds or what completions show of a name right at that host.
+pub record Copied (s s′ : State) (query : Str) : Type 0 where
+  pub found : look-up true (s′ .table .tbl-lids) query ≡ look-up true (s .table .tbl-lids) query
+  pub shown : SoundTable (s .table) → NotRefused (look-up true (s .table .tbl-lids) query)
+      → (typed : Str) → Covers (segments typed) (segments query) → (budget budget′ : ℕ) (out out′ : Output) (lines lines′ : List (Line ℕ)) (entered entered′ : ℕ)
+      → complete true (s .table) budget out typed ≡ listed lines entered → complete true (s′ .table) budget′ out′ typed ≡ listed lines′ entered′
+      → (w : Found ℕ) × Shows (lines-of-text (without-last query) lines) w × Shows (lines-of-text (without-last query) lines′) w
+
+pub include-copies : (sound : Bool) (lent : Lent) (s s′ : State) (c : Call) (host : Query) (x : Str) (query : Str)
+    → register sound lent s c ≡ accepted s′ → Apart host c → segments query ≡ host ++ (x ∷ []) → Copied s s′ query
+include-copies sound lent s s′ c host x query e a i =
+    let d : Touches c (segments query) → ⊥ = rw i (apart-untouched host x c a) in
+    record { found = look-up-unchanged sound lent s s′ c e query d; shown = lines-unchanged sound lent s s′ c e query d }
+
+-- ---- all below a host
+
+-- Neither is a beginning of the other.
+abbrev pub Diverge : Query → Query → Type 0
+Diverge p q = ((r : Query) → p ≡ q ++ r → ⊥) × ((r : Query) → q ≡ p ++ r → ⊥)
+
+-- The call's host diverges from the given one.
+abbrev pub Beside : Query → Call → Type 0
+Beside host (name at id number) = Diverge host (segments at)
+Beside host (include at q) = Diverge host (segments at)
+Beside host (opens is-module at q) = Diverge host (segments at)
+Beside host (alias key at q) = Diverge host (segments at)
+Beside host (module-path loaded query path) = Unit {0}
+
+diverging : (p q r t : Query) → Diverge p q → p ++ r ≡ q ++ t → ⊥
+diverging [] q r t d e = d .1 q refl
+diverging (h ∷ p) [] r t d e = d .0 (h ∷ p) refl
+diverging (h ∷ p) (k ∷ q) r t d e = diverging p q r t (λ x f. d .0 x (cc), λ x f. d .1 x (cc)) (tail-eq-of-cons-eq e)
+
+beside-untouched : (host r : Query) (c : Call) → Beside host c → Touches c (host ++ r) → ⊥
+beside-untouched host r (name at id number) b t = diverging host (segments at) r _ b t
+beside-untouched host r (include at q) b t = diverging host (segments at) r _ b (t .1)
+beside-untouched host r (opens true at q) b t = diverging host (segments at) r _ b (t .1)
+beside-untouched host r (opens false at q) b t = diverging host (segments at) r _ b (t .3)
+beside-untouched host r (alias key at q) b t = diverging host (segments at) r _ b (t .2)
+beside-untouched host r (module-path loaded query path) b t = t
+
+-- A registration beside a host changes no look-up and no line of any name below that host.
+pub beside-copies : (sound : Bool) (lent : Lent) (s s′ : State) (c : Call) (host r : Query) (query : Str)
+    → register sound lent s c ≡ accepted s′ → Beside host c → segments query ≡ host ++ r → Copied s s′ query
+beside-copies sound lent s s′ c host r query e b i =
+    let d : Touches c (segments query) → ⊥ = rw i (beside-untouched host r c b) in
+    record { found = look-up-unchanged sound lent s s′ c e query d; shown = lines-unchanged sound lent s s′ c e query d }

@@ -6,6 +6,7 @@ use mathlib.Core.Option.{Option, none, some}
 use lib.Dec.{ltb}
 use lib.IntN.{ℤ}
 use lib.ListN.{length}
+use Rattle.source.specs.Limits.{longest-name, most-segments, longest-path, heaviest-list, deepest-trie, most-used, record-words}
 use Rattle.source.specs.Text.{Str, Query, segments, ends-in-dot, name-byte, query-byte, path-byte}
 use Rattle.source.specs.Types.{Value, Trie, bind, the-item}
 use Rattle.source.specs.Tries.{trie-find-exact}
@@ -58,13 +59,13 @@ empty-name (a-completion s) = false
 
 -- A segment of over 31 bytes, or over 17 segments.
 unfoldable pub long-query : Str → Bool
-long-query s = any (λ g. ltb 31 (length g)) (segments s) || ltb 17 (length (segments s))
+long-query s = any (λ g. ltb longest-name (length g)) (segments s) || ltb most-segments (length (segments s))
 
 -- Row 4, TooLong.
 unfoldable pub too-long : Argument → Bool
 too-long (a-query s) = long-query s
-too-long (a-name s) = ltb 31 (length s)
-too-long (a-path s) = ltb 120 (length s)
+too-long (a-name s) = ltb longest-name (length s)
+too-long (a-path s) = ltb longest-path (length s)
 too-long (a-look-up s) = long-query s
 too-long (a-completion s) = long-query s
 
@@ -108,11 +109,11 @@ pub record Lent : Type 0 where
 
 -- Twelve words to a record.
 unfoldable pub whole-records : ℕ → ℕ
-whole-records words = words / 12
+whole-records words = words / record-words
 
 -- Free: what is lent, up to 65,536, less what is used.
 unfoldable pub free : (lent used : ℕ) → ℕ
-free lent used = min lent 65536 - used
+free lent used = min lent most-used - used
 
 -- A registration, with its texts as lent.
 pub data Call : Type 0 where
@@ -152,10 +153,10 @@ text-taken (a ∷ args) = length (text-of a) + text-taken args
 
 -- Some list weighs over 96; a root has depth over 16.
 unfoldable pub crowded : Table → Bool
-crowded tbl = ltb 96 (max (heaviest (tbl .tbl-lids)) (heaviest (tbl .tbl-mods)))
+crowded tbl = ltb heaviest-list (max (heaviest (tbl .tbl-lids)) (heaviest (tbl .tbl-mods)))
 
 unfoldable pub deep : Table → Bool
-deep tbl = ltb 16 (max (depth (tbl .tbl-lids)) (depth (tbl .tbl-mods)))
+deep tbl = ltb deepest-trie (max (depth (tbl .tbl-lids)) (depth (tbl .tbl-mods)))
 
 unfoldable pub registration-rows : (sound : Bool) → Lent → State → Call → List Row
 registration-rows sound lent s c =

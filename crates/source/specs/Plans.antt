@@ -5,6 +5,7 @@ use mathlib.Core.Bool.{Bool, true, false, cond}
 use mathlib.Core.List.{[], _∷_}
 use lib.Dec.{ltb}
 use lib.ListN.{length}
+use Rattle.source.specs.Limits.{heaviest-list}
 use Rattle.source.specs.Text.{Str, Query, string-compare, segments}
 use Rattle.source.specs.Types.{Level, Trie, Tree, StrEmpty, StrBranch, NameList, bind, []ᴺ, Names, ImportedNames, bindings, namespaces}
 use Rattle.source.specs.Tries.{names-find-exact, scope-of, included}
@@ -126,7 +127,7 @@ plan-weight tbl (alias key host inc) =
 plan-weight tbl (module-path loaded query path) = along max (module-step-weight loaded) module-host (tbl .tbl-mods) (segments query)
 
 unfoldable pub plan-crowded : Table → Call → Bool
-plan-crowded tbl c = ltb 96 (plan-weight tbl c)
+plan-crowded tbl c = ltb heaviest-list (plan-weight tbl c)
 
 -- The records of the call.
 unfoldable pub plan-records : Table → Call → ℕ

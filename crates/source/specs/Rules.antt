@@ -5,6 +5,7 @@ use mathlib.Core.Logic.{_⊎_}
 use mathlib.Core.Bool.{Bool, true, _&&_}
 use mathlib.Core.List.{[], _∷_}
 use lib.ListN.{length}
+use Rattle.source.specs.Limits.{longest-name, longest-path, longest-full-name, heaviest-list, deepest-trie}
 use Rattle.source.specs.Text.{Str, name-byte, query-byte, path-byte}
 use Rattle.source.specs.Types.{Level, Value, Trie, Tree, NameList, item, trie, StrEmpty, StrBranch, []ᴺ, Names, ImportedNames}
 use Rattle.source.specs.Terms.{heaviest, depth}
@@ -23,16 +24,16 @@ pub record Fits (p : ℕ → Bool) (low high : ℕ) (s : Str) : Type 0 where
 
 -- A key, a label, a full name, a file path.
 abbrev pub IsKey : Str → Type 0
-IsKey s = Fits name-byte 1 31 s
+IsKey s = Fits name-byte 1 longest-name s
 
 abbrev pub IsLabel : Str → Type 0
-IsLabel s = Fits query-byte 0 543 s
+IsLabel s = Fits query-byte 0 longest-full-name s
 
 abbrev pub IsFullName : Str → Type 0
-IsFullName s = Fits query-byte 1 543 s
+IsFullName s = Fits query-byte 1 longest-full-name s
 
 abbrev pub IsPath : Str → Type 0
-IsPath s = Fits path-byte 0 120 s
+IsPath s = Fits path-byte 0 longest-path s
 
 -- The items of the names table (any number that a word holds), and of the module table.
 abbrev pub NameItem : ℕ → Type 0
@@ -80,8 +81,8 @@ module _ {A : Type 0} (Key Label : Str → Type 0) (Item : A → Type 0) where
 -- A root as Sound has it: every list weighs at most 96, and the depth is at most 16.
 pub record SoundTrie {A : Type 0} (Item : A → Type 0) (tr : Trie A) : Type 0 where
   pub formed : Formed IsKey IsLabel Item tr
-  pub light : heaviest tr ≤ 96
-  pub shallow : depth tr ≤ 16
+  pub light : heaviest tr ≤ heaviest-list
+  pub shallow : depth tr ≤ deepest-trie
 
 pub record SoundTable (tbl : Table) : Type 0 where
   pub lids : SoundTrie NameItem (tbl .tbl-lids)

@@ -19,19 +19,19 @@ use Rattle.memory.specs.Sound.{LinkOk, TextOk, Sound}
 use Rattle.memory.specs.Read.{text-of}
 use Rattle.memory.specs.declared.Trie.{Trie}
 use Rattle.names.specs.Made.{Room}
-use Rattle.trie.specs.Tries.{Reads}
-use Rattle.trie.specs.Changes.{between, which-of, mutated, Texts, Mutation}
-use Rattle.trie.specs.declared.Change.{Change}
+use Rattle.lookup.specs.Tries.{Reads}
+use Rattle.change.specs.Changes.{between, which-of, mutated, Texts, Mutation}
+use Rattle.change.specs.declared.Change.{Change}
 use Rattle.memory.proofs.Tries.{Lists, lists-in}
-use Rattle.trie.proofs.Between.{place-first}
-use Rattle.trie.proofs.Registered.{Registers, name-registers, include-registers, open-module-registers, alias-registers, open-registers, module-registers, registers-fits}
+use Rattle.change.proofs.Between.{place-first}
+use Rattle.change.proofs.Registered.{Registers, name-registers, include-registers, open-module-registers, alias-registers, open-registers, module-registers, registers-fits}
 use Rattle.table.specs.Header.{table-in}
 use Rattle.table.specs.Forms.{call-of, Ready, Carries}
 use Rattle.table.specs.Writes.{Stand, label-in, change-in, which-in, root-at, with-text}
 use Rattle.table.specs.declared.Table.{Table}
 use Rattle.table.specs.declared.Form.{Form}
 use Rattle.table.specs.declared.Form.the-variants.{Name, Include, Open, Alias, Module}
-use Rattle.table.proofs.Arguments.{query-ends}
+use Rattle.refusals.proofs.Rows.{query-ends}
 
 -- A label in the text is that of the included query.
 module _ (txt : List ℕ) (at : ℕ) (s : Str) (e : span txt at (length s) ≡ s) (d : ends-in-dot s ≡ true) where

@@ -3,12 +3,12 @@ use Prim.Native.Nat.{ℕ, _+_, _-_, _≤_}
 use mathlib.Core.Path.{_≡_, refl, sym, ap, _∙_}
 use mathlib.Core.Bool.{true, false, _||_}
 use mathlib.Core.List.{List, [], _∷_, _++_}
-use mathlib.Core.Option.{none, some, Option·none-ne-some}
+use mathlib.Core.Option.{none, some}
 use native.Mathlib.Omega.{arith}
 use lib.ListN.{length, length-take}
 use Rattle.source.specs.Text.{Str, segments, ends-in-dot}
 use Rattle.source.specs.Rules.{SoundTable}
-use Rattle.source.specs.Calls.{Argument, a-query, any, malformed, Row, _when_, lowest, argument-rows, State, Lent, Call, arguments, records, text-of, text-taken, crowded, deep, registration-rows}
+use Rattle.source.specs.Calls.{Argument, a-query, any, malformed, lowest, argument-rows, State, Lent, Call, arguments, records, text-of, text-taken, crowded, deep, registration-rows}
 use Rattle.source.specs.Shared.{Allˡ}
 use Rattle.source.specs.Queries.{IsQuery}
 use Rattle.source.proofs.Queries.{or-parts, query-to-string-label, string-is}
@@ -18,12 +18,14 @@ use Rattle.source.proofs.Refusals.{Admitted}
 use Rattle.source.proofs.PlannedDepth.{deep-planned}
 use Rattle.source.proofs.PlannedWeight.{crowded-planned}
 use Rattle.source.proofs.PlannedRecords.{records-planned}
-use Rattle.trie.specs.Plans.{Planned}
-use Rattle.trie.specs.declared.Plan.{Plan}
-use Rattle.table.specs.Forms.{call-of, other-argument, key-argument, Ready, NoKey, plan-rows}
+use Rattle.plan.specs.Plans.{Planned}
+use Rattle.plan.specs.declared.Plan.{Plan}
+use Rattle.refusals.specs.Rows.{capacity-rows}
+use Rattle.refusals.proofs.Rows.{any-append, query-ends, lowest-stops, lowest-past}
+use Rattle.table.specs.Forms.{call-of, other-argument, key-argument, Ready, NoKey}
 use Rattle.table.specs.declared.Form.{Form}
 use Rattle.table.specs.declared.Form.the-variants.{Name, Include, Open, Alias, Module}
-use Rattle.table.proofs.Arguments.{any-append, arguments-of, query-ends}
+use Rattle.table.proofs.Arguments.{arguments-of}
 
 -- ---- Texts
 all-parts : (xs ys : List Argument) → Allˡ Keeps (xs ++ ys) → Allˡ Keeps xs × Allˡ Keeps ys
@@ -84,25 +86,15 @@ taken-is Alias host other key e = omega arith
 taken-is (Module loaded) host other key e = rw e (omega arith)
 
 -- ---- Rows
-pub lowest-stops : (xs ys : List Row) {n : ℕ} → lowest xs ≡ some n → lowest (xs ++ ys) ≡ some n
-unfolding lowest
-lowest-stops [] ys e = absurd (Option·none-ne-some _ e)
-lowest-stops ((k when true) ∷ xs) ys e = e
-lowest-stops ((k when false) ∷ xs) ys e = lowest-stops xs ys e
-
-pub lowest-past : (xs ys : List Row) → lowest xs ≡ none → lowest (xs ++ ys) ≡ lowest ys
-unfolding lowest
-lowest-past [] ys e = refl
-lowest-past ((k when true) ∷ xs) ys e = absurd (Option·none-ne-some _ (sym e))
-lowest-past ((k when false) ∷ xs) ys e = lowest-past xs ys e
-
 module _ (lent : Lent) (s : State) (c : Call) where
   pub rows-refused : {n : ℕ} → lowest (argument-rows true (arguments c)) ≡ some n → lowest (registration-rows true lent s c) ≡ some n
   unfolding registration-rows
   rows-refused e = lowest-stops (argument-rows true (arguments c)) _ e
 
   pub rows-planned : {p : Plan} {taken : ℕ} → SoundTable (s .table) → Planned (s .table) c p → taken ≡ text-taken (arguments c) → lowest (argument-rows true (arguments c)) ≡ none
-      → lowest (registration-rows true lent s c) ≡ lowest (plan-rows p (lent .words) (lent .text) (s .records-used) (s .text-used) taken)
+      → lowest (registration-rows true lent s c) ≡ lowest (capacity-rows
+      (record { crowded = p .crowded; deep = p .deep; records = p .records; text = taken })
+      (record { words = lent .words; records = s .records-used; text = lent .text; used = s .text-used }))
   unfolding registration-rows
   rows-planned o p e f =
       lowest-past (argument-rows true (arguments c)) _ f

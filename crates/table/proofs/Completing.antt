@@ -28,14 +28,14 @@ use Rattle.listing.specs.Completes.{output, output-rows, row-met, lines-of}
 use Rattle.listing.specs.declared.Completion.{Completion}
 use Rattle.listing.specs.declared.Completion.the-variants.{Listed, Spent, Lines}
 use Rattle.table.specs.Header.{IsSound, table-in}
-use Rattle.table.specs.Answers.{number}
+use Rattle.refusals.specs.Refusals.{number}
 use Rattle.table.specs.Completions.{completion, refused-by, CompletesAs, Completes, root-for, answer-in, CompletesOn}
 use Rattle.table.specs.declared.Table.{Table}
-use Rattle.table.specs.declared.Refusal.{Refusal}
-use Rattle.table.specs.declared.Refusal.the-variants.{Unsound}
+use Rattle.refusals.specs.declared.Refusal.{Refusal}
+use Rattle.refusals.specs.declared.Refusal.the-variants.{Unsound}
 use Rattle.table.specs.declared.Completed.{Completed}
 use Rattle.table.specs.declared.Completed.the-variants.{Refused}
-use Rattle.table.proofs.Checks.{lowest-stops, lowest-past}
+use Rattle.refusals.proofs.Rows.{lowest-stops, lowest-past}
 use Rattle.table.proofs.Roots.{names-trie, modules-trie}
 use Rattle.memory.specs.Sound.{At}
 

@@ -18,8 +18,8 @@ use Rattle.memory.specs.Read.{symbol-in}
 use Rattle.memory.proofs.Records.{zero-one, record-as}
 use Rattle.memory.proofs.Seen.{link-fits, link-later, link-ok}
 use Rattle.tree.specs.Tree.{held}
-use Rattle.trie.specs.Tries as T
-use Rattle.trie.specs.Tries.{AnyTrie, FoundIn}
+use Rattle.lookup.specs.Tries as T
+use Rattle.lookup.specs.Tries.{AnyTrie, FoundIn}
 use Rattle.table.specs.Header.{IsSound}
 use Rattle.table.specs.Answers.{SymbolInside}
 use Rattle.table.specs.declared.Table.{Table}

@@ -6,11 +6,11 @@ use mathlib.Core.List.{List}
 use mathlib.Core.Option.{none, some}
 use Rattle.source.specs.Calls.{lowest, argument-rows, State, Lent, Call, registration-rows, after, accepted, refused, register}
 use Rattle.table.specs.Header.{state, lent}
-use Rattle.table.specs.Answers.{number}
+use Rattle.refusals.specs.Refusals.{number}
 use Rattle.table.specs.Registrations.{Accepts, Answers}
 use Rattle.table.specs.declared.Table.{Table}
-use Rattle.table.specs.declared.Refusal.{Refusal}
-use Rattle.table.specs.declared.Refusal.the-variants.{Unsound}
+use Rattle.refusals.specs.declared.Refusal.{Refusal}
+use Rattle.refusals.specs.declared.Refusal.the-variants.{Unsound}
 use Rattle.table.specs.declared.Registered.the-variants.{Accepted, Refused}
 
 module _ (b : Bool) (l : Lent) (s : State) (c : Call) where

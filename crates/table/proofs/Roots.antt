@@ -4,7 +4,7 @@ use mathlib.Core.List.{List}
 use native.Mathlib.Omega.{arith}
 use Rattle.source.specs.Types.{Trie}
 use Rattle.memory.specs.Layout.{names, modules, trieˢ}
-use Rattle.trie.specs.Tries.{AnyTrie, Reads}
+use Rattle.lookup.specs.Tries.{AnyTrie, Reads}
 use Rattle.table.specs.Header.{IsSound}
 use Rattle.table.specs.declared.Table.{Table}
 use Rattle.memory.specs.Sound.{At}

@@ -20,10 +20,10 @@ use Rattle.memory.specs.Grown.{Keeps}
 use Rattle.memory.proofs.Keeping.{what-keeps, table-keeps, used-text}
 use Rattle.names.specs.Made.{Room}
 use Rattle.names.proofs.Making.{made-what, made-link}
-use Rattle.trie.specs.Tries.{Reads}
-use Rattle.trie.specs.Changes.{which-of, mutated, Mutation, Mutated, Builds}
-use Rattle.trie.specs.declared.Change.{Change}
-use Rattle.trie.proofs.Registered.{Registers}
+use Rattle.lookup.specs.Tries.{Reads}
+use Rattle.change.specs.Changes.{which-of, mutated, Mutation, Mutated, Builds}
+use Rattle.change.specs.declared.Change.{Change}
+use Rattle.change.proofs.Registered.{Registers}
 use Rattle.table.specs.Header.{IsSound, table-in, state, lent}
 use Rattle.table.specs.Registrations.{Outside, Accepts}
 use Rattle.table.specs.Forms.{call-of, Ready, Carries, Passes}

@@ -1,18 +1,16 @@
--- Demand 3 of the calls: what a caller reads of the lines in the lent output, and what it has to do with look-up.
-use Prim.Native.Nat.{ℕ, zero, suc}
+-- Demand 3 of the calls: what a caller reads of the lines in the lent output (rows' `lines-seen`), and what it has to do with look-up.
+use Prim.Native.Nat.{ℕ}
 use mathlib.Core.Path.{_≡_}
 use mathlib.Core.Bool.{Bool, true}
-use mathlib.Core.List.{List, [], _∷_}
-use lib.ListN.{take, drop}
+use mathlib.Core.List.{List}
 use Rattle.source.specs.Text.{Str, segments}
-use Rattle.source.specs.Table.{Line}
 use Rattle.source.specs.Calls.{look-up}
 use Rattle.source.specs.Agreement.{Covers, NotRefused, Agreement}
-use Rattle.memory.specs.Layout.{word, span, Which, names, modules, Item, item-of}
+use Rattle.memory.specs.Layout.{names, modules}
 use Rattle.memory.specs.Sound.{Says}
-use Rattle.lines.specs.Output.{signed-word}
 use Rattle.lines.specs.declared.Ask.the-variants.{Names, Modules}
 use Rattle.lines.specs.declared.Filter.the-variants.{All}
+use Rattle.rows.specs.Rows.{lines-seen}
 use Rattle.table.specs.Header.{IsSound, names-in, modules-in}
 use Rattle.table.specs.Answers.{name-found, module-found}
 use Rattle.table.specs.Completions.{Completes}
@@ -20,20 +18,6 @@ use Rattle.table.specs.declared.Table.{Table}
 use Rattle.table.specs.declared.Found.{Found}
 use Rattle.table.specs.declared.FoundModule.{FoundModule}
 use Rattle.table.specs.declared.Completed.the-variants.{Listed}
-
--- The line that twelve words say, with the texts of its spans.
-unfoldable pub line-seen : (w : Which) (txt out : List ℕ) → List ℕ → Line (Item w)
-line-seen w txt out r = record {
-  match-length = signed-word (word r 0);
-  item-of = item-of w txt r;
-  candidate = span out (word r 1) (word r 2);
-  annotation = span out (word r 3) (word r 4);
-}
-
--- The first n lines of the lent output.
-unfoldable pub lines-seen : (w : Which) (txt flat out : List ℕ) → ℕ → List (Line (Item w))
-lines-seen w txt flat out zero = []
-lines-seen w txt flat out (suc n) = line-seen w txt out (take 12 flat) ∷ lines-seen w txt (drop 12 flat) out n
 
 -- On either root, whatever memory is lent (b says whether it is sound): where look-up of a full name is not refused, and a completion that covers the name
 -- is not refused, the lines that it left in the lent output agree with look-up's answer as demand 3 says.

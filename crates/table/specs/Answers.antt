@@ -2,43 +2,25 @@
 use Prim.Native.Nat.{ℕ, _+_, _*_, _≤_, _<_}
 use mathlib.Core.Path.{_≡_}
 use mathlib.Core.Bool.{true}
-use mathlib.Core.List.{List, [], _∷_}
-use mathlib.Core.Option.{Option, none, some}
+use mathlib.Core.List.{List}
 use lib.ListN.{length}
 use Rattle.source.specs.Text.{Str}
 use Rattle.source.specs.Types.{bind}
 use Rattle.source.specs.Table.{ModSymbol}
 use Rattle.source.specs.Calls as C
-use Rattle.source.specs.Calls.{Row, _when_, look-up}
+use Rattle.source.specs.Calls.{look-up}
 use Rattle.memory.specs.Layout.{record-at, Which, Item, item-of, tree, trieˢ, kind, what}
 use Rattle.memory.specs.Sound.{LinkOk, At}
 use Rattle.memory.specs.Read.{symbol-of}
 use Rattle.memory.specs.declared.ModSymbol as M
 use Rattle.memory.specs.declared.ModSymbol.the-variants.{Module, Namespace}
-use Rattle.text.specs.declared.Flags.{Flags}
-use Rattle.table.specs.declared.Refusal.{Refusal}
-use Rattle.table.specs.declared.Refusal.the-variants.{Unsound, Malformed, Empty, TooLong, Crowded, Deep, Full, TextFull, Spent, Lines}
-use Rattle.table.specs.declared.Admission.{Admission}
-use Rattle.table.specs.declared.Admission.the-variants.{Admitted, Refused as Not-admitted}
+use Rattle.refusals.specs.Refusals.{number}
 use Rattle.table.specs.declared.Looked.{Looked}
 use Rattle.table.specs.declared.Looked.the-variants.{Branch, Nothing as No-branch, Refused as Not-looked}
 use Rattle.table.specs.declared.Found.{Found}
 use Rattle.table.specs.declared.Found.the-variants.{Item as Item-of, Nothing, Refused}
 use Rattle.table.specs.declared.FoundModule.{FoundModule}
 use Rattle.table.specs.declared.FoundModule.the-variants.{Symbol, Nothing as No-symbol, Refused as Not-found}
-
--- The number of a refusal.
-abbrev pub number : Refusal → ℕ
-number Unsound = 1
-number Malformed = 2
-number Empty = 3
-number TooLong = 4
-number Crowded = 5
-number Deep = 6
-number Full = 7
-number TextFull = 8
-number Spent = 9
-number Lines = 10
 
 -- The answer of a look-up of a name.
 abbrev pub name-found : Found → C.Found ℕ
@@ -62,15 +44,6 @@ abbrev pub FoundInside : ℕ → FoundModule → Type 0
 FoundInside size (Symbol s) = SymbolInside size s
 FoundInside size No-symbol = Unit {0}
 FoundInside size (Not-found r) = Unit {0}
-
--- The number of the row that a call meets.
-abbrev pub row-of : Admission → Option ℕ
-row-of Admitted = none
-row-of (Not-admitted r) = some (number r)
-
--- Rows 2 to 4, by the flags of the arguments.
-abbrev pub flag-rows : Flags → List Row
-flag-rows f = (2 when f .malformed) ∷ (3 when f .empty) ∷ (4 when f .long) ∷ []
 
 -- The answer of a look-up that ends at a branch of bindings.
 abbrev pub item-found : (w : Which) (ws txt : List ℕ) → Looked → C.Found (Item w)

@@ -19,9 +19,9 @@ use Rattle.listing.specs.Completes.{output, lines-of}
 use Rattle.listing.specs.declared.Completion.{Completion}
 use Rattle.listing.specs.declared.Completion.the-variants as L
 use Rattle.table.specs.Header.{table-in}
-use Rattle.table.specs.Answers.{number}
+use Rattle.refusals.specs.Refusals.{number}
 use Rattle.table.specs.declared.Table.{Table}
-use Rattle.table.specs.declared.Refusal.the-variants.{Spent, Lines}
+use Rattle.refusals.specs.declared.Refusal.the-variants.{Spent, Lines}
 use Rattle.table.specs.declared.Completed.{Completed}
 use Rattle.table.specs.declared.Completed.the-variants.{Listed, Refused}
 

@@ -1,22 +1,19 @@
 -- Registrations by their form and texts: the call, its arguments and rows, and the trie that it includes.
 use Prim.Native.Nat.{ℕ}
 use mathlib.Core.Path.{_≡_}
-use mathlib.Core.Bool.{true, false, _||_}
+use mathlib.Core.Bool.{true, false}
 use mathlib.Core.List.{List, [], _∷_}
 use mathlib.Core.Option.{none, some}
-use lib.Dec.{ltb}
 use Rattle.source.specs.Text.{Str, segments, ends-in-dot}
 use Rattle.source.specs.Tries as T
-use Rattle.source.specs.Calls.{Argument, a-query, a-name, a-path, any, malformed, empty-name, too-long, Row, _when_, lowest, Call, name, include, opens, alias, module-path, whole-records, free, registration-rows}
+use Rattle.source.specs.Calls.{Argument, a-query, a-name, a-path, malformed, lowest, Call, name, include, opens, alias, module-path, registration-rows}
 use Rattle.source.specs.Shared.{Allˡ}
 use Rattle.source.specs.Queries.{IsQuery}
 use Rattle.source.specs.Queries.{Keeps}
 use Rattle.memory.specs.Layout.{names, trieˢ, what}
-use Rattle.text.specs.declared.Flags.{Flags}
-use Rattle.trie.specs.Tries.{Reads}
-use Rattle.trie.specs.declared.Plan.{Plan}
+use Rattle.lookup.specs.Tries.{Reads}
 use Rattle.table.specs.Header.{IsSound, state, lent}
-use Rattle.table.specs.Answers.{number}
+use Rattle.refusals.specs.Refusals.{number}
 use Rattle.table.specs.declared.Table.{Table}
 use Rattle.table.specs.declared.Checked.{Checked}
 use Rattle.table.specs.declared.Checked.the-variants.{Passed, Refused}
@@ -47,16 +44,6 @@ key-argument (Open is-module) s = []
 key-argument Alias s = a-name s ∷ []
 key-argument (Module loaded) s = []
 
--- The flags of several arguments are the conditions of rows 2, 3 and 4.
-pub record AllFlagged (args : List Argument) (r : Flags) : Type 0 where
-  pub malformed : r .malformed ≡ any malformed args
-  pub empty : r .empty ≡ any empty-name args
-  pub long : r .long ≡ any too-long args
-
--- Of two lots of flags, those that either has.
-abbrev pub both-flags : Flags → Flags → Flags
-both-flags a b = record { malformed = a .malformed || b .malformed; empty = a .empty || b .empty; long = a .long || b .long }
-
 -- Texts that pass rows 2 to 4.
 pub record Ready (form : Form) (host other key : Str) : Type 0 where
   pub host-ends : ends-in-dot host ≡ true
@@ -80,15 +67,6 @@ Carries Include ws txt root other r = Reads ws txt names root r (T.included (wha
 Carries (Open is-module) ws txt root other r = Reads ws txt names root r (T.included (what names ws txt root trieˢ) (segments other))
 Carries Alias ws txt root other r = Reads ws txt names root r (T.included (what names ws txt root trieˢ) (segments other))
 Carries (Module loaded) ws txt root other r = r ≡ 0
-
--- Rows 5 to 8, by a plan.
-abbrev pub plan-rows : Plan → (words text records used taken : ℕ) → List Row
-plan-rows p words text records used taken =
-    (5 when p .crowded)
-    ∷ (6 when p .deep)
-    ∷ (7 when ltb (free (whole-records words) records) (p .records))
-    ∷ (8 when ltb (free text used) taken)
-    ∷ []
 
 -- A registration that passes every row of a sound memory, where inc is the included trie.
 pub record Passes (ws txt : List ℕ) (t : Table) (form : Form) (host other key : Str) (inc : ℕ) : Type 0 where

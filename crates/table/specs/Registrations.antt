@@ -9,7 +9,7 @@ use Rattle.source.specs.Calls as C
 use Rattle.source.specs.Calls.{State, Call, register}
 use Rattle.memory.specs.Sound.{Says}
 use Rattle.table.specs.Header.{IsSound, state, lent}
-use Rattle.table.specs.Answers.{number}
+use Rattle.refusals.specs.Refusals.{number}
 use Rattle.table.specs.declared.Table.{Table}
 use Rattle.table.specs.declared.Registered.{Registered}
 use Rattle.table.specs.declared.Registered.the-variants.{Accepted, Refused}

@@ -10,8 +10,8 @@ use Rattle.memory.specs.Stored.{stored}
 use Rattle.memory.specs.Grown.{Keeps}
 use Rattle.memory.specs.declared.Header.{Header}
 use Rattle.memory.specs.declared.Span.{Span}
-use Rattle.trie.specs.declared.Change.{Change}
-use Rattle.trie.specs.declared.Change.the-variants as to
+use Rattle.change.specs.declared.Change.{Change}
+use Rattle.change.specs.declared.Change.the-variants as to
 use Rattle.table.specs.declared.Table.{Table}
 use Rattle.table.specs.declared.Form.{Form}
 use Rattle.table.specs.declared.Form.the-variants.{Name, Include, Open, Alias, Module}

@@ -1,26 +1,30 @@
 // The calls on a table: a header by value, with the lent words and text.
 // Each call has a form for callers that have proved the memory sound, and a total one that tests it first.
+use change::Change;
 use lines::Ask;
 use listing::Completion;
 use memory::Header;
 use memory::ModSymbol;
 use memory::Span;
-use text::Flags;
-use trie::Change;
-use trie::Plan;
+use plan::Plan;
+use refusals::Admission;
+use refusals::Capacity;
+use refusals::Demand;
+use refusals::Flags;
+use refusals::Refusal;
 ghost use mathlib.Core.Path.{_≡_};
 ghost use Prim.Native.Nat.{_+_, _-_, _*_, _≤_};
 ghost use lib.ListN.{length};
 ghost use mathlib.Core.Bool.{Bool, true, false};
-ghost use Rattle.source.specs.Calls.{malformed, lowest, name, include, opens, alias, module-path, arguments, free, after, look-up};
+ghost use Rattle.source.specs.Calls.{malformed, name, include, opens, alias, module-path, arguments, after, look-up};
 ghost use Rattle.memory.specs.Layout.{names, trieˢ};
 ghost use Rattle.memory.specs.Sound.{Says, At};
-ghost use Rattle.text.specs.Calls.{Flagged};
-ghost use Rattle.trie.specs.Tries.{AnyTrie};
-ghost use Rattle.trie.specs.Plans.{Planned};
+ghost use Rattle.refusals.specs.Rows.{Flagged, AllFlagged};
+ghost use Rattle.lookup.specs.Tries.{AnyTrie};
+ghost use Rattle.plan.specs.Plans.{Planned};
 ghost use Rattle.table.specs.Header.{IsSound, Fresh, state, table-in, names-in, modules-in};
-ghost use Rattle.table.specs.Answers.{number, row-of, flag-rows, LookedUp, name-found, module-found, FoundInside};
-ghost use Rattle.table.specs.Forms.{other-argument, key-argument, call-of, AllFlagged, both-flags, NoKey, Ready, Carries, plan-rows, Passes, Checks};
+ghost use Rattle.table.specs.Answers.{LookedUp, name-found, module-found, FoundInside};
+ghost use Rattle.table.specs.Forms.{other-argument, key-argument, call-of, NoKey, Ready, Carries, Passes, Checks};
 ghost use Rattle.lines.specs.Ask.{asked};
 ghost use Rattle.table.specs.Completions.{answer-in, root-for, CompletesOn, Completes};
 ghost use Rattle.table.specs.Registrations.{Accepts, Answers, Total};
@@ -29,44 +33,6 @@ ghost use Rattle.table.specs.Writes.{Laid, change-in, which-in, root-at,
 // A table: its header by value.
 pub struct Table {
     pub header: Header,
-}
-
-// The refusals of document 01, by number.
-pub enum Refusal {
-    Unsound,
-    Malformed,
-    Empty,
-    TooLong,
-    Crowded,
-    Deep,
-    Full,
-    TextFull,
-    Spent,
-    Lines,
-}
-
-// Document 01's number of a refusal.
-pub fn number(r: Refusal) -> u32
-    ensures { λ n. ⌜ n ≡ number r ⌝ }
-{
-    match r {
-        Refusal::Unsound => 1,
-        Refusal::Malformed => 2,
-        Refusal::Empty => 3,
-        Refusal::TooLong => 4,
-        Refusal::Crowded => 5,
-        Refusal::Deep => 6,
-        Refusal::Full => 7,
-        Refusal::TextFull => 8,
-        Refusal::Spent => 9,
-        Refusal::Lines => 10,
-    }
-}
-
-// Whether a call passes the rows that were tested, or the first that it meets.
-enum Admission {
-    Admitted,
-    Refused(Refusal),
 }
 
 // What a look-up ends at: a branch of bindings, or none.
@@ -90,32 +56,16 @@ pub enum FoundModule {
     Refused(Refusal),
 }
 
-// Rows 2 to 4, by the flags of the arguments.
-fn admit(flags: Flags) -> Admission
-    ensures { λ r. ⌜ row-of r ≡ lowest (flag-rows flags) ⌝ }
-{
-    if flags.malformed {
-        return Admission::Refused(Refusal::Malformed);
-    }
-    if flags.empty {
-        return Admission::Refused(Refusal::Empty);
-    }
-    if flags.long {
-        return Admission::Refused(Refusal::TooLong);
-    }
-    Admission::Admitted
-}
-
 // A look-up on a root.
 fn look_up(words: &[u32], text: &[u8], root: u32, query: &[u8]) -> Looked
     requires { ⌜ AnyTrie (now words) (now text) root ⌝ }
     ensures { λ r. ⌜ LookedUp (now (words .entry)) (now (text .entry)) root (now (query .entry)) r ⌝ }
 {
-    let a = admit(text::look_up_flags(query));
+    let a = refusals::admit(refusals::look_up_flags(query));
     match a {
         Admission::Refused(x) => Looked::Refused(x),
         Admission::Admitted => {
-            let link = trie::trie_find_exact(words, text, root, query);
+            let link = lookup::trie_find_exact(words, text, root, query);
             if link == 0 {
                 return Looked::Nothing;
             }
@@ -157,7 +107,7 @@ fn complete_on(
     requires { ⌜ At (now words) (now text) (asked ask) trieˢ root ⌝ }
     ensures { λ r. ⌜ CompletesOn (now (words .entry)) (now (text .entry)) ask root (now (query .entry)) budget (now (flat .entry)) (now (flat .exit)) (now (out .entry)) (now (out .exit)) r ⌝ }
 {
-    let a = admit(text::completion_flags(query));
+    let a = refusals::admit(refusals::completion_flags(query));
     match a {
         Admission::Refused(x) => Completed::Refused(x),
         Admission::Admitted => answer_of(listing::complete(
@@ -202,27 +152,16 @@ enum Checked {
     Refused(Refusal),
 }
 
-// The flags of two lots of arguments together.
-fn either(a: Flags, b: Flags) -> Flags
-    ensures { λ r. ⌜ r ≡ both-flags a b ⌝ }
-{
-    Flags {
-        malformed: a.malformed | b.malformed,
-        empty: a.empty | b.empty,
-        long: a.long | b.long,
-    }
-}
-
 // The flags of the id, the included query or the file path.
 fn other_flags(form: Form, other: &[u8]) -> Flags
     ensures { λ r. ⌜ Flagged (other-argument form (now (other .entry))) r ⌝ }
 {
     match form {
-        Form::Name(_) => text::name_flags(other),
-        Form::Include => text::query_flags(other),
-        Form::Open(_) => text::query_flags(other),
-        Form::Alias => text::query_flags(other),
-        Form::Module(_) => text::path_flags(other),
+        Form::Name(_) => refusals::name_flags(other),
+        Form::Include => refusals::query_flags(other),
+        Form::Open(_) => refusals::query_flags(other),
+        Form::Alias => refusals::query_flags(other),
+        Form::Module(_) => refusals::path_flags(other),
     }
 }
 
@@ -230,16 +169,12 @@ fn other_flags(form: Form, other: &[u8]) -> Flags
 fn key_flags(form: Form, key: &[u8]) -> Flags
     ensures { λ r. ⌜ AllFlagged (key-argument form (now (key .entry))) r ⌝ }
 {
-    let none = Flags {
-        malformed: false,
-        empty: false,
-        long: false,
-    };
+    let none = refusals::no_flags();
     match form {
         Form::Name(_) => none,
         Form::Include => none,
         Form::Open(_) => none,
-        Form::Alias => text::name_flags(key),
+        Form::Alias => refusals::name_flags(key),
         Form::Module(_) => none,
     }
 }
@@ -249,9 +184,9 @@ fn flags_of(form: Form, host: &[u8], other: &[u8], key: &[u8]) -> Flags
     ensures { λ r. ⌜ AllFlagged (arguments (call-of form (now (host .entry)) (now (other .entry)) (now (key .entry)))) r ⌝ }
 {
     let k = key_flags(form, key);
-    let h = text::query_flags(host);
+    let h = refusals::query_flags(host);
     let o = other_flags(form, other);
-    either(k, either(h, o))
+    refusals::either(k, refusals::either(h, o))
 }
 
 // The trie that a registration includes; 0 where it includes none.
@@ -262,48 +197,11 @@ fn included(words: &[u32], text: &[u8], root: u32, form: Form, other: &[u8]) -> 
 {
     match form {
         Form::Name(_) => 0,
-        Form::Include => trie::trie_descend(words, text, root, other),
-        Form::Open(_) => trie::trie_descend(words, text, root, other),
-        Form::Alias => trie::trie_descend(words, text, root, other),
+        Form::Include => lookup::trie_descend(words, text, root, other),
+        Form::Open(_) => lookup::trie_descend(words, text, root, other),
+        Form::Alias => lookup::trie_descend(words, text, root, other),
         Form::Module(_) => 0,
     }
-}
-
-// Free: what is lent, up to 65,536, less what is used.
-fn free(lent: usize, used: u32) -> usize
-    ensures { λ r. ⌜ r ≡ free lent used ⌝ }
-{
-    let most = 65536;
-    let taken = used as usize;
-    if lent < most {
-        if lent < taken {
-            return 0;
-        }
-        return lent - taken;
-    }
-    if most < taken {
-        return 0;
-    }
-    most - taken
-}
-
-// Rows 5 to 8, by the plan, the words and bytes lent, the records and text used, and the text that the call takes.
-fn afford(plan: Plan, words: usize, text: usize, records: u32, used: u32, taken: usize) -> Admission
-    ensures { λ r. ⌜ row-of r ≡ lowest (plan-rows plan words text records used taken) ⌝ }
-{
-    if plan.crowded {
-        return Admission::Refused(Refusal::Crowded);
-    }
-    if plan.deep {
-        return Admission::Refused(Refusal::Deep);
-    }
-    if free(words / 12, records) < plan.records as usize {
-        return Admission::Refused(Refusal::Full);
-    }
-    if free(text, used) < taken {
-        return Admission::Refused(Refusal::TextFull);
-    }
-    Admission::Admitted
 }
 
 // Writes the texts of a registration after the used ones.
@@ -505,16 +403,16 @@ impl Table {
         ensures { λ r. ⌜ Planned (table-in (now (words .entry)) (now (text .entry)) self) (call-of form (now (host .entry)) (now (other .entry)) (now (key .entry))) r ⌝ }
     {
         match form {
-            Form::Name(_) => trie::plan_name(words, text, self.header.names, host, other),
-            Form::Include => trie::plan_include(words, text, self.header.names, host, inc),
+            Form::Name(_) => plan::plan_name(words, text, self.header.names, host, other),
+            Form::Include => plan::plan_include(words, text, self.header.names, host, inc),
             Form::Open(flag) => {
                 if flag {
-                    return trie::plan_include(words, text, self.header.names, host, inc);
+                    return plan::plan_include(words, text, self.header.names, host, inc);
                 }
-                trie::plan_open(words, text, self.header.names, host, inc)
+                plan::plan_open(words, text, self.header.names, host, inc)
             }
-            Form::Alias => trie::plan_alias(words, text, self.header.names, key, host, inc),
-            Form::Module(loaded) => trie::plan_module(
+            Form::Alias => plan::plan_alias(words, text, self.header.names, key, host, inc),
+            Form::Module(loaded) => plan::plan_module(
                 words,
                 text,
                 self.header.modules,
@@ -538,21 +436,25 @@ impl Table {
         requires { ⌜ NoKey form (now key) ⌝ }
         ensures { λ r. ⌜ Checks (now (words .entry)) (now (text .entry)) self form (now (host .entry)) (now (other .entry)) (now (key .entry)) r ⌝ }
     {
-        let a = admit(flags_of(form, host, other, key));
+        let a = refusals::admit(flags_of(form, host, other, key));
         match a {
             Admission::Refused(x) => Checked::Refused(x),
             Admission::Admitted => {
                 let inc = included(words, text, self.header.names, form, other);
                 let p = self.plan(words, text, form, inc, host, other, key);
-                let taken = host.len() + other.len() + key.len();
-                let b = afford(
-                    p,
-                    words.len(),
-                    text.len(),
-                    self.header.records,
-                    self.header.text,
-                    taken,
-                );
+                let demand = Demand {
+                    crowded: p.crowded,
+                    deep: p.deep,
+                    records: p.records,
+                    text: host.len() + other.len() + key.len(),
+                };
+                let capacity = Capacity {
+                    words: words.len(),
+                    records: self.header.records,
+                    text: text.len(),
+                    used: self.header.text,
+                };
+                let b = refusals::afford(demand, capacity);
                 match b {
                     Admission::Refused(x) => Checked::Refused(x),
                     Admission::Admitted => Checked::Passed(inc),
@@ -620,7 +522,7 @@ impl Table {
         put_texts(text, self.header.text, host, other, key);
         let change = change_of(words, form, inc, start, len, end, size);
         let root = self.root_of(form);
-        let b = trie::trie_mutate(
+        let b = change::trie_mutate(
             words,
             text,
             self.header.records,

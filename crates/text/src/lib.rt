@@ -1,11 +1,10 @@
-// Texts as bytes: comparison, prefix, byte rules, the segments of a query, and what a call asks of its texts.
+// Texts as bytes: comparison, prefix, byte rules, the segments of a query.
 ghost use mathlib.Core.Path.{_≡_};
 ghost use Prim.Native.Nat.{min};
 ghost use Rattle.source.specs.Text.{string-compare, starts-with, name-byte};
 ghost use Rattle.source.specs.Rules.{all};
-ghost use Rattle.source.specs.Calls.{a-query, a-name, a-path, a-look-up, a-completion};
 ghost use Rattle.text.specs.Text.{ordering, byte-rule, before-dot};
-ghost use Rattle.text.specs.Calls.{Surveyed, Flagged};
+ghost use Rattle.text.specs.Calls.{Surveyed};
 
 // Bytes of a name, segments of a query, bytes of a query, of a full name or label (a query without its last dot), of a file path, at most.
 pub const NAME_MOST: usize = 31;
@@ -178,70 +177,5 @@ pub fn query_survey(s: &[u8]) -> Survey
         empty: empty,
         long: long | (SEGMENTS_MOST < segments),
         segments: segments,
-    }
-}
-
-// Which of the rows Malformed, Empty and TooLong an argument meets.
-pub struct Flags {
-    pub malformed: bool,
-    pub empty: bool,
-    pub long: bool,
-}
-
-// The flags of a host, included or module query.
-pub fn query_flags(s: &[u8]) -> Flags
-    ensures { λ r. ⌜ Flagged (a-query (now (s .entry))) r ⌝ }
-{
-    let v = query_survey(s);
-    Flags {
-        malformed: v.malformed,
-        empty: v.empty,
-        long: v.long,
-    }
-}
-
-// The flags of an id or key.
-pub fn name_flags(s: &[u8]) -> Flags
-    ensures { λ r. ⌜ Flagged (a-name (now (s .entry))) r ⌝ }
-{
-    Flags {
-        malformed: !all_allowed(Rule::Name, s),
-        empty: s.len() == 0,
-        long: NAME_MOST < s.len(),
-    }
-}
-
-// The flags of a file path.
-pub fn path_flags(s: &[u8]) -> Flags
-    ensures { λ r. ⌜ Flagged (a-path (now (s .entry))) r ⌝ }
-{
-    Flags {
-        malformed: !all_allowed(Rule::Path, s),
-        empty: false,
-        long: PATH_MOST < s.len(),
-    }
-}
-
-// The flags of a look-up's query.
-pub fn look_up_flags(s: &[u8]) -> Flags
-    ensures { λ r. ⌜ Flagged (a-look-up (now (s .entry))) r ⌝ }
-{
-    let v = query_survey(s);
-    Flags {
-        malformed: v.malformed,
-        empty: v.empty | (v.segments == 0),
-        long: v.long,
-    }
-}
-
-// The flags of a completion's query.
-pub fn completion_flags(s: &[u8]) -> Flags
-    ensures { λ r. ⌜ Flagged (a-completion (now (s .entry))) r ⌝ }
-{
-    let v = query_survey(s);
-    Flags {
-        malformed: v.malformed,
-        empty: false,
-        long: v.long,
     }
 }

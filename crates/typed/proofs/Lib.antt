@@ -1,6 +1,6 @@
-pub mod Again
-pub mod Shares
-pub mod Stored
-pub mod Parts
-pub mod Short
-pub mod Told
+pub mod LentAgain
+pub mod LentShared
+pub mod Lines
+pub mod FlatCompletes
+pub mod MatchLength
+pub mod Completes

@@ -19,7 +19,7 @@ use Rattle.table.specs.Completions.{completion}
 use Rattle.table.specs.declared.Table.{Table}
 use Rattle.table.specs.declared.Completed.{Completed}
 use Rattle.typed.specs.declared.Line.{Line}
-use Rattle.typed.specs.Lines.{lines-in, line-seen}
+use Rattle.typed.specs.Lines.{lines-in, record-seen}
 
 -- The output lent: a line takes a line struct and twelve flat words; lines and bytes past those that 32 bits count are not lent.
 abbrev pub output : (room : ℕ) (flat out : List ℕ) → Output
@@ -27,7 +27,7 @@ output room flat out = record { lines = min (min (length flat / 12) room) 429496
 
 -- The lines stand in the first line structs, and those after are as they were.
 pub record Shown (w : L.Which) (txt : List ℕ) (ls ls′ : List Line) (lines : List (S.Line (L.Item w))) : Type 0 where
-  pub first : map (line-seen w txt) (take (length lines) ls′) ≡ map some (output-lines 0 lines)
+  pub first : map (record-seen w txt) (take (length lines) ls′) ≡ map some (output-lines 0 lines)
   pub after : drop (length lines) ls′ ≡ drop (length lines) ls
 
 -- By document 01's answer: listed, the lines are shown; refused, no line has changed.

@@ -1,35 +1,29 @@
 // The typed completion: a line is a struct, and lines go into a lent slice of these.
 // `store_line`, `store_lines` and `complete` are proved by hand; what they call is covered.
 use lines::Ask;
-use memory::ModSymbol;
 use memory::Span;
+use refusals::Refusal;
+use rows::Row;
+use rows::RowItem;
 use table::Completed;
-use table::Refusal;
 use table::Table;
 ghost use mathlib.Core.Path.{_≡_};
 ghost use Prim.Native.Nat.{_+_, _*_, _/_, _≤_, _<_, min};
 ghost use lib.ListN.{length, set};
-ghost use Rattle.memory.specs.Layout.{record-at};
-ghost use Rattle.typed.specs.Lines.{length-in, item-in, line-in, line-at, stored-lines, lines-in};
+ghost use Rattle.typed.specs.Lines.{held-length, line-of-row, line-at, stored-lines, lines-in};
 ghost use Rattle.typed.specs.Completions.{FlatCompletes, Completes};
-
-// The item of a line: of names its number, of modules and namespaces the mod symbol.
-pub enum Item {
-    Name(u32),
-    Symbol(ModSymbol),
-}
 
 // A line record. Its spans are in the output text.
 pub struct Line {
     pub match_length: i32,
-    pub item: Item,
+    pub item: RowItem,
     pub candidate: Span,
     pub annotation: Span,
 }
 
 // The match length that word 0 of a line holds. A completion never writes one over 2147483647.
 fn match_length(w: u32) -> i32
-    ensures { λ r. ⌜ r ≡ length-in w ⌝ }
+    ensures { λ r. ⌜ r ≡ held-length w ⌝ }
 {
     if w == 4294967295 {
         return -1;
@@ -40,32 +34,14 @@ fn match_length(w: u32) -> i32
     w as i32
 }
 
-// The item in the first twelve words.
-fn item_in(row: &[u32], ask: Ask) -> Item
-    requires { ⌜ 12 ≤ length (now row) ⌝ }
-    ensures { λ r. ⌜ r ≡ item-in ask (record-at (now (row .entry)) 1) ⌝ }
+// The line that a row is.
+fn line_of(r: Row) -> Line
+    ensures { λ l. ⌜ l ≡ line-of-row r ⌝ }
 {
-    match ask {
-        Ask::Names => Item::Name(memory::word_of(row, 1, 5)),
-        Ask::Modules(f) => Item::Symbol(memory::symbol_of(row, 1)),
-    }
-}
-
-// The line in the first twelve words.
-fn line_in(row: &[u32], ask: Ask) -> Line
-    requires { ⌜ 12 ≤ length (now row) ⌝ }
-    ensures { λ r. ⌜ r ≡ line-in ask (record-at (now (row .entry)) 1) ⌝ }
-{
-    let long = match_length(memory::word_of(row, 1, 0));
-    let item = item_in(row, ask);
-    let candidate = Span {
-        start: memory::word_of(row, 1, 1),
-        len: memory::word_of(row, 1, 2),
-    };
-    let annotation = Span {
-        start: memory::word_of(row, 1, 3),
-        len: memory::word_of(row, 1, 4),
-    };
+    let long = match_length(r.matched);
+    let item = r.item;
+    let candidate = r.candidate;
+    let annotation = r.annotation;
     Line {
         match_length: long,
         item: item,
@@ -79,8 +55,7 @@ pub fn line_at(flat: &[u32], k: usize, ask: Ask) -> Line
     requires { ⌜ k * 12 + 12 ≤ length (now flat) ⌝ }
     ensures { λ r. ⌜ r ≡ line-at ask (now (flat .entry)) k ⌝ }
 {
-    let at = k * 12;
-    line_in(&flat[at..], ask)
+    line_of(rows::row_at(flat, k, ask))
 }
 
 // Stores one line.

@@ -1,5 +1,6 @@
 -- `answer` meets its contract.
-use Rattle.answers.proofs.Answering.{name-reads, import-reads, alias-reads, module-reads, ask-reads, answered-by, answered-ask, answered-bad}
+use Rattle.answers.proofs.Answered.{name-reads, import-reads, alias-reads, module-reads, ask-reads, answered-call, answered-ask, answered-bad}
+use mathlib.Core.Path.{refl}
 use Rattle.listing.specs.Completes.{output}
 use borrow.Author.Needs.{needs}
 use Rattle.answers.proofs.answer.Statement.{statement}
@@ -51,7 +52,7 @@ same-length-3 : tie.Need-same-length-3
 same-length-3 c = search needs
 
 returns : tie.Need-returns
-returns c = answered-by (output (c .before .before .before .before .before .before .before .before .before .before .before .before .before .before .before .before .before .before .before .before .before .before .args .flat .now) (c .before .before .before .before .before .before .before .before .before .before .before .before .before .before .before .before .before .before .before .before .before .before .args .pane .now)) (name-reads (c .before .before .before .before .before .before .before .before .before .part .ensures) (c .before .before .before .before .before .before .before .before .part2 .ensures) ((rw (c .before .before .before .before .before .before .before .before .before .before .before .before .before .form .given .1) at (c .before .before .before .before .before .before .before .before .before .before .before .before .before .before .before .parse .ensures)) .2)) (c .before .before .before .before .before .before .name-line .ensures)
+returns c = answered-call (output (c .before .before .before .before .before .before .before .before .before .before .before .before .before .before .before .before .before .before .before .before .before .before .args .flat .now) (c .before .before .before .before .before .before .before .before .before .before .before .before .before .before .before .before .before .before .before .before .before .before .args .pane .now)) (name-reads (c .before .before .before .before .before .before .before .before .before .part .ensures) (c .before .before .before .before .before .before .before .before .part2 .ensures) ((rw (c .before .before .before .before .before .before .before .before .before .before .before .before .before .form .given .1) at (c .before .before .before .before .before .before .before .before .before .before .before .before .before .before .before .parse .ensures)) .2)) refl refl (c .before .before .before .before .before .before .name-line .ensures)
 
 same-length-4 : tie.Need-same-length-4
 same-length-4 c = search needs
@@ -63,7 +64,7 @@ same-length-6 : tie.Need-same-length-6
 same-length-6 c = search needs
 
 returns-2 : tie.Need-returns-2
-returns-2 c = answered-by (output (c .before .before .before .before .before .before .before .before .before .before .before .before .before .before .before .before .before .before .before .before .before .before .args .flat .now) (c .before .before .before .before .before .before .before .before .before .before .before .before .before .before .before .before .before .before .before .before .before .before .args .pane .now)) (import-reads (c .before .before .before .before .before .before .before .before .before .part3 .ensures) (c .before .before .before .before .before .before .before .before .part4 .ensures) ((rw (c .before .before .before .before .before .before .before .before .before .before .before .before .before .form2 .given .1) at (c .before .before .before .before .before .before .before .before .before .before .before .before .before .before .before .parse .ensures)) .2)) (c .before .before .before .before .before .before .import-line .ensures)
+returns-2 c = answered-call (output (c .before .before .before .before .before .before .before .before .before .before .before .before .before .before .before .before .before .before .before .before .before .before .args .flat .now) (c .before .before .before .before .before .before .before .before .before .before .before .before .before .before .before .before .before .before .before .before .before .before .args .pane .now)) (import-reads (c .before .before .before .before .before .before .before .before .before .part3 .ensures) (c .before .before .before .before .before .before .before .before .part4 .ensures) ((rw (c .before .before .before .before .before .before .before .before .before .before .before .before .before .form2 .given .1) at (c .before .before .before .before .before .before .before .before .before .before .before .before .before .before .before .parse .ensures)) .2)) refl refl (c .before .before .before .before .before .before .import-line .ensures)
 
 same-length-7 : tie.Need-same-length-7
 same-length-7 c = search needs
@@ -75,7 +76,7 @@ same-length-9 : tie.Need-same-length-9
 same-length-9 c = search needs
 
 returns-3 : tie.Need-returns-3
-returns-3 c = answered-by (output (c .before .before .before .before .before .before .before .before .before .before .before .before .before .before .before .before .before .before .before .before .before .before .before .args .flat .now) (c .before .before .before .before .before .before .before .before .before .before .before .before .before .before .before .before .before .before .before .before .before .before .before .args .pane .now)) (alias-reads (c .before .before .before .before .before .before .before .before .before .before .part5 .ensures) (c .before .before .before .before .before .before .before .before .before .part6 .ensures) (c .before .before .before .before .before .before .before .before .part7 .ensures) ((rw (c .before .before .before .before .before .before .before .before .before .before .before .before .before .before .form3 .given .1) at (c .before .before .before .before .before .before .before .before .before .before .before .before .before .before .before .before .parse .ensures)) .3)) (c .before .before .before .before .before .before .alias-line .ensures)
+returns-3 c = answered-call (output (c .before .before .before .before .before .before .before .before .before .before .before .before .before .before .before .before .before .before .before .before .before .before .before .args .flat .now) (c .before .before .before .before .before .before .before .before .before .before .before .before .before .before .before .before .before .before .before .before .before .before .before .args .pane .now)) (alias-reads (c .before .before .before .before .before .before .before .before .before .before .part5 .ensures) (c .before .before .before .before .before .before .before .before .before .part6 .ensures) (c .before .before .before .before .before .before .before .before .part7 .ensures) ((rw (c .before .before .before .before .before .before .before .before .before .before .before .before .before .before .form3 .given .1) at (c .before .before .before .before .before .before .before .before .before .before .before .before .before .before .before .before .parse .ensures)) .3)) refl refl (c .before .before .before .before .before .before .alias-line .ensures)
 
 same-length-10 : tie.Need-same-length-10
 same-length-10 c = search needs
@@ -87,7 +88,7 @@ same-length-12 : tie.Need-same-length-12
 same-length-12 c = search needs
 
 returns-4 : tie.Need-returns-4
-returns-4 c = answered-by (output (c .before .before .before .before .before .before .before .before .before .before .before .before .before .before .before .before .before .before .before .before .before .before .args .flat .now) (c .before .before .before .before .before .before .before .before .before .before .before .before .before .before .before .before .before .before .before .before .before .before .args .pane .now)) (module-reads (c .before .before .before .before .before .before .before .before .before .part8 .ensures) (c .before .before .before .before .before .before .before .before .part9 .ensures) ((rw (c .before .before .before .before .before .before .before .before .before .before .before .before .before .form4 .given .1) at (c .before .before .before .before .before .before .before .before .before .before .before .before .before .before .before .parse .ensures)) .2)) (c .before .before .before .before .before .before .module-line .ensures)
+returns-4 c = answered-call (output (c .before .before .before .before .before .before .before .before .before .before .before .before .before .before .before .before .before .before .before .before .before .before .args .flat .now) (c .before .before .before .before .before .before .before .before .before .before .before .before .before .before .before .before .before .before .before .before .before .before .args .pane .now)) (module-reads (c .before .before .before .before .before .before .before .before .before .part8 .ensures) (c .before .before .before .before .before .before .before .before .part9 .ensures) ((rw (c .before .before .before .before .before .before .before .before .before .before .before .before .before .form4 .given .1) at (c .before .before .before .before .before .before .before .before .before .before .before .before .before .before .before .parse .ensures)) .2)) refl refl (c .before .before .before .before .before .before .module-line .ensures)
 
 same-length-13 : tie.Need-same-length-13
 same-length-13 c = search needs

@@ -1,6 +1,6 @@
 -- `answer_lines` meets its contract.
-use Rattle.answers.proofs.Talking.{Going, going-start, going-on, talked-out, talked-full}
-use Rattle.answers.specs.Answers.{room}
+use Rattle.answers.proofs.Talked.{Going, going-start, going-on, talked-out, talked-full}
+use Rattle.questions.specs.RowReplies.{room}
 use lib.ListN.{length}
 use Prim.Native.Nat.{_-_}
 use mathlib.Core.Path.{_≡_, refl}
@@ -40,10 +40,10 @@ loop-again : tie.Need-loop-again Inv-loop μ-loop
 loop-again c = (c .before .before .before .before .before .before .before .before .before .before .before .before .before .before .before .before .before .before .before .before .before .before .loop .inv .0, going-on (c .before .before .before .before .before .before .before .before .before .before .before .before .before .before .before .before .before .before .before .before .before .before .loop .inv .1) (c .before .before .before .before .before .before .before .before .before .before .before .before .before .before .before .before .before .before .before .line-end .ensures) (omega (arith, c .before .before .before .before .before .before .before .before .before .before .before .before .before .before .before .before .before .before .before .line-end .ensures .within)) (search needs) (search needs) (c .before .before .before .before .before .before .before .before .before .before .before .answer .ensures))
 
 same-length : tie.Need-same-length Inv-loop μ-loop
-same-length c = (c .before .loop .inv .1) .words-size
+same-length c = (c .before .loop .inv .1) .words .size
 
 same-length-2 : tie.Need-same-length-2 Inv-loop μ-loop
-same-length-2 c = (c .before .loop .inv .1) .text-size
+same-length-2 c = (c .before .loop .inv .1) .texts .size
 
 same-length-3 : tie.Need-same-length-3 Inv-loop μ-loop
 same-length-3 c = (c .before .loop .inv .1) .flat-size
@@ -58,10 +58,10 @@ returns : tie.Need-returns Inv-loop μ-loop
 returns c = talked-full (c .before .loop .inv .1) (c .before .before .before .before .before .before .before .before .pre .1 .0) (omega (arith, c .before .loop .inv .0))
 
 same-length-6 : tie.Need-same-length-6 Inv-loop μ-loop
-same-length-6 c = (c .before .before .before .before .loop .inv .1) .words-size
+same-length-6 c = (c .before .before .before .before .loop .inv .1) .words .size
 
 same-length-7 : tie.Need-same-length-7 Inv-loop μ-loop
-same-length-7 c = (c .before .before .before .before .loop .inv .1) .text-size
+same-length-7 c = (c .before .before .before .before .loop .inv .1) .texts .size
 
 same-length-8 : tie.Need-same-length-8 Inv-loop μ-loop
 same-length-8 c = (c .before .before .before .before .loop .inv .1) .flat-size

@@ -1,10 +1,11 @@
 -- `lines::name_line` meets its contract.
-use Rattle.tree.proofs.Branches.{key-part}
 use Rattle.lines.proofs.Notes.{note-none, note-some}
+use mathlib.Core.Path.{ap}
+use lib.ListN.{length}
+use native.Mathlib.Omega.{arith}
 use Rattle.lines.proofs.name_line.Statement.{statement}
 use Rattle.lines.proofs.name_line.Tie as tie
 use borrow.Author.Needs.{needs}
-use native.Mathlib.Omega.{arith}
 
 pub name-line-spec : {M : Type 1} → statement M
 name-line-spec =
@@ -19,30 +20,14 @@ name-line-spec =
     {- same-length-2 -}
     (λ c. search needs)
     {- returns -}
-    (λ c. rw (note-none (c .before .before .before .before .before .before .before .before .before .before .before .before .before .args .words .now) (c .before .before .before .before .before .before .before .before .before .before .before .before .before .args .text .now) (c .before .before .before .before .before .before .before .before .before .before .before .before .before .args .label) (c .before .before .before .before .before .before .before .before .if1 .taken)) (c .before .before .before .before .put-line .ensures))
-    {- word-of-requires -}
-    (λ c κs. let t = c .before .before .before .before .before .pre .1 (omega arith) in omega (arith, t .some, t .within))
-    {- cast-start -}
-    (λ c. search needs)
-    {- word-of-requires-2 -}
-    (λ c κs. let t = c .before .before .before .before .before .before .pre .1 (omega arith) in omega (arith, t .some, t .within))
-    {- cast-len -}
-    (λ c. search needs)
-    {- add-put-line -}
-    (λ c. search needs)
-    {- sub-put-line -}
-    (λ c. search needs)
-    {- part-put-line-start -}
-    (λ c. search needs)
-    {- part-put-line-end -}
-    (λ c. omega (arith, c .before .before .before .before .before .before .before .pre .1 (omega arith) .inside, c .before .word-of .ensures, c .word-of2 .ensures))
+    (λ c. (c .before .before .before .before .put-line .ensures .0, rw (note-none (c .before .before .before .before .before .before .before .before .before .before .before .before .before .before .args .words .now) (c .before .before .before .before .before .before .before .before .before .before .before .before .before .before .args .text .now) (c .before .before .before .before .before .before .before .before .before .before .before .before .before .before .args .found .label) (c .before .before .before .before .before .before .before .before .before .if1 .taken)) (c .before .before .before .before .put-line .ensures .1)))
+    {- key-of-requires -}
+    (λ c κs. let t = c .before .before .before .before .before .pre .1 (omega arith) in record { some = t .some; within = t .within; inside = t .inside })
     {- put-line-requires-2 -}
-    (λ c κs.
-    let t = c .before .before .before .before .before .before .before .before .before .before .pre .1 (omega arith) in
-    (c .before .before .before .before .before .before .before .before .before .before .pre .0, rw (key-part (c .before .before .before .before .before .before .before .before .before .before .args .words .now) (c .before .before .before .before .before .before .before .before .before .before .args .text .now) (c .before .before .before .before .before .before .before .before .before .before .args .label) (c .before .before .before .before .word-of .ensures) (c .before .before .before .word-of2 .ensures)) (omega (arith, t .size, t .short))))
+    (λ c κs. let t = c .before .before .before .before .before .before .before .before .before .pre .1 (omega arith) in (c .before .before .before .before .before .before .before .before .before .pre .0, omega (arith, ap length (c .before .before .before .key-of .ensures), t .size, t .short)))
     {- same-length-3 -}
     (λ c. search needs)
     {- same-length-4 -}
     (λ c. search needs)
     {- returns-2 -}
-    (λ c. rw (note-some (c .before .before .before .before .before .before .before .before .before .before .before .before .before .before .before .args .words .now) (c .before .before .before .before .before .before .before .before .before .before .before .before .before .before .before .args .text .now) (c .before .before .before .before .before .before .before .before .before .before .before .before .before .before .before .args .label) (c .before .before .before .before .before .before .before .before .before .before .if1 .left), ← key-part (c .before .before .before .before .before .before .before .before .before .before .before .before .before .before .before .args .words .now) (c .before .before .before .before .before .before .before .before .before .before .before .before .before .before .before .args .text .now) (c .before .before .before .before .before .before .before .before .before .before .before .before .before .before .before .args .label) (c .before .before .before .before .before .before .before .before .before .word-of .ensures) (c .before .before .before .before .before .before .before .before .word-of2 .ensures)) (c .before .before .before .before .put-line2 .ensures)))
+    (λ c. (c .before .before .before .before .put-line2 .ensures .0, rw (note-some (c .before .before .before .before .before .before .before .before .before .before .before .before .before .before .args .words .now) (c .before .before .before .before .before .before .before .before .before .before .before .before .before .before .args .text .now) (c .before .before .before .before .before .before .before .before .before .before .before .before .before .before .args .found .label) (c .before .before .before .before .before .before .before .before .before .if1 .left), ← c .before .before .before .before .before .before .before .before .key-of .ensures) (c .before .before .before .before .put-line2 .ensures .1))))

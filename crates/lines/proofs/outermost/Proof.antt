@@ -1,4 +1,5 @@
 -- `lines::outermost` meets its contract.
+use borrow.Author.Needs.{needs}
 use borrow.Author.Tests.{ne-eqb}
 use Rattle.lines.proofs.outermost.Statement.{statement}
 use Rattle.lines.proofs.outermost.Tie as tie
@@ -7,7 +8,13 @@ pub outermost-spec : {M : Type 1} → statement M
 outermost-spec =
     tie.close
     (tie.spec
+    {- element-copy-out-if1 -}
+    (λ c. search needs)
     {- returns -}
     (λ c. rw (c .if1 .taken))
+    {- element-copy-out-result -}
+    (λ c. search needs)
+    {- cast-result -}
+    (λ c. search needs)
     {- returns-2 -}
-    (λ c. rw (ne-eqb (c .before .before .args .path .n) 0 (c .if1 .left))))
+    (λ c. rw (ne-eqb _ 0 (c .before .if1 .left))))

@@ -1,14 +1,18 @@
 -- `lines::write_line` meets its contract.
 use Rattle.lines.proofs.Lines.{candidate-length, note-room, line-put}
+use native.Mathlib.Omega.{arith}
 use Rattle.lines.proofs.write_line.Statement.{statement}
 use Rattle.lines.proofs.write_line.Tie as tie
 use borrow.Author.Needs.{needs}
-use native.Mathlib.Omega.{arith}
 
 pub write-line-spec : {M : Type 1} → statement M
 write-line-spec =
     tie.close
     (tie.spec
+    {- element-copy-out-at -}
+    (λ c. search needs)
+    {- element-copy-out-base -}
+    (λ c. search needs)
     {- mul-base -}
     (λ c. search needs)
     {- put-candidate-requires -}
@@ -20,17 +24,17 @@ write-line-spec =
     {- part-put-text-end -}
     (λ c. search needs)
     {- put-text-requires -}
-    (λ c κs. omega (arith, note-room (c .before .before .before .before .before .before .before .before .before .before .before .before .before .pre .0) (c .before .before .before .before .before .before .before .before .before .before .before .before .before .pre .1) (c .before .before .before .put-candidate .ensures)))
+    (λ c κs. omega (arith, note-room (c .before .before .before .before .before .before .before .before .before .before .before .before .pre .0) (c .before .before .before .before .before .before .before .before .before .before .before .before .pre .1) (c .before .before .before .put-candidate .ensures)))
     {- cast-line-row -}
     (λ c. search needs)
     {- sub-line-row -}
     (λ c. search needs)
     {- cast-line-row-2 -}
-    (λ c. omega (arith, c .before .before .before .before .before .before .put-candidate .ensures .end, candidate-length (c .before .before .before .before .before .before .before .before .before .before .before .before .before .before .before .before .pre .0), c .before .before .before .before .before .before .before .before .before .before .before .before .before .before .before .before .pre .1 .small))
+    (λ c. omega (arith, c .before .before .before .before .before .before .put-candidate .ensures .end, candidate-length (c .before .before .before .before .before .before .before .before .before .before .before .before .before .before .before .pre .0), c .before .before .before .before .before .before .before .before .before .before .before .before .before .before .before .pre .1 .small))
     {- cast-line-row-3 -}
     (λ c. search needs)
     {- line-row-requires -}
-    (λ c κs. omega (arith, c .before .before .before .before .before .before .put-candidate .ensures .end, candidate-length (c .before .before .before .before .before .before .before .before .before .before .before .before .before .before .before .before .pre .0), c .before .before .before .before .before .before .before .before .before .before .before .before .before .before .before .before .pre .1 .small, c .before .before .before .before .before .before .before .before .before .before .before .before .before .before .before .before .pre .0 .branch .some, c .before .before .before .before .before .before .before .before .before .before .before .before .before .before .before .before .pre .0 .branch .within))
+    (λ c κs. omega (arith, c .before .before .before .before .before .before .put-candidate .ensures .end, candidate-length (c .before .before .before .before .before .before .before .before .before .before .before .before .before .before .before .pre .0), c .before .before .before .before .before .before .before .before .before .before .before .before .before .before .before .pre .1 .small, c .before .before .before .before .before .before .before .before .before .before .before .before .before .before .before .pre .0 .branch .some, c .before .before .before .before .before .before .before .before .before .before .before .before .before .before .before .pre .0 .branch .within))
     {- mul-put-row -}
     (λ c. search needs)
     {- sub-put-row -}
@@ -46,4 +50,4 @@ write-line-spec =
     {- same-length-2 -}
     (λ c. search needs)
     {- returns -}
-    (λ c. line-put (c .before .before .before .before .before .before .before .before .before .before .before .before .before .before .before .before .before .before .before .before .before .before .pre .0) (c .before .before .before .before .before .before .before .before .before .before .before .before .before .before .before .before .before .before .before .before .before .before .pre .1) (c .before .before .before .before .before .before .before .before .before .before .before .before .put-candidate .ensures) (c .before .before .before .before .before .before .before .before .put-text .ensures) (c .before .before .before .before .before .line-row .ensures) (c .before .before .put-row .ensures)))
+    (λ c. line-put (c .before .before .before .before .before .before .before .before .before .before .before .before .before .before .before .before .before .before .before .before .before .pre .0) (c .before .before .before .before .before .before .before .before .before .before .before .before .before .before .before .before .before .before .before .before .before .pre .1) (c .before .before .before .before .before .before .before .before .before .before .before .before .put-candidate .ensures) (c .before .before .before .before .before .before .before .before .put-text .ensures) (c .before .before .before .before .before .line-row .ensures) (c .before .before .put-row .ensures)))

@@ -27,34 +27,40 @@ complete-spec =
     {- part-list-trie-end-2 -}
     (λ c. search needs)
     {- list-trie-requires -}
-    (λ c κs. root-ready _ _ _ _ _ (c .before .before .before .before .before .before .before .before .before .pre .0) (c .before .before .before .before .before .before .before .before .before .pre .1) (set-small {flat = c .before .before .before .before .before .before .before .before .before .args .flat .now} {out = c .before .before .before .before .before .before .before .before .before .args .out .now} (record { budget-is = refl; budget-fits = omega (arith, c .before .before .before .before .before .before .before .before .before .fits .budget .fits); lines-are = c .before .before .before .lent .ensures; bytes-are = c .before .before .lent2 .ensures })))
+    (λ c κs. record { can = root-ready _ _ _ _ _ (c .before .before .before .before .before .before .before .before .before .before .pre .0) (c .before .before .before .before .before .before .before .before .before .before .pre .1) (set-small {flat = c .before .before .before .before .before .before .before .before .before .before .args .flat .now} {out = c .before .before .before .before .before .before .before .before .before .before .args .out .now} (record { budget-is = refl; budget-fits = omega (arith, c .before .before .before .before .before .before .before .before .before .before .fits .budget .fits); lines-are = c .before .before .before .before .lent .ensures; bytes-are = c .before .before .before .lent2 .ensures })) })
+    {- array-read-entered -}
+    (λ c. search needs)
     {- same-length -}
     (λ c. search needs)
     {- same-length-2 -}
     (λ c. search needs)
     {- returns -}
-    (λ c. completes-spent (record { budget-is = refl; budget-fits = omega (arith, c .before .before .before .before .before .before .before .before .before .before .before .before .before .before .before .fits .budget .fits); lines-are = c .before .before .before .before .before .before .before .before .before .lent .ensures; bytes-are = c .before .before .before .before .before .before .before .before .lent2 .ensures }) (root-shows _ _ _ _ _ (c .before .before .before .before .before .list-trie .ensures)) (c .if1 .taken) (flat-kept _ _ _ _ _ (c .before .before .before .before .before .list-trie .ensures) (c .before .before .before .before .before .before .before .before .before .before .before .before .before .before .before .args .flat .now) refl) (out-kept _ _ _ _ _ (c .before .before .before .before .before .list-trie .ensures) (c .before .before .before .before .before .before .before .before .before .before .before .before .before .before .before .args .out .now) refl))
+    (λ c. completes-spent (record { budget-is = refl; budget-fits = omega (arith, c .before .before .before .before .before .before .before .before .before .before .before .before .before .before .before .before .fits .budget .fits); lines-are = c .before .before .before .before .before .before .before .before .before .before .lent .ensures; bytes-are = c .before .before .before .before .before .before .before .before .before .lent2 .ensures }) (root-shows _ _ _ _ _ (c .before .before .before .before .before .list-trie .ensures .runs)) (c .if1 .taken) (flat-kept _ _ _ _ _ (c .before .before .before .before .before .list-trie .ensures .runs) (c .before .before .before .before .before .before .before .before .before .before .before .before .before .before .before .before .args .flat .now) refl) (out-kept _ _ _ _ _ (c .before .before .before .before .before .list-trie .ensures .runs) (c .before .before .before .before .before .before .before .before .before .before .before .before .before .before .before .before .args .out .now) refl))
+    {- array-read-count -}
+    (λ c. search needs)
+    {- array-read-size -}
+    (λ c. search needs)
     {- same-length-3 -}
     (λ c. search needs)
     {- same-length-4 -}
     (λ c. search needs)
     {- returns-2 -}
-    (λ c. completes-lines (record { budget-is = refl; budget-fits = omega (arith, c .before .before .before .before .before .before .before .before .before .before .before .before .before .before .before .before .fits .budget .fits); lines-are = c .before .before .before .before .before .before .before .before .before .before .lent .ensures; bytes-are = c .before .before .before .before .before .before .before .before .before .lent2 .ensures }) (root-shows _ _ _ _ _ (c .before .before .before .before .before .before .list-trie .ensures)) (c .before .if1 .left) (c .if2 .taken) (flat-kept _ _ _ _ _ (c .before .before .before .before .before .before .list-trie .ensures) (c .before .before .before .before .before .before .before .before .before .before .before .before .before .before .before .before .args .flat .now) refl) (out-kept _ _ _ _ _ (c .before .before .before .before .before .before .list-trie .ensures) (c .before .before .before .before .before .before .before .before .before .before .before .before .before .before .before .before .args .out .now) refl))
+    (λ c. completes-lines (record { budget-is = refl; budget-fits = omega (arith, c .before .before .before .before .before .before .before .before .before .before .before .before .before .before .before .before .before .fits .budget .fits); lines-are = c .before .before .before .before .before .before .before .before .before .before .before .lent .ensures; bytes-are = c .before .before .before .before .before .before .before .before .before .before .lent2 .ensures }) (root-shows _ _ _ _ _ (c .before .before .before .before .before .before .list-trie .ensures .runs)) (c .before .if1 .left) (c .if2 .taken) (flat-kept _ _ _ _ _ (c .before .before .before .before .before .before .list-trie .ensures .runs) (c .before .before .before .before .before .before .before .before .before .before .before .before .before .before .before .before .before .args .flat .now) refl) (out-kept _ _ _ _ _ (c .before .before .before .before .before .before .list-trie .ensures .runs) (c .before .before .before .before .before .before .before .before .before .before .before .before .before .before .before .before .before .args .out .now) refl))
     {- same-length-5 -}
     (λ c. search needs)
     {- same-length-6 -}
     (λ c. search needs)
     {- returns-3 -}
-    (λ c. completes-bytes (record { budget-is = refl; budget-fits = omega (arith, c .before .before .before .before .before .before .before .before .before .before .before .before .before .before .before .before .before .fits .budget .fits); lines-are = c .before .before .before .before .before .before .before .before .before .before .before .lent .ensures; bytes-are = c .before .before .before .before .before .before .before .before .before .before .lent2 .ensures }) (root-shows _ _ _ _ _ (c .before .before .before .before .before .before .before .list-trie .ensures)) (c .before .before .if1 .left) (c .if3 .taken) (flat-kept _ _ _ _ _ (c .before .before .before .before .before .before .before .list-trie .ensures) (c .before .before .before .before .before .before .before .before .before .before .before .before .before .before .before .before .before .args .flat .now) refl) (out-kept _ _ _ _ _ (c .before .before .before .before .before .before .before .list-trie .ensures) (c .before .before .before .before .before .before .before .before .before .before .before .before .before .before .before .before .before .args .out .now) refl))
+    (λ c. completes-bytes (record { budget-is = refl; budget-fits = omega (arith, c .before .before .before .before .before .before .before .before .before .before .before .before .before .before .before .before .before .before .fits .budget .fits); lines-are = c .before .before .before .before .before .before .before .before .before .before .before .before .lent .ensures; bytes-are = c .before .before .before .before .before .before .before .before .before .before .before .lent2 .ensures }) (root-shows _ _ _ _ _ (c .before .before .before .before .before .before .before .list-trie .ensures .runs)) (c .before .before .if1 .left) (c .if3 .taken) (flat-kept _ _ _ _ _ (c .before .before .before .before .before .before .before .list-trie .ensures .runs) (c .before .before .before .before .before .before .before .before .before .before .before .before .before .before .before .before .before .before .args .flat .now) refl) (out-kept _ _ _ _ _ (c .before .before .before .before .before .before .before .list-trie .ensures .runs) (c .before .before .before .before .before .before .before .before .before .before .before .before .before .before .before .before .before .before .args .out .now) refl))
     {- list-trie-requires-2 -}
-    (λ c κs. root-ready _ _ _ _ _ (c .before .before .before .before .before .before .before .before .before .before .before .before .before .before .before .before .before .before .before .pre .0) (c .before .before .before .before .before .before .before .before .before .before .before .before .before .before .before .before .before .before .before .pre .1) (set-small {flat = c .before .before .before .before .before .before .before .before .before .before .before .before .before .before .before .before .before .before .before .args .flat .now} {out = c .before .before .before .before .before .before .before .before .before .before .before .before .before .before .before .before .before .before .before .args .out .now} (record { budget-is = refl; budget-fits = omega (arith, c .before .before .before .before .before .before .before .before .before .before .before .before .before .before .before .before .before .before .before .fits .budget .fits); lines-are = c .before .before .before .before .before .before .before .before .before .before .before .before .before .lent .ensures; bytes-are = c .before .before .before .before .before .before .before .before .before .before .before .before .lent2 .ensures })))
-    {- cast-t34 -}
-    (λ c. omega (arith, c .before .before .before .before .before .before .before .before .if2 .left, c .before .before .before .before .before .before .before .before .before .before .before .before .before .before .before .before .before .before .lent .ensures))
-    {- cast-t35 -}
-    (λ c. omega (arith, c .before .before .before .before .before .before .before .before .before .if1 .left, c .before .before .before .before .before .before .before .before .before .before .before .before .before .before .before .before .before .before .before .before .before .before .before .before .fits .budget .fits))
+    (λ c κs. record { can = root-ready _ _ _ _ _ (c .before .before .before .before .before .before .before .before .before .before .before .before .before .before .before .before .before .before .before .before .before .pre .0) (c .before .before .before .before .before .before .before .before .before .before .before .before .before .before .before .before .before .before .before .before .before .pre .1) (set-small {flat = c .before .before .before .before .before .before .before .before .before .before .before .before .before .before .before .before .before .before .before .before .before .args .flat .now} {out = c .before .before .before .before .before .before .before .before .before .before .before .before .before .before .before .before .before .before .before .before .before .args .out .now} (record { budget-is = refl; budget-fits = omega (arith, c .before .before .before .before .before .before .before .before .before .before .before .before .before .before .before .before .before .before .before .before .before .fits .budget .fits); lines-are = c .before .before .before .before .before .before .before .before .before .before .before .before .before .before .before .lent .ensures; bytes-are = c .before .before .before .before .before .before .before .before .before .before .before .before .before .before .lent2 .ensures })) })
+    {- cast-t41 -}
+    (λ c. omega (arith, c .before .before .before .before .before .before .before .before .before .if2 .left, c .before .before .before .before .before .before .before .before .before .before .before .before .before .before .before .before .before .before .before .before .lent .ensures))
+    {- cast-t42 -}
+    (λ c. omega (arith, c .before .before .before .before .before .before .before .before .before .before .if1 .left, c .before .before .before .before .before .before .before .before .before .before .before .before .before .before .before .before .before .before .before .before .before .before .before .before .before .before .fits .budget .fits))
     {- same-length-7 -}
     (λ c. search needs)
     {- same-length-8 -}
     (λ c. search needs)
     {- returns-4 -}
-    (λ c. completes-listed (record { budget-is = refl; budget-fits = omega (arith, c .before .before .before .before .before .before .before .before .before .before .before .before .before .before .before .before .before .before .before .before .before .before .before .before .fits .budget .fits); lines-are = c .before .before .before .before .before .before .before .before .before .before .before .before .before .before .before .before .before .before .lent .ensures; bytes-are = c .before .before .before .before .before .before .before .before .before .before .before .before .before .before .before .before .before .lent2 .ensures }) (root-shows _ _ _ _ _ (c .before .before .before .before .before .before .before .before .before .before .before .before .before .before .list-trie .ensures)) (c .before .before .before .before .before .before .before .before .before .if1 .left) (c .before .before .before .before .before .before .before .before .if2 .left) (c .before .before .before .before .before .before .before .if3 .left) (writes-then _ _ _ _ _ (flat-kept _ _ _ _ _ (c .before .before .before .before .before .before .before .before .before .before .before .before .before .before .list-trie .ensures) (c .before .before .before .before .before .before .before .before .before .before .before .before .before .before .before .before .before .before .before .before .before .before .before .before .args .flat .now) refl) (out-kept _ _ _ _ _ (c .before .before .before .before .before .before .before .before .before .before .before .before .before .before .list-trie .ensures) (c .before .before .before .before .before .before .before .before .before .before .before .before .before .before .before .before .before .before .before .before .before .before .before .before .args .out .now) refl) (c .before .before .before .before .list-trie2 .ensures) (all-fit (root-shows _ _ _ _ _ (c .before .before .before .before .before .before .before .before .before .before .before .before .before .before .list-trie .ensures)) (c .before .before .before .before .before .before .before .before .before .if1 .left) (c .before .before .before .before .before .before .before .before .if2 .left) (c .before .before .before .before .before .before .before .if3 .left) (record { budget-is = refl; budget-fits = omega (arith, c .before .before .before .before .before .before .before .before .before .before .before .before .before .before .before .before .before .before .before .before .before .before .before .before .fits .budget .fits); lines-are = c .before .before .before .before .before .before .before .before .before .before .before .before .before .before .before .before .before .before .lent .ensures; bytes-are = c .before .before .before .before .before .before .before .before .before .before .before .before .before .before .before .before .before .lent2 .ensures })))))
+    (λ c. completes-listed (record { budget-is = refl; budget-fits = omega (arith, c .before .before .before .before .before .before .before .before .before .before .before .before .before .before .before .before .before .before .before .before .before .before .before .before .before .before .fits .budget .fits); lines-are = c .before .before .before .before .before .before .before .before .before .before .before .before .before .before .before .before .before .before .before .before .lent .ensures; bytes-are = c .before .before .before .before .before .before .before .before .before .before .before .before .before .before .before .before .before .before .before .lent2 .ensures }) (root-shows _ _ _ _ _ (c .before .before .before .before .before .before .before .before .before .before .before .before .before .before .before .list-trie .ensures .runs)) (c .before .before .before .before .before .before .before .before .before .before .if1 .left) (c .before .before .before .before .before .before .before .before .before .if2 .left) (c .before .before .before .before .before .before .before .before .if3 .left) (writes-then _ _ _ _ _ (flat-kept _ _ _ _ _ (c .before .before .before .before .before .before .before .before .before .before .before .before .before .before .before .list-trie .ensures .runs) (c .before .before .before .before .before .before .before .before .before .before .before .before .before .before .before .before .before .before .before .before .before .before .before .before .before .before .args .flat .now) refl) (out-kept _ _ _ _ _ (c .before .before .before .before .before .before .before .before .before .before .before .before .before .before .before .list-trie .ensures .runs) (c .before .before .before .before .before .before .before .before .before .before .before .before .before .before .before .before .before .before .before .before .before .before .before .before .before .before .args .out .now) refl) (c .before .before .before .before .list-trie2 .ensures .runs) (all-fit (root-shows _ _ _ _ _ (c .before .before .before .before .before .before .before .before .before .before .before .before .before .before .before .list-trie .ensures .runs)) (c .before .before .before .before .before .before .before .before .before .before .if1 .left) (c .before .before .before .before .before .before .before .before .before .if2 .left) (c .before .before .before .before .before .before .before .before .if3 .left) (record { budget-is = refl; budget-fits = omega (arith, c .before .before .before .before .before .before .before .before .before .before .before .before .before .before .before .before .before .before .before .before .before .before .before .before .before .before .fits .budget .fits); lines-are = c .before .before .before .before .before .before .before .before .before .before .before .before .before .before .before .before .before .before .before .before .lent .ensures; bytes-are = c .before .before .before .before .before .before .before .before .before .before .before .before .before .before .before .before .before .before .before .lent2 .ensures })))))

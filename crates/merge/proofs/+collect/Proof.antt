@@ -6,19 +6,21 @@ use native.Mathlib.Omega.{arith}
 use borrow.Author.Needs.{needs}
 use borrow.Fn.Kinds.{In}
 use borrow.Fn.PlainCycle.{Measures, is, falls, and}
-use Rattle.memory.specs.Stored.{stored}
+use Rattle.memory.specs.Stored.{weight-in}
 use Rattle.merge.proofs.Collecting.{outermost-none, outermost-some, Seen, seen-rest, rest-less, seen-list, both-less, seen-tree, collected-none, full-set, collected-imported, collected-skip, collected-cell}
 use Rattle.merge.proofs.collect.Reads as collect
 use Rattle.merge.proofs.collect.Kinds as kinds
 use Rattle.merge.proofs.+collect.Lts-collect as lts
-use Rattle.memory.proofs.word_of.Reads as word-of-reads
+use Rattle.memory.proofs.own_of.Reads as own-of-reads
+use Rattle.memory.proofs.rest_of.Reads as rest-of-reads
+use Rattle.memory.proofs.sort_of.Reads as sort-of-reads
 use Rattle.tree.proofs.tree_first.Reads as tree-first-reads
 use Rattle.merge.proofs.+collect.{statement}
 use Rattle.merge.proofs.+collect.Tie.{close}
 use Rattle.memory.proofs.At.{at-fits}
 
 abbrev μ-collect : Measures 6 kinds.ps ℕ
-μ-collect κs a = stored (a .0 .now) (a .1 .1 .0) 10
+μ-collect κs a = weight-in (a .0 .now) (a .1 .1 .1 .0 .list)
 
 abbrev at : ℕ → In 6 kinds.ps
 at t = and 6 kinds.ps (is 6 kinds.ps μ-collect t) collect.Pre
@@ -27,30 +29,30 @@ abbrev below : ℕ → In 6 kinds.ps
 below t = and 6 kinds.ps (falls 6 kinds.ps _<_ μ-collect t) collect.Pre
 
 -- The words read of the first collection.
-seen : (t : ℕ) (c : lts.After-word-of3 (word-of-reads.Asked, word-of-reads.Learnt, below t, collect.Post, tree-first-reads.Asked, tree-first-reads.Learnt) (at t) collect.Post)
+seen : (t : ℕ) (c : lts.After-sort-of (own-of-reads.Asked, own-of-reads.Learnt, rest-of-reads.Asked, rest-of-reads.Learnt, sort-of-reads.Asked, sort-of-reads.Learnt, below t, collect.Post, tree-first-reads.Asked, tree-first-reads.Learnt) (at t) collect.Post)
     → (let a = c .before .before .before .before .before .before .before .args in
-    Seen (a .words .now) (a .text .now) (a .list) (c .before .before .word-of .result) (c .before .word-of2 .result) (c .word-of3 .result))
+    Seen (a .words .now) (a .text .now) (a .part .list) (c .before .before .own-of .result) (c .before .rest-of .result) (c .sort-of .result))
 seen t c = record {
   any = c .before .before .before .before .before .before .before .pre .1 .0;
   some = omega (arith, c .before .before .before .if1 .left);
-  own-is = c .before .before .word-of .ensures;
-  rest-is = c .before .word-of2 .ensures;
-  sort-is = c .word-of3 .ensures;
+  own-is = c .before .before .own-of .ensures;
+  rest-is = c .before .rest-of .ensures;
+  sort-is = c .sort-of .ensures;
 }
 
 pub +collect-spec : {M : Type 1} → statement M
 +collect-spec =
     close μ-collect λ t. lts.spec
-    (word-of-reads.Asked, word-of-reads.Learnt, below t, collect.Post, tree-first-reads.Asked, tree-first-reads.Learnt)
+    (own-of-reads.Asked, own-of-reads.Learnt, rest-of-reads.Asked, rest-of-reads.Learnt, sort-of-reads.Asked, sort-of-reads.Learnt, below t, collect.Post, tree-first-reads.Asked, tree-first-reads.Learnt)
     (at t)
     collect.Post
     {- returns -}
     (λ c. (omega arith, collected-none (c .if1 .taken) (c .before .before .before .before .pre .1 .1 .1)))
-    {- word-of-requires -}
+    {- own-of-requires -}
     (λ c κs. omega (arith, at-fits (c .before .before .before .before .pre .1 .0 .list), c .if1 .left))
-    {- word-of-requires-2 -}
+    {- rest-of-requires -}
     (λ c κs. omega (arith, at-fits (c .before .before .before .before .before .pre .1 .0 .list), c .before .if1 .left))
-    {- word-of-requires-3 -}
+    {- sort-of-requires -}
     (λ c κs. omega (arith, at-fits (c .before .before .before .before .before .before .pre .1 .0 .list), c .before .before .if1 .left))
     {- collect-requires -}
     (λ c κs.
@@ -105,7 +107,7 @@ pub +collect-spec : {M : Type 1} → statement M
     let s = seen t (c .before .before .before .before .before .before) in
     let p = c .before .before .before .before .before .before .before .before .before .before .before .before .before .pre in (
       omega (arith, rest-less s, p .0),
-      (seen-rest s, (omega (arith, rest-less s, p .1 .1 .0), full-set (c .before .before .before .before .before .before .before .before .before .before .before .before .before .args .at) (c .before .before .before .before .before .before .before .before .word-of .result) (c .before .before .before .before .tree-first .result) (c .before .before .before .before .before .before .before .before .before .before .before .before .before .args .label) (p .1 .1 .1))),
+      (seen-rest s, (omega (arith, rest-less s, p .1 .1 .0), full-set (c .before .before .before .before .before .before .before .before .before .before .before .before .before .args .at) (c .before .before .before .before .before .before .before .before .own-of .result) (c .before .before .before .before .tree-first .result) (c .before .before .before .before .before .before .before .before .before .before .before .before .before .args .part .label) (p .1 .1 .1))),
     ))
     {- returns-4 -}
     (λ c.

@@ -1,18 +1,20 @@
 -- `merge::merge_next` meets its contract. The loop passes over cells with the key of the last entry; the measure is how many branches the cells have left.
-use mathlib.Core.Path.{sym, _∙_}
+use Prim.Native.Nat.{ℕ}
+use mathlib.Core.Path.{refl, sym, _∙_}
+use mathlib.Core.List.{List}
 use mathlib.Core.Logic.{⊎-elim}
-use native.Mathlib.Omega.{arith}
 use borrow.Author.Tests.{not-true, not-false}
-use Rattle.merge.specs.Stream.{remaining}
+use Rattle.merge.specs.Stream.{remaining, state}
 use Rattle.merge.proofs.Stepping.{Passing, passing-none, passing-ready, passing-end, passing-small, passing-fewer, passing-branch, passing-last, passing-on, passing-gives}
 use Rattle.merge.proofs.merge_next.Statement.{statement}
 use Rattle.merge.proofs.merge_next.Tie as tie
 
 abbrev Inv-loop : tie.InvT-loop
-Inv-loop words text m prefix labels n last roots₀ heads₀ child₀ next₀ root₀ roots heads child next root = Passing words text prefix m roots heads child next root
+Inv-loop words text prefix roots₀ heads₀ child₀ next₀ n last root₀ roots heads child next root =
+    (labels : List ℕ) → Passing words text prefix (state roots₀ heads₀ labels child₀ next₀ n root₀ last) roots heads child next root
 
 abbrev μ-loop : tie.MeasureT-loop
-μ-loop words text m prefix labels n last roots₀ heads₀ child₀ next₀ root₀ roots heads child next root = remaining words text prefix roots heads (m .n)
+μ-loop words text prefix roots₀ heads₀ child₀ next₀ n last root₀ roots heads child next root = remaining words text prefix roots heads n
 
 pub merge-next-spec : {M : Type 1} → statement M
 merge-next-spec =
@@ -21,20 +23,19 @@ merge-next-spec =
     Inv-loop
     μ-loop
     {- loop-holds -}
-    (λ c. passing-none (c .before .before .before .before .before .before .before .before .args .m))
+    (λ c labels. passing-none _)
     {- take-requires -}
-    (λ c κs. passing-ready (c .before .before .before .before .loop .inv) (c .before .before .before .before .before .before .before .before .before .before .before .before .before .pre))
+    (λ c κs. passing-ready (c .before .before .before .before .loop .inv (c .before .before .before .before .before .before .before .before .pre .labels)) (c .before .before .before .before .before .before .before .before .pre .any))
     {- returns -}
-    (λ c. passing-end (c .before .before .before .before .before .before .loop .inv) (c .before .before .before .before .before .before .before .before .before .before .before .before .before .before .before .pre) (c .before .take .ensures) (c .if1 .taken))
+    (λ c. record { small = λ n. absurd (n refl); gives = λ labels. passing-end (c .before .before .before .before .before .before .before .loop .inv labels) (c .before .before .take .ensures) _ refl (c .if1 .taken) })
     {- same-key-requires -}
-    (λ c κs. (passing-branch (c .before .before .before .before .before .before .before .loop .inv) (c .before .before .before .before .before .before .before .before .before .before .before .before .before .before .before .before .pre) (c .before .before .take .ensures) (c .before .if1 .left), passing-last (c .before .before .before .before .before .before .before .loop .inv) (c .before .before .before .before .before .before .before .before .before .before .before .before .before .before .before .before .pre) (c .before .before .take .ensures) (c .before .if1 .left) (c .if2 .left)))
-    {- mul-label -}
-    (λ c. omega (arith, passing-small (c .before .before .before .before .before .before .before .loop .inv) (c .before .before .before .before .before .before .before .before .before .before .before .before .before .before .before .before .pre) (c .before .before .take .ensures) (c .before .if1 .left)))
-    {- array-read-label -}
-    (λ c. passing-small (c .before .before .before .before .before .before .before .loop .inv) (c .before .before .before .before .before .before .before .before .before .before .before .before .before .before .before .before .pre) (c .before .before .take .ensures) (c .before .if1 .left))
+    (λ c κs. (passing-branch (c .before .before .before .before .before .before .before .before .loop .inv (c .before .before .before .before .before .before .before .before .before .before .before .before .pre .labels)) (c .before .before .before .before .before .before .before .before .before .before .before .before .pre .any) (c .before .before .before .take .ensures) (c .before .if1 .left), passing-last (c .before .before .before .before .before .before .before .before .loop .inv (c .before .before .before .before .before .before .before .before .before .before .before .before .pre .labels)) (c .before .before .before .before .before .before .before .before .before .before .before .before .pre .any) (c .before .before .before .take .ensures) (c .before .if1 .left) (c .if2 .left)))
     {- returns-2 -}
-    (λ c. passing-gives (c .before .before .before .before .before .before .before .loop .inv) (c .before .before .before .before .before .before .before .before .before .before .before .before .before .before .before .before .pre) (c .before .before .take .ensures) (c .before .if1 .left) (⊎-elim (λ w n. absurd (n (w .taken))) (λ w n. sym (w .1 .ensures) ∙ not-true _ (w .2 .taken)) (c .if2 .came)))
+    (λ c. record {
+      small = λ n. passing-small (c .before .before .before .before .before .before .before .before .loop .inv (c .before .before .before .before .before .before .before .before .before .before .before .before .pre .labels)) (c .before .before .before .before .before .before .before .before .before .before .before .before .pre .any) (c .before .before .before .take .ensures) (c .before .if1 .left);
+      gives = λ labels. passing-gives (c .before .before .before .before .before .before .before .before .loop .inv labels) (c .before .before .before .take .ensures) (c .before .if1 .left) (⊎-elim (λ w n. absurd (n (w .taken))) (λ w n. sym (w .1 .ensures) ∙ not-true _ (w .2 .taken)) (c .if2 .came));
+    })
     {- loop-less -}
-    (λ c. passing-fewer (c .before .before .before .before .before .before .before .before .before .loop .inv) (c .before .before .before .before .before .before .before .before .before .before .before .before .before .before .before .before .before .before .pre) (c .before .before .before .before .take .ensures) (c .before .before .before .if1 .left))
+    (λ c. passing-fewer (c .before .before .before .before .before .before .before .before .before .before .loop .inv (c .before .before .before .before .before .before .before .before .before .before .before .before .before .before .pre .labels)) (c .before .before .before .before .before .before .before .before .before .before .before .before .before .before .pre .any) (c .before .before .before .before .before .take .ensures) (c .before .before .before .if1 .left))
     {- loop-again -}
-    (λ c. passing-on (c .before .before .before .before .before .before .before .before .before .loop .inv) (c .before .before .before .before .before .before .before .before .before .before .before .before .before .before .before .before .before .before .pre) (c .before .before .before .before .take .ensures) (c .before .before .before .if1 .left) (c .before .before .if2 .left) (sym (c .before .same-key .ensures) ∙ not-false _ (c .if3 .left))))
+    (λ c. λ labels. passing-on (c .before .before .before .before .before .before .before .before .before .before .loop .inv labels) (c .before .before .before .before .before .take .ensures) (c .before .before .before .if1 .left) (passing-fewer (c .before .before .before .before .before .before .before .before .before .before .loop .inv (c .before .before .before .before .before .before .before .before .before .before .before .before .before .before .pre .labels)) (c .before .before .before .before .before .before .before .before .before .before .before .before .before .before .pre .any) (c .before .before .before .before .before .take .ensures) (c .before .before .before .if1 .left)) (c .before .before .if2 .left) (sym (c .before .same-key .ensures) ∙ not-false _ (c .if3 .left))))

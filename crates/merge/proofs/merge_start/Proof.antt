@@ -1,8 +1,7 @@
 -- `merge::merge_start` meets its contract.
-use mathlib.Core.Path.{refl}
 use native.Mathlib.Omega.{arith}
 use Rattle.names.proofs.Collections.{list-light}
-use Rattle.merge.proofs.Starting.{start-heads, starts}
+use Rattle.merge.proofs.Starting.{start-heads, starts, starts-one}
 use Rattle.merge.proofs.merge_start.Statement.{statement}
 use Rattle.merge.proofs.merge_start.Tie as tie
 
@@ -11,8 +10,11 @@ merge-start-spec =
     tie.close
     (tie.spec
     {- collect-requires -}
-    (λ c κs. (c .before .before .before .before .before .before .pre, (omega (arith, list-light (c .before .before .before .before .before .before .pre .list)), record { of-roots = refl; of-heads = refl; of-labels = refl })))
+    (λ c κs. (c .before .before .before .before .before .before .pre .0, (omega (arith, list-light (c .before .before .before .before .before .before .pre .0 .list)), c .before .before .before .before .before .before .pre .1)))
     {- heap-from-list-requires -}
-    (λ c κs. start-heads (c .before .collect .ensures .1) (c .before .before .before .before .before .before .before .before .pre .list) (omega (arith, c .before .collect .ensures .0, list-light (c .before .before .before .before .before .before .before .before .pre .list))))
+    (λ c κs. start-heads (c .before .collect .ensures .1) (c .before .before .before .before .before .before .before .before .pre .0 .list) (omega (arith, c .before .collect .ensures .0, list-light (c .before .before .before .before .before .before .before .before .pre .0 .list))))
     {- returns -}
-    (λ c. starts (c .before .before .before .before .collect .ensures .1) (omega (arith, c .before .before .before .before .collect .ensures .0, list-light (c .before .before .before .before .before .before .before .before .before .before .before .pre .list))) (c .before .before .heap-from-list .ensures)))
+    (λ c. record {
+      starts = starts (c .before .before .before .before .collect .ensures .1) (omega (arith, c .before .before .before .before .collect .ensures .0, list-light (c .before .before .before .before .before .before .before .before .before .before .before .pre .0 .list))) (c .before .before .heap-from-list .ensures);
+      one = starts-one (c .before .before .before .before .collect .ensures .1);
+    }))

@@ -1,12 +1,11 @@
 -- `merge::same_key` meets its contract.
 use Prim.Native.Nat.{Ordering}
 use mathlib.Core.Path.{_≡_, sym, ap, _∙_}
-use native.Mathlib.Omega.{arith}
 use borrow.Author.Needs.{needs}
 use lib.Dec.{isEq}
 use Rattle.text.specs.Text.{ordering}
 use Rattle.text.specs.declared.Order.{Order}
-use Rattle.tree.proofs.Branches.{key-inside, key-part}
+use Rattle.tree.proofs.Branches.{tree-fits, key-inside}
 use Rattle.merge.proofs.same_key.Statement.{statement}
 use Rattle.merge.proofs.same_key.Tie as tie
 
@@ -17,22 +16,8 @@ pub same-key-spec : {M : Type 1} → statement M
 same-key-spec =
     tie.close
     (tie.spec
-    {- word-of-requires -}
-    (λ c κs. search needs)
-    {- cast-start -}
-    (λ c. search needs)
-    {- word-of-requires-2 -}
-    (λ c κs. search needs)
-    {- cast-len -}
-    (λ c. search needs)
-    {- add-key-order -}
-    (λ c. search needs)
-    {- sub-key-order -}
-    (λ c. search needs)
-    {- part-key-order-start -}
-    (λ c. search needs)
-    {- part-key-order-end -}
-    (λ c. omega (arith, key-inside (c .before .before .before .before .pre .0 .1) (c .before .before .before .before .pre .0 .0)))
+    {- key-of-requires -}
+    (λ c κs. record { some = c .before .before .pre .0 .0; within = tree-fits (c .before .before .pre .0 .1); inside = key-inside (c .before .before .pre .0 .1) (c .before .before .pre .0 .0) })
     {- key-order-requires -}
     (λ c κs. search needs)
     {- enum-told -}
@@ -42,8 +27,8 @@ same-key-spec =
     {- enum-told-3 -}
     (λ c. search needs)
     {- returns -}
-    (λ c. told (rw (key-part (c .before .before .before .before .before .before .before .before .args .words .now) (c .before .before .before .before .before .before .before .before .args .text .now) (c .before .before .before .before .before .before .before .before .args .a) (c .before .before .before .before .before .word-of .ensures) (c .before .before .before .before .word-of2 .ensures)) at (c .before .before .key-order .ensures)) (c .enum-told .given .1))
+    (λ c. told (rw (c .before .before .before .key-of .ensures) at (c .before .before .key-order .ensures)) (c .enum-told .given .1))
     {- returns-2 -}
-    (λ c. told (rw (key-part (c .before .before .before .before .before .before .before .before .args .words .now) (c .before .before .before .before .before .before .before .before .args .text .now) (c .before .before .before .before .before .before .before .before .args .a) (c .before .before .before .before .before .word-of .ensures) (c .before .before .before .before .word-of2 .ensures)) at (c .before .before .key-order .ensures)) (c .enum-told2 .given .1))
+    (λ c. told (rw (c .before .before .before .key-of .ensures) at (c .before .before .key-order .ensures)) (c .enum-told2 .given .1))
     {- returns-3 -}
-    (λ c. told (rw (key-part (c .before .before .before .before .before .before .before .before .args .words .now) (c .before .before .before .before .before .before .before .before .args .text .now) (c .before .before .before .before .before .before .before .before .args .a) (c .before .before .before .before .before .word-of .ensures) (c .before .before .before .before .word-of2 .ensures)) at (c .before .before .key-order .ensures)) (c .enum-told3 .given .1)))
+    (λ c. told (rw (c .before .before .before .key-of .ensures) at (c .before .before .key-order .ensures)) (c .enum-told3 .given .1)))

@@ -12,15 +12,15 @@ single-spec =
     (tie.spec
     {- returns -}
     (λ c. single-none)
-    {- word-of-requires -}
+    {- sort-of-requires -}
     (λ c κs. search needs)
     {- returns-2 -}
     (λ c. single-none)
-    {- word-of-requires-2 -}
+    {- rest-of-requires -}
     (λ c κs. search needs)
     {- returns-3 -}
     (λ c. single-none)
-    {- word-of-requires-3 -}
+    {- own-of-requires -}
     (λ c κs. search needs)
     {- returns-4 -}
-    (λ c. single-tree (omega (arith, c .before .before .before .before .before .if1 .left)) (λ e. c .before .before .before .if2 .left (c .before .before .before .before .word-of .ensures ∙ e)) (omega (arith, c .before .before .word-of2 .ensures, c .before .if3 .left)) (c .word-of3 .ensures)))
+    (λ c. single-tree (omega (arith, c .before .before .before .before .before .if1 .left)) (λ e. c .before .before .before .if2 .left (c .before .before .before .before .sort-of .ensures ∙ e)) (omega (arith, c .before .before .rest-of .ensures, c .before .if3 .left)) (c .own-of .ensures)))

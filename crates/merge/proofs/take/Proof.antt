@@ -16,7 +16,7 @@ least : (c : lts.After-known-told (heap-pop-reads.Asked, heap-pop-reads.Learnt, 
     → (let s = c .before .before .before .before .before .before .before .before .before .before .args in
     let q = c .before .cell .given .0 in
     let l = c .before .before .before .heap-pop .last in
-    Least-cell (s .words .now) (s .text .now) (s .prefix .now) (s .n) (s .root) (s .roots .now) (s .heads .now) (s .child .now) (s .next .now) (l .0) (l .1 .0) (q .0) (q .1 .0))
+    Least-cell (s .words .now) (s .text .now) (s .prefix .now) (s .turn .n) (s .turn .root) (s .roots .now) (s .heads .now) (s .child .now) (s .next .now) (l .0) (l .1 .0) (q .0) (q .1 .0))
 least c = record { ready = c .before .before .before .before .before .before .before .before .before .before .pre; pops = rw (c .before .cell .given .1) at (c .before .before .before .heap-pop .ensures) }
 
 pub take-spec : {M : Type 1} → statement M

@@ -1,6 +1,6 @@
 -- complete_on meets its contract.
 use borrow.Author.Needs.{needs}
-use Rattle.table.proofs.Arguments.{one-flagged, passes, stops}
+use Rattle.refusals.proofs.Rows.{one-flagged, passes, stops}
 use Rattle.table.proofs.Completing.{query-whole, completes-refused, completes-passed}
 use Rattle.table.proofs.complete_on.Statement.{statement}
 use Rattle.table.proofs.complete_on.Tie as tie

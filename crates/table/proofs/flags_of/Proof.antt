@@ -1,5 +1,6 @@
 -- flags_of meets its contract.
-use Rattle.table.proofs.Arguments.{one-flagged, both-flagged, arguments-of}
+use Rattle.refusals.proofs.Rows.{one-flagged, both-flagged}
+use Rattle.table.proofs.Arguments.{arguments-of}
 use borrow.Author.Needs.{needs}
 use Rattle.table.proofs.flags_of.Statement.{statement}
 use Rattle.table.proofs.flags_of.Tie as tie

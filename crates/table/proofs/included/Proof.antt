@@ -1,6 +1,6 @@
 -- included meets its contract.
 use Rattle.memory.specs.Layout.{names}
-use Rattle.table.proofs.Arguments.{query-ends}
+use Rattle.refusals.proofs.Rows.{query-ends}
 use borrow.Author.Needs.{needs}
 use Rattle.table.proofs.included.Statement.{statement}
 use Rattle.table.proofs.included.Tie as tie

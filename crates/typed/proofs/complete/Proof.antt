@@ -52,9 +52,9 @@ use Rattle.typed.specs.Lines.{line-at, stored-lines, lines-in as linesIn
 use Rattle.typed.specs.Completions.{FlatCompletes, Completes}
 use Rattle.typed.specs.declared.Line.{Line}
 use Rattle.typed.proofs.Line as T
-use Rattle.typed.proofs.Again.{LentAgain, lends-again, comes-back}
-use Rattle.typed.proofs.Shares.{LentShared, lends-shared, shared-back}
-use Rattle.typed.proofs.Told.{asked-at, told-at}
+use Rattle.typed.proofs.LentAgain.{LentAgain, lends-again, comes-back}
+use Rattle.typed.proofs.LentShared.{LentShared, lends-shared, shared-back}
+use Rattle.typed.proofs.Completes.{asked-at, told-at}
 use Rattle.typed.proofs.store_lines as store-lines
 use Rattle.typed.proofs.store_lines.Symbol as store-lines-def
 use Rattle.typed.proofs.store_lines.Symbol.{name as #typed·store-lines}

@@ -4,7 +4,7 @@ use native.Mathlib.Omega.{arith}
 use lib.Seq.{length-take-le}
 use borrow.Author.Needs.{needs}
 use Rattle.memory.proofs.Says.{holds, fails}
-use Rattle.typed.proofs.Parts.{flat-completes, flat-unsound}
+use Rattle.typed.proofs.FlatCompletes.{flat-completes, flat-unsound}
 use Rattle.typed.proofs.complete_flat.Statement.{statement}
 use Rattle.typed.proofs.complete_flat.Tie as tie
 

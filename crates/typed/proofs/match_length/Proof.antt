@@ -8,17 +8,17 @@ use mir.Val.{toZ}
 use mir.ValLaws.{toZ-ofZ}
 use borrow.Author.Needs.{needs}
 use borrow.Author.Tests.{ne-eqb, le-ltb, lt-ltb}
-use Rattle.typed.specs.Lines.{length-in}
+use Rattle.typed.specs.Lines.{held-length}
 use Rattle.typed.proofs.match_length.Statement.{statement}
 use Rattle.typed.proofs.match_length.Tie as tie
 
-none-matched : (m : ℕ) → m ≡ 4294967295 → negsuc 0 ≡ length-in m
+none-matched : (m : ℕ) → m ≡ 4294967295 → negsuc 0 ≡ held-length m
 none-matched m e = rw e
 
-over : (m : ℕ) → (m ≡ 4294967295 → ⊥) → 2147483647 < m → pos 2147483647 ≡ length-in m
+over : (m : ℕ) → (m ≡ 4294967295 → ⊥) → 2147483647 < m → pos 2147483647 ≡ held-length m
 over m n h = rw (ne-eqb m 4294967295 n, lt-ltb 2147483647 m h)
 
-within : (m : ℕ) → (m ≡ 4294967295 → ⊥) → m ≤ 2147483647 → toZ w32 m ≡ length-in m
+within : (m : ℕ) → (m ≡ 4294967295 → ⊥) → m ≤ 2147483647 → toZ w32 m ≡ held-length m
 within m n h = toZ-ofZ w32 (pos m) (record { sfits = omega (arith, h) }) ∙ rw (ne-eqb m 4294967295 n, le-ltb 2147483647 m h)
 
 pub match-length-spec : {M : Type 1} → statement M

@@ -55,7 +55,7 @@ use Rattle.typed.specs.Lines.{line-at as lineAt, stored-lines as storedL
 use Rattle.typed.specs.declared.Line.{Line}
 use Rattle.typed.proofs.Line as T
 use Rattle.typed.proofs.Line.Laws as T′
-use Rattle.typed.proofs.Again.{LentAgain, lends-again, comes-back}
+use Rattle.typed.proofs.LentAgain.{LentAgain, lends-again, comes-back}
 use Rattle.typed.proofs.line_at as line-at
 use Rattle.typed.proofs.line_at.Symbol as line-at-def
 use Rattle.typed.proofs.line_at.Symbol.{name as #typed·line-at}

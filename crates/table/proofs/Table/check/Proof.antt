@@ -4,7 +4,7 @@ use native.Mathlib.Omega.{arith}
 use Rattle.source.proofs.Refusals.{argument-rows-none}
 use Rattle.memory.proofs.Given.{sound-table}
 use Rattle.table.proofs.Roots.{names-trie}
-use Rattle.table.proofs.Arguments.{passes, stops}
+use Rattle.refusals.proofs.Rows.{passes, stops}
 use Rattle.table.proofs.Checks.{ready, ready-short, taken-is, rows-refused, rows-planned}
 use borrow.Author.Needs.{needs}
 use Rattle.table.proofs.Table.check.Statement.{statement}

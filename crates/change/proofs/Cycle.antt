@@ -1,0 +1,184 @@
+-- namespaces_mutate and trie_mutate: what each step asks, and what it builds.
+use Prim.Native.Nat.{ℕ, _+_, _-_, _≤_, _<_}
+use mathlib.Core.Path.{_≡_}
+use mathlib.Core.Bool.{true}
+use mathlib.Core.List.{List, [], _∷_}
+use native.Mathlib.Omega.{arith}
+use lib.ListN.{length}
+use Rattle.source.specs.Text.{segments, ends-in-dot}
+use Rattle.source.specs.Types.{Trie, NameList, ns, namespaces}
+use Rattle.source.specs.Tries.{scope-of}
+use Rattle.source.specs.Terms.{heaviest, depth}
+use Rattle.source.specs.Rules.{IsKey}
+use Rattle.source.specs.Counted.{Counted, one, _>>=_, names-insertᶜ, trie-mutateᶜ}
+use Rattle.source.proofs.Counted.{names-insert-value}
+use Rattle.memory.specs.Layout.{span, Which, Item, Sort, tree, list, trieˢ, Of, kind, what}
+use Rattle.memory.specs.Sound.{TextOk, At}
+use Rattle.memory.specs.Stored.{stored}
+use Rattle.memory.specs.Read.{ReadTrie}
+use Rattle.memory.specs.declared.Trie as M
+use Rattle.memory.proofs.Seen.{link-later}
+use Rattle.names.specs.Names.{NamesPlaced}
+use Rattle.names.specs.Made.{Made}
+use Rattle.names.specs.Insert.{NamesInsertion, AnyNamesInsertion, NamesInserts}
+use Rattle.names.proofs.Making.{made-then, made-what, made-link, made-room}
+use Rattle.change.specs.declared.Change.{Change}
+use Rattle.change.specs.declared.Change.the-variants.{Name, Include, Open, Alias, Module}
+use Rattle.lookup.specs.Tries.{Reads}
+use Rattle.change.specs.Changes.{between, passed, which-of, node-of, leaf-of, mutated, namespaces-mutated, Cut, ChangeOk, Leaf, Node, NamespacesMutation, Mutation, Builds, LeafBuilt, NodeBuilt, NamespacesMutated, Mutated}
+use Rattle.memory.proofs.Tries.{Lists, lists-in}
+use Rattle.lookup.proofs.Links.{holder-scope}
+use Rattle.change.proofs.Between.{place-next, passed-next, key-in}
+use Rattle.change.proofs.Building.{inserted-within, scope-insertion, scope-built}
+use Rattle.change.proofs.Leaves.{less-room}
+use Rattle.change.proofs.Nodes.{Kinds}
+
+-- ---- namespaces_mutate
+module _ {ws txt : List ℕ} {n used x from at len end : ℕ} {ch : Change} (g : NamespacesMutation ws txt n used x from at len end ch) where
+  pub spaces-key : TextOk IsKey txt used at len
+  spaces-key = key-in (g .place) (g .cut)
+
+  pub spaces-list : At ws txt (which-of ch) (list ns) x
+  spaces-list = record { records = n; used = used; sound = g .change .sound; link = g .link }
+
+  module _ {holder count wt scope : ℕ} (z : NamesPlaced ws txt x (span txt at len) holder count wt) (e : scope ≡ stored ws holder 5) where
+    spaces-scope : Reads ws txt (which-of ch) x scope (scope-of (what (which-of ch) ws txt x (list ns)) (span txt at len))
+    spaces-scope = holder-scope spaces-list (z .found (which-of ch) ns spaces-list) e
+
+    abbrev value : Trie (Item (which-of ch))
+    value = mutated ws txt ch (scope-of (what (which-of ch) ws txt x (list ns)) (span txt at len)) from (at + len + 1) end .value
+
+    -- What is asked of the scope.
+    pub spaces-mutation : Mutation ws txt n used scope from (at + len + 1) end ch
+    unfolding _>>=_
+    spaces-mutation =
+        let w = inserted-within (what (which-of ch) ws txt x (list ns)) (span txt at len) value in
+        record {
+          change = g .change;
+          link = link-later (omega (arith, g .link .earlier)) (spaces-scope .link);
+          place = place-next (g .place) (g .cut);
+          fits = rw (spaces-scope .says) (record {
+            room = less-room (g .fits .room) (omega arith);
+            light = omega (arith, w .heavy, rw names-insert-value at (g .fits .light));
+            shallow = omega (arith, w .high, rw names-insert-value at (g .fits .shallow));
+          });
+        }
+
+    module _ {ws₁ : List ℕ} {s n₁ k : ℕ} (S : Mutated ws ws₁ txt n scope from (at + len + 1) end ch s n₁) (h : Kinds ch k) where
+      scope-builds : Builds ws ws₁ txt n used (which-of ch) trieˢ (mutated ws txt ch (scope-of (what (which-of ch) ws txt x (list ns)) (span txt at len)) from (at + len + 1) end) s n₁
+      scope-builds = rw (spaces-scope .says) at (S used spaces-mutation)
+
+      kind-is : k + 2 ≡ kind (which-of ch) (tree ns)
+      kind-is = omega (arith, h .1 (tree ns))
+
+      pub spaces-insertion : NamesInsertion ws₁ txt (which-of ch) ns n₁ used x count ((k + 2) ∷ at ∷ len ∷ 0 ∷ 0 ∷ s ∷ 0 ∷ 0 ∷ 0 ∷ 0 ∷ 0 ∷ 0 ∷ [])
+      spaces-insertion = scope-insertion scope-builds (g .change .sound) (g .link) kind-is spaces-key z (g .fits .room) (g .fits .light)
+
+      pub spaces-any : AnyNamesInsertion ws₁ txt n₁ x count ((k + 2) ∷ at ∷ len ∷ 0 ∷ 0 ∷ s ∷ 0 ∷ 0 ∷ 0 ∷ 0 ∷ 0 ∷ 0 ∷ [])
+      spaces-any = record { which = which-of ch; level = ns; used = used; insertion = spaces-insertion }
+
+      pub spaces-built : {ws₂ : List ℕ} {y : ℕ} → y ≡ n₁ + count + 1 → NamesInserts ws₁ ws₂ txt n₁ x count ((k + 2) ∷ at ∷ len ∷ 0 ∷ 0 ∷ s ∷ 0 ∷ 0 ∷ 0 ∷ 0 ∷ 0 ∷ 0 ∷ []) y
+          → Builds ws ws₂ txt n used (which-of ch) (list ns) (namespaces-mutated ws txt ch (what (which-of ch) ws txt x (list ns)) from at len end) y y
+      spaces-built f m = scope-built scope-builds (g .change .sound) (g .link) kind-is spaces-key z spaces-insertion f m
+
+-- ---- trie_mutate at the host
+module _ (ws txt : List ℕ) (from at end : ℕ) (e : at ≡ end) where
+  mutated-leaf : (ch : Change) (tr : Trie (Item (which-of ch))) → mutated ws txt ch tr from at end ≡ leaf-of ws txt ch tr
+  unfolding trie-mutateᶜ span segments
+  mutated-leaf ch tr = let z : end - at ≡ 0 = omega arith in rw z
+
+  pub leaf-mutation : {n used x : ℕ} {ch : Change} → Mutation ws txt n used x from at end ch → Leaf ws txt n used x ch
+  leaf-mutation {ch = ch} m = record { change = m .change; link = m .link; fits = rw (mutated-leaf ch) at (m .fits) }
+
+  pub leaf-mutated : {ws′ : List ℕ} {n x link n′ : ℕ} (ch : Change) → LeafBuilt ws ws′ txt n x ch link n′ → Mutated ws ws′ txt n x from at end ch link n′
+  leaf-mutated ch b used m = rw (mutated-leaf ch) (b used (leaf-mutation m))
+
+-- ---- trie_mutate above it
+
+-- What segment_in asks.
+pub segment-ready : {ws txt : List ℕ} {n used x from at end : ℕ} {ch : Change} → Mutation ws txt n used x from at end ch → (at ≡ end → ⊥)
+    → (at < end) × (end ≤ length txt) × (end ≤ 65536) × (ends-in-dot (span txt at (end - at)) ≡ true)
+segment-ready m h = (
+  omega (arith, m .place .inside),
+  omega (arith, m .place .within, m .change .sound .text-fits),
+  omega (arith, m .place .within, m .change .sound .short),
+  m .place .ends,
+)
+
+-- The links of a change stay.
+change-stays : (ch : Change) {ws ws′ txt : List ℕ} {n n′ used : ℕ} {w : Which} {s : Sort} {r : ℕ} {t : Of (Item w) s} → Made ws ws′ txt n n′ used w s r t → ChangeOk ws txt n used ch → ChangeOk ws′ txt n′ used ch
+change-stays (Name id x) m c = record { sound = m .sound; texts = c .texts }
+change-stays (Include label l) m c = record { sound = m .sound; texts = (c .texts .0, made-link m (omega arith) (c .texts .1)) }
+change-stays (Open label l) m c = record { sound = m .sound; texts = (c .texts .0, made-link m (omega arith) (c .texts .1)) }
+change-stays (Alias key label l) m c = record { sound = m .sound; texts = (c .texts .0, c .texts .1, made-link m (omega arith) (c .texts .2)) }
+change-stays (Module loaded path) m c = record { sound = m .sound; texts = c .texts }
+
+module _ {ws txt : List ℕ} {n used x from at len end : ℕ} {ch : Change} {p : M.Trie} (m : Mutation ws txt n used x from at end ch) (c : Cut txt at len end) (q : ReadTrie ws x p) where
+  mutation-lists : Lists ws txt n (which-of ch) x p
+  mutation-lists = lists-in (m .change .sound) (m .link) q
+
+  abbrev tr : Trie (Item (which-of ch))
+  tr = what (which-of ch) ws txt x trieˢ
+
+  abbrev spaces : Counted (NameList (Item (which-of ch)) ns)
+  spaces = namespaces-mutated ws txt ch (namespaces tr) from at len end
+
+  abbrev node : NameList (Item (which-of ch)) ns → Counted (Trie (Item (which-of ch)))
+  node y = node-of txt ch tr (span txt at len) (between txt (at + len + 1) end) (passed txt from at) y
+
+  -- One step of trie_mutate.
+  step : mutated ws txt ch tr from at end
+      ≡ (mutated ws txt ch (scope-of (namespaces tr) (span txt at len)) from (at + len + 1) end >>= λ scope. names-insertᶜ (namespaces tr) (span txt at len) scope >>= node)
+  unfolding trie-mutateᶜ
+  step = rw (passed-next (m .place) c, c .splits)
+
+  step-value : mutated ws txt ch tr from at end .value ≡ node (spaces .value) .value
+  unfolding _>>=_
+  step-value = rw step
+
+  step-count : mutated ws txt ch tr from at end .count ≡ spaces .count + node (spaces .value) .count
+  unfolding _>>=_
+  step-count = rw step (omega arith)
+
+  pub mutation-spaces : NamespacesMutation ws txt n used (p .namespaces) from at len end ch
+  unfolding node-of _>>=_ one heaviest depth
+  mutation-spaces = record {
+    change = m .change;
+    link = mutation-lists .n-link;
+    place = m .place;
+    cut = c;
+    fits = rw (mutation-lists .n-reads) (record {
+      room = less-room (m .fits .room) (omega (arith, step-count));
+      light = omega (arith, rw step-value at (m .fits .light));
+      shallow = rw step-value at (m .fits .shallow);
+    });
+  }
+
+  module _ {ws₁ : List ℕ} {y n₁ : ℕ} (N : NamespacesMutated ws ws₁ txt n (p .namespaces) from at len end ch y n₁) where
+    spaces-builds : Builds ws ws₁ txt n used (which-of ch) (list ns) spaces y n₁
+    spaces-builds = rw (mutation-lists .n-reads) at (N used mutation-spaces)
+
+    same : what (which-of ch) ws₁ txt x ≡ what (which-of ch) ws txt x
+    same = made-what (spaces-builds .made) (which-of ch) (omega (arith, m .link .earlier))
+
+    pub mutation-node : Node ws₁ txt n₁ used x y from at len end ch
+    mutation-node = record {
+      change = change-stays ch (spaces-builds .made) (m .change);
+      link = made-link (spaces-builds .made) (omega arith) (m .link);
+      list-link = spaces-builds .made .link;
+      place = m .place;
+      cut = c;
+      fits = rw (same, spaces-builds .made .reads) (record {
+        room = made-room (spaces-builds .made) (spaces .count) (spaces-builds .number) (rw step-count at (m .fits .room));
+        light = rw step-value at (m .fits .light);
+        shallow = rw step-value at (m .fits .shallow);
+      });
+    }
+
+    pub mutation-built : {ws₂ : List ℕ} {r n₂ : ℕ} → NodeBuilt ws₁ ws₂ txt n₁ x y from at len end ch r n₂ → Builds ws ws₂ txt n used (which-of ch) trieˢ (mutated ws txt ch tr from at end) r n₂
+    mutation-built d =
+        let b : Builds ws₁ _ txt n₁ used (which-of ch) trieˢ (node (spaces .value)) _ _ = rw (same, spaces-builds .made .reads) at (d used mutation-node) in
+        record {
+          number = omega (arith, step-count, b .number, spaces-builds .number);
+          made = rw step-value (made-then (spaces-builds .made) (b .made));
+        }

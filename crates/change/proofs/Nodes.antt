@@ -1,0 +1,220 @@
+-- mut_node of each change: what its writers ask, and what they build.
+use Prim.Native.Nat.{ℕ, _+_, _-_, _≤_, _<_}
+use mathlib.Core.Path.{_≡_, refl, _∙_}
+use mathlib.Core.Bool.{Bool, true, false, cond, _||_}
+use mathlib.Core.List.{List, [], _∷_}
+use native.Mathlib.Omega.{arith}
+use lib.Dec.{eqb}
+use lib.ListN.{length}
+use borrow.Author.Tests.{eqb-true, eqb-false}
+use Rattle.source.specs.Text.{Str, Query, segments, ends-in-dot}
+use Rattle.source.specs.Types.{Value, NameList, bind, ns, item}
+use Rattle.source.specs.Tries.{names-find-exact}
+use Rattle.source.specs.Rules.{IsKey, IsFullName, IsPath}
+use Rattle.source.specs.Table.{name-of-revq, ns-inserts}
+use Rattle.source.specs.Table as S
+use Rattle.source.specs.Terms.{heaviest, depth}
+use Rattle.source.specs.Counted.{Counted, pure, one, _>>=_, names-insertᶜ, ins-nsᶜ, ins-modᶜ, insᶜ}
+use Rattle.source.specs.Calls.{is-empty}
+use Rattle.source.proofs.Counted.{names-insert-value}
+use Rattle.memory.specs.Layout.{span, modules, item-of, Sort, list, trieˢ, kind-in, kind, what}
+use Rattle.memory.specs.Stored.{stored}
+use Rattle.memory.specs.Read.{ReadTrie}
+use Rattle.memory.specs.declared.Trie as M
+use Rattle.memory.specs.Sound.{TextOk, SymbolOk, At}
+use Rattle.memory.specs.declared.Span.{Span}
+use Rattle.change.specs.declared.Change.{Change}
+use Rattle.change.specs.declared.Change.the-variants.{Name, Include, Open, Alias, Module}
+use Rattle.names.specs.Names.{NamesPlaced}
+use Rattle.names.specs.Made.{Room, MadeTrie}
+use Rattle.names.specs.Insert.{NamesInsertion, AnyNamesInsertion, NamesInserts}
+use Rattle.names.proofs.Making.{made-none}
+use Rattle.names.proofs.Inserting.{insertion-after}
+use Rattle.lookup.specs.Tries.{NsInserts}
+use Rattle.change.specs.Changes.{between, passed, which-of, bindings-of, node-of, symbol-row, Some, Bindings, Node, Builds, BindingsBuilt}
+use Rattle.lookup.proofs.Lookups.{some-left}
+use Rattle.change.proofs.Between.{span-length, place-next, key-in, full-name-is, full-name-in}
+use Rattle.memory.proofs.Tries.{Lists, lists-in}
+use Rattle.change.proofs.Building.{builds-none, builds-insert, placed-light, placed-count, bindings-ready, bindings-built}
+use Rattle.change.proofs.Leaves.{less-room}
+
+-- ---- kinds
+abbrev pub Kinds : Change → ℕ → Type 0
+Kinds ch r = (r ≤ 5) × ((s : Sort) → kind (which-of ch) s ≡ kind-in s + r)
+
+module _ {ch : Change} where
+  pub kinds-name : {id : Span} {x : ℕ} → ch ≡ Name id x → Kinds ch 0
+  kinds-name e = rw e (omega arith, λ s. omega arith)
+
+  pub kinds-include : {label : Span} {l : ℕ} → ch ≡ Include label l → Kinds ch 0
+  kinds-include e = rw e (omega arith, λ s. omega arith)
+
+  pub kinds-open : {label : Span} {l : ℕ} → ch ≡ Open label l → Kinds ch 0
+  kinds-open e = rw e (omega arith, λ s. omega arith)
+
+  pub kinds-alias : {key label : Span} {l : ℕ} → ch ≡ Alias key label l → Kinds ch 0
+  kinds-alias e = rw e (omega arith, λ s. omega arith)
+
+  pub kinds-module : {loaded : Bool} {path : Span} → ch ≡ Module loaded path → Kinds ch 5
+  kinds-module e = rw e (omega arith, λ s. refl)
+
+-- ---- ins
+last-in : (s : Str) → ends-in-dot s ≡ true → (last : Bool) → (last ≡ true → length s ≡ 0) → (last ≡ false → 0 < length s) → last ≡ is-empty (segments s)
+unfolding is-empty segments
+last-in [] e true h g = refl
+last-in (b ∷ s) e true h g = absurd (omega (arith, h refl))
+last-in [] e false h g = absurd (omega (arith, g refl))
+last-in (b ∷ s) e false h g = some-is (segments (b ∷ s)) (some-left (b ∷ s) e (omega arith))
+  where
+    some-is : (q : Query) → 0 < length q → false ≡ is-empty q
+    some-is [] h = absurd (omega arith)
+    some-is (g ∷ q) h = refl
+
+-- ins, by whether it inserts.
+ins-is : (p id : Str) (q revq : Query) (b : NameList S.ModSymbol bind) (last loaded inserts : Bool) → last ≡ is-empty q → inserts ≡ ns-inserts (names-find-exact b id) loaded
+    → insᶜ p id q revq b loaded
+    ≡ cond (last || inserts) (names-insertᶜ b id (item (cond last (S.Module (name-of-revq (id ∷ revq)) p loaded) (S.Namespace (name-of-revq (id ∷ revq)) loaded)))) (pure b)
+unfolding is-empty insᶜ ins-modᶜ ins-nsᶜ
+ins-is p id [] revq b last loaded inserts e f = rw e
+ins-is p id (s ∷ q) revq b last loaded inserts e f = rw (e, f) (go (ns-inserts (names-find-exact b id) loaded))
+  where
+    new : Counted (NameList S.ModSymbol bind)
+    new = names-insertᶜ b id (item (S.Namespace (name-of-revq (id ∷ revq)) loaded))
+
+    go : (t : Bool) → (elim t as (λ _. Counted (NameList S.ModSymbol bind)) [ true ↦ new | false ↦ pure b ]) ≡ cond t new (pure b)
+    go true = refl
+    go false = refl
+
+-- The row of a module or of a namespace.
+module _ {txt : List ℕ} {used from at len : ℕ} {path : Span} (name : TextOk IsFullName txt used from (at + len - from)) (file : TextOk IsPath txt used (path .start) (path .len)) where
+  symbol-ok : (last loaded : Bool) → SymbolOk txt used (symbol-row last at len from loaded path)
+  symbol-ok last loaded = record { sort = sort-bit last; name = name; path = of-path last; loaded = bit loaded }
+    where
+      bit : (b : Bool) → cond b 1 0 ≤ 1
+      bit true = omega arith
+      bit false = omega arith
+
+      sort-bit : (b : Bool) → cond b 0 1 ≤ 1
+      sort-bit true = omega arith
+      sort-bit false = omega arith
+
+      of-path : (b : Bool) → _≡_ {A = ℕ} (cond b 0 1) 0 → TextOk IsPath txt used (cond b (path .start) 0) (cond b (path .len) 0)
+      of-path true e = file
+      of-path false e = absurd (omega arith)
+
+symbol-reads : (txt : List ℕ) (at len from : ℕ) (path : Span) (last loaded : Bool)
+    → item-of modules txt (symbol-row last at len from loaded path)
+    ≡ cond last (S.Module (span txt from (at + len - from)) (span txt (path .start) (path .len)) loaded) (S.Namespace (span txt from (at + len - from)) loaded)
+symbol-reads txt at len from path true true = refl
+symbol-reads txt at len from path true false = refl
+symbol-reads txt at len from path false true = refl
+symbol-reads txt at len from path false false = refl
+
+module _ {ws txt : List ℕ} {n used x from at len end : ℕ} {loaded : Bool} {path : Span} (i : Bindings ws txt n used x from at len end (Module loaded path)) where
+  pub ins-list : At ws txt modules (list bind) x
+  ins-list = record { records = n; used = used; sound = i .change .sound; link = i .link }
+
+  pub ins-key : TextOk IsKey txt used at len
+  ins-key = key-in (i .place) (i .cut)
+
+  module _ {holder count wt : ℕ} {b : Bool} (z : NamesPlaced ws txt x (span txt at len) holder count wt) (f : NsInserts ws holder loaded b) where
+    abbrev ins-last : Bool
+    ins-last = eqb (at + len + 1) end
+
+    ins-last-is : ins-last ≡ is-empty (between txt (at + len + 1) end)
+    ins-last-is =
+        let d = place-next (i .place) (i .cut) in
+        let h = span-length txt (at + len + 1) (end - (at + len + 1)) (omega (arith, d .inside, d .within, i .change .sound .text-fits)) in
+        last-in (span txt (at + len + 1) (end - (at + len + 1))) (d .ends) ins-last (λ e. omega (arith, h, eqb-true (at + len + 1) end e)) (λ e. omega (arith, h, d .inside, eqb-false (at + len + 1) end e))
+
+    ins-of : bindings-of txt (Module loaded path) (what modules ws txt x (list bind)) (span txt at len) (between txt (at + len + 1) end) (passed txt from at)
+        ≡ cond (ins-last || b)
+        (names-insertᶜ (what modules ws txt x (list bind)) (span txt at len) (item (item-of modules txt (symbol-row ins-last at len from loaded path))))
+        (pure (what modules ws txt x (list bind)))
+    unfolding bindings-of
+    ins-of =
+        ins-is (span txt (path .start) (path .len)) (span txt at len) (between txt (at + len + 1) end) (passed txt from at) (what modules ws txt x (list bind)) ins-last loaded b ins-last-is
+        (rw (z .found modules bind ins-list .says) (f .says txt))
+        ∙ rw (symbol-reads txt at len from path ins-last loaded, full-name-is (i .place) (i .cut) (i .change .sound .text-fits))
+
+    module _ (g : ins-last || b ≡ true) where
+      ins-insertion : NamesInsertion ws txt modules bind n used x count (symbol-row ins-last at len from loaded path)
+      ins-insertion =
+          let v : Value S.ModSymbol bind = item (item-of modules txt (symbol-row ins-last at len from loaded path)) in
+          insertion-after (made-none (list bind) (i .change .sound) (i .link)) ins-list (omega (arith, i .link .earlier)) (symbol-row ins-last at len from loaded path) z
+          (placed-light ins-list z v (rw (← names-insert-value) (rw (ins-of, g) at (i .light))))
+          (rw (ins-of, g, placed-count ins-list z v) at (i .room))
+          (record {
+            known = refl;
+            key = ins-key;
+            holds = symbol-ok (full-name-in (i .place) (i .cut) (i .change .sound .text-fits)) (i .change .texts) ins-last loaded;
+          })
+
+      ins-built : {ws′ : List ℕ} {y : ℕ} → y ≡ n + count + 1 → NamesInserts ws ws′ txt n x count (symbol-row ins-last at len from loaded path) y
+          → Builds ws ws′ txt n used modules (list bind) (bindings-of txt (Module loaded path) (what modules ws txt x (list bind)) (span txt at len) (between txt (at + len + 1) end) (passed txt from at)) y y
+      ins-built e m = rw (ins-of, g) (builds-insert ins-insertion m e)
+
+      -- As the code has the row.
+      pub ins-any : {r : List ℕ} → r ≡ symbol-row ins-last at len from loaded path → AnyNamesInsertion ws txt n x count r
+      ins-any e = rw e (record { which = modules; level = bind; used = used; insertion = ins-insertion })
+
+      pub ins-made : {ws′ : List ℕ} {y : ℕ} {r : List ℕ} → r ≡ symbol-row ins-last at len from loaded path → y ≡ n + count + 1 → NamesInserts ws ws′ txt n x count r y
+          → Builds ws ws′ txt n used modules (list bind) (bindings-of txt (Module loaded path) (what modules ws txt x (list bind)) (span txt at len) (between txt (at + len + 1) end) (passed txt from at)) y y
+      ins-made e f m = ins-built f (rw e at m)
+
+    pub ins-none : ins-last || b ≡ false
+        → Builds ws ws txt n used modules (list bind) (bindings-of txt (Module loaded path) (what modules ws txt x (list bind)) (span txt at len) (between txt (at + len + 1) end) (passed txt from at)) x n
+    ins-none g = rw (ins-of, g) (builds-none (list bind) (i .change .sound) (i .link))
+
+-- ---- the bindings of each change
+module _ {ws txt : List ℕ} {n x from at len end : ℕ} {ch : Change} where
+  pub keeps-name : {id : Span} {y : ℕ} → ch ≡ Name id y → BindingsBuilt ws ws txt n x from at len end ch x n
+  unfolding bindings-of
+  keeps-name e = rw e (λ used i. builds-none (list bind) (i .change .sound) (i .link))
+
+  pub keeps-include : {label : Span} {l : ℕ} → ch ≡ Include label l → BindingsBuilt ws ws txt n x from at len end ch x n
+  unfolding bindings-of
+  keeps-include e = rw e (λ used i. builds-none (list bind) (i .change .sound) (i .link))
+
+  pub keeps-open : {label : Span} {l : ℕ} → ch ≡ Open label l → BindingsBuilt ws ws txt n x from at len end ch x n
+  unfolding bindings-of
+  keeps-open e = rw e (λ used i. builds-none (list bind) (i .change .sound) (i .link))
+
+  pub keeps-alias : {key label : Span} {l : ℕ} → ch ≡ Alias key label l → BindingsBuilt ws ws txt n x from at len end ch x n
+  unfolding bindings-of
+  keeps-alias e = rw e (λ used i. builds-none (list bind) (i .change .sound) (i .link))
+
+  pub bindings-as : {ch′ : Change} → ch ≡ ch′ → Some (λ used. Bindings ws txt n used x from at len end ch) → Some (λ used. Bindings ws txt n used x from at len end ch′)
+  bindings-as e i = rw e at i
+
+  pub bindings-by : {ws′ : List ℕ} {link n′ : ℕ} {ch′ : Change} → ch ≡ ch′ → BindingsBuilt ws ws′ txt n x from at len end ch′ link n′ → BindingsBuilt ws ws′ txt n x from at len end ch link n′
+  bindings-by e b = rw e b
+
+-- ---- mut_node
+module _ {ws txt : List ℕ} {n used x y from at len end : ℕ} {ch : Change} {p : M.Trie} (i : Node ws txt n used x y from at len end ch) (q : ReadTrie ws x p) where
+  node-lists : Lists ws txt n (which-of ch) x p
+  node-lists = lists-in (i .change .sound) (i .link) q
+
+  pub node-bindings : Bindings ws txt n used (p .bindings) from at len end ch
+  unfolding node-of _>>=_ one heaviest
+  node-bindings = record {
+    change = i .change;
+    link = node-lists .b-link;
+    place = i .place;
+    cut = i .cut;
+    room = rw (node-lists .b-reads) (less-room (i .fits .room) (omega arith));
+    light = rw (node-lists .b-reads) (omega (arith, i .fits .light));
+  }
+
+  module _ {ws₁ : List ℕ} {b n₁ : ℕ} (B : BindingsBuilt ws ws₁ txt n (p .bindings) from at len end ch b n₁) where
+    pub node-ready : Room ws₁ n₁ 1 × ((y ≤ n₁) × (stored ws₁ y 11 ≤ 16))
+    unfolding node-of _>>=_ one depth
+    node-ready = bindings-ready (B used node-bindings) (i .list-link) (rw (node-lists .b-reads) (i .fits .room)) (i .fits .shallow)
+
+    pub node-built : {ws₂ : List ℕ} {k r : ℕ} → Kinds ch k → r ≡ n₁ + 1 → MadeTrie ws₁ ws₂ n₁ (k + 5) b y r
+        → Builds ws ws₂ txt n used (which-of ch) trieˢ
+        (node-of txt ch (what (which-of ch) ws txt x trieˢ) (span txt at len) (between txt (at + len + 1) end) (passed txt from at) (what (which-of ch) ws txt y (list ns))) r r
+    unfolding node-of
+    node-built {k = k} h e m =
+        let f : k + 5 ≡ kind (which-of ch) trieˢ = omega (arith, h .1 trieˢ) in
+        rw (← node-lists .b-reads) (bindings-built (B used node-bindings) (i .list-link) f e m)

@@ -1,0 +1,381 @@
+// The change of a trie: the source's namespaces_mutate and trie_mutate with the leaf of each change, building records after the used ones.
+use memory::Span;
+ghost use mathlib.Core.Path.{_≡_};
+ghost use mathlib.Core.Bool.{true, cond};
+ghost use Prim.Native.Nat.{_+_, _-_, _<_, _≤_};
+ghost use lib.ListN.{length};
+ghost use Rattle.source.specs.Text.{ends-in-dot};
+ghost use Rattle.memory.specs.Layout.{span, Sort, kind-in, kind};
+ghost use Rattle.change.specs.Changes.{which-of, symbol-row, Cut, Some, Leaf, Bindings, Node, NamespacesMutation, Mutation, LeafBuilt, BindingsBuilt, NodeBuilt, NamespacesMutated, Mutated};
+ghost use Rattle.change.specs.declared.Change.the-variants.{Name, Include, Open, Alias, Module};
+
+// A change of a trie. Texts are spans of the table's text; the links are those of the included list.
+pub enum Change {
+    // A name and its item.
+    Name(Span, u32),
+    // A label and the included bindings.
+    Include(Span, u32),
+    // A label and the included namespaces.
+    Open(Span, u32),
+    // A key, a label and the included bindings.
+    Alias(Span, Span, u32),
+    // Whether the module is loaded, and its file path.
+    Module(bool, Span),
+}
+
+// A link, and the records used after its making.
+pub struct Built {
+    pub link: u32,
+    pub records: u32,
+}
+
+// The length of the segment of the text that begins at `at`.
+fn segment_in(text: &[u8], at: u32, end: u32) -> u32
+    requires { ⌜ (at < end) × (end ≤ length (now text)) × (end ≤ 65536) × (ends-in-dot (span (now text) at (end - at)) ≡ true) ⌝ }
+    ensures { λ r. ⌜ Cut (now (text .entry)) at r end ⌝ }
+{
+    let first = at as usize;
+    let last = end as usize;
+    text::segment_length(&text[first..last]) as u32
+}
+
+// What is added to the kinds of the names table in the table of a change.
+fn kinds_of(change: Change) -> u32
+    ensures { λ r. ⌜ (r ≤ 5) × ((s : Sort) → kind (which-of change) s ≡ kind-in s + r) ⌝ }
+{
+    match change {
+        Change::Name(_, _) => 0,
+        Change::Include(_, _) => 0,
+        Change::Open(_, _) => 0,
+        Change::Alias(_, _, _) => 0,
+        Change::Module(_, _) => 5,
+    }
+}
+
+// trie_insert's mut_leaf.
+fn insert_leaf(
+    words: &mut [u32],
+    text: &[u8],
+    records: u32,
+    trie: u32,
+    id: Span,
+    item: u32,
+) -> Built
+    requires { ⌜ Some (λ used. Leaf (now words) (now text) records used trie (Name id item)) ⌝ }
+    ensures { λ r. ⌜ LeafBuilt (now (words .entry)) (now (words .exit)) (now (text .entry)) records trie (Name id item) (r .link) (r .records) ⌝ }
+{
+    let t = memory::trie_of(words, trie);
+    let start = id.start as usize;
+    let len = id.len as usize;
+    let p = names::names_place(words, text, t.bindings, &text[start..start + len]);
+    let row = [1, id.start, id.len, 0, 0, item, 0, 0, 0, 0, 0, 0];
+    let b = names::names_insert(words, text, records, t.bindings, p.count, row);
+    let link = names::put_trie(words, b, 5, b, t.namespaces);
+    Built {
+        link: link,
+        records: link,
+    }
+}
+
+// trie_include's.
+fn include_leaf(
+    words: &mut [u32],
+    text: &[u8],
+    records: u32,
+    trie: u32,
+    label: Span,
+    inc: u32,
+) -> Built
+    requires { ⌜ Some (λ used. Leaf (now words) (now text) records used trie (Include label inc)) ⌝ }
+    ensures { λ r. ⌜ LeafBuilt (now (words .entry)) (now (words .exit)) (now (text .entry)) records trie (Include label inc) (r .link) (r .records) ⌝ }
+{
+    let t = memory::trie_of(words, trie);
+    let b = names::imported(words, records, 3, label, inc, t.bindings);
+    let link = names::put_trie(words, b, 5, b, t.namespaces);
+    Built {
+        link: link,
+        records: link,
+    }
+}
+
+// trie_open_namespace's.
+fn open_leaf(
+    words: &mut [u32],
+    text: &[u8],
+    records: u32,
+    trie: u32,
+    label: Span,
+    inc: u32,
+) -> Built
+    requires { ⌜ Some (λ used. Leaf (now words) (now text) records used trie (Open label inc)) ⌝ }
+    ensures { λ r. ⌜ LeafBuilt (now (words .entry)) (now (words .exit)) (now (text .entry)) records trie (Open label inc) (r .link) (r .records) ⌝ }
+{
+    let t = memory::trie_of(words, trie);
+    let n = names::imported(words, records, 4, label, inc, t.namespaces);
+    let link = names::put_trie(words, n, 5, t.bindings, n);
+    Built {
+        link: link,
+        records: link,
+    }
+}
+
+// trie_add_alias's: at the key a fresh trie of the included bindings alone.
+fn alias_leaf(
+    words: &mut [u32],
+    text: &[u8],
+    records: u32,
+    trie: u32,
+    key: Span,
+    label: Span,
+    inc: u32,
+) -> Built
+    requires { ⌜ Some (λ used. Leaf (now words) (now text) records used trie (Alias key label inc)) ⌝ }
+    ensures { λ r. ⌜ LeafBuilt (now (words .entry)) (now (words .exit)) (now (text .entry)) records trie (Alias key label inc) (r .link) (r .records) ⌝ }
+{
+    let t = memory::trie_of(words, trie);
+    let start = key.start as usize;
+    let len = key.len as usize;
+    let p = names::names_place(words, text, t.namespaces, &text[start..start + len]);
+    let b = names::imported(words, records, 3, label, inc, 0);
+    let scope = names::put_trie(words, b, 5, b, 0);
+    let row = [2, key.start, key.len, 0, 0, scope, 0, 0, 0, 0, 0, 0];
+    let n = names::names_insert(words, text, scope, t.namespaces, p.count, row);
+    let link = names::put_trie(words, n, 5, t.bindings, n);
+    Built {
+        link: link,
+        records: link,
+    }
+}
+
+// mut_leaf of a change.
+fn mut_leaf(words: &mut [u32], text: &[u8], records: u32, trie: u32, change: Change) -> Built
+    requires { ⌜ Some (λ used. Leaf (now words) (now text) records used trie change) ⌝ }
+    ensures { λ r. ⌜ LeafBuilt (now (words .entry)) (now (words .exit)) (now (text .entry)) records trie change (r .link) (r .records) ⌝ }
+{
+    match change {
+        Change::Name(id, item) => insert_leaf(words, text, records, trie, id, item),
+        Change::Include(label, inc) => include_leaf(words, text, records, trie, label, inc),
+        Change::Open(label, inc) => open_leaf(words, text, records, trie, label, inc),
+        Change::Alias(key, label, inc) => alias_leaf(words, text, records, trie, key, label, inc),
+        Change::Module(_, _) => Built {
+            link: trie,
+            records: records,
+        },
+    }
+}
+
+// 1 for true.
+fn flag_of(b: bool) -> u32
+    ensures { λ r. ⌜ r ≡ cond b 1 0 ⌝ }
+{
+    if b {
+        return 1;
+    }
+    0
+}
+
+// The words of the branch of a module, or of a namespace where it is not the last segment: the name from `at` on, the full name from `from` on.
+fn symbol_row(last: bool, at: u32, len: u32, from: u32, loaded: bool, path: Span) -> [u32; 12]
+    requires { ⌜ (from ≤ at) × (at + len ≤ 65536) ⌝ }
+    ensures { λ r. ⌜ r ≡ symbol-row last at len from loaded path ⌝ }
+{
+    let flag = flag_of(loaded);
+    let size = at + len - from;
+    if last {
+        return [
+            6,
+            at,
+            len,
+            0,
+            0,
+            0,
+            from,
+            size,
+            path.start,
+            path.len,
+            flag,
+            0,
+        ];
+    }
+    [6, at, len, 0, 0, 1, from, size, 0, 0, flag, 0]
+}
+
+// ins of register_module_path: a Module at the last segment, a Namespace before it where ins_ns inserts.
+fn ins(
+    words: &mut [u32],
+    text: &[u8],
+    records: u32,
+    bindings: u32,
+    from: u32,
+    at: u32,
+    len: u32,
+    end: u32,
+    loaded: bool,
+    path: Span,
+) -> Built
+    requires { ⌜ Some (λ used. Bindings (now words) (now text) records used bindings from at len end (Module loaded path)) ⌝ }
+    ensures { λ r. ⌜ BindingsBuilt (now (words .entry)) (now (words .exit)) (now (text .entry)) records bindings from at len end (Module loaded path) (r .link) (r .records) ⌝ }
+{
+    let first = at as usize;
+    let size = len as usize;
+    let p = names::names_place(words, text, bindings, &text[first..first + size]);
+    let last = at + len + 1 == end;
+    if last | lookup::ns_inserts(words, p.holder, loaded) {
+        let row = symbol_row(last, at, len, from, loaded, path);
+        let b = names::names_insert(words, text, records, bindings, p.count, row);
+        return Built {
+            link: b,
+            records: b,
+        };
+    }
+    Built {
+        link: bindings,
+        records: records,
+    }
+}
+
+// The bindings that mut_node gives a trie: only a module path changes them.
+fn mut_bindings(
+    words: &mut [u32],
+    text: &[u8],
+    records: u32,
+    bindings: u32,
+    from: u32,
+    at: u32,
+    len: u32,
+    end: u32,
+    change: Change,
+) -> Built
+    requires { ⌜ Some (λ used. Bindings (now words) (now text) records used bindings from at len end change) ⌝ }
+    ensures { λ r. ⌜ BindingsBuilt (now (words .entry)) (now (words .exit)) (now (text .entry)) records bindings from at len end change (r .link) (r .records) ⌝ }
+{
+    match change {
+        Change::Name(_, _) => Built {
+            link: bindings,
+            records: records,
+        },
+        Change::Include(_, _) => Built {
+            link: bindings,
+            records: records,
+        },
+        Change::Open(_, _) => Built {
+            link: bindings,
+            records: records,
+        },
+        Change::Alias(_, _, _) => Built {
+            link: bindings,
+            records: records,
+        },
+        Change::Module(loaded, path) => ins(
+            words,
+            text,
+            records,
+            bindings,
+            from,
+            at,
+            len,
+            end,
+            loaded,
+            path,
+        ),
+    }
+}
+
+// mut_node of a change: `namespaces` is the new list.
+fn mut_node(
+    words: &mut [u32],
+    text: &[u8],
+    records: u32,
+    trie: u32,
+    namespaces: u32,
+    from: u32,
+    at: u32,
+    len: u32,
+    end: u32,
+    change: Change,
+) -> Built
+    requires { ⌜ Some (λ used. Node (now words) (now text) records used trie namespaces from at len end change) ⌝ }
+    ensures { λ r. ⌜ NodeBuilt (now (words .entry)) (now (words .exit)) (now (text .entry)) records trie namespaces from at len end change (r .link) (r .records) ⌝ }
+{
+    let t = memory::trie_of(words, trie);
+    let b = mut_bindings(words, text, records, t.bindings, from, at, len, end, change);
+    let kinds = kinds_of(change);
+    let link = names::put_trie(words, b.records, kinds + 5, b.link, namespaces);
+    Built {
+        link: link,
+        records: link,
+    }
+}
+
+// The source's namespaces_mutate. The query begins at `from` and ends at `end`; rev_acc is what stands before `at`; the next segment has `len` bytes.
+fn namespaces_mutate(
+    words: &mut [u32],
+    text: &[u8],
+    records: u32,
+    namespaces: u32,
+    from: u32,
+    at: u32,
+    len: u32,
+    end: u32,
+    change: Change,
+) -> Built
+    requires { ⌜ Some (λ used. NamespacesMutation (now words) (now text) records used namespaces from at len end change) ⌝ }
+    ensures { λ r. ⌜ NamespacesMutated (now (words .entry)) (now (words .exit)) (now (text .entry)) records namespaces from at len end change (r .link) (r .records) ⌝ }
+{
+    let first = at as usize;
+    let size = len as usize;
+    let p = names::names_place(words, text, namespaces, &text[first..first + size]);
+    let scope = memory::stored(words, p.holder, 5);
+    let kinds = kinds_of(change);
+    let m = trie_mutate(words, text, records, scope, from, at + len + 1, end, change);
+    let row = [kinds + 2, at, len, 0, 0, m.link, 0, 0, 0, 0, 0, 0];
+    let link = names::names_insert(words, text, m.records, namespaces, p.count, row);
+    Built {
+        link: link,
+        records: link,
+    }
+}
+
+// The source's trie_mutate: the trie of `trie` changed below the segments from `at` to `end`.
+pub fn trie_mutate(
+    words: &mut [u32],
+    text: &[u8],
+    records: u32,
+    trie: u32,
+    from: u32,
+    at: u32,
+    end: u32,
+    change: Change,
+) -> Built
+    requires { ⌜ Some (λ used. Mutation (now words) (now text) records used trie from at end change) ⌝ }
+    ensures { λ r. ⌜ Mutated (now (words .entry)) (now (words .exit)) (now (text .entry)) records trie from at end change (r .link) (r .records) ⌝ }
+{
+    if at == end {
+        return mut_leaf(words, text, records, trie, change);
+    }
+    let len = segment_in(text, at, end);
+    let t = memory::trie_of(words, trie);
+    let n = namespaces_mutate(
+        words,
+        text,
+        records,
+        t.namespaces,
+        from,
+        at,
+        len,
+        end,
+        change,
+    );
+    mut_node(
+        words,
+        text,
+        n.records,
+        trie,
+        n.link,
+        from,
+        at,
+        len,
+        end,
+        change,
+    )
+}

@@ -1,0 +1,41 @@
+-- The lent run: the path to the trie at hand, and what the completion has taken.
+--
+--   number   of a run
+--   0..15    the path's links
+--   16       how many they are
+--   17       the path's length
+--   18       the path's label
+--   19..21   tries entered, lines, bytes
+use Prim.Native.Nat.{ℕ, _<_}
+use mathlib.Core.Path.{_≡_}
+use mathlib.Core.List.{List}
+use lib.ListN.{length, getD}
+use Rattle.lines.specs.Path.{Path}
+use Rattle.lines.specs.Output.{Tally}
+use Rattle.lines.specs.declared.Limits.{Limits}
+use Rattle.lines.specs.declared.Task.{Task}
+
+abbrev pub path-in : List ℕ → Path
+path-in run = record { links = run; n = getD run 16 0; len = getD run 17 0; label = getD run 18 0 }
+
+abbrev pub tally-in : List ℕ → Tally
+tally-in run = record { entered = getD run 19 0; lines = getD run 20 0; bytes = getD run 21 0 }
+
+-- The path is as it was.
+pub record SamePath (run run′ : List ℕ) : Type 0 where
+  pub size : length run′ ≡ length run
+  pub links : (j : ℕ) → j < getD run 16 0 → getD run′ j 0 ≡ getD run j 0
+  pub count : getD run′ 16 0 ≡ getD run 16 0
+  pub len-is : getD run′ 17 0 ≡ getD run 17 0
+  pub label-is : getD run′ 18 0 ≡ getD run 18 0
+
+-- A line to list: its path and branch, what matched, what the completion may take and what it has taken.
+pub record Job : Type 0 where
+  pub path : Path
+  pub branch : ℕ
+  pub matched : ℕ
+  pub lim : Limits
+  pub tally : Tally
+
+abbrev pub job-in : Task → ℕ → List ℕ → Job
+job-in k branch run = record { path = path-in run; branch = branch; matched = k .matched; lim = k .lim; tally = tally-in run }

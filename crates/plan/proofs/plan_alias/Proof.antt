@@ -1,0 +1,35 @@
+-- plan_alias meets its contract.
+use Rattle.names.proofs.Collections.{list-light}
+use Rattle.memory.proofs.Tries.{bindings-at}
+use Rattle.lookup.proofs.Links.{any-namespaces}
+use Rattle.plan.proofs.Plans.{placed-small, alias-planned}
+use native.Mathlib.Omega.{arith}
+use borrow.Author.Needs.{needs}
+use Rattle.plan.proofs.plan_alias.Statement.{statement}
+use Rattle.plan.proofs.plan_alias.Tie as tie
+use Rattle.memory.proofs.At.{at-fits}
+
+pub plan-alias-spec : {M : Type 1} → statement M
+plan-alias-spec =
+    tie.close
+    (tie.spec
+    {- plan-path-requires -}
+    (λ c κs. search needs)
+    {- trie-of-requires -}
+    (λ c κs. at-fits (c .plan-path .ensures .here))
+    {- trie-of-requires-2 -}
+    (λ c κs. at-fits (c .before .before .before .before .before .before .pre .0 .1))
+    {- names-place-requires -}
+    (λ c κs. any-namespaces (c .before .before .plan-path .ensures .here) (c .before .trie-of .ensures))
+    {- stored-requires -}
+    (λ c κs. omega (arith, at-fits (bindings-at (c .before .before .before .before .before .before .before .before .pre .0 .1) (c .before .trie-of2 .ensures))))
+    {- add-weight -}
+    (λ c. omega (arith, list-light (bindings-at (c .before .before .before .before .before .before .before .before .before .pre .0 .1) (c .before .before .trie-of2 .ensures)), c .stored .ensures))
+    {- add-t12 -}
+    (λ c. omega (arith, placed-small (any-namespaces (c .before .before .before .before .before .plan-path .ensures .here) (c .before .before .before .before .trie-of .ensures)) (c .before .before .names-place .ensures)))
+    {- add-t13 -}
+    (λ c. omega (arith, placed-small (any-namespaces (c .before .before .before .before .before .before .plan-path .ensures .here) (c .before .before .before .before .before .trie-of .ensures)) (c .before .before .before .names-place .ensures), c .before .before .before .before .before .before .plan-path .ensures .few, c .before .before .before .before .before .before .plan-path .ensures .gives .small))
+    {- add-t18 -}
+    (λ c. omega (arith, c .before .before .before .before .before .before .before .before .before .plan-path .ensures .few))
+    {- returns -}
+    (λ c tbl q e f. alias-planned _ (c .before .before .before .before .before .before .before .before .before .plan-path .ensures) (c .before .before .before .before .before .before .before .before .trie-of .ensures) tbl e (c .before .before .before .before .before .before .before .before .before .before .before .before .before .before .pre .0 .1) (c .before .before .before .before .before .before .before .trie-of2 .ensures) q f (c .before .before .before .before .before .before .names-place .ensures) (c .before .before .before .before .before .stored .ensures)))

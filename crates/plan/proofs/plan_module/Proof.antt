@@ -1,0 +1,64 @@
+-- plan_module meets its contract: each step adds what it builds.
+use Prim.Native.Nat.{_-_}
+use lib.ListN.{length}
+use Rattle.source.specs.Text.{segments}
+use Rattle.source.specs.Plans.{module-step-records, module-step-weight}
+use Rattle.memory.specs.Layout.{modules, trieˢ, what}
+use Rattle.plan.specs.Plans.{Steps}
+use Rattle.lookup.proofs.Lookups.{Stands, stands-first, stands-last}
+use Rattle.plan.proofs.Plans.{steps-first, path-few, module-path-next, module-planned}
+use native.Mathlib.Omega.{arith}
+use borrow.Author.Needs.{needs}
+use Rattle.plan.proofs.plan_module.Statement.{statement}
+use Rattle.plan.proofs.plan_module.Tie as tie
+
+pub plan-module-spec : {M : Type 1} → statement M
+plan-module-spec =
+    tie.close
+    (tie.spec
+    (λ words text root query loaded link₀ at₀ segs₀ records₀ crowded₀ link at segs records crowded. Stands words text modules query root link at (Steps (module-step-records loaded) (module-step-weight loaded) (what modules words text root trieˢ) (segments query) segs records crowded))
+    (λ words text root query loaded link₀ at₀ segs₀ records₀ crowded₀ link at segs records crowded. length query - at)
+    {- loop-holds -}
+    (λ c. stands-first _ (c .before .before .before .pre .1 .0) (c .before .before .before .pre .0) steps-first)
+    {- segment-at-requires -}
+    (λ c κs. (c .loop-test .taken, c .before .loop .inv .ends))
+    {- add-last -}
+    (λ c. search needs)
+    {- add-last-2 -}
+    (λ c. search needs)
+    {- add-plan-step -}
+    (λ c. search needs)
+    {- sub-plan-step -}
+    (λ c. search needs)
+    {- part-plan-step-start -}
+    (λ c. search needs)
+    {- part-plan-step-end -}
+    (λ c. search needs)
+    {- plan-step-requires -}
+    (λ c κs. record { which = modules; trie = c .before .before .before .loop .inv .here })
+    {- add-plan-ins -}
+    (λ c. search needs)
+    {- sub-plan-ins -}
+    (λ c. search needs)
+    {- part-plan-ins-start -}
+    (λ c. search needs)
+    {- part-plan-ins-end -}
+    (λ c. search needs)
+    {- plan-ins-requires -}
+    (λ c κs. c .before .before .before .before .before .loop .inv .here)
+    {- add-at -}
+    (λ c. search needs)
+    {- add-at-2 -}
+    (λ c. search needs)
+    {- add-segments -}
+    (λ c. omega (arith, path-few (c .before .before .before .before .before .before .loop .inv) (c .before .before .before .before .segment-at .ensures), c .before .before .before .before .before .before .before .before .before .before .pre .1 .1))
+    {- add-records -}
+    (λ c. omega (arith, c .before .before .before .before .plan-step .ensures modules (c .before .before .before .before .before .before .before .before .loop .inv .here) .small, c .before .before .plan-ins .ensures .small))
+    {- add-records-2 -}
+    (λ c. omega (arith, path-few (c .before .before .before .before .before .before .before .before .loop .inv) (c .before .before .before .before .before .before .segment-at .ensures), c .before .before .before .before .before .before .before .before .before .before .before .before .pre .1 .1, c .before .before .before .before .before .before .before .before .loop .inv .says .small, c .before .before .before .before .plan-step .ensures modules (c .before .before .before .before .before .before .before .before .loop .inv .here) .small, c .before .before .plan-ins .ensures .small))
+    {- loop-less -}
+    (λ c. search needs)
+    {- loop-again -}
+    (λ c. module-path-next (c .before .before .before .before .before .before .before .before .before .before .loop .inv) (c .before .before .before .before .before .before .before .before .segment-at .ensures) (c .before .before .before .before .before .before .plan-step .ensures) (c .before .before .before .before .plan-ins .ensures))
+    {- returns -}
+    (λ c tbl path e. module-planned _ path tbl (stands-last (c .before .loop .inv) (c .loop-test .left)) e))

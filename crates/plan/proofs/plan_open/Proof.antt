@@ -1,0 +1,34 @@
+-- plan_open meets its contract.
+use Rattle.names.proofs.Collections.{list-light}
+use Rattle.memory.proofs.Tries.{namespaces-at, lists-seen, trie-shallow}
+use Rattle.plan.proofs.Plans.{open-planned}
+use native.Mathlib.Omega.{arith}
+use borrow.Author.Needs.{needs}
+use Rattle.plan.proofs.plan_open.Statement.{statement}
+use Rattle.plan.proofs.plan_open.Tie as tie
+use Rattle.memory.proofs.At.{at-fits}
+
+pub plan-open-spec : {M : Type 1} → statement M
+plan-open-spec =
+    tie.close
+    (tie.spec
+    {- plan-path-requires -}
+    (λ c κs. search needs)
+    {- trie-of-requires -}
+    (λ c κs. at-fits (c .plan-path .ensures .here))
+    {- trie-of-requires-2 -}
+    (λ c κs. at-fits (c .before .before .before .before .before .pre .0 .1))
+    {- stored-requires -}
+    (λ c κs. omega (arith, at-fits (namespaces-at (c .before .before .before .before .before .before .pre .0 .1) (c .trie-of2 .ensures))))
+    {- stored-requires-2 -}
+    (λ c κs. omega (arith, at-fits (namespaces-at (c .before .before .before .plan-path .ensures .here) (c .before .before .trie-of .ensures))))
+    {- add-weight -}
+    (λ c. omega (arith, list-light (namespaces-at (c .before .before .before .before .plan-path .ensures .here) (c .before .before .before .trie-of .ensures)), list-light (namespaces-at (c .before .before .before .before .before .before .before .before .pre .0 .1) (c .before .before .trie-of2 .ensures)), c .before .stored .ensures, c .stored2 .ensures))
+    {- add-weight-2 -}
+    (λ c. omega (arith, list-light (namespaces-at (c .before .before .before .before .plan-path .ensures .here) (c .before .before .before .trie-of .ensures)), list-light (namespaces-at (c .before .before .before .before .before .before .before .before .pre .0 .1) (c .before .before .trie-of2 .ensures)), c .before .stored .ensures, c .stored2 .ensures))
+    {- add-t10 -}
+    (λ c. omega (arith, c .before .before .before .before .before .plan-path .ensures .few, c .before .before .before .before .before .plan-path .ensures .gives .small))
+    {- add-t12 -}
+    (λ c. omega (arith, c .before .before .before .before .before .before .before .before .plan-path .ensures .few, lists-seen (c .before .before .before .before .before .before .before .before .before .before .before .before .pre .0 .1) (c .before .before .before .before .before .before .trie-of2 .ensures) .deep, trie-shallow (c .before .before .before .before .before .before .before .before .before .before .before .before .pre .0 .1)))
+    {- returns -}
+    (λ c tbl q e f. open-planned _ (c .before .before .before .before .before .before .before .before .plan-path .ensures) (c .before .before .before .before .before .before .before .trie-of .ensures) tbl e (c .before .before .before .before .before .before .before .before .before .before .before .before .pre .0 .1) (c .before .before .before .before .before .before .trie-of2 .ensures) q f (c .before .before .before .before .before .stored .ensures) (c .before .before .before .before .stored2 .ensures)))

@@ -1,0 +1,22 @@
+-- plan_step meets its contract.
+use Rattle.lookup.proofs.Links.{any-namespaces, holder-fits}
+use Rattle.plan.proofs.Plans.{placed-small, stepped}
+use native.Mathlib.Omega.{arith}
+use Rattle.plan.proofs.plan_step.Statement.{statement}
+use Rattle.plan.proofs.plan_step.Tie as tie
+use Rattle.memory.proofs.At.{at-fits}
+
+pub plan-step-spec : {M : Type 1} → statement M
+plan-step-spec =
+    tie.close
+    (tie.spec
+    {- trie-of-requires -}
+    (λ c κs. at-fits (c .before .before .before .pre .trie))
+    {- names-place-requires -}
+    (λ c κs. any-namespaces (c .before .before .before .before .pre .trie) (c .trie-of .ensures))
+    {- stored-requires -}
+    (λ c κs. omega (arith, holder-fits (any-namespaces (c .before .before .before .before .before .pre .trie) (c .before .trie-of .ensures)) (c .names-place .ensures .found)))
+    {- add-t8 -}
+    (λ c. omega (arith, placed-small (any-namespaces (c .before .before .before .before .before .before .before .pre .trie) (c .before .before .before .trie-of .ensures)) (c .before .before .names-place .ensures)))
+    {- returns -}
+    (λ c w t. stepped t (c .before .before .before .before .trie-of .ensures) (c .before .before .before .names-place .ensures) (c .before .before .stored .ensures)))

@@ -1,0 +1,196 @@
+// Planning: the records that a registration would build, and whether a list would be too heavy or a root too deep.
+// It goes down the host's path and reads what stands there; nothing is written.
+ghost use mathlib.Core.Path.{_≡_};
+ghost use mathlib.Core.Bool.{true};
+ghost use Prim.Native.Nat.{_≤_};
+ghost use lib.ListN.{length};
+ghost use Rattle.source.specs.Text.{segments, ends-in-dot};
+ghost use Rattle.memory.specs.Layout.{names, modules, trieˢ};
+ghost use Rattle.memory.specs.Sound.{At};
+ghost use Rattle.lookup.specs.Tries.{AnyTrie};
+ghost use Rattle.plan.specs.Plans.{Stepped, Inserted, Path, NamePlanned, IncludePlanned, OpenPlanned, AliasPlanned, ModulePlanned};
+
+// One step down the path of a host: the trie that it goes to, the records that it builds, whether its new list weighs over 96.
+struct Step {
+    link: u32,
+    records: u32,
+    crowded: bool,
+}
+
+fn plan_step(words: &[u32], text: &[u8], trie: u32, s: &[u8]) -> Step
+    requires { ⌜ AnyTrie (now words) (now text) trie ⌝ }
+    ensures { λ r. ⌜ Stepped (now (words .entry)) (now (text .entry)) trie (now (s .entry)) (r .link) (r .records) (r .crowded) ⌝ }
+{
+    let t = memory::trie_of(words, trie);
+    let p = names::names_place(words, text, t.namespaces, s);
+    Step {
+        link: memory::stored(words, p.holder, 5),
+        records: p.count + 2,
+        crowded: 96 < p.weight,
+    }
+}
+
+// The host of a query: its trie, the number of segments, and what the steps down to it make.
+struct Walk {
+    link: u32,
+    segments: u32,
+    records: u32,
+    crowded: bool,
+}
+
+fn plan_path(words: &[u32], text: &[u8], root: u32, host: &[u8]) -> Walk
+    requires { ⌜ At (now words) (now text) names trieˢ root ⌝ }
+    requires { ⌜ (ends-in-dot (now host) ≡ true) × (length (segments (now host)) ≤ 17) ⌝ }
+    ensures { λ r. ⌜ Path (now (words .entry)) (now (text .entry)) root (segments (now (host .entry))) (r .link) (r .segments) (r .records) (r .crowded) ⌝ }
+{
+    let mut link = root;
+    let mut at = 0;
+    let mut segments = 0;
+    let mut records = 0;
+    let mut crowded = false;
+    while at < host.len() {
+        let n = lookup::segment_at(host, at);
+        let s = plan_step(words, text, link, &host[at..at + n]);
+        link = s.link;
+        at = at + n + 1;
+        segments = segments + 1;
+        records = records + s.records;
+        crowded = crowded | s.crowded;
+    }
+    Walk {
+        link: link,
+        segments: segments,
+        records: records,
+        crowded: crowded,
+    }
+}
+
+// What a call would make: the records that it builds, whether some new list weighs over 96, whether the new root is over 16 deep.
+pub struct Plan {
+    pub records: u32,
+    pub crowded: bool,
+    pub deep: bool,
+}
+
+// The plan of a name.
+pub fn plan_name(words: &[u32], text: &[u8], root: u32, host: &[u8], id: &[u8]) -> Plan
+    requires { ⌜ At (now words) (now text) names trieˢ root ⌝ }
+    requires { ⌜ (ends-in-dot (now host) ≡ true) × (length (segments (now host)) ≤ 17) ⌝ }
+    ensures { λ r. ⌜ NamePlanned (now (words .entry)) (now (text .entry)) root (now (host .entry)) (now (id .entry)) r ⌝ }
+{
+    let p = plan_path(words, text, root, host);
+    let t = memory::trie_of(words, p.link);
+    let b = names::names_place(words, text, t.bindings, id);
+    Plan {
+        records: p.records + (b.count + 2),
+        crowded: p.crowded | (96 < b.weight),
+        deep: 16 < p.segments,
+    }
+}
+
+// The plan of an include, and of an open of a module. The included trie is `inc`.
+pub fn plan_include(words: &[u32], text: &[u8], root: u32, host: &[u8], inc: u32) -> Plan
+    requires { ⌜ At (now words) (now text) names trieˢ root × At (now words) (now text) names trieˢ inc ⌝ }
+    requires { ⌜ (ends-in-dot (now host) ≡ true) × (length (segments (now host)) ≤ 17) ⌝ }
+    ensures { λ r. ⌜ IncludePlanned (now (words .entry)) (now (text .entry)) root inc (now (host .entry)) r ⌝ }
+{
+    let p = plan_path(words, text, root, host);
+    let t = memory::trie_of(words, p.link);
+    let i = memory::trie_of(words, inc);
+    let weight = memory::stored(words, i.bindings, 10) + memory::stored(words, t.bindings, 10) + 1;
+    Plan {
+        records: p.records + 2,
+        crowded: p.crowded | (96 < weight),
+        deep: 16 < p.segments,
+    }
+}
+
+// The plan of an open of a namespace. The included trie is `inc`.
+pub fn plan_open(words: &[u32], text: &[u8], root: u32, host: &[u8], inc: u32) -> Plan
+    requires { ⌜ At (now words) (now text) names trieˢ root × At (now words) (now text) names trieˢ inc ⌝ }
+    requires { ⌜ (ends-in-dot (now host) ≡ true) × (length (segments (now host)) ≤ 17) ⌝ }
+    ensures { λ r. ⌜ OpenPlanned (now (words .entry)) (now (text .entry)) root inc (now (host .entry)) r ⌝ }
+{
+    let p = plan_path(words, text, root, host);
+    let t = memory::trie_of(words, p.link);
+    let i = memory::trie_of(words, inc);
+    let weight = memory::stored(words, i.namespaces, 10)
+        + memory::stored(words, t.namespaces, 10)
+        + 1;
+    Plan {
+        records: p.records + 2,
+        crowded: p.crowded | (96 < weight),
+        deep: 16 < p.segments + i.depth,
+    }
+}
+
+// The plan of an alias. The included trie is `inc`.
+pub fn plan_alias(words: &[u32], text: &[u8], root: u32, key: &[u8], host: &[u8], inc: u32) -> Plan
+    requires { ⌜ At (now words) (now text) names trieˢ root × At (now words) (now text) names trieˢ inc ⌝ }
+    requires { ⌜ (ends-in-dot (now host) ≡ true) × (length (segments (now host)) ≤ 17) ⌝ }
+    ensures { λ r. ⌜ AliasPlanned (now (words .entry)) (now (text .entry)) root inc (now (key .entry)) (now (host .entry)) r ⌝ }
+{
+    let p = plan_path(words, text, root, host);
+    let t = memory::trie_of(words, p.link);
+    let i = memory::trie_of(words, inc);
+    let a = names::names_place(words, text, t.namespaces, key);
+    let weight = memory::stored(words, i.bindings, 10) + 1;
+    Plan {
+        records: p.records + (a.count + 4),
+        crowded: p.crowded | ((96 < a.weight) | (96 < weight)),
+        deep: 16 < p.segments + 1,
+    }
+}
+
+// What ins makes of the bindings of a trie: the records that it builds, whether its new list weighs over 96.
+struct Insertion {
+    records: u32,
+    crowded: bool,
+}
+
+fn plan_ins(words: &[u32], text: &[u8], trie: u32, s: &[u8], last: bool, loaded: bool) -> Insertion
+    requires { ⌜ At (now words) (now text) modules trieˢ trie ⌝ }
+    ensures { λ r. ⌜ Inserted (now (words .entry)) (now (text .entry)) trie (now (s .entry)) last loaded (r .records) (r .crowded) ⌝ }
+{
+    let t = memory::trie_of(words, trie);
+    let p = names::names_place(words, text, t.bindings, s);
+    if last | lookup::ns_inserts(words, p.holder, loaded) {
+        return Insertion {
+            records: p.count + 1,
+            crowded: 96 < p.weight,
+        };
+    }
+    Insertion {
+        records: 0,
+        crowded: false,
+    }
+}
+
+// The plan of a module path.
+pub fn plan_module(words: &[u32], text: &[u8], root: u32, query: &[u8], loaded: bool) -> Plan
+    requires { ⌜ At (now words) (now text) modules trieˢ root ⌝ }
+    requires { ⌜ (ends-in-dot (now query) ≡ true) × (length (segments (now query)) ≤ 17) ⌝ }
+    ensures { λ r. ⌜ ModulePlanned (now (words .entry)) (now (text .entry)) root loaded (now (query .entry)) r ⌝ }
+{
+    let mut link = root;
+    let mut at = 0;
+    let mut segments: u32 = 0;
+    let mut records = 0;
+    let mut crowded = false;
+    while at < query.len() {
+        let n = lookup::segment_at(query, at);
+        let last = at + n + 1 == query.len();
+        let s = plan_step(words, text, link, &query[at..at + n]);
+        let b = plan_ins(words, text, link, &query[at..at + n], last, loaded);
+        link = s.link;
+        at = at + n + 1;
+        segments = segments + 1;
+        records = records + (s.records + b.records);
+        crowded = crowded | (s.crowded | b.crowded);
+    }
+    Plan {
+        records: records,
+        crowded: crowded,
+        deep: 16 < segments,
+    }
+}

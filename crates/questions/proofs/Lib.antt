@@ -1,0 +1,2 @@
+pub mod RowReplies
+pub mod Shown

@@ -1,0 +1,50 @@
+-- What a look-up and a completion reply, from the source's functions and document 01's replies.
+use Prim.Native.Nat.{ℕ}
+use mathlib.Core.Bool.{true}
+use mathlib.Core.List.{List, [], _∷_}
+use lib.ListN.{length}
+use Rattle.source.specs.Table as S
+use Rattle.source.specs.Table.{Line}
+use Rattle.source.specs.Calls as C
+use Rattle.source.specs.Calls.{Output, look-up, complete, complete-modules}
+use Rattle.memory.specs.Layout.{Which, names, modules, Item}
+use Rattle.script.specs.Script.{Str, _·_}
+use Rattle.script.specs.declared.Ask.{Ask}
+use Rattle.script.specs.declared.Ask.the-variants.{Find, Complete, Modules}
+use Rattle.replies.specs.declared.ItemReply.{ItemReply}
+use Rattle.replies.specs.declared.ItemReply.the-variants.{Number, Module, Namespace}
+use Rattle.replies.specs.Replies.{found-reply, none-reply, refused-reply, line-reply, end-reply}
+
+-- Document 01's budget of a completion.
+abbrev pub budget : ℕ
+budget = 4096
+
+abbrev pub found-text : C.Found ℕ → Str
+found-text (C.found n) = found-reply n
+found-text C.not-found = none-reply
+found-text (C.refused n) = refused-reply n
+
+-- The item of a line: its number in `complete`, m or n in `modules`.
+abbrev pub item-reply : (w : Which) → Item w → ItemReply
+item-reply names n = Number n
+item-reply modules (S.Module full path loaded) = Module
+item-reply modules (S.Namespace full loaded) = Namespace
+
+-- One `[line ..]`.
+unfoldable pub line-text : (w : Which) → Line (Item w) → Str
+line-text w l = line-reply (l .match-length) (item-reply w (l .item-of)) (l .annotation) (l .candidate)
+
+-- One after another.
+unfoldable pub lines-text : (w : Which) → List (Line (Item w)) → Str
+lines-text w [] = []
+lines-text w (l ∷ ls) = line-text w l · lines-text w ls
+
+-- The lines, then `[end lines entered]`.
+abbrev pub completed-text : (w : Which) → C.Completed (Item w) → Str
+completed-text w (C.listed lines entered) = lines-text w lines · end-reply (length lines) entered
+completed-text w (C.refused n) = refused-reply n
+
+abbrev pub asked-text : Output → S.Table → Ask → Str → Str
+asked-text out tbl Find q = found-text (look-up true (tbl .tbl-lids) q)
+asked-text out tbl Complete q = completed-text names (complete true tbl budget out q)
+asked-text out tbl Modules q = completed-text modules (complete-modules true tbl C.All budget out q)

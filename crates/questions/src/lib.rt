@@ -1,0 +1,184 @@
+// The line of a question answered: a look-up or a completion of a table whose memory is sound by proof, and its reply.
+use memory::ModSymbol;
+use replies::ItemReply;
+use rows::Row;
+use rows::RowItem;
+use table::Completed;
+use table::Found;
+use table::Table;
+ghost use mathlib.Core.Path.{_≡_};
+ghost use mathlib.Core.Bool.{true};
+ghost use Prim.Native.Nat.{_+_, _≤_};
+ghost use lib.ListN.{length};
+ghost use Rattle.text.specs.Laid.{Laid};
+ghost use Rattle.replies.specs.Replies.{reply-room};
+ghost use Rattle.lines.specs.Ask.{asked};
+ghost use Rattle.rows.specs.Rows.{TextsIn, words-from};
+ghost use Rattle.listing.specs.Completes.{output};
+ghost use Rattle.table.specs.Header.{IsSound, table-in};
+ghost use Rattle.table.specs.Answers.{name-found};
+ghost use Rattle.table.specs.Completions.{completion};
+ghost use Rattle.questions.specs.Questions.{found-text, completed-text, asked-text};
+ghost use Rattle.questions.specs.RowReplies.{item-shown, row-room, row-text, RowsIn, rows-room, rows-text, room, Shown, shown-text};
+
+// Writes the reply to a look-up.
+fn put_found(reply: &mut [u8], at: usize, f: Found) -> usize
+    requires { ⌜ at + reply-room ≤ length (now reply) ⌝ }
+    ensures { λ e. ⌜ Laid (now (reply .entry)) (now (reply .exit)) at e (found-text (name-found f)) ⌝ }
+{
+    match f {
+        Found::Item(n) => replies::put_found(reply, at, n),
+        Found::Nothing => replies::put_none(reply, at),
+        Found::Refused(x) => {
+            let n = refusals::number(x);
+            replies::put_refused(reply, at, n)
+        }
+    }
+}
+
+// The item of a row, as a reply has it.
+fn item_reply(item: RowItem) -> ItemReply
+    ensures { λ r. ⌜ r ≡ item-shown item ⌝ }
+{
+    match item {
+        RowItem::Name(n) => ItemReply::Number(n),
+        RowItem::Symbol(s) => match s {
+            ModSymbol::Module(name, path, loaded) => ItemReply::Module,
+            ModSymbol::Namespace(name, loaded) => ItemReply::Namespace,
+        },
+    }
+}
+
+// Writes the reply of a row, whose texts are in `pane`.
+fn put_row(row: Row, pane: &[u8], reply: &mut [u8], at: usize) -> usize
+    requires { ⌜ TextsIn (now pane) row ⌝ }
+    requires { ⌜ at + row-room row ≤ length (now reply) ⌝ }
+    ensures { λ e. ⌜ Laid (now (reply .entry)) (now (reply .exit)) at e (row-text (now (pane .entry)) row) × (e ≤ at + row-room row) ⌝ }
+{
+    let held = row.item;
+    let item = item_reply(held);
+    let note = row.annotation;
+    let candidate = row.candidate;
+    replies::put_row(
+        reply,
+        at,
+        row.matched,
+        item,
+        rows::text_of(pane, note),
+        rows::text_of(pane, candidate),
+    )
+}
+
+// Writes the replies of the first `n` rows.
+fn put_rows(
+    flat: &[u32],
+    pane: &[u8],
+    ask: lines::Ask,
+    n: usize,
+    reply: &mut [u8],
+    at: usize,
+) -> usize
+    requires { ⌜ RowsIn (asked ask) (now flat) (now pane) n ⌝ }
+    requires { ⌜ at + rows-room (asked ask) (words-from (now flat) 0 n) ≤ length (now reply) ⌝ }
+    ensures { λ e. ⌜ Laid (now (reply .entry)) (now (reply .exit)) at e (rows-text (asked ask) (now (pane .entry)) (words-from (now (flat .entry)) 0 n)) × (e ≤ at + rows-room (asked ask) (words-from (now (flat .entry)) 0 n)) ⌝ }
+{
+    let mut e = at;
+    let mut i = 0;
+    while i < n {
+        let r = rows::row_at(flat, i, ask);
+        e = put_row(r, pane, reply, e);
+        i += 1;
+    }
+    e
+}
+
+// Writes the reply to a completion, whose lines stand in `flat` and `pane`.
+fn put_completed(
+    flat: &[u32],
+    pane: &[u8],
+    ask: lines::Ask,
+    c: Completed,
+    reply: &mut [u8],
+    at: usize,
+) -> usize
+    requires { ⌜ Shown (asked ask) (now flat) (now pane) c ⌝ }
+    requires { ⌜ at + room (now flat) (now pane) ≤ length (now reply) ⌝ }
+    ensures { λ e. ⌜ Laid (now (reply .entry)) (now (reply .exit)) at e (shown-text (asked ask) (now (flat .entry)) (now (pane .entry)) c) ⌝ }
+{
+    match c {
+        Completed::Listed(lines, entered) => {
+            let e = put_rows(flat, pane, ask, lines as usize, reply, at);
+            replies::put_end(reply, e, lines, entered)
+        }
+        Completed::Refused(x) => {
+            let n = refusals::number(x);
+            replies::put_refused(reply, at, n)
+        }
+    }
+}
+
+// `[complete [q]]`, `[modules [q]]`
+fn complete_line(
+    table: Table,
+    words: &[u32],
+    text: &[u8],
+    ask: lines::Ask,
+    query: &[u8],
+    flat: &mut [u32],
+    pane: &mut [u8],
+    reply: &mut [u8],
+    at: usize,
+) -> usize
+    requires { ⌜ IsSound (now words) (now text) table ⌝ }
+    requires { ⌜ at + room (now flat) (now pane) ≤ length (now reply) ⌝ }
+    ensures { λ e. ⌜ Laid (now (reply .entry)) (now (reply .exit)) at e (completed-text (asked ask) (completion true (table-in (now (words .entry)) (now (text .entry)) table) ask 4096 (output (now (flat .entry)) (now (pane .entry))) (now (query .entry)))) ⌝ }
+{
+    let c = table.complete_sound(words, text, ask, query, 4096, flat, pane);
+    put_completed(flat, pane, ask, c, reply, at)
+}
+
+// `[find [q]]`, `[complete [q]]`, `[modules [q]]`
+pub fn ask_line(
+    table: Table,
+    words: &[u32],
+    text: &[u8],
+    what: script::Ask,
+    query: &[u8],
+    flat: &mut [u32],
+    pane: &mut [u8],
+    reply: &mut [u8],
+    at: usize,
+) -> usize
+    requires { ⌜ IsSound (now words) (now text) table ⌝ }
+    requires { ⌜ at + room (now flat) (now pane) ≤ length (now reply) ⌝ }
+    ensures { λ e. ⌜ Laid (now (reply .entry)) (now (reply .exit)) at e (asked-text (output (now (flat .entry)) (now (pane .entry))) (table-in (now (words .entry)) (now (text .entry)) table) what (now (query .entry))) ⌝ }
+{
+    match what {
+        script::Ask::Find => {
+            let f = table.find_sound(words, text, query);
+            put_found(reply, at, f)
+        }
+        script::Ask::Complete => complete_line(
+            table,
+            words,
+            text,
+            lines::Ask::Names,
+            query,
+            flat,
+            pane,
+            reply,
+            at,
+        ),
+        script::Ask::Modules => complete_line(
+            table,
+            words,
+            text,
+            lines::Ask::Modules(lines::Filter::All),
+            query,
+            flat,
+            pane,
+            reply,
+            at,
+        ),
+    }
+}

@@ -1,0 +1,74 @@
+-- The flags of a call's arguments and rows 1 to 4 by them; the first row that is met, where rows are two lots.
+use Prim.Native.Nat.{ℕ}
+use mathlib.Core.Path.{_≡_, refl, sym, ap, _∙_}
+use mathlib.Core.Bool.{Bool, true, false, not, _||_, or-false}
+use mathlib.Core.List.{List, [], _∷_, _++_}
+use mathlib.Core.Option.{none, some, Option·none-ne-some}
+use borrow.Author.Tests.{not-false}
+use Rattle.source.specs.Text.{Str, ends-in-dot}
+use Rattle.source.specs.Calls.{Argument, a-query, any, bad-query, malformed, empty-name, too-long, Row, _when_, lowest, argument-rows}
+use Rattle.source.proofs.Queries.{or-parts}
+use Rattle.refusals.specs.Refusals.{number, row-of}
+use Rattle.refusals.specs.Rows.{Flagged, AllFlagged, no-flags, both-flags, flag-rows}
+use Rattle.refusals.specs.declared.Flags.{Flags}
+use Rattle.refusals.specs.declared.Refusal.{Refusal}
+use Rattle.refusals.specs.declared.Admission.{Admission}
+use Rattle.refusals.specs.declared.Admission.the-variants.{Admitted, Refused}
+
+pub one-flagged : {a : Argument} {f : Flags} → Flagged a f → AllFlagged (a ∷ []) f
+unfolding any
+one-flagged h = record { malformed = rw or-false (h .malformed); empty = rw or-false (h .empty); long = rw or-false (h .long) }
+
+pub none-flagged : AllFlagged [] no-flags
+unfolding any
+none-flagged = record { malformed = refl; empty = refl; long = refl }
+
+pub any-append : (p : Argument → Bool) (xs ys : List Argument) → any p (xs ++ ys) ≡ any p xs || any p ys
+unfolding any
+any-append p [] ys = refl
+any-append p (a ∷ xs) ys = go (p a) (any-append p xs ys)
+  where
+    go : (b : Bool) → any p (xs ++ ys) ≡ any p xs || any p ys → b || any p (xs ++ ys) ≡ (b || any p xs) || any p ys
+    go true e = refl
+    go false e = e
+
+pub both-flagged : {xs ys : List Argument} {f g : Flags} → AllFlagged xs f → AllFlagged ys g → AllFlagged (xs ++ ys) (both-flags f g)
+both-flagged {xs} {ys} h i = record {
+  malformed = rw (any-append malformed xs ys, h .malformed, i .malformed);
+  empty = rw (any-append empty-name xs ys, h .empty, i .empty);
+  long = rw (any-append too-long xs ys, h .long, i .long);
+}
+
+-- A query that is not malformed ends in a dot.
+pub query-ends : (s : Str) → malformed (a-query s) ≡ false → ends-in-dot s ≡ true
+unfolding malformed bad-query
+query-ends s h = not-false (ends-in-dot s) (or-parts (not (ends-in-dot s)) _ h .0)
+
+rows-by-flags : {args : List Argument} {f : Flags} → AllFlagged args f → _≡_ {A = List Row} ((2 when any malformed args) ∷ (3 when any empty-name args) ∷ (4 when any too-long args) ∷ []) (flag-rows f)
+rows-by-flags h = rw (h .malformed, h .empty, h .long)
+
+-- Rows 1 to 4 of a sound memory.
+pub rows-of : {args : List Argument} {f : Flags} → AllFlagged args f → lowest (argument-rows true args) ≡ lowest (flag-rows f)
+unfolding lowest argument-rows
+rows-of h = ap lowest (rows-by-flags h)
+
+-- A call that admit lets through, and one that it refuses.
+module _ {args : List Argument} {f : Flags} {a : Admission} (h : AllFlagged args f) (e : row-of a ≡ lowest (flag-rows f)) where
+  pub passes : a ≡ Admitted → lowest (argument-rows true args) ≡ none
+  passes k = rows-of h ∙ sym (rw k at e)
+
+  pub stops : {x : Refusal} → a ≡ Refused x → lowest (argument-rows true args) ≡ some (number x)
+  stops k = rows-of h ∙ sym (rw k at e)
+
+-- ---- Two lots of rows
+pub lowest-stops : (xs ys : List Row) {n : ℕ} → lowest xs ≡ some n → lowest (xs ++ ys) ≡ some n
+unfolding lowest
+lowest-stops [] ys e = absurd (Option·none-ne-some _ e)
+lowest-stops ((k when true) ∷ xs) ys e = e
+lowest-stops ((k when false) ∷ xs) ys e = lowest-stops xs ys e
+
+pub lowest-past : (xs ys : List Row) → lowest xs ≡ none → lowest (xs ++ ys) ≡ lowest ys
+unfolding lowest
+lowest-past [] ys e = refl
+lowest-past ((k when true) ∷ xs) ys e = absurd (Option·none-ne-some _ (sym e))
+lowest-past ((k when false) ∷ xs) ys e = lowest-past xs ys e

@@ -1,0 +1,15 @@
+-- completion_flags meets its contract, by the survey.
+use borrow.Author.Needs.{needs}
+use Rattle.source.specs.Calls.{malformed, empty-name, too-long}
+use Rattle.refusals.proofs.completion_flags.Statement.{statement}
+use Rattle.refusals.proofs.completion_flags.Tie as tie
+
+pub completion-flags-spec : {M : Type 1} → statement M
+unfolding malformed empty-name too-long
+completion-flags-spec =
+    tie.close
+    (tie.spec
+    {- query-survey-requires -}
+    (λ c κs. search needs)
+    {- returns -}
+    (λ c. search needs))

@@ -1,0 +1,19 @@
+-- `alias_line` meets its contract.
+use Rattle.registrations.proofs.Registers.{registers}
+use borrow.Author.Needs.{needs}
+use Rattle.registrations.proofs.alias_line.Statement.{statement}
+use Rattle.registrations.proofs.alias_line.Tie as tie
+
+returns : tie.Need-returns
+returns c = registers (c .before .before .finish .ensures) (c .before .before .before .before .before .before .before .before .before .before .before .before .before .before .before .before .before .pre .0) (c .before .before .before .before .before .before .before .before .register-alias-sound .ensures)
+
+pub alias-line-spec : {M : Type 1} → statement M
+alias-line-spec =
+    tie.close
+    (tie.spec
+    (λ c κs. search needs)
+    (λ c κs. search needs)
+    (λ c. search needs)
+    (λ c. search needs)
+    (λ c. search needs)
+    returns)

@@ -1,0 +1,140 @@
+// The line of a registration answered: its call is made on a table whose memory is sound by proof, and its reply is written.
+use script::Import;
+use table::Registered;
+use table::Registration;
+use table::Table;
+ghost use mathlib.Core.Bool.{true};
+ghost use Prim.Native.Nat.{_+_, _≤_};
+ghost use lib.ListN.{length};
+ghost use Rattle.source.specs.Calls.{name, alias, module-path};
+ghost use Rattle.text.specs.Laid.{Laid};
+ghost use Rattle.replies.specs.Replies.{reply-room};
+ghost use Rattle.table.specs.Header.{IsSound};
+ghost use Rattle.table.specs.Registrations.{Answers};
+ghost use Rattle.registrations.specs.Registers.{import-call, registered-text, Finished, Registers};
+
+// The table after a line, and where its reply ends.
+pub struct Done {
+    pub table: Table,
+    pub end: usize,
+}
+
+// Writes the reply to a registration.
+fn put_registered(reply: &mut [u8], at: usize, records: u32, r: Registered) -> usize
+    requires { ⌜ at + reply-room ≤ length (now reply) ⌝ }
+    ensures { λ e. ⌜ Laid (now (reply .entry)) (now (reply .exit)) at e (registered-text records r) ⌝ }
+{
+    match r {
+        Registered::Accepted => replies::put_ok(reply, at, records),
+        Registered::Refused(x) => {
+            let code = refusals::number(x);
+            replies::put_refused(reply, at, code)
+        }
+    }
+}
+
+// The answer to a registration, with its reply written.
+fn finish(reply: &mut [u8], at: usize, r: Registration) -> Done
+    requires { ⌜ at + reply-room ≤ length (now reply) ⌝ }
+    ensures { λ a. ⌜ Finished (now (reply .entry)) (now (reply .exit)) at r a ⌝ }
+{
+    let t = r.table;
+    let a = r.answer;
+    let e = put_registered(reply, at, t.header.records, a);
+    Done { table: t, end: e }
+}
+
+// An include or an open.
+fn import(
+    table: Table,
+    words: &mut [u32],
+    text: &mut [u8],
+    how: Import,
+    host: &[u8],
+    query: &[u8],
+) -> Registration
+    requires { ⌜ IsSound (now words) (now text) table ⌝ }
+    ensures { λ r. ⌜ Answers true (now (words .entry)) (now (text .entry)) (now (words .exit)) (now (text .exit)) table (import-call how (now (host .entry)) (now (query .entry))) r ⌝ }
+{
+    match how {
+        Import::Include => table.register_include_sound(words, text, host, query),
+        Import::OpenModule => table.register_open_sound(words, text, true, host, query),
+        Import::OpenNamespace => table.register_open_sound(words, text, false, host, query),
+    }
+}
+
+// `[name [host] id N]`
+pub fn name_line(
+    table: Table,
+    words: &mut [u32],
+    text: &mut [u8],
+    host: &[u8],
+    id: &[u8],
+    item: u32,
+    reply: &mut [u8],
+    at: usize,
+) -> Done
+    requires { ⌜ IsSound (now words) (now text) table ⌝ }
+    requires { ⌜ at + reply-room ≤ length (now reply) ⌝ }
+    ensures { λ r. ⌜ Registers (now (words .entry)) (now (text .entry)) (now (words .exit)) (now (text .exit)) table (name (now (host .entry)) (now (id .entry)) item) (now (reply .entry)) (now (reply .exit)) at r ⌝ }
+{
+    let r = table.insert_sound(words, text, host, id, item);
+    finish(reply, at, r)
+}
+
+// `[include [host] [q]]`, `[open m [host] [q]]`, `[open n [host] [q]]`
+pub fn import_line(
+    table: Table,
+    words: &mut [u32],
+    text: &mut [u8],
+    how: Import,
+    host: &[u8],
+    query: &[u8],
+    reply: &mut [u8],
+    at: usize,
+) -> Done
+    requires { ⌜ IsSound (now words) (now text) table ⌝ }
+    requires { ⌜ at + reply-room ≤ length (now reply) ⌝ }
+    ensures { λ r. ⌜ Registers (now (words .entry)) (now (text .entry)) (now (words .exit)) (now (text .exit)) table (import-call how (now (host .entry)) (now (query .entry))) (now (reply .entry)) (now (reply .exit)) at r ⌝ }
+{
+    let r = import(table, words, text, how, host, query);
+    finish(reply, at, r)
+}
+
+// `[alias key [host] [q]]`
+pub fn alias_line(
+    table: Table,
+    words: &mut [u32],
+    text: &mut [u8],
+    word: &[u8],
+    host: &[u8],
+    query: &[u8],
+    reply: &mut [u8],
+    at: usize,
+) -> Done
+    requires { ⌜ IsSound (now words) (now text) table ⌝ }
+    requires { ⌜ at + reply-room ≤ length (now reply) ⌝ }
+    ensures { λ r. ⌜ Registers (now (words .entry)) (now (text .entry)) (now (words .exit)) (now (text .exit)) table (alias (now (word .entry)) (now (host .entry)) (now (query .entry))) (now (reply .entry)) (now (reply .exit)) at r ⌝ }
+{
+    let r = table.register_alias_sound(words, text, word, host, query);
+    finish(reply, at, r)
+}
+
+// `[module l [q] path]`, `[module u [q] path]`
+pub fn module_line(
+    table: Table,
+    words: &mut [u32],
+    text: &mut [u8],
+    loaded: bool,
+    query: &[u8],
+    path: &[u8],
+    reply: &mut [u8],
+    at: usize,
+) -> Done
+    requires { ⌜ IsSound (now words) (now text) table ⌝ }
+    requires { ⌜ at + reply-room ≤ length (now reply) ⌝ }
+    ensures { λ r. ⌜ Registers (now (words .entry)) (now (text .entry)) (now (words .exit)) (now (text .exit)) table (module-path loaded (now (query .entry)) (now (path .entry))) (now (reply .entry)) (now (reply .exit)) at r ⌝ }
+{
+    let r = table.register_module_path_sound(words, text, loaded, query, path);
+    finish(reply, at, r)
+}

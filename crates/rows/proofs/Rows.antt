@@ -1,0 +1,37 @@
+-- Laws of the words and the struct of a row.
+use Prim.Native.Nat.{ℕ, suc, _+_, _-_, _*_, _≤_}
+use native.Mathlib.Omega.{arith}
+use mathlib.Core.Path.{_≡_, refl, ap}
+use mathlib.Core.Bool.{Bool, true, false}
+use mathlib.Core.List.{List}
+use mathlib.Core.Option.{some}
+use lib.Dec.{eqb}
+use lib.ListN.{length, take, drop, length-drop}
+use lib.Seq.{take-all, length-take-le}
+use Rattle.memory.specs.Layout.{Which, names, modules, record-at, item-of, word, pick, span}
+use Rattle.memory.specs.Read.{symbol-of}
+use Rattle.memory.specs.declared.ModSymbol.{ModSymbol}
+use Rattle.rows.specs.Rows.{words-at, item-in, item-seen}
+
+-- The words at the start of the part from a row on.
+pub part-words : (flat : List ℕ) (k : ℕ) → k * 12 + 12 ≤ length flat → record-at (take (length flat - k * 12) (drop (k * 12) flat)) 1 ≡ words-at flat k
+unfolding record-at words-at
+part-words flat k h = ap (take 12) (take-all (length flat - k * 12) (drop (k * 12) flat) (omega (arith, length-drop (k * 12) flat)))
+
+-- A part from a to a + b, and its length.
+pub part-span : (text : List ℕ) (a b : ℕ) → take (a + b - a) (drop a text) ≡ span text a b
+unfolding span
+part-span text a b = let e : a + b - a ≡ b = omega arith in rw e refl
+
+pub span-length : (text : List ℕ) (a b : ℕ) → a + b ≤ length text → length (span text a b) ≡ b
+unfolding span
+span-length text a b h = length-take-le b (drop a text) (omega (arith, length-drop a text))
+
+symbol-pick : (txt : List ℕ) (b : Bool) (x y : ModSymbol) → symbol-of txt (pick b x y) ≡ pick b (symbol-of txt x) (symbol-of txt y)
+symbol-pick txt true x y = refl
+symbol-pick txt false x y = refl
+
+-- A reader sees the item that the words hold.
+pub item-seen-is : (w : Which) (txt r : List ℕ) → item-seen w txt (item-in w r) ≡ some (item-of w txt r)
+item-seen-is names txt r = refl
+item-seen-is modules txt r = rw (symbol-pick txt (eqb (word r 5) 0))

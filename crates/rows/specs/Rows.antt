@@ -1,0 +1,79 @@
+-- What is read back of a listing: the words of a row by name, its struct, and the line that a reader sees.
+use Prim.Native.Nat.{ℕ, zero, suc, _+_, _*_, _≤_}
+use mathlib.Core.List.{List, [], _∷_, map}
+use mathlib.Core.Option.{Option, none, some}
+use lib.ListN.{length, take, drop}
+use Rattle.source.specs.Table.{Line}
+use Rattle.memory.specs.Layout.{Which, names, modules, Item, item-of, word, number-word, span}
+use Rattle.memory.specs.Read.{symbol-in, symbol-of}
+use Rattle.lines.specs.Output.{signed-word}
+use Rattle.rows.specs.declared.RowItem.{RowItem}
+use Rattle.rows.specs.declared.RowItem.the-variants.{Name, Symbol}
+use Rattle.rows.specs.declared.Row.{Row}
+
+-- ---- The words of a row (lines' Output); those of its item are a branch's
+
+abbrev pub matched-word : List ℕ → ℕ
+matched-word r = word r 0
+
+abbrev pub candidate-start : List ℕ → ℕ
+candidate-start r = word r 1
+
+abbrev pub candidate-len : List ℕ → ℕ
+candidate-len r = word r 2
+
+abbrev pub annotation-start : List ℕ → ℕ
+annotation-start r = word r 3
+
+abbrev pub annotation-len : List ℕ → ℕ
+annotation-len r = word r 4
+
+-- The words of row k.
+unfoldable pub words-at : List ℕ → ℕ → List ℕ
+words-at flat k = take 12 (drop (k * 12) flat)
+
+-- The words of n rows from row i on.
+unfoldable pub words-from : List ℕ → (i n : ℕ) → List (List ℕ)
+words-from flat i zero = []
+words-from flat i (suc n) = words-at flat i ∷ words-from flat (suc i) n
+
+-- ---- The struct
+
+abbrev pub item-in : Which → List ℕ → RowItem
+item-in names r = Name (number-word r)
+item-in modules r = Symbol (symbol-in r)
+
+abbrev pub row-in : Which → List ℕ → Row
+row-in w r = record {
+  matched = matched-word r;
+  item = item-in w r;
+  candidate = record { start = candidate-start r; len = candidate-len r };
+  annotation = record { start = annotation-start r; len = annotation-len r };
+}
+
+-- The item that a reader of its table sees; none where it is of the other table.
+abbrev pub item-seen : (w : Which) → List ℕ → RowItem → Option (Item w)
+item-seen names txt (Name n) = some n
+item-seen names txt (Symbol s) = none
+item-seen modules txt (Name n) = none
+item-seen modules txt (Symbol s) = some (symbol-of txt s)
+
+-- ---- What a reader sees
+
+-- The line that twelve words say, with the texts of its spans.
+unfoldable pub line-seen : (w : Which) (txt out : List ℕ) → List ℕ → Line (Item w)
+line-seen w txt out r = record {
+  match-length = signed-word (matched-word r);
+  item-of = item-of w txt r;
+  candidate = span out (candidate-start r) (candidate-len r);
+  annotation = span out (annotation-start r) (annotation-len r);
+}
+
+-- The first n lines of the lent output.
+unfoldable pub lines-seen : (w : Which) (txt flat out : List ℕ) → ℕ → List (Line (Item w))
+lines-seen w txt flat out n = map (line-seen w txt out) (words-from flat 0 n)
+
+-- The texts of a row lie in the output text.
+pub record TextsIn (out : List ℕ) (r : Row) : Type 0 where
+  pub candidate : r .candidate .start + r .candidate .len ≤ length out
+  pub annotation : r .annotation .start + r .annotation .len ≤ length out

@@ -1,0 +1,88 @@
+// A listing read back from the lent output: each row as a struct, and its texts as parts of the text that they are in.
+use lines::Ask;
+use memory::ModSymbol;
+use memory::Span;
+ghost use mathlib.Core.Path.{_≡_};
+ghost use Prim.Native.Nat.{_+_, _*_, _≤_};
+ghost use lib.ListN.{length};
+ghost use Rattle.memory.specs.Layout.{record-at};
+ghost use Rattle.memory.specs.Read.{text-of};
+ghost use Rattle.lines.specs.Ask.{asked};
+ghost use Rattle.rows.specs.Rows.{item-in, row-in, words-at};
+
+// The words of a row, by what they hold (lines' specs/Output.antt). Those of its item are a branch's, by memory's names.
+const MATCHED: usize = 0;
+
+const CANDIDATE_START: usize = 1;
+
+const CANDIDATE_LEN: usize = 2;
+
+const ANNOTATION_START: usize = 3;
+
+const ANNOTATION_LEN: usize = 4;
+
+// The item of a row: of names its number, of modules and namespaces the mod symbol, whose spans are in the table text.
+pub enum RowItem {
+    Name(u32),
+    Symbol(ModSymbol),
+}
+
+// A row. Its match length is a word, 4294967295 for -1; its spans are in the output text.
+pub struct Row {
+    pub matched: u32,
+    pub item: RowItem,
+    pub candidate: Span,
+    pub annotation: Span,
+}
+
+// The item in the first twelve words.
+fn item_in(words: &[u32], ask: Ask) -> RowItem
+    requires { ⌜ 12 ≤ length (now words) ⌝ }
+    ensures { λ r. ⌜ r ≡ item-in (asked ask) (record-at (now (words .entry)) 1) ⌝ }
+{
+    match ask {
+        Ask::Names => RowItem::Name(memory::number_of(words, 1)),
+        Ask::Modules(f) => RowItem::Symbol(memory::symbol_of(words, 1)),
+    }
+}
+
+// The row in the first twelve words.
+fn row_in(words: &[u32], ask: Ask) -> Row
+    requires { ⌜ 12 ≤ length (now words) ⌝ }
+    ensures { λ r. ⌜ r ≡ row-in (asked ask) (record-at (now (words .entry)) 1) ⌝ }
+{
+    let item = item_in(words, ask);
+    let candidate = Span {
+        start: memory::word_of(words, 1, CANDIDATE_START),
+        len: memory::word_of(words, 1, CANDIDATE_LEN),
+    };
+    let annotation = Span {
+        start: memory::word_of(words, 1, ANNOTATION_START),
+        len: memory::word_of(words, 1, ANNOTATION_LEN),
+    };
+    Row {
+        matched: memory::word_of(words, 1, MATCHED),
+        item: item,
+        candidate: candidate,
+        annotation: annotation,
+    }
+}
+
+// Row `k` of the flat words.
+pub fn row_at(flat: &[u32], k: usize, ask: Ask) -> Row
+    requires { ⌜ k * 12 + 12 ≤ length (now flat) ⌝ }
+    ensures { λ r. ⌜ r ≡ row-in (asked ask) (words-at (now (flat .entry)) k) ⌝ }
+{
+    let at = k * 12;
+    row_in(&flat[at..], ask)
+}
+
+// The text of a span: a row's in the output text, a mod symbol's in the table text.
+pub fn text_of<'a>(text: &'a [u8], s: Span) -> &'a [u8]
+    requires { ⌜ s .start + s .len ≤ length (now text) ⌝ }
+    ensures { λ r. ⌜ now r ≡ text-of (now (text .entry)) s ⌝ }
+{
+    let a = s.start as usize;
+    let e = a + s.len as usize;
+    &text[a..e]
+}

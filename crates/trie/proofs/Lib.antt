@@ -1,9 +1,0 @@
-pub mod Links
-pub mod Lookups
-pub mod Plans
-pub mod Between
-pub mod Building
-pub mod Leaves
-pub mod Nodes
-pub mod Cycle
-pub mod Registered

@@ -1,3 +1,0 @@
-pub mod Tries
-pub mod Plans
-pub mod Changes
