@@ -5,7 +5,7 @@ Prints a row a crate: lines of code, definitions, laws and function proofs. Then
   a dependency that crates.txt names and no file uses (a type reached through another crate's struct counts as used);
   a use that crates.txt does not name; a definition (specs/, or a contract) that cites proofs/;
   a bare word number outside crate memory, in code (`word_of(words, x, 3)`, `row[3]`) or in definitions and laws (`word r 3`, `stored ws x 10`).
---check prints these alone and closes with 'N passed, M failed'. --dot prints the crates as a graph for graphviz.
+--check prints these alone and closes with 'N passed, M failed'; README's picture of the crates is held to crates.txt. --picture writes it there anew.
 """
 import collections
 import glob
@@ -86,32 +86,37 @@ def survey():
     return deps, size, calls, cites, wrong
 
 
-def dot(deps, size, calls, cites):
-    """The crates as a graph; an arrow that follows from others is left out."""
-    print('digraph house { rankdir=BT; node [shape=box,style="rounded,filled",fillcolor="#fef3c7",fontname="sans",fontsize=11];')
-    for c in deps:
-        n = size[c]
-        print(f'"{c}" [label="{c}\\ncode {n["code"]}, definitions {n["definitions"]}\\nlaws {n["laws"]}, proofs {n["proofs"]}"];')
-    below = {c: {d for d in deps[c] if d in deps} for c in deps}
+def picture(deps):
+    """The crates as a graph in Mermaid's words, what stands above pointing to what it stands on; an arrow that follows from others is left out."""
+    below = {c: [d for d in deps[c] if d in deps] for c in deps}
     whole = {}
 
     def all_below(c):
         if c not in whole:
-            whole[c] = set().union(below[c], *(all_below(d) for d in below[c]))
+            whole[c] = set(below[c]).union(*(all_below(d) for d in below[c]))
         return whole[c]
 
-    for a in deps:
-        for b in below[a]:
-            if not any(b in all_below(d) for d in below[a]):
-                print(f'"{a}" -> "{b}"{"" if (a, b) in calls else " [style=dashed]"};')
-    print('}')
+    lines = ['```mermaid', 'graph TD']
+    for a in reversed(list(deps)):
+        lines += [f'    {a} --> {b}' for b in below[a] if not any(b in all_below(d) for d in below[a])]
+    return '\n'.join(lines + ['```'])
+
+
+def drawn():
+    """README, and where its picture stands in it."""
+    text = open('README.md', encoding='utf-8').read()
+    start = text.find('```mermaid')
+    return text, start, text.find('```', start + 3) + 3 if start >= 0 else -1
 
 
 def main():
     deps, size, calls, cites, wrong = survey()
-    if '--dot' in sys.argv:
-        dot(deps, size, calls, cites)
+    text, start, end = drawn()
+    if '--picture' in sys.argv and start >= 0:
+        open('README.md', 'w', encoding='utf-8').write(text[:start] + picture(deps) + text[end:])
         return 0
+    if start < 0 or text[start:end] != picture(deps):
+        wrong.append('README.md: the picture of the crates is not that of crates.txt (python3 tools/house.py --picture)')
     if '--check' not in sys.argv:
         print(f'{"crate":14}' + ''.join(f'{k:>13}' for k in KINDS))
         for crate in list(deps) + ['all']:
