@@ -14,11 +14,12 @@ use Rattle.source.specs.Types.{Value, Trie, bind, item, the-item, bindin
 use Rattle.source.specs.Tries.{bind-option, trie-find-exact}
 use Rattle.source.specs.Terms.{flatten, holders, first-of, last-of, walk-first, walk-last}
 use Rattle.source.specs.Listing.{PathOf, trie-find-prefix}
-use Rattle.source.specs.Table.{ModSymbol, Line, string-of-path, completion-result-of-lid, completion-result-of-ns-or-mod, filter-map, autocomplete-lid, autocomplete-mod-or-ns}
+use Rattle.source.specs.Table.{Line, string-of-path, completion-result-of-lid, completion-result-of-ns-or-mod, autocomplete-lid, autocomplete-mod-or-ns}
 use Rattle.source.specs.Rules.{Formed, IsKey, IsLabel, NameItem, ModItem, SoundTrie, all}
-use Rattle.source.specs.Calls.{Found, refused, found-of, look-up, Completed, listed, Output, All, keeps, filter-of, completed, complete, complete-modules, lowest, argument-rows, completion-rows, a-look-up, is-empty}
+use Rattle.source.specs.Calls.{Found, refused, found-of, look-up, Completed, listed, Output, completed, complete, complete-modules, lowest, argument-rows, completion-rows, a-look-up, is-empty}
 use Rattle.source.specs.Agreement.{Covers, without-last, NotRefused, lines-of-text, Shows, OneHolder, Agreement, Demand3}
 use Rattle.source.specs.Shared.{same, Allˡ}
+use Rattle.source.proofs.Filters.{all-listed}
 use Rattle.source.proofs.Queries.{and-parts, string-is}
 use Rattle.source.proofs.Refusals.{Admitted, argument-rows-none, look-up-whole, look-up-segment}
 use Rattle.source.proofs.Listed.{look-up-is-walk, to-list}
@@ -169,11 +170,6 @@ module _ {A : Type 0} (Item : A → Type 0) (f : PathOf × A → Line A) (text :
       enter : look-up true tr name ≡ found-of (walk-first tr (segments name))
       enter = rw (rows, look-up) (ap found-of (look-up-is-walk tr (segments name)))
 
-all-kept : (ls : List (PathOf × ModSymbol)) → filter-map (filter-of All) ls ≡ ls
-unfolding filter-map filter-of keeps
-all-kept [] = refl
-all-kept (x ∷ ls) = ap (λ r. x ∷ r) (all-kept ls)
-
 -- Demand 3.
 pub agreement : Demand3
 unfolding complete complete-modules autocomplete-lid autocomplete-mod-or-ns completion-result-of-lid completion-result-of-ns-or-mod
@@ -183,6 +179,6 @@ agreement = record {
       (root-agreement NameItem completion-result-of-lid (λ x. refl) (λ x. refl) (tbl .tbl-lids) (sound .lids) name query asked covers);
   modules = λ tbl sound name query budget out lines entered asked e covers.
       subst (Agreement (tbl .tbl-mods) name)
-      (ap (map completion-result-of-ns-or-mod) (sym (all-kept (trie-find-prefix (tbl .tbl-mods) (segments query)))) ∙ completed-lines true budget out query _ lines _ entered e)
+      (sym (all-listed tbl (segments query)) ∙ completed-lines true budget out query _ lines _ entered e)
       (root-agreement ModItem completion-result-of-ns-or-mod (λ x. refl) (λ x. refl) (tbl .tbl-mods) (sound .mods) name query asked covers);
 }

@@ -25,13 +25,13 @@ is-module (Module name path loaded) = true
 is-module (Namespace name loaded) = false
 
 -- All keeps everything, Loaded what is loaded of either sort, ModulesOnly the Modules, NamespacesOnly the Namespaces.
-pub record Kept (m : ModSymbol) : Type 0 where
+pub record FilterRules (m : ModSymbol) : Type 0 where
   pub all : keeps All m ≡ true
   pub loaded : keeps Loaded m ≡ is-loaded m
   pub modules-only : keeps ModulesOnly m ≡ is-module m
   pub namespaces-only : keeps NamespacesOnly m ≡ not (is-module m)
 
-pub filters-keep : (m : ModSymbol) → Kept m
+pub filters-keep : (m : ModSymbol) → FilterRules m
 unfolding keeps
 filters-keep (Module name path loaded) = record { all = refl; loaded = refl; modules-only = refl; namespaces-only = refl }
 filters-keep (Namespace name loaded) = record { all = refl; loaded = refl; modules-only = refl; namespaces-only = refl }

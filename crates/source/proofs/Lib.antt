@@ -29,6 +29,7 @@ pub mod PlannedDepth
 pub mod PlannedWeight
 pub mod PlannedRecords
 pub mod Agreement
+pub mod Worded
 pub mod Unchanged
 pub mod Quoted
 pub mod Bytes

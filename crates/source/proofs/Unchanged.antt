@@ -121,8 +121,8 @@ name-unchanged sound lent s s′ host id number query e d = look-up-unchanged so
 
 -- ---- the customer's point C
 
--- A call that leaves the names right at a host alone: its own host is another. An open of a namespace must not stand above the host,
--- and an alias must not put its key on the host's path: those two change what the path leads to (`shadowed` in Cases).
+-- A call that leaves the names right at a host alone: its own host is another.
+-- An open of a namespace must not stand above the host, and an alias must not put its key on the host's path: those change what the path leads to.
 abbrev pub Apart : Query → Call → Type 0
 Apart host (name at id number) = host ≡ segments at → ⊥
 Apart host (include at q) = host ≡ segments at → ⊥
@@ -155,8 +155,7 @@ apart-untouched host x (opens false at q) a t = let f = beginning host (segments
 apart-untouched host x (alias key at q) a t = let f = beginning host (segments at) x key (t .0) (t .1) (t .2) in a (f .0) (f .1)
 apart-untouched host x (module-path loaded query path) a t = t
 
--- An include copies the names as they are at that moment: no later registration apart from the including host, so none in the included module,
--- changes what look-up finds or what completions show of a name right at that host.
+-- What look-up finds of a name, and what completions show of it, before and after.
 pub record Copied (s s′ : State) (query : Str) : Type 0 where
   pub found : look-up true (s′ .table .tbl-lids) query ≡ look-up true (s .table .tbl-lids) query
   pub shown : SoundTable (s .table) → NotRefused (look-up true (s .table .tbl-lids) query)
@@ -164,6 +163,8 @@ pub record Copied (s s′ : State) (query : Str) : Type 0 where
       → complete true (s .table) budget out typed ≡ listed lines entered → complete true (s′ .table) budget′ out′ typed ≡ listed lines′ entered′
       → (w : Found ℕ) × Shows (lines-of-text (without-last query) lines) w × Shows (lines-of-text (without-last query) lines′) w
 
+-- An include copies the names as they are at that moment: no later registration apart from the including host, in the included module or elsewhere, changes a name right there.
+-- For every registration at another host it would be false: after `include [Live.] [Saved.]`, `open n [] [Lib.]` makes `Live.` lead to `Lib.Live.` (`shadowed` in Cases).
 pub include-copies : (sound : Bool) (lent : Lent) (s s′ : State) (c : Call) (host : Query) (x : Str) (query : Str)
     → register sound lent s c ≡ accepted s′ → Apart host c → segments query ≡ host ++ (x ∷ []) → Copied s s′ query
 include-copies sound lent s s′ c host x query e a i =
