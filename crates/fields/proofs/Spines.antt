@@ -14,7 +14,7 @@ use Rattle.memory.specs.Layout.{record-at, word, span, key-of, Which, Item, tre
 use Rattle.memory.specs.Sound.{Says, LinkOk, RecordOk}
 use Rattle.memory.proofs.Says.{says-iff}
 use Rattle.memory.proofs.Readings.{what-none}
-use Rattle.memory.proofs.Records.{zero-some, record-what, branch-at, ordered-at}
+use Rattle.memory.proofs.Records.{zero-some, record-what, branch-at, ordered-at, links-earlier}
 use Rattle.fields.specs.Fields.{Before, Subtree, Far, here, on}
 
 -- The side of a key that a tree stands on: its keys are before the key, or after it.
@@ -61,6 +61,10 @@ pub says-end : (b : Bool) {ws txt : List ℕ} {used l r : ℕ} {P : Str → Type
 says-end b i h = says-iff b h (i .to) (i .fro)
 
 module _ {ws txt : List ℕ} {used l : ℕ} (b : Before ws txt used l) where
+  pub falls : (s : Side) (from : ℕ) → from < l → (j : ℕ) → 0 < j → j ≤ from → word (record-at ws j) (toward s) < j
+  falls left from h j p q = links-earlier (b .rows j p (omega arith)) .1
+  falls right from h j p q = links-earlier (b .rows j p (omega arith)) .0
+
   module _ (w : Which) (v : Level) where
     abbrev the : ℕ → Tree (Item w) v
     the x = what w ws txt x (tree v)

@@ -9,7 +9,7 @@ ghost use Rattle.source.specs.Rules.{Fits, _<ˢ_};
 ghost use Rattle.memory.specs.Layout.{span};
 ghost use Rattle.memory.specs.Sound.{Says, LinkOk, TextOk};
 ghost use Rattle.text.specs.Text.{byte-rule};
-ghost use Rattle.fields.specs.Fields.{Subtree, Far, Noted, Noting, SaysLeft, SaysRight};
+ghost use Rattle.fields.specs.Fields.{Subtree, Far, Noted, Noting, Ending, SaysLeft, SaysRight};
 
 // Is the span in the used part, `low` to `high` bytes long, and does each byte keep the rule?
 pub fn text_ok(
@@ -93,13 +93,16 @@ fn spans_less(text: &[u8], s: u32, n: u32, t: u32, m: u32) -> bool
     less(&text[a..a + n as usize], &text[b..b + m as usize])
 }
 
-// Notes for the record of `link` where the way by the links in word `k` ends: at itself, or where that of the next record does.
+// Notes for the record of `link` where the way by the links in word `k` ends: at itself, or where that of the next record does. Records past the notes are not noted.
 pub fn note(words: &[u32], link: u32, k: usize, notes: &mut [u32])
     requires { ⌜ Noting (now words) k link (now notes) ⌝ }
     ensures { λ _. ⌜ Noted (now (words .entry)) k (link + 1) (now (notes .exit)) ⌝ }
     ensures { λ _. ⌜ length (now (notes .exit)) ≡ length (now (notes .entry)) ⌝ }
 {
     let at = link as usize;
+    if notes.len() <= at {
+        return;
+    }
     let next = memory::word_of(words, link, k);
     let mut end = link;
     if 0 < next {
@@ -108,7 +111,24 @@ pub fn note(words: &[u32], link: u32, k: usize, notes: &mut [u32])
     notes[at] = end;
 }
 
-// Are all keys of the tree `top` before the key, a span of the used text? `end` is the branch with the greatest of them.
+// Where the way from `from` by the links in word `k` ends. The notes have it for the records that they reach.
+fn end_of(words: &[u32], from: u32, k: usize, notes: &[u32]) -> u32
+    requires { ⌜ Ending (now words) k from (now notes) ⌝ }
+    ensures { λ r. ⌜ Far (now (words .entry)) k from r ⌝ }
+{
+    let noted = notes.len();
+    let mut x = from;
+    while noted <= x as usize {
+        let next = memory::word_of(words, x, k);
+        if next == 0 {
+            return x;
+        }
+        x = next;
+    }
+    notes[x as usize]
+}
+
+// Are all keys of the tree `top` before the key, a span of the used text? The notes are of the ways to the right.
 pub fn left_ok(
     words: &[u32],
     text: &[u8],
@@ -116,22 +136,23 @@ pub fn left_ok(
     link: u32,
     k: u32,
     top: u32,
-    end: u32,
     key: Span,
+    notes: &[u32],
 ) -> bool
     requires { ⌜ Subtree (now words) (now text) used link k top (key .start) (key .len) ⌝ }
-    requires { ⌜ (0 < top → Far (now words) 4 top end) ⌝ }
+    requires { ⌜ Noted (now words) 4 link (now notes) ⌝ }
     ensures { λ r. ⌜ SaysLeft (now (words .entry)) (now (text .entry)) k top (key .start) (key .len) r ⌝ }
 {
     if top == 0 {
         return true;
     }
-    let s = memory::word_of(words, end, memory::TEXT_START);
-    let n = memory::word_of(words, end, memory::TEXT_LEN);
+    let x = end_of(words, top, memory::RIGHT, notes);
+    let s = memory::word_of(words, x, memory::TEXT_START);
+    let n = memory::word_of(words, x, memory::TEXT_LEN);
     spans_less(text, s, n, key.start, key.len)
 }
 
-// Are all keys of the tree `top` after the key, a span of the used text? `end` is the branch with the least of them.
+// Are all keys of the tree `top` after the key, a span of the used text? The notes are of the ways to the left.
 pub fn right_ok(
     words: &[u32],
     text: &[u8],
@@ -139,17 +160,18 @@ pub fn right_ok(
     link: u32,
     k: u32,
     top: u32,
-    end: u32,
     key: Span,
+    notes: &[u32],
 ) -> bool
     requires { ⌜ Subtree (now words) (now text) used link k top (key .start) (key .len) ⌝ }
-    requires { ⌜ (0 < top → Far (now words) 3 top end) ⌝ }
+    requires { ⌜ Noted (now words) 3 link (now notes) ⌝ }
     ensures { λ r. ⌜ SaysRight (now (words .entry)) (now (text .entry)) k top (key .start) (key .len) r ⌝ }
 {
     if top == 0 {
         return true;
     }
-    let s = memory::word_of(words, end, memory::TEXT_START);
-    let n = memory::word_of(words, end, memory::TEXT_LEN);
+    let x = end_of(words, top, memory::LEFT, notes);
+    let s = memory::word_of(words, x, memory::TEXT_START);
+    let n = memory::word_of(words, x, memory::TEXT_LEN);
     spans_less(text, key.start, key.len, s, n)
 }

@@ -12,18 +12,13 @@ pub notes-start : {ws least greatest : List ℕ} → NotesOn ws 1 least greatest
 notes-start = record {
   least-size = refl;
   greatest-size = refl;
-  least-noted = record { far = λ j p h. absurd (omega arith) };
-  greatest-noted = record { far = λ j p h. absurd (omega arith) };
+  least-noted = record { far = λ j p h b. absurd (omega arith) };
+  greatest-noted = record { far = λ j p h b. absurd (omega arith) };
 }
 
 module _ {ws least greatest least′ greatest′ : List ℕ} {l : ℕ} (n : NotesOn ws l least greatest least′ greatest′) where
-  pub notes-at : l < length least → l < length greatest → Notes ws l least′ greatest′
-  notes-at p q = record {
-    least-room = omega (arith, n .least-size);
-    greatest-room = omega (arith, n .greatest-size);
-    least-noted = n .least-noted;
-    greatest-noted = n .greatest-noted;
-  }
+  pub notes-at : Notes ws l least′ greatest′
+  notes-at = record { least-noted = n .least-noted; greatest-noted = n .greatest-noted }
 
   pub notes-next : {least″ greatest″ : List ℕ} → NotesOn ws (l + 1) least′ greatest′ least″ greatest″ → NotesOn ws (l + 1) least greatest least″ greatest″
   notes-next m = record {

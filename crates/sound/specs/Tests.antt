@@ -13,8 +13,6 @@ use Rattle.memory.specs.Sound.{Says, LinkOk, BranchOk, CollectionOk, WeightOk, 
 
 -- The notes of the records before link l: the ends of their ways to the left and to the right.
 pub record Notes (ws : List ℕ) (l : ℕ) (least greatest : List ℕ) : Type 0 where
-  pub least-room : l < length least
-  pub greatest-room : l < length greatest
   pub least-noted : Noted ws 3 l least
   pub greatest-noted : Noted ws 4 l greatest
 

@@ -46,12 +46,10 @@ fn branch_ok(
         start: start,
         len: len,
     };
-    let most = greatest[first as usize];
-    if !fields::left_ok(words, text, used, link, k, first, most, key) {
+    if !fields::left_ok(words, text, used, link, k, first, key, greatest) {
         return false;
     }
-    let fewest = least[second as usize];
-    fields::right_ok(words, text, used, link, k, second, fewest, key)
+    fields::right_ok(words, text, used, link, k, second, key, least)
 }
 
 // The item of a bindings branch of the module table.
@@ -269,9 +267,8 @@ fn note(words: &[u32], link: u32, least: &mut [u32], greatest: &mut [u32])
     fields::note(words, link, memory::RIGHT, greatest);
 }
 
-// One pass over the used records, with notes for so many.
+// One pass over the used records, with notes for as many as are lent.
 fn pass(words: &[u32], text: &[u8], header: Header, least: &mut [u32], greatest: &mut [u32]) -> bool
-    requires { ⌜ (header .records < length (now least)) × (header .records < length (now greatest)) ⌝ }
     ensures { λ r. ⌜ Says r (Sound (now (words .entry)) (now (text .entry)) header) ⌝ }
 {
     let records = header.records;
@@ -314,51 +311,11 @@ fn pass(words: &[u32], text: &[u8], header: Header, least: &mut [u32], greatest:
     true
 }
 
-// Notes for small tables, for those ten times as large, and for all.
-const FEW: u32 = 1024;
-
-const SOME: u32 = 8192;
-
-fn sound_few(words: &[u32], text: &[u8], header: Header) -> bool
-    requires { ⌜ header .records ≤ 1024 ⌝ }
+// Is the lent memory a sound table, with this header? Notes for 1,024 records: in larger tables a way goes on until it is noted.
+pub fn sound(words: &[u32], text: &[u8], header: Header) -> bool
     ensures { λ r. ⌜ Says r (Sound (now (words .entry)) (now (text .entry)) header) ⌝ }
 {
     let mut least = [0; 1025];
     let mut greatest = [0; 1025];
     pass(words, text, header, &mut least, &mut greatest)
-}
-
-fn sound_some(words: &[u32], text: &[u8], header: Header) -> bool
-    requires { ⌜ header .records ≤ 8192 ⌝ }
-    ensures { λ r. ⌜ Says r (Sound (now (words .entry)) (now (text .entry)) header) ⌝ }
-{
-    let mut least = [0; 8193];
-    let mut greatest = [0; 8193];
-    pass(words, text, header, &mut least, &mut greatest)
-}
-
-fn sound_all(words: &[u32], text: &[u8], header: Header) -> bool
-    requires { ⌜ header .records ≤ 65536 ⌝ }
-    ensures { λ r. ⌜ Says r (Sound (now (words .entry)) (now (text .entry)) header) ⌝ }
-{
-    let mut least = [0; 65537];
-    let mut greatest = [0; 65537];
-    pass(words, text, header, &mut least, &mut greatest)
-}
-
-// Is the lent memory a sound table, with this header?
-pub fn sound(words: &[u32], text: &[u8], header: Header) -> bool
-    ensures { λ r. ⌜ Says r (Sound (now (words .entry)) (now (text .entry)) header) ⌝ }
-{
-    let records = header.records;
-    if records <= FEW {
-        return sound_few(words, text, header);
-    }
-    if records <= SOME {
-        return sound_some(words, text, header);
-    }
-    if memory::CAPACITY < records {
-        return false;
-    }
-    sound_all(words, text, header)
 }

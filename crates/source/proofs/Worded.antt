@@ -30,6 +30,7 @@ covers-exactly (p ∷ query) (s ∷ name) = go (covers-exactly query name)
     go : Covers query name ↔ ((length query ≤ length name) × ((i : ℕ) → i < length query → starts-with (getD name i []) (getD query i []) ≡ true))
         → Covers (p ∷ query) (s ∷ name)
         ↔ ((suc (length query) ≤ suc (length name)) × ((i : ℕ) → i < suc (length query) → starts-with (getD (s ∷ name) i []) (getD (p ∷ query) i []) ≡ true))
-    go e =
-        (λ h. let r = e .0 (h .1) in (omega (arith, r .0), at (h .0) (r .1)),
-          λ h. (h .1 0 (omega arith), e .1 (omega (arith, h .0), λ i l. h .1 (suc i) (omega arith))))
+    go e = (
+      λ h. let r = e .0 (h .1) in (omega (arith, r .0), at (h .0) (r .1)),
+      λ h. (h .1 0 (omega arith), e .1 (omega (arith, h .0), λ i l. h .1 (suc i) (omega arith))),
+    )

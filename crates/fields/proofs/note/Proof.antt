@@ -1,8 +1,10 @@
 -- `fields::note` meets its contract.
+use mathlib.Core.Path.{refl}
 use mathlib.Core.Logic.{⊎-elim}
+use native.Mathlib.Omega.{arith}
 use lib.ListN.{length-set}
 use borrow.Author.Needs.{needs}
-use Rattle.fields.proofs.Noted.{far-on, far-here, noted-more}
+use Rattle.fields.proofs.Noted.{far-on, far-here, noted-more, noted-past}
 use Rattle.fields.proofs.note.Statement.{statement}
 use Rattle.fields.proofs.note.Tie as tie
 
@@ -10,6 +12,8 @@ pub note-spec : {M : Type 1} → statement M
 note-spec =
     tie.close
     (tie.spec
+    {- returns -}
+    (λ c. (noted-past (c .before .before .before .pre) (omega arith), refl))
     {- word-of-requires -}
     (λ c κs. search needs)
     {- cast-end -}
@@ -17,15 +21,14 @@ note-spec =
     {- mul-end -}
     (λ c. search needs)
     {- slice-read-end -}
-    (λ c. search needs)
+    (λ c. omega (arith, c .before .before .before .before .before .before .pre .earlier, c .before .before .word-of .ensures))
     {- mul-notes -}
     (λ c. search needs)
     {- slice-write-notes -}
     (λ c. search needs)
     {- same-length -}
     (λ c. search needs)
-    {- returns -}
+    {- returns-2 -}
     (λ c.
-    let n = c .before .before .before .before .pre in
     let e = c .before .word-of .ensures in
-    (noted-more n (⊎-elim (λ w. rw (w .2) (far-on n e (w .0 .taken))) (λ w. rw (w .1) (far-here n e (w .0 .left))) (c .if1 .came)), simp length-set)))
+    (noted-more (c .before .before .before .before .before .pre) (omega arith) (⊎-elim (λ w. rw (w .2) (far-on (c .before .before .before .before .before .pre) e (w .0 .taken) (omega arith))) (λ w. rw (w .1) (far-here (c .before .before .before .before .before .pre) e (w .0 .left))) (c .if2 .came)), simp length-set)))

@@ -1,5 +1,4 @@
 -- `sound::branch_ok` meets its contract.
-use native.Mathlib.Omega.{arith}
 use borrow.Author.Needs.{needs}
 use Rattle.sound.proofs.branch_ok.Statement.{statement}
 use Rattle.sound.proofs.branch_ok.Tie as tie
@@ -31,32 +30,20 @@ branch-ok-spec =
     (λ c κs. c .before .before .before .before .before .before .before .before .before .before .before .before .before .pre .0 .text)
     {- returns-3 -}
     (λ c w v e o. refuses (c .before .text-ok .result) (c .before .text-ok .ensures) (c .if3 .taken) (o .0 .key))
-    {- cast-most -}
-    (λ c. omega (arith, passes (c .before .before .before .before .before .link-ok .result) (c .before .before .before .before .before .link-ok .ensures) (c .before .before .before .before .if1 .left) .earlier))
-    {- mul-most -}
-    (λ c. omega (arith, passes (c .before .before .before .before .before .link-ok .result) (c .before .before .before .before .before .link-ok .ensures) (c .before .before .before .before .if1 .left) .earlier, c .before .before .before .before .before .before .before .before .before .before .before .before .before .before .before .pre .1 .1 .1 .greatest-room))
-    {- shared-slice-read-most -}
-    (λ c. omega (arith, passes (c .before .before .before .before .before .before .link-ok .result) (c .before .before .before .before .before .before .link-ok .ensures) (c .before .before .before .before .before .if1 .left) .earlier, c .before .before .before .before .before .before .before .before .before .before .before .before .before .before .before .before .pre .1 .1 .1 .greatest-room))
     {- left-ok-requires -}
-    (λ c κs. let s = c .before .before .before .before .before .before .before .before .before .before .before .before .before .before .before .before in
-    (record { before = s .pre .0; branches = s .pre .1 .0; link = (let u = c .before .before .before .before .before in passes (u .before .link-ok .result) (u .before .link-ok .ensures) (u .if1 .left)); inside = (passes (c .before .before .text-ok .result) (c .before .before .text-ok .ensures) (c .before .if3 .left)) .inside }, λ p. s .pre .1 .1 .1 .greatest-noted .far _ p (passes (c .before .before .before .before .before .before .link-ok .result) (c .before .before .before .before .before .before .link-ok .ensures) (c .before .before .before .before .before .if1 .left) .earlier)))
+    (λ c κs. let s = c .before .before .before .before .before .before .before .before .before .before .before .before .before .before .before in
+    (record { before = s .pre .0; branches = s .pre .1 .0; link = (let u = c .before .before .before .before in passes (u .before .link-ok .result) (u .before .link-ok .ensures) (u .if1 .left)); inside = (passes (c .before .text-ok .result) (c .before .text-ok .ensures) (c .if3 .left)) .inside }, s .pre .1 .1 .1 .greatest-noted))
     {- returns-4 -}
     (λ c w v e o. refuses (c .before .left-ok .result) (c .before .left-ok .ensures w v e) (c .if4 .taken) (o .1 .0))
-    {- cast-fewest -}
-    (λ c. omega (arith, passes (c .before .before .before .before .before .before .link-ok2 .result) (c .before .before .before .before .before .before .link-ok2 .ensures) (c .before .before .before .before .before .if2 .left) .earlier))
-    {- mul-fewest -}
-    (λ c. omega (arith, passes (c .before .before .before .before .before .before .link-ok2 .result) (c .before .before .before .before .before .before .link-ok2 .ensures) (c .before .before .before .before .before .if2 .left) .earlier, c .before .before .before .before .before .before .before .before .before .before .before .before .before .before .before .before .before .before .pre .1 .1 .1 .least-room))
-    {- shared-slice-read-fewest -}
-    (λ c. omega (arith, passes (c .before .before .before .before .before .before .before .link-ok2 .result) (c .before .before .before .before .before .before .before .link-ok2 .ensures) (c .before .before .before .before .before .before .if2 .left) .earlier, c .before .before .before .before .before .before .before .before .before .before .before .before .before .before .before .before .before .before .before .pre .1 .1 .1 .least-room))
     {- right-ok-requires -}
-    (λ c κs. let s = c .before .before .before .before .before .before .before .before .before .before .before .before .before .before .before .before .before .before .before in
-    (record { before = s .pre .0; branches = s .pre .1 .0; link = (let u = c .before .before .before .before .before .before in passes (u .before .link-ok2 .result) (u .before .link-ok2 .ensures) (u .if2 .left)); inside = (let u = c .before .before .before .before in passes (u .before .text-ok .result) (u .before .text-ok .ensures) (u .if3 .left)) .inside }, λ p. s .pre .1 .1 .1 .least-noted .far _ p (passes (c .before .before .before .before .before .before .before .link-ok2 .result) (c .before .before .before .before .before .before .before .link-ok2 .ensures) (c .before .before .before .before .before .before .if2 .left) .earlier)))
+    (λ c κs. let s = c .before .before .before .before .before .before .before .before .before .before .before .before .before .before .before .before .before in
+    (record { before = s .pre .0; branches = s .pre .1 .0; link = (let u = c .before .before .before .before in passes (u .before .link-ok2 .result) (u .before .link-ok2 .ensures) (u .if2 .left)); inside = (let u = c .before .before in passes (u .before .text-ok .result) (u .before .text-ok .ensures) (u .if3 .left)) .inside }, s .pre .1 .1 .1 .least-noted))
     {- returns-5 -}
     (λ c w v e.
-    let i = rw e at (let u = c .before .before .before .before .before .before .before .before .before in passes (u .before .link-ok .result) (u .before .link-ok .ensures) (u .if1 .left)) in
-    let j = rw e at (let u = c .before .before .before .before .before .before .before in passes (u .before .link-ok2 .result) (u .before .link-ok2 .ensures) (u .if2 .left)) in
+    let i = rw e at (let u = c .before .before .before .before .before .before .before in passes (u .before .link-ok .result) (u .before .link-ok .ensures) (u .if1 .left)) in
+    let j = rw e at (let u = c .before .before .before .before .before in passes (u .before .link-ok2 .result) (u .before .link-ok2 .ensures) (u .if2 .left)) in
     says-iff (c .right-ok .result) (c .right-ok .ensures w v e)
     (λ a.
-    let o : BranchOk _ _ _ _ w _ v = record { key = (let u = c .before .before .before .before .before in passes (u .before .text-ok .result) (u .before .text-ok .ensures) (u .if3 .left)); left = i; right = j } in
-    (o, branch-ordered (c .before .before .before .before .before .before .before .before .before .before .before .before .before .before .before .before .before .before .before .before .pre .0 .rows) w o (passes (c .before .before .before .left-ok .result) (c .before .before .before .left-ok .ensures w v e) (c .before .before .if4 .left)) a))
+    let o : BranchOk _ _ _ _ w _ v = record { key = (let u = c .before .before .before in passes (u .before .text-ok .result) (u .before .text-ok .ensures) (u .if3 .left)); left = i; right = j } in
+    (o, branch-ordered (c .before .before .before .before .before .before .before .before .before .before .before .before .before .before .before .before .before .before .pre .0 .rows) w o (passes (c .before .before .left-ok .result) (c .before .before .left-ok .ensures w v e) (c .before .if4 .left)) a))
     (λ o. o .1 .1)))

@@ -68,7 +68,7 @@ pass-spec =
     {- record-ok-requires -}
     (λ c κs.
     let g = c .before .before .before .before .loop .inv in
-    (record { some = omega arith; fits = omega arith; text = omega arith; rows = g .2 .right }, (part-record (c .before .before .before .before .before .before .before .before .before .before .before .before .before .before .before .before .before .args .words .now) (c .before .before .before .before .loop .link), notes-at (g .3) (omega arith) (omega arith))))
+    (record { some = omega arith; fits = omega arith; text = omega arith; rows = g .2 .right }, (part-record (c .before .before .before .before .before .before .before .before .before .before .before .before .before .before .before .before .before .args .words .now) (c .before .before .before .before .loop .link), notes-at (g .3))))
     {- same-length -}
     (λ c. c .before .before .before .before .before .before .loop .inv .3 .least-size)
     {- same-length-2 -}
@@ -76,7 +76,7 @@ pass-spec =
     {- returns-7 -}
     (λ c o. refuses (c .before .record-ok .result) (c .before .record-ok .ensures) (c .if7 .taken) (o .right .rows (c .before .before .before .before .before .before .loop .link) (omega arith) (omega arith)))
     {- note-requires -}
-    (λ c κs. can-note (omega arith) (omega arith) (passes (c .before .before .before .record-ok .result) (c .before .before .before .record-ok .ensures) (c .before .before .if7 .left)) (notes-at (c .before .before .before .before .before .before .before .before .loop .inv .3) (omega arith) (omega arith)))
+    (λ c κs. can-note (omega arith) (omega arith) (passes (c .before .before .before .record-ok .result) (c .before .before .before .record-ok .ensures) (c .before .before .if7 .left)) (notes-at (c .before .before .before .before .before .before .before .before .loop .inv .3)))
     {- add-link -}
     (λ c. omega arith)
     {- loop-less -}
