@@ -22,16 +22,17 @@ use Rattle.names.specs.Names.{NamesPlaced}
 use Rattle.names.specs.Made.{Made}
 use Rattle.names.specs.Insert.{NamesInsertion, AnyNamesInsertion, NamesInserts}
 use Rattle.names.proofs.Making.{made-then, made-what, made-link, made-room}
+use Rattle.kinds.specs.Shapes.{shape-of}
+use Rattle.kinds.specs.declared.Form.{Form}
+use Rattle.kinds.specs.declared.Form.the-variants as form
 use Rattle.change.specs.declared.Change.{Change}
-use Rattle.change.specs.declared.Change.the-variants.{Name, Include, Open, Alias, Module}
 use Rattle.lookup.specs.Tries.{Reads}
-use Rattle.change.specs.Changes.{between, passed, which-of, node-of, leaf-of, mutated, namespaces-mutated, Cut, ChangeOk, Leaf, Node, NamespacesMutation, Mutation, Builds, LeafBuilt, NodeBuilt, NamespacesMutated, Mutated}
+use Rattle.change.specs.Changes.{between, passed, which-of, Kinds, node-of, leaf-of, mutated, namespaces-mutated, Cut, Included, ChangeOk, Leaf, Node, NamespacesMutation, Mutation, Builds, LeafBuilt, NodeBuilt, NamespacesMutated, Mutated}
 use Rattle.memory.proofs.Tries.{Lists, lists-in}
 use Rattle.lookup.proofs.Links.{holder-scope}
 use Rattle.change.proofs.Between.{place-next, passed-next, key-in}
 use Rattle.change.proofs.Building.{inserted-within, scope-insertion, scope-built}
 use Rattle.change.proofs.Leaves.{less-room}
-use Rattle.change.proofs.Nodes.{Kinds}
 
 -- ---- namespaces_mutate
 module _ {ws txt : List ℕ} {n used x from at len end : ℕ} {ch : Change} (g : NamespacesMutation ws txt n used x from at len end ch) where
@@ -106,12 +107,13 @@ segment-ready m h = (
 )
 
 -- The links of a change stay.
-change-stays : (ch : Change) {ws ws′ txt : List ℕ} {n n′ used : ℕ} {w : Which} {s : Sort} {r : ℕ} {t : Of (Item w) s} → Made ws ws′ txt n n′ used w s r t → ChangeOk ws txt n used ch → ChangeOk ws′ txt n′ used ch
-change-stays (Name id x) m c = record { sound = m .sound; texts = c .texts }
-change-stays (Include label l) m c = record { sound = m .sound; texts = (c .texts .0, made-link m (omega arith) (c .texts .1)) }
-change-stays (Open label l) m c = record { sound = m .sound; texts = (c .texts .0, made-link m (omega arith) (c .texts .1)) }
-change-stays (Alias key label l) m c = record { sound = m .sound; texts = (c .texts .0, c .texts .1, made-link m (omega arith) (c .texts .2)) }
-change-stays (Module loaded path) m c = record { sound = m .sound; texts = c .texts }
+change-stays : {ch : Change} {ws ws′ txt : List ℕ} {n n′ used : ℕ} {w : Which} {s : Sort} {r : ℕ} {t : Of (Item w) s} → Made ws ws′ txt n n′ used w s r t → ChangeOk ws txt n used ch → ChangeOk ws′ txt n′ used ch
+change-stays {ch} {ws} {ws′} {n = n} {n′} m c = record { sound = m .sound; text = c .text; key = c .key; inc = stays (shape-of (ch .kind) .form) (c .inc) }
+  where
+    stays : (f : Form) → Included f ws n (ch .inc) → Included f ws′ n′ (ch .inc)
+    stays form.Name i = i
+    stays form.Import i = made-link m (omega arith) i
+    stays (form.Module loaded) i = i
 
 module _ {ws txt : List ℕ} {n used x from at len end : ℕ} {ch : Change} {p : M.Trie} (m : Mutation ws txt n used x from at end ch) (c : Cut txt at len end) (q : ReadTrie ws x p) where
   mutation-lists : Lists ws txt n (which-of ch) x p
@@ -163,7 +165,7 @@ module _ {ws txt : List ℕ} {n used x from at len end : ℕ} {ch : Change} {p :
 
     pub mutation-node : Node ws₁ txt n₁ used x y from at len end ch
     mutation-node = record {
-      change = change-stays ch (spaces-builds .made) (m .change);
+      change = change-stays (spaces-builds .made) (m .change);
       link = made-link (spaces-builds .made) (omega arith) (m .link);
       list-link = spaces-builds .made .link;
       place = m .place;

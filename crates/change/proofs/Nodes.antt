@@ -17,21 +17,23 @@ use Rattle.source.specs.Terms.{heaviest, depth}
 use Rattle.source.specs.Counted.{Counted, pure, one, _>>=_, names-insertᶜ, ins-nsᶜ, ins-modᶜ, insᶜ}
 use Rattle.source.specs.Calls.{is-empty}
 use Rattle.source.proofs.Counted.{names-insert-value}
-use Rattle.memory.specs.Layout.{span, modules, item-of, Sort, list, trieˢ, kind-in, kind, what}
+use Rattle.memory.specs.Layout.{span, modules, item-of, list, trieˢ, kind, what}
 use Rattle.memory.specs.Stored.{stored}
 use Rattle.memory.specs.Read.{ReadTrie}
 use Rattle.memory.specs.declared.Trie as M
 use Rattle.memory.specs.Sound.{TextOk, SymbolOk, At}
 use Rattle.memory.specs.declared.Span.{Span}
+use Rattle.kinds.specs.Shapes.{shape-of}
+use Rattle.kinds.specs.declared.Form.{Form}
+use Rattle.kinds.specs.declared.Form.the-variants as form
 use Rattle.change.specs.declared.Change.{Change}
-use Rattle.change.specs.declared.Change.the-variants.{Name, Include, Open, Alias, Module}
 use Rattle.names.specs.Names.{NamesPlaced}
 use Rattle.names.specs.Made.{Room, MadeTrie}
 use Rattle.names.specs.Insert.{NamesInsertion, AnyNamesInsertion, NamesInserts}
 use Rattle.names.proofs.Making.{made-none}
 use Rattle.names.proofs.Inserting.{insertion-after}
 use Rattle.lookup.specs.Tries.{NsInserts}
-use Rattle.change.specs.Changes.{between, passed, which-of, bindings-of, node-of, symbol-row, Some, Bindings, Node, Builds, BindingsBuilt}
+use Rattle.change.specs.Changes.{between, passed, which-of, Kinds, bindings-by, node-of, symbol-row, Some, Bindings, Node, Builds, BindingsBuilt}
 use Rattle.lookup.proofs.Lookups.{some-left}
 use Rattle.change.proofs.Between.{span-length, place-next, key-in, full-name-is, full-name-in}
 use Rattle.memory.proofs.Tries.{Lists, lists-in}
@@ -39,23 +41,14 @@ use Rattle.change.proofs.Building.{builds-none, builds-insert, placed-l
 use Rattle.change.proofs.Leaves.{less-room}
 
 -- ---- kinds
-abbrev pub Kinds : Change → ℕ → Type 0
-Kinds ch r = (r ≤ 5) × ((s : Sort) → kind (which-of ch) s ≡ kind-in s + r)
-
-module _ {ch : Change} where
-  pub kinds-name : {id : Span} {x : ℕ} → ch ≡ Name id x → Kinds ch 0
+module _ (ch : Change) where
+  pub kinds-name : shape-of (ch .kind) .form ≡ form.Name → Kinds ch 0
   kinds-name e = rw e (omega arith, λ s. omega arith)
 
-  pub kinds-include : {label : Span} {l : ℕ} → ch ≡ Include label l → Kinds ch 0
-  kinds-include e = rw e (omega arith, λ s. omega arith)
+  pub kinds-import : shape-of (ch .kind) .form ≡ form.Import → Kinds ch 0
+  kinds-import e = rw e (omega arith, λ s. omega arith)
 
-  pub kinds-open : {label : Span} {l : ℕ} → ch ≡ Open label l → Kinds ch 0
-  kinds-open e = rw e (omega arith, λ s. omega arith)
-
-  pub kinds-alias : {key label : Span} {l : ℕ} → ch ≡ Alias key label l → Kinds ch 0
-  kinds-alias e = rw e (omega arith, λ s. omega arith)
-
-  pub kinds-module : {loaded : Bool} {path : Span} → ch ≡ Module loaded path → Kinds ch 5
+  pub kinds-module : {loaded : Bool} → shape-of (ch .kind) .form ≡ form.Module loaded → Kinds ch 5
   kinds-module e = rw e (omega arith, λ s. refl)
 
 -- ---- ins
@@ -110,9 +103,9 @@ symbol-reads txt at len from path true false = refl
 symbol-reads txt at len from path false true = refl
 symbol-reads txt at len from path false false = refl
 
-module _ {ws txt : List ℕ} {n used x from at len end : ℕ} {loaded : Bool} {path : Span} (i : Bindings ws txt n used x from at len end (Module loaded path)) where
+module _ {ws txt : List ℕ} {n used x from at len end : ℕ} {loaded : Bool} {path : Span} (i : Bindings ws txt n used x from at len end (form.Module loaded) path) where
   pub ins-list : At ws txt modules (list bind) x
-  ins-list = record { records = n; used = used; sound = i .change .sound; link = i .link }
+  ins-list = record { records = n; used = used; sound = i .sound; link = i .link }
 
   pub ins-key : TextOk IsKey txt used at len
   ins-key = key-in (i .place) (i .cut)
@@ -124,34 +117,34 @@ module _ {ws txt : List ℕ} {n used x from at len end : ℕ} {loaded : Bool} {p
     ins-last-is : ins-last ≡ is-empty (between txt (at + len + 1) end)
     ins-last-is =
         let d = place-next (i .place) (i .cut) in
-        let h = span-length txt (at + len + 1) (end - (at + len + 1)) (omega (arith, d .inside, d .within, i .change .sound .text-fits)) in
+        let h = span-length txt (at + len + 1) (end - (at + len + 1)) (omega (arith, d .inside, d .within, i .sound .text-fits)) in
         last-in (span txt (at + len + 1) (end - (at + len + 1))) (d .ends) ins-last (λ e. omega (arith, h, eqb-true (at + len + 1) end e)) (λ e. omega (arith, h, d .inside, eqb-false (at + len + 1) end e))
 
-    ins-of : bindings-of txt (Module loaded path) (what modules ws txt x (list bind)) (span txt at len) (between txt (at + len + 1) end) (passed txt from at)
+    ins-of : bindings-by txt (form.Module loaded) path (what modules ws txt x (list bind)) (span txt at len) (between txt (at + len + 1) end) (passed txt from at)
         ≡ cond (ins-last || b)
         (names-insertᶜ (what modules ws txt x (list bind)) (span txt at len) (item (item-of modules txt (symbol-row ins-last at len from loaded path))))
         (pure (what modules ws txt x (list bind)))
-    unfolding bindings-of
+    unfolding bindings-by
     ins-of =
         ins-is (span txt (path .start) (path .len)) (span txt at len) (between txt (at + len + 1) end) (passed txt from at) (what modules ws txt x (list bind)) ins-last loaded b ins-last-is
         (rw (z .found modules bind ins-list .says) (f .says txt))
-        ∙ rw (symbol-reads txt at len from path ins-last loaded, full-name-is (i .place) (i .cut) (i .change .sound .text-fits))
+        ∙ rw (symbol-reads txt at len from path ins-last loaded, full-name-is (i .place) (i .cut) (i .sound .text-fits))
 
     module _ (g : ins-last || b ≡ true) where
       ins-insertion : NamesInsertion ws txt modules bind n used x count (symbol-row ins-last at len from loaded path)
       ins-insertion =
           let v : Value S.ModSymbol bind = item (item-of modules txt (symbol-row ins-last at len from loaded path)) in
-          insertion-after (made-none (list bind) (i .change .sound) (i .link)) ins-list (omega (arith, i .link .earlier)) (symbol-row ins-last at len from loaded path) z
+          insertion-after (made-none (list bind) (i .sound) (i .link)) ins-list (omega (arith, i .link .earlier)) (symbol-row ins-last at len from loaded path) z
           (placed-light ins-list z v (rw (← names-insert-value) (rw (ins-of, g) at (i .light))))
           (rw (ins-of, g, placed-count ins-list z v) at (i .room))
           (record {
             known = refl;
             key = ins-key;
-            holds = symbol-ok (full-name-in (i .place) (i .cut) (i .change .sound .text-fits)) (i .change .texts) ins-last loaded;
+            holds = symbol-ok (full-name-in (i .place) (i .cut) (i .sound .text-fits)) (i .text-ok) ins-last loaded;
           })
 
       ins-built : {ws′ : List ℕ} {y : ℕ} → y ≡ n + count + 1 → NamesInserts ws ws′ txt n x count (symbol-row ins-last at len from loaded path) y
-          → Builds ws ws′ txt n used modules (list bind) (bindings-of txt (Module loaded path) (what modules ws txt x (list bind)) (span txt at len) (between txt (at + len + 1) end) (passed txt from at)) y y
+          → Builds ws ws′ txt n used modules (list bind) (bindings-by txt (form.Module loaded) path (what modules ws txt x (list bind)) (span txt at len) (between txt (at + len + 1) end) (passed txt from at)) y y
       ins-built e m = rw (ins-of, g) (builds-insert ins-insertion m e)
 
       -- As the code has the row.
@@ -159,46 +152,40 @@ module _ {ws txt : List ℕ} {n used x from at len end : ℕ} {loaded : Bool} {p
       ins-any e = rw e (record { which = modules; level = bind; used = used; insertion = ins-insertion })
 
       pub ins-made : {ws′ : List ℕ} {y : ℕ} {r : List ℕ} → r ≡ symbol-row ins-last at len from loaded path → y ≡ n + count + 1 → NamesInserts ws ws′ txt n x count r y
-          → Builds ws ws′ txt n used modules (list bind) (bindings-of txt (Module loaded path) (what modules ws txt x (list bind)) (span txt at len) (between txt (at + len + 1) end) (passed txt from at)) y y
+          → Builds ws ws′ txt n used modules (list bind) (bindings-by txt (form.Module loaded) path (what modules ws txt x (list bind)) (span txt at len) (between txt (at + len + 1) end) (passed txt from at)) y y
       ins-made e f m = ins-built f (rw e at m)
 
     pub ins-none : ins-last || b ≡ false
-        → Builds ws ws txt n used modules (list bind) (bindings-of txt (Module loaded path) (what modules ws txt x (list bind)) (span txt at len) (between txt (at + len + 1) end) (passed txt from at)) x n
-    ins-none g = rw (ins-of, g) (builds-none (list bind) (i .change .sound) (i .link))
+        → Builds ws ws txt n used modules (list bind) (bindings-by txt (form.Module loaded) path (what modules ws txt x (list bind)) (span txt at len) (between txt (at + len + 1) end) (passed txt from at)) x n
+    ins-none g = rw (ins-of, g) (builds-none (list bind) (i .sound) (i .link))
 
--- ---- the bindings of each change
-module _ {ws txt : List ℕ} {n x from at len end : ℕ} {ch : Change} where
-  pub keeps-name : {id : Span} {y : ℕ} → ch ≡ Name id y → BindingsBuilt ws ws txt n x from at len end ch x n
-  unfolding bindings-of
-  keeps-name e = rw e (λ used i. builds-none (list bind) (i .change .sound) (i .link))
+-- ---- the bindings of each form
+module _ {ws txt : List ℕ} {n x from at len end : ℕ} {f : Form} {text : Span} where
+  pub keeps-name : f ≡ form.Name → BindingsBuilt ws ws txt n x from at len end f text x n
+  unfolding bindings-by
+  keeps-name e = rw e (λ used i. builds-none (list bind) (i .sound) (i .link))
 
-  pub keeps-include : {label : Span} {l : ℕ} → ch ≡ Include label l → BindingsBuilt ws ws txt n x from at len end ch x n
-  unfolding bindings-of
-  keeps-include e = rw e (λ used i. builds-none (list bind) (i .change .sound) (i .link))
+  pub keeps-import : f ≡ form.Import → BindingsBuilt ws ws txt n x from at len end f text x n
+  unfolding bindings-by
+  keeps-import e = rw e (λ used i. builds-none (list bind) (i .sound) (i .link))
 
-  pub keeps-open : {label : Span} {l : ℕ} → ch ≡ Open label l → BindingsBuilt ws ws txt n x from at len end ch x n
-  unfolding bindings-of
-  keeps-open e = rw e (λ used i. builds-none (list bind) (i .change .sound) (i .link))
+  module _ {g : Form} (e : f ≡ g) where
+    pub bindings-as : Some (λ used. Bindings ws txt n used x from at len end f text) → Some (λ used. Bindings ws txt n used x from at len end g text)
+    bindings-as i = rw e at i
 
-  pub keeps-alias : {key label : Span} {l : ℕ} → ch ≡ Alias key label l → BindingsBuilt ws ws txt n x from at len end ch x n
-  unfolding bindings-of
-  keeps-alias e = rw e (λ used i. builds-none (list bind) (i .change .sound) (i .link))
-
-  pub bindings-as : {ch′ : Change} → ch ≡ ch′ → Some (λ used. Bindings ws txt n used x from at len end ch) → Some (λ used. Bindings ws txt n used x from at len end ch′)
-  bindings-as e i = rw e at i
-
-  pub bindings-by : {ws′ : List ℕ} {link n′ : ℕ} {ch′ : Change} → ch ≡ ch′ → BindingsBuilt ws ws′ txt n x from at len end ch′ link n′ → BindingsBuilt ws ws′ txt n x from at len end ch link n′
-  bindings-by e b = rw e b
+    pub bindings-to : {ws′ : List ℕ} {link n′ : ℕ} → BindingsBuilt ws ws′ txt n x from at len end g text link n′ → BindingsBuilt ws ws′ txt n x from at len end f text link n′
+    bindings-to b = rw e b
 
 -- ---- mut_node
 module _ {ws txt : List ℕ} {n used x y from at len end : ℕ} {ch : Change} {p : M.Trie} (i : Node ws txt n used x y from at len end ch) (q : ReadTrie ws x p) where
   node-lists : Lists ws txt n (which-of ch) x p
   node-lists = lists-in (i .change .sound) (i .link) q
 
-  pub node-bindings : Bindings ws txt n used (p .bindings) from at len end ch
+  pub node-bindings : Bindings ws txt n used (p .bindings) from at len end (shape-of (ch .kind) .form) (ch .text)
   unfolding node-of _>>=_ one heaviest
   node-bindings = record {
-    change = i .change;
+    sound = i .change .sound;
+    text-ok = i .change .text;
     link = node-lists .b-link;
     place = i .place;
     cut = i .cut;
@@ -206,7 +193,7 @@ module _ {ws txt : List ℕ} {n used x y from at len end : ℕ} {ch : Change} {p
     light = rw (node-lists .b-reads) (omega (arith, i .fits .light));
   }
 
-  module _ {ws₁ : List ℕ} {b n₁ : ℕ} (B : BindingsBuilt ws ws₁ txt n (p .bindings) from at len end ch b n₁) where
+  module _ {ws₁ : List ℕ} {b n₁ : ℕ} (B : BindingsBuilt ws ws₁ txt n (p .bindings) from at len end (shape-of (ch .kind) .form) (ch .text) b n₁) where
     pub node-ready : Room ws₁ n₁ 1 × ((y ≤ n₁) × (stored ws₁ y 11 ≤ 16))
     unfolding node-of _>>=_ one depth
     node-ready = bindings-ready (B used node-bindings) (i .list-link) (rw (node-lists .b-reads) (i .fits .room)) (i .fits .shallow)

@@ -1,7 +1,7 @@
 -- Changes of a trie: the source's mut_node and mut_leaf of each with their records, and what the cycle asks and makes.
 use Prim.Native.Nat.{ℕ, _+_, _-_, _≤_, _<_}
 use mathlib.Core.Path.{_≡_}
-use mathlib.Core.Bool.{Bool, true, cond}
+use mathlib.Core.Bool.{Bool, true, false, cond}
 use mathlib.Core.List.{List, [], _∷_, reverse}
 use Rattle.source.specs.Text.{Str, Query, segments, ends-in-dot}
 use Rattle.source.specs.Types.{Trie, NameList, bind, ns, item, trie, []ᴺ, ImportedNames, bindings, namespaces}
@@ -10,13 +10,17 @@ use Rattle.source.specs.Terms.{heaviest, heaviest-names, depth, depth-names}
 use Rattle.source.specs.Rules.{IsKey, IsLabel, IsPath}
 use Rattle.source.specs.Counted.{Counted, pure, one, _>>=_, MutNodeᶜ, names-insertᶜ, trie-mutateᶜ, insᶜ}
 use Rattle.source.specs.Queries.{IsQuery}
-use Rattle.memory.specs.Layout.{span, Which, names, modules, Item, Sort, list, trieˢ, Of, kind, what}
+use Rattle.memory.specs.Layout.{span, Which, names, modules, Item, Sort, list, trieˢ, Of, kind-in, kind, what}
 use Rattle.memory.specs.Sound.{LinkOk, TextOk, Used}
 use Rattle.memory.specs.Read.{text-of}
 use Rattle.memory.specs.declared.Span.{Span}
 use Rattle.names.specs.Made.{Room, Made}
+use Rattle.kinds.specs.Shapes.{shape-of}
+use Rattle.kinds.specs.declared.Kind.{Kind}
+use Rattle.kinds.specs.declared.Kind.the-variants.{Name, Include, Open, Alias, Module}
+use Rattle.kinds.specs.declared.Form.{Form}
+use Rattle.kinds.specs.declared.Form.the-variants as form
 use Rattle.change.specs.declared.Change.{Change}
-use Rattle.change.specs.declared.Change.the-variants.{Name, Include, Open, Alias, Module}
 
 -- ---- Queries in the text
 
@@ -47,46 +51,65 @@ pub record Cut (txt : List ℕ) (at len end : ℕ) : Type 0 where
 
 -- ---- Changes
 
+-- The table that a form changes.
+abbrev pub which-by : Form → Which
+which-by form.Name = names
+which-by form.Import = names
+which-by (form.Module loaded) = modules
+
 -- The table that a change is of.
 abbrev pub which-of : Change → Which
-which-of (Name id x) = names
-which-of (Include label l) = names
-which-of (Open label l) = names
-which-of (Alias key label l) = names
-which-of (Module loaded path) = modules
+which-of ch = which-by (shape-of (ch .kind) .form)
 
--- The bindings that mut_node gives a trie.
-unfoldable pub bindings-of : List ℕ → (ch : Change) → NameList (Item (which-of ch)) bind → Str → Query → Query → Counted (NameList (Item (which-of ch)) bind)
-bindings-of txt (Name id x) b s q revq = pure b
-bindings-of txt (Include label l) b s q revq = pure b
-bindings-of txt (Open label l) b s q revq = pure b
-bindings-of txt (Alias key label l) b s q revq = pure b
-bindings-of txt (Module loaded path) b s q revq = insᶜ (text-of txt path) s q revq b loaded
+-- What is added to the kinds of the names table in the table of a change.
+abbrev pub Kinds : Change → ℕ → Type 0
+Kinds ch r = (r ≤ 5) × ((s : Sort) → kind (which-of ch) s ≡ kind-in s + r)
+
+-- A change by its parts.
+abbrev pub change-of : Kind → (text key : Span) (inc : ℕ) → Change
+change-of k text key inc = record { kind = k; text = text; key = key; inc = inc }
+
+-- The change ch, where its kind is k.
+abbrev pub with-kind : Kind → Change → Change
+with-kind k ch = change-of k (ch .text) (ch .key) (ch .inc)
+
+-- The label of an included query: without its last dot.
+abbrev pub label-in : Span → Span
+label-in text = record { start = text .start; len = text .len - 1 }
+
+-- The bindings that mut_node gives a trie: a module path's alone are changed.
+unfoldable pub bindings-by : List ℕ → (f : Form) → Span → NameList (Item (which-by f)) bind → Str → Query → Query → Counted (NameList (Item (which-by f)) bind)
+bindings-by txt form.Name text b s q revq = pure b
+bindings-by txt form.Import text b s q revq = pure b
+bindings-by txt (form.Module loaded) text b s q revq = insᶜ (text-of txt text) s q revq b loaded
 
 -- mut_node.
 unfoldable pub node-of : List ℕ → (ch : Change) → MutNodeᶜ (Item (which-of ch))
 node-of txt ch tr s q revq n = do
-  b ← bindings-of txt ch (bindings tr) s q revq
+  b ← bindings-by txt (shape-of (ch .kind) .form) (ch .text) (bindings tr) s q revq
   one (trie b n)
 
--- mut_leaf.
-unfoldable pub leaf-of : (ws txt : List ℕ) (ch : Change) → Trie (Item (which-of ch)) → Counted (Trie (Item (which-of ch)))
-leaf-of ws txt (Name id x) tr = do
-  b ← names-insertᶜ (bindings tr) (text-of txt id) (item x)
+-- mut_leaf of each kind: inc is the included trie.
+unfoldable pub leaf-by : (ws txt : List ℕ) (k : Kind) (text key : Span) (inc : ℕ) → Trie (Item (which-by (shape-of k .form))) → Counted (Trie (Item (which-by (shape-of k .form))))
+leaf-by ws txt (Name number) text key inc tr = do
+  b ← names-insertᶜ (bindings tr) (text-of txt text) (item number)
   one (trie b (namespaces tr))
-leaf-of ws txt (Include label l) tr = do
-  b ← one (ImportedNames (text-of txt label) (what names ws txt l (list bind)) (bindings tr))
+leaf-by ws txt Include text key inc tr = do
+  b ← one (ImportedNames (text-of txt (label-in text)) (bindings (what names ws txt inc trieˢ)) (bindings tr))
   one (trie b (namespaces tr))
-leaf-of ws txt (Open label l) tr = do
-  n ← one (ImportedNames (text-of txt label) (what names ws txt l (list ns)) (namespaces tr))
+leaf-by ws txt Open text key inc tr = do
+  n ← one (ImportedNames (text-of txt (label-in text)) (namespaces (what names ws txt inc trieˢ)) (namespaces tr))
   one (trie (bindings tr) n)
-leaf-of ws txt (Alias key label l) tr = do
+leaf-by ws txt Alias text key inc tr = do
   scope ← do
-    b ← one (ImportedNames (text-of txt label) (what names ws txt l (list bind)) []ᴺ)
+    b ← one (ImportedNames (text-of txt (label-in text)) (bindings (what names ws txt inc trieˢ)) []ᴺ)
     one (trie b []ᴺ)
   n ← names-insertᶜ (namespaces tr) (text-of txt key) scope
   one (trie (bindings tr) n)
-leaf-of ws txt (Module loaded path) tr = pure tr
+leaf-by ws txt (Module loaded) text key inc tr = pure tr
+
+abbrev pub leaf-of : (ws txt : List ℕ) (ch : Change) → Trie (Item (which-of ch)) → Counted (Trie (Item (which-of ch)))
+leaf-of ws txt ch tr = leaf-by ws txt (ch .kind) (ch .text) (ch .key) (ch .inc) tr
 
 -- trie_mutate of a change.
 abbrev pub mutated : (ws txt : List ℕ) (ch : Change) → Trie (Item (which-of ch)) → (from at end : ℕ) → Counted (Trie (Item (which-of ch)))
@@ -100,19 +123,29 @@ namespaces-mutated ws txt ch n from at len end = do
 
 -- ---- What a change asks
 
--- The texts and links of a change.
-abbrev pub Texts : (ws txt : List ℕ) (n used : ℕ) (ch : Change) → Type 0
-Texts ws txt n used (Name id x) = TextOk IsKey txt used (id .start) (id .len)
-Texts ws txt n used (Include label l) = TextOk IsLabel txt used (label .start) (label .len) × LinkOk ws (n + 1) l (kind names (list bind))
-Texts ws txt n used (Open label l) = TextOk IsLabel txt used (label .start) (label .len) × LinkOk ws (n + 1) l (kind names (list ns))
-Texts ws txt n used (Alias key label l) =
-    TextOk IsKey txt used (key .start) (key .len) × TextOk IsLabel txt used (label .start) (label .len) × LinkOk ws (n + 1) l (kind names (list bind))
-Texts ws txt n used (Module loaded path) = TextOk IsPath txt used (path .start) (path .len)
+-- The second text, by the form.
+abbrev pub TextFor : Form → (txt : List ℕ) (used : ℕ) → Span → Type 0
+TextFor form.Name txt used text = TextOk IsKey txt used (text .start) (text .len)
+TextFor form.Import txt used text = TextOk IsLabel txt used (text .start) (text .len - 1)
+TextFor (form.Module loaded) txt used text = TextOk IsPath txt used (text .start) (text .len)
+
+-- The key, where the kind has one.
+abbrev pub KeyFor : (keyed : Bool) (txt : List ℕ) (used : ℕ) → Span → Type 0
+KeyFor true txt used key = TextOk IsKey txt used (key .start) (key .len)
+KeyFor false txt used key = Unit {0}
+
+-- The included trie of an import.
+abbrev pub Included : Form → (ws : List ℕ) (n inc : ℕ) → Type 0
+Included form.Name ws n inc = Unit {0}
+Included form.Import ws n inc = LinkOk ws (n + 1) inc (kind names trieˢ)
+Included (form.Module loaded) ws n inc = Unit {0}
 
 -- A memory with a change to make.
 pub record ChangeOk (ws txt : List ℕ) (n used : ℕ) (ch : Change) : Type 0 where
   pub sound : Used ws txt n used
-  pub texts : Texts ws txt n used ch
+  pub text : TextFor (shape-of (ch .kind) .form) txt used (ch .text)
+  pub key : KeyFor (shape-of (ch .kind) .keyed) txt used (ch .key)
+  pub inc : Included (shape-of (ch .kind) .form) ws n (ch .inc)
 
 -- Room for the records of a trie, and no list of it too heavy, nor itself too deep.
 pub record Fits {A : Type 0} (ws : List ℕ) (n : ℕ) (c : Counted (Trie A)) : Type 0 where
@@ -133,13 +166,14 @@ pub record Leaf (ws txt : List ℕ) (n used x : ℕ) (ch : Change) : Type 0 wher
   pub fits : Fits ws n (leaf-of ws txt ch (what (which-of ch) ws txt x trieˢ))
 
 -- What the change of a trie's bindings asks, on the way down a query.
-pub record Bindings (ws txt : List ℕ) (n used x from at len end : ℕ) (ch : Change) : Type 0 where
-  pub change : ChangeOk ws txt n used ch
-  pub link : LinkOk ws (n + 1) x (kind (which-of ch) (list bind))
+pub record Bindings (ws txt : List ℕ) (n used x from at len end : ℕ) (f : Form) (text : Span) : Type 0 where
+  pub sound : Used ws txt n used
+  pub text-ok : TextFor f txt used text
+  pub link : LinkOk ws (n + 1) x (kind (which-by f) (list bind))
   pub place : Place txt used from at end
   pub cut : Cut txt at len end
-  pub room : Room ws n (bindings-of txt ch (what (which-of ch) ws txt x (list bind)) (span txt at len) (between txt (at + len + 1) end) (passed txt from at) .count)
-  pub light : heaviest-names (bindings-of txt ch (what (which-of ch) ws txt x (list bind)) (span txt at len) (between txt (at + len + 1) end) (passed txt from at) .value) ≤ 96
+  pub room : Room ws n (bindings-by txt f text (what (which-by f) ws txt x (list bind)) (span txt at len) (between txt (at + len + 1) end) (passed txt from at) .count)
+  pub light : heaviest-names (bindings-by txt f text (what (which-by f) ws txt x (list bind)) (span txt at len) (between txt (at + len + 1) end) (passed txt from at) .value) ≤ 96
 
 -- What mut_node asks, where y is the new list of namespaces.
 pub record Node (ws txt : List ℕ) (n used x y from at len end : ℕ) (ch : Change) : Type 0 where
@@ -183,10 +217,10 @@ LeafBuilt ws ws′ txt n x ch link n′ =
     (used : ℕ) → Leaf ws txt n used x ch → Builds ws ws′ txt n used (which-of ch) trieˢ (leaf-of ws txt ch (what (which-of ch) ws txt x trieˢ)) link n′
 
 -- The change of the bindings.
-abbrev pub BindingsBuilt : (ws ws′ txt : List ℕ) (n x from at len end : ℕ) (ch : Change) (link n′ : ℕ) → Type 0
-BindingsBuilt ws ws′ txt n x from at len end ch link n′ =
-    (used : ℕ) → Bindings ws txt n used x from at len end ch
-    → Builds ws ws′ txt n used (which-of ch) (list bind) (bindings-of txt ch (what (which-of ch) ws txt x (list bind)) (span txt at len) (between txt (at + len + 1) end) (passed txt from at)) link n′
+abbrev pub BindingsBuilt : (ws ws′ txt : List ℕ) (n x from at len end : ℕ) (f : Form) (text : Span) (link n′ : ℕ) → Type 0
+BindingsBuilt ws ws′ txt n x from at len end f text link n′ =
+    (used : ℕ) → Bindings ws txt n used x from at len end f text
+    → Builds ws ws′ txt n used (which-by f) (list bind) (bindings-by txt f text (what (which-by f) ws txt x (list bind)) (span txt at len) (between txt (at + len + 1) end) (passed txt from at)) link n′
 
 -- mut_node.
 abbrev pub NodeBuilt : (ws ws′ txt : List ℕ) (n x y from at len end : ℕ) (ch : Change) (link n′ : ℕ) → Type 0

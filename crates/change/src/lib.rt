@@ -1,26 +1,25 @@
-// The change of a trie: the source's namespaces_mutate and trie_mutate with the leaf of each change, building records after the used ones.
+// The change of a trie: the source's namespaces_mutate and trie_mutate with the leaf of each kind, building records after the used ones.
+use kinds::Form;
+use kinds::Kind;
 use memory::Span;
 ghost use mathlib.Core.Path.{_≡_};
 ghost use mathlib.Core.Bool.{true, cond};
 ghost use Prim.Native.Nat.{_+_, _-_, _<_, _≤_};
 ghost use lib.ListN.{length};
 ghost use Rattle.source.specs.Text.{ends-in-dot};
-ghost use Rattle.memory.specs.Layout.{span, Sort, kind-in, kind};
-ghost use Rattle.change.specs.Changes.{which-of, symbol-row, Cut, Some, Leaf, Bindings, Node, NamespacesMutation, Mutation, LeafBuilt, BindingsBuilt, NodeBuilt, NamespacesMutated, Mutated};
-ghost use Rattle.change.specs.declared.Change.the-variants.{Name, Include, Open, Alias, Module};
+ghost use Rattle.memory.specs.Layout.{span};
+ghost use Rattle.kinds.specs.Shapes.{shape-of};
+ghost use Rattle.kinds.specs.declared.Kind.the-variants.{Name, Include, Open, Alias};
+ghost use Rattle.kinds.specs.declared.Form.the-variants as form;
+ghost use Rattle.change.specs.Changes.{with-kind, label-in, Kinds, symbol-row, Cut, Some, Leaf, Bindings, Node, NamespacesMutation, Mutation, LeafBuilt, BindingsBuilt, NodeBuilt, NamespacesMutated, Mutated};
 
-// A change of a trie. Texts are spans of the table's text; the links are those of the included list.
-pub enum Change {
-    // A name and its item.
-    Name(Span, u32),
-    // A label and the included bindings.
-    Include(Span, u32),
-    // A label and the included namespaces.
-    Open(Span, u32),
-    // A key, a label and the included bindings.
-    Alias(Span, Span, u32),
-    // Whether the module is loaded, and its file path.
-    Module(bool, Span),
+// A change of a trie: its kind, its second text and key as spans of the table's text, and the included trie.
+// What the kind does not use is of no account.
+pub struct Change {
+    pub kind: Kind,
+    pub text: Span,
+    pub key: Span,
+    pub inc: u32,
 }
 
 // A link, and the records used after its making.
@@ -41,14 +40,35 @@ fn segment_in(text: &[u8], at: u32, end: u32) -> u32
 
 // What is added to the kinds of the names table in the table of a change.
 fn kinds_of(change: Change) -> u32
-    ensures { λ r. ⌜ (r ≤ 5) × ((s : Sort) → kind (which-of change) s ≡ kind-in s + r) ⌝ }
+    ensures { λ r. ⌜ Kinds change r ⌝ }
 {
-    match change {
-        Change::Name(_, _) => 0,
-        Change::Include(_, _) => 0,
-        Change::Open(_, _) => 0,
-        Change::Alias(_, _, _) => 0,
-        Change::Module(_, _) => 5,
+    let kind = change.kind;
+    let s = kinds::shape_of(kind);
+    let f = s.form;
+    match f {
+        Form::Name => 0,
+        Form::Import => 0,
+        Form::Module(_) => 5,
+    }
+}
+
+// One less, down to 0.
+fn less_one(n: u32) -> u32
+    ensures { λ r. ⌜ r ≡ n - 1 ⌝ }
+{
+    if n == 0 {
+        return 0;
+    }
+    n - 1
+}
+
+// The label of an included query: without its last dot.
+fn label_of(text: Span) -> Span
+    ensures { λ r. ⌜ r ≡ label-in text ⌝ }
+{
+    Span {
+        start: text.start,
+        len: less_one(text.len),
     }
 }
 
@@ -58,17 +78,18 @@ fn insert_leaf(
     text: &[u8],
     records: u32,
     trie: u32,
-    id: Span,
-    item: u32,
+    change: Change,
+    number: u32,
 ) -> Built
-    requires { ⌜ Some (λ used. Leaf (now words) (now text) records used trie (Name id item)) ⌝ }
-    ensures { λ r. ⌜ LeafBuilt (now (words .entry)) (now (words .exit)) (now (text .entry)) records trie (Name id item) (r .link) (r .records) ⌝ }
+    requires { ⌜ Some (λ used. Leaf (now words) (now text) records used trie (with-kind (Name number) change)) ⌝ }
+    ensures { λ r. ⌜ LeafBuilt (now (words .entry)) (now (words .exit)) (now (text .entry)) records trie (with-kind (Name number) change) (r .link) (r .records) ⌝ }
 {
     let t = memory::trie_of(words, trie);
+    let id = change.text;
     let start = id.start as usize;
     let len = id.len as usize;
     let p = names::names_place(words, text, t.bindings, &text[start..start + len]);
-    let row = [1, id.start, id.len, 0, 0, item, 0, 0, 0, 0, 0, 0];
+    let row = [1, id.start, id.len, 0, 0, number, 0, 0, 0, 0, 0, 0];
     let b = names::names_insert(words, text, records, t.bindings, p.count, row);
     let link = names::put_trie(words, b, 5, b, t.namespaces);
     Built {
@@ -78,19 +99,14 @@ fn insert_leaf(
 }
 
 // trie_include's.
-fn include_leaf(
-    words: &mut [u32],
-    text: &[u8],
-    records: u32,
-    trie: u32,
-    label: Span,
-    inc: u32,
-) -> Built
-    requires { ⌜ Some (λ used. Leaf (now words) (now text) records used trie (Include label inc)) ⌝ }
-    ensures { λ r. ⌜ LeafBuilt (now (words .entry)) (now (words .exit)) (now (text .entry)) records trie (Include label inc) (r .link) (r .records) ⌝ }
+fn include_leaf(words: &mut [u32], text: &[u8], records: u32, trie: u32, change: Change) -> Built
+    requires { ⌜ Some (λ used. Leaf (now words) (now text) records used trie (with-kind Include change)) ⌝ }
+    ensures { λ r. ⌜ LeafBuilt (now (words .entry)) (now (words .exit)) (now (text .entry)) records trie (with-kind Include change) (r .link) (r .records) ⌝ }
 {
     let t = memory::trie_of(words, trie);
-    let b = names::imported(words, records, 3, label, inc, t.bindings);
+    let i = memory::trie_of(words, change.inc);
+    let label = label_of(change.text);
+    let b = names::imported(words, records, 3, label, i.bindings, t.bindings);
     let link = names::put_trie(words, b, 5, b, t.namespaces);
     Built {
         link: link,
@@ -99,19 +115,14 @@ fn include_leaf(
 }
 
 // trie_open_namespace's.
-fn open_leaf(
-    words: &mut [u32],
-    text: &[u8],
-    records: u32,
-    trie: u32,
-    label: Span,
-    inc: u32,
-) -> Built
-    requires { ⌜ Some (λ used. Leaf (now words) (now text) records used trie (Open label inc)) ⌝ }
-    ensures { λ r. ⌜ LeafBuilt (now (words .entry)) (now (words .exit)) (now (text .entry)) records trie (Open label inc) (r .link) (r .records) ⌝ }
+fn open_leaf(words: &mut [u32], text: &[u8], records: u32, trie: u32, change: Change) -> Built
+    requires { ⌜ Some (λ used. Leaf (now words) (now text) records used trie (with-kind Open change)) ⌝ }
+    ensures { λ r. ⌜ LeafBuilt (now (words .entry)) (now (words .exit)) (now (text .entry)) records trie (with-kind Open change) (r .link) (r .records) ⌝ }
 {
     let t = memory::trie_of(words, trie);
-    let n = names::imported(words, records, 4, label, inc, t.namespaces);
+    let i = memory::trie_of(words, change.inc);
+    let label = label_of(change.text);
+    let n = names::imported(words, records, 4, label, i.namespaces, t.namespaces);
     let link = names::put_trie(words, n, 5, t.bindings, n);
     Built {
         link: link,
@@ -120,23 +131,18 @@ fn open_leaf(
 }
 
 // trie_add_alias's: at the key a fresh trie of the included bindings alone.
-fn alias_leaf(
-    words: &mut [u32],
-    text: &[u8],
-    records: u32,
-    trie: u32,
-    key: Span,
-    label: Span,
-    inc: u32,
-) -> Built
-    requires { ⌜ Some (λ used. Leaf (now words) (now text) records used trie (Alias key label inc)) ⌝ }
-    ensures { λ r. ⌜ LeafBuilt (now (words .entry)) (now (words .exit)) (now (text .entry)) records trie (Alias key label inc) (r .link) (r .records) ⌝ }
+fn alias_leaf(words: &mut [u32], text: &[u8], records: u32, trie: u32, change: Change) -> Built
+    requires { ⌜ Some (λ used. Leaf (now words) (now text) records used trie (with-kind Alias change)) ⌝ }
+    ensures { λ r. ⌜ LeafBuilt (now (words .entry)) (now (words .exit)) (now (text .entry)) records trie (with-kind Alias change) (r .link) (r .records) ⌝ }
 {
     let t = memory::trie_of(words, trie);
+    let i = memory::trie_of(words, change.inc);
+    let label = label_of(change.text);
+    let key = change.key;
     let start = key.start as usize;
     let len = key.len as usize;
     let p = names::names_place(words, text, t.namespaces, &text[start..start + len]);
-    let b = names::imported(words, records, 3, label, inc, 0);
+    let b = names::imported(words, records, 3, label, i.bindings, 0);
     let scope = names::put_trie(words, b, 5, b, 0);
     let row = [2, key.start, key.len, 0, 0, scope, 0, 0, 0, 0, 0, 0];
     let n = names::names_insert(words, text, scope, t.namespaces, p.count, row);
@@ -152,12 +158,13 @@ fn mut_leaf(words: &mut [u32], text: &[u8], records: u32, trie: u32, change: Cha
     requires { ⌜ Some (λ used. Leaf (now words) (now text) records used trie change) ⌝ }
     ensures { λ r. ⌜ LeafBuilt (now (words .entry)) (now (words .exit)) (now (text .entry)) records trie change (r .link) (r .records) ⌝ }
 {
-    match change {
-        Change::Name(id, item) => insert_leaf(words, text, records, trie, id, item),
-        Change::Include(label, inc) => include_leaf(words, text, records, trie, label, inc),
-        Change::Open(label, inc) => open_leaf(words, text, records, trie, label, inc),
-        Change::Alias(key, label, inc) => alias_leaf(words, text, records, trie, key, label, inc),
-        Change::Module(_, _) => Built {
+    let kind = change.kind;
+    match kind {
+        Kind::Name(number) => insert_leaf(words, text, records, trie, change, number),
+        Kind::Include => include_leaf(words, text, records, trie, change),
+        Kind::Open => open_leaf(words, text, records, trie, change),
+        Kind::Alias => alias_leaf(words, text, records, trie, change),
+        Kind::Module(_) => Built {
             link: trie,
             records: records,
         },
@@ -213,8 +220,8 @@ fn ins(
     loaded: bool,
     path: Span,
 ) -> Built
-    requires { ⌜ Some (λ used. Bindings (now words) (now text) records used bindings from at len end (Module loaded path)) ⌝ }
-    ensures { λ r. ⌜ BindingsBuilt (now (words .entry)) (now (words .exit)) (now (text .entry)) records bindings from at len end (Module loaded path) (r .link) (r .records) ⌝ }
+    requires { ⌜ Some (λ used. Bindings (now words) (now text) records used bindings from at len end (form.Module loaded) path) ⌝ }
+    ensures { λ r. ⌜ BindingsBuilt (now (words .entry)) (now (words .exit)) (now (text .entry)) records bindings from at len end (form.Module loaded) path (r .link) (r .records) ⌝ }
 {
     let first = at as usize;
     let size = len as usize;
@@ -246,27 +253,22 @@ fn mut_bindings(
     end: u32,
     change: Change,
 ) -> Built
-    requires { ⌜ Some (λ used. Bindings (now words) (now text) records used bindings from at len end change) ⌝ }
-    ensures { λ r. ⌜ BindingsBuilt (now (words .entry)) (now (words .exit)) (now (text .entry)) records bindings from at len end change (r .link) (r .records) ⌝ }
+    requires { ⌜ Some (λ used. Bindings (now words) (now text) records used bindings from at len end (shape-of (change .kind) .form) (change .text)) ⌝ }
+    ensures { λ r. ⌜ BindingsBuilt (now (words .entry)) (now (words .exit)) (now (text .entry)) records bindings from at len end (shape-of (change .kind) .form) (change .text) (r .link) (r .records) ⌝ }
 {
-    match change {
-        Change::Name(_, _) => Built {
+    let kind = change.kind;
+    let s = kinds::shape_of(kind);
+    let f = s.form;
+    match f {
+        Form::Name => Built {
             link: bindings,
             records: records,
         },
-        Change::Include(_, _) => Built {
+        Form::Import => Built {
             link: bindings,
             records: records,
         },
-        Change::Open(_, _) => Built {
-            link: bindings,
-            records: records,
-        },
-        Change::Alias(_, _, _) => Built {
-            link: bindings,
-            records: records,
-        },
-        Change::Module(loaded, path) => ins(
+        Form::Module(loaded) => ins(
             words,
             text,
             records,
@@ -276,7 +278,7 @@ fn mut_bindings(
             len,
             end,
             loaded,
-            path,
+            change.text,
         ),
     }
 }

@@ -1,3 +1,4 @@
 pub mod Links
 pub mod Lookups
 pub mod Symbols
+pub mod Roots

@@ -168,11 +168,6 @@ module _ {ws txt : List ℕ} {root link steps records : ℕ} {crowded : Bool} (h
             deep = rw number-is;
           }
 
--- An open of a module is an include.
-pub open-module-planned : {tbl : Table} {host query : Str} {r : Plan} → Planned tbl (include host query) r → Planned tbl (opens true host query) r
-unfolding plan-records plan-crowded plan-weight plan-depth
-open-module-planned h = record { records = h .records; crowded = h .crowded; deep = h .deep }
-
 -- ---- module paths
 module _ {ws txt : List ℕ} {x : ℕ} {p : M.Trie} {s : Str} {holder count wt : ℕ} {last loaded b : Bool} (t : At ws txt modules trieˢ x) (q : ReadTrie ws x p)
     (z : NamesPlaced ws txt (p .bindings) s holder count wt) (n : NsInserts ws holder loaded b) where

@@ -14,6 +14,8 @@ use Rattle.source.specs.Plans.{host-of}
 use Rattle.source.specs.Plans.{along, inserted-records, inserted-weight, ins-inserts, step-records, step-weight, plan-depth, plan-crowded, plan-records}
 use Rattle.memory.specs.Layout.{Which, names, modules, trieˢ, what}
 use Rattle.lookup.specs.Tries.{Reads}
+use Rattle.kinds.specs.declared.Form.{Form}
+use Rattle.kinds.specs.declared.Form.the-variants as form
 use Rattle.plan.specs.declared.Plan.{Plan}
 use Rattle.memory.specs.Sound.{At}
 
@@ -67,11 +69,11 @@ NamePlanned ws txt root host id p =
 abbrev pub Includes : (ws txt : List ℕ) (root inc : ℕ) (q : Str) → Type 0
 Includes ws txt root inc q = what names ws txt inc trieˢ ≡ included (what names ws txt root trieˢ) (segments q)
 
--- Of an include, and of an open of a module.
+-- Of an include.
 abbrev pub IncludePlanned : (ws txt : List ℕ) (root inc : ℕ) (host : Str) (p : Plan) → Type 0
 IncludePlanned ws txt root inc host p =
     (tbl : Table) (q : Str) → tbl .tbl-lids ≡ what names ws txt root trieˢ → Includes ws txt root inc q
-    → Planned tbl (include host q) p × Planned tbl (opens Bool.true host q) p
+    → Planned tbl (include host q) p
 
 -- Of an open of a namespace.
 abbrev pub OpenPlanned : (ws txt : List ℕ) (root inc : ℕ) (host : Str) (p : Plan) → Type 0
@@ -89,3 +91,9 @@ AliasPlanned ws txt root inc key host p =
 abbrev pub ModulePlanned : (ws txt : List ℕ) (root : ℕ) (loaded : Bool) (query : Str) (p : Plan) → Type 0
 ModulePlanned ws txt root loaded query p =
     (tbl : Table) (path : Str) → tbl .tbl-mods ≡ what modules ws txt root trieˢ → Planned tbl (module-path loaded query path) p
+
+-- The link r reads as the trie that a form includes, 0 where it includes none.
+abbrev pub Carries : Form → (ws txt : List ℕ) (root : ℕ) (other : Str) (r : ℕ) → Type 0
+Carries form.Name ws txt root other r = r ≡ 0
+Carries form.Import ws txt root other r = Reads ws txt names root r (included (what names ws txt root trieˢ) (segments other))
+Carries (form.Module loaded) ws txt root other r = r ≡ 0

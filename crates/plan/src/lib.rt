@@ -1,14 +1,17 @@
 // Planning: the records that a registration would build, and whether a list would be too heavy or a root too deep.
 // It goes down the host's path and reads what stands there; nothing is written.
+use kinds::Kind;
+use memory::Header;
 ghost use mathlib.Core.Path.{_≡_};
 ghost use mathlib.Core.Bool.{true};
 ghost use Prim.Native.Nat.{_≤_};
 ghost use lib.ListN.{length};
 ghost use Rattle.source.specs.Text.{segments, ends-in-dot};
-ghost use Rattle.memory.specs.Layout.{names, modules, trieˢ};
-ghost use Rattle.memory.specs.Sound.{At};
+ghost use Rattle.kinds.specs.Shapes.{shape-of, call-of};
+ghost use Rattle.memory.specs.Layout.{names, modules, trieˢ, table-of};
+ghost use Rattle.memory.specs.Sound.{Sound, At};
 ghost use Rattle.lookup.specs.Tries.{AnyTrie};
-ghost use Rattle.plan.specs.Plans.{Stepped, Inserted, Path, NamePlanned, IncludePlanned, OpenPlanned, AliasPlanned, ModulePlanned};
+ghost use Rattle.plan.specs.Plans.{Stepped, Inserted, Path, Planned, Carries, NamePlanned, IncludePlanned, OpenPlanned, AliasPlanned, ModulePlanned};
 
 // One step down the path of a host: the trie that it goes to, the records that it builds, whether its new list weighs over 96.
 struct Step {
@@ -73,7 +76,7 @@ pub struct Plan {
 }
 
 // The plan of a name.
-pub fn plan_name(words: &[u32], text: &[u8], root: u32, host: &[u8], id: &[u8]) -> Plan
+fn plan_name(words: &[u32], text: &[u8], root: u32, host: &[u8], id: &[u8]) -> Plan
     requires { ⌜ At (now words) (now text) names trieˢ root ⌝ }
     requires { ⌜ (ends-in-dot (now host) ≡ true) × (length (segments (now host)) ≤ 17) ⌝ }
     ensures { λ r. ⌜ NamePlanned (now (words .entry)) (now (text .entry)) root (now (host .entry)) (now (id .entry)) r ⌝ }
@@ -88,8 +91,8 @@ pub fn plan_name(words: &[u32], text: &[u8], root: u32, host: &[u8], id: &[u8]) 
     }
 }
 
-// The plan of an include, and of an open of a module. The included trie is `inc`.
-pub fn plan_include(words: &[u32], text: &[u8], root: u32, host: &[u8], inc: u32) -> Plan
+// The plan of an include. The included trie is `inc`.
+fn plan_include(words: &[u32], text: &[u8], root: u32, host: &[u8], inc: u32) -> Plan
     requires { ⌜ At (now words) (now text) names trieˢ root × At (now words) (now text) names trieˢ inc ⌝ }
     requires { ⌜ (ends-in-dot (now host) ≡ true) × (length (segments (now host)) ≤ 17) ⌝ }
     ensures { λ r. ⌜ IncludePlanned (now (words .entry)) (now (text .entry)) root inc (now (host .entry)) r ⌝ }
@@ -106,7 +109,7 @@ pub fn plan_include(words: &[u32], text: &[u8], root: u32, host: &[u8], inc: u32
 }
 
 // The plan of an open of a namespace. The included trie is `inc`.
-pub fn plan_open(words: &[u32], text: &[u8], root: u32, host: &[u8], inc: u32) -> Plan
+fn plan_open(words: &[u32], text: &[u8], root: u32, host: &[u8], inc: u32) -> Plan
     requires { ⌜ At (now words) (now text) names trieˢ root × At (now words) (now text) names trieˢ inc ⌝ }
     requires { ⌜ (ends-in-dot (now host) ≡ true) × (length (segments (now host)) ≤ 17) ⌝ }
     ensures { λ r. ⌜ OpenPlanned (now (words .entry)) (now (text .entry)) root inc (now (host .entry)) r ⌝ }
@@ -125,7 +128,7 @@ pub fn plan_open(words: &[u32], text: &[u8], root: u32, host: &[u8], inc: u32) -
 }
 
 // The plan of an alias. The included trie is `inc`.
-pub fn plan_alias(words: &[u32], text: &[u8], root: u32, key: &[u8], host: &[u8], inc: u32) -> Plan
+fn plan_alias(words: &[u32], text: &[u8], root: u32, key: &[u8], host: &[u8], inc: u32) -> Plan
     requires { ⌜ At (now words) (now text) names trieˢ root × At (now words) (now text) names trieˢ inc ⌝ }
     requires { ⌜ (ends-in-dot (now host) ≡ true) × (length (segments (now host)) ≤ 17) ⌝ }
     ensures { λ r. ⌜ AliasPlanned (now (words .entry)) (now (text .entry)) root inc (now (key .entry)) (now (host .entry)) r ⌝ }
@@ -167,7 +170,7 @@ fn plan_ins(words: &[u32], text: &[u8], trie: u32, s: &[u8], last: bool, loaded:
 }
 
 // The plan of a module path.
-pub fn plan_module(words: &[u32], text: &[u8], root: u32, query: &[u8], loaded: bool) -> Plan
+fn plan_module(words: &[u32], text: &[u8], root: u32, query: &[u8], loaded: bool) -> Plan
     requires { ⌜ At (now words) (now text) modules trieˢ root ⌝ }
     requires { ⌜ (ends-in-dot (now query) ≡ true) × (length (segments (now query)) ≤ 17) ⌝ }
     ensures { λ r. ⌜ ModulePlanned (now (words .entry)) (now (text .entry)) root loaded (now (query .entry)) r ⌝ }
@@ -192,5 +195,30 @@ pub fn plan_module(words: &[u32], text: &[u8], root: u32, query: &[u8], loaded: 
         records: records,
         crowded: crowded,
         deep: 16 < segments,
+    }
+}
+
+// The plan of a registration, where the trie that it includes is `inc`.
+pub fn plan_of(
+    words: &[u32],
+    text: &[u8],
+    h: Header,
+    kind: Kind,
+    inc: u32,
+    host: &[u8],
+    other: &[u8],
+    key: &[u8],
+) -> Plan
+    requires { ⌜ Sound (now words) (now text) h ⌝ }
+    requires { ⌜ (ends-in-dot (now host) ≡ true) × (length (segments (now host)) ≤ 17) ⌝ }
+    requires { ⌜ Carries (shape-of kind .form) (now words) (now text) (h .names) (now other) inc ⌝ }
+    ensures { λ r. ⌜ Planned (table-of (now (words .entry)) (now (text .entry)) h) (call-of kind (now (host .entry)) (now (other .entry)) (now (key .entry))) r ⌝ }
+{
+    match kind {
+        Kind::Name(_) => plan_name(words, text, h.names, host, other),
+        Kind::Include => plan_include(words, text, h.names, host, inc),
+        Kind::Open => plan_open(words, text, h.names, host, inc),
+        Kind::Alias => plan_alias(words, text, h.names, key, host, inc),
+        Kind::Module(loaded) => plan_module(words, text, h.modules, host, loaded),
     }
 }

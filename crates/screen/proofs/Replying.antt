@@ -10,7 +10,8 @@ use lib.ListN.{length}
 use lib.Seq.{take-all}
 use borrow.Author.Tests.{leb-true, leb-false}
 use Rattle.source.specs.Calls as C
-use Rattle.source.specs.Calls.{State, Lent, Call, register}
+use Rattle.source.specs.Text.{Str}
+use Rattle.source.specs.Calls.{State, Lent, Call, opens, register}
 use Rattle.memory.specs.Sound.{Says}
 use Rattle.table.specs.Header.{IsSound, state, lent}
 use Rattle.table.specs.Registrations.{refusal-of, Outside, AnswersAs, Total}
@@ -20,6 +21,9 @@ use Rattle.table.proofs.Decided.{decided}
 use Rattle.table.proofs.Registering.{register-unsound}
 use Rattle.screen.specs.Bytes.{Stored}
 use Rattle.screen.specs.Memory.{header-in, Spells, records-lent, words-in, SoundBytes}
+use Rattle.kinds.specs.Shapes.{call-of, opened}
+use Rattle.kinds.specs.declared.Kind.{Kind}
+use Rattle.kinds.proofs.Shapes.{opened-is}
 use Rattle.screen.specs.Replies.{chosen, unchosen, answer-to, RepliesAs, Replies}
 use Rattle.screen.proofs.Bytes.{read-back}
 use Rattle.screen.proofs.Lent.{words-in-length, words-in-fit, Held, says-memory, says-short}
@@ -40,6 +44,12 @@ pub reply-none : {st bs m txt : List ℕ} {t : Table} {k : ℕ} (r : Bool) → H
 reply-none {txt = txt} r h p e = record {
   says = λ b i. rw (decided _ b r (says-memory txt h b i) p, ← e) (refl, record { state = refl; words = refl; text = refl });
 }
+
+-- An open by its kind.
+pub reply-opened : {st bs txt st′ bs′ txt′ : List ℕ} {flag : Bool} {k : Kind} {r : ℕ} (host query key : Str) → k ≡ opened flag
+    → Replies st bs txt st′ bs′ txt′ (some (call-of k host query key)) r → Replies st bs txt st′ bs′ txt′ (some (opens flag host query)) r
+reply-opened {st} {bs} {txt} {flag = flag} host query key e a =
+    record { says = λ b h. rw (← opened-is flag b (lent (words-in bs) txt) (state (words-in bs) txt (header-in st)) host query key, ← e) (a .says b h) }
 
 chosen-some : (f : Bool → Call) (n : ℕ) → n < 2 → chosen f n ≡ some (f (eqb n 1))
 unfolding chosen

@@ -2,12 +2,12 @@
 // A slice passes as a pointer and a length. The state is sixteen bytes and the words are four bytes each, lowest first;
 // the layer copies the words in, calls crate table, and copies out what an accepted call has taken.
 // Every exported call answers for whatever bytes are lent.
+use kinds::Kind;
 use lines::Ask;
 use lines::Filter;
 use memory::Header;
 use memory::ModSymbol;
 use table::Completed;
-use table::Form;
 use table::Found;
 use table::FoundModule;
 use table::Registered;
@@ -18,7 +18,7 @@ ghost use Prim.Native.Nat.{_+_, _*_, _≤_, _<_};
 ghost use lib.ListN.{length};
 ghost use Rattle.source.specs.Calls.{name, include, opens, alias, module-path, refused};
 ghost use Rattle.table.specs.Answers.{name-found};
-ghost use Rattle.table.specs.Forms.{call-of, NoKey};
+ghost use Rattle.kinds.specs.Shapes.{call-of};
 ghost use Rattle.screen.specs.Bytes.{word-at, Put, Stored};
 ghost use Rattle.screen.specs.Memory.{header-in, Spells, records-lent, words-in, Loaded};
 ghost use Rattle.lines.specs.declared.Ask.the-variants.{Names};
@@ -171,18 +171,17 @@ fn enter(
     words: &mut [u8],
     text: &mut [u8],
     memory: &mut [u32],
-    form: Form,
+    kind: Kind,
     host: &[u8],
     other: &[u8],
     key: &[u8],
 ) -> u32
     requires { ⌜ length (now state) ≡ 16 ⌝ }
     requires { ⌜ now memory ≡ words-in (now words) ⌝ }
-    requires { ⌜ NoKey form (now key) ⌝ }
-    ensures { λ r. ⌜ Replies (now (state .entry)) (now (words .entry)) (now (text .entry)) (now (state .exit)) (now (words .exit)) (now (text .exit)) (some (call-of form (now (host .entry)) (now (other .entry)) (now (key .entry)))) r ⌝ }
+    ensures { λ r. ⌜ Replies (now (state .entry)) (now (words .entry)) (now (text .entry)) (now (state .exit)) (now (words .exit)) (now (text .exit)) (some (call-of kind (now (host .entry)) (now (other .entry)) (now (key .entry)))) r ⌝ }
 {
     let t = header_of(state);
-    let r = t.register(memory, text, form, host, other, key);
+    let r = t.register(memory, text, kind, host, other, key);
     let h = r.table;
     let a = r.answer;
     match a {
@@ -202,20 +201,19 @@ fn register(
     state: &mut [u8],
     words: &mut [u8],
     text: &mut [u8],
-    form: Form,
+    kind: Kind,
     host: &[u8],
     other: &[u8],
     key: &[u8],
 ) -> u32
-    requires { ⌜ NoKey form (now key) ⌝ }
-    ensures { λ r. ⌜ Replies (now (state .entry)) (now (words .entry)) (now (text .entry)) (now (state .exit)) (now (words .exit)) (now (text .exit)) (some (call-of form (now (host .entry)) (now (other .entry)) (now (key .entry)))) r ⌝ }
+    ensures { λ r. ⌜ Replies (now (state .entry)) (now (words .entry)) (now (text .entry)) (now (state .exit)) (now (words .exit)) (now (text .exit)) (some (call-of kind (now (host .entry)) (now (other .entry)) (now (key .entry)))) r ⌝ }
 {
     if state.len() != 16 {
         return 1;
     }
     let mut memory = [0u32; 12288];
     let n = load(words, &mut memory);
-    enter(state, words, text, &mut memory[..n], form, host, other, key)
+    enter(state, words, text, &mut memory[..n], kind, host, other, key)
 }
 
 // The reply where a number stands for no choice.
@@ -246,7 +244,7 @@ pub extern "C" fn name_console_insert(
 ) -> u32
     ensures { λ r. ⌜ Replies (now (state .entry)) (now (words .entry)) (now (text .entry)) (now (state .exit)) (now (words .exit)) (now (text .exit)) (some (name (now (host .entry)) (now (id .entry)) item)) r ⌝ }
 {
-    register(state, words, text, Form::Name(item), host, id, &host[..0])
+    register(state, words, text, Kind::Name(item), host, id, &host[..0])
 }
 
 // Registers an include.
@@ -260,7 +258,7 @@ pub extern "C" fn name_console_include(
 ) -> u32
     ensures { λ r. ⌜ Replies (now (state .entry)) (now (words .entry)) (now (text .entry)) (now (state .exit)) (now (words .exit)) (now (text .exit)) (some (include (now (host .entry)) (now (query .entry)))) r ⌝ }
 {
-    register(state, words, text, Form::Include, host, query, &host[..0])
+    register(state, words, text, Kind::Include, host, query, &host[..0])
 }
 
 // Registers an open: of a module if `flag` is 1, of a namespace if it is 0.
@@ -280,7 +278,7 @@ pub extern "C" fn name_console_open(
             state,
             words,
             text,
-            Form::Open(flag == 1),
+            kinds::opened(flag == 1),
             host,
             query,
             &host[..0],
@@ -301,7 +299,7 @@ pub extern "C" fn name_console_alias(
 ) -> u32
     ensures { λ r. ⌜ Replies (now (state .entry)) (now (words .entry)) (now (text .entry)) (now (state .exit)) (now (words .exit)) (now (text .exit)) (some (alias (now (key .entry)) (now (host .entry)) (now (query .entry)))) r ⌝ }
 {
-    register(state, words, text, Form::Alias, host, query, key)
+    register(state, words, text, Kind::Alias, host, query, key)
 }
 
 // Registers a module path: loaded if `loaded` is 1, not loaded if it is 0.
@@ -321,7 +319,7 @@ pub extern "C" fn name_console_module(
             state,
             words,
             text,
-            Form::Module(loaded == 1),
+            Kind::Module(loaded == 1),
             query,
             path,
             &query[..0],

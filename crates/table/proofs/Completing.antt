@@ -36,7 +36,7 @@ use Rattle.refusals.specs.declared.Refusal.the-variants.{Unsound}
 use Rattle.table.specs.declared.Completed.{Completed}
 use Rattle.table.specs.declared.Completed.the-variants.{Refused}
 use Rattle.refusals.proofs.Rows.{lowest-stops, lowest-past}
-use Rattle.table.proofs.Roots.{names-trie, modules-trie}
+use Rattle.lookup.proofs.Roots.{names-trie, modules-trie}
 use Rattle.memory.specs.Sound.{At}
 
 -- ---- The query

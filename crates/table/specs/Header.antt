@@ -2,13 +2,13 @@
 use Prim.Native.Nat.{ℕ}
 use mathlib.Core.Path.{_≡_}
 use mathlib.Core.List.{List}
-use lib.ListN.{length}
 use Rattle.source.specs.Types.{Trie}
 use Rattle.source.specs.Table as S
 use Rattle.source.specs.Table.{ModSymbol}
 use Rattle.source.specs.Calls.{State, Lent, fresh}
 use Rattle.memory.specs.Layout.{names, modules, trieˢ, what, table-of, state-of}
 use Rattle.memory.specs.Sound.{Sound}
+use Rattle.registration.specs.Checks as R
 use Rattle.table.specs.declared.Table.{Table}
 
 -- The lent memory is a sound table.
@@ -38,4 +38,4 @@ pub record Fresh (t : Table) : Type 0 where
 
 -- What is lent with it.
 abbrev pub lent : (ws txt : List ℕ) → Lent
-lent ws txt = record { words = length ws; text = length txt }
+lent ws txt = R.lent ws txt

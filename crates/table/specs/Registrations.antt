@@ -1,13 +1,13 @@
 -- What a registration hands back, and what it leaves of everything lent.
-use Prim.Native.Nat.{ℕ, _*_}
+use Prim.Native.Nat.{ℕ}
 use mathlib.Core.Path.{_≡_}
 use mathlib.Core.Bool.{Bool}
 use mathlib.Core.List.{List}
 use mathlib.Core.Option.{Option, none, some}
-use lib.ListN.{length, take, drop}
 use Rattle.source.specs.Calls as C
 use Rattle.source.specs.Calls.{State, Call, register}
 use Rattle.memory.specs.Sound.{Says}
+use Rattle.registration.specs.Writes as R
 use Rattle.table.specs.Header.{IsSound, state, lent}
 use Rattle.refusals.specs.Refusals.{number}
 use Rattle.table.specs.declared.Table.{Table}
@@ -21,17 +21,12 @@ refusal-of Accepted = none
 refusal-of (Refused r) = some (number r)
 
 -- A list is as it was, except from a place up to another.
-pub record Outside (from to : ℕ) (l l′ : List ℕ) : Type 0 where
-  pub before : take from l′ ≡ take from l
-  pub after : drop to l′ ≡ drop to l
-  pub size : length l′ ≡ length l
+abbrev pub Outside : (from to : ℕ) (l l′ : List ℕ) → Type 0
+Outside from to l l′ = R.Outside from to l l′
 
--- The header t has become t′, which reads as the state s, and only the free part that was taken has changed.
-pub record Accepts (ws txt ws′ txt′ : List ℕ) (t t′ : Table) (s : State) : Type 0 where
-  pub reads : state ws′ txt′ t′ ≡ s
-  pub sound : IsSound ws′ txt′ t′
-  pub words : Outside (t .header .records * 12) (t′ .header .records * 12) ws ws′
-  pub text : Outside (t .header .text) (t′ .header .text) txt txt′
+-- The table t has become t′, which reads as the state s, and only the free part that was taken has changed.
+abbrev pub Accepts : (ws txt ws′ txt′ : List ℕ) (t t′ : Table) (s : State) → Type 0
+Accepts ws txt ws′ txt′ t t′ s = R.Accepts ws txt ws′ txt′ (t .header) (t′ .header) s
 
 -- Nothing has changed.
 pub record Unchanged (ws txt ws′ txt′ : List ℕ) (t t′ : Table) : Type 0 where

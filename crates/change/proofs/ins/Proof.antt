@@ -14,23 +14,23 @@ ins-spec =
     tie.close
     (tie.spec
     {- add-names-place -}
-    (λ c. omega (arith, ins-key (c .before .before .before .pre .holds) .inside, c .before .before .before .pre .holds .change .sound .text-fits, c .before .before .before .pre .holds .change .sound .short))
+    (λ c. omega (arith, ins-key (c .before .before .before .pre .holds) .inside, c .before .before .before .pre .holds .sound .text-fits, c .before .before .before .pre .holds .sound .short))
     {- sub-names-place -}
-    (λ c. omega (arith, ins-key (c .before .before .before .pre .holds) .inside, c .before .before .before .pre .holds .change .sound .text-fits, c .before .before .before .pre .holds .change .sound .short))
+    (λ c. omega (arith, ins-key (c .before .before .before .pre .holds) .inside, c .before .before .before .pre .holds .sound .text-fits, c .before .before .before .pre .holds .sound .short))
     {- part-names-place-start -}
-    (λ c. omega (arith, ins-key (c .before .before .before .pre .holds) .inside, c .before .before .before .pre .holds .change .sound .text-fits, c .before .before .before .pre .holds .change .sound .short))
+    (λ c. omega (arith, ins-key (c .before .before .before .pre .holds) .inside, c .before .before .before .pre .holds .sound .text-fits, c .before .before .before .pre .holds .sound .short))
     {- part-names-place-end -}
-    (λ c. omega (arith, ins-key (c .before .before .before .pre .holds) .inside, c .before .before .before .pre .holds .change .sound .text-fits, c .before .before .before .pre .holds .change .sound .short))
+    (λ c. omega (arith, ins-key (c .before .before .before .pre .holds) .inside, c .before .before .before .pre .holds .sound .text-fits, c .before .before .before .pre .holds .sound .short))
     {- names-place-requires -}
     (λ c κs. record { which = modules; level = bind; list = ins-list (c .before .before .before .before .pre .holds) })
     {- add-last -}
-    (λ c. omega (arith, ins-key (c .before .before .before .before .before .pre .holds) .inside, c .before .before .before .before .before .pre .holds .change .sound .text-fits, c .before .before .before .before .before .pre .holds .change .sound .short))
+    (λ c. omega (arith, ins-key (c .before .before .before .before .before .pre .holds) .inside, c .before .before .before .before .before .pre .holds .sound .text-fits, c .before .before .before .before .before .pre .holds .sound .short))
     {- add-last-2 -}
-    (λ c. omega (arith, ins-key (c .before .before .before .before .before .pre .holds) .inside, c .before .before .before .before .before .pre .holds .change .sound .text-fits, c .before .before .before .before .before .pre .holds .change .sound .short))
+    (λ c. omega (arith, ins-key (c .before .before .before .before .before .pre .holds) .inside, c .before .before .before .before .before .pre .holds .sound .text-fits, c .before .before .before .before .before .pre .holds .sound .short))
     {- ns-inserts-requires -}
     (λ c κs. holder-fits (record { which = modules; level = bind; list = ins-list (c .before .before .before .before .before .before .pre .holds) }) (c .before .names-place .ensures .found))
     {- symbol-row-requires -}
-    (λ c κs. (c .before .before .before .before .before .before .before .before .pre .holds .place .early, omega (arith, ins-key (c .before .before .before .before .before .before .before .before .pre .holds) .inside, c .before .before .before .before .before .before .before .before .pre .holds .change .sound .text-fits, c .before .before .before .before .before .before .before .before .pre .holds .change .sound .short)))
+    (λ c κs. (c .before .before .before .before .before .before .before .before .pre .holds .place .early, omega (arith, ins-key (c .before .before .before .before .before .before .before .before .pre .holds) .inside, c .before .before .before .before .before .before .before .before .pre .holds .sound .text-fits, c .before .before .before .before .before .before .before .before .pre .holds .sound .short)))
     {- names-insert-requires -}
     (λ c κs. ins-any (c .before .before .before .before .before .before .before .before .before .before .pre .holds) (placed-part _ _ (c .before .before .before .before .before .names-place .ensures)) (c .before .before .before .ns-inserts .ensures) (c .before .before .if1 .taken) (c .before .symbol-row .ensures))
     {- same-length -}

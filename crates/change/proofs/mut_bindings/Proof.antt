@@ -1,5 +1,5 @@
 -- mut_bindings meets its contract: only a module path changes the bindings.
-use Rattle.change.proofs.Nodes.{keeps-name, keeps-include, keeps-open, keeps-alias, bindings-as, bindings-by}
+use Rattle.change.proofs.Nodes.{keeps-name, keeps-import, bindings-as, bindings-to}
 use borrow.Author.Needs.{needs}
 use Rattle.change.proofs.mut_bindings.Statement.{statement}
 use Rattle.change.proofs.mut_bindings.Tie as tie
@@ -8,27 +8,21 @@ pub mut-bindings-spec : {M : Type 1} → statement M
 mut-bindings-spec =
     tie.close
     (tie.spec
+    {- shape-of-requires -}
+    (λ c κs. search needs)
     {- enum-told -}
     (λ c. search needs)
     {- enum-told-2 -}
     (λ c. search needs)
-    {- enum-told-3 -}
-    (λ c. search needs)
-    {- enum-told-4 -}
-    (λ c. search needs)
-    {- enum-known-change -}
+    {- enum-known-f -}
     (λ c. search needs)
     {- ins-requires -}
-    (λ c κs. bindings-as (c .before .before .change .given .1) (c .before .before .before .before .before .before .pre))
+    (λ c κs. bindings-as (rw (c .before .before .before .before .shape-of .ensures) at (c .before .before .f .given .1)) (c .before .before .before .before .before .before .before .pre))
     {- returns -}
-    (λ c. keeps-name (c .enum-told .given .1))
+    (λ c. keeps-name (rw (c .before .before .shape-of .ensures) at (c .enum-told .given .1)))
     {- returns-2 -}
-    (λ c. keeps-include (c .enum-told2 .given .1))
-    {- returns-3 -}
-    (λ c. keeps-open (c .enum-told3 .given .1))
-    {- returns-4 -}
-    (λ c. keeps-alias (c .enum-told4 .given .1))
+    (λ c. keeps-import (rw (c .before .before .shape-of .ensures) at (c .enum-told2 .given .1)))
     {- same-length -}
     (λ c. search needs)
-    {- returns-5 -}
-    (λ c. bindings-by (c .before .before .before .before .before .change .given .1) (c .before .before .ins .ensures)))
+    {- returns-3 -}
+    (λ c. bindings-to (rw (c .before .before .before .before .before .before .before .shape-of .ensures) at (c .before .before .before .before .before .f .given .1)) (c .before .before .ins .ensures)))

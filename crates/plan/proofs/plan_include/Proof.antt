@@ -1,7 +1,7 @@
 -- plan_include meets its contract.
 use Rattle.names.proofs.Collections.{list-light}
 use Rattle.memory.proofs.Tries.{bindings-at}
-use Rattle.plan.proofs.Plans.{include-planned, open-module-planned}
+use Rattle.plan.proofs.Plans.{include-planned}
 use native.Mathlib.Omega.{arith}
 use borrow.Author.Needs.{needs}
 use Rattle.plan.proofs.plan_include.Statement.{statement}
@@ -29,6 +29,4 @@ plan-include-spec =
     {- add-t10 -}
     (λ c. omega (arith, c .before .before .before .before .before .plan-path .ensures .few, c .before .before .before .before .before .plan-path .ensures .gives .small))
     {- returns -}
-    (λ c tbl q e f.
-    let r = include-planned _ (c .before .before .before .before .before .before .before .plan-path .ensures) (c .before .before .before .before .before .before .trie-of .ensures) tbl e (c .before .before .before .before .before .before .before .before .before .before .before .pre .0 .1) (c .before .before .before .before .before .trie-of2 .ensures) q f (c .before .before .before .before .stored .ensures) (c .before .before .before .stored2 .ensures) in
-    (r, open-module-planned r)))
+    (λ c tbl q e f. include-planned _ (c .before .before .before .before .before .before .before .plan-path .ensures) (c .before .before .before .before .before .before .trie-of .ensures) tbl e (c .before .before .before .before .before .before .before .before .before .before .before .pre .0 .1) (c .before .before .before .before .before .trie-of2 .ensures) q f (c .before .before .before .before .stored .ensures) (c .before .before .before .stored2 .ensures)))

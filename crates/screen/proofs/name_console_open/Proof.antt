@@ -1,7 +1,7 @@
 -- name_console_open meets its contract.
-use borrow.Author.Needs.{needs}
 use Rattle.source.specs.Calls.{opens}
-use Rattle.screen.proofs.Replying.{reply-chosen, reply-unchosen}
+use Rattle.screen.proofs.Replying.{reply-chosen, reply-unchosen, reply-opened}
+use borrow.Author.Needs.{needs}
 use Rattle.screen.proofs.name_console_open.Statement.{statement}
 use Rattle.screen.proofs.name_console_open.Tie as tie
 
@@ -9,6 +9,8 @@ pub name-console-open-spec : {M : Type 1} → statement M
 name-console-open-spec =
     tie.close
     (tie.spec
+    {- opened-requires -}
+    (λ c κs. search needs)
     {- slice-aggregate-register -}
     (λ c. search needs)
     {- register-requires -}
@@ -20,7 +22,7 @@ name-console-open-spec =
     {- same-length-3 -}
     (λ c. search needs)
     {- returns -}
-    (λ c. reply-chosen (λ b. opens b (c .before .before .before .before .before .before .before .before .before .before .before .before .before .before .before .before .before .args .host .now) (c .before .before .before .before .before .before .before .before .before .before .before .before .before .before .before .before .before .args .query .now)) (c .before .before .before .before .before .before .before .before .before .before .before .if1 .taken) (c .before .before .before .before .before .before .register .ensures))
+    (λ c. reply-chosen (λ b. opens b (c .before .before .before .before .before .before .before .before .before .before .before .before .before .before .before .before .before .before .args .host .now) (c .before .before .before .before .before .before .before .before .before .before .before .before .before .before .before .before .before .before .args .query .now)) (c .before .before .before .before .before .before .before .before .before .before .before .before .if1 .taken) (reply-opened (c .before .before .before .before .before .before .before .before .before .before .before .before .before .before .before .before .before .before .args .host .now) (c .before .before .before .before .before .before .before .before .before .before .before .before .before .before .before .before .before .before .args .query .now) _ (c .before .before .before .before .before .before .before .before .opened .ensures) (c .before .before .before .before .before .before .register .ensures)))
     {- malformed-requires -}
     (λ c κs. search needs)
     {- same-length-4 -}

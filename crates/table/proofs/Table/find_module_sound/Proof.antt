@@ -7,7 +7,7 @@ use Rattle.memory.specs.Layout.{record-at, modules}
 use Rattle.memory.specs.Read.{symbol-of}
 use Rattle.memory.proofs.Seen.{symbol-item}
 use Rattle.table.proofs.Lookups.{symbol-inside}
-use Rattle.table.proofs.Roots.{modules-trie, any-modules}
+use Rattle.lookup.proofs.Roots.{modules-trie, any-modules}
 use Rattle.table.proofs.Table.find_module_sound.Statement.{statement}
 use Rattle.table.proofs.Table.find_module_sound.Tie as tie
 

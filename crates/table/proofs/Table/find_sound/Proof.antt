@@ -4,7 +4,7 @@ use native.Mathlib.Omega.{arith}
 use borrow.Author.Needs.{needs}
 use Rattle.source.specs.Calls.{found}
 use Rattle.memory.specs.Layout.{names}
-use Rattle.table.proofs.Roots.{names-trie, any-names}
+use Rattle.lookup.proofs.Roots.{names-trie, any-names}
 use Rattle.table.proofs.Table.find_sound.Statement.{statement}
 use Rattle.table.proofs.Table.find_sound.Tie as tie
 

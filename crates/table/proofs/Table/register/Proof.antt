@@ -14,7 +14,7 @@ register-spec =
     {- is-sound-requires -}
     (λ c κs. search needs)
     {- register-sound-requires -}
-    (λ c κs. (holds _ (c .before .before .before .is-sound .ensures) (c .before .before .if1 .taken), c .before .before .before .before .before .before .before .before .before .before .before .pre))
+    (λ c κs. holds _ (c .before .before .before .is-sound .ensures) (c .before .before .if1 .taken))
     {- same-length -}
     (λ c. search needs)
     {- same-length-2 -}

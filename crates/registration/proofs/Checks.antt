@@ -1,0 +1,92 @@
+-- The rows of a registration: what its texts keep, and rows 5 to 8 by its plan.
+use Prim.Native.Nat.{ℕ, _+_, _-_, _≤_}
+use mathlib.Core.Path.{_≡_, refl, sym, ap, _∙_}
+use mathlib.Core.Bool.{Bool, true, false, cond, _||_}
+use mathlib.Core.List.{List, [], _∷_, _++_}
+use mathlib.Core.Option.{none, some}
+use native.Mathlib.Omega.{arith}
+use lib.ListN.{length, length-take}
+use Rattle.source.specs.Text.{Str, segments, ends-in-dot}
+use Rattle.source.specs.Rules.{SoundTable}
+use Rattle.source.specs.Calls.{Argument, a-query, a-name, any, malformed, lowest, argument-rows, State, Lent, Call, arguments, text-taken, registration-rows}
+use Rattle.source.specs.Shared.{Allˡ}
+use Rattle.source.specs.Queries.{IsQuery, Keeps}
+use Rattle.source.proofs.Queries.{or-parts, query-to-string-label, string-is}
+use Rattle.source.proofs.Kept.{admitted-keeps}
+use Rattle.source.proofs.Refusals.{Admitted}
+use Rattle.source.proofs.PlannedDepth.{deep-planned}
+use Rattle.source.proofs.PlannedWeight.{crowded-planned}
+use Rattle.source.proofs.PlannedRecords.{records-planned}
+use Rattle.refusals.specs.Rows.{capacity-rows}
+use Rattle.refusals.proofs.Rows.{any-append, query-ends, lowest-stops, lowest-past}
+use Rattle.kinds.specs.Shapes.{shape-of, call-of, argument-as, other-argument, key-argument}
+use Rattle.kinds.specs.declared.Kind.{Kind}
+use Rattle.kinds.specs.declared.Form.{Form}
+use Rattle.kinds.specs.declared.Form.the-variants as form
+use Rattle.kinds.proofs.Shapes.{arguments-of, taken-is}
+use Rattle.plan.specs.Plans.{Planned}
+use Rattle.plan.specs.declared.Plan.{Plan}
+use Rattle.registration.specs.Checks.{NoKey, Ready}
+
+-- ---- Texts
+all-parts : (xs ys : List Argument) → Allˡ Keeps (xs ++ ys) → Allˡ Keeps xs × Allˡ Keeps ys
+all-parts [] ys a = (tt, a)
+all-parts (x ∷ xs) ys a = let p = all-parts xs ys (a .1) in ((a .0, p .0), p .1)
+
+pub ready : (k : Kind) (host other key : Str) → Admitted true (arguments (call-of k host other key)) → Ready k host other key
+unfolding any
+ready k host other key a =
+    let m = or-parts (any malformed (key-argument k key)) _ (rw (arguments-of k host other key, any-append) at (a .well-formed)) in
+    let h = or-parts (malformed (a-query host)) (malformed (other-argument k other) || false) (m .1) in
+    let t = all-parts (key-argument k key) _ (rw (arguments-of k host other key) at (admitted-keeps true _ a)) in
+    record {
+      host-ends = query-ends host (h .0);
+      host-keeps = t .1 .0;
+      other-fine = or-parts (malformed (other-argument k other)) false (h .1) .0;
+      other-keeps = t .1 .1 .0;
+      key-keeps = t .0;
+    }
+
+-- 17 segments, each with a dot.
+query-bound : (s : Str) → ends-in-dot s ≡ true → IsQuery (segments s) → length s ≤ 544
+query-bound s e q = omega (arith, query-to-string-label (segments s) q .short, ap length (string-is s e), length-take (length s - 1) s)
+
+other-bound : (f : Form) (s : Str) → malformed (argument-as f s) ≡ false → Keeps (argument-as f s) → length s ≤ 544
+other-bound form.Name s e k = omega (arith, k .short)
+other-bound form.Import s e k = query-bound s (query-ends s e) k
+other-bound (form.Module loaded) s e k = omega (arith, k .short)
+
+key-bound : (b : Bool) (s : Str) → cond b s [] ≡ s → Allˡ Keeps (cond b (a-name s ∷ []) []) → length s ≤ 31
+key-bound true s e k = k .0 .short
+key-bound false s e k = rw (← e) (omega arith)
+
+pub record Short (host other key : Str) : Type 0 where
+  pub host-short : length host ≤ 544
+  pub other-short : length other ≤ 544
+  pub key-short : length key ≤ 31
+
+pub ready-short : (k : Kind) (host other key : Str) → Ready k host other key → NoKey k key → Short host other key
+ready-short k host other key r n = record {
+  host-short = query-bound host (r .host-ends) (r .host-keeps);
+  other-short = other-bound (shape-of k .form) other (r .other-fine) (r .other-keeps);
+  key-short = key-bound (shape-of k .keyed) key n (r .key-keeps);
+}
+
+-- The text that a call takes.
+pub taken-all : (k : Kind) (host other key : Str) → NoKey k key → text-taken (arguments (call-of k host other key)) ≡ length host + length other + length key
+taken-all k host other key n = taken-is k host other key ∙ rw n
+
+-- ---- Rows
+module _ (lent : Lent) (s : State) (c : Call) where
+  pub rows-refused : {n : ℕ} → lowest (argument-rows true (arguments c)) ≡ some n → lowest (registration-rows true lent s c) ≡ some n
+  unfolding registration-rows
+  rows-refused e = lowest-stops (argument-rows true (arguments c)) _ e
+
+  pub rows-planned : {p : Plan} {taken : ℕ} → SoundTable (s .table) → Planned (s .table) c p → taken ≡ text-taken (arguments c) → lowest (argument-rows true (arguments c)) ≡ none
+      → lowest (registration-rows true lent s c) ≡ lowest (capacity-rows
+      (record { crowded = p .crowded; deep = p .deep; records = p .records; text = taken })
+      (record { words = lent .words; records = s .records-used; text = lent .text; used = s .text-used }))
+  unfolding registration-rows
+  rows-planned o p e f =
+      lowest-past (argument-rows true (arguments c)) _ f
+      ∙ rw (crowded-planned (s .table) c o, deep-planned (s .table) c o, records-planned (s .table) c, e, p .records, p .crowded, p .deep)

@@ -1,0 +1,4 @@
+mod Laying
+pub mod Checks
+mod Changes
+mod Writing

@@ -1,0 +1,28 @@
+-- put_texts meets its contract.
+use Rattle.registration.proofs.Laying.{laid}
+use borrow.Author.Needs.{needs}
+use Rattle.registration.proofs.put_texts.Statement.{statement}
+use Rattle.registration.proofs.put_texts.Tie as tie
+
+pub put-texts-spec : {M : Type 1} → statement M
+put-texts-spec =
+    tie.close
+    (tie.spec
+    {- cast-start -}
+    (λ c. search needs)
+    {- add-start -}
+    (λ c. search needs)
+    {- cast-end -}
+    (λ c. search needs)
+    {- add-end -}
+    (λ c. search needs)
+    {- put-text-requires -}
+    (λ c κs. search needs)
+    {- put-text-requires-2 -}
+    (λ c κs. search needs)
+    {- put-text-requires-3 -}
+    (λ c κs. search needs)
+    {- same-length -}
+    (λ c. search needs)
+    {- returns -}
+    (λ c. laid _ _ _ _ _ (c .before .before .before .before .before .before .before .before .before .before .before .before .before .before .before .before .pre .0) (c .before .before .before .before .before .before .before .before .before .before .put-text .ensures) (c .before .before .before .before .before .before .put-text2 .ensures) (c .before .before .put-text3 .ensures)))

@@ -1,0 +1,48 @@
+-- The rows of a registration over a header.
+use Prim.Native.Nat.{ℕ}
+use mathlib.Core.Path.{_≡_}
+use mathlib.Core.Bool.{true, false}
+use mathlib.Core.List.{List}
+use mathlib.Core.Option.{none, some}
+use lib.ListN.{length}
+use Rattle.source.specs.Text.{Str, segments, ends-in-dot}
+use Rattle.source.specs.Calls.{Lent, malformed, lowest, registration-rows}
+use Rattle.source.specs.Shared.{Allˡ}
+use Rattle.source.specs.Queries.{IsQuery, Keeps}
+use Rattle.refusals.specs.Refusals.{number}
+use Rattle.memory.specs.Layout.{state-of}
+use Rattle.memory.specs.Sound.{Sound}
+use Rattle.memory.specs.declared.Header.{Header}
+use Rattle.kinds.specs.Shapes.{shape-of, used-key, call-of, other-argument, key-argument}
+use Rattle.kinds.specs.declared.Kind.{Kind}
+use Rattle.plan.specs.Plans.{Carries}
+use Rattle.registration.specs.declared.Checked.{Checked}
+use Rattle.registration.specs.declared.Checked.the-variants.{Passed, Refused}
+
+-- What is lent with a table.
+abbrev pub lent : (ws txt : List ℕ) → Lent
+lent ws txt = record { words = length ws; text = length txt }
+
+-- A key is given only where the kind uses it.
+abbrev pub NoKey : Kind → Str → Type 0
+NoKey k key = used-key k key ≡ key
+
+-- Texts that pass rows 2 to 4.
+pub record Ready (k : Kind) (host other key : Str) : Type 0 where
+  pub host-ends : ends-in-dot host ≡ true
+  pub host-keeps : IsQuery (segments host)
+  pub other-fine : malformed (other-argument k other) ≡ false
+  pub other-keeps : Keeps (other-argument k other)
+  pub key-keeps : Allˡ Keeps (key-argument k key)
+
+-- A registration that passes every row of a sound memory, where inc is the included trie.
+pub record Passes (ws txt : List ℕ) (h : Header) (k : Kind) (host other key : Str) (inc : ℕ) : Type 0 where
+  pub sound : Sound ws txt h
+  pub no-key : NoKey k key
+  pub rows : lowest (registration-rows true (lent ws txt) (state-of ws txt h) (call-of k host other key)) ≡ none
+  pub carries : Carries (shape-of k .form) ws txt (h .names) other inc
+
+-- The answer of a check: that it passes, or the first row that it meets.
+abbrev pub Checks : (ws txt : List ℕ) (h : Header) (k : Kind) (host other key : Str) → Checked → Type 0
+Checks ws txt h k host other key (Passed inc) = Passes ws txt h k host other key inc
+Checks ws txt h k host other key (Refused x) = lowest (registration-rows true (lent ws txt) (state-of ws txt h) (call-of k host other key)) ≡ some (number x)

@@ -1,0 +1,50 @@
+-- What a registration writes: its texts, the change of its trie, and the new header.
+use Prim.Native.Nat.{ℕ, _+_, _*_}
+use mathlib.Core.Path.{_≡_}
+use mathlib.Core.List.{List}
+use lib.ListN.{length, take, drop}
+use Rattle.source.specs.Text.{Str}
+use Rattle.source.specs.Calls.{State}
+use Rattle.memory.specs.Layout.{span, Which, names, modules, state-of}
+use Rattle.memory.specs.Sound.{Sound}
+use Rattle.memory.specs.Grown.{Keeps}
+use Rattle.memory.specs.declared.Header.{Header}
+
+-- Three texts stand one after another from a place on.
+pub record Stand (txt : List ℕ) (at : ℕ) (host other key : Str) : Type 0 where
+  pub host-at : span txt at (length host) ≡ host
+  pub other-at : span txt (at + length host) (length other) ≡ other
+  pub key-at : span txt (at + length host + length other) (length key) ≡ key
+
+-- They have been put there, and no other byte has changed.
+pub record Laid (txt txt′ : List ℕ) (at : ℕ) (host other key : Str) : Type 0 where
+  pub keeps : Keeps at txt txt′
+  pub beyond : drop (at + length host + length other + length key) txt′ ≡ drop (at + length host + length other + length key) txt
+  pub stand : Stand txt′ at host other key
+
+-- A root of the header.
+abbrev pub root-at : Which → Header → ℕ
+root-at names h = h .names
+root-at modules h = h .modules
+
+-- The header with so much text used.
+abbrev pub with-text : Header → ℕ → Header
+with-text h used = record { names = h .names; modules = h .modules; records = h .records; text = used }
+
+-- The header with another root and other numbers.
+abbrev pub with-root : Which → Header → (link records text : ℕ) → Header
+with-root names h link records text = record { names = link; modules = h .modules; records = records; text = text }
+with-root modules h link records text = record { names = h .names; modules = link; records = records; text = text }
+
+-- A list is as it was, except from a place up to another.
+pub record Outside (from to : ℕ) (l l′ : List ℕ) : Type 0 where
+  pub before : take from l′ ≡ take from l
+  pub after : drop to l′ ≡ drop to l
+  pub size : length l′ ≡ length l
+
+-- The header h has become h′, which reads as the state s, and only the free part that was taken has changed.
+pub record Accepts (ws txt ws′ txt′ : List ℕ) (h h′ : Header) (s : State) : Type 0 where
+  pub reads : state-of ws′ txt′ h′ ≡ s
+  pub sound : Sound ws′ txt′ h′
+  pub words : Outside (h .records * 12) (h′ .records * 12) ws ws′
+  pub text : Outside (h .text) (h′ .text) txt txt′

@@ -1,0 +1,204 @@
+// A registration over a header: the rows that it must pass, and what it writes.
+use change::Change;
+use kinds::Form;
+use kinds::Kind;
+use memory::Header;
+use memory::Span;
+use refusals::Admission;
+use refusals::Capacity;
+use refusals::Demand;
+use refusals::Flags;
+use refusals::Refusal;
+ghost use mathlib.Core.Path.{_≡_};
+ghost use mathlib.Core.Bool.{false, cond};
+ghost use mathlib.Core.List.{[], _∷_};
+ghost use Prim.Native.Nat.{_+_, _≤_};
+ghost use lib.ListN.{length};
+ghost use Rattle.source.specs.Calls.{a-name, malformed, arguments, after};
+ghost use Rattle.refusals.specs.Rows.{Flagged, AllFlagged};
+ghost use Rattle.memory.specs.Layout.{names, trieˢ, state-of};
+ghost use Rattle.memory.specs.Sound.{Sound, At};
+ghost use Rattle.kinds.specs.Shapes.{call-of, argument-as};
+ghost use Rattle.plan.specs.Plans.{Carries};
+ghost use Rattle.change.specs.Changes.{which-by};
+ghost use Rattle.registration.specs.Checks.{NoKey, Passes, Checks};
+ghost use Rattle.registration.specs.Writes.{Laid, root-at, with-root, Accepts};
+
+// Whether a registration passes every row, with the link of the included trie.
+pub enum Checked {
+    Passed(u32),
+    Refused(Refusal),
+}
+
+// The flags of the id, the included query or the file path.
+fn other_flags(form: Form, other: &[u8]) -> Flags
+    ensures { λ r. ⌜ Flagged (argument-as form (now (other .entry))) r ⌝ }
+{
+    match form {
+        Form::Name => refusals::name_flags(other),
+        Form::Import => refusals::query_flags(other),
+        Form::Module(_) => refusals::path_flags(other),
+    }
+}
+
+// The flags of the key, where there is one.
+fn key_flags(keyed: bool, key: &[u8]) -> Flags
+    ensures { λ r. ⌜ AllFlagged (cond keyed (a-name (now (key .entry)) ∷ []) []) r ⌝ }
+{
+    if keyed {
+        return refusals::name_flags(key);
+    }
+    refusals::no_flags()
+}
+
+// The flags of all arguments.
+fn flags_of(kind: Kind, host: &[u8], other: &[u8], key: &[u8]) -> Flags
+    ensures { λ r. ⌜ AllFlagged (arguments (call-of kind (now (host .entry)) (now (other .entry)) (now (key .entry)))) r ⌝ }
+{
+    let s = kinds::shape_of(kind);
+    let form = s.form;
+    let k = key_flags(s.keyed, key);
+    let h = refusals::query_flags(host);
+    let o = other_flags(form, other);
+    refusals::either(k, refusals::either(h, o))
+}
+
+// The trie that a registration includes; 0 where it includes none.
+fn included(words: &[u32], text: &[u8], root: u32, form: Form, other: &[u8]) -> u32
+    requires { ⌜ At (now words) (now text) names trieˢ root ⌝ }
+    requires { ⌜ malformed (argument-as form (now other)) ≡ false ⌝ }
+    ensures { λ r. ⌜ Carries form (now (words .entry)) (now (text .entry)) root (now (other .entry)) r ⌝ }
+{
+    match form {
+        Form::Name => 0,
+        Form::Import => lookup::trie_descend(words, text, root, other),
+        Form::Module(_) => 0,
+    }
+}
+
+// Rows 2 to 8.
+pub fn check(
+    words: &[u32],
+    text: &[u8],
+    h: Header,
+    kind: Kind,
+    host: &[u8],
+    other: &[u8],
+    key: &[u8],
+) -> Checked
+    requires { ⌜ Sound (now words) (now text) h ⌝ }
+    requires { ⌜ NoKey kind (now key) ⌝ }
+    ensures { λ r. ⌜ Checks (now (words .entry)) (now (text .entry)) h kind (now (host .entry)) (now (other .entry)) (now (key .entry)) r ⌝ }
+{
+    let a = refusals::admit(flags_of(kind, host, other, key));
+    match a {
+        Admission::Refused(x) => Checked::Refused(x),
+        Admission::Admitted => {
+            let s = kinds::shape_of(kind);
+            let form = s.form;
+            let inc = included(words, text, h.names, form, other);
+            let p = plan::plan_of(words, text, h, kind, inc, host, other, key);
+            let demand = Demand {
+                crowded: p.crowded,
+                deep: p.deep,
+                records: p.records,
+                text: host.len() + other.len() + key.len(),
+            };
+            let capacity = Capacity {
+                words: words.len(),
+                records: h.records,
+                text: text.len(),
+                used: h.text,
+            };
+            let b = refusals::afford(demand, capacity);
+            match b {
+                Admission::Refused(x) => Checked::Refused(x),
+                Admission::Admitted => Checked::Passed(inc),
+            }
+        }
+    }
+}
+
+// Writes the texts of a registration after the used ones.
+fn put_texts(text: &mut [u8], used: u32, host: &[u8], other: &[u8], key: &[u8])
+    requires { ⌜ used + length (now host) + length (now other) + length (now key) ≤ length (now text) ⌝ }
+    requires { ⌜ used + length (now host) + length (now other) + length (now key) ≤ 65536 ⌝ }
+    ensures { λ _. ⌜ Laid (now (text .entry)) (now (text .exit)) used (now (host .entry)) (now (other .entry)) (now (key .entry)) ⌝ }
+{
+    let start = used + host.len() as u32;
+    let end = start + other.len() as u32;
+    memory::put_text(text, used, host);
+    memory::put_text(text, start, other);
+    memory::put_text(text, end, key);
+}
+
+// The root that a form changes.
+fn root_of(h: Header, form: Form) -> u32
+    ensures { λ r. ⌜ r ≡ root-at (which-by form) h ⌝ }
+{
+    match form {
+        Form::Name => h.names,
+        Form::Import => h.names,
+        Form::Module(_) => h.modules,
+    }
+}
+
+// The header after a registration: `link` is the new root.
+fn changed(h: Header, form: Form, link: u32, records: u32, text: u32) -> Header
+    ensures { λ r. ⌜ r ≡ with-root (which-by form) h link records text ⌝ }
+{
+    let of_names = Header {
+        names: link,
+        modules: h.modules,
+        records: records,
+        text: text,
+    };
+    match form {
+        Form::Name => of_names,
+        Form::Import => of_names,
+        Form::Module(_) => Header {
+            names: h.names,
+            modules: link,
+            records: records,
+            text: text,
+        },
+    }
+}
+
+// Writes a registration that passes every row.
+pub fn write(
+    words: &mut [u32],
+    text: &mut [u8],
+    h: Header,
+    kind: Kind,
+    inc: u32,
+    host: &[u8],
+    other: &[u8],
+    key: &[u8],
+) -> Header
+    requires { ⌜ Passes (now words) (now text) h kind (now host) (now other) (now key) inc ⌝ }
+    ensures { λ r. ⌜ Accepts (now (words .entry)) (now (text .entry)) (now (words .exit)) (now (text .exit)) h r (after (state-of (now (words .entry)) (now (text .entry)) h) (call-of kind (now (host .entry)) (now (other .entry)) (now (key .entry)))) ⌝ }
+{
+    let len = other.len() as u32;
+    let size = key.len() as u32;
+    let start = h.text + host.len() as u32;
+    let end = start + len;
+    put_texts(text, h.text, host, other, key);
+    let change = Change {
+        kind: kind,
+        text: Span {
+            start: start,
+            len: len,
+        },
+        key: Span {
+            start: end,
+            len: size,
+        },
+        inc: inc,
+    };
+    let s = kinds::shape_of(kind);
+    let form = s.form;
+    let root = root_of(h, form);
+    let b = change::trie_mutate(words, text, h.records, root, h.text, h.text, start, change);
+    changed(h, form, b.link, b.records, end + size)
+}
