@@ -14,7 +14,7 @@ use Rattle.source.proofs.Counted.{names-insert-value, names-insert-count}
 use Rattle.source.specs.Rules.{IsKey}
 use Rattle.text.proofs.Texts.{part-is}
 use Rattle.memory.specs.Layout.{word, span, Which, Item, Sort, tree, list, trieˢ, Of, kind, value, what}
-use Rattle.memory.specs.Stored.{stored}
+use Rattle.memory.specs.Stored.{depth-in}
 use Rattle.memory.specs.Sound.{LinkOk, TextOk, Used, At}
 use Rattle.names.specs.Names.{NamesPlaced}
 use Rattle.names.specs.Made.{Room, Made, MadeTrie}
@@ -89,7 +89,7 @@ module _ {A : Type 0} where
 module _ {ws ws₁ txt : List ℕ} {n n₁ used : ℕ} {w : Which} where
   -- The bindings are new, and the namespaces stood.
   module _ {c : Counted (NameList (Item w) bind)} {b : ℕ} (B : Builds ws ws₁ txt n used w (list bind) c b n₁) {y : ℕ} (j : LinkOk ws (n + 1) y (kind w (list ns))) where
-    pub bindings-ready : Room ws n (c .count + 1) → depth-names (what w ws txt y (list ns)) ≤ 16 → Room ws₁ n₁ 1 × ((y ≤ n₁) × (stored ws₁ y 11 ≤ 16))
+    pub bindings-ready : Room ws n (c .count + 1) → depth-names (what w ws txt y (list ns)) ≤ 16 → Room ws₁ n₁ 1 × ((y ≤ n₁) × (depth-in ws₁ y ≤ 16))
     unfolding depth
     bindings-ready o h = (
       made-room (B .made) (c .count) (B .number) o,
@@ -108,7 +108,7 @@ module _ {ws ws₁ txt : List ℕ} {n n₁ used : ℕ} {w : Which} where
 
   -- The namespaces are new, and the bindings stood.
   module _ {c : Counted (NameList (Item w) ns)} {y : ℕ} (C : Builds ws ws₁ txt n used w (list ns) c y n₁) {b : ℕ} (j : LinkOk ws (n + 1) b (kind w (list bind))) where
-    pub namespaces-ready : Room ws n (c .count + 1) → depth-names (c .value) ≤ 16 → Room ws₁ n₁ 1 × ((y ≤ n₁) × (stored ws₁ y 11 ≤ 16))
+    pub namespaces-ready : Room ws n (c .count + 1) → depth-names (c .value) ≤ 16 → Room ws₁ n₁ 1 × ((y ≤ n₁) × (depth-in ws₁ y ≤ 16))
     unfolding depth
     namespaces-ready o h = (
       made-room (C .made) (c .count) (C .number) o,

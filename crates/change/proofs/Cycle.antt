@@ -14,7 +14,7 @@ use Rattle.source.specs.Counted.{Counted, one, _>>=_, names-insertᶜ, trie-mut
 use Rattle.source.proofs.Counted.{names-insert-value}
 use Rattle.memory.specs.Layout.{span, Which, Item, Sort, tree, list, trieˢ, Of, kind, what}
 use Rattle.memory.specs.Sound.{TextOk, At}
-use Rattle.memory.specs.Stored.{stored}
+use Rattle.memory.specs.Stored.{trie-in}
 use Rattle.memory.specs.Read.{ReadTrie}
 use Rattle.memory.specs.declared.Trie as M
 use Rattle.memory.proofs.Seen.{link-later}
@@ -42,7 +42,7 @@ module _ {ws txt : List ℕ} {n used x from at len end : ℕ} {ch : Change} (g :
   pub spaces-list : At ws txt (which-of ch) (list ns) x
   spaces-list = record { records = n; used = used; sound = g .change .sound; link = g .link }
 
-  module _ {holder count wt scope : ℕ} (z : NamesPlaced ws txt x (span txt at len) holder count wt) (e : scope ≡ stored ws holder 5) where
+  module _ {holder count wt scope : ℕ} (z : NamesPlaced ws txt x (span txt at len) holder count wt) (e : scope ≡ trie-in ws holder) where
     spaces-scope : Reads ws txt (which-of ch) x scope (scope-of (what (which-of ch) ws txt x (list ns)) (span txt at len))
     spaces-scope = holder-scope spaces-list (z .found (which-of ch) ns spaces-list) e
 

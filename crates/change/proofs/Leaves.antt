@@ -11,7 +11,7 @@ use Rattle.source.specs.Terms.{weight, heaviest, heaviest-names, depth, depth-n
 use Rattle.source.specs.Counted.{Counted, one, _>>=_, names-insertᶜ}
 use Rattle.source.proofs.Counted.{names-insert-value}
 use Rattle.memory.specs.Layout.{span, names, list, trieˢ, what}
-use Rattle.memory.specs.Stored.{stored}
+use Rattle.memory.specs.Stored.{weight-in, depth-in}
 use Rattle.memory.specs.Read.{ReadTrie}
 use Rattle.memory.specs.declared.Trie as M
 use Rattle.memory.specs.declared.Span.{Span}
@@ -51,7 +51,7 @@ module _ {ws txt : List ℕ} {n used x : ℕ} {text key : Span} {inc : ℕ} {p p
   unfolding heaviest heaviest-names leaf-by _>>=_ one
   include-weight = rw (include-lists .b-reads, included-lists .b-reads) (omega (arith, l .fits .light))
 
-  pub include-ready : Room ws n 1 × ((p′ .bindings ≤ n) × (p .bindings ≤ n) × (stored ws (p′ .bindings) 10 + stored ws (p .bindings) 10 < 96))
+  pub include-ready : Room ws n 1 × ((p′ .bindings ≤ n) × (p .bindings ≤ n) × (weight-in ws (p′ .bindings) + weight-in ws (p .bindings) < 96))
   unfolding leaf-by _>>=_ one
   include-ready = (
     less-room (l .fits .room) (omega arith),
@@ -67,7 +67,7 @@ module _ {ws txt : List ℕ} {n used x : ℕ} {text key : Span} {inc : ℕ} {p p
     include-builds =
         builds-one (made-as (m txt used names bind (l .change .sound) refl (l .change .text) (included-lists .b-link) (include-lists .b-link)) (rw (include-lists .b-reads, included-lists .b-reads))) e
 
-    pub include-trie-ready : Room ws₁ b 1 × ((p .namespaces ≤ b) × (stored ws₁ (p .namespaces) 11 ≤ 16))
+    pub include-trie-ready : Room ws₁ b 1 × ((p .namespaces ≤ b) × (depth-in ws₁ (p .namespaces) ≤ 16))
     unfolding leaf-by _>>=_ one depth
     include-trie-ready = bindings-ready include-builds (include-lists .n-link) (l .fits .room) (rw (include-lists .n-reads) (l .fits .shallow))
 
@@ -87,7 +87,7 @@ module _ {ws txt : List ℕ} {n used x : ℕ} {text key : Span} {inc : ℕ} {p p
   unfolding heaviest heaviest-names leaf-by _>>=_ one
   open-weight = rw (open-lists .n-reads, opened-lists .n-reads) (omega (arith, l .fits .light))
 
-  pub open-ready : Room ws n 1 × ((p′ .namespaces ≤ n) × (p .namespaces ≤ n) × (stored ws (p′ .namespaces) 10 + stored ws (p .namespaces) 10 < 96))
+  pub open-ready : Room ws n 1 × ((p′ .namespaces ≤ n) × (p .namespaces ≤ n) × (weight-in ws (p′ .namespaces) + weight-in ws (p .namespaces) < 96))
   unfolding leaf-by _>>=_ one
   open-ready = (
     less-room (l .fits .room) (omega arith),
@@ -103,7 +103,7 @@ module _ {ws txt : List ℕ} {n used x : ℕ} {text key : Span} {inc : ℕ} {p p
     open-builds =
         builds-one (made-as (m txt used names ns (l .change .sound) refl (l .change .text) (opened-lists .n-link) (open-lists .n-link)) (rw (open-lists .n-reads, opened-lists .n-reads))) e
 
-    pub open-trie-ready : Room ws₁ y 1 × ((y ≤ y) × (stored ws₁ y 11 ≤ 16))
+    pub open-trie-ready : Room ws₁ y 1 × ((y ≤ y) × (depth-in ws₁ y ≤ 16))
     unfolding leaf-by _>>=_ one depth
     open-trie-ready = namespaces-ready open-builds (open-lists .b-link) (l .fits .room) (l .fits .shallow)
 
@@ -142,7 +142,7 @@ module _ {ws txt : List ℕ} {n used x number : ℕ} {text key : Span} {inc : �
       name-builds : Builds ws ws₁ txt n used names (list bind) (names-insertᶜ (bindings (what names ws txt x trieˢ)) (span txt (text .start) (text .len)) (item number)) b b
       name-builds = rw (name-lists .b-reads) at (builds-insert name-insertion m e)
 
-      pub name-trie-ready : Room ws₁ b 1 × ((p .namespaces ≤ b) × (stored ws₁ (p .namespaces) 11 ≤ 16))
+      pub name-trie-ready : Room ws₁ b 1 × ((p .namespaces ≤ b) × (depth-in ws₁ (p .namespaces) ≤ 16))
       unfolding leaf-by _>>=_ one depth
       name-trie-ready = bindings-ready name-builds (name-lists .n-link) (l .fits .room) (rw (name-lists .n-reads) (l .fits .shallow))
 
@@ -178,7 +178,7 @@ module _ {ws txt : List ℕ} {n used x : ℕ} {text key : Span} {inc : ℕ} {p p
     unfolding leaf-by _>>=_ one
     alias-room = rw (← alias-lists .n-reads, placed-count alias-list z (fresh .value)) at (l .fits .room)
 
-    pub alias-ready : Room ws n 1 × ((p′ .bindings ≤ n) × (0 ≤ n) × (stored ws (p′ .bindings) 10 + stored ws 0 10 < 96))
+    pub alias-ready : Room ws n 1 × ((p′ .bindings ≤ n) × (0 ≤ n) × (weight-in ws (p′ .bindings) + weight-in ws 0 < 96))
     unfolding heaviest heaviest-names _>>=_ one
     alias-ready = (
       less-room alias-room (omega arith),
@@ -195,7 +195,7 @@ module _ {ws txt : List ℕ} {n used x : ℕ} {text key : Span} {inc : ℕ} {p p
       alias-builds =
           builds-one (made-as (m txt used names bind (l .change .sound) refl (l .change .text) (aliased-lists .b-link) (no-link n _)) (rw (what-none names ws txt, aliased-lists .b-reads))) e
 
-      pub alias-fresh-ready : Room ws₁ b 1 × ((0 ≤ b) × (stored ws₁ 0 11 ≤ 16))
+      pub alias-fresh-ready : Room ws₁ b 1 × ((0 ≤ b) × (depth-in ws₁ 0 ≤ 16))
       unfolding one depth-names
       alias-fresh-ready = bindings-ready alias-builds (no-link n _) (less-room alias-room (omega arith)) (rw (what-none names ws txt) (omega arith))
 
@@ -217,7 +217,7 @@ module _ {ws txt : List ℕ} {n used x : ℕ} {text key : Span} {inc : ℕ} {p p
           alias-spaces : Builds ws ws₃ txt n used names (list ns) (fresh >>= λ scope. names-insertᶜ (namespaces (what names ws txt x trieˢ)) (span txt (key .start) (key .len)) scope) y y
           alias-spaces = rw (alias-lists .n-reads) at (scope-built fresh-builds (l .change .sound) (alias-lists .n-link) refl (l .change .key) z alias-insertion h i)
 
-          pub alias-trie-ready : Room ws₃ y 1 × ((y ≤ y) × (stored ws₃ y 11 ≤ 16))
+          pub alias-trie-ready : Room ws₃ y 1 × ((y ≤ y) × (depth-in ws₃ y ≤ 16))
           unfolding _>>=_ one
           alias-trie-ready =
               namespaces-ready alias-spaces (alias-lists .b-link)

@@ -18,7 +18,7 @@ use Rattle.source.specs.Counted.{Counted, pure, one, _>>=_, names-insertᶜ, in
 use Rattle.source.specs.Calls.{is-empty}
 use Rattle.source.proofs.Counted.{names-insert-value}
 use Rattle.memory.specs.Layout.{span, modules, item-of, list, trieˢ, kind, what}
-use Rattle.memory.specs.Stored.{stored}
+use Rattle.memory.specs.Stored.{depth-in}
 use Rattle.memory.specs.Read.{ReadTrie}
 use Rattle.memory.specs.declared.Trie as M
 use Rattle.memory.specs.Sound.{TextOk, SymbolOk, At}
@@ -194,7 +194,7 @@ module _ {ws txt : List ℕ} {n used x y from at len end : ℕ} {ch : Change} {p
   }
 
   module _ {ws₁ : List ℕ} {b n₁ : ℕ} (B : BindingsBuilt ws ws₁ txt n (p .bindings) from at len end (shape-of (ch .kind) .form) (ch .text) b n₁) where
-    pub node-ready : Room ws₁ n₁ 1 × ((y ≤ n₁) × (stored ws₁ y 11 ≤ 16))
+    pub node-ready : Room ws₁ n₁ 1 × ((y ≤ n₁) × (depth-in ws₁ y ≤ 16))
     unfolding node-of _>>=_ one depth
     node-ready = bindings-ready (B used node-bindings) (i .list-link) (rw (node-lists .b-reads) (i .fits .room)) (i .fits .shallow)
 

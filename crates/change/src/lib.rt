@@ -327,7 +327,7 @@ fn namespaces_mutate(
     let first = at as usize;
     let size = len as usize;
     let p = names::names_place(words, text, namespaces, &text[first..first + size]);
-    let scope = memory::stored(words, p.holder, 5);
+    let scope = memory::trie_held(words, p.holder);
     let kinds = kinds_of(change);
     let m = trie_mutate(words, text, records, scope, from, at + len + 1, end, change);
     let row = [kinds + 2, at, len, 0, 0, m.link, 0, 0, 0, 0, 0, 0];

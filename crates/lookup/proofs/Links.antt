@@ -10,7 +10,7 @@ use Rattle.source.specs.Types.{bind, ns, bindings, namespaces, trie-empty}
 use Rattle.source.specs.Tries.{dflt, scope-of}
 use Rattle.source.specs.Terms.{depth}
 use Rattle.memory.specs.Layout.{record-at, word, Which, tree, list, trieˢ, kind, what}
-use Rattle.memory.specs.Stored.{stored}
+use Rattle.memory.specs.Stored.{trie-in}
 use Rattle.memory.specs.Sound.{LinkOk, Used, At}
 use Rattle.memory.specs.Read.{ReadTrie}
 use Rattle.memory.specs.declared.Trie.{Trie}
@@ -43,7 +43,7 @@ module _ {ws txt : List ℕ} {x : ℕ} {s : Str} {r : ℕ} where
   holder-fits a h = link-fits (a .list .sound) (link-later (omega (arith, a .list .link .earlier)) (h (a .which) (a .level) (a .list) .link))
 
   -- The trie that a holder gives, none giving the empty one.
-  pub holder-scope : {w : Which} {y : ℕ} → At ws txt w (list ns) x → HolderIn ws txt w ns x s r → y ≡ stored ws r 5
+  pub holder-scope : {w : Which} {y : ℕ} → At ws txt w (list ns) x → HolderIn ws txt w ns x s r → y ≡ trie-in ws r
       → Reads ws txt w x y (scope-of (what w ws txt x (list ns)) s)
   unfolding scope-of dflt held trie-empty
   holder-scope {w} {y} a h e =

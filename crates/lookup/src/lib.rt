@@ -24,7 +24,7 @@ fn scope_of(words: &[u32], text: &[u8], namespaces: u32, s: &[u8]) -> u32
     ensures { λ r. ⌜ Scope (now (words .entry)) (now (text .entry)) namespaces (now (s .entry)) r ⌝ }
 {
     let holder = names::names_find_exact(words, text, namespaces, s);
-    memory::stored(words, holder, 5)
+    memory::trie_held(words, holder)
 }
 
 // The source's trie_descend_exact, 0 for the empty trie where there is none.

@@ -22,7 +22,7 @@ use Rattle.source.proofs.PlannedRecords.{records-onto}
 use Rattle.source.proofs.PlannedWeight.{crowded-onto}
 use Rattle.memory.specs.Layout.{Which, Item, names, modules, list, trieˢ, what}
 use Rattle.memory.specs.Read.{ReadTrie}
-use Rattle.memory.specs.Stored.{stored}
+use Rattle.memory.specs.Stored.{weight-in, trie-in}
 use Rattle.memory.specs.declared.Trie as M
 use Rattle.names.specs.Names.{AnyList, NamesPlaced, InsertIn}
 use Rattle.names.proofs.Collections.{list-weight}
@@ -58,7 +58,7 @@ placed-small a z = omega (arith, z .small, a .list .link .earlier, a .list .soun
 
 -- ---- a path
 pub stepped : {ws txt : List ℕ} {w : Which} {x : ℕ} {p : M.Trie} {s : Str} {holder count wt y : ℕ} → At ws txt w trieˢ x → ReadTrie ws x p
-    → NamesPlaced ws txt (p .namespaces) s holder count wt → y ≡ stored ws holder 5 → StepIn ws txt w x s y (count + 2) (ltb 96 wt)
+    → NamesPlaced ws txt (p .namespaces) s holder count wt → y ≡ trie-in ws holder → StepIn ws txt w x s y (count + 2) (ltb 96 wt)
 stepped {ws} {txt} {w} {x} {s = s} t q z e =
     let a = namespaces-at t q in
     let i = z .inserts w ns a in
@@ -130,11 +130,11 @@ module _ {ws txt : List ℕ} {root link steps records : ℕ} {crowded : Bool} (h
 
     module _ {inc : ℕ} {p′ : M.Trie} (t : At ws txt names trieˢ inc) (q′ : ReadTrie ws inc p′) (query : Str)
         (f : what names ws txt inc trieˢ ≡ included (what names ws txt root trieˢ) (segments query)) where
-      weights : (v : Level) {x y a b : ℕ} → At ws txt names (list v) x → At ws txt names (list v) y → a ≡ stored ws x 10 → b ≡ stored ws y 10
+      weights : (v : Level) {x y a b : ℕ} → At ws txt names (list v) x → At ws txt names (list v) y → a ≡ weight-in ws x → b ≡ weight-in ws y
           → a + b + 1 ≡ suc (weight (what names ws txt x (list v)) + weight (what names ws txt y (list v)))
       weights v i j k l = omega (arith, list-weight i, list-weight j)
 
-      pub include-planned : {a b : ℕ} → a ≡ stored ws (p′ .bindings) 10 → b ≡ stored ws (p .bindings) 10
+      pub include-planned : {a b : ℕ} → a ≡ weight-in ws (p′ .bindings) → b ≡ weight-in ws (p .bindings)
           → Planned tbl (include host query) (record { records = records + 2; crowded = crowded || ltb 96 (a + b + 1); deep = ltb 16 steps })
       unfolding plan-records plan-crowded plan-weight plan-depth import-records include-weight
       include-planned k l = record {
@@ -143,7 +143,7 @@ module _ {ws txt : List ℕ} {root link steps records : ℕ} {crowded : Bool} (h
         deep = rw number-is;
       }
 
-      pub open-planned : {a b : ℕ} → a ≡ stored ws (p′ .namespaces) 10 → b ≡ stored ws (p .namespaces) 10
+      pub open-planned : {a b : ℕ} → a ≡ weight-in ws (p′ .namespaces) → b ≡ weight-in ws (p .namespaces)
           → Planned tbl (opens false host query) (record { records = records + 2; crowded = crowded || ltb 96 (a + b + 1); deep = ltb 16 (steps + p′ .depth) })
       unfolding plan-records plan-crowded plan-weight plan-depth import-records open-weight
       open-planned k l = record {
@@ -152,7 +152,7 @@ module _ {ws txt : List ℕ} {root link steps records : ℕ} {crowded : Bool} (h
         deep = rw (e, number-is, ← f, lists-seen t q′ .deep);
       }
 
-      pub alias-planned : {key : Str} {holder count wt a : ℕ} → NamesPlaced ws txt (p .namespaces) key holder count wt → a ≡ stored ws (p′ .bindings) 10
+      pub alias-planned : {key : Str} {holder count wt a : ℕ} → NamesPlaced ws txt (p .namespaces) key holder count wt → a ≡ weight-in ws (p′ .bindings)
           → Planned tbl (alias key host query) (record {
             records = records + (count + 4);
             crowded = crowded || (ltb 96 wt || ltb 96 (a + 1));

@@ -27,7 +27,7 @@ fn plan_step(words: &[u32], text: &[u8], trie: u32, s: &[u8]) -> Step
     let t = memory::trie_of(words, trie);
     let p = names::names_place(words, text, t.namespaces, s);
     Step {
-        link: memory::stored(words, p.holder, 5),
+        link: memory::trie_held(words, p.holder),
         records: p.count + 2,
         crowded: 96 < p.weight,
     }
@@ -100,7 +100,7 @@ fn plan_include(words: &[u32], text: &[u8], root: u32, host: &[u8], inc: u32) ->
     let p = plan_path(words, text, root, host);
     let t = memory::trie_of(words, p.link);
     let i = memory::trie_of(words, inc);
-    let weight = memory::stored(words, i.bindings, 10) + memory::stored(words, t.bindings, 10) + 1;
+    let weight = memory::weight_of(words, i.bindings) + memory::weight_of(words, t.bindings) + 1;
     Plan {
         records: p.records + 2,
         crowded: p.crowded | (96 < weight),
@@ -117,9 +117,7 @@ fn plan_open(words: &[u32], text: &[u8], root: u32, host: &[u8], inc: u32) -> Pl
     let p = plan_path(words, text, root, host);
     let t = memory::trie_of(words, p.link);
     let i = memory::trie_of(words, inc);
-    let weight = memory::stored(words, i.namespaces, 10)
-        + memory::stored(words, t.namespaces, 10)
-        + 1;
+    let weight = memory::weight_of(words, i.namespaces) + memory::weight_of(words, t.namespaces) + 1;
     Plan {
         records: p.records + 2,
         crowded: p.crowded | (96 < weight),
@@ -137,7 +135,7 @@ fn plan_alias(words: &[u32], text: &[u8], root: u32, key: &[u8], host: &[u8], in
     let t = memory::trie_of(words, p.link);
     let i = memory::trie_of(words, inc);
     let a = names::names_place(words, text, t.namespaces, key);
-    let weight = memory::stored(words, i.bindings, 10) + 1;
+    let weight = memory::weight_of(words, i.bindings) + 1;
     Plan {
         records: p.records + (a.count + 4),
         crowded: p.crowded | ((96 < a.weight) | (96 < weight)),

@@ -8,7 +8,7 @@ use Rattle.source.specs.Table.{ModSymbol}
 use Rattle.source.specs.Calls.{State, Lent, fresh}
 use Rattle.memory.specs.Layout.{names, modules, trieˢ, what, table-of, state-of}
 use Rattle.memory.specs.Sound.{Sound}
-use Rattle.registration.specs.Checks as R
+use Rattle.register.specs.Checks as R
 use Rattle.table.specs.declared.Table.{Table}
 
 -- The lent memory is a sound table.

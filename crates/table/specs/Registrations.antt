@@ -7,7 +7,7 @@ use mathlib.Core.Option.{Option, none, some}
 use Rattle.source.specs.Calls as C
 use Rattle.source.specs.Calls.{State, Call, register}
 use Rattle.memory.specs.Sound.{Says}
-use Rattle.registration.specs.Writes as R
+use Rattle.register.specs.Writes as R
 use Rattle.table.specs.Header.{IsSound, state, lent}
 use Rattle.refusals.specs.Refusals.{number}
 use Rattle.table.specs.declared.Table.{Table}

@@ -7,7 +7,7 @@ use memory::Header;
 use memory::ModSymbol;
 use refusals::Admission;
 use refusals::Refusal;
-use registration::Checked;
+use register::Checked;
 ghost use mathlib.Core.Path.{_≡_};
 ghost use lib.ListN.{length};
 ghost use mathlib.Core.Bool.{Bool, true};
@@ -205,7 +205,7 @@ impl Table {
     {
         let l = look_up(words, text, self.header.names, query);
         match l {
-            Looked::Branch(link) => Found::Item(memory::word_of(words, link, 5)),
+            Looked::Branch(link) => Found::Item(memory::number_of(words, link)),
             Looked::Nothing => Found::Nothing,
             Looked::Refused(x) => Found::Refused(x),
         }
@@ -261,14 +261,14 @@ impl Table {
         ensures { λ r. ⌜ Answers true (now (words .entry)) (now (text .entry)) (now (words .exit)) (now (text .exit)) self (call-of kind (now (host .entry)) (now (other .entry)) (now (key .entry))) r ⌝ }
     {
         let n = kinds::key_size(kind, key.len());
-        let k = registration::check(words, text, self.header, kind, host, other, &key[..n]);
+        let k = register::check(words, text, self.header, kind, host, other, &key[..n]);
         match k {
             Checked::Refused(x) => Registration {
                 table: self,
                 answer: Registered::Refused(x),
             },
             Checked::Passed(inc) => {
-                let h = registration::write(
+                let h = register::write(
                     words,
                     text,
                     self.header,

@@ -12,7 +12,7 @@ scope-of-spec =
     (tie.spec
     {- names-find-exact-requires -}
     (λ c κs. search needs)
-    {- stored-requires -}
+    {- trie-held-requires -}
     (λ c κs. omega (arith, holder-fits (c .before .before .before .before .pre) (c .names-find-exact .ensures)))
     {- returns -}
-    (λ c w a. holder-scope a (c .before .names-find-exact .ensures w ns a) (c .stored .ensures)))
+    (λ c w a. holder-scope a (c .before .names-find-exact .ensures w ns a) (c .trie-held .ensures)))

@@ -21,10 +21,10 @@ plan-alias-spec =
     (λ c κs. at-fits (c .before .before .before .before .before .before .pre .0 .1))
     {- names-place-requires -}
     (λ c κs. any-namespaces (c .before .before .plan-path .ensures .here) (c .before .trie-of .ensures))
-    {- stored-requires -}
+    {- weight-of-requires -}
     (λ c κs. omega (arith, at-fits (bindings-at (c .before .before .before .before .before .before .before .before .pre .0 .1) (c .before .trie-of2 .ensures))))
     {- add-weight -}
-    (λ c. omega (arith, list-light (bindings-at (c .before .before .before .before .before .before .before .before .before .pre .0 .1) (c .before .before .trie-of2 .ensures)), c .stored .ensures))
+    (λ c. omega (arith, list-light (bindings-at (c .before .before .before .before .before .before .before .before .before .pre .0 .1) (c .before .before .trie-of2 .ensures)), c .weight-of .ensures))
     {- add-t12 -}
     (λ c. omega (arith, placed-small (any-namespaces (c .before .before .before .before .before .plan-path .ensures .here) (c .before .before .before .before .trie-of .ensures)) (c .before .before .names-place .ensures)))
     {- add-t13 -}
@@ -32,4 +32,4 @@ plan-alias-spec =
     {- add-t18 -}
     (λ c. omega (arith, c .before .before .before .before .before .before .before .before .before .plan-path .ensures .few))
     {- returns -}
-    (λ c tbl q e f. alias-planned _ (c .before .before .before .before .before .before .before .before .before .plan-path .ensures) (c .before .before .before .before .before .before .before .before .trie-of .ensures) tbl e (c .before .before .before .before .before .before .before .before .before .before .before .before .before .before .pre .0 .1) (c .before .before .before .before .before .before .before .trie-of2 .ensures) q f (c .before .before .before .before .before .before .names-place .ensures) (c .before .before .before .before .before .stored .ensures)))
+    (λ c tbl q e f. alias-planned _ (c .before .before .before .before .before .before .before .before .before .plan-path .ensures) (c .before .before .before .before .before .before .before .before .trie-of .ensures) tbl e (c .before .before .before .before .before .before .before .before .before .before .before .before .before .before .pre .0 .1) (c .before .before .before .before .before .before .before .trie-of2 .ensures) q f (c .before .before .before .before .before .before .names-place .ensures) (c .before .before .before .before .before .weight-of .ensures)))

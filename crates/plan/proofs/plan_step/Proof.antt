@@ -14,9 +14,9 @@ plan-step-spec =
     (λ c κs. at-fits (c .before .before .before .pre .trie))
     {- names-place-requires -}
     (λ c κs. any-namespaces (c .before .before .before .before .pre .trie) (c .trie-of .ensures))
-    {- stored-requires -}
+    {- trie-held-requires -}
     (λ c κs. omega (arith, holder-fits (any-namespaces (c .before .before .before .before .before .pre .trie) (c .before .trie-of .ensures)) (c .names-place .ensures .found)))
     {- add-t8 -}
     (λ c. omega (arith, placed-small (any-namespaces (c .before .before .before .before .before .before .before .pre .trie) (c .before .before .before .trie-of .ensures)) (c .before .before .names-place .ensures)))
     {- returns -}
-    (λ c w t. stepped t (c .before .before .before .before .trie-of .ensures) (c .before .before .before .names-place .ensures) (c .before .before .stored .ensures)))
+    (λ c w t. stepped t (c .before .before .before .before .trie-of .ensures) (c .before .before .before .names-place .ensures) (c .before .before .trie-held .ensures)))

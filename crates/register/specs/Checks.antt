@@ -16,8 +16,8 @@ use Rattle.memory.specs.declared.Header.{Header}
 use Rattle.kinds.specs.Shapes.{shape-of, used-key, call-of, other-argument, key-argument}
 use Rattle.kinds.specs.declared.Kind.{Kind}
 use Rattle.plan.specs.Plans.{Carries}
-use Rattle.registration.specs.declared.Checked.{Checked}
-use Rattle.registration.specs.declared.Checked.the-variants.{Passed, Refused}
+use Rattle.register.specs.declared.Checked.{Checked}
+use Rattle.register.specs.declared.Checked.the-variants.{Passed, Refused}
 
 -- What is lent with a table.
 abbrev pub lent : (ws txt : List ℕ) → Lent

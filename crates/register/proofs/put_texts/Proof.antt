@@ -1,8 +1,8 @@
 -- put_texts meets its contract.
-use Rattle.registration.proofs.Laying.{laid}
+use Rattle.register.proofs.Laying.{laid}
 use borrow.Author.Needs.{needs}
-use Rattle.registration.proofs.put_texts.Statement.{statement}
-use Rattle.registration.proofs.put_texts.Tie as tie
+use Rattle.register.proofs.put_texts.Statement.{statement}
+use Rattle.register.proofs.put_texts.Tie as tie
 
 pub put-texts-spec : {M : Type 1} → statement M
 put-texts-spec =

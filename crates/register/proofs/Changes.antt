@@ -28,8 +28,8 @@ use Rattle.change.specs.Changes.{between, which-by, which-of, label-in, mutated
 use Rattle.change.specs.declared.Change.{Change}
 use Rattle.change.proofs.Between.{place-first}
 use Rattle.change.proofs.Registered.{Registers, name-registers, include-registers, alias-registers, open-registers, module-registers, registers-fits}
-use Rattle.registration.specs.Checks.{Ready}
-use Rattle.registration.specs.Writes.{Stand, root-at, with-text}
+use Rattle.register.specs.Checks.{Ready}
+use Rattle.register.specs.Writes.{Stand, root-at, with-text}
 
 -- The change that a registration makes, where its texts stand from a place on.
 abbrev pub change-at : Kind → (inc at : ℕ) (host other key : Str) → Change

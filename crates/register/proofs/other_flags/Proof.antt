@@ -1,7 +1,7 @@
 -- other_flags meets its contract.
 use borrow.Author.Needs.{needs}
-use Rattle.registration.proofs.other_flags.Statement.{statement}
-use Rattle.registration.proofs.other_flags.Tie as tie
+use Rattle.register.proofs.other_flags.Statement.{statement}
+use Rattle.register.proofs.other_flags.Tie as tie
 
 pub other-flags-spec : {M : Type 1} → statement M
 other-flags-spec =

@@ -1,8 +1,8 @@
 -- key_flags meets its contract.
 use Rattle.refusals.proofs.Rows.{none-flagged, one-flagged}
 use borrow.Author.Needs.{needs}
-use Rattle.registration.proofs.key_flags.Statement.{statement}
-use Rattle.registration.proofs.key_flags.Tie as tie
+use Rattle.register.proofs.key_flags.Statement.{statement}
+use Rattle.register.proofs.key_flags.Tie as tie
 
 pub key-flags-spec : {M : Type 1} → statement M
 key-flags-spec =

@@ -21,8 +21,8 @@ ghost use Rattle.memory.specs.Sound.{Sound, At};
 ghost use Rattle.kinds.specs.Shapes.{call-of, argument-as};
 ghost use Rattle.plan.specs.Plans.{Carries};
 ghost use Rattle.change.specs.Changes.{which-by};
-ghost use Rattle.registration.specs.Checks.{NoKey, Passes, Checks};
-ghost use Rattle.registration.specs.Writes.{Laid, root-at, with-root, Accepts};
+ghost use Rattle.register.specs.Checks.{NoKey, Passes, Checks};
+ghost use Rattle.register.specs.Writes.{Laid, root-at, with-root, Accepts};
 
 // Whether a registration passes every row, with the link of the included trie.
 pub enum Checked {

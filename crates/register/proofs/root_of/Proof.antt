@@ -1,10 +1,10 @@
--- changed is the definition.
+-- root_of is the definition.
 use borrow.Author.Needs.{needs}
-use Rattle.registration.proofs.changed.Statement.{statement}
-use Rattle.registration.proofs.changed.Tie as tie
+use Rattle.register.proofs.root_of.Statement.{statement}
+use Rattle.register.proofs.root_of.Tie as tie
 
-pub changed-spec : {M : Type 1} → statement M
-changed-spec =
+pub root-of-spec : {M : Type 1} → statement M
+root-of-spec =
     tie.close
     (tie.spec
     {- enum-told -}

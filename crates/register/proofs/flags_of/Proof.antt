@@ -2,8 +2,8 @@
 use Rattle.refusals.proofs.Rows.{one-flagged, both-flagged}
 use Rattle.kinds.proofs.Shapes.{arguments-of}
 use borrow.Author.Needs.{needs}
-use Rattle.registration.proofs.flags_of.Statement.{statement}
-use Rattle.registration.proofs.flags_of.Tie as tie
+use Rattle.register.proofs.flags_of.Statement.{statement}
+use Rattle.register.proofs.flags_of.Tie as tie
 
 pub flags-of-spec : {M : Type 1} → statement M
 flags-of-spec =

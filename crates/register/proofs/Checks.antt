@@ -26,7 +26,7 @@ use Rattle.kinds.specs.declared.Form.the-variants as form
 use Rattle.kinds.proofs.Shapes.{arguments-of, taken-is}
 use Rattle.plan.specs.Plans.{Planned}
 use Rattle.plan.specs.declared.Plan.{Plan}
-use Rattle.registration.specs.Checks.{NoKey, Ready}
+use Rattle.register.specs.Checks.{NoKey, Ready}
 
 -- ---- Texts
 all-parts : (xs ys : List Argument) → Allˡ Keeps (xs ++ ys) → Allˡ Keeps xs × Allˡ Keeps ys

@@ -2,8 +2,8 @@
 use Rattle.memory.specs.Layout.{names}
 use Rattle.refusals.proofs.Rows.{query-ends}
 use borrow.Author.Needs.{needs}
-use Rattle.registration.proofs.included.Statement.{statement}
-use Rattle.registration.proofs.included.Tie as tie
+use Rattle.register.proofs.included.Statement.{statement}
+use Rattle.register.proofs.included.Tie as tie
 
 pub included-spec : {M : Type 1} → statement M
 included-spec =

@@ -1,9 +1,9 @@
 -- write meets its contract.
 use native.Mathlib.Omega.{arith}
-use Rattle.registration.proofs.Writing.{text-room, write-mutation, write-accepts}
+use Rattle.register.proofs.Writing.{text-room, write-mutation, write-accepts}
 use borrow.Author.Needs.{needs}
-use Rattle.registration.proofs.write.Statement.{statement}
-use Rattle.registration.proofs.write.Tie as tie
+use Rattle.register.proofs.write.Statement.{statement}
+use Rattle.register.proofs.write.Tie as tie
 
 pub write-spec : {M : Type 1} → statement M
 write-spec =

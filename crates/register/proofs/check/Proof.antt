@@ -5,10 +5,10 @@ use Rattle.source.proofs.Refusals.{argument-rows-none}
 use Rattle.memory.proofs.Given.{sound-table}
 use Rattle.lookup.proofs.Roots.{names-trie}
 use Rattle.refusals.proofs.Rows.{passes, stops}
-use Rattle.registration.proofs.Checks.{ready, ready-short, taken-all, rows-refused, rows-planned}
+use Rattle.register.proofs.Checks.{ready, ready-short, taken-all, rows-refused, rows-planned}
 use borrow.Author.Needs.{needs}
-use Rattle.registration.proofs.check.Statement.{statement}
-use Rattle.registration.proofs.check.Tie as tie
+use Rattle.register.proofs.check.Statement.{statement}
+use Rattle.register.proofs.check.Tie as tie
 
 pub check-spec : {M : Type 1} → statement M
 check-spec =

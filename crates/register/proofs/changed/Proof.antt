@@ -1,10 +1,10 @@
--- root_of is the definition.
+-- changed is the definition.
 use borrow.Author.Needs.{needs}
-use Rattle.registration.proofs.root_of.Statement.{statement}
-use Rattle.registration.proofs.root_of.Tie as tie
+use Rattle.register.proofs.changed.Statement.{statement}
+use Rattle.register.proofs.changed.Tie as tie
 
-pub root-of-spec : {M : Type 1} → statement M
-root-of-spec =
+pub changed-spec : {M : Type 1} → statement M
+changed-spec =
     tie.close
     (tie.spec
     {- enum-told -}

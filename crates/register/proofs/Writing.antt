@@ -30,10 +30,10 @@ use Rattle.plan.specs.Plans.{Carries}
 use Rattle.change.specs.Changes.{which-by, which-of, mutated, Mutation, Mutated, Builds}
 use Rattle.change.specs.declared.Change.{Change}
 use Rattle.change.proofs.Registered.{Registers}
-use Rattle.registration.specs.Checks.{lent, Ready, Passes}
-use Rattle.registration.specs.Writes.{Laid, root-at, with-root, with-text, Outside, Accepts}
-use Rattle.registration.proofs.Checks.{ready, taken-all}
-use Rattle.registration.proofs.Changes.{change-at, Stays, Right, change-right, right-mutation}
+use Rattle.register.specs.Checks.{lent, Ready, Passes}
+use Rattle.register.specs.Writes.{Laid, root-at, with-root, with-text, Outside, Accepts}
+use Rattle.register.proofs.Checks.{ready, taken-all}
+use Rattle.register.proofs.Changes.{change-at, Stays, Right, change-right, right-mutation}
 
 -- The text used after a call.
 abbrev pub text-after : Header → (host other key : Str) → ℕ
