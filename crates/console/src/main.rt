@@ -3,8 +3,6 @@
 // that whoever types a line sees its reply. A read or a write that fails ends the program, and nothing of a partial line is executed.
 mod help;
 
-ghost use mathlib.Core.Path.{_≡_};
-ghost use mathlib.Core.Bool.{true};
 ghost use Prim.Native.Nat.{_≤_};
 ghost use lib.ListN.{length};
 ghost use Rattle.table.specs.Header.{IsSound};
@@ -196,5 +194,8 @@ fn main() {
         help::print();
         return;
     }
-    put(libc::STDERR_FILENO, b"console: unknown argument; --help says what it reads\n");
+    put(
+        libc::STDERR_FILENO,
+        b"console: unknown argument; --help says what it reads\n",
+    );
 }

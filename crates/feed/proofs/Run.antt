@@ -1,7 +1,7 @@
 -- The whole input: for every division of it into reads, what is handed to the writes, put together, is the session of its lines.
 use Prim.Native.Nat.{ℕ, _+_, _<_}
 use native.Mathlib.Omega.{arith}
-use mathlib.Core.Path.{_≡_, refl, sym, ap, ap₂, _∙_, subst}
+use mathlib.Core.Path.{_≡_, refl, sym, ap, _∙_, subst}
 use mathlib.Core.Bool.{Bool, true, false, not, true≢false}
 use mathlib.Core.List.{List, [], _∷_, _++_, append-assoc, append-nil}
 use lib.Dec.{eqb, ltb}
@@ -11,15 +11,15 @@ use borrow.Author.Tests.{ltb-true, ltb-false}
 use Rattle.source.specs.Calls.{State, Lent, Output, fresh}
 use Rattle.source.specs.Shared.{Allˡ}
 use Rattle.text.specs.Laid.{Laid}
-use Rattle.script.specs.Script.{Str, _·_, byte-ok, All, Command, Reads}
+use Rattle.script.specs.Script.{Str, _·_, byte-ok, All}
 use Rattle.script.specs.declared.Sort.the-variants.{Line}
 use Rattle.table.specs.Header.{state, lent, Fresh}
 use Rattle.table.specs.declared.Table.{Table}
 use Rattle.registrations.specs.Registers.{Outcome}
 use Rattle.answers.specs.Outcomes.{Replied, Session, none, then, unlines}
-use Rattle.feed.specs.Feed.{pending, Inside, Kept, whole, start, Steps, last-line, Ends}
+use Rattle.feed.specs.Feed.{pending, Inside, Kept, whole, start, last-line}
 use Rattle.feed.specs.Run.{lines-after, lines-of, Program, fed, Run, read, step, end, joined}
-use Rattle.feed.proofs.Steps.{drop-take, all-take, last-some}
+use Rattle.feed.proofs.Steps.{all-take, last-some}
 
 -- ---- The lines of an input
 

@@ -21,7 +21,7 @@ use Rattle.feed.specs.declared.Feed.{Feed}
 
 -- ---- Parts of lists
 
-pub drop-take : (n k : ℕ) (l : List ℕ) → drop n (take k l) ≡ take (k - n) (drop n l)
+drop-take : (n k : ℕ) (l : List ℕ) → drop n (take k l) ≡ take (k - n) (drop n l)
 drop-take zero k l = let e : k - 0 ≡ k = omega arith in rw e refl
 drop-take (suc n) zero l = let e : 0 - suc n ≡ 0 = omega arith in rw e refl
 drop-take (suc n) (suc k) [] = sym (take-nil (suc k - suc n))

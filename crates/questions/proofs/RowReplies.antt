@@ -55,8 +55,14 @@ module _ (w : Which) (txt pane : List ℕ) where
   rows-room-is (r ∷ rs) a =
       let candidate : List ℕ = span pane (candidate-start r) (candidate-len r) in
       let annotation : List ℕ = span pane (annotation-start r) (annotation-len r) in
-      omega (arith, rows-room-is rs (a .1), span-length pane (candidate-start r) (candidate-len r) (a .0 .candidate), span-length pane (annotation-start r) (annotation-len r) (a .0 .annotation),
-      length-append candidate (annotation ++ output-text (map (line-seen w txt pane) rs)), length-append annotation (output-text (map (line-seen w txt pane) rs)))
+      omega (
+        arith,
+        rows-room-is rs (a .1),
+        span-length pane (candidate-start r) (candidate-len r) (a .0 .candidate),
+        span-length pane (annotation-start r) (annotation-len r) (a .0 .annotation),
+        length-append candidate (annotation ++ output-text (map (line-seen w txt pane) rs)),
+        length-append annotation (output-text (map (line-seen w txt pane) rs)),
+      )
 
 -- ---- Row by row
 

@@ -44,8 +44,10 @@ module _ (ask : Ask) (txt flat flat′ out out′ : List ℕ) where
       let count : length rows ≡ length lines = sym (length-map rows (line-seen (asked ask) txt out′)) ∙ ap length seen in
       let size : length (output-text (map (line-seen (asked ask) txt out′) rows)) ≡ length (output-text lines) = rw seen refl in
       rw e (record {
-        shown = (record { whole = omega (arith, w .flat-laid .fits, laid-length (w .flat-laid)); texts = written-texts w },
-        omega (arith, rows-room-is (asked ask) txt out′ rows (written-texts w), count, size, w .flat-laid .fits, w .out-laid .end, w .out-laid .fits, laid-length (w .flat-laid), laid-length (w .out-laid)));
+        shown = (
+          record { whole = omega (arith, w .flat-laid .fits, laid-length (w .flat-laid)); texts = written-texts w },
+          omega (arith, rows-room-is (asked ask) txt out′ rows (written-texts w), count, size, w .flat-laid .fits, w .out-laid .end, w .out-laid .fits, laid-length (w .flat-laid), laid-length (w .out-laid)),
+        );
         text-is = ap (λ (t : Str). t · end-reply (length lines) entered) (rows-text-is (asked ask) txt out′ rows ∙ ap (lines-text (asked ask)) seen);
       })
   tells r (C.refused n) (e, w, o) = tells-refused ask flat′ out′ n r e

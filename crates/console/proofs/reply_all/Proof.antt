@@ -1,5 +1,5 @@
 -- `reply_all` meets its contract.
-use mathlib.Core.Path.{_≡_, sym, _∙_}
+use mathlib.Core.Path.{sym, _∙_}
 use Rattle.text.proofs.Laid.{laid-length}
 use mathlib.Core.Bool.{true≢false}
 use Prim.Native.Nat.{_-_}

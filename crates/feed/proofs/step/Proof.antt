@@ -1,5 +1,5 @@
 -- `step` meets its contract.
-use mathlib.Core.Path.{_≡_, sym}
+use mathlib.Core.Path.{sym}
 use native.Mathlib.Omega.{arith}
 use lib.Seq.{length-take-le}
 use Rattle.feed.proofs.Steps.{steps-on, steps-out}

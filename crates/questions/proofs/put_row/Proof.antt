@@ -17,7 +17,6 @@ use borrow.Author.Needs.{needs}
 use Rattle.questions.proofs.put_row.Statement.{statement}
 use Rattle.questions.proofs.put_row.Tie as tie
 
-
 row-as : (pane : List ℕ) (r : Row) {item : ItemReply} {note candidate : Str} → item ≡ item-shown (r .item) → note ≡ text-of pane (r .annotation) → candidate ≡ text-of pane (r .candidate)
     → line-reply (length-in (r .matched)) item note candidate ≡ row-text pane r
 unfolding row-text
@@ -30,13 +29,14 @@ candidate-size : {pane : List ℕ} {r : Row} {candidate : Str} → TextsIn pane 
 candidate-size {pane} {r} t e = rw e (span-length pane (r .candidate .start) (r .candidate .len) (t .candidate))
 
 put-row-requires : tie.Need-put-row-requires
-put-row-requires c κs = 
+put-row-requires c κs =
     omega (arith, c .before .before .before .before .before .before .before .before .pre .1, note-size (c .before .before .before .before .before .before .before .before .pre .0) (c .before .text-of .ensures), candidate-size (c .before .before .before .before .before .before .before .before .pre .0) (c .text-of2 .ensures))
 
 returns : tie.Need-returns
-returns c = 
-    (subst (Laid _ _ _ _) (row-as (c .before .before .before .before .before .before .before .before .before .before .before .args .pane .now) (c .before .before .before .before .before .before .before .before .before .before .before .args .row) (c .before .before .before .before .before .before .before .before .item-reply .ensures) (c .before .before .before .before .text-of .ensures) (c .before .before .before .text-of2 .ensures)) (c .before .before .put-row .ensures .0),
-    omega (arith, c .before .before .put-row .ensures .1, note-size (c .before .before .before .before .before .before .before .before .before .before .before .pre .0) (c .before .before .before .before .text-of .ensures), candidate-size (c .before .before .before .before .before .before .before .before .before .before .before .pre .0) (c .before .before .before .text-of2 .ensures)))
+returns c = (
+  subst (Laid _ _ _ _) (row-as (c .before .before .before .before .before .before .before .before .before .before .before .args .pane .now) (c .before .before .before .before .before .before .before .before .before .before .before .args .row) (c .before .before .before .before .before .before .before .before .item-reply .ensures) (c .before .before .before .before .text-of .ensures) (c .before .before .before .text-of2 .ensures)) (c .before .before .put-row .ensures .0),
+  omega (arith, c .before .before .put-row .ensures .1, note-size (c .before .before .before .before .before .before .before .before .before .before .before .pre .0) (c .before .before .before .before .text-of .ensures), candidate-size (c .before .before .before .before .before .before .before .before .before .before .before .pre .0) (c .before .before .before .text-of2 .ensures)),
+)
 
 pub put-row-spec : {M : Type 1} → statement M
 put-row-spec =

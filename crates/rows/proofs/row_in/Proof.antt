@@ -11,7 +11,6 @@ use borrow.Author.Needs.{needs}
 use Rattle.rows.proofs.row_in.Statement.{statement}
 use Rattle.rows.proofs.row_in.Tie as tie
 
-
 row-made : (w : Which) (r : List ℕ) {i : RowItem} {m a b d e : ℕ} → i ≡ item-in w r → a ≡ candidate-start r → b ≡ candidate-len r → d ≡ annotation-start r → e ≡ annotation-len r → m ≡ matched-word r
     → _≡_ {A = Row} (record { matched = m; item = i; candidate = record { start = a; len = b }; annotation = record { start = d; len = e } }) (row-in w r)
 row-made w r ei ea eb ed ee em = rw (em, ei, ea, eb, ed, ee)

@@ -17,7 +17,6 @@ use borrow.Author.Needs.{needs}
 use Rattle.typed.proofs.line_of.Statement.{statement}
 use Rattle.typed.proofs.line_of.Tie as tie
 
-
 -- Every match length that is decoded fits.
 length-fits : (m : ℕ) → SFits w32 (held-length m)
 length-fits m = go (eqb m 4294967295)
