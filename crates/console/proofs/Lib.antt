@@ -1,1 +1,1 @@
-pub mod Moving
+pub mod Steady

@@ -1,103 +1,131 @@
-// The program `console`: it reads a script from standard input to its end and replies line by line. Its memory is sound by proof, so
-// no call tests it. What is read and written no contract can say: `answers` says what the replies to a line and to lines are, and
-// here bytes are moved. Replies are written out before each read, so that whoever types a line sees its reply.
-ghost use mathlib.Core.Path.{_≡_};
-ghost use Prim.Native.Nat.{_≤_, min};
+// The program `console`: it reads a script from standard input to its end and replies line by line. What is read and written no
+// contract can say: crate feed says what the replies are, and here its steps are fed. Replies are written out before each read, so
+// that whoever types a line sees its reply. A read or a write that fails ends the program, and nothing of a partial line is executed.
+mod help;
+
+ghost use Prim.Native.Nat.{_≤_};
 ghost use lib.ListN.{length};
 ghost use Rattle.table.specs.Header.{IsSound};
-ghost use Rattle.answers.specs.Answers.{room};
-ghost use Rattle.console.specs.Moves.{Kept, Holds};
+ghost use Rattle.questions.specs.RowReplies.{room};
+ghost use Rattle.feed.specs.Feed.{Inside};
+ghost use Rattle.console.specs.Fed.{Filled, Rests};
+use feed::Feed;
 use libc::STDIN_FILENO;
 use libc::STDOUT_FILENO;
 use table::Table;
 
-// The table after some input, and where its last line that has no line feed starts.
-struct Rest {
-    table: Table,
-    next: usize,
+// How many bytes there are after a read, whether it failed, and whether it was only interrupted.
+struct Got {
+    n: usize,
+    failed: bool,
+    again: bool,
 }
 
-// Reads more into `input`, after the first `have` bytes, and says how many there are then.
-fn fill(input: &mut [u8], have: usize) -> usize
+// What is left after a read was answered, and whether every reply was written.
+struct Rest {
+    feed: Feed,
+    written: bool,
+}
+
+// Reads more into `input`, after the first `have` bytes.
+fn fill(input: &mut [u8], have: usize) -> Got
     requires { ⌜ have ≤ length (now input) ⌝ }
-    ensures { λ r. ⌜ (have ≤ r) × (r ≤ length (now (input .exit))) ⌝ }
+    ensures { λ r. ⌜ Filled (now (input .entry)) (now (input .exit)) have (r .n) ⌝ }
 {
     let got = libc::read(STDIN_FILENO, &mut input[have..]);
-    have + io::count(got, &input[have..])
-}
-
-// At most 2,049.
-fn short(n: usize) -> usize
-    ensures { λ r. ⌜ r ≡ min n 2049 ⌝ }
-{
-    if n < 2049 {
-        return n;
+    if got < 0 {
+        return Got {
+            n: have,
+            failed: true,
+            again: os::errno() == libc::EINTR,
+        };
     }
-    2049
-}
-
-// Moves what follows `from`, of the first `have` bytes, to the start, and says how many bytes it is. Of a line that is too long
-// whatever follows, 2,049 bytes are kept.
-fn keep(input: &mut [u8], from: usize, have: usize) -> usize
-    requires { ⌜ (from ≤ have) × (have ≤ length (now input)) ⌝ }
-    ensures { λ r. ⌜ Kept (now (input .entry)) (now (input .exit)) from have r ⌝ }
-{
-    let n = short(have - from);
-    let mut i = 0;
-    while i < n {
-        input[i] = input[from + i];
-        i += 1;
+    Got {
+        n: have + io::count(got, &input[have..]),
+        failed: false,
+        again: false,
     }
-    n
 }
 
-// Replies to the lines of `input` that end in a line feed.
+// Writes all of `text`, and says whether it did. A write that is interrupted is tried again.
+fn put(fd: i32, text: &[u8]) -> bool {
+    let mut done = 0;
+    let mut left: u64 = 18446744073709551615;
+    while done < text.len() {
+        if left == 0 {
+            return false;
+        }
+        left -= 1;
+        let got = libc::write(fd, &text[done..]);
+        if got < 0 {
+            if os::errno() != libc::EINTR {
+                return false;
+            }
+        }
+        if got == 0 {
+            return false;
+        }
+        done += io::count(got, &text[done..]);
+    }
+    true
+}
+
+// Answers the whole lines of what was read, and writes the replies.
 fn reply_all(
-    table: Table,
+    f: Feed,
+    words: &mut [u32],
+    text: &mut [u8],
+    input: &mut [u8],
+    flat: &mut [u32],
+    pane: &mut [u8],
+    reply: &mut [u8],
+) -> Rest
+    requires { ⌜ IsSound (now words) (now text) (f .table) ⌝ }
+    requires { ⌜ room (now flat) (now pane) ≤ length (now reply) ⌝ }
+    requires { ⌜ Inside f (now input) ⌝ }
+    ensures { λ r. ⌜ Rests (now (words .exit)) (now (text .exit)) (now (input .exit)) r ⌝ }
+{
+    let mut g = f;
+    loop {
+        let r = feed::step(g, words, text, input, flat, pane, reply);
+        let e = r.end;
+        g = r.feed;
+        if !put(STDOUT_FILENO, &reply[..e]) {
+            return Rest {
+                feed: g,
+                written: false,
+            };
+        }
+        if !r.more {
+            return Rest {
+                feed: g,
+                written: true,
+            };
+        }
+    }
+}
+
+// Answers what is left at the end of the input, and says whether the reply was written.
+fn reply_last(
+    f: Feed,
     words: &mut [u32],
     text: &mut [u8],
     input: &[u8],
     flat: &mut [u32],
     pane: &mut [u8],
     reply: &mut [u8],
-) -> Rest
-    requires { ⌜ IsSound (now words) (now text) table ⌝ }
+) -> bool
+    requires { ⌜ IsSound (now words) (now text) (f .table) ⌝ }
     requires { ⌜ room (now flat) (now pane) ≤ length (now reply) ⌝ }
-    ensures { λ r. ⌜ Holds (now (words .exit)) (now (text .exit)) (r .table) (r .next) (now (input .entry)) ⌝ }
+    requires { ⌜ Inside f (now input) ⌝ }
 {
-    let mut t = table;
-    let mut i = 0;
-    loop {
-        let r = answers::answer_lines(t, words, text, input, i, flat, pane, reply);
-        let e = r.end;
-        io::write_all(STDOUT_FILENO, &reply[..e]);
-        t = r.table;
-        if r.next <= i {
-            return Rest { table: t, next: i };
-        }
-        i = r.next;
-    }
-}
-
-// Replies to the last line, which has no line feed.
-fn reply_last(
-    table: Table,
-    words: &mut [u32],
-    text: &mut [u8],
-    line: &[u8],
-    flat: &mut [u32],
-    pane: &mut [u8],
-    reply: &mut [u8],
-)
-    requires { ⌜ IsSound (now words) (now text) table ⌝ }
-    requires { ⌜ room (now flat) (now pane) ≤ length (now reply) ⌝ }
-{
-    let d = answers::answer(table, words, text, line, flat, pane, reply, 0);
+    let d = feed::last(f, words, text, input, flat, pane, reply);
     let e = d.end;
-    io::write_all(STDOUT_FILENO, &reply[..e]);
+    put(STDOUT_FILENO, &reply[..e])
 }
 
-fn main() {
+// Reads and replies to the end of the input, or to the first fault.
+fn talk() {
     let mut words = [0u32; 16384];
     let mut text = [0u8; 32768];
     let mut flat = [0u32; 6144];
@@ -108,32 +136,66 @@ fn main() {
     let mut have: usize = 0;
     let mut left: u64 = 18446744073709551615;
     while 0 < left {
-        let n = fill(&mut input, have);
-        if n == have {
-            if 0 < have {
-                reply_last(
-                    table,
+        left -= 1;
+        let got = fill(&mut input, have);
+        if got.failed {
+            if !got.again {
+                os::fail(b"console: standard input");
+                return;
+            }
+        } else {
+            let f = Feed {
+                table: table,
+                from: 0,
+                have: got.n,
+            };
+            if got.n == have {
+                if !reply_last(
+                    f,
                     &mut words,
                     &mut text,
-                    &input[..n],
+                    &input,
                     &mut flat,
                     &mut pane,
                     &mut reply,
-                );
+                ) {
+                    os::fail(b"console: standard output");
+                }
+                return;
             }
-            return;
+            let r = reply_all(
+                f,
+                &mut words,
+                &mut text,
+                &mut input,
+                &mut flat,
+                &mut pane,
+                &mut reply,
+            );
+            if !r.written {
+                os::fail(b"console: standard output");
+                return;
+            }
+            let rest = r.feed;
+            table = rest.table;
+            have = rest.have;
         }
-        let r = reply_all(
-            table,
-            &mut words,
-            &mut text,
-            &input[..n],
-            &mut flat,
-            &mut pane,
-            &mut reply,
-        );
-        table = r.table;
-        have = keep(&mut input, r.next, n);
-        left -= 1;
     }
+}
+
+fn main() {
+    let mut arg = io::buffer();
+    if os::arg_count() < 2 {
+        talk();
+        return;
+    }
+    let n = os::arg(1, &mut arg);
+    if help::asked(&arg[..n]) {
+        help::print();
+        return;
+    }
+    put(
+        libc::STDERR_FILENO,
+        b"console: unknown argument; --help says what it reads\n",
+    );
 }

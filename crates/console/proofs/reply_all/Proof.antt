@@ -1,40 +1,21 @@
 -- `reply_all` meets its contract.
-use Rattle.console.proofs.Moving.{Steady}
-use lib.Seq.{length-take-le}
-use lib.ListN.{length}
-use mathlib.Core.Path.{refl, sym}
+use mathlib.Core.Path.{sym, _∙_}
+use Rattle.text.proofs.Laid.{laid-length}
+use mathlib.Core.Bool.{true≢false}
 use Prim.Native.Nat.{_-_}
+use lib.ListN.{length}
+use lib.Seq.{length-take-le}
 use native.Mathlib.Omega.{arith}
-use borrow.Author.Needs.{needs}
+use Rattle.console.proofs.Steady.{off, on, laid-fits, Steady, steady-start, steady-on}
 use Rattle.console.proofs.reply_all.Statement.{statement}
 use Rattle.console.proofs.reply_all.Tie as tie
+use borrow.Author.Needs.{needs}
 
 abbrev Inv-loop : tie.InvT-loop
-Inv-loop words₀ text₀ input flat₀ pane₀ reply₀ t₀ i₀ words text flat pane reply t i = Steady words₀ text₀ input flat₀ pane₀ reply₀ words text flat pane reply t i
+Inv-loop words₀ text₀ input₀ flat₀ pane₀ reply₀ g₀ words text input flat pane reply g = Steady words₀ text₀ input₀ flat₀ pane₀ reply₀ words text input flat pane reply g
 
 abbrev μ-loop : tie.MeasureT-loop
-μ-loop words₀ text₀ input flat₀ pane₀ reply₀ t₀ i₀ words text flat pane reply t i = length input - i
-
-loop-holds : tie.Need-loop-holds Inv-loop μ-loop
-loop-holds c = record { sound = c .before .before .before .before .before .before .pre .0; inside = omega arith; words-size = refl; text-size = refl; flat-size = refl; pane-size = refl; reply-size = refl }
-
-answer-lines-requires : tie.Need-answer-lines-requires Inv-loop μ-loop
-answer-lines-requires c κs = ((c .before .before .before .before .before .loop .inv) .sound, (omega (arith, (c .before .before .before .before .before .loop .inv) .flat-size, (c .before .before .before .before .before .loop .inv) .pane-size, (c .before .before .before .before .before .loop .inv) .reply-size, c .before .before .before .before .before .before .before .before .before .before .before .before .pre .1), (c .before .before .before .before .before .loop .inv) .inside))
-
-slice-reshare-prefix-write-all : tie.Need-slice-reshare-prefix-write-all Inv-loop μ-loop
-slice-reshare-prefix-write-all c = c .before .before .before .before .before .before .before .before .before .before .answer-lines .ensures .end-fits
-
-slice-aggregate-write-all : tie.Need-slice-aggregate-write-all Inv-loop μ-loop
-slice-aggregate-write-all c = sym (length-take-le _ _ (c .before .before .before .before .before .before .before .before .before .before .before .answer-lines .ensures .end-fits))
-
-returns : tie.Need-returns Inv-loop μ-loop
-returns c = record { sound = c .before .before .before .before .before .before .before .before .before .before .before .before .before .before .before .answer-lines .ensures .sound; inside = (c .before .before .before .before .before .before .before .before .before .before .before .before .before .before .before .before .before .before .before .before .before .loop .inv) .inside }
-
-loop-less : tie.Need-loop-less Inv-loop μ-loop
-loop-less c = omega (arith, c .if1 .left, c .before .before .before .before .before .before .before .before .before .before .before .before .before .before .before .answer-lines .ensures .next-fits .1)
-
-loop-again : tie.Need-loop-again Inv-loop μ-loop
-loop-again c = record { sound = c .before .before .before .before .before .before .before .before .before .before .before .before .before .before .before .answer-lines .ensures .sound; inside = c .before .before .before .before .before .before .before .before .before .before .before .before .before .before .before .answer-lines .ensures .next-fits .1; words-size = search needs; text-size = search needs; flat-size = search needs; pane-size = search needs; reply-size = search needs }
+μ-loop words₀ text₀ input₀ flat₀ pane₀ reply₀ g₀ words text input flat pane reply g = length input - g .from
 
 pub reply-all-spec : {M : Type 1} → statement M
 reply-all-spec =
@@ -42,16 +23,44 @@ reply-all-spec =
     (tie.spec
     Inv-loop
     μ-loop
-    loop-holds
-    answer-lines-requires
-    slice-reshare-prefix-write-all
-    slice-aggregate-write-all
+    {- loop-holds -}
+    (λ c. steady-start _ _ _ (c .before .before .before .before .before .before .pre .0) (c .before .before .before .before .before .before .pre .1 .1))
+    {- step-requires -}
+    (λ c κs. (c .before .before .before .before .before .before .loop .inv .sound, (omega (arith, c .before .before .before .before .before .before .before .before .before .before .before .before .before .pre .1 .0, c .before .before .before .before .before .before .loop .inv .flat-size, c .before .before .before .before .before .before .loop .inv .pane-size, c .before .before .before .before .before .before .loop .inv .reply-size), c .before .before .before .before .before .before .loop .inv .inside)))
+    {- slice-reshare-prefix-put -}
+    (λ c. laid-fits (c .before .before .before .before .before .before .before .before .before .before .before .before .before .step .ensures .laid))
+    {- slice-aggregate-put -}
+    (λ c. sym (length-take-le _ _ (laid-fits (c .before .before .before .before .before .before .before .before .before .before .before .before .before .before .step .ensures .laid))))
     (λ c κs. search needs)
-    (λ c. search needs)
-    (λ c. search needs)
-    (λ c. search needs)
-    (λ c. search needs)
-    (λ c. search needs)
-    returns
-    loop-less
-    loop-again)
+    {- same-length -}
+    (λ c. c .before .before .before .before .before .before .before .before .before .before .before .before .before .before .before .before .step .ensures .words .size ∙ c .before .before .before .before .before .before .before .before .before .before .before .before .before .before .before .before .before .before .before .before .before .before .before .loop .inv .words-size)
+    {- same-length-2 -}
+    (λ c. c .before .before .before .before .before .before .before .before .before .before .before .before .before .before .before .before .step .ensures .texts .size ∙ c .before .before .before .before .before .before .before .before .before .before .before .before .before .before .before .before .before .before .before .before .before .before .before .loop .inv .text-size)
+    {- same-length-3 -}
+    (λ c. omega (arith, c .before .before .before .before .before .before .before .before .before .before .before .before .before .before .before .before .before .before .before .before .before .before .before .loop .inv .input-size))
+    {- same-length-4 -}
+    (λ c. omega (arith, c .before .before .before .before .before .before .before .before .before .before .before .before .before .before .before .before .before .before .before .before .before .before .before .loop .inv .flat-size))
+    {- same-length-5 -}
+    (λ c. omega (arith, c .before .before .before .before .before .before .before .before .before .before .before .before .before .before .before .before .before .before .before .before .before .before .before .loop .inv .pane-size))
+    {- same-length-6 -}
+    (λ c. laid-length (c .before .before .before .before .before .before .before .before .before .before .before .before .before .before .before .before .step .ensures .laid) ∙ c .before .before .before .before .before .before .before .before .before .before .before .before .before .before .before .before .before .before .before .before .before .before .before .loop .inv .reply-size)
+    {- returns -}
+    (λ c. record { sound = c .before .before .before .before .before .before .before .before .before .before .before .before .before .before .before .before .step .ensures .sound; inside = c .before .before .before .before .before .before .before .before .before .before .before .before .before .before .before .before .step .ensures .inside; short = λ e. absurd (true≢false (sym e)) })
+    {- same-length-7 -}
+    (λ c. c .before .before .before .before .before .before .before .before .before .before .before .before .before .before .before .before .before .before .step .ensures .words .size ∙ c .before .before .before .before .before .before .before .before .before .before .before .before .before .before .before .before .before .before .before .before .before .before .before .before .before .loop .inv .words-size)
+    {- same-length-8 -}
+    (λ c. c .before .before .before .before .before .before .before .before .before .before .before .before .before .before .before .before .before .before .step .ensures .texts .size ∙ c .before .before .before .before .before .before .before .before .before .before .before .before .before .before .before .before .before .before .before .before .before .before .before .before .before .loop .inv .text-size)
+    {- same-length-9 -}
+    (λ c. omega (arith, c .before .before .before .before .before .before .before .before .before .before .before .before .before .before .before .before .before .before .before .before .before .before .before .before .before .loop .inv .input-size))
+    {- same-length-10 -}
+    (λ c. omega (arith, c .before .before .before .before .before .before .before .before .before .before .before .before .before .before .before .before .before .before .before .before .before .before .before .before .before .loop .inv .flat-size))
+    {- same-length-11 -}
+    (λ c. omega (arith, c .before .before .before .before .before .before .before .before .before .before .before .before .before .before .before .before .before .before .before .before .before .before .before .before .before .loop .inv .pane-size))
+    {- same-length-12 -}
+    (λ c. laid-length (c .before .before .before .before .before .before .before .before .before .before .before .before .before .before .before .before .before .before .step .ensures .laid) ∙ c .before .before .before .before .before .before .before .before .before .before .before .before .before .before .before .before .before .before .before .before .before .before .before .before .before .loop .inv .reply-size)
+    {- returns-2 -}
+    (λ c. record { sound = c .before .before .before .before .before .before .before .before .before .before .before .before .before .before .before .before .before .before .step .ensures .sound; inside = c .before .before .before .before .before .before .before .before .before .before .before .before .before .before .before .before .before .before .step .ensures .inside; short = λ _. (c .before .before .before .before .before .before .before .before .before .before .before .before .before .before .before .before .before .before .step .ensures .stops (off _ (c .if2 .taken)) .0, c .before .before .before .before .before .before .before .before .before .before .before .before .before .before .before .before .before .before .step .ensures .stops (off _ (c .if2 .taken)) .1) })
+    {- loop-less -}
+    (λ c. omega (arith, c .before .before .before .before .before .before .before .before .before .before .before .before .before .before .before .before .before .before .step .ensures .goes-on (on _ (c .if2 .left)) .0, c .before .before .before .before .before .before .before .before .before .before .before .before .before .before .before .before .before .before .step .ensures .inside .started, c .before .before .before .before .before .before .before .before .before .before .before .before .before .before .before .before .before .before .step .ensures .inside .ended))
+    {- loop-again -}
+    (λ c. steady-on (c .before .before .before .before .before .before .before .before .before .before .before .before .before .before .before .before .before .before .before .before .before .before .before .before .before .loop .inv) (c .before .before .before .before .before .before .before .before .before .before .before .before .before .before .before .before .before .before .step .ensures) (search needs) (search needs) (search needs)))

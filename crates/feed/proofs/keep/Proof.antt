@@ -1,11 +1,11 @@
 -- `keep` meets its contract.
-use Rattle.console.proofs.Moving.{Moved, moved-start, moved-on}
+use Rattle.feed.proofs.Moves.{Moved, moved-start, moved-on}
 use mathlib.Core.Path.{_≡_}
 use Prim.Native.Nat.{_≤_, _-_, min}
 use native.Mathlib.Omega.{arith}
 use borrow.Author.Needs.{needs}
-use Rattle.console.proofs.keep.Statement.{statement}
-use Rattle.console.proofs.keep.Tie as tie
+use Rattle.feed.proofs.keep.Statement.{statement}
+use Rattle.feed.proofs.keep.Tie as tie
 
 abbrev Inv-loop : tie.InvT-loop
 Inv-loop input₀ from have n i₀ input i = (n ≡ min (have - from) 2049) × (i ≤ n) × Moved input₀ input from i

@@ -1,19 +1,11 @@
--- Bytes that are moved, and what holds from one turn to the next.
-use Prim.Native.Nat.{ℕ, _+_, _-_, _<_, _≤_}
+-- Bytes that are moved (`Moves`), one after another.
+use Prim.Native.Nat.{ℕ, _+_, _<_}
 use native.Mathlib.Omega.{arith}
 use native.Mathlib.Numerals.{add-one}
 use mathlib.Core.Path.{_≡_, refl, sym, ap, ap₂, _∙_}
 use mathlib.Core.List.{List, [], _∷_, _++_}
 use lib.ListN.{length, getD, take, drop, set, length-set, length-drop}
-use lib.Seq.{length-take-le, take-suc, take-suc-set, drop-set-lt, drop-drop, getD-drop}
-use Rattle.text.specs.Laid.{Laid}
-use Rattle.text.proofs.Laid.{laid-length}
-use Rattle.table.specs.Header.{IsSound}
-use Rattle.table.specs.declared.Table.{Table}
-use Rattle.console.specs.Moves.{Holds}
-
-pub laid-fits : {d d′ s : List ℕ} {at r : ℕ} → Laid d d′ at r s → r ≤ length d′
-laid-fits x = omega (arith, x .fits, laid-length x)
+use lib.Seq.{take-suc, take-suc-set, drop-set-lt, drop-drop, getD-drop}
 
 -- The first i bytes are moved.
 pub record Moved (input₀ input : List ℕ) (from i : ℕ) : Type 0 where
@@ -47,17 +39,3 @@ module _ {input₀ input : List ℕ} {from i : ℕ} (m : Moved input₀ input fr
         left = drop-set-lt (i + 1) input i (getD input (from + i) 0) (omega arith)
             ∙ sym (drop-drop 1 i input) ∙ ap (drop 1) (m .left) ∙ drop-drop 1 i input₀;
       }
-
--- What holds before each turn over an input.
-pub record Steady (words₀ text₀ input flat₀ pane₀ reply₀ words text flat pane reply : List ℕ) (t : Table) (i : ℕ) : Type 0 where
-  pub sound : IsSound words text t
-  pub inside : i ≤ length input
-  pub words-size : length words ≡ length words₀
-  pub text-size : length text ≡ length text₀
-  pub flat-size : length flat ≡ length flat₀
-  pub pane-size : length pane ≡ length pane₀
-  pub reply-size : length reply ≡ length reply₀
-
--- What follows the lines that were answered lies in what was read.
-pub rest-inside : {words text : List ℕ} {t : Table} {next : ℕ} (n : ℕ) (input : List ℕ) → Holds words text t next (take n input) → n ≤ length input → (next ≤ n) × (n ≤ length input)
-rest-inside n input x h = (omega (arith, x .inside, length-take-le n input h), h)

@@ -1,0 +1,56 @@
+-- What holds before each step over what was read, and after it.
+use Prim.Native.Nat.{ℕ, _≤_}
+use native.Mathlib.Omega.{arith}
+use mathlib.Core.Path.{_≡_, refl, sym, _∙_}
+use mathlib.Core.Bool.{Bool, true, false, not, true≢false}
+use mathlib.Core.List.{List}
+use lib.ListN.{length}
+use Rattle.source.specs.Calls.{Output}
+use Rattle.text.specs.Laid.{Laid}
+use Rattle.text.proofs.Laid.{laid-length}
+use Rattle.table.specs.Header.{IsSound}
+use Rattle.feed.specs.Feed.{Inside, Steps}
+use Rattle.feed.specs.declared.Feed.{Feed}
+use Rattle.feed.specs.declared.Progress.{Progress}
+
+-- What a test of `!b` says.
+pub off : (b : Bool) → not b ≡ true → b ≡ false
+off true e = absurd (true≢false (sym e))
+off false e = refl
+
+pub on : (b : Bool) → not b ≡ false → b ≡ true
+on true e = refl
+on false e = absurd (true≢false e)
+
+pub laid-fits : {d d′ s : List ℕ} {at r : ℕ} → Laid d d′ at r s → r ≤ length d′
+laid-fits x = omega (arith, x .fits, laid-length x)
+
+pub record Steady (words₀ text₀ input₀ flat₀ pane₀ reply₀ words text input flat pane reply : List ℕ) (g : Feed) : Type 0 where
+  pub sound : IsSound words text (g .table)
+  pub inside : Inside g input
+  pub words-size : length words ≡ length words₀
+  pub text-size : length text ≡ length text₀
+  pub input-size : length input ≡ length input₀
+  pub flat-size : length flat ≡ length flat₀
+  pub pane-size : length pane ≡ length pane₀
+  pub reply-size : length reply ≡ length reply₀
+
+pub steady-start : {words text input : List ℕ} (flat pane reply : List ℕ) {g : Feed} → IsSound words text (g .table) → Inside g input
+    → Steady words text input flat pane reply words text input flat pane reply g
+steady-start flat pane reply s i =
+    record { sound = s; inside = i; words-size = refl; text-size = refl; input-size = refl; flat-size = refl; pane-size = refl; reply-size = refl }
+
+pub steady-on : {words₀ text₀ input₀ flat₀ pane₀ reply₀ words text input flat pane reply words′ text′ input′ flat′ pane′ reply′ : List ℕ} {out : Output} {g : Feed} {r : Progress}
+    → Steady words₀ text₀ input₀ flat₀ pane₀ reply₀ words text input flat pane reply g → Steps words text words′ text′ g input input′ out reply reply′ r
+    → length input′ ≡ length input → length flat′ ≡ length flat → length pane′ ≡ length pane
+    → Steady words₀ text₀ input₀ flat₀ pane₀ reply₀ words′ text′ input′ flat′ pane′ reply′ (r .feed)
+steady-on s x i f p = record {
+  sound = x .sound;
+  inside = x .inside;
+  words-size = x .words .size ∙ s .words-size;
+  text-size = x .texts .size ∙ s .text-size;
+  input-size = i ∙ s .input-size;
+  flat-size = f ∙ s .flat-size;
+  pane-size = p ∙ s .pane-size;
+  reply-size = laid-length (x .laid) ∙ s .reply-size;
+}

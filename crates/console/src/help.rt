@@ -1,0 +1,84 @@
+// What `console --help` writes.
+
+// Whether an argument is `--help`.
+pub fn asked(arg: &[u8]) -> bool {
+    if arg.len() != 6 {
+        return false;
+    }
+    if arg[0] != b'-' || arg[1] != b'-' || arg[2] != b'h' {
+        return false;
+    }
+    arg[3] == b'e' && arg[4] == b'l' && arg[5] == b'p'
+}
+
+fn forms() {
+    io::write_all(
+        1,
+        b"usage: console < SCRIPT\n\nReads forms from standard input, one a line, and replies to each on standard output.\n\n",
+    );
+    io::write_all(
+        1,
+        b"  [name [host] id N]       registers the name id with the item N below the query host\n  [include [host] [q]]     the contents of q, copied, at host\n",
+    );
+    io::write_all(
+        1,
+        b"  [open m|n [host] [q]]    the module (m) or namespace (n) q opened at host\n  [alias key [host] [q]]   q under key at host\n",
+    );
+    io::write_all(
+        1,
+        b"  [module l|u [q] path]    the module q of the file path, loaded (l) or not (u)\n  [find [q]]               the item of a name\n",
+    );
+    io::write_all(
+        1,
+        b"  [complete [q]]           the names that q begins\n  [modules [q]]            the modules and namespaces that q begins\n\n",
+    );
+    io::write_all(
+        1,
+        b"A query (host, q) is segments that each end in a dot, or nothing. N is at most 4294967295.\nThe last line may lack its line feed.\n\n",
+    );
+}
+
+fn replies() {
+    io::write_all(
+        1,
+        b"  [ok R]                   registered; R records are used\n  [found N], [none]        the item of the name, or that there is none\n",
+    );
+    io::write_all(
+        1,
+        b"  [line L I [from] name]   a completion: bytes matched (-1 for none), item (m or n of modules), import, name\n  [end L T]                after L lines; T tries were entered\n",
+    );
+    io::write_all(
+        1,
+        b"  [bad]                    no form, or over 2,048 bytes\n  [refused C]              nothing was changed:\n",
+    );
+}
+
+fn refusals() {
+    io::write_all(
+        1,
+        b"      2 Malformed   a query does not end in a dot, or a byte is not allowed there\n      3 Empty       an empty id, key or segment; a look-up of no segment\n",
+    );
+    io::write_all(
+        1,
+        b"      4 TooLong     a name over 31 bytes, over 17 segments, a path over 120 bytes\n      5 Crowded     a list would weigh over 96\n",
+    );
+    io::write_all(
+        1,
+        b"      6 Deep        a root would have depth over 16\n      7 Full        over 1,365 records\n      8 TextFull    over 32,768 bytes of text\n",
+    );
+    io::write_all(
+        1,
+        b"      9 Spent       the completion enters over 4,096 tries\n     10 Lines       over 512 lines, or over 32,768 bytes of their texts\n\n",
+    );
+    io::write_all(
+        1,
+        b"A fault of standard input or output ends the program with a line on standard error.\n",
+    );
+}
+
+// Writes it to standard output.
+pub fn print() {
+    forms();
+    replies();
+    refusals();
+}

@@ -1,0 +1,3 @@
+pub mod Moves
+pub mod Steps
+pub mod Run

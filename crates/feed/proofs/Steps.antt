@@ -1,0 +1,146 @@
+-- A step is the session of the lines that were answered (`Steps`), and the end that of what is left (`Ends`).
+use Prim.Native.Nat.{ℕ, zero, suc, _+_, _-_, _*_, _<_, _≤_, min}
+use native.Mathlib.Omega.{arith}
+use mathlib.Core.Path.{_≡_, refl, sym, ap, ap₂, _∙_, subst}
+use mathlib.Core.Bool.{true, false, true≢false}
+use mathlib.Core.List.{List, [], _∷_, append-nil}
+use lib.ListN.{length, take, drop, take-append-drop, length-drop}
+use lib.Seq.{take-take, take-nil, drop-drop, length-take-le}
+use Rattle.source.specs.Calls.{Output}
+use Rattle.text.proofs.Laid.{laid-none}
+use Rattle.script.specs.Script.{Str, _·_, All}
+use Rattle.script.specs.declared.Sort.the-variants.{Line}
+use Rattle.table.specs.Header.{IsSound, state, lent}
+use Rattle.registrations.specs.declared.Done.{Done}
+use Rattle.registrations.proofs.Registers.{outside-none}
+use Rattle.answers.specs.Outcomes.{Session, none, then, unlines}
+use Rattle.answers.specs.Answers.{Answered, Talked}
+use Rattle.answers.specs.declared.Turn.{Turn}
+use Rattle.feed.specs.Feed.{pending, Inside, Moves, Kept, whole, start, Steps, last-line, Ends}
+use Rattle.feed.specs.declared.Feed.{Feed}
+
+-- ---- Parts of lists
+
+drop-take : (n k : ℕ) (l : List ℕ) → drop n (take k l) ≡ take (k - n) (drop n l)
+drop-take zero k l = let e : k - 0 ≡ k = omega arith in rw e refl
+drop-take (suc n) zero l = let e : 0 - suc n ≡ 0 = omega arith in rw e refl
+drop-take (suc n) (suc k) [] = sym (take-nil (suc k - suc n))
+drop-take (suc n) (suc k) (x ∷ l) = let e : suc k - suc n ≡ k - n = omega arith in rw e (drop-take n k l)
+
+pub all-take : (n : ℕ) (s : Str) → All Line s → All Line (take n s)
+all-take zero s a = tt
+all-take (suc n) [] a = tt
+all-take (suc n) (b ∷ s) a = (a .0, all-take n s (a .1))
+
+take-least : (n : ℕ) (l : List ℕ) → take (min (length l) n) l ≡ take n l
+take-least zero l = let e : min (length l) 0 ≡ 0 = omega arith in rw e refl
+take-least (suc n) [] = take-nil (min 0 (suc n))
+take-least (suc n) (x ∷ l) = let e : min (suc (length l)) (suc n) ≡ suc (min (length l) n) = omega arith in rw e (ap (_∷_ x) (take-least n l))
+
+part-length : (input : List ℕ) (from have : ℕ) → have ≤ length input → length (drop from (take have input)) ≡ have - from
+part-length input from have h = omega (arith, length-drop from (take have input), length-take-le have input h)
+
+-- What is moved is the start of what followed.
+moved-is : {input input′ : List ℕ} {from have n : ℕ} → have ≤ length input → Moves input input′ from have n → take 2049 (drop from (take have input)) ≡ take n input′
+moved-is {input} {input′} {from} {have} {n} h m =
+    let e : min (length (drop from (take have input))) 2049 ≡ n = omega (arith, part-length input from have h, m .size) in
+    sym (take-least 2049 (drop from (take have input)))
+    ∙ ap (λ (k : ℕ). take k (drop from (take have input))) e
+    ∙ ap (take n) (drop-take from have input)
+    ∙ take-take n (have - from) (drop from input) (omega (arith, m .size))
+    ∙ sym (m .is)
+
+-- ---- A step
+
+module _ {ws txt ws′ txt′ input reply reply′ : List ℕ} {out : Output} {f : Feed} {r : Turn} (i : Inside f input)
+    (x : Talked ws txt ws′ txt′ (f .table) (take (f .have) input) (f .from) out reply reply′ r) where
+  abbrev rest : Str
+  rest = drop (r .next) (take (f .have) input)
+
+  cut-is : pending f input ≡ unlines (x .lines) · rest
+  cut-is =
+      let e : f .from + (r .next - f .from) ≡ r .next = omega (arith, x .next-fits .0) in
+      sym (take-append-drop (r .next - f .from) (drop (f .from) (take (f .have) input)))
+      ∙ ap₂ (λ (s u : Str). s · u) (x .cut) (drop-drop (r .next - f .from) (f .from) (take (f .have) input) ∙ ap (λ (k : ℕ). drop k (take (f .have) input)) e)
+
+  -- Whole lines may be left.
+  pub steps-on : f .from < r .next
+      → Steps ws txt ws′ txt′ f input input out reply reply′ (record { feed = record { table = r .table; from = r .next; have = f .have }; end = r .end; more = true })
+  steps-on l = record {
+    lines = x .lines;
+    each = x .each;
+    rest = rest;
+    cut = cut-is;
+    text = x .text;
+    session = x .session;
+    laid = x .laid;
+    kept = whole;
+    sound = x .sound;
+    words = x .words;
+    texts = x .texts;
+    inside = record { started = omega (arith, x .next-fits .1, length-take-le (f .have) input (i .ended)); ended = i .ended };
+    goes-on = λ _. (l, refl);
+    stops = λ e. absurd (true≢false e);
+  }
+
+  -- There is none left.
+  pub steps-out : {input′ : List ℕ} {n : ℕ} → r .next ≤ f .from → length input′ ≡ length input → Moves input input′ (f .from) (f .have) n
+      → Steps ws txt ws′ txt′ f input input′ out reply reply′ (record { feed = record { table = r .table; from = 0; have = n }; end = r .end; more = false })
+  steps-out {input′} {n} l size m =
+      let e : r .next ≡ f .from = omega (arith, x .next-fits .0) in
+      let a : All Line rest = rw e (x .goes-on e .1) in
+      let k : take 2049 rest ≡ take n input′ = rw e (moved-is (i .ended) m) in
+      record {
+        lines = x .lines;
+        each = x .each;
+        rest = rest;
+        cut = cut-is;
+        text = x .text;
+        session = x .session;
+        laid = x .laid;
+        kept = subst (Kept rest) k (start a);
+        sound = x .sound;
+        words = x .words;
+        texts = x .texts;
+        inside = record { started = omega arith; ended = omega (arith, m .size, i .ended, size) };
+        goes-on = λ z. absurd (true≢false (sym z));
+        stops = λ _. (refl, omega (arith, m .size), subst (All Line) k (all-take 2049 rest a));
+      }
+
+-- ---- The end
+
+pub last-some : (s : Str) → 0 < length s → last-line s ≡ s ∷ []
+last-some [] h = absurd (omega arith)
+last-some (b ∷ s) h = refl
+
+last-none : (s : Str) → length s ≡ 0 → last-line s ≡ []
+last-none [] h = refl
+last-none (b ∷ s) h = absurd (omega arith)
+
+module _ {ws txt ws′ txt′ input reply reply′ : List ℕ} {out : Output} {f : Feed} (i : Inside f input) where
+  pub ends-some : {r : Done} → f .from < f .have → Answered ws txt ws′ txt′ (f .table) (take (f .have - f .from) (drop (f .from) input)) out reply reply′ 0 r
+      → Ends ws txt ws′ txt′ f input out reply reply′ r
+  ends-some {r} l x =
+      let p : pending f input ≡ take (f .have - f .from) (drop (f .from) input) = drop-take (f .from) (f .have) input in
+      let e : last-line (pending f input) ≡ pending f input ∷ [] = last-some (pending f input) (omega (arith, part-length input (f .from) (f .have) (i .ended))) in
+      record {
+        text = x .text;
+        session = rw (e, p) (subst (λ (t : Str). Session (lent ws txt) out (state ws txt (f .table)) _ t (state ws′ txt′ (r .table))) (append-nil (x .text)) (then (record { text = x .text; after = _ }) (x .replied) none));
+        laid = x .laid;
+        sound = x .sound;
+        words = x .words;
+        texts = x .texts;
+      }
+
+pub ends-none : {ws txt input reply : List ℕ} {out : Output} {f : Feed} → Inside f input → f .have ≤ f .from → IsSound ws txt (f .table)
+    → Ends ws txt ws txt f input out reply reply (record { table = f .table; end = 0 })
+ends-none {ws} {txt} {input} {reply} {out} {f} i l sound =
+    let e : last-line (pending f input) ≡ [] = last-none (pending f input) (omega (arith, part-length input (f .from) (f .have) (i .ended))) in
+    record {
+      text = [];
+      session = rw e none;
+      laid = laid-none reply 0 0 refl (omega arith);
+      sound = sound;
+      words = outside-none (f .table .header .records * 12) ws;
+      texts = outside-none (f .table .header .text) txt;
+    }

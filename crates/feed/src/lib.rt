@@ -1,0 +1,121 @@
+// The program `console` as steps over bytes: what is kept of the last read, the table and the next bytes go in, replies come out.
+// `main` reads bytes to the end of what is kept, and writes the replies of each step. proofs/Run.antt: whatever the reads are, the
+// replies are the session of the input's lines.
+use registrations::Done;
+use table::Table;
+ghost use mathlib.Core.Path.{_≡_};
+ghost use Prim.Native.Nat.{_≤_, min};
+ghost use lib.ListN.{length};
+ghost use Rattle.listing.specs.Completes.{output};
+ghost use Rattle.table.specs.Header.{IsSound};
+ghost use Rattle.questions.specs.RowReplies.{room};
+ghost use Rattle.feed.specs.Feed.{Inside, Moves, Steps, Ends};
+
+// The table, and which bytes of the input text are not answered yet: those from `from` up to `have`.
+pub struct Feed {
+    pub table: Table,
+    pub from: usize,
+    pub have: usize,
+}
+
+// What a step leaves, where its replies end, and whether whole lines may be left.
+pub struct Progress {
+    pub feed: Feed,
+    pub end: usize,
+    pub more: bool,
+}
+
+// At most 2,049.
+fn short(n: usize) -> usize
+    ensures { λ r. ⌜ r ≡ min n 2049 ⌝ }
+{
+    if n < 2049 {
+        return n;
+    }
+    2049
+}
+
+// Moves what follows `from`, of the first `have` bytes, to the start, and says how many bytes it is. Of a line that is too long
+// whatever follows, 2,049 bytes are kept.
+fn keep(input: &mut [u8], from: usize, have: usize) -> usize
+    requires { ⌜ (from ≤ have) × (have ≤ length (now input)) ⌝ }
+    ensures { λ r. ⌜ Moves (now (input .entry)) (now (input .exit)) from have r ⌝ }
+{
+    let n = short(have - from);
+    let mut i = 0;
+    while i < n {
+        input[i] = input[from + i];
+        i += 1;
+    }
+    n
+}
+
+// Answers whole lines while there is room for a reply. Where there is none left, what follows them is moved to the start of `input`.
+// `flat` and `pane` are scratch.
+pub fn step(
+    f: Feed,
+    words: &mut [u32],
+    text: &mut [u8],
+    input: &mut [u8],
+    flat: &mut [u32],
+    pane: &mut [u8],
+    reply: &mut [u8],
+) -> Progress
+    requires { ⌜ IsSound (now words) (now text) (f .table) ⌝ }
+    requires { ⌜ room (now flat) (now pane) ≤ length (now reply) ⌝ }
+    requires { ⌜ Inside f (now input) ⌝ }
+    ensures { λ r. ⌜ Steps (now (words .entry)) (now (text .entry)) (now (words .exit)) (now (text .exit)) f (now (input .entry)) (now (input .exit)) (output (now (flat .entry)) (now (pane .entry))) (now (reply .entry)) (now (reply .exit)) r ⌝ }
+{
+    let t = f.table;
+    let from = f.from;
+    let have = f.have;
+    let r = answers::answer_lines(t, words, text, &input[..have], from, flat, pane, reply);
+    let after = r.table;
+    if from < r.next {
+        let on = Feed {
+            table: after,
+            from: r.next,
+            have: have,
+        };
+        return Progress {
+            feed: on,
+            end: r.end,
+            more: true,
+        };
+    }
+    let n = keep(input, from, have);
+    let rest = Feed {
+        table: after,
+        from: 0,
+        have: n,
+    };
+    Progress {
+        feed: rest,
+        end: r.end,
+        more: false,
+    }
+}
+
+// Answers what is left at the end of the input: a last line that has no line feed. `flat` and `pane` are scratch.
+pub fn last(
+    f: Feed,
+    words: &mut [u32],
+    text: &mut [u8],
+    input: &[u8],
+    flat: &mut [u32],
+    pane: &mut [u8],
+    reply: &mut [u8],
+) -> Done
+    requires { ⌜ IsSound (now words) (now text) (f .table) ⌝ }
+    requires { ⌜ room (now flat) (now pane) ≤ length (now reply) ⌝ }
+    requires { ⌜ Inside f (now input) ⌝ }
+    ensures { λ r. ⌜ Ends (now (words .entry)) (now (text .entry)) (now (words .exit)) (now (text .exit)) f (now (input .entry)) (output (now (flat .entry)) (now (pane .entry))) (now (reply .entry)) (now (reply .exit)) r ⌝ }
+{
+    let t = f.table;
+    let from = f.from;
+    let have = f.have;
+    if from < have {
+        return answers::answer(t, words, text, &input[from..have], flat, pane, reply, 0);
+    }
+    Done { table: t, end: 0 }
+}
