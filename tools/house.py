@@ -14,6 +14,8 @@ import re
 import sys
 
 KINDS = ['code', 'definitions', 'laws', 'proofs']
+# Where the words of a line, which are not a record's, have their names.
+LAYOUTS = ('lines/specs/Output.antt',)
 CITE = re.compile(r'^\s*(?:pub )?(?:ghost )?use Rattle·([a-z0-9_]+)(?:·(?:specs|proofs))?\.(specs|proofs)\.')
 CALL = re.compile(r'\b([a-z][a-z0-9_]*)::')
 BARE_CODE = re.compile(r'\b(?:word_of|stored)\([^;]*, \d+\)|\b(?:row|old|new|r|item)\[\d+\]')
@@ -69,8 +71,8 @@ def survey():
                         wrong.append(f'crates/{crate}/{rel}:{n}: a definition cites proofs: {s.strip()}')
                 elif kind == 'code' and not s.lstrip().startswith('//'):
                     called |= {c for c in CALL.findall(s) if c in deps and c != crate}
-                if crate != 'memory' and not m and not s.lstrip().startswith(('//', '--')):
-                    if (BARE_CODE if kind == 'code' else BARE_SPEC).search(s) or kind == 'code' and BARE_SPEC.search(s):
+                if f'{crate}/{rel}' not in LAYOUTS and crate != 'memory' and not m and not s.lstrip().startswith(('//', '--')) and 'fullShare' not in s:
+                    if (BARE_SPEC if kind != 'code' or '⌜' in s else BARE_CODE).search(s):
                         wrong.append(f'crates/{crate}/{rel}:{n}: a bare word number: {s.strip()[:100]}')
             for c in called:
                 calls[(crate, c)] += 1
