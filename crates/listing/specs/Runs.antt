@@ -2,6 +2,7 @@
 use Prim.Native.Nat.{ℕ, _+_, _<_, _≤_}
 use mathlib.Core.Path.{_≡_}
 use mathlib.Core.Bool.{Bool, true, false}
+use mathlib.Core.Logic.{_⊎_}
 use mathlib.Core.List.{List, [], _∷_, map, reverse, tail}
 use mathlib.Core.Option.{Option, some}
 use lib.Dec.{eqb}
@@ -23,7 +24,7 @@ use Rattle.tree.specs.Links.{matches}
 use Rattle.merge.specs.Entries.{Entry, shown, outer, Asks}
 use Rattle.lines.specs.Ask.{asked, line-for}
 use Rattle.lines.specs.Path.{Path, BranchAt, LabelAt, PathOk, OnPath}
-use Rattle.lines.specs.Output.{signed-word, Result, Tally, _⊕_, Small, Goes}
+use Rattle.lines.specs.Output.{signed-word, Result, Tally, _⊕_, Past, Small, Goes}
 use Rattle.lines.specs.Lines.{only}
 use Rattle.lines.specs.Run.{path-in, tally-in, SamePath}
 use Rattle.lines.specs.declared.Ask.{Ask}
@@ -73,6 +74,11 @@ pub record Cuts (query : Str) (len matched : ℕ) (c : Cut) : Type 0 where
   pub last-one : length query ≤ c .next → bindings-search-term (segments query) ≡ ns-search-term (segments query)
   pub more : c .next < length query → bindings-search-term (segments query) ≡ NSTNone
   pub steps : (path : PathOf) → len ≡ length (base path) → Matching path (segments query) matched → Steps path prefix-is (tail (segments query)) (c .matched)
+
+-- Bindings are skipped only where more than one segment is left, or the tally is past the limits.
+pub record Skips (run : List ℕ) (lim : Limits) (size next : ℕ) (r : Bool) : Type 0 where
+  pub when : r ≡ true → (next < size) ⊎ Past lim (getD run 20 0) (getD run 21 0)
+  pub unless : r ≡ false → size ≤ next
 
 -- The path p with one more branch.
 pub record PathDown (ws : List ℕ) (p : Path) (branch label : ℕ) (r : Path) : Type 0 where
