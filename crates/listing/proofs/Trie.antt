@@ -23,14 +23,13 @@ use Rattle.memory.proofs.Tries.{lists-seen, bindings-at, namespaces-at, binding
 use Rattle.lines.specs.Ask.{asked}
 use Rattle.lines.specs.Path.{Path, OnPath}
 use Rattle.lines.specs.Output.{Tally, Result, Past, Shows, Goes}
-use Rattle.lines.specs.Lines.{only}
 use Rattle.lines.specs.Run.{path-in, tally-in, SamePath}
 use Rattle.lines.specs.declared.Ask.{Ask}
 use Rattle.lines.specs.declared.Limits.{Limits}
 use Rattle.lines.specs.declared.Task.{Task}
 use Rattle.lines.proofs.Run.{same-then, same-set, tally-entered}
 use Rattle.lines.proofs.Goes.{written-none, goes-none, goes-then, goes-past}
-use Rattle.listing.specs.Runs.{trie-gives, elements-give, Matching, Cuts, Ready, ListReady, ListRuns, TrieReady, TrieRuns, PlaceOk, ListAsked, ListListed, TrieAsked, TrieListed}
+use Rattle.listing.specs.Runs.{trie-gives, elements-give, Matching, Cuts, RunReady, ListReady, ListRuns, TrieReady, TrieRuns, PlaceOk, ListAsked, ListListed, TrieAsked, TrieListed}
 use Rattle.listing.specs.declared.Place.{Place}
 use Rattle.listing.specs.declared.Cut.{Cut}
 use Rattle.listing.proofs.Runs.{list-ready-at, list-runs-at}
@@ -111,7 +110,7 @@ module _ {ws txt : List ℕ} {ask : Ask} {query : Str} {p : Path} {lim : Limits}
     pub namespaces-earlier : t .namespaces ≤ trie-link
     namespaces-earlier = omega (arith, lists-seen (r .trie-at) seen .namespaces .earlier)
 
-    rest-ready : Ready ws txt ask (drop (c .next) query) p lim
+    rest-ready : RunReady ws txt ask (drop (c .next) query) p lim
     rest-ready = record { path-ok = r .ready .path-ok; ends = cut .ends; short = omega (arith, length-drop (c .next) query, r .ready .short); small = r .ready .small }
 
     pub bindings-ready : ListReady ws txt ask (drop (c .next) query) p lim true (t .bindings)

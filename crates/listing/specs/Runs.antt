@@ -119,31 +119,31 @@ tree-entries ws txt root label prefix = map (λ b. record { branch = b; label = 
 
 module _ (ws txt : List ℕ) (ask : Ask) (rest : Str) (p : Path) (lim : Limits) where
   -- What each function requires of the rest of the query, the path and the limits.
-  pub record Ready : Type 0 where
+  pub record RunReady : Type 0 where
     pub path-ok : PathOk ws txt (asked ask) p
     pub ends : ends-in-dot rest ≡ true
     pub short : length rest ≤ 544
     pub small : Small lim
 
   pub record BranchReady (leaf : Bool) (branch label : ℕ) : Type 0 where
-    pub ready : Ready
+    pub ready : RunReady
     pub branch-at : BranchAt ws txt (asked ask) (level-of leaf) branch
     pub label-at : LabelAt ws txt (asked ask) (level-of leaf) label
     pub room : leaf ≡ false → HasRoom ws txt ask p (record { branch = branch; label = label })
 
   pub record TreeReady (leaf : Bool) (root label : ℕ) (prefix : Str) : Type 0 where
-    pub ready : Ready
+    pub ready : RunReady
     pub tree-at : At ws txt (asked ask) (tree (level-of leaf)) root
     pub label-at : LabelAt ws txt (asked ask) (level-of leaf) label
     pub room : leaf ≡ false → Allˡ (HasRoom ws txt ask p) (tree-entries ws txt root label prefix)
 
   pub record ListReady (leaf : Bool) (x : ℕ) : Type 0 where
-    pub ready : Ready
+    pub ready : RunReady
     pub list-at : At ws txt (asked ask) (list (level-of leaf)) x
     pub room : leaf ≡ false → p .n + depth-names (what (asked ask) ws txt x (list ns)) ≤ 16
 
   pub record TrieReady (trie : ℕ) : Type 0 where
-    pub ready : Ready
+    pub ready : RunReady
     pub trie-at : At ws txt (asked ask) trieˢ trie
     pub room : p .n + depth (what (asked ask) ws txt trie trieˢ) ≤ 16
 

@@ -2,7 +2,7 @@
 use mathlib.Core.Path.{refl}
 use mathlib.Core.Logic.{inl, inr}
 use native.Mathlib.Omega.{arith}
-use Rattle.listing.proofs.Completing.{root-ready, root-shows, flat-kept, out-kept, writes-then, set-small, all-fit, completes-spent, completes-past, completes-listed}
+use Rattle.listing.proofs.Completes.{root-ready, root-shows, flat-kept, out-kept, writes-then, set-small, all-fit, completes-spent, completes-past, completes-listed}
 use borrow.Author.Needs.{needs}
 use Rattle.listing.proofs.complete.Statement.{statement}
 use Rattle.listing.proofs.complete.Tie as tie

@@ -1,5 +1,4 @@
 -- `skips_bindings` answers so.
-use mathlib.Core.Path.{sym}
 use mathlib.Core.Bool.{true≢false}
 use mathlib.Core.Logic.{inl, inr}
 use native.Mathlib.Omega.{arith}

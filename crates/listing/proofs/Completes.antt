@@ -29,7 +29,6 @@ use Rattle.lines.specs.declared.Limits.{Limits}
 use Rattle.lines.proofs.Counting.{tally-is, tells-past}
 use Rattle.listing.specs.Runs.{trie-gives, Matching, TrieReady, TrieRuns}
 use Rattle.listing.specs.Completes.{output, output-rows, lines-of, CompletesAs, Completes}
-use Rattle.listing.specs.declared.Completion.{Completion}
 use Rattle.listing.specs.declared.Completion.the-variants.{Listed, Spent, Lines}
 use Rattle.listing.proofs.Loops.{no-label}
 use Rattle.memory.specs.Sound.{At}
