@@ -1,7 +1,8 @@
--- A run goes on by parts: nothing, one part then the next, and past the budget anything.
+-- A run goes on by parts: nothing, one part then the next, past the budget anything, past the lines or bytes any lines.
 use Prim.Native.Nat.{ℕ, _+_, _*_, _<_, _≤_}
 use mathlib.Core.Path.{_≡_, refl, sym, ap, _∙_}
 use mathlib.Core.List.{List, [], _∷_, _++_, flatMap, map-append}
+use mathlib.Core.Logic.{inr}
 use native.Mathlib.Omega.{arith}
 use lib.ListN.{length, length-append}
 use Rattle.source.specs.Table.{Line}
@@ -10,9 +11,10 @@ use Rattle.source.specs.Shared.{Allˡ}
 use Rattle.source.proofs.Lines.{flatMap-append, output-text-append, output-lines-append}
 use Rattle.memory.specs.Layout.{Which, Item}
 use Rattle.text.proofs.Laid.{laid-none, laid-more}
-use Rattle.lines.specs.Output.{Tally, line-of, rows-flat, Written, Result, _⊕_, Goes}
+use Rattle.lines.specs.Output.{Tally, line-of, rows-flat, Written, Result, _⊕_, Past, Goes}
 use Rattle.lines.specs.Lines.{only}
 use Rattle.lines.specs.declared.Limits.{Limits}
+use Rattle.lines.proofs.Counting.{past-more, not-past, tells-past}
 
 all-append : {A : Type 0} (P : A → Type 0) (xs ys : List A) → Allˡ P xs → Allˡ P ys → Allˡ P (xs ++ ys)
 all-append P [] ys a b = b
@@ -106,8 +108,21 @@ module _ {w : Which} {txt : List ℕ} {lim : Limits} where
         record {
           spent = λ h. p;
           entered-is = λ h. absurd (never (omega arith));
-          lines-are = λ h. absurd (never (omega arith));
-          bytes-are = λ h. absurd (never (omega arith));
+          counted = λ h. absurd (never (omega arith));
         };
     writes = λ e l b s f. absurd (omega (arith, s .entered-is (omega (arith, f .entered-fit)), f .entered-fit));
+  }
+
+  -- Past the lines or bytes, lines need no more counting.
+  pub goes-past : {a : Tally} (flat out : List ℕ) (r : Result (Item w)) → r .entered ≡ 0 → Past lim (a .lines) (a .bytes) → Goes w txt lim a a flat flat out out r
+  goes-past {a} flat out r z p = record {
+    flat-size = refl;
+    out-size = refl;
+    shows = λ e l b s. record {
+      spent = λ h. s .spent (omega arith);
+      entered-is = λ h. omega (arith, s .entered-is (omega arith));
+      counted = λ h. inr (past-more lim (length (r .lines)) (length (output-text (r .lines))) (tells-past lim a p (s .counted (omega arith))), p);
+    };
+    writes = λ e l b s f.
+        not-past lim (f .lines-fit) (f .bytes-fit) (past-more lim (length (r .lines)) (length (output-text (r .lines))) (tells-past lim a p (s .counted (omega (arith, f .entered-fit)))));
   }

@@ -20,7 +20,7 @@ use Rattle.lines.specs.Output.{Tally, line-of, rows-flat, Written, Cappe
 use Rattle.lines.specs.Lines.{Spells}
 use Rattle.lines.specs.Parts.{JobOk, candidate-of, line-row, size-of, Room, LinePut, TriedLine, PutLine}
 use Rattle.lines.specs.Run.{Job}
-use Rattle.lines.proofs.Counting.{capped-is}
+use Rattle.lines.proofs.Counting.{tells-is, tells-more}
 use Rattle.lines.proofs.Texts.{text-laid, row-laid}
 
 -- The tally after a line of some bytes.
@@ -100,12 +100,12 @@ module _ {ws txt : List ℕ} {j : Job} (ok : JobOk ws txt j) where
           shows = λ e i b h. record {
             spent = λ k. omega (arith, c .entered-same, h .spent (omega arith));
             entered-is = λ k. omega (arith, c .entered-same, h .entered-is (omega arith));
-            lines-are = λ k. c .lines-more i (h .lines-are (omega arith));
-            bytes-are = λ k. rw size (c .bytes-more b (h .bytes-are (omega arith)));
+            counted = λ k. rw size (tells-more (j .lim) 1 (size-of ws j note) (j .tally) t (c .lines-more) (c .bytes-more) i b (h .counted (omega arith)));
           };
           writes = λ e i b h k.
-              let el = capped-is (omega (arith, k .lines-fit)) (h .lines-are (omega (arith, k .entered-fit))) in
-              let eb = capped-is (omega (arith, k .bytes-fit)) (h .bytes-are (omega (arith, k .entered-fit))) in
+              let is = tells-is (j .lim) (j .tally) (omega (arith, k .lines-fit)) (omega (arith, k .bytes-fit)) (h .counted (omega (arith, k .entered-fit))) in
+              let el = is .0 in
+              let eb = is .1 in
               rw (← el, ← eb) (put w l s e (record {
                 entered-fit = omega (arith, k .entered-fit);
                 lines-fit = omega (arith, k .lines-fit);

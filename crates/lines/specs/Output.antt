@@ -67,12 +67,15 @@ pub record Tally : Type 0 where
   pub lines : ℕ
   pub bytes : ℕ
 
--- A tally of e tries entered, l lines and b bytes; past the budget it says only that.
+-- Lines or bytes past the limits.
+abbrev pub Past : (lim : Limits) (l b : ℕ) → Type 0
+Past lim l b = (lim .lines < l) ⊎ (lim .bytes < b)
+
+-- A tally of e tries entered, l lines and b bytes. Past the budget it says only that; past the lines or bytes it says that of lines and bytes.
 pub record Shows (lim : Limits) (e l b : ℕ) (t : Tally) : Type 0 where
   pub spent : lim .budget < e → lim .budget < t .entered
   pub entered-is : e ≤ lim .budget → t .entered ≡ e
-  pub lines-are : e ≤ lim .budget → Capped (lim .lines) l (t .lines)
-  pub bytes-are : e ≤ lim .budget → Capped (lim .bytes) b (t .bytes)
+  pub counted : e ≤ lim .budget → ((t .lines ≡ l) × (t .bytes ≡ b)) ⊎ (Past lim l b × Past lim (t .lines) (t .bytes))
 
 -- Limits that 32 bits hold.
 pub record Small (lim : Limits) : Type 0 where

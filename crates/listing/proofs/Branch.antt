@@ -27,7 +27,7 @@ use Rattle.lines.specs.declared.Limits.{Limits}
 use Rattle.lines.specs.declared.Found.{Found}
 use Rattle.listing.specs.Runs.{PathDown, Entered, PathSet, level-of, BranchReady, BranchRuns, TrieReady, TrieRuns, BranchAsked, BranchListed, TrieAsked, TrieListed}
 use Rattle.listing.specs.declared.Place.{Place}
-use Rattle.listing.proofs.Down.{branch-fits, path-down, on-path-down}
+use Rattle.listing.proofs.PathDown.{branch-fits, path-down, on-path-down}
 
 -- The trie that a branch of namespaces holds.
 module _ {ws txt : List ℕ} {w : Which} {branch : ℕ} (b : BranchAt ws txt w ns branch) where

@@ -28,7 +28,7 @@ module _ (a : Ask) (n : ℕ) (path : PathOf) (q : Query) where
   bind-lines [] = refl
   bind-lines (x ∷ xs) = ap (λ l. line-for a (line path x) ++ l) (bind-lines xs)
 
-  bind-entered : (xs : List (PathElem × Value (Item (asked a)) bind)) → elements-give a bind n path q xs .entered ≡ 0
+  pub bind-entered : (xs : List (PathElem × Value (Item (asked a)) bind)) → elements-give a bind n path q xs .entered ≡ 0
   unfolding elements-give _⊕_
   bind-entered [] = refl
   bind-entered (x ∷ xs) = omega (arith, bind-entered xs)

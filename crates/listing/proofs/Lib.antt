@@ -1,9 +1,9 @@
 pub mod Gives
 pub mod Runs
-pub mod Down
-pub mod Cutting
+pub mod PathDown
+pub mod Cuts
 pub mod Left
 pub mod Branch
 pub mod Loops
 pub mod Trie
-pub mod Completing
+pub mod Completes

@@ -45,7 +45,7 @@ use Rattle.lines.specs.declared.Found.{Found}
 use Rattle.lines.proofs.Run.{same-path, same-then}
 use Rattle.listing.specs.Runs.{HasRoom, level-of, tree-entries, BranchReady, BranchRuns, TreeReady, EntriesRun, ListReady, ListRuns, BranchAsked, BranchListed, TreeAsked, TreeListed, ListAsked, ListListed}
 use Rattle.listing.specs.declared.Place.{Place}
-use Rattle.listing.proofs.Down.{branch-tree}
+use Rattle.listing.proofs.PathDown.{branch-tree}
 use Rattle.listing.proofs.Runs.{branch-ready-at, branch-runs-at}
 use Rattle.listing.proofs.Left.{Left, left-all, left-none, left-spent, left-next}
 use Rattle.memory.proofs.At.{no-link, at-of}

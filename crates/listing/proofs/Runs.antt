@@ -1,19 +1,18 @@
 -- What is asked of a run, and what it gives, is the same of a run with the same path.
-use Prim.Native.Nat.{ℕ, _+_, _<_}
-use mathlib.Core.Path.{_≡_, refl}
+use Prim.Native.Nat.{ℕ}
 use mathlib.Core.Bool.{Bool}
 use mathlib.Core.List.{List}
 use native.Mathlib.Omega.{arith}
 use Rattle.source.specs.Text.{Str}
 use Rattle.lines.specs.Output.{Tally}
-use Rattle.lines.specs.Run.{path-in, tally-in, SamePath}
+use Rattle.lines.specs.Run.{path-in, SamePath}
 use Rattle.lines.specs.declared.Ask.{Ask}
 use Rattle.lines.specs.declared.Limits.{Limits}
 use Rattle.lines.proofs.Run.{path-ok-at, on-path-at}
-use Rattle.listing.specs.Runs.{Ready, BranchReady, BranchRuns, ListReady, ListRuns}
+use Rattle.listing.specs.Runs.{RunReady, BranchReady, BranchRuns, ListReady, ListRuns}
 
 module _ {ws txt : List ℕ} {ask : Ask} {rest : Str} {run run′ : List ℕ} {lim : Limits} (s : SamePath run run′) where
-  ready-at : Ready ws txt ask rest (path-in run) lim → Ready ws txt ask rest (path-in run′) lim
+  ready-at : RunReady ws txt ask rest (path-in run) lim → RunReady ws txt ask rest (path-in run′) lim
   ready-at r = record { path-ok = path-ok-at s (r .path-ok); ends = r .ends; short = r .short; small = r .small }
 
   pub branch-ready-at : {leaf : Bool} {branch label : ℕ} → BranchReady ws txt ask rest (path-in run) lim leaf branch label → BranchReady ws txt ask rest (path-in run′) lim leaf branch label

@@ -3,6 +3,7 @@ use Prim.Native.Nat.{ℕ, zero, suc, _+_, _*_, _<_, _≤_}
 use mathlib.Core.Path.{_≡_, refl, ap, _∙_}
 use mathlib.Core.Bool.{Bool, true, false, true≢false}
 use mathlib.Core.List.{List, []}
+use mathlib.Core.Logic.{_⊎_, inl, inr}
 use native.Mathlib.Omega.{arith}
 use lib.Dec.{ltb}
 use borrow.Author.Tests.{ltb-true, ltb-false}
@@ -21,19 +22,18 @@ use Rattle.memory.specs.declared.Trie.{Trie}
 use Rattle.memory.proofs.Tries.{lists-seen, bindings-at, namespaces-at, bindings-read, namespaces-read}
 use Rattle.lines.specs.Ask.{asked}
 use Rattle.lines.specs.Path.{Path, OnPath}
-use Rattle.lines.specs.Output.{Tally, Result, Shows, Goes}
-use Rattle.lines.specs.Lines.{only}
-use Rattle.lines.specs.Run.{SamePath}
+use Rattle.lines.specs.Output.{Tally, Result, Past, Shows, Goes}
+use Rattle.lines.specs.Run.{path-in, tally-in, SamePath}
 use Rattle.lines.specs.declared.Ask.{Ask}
 use Rattle.lines.specs.declared.Limits.{Limits}
 use Rattle.lines.specs.declared.Task.{Task}
 use Rattle.lines.proofs.Run.{same-then, same-set, tally-entered}
-use Rattle.lines.proofs.Goes.{written-none, goes-none, goes-then}
-use Rattle.listing.specs.Runs.{trie-gives, elements-give, Matching, Cuts, Ready, ListReady, ListRuns, TrieReady, TrieRuns, PlaceOk, ListAsked, ListListed, TrieAsked, TrieListed}
+use Rattle.lines.proofs.Goes.{written-none, goes-none, goes-then, goes-past}
+use Rattle.listing.specs.Runs.{trie-gives, elements-give, Matching, Cuts, RunReady, ListReady, ListRuns, TrieReady, TrieRuns, PlaceOk, ListAsked, ListListed, TrieAsked, TrieListed}
 use Rattle.listing.specs.declared.Place.{Place}
 use Rattle.listing.specs.declared.Cut.{Cut}
 use Rattle.listing.proofs.Runs.{list-ready-at, list-runs-at}
-use Rattle.listing.proofs.Gives.{once, trie-gives-is}
+use Rattle.listing.proofs.Gives.{once, bind-entered, trie-gives-is}
 use Rattle.memory.proofs.At.{at-fits}
 
 -- One more trie entered.
@@ -59,8 +59,7 @@ module _ {w : Which} {txt : List ℕ} {lim : Limits} where
         rw (el, eb) (record {
           spent = λ k. absurd (within e s (omega arith));
           entered-is = λ k. omega (arith, s .entered-is (omega arith));
-          lines-are = λ k. s .lines-are (omega arith);
-          bytes-are = λ k. s .bytes-are (omega arith);
+          counted = λ k. s .counted (omega arith);
         });
     writes = λ e l b s f. written-none flat out l b (omega (arith, f .lines-fit, f .flat-lent)) (omega (arith, f .bytes-fit, f .out-lent));
   }
@@ -83,8 +82,7 @@ module _ {w : Which} {txt : List ℕ} {lim : Limits} where
         record {
           spent = λ z. omega arith;
           entered-is = λ z. absurd (never z);
-          lines-are = λ z. absurd (never z);
-          bytes-are = λ z. absurd (never z);
+          counted = λ z. absurd (never z);
         };
     writes = λ e l b s f. absurd (omega (arith, s .entered-is (omega (arith, f .entered-fit)), f .entered-fit));
   }
@@ -112,7 +110,7 @@ module _ {ws txt : List ℕ} {ask : Ask} {query : Str} {p : Path} {lim : Limits}
     pub namespaces-earlier : t .namespaces ≤ trie-link
     namespaces-earlier = omega (arith, lists-seen (r .trie-at) seen .namespaces .earlier)
 
-    rest-ready : Ready ws txt ask (drop (c .next) query) p lim
+    rest-ready : RunReady ws txt ask (drop (c .next) query) p lim
     rest-ready = record { path-ok = r .ready .path-ok; ends = cut .ends; short = omega (arith, length-drop (c .next) query, r .ready .short); small = r .ready .small }
 
     pub bindings-ready : ListReady ws txt ask (drop (c .next) query) p lim true (t .bindings)
@@ -163,6 +161,22 @@ module _ {ws txt : List ℕ} {ask : Ask} {query : Str} {p : Path} {lim : Limits}
               (goes-then (goes-none (inside a) flat out)
               (n .goes path _ (cut .prefix-is) k on (rw (cut .rest) st) (cut .asks) (λ z. omega (arith, deep)))))
 
+      -- Where lines or bytes are past the limits the bindings need no counting.
+      pub trie-past : {e : Tally} {flat flat₂ out out₂ : List ℕ} → Past lim (a .lines) (a .bytes)
+          → ListRuns ws txt ask (drop (c .next) query) p lim (c .matched) (inside a) e flat flat₂ out out₂ false (t .namespaces) (take (c .len) query)
+          → TrieRuns ws txt ask query p lim matched a e flat flat₂ out out₂ trie-link
+      trie-past {e} {flat} {flat₂} {out} {out₂} past n = record { goes = λ path k on mt d. go path k on mt d }
+        where
+          go : (path : PathOf) (k : ℕ) → OnPath ws txt p path → Matching path (segments query) matched → depth (what (asked ask) ws txt trie-link trieˢ) < k
+              → Goes (asked ask) txt lim a e flat flat₂ out out₂ (trie-gives ask k (what (asked ask) ws txt trie-link trieˢ) path (segments query))
+          go path zero on mt d = absurd (omega arith)
+          go path (suc k) on mt d =
+              let st = cut .steps path (r .ready .path-ok .len-is ∙ ap length (on .text)) mt in
+              rw (trie-gives-is ask k (what (asked ask) ws txt trie-link trieˢ) path (segments query), ← bindings-read (r .trie-at) seen, ← namespaces-read (r .trie-at) seen, ← cut .rest)
+              (goes-then (goes-once a flat out h)
+              (goes-then (goes-past flat out _ (bind-entered ask k path _ _) past)
+              (n .goes path _ (cut .prefix-is) k on (rw (cut .rest) st) (cut .asks) (λ z. omega (arith, deep)))))
+
 -- ---- The lent run
 
 module _ {ws txt : List ℕ} {query : Str} {task : Task} {run : List ℕ} {x : ℕ} (r : TrieAsked ws txt query task run x) where
@@ -192,11 +206,14 @@ module _ {ws txt : List ℕ} {query : Str} {task : Task} {run : List ℕ} {x : �
     namespaces-asked s = record { place-ok = place-ok false; can = list-ready-at (same-then same₁ s) (namespaces-ready (r .can) seen cut) }
 
     module _ {run₂ flat flat₁ out out₁ : List ℕ} where
-      pub trie-few : c .next < length query → ListListed ws txt query (down false) run₁ run₂ flat flat₁ out out₁ (t .namespaces) → TrieListed ws txt query task run run₂ flat flat₁ out out₁ x
-      trie-few more n = record {
-        same = same-then same₁ (n .same);
-        runs = trie-spaces (r .can) seen cut h more (rw (tally-entered run (getD run 19 0 + 1) (r .can .ready .path-ok .sized)) at (list-runs-at same₁ (n .runs)));
-      }
+      pub trie-few : (c .next < length query) ⊎ Past (task .lim) (getD run 20 0) (getD run 21 0) → ListListed ws txt query (down false) run₁ run₂ flat flat₁ out out₁ (t .namespaces) → TrieListed ws txt query task run run₂ flat flat₁ out out₁ x
+      trie-few skip n = record { same = same-then same₁ (n .same); runs = go skip (rw (tally-entered run (getD run 19 0 + 1) (r .can .ready .path-ok .sized)) at (list-runs-at same₁ (n .runs))) }
+        where
+          go : (c .next < length query) ⊎ Past (task .lim) (getD run 20 0) (getD run 21 0)
+              → ListRuns ws txt (task .ask) (drop (c .next) query) (path-in run) (task .lim) (c .matched) (inside (tally-in run)) (tally-in run₂) flat flat₁ out out₁ false (t .namespaces) (take (c .len) query)
+              → TrieRuns ws txt (task .ask) query (path-in run) (task .lim) (task .matched) (tally-in run) (tally-in run₂) flat flat₁ out out₁ x
+          go (inl more) m = trie-spaces (r .can) seen cut h more m
+          go (inr past) m = trie-past (r .can) seen cut h past m
 
       pub trie-all : {run₃ flat₂ out₂ : List ℕ} → length query ≤ c .next → ListListed ws txt query (down true) run₁ run₂ flat flat₁ out out₁ (t .bindings)
           → ListListed ws txt query (down false) run₂ run₃ flat₁ flat₂ out₁ out₂ (t .namespaces) → TrieListed ws txt query task run run₃ flat flat₂ out out₂ x

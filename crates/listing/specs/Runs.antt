@@ -2,6 +2,7 @@
 use Prim.Native.Nat.{ℕ, _+_, _<_, _≤_}
 use mathlib.Core.Path.{_≡_}
 use mathlib.Core.Bool.{Bool, true, false}
+use mathlib.Core.Logic.{_⊎_}
 use mathlib.Core.List.{List, [], _∷_, map, reverse, tail}
 use mathlib.Core.Option.{Option, some}
 use lib.Dec.{eqb}
@@ -23,7 +24,7 @@ use Rattle.tree.specs.Links.{matches}
 use Rattle.merge.specs.Entries.{Entry, shown, outer, Asks}
 use Rattle.lines.specs.Ask.{asked, line-for}
 use Rattle.lines.specs.Path.{Path, BranchAt, LabelAt, PathOk, OnPath}
-use Rattle.lines.specs.Output.{signed-word, Result, Tally, _⊕_, Small, Goes}
+use Rattle.lines.specs.Output.{signed-word, Result, Tally, _⊕_, Past, Small, Goes}
 use Rattle.lines.specs.Lines.{only}
 use Rattle.lines.specs.Run.{path-in, tally-in, SamePath}
 use Rattle.lines.specs.declared.Ask.{Ask}
@@ -74,6 +75,11 @@ pub record Cuts (query : Str) (len matched : ℕ) (c : Cut) : Type 0 where
   pub more : c .next < length query → bindings-search-term (segments query) ≡ NSTNone
   pub steps : (path : PathOf) → len ≡ length (base path) → Matching path (segments query) matched → Steps path prefix-is (tail (segments query)) (c .matched)
 
+-- Bindings are skipped only where more than one segment is left, or the tally is past the limits.
+pub record Skips (run : List ℕ) (lim : Limits) (size next : ℕ) (r : Bool) : Type 0 where
+  pub when : r ≡ true → (next < size) ⊎ Past lim (getD run 20 0) (getD run 21 0)
+  pub unless : r ≡ false → size ≤ next
+
 -- The path p with one more branch.
 pub record PathDown (ws : List ℕ) (p : Path) (branch label : ℕ) (r : Path) : Type 0 where
   pub size : length (r .links) ≡ length (p .links)
@@ -113,31 +119,31 @@ tree-entries ws txt root label prefix = map (λ b. record { branch = b; label = 
 
 module _ (ws txt : List ℕ) (ask : Ask) (rest : Str) (p : Path) (lim : Limits) where
   -- What each function requires of the rest of the query, the path and the limits.
-  pub record Ready : Type 0 where
+  pub record RunReady : Type 0 where
     pub path-ok : PathOk ws txt (asked ask) p
     pub ends : ends-in-dot rest ≡ true
     pub short : length rest ≤ 544
     pub small : Small lim
 
   pub record BranchReady (leaf : Bool) (branch label : ℕ) : Type 0 where
-    pub ready : Ready
+    pub ready : RunReady
     pub branch-at : BranchAt ws txt (asked ask) (level-of leaf) branch
     pub label-at : LabelAt ws txt (asked ask) (level-of leaf) label
     pub room : leaf ≡ false → HasRoom ws txt ask p (record { branch = branch; label = label })
 
   pub record TreeReady (leaf : Bool) (root label : ℕ) (prefix : Str) : Type 0 where
-    pub ready : Ready
+    pub ready : RunReady
     pub tree-at : At ws txt (asked ask) (tree (level-of leaf)) root
     pub label-at : LabelAt ws txt (asked ask) (level-of leaf) label
     pub room : leaf ≡ false → Allˡ (HasRoom ws txt ask p) (tree-entries ws txt root label prefix)
 
   pub record ListReady (leaf : Bool) (x : ℕ) : Type 0 where
-    pub ready : Ready
+    pub ready : RunReady
     pub list-at : At ws txt (asked ask) (list (level-of leaf)) x
     pub room : leaf ≡ false → p .n + depth-names (what (asked ask) ws txt x (list ns)) ≤ 16
 
   pub record TrieReady (trie : ℕ) : Type 0 where
-    pub ready : Ready
+    pub ready : RunReady
     pub trie-at : At ws txt (asked ask) trieˢ trie
     pub room : p .n + depth (what (asked ask) ws txt trie trieˢ) ≤ 16
 

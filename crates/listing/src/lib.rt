@@ -14,7 +14,7 @@ ghost use Rattle.source.specs.Text.{ends-in-dot};
 ghost use Rattle.lines.specs.Ask.{asked};
 ghost use Rattle.lines.specs.Run.{path-in};
 ghost use Rattle.listing.specs.Completes.{Completes};
-ghost use Rattle.listing.specs.Runs.{Cuts, Entered, PathSet, BranchAsked, BranchListed, TreeAsked, TreeListed, ListAsked, ListListed, TrieAsked, TrieListed};
+ghost use Rattle.listing.specs.Runs.{Cuts, Skips, Entered, PathSet, BranchAsked, BranchListed, TreeAsked, TreeListed, ListAsked, ListListed, TrieAsked, TrieListed};
 ghost use Rattle.memory.specs.Sound.{At};
 ghost use Rattle.memory.specs.Layout.{trieˢ};
 
@@ -51,6 +51,19 @@ fn cut_query(query: &[u8], base: usize, matched: u32) -> Cut
         next: len + 1,
         matched: (base + len) as u32,
     }
+}
+
+// Whether a trie's bindings need no listing: more than one segment is left, or lines or bytes are past the limits already.
+fn skips_bindings(run: &[usize; lines::RUN], lim: Limits, size: usize, next: usize) -> bool
+    ensures { λ r. ⌜ Skips (now (run .entry)) lim size next r ⌝ }
+{
+    if next < size {
+        return true;
+    }
+    if lim.lines < run[lines::LINES] {
+        return true;
+    }
+    lim.bytes < run[lines::BYTES]
 }
 
 // Gives the path as many of its links, the length and the label.
@@ -242,6 +255,7 @@ fn list_names(
 }
 
 // The source's trie_find_prefix': the trie is entered, then its bindings, where at most one segment is left, and its namespaces.
+// Once lines or bytes are past the limits only the tries entered are counted.
 fn list_trie(
     words: &[u32],
     text: &[u8],
@@ -255,18 +269,19 @@ fn list_trie(
     requires { ⌜ TrieAsked (now words) (now text) (now query) task (now run) trie ⌝ }
     ensures { λ _. ⌜ TrieListed (now (words .entry)) (now (text .entry)) (now (query .entry)) task (now (run .entry)) (now (run .exit)) (now (flat .entry)) (now (flat .exit)) (now (out .entry)) (now (out .exit)) trie ⌝ }
 {
-    let budget = task.lim.budget;
+    let lim = task.lim;
+    let budget = lim.budget;
     let before = run[lines::ENTERED];
     let base = run[lines::LENGTH];
     if budget <= before {
         run[lines::ENTERED] = budget + 1;
         return;
     }
-    run[lines::ENTERED] = before + 1;
     let t = memory::trie_of(words, trie);
     let c = cut_query(query, base, task.matched);
+    let skip = skips_bindings(run, lim, query.len(), c.next);
+    run[lines::ENTERED] = before + 1;
     let ask = task.ask;
-    let lim = task.lim;
     let below = Task {
         ask: ask,
         lim: lim,
@@ -280,7 +295,7 @@ fn list_trie(
         len: len,
         next: next,
     };
-    if next < query.len() {
+    if skip {
         list_names(words, text, query, namespaces, t.namespaces, run, flat, out);
         return;
     }

@@ -10,7 +10,7 @@ use Rattle.text.proofs.Texts.{tail-is}
 use Rattle.tree.proofs.Branches.{any-tree}
 use Rattle.memory.proofs.At.{at-fits}
 use Rattle.lines.proofs.Run.{same-path}
-use Rattle.listing.proofs.Cutting.{front-is}
+use Rattle.listing.proofs.Cuts.{front-is}
 use Rattle.listing.proofs.Branch.{leaf-runs, line-ready, branch-named, space-at, below-ready, child-earlier, namespace-ready, namespace-sized, namespace-runs}
 use Rattle.listing.proofs.Loops.{onward, along-earlier, along-tree, along-begins, Stepping, stepping-first, stepping-branch, stepping-next, stepping-less, stepping-spent, stepping-done, list-any, one-earlier, one-ready, one-runs, Merging, merging-first, merging-any, merging-done, merging-earlier, merging-less, merging-branch, merging-next, merging-spent}
 use Rattle.listing.proofs.Trie.{trie-spent, trie-named, cut-ready, bindings-earlier, namespaces-earlier, bindings-asked, namespaces-asked, trie-all, trie-few}
@@ -36,13 +36,14 @@ use Rattle.lines.proofs.line.Reads as line-reads
 use Rattle.listing.proofs.cut_query.Reads as cut-query-reads
 use Rattle.listing.proofs.enter.Reads as enter-reads
 use Rattle.listing.proofs.set_path.Reads as set-path-reads
+use Rattle.listing.proofs.skips_bindings.Reads as skips-bindings-reads
+use Rattle.matches.proofs.first_match.Reads as first-match-reads
+use Rattle.matches.proofs.next_match.Reads as next-match-reads
 use Rattle.memory.proofs.held_of.Reads as held-of-reads
 use Rattle.memory.proofs.trie_of.Reads as trie-of-reads
 use Rattle.merge.proofs.merge_next.Reads as merge-next-reads
 use Rattle.merge.proofs.merge_start.Reads as merge-start-reads
 use Rattle.merge.proofs.single.Reads as single-reads
-use Rattle.matches.proofs.first_match.Reads as first-match-reads
-use Rattle.matches.proofs.next_match.Reads as next-match-reads
 use Rattle.listing.proofs.+list_branch+list_merged+list_names+list_tree+list_trie.{
   statement,
 }
@@ -287,7 +288,7 @@ pub +list-branch+list-merged+list-names+list-tree+list-trie-spec : {M : Type 1} 
     (λ c. c .before .before .loop .inv .along .left .out-size)
     {- returns-2 -}
     (λ c. stepping-done (c .before .before .loop .inv) (omega (arith, c .if1 .left))))
-    λ t. list-trie-lts.spec (trie-of-reads.Asked, trie-of-reads.Learnt, cut-query-reads.Asked, cut-query-reads.Learnt, list-names-below t, list-names.Post)
+    λ t. list-trie-lts.spec (trie-of-reads.Asked, trie-of-reads.Learnt, cut-query-reads.Asked, cut-query-reads.Learnt, skips-bindings-reads.Asked, skips-bindings-reads.Learnt, list-names-below t, list-names.Post)
     (list-trie-at t)
     list-trie.Post
     {- element-copy-out-before -}
@@ -295,34 +296,36 @@ pub +list-branch+list-merged+list-names+list-tree+list-trie-spec : {M : Type 1} 
     {- element-copy-out-base -}
     (λ c. search needs)
     {- add-run -}
-    (λ c. omega (arith, c .before .before .before .before .before .before .before .before .pre .1 .can .ready .small .budget-small))
+    (λ c. omega (arith, c .before .before .before .before .before .before .before .before .before .pre .1 .can .ready .small .budget-small))
     {- element-write-run -}
     (λ c. search needs)
     {- returns -}
-    (λ c. trie-spent (c .before .before .before .before .before .before .before .before .pre .1) (c .if1 .taken))
+    (λ c. trie-spent (c .before .before .before .before .before .before .before .before .before .pre .1) (c .if1 .taken))
+    {- trie-of-requires -}
+    (λ c κs. trie-named (c .before .before .before .before .before .before .before .before .before .pre .1 .can))
+    {- cut-query-requires -}
+    (λ c κs. cut-ready (c .before .before .before .before .before .before .before .before .before .before .pre .1 .can))
+    {- skips-bindings-requires -}
+    (λ c κs. search needs)
     {- add-run-2 -}
-    (λ c. omega (arith, c .if1 .left, c .before .before .before .before .before .before .before .before .pre .1 .can .ready .small .budget-small))
+    (λ c. omega (arith, c .before .before .before .before .if1 .left, c .before .before .before .before .before .before .before .before .before .before .before .before .before .pre .1 .can .ready .small .budget-small))
     {- element-write-run-2 -}
     (λ c. search needs)
-    {- trie-of-requires -}
-    (λ c κs. trie-named (c .before .before .before .before .before .before .before .before .pre .1 .can))
-    {- cut-query-requires -}
-    (λ c κs. cut-ready (c .before .before .before .before .before .before .before .before .before .pre .1 .can))
     {- list-names-requires -}
-    (λ c κs. (omega (arith, c .before .before .before .before .before .before .before .before .before .before .before .before .before .before .before .pre .0, namespaces-earlier (c .before .before .before .before .before .before .before .before .before .before .before .before .before .before .before .pre .1 .can) (c .before .before .before .before .before .before .trie-of .ensures) (c .before .before .before .before .before .cut-query .ensures)), namespaces-asked (c .before .before .before .before .before .before .before .before .before .before .before .before .before .before .before .pre .1) (c .before .before .before .before .before .before .trie-of .ensures) (c .before .before .before .before .before .cut-query .ensures) (omega (arith, c .before .before .before .before .before .before .before .if1 .left)) (same-path _)))
+    (λ c κs. (omega (arith, c .before .before .before .before .before .before .before .before .before .before .before .before .before .before .before .before .before .pre .0, namespaces-earlier (c .before .before .before .before .before .before .before .before .before .before .before .before .before .before .before .before .before .pre .1 .can) (c .before .before .before .before .before .before .before .trie-of .ensures) (c .before .before .before .before .before .before .cut-query .ensures)), namespaces-asked (c .before .before .before .before .before .before .before .before .before .before .before .before .before .before .before .before .before .pre .1) (c .before .before .before .before .before .before .before .trie-of .ensures) (c .before .before .before .before .before .before .cut-query .ensures) (omega (arith, c .before .before .before .before .before .before .before .before .if1 .left)) (same-path _)))
     {- same-length -}
     (λ c. search needs)
     {- same-length-2 -}
     (λ c. search needs)
     {- returns-2 -}
-    (λ c. trie-few (c .before .before .before .before .before .before .before .before .before .before .before .before .before .before .before .before .before .before .before .before .pre .1) (c .before .before .before .before .before .before .before .before .before .before .before .trie-of .ensures) (c .before .before .before .before .before .before .before .before .before .before .cut-query .ensures) (omega (arith, c .before .before .before .before .before .before .before .before .before .before .before .before .if1 .left)) (c .before .before .before .before .before .before .before .before .if2 .taken) (c .before .before .before .before .list-names .ensures))
+    (λ c. trie-few (c .before .before .before .before .before .before .before .before .before .before .before .before .before .before .before .before .before .before .before .before .before .before .pre .1) (c .before .before .before .before .before .before .before .before .before .before .before .before .trie-of .ensures) (c .before .before .before .before .before .before .before .before .before .before .before .cut-query .ensures) (omega (arith, c .before .before .before .before .before .before .before .before .before .before .before .before .before .if1 .left)) (c .before .before .before .before .before .before .before .before .before .skips-bindings .ensures .when (c .before .before .before .before .before .before .before .before .if2 .taken)) (c .before .before .before .before .list-names .ensures))
     {- list-names-requires-2 -}
-    (λ c κs. (omega (arith, c .before .before .before .before .before .before .before .before .before .before .before .before .before .before .before .pre .0, bindings-earlier (c .before .before .before .before .before .before .before .before .before .before .before .before .before .before .before .pre .1 .can) (c .before .before .before .before .before .before .trie-of .ensures) (c .before .before .before .before .before .cut-query .ensures)), bindings-asked (c .before .before .before .before .before .before .before .before .before .before .before .before .before .before .before .pre .1) (c .before .before .before .before .before .before .trie-of .ensures) (c .before .before .before .before .before .cut-query .ensures) (omega (arith, c .before .before .before .before .before .before .before .if1 .left))))
+    (λ c κs. (omega (arith, c .before .before .before .before .before .before .before .before .before .before .before .before .before .before .before .before .before .pre .0, bindings-earlier (c .before .before .before .before .before .before .before .before .before .before .before .before .before .before .before .before .before .pre .1 .can) (c .before .before .before .before .before .before .before .trie-of .ensures) (c .before .before .before .before .before .before .cut-query .ensures)), bindings-asked (c .before .before .before .before .before .before .before .before .before .before .before .before .before .before .before .before .before .pre .1) (c .before .before .before .before .before .before .before .trie-of .ensures) (c .before .before .before .before .before .before .cut-query .ensures) (omega (arith, c .before .before .before .before .before .before .before .before .if1 .left))))
     {- list-names-requires-3 -}
-    (λ c κs. (omega (arith, c .before .before .before .before .before .before .before .before .before .before .before .before .before .before .before .before .before .before .before .before .before .before .before .pre .0, namespaces-earlier (c .before .before .before .before .before .before .before .before .before .before .before .before .before .before .before .before .before .before .before .before .before .before .before .pre .1 .can) (c .before .before .before .before .before .before .before .before .before .before .before .before .before .before .trie-of .ensures) (c .before .before .before .before .before .before .before .before .before .before .before .before .before .cut-query .ensures)), namespaces-asked (c .before .before .before .before .before .before .before .before .before .before .before .before .before .before .before .before .before .before .before .before .before .before .before .pre .1) (c .before .before .before .before .before .before .before .before .before .before .before .before .before .before .trie-of .ensures) (c .before .before .before .before .before .before .before .before .before .before .before .before .before .cut-query .ensures) (omega (arith, c .before .before .before .before .before .before .before .before .before .before .before .before .before .before .before .if1 .left)) (c .before .before .before .before .before .before .before .list-names2 .ensures .same)))
+    (λ c κs. (omega (arith, c .before .before .before .before .before .before .before .before .before .before .before .before .before .before .before .before .before .before .before .before .before .before .before .before .before .pre .0, namespaces-earlier (c .before .before .before .before .before .before .before .before .before .before .before .before .before .before .before .before .before .before .before .before .before .before .before .before .before .pre .1 .can) (c .before .before .before .before .before .before .before .before .before .before .before .before .before .before .before .trie-of .ensures) (c .before .before .before .before .before .before .before .before .before .before .before .before .before .before .cut-query .ensures)), namespaces-asked (c .before .before .before .before .before .before .before .before .before .before .before .before .before .before .before .before .before .before .before .before .before .before .before .before .before .pre .1) (c .before .before .before .before .before .before .before .before .before .before .before .before .before .before .before .trie-of .ensures) (c .before .before .before .before .before .before .before .before .before .before .before .before .before .before .cut-query .ensures) (omega (arith, c .before .before .before .before .before .before .before .before .before .before .before .before .before .before .before .before .if1 .left)) (c .before .before .before .before .before .before .before .list-names2 .ensures .same)))
     {- same-length-3 -}
     (λ c. search needs)
     {- same-length-4 -}
     (λ c. search needs)
     {- returns-3 -}
-    (λ c. trie-all (c .before .before .before .before .before .before .before .before .before .before .before .before .before .before .before .before .before .before .before .before .before .before .before .before .before .before .before .before .pre .1) (c .before .before .before .before .before .before .before .before .before .before .before .before .before .before .before .before .before .before .before .trie-of .ensures) (c .before .before .before .before .before .before .before .before .before .before .before .before .before .before .before .before .before .before .cut-query .ensures) (omega (arith, c .before .before .before .before .before .before .before .before .before .before .before .before .before .before .before .before .before .before .before .before .if1 .left)) (c .before .before .before .before .before .before .before .before .before .before .before .before .before .before .before .before .if2 .left) (c .before .before .before .before .before .before .before .before .before .before .before .before .list-names2 .ensures) (c .before .before .before .before .list-names3 .ensures))
+    (λ c. trie-all (c .before .before .before .before .before .before .before .before .before .before .before .before .before .before .before .before .before .before .before .before .before .before .before .before .before .before .before .before .before .before .pre .1) (c .before .before .before .before .before .before .before .before .before .before .before .before .before .before .before .before .before .before .before .before .trie-of .ensures) (c .before .before .before .before .before .before .before .before .before .before .before .before .before .before .before .before .before .before .before .cut-query .ensures) (omega (arith, c .before .before .before .before .before .before .before .before .before .before .before .before .before .before .before .before .before .before .before .before .before .if1 .left)) (c .before .before .before .before .before .before .before .before .before .before .before .before .before .before .before .before .before .skips-bindings .ensures .unless (c .before .before .before .before .before .before .before .before .before .before .before .before .before .before .before .before .if2 .left)) (c .before .before .before .before .before .before .before .before .before .before .before .before .list-names2 .ensures) (c .before .before .before .before .list-names3 .ensures))

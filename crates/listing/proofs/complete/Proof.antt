@@ -1,7 +1,8 @@
 -- `complete` meets its contract: counted over an empty output, then written.
 use mathlib.Core.Path.{refl}
+use mathlib.Core.Logic.{inl, inr}
 use native.Mathlib.Omega.{arith}
-use Rattle.listing.proofs.Completing.{root-ready, root-shows, flat-kept, out-kept, writes-then, set-small, all-fit, completes-spent, completes-lines, completes-bytes, completes-listed}
+use Rattle.listing.proofs.Completes.{root-ready, root-shows, flat-kept, out-kept, writes-then, set-small, all-fit, completes-spent, completes-past, completes-listed}
 use borrow.Author.Needs.{needs}
 use Rattle.listing.proofs.complete.Statement.{statement}
 use Rattle.listing.proofs.complete.Tie as tie
@@ -45,13 +46,13 @@ complete-spec =
     {- same-length-4 -}
     (λ c. search needs)
     {- returns-2 -}
-    (λ c. completes-lines (record { budget-is = refl; budget-fits = omega (arith, c .before .before .before .before .before .before .before .before .before .before .before .before .before .before .before .before .before .fits .budget .fits); lines-are = c .before .before .before .before .before .before .before .before .before .before .before .lent .ensures; bytes-are = c .before .before .before .before .before .before .before .before .before .before .lent2 .ensures }) (root-shows _ _ _ _ _ (c .before .before .before .before .before .before .list-trie .ensures .runs)) (c .before .if1 .left) (c .if2 .taken) (flat-kept _ _ _ _ _ (c .before .before .before .before .before .before .list-trie .ensures .runs) (c .before .before .before .before .before .before .before .before .before .before .before .before .before .before .before .before .before .args .flat .now) refl) (out-kept _ _ _ _ _ (c .before .before .before .before .before .before .list-trie .ensures .runs) (c .before .before .before .before .before .before .before .before .before .before .before .before .before .before .before .before .before .args .out .now) refl))
+    (λ c. completes-past (record { budget-is = refl; budget-fits = omega (arith, c .before .before .before .before .before .before .before .before .before .before .before .before .before .before .before .before .before .fits .budget .fits); lines-are = c .before .before .before .before .before .before .before .before .before .before .before .lent .ensures; bytes-are = c .before .before .before .before .before .before .before .before .before .before .lent2 .ensures }) (root-shows _ _ _ _ _ (c .before .before .before .before .before .before .list-trie .ensures .runs)) (c .before .if1 .left) (inl (c .if2 .taken)) (flat-kept _ _ _ _ _ (c .before .before .before .before .before .before .list-trie .ensures .runs) (c .before .before .before .before .before .before .before .before .before .before .before .before .before .before .before .before .before .args .flat .now) refl) (out-kept _ _ _ _ _ (c .before .before .before .before .before .before .list-trie .ensures .runs) (c .before .before .before .before .before .before .before .before .before .before .before .before .before .before .before .before .before .args .out .now) refl))
     {- same-length-5 -}
     (λ c. search needs)
     {- same-length-6 -}
     (λ c. search needs)
     {- returns-3 -}
-    (λ c. completes-bytes (record { budget-is = refl; budget-fits = omega (arith, c .before .before .before .before .before .before .before .before .before .before .before .before .before .before .before .before .before .before .fits .budget .fits); lines-are = c .before .before .before .before .before .before .before .before .before .before .before .before .lent .ensures; bytes-are = c .before .before .before .before .before .before .before .before .before .before .before .lent2 .ensures }) (root-shows _ _ _ _ _ (c .before .before .before .before .before .before .before .list-trie .ensures .runs)) (c .before .before .if1 .left) (c .if3 .taken) (flat-kept _ _ _ _ _ (c .before .before .before .before .before .before .before .list-trie .ensures .runs) (c .before .before .before .before .before .before .before .before .before .before .before .before .before .before .before .before .before .before .args .flat .now) refl) (out-kept _ _ _ _ _ (c .before .before .before .before .before .before .before .list-trie .ensures .runs) (c .before .before .before .before .before .before .before .before .before .before .before .before .before .before .before .before .before .before .args .out .now) refl))
+    (λ c. completes-past (record { budget-is = refl; budget-fits = omega (arith, c .before .before .before .before .before .before .before .before .before .before .before .before .before .before .before .before .before .before .fits .budget .fits); lines-are = c .before .before .before .before .before .before .before .before .before .before .before .before .lent .ensures; bytes-are = c .before .before .before .before .before .before .before .before .before .before .before .lent2 .ensures }) (root-shows _ _ _ _ _ (c .before .before .before .before .before .before .before .list-trie .ensures .runs)) (c .before .before .if1 .left) (inr (c .if3 .taken)) (flat-kept _ _ _ _ _ (c .before .before .before .before .before .before .before .list-trie .ensures .runs) (c .before .before .before .before .before .before .before .before .before .before .before .before .before .before .before .before .before .before .args .flat .now) refl) (out-kept _ _ _ _ _ (c .before .before .before .before .before .before .before .list-trie .ensures .runs) (c .before .before .before .before .before .before .before .before .before .before .before .before .before .before .before .before .before .before .args .out .now) refl))
     {- list-trie-requires-2 -}
     (λ c κs. record { can = root-ready _ _ _ _ _ (c .before .before .before .before .before .before .before .before .before .before .before .before .before .before .before .before .before .before .before .before .before .pre .0) (c .before .before .before .before .before .before .before .before .before .before .before .before .before .before .before .before .before .before .before .before .before .pre .1) (set-small {flat = c .before .before .before .before .before .before .before .before .before .before .before .before .before .before .before .before .before .before .before .before .before .args .flat .now} {out = c .before .before .before .before .before .before .before .before .before .before .before .before .before .before .before .before .before .before .before .before .before .args .out .now} (record { budget-is = refl; budget-fits = omega (arith, c .before .before .before .before .before .before .before .before .before .before .before .before .before .before .before .before .before .before .before .before .before .fits .budget .fits); lines-are = c .before .before .before .before .before .before .before .before .before .before .before .before .before .before .before .lent .ensures; bytes-are = c .before .before .before .before .before .before .before .before .before .before .before .before .before .before .lent2 .ensures })) })
     {- cast-t41 -}

@@ -2,7 +2,7 @@
 use mathlib.Core.Path.{refl}
 use native.Mathlib.Omega.{arith}
 use Rattle.text.proofs.Segments.{before-inside}
-use Rattle.listing.proofs.Cutting.{cuts-none, cuts-some}
+use Rattle.listing.proofs.Cuts.{cuts-none, cuts-some}
 use borrow.Author.Needs.{needs}
 use Rattle.listing.proofs.cut_query.Statement.{statement}
 use Rattle.listing.proofs.cut_query.Tie as tie

@@ -5,7 +5,7 @@ use native.Mathlib.Omega.{arith}
 use borrow.Author.Needs.{needs}
 use borrow.Author.Tests.{eq-eqb, ne-eqb}
 use lib.ListN.{length-set}
-use Rattle.listing.proofs.Down.{entered}
+use Rattle.listing.proofs.PathDown.{entered}
 use Rattle.listing.proofs.enter.Statement.{statement}
 use Rattle.listing.proofs.enter.Tie as tie
 

@@ -1,6 +1,6 @@
 -- `set_path` gives the path its numbers.
 use borrow.Author.Needs.{needs}
-use Rattle.listing.proofs.Down.{path-set}
+use Rattle.listing.proofs.PathDown.{path-set}
 use Rattle.listing.proofs.set_path.Statement.{statement}
 use Rattle.listing.proofs.set_path.Tie as tie
 

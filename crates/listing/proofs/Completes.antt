@@ -22,13 +22,13 @@ use Rattle.memory.specs.Layout.{Item, trieˢ, what}
 use Rattle.memory.proofs.Tries.{trie-shallow}
 use Rattle.lines.specs.Ask.{asked}
 use Rattle.lines.specs.Path.{Path, joined, PathOk, OnPath}
-use Rattle.lines.specs.Output.{Tally, signed-word, Written, Shows, Small, Fit, Goes, Capped}
+use Rattle.lines.specs.Output.{Tally, signed-word, Written, Shows, Past, Small, Fit, Goes}
 use Rattle.lines.specs.Run.{path-in, tally-in}
 use Rattle.lines.specs.declared.Ask.{Ask}
 use Rattle.lines.specs.declared.Limits.{Limits}
+use Rattle.lines.proofs.Counting.{tally-is, tells-past}
 use Rattle.listing.specs.Runs.{trie-gives, Matching, TrieReady, TrieRuns}
-use Rattle.listing.specs.Completes.{output, lines-of, Completes}
-use Rattle.listing.specs.declared.Completion.{Completion}
+use Rattle.listing.specs.Completes.{output, output-rows, lines-of, CompletesAs, Completes}
 use Rattle.listing.specs.declared.Completion.the-variants.{Listed, Spent, Lines}
 use Rattle.listing.proofs.Loops.{no-label}
 use Rattle.memory.specs.Sound.{At}
@@ -87,7 +87,7 @@ module _ (ws txt : List ℕ) (ask : Ask) (root : ℕ) (query : Str) where
     run-goes = r .goes [] (suc (depth tr)) on-root root-matching (omega arith)
 
     none-shown : Shows lim 0 0 0 nothing-yet
-    none-shown = record { spent = λ h. h; entered-is = λ h. refl; lines-are = λ h. inl refl; bytes-are = λ h. inl refl }
+    none-shown = record { spent = λ h. h; entered-is = λ h. refl; counted = λ h. inl (refl, refl) }
 
     -- What the run has counted.
     pub root-shows : Shows lim tries (length listed) (length (output-text listed)) a
@@ -131,14 +131,6 @@ pub record Set (lim : Limits) (budget : ℕ) (flat out : List ℕ) : Type 0 wher
 pub set-small : {lim : Limits} {budget : ℕ} {flat out : List ℕ} → Set lim budget flat out → Small lim
 set-small s = record { budget-small = omega (arith, s .budget-is, s .budget-fits); lines-small = omega (arith, s .lines-are); bytes-small = omega (arith, s .bytes-are) }
 
-over-limit : {limit x a : ℕ} → Capped limit x a → limit < a → limit < x
-over-limit (inl e) h = omega arith
-over-limit (inr p) h = p .0
-
-under-limit : {limit x a : ℕ} → Capped limit x a → a ≤ limit → a ≡ x
-under-limit (inl e) h = e
-under-limit (inr p) h = absurd (omega (arith, p .1))
-
 -- What a tally says of the totals.
 module _ {lim : Limits} {e l b : ℕ} {a : Tally} (s : Shows lim e l b a) where
   by-budget : {P : Type 0} → (lim .budget < e → P) → (e ≤ lim .budget → P) → P
@@ -156,7 +148,7 @@ module _ {lim : Limits} {e l b : ℕ} {a : Tally} (s : Shows lim e l b a) where
 
   module _ (h : a .entered ≤ lim .budget) (lines-fit : a .lines ≤ lim .lines) (bytes-fit : a .bytes ≤ lim .bytes) where
     exact : (a .entered ≡ e) × (a .lines ≡ l) × (a .bytes ≡ b)
-    exact = (s .entered-is (within h), under-limit (s .lines-are (within h)) lines-fit, under-limit (s .bytes-are (within h)) bytes-fit)
+    exact = let t = tally-is lim a lines-fit bytes-fit (s .counted (within h)) in (s .entered-is (within h), t .0, t .1)
 
     pub all-fit : {budget : ℕ} {flat out : List ℕ} → Set lim budget flat out → Fit lim flat out e l b
     all-fit set = record {
@@ -177,19 +169,18 @@ module _ {ws txt : List ℕ} {ask : Ask} {root : ℕ} {query : Str} {budget : �
   completes-spent h f o = record { says = rw (lt-ltb budget (tries ws txt ask root query) (omega (arith, passed s h, set .budget-is))) (refl, f, o) }
 
   module _ (h : a .entered ≤ lim .budget) where
-    pub completes-lines : lim .lines < a .lines → flat′ ≡ flat → out′ ≡ out → Completes ws txt ask root query budget flat flat′ out out′ Lines
+    -- Lines or bytes past what is lent.
+    pub completes-past : Past lim (a .lines) (a .bytes) → flat′ ≡ flat → out′ ≡ out → Completes ws txt ask root query budget flat flat′ out out′ Lines
     unfolding lowest
-    completes-lines k f o = record {
-      says = rw (affordable set s h, lt-ltb (min (length flat / 12) 4294967295) (length (listed ws txt ask root query)) (omega (arith, over-limit (s .lines-are (within s h)) k, set .lines-are))) (refl, f, o);
-    }
-
-    pub completes-bytes : lim .bytes < a .bytes → flat′ ≡ flat → out′ ≡ out → Completes ws txt ask root query budget flat flat′ out out′ Lines
-    unfolding lowest
-    completes-bytes k f o = record {
-      says =
-          rw (affordable set s h, lt-ltb (min (length out) 4294967295) (length (output-text (listed ws txt ask root query))) (omega (arith, over-limit (s .bytes-are (within s h)) k, set .bytes-are)), or-true)
-          (refl, f, o);
-    }
+    completes-past p f o = record { says = go (tells-past lim a p (s .counted (within s h))) }
+      where
+        go : Past lim (length (listed ws txt ask root query)) (length (output-text (listed ws txt ask root query)))
+            → CompletesAs ws txt ask flat flat′ out out′ Lines (listed ws txt ask root query) (tries ws txt ask root query)
+            (lowest (output-rows budget (output flat out) (listed ws txt ask root query) (tries ws txt ask root query)))
+        go (inl k) = rw (affordable set s h, lt-ltb (min (length flat / 12) 4294967295) (length (listed ws txt ask root query)) (omega (arith, set .lines-are))) (refl, f, o)
+        go (inr k) =
+            rw (affordable set s h, lt-ltb (min (length out) 4294967295) (length (output-text (listed ws txt ask root query))) (omega (arith, set .bytes-are)), or-true)
+            (refl, f, o)
 
     pub completes-listed : a .lines ≤ lim .lines → a .bytes ≤ lim .bytes → Written (asked ask) txt flat flat′ out out′ 0 0 (listed ws txt ask root query)
         → Completes ws txt ask root query budget flat flat′ out out′ (Listed (a .lines) (a .entered))
