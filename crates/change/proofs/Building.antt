@@ -13,7 +13,7 @@ use Rattle.source.specs.Counted.{Counted, pure, one, _>>=_, names-insertᶜ}
 use Rattle.source.proofs.Counted.{names-insert-value, names-insert-count}
 use Rattle.source.specs.Rules.{IsKey}
 use Rattle.text.proofs.Texts.{part-is}
-use Rattle.memory.specs.Layout.{word, span, Which, Item, Sort, tree, list, trieˢ, Of, kind, value, what}
+use Rattle.memory.specs.Layout.{span, Which, Item, Sort, tree, list, trieˢ, Of, kind, value, what, text-len, text-start}
 use Rattle.memory.specs.Stored.{depth-in}
 use Rattle.memory.specs.Sound.{LinkOk, TextOk, Used, At}
 use Rattle.names.specs.Names.{NamesPlaced}
@@ -45,7 +45,7 @@ builds-one m e = record { number = e; made = rw e m }
 -- An insertion.
 pub builds-insert : {ws ws′ txt : List ℕ} {w : Which} {v : Level} {n n′ used x count y : ℕ} {r : List ℕ} → NamesInsertion ws txt w v n used x count r
     → NamesInserts ws ws′ txt n x count r y → n′ ≡ n + count + 1
-    → Builds ws ws′ txt n used w (list v) (names-insertᶜ (what w ws txt x (list v)) (span txt (word r 1) (word r 2)) (value w txt r (what w ws txt) v)) y n′
+    → Builds ws ws′ txt n used w (list v) (names-insertᶜ (what w ws txt x (list v)) (span txt (text-start r) (text-len r)) (value w txt r (what w ws txt) v)) y n′
 builds-insert {w = w} {v} {used = used} i m e = record {
   number = rw names-insert-count (omega (arith, e, i .counted));
   made = rw (e, names-insert-value) (m w v used i);

@@ -20,7 +20,7 @@ use Rattle.source.specs.Lists.{Run, run-cmp}
 use Rattle.source.proofs.Order.{Viewℕ, compare-view}
 use Rattle.text.specs.Text.{ordering}
 use Rattle.text.specs.declared.Order.{Order}
-use Rattle.memory.specs.Layout.{record-at, word, span, key-at}
+use Rattle.memory.specs.Layout.{record-at, span, key-at, text-len, text-start}
 use Rattle.heap.specs.Compare.{cell-cmp, sign, Stands}
 
 -- ---- Signed differences of small numbers
@@ -68,7 +68,7 @@ pub is-lt-test : (z : ℤ) {o : Ordering} {t : Bool} → mag z < 2 ^ hbits w32 �
 is-lt-test z f e g = ap is-lt (sym e) ∙ sym (is-lt-sign z) ∙ ap (λ (x : ℤ). ltZ x (pos 0)) (sym (toZ-ofZ w32 z (sfits-of f))) ∙ g
 
 -- ---- The comparator
-pub key-part : (ws txt : List ℕ) (l i a : ℕ) → i ≡ word (record-at ws l) 1 → a ≡ word (record-at ws l) 2 → take (i + a - i) (drop i txt) ≡ key-at ws txt l
+pub key-part : (ws txt : List ℕ) (l i a : ℕ) → i ≡ text-start (record-at ws l) → a ≡ text-len (record-at ws l) → take (i + a - i) (drop i txt) ≡ key-at ws txt l
 unfolding key-at span
 key-part ws txt l i a p q = let e : i + a - i ≡ a = omega arith in rw (e, p, q)
 

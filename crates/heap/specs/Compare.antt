@@ -6,13 +6,13 @@ use lib.IntN.{ℤ, pos, negsuc}
 use lib.ListN.{length, getD}
 use Rattle.source.specs.Text.{Str, then, string-compare}
 use Rattle.source.specs.Lists.{Run, first, priority}
-use Rattle.memory.specs.Layout.{record-at, word, key-at}
+use Rattle.memory.specs.Layout.{record-at, key-at, text-len, text-start}
 
 -- A link of a record with its key in the text.
 pub record Head (ws txt : List ℕ) (l : ℕ) : Type 0 where
   pub named : 0 < l
   pub within : l * 12 ≤ length ws
-  pub key : word (record-at ws l) 1 + word (record-at ws l) 2 ≤ length txt
+  pub key : text-start (record-at ws l) + text-len (record-at ws l) ≤ length txt
 
 -- At most 96 cells, and each one's head is such a link.
 pub record Heads (ws txt heads : List ℕ) (n : ℕ) : Type 0 where

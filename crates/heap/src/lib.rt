@@ -31,10 +31,10 @@ fn compare_keys(words: &[u32], text: &[u8], x: u32, y: u32) -> Order
     requires { ⌜ Head (now words) (now text) y ⌝ }
     ensures { λ r. ⌜ ordering r ≡ string-compare (key-at (now (words .entry)) (now (text .entry)) x) (key-at (now (words .entry)) (now (text .entry)) y) ⌝ }
 {
-    let i = memory::word_of(words, x, 1) as usize;
-    let a = memory::word_of(words, x, 2) as usize;
-    let j = memory::word_of(words, y, 1) as usize;
-    let b = memory::word_of(words, y, 2) as usize;
+    let i = memory::word_of(words, x, memory::TEXT_START) as usize;
+    let a = memory::word_of(words, x, memory::TEXT_LEN) as usize;
+    let j = memory::word_of(words, y, memory::TEXT_START) as usize;
+    let b = memory::word_of(words, y, memory::TEXT_LEN) as usize;
     text::string_compare(&text[i..i + a], &text[j..j + b])
 }
 

@@ -6,7 +6,7 @@ use mathlib.Core.List.{List}
 use native.Mathlib.Omega.{arith}
 use Rattle.source.specs.Text.{Str}
 use Rattle.source.specs.Types.{Level}
-use Rattle.memory.specs.Layout.{record-at, word, span, pick, Which, key-at}
+use Rattle.memory.specs.Layout.{record-at, span, pick, Which, key-at, text-start, text-len}
 use Rattle.memory.specs.Sound.{LinkOk, TextOk, Used}
 use Rattle.memory.proofs.Parts.{span-length}
 use Rattle.memory.proofs.Records.{branch-at, collection-at}
@@ -21,11 +21,11 @@ use Rattle.lines.specs.declared.Task.{Task}
 use Rattle.lines.specs.declared.Found.{Found}
 
 module _ {ws txt : List ℕ} {n used x k : ℕ} (o : Used ws txt n used) (i : LinkOk ws (n + 1) x k) (p : 0 < x) where
-  text-at : {Rule : Str → Type 0} → TextOk Rule txt used (word (record-at ws x) 1) (word (record-at ws x) 2)
-      → length (span txt (word (record-at ws x) 1) (word (record-at ws x) 2)) ≤ 543 → TextAt ws txt x
+  text-at : {Rule : Str → Type 0} → TextOk Rule txt used (text-start (record-at ws x)) (text-len (record-at ws x))
+      → length (span txt (text-start (record-at ws x)) (text-len (record-at ws x))) ≤ 543 → TextAt ws txt x
   unfolding key-at
   text-at t h =
-      let e = span-length txt (word (record-at ws x) 1) (word (record-at ws x) 2) (omega (arith, t .inside, o .text-fits)) in
+      let e = span-length txt (text-start (record-at ws x)) (text-len (record-at ws x)) (omega (arith, t .inside, o .text-fits)) in
       record { some = p; within = link-fits o i; inside = omega (arith, t .inside, o .text-fits); size = e; short = omega arith; few = omega (arith, i .earlier, o .few) }
 
 module _ {ws txt : List ℕ} {w : Which} {v : Level} {x : ℕ} where

@@ -9,7 +9,7 @@ use borrow.Rule.Slice.PartMut.{putMid, midOf}
 use Rattle.source.specs.Text.{Str}
 use Rattle.source.specs.Table.{Line}
 use Rattle.source.specs.Calls.{output-text, output-lines}
-use Rattle.memory.specs.Layout.{record-at, word, Which, names, modules, Item, item-of, key-at}
+use Rattle.memory.specs.Layout.{record-at, Which, names, modules, Item, item-of, key-at, text-len}
 use Rattle.memory.specs.Grown.{put, put-text}
 use Rattle.memory.specs.Sound.{Says}
 use Rattle.memory.proofs.Says.{passes, refuses}
@@ -46,7 +46,7 @@ row-item names txt r m s n k = refl
 row-item modules txt r m s n k = refl
 
 module _ {ws txt : List ℕ} {j : Job} (ok : JobOk ws txt j) where
-  pub candidate-length : length (candidate-of ws txt (j .path) (j .branch)) ≡ j .path .len + word (record-at ws (j .branch)) 2
+  pub candidate-length : length (candidate-of ws txt (j .path) (j .branch)) ≡ j .path .len + text-len (record-at ws (j .branch))
   candidate-length = omega (arith, length-append (joined ws txt (j .path .links) (j .path .n)) (key-at ws txt (j .branch)), ok .path .len-is, ok .branch .size)
 
   -- The texts and the row, written into lent parts.

@@ -20,7 +20,7 @@ use Rattle.source.specs.Forward.{line, kept-line}
 use Rattle.memory.specs.Layout.{record-at, pick, Which, names, modules, Item, item-of}
 use Rattle.tree.specs.Tree.{held}
 use Rattle.tree.specs.Links.{row-at}
-use Rattle.merge.specs.Entries.{label-at, shown, outer}
+use Rattle.names.specs.Entries.{label-at, shown, outer}
 use Rattle.lines.specs.Ask.{filter-in, asked, line-for}
 use Rattle.lines.specs.Path.{Path, OnPath}
 use Rattle.lines.specs.Lines.{only, Listed}

@@ -10,7 +10,7 @@ use Rattle.source.specs.Listing.{PathOf}
 use Rattle.source.specs.Table.{Line, match-length-of-path}
 use Rattle.source.specs.Forward.{line}
 use Rattle.memory.specs.Layout.{record-at, Which, Item, item-of, key-at}
-use Rattle.merge.specs.Entries.{shown, outer}
+use Rattle.names.specs.Entries.{shown, outer}
 use Rattle.lines.specs.Ask.{asked, line-for}
 use Rattle.lines.specs.Path.{Path, joined, BranchAt, LabelAt, PathOk, OnPath}
 use Rattle.lines.specs.Output.{signed-word, Result, Small, Goes}

@@ -20,6 +20,22 @@ use Rattle.memory.specs.Layout.{word, pick, Which, Item, item-of}
 use Rattle.text.specs.Laid.{Laid}
 use Rattle.lines.specs.declared.Limits.{Limits}
 
+-- The words of a line by name; those of its item are a branch's.
+abbrev pub matched-word : List ℕ → ℕ
+matched-word r = word r 0
+
+abbrev pub candidate-start : List ℕ → ℕ
+candidate-start r = word r 1
+
+abbrev pub candidate-len : List ℕ → ℕ
+candidate-len r = word r 2
+
+abbrev pub annotation-start : List ℕ → ℕ
+annotation-start r = word r 3
+
+abbrev pub annotation-len : List ℕ → ℕ
+annotation-len r = word r 4
+
 -- The number that a word holds in two's complement, of -1 and up.
 unfoldable pub signed-word : ℕ → ℤ
 signed-word m = pick (eqb m 4294967295) (negsuc 0) (pos m)
@@ -27,10 +43,10 @@ signed-word m = pick (eqb m 4294967295) (negsuc 0) (pos m)
 -- The line record that twelve words hold, its item's texts in the table's text.
 unfoldable pub line-of : (w : Which) → List ℕ → List ℕ → LineRecord (Item w)
 line-of w txt r = record {
-  match-length = signed-word (word r 0);
+  match-length = signed-word (matched-word r);
   item-of = item-of w txt r;
-  candidate = record { start = word r 1; len = word r 2 };
-  annotation = record { start = word r 3; len = word r 4 };
+  candidate = record { start = candidate-start r; len = candidate-len r };
+  annotation = record { start = annotation-start r; len = annotation-len r };
 }
 
 -- The rows one after another.

@@ -8,9 +8,9 @@ use Rattle.source.specs.Text.{Str}
 use Rattle.source.specs.Tries.{dflt}
 use Rattle.source.specs.Table.{ModSymbol, Line, mod-annotation}
 use Rattle.source.specs.Calls as C
-use Rattle.memory.specs.Layout.{record-at, word, pick, Which, modules, Item, item-of, key-at}
+use Rattle.memory.specs.Layout.{record-at, pick, Which, modules, Item, item-of, key-at, text-start, text-len, number-word, name-start, name-len, path-start, path-len, loaded-word}
 use Rattle.text.specs.Laid.{Laid}
-use Rattle.merge.specs.Entries.{label-at}
+use Rattle.names.specs.Entries.{label-at}
 use Rattle.lines.specs.Ask.{filter-in}
 use Rattle.lines.specs.Path.{Path, joined}
 use Rattle.lines.specs.Output.{Tally, Small, Fit, Goes}
@@ -24,9 +24,9 @@ use Rattle.lines.specs.declared.Filter.{Filter}
 pub record TextAt (ws txt : List ℕ) (x : ℕ) : Type 0 where
   pub some : 0 < x
   pub within : x * 12 ≤ length ws
-  pub inside : word (record-at ws x) 1 + word (record-at ws x) 2 ≤ length txt
-  pub size : length (key-at ws txt x) ≡ word (record-at ws x) 2
-  pub short : word (record-at ws x) 2 ≤ 543
+  pub inside : text-start (record-at ws x) + text-len (record-at ws x) ≤ length txt
+  pub size : length (key-at ws txt x) ≡ text-len (record-at ws x)
+  pub short : text-len (record-at ws x) ≤ 543
   pub few : x ≤ 65536
 
 -- The links of a path name keys, and the length is that of their text.
@@ -60,11 +60,11 @@ note-at ws txt label = dflt [] (label-at ws txt label)
 -- The words of a line from the branch r.
 abbrev pub line-row : (r : List ℕ) (matched start len note : ℕ) → List ℕ
 line-row r matched start len note =
-    matched ∷ start ∷ len ∷ (start + len) ∷ note ∷ word r 5 ∷ word r 6 ∷ word r 7 ∷ word r 8 ∷ word r 9 ∷ word r 10 ∷ 0 ∷ []
+    matched ∷ start ∷ len ∷ (start + len) ∷ note ∷ number-word r ∷ name-start r ∷ name-len r ∷ path-start r ∷ path-len r ∷ loaded-word r ∷ 0 ∷ []
 
 -- The bytes of a line.
 abbrev pub size-of : (ws : List ℕ) → Job → Str → ℕ
-size-of ws j note = j .path .len + word (record-at ws (j .branch)) 2 + length note
+size-of ws j note = j .path .len + text-len (record-at ws (j .branch)) + length note
 
 -- A line fits what is lent.
 pub record Room (ws : List ℕ) (j : Job) (note flat out : List ℕ) : Type 0 where

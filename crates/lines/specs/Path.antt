@@ -10,8 +10,8 @@ use Rattle.source.specs.Table.{first-import-of-path}
 use Rattle.source.specs.Forward.{base}
 use Rattle.memory.specs.Layout.{Which, tree, kind, key-at}
 use Rattle.memory.specs.Sound.{LinkOk, Used}
-use Rattle.merge.specs.Entries.{label-at}
-use Rattle.merge.specs.Lists.{LabelOk}
+use Rattle.names.specs.Entries.{label-at}
+use Rattle.names.specs.Entries.{LabelOk}
 
 -- The numbers of a run, of which the first are branches of namespaces from the root on, how many, the bytes of their keys with a dot after each,
 -- and the collection of the outermost label of the first, 0 for none.

@@ -147,12 +147,12 @@ fn line_row(words: &[u32], branch: u32, matched: u32, start: u32, len: u32, note
         len,
         start + len,
         note,
-        item[5],
-        item[6],
-        item[7],
-        item[8],
-        item[9],
-        item[10],
+        item[memory::NUMBER],
+        item[memory::NAME_START],
+        item[memory::NAME_LEN],
+        item[memory::PATH_START],
+        item[memory::PATH_LEN],
+        item[memory::LOADED],
         0,
     ]
 }

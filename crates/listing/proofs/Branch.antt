@@ -16,7 +16,7 @@ use Rattle.memory.proofs.Records.{record-as}
 use Rattle.memory.proofs.Seen.{link-ok, link-later}
 use Rattle.tree.specs.Tree.{held}
 use Rattle.tree.specs.Links.{row-at}
-use Rattle.merge.specs.Entries.{shown, outer}
+use Rattle.names.specs.Entries.{shown, outer}
 use Rattle.lines.specs.Ask.{asked}
 use Rattle.lines.specs.Path.{Path, BranchAt, LabelAt}
 use Rattle.lines.specs.Output.{Tally}

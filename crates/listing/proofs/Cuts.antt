@@ -15,7 +15,7 @@ use Rattle.source.specs.Listing.{NSTNone, ns-search-term, bindings-search-term}
 use Rattle.source.proofs.Paths.{match-length-skip, match-length-some, so-far-is}
 use Rattle.text.specs.Text.{before-dot}
 use Rattle.text.proofs.Segments.{first-segment, before-inside}
-use Rattle.merge.specs.Entries.{by-prefix, by-all}
+use Rattle.names.specs.Entries.{by-prefix, by-all}
 use Rattle.lines.specs.Output.{signed-word}
 use Rattle.listing.specs.Runs.{Cuts}
 

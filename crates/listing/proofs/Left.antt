@@ -12,7 +12,7 @@ use Rattle.source.specs.Terms.{depth}
 use Rattle.source.specs.Listing.{PathOf}
 use Rattle.source.specs.Shared.{Allˡ}
 use Rattle.memory.specs.Layout.{Item}
-use Rattle.merge.specs.Entries.{Entry, shown, outer}
+use Rattle.names.specs.Entries.{Entry, shown, outer}
 use Rattle.lines.specs.Ask.{asked}
 use Rattle.lines.specs.Path.{Path, OnPath}
 use Rattle.lines.specs.Output.{Tally, Goes}

@@ -29,8 +29,8 @@ use Rattle.tree.proofs.Kept.{all-append}
 use Rattle.matches.specs.Notes.{Noted, Matched}
 use Rattle.matches.specs.declared.Next.{Next}
 use Rattle.names.specs.Names.{AnyList}
-use Rattle.merge.specs.Entries.{Entry, shown, outer, Asks, by-prefix}
-use Rattle.merge.specs.Lists.{LabelOk}
+use Rattle.names.specs.Entries.{Entry, shown, outer, Asks, by-prefix}
+use Rattle.names.specs.Entries.{LabelOk}
 use Rattle.merge.specs.Stream as M
 use Rattle.merge.specs.Stream.{Merge, Step, later, left-in, AnyRest, Starts, Gives, OneTree}
 use Rattle.merge.proofs.Cells.{later-end, later-next}

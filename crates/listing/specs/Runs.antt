@@ -21,7 +21,7 @@ use Rattle.source.specs.Forward.{base}
 use Rattle.memory.specs.Layout.{record-at, text-len, pick, Item, tree, list, trieˢ, what}
 use Rattle.tree.specs.Tree.{held}
 use Rattle.tree.specs.Links.{matches}
-use Rattle.merge.specs.Entries.{Entry, shown, outer, Asks}
+use Rattle.names.specs.Entries.{Entry, shown, outer, Asks}
 use Rattle.lines.specs.Ask.{asked, line-for}
 use Rattle.lines.specs.Path.{Path, BranchAt, LabelAt, PathOk, OnPath}
 use Rattle.lines.specs.Output.{signed-word, Result, Tally, _⊕_, Past, Small, Goes}

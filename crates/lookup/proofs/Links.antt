@@ -8,23 +8,20 @@ use borrow.Author.Tests.{ne-eqb}
 use Rattle.source.specs.Text.{Str}
 use Rattle.source.specs.Types.{bind, ns, bindings, namespaces, trie-empty}
 use Rattle.source.specs.Tries.{dflt, scope-of}
-use Rattle.source.specs.Terms.{depth}
-use Rattle.memory.specs.Layout.{record-at, word, Which, tree, list, trieˢ, kind, what}
+use Rattle.memory.specs.Layout.{record-at, Which, tree, list, trieˢ, kind, what, trie-link}
 use Rattle.memory.specs.Stored.{trie-in}
-use Rattle.memory.specs.Sound.{LinkOk, Used, At}
+use Rattle.memory.specs.Sound.{LinkOk, At}
 use Rattle.memory.specs.Read.{ReadTrie}
 use Rattle.memory.specs.declared.Trie.{Trie}
 use Rattle.memory.proofs.Readings.{what-none}
 use Rattle.memory.proofs.Records.{zero-some, record-as}
 use Rattle.memory.proofs.Sizes.{stored-none, stored-some}
-use Rattle.memory.proofs.Given.{link-shallow}
-use Rattle.memory.proofs.Seen.{SeenTrie, link-fits, link-ok, link-later, trie-seen}
+use Rattle.memory.proofs.Seen.{link-fits, link-ok, link-later}
 use Rattle.tree.specs.Tree.{held}
 use Rattle.names.specs.Names.{AnyList, HolderIn, Holder}
 use Rattle.lookup.specs.Tries.{Reads}
 use Rattle.memory.proofs.At.{no-link}
-use Rattle.memory.proofs.Growing.{used-first}
-use Rattle.memory.proofs.Tries.{trie-shallow, lists-seen, bindings-at, namespaces-at, bindings-read, namespaces-read}
+use Rattle.memory.proofs.Tries.{lists-seen, bindings-at, namespaces-at, namespaces-read}
 
 module _ {ws txt : List ℕ} {w : Which} {x : ℕ} (t : At ws txt w trieˢ x) {p : Trie} (q : ReadTrie ws x p) where
   -- What its namespaces hold, as the trie's own.
@@ -52,7 +49,7 @@ module _ {ws txt : List ℕ} {x : ℕ} {s : Str} {r : ℕ} where
       let k : y ≡ 0 = rw (z, stored-none ws 5) at e in
       record { link = rw k (no-link x _); says = rw (k, what-none w ws txt, h .says, z) })
       (λ p.
-      let k : y ≡ word (record-at ws r) 5 = e ∙ stored-some ws r 5 p in
+      let k : y ≡ trie-link (record-at ws r) = e ∙ stored-some ws r 5 p in
       let i : LinkOk ws (a .records + 1) r (kind w (tree ns)) = link-later (omega (arith, a .link .earlier)) (h .link) in
       record {
         link = rw k (link-later (omega (arith, h .link .earlier)) (record-as (link-ok (a .sound) i p) w (tree ns) (i .of-kind (λ z. omega arith)) .2));

@@ -10,7 +10,7 @@ use Rattle.source.specs.Types.{Trie, bind, ns}
 use Rattle.source.specs.Tries.{trie-find-exact, scope-of, included}
 use Rattle.source.specs.Table.{ns-inserts}
 use Rattle.memory.specs.Layout.{pick, Which, modules, Item, tree, list, trieˢ, kind, what}
-use Rattle.memory.specs.Sound.{LinkOk, Used, At}
+use Rattle.memory.specs.Sound.{LinkOk, At}
 use Rattle.tree.specs.Tree.{held}
 
 -- The same, of some table.

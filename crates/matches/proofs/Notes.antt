@@ -14,7 +14,7 @@ use Rattle.source.specs.Rules.{_<ˢ_}
 use Rattle.source.specs.Shared.{Allˡ}
 use Rattle.source.proofs.Order.{<ˢ-trans}
 use Rattle.source.proofs.Trees.{AllKeys-map, before-prefix, past-prefix}
-use Rattle.memory.specs.Layout.{record-at, word, tree, what, key-at}
+use Rattle.memory.specs.Layout.{record-at, tree, what, key-at, left-link, right-link}
 use Rattle.tree.specs.Tree.{AnyTree}
 use Rattle.tree.specs.Links.{branches, keep, matches, past, past-by, head0}
 use Rattle.tree.proofs.Branches.{branch-reads, branch-ordered, left-tree, right-tree, any-left, any-right}
@@ -31,10 +31,10 @@ module _ {ws txt : List ℕ} {x : ℕ} (a : AnyTree ws txt x) (q : 0 < x) (p : S
   key = key-at ws txt x
 
   abbrev left : ℕ
-  left = word (record-at ws x) 3
+  left = left-link (record-at ws x)
 
   abbrev right : ℕ
-  right = word (record-at ws x) 4
+  right = right-link (record-at ws x)
 
   split : matches ws txt x p ≡ matches ws txt left p ++ keep (key-at ws txt) (λ k. starts-with k p) (x ∷ branches ws right)
   unfolding matches
@@ -84,7 +84,7 @@ module _ (ws txt : List ℕ) (p : Str) where
 
 module _ {ws txt : List ℕ} {p : Str} {notes : List ℕ} {n : ℕ} {l : List ℕ} (o : Noted ws txt p notes n l) where
   -- A note is added.
-  pub noted-more : (x : ℕ) → (0 < x) × AnyTree ws txt x → n < 48 → Noted ws txt p (set notes n x) (n + 1) (x ∷ (matches ws txt (word (record-at ws x) 4) p ++ l))
+  pub noted-more : (x : ℕ) → (0 < x) × AnyTree ws txt x → n < 48 → Noted ws txt p (set notes n x) (n + 1) (x ∷ (matches ws txt (right-link (record-at ws x)) p ++ l))
   unfolding to-come
   noted-more x a h = record {
     sized = length-set notes n x ∙ o .sized;
@@ -94,7 +94,7 @@ module _ {ws txt : List ℕ} {p : Str} {notes : List ℕ} {n : ℕ} {l : List �
       | no ne ↦ rw (getD-set-other notes n j x 0 ne) (o .each j (omega arith))
     ];
     rest = o .rest;
-    says = rw (add-one n, getD-set-same notes n x 0 (omega (arith, o .sized)), come-before ws txt p notes n x n (omega arith), o .says) (ap (_∷_ x) (sym (append-assoc (matches ws txt (word (record-at ws x) 4) p) (to-come ws txt p notes n) (o .rest))));
+    says = rw (add-one n, getD-set-same notes n x 0 (omega (arith, o .sized)), come-before ws txt p notes n x n (omega arith), o .says) (ap (_∷_ x) (sym (append-assoc (matches ws txt (right-link (record-at ws x)) p) (to-come ws txt p notes n) (o .rest))));
   }
 
   -- All notes are dropped.
@@ -128,20 +128,20 @@ module _ {ws txt : List ℕ} {p : Str} {from : ℕ} {notes : List ℕ} {n : ℕ}
       descending-full : Descending ws txt p from at notes notes′ n 0
       descending-full = record { any = d .any; sized = d .sized; few = omega arith; on = λ l o. let k = d .on l o in (k .0, k .1, noted-none (k .2)) }
 
-      descending-match : {b : ℕ} → starts-with (key-at ws txt at) p ≡ true → m < 48 → b ≡ word (record-at ws at) 3 → Descending ws txt p from b notes (set notes′ m at) n (m + 1)
+      descending-match : {b : ℕ} → starts-with (key-at ws txt at) p ≡ true → m < 48 → b ≡ left-link (record-at ws at) → Descending ws txt p from b notes (set notes′ m at) n (m + 1)
       descending-match e h f = record {
         any = rw f (any-left (d .any) q);
         sized = length-set notes′ m at ∙ d .sized;
         few = omega arith;
         on = λ l o.
             let k = d .on l o in (
-              at ∷ (matches ws txt (word (record-at ws at) 4) p ++ k .0),
-              k .1 ∙ rw (match-here (d .any) q p e, f) (append-assoc (matches ws txt (word (record-at ws at) 3) p) (at ∷ matches ws txt (word (record-at ws at) 4) p) (k .0)),
+              at ∷ (matches ws txt (right-link (record-at ws at)) p ++ k .0),
+              k .1 ∙ rw (match-here (d .any) q p e, f) (append-assoc (matches ws txt (left-link (record-at ws at)) p) (at ∷ matches ws txt (right-link (record-at ws at)) p) (k .0)),
               noted-more (k .2) at (q, d .any) h,
             );
       }
 
-      pub descending-left : {b : ℕ} → past false p (key-at ws txt at) ≡ true → starts-with (key-at ws txt at) p ≡ false → b ≡ word (record-at ws at) 3 → Descending ws txt p from b notes notes′ n m
+      pub descending-left : {b : ℕ} → past false p (key-at ws txt at) ≡ true → starts-with (key-at ws txt at) p ≡ false → b ≡ left-link (record-at ws at) → Descending ws txt p from b notes notes′ n m
       descending-left e i f = record {
         any = rw f (any-left (d .any) q);
         sized = d .sized;
@@ -149,7 +149,7 @@ module _ {ws txt : List ℕ} {p : Str} {from : ℕ} {notes : List ℕ} {n : ℕ}
         on = λ l o. let k = d .on l o in (k .0, k .1 ∙ rw (match-left (d .any) q p e i, f), k .2);
       }
 
-      pub descending-right : {b : ℕ} → past false p (key-at ws txt at) ≡ false → b ≡ word (record-at ws at) 4 → Descending ws txt p from b notes notes′ n m
+      pub descending-right : {b : ℕ} → past false p (key-at ws txt at) ≡ false → b ≡ right-link (record-at ws at) → Descending ws txt p from b notes notes′ n m
       descending-right e f = record {
         any = rw f (any-right (d .any) q);
         sized = d .sized;
@@ -159,7 +159,7 @@ module _ {ws txt : List ℕ} {p : Str} {from : ℕ} {notes : List ℕ} {n : ℕ}
 
 -- A match is noted, and the way goes left.
 pub descending-note : {ws txt : List ℕ} {p : Str} {from at b : ℕ} {notes notes′ notes″ : List ℕ} {n m r : ℕ} (d : Descending ws txt p from at notes notes′ n m) → 0 < at → starts-with (key-at ws txt at) p ≡ true
-    → NotedAt notes′ notes″ m at r → b ≡ word (record-at ws at) 3 → Descending ws txt p from b notes notes″ n r
+    → NotedAt notes′ notes″ m at r → b ≡ left-link (record-at ws at) → Descending ws txt p from b notes notes″ n r
 descending-note {ws} {txt} {p} {from} {at} {b} {notes} {notes′} {n = n} {m} d q e t f = rw (t .is, t .count) (go (t .k) (t .which) (t .below))
   where
     go : (k : ℕ) → (k ≡ m) ⊎ (k ≡ 0) → k < 48 → Descending ws txt p from b notes (set notes′ k at) n (k + 1)
@@ -171,16 +171,16 @@ descending-note {ws} {txt} {p} {from} {at} {b} {notes} {notes′} {n = n} {m} d 
 module _ {ws txt : List ℕ} {p : Str} {notes : List ℕ} {n : ℕ} where
   -- The last note, and what the others say.
   pub pop-noted : {l : List ℕ} → Noted ws txt p notes n l → 0 < n → (m : ℕ) → m ≡ n - 1
-      → (l′ : List ℕ) × (l ≡ getD notes m 0 ∷ (matches ws txt (word (record-at ws (getD notes m 0)) 4) p ++ l′)) × Noted ws txt p notes m l′
+      → (l′ : List ℕ) × (l ≡ getD notes m 0 ∷ (matches ws txt (right-link (record-at ws (getD notes m 0))) p ++ l′)) × Noted ws txt p notes m l′
   unfolding to-come
   pop-noted o h m e =
       let s : n ≡ suc m = omega arith in (
         to-come ws txt p notes m ++ o .rest,
-        o .says ∙ rw s (ap (_∷_ (getD notes m 0)) (append-assoc (matches ws txt (word (record-at ws (getD notes m 0)) 4) p) (to-come ws txt p notes m) (o .rest))),
+        o .says ∙ rw s (ap (_∷_ (getD notes m 0)) (append-assoc (matches ws txt (right-link (record-at ws (getD notes m 0))) p) (to-come ws txt p notes m) (o .rest))),
         record { sized = o .sized; few = omega (arith, o .few); each = λ j k. o .each j (omega arith); rest = o .rest; says = refl },
       )
 
-  pub pops : {m top right r : ℕ} {notes′ : List ℕ} → 0 < n → m ≡ n - 1 → top ≡ getD notes m 0 → right ≡ word (record-at ws top) 4 → Descends ws txt p right notes notes′ m r
+  pub pops : {m top right r : ℕ} {notes′ : List ℕ} → 0 < n → m ≡ n - 1 → top ≡ getD notes m 0 → right ≡ right-link (record-at ws top) → Descends ws txt p right notes notes′ m r
       → Pops ws txt p notes notes′ n (record { link = top; n = r })
   pops {m} {top} {right} h e t f d = record {
     takes = λ l o.

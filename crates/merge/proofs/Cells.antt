@@ -18,7 +18,7 @@ use Rattle.tree.specs.Links.{matches, head0}
 use Rattle.tree.proofs.Branches.{tree-fits, key-inside}
 use Rattle.tree.specs.Links.{BranchOf}
 use Rattle.tree.proofs.Matches.{MatchOf, matches-of, matches-increasing, all-after, after-next}
-use Rattle.merge.specs.Entries.{entry-key}
+use Rattle.names.specs.Entries.{entry-key}
 use Rattle.merge.specs.Stream.{Merge, later, run-at, left, remaining, Holding}
 use Rattle.memory.specs.Sound.{At}
 use Rattle.memory.proofs.At.{at-of}

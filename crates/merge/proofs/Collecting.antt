@@ -20,8 +20,8 @@ use Rattle.source.specs.Forward.{tree-matches}
 use Rattle.source.proofs.Forward.{nonempty-append}
 use Rattle.source.specs.Forward.{flat-in}
 use Rattle.source.proofs.Flat.{last-import}
-use Rattle.memory.specs.Layout.{record-at, word, span, Which, Item, tree, list, what, key-at}
-use Rattle.memory.specs.Stored.{stored}
+use Rattle.memory.specs.Layout.{record-at, span, Which, Item, tree, list, what, key-at, own-link, rest-link, sort-word, text-len, text-start}
+use Rattle.memory.specs.Stored.{weight-in}
 use Rattle.memory.proofs.Readings.{what-none}
 use Rattle.memory.proofs.Seen.{link-later}
 use Rattle.tree.specs.Tree.{AnyTree}
@@ -29,8 +29,9 @@ use Rattle.tree.specs.Links.{matches, head0, row-at}
 use Rattle.tree.proofs.Matches.{matches-of, prefix-rows, all-rows}
 use Rattle.names.specs.Names.{AnyList}
 use Rattle.names.proofs.Collections.{any-imported, any-own, collection-right, sort-tree, rest-list, own-tree, names-reads, imported-list, imported-reads, list-weight, rest-lighter}
-use Rattle.merge.specs.Entries.{label-at, Asks, by-prefix, by-all}
-use Rattle.merge.specs.Lists.{Part, elements, LabelOk, Full, SameCell, HasParts, no-more, more, match-lists-in, CollectedIn, Collected}
+use Rattle.names.specs.Entries.{label-at, Asks, by-prefix, by-all}
+use Rattle.names.specs.Entries.{LabelOk}
+use Rattle.merge.specs.Lists.{Part, elements, Full, SameCell, HasParts, no-more, more, match-lists-in, CollectedIn, Collected}
 use Rattle.merge.proofs.Cells.{no-match}
 use Rattle.memory.specs.Sound.{At}
 
@@ -57,13 +58,13 @@ abbrev pub outermost : (label x : ℕ) → ℕ
 outermost zero x = x
 outermost (suc l) x = suc l
 
-module _ {ws txt : List ℕ} {w : Which} {v : Level} {l x : ℕ} (t : At ws txt w (list v) x) (p : 0 < x) (h : x ≤ l) (e : word (record-at ws x) 5 ≡ 1) where
+module _ {ws txt : List ℕ} {w : Which} {v : Level} {l x : ℕ} (t : At ws txt w (list v) x) (p : 0 < x) (h : x ≤ l) (e : sort-word (record-at ws x) ≡ 1) where
   outermost-ok : (label : ℕ) → LabelOk ws w v l label → LabelOk ws w v l (outermost label x)
   outermost-ok zero o = record { link = record { earlier = omega arith; of-kind = t .link .of-kind }; imports = λ _. e }
   outermost-ok (suc label) o = o
 
   outermost-at : (label : ℕ) (imports : List Str) → label-at ws txt label ≡ last-opt imports
-      → label-at ws txt (outermost label x) ≡ last-opt (span txt (word (record-at ws x) 1) (word (record-at ws x) 2) ∷ imports)
+      → label-at ws txt (outermost label x) ≡ last-opt (span txt (text-start (record-at ws x)) (text-len (record-at ws x)) ∷ imports)
   unfolding dflt key-at
   outermost-at zero imports q = rw (last-import _ imports, ← q, ne-eqb x 0 (λ z. omega arith))
   outermost-at (suc label) imports q = rw (last-import _ imports, ← q, ne-eqb (suc label) 0 (λ z. omega arith))
@@ -79,25 +80,25 @@ outermost-some (suc l) x n = refl
 pub record Seen (ws txt : List ℕ) (x own rest sort : ℕ) : Type 0 where
   pub any : AnyList ws txt x
   pub some : 0 < x
-  pub own-is : own ≡ word (record-at ws x) 3
-  pub rest-is : rest ≡ word (record-at ws x) 4
-  pub sort-is : sort ≡ word (record-at ws x) 5
+  pub own-is : own ≡ own-link (record-at ws x)
+  pub rest-is : rest ≡ rest-link (record-at ws x)
+  pub sort-is : sort ≡ sort-word (record-at ws x)
 
 module _ {ws txt : List ℕ} {x own rest sort : ℕ} (s : Seen ws txt x own rest sort) where
   pub seen-rest : AnyList ws txt rest
   seen-rest = record { which = s .any .which; level = s .any .level; list = rw (s .rest-is) (rest-list (s .any .list) (s .some)) }
 
-  pub rest-less : stored ws rest 10 < stored ws x 10
+  pub rest-less : weight-in ws rest < weight-in ws x
   rest-less = rw (s .rest-is) (rest-lighter (s .any .list) (s .some))
 
   module _ (e : sort ≡ 1) where
-    of-list : word (record-at ws x) 5 ≡ 1
+    of-list : sort-word (record-at ws x) ≡ 1
     of-list = sym (s .sort-is) ∙ e
 
     pub seen-list : AnyList ws txt own
     seen-list = any-imported (s .any) (s .some) (s .own-is) of-list
 
-    pub both-less : stored ws own 10 + stored ws rest 10 < stored ws x 10
+    pub both-less : weight-in ws own + weight-in ws rest < weight-in ws x
     unfolding weight
     both-less =
         let t = s .any .list in
@@ -115,7 +116,7 @@ module _ {ws txt : List ℕ} {x own rest sort : ℕ} (s : Seen ws txt x own rest
     rest-before = omega (arith, s .rest-is, collection-right t (s .some) .rest .earlier)
 
     module _ (n : sort ≡ 1 → ⊥) where
-      of-tree : word (record-at ws x) 5 ≡ 0
+      of-tree : sort-word (record-at ws x) ≡ 0
       of-tree = sort-tree t (s .some) (λ e. n (s .sort-is ∙ e))
 
       own-at : At ws txt w (tree v) own
@@ -161,8 +162,8 @@ collected-none {ws} {txt} e f = record {
 
 -- What the first collection adds.
 module _ {ws txt : List ℕ} {w : Which} {v : Level} {x own rest sort : ℕ} (s : Seen ws txt x own rest sort) (t : At ws txt w (list v) x) (imports : List Str) where
-  lists-imported : word (record-at ws x) 5 ≡ 1 → (term : SearchTerm) → match-lists-in w ws txt v term imports x
-      ≡ match-lists-in w ws txt v term (span txt (word (record-at ws x) 1) (word (record-at ws x) 2) ∷ imports) own ++ match-lists-in w ws txt v term imports rest
+  lists-imported : sort-word (record-at ws x) ≡ 1 → (term : SearchTerm) → match-lists-in w ws txt v term imports x
+      ≡ match-lists-in w ws txt v term (span txt (text-start (record-at ws x)) (text-len (record-at ws x)) ∷ imports) own ++ match-lists-in w ws txt v term imports rest
   unfolding flat-in
   lists-imported e term =
       rw (imported-reads t (s .some) e, s .own-is, s .rest-is)
@@ -182,7 +183,7 @@ module _ {ws txt : List ℕ} {p : Str} {x own rest sort label i r : ℕ} {roots 
   -- An imported list, and then the rest.
   module _ {mid inner : ℕ} {roots₁ heads₁ labels₁ : List ℕ} (e : sort ≡ 1) where
     imported-in : {w : Which} {v : Level} {l : ℕ} {imports : List Str} → At ws txt w (list v) x → ((j : ℕ) → j < mid → SameCell roots₁ heads₁ labels₁ roots′ heads′ labels′ j)
-        → CollectedIn ws txt p own inner i mid roots heads labels roots₁ heads₁ labels₁ w v l (span txt (word (record-at ws x) 1) (word (record-at ws x) 2) ∷ imports)
+        → CollectedIn ws txt p own inner i mid roots heads labels roots₁ heads₁ labels₁ w v l (span txt (text-start (record-at ws x)) (text-len (record-at ws x)) ∷ imports)
         → CollectedIn ws txt p rest label mid r roots₁ heads₁ labels₁ roots′ heads′ labels′ w v l imports
         → CollectedIn ws txt p x label i r roots heads labels roots′ heads′ labels′ w v l imports
     imported-in {w} {v} {l} {imports} t kept a b = record {

@@ -6,17 +6,17 @@ use native.Mathlib.Omega.{arith}
 use Rattle.source.specs.Text.{Str}
 use Rattle.source.specs.Types.{Level}
 use Rattle.source.specs.Rules.{IsLabel}
-use Rattle.memory.specs.Layout.{record-at, word, Which, list}
+use Rattle.memory.specs.Layout.{record-at, Which, list, text-len, text-start}
 use Rattle.memory.specs.Sound.{TextOk, At}
 use Rattle.memory.proofs.Seen.{link-later}
 use Rattle.names.proofs.Collections.{collection-right}
-use Rattle.merge.specs.Entries.{Entry}
-use Rattle.merge.specs.Lists.{LabelOk}
+use Rattle.names.specs.Entries.{Entry}
+use Rattle.names.specs.Entries.{LabelOk}
 use Rattle.merge.specs.Stream.{Merge, Step, Rest, AnyRest, GivenIn, GivesIn, Gives}
 
 -- The text of a label.
 pub label-text : {ws txt : List ℕ} {w : Which} {v : Level} {x label : ℕ} (t : At ws txt w (list v) x) → LabelOk ws w v x label → 0 < label
-    → TextOk IsLabel txt (t .used) (word (record-at ws label) 1) (word (record-at ws label) 2)
+    → TextOk IsLabel txt (t .used) (text-start (record-at ws label)) (text-len (record-at ws label))
 label-text {ws} {txt} {w} {v} {x} {label} t o p =
     let k : At ws txt w (list v) label = record { records = t .records; used = t .used; sound = t .sound; link = link-later (omega (arith, t .link .earlier)) (o .link) } in
     collection-right k p .label (o .imports p)

@@ -13,12 +13,12 @@ use Rattle.source.specs.Table.{last-opt}
 use Rattle.source.specs.Forward.{flat-in}
 use Rattle.source.specs.Forward.{found}
 use Rattle.source.proofs.Found.{match-lists, found-empty, found-one}
-use Rattle.memory.specs.Layout.{record-at, word, Which, Item, list, what, tree}
+use Rattle.memory.specs.Layout.{record-at, Which, Item, list, what, tree, own-link, rest-link, sort-word}
 use Rattle.memory.proofs.Readings.{what-none}
 use Rattle.memory.proofs.Seen.{link-later}
 use Rattle.tree.specs.Links.{matches, row-at}
 use Rattle.names.proofs.Collections.{collection-right, sort-tree, names-reads}
-use Rattle.merge.specs.Entries.{shown, outer, Asks}
+use Rattle.names.specs.Entries.{shown, outer, Asks}
 use Rattle.merge.specs.Lists.{SingleIn, Single}
 use Rattle.merge.specs.Stream.{OneTree}
 use Rattle.merge.proofs.Collecting.{term-rows}
@@ -28,9 +28,9 @@ use Rattle.memory.proofs.At.{no-link, at-of}
 pub single-none : {ws : List ℕ} {x : ℕ} → Single ws x 0
 single-none txt w v t p = absurd (omega arith)
 
-pub single-tree : {ws : List ℕ} {x r : ℕ} → 0 < x → (word (record-at ws x) 5 ≡ 1 → ⊥) → word (record-at ws x) 4 ≤ 0 → r ≡ word (record-at ws x) 3 → Single ws x r
+pub single-tree : {ws : List ℕ} {x r : ℕ} → 0 < x → (sort-word (record-at ws x) ≡ 1 → ⊥) → rest-link (record-at ws x) ≤ 0 → r ≡ own-link (record-at ws x) → Single ws x r
 single-tree {ws} {x} {r} p n z e txt w v t q =
-    let f : word (record-at ws x) 4 ≡ 0 = omega arith in
+    let f : rest-link (record-at ws x) ≡ 0 = omega arith in
     record {
       link = rw e (link-later (omega arith) (collection-right t p .own (sort-tree t p n)));
       reads = names-reads t p (sort-tree t p n) ∙ rw (f, e, what-none w ws txt);

@@ -32,7 +32,7 @@ use Rattle.heap.proofs.Kept.{rep-below, is-other}
 use Rattle.heap.proofs.Mapped.{map-insert}
 use Rattle.tree.specs.Links.{matches, row-at}
 use Rattle.tree.proofs.Matches.{matches-none, matches-of, matches-increasing, after-first}
-use Rattle.merge.specs.Entries.{Entry, entry-key, label-at, shown, outer, Asks}
+use Rattle.names.specs.Entries.{Entry, entry-key, label-at, shown, outer, Asks}
 use Rattle.merge.specs.Lists.{Part, elements, HasPart, HasParts, more, match-lists-in, CollectedIn, Collected}
 use Rattle.merge.specs.Stream.{later, run-at, CellOk, Starts, state, OneTree}
 use Rattle.merge.proofs.Cells.{branch-head, stands}

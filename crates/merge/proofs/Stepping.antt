@@ -17,8 +17,8 @@ use Rattle.source.proofs.Forward.{held-popped, forward-empty, forward-step}
 use Rattle.memory.specs.Layout.{Which, key-at}
 use Rattle.tree.specs.Tree.{AnyTree}
 use Rattle.tree.specs.Links.{BranchOf}
-use Rattle.merge.specs.Entries.{Entry, entry-key}
-use Rattle.merge.specs.Lists.{LabelOk}
+use Rattle.names.specs.Entries.{Entry, entry-key}
+use Rattle.names.specs.Entries.{LabelOk}
 use Rattle.merge.specs.Stream.{Merge, Step, run-at, remaining, Holding, heap-of, Last, Rest, AnyRest, left-in, GivenIn, GivesIn, Gives, state, Takes, Ready}
 use Rattle.merge.specs.declared.Taken.{Taken}
 use Rattle.merge.proofs.Cells.{branch-tree}

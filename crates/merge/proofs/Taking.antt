@@ -24,7 +24,7 @@ use Rattle.heap.proofs.Mapped.{map-same}
 use Rattle.heap.proofs.Standing.{stands-pairs, stands-insert}
 use Rattle.tree.specs.Tree.{AnyTree}
 use Rattle.tree.specs.Links.{head0}
-use Rattle.merge.specs.Entries.{Entry, entry-key}
+use Rattle.names.specs.Entries.{Entry, entry-key}
 use Rattle.merge.specs.Stream.{later, run-at, left, Holding, state, TookCell, TookIn, Takes, Ready}
 use Rattle.merge.specs.declared.Taken.{Taken}
 use Rattle.merge.proofs.Cells.{Next, later-end, later-next, branch-tree, branch-head, cell-tree, next-branch, stands, remaining-less}

@@ -1,3 +1,2 @@
-pub mod Entries
 pub mod Lists
 pub mod Stream

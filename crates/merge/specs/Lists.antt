@@ -12,10 +12,10 @@ use Rattle.source.specs.Listing.{SearchTerm, with-imports}
 use Rattle.source.specs.Table.{last-opt}
 use Rattle.source.specs.Forward.{tree-matches}
 use Rattle.source.specs.Forward.{flat-in}
-use Rattle.memory.specs.Layout.{record-at, word, Which, Item, tree, list, kind, what}
+use Rattle.memory.specs.Layout.{Which, Item, tree, list, kind, what}
 use Rattle.memory.specs.Sound.{LinkOk, At}
 use Rattle.tree.specs.Links.{matches, row-at}
-use Rattle.merge.specs.Entries.{label-at, Asks}
+use Rattle.names.specs.Entries.{label-at, Asks, LabelOk}
 
 -- A tree, the collection of its outermost label, 0 for none, and its imports.
 pub record Part (ws txt : List ℕ) : Type 0 where
@@ -27,11 +27,6 @@ pub record Part (ws txt : List ℕ) : Type 0 where
 -- The tree's matches with its imports.
 unfoldable pub elements : (w : Which) (ws txt : List ℕ) (v : Level) → Option Str → Str → Part ws txt → List (PathElem × Value (Item w) v)
 elements w ws txt v q p c = with-imports (c .imports, map (row-at w ws txt v q) (matches ws txt (c .root) p))
-
--- The collection of a label: none, or one that imports a list, no later than link l.
-pub record LabelOk (ws : List ℕ) (w : Which) (v : Level) (l label : ℕ) : Type 0 where
-  pub link : LinkOk ws (l + 1) label (kind w (list v))
-  pub imports : 0 < label → word (record-at ws label) 5 ≡ 1
 
 -- There are 96 of each.
 pub record Full (roots heads labels : List ℕ) : Type 0 where

@@ -19,8 +19,9 @@ use Rattle.memory.specs.Sound.{LinkOk, At}
 use Rattle.heap.specs.Cells.{count, Rep}
 use Rattle.tree.specs.Links.{matches, after}
 use Rattle.tree.specs.Links.{BranchOf}
-use Rattle.merge.specs.Entries.{Entry, entry-key, shown, outer, Asks}
-use Rattle.merge.specs.Lists.{LabelOk, Full}
+use Rattle.names.specs.Entries.{Entry, entry-key, shown, outer, Asks}
+use Rattle.names.specs.Entries.{LabelOk}
+use Rattle.merge.specs.Lists.{Full}
 use Rattle.merge.specs.declared.Start.{Start}
 use Rattle.merge.specs.declared.Turn.{Turn}
 use Rattle.merge.specs.declared.Taken.{Taken}

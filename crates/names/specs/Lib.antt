@@ -1,3 +1,4 @@
 pub mod Names
 pub mod Made
 pub mod Insert
+pub mod Entries

@@ -27,7 +27,6 @@ use Rattle.memory.specs.declared.Trie as M
 use Rattle.names.specs.Names.{AnyList, NamesPlaced, InsertIn}
 use Rattle.names.proofs.Collections.{list-weight}
 use Rattle.lookup.specs.Tries.{NsInserts}
-use Rattle.plan.specs.declared.Plan.{Plan}
 use Rattle.plan.specs.Plans.{StepIn, Stepped, Steps, Path, Inserted, Planned}
 use Rattle.text.proofs.Texts.{part-is}
 use Rattle.text.specs.Text.{Segment}

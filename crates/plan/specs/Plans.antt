@@ -6,7 +6,7 @@ use mathlib.Core.List.{List, []}
 use lib.Dec.{ltb}
 use lib.ListN.{length}
 use Rattle.source.specs.Text.{Str, Query, segments}
-use Rattle.source.specs.Types.{Trie, bind, bindings, namespaces}
+use Rattle.source.specs.Types.{Trie, bindings, namespaces}
 use Rattle.source.specs.Tries.{scope-of, included}
 use Rattle.source.specs.Table.{Table}
 use Rattle.source.specs.Calls.{Call, name, include, opens, alias, module-path, is-empty}

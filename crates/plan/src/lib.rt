@@ -117,7 +117,9 @@ fn plan_open(words: &[u32], text: &[u8], root: u32, host: &[u8], inc: u32) -> Pl
     let p = plan_path(words, text, root, host);
     let t = memory::trie_of(words, p.link);
     let i = memory::trie_of(words, inc);
-    let weight = memory::weight_of(words, i.namespaces) + memory::weight_of(words, t.namespaces) + 1;
+    let weight = memory::weight_of(words, i.namespaces)
+        + memory::weight_of(words, t.namespaces)
+        + 1;
     Plan {
         records: p.records + 2,
         crowded: p.crowded | (96 < weight),

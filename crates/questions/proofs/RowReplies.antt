@@ -8,13 +8,14 @@ use lib.Dec.{eqb}
 use lib.ListN.{length, length-append}
 use Rattle.source.specs.Shared.{Allˡ}
 use Rattle.source.specs.Calls.{output-text}
-use Rattle.memory.specs.Layout.{Which, names, modules, item-of, word, span}
+use Rattle.memory.specs.Layout.{Which, names, modules, item-of, span, symbol-word}
 use Rattle.text.specs.Laid.{Laid}
 use Rattle.text.proofs.Laid.{laid-none, laid-more}
 use Rattle.script.specs.Script.{Str, _·_}
 use Rattle.replies.specs.Replies.{length-in, reply-room}
-use Rattle.lines.specs.Output.{signed-word}
-use Rattle.rows.specs.Rows.{candidate-start, candidate-len, annotation-start, annotation-len, words-at, words-from, item-in, row-in, line-seen, TextsIn}
+use Rattle.lines.specs.Output.{signed-word, matched-word, candidate-start, candidate-len, annotation-start, annotation-len}
+use Rattle.lines.specs.Output.{candidate-start, candidate-len, annotation-start, annotation-len}
+use Rattle.rows.specs.Rows.{words-at, words-from, item-in, row-in, line-seen, TextsIn}
 use Rattle.rows.proofs.Rows.{span-length}
 use Rattle.questions.specs.Questions.{item-reply, line-text, lines-text}
 use Rattle.questions.specs.RowReplies.{item-shown, row-text, row-room, rows-text, rows-room, RowsIn}
@@ -31,16 +32,16 @@ same-length m = go (eqb m 4294967295) refl
 
 same-item : (w : Which) (txt r : List ℕ) → item-shown (item-in w r) ≡ item-reply w (item-of w txt r)
 same-item names txt r = refl
-same-item modules txt r = go (eqb (word r 5) 0) refl
+same-item modules txt r = go (eqb (symbol-word r) 0) refl
   where
-    go : (b : Bool) → eqb (word r 5) 0 ≡ b → item-shown (item-in modules r) ≡ item-reply modules (item-of modules txt r)
+    go : (b : Bool) → eqb (symbol-word r) 0 ≡ b → item-shown (item-in modules r) ≡ item-reply modules (item-of modules txt r)
     go true e = rw e refl
     go false e = rw e refl
 
 module _ (w : Which) (txt pane : List ℕ) where
   row-text-is : (r : List ℕ) → row-text pane (row-in w r) ≡ line-text w (line-seen w txt pane r)
   unfolding row-text line-text line-seen
-  row-text-is r = rw (same-length (word r 0), same-item w txt r) refl
+  row-text-is r = rw (same-length (matched-word r), same-item w txt r) refl
 
   -- The replies of rows are those of the lines that they say.
   pub rows-text-is : (rs : List (List ℕ)) → rows-text w pane rs ≡ lines-text w (map (line-seen w txt pane) rs)

@@ -6,11 +6,10 @@ use mathlib.Core.List.{List}
 use native.Mathlib.Omega.{arith}
 use lib.ListN.{length}
 use borrow.Author.Tests.{ltb-false}
-use Rattle.source.specs.Text.{Str, segments}
+use Rattle.source.specs.Text.{Str}
 use Rattle.source.specs.Types.{Trie}
 use Rattle.source.specs.Table as S
 use Rattle.source.specs.Table.{ModSymbol}
-use Rattle.source.specs.Tries.{included}
 use Rattle.source.specs.Counted.{Counted}
 use Rattle.source.specs.Calls.{State, whole-records, free, Call, registered, records, arguments, text-taken, after}
 use Rattle.source.proofs.Refusals.{Acceptable, registration-rows-none}
@@ -21,7 +20,6 @@ use Rattle.memory.specs.declared.Header.{Header}
 use Rattle.memory.proofs.Keeping.{what-keeps, table-keeps, used-text}
 use Rattle.names.specs.Made.{Room}
 use Rattle.names.proofs.Making.{made-what, made-link}
-use Rattle.lookup.specs.Tries.{Reads}
 use Rattle.kinds.specs.Shapes.{shape-of, call-of}
 use Rattle.kinds.specs.declared.Kind.{Kind}
 use Rattle.kinds.specs.declared.Form.{Form}

@@ -1,5 +1,5 @@
 -- Laws of the words and the struct of a row.
-use Prim.Native.Nat.{ℕ, suc, _+_, _-_, _*_, _≤_}
+use Prim.Native.Nat.{ℕ, _+_, _-_, _*_, _≤_}
 use native.Mathlib.Omega.{arith}
 use mathlib.Core.Path.{_≡_, refl, ap}
 use mathlib.Core.Bool.{Bool, true, false}
@@ -8,7 +8,7 @@ use mathlib.Core.Option.{some}
 use lib.Dec.{eqb}
 use lib.ListN.{length, take, drop, length-drop}
 use lib.Seq.{take-all, length-take-le}
-use Rattle.memory.specs.Layout.{Which, names, modules, record-at, item-of, word, pick, span}
+use Rattle.memory.specs.Layout.{Which, names, modules, record-at, item-of, pick, span, symbol-word}
 use Rattle.memory.specs.Read.{symbol-of}
 use Rattle.memory.specs.declared.ModSymbol.{ModSymbol}
 use Rattle.rows.specs.Rows.{words-at, item-in, item-seen}
@@ -34,4 +34,4 @@ symbol-pick txt false x y = refl
 -- A reader sees the item that the words hold.
 pub item-seen-is : (w : Which) (txt r : List ℕ) → item-seen w txt (item-in w r) ≡ some (item-of w txt r)
 item-seen-is names txt r = refl
-item-seen-is modules txt r = rw (symbol-pick txt (eqb (word r 5) 0))
+item-seen-is modules txt r = rw (symbol-pick txt (eqb (symbol-word r) 0))

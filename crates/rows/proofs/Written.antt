@@ -9,9 +9,9 @@ use Rattle.source.specs.Table.{Line}
 use Rattle.source.specs.Calls.{LineRecord, output-text, output-lines}
 use Rattle.source.specs.Shared.{Allˡ}
 use Rattle.source.proofs.Lines.{output-lines-length}
-use Rattle.memory.specs.Layout.{Which, Item, word, span}
+use Rattle.memory.specs.Layout.{Which, Item, span}
 use Rattle.text.specs.Laid.{Laid}
-use Rattle.lines.specs.Output.{line-of, rows-flat, Written}
+use Rattle.lines.specs.Output.{line-of, rows-flat, Written, candidate-start, candidate-len, annotation-start, annotation-len}
 use Rattle.rows.specs.Rows.{words-at, words-from, row-in, line-seen, lines-seen, TextsIn}
 
 -- ---- A list that stands at a place of another
@@ -66,19 +66,19 @@ record-from b l = record {
 
 module _ (w : Which) (txt out : List ℕ) where
   module _ (r : List ℕ) (b : ℕ) (l : Line (Item w)) (e : line-of w txt r ≡ record-from b l) (o : Stands out b (l .candidate ++ l .annotation)) where
-    start-is : word r 1 ≡ b
+    start-is : candidate-start r ≡ b
     unfolding line-of
     start-is = ap (λ (x : LineRecord (Item w)). x .candidate .start) e
 
-    len-is : word r 2 ≡ length (l .candidate)
+    len-is : candidate-len r ≡ length (l .candidate)
     unfolding line-of
     len-is = ap (λ (x : LineRecord (Item w)). x .candidate .len) e
 
-    note-is : word r 3 ≡ b + length (l .candidate)
+    note-is : annotation-start r ≡ b + length (l .candidate)
     unfolding line-of
     note-is = ap (λ (x : LineRecord (Item w)). x .annotation .start) e
 
-    note-len-is : word r 4 ≡ length (l .annotation)
+    note-len-is : annotation-len r ≡ length (l .annotation)
     unfolding line-of
     note-len-is = ap (λ (x : LineRecord (Item w)). x .annotation .len) e
 

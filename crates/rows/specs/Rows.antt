@@ -4,29 +4,12 @@ use mathlib.Core.List.{List, [], _∷_, map}
 use mathlib.Core.Option.{Option, none, some}
 use lib.ListN.{length, take, drop}
 use Rattle.source.specs.Table.{Line}
-use Rattle.memory.specs.Layout.{Which, names, modules, Item, item-of, word, number-word, span}
+use Rattle.memory.specs.Layout.{Which, names, modules, Item, item-of, number-word, span}
 use Rattle.memory.specs.Read.{symbol-in, symbol-of}
-use Rattle.lines.specs.Output.{signed-word}
+use Rattle.lines.specs.Output.{matched-word, candidate-start, candidate-len, annotation-start, annotation-len, signed-word}
 use Rattle.rows.specs.declared.RowItem.{RowItem}
 use Rattle.rows.specs.declared.RowItem.the-variants.{Name, Symbol}
 use Rattle.rows.specs.declared.Row.{Row}
-
--- ---- The words of a row (lines' Output); those of its item are a branch's
-
-abbrev pub matched-word : List ℕ → ℕ
-matched-word r = word r 0
-
-abbrev pub candidate-start : List ℕ → ℕ
-candidate-start r = word r 1
-
-abbrev pub candidate-len : List ℕ → ℕ
-candidate-len r = word r 2
-
-abbrev pub annotation-start : List ℕ → ℕ
-annotation-start r = word r 3
-
-abbrev pub annotation-len : List ℕ → ℕ
-annotation-len r = word r 4
 
 -- The words of row k.
 unfoldable pub words-at : List ℕ → ℕ → List ℕ

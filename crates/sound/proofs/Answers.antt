@@ -9,8 +9,8 @@ use native.Mathlib.Nat.{eq-or-lt-of-le, max-eq-left, max-eq-right}
 use lib.ListN.{length, take, drop}
 use Rattle.source.specs.Types.{Level, bind, ns}
 use Rattle.source.specs.Terms.{depth-tree}
-use Rattle.memory.specs.Layout.{record-at, word, Which, names, modules, Item, Sort, tree, list, trieˢ, Of, kind, kind-in, row, what, kind-word, trie-link, rest-link, own-link, sort-word, weight-word, depth-word}
-use Rattle.memory.specs.Stored.{stored, weight-of, depth-of, weight-in, depth-in}
+use Rattle.memory.specs.Layout.{record-at, Which, names, modules, Item, Sort, tree, list, trieˢ, Of, kind, kind-in, row, what, kind-word, trie-link, rest-link, own-link, sort-word, weight-word, depth-word, right-link}
+use Rattle.memory.specs.Stored.{weight-of, depth-of, weight-in, depth-in}
 use Rattle.memory.specs.Sound.{Says, LinkOk, BranchOk, CollectionOk, WeightOk, TrieOk, RecordAs, RecordOk}
 use Rattle.memory.proofs.Says.{says-iff}
 use Rattle.memory.proofs.Readings.{what-row}
@@ -50,7 +50,7 @@ says-collection b before {w} {r = r} o {n} e h =
     let d = e ∙ weight-row (before .rows) w o in
     says-iff b h (λ q. (o, record { weighs = q .0 ∙ d; light = omega (arith, q .1) })) (λ q. (q .1 .weighs ∙ sym d, omega (arith, q .1 .light)))
 
-pub says-trie : (b : Bool) {ws txt : List ℕ} {used l : ℕ} → Before ws txt used l → (w : Which) (r : List ℕ) → TrieOk ws txt used l w r → {s d : ℕ} → s ≡ depth-word r → d ≡ stored ws (word r 4) 11 → d ≤ 16
+pub says-trie : (b : Bool) {ws txt : List ℕ} {used l : ℕ} → Before ws txt used l → (w : Which) (r : List ℕ) → TrieOk ws txt used l w r → {s d : ℕ} → s ≡ depth-word r → d ≡ depth-in ws (right-link r) → d ≤ 16
     → Says b (s ≡ d) → Says b (RecordAs ws txt used l w trieˢ r (row w txt r (what w ws txt) trieˢ))
 says-trie b before w r o e f h k =
     let g = f ∙ depth-trie (before .rows) w o in

@@ -12,7 +12,7 @@ use Rattle.source.specs.Types.{Trie, bind, the-item}
 use Rattle.source.specs.Tries.{trie-find-exact}
 use Rattle.source.specs.Calls.{a-look-up, lowest, argument-rows, Found, found, not-found, refused, found-of, look-up}
 use Rattle.source.proofs.Refusals.{argument-rows-none, look-up-whole}
-use Rattle.memory.specs.Layout.{record-at, word, Which, modules, item-of, tree, trieˢ, kind, what}
+use Rattle.memory.specs.Layout.{record-at, Which, modules, item-of, tree, trieˢ, kind, what, symbol-word}
 use Rattle.memory.specs.Sound.{LinkOk, SymbolOk}
 use Rattle.memory.specs.Read.{symbol-in}
 use Rattle.memory.proofs.Records.{zero-one, record-as}
@@ -53,7 +53,7 @@ branch-fits a h z = (omega arith, link-fits (a .trie .sound) (link-later (omega 
 module _ {txt r : List ℕ} {used : ℕ} (o : SymbolOk txt used r) (h : used ≤ length txt) where
   symbol-in-inside : SymbolInside (length txt) (symbol-in r)
   symbol-in-inside =
-      zero-one (word r 5) (o .sort) (λ z. rw z (omega (arith, o .name .inside), omega (arith, o .path z .inside))) (λ z. rw z (omega (arith, o .name .inside)))
+      zero-one (symbol-word r) (o .sort) (λ z. rw z (omega (arith, o .name .inside), omega (arith, o .path z .inside))) (λ z. rw z (omega (arith, o .name .inside)))
 
 pub symbol-inside : {ws txt : List ℕ} {t : Table} {l : ℕ} → IsSound ws txt t → LinkOk ws (t .header .modules + 1) l (kind modules (tree bind)) → 0 < l
     → SymbolInside (length txt) (symbol-in (record-at ws l))

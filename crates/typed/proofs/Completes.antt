@@ -27,7 +27,8 @@ use Rattle.table.specs.Header.{IsSound, table-in}
 use Rattle.table.specs.Completions.{CompletesAs, completion}
 use Rattle.table.specs.declared.Table.{Table}
 use Rattle.table.specs.declared.Completed.{Completed}
-use Rattle.rows.specs.Rows.{matched-word, words-from, row-in}
+use Rattle.lines.specs.Output.{matched-word}
+use Rattle.rows.specs.Rows.{words-from, row-in}
 use Rattle.rows.proofs.Rows.{item-seen-is}
 use Rattle.rows.proofs.Written.{written-records}
 use Rattle.typed.specs.Lines.{held, held-length, line-of-row, line-at, stored-lines, lines-in, record-seen}

@@ -1,6 +1,6 @@
 -- The completion into the first of the flat words, as one into all of them.
 use mathlib.Core.Path.{_≡_, refl, sym, ap, _∙_, subst}
-use Prim.Native.Nat.{ℕ, _+_, _*_, _/_, _≤_, min, zero-le}
+use Prim.Native.Nat.{ℕ, _*_, _/_, _≤_, min, zero-le}
 use mathlib.Core.Bool.{true, false}
 use mathlib.Core.List.{List, _++_, append-assoc}
 use mathlib.Core.Option.{some, Option·none-ne-some}

@@ -1,5 +1,4 @@
 -- opened is the definition.
-use borrow.Author.Needs.{needs}
 use Rattle.kinds.proofs.opened.Statement.{statement}
 use Rattle.kinds.proofs.opened.Tie as tie
 

@@ -4,7 +4,8 @@ use Prim.Native.Nat.{ℕ}
 use mathlib.Core.List.{List}
 use Rattle.memory.specs.Layout.{Which, record-at}
 use Rattle.lines.specs.Ask.{asked}
-use Rattle.rows.specs.Rows.{matched-word, candidate-start, candidate-len, annotation-start, annotation-len, item-in, row-in}
+use Rattle.lines.specs.Output.{matched-word, candidate-start, candidate-len, annotation-start, annotation-len}
+use Rattle.rows.specs.Rows.{item-in, row-in}
 use Rattle.rows.specs.declared.RowItem.{RowItem}
 use Rattle.rows.specs.declared.Row.{Row}
 use borrow.Author.Needs.{needs}

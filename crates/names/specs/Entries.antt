@@ -1,5 +1,6 @@
--- What a merge gives: branches, each with the collection of its outermost label, and what they show of the path elements that are found.
-use Prim.Native.Nat.{ℕ}
+-- What a completion finds in a list: branches, each with the collection of its outermost label, and what they show of the path elements that are found.
+use Prim.Native.Nat.{ℕ, _+_, _<_}
+use mathlib.Core.Path.{_≡_}
 use mathlib.Core.List.{List, []}
 use mathlib.Core.Option.{Option, none, some}
 use lib.Dec.{eqb}
@@ -8,7 +9,8 @@ use Rattle.source.specs.Types.{Level, Value}
 use Rattle.source.specs.Trees.{PrefixMatch, PathElem}
 use Rattle.source.specs.Listing.{SearchTerm, NSTAll, NSTPrefix}
 use Rattle.source.specs.Table.{last-opt}
-use Rattle.memory.specs.Layout.{pick, Which, Item, key-at}
+use Rattle.memory.specs.Layout.{record-at, sort-word, pick, Which, Item, list, kind, key-at}
+use Rattle.memory.specs.Sound.{LinkOk}
 use Rattle.tree.specs.Links.{row-at}
 
 -- The link of a branch, and of the collection that has its outermost label, 0 for none.
@@ -36,3 +38,8 @@ outer x = (last-opt (x .0 .imports), (x .0 .segment, x .1))
 pub data Asks : SearchTerm → Str → Option Str → Type 0 where
   by-prefix : {p : Str} → Asks (NSTPrefix p) p (some p)
   by-all : Asks NSTAll [] none
+
+-- The collection of a label: none, or one that imports a list, no later than link l.
+pub record LabelOk (ws : List ℕ) (w : Which) (v : Level) (l label : ℕ) : Type 0 where
+  pub link : LinkOk ws (l + 1) label (kind w (list v))
+  pub imports : 0 < label → sort-word (record-at ws label) ≡ 1
