@@ -230,7 +230,7 @@ static void refusals(void) {
   const char *n32 = "nnnnnnnnnnnnnnnnnnnnnnnnnnnnnnnn", *s17 = "s.s.s.s.s.s.s.s.s.s.s.s.s.s.s.s.s.";
   check("numbers", NAME_CONSOLE_OK == 0 && NAME_CONSOLE_UNSOUND == 1 && NAME_CONSOLE_MALFORMED == 2 && NAME_CONSOLE_EMPTY == 3 && NAME_CONSOLE_TOO_LONG == 4 &&
                        NAME_CONSOLE_CROWDED == 5 && NAME_CONSOLE_DEEP == 6 && NAME_CONSOLE_FULL == 7 && NAME_CONSOLE_TEXT_FULL == 8 && NAME_CONSOLE_SPENT == 9 &&
-                       NAME_CONSOLE_NO_ROOM == 10 && NAME_CONSOLE_NONE == 11);
+                       NAME_CONSOLE_NO_ROOM == 10 && NAME_CONSOLE_NONE == 4294967295u);
   fresh();
   REFUSES("Malformed, name", name("", "a.b", 1), NAME_CONSOLE_MALFORMED);
   REFUSES("Malformed, include", name_console_include(TABLE, S("a"), S("")), NAME_CONSOLE_MALFORMED);

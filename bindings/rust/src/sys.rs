@@ -19,13 +19,13 @@ pub const STACK_COMPLETE: usize = 327680;
 /// The answer of a call that was accepted, or found or listed something.
 pub const OK: u32 = 0;
 /// The answer of a look-up that finds nothing. Numbers 1 to 10 are refusals.
-pub const NONE: u32 = 11;
+pub const NONE: u32 = u32::MAX;
 
 /// The reply to a look-up of a name.
 #[repr(C)]
 #[derive(Clone, Copy, Debug, Default, PartialEq, Eq)]
 pub struct NameReply {
-    /// 0 found, 11 none, else the refusal.
+    /// 0 found, [`NONE`], else the refusal.
     pub answer: u32,
     /// 0 unless found.
     pub item: u32,
@@ -35,7 +35,7 @@ pub struct NameReply {
 #[repr(C)]
 #[derive(Clone, Copy, Debug, Default, PartialEq, Eq)]
 pub struct ModuleReply {
-    /// 0 found, 11 none, else the refusal.
+    /// 0 found, [`NONE`], else the refusal.
     pub answer: u32,
     /// 0 a module, 1 a namespace.
     pub sort: u32,

@@ -1,7 +1,7 @@
 //! The C layer's calls (bindings/rust) on the independent implementation's terms.
 use model::layout::{Header, Memory};
 use model::model::{CompletionResult, Filter, ModSymbol, Registration, Str};
-use name_console::bytes as calls;
+use name_console::{bytes as calls, sys};
 
 /// A table as bytes.
 #[derive(Clone, PartialEq)]
@@ -63,7 +63,7 @@ pub fn find(t: &Bytes, q: &[u8]) -> Result<Option<u32>, u32> {
     let r = calls::find(&t.state, &t.words, &t.text, q);
     match r.answer {
         0 => Ok(Some(r.item)),
-        11 => Ok(None),
+        sys::NONE => Ok(None),
         n => Err(n),
     }
 }
@@ -83,7 +83,7 @@ pub fn find_module(t: &Bytes, q: &[u8]) -> Result<Option<ModSymbol>, u32> {
     let r = calls::find_module(&t.state, &t.words, &t.text, q);
     match r.answer {
         0 => Ok(Some(symbol(&t.text, r.sort, [r.name_start, r.name_len], [r.path_start, r.path_len], r.loaded))),
-        11 => Ok(None),
+        sys::NONE => Ok(None),
         n => Err(n),
     }
 }

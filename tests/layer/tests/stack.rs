@@ -133,6 +133,9 @@ fn shown(call: &Registration) -> String {
     }
 }
 
+/// Where 'none' is counted among the answers, after the refusals.
+const NONE_AT: u32 = 11;
+
 /// The most that a call used, and where; and how often each number was answered.
 struct Most {
     used: usize,
@@ -171,16 +174,16 @@ fn registrations_and_look_ups() {
                 registered.take(used, answer, || format!("{what}, {}", shown(&call)));
             }
             let mut answer = 0;
-            let used = used_by(stack, || answer = find(&table, &q).map_or_else(|n| n, |f| f.map_or(11, |_| 0)));
+            let used = used_by(stack, || answer = find(&table, &q).map_or_else(|n| n, |f| f.map_or(NONE_AT, |_| 0)));
             found.take(used, answer, || format!("{what}, find {}", q.escape_ascii()));
-            let used = used_by(stack, || answer = find_module(&table, &q).map_or_else(|n| n, |f| f.map_or(11, |_| 0)));
+            let used = used_by(stack, || answer = find_module(&table, &q).map_or_else(|n| n, |f| f.map_or(NONE_AT, |_| 0)));
             found.take(used, answer, || format!("{what}, find module {}", q.escape_ascii()));
         }
     }
     registered.report("registrations", stack);
     found.report("look-ups", stack);
     assert!([0, 2, 3, 5, 6].iter().all(|&n| 0 < registered.answers[n]), "{:?}", registered.answers);
-    assert!([0, 2, 3, 11].iter().all(|&n| 0 < found.answers[n]), "{:?}", found.answers);
+    assert!([0, 2, 3, NONE_AT as usize].iter().all(|&n| 0 < found.answers[n]), "{:?}", found.answers);
 }
 
 #[test]

@@ -13,7 +13,10 @@ struct Reply {
     text: u32,
 }
 
-/// A look-up's reply: 0 for an item, 11 for none, else the number of the refusal.
+/// The answer none.
+const NONE: u32 = u32::MAX;
+
+/// A look-up's reply: 0 for an item, NONE for none, else the number of the refusal.
 #[repr(C)]
 struct Looked {
     answer: u32,
@@ -100,7 +103,7 @@ impl Looked {
     fn result(&self) -> Result<Option<u32>, u32> {
         match self.answer {
             0 => Ok(Some(self.item)),
-            11 => Ok(None),
+            NONE => Ok(None),
             n => Err(n),
         }
     }
