@@ -182,7 +182,7 @@ fn flag_of(b: bool) -> u32
 }
 
 // The words of the branch of a module, or of a namespace where it is not the last segment: the name from `at` on, the full name from `from` on.
-fn symbol_row(last: bool, at: u32, len: u32, from: u32, loaded: bool, path: Span) -> [u32; 12]
+fn symbol_row(last: bool, at: u32, len: u32, from: u32, loaded: bool, path: Span) -> [u32; memory::ROW]
     requires { ⌜ (from ≤ at) × (at + len ≤ 65536) ⌝ }
     ensures { λ r. ⌜ r ≡ symbol-row last at len from loaded path ⌝ }
 {

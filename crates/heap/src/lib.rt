@@ -12,6 +12,11 @@ ghost use Rattle.memory.specs.Layout.{key-at};
 ghost use Rattle.heap.specs.Compare.{Head, Heads, cell-cmp, sign};
 ghost use Rattle.heap.specs.Cells.{Root, Rep, Repᶠ, Merges, Inserts, Pairs, Pops, first-cells};
 
+// How many lists a merge takes, and so how many cells there are. As a cell it is none.
+pub const CELLS: usize = 96;
+
+const NO_CELL: u8 = 96;
+
 // What heap_pop answers: nothing, or the least cell and the root of the rest.
 pub enum Popped {
     Nothing,
@@ -20,8 +25,8 @@ pub enum Popped {
 
 // A heap by value.
 pub struct Cells {
-    pub child: [u8; 96],
-    pub next: [u8; 96],
+    pub child: [u8; CELLS],
+    pub next: [u8; CELLS],
     pub root: usize,
 }
 
@@ -47,7 +52,7 @@ fn priority_difference(n: usize, a: usize, b: usize) -> i32
 }
 
 // The comparator of merge_increasing_lists_rev: by the keys of the heads, then by priority. Its sign is the answer.
-fn cell_cmp(words: &[u32], text: &[u8], heads: &[u32; 96], n: usize, a: usize, b: usize) -> i32
+fn cell_cmp(words: &[u32], text: &[u8], heads: &[u32; CELLS], n: usize, a: usize, b: usize) -> i32
     requires { ⌜ Heads (now words) (now text) (now heads) n ⌝ }
     requires { ⌜ (a < n) × (b < n) ⌝ }
     ensures { λ r. ⌜ sign r ≡ cell-cmp (now (words .entry)) (now (text .entry)) (now (heads .entry)) n a b ⌝ }
@@ -62,7 +67,7 @@ fn cell_cmp(words: &[u32], text: &[u8], heads: &[u32; 96], n: usize, a: usize, b
 }
 
 // Puts the heap of root `w` before the children of `v`.
-fn link(child: &mut [u8; 96], next: &mut [u8; 96], v: usize, w: usize) -> usize
+fn link(child: &mut [u8; CELLS], next: &mut [u8; CELLS], v: usize, w: usize) -> usize
     requires { ⌜ (v < 96) × (w < 96) ⌝ }
     ensures { λ r. ⌜ (r ≡ v) × (now (child .exit) ≡ set (now (child .entry)) v w) × (now (next .exit) ≡ set (now (next .entry)) w (getD (now (child .entry)) v 0)) ⌝ }
 {
@@ -73,11 +78,11 @@ fn link(child: &mut [u8; 96], next: &mut [u8; 96], v: usize, w: usize) -> usize
 
 // heap_merge, of the roots `a` and `b`.
 pub fn heap_merge(
-    child: &mut [u8; 96],
-    next: &mut [u8; 96],
+    child: &mut [u8; CELLS],
+    next: &mut [u8; CELLS],
     words: &[u32],
     text: &[u8],
-    heads: &[u32; 96],
+    heads: &[u32; CELLS],
     n: usize,
     a: usize,
     b: usize,
@@ -86,10 +91,10 @@ pub fn heap_merge(
     requires { ⌜ Root n a × Root n b ⌝ }
     ensures { λ r. ⌜ Merges (cell-cmp (now (words .entry)) (now (text .entry)) (now (heads .entry)) n) n (now (child .entry)) (now (next .entry)) (now (child .exit)) (now (next .exit)) r a b ⌝ }
 {
-    if a == 96 {
+    if a == CELLS {
         return b;
     }
-    if b == 96 {
+    if b == CELLS {
         return a;
     }
     if cell_cmp(words, text, heads, n, a, b) < 0 {
@@ -101,11 +106,11 @@ pub fn heap_merge(
 
 // heap_insert, of the cell `v` into the heap of root `i`.
 pub fn heap_insert(
-    child: &mut [u8; 96],
-    next: &mut [u8; 96],
+    child: &mut [u8; CELLS],
+    next: &mut [u8; CELLS],
     words: &[u32],
     text: &[u8],
-    heads: &[u32; 96],
+    heads: &[u32; CELLS],
     n: usize,
     i: usize,
     v: usize,
@@ -114,17 +119,17 @@ pub fn heap_insert(
     requires { ⌜ Root n i × (v < n) ⌝ }
     ensures { λ r. ⌜ Inserts (cell-cmp (now (words .entry)) (now (text .entry)) (now (heads .entry)) n) n (now (child .entry)) (now (next .entry)) (now (child .exit)) (now (next .exit)) r i v ⌝ }
 {
-    child[v] = 96;
+    child[v] = NO_CELL;
     heap_merge(child, next, words, text, heads, n, v, i)
 }
 
 // heap_merge_pairs, of the heaps of root `i` and of its next siblings.
 pub fn heap_merge_pairs(
-    child: &mut [u8; 96],
-    next: &mut [u8; 96],
+    child: &mut [u8; CELLS],
+    next: &mut [u8; CELLS],
     words: &[u32],
     text: &[u8],
-    heads: &[u32; 96],
+    heads: &[u32; CELLS],
     n: usize,
     i: usize,
 ) -> usize
@@ -132,11 +137,11 @@ pub fn heap_merge_pairs(
     requires { ⌜ ((hh : Forest ℕ) × Repᶠ n (now child) (now next) i hh) ⌝ }
     ensures { λ r. ⌜ Pairs (cell-cmp (now (words .entry)) (now (text .entry)) (now (heads .entry)) n) n (now (child .entry)) (now (next .entry)) (now (child .exit)) (now (next .exit)) r i ⌝ }
 {
-    if i == 96 {
-        return 96;
+    if i == CELLS {
+        return CELLS;
     }
     let k = next[i] as usize;
-    if k == 96 {
+    if k == CELLS {
         return i;
     }
     let rest = next[k] as usize;
@@ -147,11 +152,11 @@ pub fn heap_merge_pairs(
 
 // heap_pop, of the heap of root `i`.
 pub fn heap_pop(
-    child: &mut [u8; 96],
-    next: &mut [u8; 96],
+    child: &mut [u8; CELLS],
+    next: &mut [u8; CELLS],
     words: &[u32],
     text: &[u8],
-    heads: &[u32; 96],
+    heads: &[u32; CELLS],
     n: usize,
     i: usize,
 ) -> Popped
@@ -159,7 +164,7 @@ pub fn heap_pop(
     requires { ⌜ ((h : Heap ℕ) × Rep n (now child) (now next) i h) ⌝ }
     ensures { λ r. ⌜ Pops (cell-cmp (now (words .entry)) (now (text .entry)) (now (heads .entry)) n) n (now (child .entry)) (now (next .entry)) (now (child .exit)) (now (next .exit)) r i ⌝ }
 {
-    if i == 96 {
+    if i == CELLS {
         return Popped::Nothing;
     }
     let k = child[i] as usize;
@@ -168,13 +173,13 @@ pub fn heap_pop(
 }
 
 // heap_from_list, of the cells below `n`, the first one first.
-pub fn heap_from_list(words: &[u32], text: &[u8], heads: &[u32; 96], n: usize) -> Cells
+pub fn heap_from_list(words: &[u32], text: &[u8], heads: &[u32; CELLS], n: usize) -> Cells
     requires { ⌜ Heads (now words) (now text) (now heads) n ⌝ }
     ensures { λ r. ⌜ Rep n (r .child) (r .next) (r .root) (heap-from-list (cell-cmp (now (words .entry)) (now (text .entry)) (now (heads .entry)) n) (first-cells n)) ⌝ }
 {
-    let mut child = [96; 96];
-    let mut next = [96; 96];
-    let mut root = 96;
+    let mut child = [NO_CELL; CELLS];
+    let mut next = [NO_CELL; CELLS];
+    let mut root = CELLS;
     let mut v = 0;
     while v < n {
         root = heap_insert(&mut child, &mut next, words, text, heads, n, root, v);

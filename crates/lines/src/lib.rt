@@ -15,6 +15,9 @@ ghost use Rattle.lines.specs.Output.{Capped};
 ghost use Rattle.lines.specs.Lines.{CanList, Listed};
 ghost use Rattle.lines.specs.Parts.{TextAt, PathAt, JobOk, Room, candidate-of, note-at, outermost, line-row, LinePut, TriedLine, PutLine, KeptLine};
 
+// Words to a line.
+pub const LINE: usize = 12;
+
 // The filter argument: Loaded is of either sort.
 pub enum Filter {
     All,
@@ -136,7 +139,7 @@ fn put_candidate(
 }
 
 // The words of a line.
-fn line_row(words: &[u32], branch: u32, matched: u32, start: u32, len: u32, note: u32) -> [u32; 12]
+fn line_row(words: &[u32], branch: u32, matched: u32, start: u32, len: u32, note: u32) -> [u32; LINE]
     requires { ⌜ (0 < branch) × (branch * 12 ≤ length (now words)) × (start + len ≤ 4294967295) ⌝ }
     ensures { λ r. ⌜ r ≡ line-row (record-at (now (words .entry)) branch) matched start len note ⌝ }
 {
@@ -173,7 +176,7 @@ fn write_line(
     ensures { λ _. ⌜ LinePut (now (words .entry)) (now (text .entry)) (job-in task branch (now (run .entry))) (now (note .entry)) (now (flat .entry)) (now (flat .exit)) (now (out .entry)) (now (out .exit)) ⌝ }
 {
     let at = run[BYTES];
-    let base = run[LINES] * 12;
+    let base = run[LINES] * LINE;
     let end = put_candidate(words, text, run, branch, out, at);
     memory::put_text(&mut out[end..], 0, note);
     let row = line_row(
@@ -203,7 +206,7 @@ fn try_line(
     ensures { λ _. ⌜ TriedLine (now (words .entry)) (now (text .entry)) (job-in task branch (now (run .entry))) (now (note .entry)) (now (flat .entry)) (now (flat .exit)) (now (out .entry)) (now (out .exit)) ⌝ }
 {
     let lim = task.lim;
-    if !fits(run[LINES], 1, lim.lines, flat.len() / 12) {
+    if !fits(run[LINES], 1, lim.lines, flat.len() / LINE) {
         return;
     }
     let size = run[LENGTH] + memory::text_len(words, branch) as usize + note.len();

@@ -341,7 +341,7 @@ pub fn complete(
     requires { ⌜ (ends-in-dot (now query) ≡ true) × (length (now query) ≤ 544) ⌝ }
     ensures { λ r. ⌜ Completes (now (words .entry)) (now (text .entry)) ask root (now (query .entry)) budget (now (flat .entry)) (now (flat .exit)) (now (out .entry)) (now (out .exit)) r ⌝ }
 {
-    let lines = lent(flat.len() / 12);
+    let lines = lent(flat.len() / lines::LINE);
     let bytes = lent(out.len());
     let most = budget as usize;
     let lim = Limits {

@@ -29,7 +29,7 @@ fn plan_step(words: &[u32], text: &[u8], trie: u32, s: &[u8]) -> Step
     Step {
         link: memory::trie_held(words, p.holder),
         records: p.count + 2,
-        crowded: 96 < p.weight,
+        crowded: memory::HEAVIEST < p.weight,
     }
 }
 
@@ -86,8 +86,8 @@ fn plan_name(words: &[u32], text: &[u8], root: u32, host: &[u8], id: &[u8]) -> P
     let b = names::names_place(words, text, t.bindings, id);
     Plan {
         records: p.records + (b.count + 2),
-        crowded: p.crowded | (96 < b.weight),
-        deep: 16 < p.segments,
+        crowded: p.crowded | (memory::HEAVIEST < b.weight),
+        deep: memory::DEEPEST < p.segments,
     }
 }
 
@@ -103,8 +103,8 @@ fn plan_include(words: &[u32], text: &[u8], root: u32, host: &[u8], inc: u32) ->
     let weight = memory::weight_of(words, i.bindings) + memory::weight_of(words, t.bindings) + 1;
     Plan {
         records: p.records + 2,
-        crowded: p.crowded | (96 < weight),
-        deep: 16 < p.segments,
+        crowded: p.crowded | (memory::HEAVIEST < weight),
+        deep: memory::DEEPEST < p.segments,
     }
 }
 
@@ -122,8 +122,8 @@ fn plan_open(words: &[u32], text: &[u8], root: u32, host: &[u8], inc: u32) -> Pl
         + 1;
     Plan {
         records: p.records + 2,
-        crowded: p.crowded | (96 < weight),
-        deep: 16 < p.segments + i.depth,
+        crowded: p.crowded | (memory::HEAVIEST < weight),
+        deep: memory::DEEPEST < p.segments + i.depth,
     }
 }
 
@@ -140,8 +140,8 @@ fn plan_alias(words: &[u32], text: &[u8], root: u32, key: &[u8], host: &[u8], in
     let weight = memory::weight_of(words, i.bindings) + 1;
     Plan {
         records: p.records + (a.count + 4),
-        crowded: p.crowded | ((96 < a.weight) | (96 < weight)),
-        deep: 16 < p.segments + 1,
+        crowded: p.crowded | ((memory::HEAVIEST < a.weight) | (memory::HEAVIEST < weight)),
+        deep: memory::DEEPEST < p.segments + 1,
     }
 }
 
@@ -160,7 +160,7 @@ fn plan_ins(words: &[u32], text: &[u8], trie: u32, s: &[u8], last: bool, loaded:
     if last | lookup::ns_inserts(words, p.holder, loaded) {
         return Insertion {
             records: p.count + 1,
-            crowded: 96 < p.weight,
+            crowded: memory::HEAVIEST < p.weight,
         };
     }
     Insertion {
@@ -194,7 +194,7 @@ fn plan_module(words: &[u32], text: &[u8], root: u32, query: &[u8], loaded: bool
     Plan {
         records: records,
         crowded: crowded,
-        deep: 16 < segments,
+        deep: memory::DEEPEST < segments,
     }
 }
 

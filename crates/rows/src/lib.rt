@@ -73,7 +73,7 @@ pub fn row_at(flat: &[u32], k: usize, ask: Ask) -> Row
     requires { ⌜ k * 12 + 12 ≤ length (now flat) ⌝ }
     ensures { λ r. ⌜ r ≡ row-in (asked ask) (words-at (now (flat .entry)) k) ⌝ }
 {
-    let at = k * 12;
+    let at = k * lines::LINE;
     row_in(&flat[at..], ask)
 }
 

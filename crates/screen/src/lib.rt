@@ -25,6 +25,11 @@ ghost use Rattle.lines.specs.declared.Ask.the-variants.{Names};
 ghost use Rattle.screen.specs.Completions.{lines-lent, Room, modules-for, no-lines, RepliesLines, ListsIn};
 ghost use Rattle.screen.specs.Replies.{chosen, Replies, name-reply, RepliesName, flag, no-module, symbol-reply, module-reply, RepliesModule};
 
+// Bytes of a state: four words. Bytes of a record, and of a line: twelve words.
+const STATE_BYTES: usize = 16;
+
+const RECORD_BYTES: usize = 48;
+
 // The answer of a look-up that finds nothing: no refusal has this number.
 pub const NONE: u32 = 4294967295;
 
@@ -102,9 +107,9 @@ fn put_word(bytes: &mut [u8], k: usize, word: u32)
 fn words_lent(size: usize) -> usize
     ensures { λ r. ⌜ r ≡ records-lent size * 12 ⌝ }
 {
-    let n = size / 48;
+    let n = size / RECORD_BYTES;
     if n < 1024 {
-        return n * 12;
+        return n * memory::ROW;
     }
     12288
 }
@@ -186,8 +191,8 @@ fn enter(
     let a = r.answer;
     match a {
         Registered::Accepted => {
-            let from = t.header.records as usize * 12;
-            let to = h.header.records as usize * 12;
+            let from = t.header.records as usize * memory::ROW;
+            let to = h.header.records as usize * memory::ROW;
             store(words, memory, from, to);
             put_header(state, h);
             0
@@ -208,7 +213,7 @@ fn register(
 ) -> u32
     ensures { λ r. ⌜ Replies (now (state .entry)) (now (words .entry)) (now (text .entry)) (now (state .exit)) (now (words .exit)) (now (text .exit)) (some (call-of kind (now (host .entry)) (now (other .entry)) (now (key .entry)))) r ⌝ }
 {
-    if state.len() != 16 {
+    if state.len() != STATE_BYTES {
         return 1;
     }
     let mut memory = [0u32; 12288];
@@ -220,7 +225,7 @@ fn register(
 fn malformed(state: &[u8], words: &[u8], text: &[u8]) -> u32
     ensures { λ r. ⌜ Replies (now (state .entry)) (now (words .entry)) (now (text .entry)) (now (state .entry)) (now (words .entry)) (now (text .entry)) none r ⌝ }
 {
-    if state.len() != 16 {
+    if state.len() != STATE_BYTES {
         return 1;
     }
     let mut memory = [0u32; 12288];
@@ -423,7 +428,7 @@ pub extern "C" fn name_console_find(
 ) -> NameReply
     ensures { λ r. ⌜ RepliesName (now (state .entry)) (now (words .entry)) (now (text .entry)) (now (query .entry)) r ⌝ }
 {
-    if state.len() != 16 {
+    if state.len() != STATE_BYTES {
         return no_name(1);
     }
     let mut memory = [0u32; 12288];
@@ -442,7 +447,7 @@ pub extern "C" fn name_console_find_module(
 ) -> ModuleReply
     ensures { λ r. ⌜ RepliesModule (now (state .entry)) (now (words .entry)) (now (text .entry)) (now (query .entry)) r ⌝ }
 {
-    if state.len() != 16 {
+    if state.len() != STATE_BYTES {
         return no_module(1);
     }
     let mut memory = [0u32; 12288];
@@ -457,9 +462,9 @@ pub extern "C" fn name_console_find_module(
 fn line_words(size: usize) -> usize
     ensures { λ r. ⌜ r ≡ lines-lent size * 12 ⌝ }
 {
-    let n = size / 48;
+    let n = size / RECORD_BYTES;
     if n < 512 {
-        return n * 12;
+        return n * memory::ROW;
     }
     6144
 }
@@ -510,7 +515,7 @@ fn list(
     let c = t.complete(memory, text, ask, query, budget, flat, out);
     match c {
         Completed::Listed(count, entered) => {
-            let to = count as usize * 12;
+            let to = count as usize * lines::LINE;
             store(lines, flat, 0, to);
             CompleteReply {
                 answer: 0,
@@ -535,7 +540,7 @@ fn complete(
 ) -> CompleteReply
     ensures { λ r. ⌜ RepliesLines (now (state .entry)) (now (words .entry)) (now (text .entry)) (some ask) (now (query .entry)) budget (now (lines .entry)) (now (lines .exit)) (now (out .entry)) (now (out .exit)) r ⌝ }
 {
-    if state.len() != 16 {
+    if state.len() != STATE_BYTES {
         return no_lines(1);
     }
     let mut memory = [0u32; 12288];

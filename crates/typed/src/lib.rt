@@ -93,10 +93,10 @@ fn lines_in(r: Completed) -> usize
 fn words_for(flat: usize, room: usize) -> usize
     ensures { λ r. ⌜ r ≡ min (flat / 12) room * 12 ⌝ }
 {
-    if flat / 12 <= room {
-        return flat / 12 * 12;
+    if flat / lines::LINE <= room {
+        return flat / lines::LINE * lines::LINE;
     }
-    room * 12
+    room * lines::LINE
 }
 
 // Completion into flat words, lent for at most `room` lines.
