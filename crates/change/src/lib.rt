@@ -1,6 +1,7 @@
 // The change of a trie: the source's namespaces_mutate and trie_mutate with the leaf of each kind, building records after the used ones.
 use kinds::Form;
 use kinds::Kind;
+use memory::ModSymbol;
 use memory::Span;
 ghost use mathlib.Core.Path.{_≡_};
 ghost use mathlib.Core.Bool.{true, cond};
@@ -89,7 +90,7 @@ fn insert_leaf(
     let start = id.start as usize;
     let len = id.len as usize;
     let p = names::names_place(words, text, t.bindings, &text[start..start + len]);
-    let row = [1, id.start, id.len, 0, 0, number, 0, 0, 0, 0, 0, 0];
+    let row = memory::make::binding_row(id, number);
     let b = names::names_insert(words, text, records, t.bindings, p.count, row);
     let link = names::put_trie(words, b, 5, b, t.namespaces);
     Built {
@@ -144,7 +145,7 @@ fn alias_leaf(words: &mut [u32], text: &[u8], records: u32, trie: u32, change: C
     let p = names::names_place(words, text, t.namespaces, &text[start..start + len]);
     let b = names::imported(words, records, 3, label, i.bindings, 0);
     let scope = names::put_trie(words, b, 5, b, 0);
-    let row = [2, key.start, key.len, 0, 0, scope, 0, 0, 0, 0, 0, 0];
+    let row = memory::make::namespace_row(0, key, scope);
     let n = names::names_insert(words, text, scope, t.namespaces, p.count, row);
     let link = names::put_trie(words, n, 5, t.bindings, n);
     Built {
@@ -171,40 +172,30 @@ fn mut_leaf(words: &mut [u32], text: &[u8], records: u32, trie: u32, change: Cha
     }
 }
 
-// 1 for true.
-fn flag_of(b: bool) -> u32
-    ensures { λ r. ⌜ r ≡ cond b 1 0 ⌝ }
-{
-    if b {
-        return 1;
-    }
-    0
-}
-
 // The words of the branch of a module, or of a namespace where it is not the last segment: the name from `at` on, the full name from `from` on.
-fn symbol_row(last: bool, at: u32, len: u32, from: u32, loaded: bool, path: Span) -> [u32; memory::ROW]
+fn symbol_row(
+    last: bool,
+    at: u32,
+    len: u32,
+    from: u32,
+    loaded: bool,
+    path: Span,
+) -> [u32; memory::ROW]
     requires { ⌜ (from ≤ at) × (at + len ≤ 65536) ⌝ }
     ensures { λ r. ⌜ r ≡ symbol-row last at len from loaded path ⌝ }
 {
-    let flag = flag_of(loaded);
-    let size = at + len - from;
+    let key = Span {
+        start: at,
+        len: len,
+    };
+    let name = Span {
+        start: from,
+        len: at + len - from,
+    };
     if last {
-        return [
-            6,
-            at,
-            len,
-            0,
-            0,
-            0,
-            from,
-            size,
-            path.start,
-            path.len,
-            flag,
-            0,
-        ];
+        return memory::make::symbol_row(key, ModSymbol::Module(name, path, loaded));
     }
-    [6, at, len, 0, 0, 1, from, size, 0, 0, flag, 0]
+    memory::make::symbol_row(key, ModSymbol::Namespace(name, loaded))
 }
 
 // ins of register_module_path: a Module at the last segment, a Namespace before it where ins_ns inserts.
@@ -330,7 +321,11 @@ fn namespaces_mutate(
     let scope = memory::trie_held(words, p.holder);
     let kinds = kinds_of(change);
     let m = trie_mutate(words, text, records, scope, from, at + len + 1, end, change);
-    let row = [kinds + 2, at, len, 0, 0, m.link, 0, 0, 0, 0, 0, 0];
+    let key = Span {
+        start: at,
+        len: len,
+    };
+    let row = memory::make::namespace_row(kinds, key, m.link);
     let link = names::names_insert(words, text, m.records, namespaces, p.count, row);
     Built {
         link: link,

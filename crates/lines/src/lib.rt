@@ -139,7 +139,14 @@ fn put_candidate(
 }
 
 // The words of a line.
-fn line_row(words: &[u32], branch: u32, matched: u32, start: u32, len: u32, note: u32) -> [u32; LINE]
+fn line_row(
+    words: &[u32],
+    branch: u32,
+    matched: u32,
+    start: u32,
+    len: u32,
+    note: u32,
+) -> [u32; LINE]
     requires { ⌜ (0 < branch) × (branch * 12 ≤ length (now words)) × (start + len ≤ 4294967295) ⌝ }
     ensures { λ r. ⌜ r ≡ line-row (record-at (now (words .entry)) branch) matched start len note ⌝ }
 {

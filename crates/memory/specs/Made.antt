@@ -21,7 +21,7 @@ symbol-row key (Namespace name loaded) = 6 ∷ key .start ∷ key .len ∷ 0 ∷
 
 -- A branch of namespaces.
 abbrev pub namespace-row : ℕ → Span → ℕ → List ℕ
-namespace-row of key trie = (2 + of) ∷ key .start ∷ key .len ∷ 0 ∷ 0 ∷ trie ∷ 0 ∷ 0 ∷ 0 ∷ 0 ∷ 0 ∷ 0 ∷ []
+namespace-row of key trie = (of + 2) ∷ key .start ∷ key .len ∷ 0 ∷ 0 ∷ trie ∷ 0 ∷ 0 ∷ 0 ∷ 0 ∷ 0 ∷ 0 ∷ []
 
 -- A branch with other sides and another depth.
 abbrev pub sided-row : List ℕ → (left right depth : ℕ) → List ℕ

@@ -88,7 +88,7 @@ pub fn namespace_row(of: u32, key: Span, trie: u32) -> [u32; ROW]
     ensures { λ r. ⌜ r ≡ namespace-row of key trie ⌝ }
 {
     [
-        NAMESPACE_KIND + of,
+        of + NAMESPACE_KIND,
         key.start,
         key.len,
         0,

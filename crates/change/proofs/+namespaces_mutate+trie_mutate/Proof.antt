@@ -19,6 +19,7 @@ use Rattle.change.proofs.trie_mutate.Kinds as trie-mutate-kinds
 use Rattle.change.proofs.+namespaces_mutate+trie_mutate.Lts-trie_mutate as trie-mutate-lts
 use Rattle.memory.proofs.trie_held.Reads as trie-held-reads
 use Rattle.memory.proofs.trie_of.Reads as trie-of-reads
+use Rattle.memory.proofs.make.namespace_row.Reads as namespace-row-reads
 use Rattle.names.proofs.names_insert.Reads as names-insert-reads
 use Rattle.names.proofs.names_place.Reads as names-place-reads
 use Rattle.change.proofs.kinds_of.Reads as kinds-of-reads
@@ -61,7 +62,7 @@ trie-mutate-below t =
 pub +namespaces-mutate+trie-mutate-spec : {M : Type 1} → statement M
 +namespaces-mutate+trie-mutate-spec =
     close μ-namespaces-mutate μ-trie-mutate
-    (λ t. namespaces-mutate-lts.spec (names-place-reads.Asked, names-place-reads.Learnt, trie-held-reads.Asked, trie-held-reads.Learnt, kinds-of-reads.Asked, kinds-of-reads.Learnt, trie-mutate-below t, trie-mutate.Post, names-insert-reads.Asked, names-insert-reads.Learnt)
+    (λ t. namespaces-mutate-lts.spec (names-place-reads.Asked, names-place-reads.Learnt, trie-held-reads.Asked, trie-held-reads.Learnt, kinds-of-reads.Asked, kinds-of-reads.Learnt, trie-mutate-below t, trie-mutate.Post, namespace-row-reads.Asked, namespace-row-reads.Learnt, names-insert-reads.Asked, names-insert-reads.Learnt)
     (namespaces-mutate-at t)
     namespaces-mutate.Post
     {- add-names-place -}
@@ -84,14 +85,14 @@ pub +namespaces-mutate+trie-mutate-spec : {M : Type 1} → statement M
     (λ c. omega (arith, c .before .before .before .before .before .before .before .before .before .pre .1 .holds .cut .inside, c .before .before .before .before .before .before .before .before .before .pre .1 .holds .place .within, c .before .before .before .before .before .before .before .before .before .pre .1 .holds .change .sound .short))
     {- trie-mutate-requires -}
     (λ c κs. (omega (arith, c .before .before .before .before .before .before .before .before .before .pre .0), record { used = c .before .before .before .before .before .before .before .before .before .pre .1 .used; holds = spaces-mutation (c .before .before .before .before .before .before .before .before .before .pre .1 .holds) (placed-part _ _ (c .before .before .before .before .names-place .ensures)) (c .before .before .trie-held .ensures) }))
-    {- add-t29 -}
-    (λ c. omega (arith, c .before .before .before .before .kinds-of .ensures .0))
+    {- namespace-row-requires -}
+    (λ c κs. search needs)
     {- names-insert-requires -}
-    (λ c κs. spaces-any (c .before .before .before .before .before .before .before .before .before .before .before .before .before .pre .1 .holds) (placed-part _ _ (c .before .before .before .before .before .before .before .before .names-place .ensures)) (c .before .before .before .before .before .before .trie-held .ensures) (c .before .before .before .trie-mutate .ensures) (c .before .before .before .before .before .kinds-of .ensures))
+    (λ c κs. rw (c .before .namespace-row .ensures) (spaces-any (c .before .before .before .before .before .before .before .before .before .before .before .before .before .before .pre .1 .holds) (placed-part _ _ (c .before .before .before .before .before .before .before .before .before .names-place .ensures)) (c .before .before .before .before .before .before .before .trie-held .ensures) (c .before .before .before .before .trie-mutate .ensures) (c .before .before .before .before .before .before .kinds-of .ensures)))
     {- same-length -}
     (λ c. search needs)
     {- returns -}
-    (λ c used g. spaces-built g (placed-part _ _ (c .before .before .before .before .before .before .before .before .before .before .before .names-place .ensures)) (c .before .before .before .before .before .before .before .before .before .trie-held .ensures) (c .before .before .before .before .before .before .trie-mutate .ensures) (c .before .before .before .before .before .before .before .before .kinds-of .ensures) (c .before .before .names-insert .ensures .0) (c .before .before .names-insert .ensures .1)))
+    (λ c used g. spaces-built g (placed-part _ _ (c .before .before .before .before .before .before .before .before .before .before .before .before .names-place .ensures)) (c .before .before .before .before .before .before .before .before .before .before .trie-held .ensures) (c .before .before .before .before .before .before .before .trie-mutate .ensures) (c .before .before .before .before .before .before .before .before .before .kinds-of .ensures) (c .before .before .names-insert .ensures .0) (rw (c .before .before .before .before .namespace-row .ensures) at (c .before .before .names-insert .ensures .1))))
     (λ t. trie-mutate-lts.spec (mut-leaf-reads.Asked, mut-leaf-reads.Learnt, segment-in-reads.Asked, segment-in-reads.Learnt, trie-of-reads.Asked, trie-of-reads.Learnt, namespaces-mutate-below t, namespaces-mutate.Post, mut-node-reads.Asked, mut-node-reads.Learnt)
     (trie-mutate-at t)
     trie-mutate.Post

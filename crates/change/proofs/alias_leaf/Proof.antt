@@ -36,11 +36,13 @@ alias-leaf-spec =
     (λ c κs. alias-ready (c .before .before .before .before .before .before .before .before .before .before .before .before .before .before .pre .holds) (c .before .before .before .before .before .before .before .before .before .before .trie-of .ensures) (c .before .before .before .before .before .before .before .before .trie-of2 .ensures) (placed-part _ _ (c .before .names-place .ensures)))
     {- put-trie-requires -}
     (λ c κs. alias-fresh-ready (c .before .before .before .before .before .before .before .before .before .before .before .before .before .before .before .before .before .before .pre .holds) (c .before .before .before .before .before .before .before .before .before .before .before .before .before .before .trie-of .ensures) (c .before .before .before .before .before .before .before .before .before .before .before .before .trie-of2 .ensures) (placed-part _ _ (c .before .before .before .before .before .names-place .ensures)) (c .before .before .before .imported .ensures .0) (rw (c .before .before .before .before .before .before .before .before .before .before .before .label-of .ensures) at (c .before .before .before .imported .ensures .1)))
+    {- namespace-row-requires -}
+    (λ c κs. search needs)
     {- names-insert-requires -}
-    (λ c κs. record { which = names; level = ns; used = c .before .before .before .before .before .before .before .before .before .before .before .before .before .before .before .before .before .before .before .before .before .before .pre .used; insertion = alias-insertion (c .before .before .before .before .before .before .before .before .before .before .before .before .before .before .before .before .before .before .before .before .before .before .pre .holds) (c .before .before .before .before .before .before .before .before .before .before .before .before .before .before .before .before .before .before .trie-of .ensures) (c .before .before .before .before .before .before .before .before .before .before .before .before .before .before .before .before .trie-of2 .ensures) (placed-part _ _ (c .before .before .before .before .before .before .before .before .before .names-place .ensures)) (c .before .before .before .before .before .before .before .imported .ensures .0) (rw (c .before .before .before .before .before .before .before .before .before .before .before .before .before .before .before .label-of .ensures) at (c .before .before .before .before .before .before .before .imported .ensures .1)) (c .before .before .before .put-trie .ensures .0) (c .before .before .before .put-trie .ensures .1) })
+    (λ c κs. rw (c .before .namespace-row .ensures) (record { which = names; level = ns; used = c .before .before .before .before .before .before .before .before .before .before .before .before .before .before .before .before .before .before .before .before .before .before .before .pre .used; insertion = alias-insertion (c .before .before .before .before .before .before .before .before .before .before .before .before .before .before .before .before .before .before .before .before .before .before .before .pre .holds) (c .before .before .before .before .before .before .before .before .before .before .before .before .before .before .before .before .before .before .before .trie-of .ensures) (c .before .before .before .before .before .before .before .before .before .before .before .before .before .before .before .before .before .trie-of2 .ensures) (placed-part _ _ (c .before .before .before .before .before .before .before .before .before .before .names-place .ensures)) (c .before .before .before .before .before .before .before .before .imported .ensures .0) (rw (c .before .before .before .before .before .before .before .before .before .before .before .before .before .before .before .before .label-of .ensures) at (c .before .before .before .before .before .before .before .before .imported .ensures .1)) (c .before .before .before .before .put-trie .ensures .0) (c .before .before .before .before .put-trie .ensures .1) }))
     {- put-trie-requires-2 -}
-    (λ c κs. alias-trie-ready (c .before .before .before .before .before .before .before .before .before .before .before .before .before .before .before .before .before .before .before .before .before .before .before .before .before .before .pre .holds) (c .before .before .before .before .before .before .before .before .before .before .before .before .before .before .before .before .before .before .before .before .before .before .trie-of .ensures) (c .before .before .before .before .before .before .before .before .before .before .before .before .before .before .before .before .before .before .before .before .trie-of2 .ensures) (placed-part _ _ (c .before .before .before .before .before .before .before .before .before .before .before .before .before .names-place .ensures)) (c .before .before .before .before .before .before .before .before .before .before .before .imported .ensures .0) (rw (c .before .before .before .before .before .before .before .before .before .before .before .before .before .before .before .before .before .before .before .label-of .ensures) at (c .before .before .before .before .before .before .before .before .before .before .before .imported .ensures .1)) (c .before .before .before .before .before .before .before .put-trie .ensures .0) (c .before .before .before .before .before .before .before .put-trie .ensures .1) (c .before .before .before .names-insert .ensures .0) (c .before .before .before .names-insert .ensures .1))
+    (λ c κs. alias-trie-ready (c .before .before .before .before .before .before .before .before .before .before .before .before .before .before .before .before .before .before .before .before .before .before .before .before .before .before .before .pre .holds) (c .before .before .before .before .before .before .before .before .before .before .before .before .before .before .before .before .before .before .before .before .before .before .before .trie-of .ensures) (c .before .before .before .before .before .before .before .before .before .before .before .before .before .before .before .before .before .before .before .before .before .trie-of2 .ensures) (placed-part _ _ (c .before .before .before .before .before .before .before .before .before .before .before .before .before .before .names-place .ensures)) (c .before .before .before .before .before .before .before .before .before .before .before .before .imported .ensures .0) (rw (c .before .before .before .before .before .before .before .before .before .before .before .before .before .before .before .before .before .before .before .before .label-of .ensures) at (c .before .before .before .before .before .before .before .before .before .before .before .before .imported .ensures .1)) (c .before .before .before .before .before .before .before .before .put-trie .ensures .0) (c .before .before .before .before .before .before .before .before .put-trie .ensures .1) (c .before .before .before .names-insert .ensures .0) (rw (c .before .before .before .before .before .namespace-row .ensures) at (c .before .before .before .names-insert .ensures .1)))
     {- same-length -}
     (λ c. search needs)
     {- returns -}
-    (λ c used l. alias-built l (c .before .before .before .before .before .before .before .before .before .before .before .before .before .before .before .before .before .before .before .before .before .before .before .before .before .trie-of .ensures) (c .before .before .before .before .before .before .before .before .before .before .before .before .before .before .before .before .before .before .before .before .before .before .before .trie-of2 .ensures) (placed-part _ _ (c .before .before .before .before .before .before .before .before .before .before .before .before .before .before .before .before .names-place .ensures)) (c .before .before .before .before .before .before .before .before .before .before .before .before .before .before .imported .ensures .0) (rw (c .before .before .before .before .before .before .before .before .before .before .before .before .before .before .before .before .before .before .before .before .before .before .label-of .ensures) at (c .before .before .before .before .before .before .before .before .before .before .before .before .before .before .imported .ensures .1)) (c .before .before .before .before .before .before .before .before .before .before .put-trie .ensures .0) (c .before .before .before .before .before .before .before .before .before .before .put-trie .ensures .1) (c .before .before .before .before .before .before .names-insert .ensures .0) (c .before .before .before .before .before .before .names-insert .ensures .1) (c .before .before .put-trie2 .ensures .0) (c .before .before .put-trie2 .ensures .1)))
+    (λ c used l. alias-built l (c .before .before .before .before .before .before .before .before .before .before .before .before .before .before .before .before .before .before .before .before .before .before .before .before .before .before .trie-of .ensures) (c .before .before .before .before .before .before .before .before .before .before .before .before .before .before .before .before .before .before .before .before .before .before .before .before .trie-of2 .ensures) (placed-part _ _ (c .before .before .before .before .before .before .before .before .before .before .before .before .before .before .before .before .before .names-place .ensures)) (c .before .before .before .before .before .before .before .before .before .before .before .before .before .before .before .imported .ensures .0) (rw (c .before .before .before .before .before .before .before .before .before .before .before .before .before .before .before .before .before .before .before .before .before .before .before .label-of .ensures) at (c .before .before .before .before .before .before .before .before .before .before .before .before .before .before .before .imported .ensures .1)) (c .before .before .before .before .before .before .before .before .before .before .before .put-trie .ensures .0) (c .before .before .before .before .before .before .before .before .before .before .before .put-trie .ensures .1) (c .before .before .before .before .before .before .names-insert .ensures .0) (rw (c .before .before .before .before .before .before .before .before .namespace-row .ensures) at (c .before .before .before .before .before .before .names-insert .ensures .1)) (c .before .before .put-trie2 .ensures .0) (c .before .before .put-trie2 .ensures .1)))

@@ -28,11 +28,13 @@ insert-leaf-spec =
     (λ c. omega (arith, c .before .before .before .before .before .before .before .before .pre .holds .change .text .inside, c .before .before .before .before .before .before .before .before .pre .holds .change .sound .text-fits, c .before .before .before .before .before .before .before .before .pre .holds .change .sound .short))
     {- names-place-requires -}
     (λ c κs. record { which = names; level = bind; list = name-list (c .before .before .before .before .before .before .before .before .before .pre .holds) (c .before .before .before .before .before .trie-of .ensures) })
+    {- binding-row-requires -}
+    (λ c κs. search needs)
     {- names-insert-requires -}
-    (λ c κs. record { which = names; level = bind; used = c .before .before .before .before .before .before .before .before .before .before .before .pre .used; insertion = name-insertion (c .before .before .before .before .before .before .before .before .before .before .before .pre .holds) (c .before .before .before .before .before .before .before .trie-of .ensures) (placed-part _ _ (c .before .names-place .ensures)) })
+    (λ c κs. rw (c .before .binding-row .ensures) (record { which = names; level = bind; used = c .before .before .before .before .before .before .before .before .before .before .before .before .pre .used; insertion = name-insertion (c .before .before .before .before .before .before .before .before .before .before .before .before .pre .holds) (c .before .before .before .before .before .before .before .before .trie-of .ensures) (placed-part _ _ (c .before .before .names-place .ensures)) }))
     {- put-trie-requires -}
-    (λ c κs. name-trie-ready (c .before .before .before .before .before .before .before .before .before .before .before .before .before .before .before .pre .holds) (c .before .before .before .before .before .before .before .before .before .before .before .trie-of .ensures) (placed-part _ _ (c .before .before .before .before .before .names-place .ensures)) (c .before .before .before .names-insert .ensures .0) (c .before .before .before .names-insert .ensures .1))
+    (λ c κs. name-trie-ready (c .before .before .before .before .before .before .before .before .before .before .before .before .before .before .before .before .pre .holds) (c .before .before .before .before .before .before .before .before .before .before .before .before .trie-of .ensures) (placed-part _ _ (c .before .before .before .before .before .before .names-place .ensures)) (c .before .before .before .names-insert .ensures .0) (rw (c .before .before .before .before .before .binding-row .ensures) at (c .before .before .before .names-insert .ensures .1)))
     {- same-length -}
     (λ c. search needs)
     {- returns -}
-    (λ c used l. name-built l (c .before .before .before .before .before .before .before .before .before .before .before .before .before .before .trie-of .ensures) (placed-part _ _ (c .before .before .before .before .before .before .before .before .names-place .ensures)) (c .before .before .before .before .before .before .names-insert .ensures .0) (c .before .before .before .before .before .before .names-insert .ensures .1) (c .before .before .put-trie .ensures .0) (c .before .before .put-trie .ensures .1)))
+    (λ c used l. name-built l (c .before .before .before .before .before .before .before .before .before .before .before .before .before .before .before .trie-of .ensures) (placed-part _ _ (c .before .before .before .before .before .before .before .before .before .names-place .ensures)) (c .before .before .before .before .before .before .names-insert .ensures .0) (rw (c .before .before .before .before .before .before .before .before .binding-row .ensures) at (c .before .before .before .before .before .before .names-insert .ensures .1)) (c .before .before .put-trie .ensures .0) (c .before .before .put-trie .ensures .1)))

@@ -1,4 +1,5 @@
 -- symbol_row meets its contract.
+use mathlib.Core.Path.{_∙_}
 use borrow.Author.Needs.{needs}
 use Rattle.change.proofs.symbol_row.Statement.{statement}
 use Rattle.change.proofs.symbol_row.Tie as tie
@@ -7,13 +8,15 @@ pub symbol-row-spec : {M : Type 1} → statement M
 symbol-row-spec =
     tie.close
     (tie.spec
-    {- flag-of-requires -}
+    {- add-t9 -}
+    (λ c. search needs)
+    {- sub-t10 -}
+    (λ c. search needs)
+    {- symbol-row-requires -}
     (λ c κs. search needs)
-    {- add-size -}
-    (λ c. search needs)
-    {- sub-size -}
-    (λ c. search needs)
     {- returns -}
-    (λ c. rw (c .if1 .taken, c .before .flag-of .ensures))
+    (λ c. c .symbol-row .ensures ∙ rw (c .before .if1 .taken))
+    {- symbol-row-requires-2 -}
+    (λ c κs. search needs)
     {- returns-2 -}
-    (λ c. rw (c .if1 .left, c .before .flag-of .ensures)))
+    (λ c. c .symbol-row2 .ensures ∙ rw (c .before .if1 .left)))
