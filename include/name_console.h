@@ -42,7 +42,7 @@ enum name_console_answer {
   NAME_CONSOLE_FULL = 7,      /* more records needed than are free */
   NAME_CONSOLE_TEXT_FULL = 8, /* more text needed than is free */
   NAME_CONSOLE_SPENT = 9,     /* more tries to enter than the budget */
-  NAME_CONSOLE_NO_ROOM = 10   /* the lines, or their texts, do not fit the lent output (document 01's Lines) */
+  NAME_CONSOLE_NO_ROOM = 10   /* the lines, or their texts, do not fit the lent output (row 10, Lines) */
 };
 
 /* The answer of a look-up that finds nothing: no refusal has this number. */

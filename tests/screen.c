@@ -1,4 +1,4 @@
-/* The C calls from C: sizes and places of the header's structs, document 01's cases, each refusal by name, and what each call
+/* The C calls from C: sizes and places of the header's structs, the cases of docs/REQUIREMENTS.md, each refusal by name, and what each call
    leaves of the bytes. One line a check: ok or FAILED. */
 #include <stddef.h>
 #include <stdio.h>

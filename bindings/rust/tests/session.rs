@@ -1,4 +1,4 @@
-//! The example writes what document 01's cases say of these tables.
+//! The example writes what the cases of docs/REQUIREMENTS.md say of these tables.
 #[path = "../examples/session.rs"]
 mod example;
 

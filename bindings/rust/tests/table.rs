@@ -1,4 +1,4 @@
-//! Document 01's cases and refusals through the safe calls. Every expected number and text is that document's.
+//! The cases and refusals of docs/REQUIREMENTS.md through the safe calls. Every expected number and text stands there.
 use name_console::{Filter, Opened, Output, Refusal, Symbol, Table};
 
 /// Table T.

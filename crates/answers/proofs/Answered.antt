@@ -11,7 +11,7 @@ use Rattle.text.specs.Laid.{Laid}
 use Rattle.script.specs.Script.{Str, Command, name, import, alias, module-path, ask, Reads}
 use Rattle.script.specs.declared.Import.{Import}
 use Rattle.script.specs.declared.Ask.{Ask}
-use Rattle.script.proofs.Once.{reads-once}
+use Rattle.script.proofs.ReadsOnce.{reads-once}
 use Rattle.replies.specs.Replies.{bad-reply}
 use Rattle.table.specs.Header.{IsSound, state, lent, table-in}
 use Rattle.table.specs.Registrations.{Unchanged}

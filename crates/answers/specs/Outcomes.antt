@@ -1,4 +1,4 @@
--- What the program `console` replies to a line and what table it leaves, from the source's functions and document 01's replies.
+-- What the program `console` replies to a line and what table it leaves, from the source's functions and the requirements' replies.
 use mathlib.Core.Path.{_≡_}
 use mathlib.Core.Bool.{true}
 use mathlib.Core.List.{List, [], _∷_}

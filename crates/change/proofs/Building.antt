@@ -19,8 +19,8 @@ use Rattle.memory.specs.Sound.{LinkOk, TextOk, Used, At}
 use Rattle.names.specs.Names.{NamesPlaced}
 use Rattle.names.specs.Made.{Room, Made, MadeTrie}
 use Rattle.names.specs.Insert.{NamesInsertion, NamesInserts}
-use Rattle.names.proofs.Making.{made-none, made-as, made-then, made-room, made-link, made-what, trie-shallow}
-use Rattle.names.proofs.Inserting.{insertion-after}
+use Rattle.names.proofs.Made.{made-none, made-as, made-then, made-room, made-link, made-what, trie-shallow}
+use Rattle.names.proofs.NamesInsertion.{insertion-after}
 use Rattle.change.specs.Changes.{Builds}
 
 -- ---- One after another

@@ -21,7 +21,7 @@ use Rattle.memory.proofs.Seen.{link-later}
 use Rattle.names.specs.Names.{NamesPlaced}
 use Rattle.names.specs.Made.{Made}
 use Rattle.names.specs.Insert.{NamesInsertion, AnyNamesInsertion, NamesInserts}
-use Rattle.names.proofs.Making.{made-then, made-what, made-link, made-room}
+use Rattle.names.proofs.Made.{made-then, made-what, made-link, made-room}
 use Rattle.kinds.specs.Shapes.{shape-of}
 use Rattle.kinds.specs.declared.Form.{Form}
 use Rattle.kinds.specs.declared.Form.the-variants as form

@@ -15,12 +15,12 @@ use Rattle.memory.specs.Stored.{weight-in, depth-in}
 use Rattle.memory.specs.Read.{ReadTrie}
 use Rattle.memory.specs.declared.Trie as M
 use Rattle.memory.specs.declared.Span.{Span}
-use Rattle.memory.proofs.Readings.{what-none}
+use Rattle.memory.proofs.What.{what-none}
 use Rattle.names.specs.Names.{NamesPlaced}
 use Rattle.names.specs.Made.{Room, MadeTrie, MadeImported}
 use Rattle.names.specs.Insert.{NamesInsertion, NamesInserts}
-use Rattle.names.proofs.Making.{made-none, made-as, imported-light}
-use Rattle.names.proofs.Inserting.{insertion-after}
+use Rattle.names.proofs.Made.{made-none, made-as, imported-light}
+use Rattle.names.proofs.NamesInsertion.{insertion-after}
 use Rattle.kinds.specs.declared.Kind.{Kind}
 use Rattle.kinds.specs.declared.Kind.the-variants.{Name, Include, Open, Alias, Module}
 use Rattle.change.specs.declared.Change.{Change}

@@ -30,11 +30,11 @@ use Rattle.change.specs.declared.Change.{Change}
 use Rattle.names.specs.Names.{NamesPlaced}
 use Rattle.names.specs.Made.{Room, MadeTrie}
 use Rattle.names.specs.Insert.{NamesInsertion, AnyNamesInsertion, NamesInserts}
-use Rattle.names.proofs.Making.{made-none}
-use Rattle.names.proofs.Inserting.{insertion-after}
+use Rattle.names.proofs.Made.{made-none}
+use Rattle.names.proofs.NamesInsertion.{insertion-after}
 use Rattle.lookup.specs.Tries.{NsInserts}
 use Rattle.change.specs.Changes.{between, passed, which-of, Kinds, bindings-by, node-of, symbol-row, Some, Bindings, Node, Builds, BindingsBuilt}
-use Rattle.lookup.proofs.Lookups.{some-left}
+use Rattle.lookup.proofs.Found.{some-left}
 use Rattle.change.proofs.Between.{span-length, place-next, key-in, full-name-is, full-name-in}
 use Rattle.memory.proofs.Tries.{Lists, lists-in}
 use Rattle.change.proofs.Building.{builds-none, builds-insert, placed-light, placed-count, bindings-ready, bindings-built}

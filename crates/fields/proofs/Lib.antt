@@ -1,3 +1,3 @@
 pub mod Noted
-pub mod Spans
-pub mod Spines
+pub mod TextOk
+pub mod Far

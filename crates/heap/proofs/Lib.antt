@@ -1,7 +1,7 @@
 pub mod Compare
-pub mod Kept
-pub mod Merging
-pub mod Pairing
-pub mod Popping
-pub mod Mapped
-pub mod Standing
+pub mod Cells
+pub mod HeapMerge
+pub mod HeapMergePairs
+pub mod HeapPop
+pub mod HeapMap
+pub mod Rep

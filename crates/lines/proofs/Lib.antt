@@ -2,8 +2,8 @@ pub mod Goes
 pub mod Run
 pub mod Counting
 pub mod Texts
-mod Kept
+mod KeptLine
 mod Notes
-mod Given
+mod TextAt
 mod Lines
 mod Listed

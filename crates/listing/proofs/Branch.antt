@@ -12,7 +12,7 @@ use Rattle.source.specs.Trees.{PathElem}
 use Rattle.source.specs.Terms.{depth}
 use Rattle.memory.specs.Layout.{record-at, trie-link, Which, Item, tree, trieˢ, kind, what}
 use Rattle.memory.specs.Sound.{LinkOk, At}
-use Rattle.memory.proofs.Records.{record-as}
+use Rattle.memory.proofs.RecordOk.{record-as}
 use Rattle.memory.proofs.Seen.{link-ok, link-later}
 use Rattle.tree.specs.Tree.{held}
 use Rattle.tree.specs.Links.{row-at}

@@ -2,7 +2,7 @@ pub mod Gives
 pub mod Runs
 pub mod PathDown
 pub mod Cuts
-pub mod Left
+pub mod EntriesRun
 pub mod Branch
 pub mod Loops
 pub mod Trie

@@ -25,7 +25,7 @@ use Rattle.tree.specs.Tree.{held, AnyTree}
 use Rattle.tree.specs.Links.{matches, head0, row-at}
 use Rattle.tree.proofs.Branches.{any-tree}
 use Rattle.tree.proofs.Matches.{MatchOf, matches-of, matches-increasing, after-first}
-use Rattle.tree.proofs.Kept.{all-append}
+use Rattle.tree.proofs.Keep.{all-append}
 use Rattle.matches.specs.Notes.{Noted, Matched}
 use Rattle.matches.specs.declared.Next.{Next}
 use Rattle.names.specs.Names.{AnyList}
@@ -34,7 +34,7 @@ use Rattle.names.specs.Entries.{LabelOk}
 use Rattle.merge.specs.Stream as M
 use Rattle.merge.specs.Stream.{Merge, Step, later, left-in, AnyRest, Starts, Gives, OneTree}
 use Rattle.merge.proofs.Cells.{later-end, later-next}
-use Rattle.merge.proofs.Given.{rest-any, gives-end, gives-more}
+use Rattle.merge.proofs.Rest.{rest-any, gives-end, gives-more}
 use Rattle.lines.specs.Output.{Tally}
 use Rattle.lines.specs.Ask.{asked}
 use Rattle.lines.specs.Path.{Path, BranchAt, LabelAt}
@@ -47,7 +47,7 @@ use Rattle.listing.specs.Runs.{HasRoom, level-of, tree-entries, BranchRe
 use Rattle.listing.specs.declared.Place.{Place}
 use Rattle.listing.proofs.PathDown.{branch-tree}
 use Rattle.listing.proofs.Runs.{branch-ready-at, branch-runs-at}
-use Rattle.listing.proofs.Left.{Left, left-all, left-none, left-spent, left-next}
+use Rattle.listing.proofs.EntriesRun.{Left, left-all, left-none, left-spent, left-next}
 use Rattle.memory.proofs.At.{no-link, at-of}
 
 all-reverse : {A : Type 0} (P : A → Type 0) (l : List A) → Allˡ P l → Allˡ P (reverse l)

@@ -19,7 +19,7 @@ use Rattle.source.specs.Table.{first-import-of-path}
 use Rattle.source.specs.Forward.{base}
 use Rattle.source.proofs.Paths.{first-import-one, first-import-more}
 use Rattle.memory.specs.Layout.{record-at, text-len, span, pick, Which, Item, key-at, tree, text-start}
-use Rattle.memory.proofs.Parts.{span-length}
+use Rattle.memory.proofs.Pasted.{span-length}
 use Rattle.memory.proofs.Seen.{link-fits}
 use Rattle.tree.specs.Links.{row-at}
 use Rattle.tree.proofs.Branches.{branch-right, any-tree, key-inside}

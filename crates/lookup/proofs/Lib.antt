@@ -1,4 +1,4 @@
 pub mod Links
-pub mod Lookups
+pub mod Found
 pub mod Symbols
 pub mod Roots

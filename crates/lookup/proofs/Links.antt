@@ -13,9 +13,9 @@ use Rattle.memory.specs.Stored.{trie-in}
 use Rattle.memory.specs.Sound.{LinkOk, At}
 use Rattle.memory.specs.Read.{ReadTrie}
 use Rattle.memory.specs.declared.Trie.{Trie}
-use Rattle.memory.proofs.Readings.{what-none}
-use Rattle.memory.proofs.Records.{zero-some, record-as}
-use Rattle.memory.proofs.Sizes.{stored-none, stored-some}
+use Rattle.memory.proofs.What.{what-none}
+use Rattle.memory.proofs.RecordOk.{zero-some, record-as}
+use Rattle.memory.proofs.Stored.{stored-none, stored-some}
 use Rattle.memory.proofs.Seen.{link-fits, link-ok, link-later}
 use Rattle.tree.specs.Tree.{held}
 use Rattle.names.specs.Names.{AnyList, HolderIn, Holder}

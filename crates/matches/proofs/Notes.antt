@@ -18,10 +18,10 @@ use Rattle.memory.specs.Layout.{record-at, tree, what, key-at, left-link, right
 use Rattle.tree.specs.Tree.{AnyTree}
 use Rattle.tree.specs.Links.{branches, keep, matches, past, past-by, head0}
 use Rattle.tree.proofs.Branches.{branch-reads, branch-ordered, left-tree, right-tree, any-left, any-right}
-use Rattle.tree.proofs.Kept.{keep-append, keep-none}
+use Rattle.tree.proofs.Keep.{keep-append, keep-none}
 use Rattle.tree.proofs.Links.{branches-at, branches-keys}
 use Rattle.tree.proofs.Matches.{matches-none, starts-self}
-use Rattle.tree.proofs.Seeking.{by-order}
+use Rattle.tree.proofs.Wanted.{by-order}
 use Rattle.matches.specs.Notes.{to-come, Noted, NotedAt, Descends, TopTaken, Pops, Matched}
 use Rattle.matches.specs.declared.Next.{Next}
 

@@ -1,4 +1,4 @@
--- Cases 1 and 10 of document 01, as records: the last link reads as the table that the source makes.
+-- Cases 1 and 10 of the requirements, as records: the last link reads as the table that the source makes.
 use mathlib.Core.Path.{_≡_, refl}
 use mathlib.Core.Bool.{false}
 use mathlib.Core.List.{List, [], _∷_, _++_}

@@ -1,15 +1,15 @@
 pub mod Says
-pub mod Parts
-pub mod Readings
-pub mod Records
-pub mod Sizes
-pub mod Making
-pub mod Growing
-pub mod Keeping
-pub mod Given
+pub mod Pasted
+pub mod What
+pub mod RecordOk
+pub mod Stored
+pub mod RecordAs
+pub mod Stays
+pub mod Keeps
+pub mod SoundTable
 mod Examples
-pub mod Rows
-pub mod Putting
+pub mod RecordAt
+pub mod Put
 pub mod Seen
 pub mod At
 pub mod Tries

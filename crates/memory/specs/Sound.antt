@@ -1,4 +1,4 @@
--- Sound, as document 01 has it: what the used records, their texts and the two roots must be, and nothing else.
+-- Sound, as the requirements have it: what the used records, their texts and the two roots must be, and nothing else.
 use Prim.Native.Nat.{ℕ, _+_, _*_, _≤_, _<_}
 use mathlib.Core.Path.{_≡_}
 use mathlib.Core.Bool.{Bool, true, false}

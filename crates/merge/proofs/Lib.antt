@@ -1,7 +1,7 @@
 pub mod Cells
-pub mod Taking
-pub mod Stepping
-pub mod Collecting
-pub mod Starting
+pub mod Takes
+pub mod Steps
+pub mod Collected
+pub mod Starts
 pub mod OneTree
-pub mod Given
+pub mod Rest

@@ -14,14 +14,14 @@ use Rattle.source.specs.Forward.{flat-in}
 use Rattle.source.specs.Forward.{found}
 use Rattle.source.proofs.Found.{match-lists, found-empty, found-one}
 use Rattle.memory.specs.Layout.{record-at, Which, Item, list, what, tree, own-link, rest-link, sort-word}
-use Rattle.memory.proofs.Readings.{what-none}
+use Rattle.memory.proofs.What.{what-none}
 use Rattle.memory.proofs.Seen.{link-later}
 use Rattle.tree.specs.Links.{matches, row-at}
 use Rattle.names.proofs.Collections.{collection-right, sort-tree, names-reads}
 use Rattle.names.specs.Entries.{shown, outer, Asks}
 use Rattle.merge.specs.Lists.{SingleIn, Single}
 use Rattle.merge.specs.Stream.{OneTree}
-use Rattle.merge.proofs.Collecting.{term-rows}
+use Rattle.merge.proofs.Collected.{term-rows}
 use Rattle.memory.specs.Sound.{At}
 use Rattle.memory.proofs.At.{no-link, at-of}
 

@@ -9,9 +9,9 @@ use Rattle.source.specs.Plans.{first-tree}
 use Rattle.memory.specs.Layout.{record-at, span, Which, tree, list, what, own-link, rest-link, sort-word, text-len, text-start}
 use Rattle.memory.specs.Sound.{CollectionOk, At}
 use Rattle.memory.specs.Stored.{weight-in}
-use Rattle.memory.proofs.Readings.{what-none}
-use Rattle.memory.proofs.Records.{zero-one, zero-some, collection-at, weight-at}
-use Rattle.memory.proofs.Sizes.{stored-none, stored-weight}
+use Rattle.memory.proofs.What.{what-none}
+use Rattle.memory.proofs.RecordOk.{zero-one, zero-some, collection-at, weight-at}
+use Rattle.memory.proofs.Stored.{stored-none, stored-weight}
 use Rattle.memory.proofs.Seen.{link-ok, link-what, link-later}
 use Rattle.tree.specs.Tree.{AnyTree}
 use Rattle.tree.proofs.Branches.{any-tree}

@@ -1,5 +1,5 @@
 pub mod Collections
-pub mod Finding
-pub mod Placing
-pub mod Making
-pub mod Inserting
+pub mod Holder
+pub mod NamesPlaced
+pub mod Made
+pub mod NamesInsertion

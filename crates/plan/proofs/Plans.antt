@@ -31,7 +31,7 @@ use Rattle.plan.specs.Plans.{StepIn, Stepped, Steps, Path, Inserted, Pla
 use Rattle.text.proofs.Texts.{part-is}
 use Rattle.text.specs.Text.{Segment}
 use Rattle.text.proofs.Segments.{segments-end}
-use Rattle.lookup.proofs.Lookups.{Stands, stands-next, stands-last, some-left}
+use Rattle.lookup.proofs.Found.{Stands, stands-next, stands-last, some-left}
 use Rattle.memory.proofs.Tries.{bindings-at, namespaces-at, bindings-read, namespaces-read, lists-seen}
 use Rattle.lookup.proofs.Links.{scope-up, holder-scope}
 use Rattle.memory.specs.Sound.{At}

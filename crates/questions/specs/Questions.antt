@@ -1,4 +1,4 @@
--- What a look-up and a completion reply, from the source's functions and document 01's replies.
+-- What a look-up and a completion reply, from the source's functions and the requirements' replies.
 use Prim.Native.Nat.{ℕ}
 use mathlib.Core.Bool.{true}
 use mathlib.Core.List.{List, [], _∷_}
@@ -15,7 +15,7 @@ use Rattle.replies.specs.declared.ItemReply.{ItemReply}
 use Rattle.replies.specs.declared.ItemReply.the-variants.{Number, Module, Namespace}
 use Rattle.replies.specs.Replies.{found-reply, none-reply, refused-reply, line-reply, end-reply}
 
--- Document 01's budget of a completion.
+-- The requirements' budget of a completion.
 abbrev pub budget : ℕ
 budget = 4096
 

@@ -1,4 +1,4 @@
-// The refusals of document 01: their numbers, and the conditions of rows 2 to 8.
+// The refusals of the requirements: their numbers, and the conditions of rows 2 to 8.
 use text::Rule;
 ghost use mathlib.Core.Path.{_≡_};
 ghost use Rattle.source.specs.Calls.{a-query, a-name, a-path, a-look-up, a-completion, lowest, free};
@@ -14,7 +14,7 @@ pub const PATH: usize = 120;
 // The most bytes of an id or key.
 pub const NAME: usize = 31;
 
-// The refusals of document 01.
+// The refusals of the requirements.
 pub enum Refusal {
     Unsound,
     Malformed,

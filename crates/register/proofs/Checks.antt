@@ -12,7 +12,7 @@ use Rattle.source.specs.Calls.{Argument, a-query, a-name, any, malformed, lowes
 use Rattle.source.specs.Shared.{Allˡ}
 use Rattle.source.specs.Queries.{IsQuery, Keeps}
 use Rattle.source.proofs.Queries.{or-parts, query-to-string-label, string-is}
-use Rattle.source.proofs.Kept.{admitted-keeps}
+use Rattle.source.proofs.Keeps.{admitted-keeps}
 use Rattle.source.proofs.Refusals.{Admitted}
 use Rattle.source.proofs.PlannedDepth.{deep-planned}
 use Rattle.source.proofs.PlannedWeight.{crowded-planned}

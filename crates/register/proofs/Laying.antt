@@ -7,7 +7,7 @@ use lib.ListN.{length, take, drop}
 use lib.Seq.{take-take, drop-drop, drop-paste}
 use Rattle.source.specs.Text.{Str}
 use Rattle.memory.specs.Grown.{Keeps, put-text}
-use Rattle.memory.proofs.Keeping.{put-text-keeps, put-text-span, span-keeps}
+use Rattle.memory.proofs.Keeps.{put-text-keeps, put-text-span, span-keeps}
 use Rattle.register.specs.Writes.{Laid}
 
 keeps-then : {m n : ℕ} {t t′ t″ : List ℕ} → m ≤ n → Keeps m t t′ → Keeps n t′ t″ → Keeps m t t″

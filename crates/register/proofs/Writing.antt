@@ -17,9 +17,9 @@ use Rattle.memory.specs.Layout.{Which, names, modules, Item, trieˢ, Reading, w
 use Rattle.memory.specs.Sound.{Sound}
 use Rattle.memory.specs.Grown.{Keeps}
 use Rattle.memory.specs.declared.Header.{Header}
-use Rattle.memory.proofs.Keeping.{what-keeps, table-keeps, used-text}
+use Rattle.memory.proofs.Keeps.{what-keeps, table-keeps, used-text}
 use Rattle.names.specs.Made.{Room}
-use Rattle.names.proofs.Making.{made-what, made-link}
+use Rattle.names.proofs.Made.{made-what, made-link}
 use Rattle.kinds.specs.Shapes.{shape-of, call-of}
 use Rattle.kinds.specs.declared.Kind.{Kind}
 use Rattle.kinds.specs.declared.Form.{Form}

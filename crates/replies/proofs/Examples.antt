@@ -1,4 +1,4 @@
--- Lines as they are spelled, and replies: the session of document 01 and a few more.
+-- Lines as they are spelled, and replies: the session of the requirements and a few more.
 use mathlib.Core.Path.{_≡_, refl}
 use mathlib.Core.Bool.{true}
 use native.Mathlib.Omega.{arith}

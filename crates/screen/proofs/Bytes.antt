@@ -14,7 +14,7 @@ use lib.Seq.{ext-getD, getD-set-same, getD-set-other, getD-take, getD-at, take-s
 use Rattle.table.specs.Registrations.{Outside}
 use Rattle.screen.specs.Bytes.{word-at, words-at, Put, Stored}
 use Rattle.screen.specs.Memory.{header-in, Spells}
-use Rattle.screen.proofs.Outsides.{outside-none, outside-set, outside-then, outside-wider, getD-before, getD-after}
+use Rattle.screen.proofs.Outside.{outside-none, outside-set, outside-then, outside-wider, getD-before, getD-after}
 
 -- ---- One word
 

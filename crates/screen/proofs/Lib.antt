@@ -1,8 +1,8 @@
-pub mod Outsides
+pub mod Outside
 pub mod Bytes
-pub mod Lent
-pub mod Replying
-pub mod Looking
-pub mod Completing
-pub mod Kept
+pub mod Held
+pub mod Replies
+pub mod RepliesModule
+pub mod RepliesLines
+pub mod SoundBytes
 mod Examples

@@ -24,7 +24,7 @@ records-lent size = min (size / 48) 1024
 unfoldable pub words-in : List ℕ → List ℕ
 words-in bs = words-at bs (records-lent (length bs) * 12)
 
--- The lent bytes are a sound table: a state of sixteen bytes, and the memory of document 01.
+-- The lent bytes are a sound table: a state of sixteen bytes, and the memory of the requirements.
 pub record SoundBytes (st bs txt : List ℕ) : Type 0 where
   pub size : length st ≡ 16
   pub sound : IsSound (words-in bs) txt (header-in st)

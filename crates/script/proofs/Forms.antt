@@ -19,7 +19,7 @@ use Rattle.script.specs.declared.Pair.the-variants.{At as AtPair}
 use Rattle.script.specs.declared.Tail.the-variants.{At as AtTail}
 use Rattle.script.specs.Script.{Str, _·_, bytes, key, Command, name, import, alias, module-path, ask, NameLine, ImportLine, AliasLine, ModuleLine, AskLine, Spelled, Reads, Parsed}
 use Rattle.script.specs.Parts.{cut, key-of, Only, WordAt, Piece, PieceAt, IdEnd, IdSays, PairEnd, PairSays, LastAt, QueryEnd, QueryAt}
-use Rattle.script.proofs.Ends.{part-found, rest-found, cut-length, stops-query, stops-word}
+use Rattle.script.proofs.LineEnd.{part-found, rest-found, cut-length, stops-query, stops-word}
 
 -- The command's form.
 abbrev command-key : Command → Key

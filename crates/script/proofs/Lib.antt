@@ -1,4 +1,4 @@
 pub mod Runs
-pub mod Ends
+pub mod LineEnd
 pub mod Forms
-pub mod Once
+pub mod ReadsOnce

@@ -1,4 +1,4 @@
--- The script's lines as document 01 spells them, and what `parse` and `line_end` answer.
+-- The script's lines as the requirements spell them, and what `parse` and `line_end` answer.
 use mathlib.Core.Path.{_≡_}
 use mathlib.Core.Bool.{Bool, true, false, not, _&&_}
 use mathlib.Core.List.{List, [], _∷_, _++_}

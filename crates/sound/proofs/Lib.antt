@@ -1,2 +1,2 @@
-mod Answers
+mod Tests
 mod Notes

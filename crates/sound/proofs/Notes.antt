@@ -5,7 +5,7 @@ use mathlib.Core.List.{List}
 use native.Mathlib.Omega.{arith}
 use lib.ListN.{length}
 use Rattle.memory.specs.Sound.{RecordOk}
-use Rattle.memory.proofs.Records.{links-earlier}
+use Rattle.memory.proofs.RecordOk.{links-earlier}
 use Rattle.sound.specs.Tests.{Notes, CanNote, NotesOn}
 
 pub notes-start : {ws least greatest : List ℕ} → NotesOn ws 1 least greatest least greatest

@@ -1,4 +1,4 @@
--- The bytes that document 01 allows, one by one: of names, of queries, labels and full names, of file paths.
+-- The bytes that the requirements allows, one by one: of names, of queries, labels and full names, of file paths.
 use Prim.Native.Nat.{ℕ, zero, suc, _<_}
 use mathlib.Core.Path.{_≡_, refl}
 use mathlib.Core.Bool.{Bool, true, false, cond}

@@ -1,4 +1,4 @@
--- The ten starred cases of document 01, through what the calls hand back: `starred-cases`, by computation.
+-- The ten starred cases of the requirements, through what the calls hand back: `starred-cases`, by computation.
 use Prim.Native.Nat.{ℕ, zero, suc}
 use Prim.Native.String as S
 use mathlib.Core.Path.{_≡_, refl}
@@ -130,7 +130,7 @@ starred-cases = record {
   case-10 = (refl, refl);
 }
 
--- The other cases of document 01.
+-- The other cases of the requirements.
 pub record OtherCases : Type 0 where
   pub case-11 : (records-of (then-call (accepted fresh) (name (bytes "") (repeated 31 "x") 5)) ≡ some 3)
       × (then-call (accepted fresh) (name (bytes "") (repeated 32 "x") 5) ≡ refused 4)

@@ -20,7 +20,7 @@ pub mod ListedTexts
 pub mod Queries
 pub mod Refusals
 pub mod Elsewhere
-pub mod Kept
+pub mod Keeps
 pub mod Modules
 pub mod Hosts
 pub mod Planning

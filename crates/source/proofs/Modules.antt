@@ -9,7 +9,7 @@ use Rattle.source.specs.Shared.{Allˡ}
 use Rattle.source.specs.Rules.{Formed, FormedTree, FormedNames}
 use Rattle.source.specs.Calls.{State, Call, name, include, opens, alias, module-path, fresh, registered, after}
 use Rattle.source.proofs.Refusals.{accepted-is}
-use Rattle.source.proofs.Kept.{Made, made-fresh, made-by, bindings-formed, names-insert-formed, trie-mutate-formed}
+use Rattle.source.proofs.Keeps.{Made, made-fresh, made-by, bindings-formed, names-insert-formed, trie-mutate-formed}
 
 -- Any key and item, and no label.
 abbrev Any : {B : Type 0} → B → Type 0

@@ -16,7 +16,7 @@ use Rattle.source.specs.Agreement.{Covers, without-last, NotRefused, lin
 use Rattle.source.specs.Plans.{host-of}
 use Rattle.source.proofs.Elsewhere.{Pick, Picks, walk, first-pick, last-pick, first-picks, last-picks, first-walk, last-walk, leaf-elsewhere}
 use Rattle.source.proofs.Refusals.{accepted-is}
-use Rattle.source.proofs.Kept.{accepted-sound}
+use Rattle.source.proofs.Keeps.{accepted-sound}
 use Rattle.source.proofs.Agreement.{agreement}
 
 -- The full names whose look-up or line a call may change: its own name; the names right at the host; those below a namespace of the host; those below the key.
@@ -119,7 +119,7 @@ pub name-unchanged : (sound : Bool) (lent : Lent) (s s′ : State) (host id : St
     → look-up true (s′ .table .tbl-lids) query ≡ look-up true (s .table .tbl-lids) query
 name-unchanged sound lent s s′ host id number query e d = look-up-unchanged sound lent s s′ (name host id number) e query d
 
--- ---- the customer's point C
+-- ---- an include copies
 
 -- A call that leaves the names right at a host alone: its own host is another.
 -- An open of a namespace must not stand above the host, and an alias must not put its key on the host's path: those change what the path leads to.

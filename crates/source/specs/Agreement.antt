@@ -1,4 +1,4 @@
--- Demand 3 of the customer's E: what the pane lists and what look-up takes.
+-- Demand 3: what the pane lists and what look-up takes.
 use Prim.Native.Nat.{ℕ, _-_, _≤_}
 use mathlib.Core.Path.{_≡_}
 use mathlib.Core.Logic.{_↔_}

@@ -1,4 +1,4 @@
--- Document 01's calls: what each is given, when it is refused, and what it hands back.
+-- The requirements' calls: what each is given, when it is refused, and what it hands back.
 use Prim.Native.Nat.{ℕ, _+_, _-_, _/_, min, max}
 use mathlib.Core.Bool.{Bool, true, false, not, _||_}
 use mathlib.Core.List.{List, [], _∷_, _++_}

@@ -1,4 +1,4 @@
--- What document 01 counts, over the source's own expressions: a counted form of each function that builds records, and of the listing.
+-- What the requirements count, over the source's own expressions: a counted form of each function that builds records, and of the listing.
 -- proofs/Counted.antt: the value of each counted form is the plain function's.
 use Prim.Native.Nat.{ℕ, zero, suc, _+_, Ordering·lt, Ordering·eq, Ordering·gt}
 use mathlib.Core.Bool.{Bool, true, false}

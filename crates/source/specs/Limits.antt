@@ -1,4 +1,4 @@
--- The numbers of document 01, each named once.
+-- The numbers of the requirements, each named once.
 use Prim.Native.Nat.{ℕ}
 
 -- Row 4: bytes of a name or segment, segments of a query, bytes of a file path.

@@ -1,4 +1,4 @@
--- Document 01's terms of lists and tries: flattening, holder, weight, depth, the two walks.
+-- The requirements' terms of lists and tries: flattening, holder, weight, depth, the two walks.
 use Prim.Native.Nat.{ℕ, suc, _+_, max}
 use mathlib.Core.List.{List, [], _∷_, _++_}
 use mathlib.Core.Option.{Option, none, some}

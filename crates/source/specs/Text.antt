@@ -1,4 +1,4 @@
--- Text, as document 01 settles it: bytes, comparison, prefix, queries and the byte rules.
+-- Text, as the requirements settle it: bytes, comparison, prefix, queries and the byte rules.
 use Prim.Native.Nat.{ℕ, compare, Ordering, Ordering·lt, Ordering·eq, Ordering·gt}
 use mathlib.Core.Bool.{Bool, true, false, _&&_, _||_, not}
 use mathlib.Core.List.{List, [], _∷_, _++_}

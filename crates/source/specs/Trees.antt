@@ -1,4 +1,4 @@
--- Binary trees, as in the source, without the functions that document 01 leaves out.
+-- Binary trees, as in the source, without the functions that the requirements leave out.
 use Prim.Native.Nat.{Ordering·lt, Ordering·eq, Ordering·gt}
 use mathlib.Core.Bool.{cond, _||_}
 use mathlib.Core.List.{List, [], _∷_}

@@ -1,1 +1,1 @@
-// No code: specs/ has the definitions of the source and of document 01, proofs/ the theorems about them.
+// No code: specs/ has the definitions of the source and of the requirements, proofs/ the theorems about them.

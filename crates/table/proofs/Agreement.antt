@@ -13,7 +13,7 @@ use Rattle.source.specs.Agreement.{Covers, NotRefused, Agreement}
 use Rattle.source.proofs.Agreement.{agreement}
 use Rattle.memory.specs.Layout.{names, modules, Item}
 use Rattle.memory.specs.Sound.{Says}
-use Rattle.memory.proofs.Given.{sound-table}
+use Rattle.memory.proofs.SoundTable.{sound-table}
 use Rattle.lines.specs.Ask.{asked}
 use Rattle.lines.specs.declared.Ask.{Ask}
 use Rattle.lines.specs.declared.Ask.the-variants.{Names, Modules}

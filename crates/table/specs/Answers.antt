@@ -1,4 +1,4 @@
--- What the answers stand for: document 01's numbers and values.
+-- What the answers stand for: the requirements' numbers and values.
 use Prim.Native.Nat.{ℕ, _+_, _*_, _≤_, _<_}
 use mathlib.Core.Path.{_≡_}
 use mathlib.Core.Bool.{true}

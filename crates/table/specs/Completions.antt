@@ -25,7 +25,7 @@ use Rattle.refusals.specs.declared.Refusal.the-variants.{Spent, Lines}
 use Rattle.table.specs.declared.Completed.{Completed}
 use Rattle.table.specs.declared.Completed.the-variants.{Listed, Refused}
 
--- Document 01's answer to what is asked.
+-- The requirements' answer to what is asked.
 abbrev pub completion : (sound : Bool) → S.Table → (ask : Ask) → (budget : ℕ) → Output → Str → C.Completed (Item (asked ask))
 completion sound tbl Names budget out query = complete sound tbl budget out query
 completion sound tbl (Modules f) budget out query = complete-modules sound tbl (filter-in f) budget out query

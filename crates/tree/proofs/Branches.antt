@@ -9,7 +9,7 @@ use Rattle.source.specs.Rules.{Ordered}
 use Rattle.memory.specs.Layout.{record-at, span, Which, tree, what, key-at, left-link, right-link, text-len, text-start}
 use Rattle.memory.specs.Read.{TextIn}
 use Rattle.memory.specs.Sound.{BranchOk, At}
-use Rattle.memory.proofs.Records.{links-earlier, branch-at, ordered-at}
+use Rattle.memory.proofs.RecordOk.{links-earlier, branch-at, ordered-at}
 use Rattle.memory.proofs.Seen.{link-fits, link-ok, link-what}
 use Rattle.text.proofs.Texts.{part-is}
 use Rattle.tree.specs.Tree.{held, AnyTree}

@@ -1,10 +1,10 @@
 pub mod Branches
-pub mod Searches
-pub mod Kept
+pub mod Placed
+pub mod Keep
 pub mod Links
-pub mod Seeking
+pub mod Wanted
 pub mod Matches
-pub mod Changes
-pub mod Marking
-pub mod Sided
-pub mod Rising
+pub mod Changed
+pub mod Marked
+pub mod WithSides
+pub mod Inserted

@@ -15,12 +15,12 @@ use Rattle.source.specs.Shared.{Allˡ}
 use Rattle.source.proofs.Lookup.{Allˡ-map}
 use Rattle.memory.specs.Layout.{record-at, Which, Item, tree, what, key-at, left-link, right-link}
 use Rattle.memory.specs.Sound.{At}
-use Rattle.memory.proofs.Readings.{what-none}
-use Rattle.memory.proofs.Records.{zero-some}
+use Rattle.memory.proofs.What.{what-none}
+use Rattle.memory.proofs.RecordOk.{zero-some}
 use Rattle.memory.proofs.Seen.{link-later}
 use Rattle.tree.specs.Links.{branches-among, branches, row-at}
 use Rattle.tree.proofs.Branches.{branch-right, branch-ordered, branch-reads, left-tree, right-tree}
-use Rattle.tree.proofs.Kept.{all-append, map-append}
+use Rattle.tree.proofs.Keep.{all-append, map-append}
 use Rattle.tree.specs.Links.{BranchOf}
 
 module _ (ws : List ℕ) where

@@ -15,14 +15,14 @@ use Rattle.source.specs.Shared.{Allˡ}
 use Rattle.source.proofs.Lookup.{Allˡ-map, Above, Increasing}
 use Rattle.source.proofs.Trees.{AllKeys-map, before-prefix, past-prefix, entry-key, find-all-ascends}
 use Rattle.memory.specs.Layout.{record-at, Which, Item, tree, what, key-at, left-link, right-link}
-use Rattle.memory.proofs.Readings.{what-none}
+use Rattle.memory.proofs.What.{what-none}
 use Rattle.tree.specs.Tree.{AnyTree}
 use Rattle.tree.specs.Links.{branches, keep, matches, past-by, past, after, head0, wanted, row-at}
 use Rattle.tree.proofs.Branches.{any-tree, branch-reads, left-tree, right-tree}
-use Rattle.tree.proofs.Kept.{by-test, map-append, keep-append, keep-none, keep-all, keep-ext, keep-keep, all-keep, keep-increasing}
+use Rattle.tree.proofs.Keep.{by-test, map-append, keep-append, keep-none, keep-all, keep-ext, keep-keep, all-keep, keep-increasing}
 use Rattle.tree.specs.Links.{BranchOf}
 use Rattle.tree.proofs.Links.{tree-ordered, branches-none, branches-at, branches-keys, branches-of, branches-rows, by-sides}
-use Rattle.tree.proofs.Seeking.{by-order, past-low}
+use Rattle.tree.proofs.Wanted.{by-order, past-low}
 use Rattle.memory.specs.Sound.{At}
 use Rattle.memory.proofs.At.{at-of}
 

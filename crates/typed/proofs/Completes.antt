@@ -18,7 +18,7 @@ use Rattle.source.specs.Shared.{Allˡ}
 use Rattle.source.proofs.Lines.{output-lines-length}
 use Rattle.memory.specs.Layout.{Which, Item, pick}
 use Rattle.memory.specs.Sound.{Says}
-use Rattle.memory.proofs.Given.{sound-table}
+use Rattle.memory.proofs.SoundTable.{sound-table}
 use Rattle.lines.specs.Ask.{asked}
 use Rattle.lines.specs.Output.{signed-word, line-of, Written}
 use Rattle.lines.specs.declared.Ask.{Ask}

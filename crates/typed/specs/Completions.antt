@@ -30,13 +30,13 @@ pub record Shown (w : L.Which) (txt : List ℕ) (ls ls′ : List Line) (lines : 
   pub first : map (record-seen w txt) (take (length lines) ls′) ≡ map some (output-lines 0 lines)
   pub after : drop (length lines) ls′ ≡ drop (length lines) ls
 
--- By document 01's answer: listed, the lines are shown; refused, no line has changed.
+-- By the requirements' answer: listed, the lines are shown; refused, no line has changed.
 abbrev pub ShownAs : (ask : Ask) (txt : List ℕ) (ls ls′ : List Line) → C.Completed (L.Item (asked ask)) → Type 0
 ShownAs ask txt ls ls′ (C.listed lines entered) = Shown (asked ask) txt ls ls′ lines
 ShownAs ask txt ls ls′ (C.refused n) = ls′ ≡ ls
 
 module _ (ws txt : List ℕ) (t : Table) (ask : Ask) (query : Str) (budget : ℕ) where
-  -- Document 01's answer; b says whether the memory is sound.
+  -- The requirements' answer; b says whether the memory is sound.
   abbrev pub answer : (b : Bool) → Output → C.Completed (L.Item (asked ask))
   answer b out = completion b (table-in ws txt t) ask budget out query
 

@@ -363,7 +363,7 @@ pub fn script(rng: &mut Rng, lines: usize) -> Vec<u8> {
     all
 }
 
-/// Scripts at the limits of document 01, each with what it tries.
+/// Scripts at the limits of the requirements, each with what it tries.
 pub fn limit_scripts() -> Vec<(&'static str, Vec<u8>)> {
     let mut all: Vec<(&'static str, Vec<u8>)> = Vec::new();
     let mut add = |what, lines: Vec<String>| all.push((what, (lines.join("\n") + "\n").into()));

@@ -54,7 +54,7 @@ pub fn record(words: &[u32], number: usize) -> Record {
 
 // ----------------------------------------------------------------- Sound
 
-/// *Sound* of document 01, over whatever is lent.
+/// *Sound* of the requirements, over whatever is lent.
 pub fn sound(
     words: &[u32],
     text: &[u8],

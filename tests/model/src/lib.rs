@@ -1,4 +1,4 @@
-//! An independent implementation of document 01 and the source, in plain
+//! An independent implementation of the requirements and the source, in plain
 //! Rust. The product is compared with it. See README.md.
 
 pub mod gen;

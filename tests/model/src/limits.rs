@@ -1,6 +1,6 @@
-//! Document 01's refusals, each at its limit and just inside it, for any
+//! The requirements' refusals, each at its limit and just inside it, for any
 //! implementation of the calls. Every table, number and answer here is written
-//! by hand from document 01, readings 10 to 17 and docs/LAYOUT.md.
+//! by hand from docs/REQUIREMENTS.md, section 6, and docs/LAYOUT.md.
 
 use crate::layout::{Header, Memory, Record};
 use crate::model::{Filter, Registration};
@@ -173,7 +173,7 @@ fn made<C: Calls>(records: usize, text: usize, calls: &[Registration]) -> Memory
     memory
 }
 
-/// Document 01's table T: 26 records, 44 text bytes.
+/// The requirements' table T: 26 records, 44 text bytes.
 fn table_t() -> [Registration; 4] {
     [
         name(b"Saved.", b"offset", 1),
@@ -489,7 +489,7 @@ pub fn deep<C: Calls>() {
 // ----------------------------------------------------------------- 7 Full
 
 /// Calls in a row, and the records and text bytes that they take together:
-/// from document 01's session and cases 1, 2, 8 and 10, and by counting the
+/// from the printed session and cases 1, 2, 8 and 10, and by counting the
 /// root's collection and trie record for the last two.
 fn sizes() -> Vec<(Vec<Registration>, usize, usize)> {
     let t = table_t().to_vec();
@@ -550,7 +550,7 @@ pub fn text_full<C: Calls>() {
 
 // ------------------------------------------------------- 9 Spent, 10 Lines
 
-/// A completion of document 01: its table, what is asked, lines, the bytes of
+/// A completion of the requirements: its table, what is asked, lines, the bytes of
 /// their texts, and tries entered.
 #[allow(clippy::type_complexity)]
 fn listings() -> Vec<(Vec<Registration>, Option<Filter>, &'static [u8], usize, usize, u32)> {

@@ -1,8 +1,8 @@
-//! Document 01 and the source over persistent trees.
+//! The requirements and the source over persistent trees.
 //!
 //! Functions that the source has keep the source's name and shape. A list of
 //! the source is a `List` whose front is the head. Each `Rc` of a trie, a
-//! place of a list or a branch is one record of document 01; `trie_empty`,
+//! place of a list or a branch is one record of the requirements; `trie_empty`,
 //! `StrEmpty` and `[]` are `None`.
 
 use std::collections::VecDeque;

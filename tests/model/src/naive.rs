@@ -53,7 +53,7 @@ pub fn flatten<V>(names: &Names<V>) -> Vec<(Option<Str>, Tree<V>)> {
     all
 }
 
-/// Depth by document 01's words, reading nothing stored.
+/// Depth by the requirements' words, reading nothing stored.
 pub fn depth_of<A>(tr: &Trie<A>) -> u32 {
     flatten(&namespaces(tr))
         .iter()
@@ -272,7 +272,7 @@ pub fn covers(query: &[Str], full_name: &[Str]) -> bool {
 /// it.
 type Element = (Str, Option<usize>);
 
-/// The listing by document 01's words: bindings ascending, then each
+/// The listing by the requirements' words: bindings ascending, then each
 /// namespace ascending with its own listing; of equal names the last holder.
 /// Gives text, match length, outermost label of the first element and item.
 /// None if more tries are entered than `most`.

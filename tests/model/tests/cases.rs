@@ -1,4 +1,4 @@
-//! The printed session and the 13 cases of document 01.
+//! The printed session and the 13 cases of the requirements.
 
 mod common;
 use common::*;

@@ -1,4 +1,4 @@
-//! The model at document 01's limits.
+//! The model at the requirements' limits.
 
 use model::layout::Memory;
 use model::limits::Calls;

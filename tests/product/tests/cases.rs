@@ -1,4 +1,4 @@
-//! Document 01's thirteen cases, run on the product. Every expected number and line is printed in that document.
+//! The thirteen cases of docs/REQUIREMENTS.md, run on the product. Every expected number and line is printed there.
 use model::layout::Memory;
 use model::model::{Filter, Registration};
 use product::{complete, find, register, Ask, Output};

@@ -3,7 +3,7 @@ use Rattle.fields.proofs.left_ok.Statement.{statement}
 use Rattle.fields.proofs.left_ok.Tie as tie
 use native.Mathlib.Omega.{arith}
 use Rattle.fields.proofs.Noted.{noted-upto}
-use Rattle.fields.proofs.Spines.{left, falls, none-all, subtree-end, end-lent, says-end}
+use Rattle.fields.proofs.Far.{left, falls, none-all, subtree-end, end-lent, says-end}
 
 pub left-ok-spec : {M : Type 1} → statement M
 left-ok-spec =

@@ -3,7 +3,7 @@ use Rattle.fields.proofs.right_ok.Statement.{statement}
 use Rattle.fields.proofs.right_ok.Tie as tie
 use native.Mathlib.Omega.{arith}
 use Rattle.fields.proofs.Noted.{noted-upto}
-use Rattle.fields.proofs.Spines.{right, falls, none-all, subtree-end, end-lent, says-end}
+use Rattle.fields.proofs.Far.{right, falls, none-all, subtree-end, end-lent, says-end}
 
 pub right-ok-spec : {M : Type 1} → statement M
 right-ok-spec =

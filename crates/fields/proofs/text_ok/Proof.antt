@@ -4,7 +4,7 @@ use Rattle.fields.proofs.text_ok.Statement.{statement}
 use Rattle.fields.proofs.text_ok.Tie as tie
 use native.Mathlib.Omega.{arith}
 use Rattle.text.specs.Text.{byte-rule}
-use Rattle.fields.proofs.Spans.{says-text, text-long}
+use Rattle.fields.proofs.TextOk.{says-text, text-long}
 
 pub text-ok-spec : {M : Type 1} → statement M
 text-ok-spec =

@@ -3,7 +3,7 @@ use Prim.Native.Nat.{ℕ, _<_}
 use native.Mathlib.Omega.{arith}
 use borrow.Fn.Kinds.{In}
 use borrow.Fn.PlainCycle.{Measures, is, falls, and}
-use Rattle.heap.proofs.Pairing.{siblings, first-in, two, next-small, rest-small, pairs-none, pairs-one, pairs-more, rest-rep, fewer-siblings, roots}
+use Rattle.heap.proofs.HeapMergePairs.{siblings, first-in, two, next-small, rest-small, pairs-none, pairs-one, pairs-more, rest-rep, fewer-siblings, roots}
 use Rattle.heap.proofs.heap_merge_pairs.Reads as reads
 use Rattle.heap.proofs.heap_merge_pairs.Kinds as kinds
 use Rattle.heap.proofs.+heap_merge_pairs.Lts-heap_merge_pairs as lts

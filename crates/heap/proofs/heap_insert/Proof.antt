@@ -1,5 +1,5 @@
 -- `heap::heap_insert` meets its contract.
-use Rattle.heap.proofs.Merging.{insert-makes}
+use Rattle.heap.proofs.HeapMerge.{insert-makes}
 use borrow.Author.Needs.{needs}
 use Rattle.heap.proofs.heap_insert.Statement.{statement}
 use Rattle.heap.proofs.heap_insert.Tie as tie

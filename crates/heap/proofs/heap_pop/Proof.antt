@@ -1,7 +1,7 @@
 -- `heap::heap_pop` meets its contract.
 use native.Mathlib.Omega.{arith}
-use Rattle.heap.proofs.Kept.{root-in}
-use Rattle.heap.proofs.Popping.{kids, kids-small, pop-none, pop-least}
+use Rattle.heap.proofs.Cells.{root-in}
+use Rattle.heap.proofs.HeapPop.{kids, kids-small, pop-none, pop-least}
 use Rattle.heap.proofs.heap_pop.Statement.{statement}
 use Rattle.heap.proofs.heap_pop.Tie as tie
 

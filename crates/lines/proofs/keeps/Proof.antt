@@ -1,6 +1,6 @@
 -- `lines::keeps` meets its contract.
 use Rattle.source.specs.Calls.{keeps}
-use Rattle.lines.proofs.Kept.{keeps-loaded, keeps-modules, keeps-namespaces}
+use Rattle.lines.proofs.KeptLine.{keeps-loaded, keeps-modules, keeps-namespaces}
 use Rattle.lines.proofs.keeps.Statement.{statement}
 use Rattle.lines.proofs.keeps.Tie as tie
 use borrow.Author.Needs.{needs}

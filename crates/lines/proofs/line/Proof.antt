@@ -1,5 +1,5 @@
 -- `lines::line` meets its contract.
-use Rattle.lines.proofs.Given.{job-ok, label-small, outermost-text}
+use Rattle.lines.proofs.TextAt.{job-ok, label-small, outermost-text}
 use Rattle.lines.proofs.Listed.{listed-names, listed-modules}
 use Rattle.lines.proofs.line.Statement.{statement}
 use Rattle.lines.proofs.line.Tie as tie

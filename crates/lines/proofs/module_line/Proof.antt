@@ -4,7 +4,7 @@ use mathlib.Core.List.{[]}
 use Rattle.source.specs.Table.{mod-annotation}
 use Rattle.lines.specs.Run.{job-in}
 use Rattle.lines.proofs.Run.{same-path}
-use Rattle.lines.proofs.Kept.{module-at, namespace-at, line-dropped, line-kept}
+use Rattle.lines.proofs.KeptLine.{module-at, namespace-at, line-dropped, line-kept}
 use Rattle.lines.proofs.module_line.Statement.{statement}
 use Rattle.lines.proofs.module_line.Tie as tie
 use borrow.Author.Needs.{needs}

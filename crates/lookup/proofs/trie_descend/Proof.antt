@@ -4,7 +4,7 @@ use lib.ListN.{length}
 use Rattle.source.specs.Text.{segments}
 use Rattle.memory.specs.Layout.{Which, trieˢ, what}
 use Rattle.lookup.proofs.Links.{any-namespaces}
-use Rattle.lookup.proofs.Lookups.{Stands, stands-first, stands-next, scope-next, Descends, descends-all, descends-next, descended}
+use Rattle.lookup.proofs.Found.{Stands, stands-first, stands-next, scope-next, Descends, descends-all, descends-next, descended}
 use borrow.Author.Needs.{needs}
 use Rattle.lookup.proofs.trie_descend.Statement.{statement}
 use Rattle.lookup.proofs.trie_descend.Tie as tie

@@ -4,7 +4,7 @@ use lib.ListN.{length}
 use Rattle.source.specs.Text.{segments}
 use Rattle.memory.specs.Layout.{Which, trieˢ, what}
 use Rattle.lookup.proofs.Links.{any-bindings, any-namespaces}
-use Rattle.lookup.proofs.Lookups.{Stands, stands-first, stands-next, scope-next, Finds, finds-all, finds-next, found-last, found-none}
+use Rattle.lookup.proofs.Found.{Stands, stands-first, stands-next, scope-next, Finds, finds-all, finds-next, found-last, found-none}
 use borrow.Author.Needs.{needs}
 use Rattle.lookup.proofs.trie_find_exact.Statement.{statement}
 use Rattle.lookup.proofs.trie_find_exact.Tie as tie

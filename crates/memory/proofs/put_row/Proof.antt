@@ -4,7 +4,7 @@ use Rattle.memory.proofs.put_row.Tie as tie
 use Prim.Native.Nat.{_-_}
 use native.Mathlib.Omega.{arith}
 use Rattle.memory.specs.Grown.{put}
-use Rattle.memory.proofs.Parts.{Pasting, pasting-none, pasting-more, pasting-done}
+use Rattle.memory.proofs.Pasted.{Pasting, pasting-none, pasting-more, pasting-done}
 
 abbrev Inv-loop : tie.InvT-loop
 Inv-loop words₀ used row base i₀ words i = Pasting words₀ row words base i 12

@@ -5,7 +5,7 @@ use Prim.Native.Nat.{_-_}
 use native.Mathlib.Omega.{arith}
 use lib.ListN.{length}
 use Rattle.memory.specs.Grown.{put-text}
-use Rattle.memory.proofs.Parts.{Pasting, pasting-none, pasting-more, pasting-done}
+use Rattle.memory.proofs.Pasted.{Pasting, pasting-none, pasting-more, pasting-done}
 
 abbrev Inv-loop : tie.InvT-loop
 Inv-loop text₀ used s base i₀ text i = Pasting text₀ s text base i (length s)

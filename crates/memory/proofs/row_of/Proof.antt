@@ -4,7 +4,7 @@ use Rattle.memory.proofs.row_of.Tie as tie
 use Prim.Native.Nat.{_-_}
 use mathlib.Core.Path.{refl}
 use Rattle.memory.specs.Layout.{record-at}
-use Rattle.memory.proofs.Rows.{Copied, record-length, copied-more, copied-all}
+use Rattle.memory.proofs.RecordAt.{Copied, record-length, copied-more, copied-all}
 use native.Mathlib.Omega.{arith}
 
 abbrev Inv-loop : tie.InvT-loop

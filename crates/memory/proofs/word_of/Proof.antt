@@ -3,7 +3,7 @@ use borrow.Author.Needs.{needs}
 use Rattle.memory.proofs.word_of.Statement.{statement}
 use Rattle.memory.proofs.word_of.Tie as tie
 use native.Mathlib.Omega.{arith}
-use Rattle.memory.proofs.Rows.{word-at}
+use Rattle.memory.proofs.RecordAt.{word-at}
 
 pub word-of-spec : {M : Type 1} → statement M
 word-of-spec =

@@ -7,7 +7,7 @@ use borrow.Author.Needs.{needs}
 use borrow.Fn.Kinds.{In}
 use borrow.Fn.PlainCycle.{Measures, is, falls, and}
 use Rattle.memory.specs.Stored.{weight-in}
-use Rattle.merge.proofs.Collecting.{outermost-none, outermost-some, Seen, seen-rest, rest-less, seen-list, both-less, seen-tree, collected-none, full-set, collected-imported, collected-skip, collected-cell}
+use Rattle.merge.proofs.Collected.{outermost-none, outermost-some, Seen, seen-rest, rest-less, seen-list, both-less, seen-tree, collected-none, full-set, collected-imported, collected-skip, collected-cell}
 use Rattle.merge.proofs.collect.Reads as collect
 use Rattle.merge.proofs.collect.Kinds as kinds
 use Rattle.merge.proofs.+collect.Lts-collect as lts

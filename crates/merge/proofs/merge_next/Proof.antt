@@ -5,7 +5,7 @@ use mathlib.Core.List.{List}
 use mathlib.Core.Logic.{⊎-elim}
 use borrow.Author.Tests.{not-true, not-false}
 use Rattle.merge.specs.Stream.{remaining, state}
-use Rattle.merge.proofs.Stepping.{Passing, passing-none, passing-ready, passing-end, passing-small, passing-fewer, passing-branch, passing-last, passing-on, passing-gives}
+use Rattle.merge.proofs.Steps.{Passing, passing-none, passing-ready, passing-end, passing-small, passing-fewer, passing-branch, passing-last, passing-on, passing-gives}
 use Rattle.merge.proofs.merge_next.Statement.{statement}
 use Rattle.merge.proofs.merge_next.Tie as tie
 

@@ -2,7 +2,7 @@
 use native.Mathlib.Omega.{arith}
 use borrow.Author.Needs.{needs}
 use Rattle.merge.proofs.Cells.{heads-of}
-use Rattle.merge.proofs.Taking.{takes-none, Least-cell, cell-small, next-asks, takes-last, insert-asks, takes-next}
+use Rattle.merge.proofs.Takes.{takes-none, Least-cell, cell-small, next-asks, takes-last, insert-asks, takes-next}
 use Rattle.heap.proofs.heap_pop.Reads as heap-pop-reads
 use Rattle.heap.proofs.heap_insert.Reads as heap-insert-reads
 use Rattle.tree.proofs.tree_next.Reads as tree-next-reads

@@ -7,7 +7,7 @@ use borrow.Fn.Kinds.{In}
 use borrow.Fn.PlainCycle.{Measures, is, falls, and}
 use Rattle.memory.specs.Stored.{weight-in}
 use Rattle.names.proofs.Collections.{collection-right, imported-lighter, any-imported, any-own}
-use Rattle.names.proofs.Finding.{Find, First, find-all, first-imported, first-names, find-here, find-on, find-none}
+use Rattle.names.proofs.Holder.{Find, First, find-all, first-imported, first-names, find-here, find-on, find-none}
 use Rattle.names.proofs.names_find_exact.Reads as names-find-exact
 use Rattle.names.proofs.names_find_exact.Kinds as kinds
 use Rattle.names.proofs.+names_find_exact.Lts-names_find_exact as lts

@@ -1,6 +1,6 @@
 -- `names::imported` meets its contract.
 use borrow.Author.Needs.{needs}
-use Rattle.names.proofs.Making.{made-imported}
+use Rattle.names.proofs.Made.{made-imported}
 use Rattle.names.proofs.imported.Statement.{statement}
 use Rattle.names.proofs.imported.Tie as tie
 

@@ -2,7 +2,7 @@
 use mathlib.Core.Path.{refl}
 use native.Mathlib.Omega.{arith}
 use borrow.Author.Needs.{needs}
-use Rattle.names.proofs.Inserting.{kind-list, kind-small, first-insertion, rest-ready, names-inserted}
+use Rattle.names.proofs.NamesInsertion.{kind-list, kind-small, first-insertion, rest-ready, names-inserted}
 use Rattle.names.proofs.names_insert.Statement.{statement}
 use Rattle.names.proofs.names_insert.Tie as tie
 

@@ -2,7 +2,7 @@
 use mathlib.Core.Logic.{⊎-elim}
 use native.Mathlib.Omega.{arith}
 use Rattle.names.proofs.Collections.{list-light, any-first, any-rest}
-use Rattle.names.proofs.Placing.{holder-first, holder-rest, names-placed}
+use Rattle.names.proofs.NamesPlaced.{holder-first, holder-rest, names-placed}
 use Rattle.names.proofs.names_place.Statement.{statement}
 use Rattle.names.proofs.names_place.Tie as tie
 use Rattle.memory.proofs.At.{at-fits}

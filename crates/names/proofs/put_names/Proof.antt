@@ -1,6 +1,6 @@
 -- `names::put_names` meets its contract.
 use borrow.Author.Needs.{needs}
-use Rattle.names.proofs.Making.{made-names}
+use Rattle.names.proofs.Made.{made-names}
 use Rattle.names.proofs.put_names.Statement.{statement}
 use Rattle.names.proofs.put_names.Tie as tie
 

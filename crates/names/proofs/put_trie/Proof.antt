@@ -2,7 +2,7 @@
 use borrow.Author.Needs.{needs}
 use mathlib.Core.Path.{refl}
 use native.Mathlib.Omega.{arith}
-use Rattle.names.proofs.Making.{made-trie}
+use Rattle.names.proofs.Made.{made-trie}
 use Rattle.names.proofs.put_trie.Statement.{statement}
 use Rattle.names.proofs.put_trie.Tie as tie
 

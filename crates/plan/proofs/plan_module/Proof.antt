@@ -5,7 +5,7 @@ use Rattle.source.specs.Text.{segments}
 use Rattle.source.specs.Plans.{module-step-records, module-step-weight}
 use Rattle.memory.specs.Layout.{modules, trieˢ, what}
 use Rattle.plan.specs.Plans.{Steps}
-use Rattle.lookup.proofs.Lookups.{Stands, stands-first, stands-last}
+use Rattle.lookup.proofs.Found.{Stands, stands-first, stands-last}
 use Rattle.plan.proofs.Plans.{steps-first, path-few, module-path-next, module-planned}
 use native.Mathlib.Omega.{arith}
 use borrow.Author.Needs.{needs}

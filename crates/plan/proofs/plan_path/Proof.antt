@@ -5,7 +5,7 @@ use Rattle.source.specs.Text.{segments}
 use Rattle.source.specs.Plans.{step-records, step-weight}
 use Rattle.memory.specs.Layout.{names, trieˢ, what}
 use Rattle.plan.specs.Plans.{Steps}
-use Rattle.lookup.proofs.Lookups.{Stands, stands-first}
+use Rattle.lookup.proofs.Found.{Stands, stands-first}
 use Rattle.plan.proofs.Plans.{steps-first, path-next, path-few, path-last}
 use native.Mathlib.Omega.{arith}
 use borrow.Author.Needs.{needs}

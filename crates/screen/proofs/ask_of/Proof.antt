@@ -1,6 +1,6 @@
 -- ask_of meets its contract.
 use Rattle.screen.specs.Completions.{modules-for}
-use Rattle.screen.proofs.Completing.{modules-three}
+use Rattle.screen.proofs.RepliesLines.{modules-three}
 use Rattle.screen.proofs.ask_of.Statement.{statement}
 use Rattle.screen.proofs.ask_of.Tie as tie
 

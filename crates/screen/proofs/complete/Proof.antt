@@ -1,7 +1,7 @@
 -- complete meets its contract.
 use borrow.Author.Needs.{needs}
-use Rattle.screen.proofs.Lent.{loaded-fits, loaded-count, held}
-use Rattle.screen.proofs.Completing.{few-words, taken-words, taken-room, lines-short, lines-replied}
+use Rattle.screen.proofs.Held.{loaded-fits, loaded-count, held}
+use Rattle.screen.proofs.RepliesLines.{few-words, taken-words, taken-room, lines-short, lines-replied}
 use Rattle.screen.proofs.complete.Statement.{statement}
 use Rattle.screen.proofs.complete.Tie as tie
 

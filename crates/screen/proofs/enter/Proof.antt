@@ -2,8 +2,8 @@
 use mathlib.Core.Path.{ap}
 use borrow.Author.Needs.{needs}
 use Rattle.table.specs.Registrations.{refusal-of}
-use Rattle.screen.proofs.Lent.{held}
-use Rattle.screen.proofs.Replying.{store-fits, reply-accepted, reply-refused}
+use Rattle.screen.proofs.Held.{held}
+use Rattle.screen.proofs.Replies.{store-fits, reply-accepted, reply-refused}
 use Rattle.screen.proofs.enter.Statement.{statement}
 use Rattle.screen.proofs.enter.Tie as tie
 

@@ -1,6 +1,6 @@
 -- list meets its contract.
 use borrow.Author.Needs.{needs}
-use Rattle.screen.proofs.Completing.{lines-fits, list-listed, list-refused}
+use Rattle.screen.proofs.RepliesLines.{lines-fits, list-listed, list-refused}
 use Rattle.screen.proofs.list.Statement.{statement}
 use Rattle.screen.proofs.list.Tie as tie
 

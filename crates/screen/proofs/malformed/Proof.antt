@@ -1,7 +1,7 @@
 -- malformed meets its contract.
 use borrow.Author.Needs.{needs}
-use Rattle.screen.proofs.Lent.{loaded-fits, loaded-count, held}
-use Rattle.screen.proofs.Replying.{reply-short, reply-none}
+use Rattle.screen.proofs.Held.{loaded-fits, loaded-count, held}
+use Rattle.screen.proofs.Replies.{reply-short, reply-none}
 use Rattle.screen.proofs.malformed.Statement.{statement}
 use Rattle.screen.proofs.malformed.Tie as tie
 

@@ -1,6 +1,6 @@
 -- name_console_complete_modules meets its contract.
 use borrow.Author.Needs.{needs}
-use Rattle.screen.proofs.Completing.{lines-asked, lines-unasked}
+use Rattle.screen.proofs.RepliesLines.{lines-asked, lines-unasked}
 use Rattle.screen.proofs.name_console_complete_modules.Statement.{statement}
 use Rattle.screen.proofs.name_console_complete_modules.Tie as tie
 

@@ -1,7 +1,7 @@
 -- name_console_find meets its contract.
 use borrow.Author.Needs.{needs}
-use Rattle.screen.proofs.Lent.{loaded-fits, loaded-count, held}
-use Rattle.screen.proofs.Looking.{name-short, name-looked}
+use Rattle.screen.proofs.Held.{loaded-fits, loaded-count, held}
+use Rattle.screen.proofs.RepliesModule.{name-short, name-looked}
 use Rattle.screen.proofs.name_console_find.Statement.{statement}
 use Rattle.screen.proofs.name_console_find.Tie as tie
 

@@ -1,7 +1,7 @@
 -- name_console_find_module meets its contract.
 use borrow.Author.Needs.{needs}
-use Rattle.screen.proofs.Lent.{loaded-fits, loaded-count, held}
-use Rattle.screen.proofs.Looking.{module-short, module-looked}
+use Rattle.screen.proofs.Held.{loaded-fits, loaded-count, held}
+use Rattle.screen.proofs.RepliesModule.{module-short, module-looked}
 use Rattle.screen.proofs.name_console_find_module.Statement.{statement}
 use Rattle.screen.proofs.name_console_find_module.Tie as tie
 

@@ -1,6 +1,6 @@
 -- name_console_open meets its contract.
 use Rattle.source.specs.Calls.{opens}
-use Rattle.screen.proofs.Replying.{reply-chosen, reply-unchosen, reply-opened}
+use Rattle.screen.proofs.Replies.{reply-chosen, reply-unchosen, reply-opened}
 use borrow.Author.Needs.{needs}
 use Rattle.screen.proofs.name_console_open.Statement.{statement}
 use Rattle.screen.proofs.name_console_open.Tie as tie

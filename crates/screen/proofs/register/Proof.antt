@@ -1,7 +1,7 @@
 -- register meets its contract.
 use borrow.Author.Needs.{needs}
-use Rattle.screen.proofs.Lent.{loaded-fits, loaded-count}
-use Rattle.screen.proofs.Replying.{reply-short}
+use Rattle.screen.proofs.Held.{loaded-fits, loaded-count}
+use Rattle.screen.proofs.Replies.{reply-short}
 use Rattle.screen.proofs.register.Statement.{statement}
 use Rattle.screen.proofs.register.Tie as tie
 

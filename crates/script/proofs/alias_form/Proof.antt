@@ -3,7 +3,7 @@ use mathlib.Core.Path.{subst}
 use native.Mathlib.Omega.{arith}
 use Rattle.script.specs.Script.{key, bytes}
 use Rattle.script.specs.Parts.{WordSays, PieceSays, PairSays}
-use Rattle.script.proofs.Ends.{stops-word}
+use Rattle.script.proofs.LineEnd.{stops-word}
 use Rattle.script.proofs.Forms.{word-none, alias-none, alias-empty, alias-no, alias-yes}
 use borrow.Author.Needs.{needs}
 use Rattle.script.proofs.alias_form.Statement.{statement}

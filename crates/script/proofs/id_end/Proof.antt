@@ -2,7 +2,7 @@
 use mathlib.Core.Path.{subst}
 use native.Mathlib.Omega.{arith}
 use Rattle.script.specs.Parts.{PieceSays, LastSays, NumberSays}
-use Rattle.script.proofs.Ends.{stops-word, id-piece, id-yes, id-empty, id-open, id-number}
+use Rattle.script.proofs.LineEnd.{stops-word, id-piece, id-yes, id-empty, id-open, id-number}
 use borrow.Author.Needs.{needs}
 use Rattle.script.proofs.id_end.Statement.{statement}
 use Rattle.script.proofs.id_end.Tie as tie

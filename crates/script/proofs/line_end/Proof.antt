@@ -1,5 +1,5 @@
 -- `line_end` answers by its definition.
-use Rattle.script.proofs.Ends.{line-ends}
+use Rattle.script.proofs.LineEnd.{line-ends}
 use borrow.Author.Needs.{needs}
 use Rattle.script.proofs.line_end.Statement.{statement}
 use Rattle.script.proofs.line_end.Tie as tie

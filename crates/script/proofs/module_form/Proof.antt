@@ -2,7 +2,7 @@
 use mathlib.Core.Path.{subst}
 use native.Mathlib.Omega.{arith}
 use Rattle.script.specs.Parts.{WordSays, PieceSays, LastSays}
-use Rattle.script.proofs.Ends.{stops-query}
+use Rattle.script.proofs.LineEnd.{stops-query}
 use Rattle.script.proofs.Forms.{word-none, module-none, module-no, module-yes}
 use borrow.Author.Needs.{needs}
 use Rattle.script.proofs.module_form.Statement.{statement}

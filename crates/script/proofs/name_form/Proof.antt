@@ -3,7 +3,7 @@ use mathlib.Core.Path.{subst}
 use native.Mathlib.Omega.{arith}
 use Rattle.script.specs.Script.{key, bytes}
 use Rattle.script.specs.Parts.{WordSays, PieceSays, IdSays}
-use Rattle.script.proofs.Ends.{stops-query}
+use Rattle.script.proofs.LineEnd.{stops-query}
 use Rattle.script.proofs.Forms.{word-none, name-none, name-no, name-yes}
 use borrow.Author.Needs.{needs}
 use Rattle.script.proofs.name_form.Statement.{statement}

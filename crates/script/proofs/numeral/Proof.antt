@@ -1,6 +1,6 @@
 -- `numeral` answers by its definition.
 use native.Mathlib.Omega.{arith}
-use Rattle.script.proofs.Ends.{number-says}
+use Rattle.script.proofs.LineEnd.{number-says}
 use borrow.Author.Needs.{needs}
 use Rattle.script.proofs.numeral.Statement.{statement}
 use Rattle.script.proofs.numeral.Tie as tie

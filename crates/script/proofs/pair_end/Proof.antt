@@ -2,7 +2,7 @@
 use mathlib.Core.Path.{subst}
 use native.Mathlib.Omega.{arith}
 use Rattle.script.specs.Parts.{PieceSays, QuerySays}
-use Rattle.script.proofs.Ends.{stops-query, pair-piece, pair-yes, pair-no}
+use Rattle.script.proofs.LineEnd.{stops-query, pair-piece, pair-yes, pair-no}
 use borrow.Author.Needs.{needs}
 use Rattle.script.proofs.pair_end.Statement.{statement}
 use Rattle.script.proofs.pair_end.Tie as tie

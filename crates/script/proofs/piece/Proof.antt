@@ -1,7 +1,7 @@
 -- `piece` answers by its definition.
 use mathlib.Core.Path.{subst}
 use Rattle.script.specs.Parts.{StartsSays}
-use Rattle.script.proofs.Ends.{run-within, piece-yes, piece-no}
+use Rattle.script.proofs.LineEnd.{run-within, piece-yes, piece-no}
 use borrow.Author.Needs.{needs}
 use Rattle.script.proofs.piece.Statement.{statement}
 use Rattle.script.proofs.piece.Tie as tie

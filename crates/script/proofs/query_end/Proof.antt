@@ -2,7 +2,7 @@
 use mathlib.Core.Path.{subst}
 use native.Mathlib.Omega.{arith}
 use Rattle.script.specs.Parts.{PieceSays}
-use Rattle.script.proofs.Ends.{stops-query, query-piece, query-yes, query-no}
+use Rattle.script.proofs.LineEnd.{stops-query, query-piece, query-yes, query-no}
 use borrow.Author.Needs.{needs}
 use Rattle.script.proofs.query_end.Statement.{statement}
 use Rattle.script.proofs.query_end.Tie as tie

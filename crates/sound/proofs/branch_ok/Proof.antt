@@ -4,7 +4,7 @@ use Rattle.sound.proofs.branch_ok.Statement.{statement}
 use Rattle.sound.proofs.branch_ok.Tie as tie
 use Rattle.memory.specs.Sound.{BranchOk}
 use Rattle.memory.proofs.Says.{passes, refuses, says-iff}
-use Rattle.memory.proofs.Making.{branch-ordered}
+use Rattle.memory.proofs.RecordAs.{branch-ordered}
 
 pub branch-ok-spec : {M : Type 1} → statement M
 branch-ok-spec =

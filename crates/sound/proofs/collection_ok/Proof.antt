@@ -5,7 +5,7 @@ use Rattle.sound.proofs.collection_ok.Tie as tie
 use mathlib.Core.Path.{_∙_}
 use native.Mathlib.Omega.{arith}
 use Rattle.memory.proofs.Says.{passes, refuses}
-use Rattle.sound.proofs.Answers.{weight-tree, weight-imported, says-collection}
+use Rattle.sound.proofs.Tests.{weight-tree, weight-imported, says-collection}
 
 pub collection-ok-spec : {M : Type 1} → statement M
 collection-ok-spec =

@@ -5,7 +5,7 @@ use Rattle.sound.proofs.held_ok.Tie as tie
 use mathlib.Core.Path.{_∙_}
 use native.Mathlib.Omega.{arith}
 use Rattle.memory.proofs.Says.{passes, refuses, says-iff}
-use Rattle.sound.proofs.Answers.{says-equal, depth-links, depth-held}
+use Rattle.sound.proofs.Tests.{says-equal, depth-links, depth-held}
 
 pub held-ok-spec : {M : Type 1} → statement M
 held-ok-spec =

@@ -11,9 +11,9 @@ use native.Mathlib.Omega.{arith}
 use Rattle.source.specs.Types.{bind, ns}
 use Rattle.memory.specs.Layout.{names, modules, tree, list, trieˢ}
 use Rattle.memory.proofs.Says.{passes, refuses, says-iff}
-use Rattle.memory.proofs.Records.{own-earlier}
-use Rattle.memory.proofs.Sizes.{depth-collection}
-use Rattle.sound.proofs.Answers.{known-as, beside, no-kind, right-as, says-record, says-equal, twelve}
+use Rattle.memory.proofs.RecordOk.{own-earlier}
+use Rattle.memory.proofs.Stored.{depth-collection}
+use Rattle.sound.proofs.Tests.{known-as, beside, no-kind, right-as, says-record, says-equal, twelve}
 
 pub record-ok-spec : {M : Type 1} → statement M
 record-ok-spec =

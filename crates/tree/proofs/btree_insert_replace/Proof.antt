@@ -1,6 +1,6 @@
 -- btree_insert_replace meets its contract: the new branches are put from the lowest up to the root.
 use Prim.Native.Nat.{_-_}
-use Rattle.tree.proofs.Rising.{Rising, insertion-key, insertion-builds, insertion-marked, insertion-tree, lowest-ok, lowest-risen, risen-ok, rising-none, rising-up, all-risen}
+use Rattle.tree.proofs.Inserted.{Rising, insertion-key, insertion-builds, insertion-marked, insertion-tree, lowest-ok, lowest-risen, risen-ok, rising-none, rising-up, all-risen}
 use native.Mathlib.Omega.{arith}
 use Rattle.tree.proofs.btree_insert_replace.Statement.{statement}
 use Rattle.tree.proofs.btree_insert_replace.Tie as tie

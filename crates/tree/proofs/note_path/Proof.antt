@@ -1,6 +1,6 @@
 -- note_path meets its contract: what is noted leads from the root to the link at hand.
 use Rattle.tree.proofs.Branches.{tree-fits, sides-earlier}
-use Rattle.tree.proofs.Marking.{some-count, Marking, mark-all, mark-tree, mark-fits, left-room, right-room, mark-left, mark-right, mark-here, mark-none}
+use Rattle.tree.proofs.Marked.{some-count, Marking, mark-all, mark-tree, mark-fits, left-room, right-room, mark-left, mark-right, mark-here, mark-none}
 use borrow.Author.Needs.{needs}
 use native.Mathlib.Omega.{arith}
 use Rattle.tree.proofs.note_path.Statement.{statement}

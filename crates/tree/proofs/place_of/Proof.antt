@@ -1,6 +1,6 @@
 -- place_of meets its contract: what the tree at hand says is what the whole says.
 use Rattle.tree.proofs.Branches.{tree-fits, sides-earlier}
-use Rattle.tree.proofs.Searches.{Search, search-all, search-left, search-right, search-here, search-none}
+use Rattle.tree.proofs.Placed.{Search, search-all, search-left, search-right, search-here, search-none}
 use borrow.Author.Needs.{needs}
 use native.Mathlib.Omega.{arith}
 use Rattle.tree.proofs.place_of.Statement.{statement}

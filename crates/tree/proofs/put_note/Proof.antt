@@ -1,7 +1,7 @@
 -- put_note meets its contract: only the first two words of the record change.
 use Prim.Native.Nat.{_*_}
 use lib.ListN.{length-set}
-use Rattle.tree.proofs.Changes.{note-put}
+use Rattle.tree.proofs.Changed.{note-put}
 use borrow.Author.Needs.{needs}
 use native.Mathlib.Omega.{arith}
 use Rattle.tree.proofs.put_note.Statement.{statement}

@@ -2,7 +2,7 @@
 use mathlib.Core.Path.{sym, _∙_}
 use mathlib.Core.Logic.{⊎-elim}
 use Rattle.tree.proofs.Branches.{tree-fits, sides-earlier}
-use Rattle.tree.proofs.Seeking.{Seeking, seek-all, take-left, skip-left, go-right, seek-end}
+use Rattle.tree.proofs.Wanted.{Seeking, seek-all, take-left, skip-left, go-right, seek-end}
 use native.Mathlib.Omega.{arith}
 use Rattle.tree.proofs.tree_above.Statement.{statement}
 use Rattle.tree.proofs.tree_above.Tie as tie

@@ -1,4 +1,4 @@
-//! Prints the record memory of table T of document 01, record by record.
+//! Prints the record memory of table T of the requirements, record by record.
 use model::layout::{record, text_at, Memory};
 use model::model::Registration;
 

@@ -38,7 +38,7 @@ impl Both {
         Both { table: Table::default(), memory: Memory::fresh(words, text) }
     }
 
-    /// Document 01's table T.
+    /// The requirements' table T.
     pub fn t() -> Both {
         let mut both = Both::fresh(100, 1000);
         for call in [

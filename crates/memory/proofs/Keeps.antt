@@ -1,0 +1,89 @@
+-- What the links of a sound memory read as stays where only free text changes, and so does Sound.
+use Prim.Native.Nat.{ℕ, _+_, _≤_}
+use mathlib.Core.Path.{_≡_, refl, sym, _∙_}
+use mathlib.Core.List.{List}
+use native.Mathlib.Omega.{arith}
+use lib.ListN.{length}
+use lib.Seq.{length-paste, take-length}
+use Rattle.source.specs.Types.{Level, bind, ns}
+use Rattle.source.specs.Text.{Str}
+use Rattle.memory.specs.Layout.{record-at, word, span, Which, names, modules, item-of, Sort, tree, list, trieˢ, kind, row, what, table-of}
+use Rattle.memory.specs.Sound.{LinkOk, TextOk, CollectionOk, ItemOk, RecordAs, Used, Sound}
+use Rattle.memory.specs.Grown.{Keeps, put-text}
+use Rattle.memory.proofs.Pasted.{part-stays, paste-front, paste-part}
+use Rattle.memory.proofs.What.{what-none, what-row}
+use Rattle.memory.proofs.RecordOk.{zero-one, as-earlier, as-map, by-links}
+use Rattle.memory.specs.declared.Header.{Header}
+
+-- A text put after the used ones.
+module _ (txt : List ℕ) (used : ℕ) (s : List ℕ) (room : used + length s ≤ length txt) where
+  pub put-text-keeps : Keeps used txt (put-text txt used s)
+  unfolding put-text
+  put-text-keeps = record { same = paste-front txt used s (length s) room (omega arith); size = length-paste txt used s (length s) room (omega arith) }
+
+  pub put-text-span : span (put-text txt used s) used (length s) ≡ s
+  unfolding put-text span
+  put-text-span = paste-part txt used s (length s) room (omega arith) ∙ take-length s
+
+module _ {txt txt′ : List ℕ} {used : ℕ} (y : Keeps used txt txt′) where
+  pub span-keeps : (s n : ℕ) → s + n ≤ used → span txt′ s n ≡ span txt s n
+  unfolding span
+  span-keeps s n h = part-stays used txt txt′ (y .same) n s h
+
+  pub text-keeps : {used′ : ℕ} → used ≤ used′ → (Rule : Str → Type 0) (s n : ℕ) → TextOk Rule txt used s n → TextOk Rule txt′ used′ s n
+  text-keeps u Rule s n o = record { inside = omega (arith, o .inside); keeps = rw (span-keeps s n (o .inside)) (o .keeps) }
+
+  item-keeps : (w : Which) (r : List ℕ) → ItemOk txt used w r → item-of w txt′ r ≡ item-of w txt r
+  item-keeps names r o = refl
+  item-keeps modules r o =
+      zero-one (word r 5) (o .sort)
+      (λ z. rw (z, span-keeps (word r 6) (word r 7) (o .name .inside), span-keeps (word r 8) (word r 9) (o .path z .inside)))
+      (λ z. rw (z, span-keeps (word r 6) (word r 7) (o .name .inside)))
+
+  -- A right record, where its links read the same.
+  module _ (ws : List ℕ) (l : ℕ) (w : Which) (r : List ℕ) (ih : (x : ℕ) (t : Sort) → LinkOk ws l x (kind w t) → what w ws txt′ x t ≡ what w ws txt x t) where
+    collection-keeps : (v : Level) → CollectionOk ws txt used l w r v → row w txt′ r (what w ws txt′) (list v) ≡ row w txt r (what w ws txt) (list v)
+    collection-keeps v o =
+        zero-one (word r 5) (o .sort)
+        (λ z. rw (z, ih (word r 3) (tree v) (o .own z), ih (word r 4) (list v) (o .rest)))
+        (λ z. rw (z, span-keeps (word r 1) (word r 2) (o .label z .inside), ih (word r 3) (list v) (o .imported z), ih (word r 4) (list v) (o .rest)))
+
+    row-keeps : (s : Sort) → RecordAs ws txt used l w s r (what w ws txt l s) → row w txt′ r (what w ws txt′) s ≡ row w txt r (what w ws txt) s
+    row-keeps (tree bind) a =
+        rw (span-keeps (word r 1) (word r 2) (a .0 .key .inside), item-keeps w r (a .2), ih (word r 3) (tree bind) (a .0 .left), ih (word r 4) (tree bind) (a .0 .right))
+    row-keeps (tree ns) a =
+        rw (span-keeps (word r 1) (word r 2) (a .0 .key .inside), ih (word r 5) trieˢ (a .2), ih (word r 3) (tree ns) (a .0 .left), ih (word r 4) (tree ns) (a .0 .right))
+    row-keeps (list bind) a = collection-keeps bind (a .0)
+    row-keeps (list ns) a = collection-keeps ns (a .0)
+    row-keeps trieˢ a = rw (ih (word r 3) (list bind) (a .0 .bindings), ih (word r 4) (list ns) (a .0 .namespaces))
+
+module _ {ws txt txt′ : List ℕ} {n used : ℕ} (o : Used ws txt n used) (y : Keeps used txt txt′) where
+  pub what-keeps : (w : Which) (s : Sort) {l x : ℕ} → l ≤ n + 1 → LinkOk ws l x (kind w s) → what w ws txt′ x s ≡ what w ws txt x s
+  what-keeps =
+      by-links (o .rows) (λ w s x. what w ws txt′ x s ≡ what w ws txt x s)
+      (λ w s. rw (what-none w ws txt′, what-none w ws txt))
+      (λ w s l p r ih.
+      let e = as-earlier ws txt used l w s (record-at ws l) (what w ws txt l s) r in
+      what-row w ws txt′ s l p e ∙ row-keeps y ws l w (record-at ws l) ih s r ∙ sym (what-row w ws txt s l p e))
+
+  pub used-text : {used′ : ℕ} → used ≤ used′ → used′ ≤ 65536 → used′ ≤ length txt′ → Used ws txt′ n used′
+  used-text {used′} more short fits = record {
+    few = o .few;
+    short = short;
+    records-fit = o .records-fit;
+    text-fits = fits;
+    rows = λ l p h.
+        let r = o .rows l p h in
+        record {
+          which = r .which;
+          sort = r .sort;
+          known = r .known;
+          right = rw (what-keeps (r .which) (r .sort) {l = n + 1} {x = l} (omega arith) (record { earlier = omega arith; of-kind = λ _. r .known }))
+              (as-map {ws = ws} {ws′ = ws} {txt = txt} {txt′ = txt′} {used = used} {used′ = used′} {l = l} {l′ = l} (λ x k i. i) (text-keeps y more) (r .which) (r .sort) _ _ (r .right));
+        };
+  }
+
+-- A table of which only free text changes.
+module _ {ws txt txt′ : List ℕ} {h : Header} (o : Sound ws txt h) (y : Keeps (h .text) txt txt′) where
+  pub table-keeps : table-of ws txt′ h ≡ table-of ws txt h
+  table-keeps = rw (what-keeps (o .right) y names trieˢ (omega arith) (o .names-link), what-keeps (o .right) y modules trieˢ (omega arith) (o .modules-link))

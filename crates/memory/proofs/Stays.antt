@@ -1,0 +1,102 @@
+-- What a link reads as stays where only later records change; a right record more keeps the memory sound.
+use Prim.Native.Nat.{ℕ, zero, suc, _+_, _-_, _*_, _≤_, _<_}
+use mathlib.Core.Path.{_≡_, refl, sym, ap, _∙_, fun-ext}
+use mathlib.Core.List.{List}
+use mathlib.Core.Logic.{⊎-elim}
+use native.Mathlib.Omega.{arith}
+use native.Mathlib.Nat.{eq-or-lt-of-le}
+use lib.ListN.{length, take}
+use lib.Seq.{take-take}
+use Rattle.source.specs.Types.{trie-empty}
+use Rattle.source.specs.Table.{empty}
+use Rattle.source.specs.Calls.{fresh}
+use Rattle.memory.specs.Layout.{record-at, Which, names, modules, Reading, among, what, table-of, state-of}
+use Rattle.memory.specs.Stored.{stored}
+use Rattle.memory.specs.Sound.{LinkOk, RecordOk, Used, Sound}
+use Rattle.memory.specs.Grown.{Stays}
+use Rattle.memory.proofs.Pasted.{part-stays}
+use Rattle.memory.proofs.What.{what-none}
+use Rattle.memory.proofs.RecordOk.{zero-some, as-map}
+use Rattle.memory.specs.declared.Header.{Header}
+
+pub stays-same : (n : ℕ) (ws : List ℕ) → Stays n ws ws
+stays-same n ws = record { same = refl; size = refl }
+
+pub stays-on : {m n : ℕ} {ws ws′ ws″ : List ℕ} → m ≤ n → Stays m ws ws′ → Stays n ws′ ws″ → Stays m ws ws″
+stays-on {m} {n} {ws} {ws′} {ws″} h y z = record {
+  same = sym (take-take (m * 12) (n * 12) ws″ (omega arith)) ∙ ap (take (m * 12)) (z .same) ∙ take-take (m * 12) (n * 12) ws′ (omega arith) ∙ y .same;
+  size = z .size ∙ y .size;
+}
+
+module _ {n : ℕ} {ws ws′ : List ℕ} (y : Stays n ws ws′) where
+  pub record-stays : (l : ℕ) → 0 < l → l ≤ n → record-at ws′ l ≡ record-at ws l
+  unfolding record-at
+  record-stays l p h = part-stays (n * 12) ws ws′ (y .same) 12 ((l - 1) * 12) (omega arith)
+
+  among-stays : (w : Which) (txt : List ℕ) (m : ℕ) → m ≤ n → among w ws′ txt m ≡ among w ws txt m
+  unfolding among
+  among-stays w txt zero h = refl
+  among-stays w txt (suc m) h = fun-ext (λ l. rw (record-stays (suc m) (omega arith) h, among-stays w txt m (omega arith)))
+
+  pub what-stays : (w : Which) (txt : List ℕ) (l : ℕ) → l ≤ n → what w ws′ txt l ≡ what w ws txt l
+  unfolding what
+  what-stays w txt l h = ap (λ (f : ℕ → Reading w). f l) (among-stays w txt l h)
+
+  pub stored-stays : (x k : ℕ) → x ≤ n → stored ws′ x k ≡ stored ws x k
+  unfolding stored
+  stored-stays x k h = zero-some x (λ e. rw e) (λ p. rw (record-stays x p h))
+
+  -- A link stays right, also in a later record.
+  pub link-stays : {l l′ x k : ℕ} → l ≤ n + 1 → l ≤ l′ → LinkOk ws l x k → LinkOk ws′ l′ x k
+  link-stays {x = x} h g o = record {
+    earlier = omega (arith, o .earlier);
+    of-kind = λ z. zero-some x (λ e. absurd (z e)) (λ p. rw (record-stays x p (omega (arith, o .earlier))) (o .of-kind z));
+  }
+
+  pub ok-stays : {txt : List ℕ} {used l : ℕ} → 0 < l → l ≤ n → RecordOk ws txt used l → RecordOk ws′ txt used l
+  ok-stays {txt} {used} {l} p h o = record {
+    which = o .which;
+    sort = o .sort;
+    known = rw (record-stays l p h) (o .known);
+    right = rw (record-stays l p h, what-stays (o .which) txt l h)
+        (as-map {ws = ws} {ws′ = ws′} {txt = txt} {txt′ = txt} {used = used} {used′ = used} {l = l} {l′ = l} (λ x k a. link-stays (omega arith) (omega arith) a) (λ Rule s m a. a) (o .which) (o .sort) _ _ (o .right));
+  }
+
+pub table-stays : {n : ℕ} {ws ws′ : List ℕ} → Stays n ws ws′ → (txt : List ℕ) (h : Header) → h .names ≤ n → h .modules ≤ n → table-of ws′ txt h ≡ table-of ws txt h
+table-stays y txt h k m = rw (what-stays y names txt (h .names) k, what-stays y modules txt (h .modules) m)
+
+-- A right record after the used ones.
+pub used-more : {ws ws′ txt : List ℕ} {n used : ℕ} → Used ws txt n used → Stays n ws ws′ → n < 65536 → n * 12 + 12 ≤ length ws → RecordOk ws′ txt used (n + 1)
+    → Used ws′ txt (n + 1) used
+used-more o y few room r = record {
+  few = omega arith;
+  short = o .short;
+  records-fit = omega (arith, y .size);
+  text-fits = o .text-fits;
+  rows = λ l p h. ⊎-elim (λ e. rw e r) (λ k. ok-stays y p (omega arith) (o .rows l p (omega arith))) (eq-or-lt-of-le h);
+}
+
+-- The first of them.
+pub used-first : {ws txt : List ℕ} {n used : ℕ} (x : ℕ) → Used ws txt n used → x ≤ n → Used ws txt x used
+used-first x o h = record {
+  few = omega (arith, o .few);
+  short = o .short;
+  records-fit = omega (arith, o .records-fit);
+  text-fits = o .text-fits;
+  rows = λ l p k. o .rows l p (omega arith);
+}
+
+-- The header of the fresh table.
+abbrev fresh-header : Header
+fresh-header = record { names = 0; modules = 0; records = 0; text = 0 }
+
+pub fresh-sound : (ws txt : List ℕ) → Sound ws txt fresh-header
+fresh-sound ws txt = record {
+  right = record { few = omega arith; short = omega arith; records-fit = omega arith; text-fits = omega arith; rows = λ l p h. absurd (omega arith) };
+  names-link = record { earlier = omega arith; of-kind = λ z. absurd (z refl) };
+  modules-link = record { earlier = omega arith; of-kind = λ z. absurd (z refl) };
+}
+
+pub fresh-state : (ws txt : List ℕ) → state-of ws txt fresh-header ≡ fresh
+unfolding fresh empty trie-empty
+fresh-state ws txt = rw (what-none names ws txt, what-none modules ws txt)

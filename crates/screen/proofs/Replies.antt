@@ -1,0 +1,134 @@
+-- What a registration replies, by what crate table answers.
+use Prim.Native.Nat.{ℕ, zero, suc, _*_, _≤_, _<_}
+use mathlib.Core.Path.{_≡_, refl, sym, ap, _∙_}
+use mathlib.Core.Bool.{Bool, true, false}
+use mathlib.Core.List.{List}
+use mathlib.Core.Option.{Option, none, some, Option·none-ne-some}
+use native.Mathlib.Omega.{arith}
+use lib.Dec.{leb, eqb}
+use lib.ListN.{length}
+use lib.Seq.{take-all}
+use borrow.Author.Tests.{leb-true, leb-false}
+use Rattle.source.specs.Calls as C
+use Rattle.source.specs.Text.{Str}
+use Rattle.source.specs.Calls.{State, Lent, Call, opens, register}
+use Rattle.memory.specs.Sound.{Says}
+use Rattle.table.specs.Header.{IsSound, state, lent}
+use Rattle.table.specs.Registrations.{refusal-of, Outside, AnswersAs, Total}
+use Rattle.table.specs.declared.Table.{Table}
+use Rattle.table.specs.declared.Registration.{Registration}
+use Rattle.table.proofs.Decided.{decided}
+use Rattle.table.proofs.Registering.{register-unsound}
+use Rattle.screen.specs.Bytes.{Stored}
+use Rattle.screen.specs.Memory.{header-in, Spells, records-lent, words-in, SoundBytes}
+use Rattle.kinds.specs.Shapes.{call-of, opened}
+use Rattle.kinds.specs.declared.Kind.{Kind}
+use Rattle.kinds.proofs.Shapes.{opened-is}
+use Rattle.screen.specs.Replies.{chosen, unchosen, answer-to, RepliesAs, Replies}
+use Rattle.screen.proofs.Bytes.{read-back}
+use Rattle.screen.proofs.Held.{words-in-length, words-in-fit, Held, says-memory, says-short}
+
+answer-unsound : (l : Lent) (s : State) (c : Option Call) → answer-to false l s c ≡ C.refused 1
+answer-unsound l s (some c) = register-unsound l s c
+answer-unsound l s none = refl
+
+-- A state of another length.
+pub reply-short : {st bs txt : List ℕ} {c : Option Call} → (length st ≡ 16 → ⊥) → Replies st bs txt st bs txt c 1
+reply-short {st} {bs} {txt} {c} e = record {
+  says = λ b h. rw (says-short st bs txt b e h, answer-unsound _ _ c) (refl, record { state = refl; words = refl; text = refl });
+}
+
+-- ---- No call
+
+pub reply-none : {st bs m txt : List ℕ} {t : Table} {k : ℕ} (r : Bool) → Held st bs m t → Says r (IsSound m txt t) → C.refused k ≡ unchosen r → Replies st bs txt st bs txt none k
+reply-none {txt = txt} r h p e = record {
+  says = λ b i. rw (decided _ b r (says-memory txt h b i) p, ← e) (refl, record { state = refl; words = refl; text = refl });
+}
+
+-- An open by its kind.
+pub reply-opened : {st bs txt st′ bs′ txt′ : List ℕ} {flag : Bool} {k : Kind} {r : ℕ} (host query key : Str) → k ≡ opened flag
+    → Replies st bs txt st′ bs′ txt′ (some (call-of k host query key)) r → Replies st bs txt st′ bs′ txt′ (some (opens flag host query)) r
+reply-opened {st} {bs} {txt} {flag = flag} host query key e a =
+    record { says = λ b h. rw (← opened-is flag b (lent (words-in bs) txt) (state (words-in bs) txt (header-in st)) host query key, ← e) (a .says b h) }
+
+chosen-some : (f : Bool → Call) (n : ℕ) → n < 2 → chosen f n ≡ some (f (eqb n 1))
+unfolding chosen
+chosen-some f zero h = refl
+chosen-some f (suc zero) h = refl
+chosen-some f (suc (suc n)) h = absurd (omega arith)
+
+chosen-none : (f : Bool → Call) (n : ℕ) → 2 ≤ n → chosen f n ≡ none
+unfolding chosen
+chosen-none f zero h = absurd (omega arith)
+chosen-none f (suc zero) h = absurd (omega arith)
+chosen-none f (suc (suc n)) h = refl
+
+module _ {st bs txt st′ bs′ txt′ : List ℕ} {r : ℕ} (f : Bool → Call) {n : ℕ} where
+  pub reply-chosen : n < 2 → Replies st bs txt st′ bs′ txt′ (some (f (eqb n 1))) r → Replies st bs txt st′ bs′ txt′ (chosen f n) r
+  reply-chosen h p = rw (chosen-some f n h) p
+
+  pub reply-unchosen : 2 ≤ n → Replies st bs txt st′ bs′ txt′ none r → Replies st bs txt st′ bs′ txt′ (chosen f n) r
+  reply-unchosen h p = rw (chosen-none f n h) p
+
+-- ---- A call, by crate table's answer
+
+-- The records of an accepted call fit the words lent.
+module _ (ws txt ws′ txt′ : List ℕ) (t : Table) (r : Registration) (taken : refusal-of (r .answer) ≡ none) where
+  fit-as : (x : C.Registered) → AnswersAs x ws txt ws′ txt′ t r → r .table .header .records * 12 ≤ length ws
+  fit-as (C.accepted s) a = omega (arith, a .1 .sound .right .records-fit, a .1 .words .size)
+  fit-as (C.refused n) a = absurd (Option·none-ne-some n (sym taken ∙ a .0))
+
+  fit-or : (c : Call) → Total ws txt ws′ txt′ t c r → (b : Bool) → leb (r .table .header .records * 12) (length ws) ≡ b → r .table .header .records * 12 ≤ length ws
+  fit-or c total true e = leb-true _ _ e
+  fit-or c total false e =
+      fit-as (C.refused 1)
+      (rw register-unsound at (total false (λ s. let h = fit-as (register true (lent ws txt) (state ws txt t) c) (total true s .says) in omega (arith, leb-false (r .table .header .records * 12) (length ws) e)) .says))
+
+by-bytes : (n : ℕ) → n * 12 * 4 ≡ n * 48
+by-bytes n = omega arith
+
+module _ {st bs txt m ws txt′ : List ℕ} {t : Table} {c : Call} {r : Registration} (h : Held st bs m t) (total : Total m txt ws txt′ t c r) where
+  accepted-fits : refusal-of (r .answer) ≡ none → r .table .header .records * 12 ≤ length (words-in bs)
+  accepted-fits taken = rw (h .lent) at (fit-or m txt ws txt′ t r taken c total _ refl)
+
+  pub store-fits : refusal-of (r .answer) ≡ none → length ws ≡ length m → (r .table .header .records * 12 * 4 ≤ length bs) × (r .table .header .records * 12 ≤ length ws)
+  store-fits taken e = let f = accepted-fits taken in (omega (arith, words-in-fit bs), omega (arith, ap length (h .lent)))
+
+  answers : (b : Bool) → Says b (SoundBytes st bs txt)
+      → AnswersAs (register b (lent (words-in bs) txt) (state (words-in bs) txt (header-in st)) c) (words-in bs) txt ws txt′ (header-in st) r
+  answers b i = rw (← h .lent, h .spelt .header) (total b (says-memory txt h b i) .says)
+
+  -- It is accepted, and the new words and the new header are stored.
+  module _ {st′ bs′ : List ℕ} (taken : refusal-of (r .answer) ≡ none) (stored : Stored ws (t .header .records * 12) (r .table .header .records * 12) bs bs′)
+      (new : Spells st′ (r .table)) where
+    kept : Stored ws (header-in st .header .records * 12) (r .table .header .records * 12) bs bs′
+    kept = rw (h .spelt .header) stored
+
+    words-back : Outside (header-in st .header .records * 12) (r .table .header .records * 12) (words-in bs) ws → words-in bs′ ≡ ws
+    unfolding words-in
+    words-back o =
+        rw (kept .rest .size)
+        (read-back (records-lent (length bs) * 12) o (take-all (records-lent (length bs) * 12) ws (omega (arith, o .size, words-in-length bs))) kept)
+
+    accepted-as : (x : C.Registered) → AnswersAs x (words-in bs) txt ws txt′ (header-in st) r → RepliesAs x st bs txt st′ bs′ txt′ 0
+    accepted-as (C.accepted s) a = (
+      refl,
+      record {
+        size = new .size;
+        table = rw (new .header, words-back (a .1 .words)) (a .1);
+        bytes = rw (new .header) (rw (by-bytes (header-in st .header .records), by-bytes (r .table .header .records)) at (kept .rest));
+      },
+    )
+    accepted-as (C.refused n) a = absurd (Option·none-ne-some n (sym taken ∙ a .0))
+
+    pub reply-accepted : Replies st bs txt st′ bs′ txt′ (some c) 0
+    reply-accepted = record { says = λ b i. accepted-as (register b (lent (words-in bs) txt) (state (words-in bs) txt (header-in st)) c) (answers b i) }
+
+  -- It is refused.
+  module _ {x k : ℕ} (no : refusal-of (r .answer) ≡ some x) (told : k ≡ x) where
+    refused-as : (y : C.Registered) → AnswersAs y (words-in bs) txt ws txt′ (header-in st) r → RepliesAs y st bs txt st bs txt′ k
+    refused-as (C.accepted s) a = absurd (Option·none-ne-some x (sym (a .0) ∙ no))
+    refused-as (C.refused n) a = (let e = a .0 in cc, record { state = refl; words = refl; text = a .1 .text })
+
+    pub reply-refused : Replies st bs txt st bs txt′ (some c) k
+    reply-refused = record { says = λ b i. refused-as (register b (lent (words-in bs) txt) (state (words-in bs) txt (header-in st)) c) (answers b i) }

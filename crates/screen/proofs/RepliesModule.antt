@@ -1,0 +1,45 @@
+-- What a look-up replies, by what crate table answers.
+use Prim.Native.Nat.{ℕ}
+use mathlib.Core.Path.{_≡_, refl}
+use mathlib.Core.Bool.{Bool, false}
+use mathlib.Core.List.{List}
+use lib.ListN.{length}
+use Rattle.source.specs.Text.{Str}
+use Rattle.source.specs.Types.{Trie}
+use Rattle.source.specs.Calls as C
+use Rattle.source.specs.Calls.{lowest, argument-rows, look-up}
+use Rattle.memory.specs.Sound.{Says}
+use Rattle.table.specs.Header.{IsSound, names-in, modules-in}
+use Rattle.table.specs.Answers.{name-found, module-found, FoundInside}
+use Rattle.table.specs.declared.Table.{Table}
+use Rattle.table.specs.declared.Found.{Found}
+use Rattle.table.specs.declared.FoundModule.{FoundModule}
+use Rattle.table.specs.declared.FoundModule.the-variants.{Refused}
+use Rattle.refusals.specs.declared.Refusal.the-variants.{Unsound}
+use Rattle.screen.specs.Replies.{name-reply, RepliesName, no-module, module-reply, RepliesModule}
+use Rattle.screen.specs.declared.NameReply.{NameReply}
+use Rattle.screen.specs.declared.ModuleReply.{ModuleReply}
+use Rattle.screen.proofs.Held.{Held, says-memory, says-short}
+
+look-up-unsound : {A : Type 0} (root : Trie A) (q : Str) → look-up false root q ≡ C.refused 1
+unfolding look-up lowest argument-rows
+look-up-unsound root q = refl
+
+-- A state of another length.
+module _ {st bs txt : List ℕ} {q : Str} (e : length st ≡ 16 → ⊥) where
+  pub name-short : {r : NameReply} → r ≡ name-reply (C.refused 1) → RepliesName st bs txt q r
+  name-short p = record { says = λ b h. rw (says-short st bs txt b e h, look-up-unsound) p }
+
+  pub module-short : {r : ModuleReply} → r ≡ no-module 1 → RepliesModule st bs txt q r
+  module-short p = record { says = λ b h. record { found = Refused Unsound; reply = p; says = rw (says-short st bs txt b e h, look-up-unsound); inside = tt } }
+
+-- A look-up by crate table.
+module _ {st bs txt m : List ℕ} {t : Table} {q : Str} (h : Held st bs m t) where
+  pub name-looked : (f : Found) {r : NameReply} → ((b : Bool) → Says b (IsSound m txt t) → name-found f ≡ look-up b (names-in m txt t) q)
+      → r ≡ name-reply (name-found f) → RepliesName st bs txt q r
+  name-looked f g p = record { says = λ b i. rw (← h .lent, h .spelt .header, ← g b (says-memory txt h b i)) p }
+
+  pub module-looked : (f : FoundModule) {r : ModuleReply}
+      → ((b : Bool) → Says b (IsSound m txt t) → module-found txt f ≡ look-up b (modules-in m txt t) q)
+      → FoundInside (length txt) f → r ≡ module-reply f → RepliesModule st bs txt q r
+  module-looked f g k p = record { says = λ b i. record { found = f; reply = p; says = rw (← h .lent, h .spelt .header) (g b (says-memory txt h b i)); inside = k } }

@@ -1,0 +1,24 @@
+-- The bytes that a caller keeps are a sound table: at the start, and after each accepted call.
+use Prim.Native.Nat.{ℕ}
+use mathlib.Core.Path.{_≡_, refl}
+use mathlib.Core.List.{List}
+use lib.ListN.{replicate}
+use Rattle.source.specs.Calls.{State, fresh}
+use Rattle.memory.proofs.Stays.{fresh-sound, fresh-state}
+use Rattle.table.specs.Header.{state}
+use Rattle.screen.specs.Bytes.{word-at}
+use Rattle.screen.specs.Memory.{header-in, words-in, SoundBytes}
+use Rattle.screen.specs.Replies.{AcceptsBytes}
+
+-- Sixteen zero bytes are the fresh table, whatever words and text are lent.
+module _ (bs txt : List ℕ) where
+  pub zero-sound : SoundBytes (replicate 16 0) bs txt
+  unfolding header-in word-at
+  zero-sound = record { size = refl; sound = fresh-sound (words-in bs) txt }
+
+  pub zero-fresh : state (words-in bs) txt (header-in (replicate 16 0)) ≡ fresh
+  unfolding header-in word-at
+  zero-fresh = fresh-state (words-in bs) txt
+
+pub accepted-sound : {st bs txt st′ bs′ txt′ : List ℕ} {s : State} → AcceptsBytes st bs txt st′ bs′ txt′ s → SoundBytes st′ bs′ txt′
+accepted-sound a = record { size = a .size; sound = a .table .sound }
