@@ -4,7 +4,7 @@ use kinds::Kind;
 use memory::ModSymbol;
 use memory::Span;
 ghost use mathlib.Core.Path.{_≡_};
-ghost use mathlib.Core.Bool.{true, cond};
+ghost use mathlib.Core.Bool.{true};
 ghost use Prim.Native.Nat.{_+_, _-_, _<_, _≤_};
 ghost use lib.ListN.{length};
 ghost use Rattle.source.specs.Text.{ends-in-dot};

@@ -15,7 +15,7 @@ use Rattle.memory.specs.Read.{ReadTrie}
 use Rattle.memory.specs.declared.Trie.{Trie}
 use Rattle.memory.proofs.What.{what-none}
 use Rattle.memory.proofs.RecordOk.{zero-some, record-as}
-use Rattle.memory.proofs.Stored.{stored-none, stored-some}
+use Rattle.memory.proofs.StoredSizes.{stored-none, stored-some}
 use Rattle.memory.proofs.Seen.{link-fits, link-ok, link-later}
 use Rattle.tree.specs.Tree.{held}
 use Rattle.names.specs.Names.{AnyList, HolderIn, Holder}

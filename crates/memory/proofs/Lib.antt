@@ -2,7 +2,7 @@ pub mod Says
 pub mod Pasted
 pub mod What
 pub mod RecordOk
-pub mod Stored
+pub mod StoredSizes
 pub mod RecordAs
 pub mod Stays
 pub mod Keeps

@@ -10,7 +10,7 @@ use Rattle.memory.specs.Stored.{stored, weight-of, depth-of}
 use Rattle.memory.specs.Sound.{LinkOk, BranchOk, CollectionOk, TrieOk, ItemOk, WeightOk, RecordAs, RecordOk}
 use Rattle.memory.proofs.What.{what-none}
 use Rattle.memory.proofs.RecordOk.{zero-some, ordered-at}
-use Rattle.memory.proofs.Stored.{weight-row, depth-collection, depth-branch, depth-trie}
+use Rattle.memory.proofs.StoredSizes.{weight-row, depth-collection, depth-branch, depth-trie}
 
 module _ {ws txt : List ℕ} {used l : ℕ} (rows : (j : ℕ) → 0 < j → j < l → RecordOk ws txt used j) (w : Which) where
   -- The keys of a tree that a link names ascend.

@@ -18,7 +18,7 @@ use Rattle.memory.specs.declared.Collection.{Collection}
 use Rattle.memory.specs.declared.Trie.{Trie}
 use Rattle.memory.proofs.What.{what-none}
 use Rattle.memory.proofs.RecordOk.{zero-one, zero-some, record-as, record-what, branch-at, ordered-at, collection-at, weight-at}
-use Rattle.memory.proofs.Stored.{stored-none, stored-some, stored-trie}
+use Rattle.memory.proofs.StoredSizes.{stored-none, stored-some, stored-trie}
 
 pub symbol-item : (txt r : List ℕ) → symbol-of txt (symbol-in r) ≡ item-of modules txt r
 symbol-item txt r = zero-some (word r 5) (λ e. rw e) (λ p. rw (ne-eqb (word r 5) 0 (λ e. omega arith)))

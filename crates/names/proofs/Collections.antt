@@ -11,7 +11,7 @@ use Rattle.memory.specs.Sound.{CollectionOk, At}
 use Rattle.memory.specs.Stored.{weight-in}
 use Rattle.memory.proofs.What.{what-none}
 use Rattle.memory.proofs.RecordOk.{zero-one, zero-some, collection-at, weight-at}
-use Rattle.memory.proofs.Stored.{stored-none, stored-weight}
+use Rattle.memory.proofs.StoredSizes.{stored-none, stored-weight}
 use Rattle.memory.proofs.Seen.{link-ok, link-what, link-later}
 use Rattle.tree.specs.Tree.{AnyTree}
 use Rattle.tree.proofs.Branches.{any-tree}

@@ -16,7 +16,7 @@ use Rattle.memory.proofs.Says.{says-iff}
 use Rattle.memory.proofs.What.{what-row}
 use Rattle.memory.proofs.RecordOk.{as-earlier, record-as}
 use Rattle.memory.proofs.RecordAt.{record-length}
-use Rattle.memory.proofs.Stored.{weight-row, depth-branch, depth-trie}
+use Rattle.memory.proofs.StoredSizes.{weight-row, depth-branch, depth-trie}
 use Rattle.fields.specs.Fields.{Before}
 
 pub says-equal : (b : Bool) {x y x′ y′ : ℕ} → x ≡ x′ → y ≡ y′ → Says b (x ≡ y) → Says b (x′ ≡ y′)

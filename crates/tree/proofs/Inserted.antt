@@ -17,7 +17,7 @@ use Rattle.memory.specs.Sound.{LinkOk, Used, At}
 use Rattle.memory.specs.Grown.{Stays, put}
 use Rattle.memory.proofs.What.{what-none}
 use Rattle.memory.proofs.RecordOk.{zero-some}
-use Rattle.memory.proofs.Stored.{stored-none, stored-some}
+use Rattle.memory.proofs.StoredSizes.{stored-none, stored-some}
 use Rattle.memory.proofs.Stays.{what-stays, link-stays, stays-on}
 use Rattle.memory.proofs.RecordAt.{record-length}
 use Rattle.memory.proofs.SoundTable.{IsItem, link-fine}

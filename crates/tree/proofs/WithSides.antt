@@ -15,7 +15,7 @@ use Rattle.memory.specs.Stored.{depth-of, depth-in}
 use Rattle.memory.specs.Sound.{LinkOk, BranchOk, ItemOk, RecordAs, Used}
 use Rattle.memory.specs.Grown.{put}
 use Rattle.memory.proofs.RecordOk.{record-as, branch-at}
-use Rattle.memory.proofs.Stored.{stored-trie, depth-branch}
+use Rattle.memory.proofs.StoredSizes.{stored-trie, depth-branch}
 use Rattle.memory.proofs.Put.{put-used, put-what, put-link}
 use Rattle.memory.proofs.SoundTable.{IsItem, item-fine, link-fine, link-shallow}
 use Rattle.memory.proofs.Seen.{link-fits, link-ok, link-later}

@@ -12,7 +12,7 @@ use Rattle.source.specs.Types.{bind, ns}
 use Rattle.memory.specs.Layout.{names, modules, tree, list, trieˢ}
 use Rattle.memory.proofs.Says.{passes, refuses, says-iff}
 use Rattle.memory.proofs.RecordOk.{own-earlier}
-use Rattle.memory.proofs.Stored.{depth-collection}
+use Rattle.memory.proofs.StoredSizes.{depth-collection}
 use Rattle.sound.proofs.Tests.{known-as, beside, no-kind, right-as, says-record, says-equal, twelve}
 
 pub record-ok-spec : {M : Type 1} → statement M

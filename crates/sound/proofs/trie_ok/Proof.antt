@@ -5,7 +5,7 @@ use Rattle.sound.proofs.trie_ok.Tie as tie
 use mathlib.Core.Path.{_∙_}
 use native.Mathlib.Omega.{arith}
 use Rattle.memory.proofs.Says.{passes, refuses}
-use Rattle.memory.proofs.Stored.{depth-trie}
+use Rattle.memory.proofs.StoredSizes.{depth-trie}
 use Rattle.sound.proofs.Tests.{says-trie}
 
 pub trie-ok-spec : {M : Type 1} → statement M
