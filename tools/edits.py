@@ -14,16 +14,21 @@ DOC, HEAD, END = 'docs/PROMISES.md', '| edit | what must be so |\n|---|---|\n', 
 def edits():
     for path in sorted(glob.glob('crates/*/must-fail/*.edit')):
         lines = open(path, encoding='utf-8').read().split('\n')
-        yield path, lines[0].lstrip('# '), [l[6:] for l in lines if l.startswith('file: ')], [l[5:] for l in lines if l.startswith('old: ')]
+        changes, file = [], None
+        for line in lines:
+            file = line[6:] if line.startswith('file: ') else file
+            if line.startswith('old: '):
+                changes.append((file, line[5:]))
+        yield path, lines[0].lstrip('# '), changes
 
 
 def main():
     rows, wrong, right = [], [], 0
-    for path, what, files, olds in edits():
+    for path, what, changes in edits():
         crate, name = path.split('/')[1], os.path.basename(path)[:-5]
         rows.append(f'| {crate}/{name} | {what} |')
-        counts = [open(f'crates/{crate}/{f}', encoding='utf-8').read().count(o) for f, o in zip(files, olds)]
-        if len(files) == len(olds) and olds and all(n == 1 for n in counts):
+        counts = [open(f'crates/{crate}/{file}', encoding='utf-8').read().count(old) for file, old in changes]
+        if changes and all(n == 1 for n in counts):
             right += 1
         else:
             wrong.append(f"{path}: its 'old:' text stands {counts} times")

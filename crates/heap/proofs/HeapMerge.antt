@@ -10,7 +10,7 @@ use lib.Seq.{getD-set-same, getD-set-other}
 use Rattle.source.specs.Heap.{Heap, Forest, EmptyHeap, HeapOf, []ᶠ, _∷ᶠ_, is-lt, heap-merge, heap-insert}
 use Rattle.source.proofs.Heap.{sum-merge}
 use Rattle.heap.specs.Cells.{Holdsᶠ, is, count, Sized, Rep, Apart, Same, Makes, Merges, Inserts}
-use Rattle.heap.proofs.Cells.{is-self, is-other, is-none, not-both, same-trans, by-root, holds-keptᶠ, rep-kept, unchanged}
+use Rattle.heap.proofs.CellCounts.{is-self, is-other, is-none, not-both, same-trans, by-root, holds-keptᶠ, rep-kept, unchanged}
 
 module _ (n : ℕ) (child next : List ℕ) (few : n ≤ 96) where
   -- What link does to the cells v and w.

@@ -12,7 +12,7 @@ use Rattle.source.specs.Heap.{Heap, Forest, []ᶠ, _∷ᶠ_, heap-merge, heap-m
 use Rattle.source.specs.Forward.{sumᶠ}
 use Rattle.source.proofs.Heap.{sum-merge, sum-pairs}
 use Rattle.heap.specs.Cells.{Root, Holdsᶠ, is, count, Repᶠ, Makes, Merges, Pairs}
-use Rattle.heap.proofs.Cells.{root-in, root-small, root-counted, rep-kept, rep-keptᶠ, unchanged, same-trans}
+use Rattle.heap.proofs.CellCounts.{root-in, root-small, root-counted, rep-kept, rep-keptᶠ, unchanged, same-trans}
 
 -- ---- How many siblings there are
 

@@ -9,7 +9,7 @@ use Rattle.source.specs.Heap.{Heap, Forest, EmptyHeap, HeapOf, []ᶠ, heap-inse
 use Rattle.source.proofs.Heap.{insert-all-more, sum-merge}
 use Rattle.heap.specs.Cells.{Holdsᶠ, is, count, Sized, Rep, Repᶠ, Inserts, Pairs, Pops, first-cells}
 use Rattle.heap.specs.declared.Popped.the-variants.{Nothing, Least}
-use Rattle.heap.proofs.Cells.{root-small, is-other}
+use Rattle.heap.proofs.CellCounts.{root-small, is-other}
 
 -- ---- heap_pop
 module _ (n : ℕ) (child next : List ℕ) (few : n ≤ 96) (i : ℕ) where

@@ -1,5 +1,5 @@
 pub mod Compare
-pub mod Cells
+pub mod CellCounts
 pub mod HeapMerge
 pub mod HeapMergePairs
 pub mod HeapPop

@@ -14,7 +14,7 @@ use Rattle.source.specs.Shared.{Allˡ}
 use Rattle.heap.specs.Compare.{cell-cmp, Stands}
 use Rattle.heap.specs.Cells.{count, first-cells}
 use Rattle.heap.proofs.Compare.{cell-cmp-run}
-use Rattle.heap.proofs.Cells.{all-counted}
+use Rattle.heap.proofs.CellCounts.{all-counted}
 use Rattle.heap.proofs.HeapMap.{map-insert, map-pairs, map-pop, map-from-list, map-same}
 
 Allˡ-append : {A : Type 0} (P : A → Type 0) (l : List A) (a : A) → Allˡ P l → P a → Allˡ P (l ++ (a ∷ []))

@@ -28,7 +28,7 @@ use Rattle.memory.proofs.SoundTable.{IsItem, link-fine}
 use Rattle.heap.specs.Compare.{Heads, cell-cmp}
 use Rattle.heap.specs.Cells.{is, count, Rep, first-cells}
 use Rattle.heap.proofs.Compare.{cell-cmp-run}
-use Rattle.heap.proofs.Cells.{rep-below, is-other}
+use Rattle.heap.proofs.CellCounts.{rep-below, is-other}
 use Rattle.heap.proofs.HeapMap.{map-insert}
 use Rattle.tree.specs.Links.{matches, row-at}
 use Rattle.tree.proofs.Matches.{matches-none, matches-of, matches-increasing, after-first}

@@ -19,7 +19,7 @@ use Rattle.memory.specs.Layout.{Which, key-at}
 use Rattle.heap.specs.Compare.{Heads, cell-cmp}
 use Rattle.heap.specs.Cells.{Root, is, count, Rep, Makes, Inserts, Pops}
 use Rattle.heap.specs.declared.Popped.the-variants.{Nothing, Least}
-use Rattle.heap.proofs.Cells.{root-in, rep-below, all-counted, is-self, is-other}
+use Rattle.heap.proofs.CellCounts.{root-in, rep-below, all-counted, is-self, is-other}
 use Rattle.heap.proofs.HeapMap.{map-same}
 use Rattle.heap.proofs.Rep.{stands-pairs, stands-insert}
 use Rattle.tree.specs.Tree.{AnyTree}

@@ -1,6 +1,6 @@
 -- `heap::heap_pop` meets its contract.
 use native.Mathlib.Omega.{arith}
-use Rattle.heap.proofs.Cells.{root-in}
+use Rattle.heap.proofs.CellCounts.{root-in}
 use Rattle.heap.proofs.HeapPop.{kids, kids-small, pop-none, pop-least}
 use Rattle.heap.proofs.heap_pop.Statement.{statement}
 use Rattle.heap.proofs.heap_pop.Tie as tie
