@@ -229,7 +229,11 @@ impl Table {
     {
         let l = look_up(words, text, self.header.modules, query);
         match l {
-            Looked::Branch(link) => FoundModule::Symbol(memory::symbol_of(words, link)),
+            Looked::Branch(link) => {
+                let b = memory::branch_of(words, link);
+                let symbol = b.symbol;
+                FoundModule::Symbol(symbol)
+            }
             Looked::Nothing => FoundModule::Nothing,
             Looked::Refused(x) => FoundModule::Refused(x),
         }

@@ -19,14 +19,14 @@ find-module-sound-spec =
     (λ c κs. any-modules (c .before .before .before .pre))
     {- enum-known-l -}
     (λ c. search needs)
-    {- symbol-of-requires -}
+    {- branch-of-requires -}
     (λ c κs. let h = rw (c .before .l .given .1) at (c .before .before .before .look-up .ensures .fits) in omega arith)
     {- enum-told -}
     (λ c. search needs)
     {- enum-known-l-2 -}
     (λ c. search needs)
     {- returns -}
-    (λ c. (ap found (ap (symbol-of _) (c .symbol-of .ensures) ∙ symbol-item (c .before .before .before .before .before .before .before .before .args .text .now) (record-at (c .before .before .before .before .before .before .before .before .args .words .now) (c .before .before .l .given .0 .0))) ∙ rw (c .before .before .l .given .1) at (c .before .before .before .before .look-up .ensures .says modules (modules-trie (c .before .before .before .before .before .before .before .before .pre))), let h = rw (c .before .before .l .given .1) at (c .before .before .before .before .look-up .ensures .fits) in rw (c .symbol-of .ensures) (symbol-inside (c .before .before .before .before .before .before .before .before .pre) (rw (c .before .before .l .given .1) at (c .before .before .before .before .look-up .ensures .link modules (modules-trie (c .before .before .before .before .before .before .before .before .pre)))) (h .0))))
+    (λ c. (ap found (ap (symbol-of _) (c .branch-of .ensures .symbol) ∙ symbol-item (c .before .before .before .before .before .before .before .before .args .text .now) (record-at (c .before .before .before .before .before .before .before .before .args .words .now) (c .before .before .l .given .0 .0))) ∙ rw (c .before .before .l .given .1) at (c .before .before .before .before .look-up .ensures .says modules (modules-trie (c .before .before .before .before .before .before .before .before .pre))), let h = rw (c .before .before .l .given .1) at (c .before .before .before .before .look-up .ensures .fits) in rw (c .branch-of .ensures .symbol) (symbol-inside (c .before .before .before .before .before .before .before .before .pre) (rw (c .before .before .l .given .1) at (c .before .before .before .before .look-up .ensures .link modules (modules-trie (c .before .before .before .before .before .before .before .before .pre)))) (h .0))))
     {- returns-2 -}
     (λ c. (rw (c .enum-told .given .1) at (c .before .before .look-up .ensures .says modules (modules-trie (c .before .before .before .before .before .before .pre))), tt))
     {- returns-3 -}
