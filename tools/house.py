@@ -2,7 +2,7 @@
 """house.py [--check] [--dot]: the crates and what they really use.
 
 Prints a row a crate: lines of code, definitions, laws and function proofs. Then what is out of order, a line each:
-  a dependency that crates.txt names and no file uses (a type reached through another crate's struct counts as used);
+  a dependency that crates.txt names and no file uses (a type or a definition that a used crate's structs or contracts name counts as used);
   a use that crates.txt does not name; a definition (specs/, or a contract) that cites proofs/;
   a bare word number outside crate memory, in code (`word_of(words, x, 3)`, `row[3]`) or in definitions and laws (`word r 3`, `stored ws x 10`).
 --check prints these alone and closes with 'N passed, M failed'; README's picture of the crates is held to crates.txt. --picture writes it there anew.
@@ -43,11 +43,12 @@ def lines_of(crate):
 
 
 def reached(crates):
-    """For each crate, the crates whose types stand in fields of its public structs."""
+    """For each crate, the crates whose types stand in fields of its public structs, or whose definitions its contracts cite: a caller needs them too."""
     out = collections.defaultdict(set)
     for crate in crates:
         for path in glob.glob(f'crates/{crate}/src/*.rt'):
             text = open(path, encoding='utf-8').read()
+            out[crate] |= set(re.findall(r'^ghost use Rattle·([a-z0-9_]+)\.specs', text, re.M))
             origin = dict((t, c) for c, t in re.findall(r'^use (\w+)::(\w+);', text, re.M))
             for body in re.findall(r'pub (?:struct|enum) \w+ \{(.*?)\n\}', text, re.S):
                 out[crate] |= {origin[t] for t in re.findall(r'\b([A-Z]\w*)\b', body) if t in origin}
