@@ -46,6 +46,8 @@ def reached(crates):
     """For each crate, the crates whose types stand in fields of its public structs, or whose definitions its contracts cite: a caller needs them too."""
     out = collections.defaultdict(set)
     for crate in crates:
+        for path in glob.glob(f'crates/{crate}/specs/*.antt'):
+            out[crate] |= set(re.findall(r'^use Rattle·([a-z0-9_]+)\.specs', open(path, encoding='utf-8').read(), re.M))
         for path in glob.glob(f'crates/{crate}/src/*.rt'):
             text = open(path, encoding='utf-8').read()
             out[crate] |= set(re.findall(r'^ghost use Rattle·([a-z0-9_]+)\.specs', text, re.M))
