@@ -31,13 +31,13 @@ module _ {ws txt : List ℕ} {n used x k : ℕ} (o : Used ws txt n used) (i : Li
 module _ {ws txt : List ℕ} {w : Which} {v : Level} {x : ℕ} where
   pub branch-text : BranchAt ws txt w v x → TextAt ws txt x
   branch-text b =
-      let t = branch-at (link-ok (b .sound) (b .link) (b .some)) w v (b .link .of-kind (λ e. omega (arith, b .some))) .key in
-      text-at (b .sound) (b .link) (b .some) t (omega (arith, t .keeps))
+      let t = branch-at (link-ok (b .at .sound) (b .at .link) (b .some)) w v (b .at .link .of-kind (λ e. omega (arith, b .some))) .key in
+      text-at (b .at .sound) (b .at .link) (b .some) t (omega (arith, t .keeps))
 
   pub label-text : LabelAt ws txt w v x → 0 < x → TextAt ws txt x
   label-text b p =
-      let t = collection-at (link-ok (b .sound) (b .ok .link) p) w v (b .ok .link .of-kind (λ e. omega arith)) .label (b .ok .imports p) in
-      text-at (b .sound) (b .ok .link) p t (omega (arith, t .keeps))
+      let t = collection-at (link-ok (b .at .sound) (b .at .link) p) w v (b .at .link .of-kind (λ e. omega arith)) .label (b .imports p) in
+      text-at (b .at .sound) (b .at .link) p t (omega (arith, t .keeps))
 
 pub path-at : {ws txt : List ℕ} {w : Which} {p : Path} → PathOk ws txt w p → PathAt ws txt p
 path-at o = record { sized = o .sized; few = o .few; each = λ j h. branch-text (o .each j h); len-is = o .len-is; short = o .short }
@@ -48,7 +48,7 @@ module _ {ws txt : List ℕ} {k : Task} {f : Found} {run : List ℕ} (o : CanLis
   job-ok = record { path = path-at (o .path-ok); branch = branch-text (o .branch-at); small = o .small }
 
   pub label-small : path-in run .label ≤ 65536
-  label-small = let l = o .path-ok .label-ok in omega (arith, l .ok .link .earlier, l .sound .few)
+  label-small = let l = o .path-ok .label-ok in omega (arith, l .at .link .earlier, l .at .sound .few)
 
   pub outermost-text : {x : ℕ} → x ≡ outermost (path-in run) (f .label) → 0 < x → TextAt ws txt x
   outermost-text e h = rw e (go (eqb (path-in run .n) 0) (rw e at h))

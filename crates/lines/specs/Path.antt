@@ -1,5 +1,5 @@
 -- The path to a trie, as links: the branches of namespaces from the root on.
-use Prim.Native.Nat.{ℕ, zero, suc, _+_, _*_, _<_, _≤_}
+use Prim.Native.Nat.{ℕ, zero, suc, _*_, _<_, _≤_}
 use mathlib.Core.Path.{_≡_}
 use mathlib.Core.List.{List, [], _∷_, _++_, reverse}
 use lib.ListN.{length, getD}
@@ -8,10 +8,9 @@ use Rattle.source.specs.Types.{Level, ns}
 use Rattle.source.specs.Listing.{PathOf}
 use Rattle.source.specs.Table.{first-import-of-path}
 use Rattle.source.specs.Forward.{base}
-use Rattle.memory.specs.Layout.{Which, tree, kind, key-at}
-use Rattle.memory.specs.Sound.{LinkOk, Used}
+use Rattle.memory.specs.Layout.{Which, tree, key-at, record-at, sort-word, list}
+use Rattle.memory.specs.Sound.{At}
 use Rattle.names.specs.Entries.{label-at}
-use Rattle.names.specs.Entries.{LabelOk}
 
 -- The numbers of a run, of which the first are branches of namespaces from the root on, how many, the bytes of their keys with a dot after each,
 -- and the collection of the outermost label of the first, 0 for none.
@@ -26,20 +25,15 @@ unfoldable pub joined : (ws txt links : List ℕ) → ℕ → Str
 joined ws txt links zero = []
 joined ws txt links (suc n) = joined ws txt links n ++ (key-at ws txt (getD links n 0) ++ (dot ∷ []))
 
--- Link x is that of a branch of the level v, in a memory whose used records are right.
+-- Link x is that of a branch of the level v.
 pub record BranchAt (ws txt : List ℕ) (w : Which) (v : Level) (x : ℕ) : Type 0 where
-  pub records : ℕ
-  pub used : ℕ
-  pub sound : Used ws txt records used
   pub some : 0 < x
-  pub link : LinkOk ws (records + 1) x (kind w (tree v))
+  pub at : At ws txt w (tree v) x
 
 -- Link x is 0, or that of a collection with a label.
 pub record LabelAt (ws txt : List ℕ) (w : Which) (v : Level) (x : ℕ) : Type 0 where
-  pub records : ℕ
-  pub used : ℕ
-  pub sound : Used ws txt records used
-  pub ok : LabelOk ws w v records x
+  pub at : At ws txt w (list v) x
+  pub imports : 0 < x → sort-word (record-at ws x) ≡ 1
 
 -- The links are branches of namespaces, at most 16, and the length is that of their text.
 pub record PathOk (ws txt : List ℕ) (w : Which) (p : Path) : Type 0 where

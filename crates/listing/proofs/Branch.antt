@@ -13,7 +13,7 @@ use Rattle.source.specs.Terms.{depth}
 use Rattle.memory.specs.Layout.{record-at, trie-link, Which, Item, tree, trieˢ, kind, what}
 use Rattle.memory.specs.Sound.{LinkOk, At}
 use Rattle.memory.proofs.RecordOk.{record-as}
-use Rattle.memory.proofs.Seen.{link-ok, link-later}
+use Rattle.memory.proofs.Seen.{link-ok}
 use Rattle.tree.specs.Tree.{held}
 use Rattle.tree.specs.Links.{row-at}
 use Rattle.names.specs.Entries.{shown, outer}
@@ -28,17 +28,18 @@ use Rattle.lines.specs.declared.Found.{Found}
 use Rattle.listing.specs.Runs.{PathDown, Entered, PathSet, level-of, BranchReady, BranchRuns, TrieReady, TrieRuns, BranchAsked, BranchListed, TrieAsked, TrieListed}
 use Rattle.listing.specs.declared.Place.{Place}
 use Rattle.listing.proofs.PathDown.{branch-fits, path-down, on-path-down}
+use Rattle.memory.proofs.At.{at-of}
 
 -- The trie that a branch of namespaces holds.
 module _ {ws txt : List ℕ} {w : Which} {branch : ℕ} (b : BranchAt ws txt w ns branch) where
   child-link : LinkOk ws branch (trie-link (record-at ws branch)) (kind w trieˢ)
-  child-link = record-as (link-ok (b .sound) (b .link) (b .some)) w (tree ns) (b .link .of-kind (λ z. omega (arith, b .some))) .2
+  child-link = record-as (link-ok (b .at .sound) (b .at .link) (b .some)) w (tree ns) (b .at .link .of-kind (λ z. omega (arith, b .some))) .2
 
   pub child-earlier : trie-link (record-at ws branch) < branch
   child-earlier = child-link .earlier
 
   pub child-trie : At ws txt w trieˢ (trie-link (record-at ws branch))
-  child-trie = record { records = b .records; used = b .used; sound = b .sound; link = link-later (omega (arith, b .link .earlier)) child-link }
+  child-trie = at-of (b .at) trieˢ (omega arith) child-link
 
   pub child-reads : held w ws txt ns branch ≡ what w ws txt (trie-link (record-at ws branch)) trieˢ
   unfolding held

@@ -20,7 +20,6 @@ use Rattle.source.proofs.Rows.{names-find-rev-depth}
 use Rattle.source.specs.Forward.{found}
 use Rattle.memory.specs.Layout.{Which, Item, tree, list, what, key-at}
 use Rattle.memory.specs.Sound.{Used, At}
-use Rattle.memory.proofs.Seen.{link-later}
 use Rattle.tree.specs.Tree.{held, AnyTree}
 use Rattle.tree.specs.Links.{matches, head0, row-at}
 use Rattle.tree.proofs.Branches.{any-tree}
@@ -45,10 +44,9 @@ use Rattle.lines.specs.declared.Found.{Found}
 use Rattle.lines.proofs.Run.{same-path, same-then}
 use Rattle.listing.specs.Runs.{HasRoom, level-of, tree-entries, BranchReady, BranchRuns, TreeReady, EntriesRun, ListReady, ListRuns, BranchAsked, BranchListed, TreeAsked, TreeListed, ListAsked, ListListed}
 use Rattle.listing.specs.declared.Place.{Place}
-use Rattle.listing.proofs.PathDown.{branch-tree}
 use Rattle.listing.proofs.Runs.{branch-ready-at, branch-runs-at}
 use Rattle.listing.proofs.EntriesRun.{Left, left-all, left-none, left-spent, left-next}
-use Rattle.memory.proofs.At.{no-link, at-of}
+use Rattle.memory.proofs.At.{no-link, at-of, at-in}
 
 all-reverse : {A : Type 0} (P : A → Type 0) (l : List A) → Allˡ P l → Allˡ P (reverse l)
 all-reverse P [] a = tt
@@ -61,11 +59,11 @@ found-deep n term = all-reverse _ (names-find-rev n term) (names-find-rev-depth 
 
 -- No label.
 pub no-label : {ws txt : List ℕ} {w : Which} {v : Level} {n used : ℕ} → Used ws txt n used → LabelAt ws txt w v 0
-no-label {n = n} {used} o = record { records = n; used = used; sound = o; ok = record { link = no-link _ _; imports = λ h. absurd (omega arith) } }
+no-label {w = w} {v} o = record { at = at-in o w (list v) (no-link _ _); imports = λ h. absurd (omega arith) }
 
 -- A label no later than a list.
 label-here : {ws txt : List ℕ} {w : Which} {v : Level} {x label : ℕ} → At ws txt w (list v) x → LabelOk ws w v x label → LabelAt ws txt w v label
-label-here t o = record { records = t .records; used = t .used; sound = t .sound; ok = record { link = link-later (omega (arith, t .link .earlier)) (o .link); imports = o .imports } }
+label-here {v = v} t o = record { at = at-of t (list v) (omega arith) (o .link); imports = o .imports }
 
 -- ---- A tree's branches
 
@@ -125,7 +123,7 @@ module _ {ws txt : List ℕ} {ask : Ask} {rest : Str} {p : Path} {lim : Limits} 
       along-earlier = omega (arith, here .branch .link .earlier)
 
       branch-here : BranchAt ws txt (asked ask) (level-of leaf) at
-      branch-here = record { records = g .tree-at .records; used = g .tree-at .used; sound = g .tree-at .sound; some = here .branch .some; link = link-later (omega (arith, g .tree-at .link .earlier)) (here .branch .link) }
+      branch-here = record { some = here .branch .some; at = at-of (g .tree-at) (tree (level-of leaf)) (omega arith) (here .branch .link) }
 
       split : labelled label (onward ws txt prefix root at) ≡ record { branch = at; label = label } ∷ labelled label (later ws txt prefix root at)
       unfolding onward
@@ -140,7 +138,7 @@ module _ {ws txt : List ℕ} {ask : Ask} {rest : Str} {p : Path} {lim : Limits} 
       }
 
       pub along-tree : (0 < at) × AnyTree ws txt at
-      along-tree = (here .branch .some, any-tree (branch-tree branch-here))
+      along-tree = (here .branch .some, any-tree (branch-here .at))
 
       pub along-begins : starts-with (key-at ws txt at) prefix ≡ true
       along-begins = here .begins
@@ -342,13 +340,8 @@ module _ {ws txt : List ℕ} {query : Str} {place : Place} {x : ℕ} {run : List
               place-ok = r .place-ok;
               can = branch-ready-at (g .same) (record {
                 ready = r .can .ready;
-                branch-at = record { records = t .records; used = t .used; sound = t .sound; some = k .given .branch .some; link = link-later (omega (arith, t .link .earlier)) (k .given .branch .link) };
-                label-at = record {
-                  records = t .records;
-                  used = t .used;
-                  sound = t .sound;
-                  ok = record { link = link-later (omega (arith, t .link .earlier)) (k .given .label-ok .link); imports = k .given .label-ok .imports };
-                };
+                branch-at = record { some = k .given .branch .some; at = at-of t (tree _) (omega arith) (k .given .branch .link) };
+                label-at = record { at = at-of t (list _) (omega arith) (k .given .label-ok .link); imports = k .given .label-ok .imports };
                 room = λ z. (rw (k .is) at (g .left .room z)) .0;
               });
             }

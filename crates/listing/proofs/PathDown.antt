@@ -18,9 +18,8 @@ use Rattle.source.specs.Listing.{PathOf}
 use Rattle.source.specs.Table.{first-import-of-path}
 use Rattle.source.specs.Forward.{base}
 use Rattle.source.proofs.Paths.{first-import-one, first-import-more}
-use Rattle.memory.specs.Layout.{record-at, text-len, span, pick, Which, Item, key-at, tree, text-start}
+use Rattle.memory.specs.Layout.{record-at, text-len, span, pick, Which, Item, key-at, text-start}
 use Rattle.memory.proofs.Pasted.{span-length}
-use Rattle.memory.proofs.Seen.{link-fits}
 use Rattle.tree.specs.Links.{row-at}
 use Rattle.tree.proofs.Branches.{branch-right, any-tree, key-inside}
 use Rattle.names.specs.Entries.{label-at, shown, outer}
@@ -28,22 +27,19 @@ use Rattle.lines.specs.Path.{Path, joined, BranchAt, LabelAt, PathOk, OnPath}
 use Rattle.lines.proofs.Run.{joined-same}
 use Rattle.lines.specs.declared.Found.{Found}
 use Rattle.listing.specs.Runs.{PathDown, Entered, PathSet}
-use Rattle.memory.specs.Sound.{At}
+use Rattle.memory.proofs.At.{at-fits}
 
 -- A branch is a tree.
 module _ {ws txt : List ℕ} {w : Which} {v : Level} {x : ℕ} (b : BranchAt ws txt w v x) where
-  pub branch-tree : At ws txt w (tree v) x
-  branch-tree = record { records = b .records; used = b .used; sound = b .sound; link = b .link }
-
   pub branch-fits : (0 < x) × (x * 12 ≤ length ws)
-  branch-fits = (b .some, link-fits (b .sound) (b .link))
+  branch-fits = (b .some, at-fits (b .at))
 
   pub key-size : (length (key-at ws txt x) ≡ text-len (record-at ws x)) × (text-len (record-at ws x) ≤ 31)
   unfolding key-at
   key-size =
-      let k = branch-right branch-tree (b .some) .key in
+      let k = branch-right (b .at) (b .some) .key in
       let e : length (span txt (text-start (record-at ws x)) (text-len (record-at ws x))) ≡ text-len (record-at ws x) =
-      span-length txt (text-start (record-at ws x)) (text-len (record-at ws x)) (key-inside (any-tree branch-tree) (b .some)) in
+      span-length txt (text-start (record-at ws x)) (text-len (record-at ws x)) (key-inside (any-tree (b .at)) (b .some)) in
       (e, omega (arith, e, k .keeps .short))
 
 module _ {ws txt : List ℕ} {w : Which} {p r : Path} {branch label : ℕ} (ok : PathOk ws txt w p) (room : p .n < 16) (b : BranchAt ws txt w ns branch) (d : PathDown ws p branch label r) where
