@@ -6,7 +6,7 @@ use mathlib.Core.List.{List}
 use native.Mathlib.Omega.{arith}
 use lib.Dec.{ltb}
 use lib.IntN.{ℤ, pos, negsuc, _-ℤ_}
-use lib.ListN.{getD, set, take, drop}
+use lib.ListN.{getD, set}
 use lib.Seq.{getD-set-other}
 use lib.Signed.{mag, ltZ}
 use mir.Syntax.{w32}
@@ -20,7 +20,7 @@ use Rattle.source.specs.Lists.{Run, run-cmp}
 use Rattle.source.proofs.Order.{Viewℕ, compare-view}
 use Rattle.text.specs.Text.{ordering}
 use Rattle.text.specs.declared.Order.{Order}
-use Rattle.memory.specs.Layout.{record-at, span, key-at, text-len, text-start}
+use Rattle.memory.specs.Layout.{key-at}
 use Rattle.heap.specs.Compare.{cell-cmp, sign, Stands}
 
 -- ---- Signed differences of small numbers
@@ -68,10 +68,6 @@ pub is-lt-test : (z : ℤ) {o : Ordering} {t : Bool} → mag z < 2 ^ hbits w32 �
 is-lt-test z f e g = ap is-lt (sym e) ∙ sym (is-lt-sign z) ∙ ap (λ (x : ℤ). ltZ x (pos 0)) (sym (toZ-ofZ w32 z (sfits-of f))) ∙ g
 
 -- ---- The comparator
-pub key-part : (ws txt : List ℕ) (l i a : ℕ) → i ≡ text-start (record-at ws l) → a ≡ text-len (record-at ws l) → take (i + a - i) (drop i txt) ≡ key-at ws txt l
-unfolding key-at span
-key-part ws txt l i a p q = let e : i + a - i ≡ a = omega arith in rw (e, p, q)
-
 module _ (ws txt heads : List ℕ) (n a b : ℕ) {o : Order} (e : ordering o ≡ string-compare (key-at ws txt (getD heads a 0)) (key-at ws txt (getD heads b 0))) where
   pub by-key : (s : Order) → o ≡ s → then (ordering s) (compare (n - 1 - a) (n - 1 - b)) ≡ cell-cmp ws txt heads n a b
   unfolding cell-cmp

@@ -1,23 +1,18 @@
 -- How two cells compare: by the keys of their heads, then by their priorities.
-use Prim.Native.Nat.{ℕ, zero, suc, _+_, _-_, _*_, _≤_, _<_, compare, Ordering, Ordering·lt, Ordering·eq, Ordering·gt}
+use Prim.Native.Nat.{ℕ, zero, suc, _-_, _≤_, _<_, compare, Ordering, Ordering·lt, Ordering·eq, Ordering·gt}
 use mathlib.Core.Path.{_≡_}
 use mathlib.Core.List.{List}
 use lib.IntN.{ℤ, pos, negsuc}
-use lib.ListN.{length, getD}
+use lib.ListN.{getD}
 use Rattle.source.specs.Text.{Str, then, string-compare}
 use Rattle.source.specs.Lists.{Run, first, priority}
-use Rattle.memory.specs.Layout.{record-at, key-at, text-len, text-start}
+use Rattle.memory.specs.Read.{TextIn}
+use Rattle.memory.specs.Layout.{key-at}
 
--- A link of a record with its key in the text.
-pub record Head (ws txt : List ℕ) (l : ℕ) : Type 0 where
-  pub named : 0 < l
-  pub within : l * 12 ≤ length ws
-  pub key : text-start (record-at ws l) + text-len (record-at ws l) ≤ length txt
-
--- At most 96 cells, and each one's head is such a link.
+-- At most 96 cells, and each one's head is a link of a record with its key in the text.
 pub record Heads (ws txt heads : List ℕ) (n : ℕ) : Type 0 where
   pub few : n ≤ 96
-  pub each : (j : ℕ) → j < n → Head ws txt (getD heads j 0)
+  pub each : (j : ℕ) → j < n → TextIn ws txt (getD heads j 0)
 
 -- The source's run-cmp on n cells: cell j has priority n - 1 - j.
 unfoldable pub cell-cmp : List ℕ → List ℕ → List ℕ → ℕ → ℕ → ℕ → Ordering

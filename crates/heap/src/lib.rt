@@ -9,7 +9,8 @@ ghost use Rattle.source.specs.Text.{string-compare};
 ghost use Rattle.source.specs.Heap.{Heap, Forest, heap-from-list};
 ghost use Rattle.text.specs.Text.{ordering};
 ghost use Rattle.memory.specs.Layout.{key-at};
-ghost use Rattle.heap.specs.Compare.{Head, Heads, cell-cmp, sign};
+ghost use Rattle.memory.specs.Read.{TextIn};
+ghost use Rattle.heap.specs.Compare.{Heads, cell-cmp, sign};
 ghost use Rattle.heap.specs.Cells.{Root, Rep, Repᶠ, Merges, Inserts, Pairs, Pops, first-cells};
 
 // How many lists a merge takes, and so how many cells there are. As a cell it is none.
@@ -32,15 +33,14 @@ pub struct Cells {
 
 // How the keys of two branches compare.
 fn compare_keys(words: &[u32], text: &[u8], x: u32, y: u32) -> Order
-    requires { ⌜ Head (now words) (now text) x ⌝ }
-    requires { ⌜ Head (now words) (now text) y ⌝ }
+    requires { ⌜ TextIn (now words) (now text) x ⌝ }
+    requires { ⌜ TextIn (now words) (now text) y ⌝ }
     ensures { λ r. ⌜ ordering r ≡ string-compare (key-at (now (words .entry)) (now (text .entry)) x) (key-at (now (words .entry)) (now (text .entry)) y) ⌝ }
 {
-    let i = memory::word_of(words, x, memory::TEXT_START) as usize;
-    let a = memory::word_of(words, x, memory::TEXT_LEN) as usize;
-    let j = memory::word_of(words, y, memory::TEXT_START) as usize;
-    let b = memory::word_of(words, y, memory::TEXT_LEN) as usize;
-    text::string_compare(&text[i..i + a], &text[j..j + b])
+    text::string_compare(
+        memory::key_of(words, text, x),
+        memory::key_of(words, text, y),
+    )
 }
 
 // The difference of the priorities of two of `n` cells: a later cell has a smaller priority.

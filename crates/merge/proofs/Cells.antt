@@ -11,11 +11,12 @@ use Rattle.source.specs.Heap.{Heap}
 use Rattle.source.specs.Lists.{first, priority}
 use Rattle.source.specs.Shared.{Allˡ}
 use Rattle.memory.specs.Layout.{Which, tree, key-at, list}
+use Rattle.memory.specs.Read.{TextIn}
 use Rattle.memory.proofs.Seen.{link-later}
-use Rattle.heap.specs.Compare.{Head, Heads, Stands}
+use Rattle.heap.specs.Compare.{Heads, Stands}
 use Rattle.tree.specs.Tree.{AnyTree}
 use Rattle.tree.specs.Links.{matches, head0}
-use Rattle.tree.proofs.Branches.{tree-fits, key-inside}
+use Rattle.tree.proofs.Branches.{text-in}
 use Rattle.tree.specs.Links.{BranchOf}
 use Rattle.tree.proofs.Matches.{MatchOf, matches-of, matches-increasing, all-after, after-next}
 use Rattle.names.specs.Entries.{entry-key}
@@ -58,8 +59,8 @@ module _ {ws txt : List ℕ} {w : Which} {v : Level} {x : ℕ} (here : At ws txt
   pub branch-tree : {y : ℕ} → BranchOf ws w v x y → (0 < y) × AnyTree ws txt y
   branch-tree o = (o .some, record { which = w; level = v; tree = at-of here (tree _) (omega arith) (o .link) })
 
-  pub branch-head : {y : ℕ} → BranchOf ws w v x y → Head ws txt y
-  branch-head o = let t = branch-tree o in record { named = t .0; within = tree-fits (t .1); key = key-inside (t .1) (t .0) }
+  pub branch-head : {y : ℕ} → BranchOf ws w v x y → TextIn ws txt y
+  branch-head o = let t = branch-tree o in text-in (t .1) (t .0)
 
 module _ {ws txt : List ℕ} {w : Which} {v : Level} {x : ℕ} {p : Str} {m : Merge} {h : Heap ℕ} (g : Holding ws txt w v x p m h) where
   pub cell-tree : (j : ℕ) → j < m .n → At ws txt w (tree v) (getD (m .roots) j 0)
