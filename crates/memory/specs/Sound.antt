@@ -7,6 +7,7 @@ use lib.ListN.{length}
 use Rattle.source.specs.Text.{Str}
 use Rattle.source.specs.Types.{Level, NameList, bind, ns}
 use Rattle.source.specs.Terms.{weight, depth, depth-tree, depth-names}
+use Rattle.source.specs.Limits.{heaviest-list, deepest-trie, most-used, record-words}
 use Rattle.source.specs.Rules.{IsKey, IsLabel, IsFullName, IsPath, Ordered}
 use Rattle.memory.specs.Layout.{record-at, word, span, Which, names, modules, Item, Sort, tree, list, trieˢ, Of, kind, what}
 use Rattle.memory.specs.declared.Header.{Header}
@@ -59,10 +60,10 @@ abbrev pub ItemOk : List ℕ → ℕ → Which → List ℕ → Type 0
 ItemOk txt used names r = Unit {0}
 ItemOk txt used modules r = SymbolOk txt used r
 
--- The weight of a list: as stored, and at most 96.
+-- The weight of a list: as stored, and no more than a list may weigh.
 pub record WeightOk {A : Type 0} {v : Level} (r : List ℕ) (t : NameList A v) : Type 0 where
   pub weighs : word r 10 ≡ weight t
-  pub light : weight t ≤ 96
+  pub light : weight t ≤ heaviest-list
 
 -- The record r of link l, which reads as t: links and texts; keys ascend strictly; weights and depths.
 abbrev pub RecordAs : (ws txt : List ℕ) (used l : ℕ) (w : Which) (s : Sort) (r : List ℕ) (t : Of (Item w) s) → Type 0
@@ -70,7 +71,7 @@ RecordAs ws txt used l w (tree bind) r t = BranchOk ws txt used l w r bind × Or
 RecordAs ws txt used l w (tree ns) r t = BranchOk ws txt used l w r ns × Ordered t × LinkOk ws l (word r 5) (kind w trieˢ) × (word r 11 ≡ depth-tree t)
 RecordAs ws txt used l w (list bind) r t = CollectionOk ws txt used l w r bind × WeightOk r t
 RecordAs ws txt used l w (list ns) r t = CollectionOk ws txt used l w r ns × WeightOk r t × (word r 11 ≡ depth-names t)
-RecordAs ws txt used l w trieˢ r t = TrieOk ws txt used l w r × (word r 11 ≡ depth t) × (depth t ≤ 16)
+RecordAs ws txt used l w trieˢ r t = TrieOk ws txt used l w r × (word r 11 ≡ depth t) × (depth t ≤ deepest-trie)
 
 -- The record of link l has a known kind, and is right as what that kind says.
 pub record RecordOk (ws txt : List ℕ) (used l : ℕ) : Type 0 where
@@ -81,9 +82,9 @@ pub record RecordOk (ws txt : List ℕ) (used l : ℕ) : Type 0 where
 
 -- The records in use, and the text in use: they fit, and each record is right.
 pub record Used (ws txt : List ℕ) (records used : ℕ) : Type 0 where
-  pub few : records ≤ 65536
-  pub short : used ≤ 65536
-  pub records-fit : records * 12 ≤ length ws
+  pub few : records ≤ most-used
+  pub short : used ≤ most-used
+  pub records-fit : records * record-words ≤ length ws
   pub text-fits : used ≤ length txt
   pub rows : (l : ℕ) → 0 < l → l ≤ records → RecordOk ws txt used l
 
