@@ -122,11 +122,14 @@ fn pass(words: &[u32], text: &[u8], header: Header, least: &mut [u32], greatest:
     true
 }
 
-// Is the lent memory a sound table, with this header? Notes for 1,024 records: in larger tables a way goes on until it is noted.
+// Records that are noted: in larger tables a way goes on until it is noted.
+const NOTES: usize = 1024;
+
+// Is the lent memory a sound table, with this header?
 pub fn sound(words: &[u32], text: &[u8], header: Header) -> bool
     ensures { λ r. ⌜ Says r (Sound (now (words .entry)) (now (text .entry)) header) ⌝ }
 {
-    let mut least = [0; 1025];
-    let mut greatest = [0; 1025];
+    let mut least = [0; NOTES + 1];
+    let mut greatest = [0; NOTES + 1];
     pass(words, text, header, &mut least, &mut greatest)
 }
