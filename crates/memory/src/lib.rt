@@ -2,6 +2,7 @@
 ghost use mathlib.Core.Path.{_≡_};
 ghost use Prim.Native.Nat.{_+_, _*_, _≤_, _<_};
 ghost use lib.ListN.{length};
+ghost use Rattle.source.specs.Limits.{record-words};
 ghost use Rattle.memory.specs.Layout.{record-at, word, text-len, left-link, right-link, trie-link, number-word, own-link, rest-link, sort-word, note-link, note-side, key-at};
 ghost use Rattle.memory.specs.Stored.{stored, weight-in, depth-in, trie-in, left-in, right-in};
 ghost use Rattle.memory.specs.Grown.{put, put-text};
@@ -154,7 +155,7 @@ pub struct Trie {
 
 // Word `k` of the record that `link` names.
 pub fn word_of(words: &[u32], link: u32, k: usize) -> u32
-    requires { ⌜ (0 < link) × (k < 12) × (link * 12 ≤ length (now words)) ⌝ }
+    requires { ⌜ (0 < link) × (k < record-words) × (link * record-words ≤ length (now words)) ⌝ }
     ensures { λ r. ⌜ r ≡ word (record-at (now (words .entry)) link) k ⌝ }
 {
     let at = (link as usize - 1) * ROW + k;
@@ -163,7 +164,7 @@ pub fn word_of(words: &[u32], link: u32, k: usize) -> u32
 
 // The same, 0 of the link 0.
 pub fn stored(words: &[u32], link: u32, k: usize) -> u32
-    requires { ⌜ (k < 12) × (link * 12 ≤ length (now words)) ⌝ }
+    requires { ⌜ (k < record-words) × (link * record-words ≤ length (now words)) ⌝ }
     ensures { λ r. ⌜ r ≡ stored (now (words .entry)) link k ⌝ }
 {
     if link == 0 {
@@ -176,7 +177,7 @@ pub fn stored(words: &[u32], link: u32, k: usize) -> u32
 
 // The length of the key of a branch, or of the label of a collection.
 pub fn text_len(words: &[u32], link: u32) -> u32
-    requires { ⌜ (0 < link) × (link * 12 ≤ length (now words)) ⌝ }
+    requires { ⌜ (0 < link) × (link * record-words ≤ length (now words)) ⌝ }
     ensures { λ r. ⌜ r ≡ text-len (record-at (now (words .entry)) link) ⌝ }
 {
     word_of(words, link, TEXT_LEN)
@@ -184,7 +185,7 @@ pub fn text_len(words: &[u32], link: u32) -> u32
 
 // The left side of a branch.
 pub fn left_of(words: &[u32], link: u32) -> u32
-    requires { ⌜ (0 < link) × (link * 12 ≤ length (now words)) ⌝ }
+    requires { ⌜ (0 < link) × (link * record-words ≤ length (now words)) ⌝ }
     ensures { λ r. ⌜ r ≡ left-link (record-at (now (words .entry)) link) ⌝ }
 {
     word_of(words, link, LEFT)
@@ -192,7 +193,7 @@ pub fn left_of(words: &[u32], link: u32) -> u32
 
 // The right side of a branch.
 pub fn right_of(words: &[u32], link: u32) -> u32
-    requires { ⌜ (0 < link) × (link * 12 ≤ length (now words)) ⌝ }
+    requires { ⌜ (0 < link) × (link * record-words ≤ length (now words)) ⌝ }
     ensures { λ r. ⌜ r ≡ right-link (record-at (now (words .entry)) link) ⌝ }
 {
     word_of(words, link, RIGHT)
@@ -200,7 +201,7 @@ pub fn right_of(words: &[u32], link: u32) -> u32
 
 // The trie that a branch of namespaces holds.
 pub fn held_of(words: &[u32], link: u32) -> u32
-    requires { ⌜ (0 < link) × (link * 12 ≤ length (now words)) ⌝ }
+    requires { ⌜ (0 < link) × (link * record-words ≤ length (now words)) ⌝ }
     ensures { λ r. ⌜ r ≡ trie-link (record-at (now (words .entry)) link) ⌝ }
 {
     word_of(words, link, HELD)
@@ -208,7 +209,7 @@ pub fn held_of(words: &[u32], link: u32) -> u32
 
 // The number of a name.
 pub fn number_of(words: &[u32], link: u32) -> u32
-    requires { ⌜ (0 < link) × (link * 12 ≤ length (now words)) ⌝ }
+    requires { ⌜ (0 < link) × (link * record-words ≤ length (now words)) ⌝ }
     ensures { λ r. ⌜ r ≡ number-word (record-at (now (words .entry)) link) ⌝ }
 {
     word_of(words, link, NUMBER)
@@ -216,7 +217,7 @@ pub fn number_of(words: &[u32], link: u32) -> u32
 
 // The tree of a collection, or its imported list.
 pub fn own_of(words: &[u32], link: u32) -> u32
-    requires { ⌜ (0 < link) × (link * 12 ≤ length (now words)) ⌝ }
+    requires { ⌜ (0 < link) × (link * record-words ≤ length (now words)) ⌝ }
     ensures { λ r. ⌜ r ≡ own-link (record-at (now (words .entry)) link) ⌝ }
 {
     word_of(words, link, OWN)
@@ -224,7 +225,7 @@ pub fn own_of(words: &[u32], link: u32) -> u32
 
 // The list after a collection.
 pub fn rest_of(words: &[u32], link: u32) -> u32
-    requires { ⌜ (0 < link) × (link * 12 ≤ length (now words)) ⌝ }
+    requires { ⌜ (0 < link) × (link * record-words ≤ length (now words)) ⌝ }
     ensures { λ r. ⌜ r ≡ rest-link (record-at (now (words .entry)) link) ⌝ }
 {
     word_of(words, link, REST)
@@ -232,7 +233,7 @@ pub fn rest_of(words: &[u32], link: u32) -> u32
 
 // The sort of a collection: OF_TREE or IMPORTED.
 pub fn sort_of(words: &[u32], link: u32) -> u32
-    requires { ⌜ (0 < link) × (link * 12 ≤ length (now words)) ⌝ }
+    requires { ⌜ (0 < link) × (link * record-words ≤ length (now words)) ⌝ }
     ensures { λ r. ⌜ r ≡ sort-word (record-at (now (words .entry)) link) ⌝ }
 {
     word_of(words, link, SORT)
@@ -240,7 +241,7 @@ pub fn sort_of(words: &[u32], link: u32) -> u32
 
 // The link that a note has.
 pub fn note_link(words: &[u32], link: u32) -> u32
-    requires { ⌜ (0 < link) × (link * 12 ≤ length (now words)) ⌝ }
+    requires { ⌜ (0 < link) × (link * record-words ≤ length (now words)) ⌝ }
     ensures { λ r. ⌜ r ≡ note-link (record-at (now (words .entry)) link) ⌝ }
 {
     word_of(words, link, NOTE_LINK)
@@ -248,7 +249,7 @@ pub fn note_link(words: &[u32], link: u32) -> u32
 
 // The side that a note has.
 pub fn note_side(words: &[u32], link: u32) -> u32
-    requires { ⌜ (0 < link) × (link * 12 ≤ length (now words)) ⌝ }
+    requires { ⌜ (0 < link) × (link * record-words ≤ length (now words)) ⌝ }
     ensures { λ r. ⌜ r ≡ note-side (record-at (now (words .entry)) link) ⌝ }
 {
     word_of(words, link, NOTE_SIDE)
@@ -258,7 +259,7 @@ pub fn note_side(words: &[u32], link: u32) -> u32
 
 // The weight of a list.
 pub fn weight_of(words: &[u32], link: u32) -> u32
-    requires { ⌜ link * 12 ≤ length (now words) ⌝ }
+    requires { ⌜ link * record-words ≤ length (now words) ⌝ }
     ensures { λ r. ⌜ r ≡ weight-in (now (words .entry)) link ⌝ }
 {
     stored(words, link, WEIGHT)
@@ -266,7 +267,7 @@ pub fn weight_of(words: &[u32], link: u32) -> u32
 
 // The depth of a tree or a list of namespaces, or of a trie.
 pub fn depth_of(words: &[u32], link: u32) -> u32
-    requires { ⌜ link * 12 ≤ length (now words) ⌝ }
+    requires { ⌜ link * record-words ≤ length (now words) ⌝ }
     ensures { λ r. ⌜ r ≡ depth-in (now (words .entry)) link ⌝ }
 {
     stored(words, link, DEPTH)
@@ -274,7 +275,7 @@ pub fn depth_of(words: &[u32], link: u32) -> u32
 
 // The trie that a branch of namespaces holds.
 pub fn trie_held(words: &[u32], link: u32) -> u32
-    requires { ⌜ link * 12 ≤ length (now words) ⌝ }
+    requires { ⌜ link * record-words ≤ length (now words) ⌝ }
     ensures { λ r. ⌜ r ≡ trie-in (now (words .entry)) link ⌝ }
 {
     stored(words, link, HELD)
@@ -282,7 +283,7 @@ pub fn trie_held(words: &[u32], link: u32) -> u32
 
 // The left side of a branch.
 pub fn left_side(words: &[u32], link: u32) -> u32
-    requires { ⌜ link * 12 ≤ length (now words) ⌝ }
+    requires { ⌜ link * record-words ≤ length (now words) ⌝ }
     ensures { λ r. ⌜ r ≡ left-in (now (words .entry)) link ⌝ }
 {
     stored(words, link, LEFT)
@@ -290,7 +291,7 @@ pub fn left_side(words: &[u32], link: u32) -> u32
 
 // The right side of a branch.
 pub fn right_side(words: &[u32], link: u32) -> u32
-    requires { ⌜ link * 12 ≤ length (now words) ⌝ }
+    requires { ⌜ link * record-words ≤ length (now words) ⌝ }
     ensures { λ r. ⌜ r ≡ right-in (now (words .entry)) link ⌝ }
 {
     stored(words, link, RIGHT)
@@ -310,7 +311,7 @@ pub fn key_of<'a>(words: &[u32], text: &'a [u8], link: u32) -> &'a [u8]
 
 // The twelve words of the record that `link` names.
 pub fn row_of(words: &[u32], link: u32) -> [u32; ROW]
-    requires { ⌜ (0 < link) × (link * 12 ≤ length (now words)) ⌝ }
+    requires { ⌜ (0 < link) × (link * record-words ≤ length (now words)) ⌝ }
     ensures { λ r. ⌜ r ≡ record-at (now (words .entry)) link ⌝ }
 {
     let mut row = [0; ROW];
@@ -324,7 +325,7 @@ pub fn row_of(words: &[u32], link: u32) -> [u32; ROW]
 
 // The mod symbol of the branch that `link` names.
 pub fn symbol_of(words: &[u32], link: u32) -> ModSymbol
-    requires { ⌜ (0 < link) × (link * 12 ≤ length (now words)) ⌝ }
+    requires { ⌜ (0 < link) × (link * record-words ≤ length (now words)) ⌝ }
     ensures { λ r. ⌜ r ≡ symbol-in (record-at (now (words .entry)) link) ⌝ }
 {
     let name = Span {
@@ -344,7 +345,7 @@ pub fn symbol_of(words: &[u32], link: u32) -> ModSymbol
 
 // The branch that `link` names.
 pub fn branch_of(words: &[u32], link: u32) -> Branch
-    requires { ⌜ (0 < link) × (link * 12 ≤ length (now words)) ⌝ }
+    requires { ⌜ (0 < link) × (link * record-words ≤ length (now words)) ⌝ }
     ensures { λ r. ⌜ ReadBranch (record-at (now (words .entry)) link) r ⌝ }
 {
     let key = Span {
@@ -362,7 +363,7 @@ pub fn branch_of(words: &[u32], link: u32) -> Branch
 
 // The collection that `link` names.
 pub fn collection_of(words: &[u32], link: u32) -> Collection
-    requires { ⌜ (0 < link) × (link * 12 ≤ length (now words)) ⌝ }
+    requires { ⌜ (0 < link) × (link * record-words ≤ length (now words)) ⌝ }
     ensures { λ r. ⌜ ReadCollection (record-at (now (words .entry)) link) r ⌝ }
 {
     let label = Span {
@@ -380,7 +381,7 @@ pub fn collection_of(words: &[u32], link: u32) -> Collection
 
 // The trie that `link` names, the empty one of the link 0.
 pub fn trie_of(words: &[u32], link: u32) -> Trie
-    requires { ⌜ link * 12 ≤ length (now words) ⌝ }
+    requires { ⌜ link * record-words ≤ length (now words) ⌝ }
     ensures { λ r. ⌜ ReadTrie (now (words .entry)) link r ⌝ }
 {
     Trie {
@@ -394,7 +395,7 @@ pub fn trie_of(words: &[u32], link: u32) -> Trie
 
 // Writes the twelve words of `row` as record number `used`.
 pub fn put_row(words: &mut [u32], used: u32, row: &[u32; ROW])
-    requires { ⌜ (used * 12 + 12 ≤ length (now words)) × (length (now row) ≡ 12) ⌝ }
+    requires { ⌜ (used * record-words + record-words ≤ length (now words)) × (length (now row) ≡ record-words) ⌝ }
     ensures { λ _. ⌜ now (words .exit) ≡ put (now (words .entry)) used (now (row .entry)) ⌝ }
 {
     let base = used as usize * ROW;
