@@ -6,7 +6,7 @@ use mathlib.Core.List.{List}
 use Rattle.source.specs.Calls as C
 use Rattle.source.specs.Calls.{State, Call, register}
 use Rattle.text.specs.Laid.{Laid}
-use Rattle.script.specs.Script.{Str}
+use Rattle.numerals.specs.Bytes.{Str}
 use Rattle.script.specs.declared.Import.{Import}
 use Rattle.script.specs.declared.Import.the-variants.{Include, OpenModule, OpenNamespace}
 use Rattle.replies.specs.Replies.{ok-reply, refused-reply}
