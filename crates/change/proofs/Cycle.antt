@@ -25,14 +25,15 @@ use Rattle.names.proofs.Made.{made-then, made-what, made-link, made-room}
 use Rattle.kinds.specs.Shapes.{shape-of}
 use Rattle.kinds.specs.declared.Form.{Form}
 use Rattle.kinds.specs.declared.Form.the-variants as form
-use Rattle.change.specs.declared.Change.{Change}
+use Rattle.leaves.specs.declared.Change.{Change}
 use Rattle.lookup.specs.Tries.{Reads}
-use Rattle.change.specs.Changes.{between, passed, which-of, Kinds, node-of, leaf-of, mutated, namespaces-mutated, Cut, Included, ChangeOk, Leaf, Node, NamespacesMutation, Mutation, Builds, LeafBuilt, NodeBuilt, NamespacesMutated, Mutated}
+use Rattle.leaves.specs.Leaves.{which-of, leaf-of, Included, ChangeOk, Leaf, Builds, LeafBuilt}
+use Rattle.change.specs.Changes.{between, passed, Kinds, node-of, mutated, namespaces-mutated, Cut, Node, NamespacesMutation, Mutation, NodeBuilt, NamespacesMutated, Mutated}
 use Rattle.memory.proofs.Tries.{Lists, lists-in}
 use Rattle.lookup.proofs.Links.{holder-scope}
 use Rattle.change.proofs.Between.{place-next, passed-next, key-in}
-use Rattle.change.proofs.Building.{inserted-within, scope-insertion, scope-built}
-use Rattle.change.proofs.Leaves.{less-room}
+use Rattle.leaves.proofs.Building.{inserted-within, scope-insertion, scope-built}
+use Rattle.leaves.proofs.Leaves.{less-room}
 
 -- ---- namespaces_mutate
 module _ {ws txt : List ℕ} {n used x from at len end : ℕ} {ch : Change} (g : NamespacesMutation ws txt n used x from at len end ch) where

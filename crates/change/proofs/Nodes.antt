@@ -26,19 +26,20 @@ use Rattle.memory.specs.declared.Span.{Span}
 use Rattle.kinds.specs.Shapes.{shape-of}
 use Rattle.kinds.specs.declared.Form.{Form}
 use Rattle.kinds.specs.declared.Form.the-variants as form
-use Rattle.change.specs.declared.Change.{Change}
+use Rattle.leaves.specs.declared.Change.{Change}
 use Rattle.names.specs.Names.{NamesPlaced}
 use Rattle.names.specs.Made.{Room, MadeTrie}
 use Rattle.names.specs.Insert.{NamesInsertion, AnyNamesInsertion, NamesInserts}
 use Rattle.names.proofs.Made.{made-none}
 use Rattle.names.proofs.NamesInsertion.{insertion-after}
 use Rattle.lookup.specs.Tries.{NsInserts}
-use Rattle.change.specs.Changes.{between, passed, which-of, Kinds, bindings-by, node-of, symbol-row, Some, Bindings, Node, Builds, BindingsBuilt}
+use Rattle.leaves.specs.Leaves.{which-of, Some, Builds}
+use Rattle.change.specs.Changes.{between, passed, Kinds, bindings-by, node-of, symbol-row, Bindings, Node, BindingsBuilt}
 use Rattle.lookup.proofs.Found.{some-left}
 use Rattle.change.proofs.Between.{span-length, place-next, key-in, full-name-is, full-name-in}
 use Rattle.memory.proofs.Tries.{Lists, lists-in}
-use Rattle.change.proofs.Building.{builds-none, builds-insert, placed-light, placed-count, bindings-ready, bindings-built}
-use Rattle.change.proofs.Leaves.{less-room}
+use Rattle.leaves.proofs.Building.{builds-none, builds-insert, placed-light, placed-count, bindings-ready, bindings-built}
+use Rattle.leaves.proofs.Leaves.{less-room}
 
 -- ---- kinds
 module _ (ch : Change) where

@@ -1,4 +1,4 @@
--- Changes of a trie: the source's mut_node and mut_leaf of each with their records, and what the cycle asks and makes.
+-- Changes of a trie along a query: the source's mut_node with its records, and what the cycle asks and makes.
 use Prim.Native.Nat.{ℕ, _+_, _-_, _≤_, _<_}
 use mathlib.Core.Path.{_≡_}
 use mathlib.Core.Bool.{Bool, true, false, cond}
@@ -20,7 +20,8 @@ use Rattle.kinds.specs.declared.Kind.{Kind}
 use Rattle.kinds.specs.declared.Kind.the-variants.{Name, Include, Open, Alias, Module}
 use Rattle.kinds.specs.declared.Form.{Form}
 use Rattle.kinds.specs.declared.Form.the-variants as form
-use Rattle.change.specs.declared.Change.{Change}
+use Rattle.leaves.specs.declared.Change.{Change}
+use Rattle.leaves.specs.Leaves.{which-by, which-of, leaf-of, TextFor, ChangeOk, Fits, Builds}
 
 -- ---- Queries in the text
 
@@ -51,31 +52,9 @@ pub record Cut (txt : List ℕ) (at len end : ℕ) : Type 0 where
 
 -- ---- Changes
 
--- The table that a form changes.
-abbrev pub which-by : Form → Which
-which-by form.Name = names
-which-by form.Import = names
-which-by (form.Module loaded) = modules
-
--- The table that a change is of.
-abbrev pub which-of : Change → Which
-which-of ch = which-by (shape-of (ch .kind) .form)
-
 -- What is added to the kinds of the names table in the table of a change.
 abbrev pub Kinds : Change → ℕ → Type 0
 Kinds ch r = (r ≤ 5) × ((s : Sort) → kind (which-of ch) s ≡ kind-in s + r)
-
--- A change by its parts.
-abbrev pub change-of : Kind → (text key : Span) (inc : ℕ) → Change
-change-of k text key inc = record { kind = k; text = text; key = key; inc = inc }
-
--- The change ch, where its kind is k.
-abbrev pub with-kind : Kind → Change → Change
-with-kind k ch = change-of k (ch .text) (ch .key) (ch .inc)
-
--- The label of an included query: without its last dot.
-abbrev pub label-in : Span → Span
-label-in text = record { start = text .start; len = text .len - 1 }
 
 -- The bindings that mut_node gives a trie: a module path's alone are changed.
 unfoldable pub bindings-by : List ℕ → (f : Form) → Span → NameList (Item (which-by f)) bind → Str → Query → Query → Counted (NameList (Item (which-by f)) bind)
@@ -89,28 +68,6 @@ node-of txt ch tr s q revq n = do
   b ← bindings-by txt (shape-of (ch .kind) .form) (ch .text) (bindings tr) s q revq
   one (trie b n)
 
--- mut_leaf of each kind: inc is the included trie.
-unfoldable pub leaf-by : (ws txt : List ℕ) (k : Kind) (text key : Span) (inc : ℕ) → Trie (Item (which-by (shape-of k .form))) → Counted (Trie (Item (which-by (shape-of k .form))))
-leaf-by ws txt (Name number) text key inc tr = do
-  b ← names-insertᶜ (bindings tr) (text-of txt text) (item number)
-  one (trie b (namespaces tr))
-leaf-by ws txt Include text key inc tr = do
-  b ← one (ImportedNames (text-of txt (label-in text)) (bindings (what names ws txt inc trieˢ)) (bindings tr))
-  one (trie b (namespaces tr))
-leaf-by ws txt Open text key inc tr = do
-  n ← one (ImportedNames (text-of txt (label-in text)) (namespaces (what names ws txt inc trieˢ)) (namespaces tr))
-  one (trie (bindings tr) n)
-leaf-by ws txt Alias text key inc tr = do
-  scope ← do
-    b ← one (ImportedNames (text-of txt (label-in text)) (bindings (what names ws txt inc trieˢ)) []ᴺ)
-    one (trie b []ᴺ)
-  n ← names-insertᶜ (namespaces tr) (text-of txt key) scope
-  one (trie (bindings tr) n)
-leaf-by ws txt (Module loaded) text key inc tr = pure tr
-
-abbrev pub leaf-of : (ws txt : List ℕ) (ch : Change) → Trie (Item (which-of ch)) → Counted (Trie (Item (which-of ch)))
-leaf-of ws txt ch tr = leaf-by ws txt (ch .kind) (ch .text) (ch .key) (ch .inc) tr
-
 -- trie_mutate of a change.
 abbrev pub mutated : (ws txt : List ℕ) (ch : Change) → Trie (Item (which-of ch)) → (from at end : ℕ) → Counted (Trie (Item (which-of ch)))
 mutated ws txt ch tr from at end = trie-mutateᶜ tr (between txt at end) (passed txt from at) (node-of txt ch) (λ tr _. leaf-of ws txt ch tr)
@@ -123,47 +80,11 @@ namespaces-mutated ws txt ch n from at len end = do
 
 -- ---- What a change asks
 
--- The second text, by the form.
-abbrev pub TextFor : Form → (txt : List ℕ) (used : ℕ) → Span → Type 0
-TextFor form.Name txt used text = TextOk IsKey txt used (text .start) (text .len)
-TextFor form.Import txt used text = TextOk IsLabel txt used (text .start) (text .len - 1)
-TextFor (form.Module loaded) txt used text = TextOk IsPath txt used (text .start) (text .len)
-
--- The key, where the kind has one.
-abbrev pub KeyFor : (keyed : Bool) (txt : List ℕ) (used : ℕ) → Span → Type 0
-KeyFor true txt used key = TextOk IsKey txt used (key .start) (key .len)
-KeyFor false txt used key = Unit {0}
-
--- The included trie of an import.
-abbrev pub Included : Form → (ws : List ℕ) (n inc : ℕ) → Type 0
-Included form.Name ws n inc = Unit {0}
-Included form.Import ws n inc = LinkOk ws (n + 1) inc (kind names trieˢ)
-Included (form.Module loaded) ws n inc = Unit {0}
-
--- A memory with a change to make.
-pub record ChangeOk (ws txt : List ℕ) (n used : ℕ) (ch : Change) : Type 0 where
-  pub sound : Used ws txt n used
-  pub text : TextFor (shape-of (ch .kind) .form) txt used (ch .text)
-  pub key : KeyFor (shape-of (ch .kind) .keyed) txt used (ch .key)
-  pub inc : Included (shape-of (ch .kind) .form) ws n (ch .inc)
-
--- Room for the records of a trie, and no list of it too heavy, nor itself too deep.
-pub record Fits {A : Type 0} (ws : List ℕ) (n : ℕ) (c : Counted (Trie A)) : Type 0 where
-  pub room : Room ws n (c .count)
-  pub light : heaviest (c .value) ≤ 96
-  pub shallow : depth (c .value) ≤ 16
-
 -- The same of a list of namespaces.
 pub record FitsNames {A : Type 0} (ws : List ℕ) (n : ℕ) (c : Counted (NameList A ns)) : Type 0 where
   pub room : Room ws n (c .count)
   pub light : heaviest-names (c .value) ≤ 96
   pub shallow : depth-names (c .value) ≤ 16
-
--- What mut_leaf asks.
-pub record Leaf (ws txt : List ℕ) (n used x : ℕ) (ch : Change) : Type 0 where
-  pub change : ChangeOk ws txt n used ch
-  pub link : LinkOk ws (n + 1) x (kind (which-of ch) trieˢ)
-  pub fits : Fits ws n (leaf-of ws txt ch (what (which-of ch) ws txt x trieˢ))
 
 -- What the change of a trie's bindings asks, on the way down a query.
 pub record Bindings (ws txt : List ℕ) (n used x from at len end : ℕ) (f : Form) (text : Span) : Type 0 where
@@ -199,22 +120,7 @@ pub record Mutation (ws txt : List ℕ) (n used x from at end : ℕ) (ch : Chang
   pub place : Place txt used from at end
   pub fits : Fits ws n (mutated ws txt ch (what (which-of ch) ws txt x trieˢ) from at end)
 
--- Of some text used.
-pub record Some (P : ℕ → Type 0) : Type 0 where
-  pub used : ℕ
-  pub holds : P used
-
 -- ---- What a change makes
-
--- The records of a counted value are made, and no other: link reads as the value, and n′ records are used.
-pub record Builds (ws ws′ txt : List ℕ) (n used : ℕ) (w : Which) (s : Sort) (c : Counted (Of (Item w) s)) (link n′ : ℕ) : Type 0 where
-  pub number : n′ ≡ n + c .count
-  pub made : Made ws ws′ txt n n′ used w s link (c .value)
-
--- mut_leaf, for any text used.
-abbrev pub LeafBuilt : (ws ws′ txt : List ℕ) (n x : ℕ) (ch : Change) (link n′ : ℕ) → Type 0
-LeafBuilt ws ws′ txt n x ch link n′ =
-    (used : ℕ) → Leaf ws txt n used x ch → Builds ws ws′ txt n used (which-of ch) trieˢ (leaf-of ws txt ch (what (which-of ch) ws txt x trieˢ)) link n′
 
 -- The change of the bindings.
 abbrev pub BindingsBuilt : (ws ws′ txt : List ℕ) (n x from at len end : ℕ) (f : Form) (text : Span) (link n′ : ℕ) → Type 0

@@ -1,6 +1,8 @@
-// The change of a trie: the source's namespaces_mutate and trie_mutate with the leaf of each kind, building records after the used ones.
+// The change of a trie: the source's namespaces_mutate and trie_mutate with mut_node and mut_leaf, building records after the used ones.
 use kinds::Form;
-use kinds::Kind;
+use leaves::mut_leaf;
+use leaves::Built;
+use leaves::Change;
 use memory::ModSymbol;
 use memory::Span;
 ghost use mathlib.Core.Path.{_≡_};
@@ -10,24 +12,9 @@ ghost use lib.ListN.{length};
 ghost use Rattle.source.specs.Text.{ends-in-dot};
 ghost use Rattle.memory.specs.Layout.{span};
 ghost use Rattle.kinds.specs.Shapes.{shape-of};
-ghost use Rattle.kinds.specs.declared.Kind.the-variants.{Name, Include, Open, Alias};
 ghost use Rattle.kinds.specs.declared.Form.the-variants as form;
-ghost use Rattle.change.specs.Changes.{with-kind, label-in, Kinds, symbol-row, Cut, Some, Leaf, Bindings, Node, NamespacesMutation, Mutation, LeafBuilt, BindingsBuilt, NodeBuilt, NamespacesMutated, Mutated};
-
-// A change of a trie: its kind, its second text and key as spans of the table's text, and the included trie.
-// What the kind does not use is of no account.
-pub struct Change {
-    pub kind: Kind,
-    pub text: Span,
-    pub key: Span,
-    pub inc: u32,
-}
-
-// A link, and the records used after its making.
-pub struct Built {
-    pub link: u32,
-    pub records: u32,
-}
+ghost use Rattle.leaves.specs.Leaves.{Some};
+ghost use Rattle.change.specs.Changes.{Kinds, symbol-row, Cut, Bindings, Node, NamespacesMutation, Mutation, BindingsBuilt, NodeBuilt, NamespacesMutated, Mutated};
 
 // The length of the segment of the text that begins at `at`.
 fn segment_in(text: &[u8], at: u32, end: u32) -> u32
@@ -50,125 +37,6 @@ fn kinds_of(change: Change) -> u32
         Form::Name => 0,
         Form::Import => 0,
         Form::Module(_) => 5,
-    }
-}
-
-// One less, down to 0.
-fn less_one(n: u32) -> u32
-    ensures { λ r. ⌜ r ≡ n - 1 ⌝ }
-{
-    if n == 0 {
-        return 0;
-    }
-    n - 1
-}
-
-// The label of an included query: without its last dot.
-fn label_of(text: Span) -> Span
-    ensures { λ r. ⌜ r ≡ label-in text ⌝ }
-{
-    Span {
-        start: text.start,
-        len: less_one(text.len),
-    }
-}
-
-// trie_insert's mut_leaf.
-fn insert_leaf(
-    words: &mut [u32],
-    text: &[u8],
-    records: u32,
-    trie: u32,
-    change: Change,
-    number: u32,
-) -> Built
-    requires { ⌜ Some (λ used. Leaf (now words) (now text) records used trie (with-kind (Name number) change)) ⌝ }
-    ensures { λ r. ⌜ LeafBuilt (now (words .entry)) (now (words .exit)) (now (text .entry)) records trie (with-kind (Name number) change) (r .link) (r .records) ⌝ }
-{
-    let t = memory::trie_of(words, trie);
-    let id = change.text;
-    let start = id.start as usize;
-    let len = id.len as usize;
-    let p = names::names_place(words, text, t.bindings, &text[start..start + len]);
-    let row = memory::make::binding_row(id, number);
-    let b = names::names_insert(words, text, records, t.bindings, p.count, row);
-    let link = names::put_trie(words, b, 5, b, t.namespaces);
-    Built {
-        link: link,
-        records: link,
-    }
-}
-
-// trie_include's.
-fn include_leaf(words: &mut [u32], text: &[u8], records: u32, trie: u32, change: Change) -> Built
-    requires { ⌜ Some (λ used. Leaf (now words) (now text) records used trie (with-kind Include change)) ⌝ }
-    ensures { λ r. ⌜ LeafBuilt (now (words .entry)) (now (words .exit)) (now (text .entry)) records trie (with-kind Include change) (r .link) (r .records) ⌝ }
-{
-    let t = memory::trie_of(words, trie);
-    let i = memory::trie_of(words, change.inc);
-    let label = label_of(change.text);
-    let b = names::imported(words, records, 3, label, i.bindings, t.bindings);
-    let link = names::put_trie(words, b, 5, b, t.namespaces);
-    Built {
-        link: link,
-        records: link,
-    }
-}
-
-// trie_open_namespace's.
-fn open_leaf(words: &mut [u32], text: &[u8], records: u32, trie: u32, change: Change) -> Built
-    requires { ⌜ Some (λ used. Leaf (now words) (now text) records used trie (with-kind Open change)) ⌝ }
-    ensures { λ r. ⌜ LeafBuilt (now (words .entry)) (now (words .exit)) (now (text .entry)) records trie (with-kind Open change) (r .link) (r .records) ⌝ }
-{
-    let t = memory::trie_of(words, trie);
-    let i = memory::trie_of(words, change.inc);
-    let label = label_of(change.text);
-    let n = names::imported(words, records, 4, label, i.namespaces, t.namespaces);
-    let link = names::put_trie(words, n, 5, t.bindings, n);
-    Built {
-        link: link,
-        records: link,
-    }
-}
-
-// trie_add_alias's: at the key a fresh trie of the included bindings alone.
-fn alias_leaf(words: &mut [u32], text: &[u8], records: u32, trie: u32, change: Change) -> Built
-    requires { ⌜ Some (λ used. Leaf (now words) (now text) records used trie (with-kind Alias change)) ⌝ }
-    ensures { λ r. ⌜ LeafBuilt (now (words .entry)) (now (words .exit)) (now (text .entry)) records trie (with-kind Alias change) (r .link) (r .records) ⌝ }
-{
-    let t = memory::trie_of(words, trie);
-    let i = memory::trie_of(words, change.inc);
-    let label = label_of(change.text);
-    let key = change.key;
-    let start = key.start as usize;
-    let len = key.len as usize;
-    let p = names::names_place(words, text, t.namespaces, &text[start..start + len]);
-    let b = names::imported(words, records, 3, label, i.bindings, 0);
-    let scope = names::put_trie(words, b, 5, b, 0);
-    let row = memory::make::namespace_row(0, key, scope);
-    let n = names::names_insert(words, text, scope, t.namespaces, p.count, row);
-    let link = names::put_trie(words, n, 5, t.bindings, n);
-    Built {
-        link: link,
-        records: link,
-    }
-}
-
-// mut_leaf of a change.
-fn mut_leaf(words: &mut [u32], text: &[u8], records: u32, trie: u32, change: Change) -> Built
-    requires { ⌜ Some (λ used. Leaf (now words) (now text) records used trie change) ⌝ }
-    ensures { λ r. ⌜ LeafBuilt (now (words .entry)) (now (words .exit)) (now (text .entry)) records trie change (r .link) (r .records) ⌝ }
-{
-    let kind = change.kind;
-    match kind {
-        Kind::Name(number) => insert_leaf(words, text, records, trie, change, number),
-        Kind::Include => include_leaf(words, text, records, trie, change),
-        Kind::Open => open_leaf(words, text, records, trie, change),
-        Kind::Alias => alias_leaf(words, text, records, trie, change),
-        Kind::Module(_) => Built {
-            link: trie,
-            records: records,
-        },
     }
 }
 

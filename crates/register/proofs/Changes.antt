@@ -24,8 +24,9 @@ use Rattle.kinds.specs.Shapes.{shape-of, call-of}
 use Rattle.kinds.specs.declared.Kind.{Kind}
 use Rattle.kinds.specs.declared.Kind.the-variants.{Name, Include, Open, Alias, Module}
 use Rattle.plan.specs.Plans.{Carries}
-use Rattle.change.specs.Changes.{between, which-by, which-of, label-in, mutated, ChangeOk, Mutation}
-use Rattle.change.specs.declared.Change.{Change}
+use Rattle.leaves.specs.Leaves.{which-by, which-of, label-in, ChangeOk}
+use Rattle.change.specs.Changes.{between, mutated, Mutation}
+use Rattle.leaves.specs.declared.Change.{Change}
 use Rattle.change.proofs.Between.{place-first}
 use Rattle.change.proofs.Registered.{Registers, name-registers, include-registers, alias-registers, open-registers, module-registers, registers-fits}
 use Rattle.register.specs.Checks.{Ready}

@@ -25,8 +25,9 @@ use Rattle.kinds.specs.declared.Kind.{Kind}
 use Rattle.kinds.specs.declared.Form.{Form}
 use Rattle.kinds.specs.declared.Form.the-variants as form
 use Rattle.plan.specs.Plans.{Carries}
-use Rattle.change.specs.Changes.{which-by, which-of, mutated, Mutation, Mutated, Builds}
-use Rattle.change.specs.declared.Change.{Change}
+use Rattle.leaves.specs.Leaves.{which-by, which-of, Builds}
+use Rattle.change.specs.Changes.{mutated, Mutation, Mutated}
+use Rattle.leaves.specs.declared.Change.{Change}
 use Rattle.change.proofs.Registered.{Registers}
 use Rattle.register.specs.Checks.{lent, Ready, Passes}
 use Rattle.register.specs.Writes.{Laid, root-at, with-root, with-text, Outside, Accepts}

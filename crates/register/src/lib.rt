@@ -1,5 +1,5 @@
 // A registration over a header: the rows that it must pass, and what it writes.
-use change::Change;
+use leaves::Change;
 use kinds::Form;
 use kinds::Kind;
 use memory::Header;
@@ -20,7 +20,7 @@ ghost use Rattle.memory.specs.Layout.{names, trieˢ, state-of};
 ghost use Rattle.memory.specs.Sound.{Sound, At};
 ghost use Rattle.kinds.specs.Shapes.{call-of, argument-as};
 ghost use Rattle.plan.specs.Plans.{Carries};
-ghost use Rattle.change.specs.Changes.{which-by};
+ghost use Rattle.leaves.specs.Leaves.{which-by};
 ghost use Rattle.register.specs.Checks.{NoKey, Passes, Checks};
 ghost use Rattle.register.specs.Writes.{Laid, root-at, with-root, Accepts};
 

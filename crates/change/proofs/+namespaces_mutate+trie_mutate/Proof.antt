@@ -7,7 +7,7 @@ use native.Mathlib.Omega.{arith}
 use Rattle.source.specs.Types.{ns}
 use Rattle.change.specs.Changes.{between}
 use Rattle.lookup.proofs.Links.{holder-fits}
-use Rattle.change.proofs.Building.{placed-part}
+use Rattle.leaves.proofs.Building.{placed-part}
 use Rattle.change.proofs.Cycle.{spaces-key, spaces-list, spaces-mutation, spaces-any, spaces-built, leaf-mutation, leaf-mutated, segment-ready, mutation-spaces, mutation-node, mutation-built}
 use borrow.Fn.Kinds.{In}
 use borrow.Fn.PlainCycle.{Measures, is, falls, and}
@@ -23,7 +23,7 @@ use Rattle.memory.proofs.make.namespace_row.Reads as namespace-row-reads
 use Rattle.names.proofs.names_insert.Reads as names-insert-reads
 use Rattle.names.proofs.names_place.Reads as names-place-reads
 use Rattle.change.proofs.kinds_of.Reads as kinds-of-reads
-use Rattle.change.proofs.mut_leaf.Reads as mut-leaf-reads
+use Rattle.leaves.proofs.mut_leaf.Reads as mut-leaf-reads
 use Rattle.change.proofs.mut_node.Reads as mut-node-reads
 use Rattle.change.proofs.segment_in.Reads as segment-in-reads
 use Rattle.change.proofs.+namespaces_mutate+trie_mutate.{statement}

@@ -1,12 +1,12 @@
 -- alias_leaf meets its contract.
 use Rattle.source.specs.Types.{ns}
 use Rattle.memory.specs.Layout.{names}
-use Rattle.change.proofs.Building.{placed-part}
-use Rattle.change.proofs.Leaves.{leaf-fits, inc-fits, alias-list, alias-ready, alias-fresh-ready, alias-insertion, alias-trie-ready, alias-built}
+use Rattle.leaves.proofs.Building.{placed-part}
+use Rattle.leaves.proofs.Leaves.{leaf-fits, inc-fits, alias-list, alias-ready, alias-fresh-ready, alias-insertion, alias-trie-ready, alias-built}
 use native.Mathlib.Omega.{arith}
 use borrow.Author.Needs.{needs}
-use Rattle.change.proofs.alias_leaf.Statement.{statement}
-use Rattle.change.proofs.alias_leaf.Tie as tie
+use Rattle.leaves.proofs.alias_leaf.Statement.{statement}
+use Rattle.leaves.proofs.alias_leaf.Tie as tie
 
 pub alias-leaf-spec : {M : Type 1} → statement M
 alias-leaf-spec =

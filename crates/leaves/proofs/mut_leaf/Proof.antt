@@ -1,8 +1,8 @@
 -- mut_leaf meets its contract: each kind has its own leaf.
-use Rattle.change.proofs.Leaves.{leaf-as, leaf-built, leaf-module}
+use Rattle.leaves.proofs.Leaves.{leaf-as, leaf-built, leaf-module}
 use borrow.Author.Needs.{needs}
-use Rattle.change.proofs.mut_leaf.Statement.{statement}
-use Rattle.change.proofs.mut_leaf.Tie as tie
+use Rattle.leaves.proofs.mut_leaf.Statement.{statement}
+use Rattle.leaves.proofs.mut_leaf.Tie as tie
 
 pub mut-leaf-spec : {M : Type 1} → statement M
 mut-leaf-spec =

@@ -1,8 +1,8 @@
 -- include_leaf meets its contract.
-use Rattle.change.proofs.Leaves.{leaf-fits, inc-fits, include-ready, include-trie-ready, include-built}
+use Rattle.leaves.proofs.Leaves.{leaf-fits, inc-fits, include-ready, include-trie-ready, include-built}
 use borrow.Author.Needs.{needs}
-use Rattle.change.proofs.include_leaf.Statement.{statement}
-use Rattle.change.proofs.include_leaf.Tie as tie
+use Rattle.leaves.proofs.include_leaf.Statement.{statement}
+use Rattle.leaves.proofs.include_leaf.Tie as tie
 
 pub include-leaf-spec : {M : Type 1} → statement M
 include-leaf-spec =

@@ -23,10 +23,10 @@ use Rattle.names.proofs.Made.{made-none, made-as, imported-light}
 use Rattle.names.proofs.NamesInsertion.{insertion-after}
 use Rattle.kinds.specs.declared.Kind.{Kind}
 use Rattle.kinds.specs.declared.Kind.the-variants.{Name, Include, Open, Alias, Module}
-use Rattle.change.specs.declared.Change.{Change}
-use Rattle.change.specs.Changes.{change-of, with-kind, leaf-by, leaf-of, Some, Leaf, Builds, LeafBuilt}
+use Rattle.leaves.specs.declared.Change.{Change}
+use Rattle.leaves.specs.Leaves.{change-of, with-kind, leaf-by, leaf-of, Some, Leaf, Builds, LeafBuilt}
 use Rattle.memory.proofs.Tries.{Lists, lists-in}
-use Rattle.change.proofs.Building.{inserted-within, builds-one, builds-none, builds-insert, bindings-ready, bindings-built, namespaces-ready, namespaces-built, placed-light, placed-count, scope-insertion, scope-built}
+use Rattle.leaves.proofs.Building.{inserted-within, builds-one, builds-none, builds-insert, bindings-ready, bindings-built, namespaces-ready, namespaces-built, placed-light, placed-count, scope-insertion, scope-built}
 use Rattle.memory.specs.Sound.{LinkOk, Used, At}
 use Rattle.memory.proofs.At.{no-link}
 

@@ -1,8 +1,8 @@
 -- open_leaf meets its contract.
-use Rattle.change.proofs.Leaves.{leaf-fits, inc-fits, open-ready, open-trie-ready, open-built}
+use Rattle.leaves.proofs.Leaves.{leaf-fits, inc-fits, open-ready, open-trie-ready, open-built}
 use borrow.Author.Needs.{needs}
-use Rattle.change.proofs.open_leaf.Statement.{statement}
-use Rattle.change.proofs.open_leaf.Tie as tie
+use Rattle.leaves.proofs.open_leaf.Statement.{statement}
+use Rattle.leaves.proofs.open_leaf.Tie as tie
 
 pub open-leaf-spec : {M : Type 1} → statement M
 open-leaf-spec =

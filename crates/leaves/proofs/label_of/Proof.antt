@@ -1,7 +1,7 @@
 -- label_of is the definition.
 use borrow.Author.Needs.{needs}
-use Rattle.change.proofs.label_of.Statement.{statement}
-use Rattle.change.proofs.label_of.Tie as tie
+use Rattle.leaves.proofs.label_of.Statement.{statement}
+use Rattle.leaves.proofs.label_of.Tie as tie
 
 pub label-of-spec : {M : Type 1} → statement M
 label-of-spec =

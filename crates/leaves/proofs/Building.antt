@@ -21,7 +21,7 @@ use Rattle.names.specs.Made.{Room, Made, MadeTrie}
 use Rattle.names.specs.Insert.{NamesInsertion, NamesInserts}
 use Rattle.names.proofs.Made.{made-none, made-as, made-then, made-room, made-link, made-what, trie-shallow}
 use Rattle.names.proofs.NamesInsertion.{insertion-after}
-use Rattle.change.specs.Changes.{Builds}
+use Rattle.leaves.specs.Leaves.{Builds}
 
 -- ---- One after another
 module _ {ws ws′ txt : List ℕ} {n n′ used : ℕ} {w : Which} {s : Sort} {c : Counted (Of (Item w) s)} {x : ℕ} (b : Builds ws ws′ txt n used w s c x n′) where

@@ -1,12 +1,12 @@
 -- insert_leaf meets its contract.
 use Rattle.source.specs.Types.{bind}
 use Rattle.memory.specs.Layout.{names}
-use Rattle.change.proofs.Building.{placed-part}
-use Rattle.change.proofs.Leaves.{leaf-fits, name-list, name-insertion, name-trie-ready, name-built}
+use Rattle.leaves.proofs.Building.{placed-part}
+use Rattle.leaves.proofs.Leaves.{leaf-fits, name-list, name-insertion, name-trie-ready, name-built}
 use native.Mathlib.Omega.{arith}
 use borrow.Author.Needs.{needs}
-use Rattle.change.proofs.insert_leaf.Statement.{statement}
-use Rattle.change.proofs.insert_leaf.Tie as tie
+use Rattle.leaves.proofs.insert_leaf.Statement.{statement}
+use Rattle.leaves.proofs.insert_leaf.Tie as tie
 
 pub insert-leaf-spec : {M : Type 1} → statement M
 insert-leaf-spec =
