@@ -21,6 +21,7 @@ use Rattle.kinds.specs.declared.Kind.the-variants.{Name, Include, Open, Alias, 
 use Rattle.kinds.specs.declared.Form.{Form}
 use Rattle.kinds.specs.declared.Form.the-variants as form
 use Rattle.leaves.specs.declared.Change.{Change}
+use Rattle.change.specs.declared.Descent.{Descent}
 use Rattle.leaves.specs.Leaves.{which-by, which-of, leaf-of, TextFor, ChangeOk, Fits, Builds}
 
 -- ---- Queries in the text
@@ -78,6 +79,25 @@ namespaces-mutated ws txt ch n from at len end = do
   scope ← mutated ws txt ch (scope-of n (span txt at len)) from (at + len + 1) end
   names-insertᶜ n (span txt at len) scope
 
+-- ---- On the way down
+
+-- A descent by its parts.
+abbrev pub descent : (from end : ℕ) → Change → Descent
+descent from end ch = record { from = from; end = end; change = ch }
+
+-- The form of what is registered.
+abbrev pub form-of : Descent → Form
+form-of d = shape-of (d .change .kind) .form
+
+-- The bindings that mut_node gives a trie at the segment of len bytes from at on, where the form is f.
+abbrev pub bindings-at : (txt : List ℕ) (at len : ℕ) (d : Descent) (f : Form) → NameList (Item (which-by f)) bind → Counted (NameList (Item (which-by f)) bind)
+bindings-at txt at len d f b = bindings-by txt f (d .change .text) b (span txt at len) (between txt (at + len + 1) (d .end)) (passed txt (d .from) at)
+
+-- mut_node there, of the trie x with the list y of namespaces.
+abbrev pub node-at : (ws txt : List ℕ) (x y at len : ℕ) (d : Descent) → Counted (Trie (Item (which-of (d .change))))
+node-at ws txt x y at len d =
+    node-of txt (d .change) (what (which-of (d .change)) ws txt x trieˢ) (span txt at len) (between txt (at + len + 1) (d .end)) (passed txt (d .from) at) (what (which-of (d .change)) ws txt y (list ns))
+
 -- ---- What a change asks
 
 -- The same of a list of namespaces.
@@ -86,66 +106,63 @@ pub record FitsNames {A : Type 0} (ws : List ℕ) (n : ℕ) (c : Counted (NameLi
   pub light : heaviest-names (c .value) ≤ 96
   pub shallow : depth-names (c .value) ≤ 16
 
--- What the change of a trie's bindings asks, on the way down a query.
-pub record Bindings (ws txt : List ℕ) (n used x from at len end : ℕ) (f : Form) (text : Span) : Type 0 where
+-- What the change of a trie's bindings asks, where the form is f.
+pub record Bindings (ws txt : List ℕ) (n used x at len : ℕ) (d : Descent) (f : Form) : Type 0 where
   pub sound : Used ws txt n used
-  pub text-ok : TextFor f txt used text
+  pub text-ok : TextFor f txt used (d .change .text)
   pub link : LinkOk ws (n + 1) x (kind (which-by f) (list bind))
-  pub place : Place txt used from at end
-  pub cut : Cut txt at len end
-  pub room : Room ws n (bindings-by txt f text (what (which-by f) ws txt x (list bind)) (span txt at len) (between txt (at + len + 1) end) (passed txt from at) .count)
-  pub light : heaviest-names (bindings-by txt f text (what (which-by f) ws txt x (list bind)) (span txt at len) (between txt (at + len + 1) end) (passed txt from at) .value) ≤ 96
+  pub place : Place txt used (d .from) at (d .end)
+  pub cut : Cut txt at len (d .end)
+  pub room : Room ws n (bindings-at txt at len d f (what (which-by f) ws txt x (list bind)) .count)
+  pub light : heaviest-names (bindings-at txt at len d f (what (which-by f) ws txt x (list bind)) .value) ≤ 96
 
 -- What mut_node asks, where y is the new list of namespaces.
-pub record Node (ws txt : List ℕ) (n used x y from at len end : ℕ) (ch : Change) : Type 0 where
-  pub change : ChangeOk ws txt n used ch
-  pub link : LinkOk ws (n + 1) x (kind (which-of ch) trieˢ)
-  pub list-link : LinkOk ws (n + 1) y (kind (which-of ch) (list ns))
-  pub place : Place txt used from at end
-  pub cut : Cut txt at len end
-  pub fits : Fits ws n (node-of txt ch (what (which-of ch) ws txt x trieˢ) (span txt at len) (between txt (at + len + 1) end) (passed txt from at) (what (which-of ch) ws txt y (list ns)))
+pub record Node (ws txt : List ℕ) (n used x y at len : ℕ) (d : Descent) : Type 0 where
+  pub change : ChangeOk ws txt n used (d .change)
+  pub link : LinkOk ws (n + 1) x (kind (which-of (d .change)) trieˢ)
+  pub list-link : LinkOk ws (n + 1) y (kind (which-of (d .change)) (list ns))
+  pub place : Place txt used (d .from) at (d .end)
+  pub cut : Cut txt at len (d .end)
+  pub fits : Fits ws n (node-at ws txt x y at len d)
 
 -- What namespaces_mutate asks.
-pub record NamespacesMutation (ws txt : List ℕ) (n used x from at len end : ℕ) (ch : Change) : Type 0 where
-  pub change : ChangeOk ws txt n used ch
-  pub link : LinkOk ws (n + 1) x (kind (which-of ch) (list ns))
-  pub place : Place txt used from at end
-  pub cut : Cut txt at len end
-  pub fits : FitsNames ws n (namespaces-mutated ws txt ch (what (which-of ch) ws txt x (list ns)) from at len end)
+pub record NamespacesMutation (ws txt : List ℕ) (n used x at len : ℕ) (d : Descent) : Type 0 where
+  pub change : ChangeOk ws txt n used (d .change)
+  pub link : LinkOk ws (n + 1) x (kind (which-of (d .change)) (list ns))
+  pub place : Place txt used (d .from) at (d .end)
+  pub cut : Cut txt at len (d .end)
+  pub fits : FitsNames ws n (namespaces-mutated ws txt (d .change) (what (which-of (d .change)) ws txt x (list ns)) (d .from) at len (d .end))
 
 -- What trie_mutate asks.
-pub record Mutation (ws txt : List ℕ) (n used x from at end : ℕ) (ch : Change) : Type 0 where
-  pub change : ChangeOk ws txt n used ch
-  pub link : LinkOk ws (n + 1) x (kind (which-of ch) trieˢ)
-  pub place : Place txt used from at end
-  pub fits : Fits ws n (mutated ws txt ch (what (which-of ch) ws txt x trieˢ) from at end)
+pub record Mutation (ws txt : List ℕ) (n used x at : ℕ) (d : Descent) : Type 0 where
+  pub change : ChangeOk ws txt n used (d .change)
+  pub link : LinkOk ws (n + 1) x (kind (which-of (d .change)) trieˢ)
+  pub place : Place txt used (d .from) at (d .end)
+  pub fits : Fits ws n (mutated ws txt (d .change) (what (which-of (d .change)) ws txt x trieˢ) (d .from) at (d .end))
 
 -- ---- What a change makes
 
 -- The change of the bindings.
-abbrev pub BindingsBuilt : (ws ws′ txt : List ℕ) (n x from at len end : ℕ) (f : Form) (text : Span) (link n′ : ℕ) → Type 0
-BindingsBuilt ws ws′ txt n x from at len end f text link n′ =
-    (used : ℕ) → Bindings ws txt n used x from at len end f text
-    → Builds ws ws′ txt n used (which-by f) (list bind) (bindings-by txt f text (what (which-by f) ws txt x (list bind)) (span txt at len) (between txt (at + len + 1) end) (passed txt from at)) link n′
+abbrev pub BindingsBuilt : (ws ws′ txt : List ℕ) (n x at len : ℕ) (d : Descent) (f : Form) (link n′ : ℕ) → Type 0
+BindingsBuilt ws ws′ txt n x at len d f link n′ =
+    (used : ℕ) → Bindings ws txt n used x at len d f → Builds ws ws′ txt n used (which-by f) (list bind) (bindings-at txt at len d f (what (which-by f) ws txt x (list bind))) link n′
 
 -- mut_node.
-abbrev pub NodeBuilt : (ws ws′ txt : List ℕ) (n x y from at len end : ℕ) (ch : Change) (link n′ : ℕ) → Type 0
-NodeBuilt ws ws′ txt n x y from at len end ch link n′ =
-    (used : ℕ) → Node ws txt n used x y from at len end ch
-    → Builds ws ws′ txt n used (which-of ch) trieˢ
-    (node-of txt ch (what (which-of ch) ws txt x trieˢ) (span txt at len) (between txt (at + len + 1) end) (passed txt from at) (what (which-of ch) ws txt y (list ns))) link n′
+abbrev pub NodeBuilt : (ws ws′ txt : List ℕ) (n x y at len : ℕ) (d : Descent) (link n′ : ℕ) → Type 0
+NodeBuilt ws ws′ txt n x y at len d link n′ =
+    (used : ℕ) → Node ws txt n used x y at len d → Builds ws ws′ txt n used (which-of (d .change)) trieˢ (node-at ws txt x y at len d) link n′
 
 -- namespaces_mutate.
-abbrev pub NamespacesMutated : (ws ws′ txt : List ℕ) (n x from at len end : ℕ) (ch : Change) (link n′ : ℕ) → Type 0
-NamespacesMutated ws ws′ txt n x from at len end ch link n′ =
-    (used : ℕ) → NamespacesMutation ws txt n used x from at len end ch
-    → Builds ws ws′ txt n used (which-of ch) (list ns) (namespaces-mutated ws txt ch (what (which-of ch) ws txt x (list ns)) from at len end) link n′
+abbrev pub NamespacesMutated : (ws ws′ txt : List ℕ) (n x at len : ℕ) (d : Descent) (link n′ : ℕ) → Type 0
+NamespacesMutated ws ws′ txt n x at len d link n′ =
+    (used : ℕ) → NamespacesMutation ws txt n used x at len d
+    → Builds ws ws′ txt n used (which-of (d .change)) (list ns) (namespaces-mutated ws txt (d .change) (what (which-of (d .change)) ws txt x (list ns)) (d .from) at len (d .end)) link n′
 
 -- trie_mutate.
-abbrev pub Mutated : (ws ws′ txt : List ℕ) (n x from at end : ℕ) (ch : Change) (link n′ : ℕ) → Type 0
-Mutated ws ws′ txt n x from at end ch link n′ =
-    (used : ℕ) → Mutation ws txt n used x from at end ch
-    → Builds ws ws′ txt n used (which-of ch) trieˢ (mutated ws txt ch (what (which-of ch) ws txt x trieˢ) from at end) link n′
+abbrev pub Mutated : (ws ws′ txt : List ℕ) (n x at : ℕ) (d : Descent) (link n′ : ℕ) → Type 0
+Mutated ws ws′ txt n x at d link n′ =
+    (used : ℕ) → Mutation ws txt n used x at d
+    → Builds ws ws′ txt n used (which-of (d .change)) trieˢ (mutated ws txt (d .change) (what (which-of (d .change)) ws txt x trieˢ) (d .from) at (d .end)) link n′
 
 -- The words of a branch that holds a Module, or a Namespace: key, full name, path, whether it is loaded.
 abbrev pub symbol-row : (last : Bool) (at len from : ℕ) (loaded : Bool) (path : Span) → List ℕ

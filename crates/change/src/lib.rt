@@ -11,10 +11,16 @@ ghost use Prim.Native.Nat.{_+_, _-_, _<_, _≤_};
 ghost use lib.ListN.{length};
 ghost use Rattle.source.specs.Text.{ends-in-dot};
 ghost use Rattle.memory.specs.Layout.{span};
-ghost use Rattle.kinds.specs.Shapes.{shape-of};
 ghost use Rattle.kinds.specs.declared.Form.the-variants as form;
 ghost use Rattle.leaves.specs.Leaves.{Some};
-ghost use Rattle.change.specs.Changes.{Kinds, symbol-row, Cut, Bindings, Node, NamespacesMutation, Mutation, BindingsBuilt, NodeBuilt, NamespacesMutated, Mutated};
+ghost use Rattle.change.specs.Changes.{form-of, Kinds, symbol-row, Cut, Bindings, Node, NamespacesMutation, Mutation, BindingsBuilt, NodeBuilt, NamespacesMutated, Mutated};
+
+// What stays the same on the way down a query: where the query begins and ends in the text, and the change at its end.
+pub struct Descent {
+    pub from: u32,
+    pub end: u32,
+    pub change: Change,
+}
 
 // The length of the segment of the text that begins at `at`.
 fn segment_in(text: &[u8], at: u32, end: u32) -> u32
@@ -72,22 +78,21 @@ fn ins(
     text: &[u8],
     records: u32,
     bindings: u32,
-    from: u32,
     at: u32,
     len: u32,
-    end: u32,
+    d: Descent,
     loaded: bool,
-    path: Span,
 ) -> Built
-    requires { ⌜ Some (λ used. Bindings (now words) (now text) records used bindings from at len end (form.Module loaded) path) ⌝ }
-    ensures { λ r. ⌜ BindingsBuilt (now (words .entry)) (now (words .exit)) (now (text .entry)) records bindings from at len end (form.Module loaded) path (r .link) (r .records) ⌝ }
+    requires { ⌜ Some (λ used. Bindings (now words) (now text) records used bindings at len d (form.Module loaded)) ⌝ }
+    ensures { λ r. ⌜ BindingsBuilt (now (words .entry)) (now (words .exit)) (now (text .entry)) records bindings at len d (form.Module loaded) (r .link) (r .records) ⌝ }
 {
     let first = at as usize;
     let size = len as usize;
     let p = names::names_place(words, text, bindings, &text[first..first + size]);
-    let last = at + len + 1 == end;
+    let last = at + len + 1 == d.end;
     if last | lookup::ns_inserts(words, p.holder, loaded) {
-        let row = symbol_row(last, at, len, from, loaded, path);
+        let change = d.change;
+        let row = symbol_row(last, at, len, d.from, loaded, change.text);
         let b = names::names_insert(words, text, records, bindings, p.count, row);
         return Built {
             link: b,
@@ -106,15 +111,14 @@ fn mut_bindings(
     text: &[u8],
     records: u32,
     bindings: u32,
-    from: u32,
     at: u32,
     len: u32,
-    end: u32,
-    change: Change,
+    d: Descent,
 ) -> Built
-    requires { ⌜ Some (λ used. Bindings (now words) (now text) records used bindings from at len end (shape-of (change .kind) .form) (change .text)) ⌝ }
-    ensures { λ r. ⌜ BindingsBuilt (now (words .entry)) (now (words .exit)) (now (text .entry)) records bindings from at len end (shape-of (change .kind) .form) (change .text) (r .link) (r .records) ⌝ }
+    requires { ⌜ Some (λ used. Bindings (now words) (now text) records used bindings at len d (form-of d)) ⌝ }
+    ensures { λ r. ⌜ BindingsBuilt (now (words .entry)) (now (words .exit)) (now (text .entry)) records bindings at len d (form-of d) (r .link) (r .records) ⌝ }
 {
+    let change = d.change;
     let kind = change.kind;
     let s = kinds::shape_of(kind);
     let f = s.form;
@@ -127,18 +131,7 @@ fn mut_bindings(
             link: bindings,
             records: records,
         },
-        Form::Module(loaded) => ins(
-            words,
-            text,
-            records,
-            bindings,
-            from,
-            at,
-            len,
-            end,
-            loaded,
-            change.text,
-        ),
+        Form::Module(loaded) => ins(words, text, records, bindings, at, len, d, loaded),
     }
 }
 
@@ -149,18 +142,16 @@ fn mut_node(
     records: u32,
     trie: u32,
     namespaces: u32,
-    from: u32,
     at: u32,
     len: u32,
-    end: u32,
-    change: Change,
+    d: Descent,
 ) -> Built
-    requires { ⌜ Some (λ used. Node (now words) (now text) records used trie namespaces from at len end change) ⌝ }
-    ensures { λ r. ⌜ NodeBuilt (now (words .entry)) (now (words .exit)) (now (text .entry)) records trie namespaces from at len end change (r .link) (r .records) ⌝ }
+    requires { ⌜ Some (λ used. Node (now words) (now text) records used trie namespaces at len d) ⌝ }
+    ensures { λ r. ⌜ NodeBuilt (now (words .entry)) (now (words .exit)) (now (text .entry)) records trie namespaces at len d (r .link) (r .records) ⌝ }
 {
     let t = memory::trie_of(words, trie);
-    let b = mut_bindings(words, text, records, t.bindings, from, at, len, end, change);
-    let kinds = kinds_of(change);
+    let b = mut_bindings(words, text, records, t.bindings, at, len, d);
+    let kinds = kinds_of(d.change);
     let link = names::put_trie(words, b.records, kinds + 5, b.link, namespaces);
     Built {
         link: link,
@@ -168,27 +159,25 @@ fn mut_node(
     }
 }
 
-// The source's namespaces_mutate. The query begins at `from` and ends at `end`; rev_acc is what stands before `at`; the next segment has `len` bytes.
+// The source's namespaces_mutate. rev_acc is what stands before `at`; the next segment has `len` bytes.
 fn namespaces_mutate(
     words: &mut [u32],
     text: &[u8],
     records: u32,
     namespaces: u32,
-    from: u32,
     at: u32,
     len: u32,
-    end: u32,
-    change: Change,
+    d: Descent,
 ) -> Built
-    requires { ⌜ Some (λ used. NamespacesMutation (now words) (now text) records used namespaces from at len end change) ⌝ }
-    ensures { λ r. ⌜ NamespacesMutated (now (words .entry)) (now (words .exit)) (now (text .entry)) records namespaces from at len end change (r .link) (r .records) ⌝ }
+    requires { ⌜ Some (λ used. NamespacesMutation (now words) (now text) records used namespaces at len d) ⌝ }
+    ensures { λ r. ⌜ NamespacesMutated (now (words .entry)) (now (words .exit)) (now (text .entry)) records namespaces at len d (r .link) (r .records) ⌝ }
 {
     let first = at as usize;
     let size = len as usize;
     let p = names::names_place(words, text, namespaces, &text[first..first + size]);
     let scope = memory::trie_held(words, p.holder);
-    let kinds = kinds_of(change);
-    let m = trie_mutate(words, text, records, scope, from, at + len + 1, end, change);
+    let kinds = kinds_of(d.change);
+    let m = trie_mutate(words, text, records, scope, at + len + 1, d);
     let key = Span {
         start: at,
         len: len,
@@ -201,46 +190,23 @@ fn namespaces_mutate(
     }
 }
 
-// The source's trie_mutate: the trie of `trie` changed below the segments from `at` to `end`.
+// The source's trie_mutate: the trie of `trie` changed below the segments from `at` on.
 pub fn trie_mutate(
     words: &mut [u32],
     text: &[u8],
     records: u32,
     trie: u32,
-    from: u32,
     at: u32,
-    end: u32,
-    change: Change,
+    d: Descent,
 ) -> Built
-    requires { ⌜ Some (λ used. Mutation (now words) (now text) records used trie from at end change) ⌝ }
-    ensures { λ r. ⌜ Mutated (now (words .entry)) (now (words .exit)) (now (text .entry)) records trie from at end change (r .link) (r .records) ⌝ }
+    requires { ⌜ Some (λ used. Mutation (now words) (now text) records used trie at d) ⌝ }
+    ensures { λ r. ⌜ Mutated (now (words .entry)) (now (words .exit)) (now (text .entry)) records trie at d (r .link) (r .records) ⌝ }
 {
-    if at == end {
-        return mut_leaf(words, text, records, trie, change);
+    if at == d.end {
+        return mut_leaf(words, text, records, trie, d.change);
     }
-    let len = segment_in(text, at, end);
+    let len = segment_in(text, at, d.end);
     let t = memory::trie_of(words, trie);
-    let n = namespaces_mutate(
-        words,
-        text,
-        records,
-        t.namespaces,
-        from,
-        at,
-        len,
-        end,
-        change,
-    );
-    mut_node(
-        words,
-        text,
-        n.records,
-        trie,
-        n.link,
-        from,
-        at,
-        len,
-        end,
-        change,
-    )
+    let n = namespaces_mutate(words, text, records, t.namespaces, at, len, d);
+    mut_node(words, text, n.records, trie, n.link, at, len, d)
 }
