@@ -8,7 +8,7 @@ use lib.Dec.{eqb}
 use lib.ListN.{length}
 use borrow.Author.Tests.{eqb-true, eqb-false}
 use Rattle.source.specs.Text.{Str, Query, segments, ends-in-dot}
-use Rattle.source.specs.Types.{Value, NameList, bind, ns, item}
+use Rattle.source.specs.Types.{Value, NameList, bind, item}
 use Rattle.source.specs.Tries.{names-find-exact}
 use Rattle.source.specs.Rules.{IsKey, IsFullName, IsPath}
 use Rattle.source.specs.Table.{name-of-revq, ns-inserts}

@@ -1,23 +1,21 @@
 -- Changes of a trie along a query: the source's mut_node with its records, and what the cycle asks and makes.
 use Prim.Native.Nat.{ℕ, _+_, _-_, _≤_, _<_}
 use mathlib.Core.Path.{_≡_}
-use mathlib.Core.Bool.{Bool, true, false, cond}
+use mathlib.Core.Bool.{Bool, true, cond}
 use mathlib.Core.List.{List, [], _∷_, reverse}
 use Rattle.source.specs.Text.{Str, Query, segments, ends-in-dot}
-use Rattle.source.specs.Types.{Trie, NameList, bind, ns, item, trie, []ᴺ, ImportedNames, bindings, namespaces}
+use Rattle.source.specs.Types.{Trie, NameList, bind, ns, trie, bindings}
 use Rattle.source.specs.Tries.{scope-of}
-use Rattle.source.specs.Terms.{heaviest, heaviest-names, depth, depth-names}
-use Rattle.source.specs.Rules.{IsKey, IsLabel, IsPath}
+use Rattle.source.specs.Terms.{heaviest-names, depth-names}
 use Rattle.source.specs.Counted.{Counted, pure, one, _>>=_, MutNodeᶜ, names-insertᶜ, trie-mutateᶜ, insᶜ}
 use Rattle.source.specs.Queries.{IsQuery}
-use Rattle.memory.specs.Layout.{span, Which, names, modules, Item, Sort, list, trieˢ, Of, kind-in, kind, what}
-use Rattle.memory.specs.Sound.{LinkOk, TextOk, Used}
+use Rattle.memory.specs.Layout.{span, Item, Sort, list, trieˢ, kind-in, kind, what}
+use Rattle.memory.specs.Sound.{LinkOk, Used}
 use Rattle.memory.specs.Read.{text-of}
 use Rattle.memory.specs.declared.Span.{Span}
-use Rattle.names.specs.Made.{Room, Made}
+use Rattle.names.specs.Made.{Room}
 use Rattle.kinds.specs.Shapes.{shape-of}
-use Rattle.kinds.specs.declared.Kind.{Kind}
-use Rattle.kinds.specs.declared.Kind.the-variants.{Name, Include, Open, Alias, Module}
+use Rattle.kinds.specs.declared.Kind.the-variants.{Name, Module}
 use Rattle.kinds.specs.declared.Form.{Form}
 use Rattle.kinds.specs.declared.Form.the-variants as form
 use Rattle.leaves.specs.declared.Change.{Change}

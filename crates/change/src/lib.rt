@@ -1,8 +1,8 @@
 // The change of a trie: the source's namespaces_mutate and trie_mutate with mut_node and mut_leaf, building records after the used ones.
 use kinds::Form;
-use leaves::mut_leaf;
 use leaves::Built;
 use leaves::Change;
+use leaves::mut_leaf;
 use memory::ModSymbol;
 use memory::Span;
 ghost use mathlib.Core.Path.{_≡_};

@@ -1,7 +1,8 @@
 // A registration over a header: the rows that it must pass, and what it writes.
-use leaves::Change;
+use change::Descent;
 use kinds::Form;
 use kinds::Kind;
+use leaves::Change;
 use memory::Header;
 use memory::Span;
 use refusals::Admission;
@@ -199,6 +200,11 @@ pub fn write(
     let s = kinds::shape_of(kind);
     let form = s.form;
     let root = root_of(h, form);
-    let b = change::trie_mutate(words, text, h.records, root, h.text, h.text, start, change);
+    let d = Descent {
+        from: h.text,
+        end: start,
+        change: change,
+    };
+    let b = change::trie_mutate(words, text, h.records, root, h.text, d);
     changed(h, form, b.link, b.records, end + size)
 }
