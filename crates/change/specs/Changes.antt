@@ -15,7 +15,6 @@ use Rattle.memory.specs.Read.{text-of}
 use Rattle.memory.specs.declared.Span.{Span}
 use Rattle.names.specs.Made.{Room}
 use Rattle.kinds.specs.Shapes.{shape-of}
-use Rattle.kinds.specs.declared.Kind.the-variants.{Name, Module}
 use Rattle.kinds.specs.declared.Form.{Form}
 use Rattle.kinds.specs.declared.Form.the-variants as form
 use Rattle.leaves.specs.declared.Change.{Change}

@@ -1,5 +1,4 @@
-// Parts of a line of bytes: a run of bytes of one sort, what closes it, and where it ends. Numbers in decimal are in `digits`. Nothing is
-// known of the forms of a script.
+// The parts of a line: a run of bytes of one sort, what closes it, and where it ends. Nothing is known of the forms of a script.
 ghost use mathlib.Core.Path.{_≡_};
 ghost use Prim.Native.Nat.{_+_, _≤_};
 ghost use lib.ListN.{length, getD, drop};
@@ -29,16 +28,19 @@ pub enum Part {
     No,
 }
 
+// A host and a query, or that they do not stand there.
 pub enum Pair {
     At { host: Extent, query: Extent },
     No,
 }
 
+// An id and a number, or that they do not stand there.
 pub enum Tail {
     At { id: Extent, item: u32 },
     No,
 }
 
+// The number that digits are, or that they are none.
 pub enum Number {
     At(u32),
     No,
