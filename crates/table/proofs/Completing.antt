@@ -15,7 +15,7 @@ use Rattle.source.specs.Table.{Line}
 use Rattle.source.specs.Calls as C
 use Rattle.source.specs.Calls.{a-completion, any, bad-query, long-query, malformed, too-long, lowest, argument-rows, Output, completion-rows, completed, tries-entered, complete, complete-modules}
 use Rattle.source.proofs.Queries.{or-parts}
-use Rattle.source.proofs.Refusals.{Admitted, argument-rows-none}
+use Rattle.source.proofs.Refusals.{lowest-stops, lowest-past, Admitted, argument-rows-none}
 use Rattle.source.proofs.Lines.{autocomplete-lid-is, autocomplete-mod-or-ns-is}
 use Rattle.text.specs.Text.{before-dot}
 use Rattle.text.proofs.Segments.{First, first-segment, before-inside}
@@ -35,7 +35,6 @@ use Rattle.refusals.specs.declared.Refusal.{Refusal}
 use Rattle.refusals.specs.declared.Refusal.the-variants.{Unsound}
 use Rattle.table.specs.declared.Completed.{Completed}
 use Rattle.table.specs.declared.Completed.the-variants.{Refused}
-use Rattle.refusals.proofs.Rows.{lowest-stops, lowest-past}
 use Rattle.lookup.proofs.Roots.{names-trie, modules-trie}
 use Rattle.memory.specs.Sound.{At}
 
