@@ -56,6 +56,12 @@ pub struct ModuleFinding {
     pub answer: FoundModule,
 }
 
+// What a completion is asked, beside its query: which lines, and how many tries it may enter.
+pub struct Request {
+    pub ask: Ask,
+    pub budget: u32,
+}
+
 // The answer of a completion: how many lines and tries entered, or a refusal.
 pub enum Completed {
     Listed(u32, u32),

@@ -1,8 +1,6 @@
 -- Table::complete meets its contract.
-use mathlib.Core.Path.{_∙_}
 use borrow.Author.Needs.{needs}
 use Rattle.memory.proofs.Says.{holds, fails}
-use Rattle.table.proofs.Decided.{decided}
 use Rattle.table.proofs.Completing.{completes-unsound}
 use Rattle.table.proofs.Table.complete.Statement.{statement}
 use Rattle.table.proofs.Table.complete.Tie as tie

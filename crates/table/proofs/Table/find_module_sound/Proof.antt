@@ -1,5 +1,4 @@
 -- Table::find_module_sound meets its contract.
-use borrow.Author.Needs.{needs}
 use Rattle.lookup.proofs.Roots.{modules-trie}
 use Rattle.table.proofs.Lookups.{finds-module-sound}
 use Rattle.table.proofs.Table.find_module_sound.Statement.{statement}

@@ -1,5 +1,4 @@
 -- Table::find_sound meets its contract.
-use borrow.Author.Needs.{needs}
 use Rattle.lookup.proofs.Roots.{names-trie}
 use Rattle.table.proofs.Lookups.{finds-sound}
 use Rattle.table.proofs.Table.find_sound.Statement.{statement}
