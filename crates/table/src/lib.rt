@@ -1,7 +1,7 @@
 // The calls on a table: a header by value, with the lent words and text. Each hands the table back with its answer.
 // Each call has a form for callers that have proved the memory sound, and a total one that tests it first.
-mod answers;
 mod registers;
+mod roots;
 
 use kinds::Kind;
 use lines::Ask;
@@ -134,7 +134,7 @@ impl Table {
             (now (flat .entry)) (now (flat .exit)) (now (out .entry)) (now (out .exit)) r ⌝ }
     {
         let root = self.root_for(ask);
-        let answer = answers::complete_on(words, text, ask, root, query, budget, flat, out);
+        let answer = roots::complete_on(words, text, ask, root, query, budget, flat, out);
         Listing {
             table: self,
             answer: answer,
@@ -169,7 +169,7 @@ impl Table {
         requires { ⌜ IsSound (now words) (now text) self ⌝ }
         ensures { λ r. ⌜ Finds (now (words .entry)) (now (text .entry)) self (now (query .entry)) r ⌝ }
     {
-        let answer = answers::find_on(words, text, self.header.names, query);
+        let answer = roots::find_on(words, text, self.header.names, query);
         Finding {
             table: self,
             answer: answer,
@@ -194,7 +194,7 @@ impl Table {
         requires { ⌜ IsSound (now words) (now text) self ⌝ }
         ensures { λ r. ⌜ FindsModule (now (words .entry)) (now (text .entry)) self (now (query .entry)) r ⌝ }
     {
-        let answer = answers::find_module_on(words, text, self.header.modules, query);
+        let answer = roots::find_module_on(words, text, self.header.modules, query);
         ModuleFinding {
             table: self,
             answer: answer,

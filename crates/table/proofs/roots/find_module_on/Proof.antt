@@ -1,4 +1,4 @@
--- answers::find_module_on meets its contract.
+-- roots::find_module_on meets its contract.
 use mathlib.Core.Path.{ap, _∙_}
 use native.Mathlib.Omega.{arith}
 use borrow.Author.Needs.{needs}
@@ -7,8 +7,8 @@ use Rattle.memory.specs.Layout.{record-at, modules}
 use Rattle.memory.specs.Read.{symbol-of}
 use Rattle.memory.proofs.Seen.{symbol-item}
 use Rattle.table.proofs.Lookups.{symbol-inside}
-use Rattle.table.proofs.answers.find_module_on.Statement.{statement}
-use Rattle.table.proofs.answers.find_module_on.Tie as tie
+use Rattle.table.proofs.roots.find_module_on.Statement.{statement}
+use Rattle.table.proofs.roots.find_module_on.Tie as tie
 
 pub find-module-on-spec : {M : Type 1} → statement M
 find-module-on-spec =

@@ -1,11 +1,11 @@
--- answers::find_on meets its contract.
+-- roots::find_on meets its contract.
 use mathlib.Core.Path.{ap, _∙_}
 use native.Mathlib.Omega.{arith}
 use borrow.Author.Needs.{needs}
 use Rattle.source.specs.Calls.{found}
 use Rattle.memory.specs.Layout.{names}
-use Rattle.table.proofs.answers.find_on.Statement.{statement}
-use Rattle.table.proofs.answers.find_on.Tie as tie
+use Rattle.table.proofs.roots.find_on.Statement.{statement}
+use Rattle.table.proofs.roots.find_on.Tie as tie
 
 pub find-on-spec : {M : Type 1} → statement M
 find-on-spec =
