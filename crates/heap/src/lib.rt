@@ -5,6 +5,7 @@ ghost use mathlib.Core.Path.{_≡_};
 ghost use Prim.Native.Nat.{ℕ, _-_, _<_};
 ghost use lib.IntN.{pos, _-ℤ_};
 ghost use lib.ListN.{getD, set};
+ghost use Rattle.source.specs.Limits.{heaviest-list};
 ghost use Rattle.source.specs.Text.{string-compare};
 ghost use Rattle.source.specs.Heap.{Heap, Forest, heap-from-list};
 ghost use Rattle.text.specs.Text.{ordering};
@@ -14,9 +15,9 @@ ghost use Rattle.heap.specs.Compare.{Heads, cell-cmp, sign};
 ghost use Rattle.heap.specs.Cells.{Root, Rep, Repᶠ, Merges, Inserts, Pairs, Pops, first-cells};
 
 // How many lists a merge takes, and so how many cells there are. As a cell it is none.
-pub const CELLS: usize = 96;
+pub const CELLS: usize = memory::HEAVIEST as usize;
 
-const NO_CELL: u8 = 96;
+const NO_CELL: u8 = memory::HEAVIEST as u8;
 
 // What heap_pop answers: nothing, or the least cell and the root of the rest.
 pub enum Popped {
@@ -68,7 +69,7 @@ fn cell_cmp(words: &[u32], text: &[u8], heads: &[u32; CELLS], n: usize, a: usize
 
 // Puts the heap of root `w` before the children of `v`.
 fn link(child: &mut [u8; CELLS], next: &mut [u8; CELLS], v: usize, w: usize) -> usize
-    requires { ⌜ (v < 96) × (w < 96) ⌝ }
+    requires { ⌜ (v < heaviest-list) × (w < heaviest-list) ⌝ }
     ensures { λ r. ⌜ (r ≡ v) × (now (child .exit) ≡ set (now (child .entry)) v w) × (now (next .exit) ≡ set (now (next .entry)) w (getD (now (child .entry)) v 0)) ⌝ }
 {
     next[w] = child[v];

@@ -14,6 +14,7 @@ ghost use mathlib.Core.Bool.{false, cond};
 ghost use mathlib.Core.List.{[], _∷_};
 ghost use Prim.Native.Nat.{_+_, _≤_};
 ghost use lib.ListN.{length};
+ghost use Rattle.source.specs.Limits.{most-used};
 ghost use Rattle.source.specs.Calls.{a-name, malformed, arguments, after};
 ghost use Rattle.refusals.specs.Rows.{Flagged, AllFlagged};
 ghost use Rattle.memory.specs.Layout.{names, trieˢ, state-of};
@@ -122,7 +123,7 @@ pub fn check(
 // Writes the texts of a registration after the used ones.
 fn put_texts(text: &mut [u8], used: u32, host: &[u8], other: &[u8], key: &[u8])
     requires { ⌜ used + length (now host) + length (now other) + length (now key) ≤ length (now text) ⌝ }
-    requires { ⌜ used + length (now host) + length (now other) + length (now key) ≤ 65536 ⌝ }
+    requires { ⌜ used + length (now host) + length (now other) + length (now key) ≤ most-used ⌝ }
     ensures { λ _. ⌜ Laid (now (text .entry)) (now (text .exit)) used (now (host .entry)) (now (other .entry)) (now (key .entry)) ⌝ }
 {
     let start = used + host.len() as u32;
