@@ -8,8 +8,9 @@ use Rattle.source.specs.Limits.{record-words}
 use Rattle.source.specs.Calls.{Output}
 use Rattle.source.specs.Shared.{Allˡ}
 use Rattle.text.specs.Laid.{Laid}
-use Rattle.script.specs.Script.{Str, Command, Reads, All}
-use Rattle.script.specs.declared.Sort.the-variants.{Line}
+use Rattle.numerals.specs.Bytes.{Str, All}
+use Rattle.script.specs.Script.{Command, Reads}
+use Rattle.numerals.specs.declared.Sort.the-variants.{Line}
 use Rattle.table.specs.Header.{IsSound, state, lent}
 use Rattle.memory.specs.Grown.{Outside}
 use Rattle.table.specs.Registrations.{Unchanged}

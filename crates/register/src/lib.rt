@@ -1,7 +1,8 @@
 // A registration over a header: the rows that it must pass, and what it writes.
-use change::Change;
+use change::Descent;
 use kinds::Form;
 use kinds::Kind;
+use leaves::Change;
 use memory::Header;
 use memory::Span;
 use refusals::Admission;
@@ -21,7 +22,7 @@ ghost use Rattle.memory.specs.Layout.{names, trieˢ, state-of};
 ghost use Rattle.memory.specs.Sound.{Sound, At};
 ghost use Rattle.kinds.specs.Shapes.{call-of, argument-as};
 ghost use Rattle.plan.specs.Plans.{Carries};
-ghost use Rattle.change.specs.Changes.{which-by};
+ghost use Rattle.leaves.specs.Leaves.{which-by};
 ghost use Rattle.register.specs.Checks.{NoKey, Passes, Checks};
 ghost use Rattle.register.specs.Writes.{Laid, root-at, with-root, Accepts};
 
@@ -200,6 +201,11 @@ pub fn write(
     let s = kinds::shape_of(kind);
     let form = s.form;
     let root = root_of(h, form);
-    let b = change::trie_mutate(words, text, h.records, root, h.text, h.text, start, change);
+    let d = Descent {
+        from: h.text,
+        end: start,
+        change: change,
+    };
+    let b = change::trie_mutate(words, text, h.records, root, h.text, d);
     changed(h, form, b.link, b.records, end + size)
 }

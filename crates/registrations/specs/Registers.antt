@@ -7,7 +7,7 @@ use Rattle.source.specs.Limits.{record-words}
 use Rattle.source.specs.Calls as C
 use Rattle.source.specs.Calls.{State, Call, register}
 use Rattle.text.specs.Laid.{Laid}
-use Rattle.script.specs.Script.{Str}
+use Rattle.numerals.specs.Bytes.{Str}
 use Rattle.script.specs.declared.Import.{Import}
 use Rattle.script.specs.declared.Import.the-variants.{Include, OpenModule, OpenNamespace}
 use Rattle.replies.specs.Replies.{ok-reply, refused-reply}
