@@ -226,7 +226,8 @@ impl Table {
         key: &[u8],
     ) -> Registration
         requires { ⌜ IsSound (now words) (now text) self ⌝ }
-        ensures { λ r. ⌜ Answers true (now (words .entry)) (now (text .entry)) (now (words .exit)) (now (text .exit)) self (call-of kind (now (host .entry)) (now (other .entry)) (now (key .entry))) r ⌝ }
+        ensures { λ r. ⌜ Answers true (now (words .entry)) (now (text .entry)) (now (words .exit)) (now (text .exit)) self
+            (call-of kind (now (host .entry)) (now (other .entry)) (now (key .entry))) r ⌝ }
     {
         let n = kinds::key_size(kind, key.len());
         let k = register::check(words, text, self.header, kind, host, other, &key[..n]);
@@ -264,7 +265,8 @@ impl Table {
         other: &[u8],
         key: &[u8],
     ) -> Registration
-        ensures { λ r. ⌜ Total (now (words .entry)) (now (text .entry)) (now (words .exit)) (now (text .exit)) self (call-of kind (now (host .entry)) (now (other .entry)) (now (key .entry))) r ⌝ }
+        ensures { λ r. ⌜ Total (now (words .entry)) (now (text .entry)) (now (words .exit)) (now (text .exit)) self
+            (call-of kind (now (host .entry)) (now (other .entry)) (now (key .entry))) r ⌝ }
     {
         if self.is_sound(words, text) {
             return self.register_sound(words, text, kind, host, other, key);

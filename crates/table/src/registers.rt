@@ -17,7 +17,8 @@ impl Table {
         id: &[u8],
         item: u32,
     ) -> Registration
-        ensures { λ r. ⌜ Total (now (words .entry)) (now (text .entry)) (now (words .exit)) (now (text .exit)) self (name (now (host .entry)) (now (id .entry)) item) r ⌝ }
+        ensures { λ r. ⌜ Total (now (words .entry)) (now (text .entry)) (now (words .exit)) (now (text .exit)) self
+            (name (now (host .entry)) (now (id .entry)) item) r ⌝ }
     {
         self.register(words, text, Kind::Name(item), host, id, &host[..0])
     }
@@ -32,7 +33,8 @@ impl Table {
         item: u32,
     ) -> Registration
         requires { ⌜ IsSound (now words) (now text) self ⌝ }
-        ensures { λ r. ⌜ Answers true (now (words .entry)) (now (text .entry)) (now (words .exit)) (now (text .exit)) self (name (now (host .entry)) (now (id .entry)) item) r ⌝ }
+        ensures { λ r. ⌜ Answers true (now (words .entry)) (now (text .entry)) (now (words .exit)) (now (text .exit)) self
+            (name (now (host .entry)) (now (id .entry)) item) r ⌝ }
     {
         self.register_sound(words, text, Kind::Name(item), host, id, &host[..0])
     }
@@ -45,7 +47,8 @@ impl Table {
         host: &[u8],
         query: &[u8],
     ) -> Registration
-        ensures { λ r. ⌜ Total (now (words .entry)) (now (text .entry)) (now (words .exit)) (now (text .exit)) self (include (now (host .entry)) (now (query .entry))) r ⌝ }
+        ensures { λ r. ⌜ Total (now (words .entry)) (now (text .entry)) (now (words .exit)) (now (text .exit)) self
+            (include (now (host .entry)) (now (query .entry))) r ⌝ }
     {
         self.register(words, text, Kind::Include, host, query, &host[..0])
     }
@@ -59,7 +62,8 @@ impl Table {
         query: &[u8],
     ) -> Registration
         requires { ⌜ IsSound (now words) (now text) self ⌝ }
-        ensures { λ r. ⌜ Answers true (now (words .entry)) (now (text .entry)) (now (words .exit)) (now (text .exit)) self (include (now (host .entry)) (now (query .entry))) r ⌝ }
+        ensures { λ r. ⌜ Answers true (now (words .entry)) (now (text .entry)) (now (words .exit)) (now (text .exit)) self
+            (include (now (host .entry)) (now (query .entry))) r ⌝ }
     {
         self.register_sound(words, text, Kind::Include, host, query, &host[..0])
     }
@@ -73,7 +77,8 @@ impl Table {
         host: &[u8],
         query: &[u8],
     ) -> Registration
-        ensures { λ r. ⌜ Total (now (words .entry)) (now (text .entry)) (now (words .exit)) (now (text .exit)) self (opens flag (now (host .entry)) (now (query .entry))) r ⌝ }
+        ensures { λ r. ⌜ Total (now (words .entry)) (now (text .entry)) (now (words .exit)) (now (text .exit)) self
+            (opens flag (now (host .entry)) (now (query .entry))) r ⌝ }
     {
         self.register(words, text, kinds::opened(flag), host, query, &host[..0])
     }
@@ -88,7 +93,8 @@ impl Table {
         query: &[u8],
     ) -> Registration
         requires { ⌜ IsSound (now words) (now text) self ⌝ }
-        ensures { λ r. ⌜ Answers true (now (words .entry)) (now (text .entry)) (now (words .exit)) (now (text .exit)) self (opens flag (now (host .entry)) (now (query .entry))) r ⌝ }
+        ensures { λ r. ⌜ Answers true (now (words .entry)) (now (text .entry)) (now (words .exit)) (now (text .exit)) self
+            (opens flag (now (host .entry)) (now (query .entry))) r ⌝ }
     {
         self.register_sound(words, text, kinds::opened(flag), host, query, &host[..0])
     }
@@ -102,7 +108,8 @@ impl Table {
         host: &[u8],
         query: &[u8],
     ) -> Registration
-        ensures { λ r. ⌜ Total (now (words .entry)) (now (text .entry)) (now (words .exit)) (now (text .exit)) self (alias (now (key .entry)) (now (host .entry)) (now (query .entry))) r ⌝ }
+        ensures { λ r. ⌜ Total (now (words .entry)) (now (text .entry)) (now (words .exit)) (now (text .exit)) self
+            (alias (now (key .entry)) (now (host .entry)) (now (query .entry))) r ⌝ }
     {
         self.register(words, text, Kind::Alias, host, query, key)
     }
@@ -117,7 +124,8 @@ impl Table {
         query: &[u8],
     ) -> Registration
         requires { ⌜ IsSound (now words) (now text) self ⌝ }
-        ensures { λ r. ⌜ Answers true (now (words .entry)) (now (text .entry)) (now (words .exit)) (now (text .exit)) self (alias (now (key .entry)) (now (host .entry)) (now (query .entry))) r ⌝ }
+        ensures { λ r. ⌜ Answers true (now (words .entry)) (now (text .entry)) (now (words .exit)) (now (text .exit)) self
+            (alias (now (key .entry)) (now (host .entry)) (now (query .entry))) r ⌝ }
     {
         self.register_sound(words, text, Kind::Alias, host, query, key)
     }
@@ -131,7 +139,8 @@ impl Table {
         query: &[u8],
         path: &[u8],
     ) -> Registration
-        ensures { λ r. ⌜ Total (now (words .entry)) (now (text .entry)) (now (words .exit)) (now (text .exit)) self (module-path loaded (now (query .entry)) (now (path .entry))) r ⌝ }
+        ensures { λ r. ⌜ Total (now (words .entry)) (now (text .entry)) (now (words .exit)) (now (text .exit)) self
+            (module-path loaded (now (query .entry)) (now (path .entry))) r ⌝ }
     {
         self.register(words, text, Kind::Module(loaded), query, path, &query[..0])
     }
@@ -146,7 +155,8 @@ impl Table {
         path: &[u8],
     ) -> Registration
         requires { ⌜ IsSound (now words) (now text) self ⌝ }
-        ensures { λ r. ⌜ Answers true (now (words .entry)) (now (text .entry)) (now (words .exit)) (now (text .exit)) self (module-path loaded (now (query .entry)) (now (path .entry))) r ⌝ }
+        ensures { λ r. ⌜ Answers true (now (words .entry)) (now (text .entry)) (now (words .exit)) (now (text .exit)) self
+            (module-path loaded (now (query .entry)) (now (path .entry))) r ⌝ }
     {
         self.register_sound(words, text, Kind::Module(loaded), query, path, &query[..0])
     }
