@@ -8,8 +8,8 @@ OUT = os.path.join(HERE, '..', '..', 'crates', 'typed', 'proofs', 'complete', 'P
 SHARED = {'words': ('0', 'w', 'u32', 'v₂'), 'text': ('1', 'x', 'u8', 'v₃'), 'query': ('2', 'y', 'u8', 'v₄')}
 OWN_TABLE = 'owned ! Tb.the-row (Is Tb.the-row) (LL.makes Tb.the-type Tb′.the-plain 𝓤 H A) t _ t-is $'
 OWN_ASK = 'owned ! Q.the-row (Is Q.the-row) (LE.makes Q.the-type Q′.the-plain 𝓤 H A) ak _ ak-is $'
-OWN_ANSWER = 'owned ! R.the-row (Is R.the-row) (LE.makes R.the-type R′.the-plain 𝓤 H A) r _ r-is $'
-OWN_BUDGET = 'owned ! u32 (Is u32) (uint-makes 𝓤 H A W w32) bud _ (refl, bud-fits) $'
+OWN_REQUEST = 'owned ! Rq.the-row (Is Rq.the-row) (LL.makes Rq.the-type Rq′.the-plain 𝓤 H A) rq _ rq-is $'
+OWN_ANSWER = 'owned ! R.the-row (Is R.the-row) (LL.makes R.the-type R′.the-plain 𝓤 H A) r _ r-is $'
 def own_usize(n, f): return f'owned ! usize (Is usize) (uint-makes 𝓤 H A W w64) {n} _ (refl, {f}) $'
 
 def script(ctx, steps):
@@ -27,16 +27,16 @@ def script(ctx, steps):
     return w.text('done !')
 
 goes_flat = script(['words', 'text', 'query', 'out', 'flat', 't0', 't1', 't2', 'tν', 't5'],
-    [('nothing',), ('f', 'out'), ('f', 'flat'), ('own', own_usize('m', 'm-fits')), ('own', OWN_BUDGET), ('f', 'query'), ('own', OWN_ASK), ('f', 'text'), ('f', 'words'), ('own', OWN_TABLE), ('name', 'O'),
+    [('nothing',), ('f', 'out'), ('f', 'flat'), ('own', own_usize('m', 'm-fits')), ('f', 'query'), ('own', OWN_REQUEST), ('f', 'text'), ('f', 'words'), ('own', OWN_TABLE), ('name', 'O'),
      ('nothing',), ('j', 't5'), ('j', 'tν'), ('j', 't2'), ('j', 't1'), ('j', 't0'), ('name', 'T'), ('join', 'T', 'O', 'TO'), ('frame', 'TO')])
 goes_store = script(['lines', 'flat', 't3', 'tν'],
     [('emit', 'says ! asked $'), ('nothing',), ('j', 'tν'), ('j', 't3'), ('frame', 'true'), ('nothing',), ('own', OWN_ASK), ('own', own_usize('n', 'n-fits')), ('f', 'flat'), ('f', 'lines')])
 exits = script(['t0', 't1', 't2', 't3', 't4', 't5', 'words', 'text', 'query', 'flat', 'out', 'lines'],
     [('nothing',), ('j', 't5'), ('j', 't4'), ('j', 't3'), ('j', 't2'), ('j', 't1'), ('j', 't0'), ('frame', 'true'),
-     ('nothing',), ('f', 'out'), ('f', 'flat'), ('f', 'lines'), ('own', OWN_BUDGET), ('f', 'query'), ('own', OWN_ASK), ('f', 'text'), ('f', 'words'), ('own', OWN_TABLE), ('name', 'O'),
+     ('nothing',), ('f', 'out'), ('f', 'flat'), ('f', 'lines'), ('f', 'query'), ('own', OWN_REQUEST), ('f', 'text'), ('f', 'words'), ('own', OWN_TABLE), ('name', 'O'),
      ('emit', OWN_ANSWER + ' move ! (1 ∷ 0 ∷ []) $')])
 
-N = 22
+N = 21
 w = Walk(N, ['tokens', 'owned'])
 for i in range(N): w.bind(f'alloc1 ! (λ l{i}.')
 w.emit('alloc0 ! $ params1 ! $'); w.nl()
@@ -47,15 +47,14 @@ def shr(i, k, p):
     pas(i, f'(shr-slice-lawful 𝓤 H A W (named {nm}) κ{nm} {ty} .typed {v} ({val} ∷ []) {p} .0)')
 pas(1, '(LL.lawful Tb.the-type Tb′.the-laws 𝓤 H A W .typed t _ t-is .0)')
 shr(2, 'words', 'p₂'); shr(3, 'text', 'p₃')
-pas(4, '(LE.lawful Q.the-type Q′.the-laws 𝓤 H A W tt .typed ak _ ak-is .0)')
+pas(4, '(LL.lawful Rq.the-type Rq′.the-laws 𝓤 H A W .typed rq _ rq-is .0)')
 shr(5, 'query', 'p₄')
-pas(6, '(uint-lawful 𝓤 H A W w32 .typed bud _ (refl, bud-fits) .0)')
-pas(7, SL('room₈ .0')); pas(8, SL('room .0')); pas(9, SL('room₇ .0'))
+pas(6, SL('room₈ .0')); pas(7, SL('room .0')); pas(8, SL('room₇ .0'))
 w.emit('pass0 ! $'); w.nl()
-w.assign('_12', f'(of-opd ! {w.field("_7", 1)})', '(tt, record { fits = room₈ .0 })'); w.nl()
-w.reborrow('_13', '_14', '_8', 'room .0')
-w.reborrow('_15', '_16', '_9', 'room₇ .0')
-w.split('owned', ['table', 'words', 'text', 'ask', 'query', 'budget', 'lines', 'flat', 'out', 'true'], 'fsplit'); w.nl()
+w.assign('_11', f'(of-opd ! {w.field("_6", 1)})', '(tt, record { fits = room₈ .0 })'); w.nl()
+w.reborrow('_12', '_13', '_7', 'room .0')
+w.reborrow('_14', '_15', '_8', 'room₇ .0')
+w.split('owned', ['table', 'words', 'text', 'request', 'query', 'lines', 'flat', 'out', 'true'], 'fsplit'); w.nl()
 w.split('tokens', ['t0', 't1', 't2', 't3', 't4', 't5', 'true2']); w.nl()
 loc = [x for i in reversed(range(N)) for x in (f'_{i}', f'd{i}')]
 w.keep('t0', 't1', 't2', 't3', 't4', 't5', 'words', 'text', 'query', 'flat', 'out', 'lines', *loc); w.nl(); w.note()
@@ -68,35 +67,35 @@ w.use(['flat', 't4'], '(later (some (λ (δ : GName). ‵ (MutSlice (named 3) (�
 w.emit('await ! tt $'); w.bind('pick ! (λ δ.'); w.emit('split ! $'); w.head('flat', 'kept'); w.nl(); w.note()
 w.group(['words', 'text', 'query', 'out', 'flat', 't0', 't1', 't2', 'tν', 't5'], 'g')
 w.use(['g'], '(raw (Flat 𝓤 H A mem run .pre (to-flat ν δ)))', '(goes-flat ν δ (room₈ .0))', 'pre'); w.nl()
-w.bind('calls-at ! fm (Flat 𝓤 H A mem run) known-flat (to-flat ν δ) ' + w.args([w.load(l) for l in ('_1', '_2', '_3', '_4', '_5', '_6', '_12', '_14', '_16')]) + ' (λ u.'); w.nl()
-KS = '(κ0, (κ1, (κ2, (ν ∷ [], (κ5, tt)))))'; AS = '(t, (w, (x, (ak, (y, (bud, (m, (f δ fs, (ou, tt)))))))))'
-w.use(['pre'], f'(later (some (λ (r : Completed). ((‵ (flft κ0 q0) ⊛ (‵ (flft κ1 q1) ⊛ (‵ (flft κ2 q2) ⊛ (‵ (flft (ν ∷ []) fullShare) ⊛ (‵ (flft κ5 q5) ⊛ ‵ ftrue))))) ⊛ ‵ (R.the-row .own r (u ∷ []))) ⊛ raw (ensured 𝓤 H A complete-flat.ended (complete-flat.clauses 𝓤 H A mem run) {KS} {AS} tt r))))', '(id⊢ 𝓤 _)', 'h')
+w.bind('calls-at ! fm (Flat 𝓤 H A mem run) known-flat (to-flat ν δ) ' + w.args([w.load(l) for l in ('_1', '_2', '_3', '_4', '_5', '_11', '_13', '_15')]) + ' (λ u.'); w.nl()
+KS = '(κ0, (κ1, (κ2, (ν ∷ [], (κ5, tt)))))'; AS = '(t, (w, (x, (rq, (y, (m, (f δ fs, (ou, tt))))))))'
+w.use(['pre'], f'(later (some (λ (r : Listing). ((‵ (flft κ0 q0) ⊛ (‵ (flft κ1 q1) ⊛ (‵ (flft κ2 q2) ⊛ (‵ (flft (ν ∷ []) fullShare) ⊛ (‵ (flft κ5 q5) ⊛ ‵ ftrue))))) ⊛ ‵ (R.the-row .own r (u ∷ []))) ⊛ raw (ensured 𝓤 H A complete-flat.ended (complete-flat.clauses 𝓤 H A mem run) {KS} {AS} tt r))))', '(id⊢ 𝓤 _)', 'h')
 w.emit('await ! tt $'); w.bind('pick ! (λ r.'); w.emit('split ! $'); w.head('tr', 'ens'); w.nl()
 U = 'Unit {0}'
-GS = ''.join(f'{U} × (' for _ in range(7)) + f'List ℕ × (List ℕ × {U})' + ')' * 7
-G = '(gs' + ' .1' * 7 + ' .0)'; O = '(gs' + ' .1' * 8 + ' .0)'
-SAID = f'(FlatCompletes (w .now) (x .now) t ak (y .now) bud m fs {G} (ou .now) {O} r)'
+GS = ''.join(f'{U} × (' for _ in range(6)) + f'List ℕ × (List ℕ × {U})' + ')' * 6
+G = '(gs' + ' .1' * 6 + ' .0)'; O = '(gs' + ' .1' * 7 + ' .0)'
+SAID = f'(FlatCompletes (w .now) (x .now) t rq (y .now) m fs {G} (ou .now) {O} r)'
 w.use(['ens'], f'(some (λ (gs : {GS}). ‵ (lasts complete-flat.ended {KS} {AS} gs) ⊛ raw (fact 𝓤 {SAID})))', '(id⊢ 𝓤 _)', 'h')
 w.bind('pick ! (λ gs.'); w.emit('split ! $'); w.head('lasts', 'fact'); w.move('fact'); w.bind(f'heard ! {SAID} (λ said.'); w.ctx = w.ctx[1:]; w.nl()
-w.split('lasts', ['u0', 'u1', 'u2', 'u3', 'u4', 'u5', 'u6', 'lf', 'more'], 'fsplit')
+w.split('lasts', ['u0', 'u1', 'u2', 'u3', 'u4', 'u5', 'lf', 'more'], 'fsplit')
 w.split('lf', ['ff', 'lenf'], 'fsplit'); w.move('lenf'); w.bind('feqL ! (λ lf.'); w.ctx = w.ctx[1:]
 w.split('more', ['lo', 'more2'], 'fsplit'); w.split('lo', ['out', 'leno'], 'fsplit'); w.move('leno'); w.bind('feqL ! (λ lo.'); w.ctx = w.ctx[1:]; w.nl()
 w.split('tr', ['tk', 'rr']); w.move('rr')
 w.bind('peeks ! R.the-row (Is R.the-row) (shows 𝓤 H A R.the-row) r (u ∷ []) (λ r-is.'); w.nl()
-w.land('_10', '(LE.lawful R.the-type R′.the-laws 𝓤 H A W tt .typed r _ r-is .0)'); w.nl()
+w.land('_9', '(LL.lawful R.the-type R′.the-laws 𝓤 H A W .typed r _ r-is .0)'); w.nl()
 w.split('tk', ['t0', 't1', 't2', 'tν', 't5', 'true3']); w.move('tν'); w.emit('lft-end ! tt $'); w.head('dead'); w.nl()
 w.use(['dead', 'kept', 'ff'], f'(later (‵ (MutSlice (named 4) κ4 u32 .own (f γ {G}) (v₆ ∷ [])) ⊛ ‵ (flft κ4 q4)))', f'(comes-back u32 κ4 (ν ∷ []) q4 γ b o 𝓤 H A W (named 4) (named 3) fs δ {G} room lf)', 'h')
 w.emit('await ! tt $ split ! $'); w.head('flat', 't4'); w.nl(); w.note()
 # lines_in
 w.move('rr'); w.use(['rr'], '(raw (LinesIn 𝓤 H A mem run .pre (to-lines-in r u)))', '(goes-lines-in r u)', 'pre'); w.nl()
-w.bind('calls-at ! fm (LinesIn 𝓤 H A mem run) known-lines-in (to-lines-in r u) ' + w.args([w.load('_10')]) + ' (λ u′.')
+w.bind('calls-at ! fm (LinesIn 𝓤 H A mem run) known-lines-in (to-lines-in r u) ' + w.args([w.load('_9')]) + ' (λ u′.')
 w.use(['pre'], '(later (some (λ (n : ℕ). (‵ ftrue ⊛ ‵ (usize .own n (u′ ∷ []))) ⊛ raw (ensured 𝓤 H A lines-in.ended (lines-in.clauses 𝓤 H A mem run) tt (r, tt) tt n))))', '(id⊢ 𝓤 _)', 'h')
 w.emit('await ! tt $'); w.bind('pick ! (λ n.'); w.emit('split ! $'); w.head('tn', 'ens'); w.nl()
-w.use(['ens'], '(raw (fact 𝓤 (n ≡ linesIn r)))', '(lines-in-said r n)', 'fact'); w.bind('heard ! (n ≡ linesIn r) (λ en.'); w.ctx = w.ctx[1:]
+w.use(['ens'], '(raw (fact 𝓤 (n ≡ linesIn (r .answer))))', '(lines-in-said r n)', 'fact'); w.bind('heard ! (n ≡ linesIn (r .answer)) (λ en.'); w.ctx = w.ctx[1:]
 w.split('tn', ['true4', 'nn']); w.move('nn'); w.bind('peeks ! usize (Is usize) (shows 𝓤 H A usize) n (u′ ∷ []) (λ is.'); w.nl()
-w.land('_11', '(uint-lawful 𝓤 H A W w64 .typed n _ is .0)'); w.emit(f'rewrite ! {w.at("_11")} (λ (z : Val). ‵ (fat fullShare (tyInt w64) l11 0 z)) (ap only (is .0)) refl $'); w.nl()
+w.land('_10', '(uint-lawful 𝓤 H A W w64 .typed n _ is .0)'); w.emit(f'rewrite ! {w.at("_10")} (λ (z : Val). ‵ (fat fullShare (tyInt w64) l10 0 z)) (ap only (is .0)) refl $'); w.nl()
 # store_lines, with the flat words lent shared
-w.reborrow('_18', '_19', '_7', 'room₈ .0'); w.reborrow('_20', '_21', '_8', 'room .0')
+w.reborrow('_17', '_18', '_6', 'room₈ .0'); w.reborrow('_19', '_20', '_7', 'room .0')
 w.bind('lft-new ! tt (λ ν′.'); w.add('tν'); w.move('flat', 't4')
 RW = lambda T, e: f'rewrite ! 0 (λ (j : ℕ). ‵ ({T} (sliceVal (b, o) j ∷ []))) {e} refl $'
 w.emit(RW(f'MutSlice (named 4) κ4 u32 .own (f γ {G})', '(sym lf)')); w.nl()
@@ -105,7 +104,7 @@ w.emit('await ! tt $'); w.bind('pick ! (λ δ′.'); w.emit('split ! $'); w.head
 w.emit(RW(f'ShrSlice (named 1) (ν′ ∷ []) u32 .own (f δ′ {G})', 'lf')); w.nl(); w.note()
 w.group(['lines', 'flat', 't3', 'tν'], 'g')
 w.use(['g'], f'(raw (StoreLines 𝓤 H A mem run .pre (to-store ν′ δ′ {G} n)))', f'(goes-store ν′ δ′ {G} n (is .1) (asked-at said en lf))', 'pre'); w.nl()
-w.bind(f'calls-at ! fm (StoreLines 𝓤 H A mem run) known-store (to-store ν′ δ′ {G} n) ' + w.args([w.load(l) for l in ('_19', '_21', '_11', '_4')]) + ' (λ u″.'); w.nl()
+w.bind(f'calls-at ! fm (StoreLines 𝓤 H A mem run) known-store (to-store ν′ δ′ {G} n) ' + w.args([w.load('_18'), w.load('_20'), w.load('_10'), w.field('_4', 0)]) + ' (λ u″.'); w.nl()
 KS2 = '(κ3, (ν′ ∷ [], tt))'; AS2 = f'(ln, (f δ′ {G}, (n, (ak, tt))))'
 w.use(['pre'], f'(later (some (λ (z : Unit {{0}}). ((‵ (flft κ3 q3) ⊛ (‵ (flft (ν′ ∷ []) fullShare) ⊛ ‵ ftrue)) ⊛ ‵ (Nothing .own z (u″ ∷ []))) ⊛ raw (ensured 𝓤 H A store-lines.ended (store-lines.clauses 𝓤 H A mem run) {KS2} {AS2} tt z))))', '(id⊢ 𝓤 _)', 'h')
 w.emit('await ! tt $'); w.bind('pick ! (λ z.'); w.emit('split ! $'); w.head('tz', 'ens'); w.nl()
@@ -114,11 +113,11 @@ w.use(['ens'], f'(some (λ (zs : List Line × (Unit {{0}} × (Unit {{0}} × (Uni
 w.bind('pick ! (λ zs.'); w.emit('split ! $'); w.head('lasts2', 'fact'); w.move('fact'); w.bind(f'heard ! {ST} (λ e.'); w.ctx = w.ctx[1:]; w.nl()
 w.split('lasts2', ['ll', 'more3'], 'fsplit'); w.split('ll', ['lines', 'lenl'], 'fsplit'); w.move('lenl'); w.bind('feqL ! (λ lz.'); w.ctx = w.ctx[1:]
 w.split('tz', ['tk2', 'zz']); w.move('zz'); w.bind('peeks ! Nothing (Is Nothing) (shows 𝓤 H A Nothing) z (u″ ∷ []) (λ isu.'); w.nl()
-w.land('_17', '(nothing-lawful 𝓤 H A W .typed z _ isu .0)')
+w.land('_16', '(nothing-lawful 𝓤 H A W .typed z _ isu .0)')
 w.split('tk2', ['t3', 'tν', 'true5']); w.move('tν'); w.emit('lft-end ! tt $'); w.head('dead'); w.nl()
 w.use(['dead', 'kept'], f'(later (‵ (MutSlice (named 4) κ4 u32 .own (f γ {G}) (sliceVal (b, o) (length {G}) ∷ [])) ⊛ ‵ (flft κ4 q4)))', f'(shared-back u32 κ4 (ν′ ∷ []) q4 γ b o 𝓤 H A W (named 4) (named 1) {G} (subst (Room u32) (sym lf) room))', 'h')
 w.emit('await ! tt $ split ! $'); w.head('flat', 't4'); w.emit(RW(f'MutSlice (named 4) κ4 u32 .own (f γ {G})', 'lf')); w.nl(); w.note()
-w.assign('_0', f'(of-opd ! {w.load("_10")})', '(LE.lawful R.the-type R′.the-laws 𝓤 H A W tt .typed r _ r-is .0)'); w.nl()
+w.assign('_0', f'(of-opd ! {w.load("_9")})', '(LL.lawful R.the-type R′.the-laws 𝓤 H A W .typed r _ r-is .0)'); w.nl()
 w.finish()
 w.keep('t0', 't1', 't2', 't3', 't4', 't5', 'words2', 'text2', 'query2', 'flat', 'out', 'lines')
 walk = w.text(f'by ! (exits r u {G} {O} (zs .0) r-is (told-at said en e) lf lo lz)')

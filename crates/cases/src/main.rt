@@ -103,7 +103,7 @@ fn listed(
     flat: &mut [u32],
     pane: &mut [u8],
 ) -> u32 {
-    let c = t.complete(
+    let l = t.complete(
         words,
         text,
         lines::Ask::Names,
@@ -112,6 +112,7 @@ fn listed(
         flat,
         pane,
     );
+    let c = l.answer;
     match c {
         Completed::Listed(n, entered) => 0,
         Completed::Refused(x) => refusals::number(x),
@@ -121,7 +122,8 @@ fn listed(
 // 0 for an answer, else its refusal's number.
 fn looked(t: Table, words: &[u32], text: &[u8]) -> u32 {
     let f = t.find(words, text, b"Live.offset.");
-    match f {
+    let a = f.answer;
+    match a {
         Found::Item(n) => 0,
         Found::Nothing => 0,
         Found::Refused(x) => refusals::number(x),

@@ -1,14 +1,20 @@
 // Calls for tests and benchmarks outside Rattle: slices pass as a pointer and a length, a table as its four numbers.
-// They hand on what crate table answers; its contracts are the promises.
+// Each replies what crate table hands back.
 use lines::Ask;
 use lines::Filter;
 use memory::Header;
 use table::Completed;
+use table::Finding;
 use table::Found;
+use table::Listing;
 use table::Registered;
 use table::Registration;
 use table::Table;
-ghost use Rattle.memory.specs.Sound.{Says, Sound};
+ghost use mathlib.Core.Path.{_≡_};
+ghost use Rattle.source.specs.Calls.{name, include, opens, alias, module-path};
+ghost use Rattle.memory.specs.Sound.{Says};
+ghost use Rattle.table.specs.Header.{IsSound};
+ghost use Rattle.exports.specs.Replies.{table-of, ask-of, refusal-of, reply-of, found-of, listed-of, Replies, FindReplies, ListReplies};
 
 // A registration's reply: 0 or the number of the refusal, and the table.
 #[repr(C)]
@@ -25,21 +31,23 @@ pub const NONE: u32 = 4294967295;
 
 // A look-up's reply: 0 for an item, NONE, else the number of the refusal.
 #[repr(C)]
-pub struct Looked {
+pub struct FindReply {
     pub answer: u32,
     pub item: u32,
 }
 
 // A completion's reply: 0 or the number of the refusal, lines and tries entered.
 #[repr(C)]
-pub struct Listing {
+pub struct ListReply {
     pub refusal: u32,
     pub lines: u32,
     pub entered: u32,
 }
 
 // What is asked: 0 for names, else modules with a filter: 1 All, 2 Loaded, 3 ModulesOnly, any other NamespacesOnly.
-fn ask_of(n: u32) -> Ask {
+fn ask_of(n: u32) -> Ask
+    ensures { λ r. ⌜ r ≡ ask-of n ⌝ }
+{
     if n == 0 {
         return Ask::Names;
     }
@@ -55,14 +63,17 @@ fn ask_of(n: u32) -> Ask {
     Ask::Modules(Filter::NamespacesOnly)
 }
 
-fn listing_of(c: Completed) -> Listing {
+fn listed_of(l: Listing) -> ListReply
+    ensures { λ r. ⌜ r ≡ listed-of (l .answer) ⌝ }
+{
+    let c = l.answer;
     match c {
-        Completed::Listed(lines, entered) => Listing {
+        Completed::Listed(lines, entered) => ListReply {
             refusal: 0,
             lines: lines,
             entered: entered,
         },
-        Completed::Refused(x) => Listing {
+        Completed::Refused(x) => ListReply {
             refusal: refusals::number(x),
             lines: 0,
             entered: 0,
@@ -70,16 +81,20 @@ fn listing_of(c: Completed) -> Listing {
     }
 }
 
-fn refusal_of(r: Registered) -> u32 {
-    match r {
+fn refusal_of(a: Registered) -> u32
+    ensures { λ r. ⌜ r ≡ refusal-of a ⌝ }
+{
+    match a {
         Registered::Accepted => 0,
         Registered::Refused(x) => refusals::number(x),
     }
 }
 
-fn reply_of(r: Registration) -> Reply {
-    let t = r.table;
-    let a = r.answer;
+fn reply_of(x: Registration) -> Reply
+    ensures { λ r. ⌜ r ≡ reply-of x ⌝ }
+{
+    let t = x.table;
+    let a = x.answer;
     Reply {
         refusal: refusal_of(a),
         names: t.header.names,
@@ -89,21 +104,26 @@ fn reply_of(r: Registration) -> Reply {
     }
 }
 
-fn looked_up(f: Found) -> Looked {
-    match f {
-        Found::Item(n) => Looked { answer: 0, item: n },
-        Found::Nothing => Looked {
+fn found_of(f: Finding) -> FindReply
+    ensures { λ r. ⌜ r ≡ found-of (f .answer) ⌝ }
+{
+    let a = f.answer;
+    match a {
+        Found::Item(n) => FindReply { answer: 0, item: n },
+        Found::Nothing => FindReply {
             answer: NONE,
             item: 0,
         },
-        Found::Refused(x) => Looked {
+        Found::Refused(x) => FindReply {
             answer: refusals::number(x),
             item: 0,
         },
     }
 }
 
-fn table_of(names: u32, modules: u32, records: u32, used: u32) -> Table {
+fn table_of(names: u32, modules: u32, records: u32, used: u32) -> Table
+    ensures { λ r. ⌜ r ≡ table-of names modules records used ⌝ }
+{
     Table {
         header: Header {
             names: names,
@@ -124,15 +144,10 @@ pub extern "C" fn name_table_sound(
     records: u32,
     used: u32,
 ) -> bool
-    ensures { λ r. ⌜ Says r (Sound (now (words .entry)) (now (text .entry)) (record { names = names; modules = modules; records = records; text = used })) ⌝ }
+    ensures { λ r. ⌜ Says r (IsSound (now (words .entry)) (now (text .entry)) (table-of names modules records used)) ⌝ }
 {
-    let header = Header {
-        names: names,
-        modules: modules,
-        records: records,
-        text: used,
-    };
-    sound::sound(words, text, header)
+    let t = table_of(names, modules, records, used);
+    t.is_sound(words, text)
 }
 
 #[no_mangle]
@@ -146,7 +161,10 @@ pub extern "C" fn name_table_insert(
     host: &[u8],
     id: &[u8],
     item: u32,
-) -> Reply {
+) -> Reply
+    ensures { λ r. ⌜ Replies (now (words .entry)) (now (text .entry)) (now (words .exit)) (now (text .exit)) (table-of names modules records used)
+        (name (now (host .entry)) (now (id .entry)) item) r ⌝ }
+{
     let t = table_of(names, modules, records, used);
     reply_of(t.insert(words, text, host, id, item))
 }
@@ -161,7 +179,10 @@ pub extern "C" fn name_table_include(
     used: u32,
     host: &[u8],
     query: &[u8],
-) -> Reply {
+) -> Reply
+    ensures { λ r. ⌜ Replies (now (words .entry)) (now (text .entry)) (now (words .exit)) (now (text .exit)) (table-of names modules records used)
+        (include (now (host .entry)) (now (query .entry))) r ⌝ }
+{
     let t = table_of(names, modules, records, used);
     reply_of(t.register_include(words, text, host, query))
 }
@@ -177,7 +198,10 @@ pub extern "C" fn name_table_open(
     modular: bool,
     host: &[u8],
     query: &[u8],
-) -> Reply {
+) -> Reply
+    ensures { λ r. ⌜ Replies (now (words .entry)) (now (text .entry)) (now (words .exit)) (now (text .exit)) (table-of names modules records used)
+        (opens modular (now (host .entry)) (now (query .entry))) r ⌝ }
+{
     let t = table_of(names, modules, records, used);
     reply_of(t.register_open(words, text, modular, host, query))
 }
@@ -193,7 +217,10 @@ pub extern "C" fn name_table_alias(
     key: &[u8],
     host: &[u8],
     query: &[u8],
-) -> Reply {
+) -> Reply
+    ensures { λ r. ⌜ Replies (now (words .entry)) (now (text .entry)) (now (words .exit)) (now (text .exit)) (table-of names modules records used)
+        (alias (now (key .entry)) (now (host .entry)) (now (query .entry))) r ⌝ }
+{
     let t = table_of(names, modules, records, used);
     reply_of(t.register_alias(words, text, key, host, query))
 }
@@ -209,7 +236,10 @@ pub extern "C" fn name_table_module(
     loaded: bool,
     query: &[u8],
     path: &[u8],
-) -> Reply {
+) -> Reply
+    ensures { λ r. ⌜ Replies (now (words .entry)) (now (text .entry)) (now (words .exit)) (now (text .exit)) (table-of names modules records used)
+        (module-path loaded (now (query .entry)) (now (path .entry))) r ⌝ }
+{
     let t = table_of(names, modules, records, used);
     reply_of(t.register_module_path(words, text, loaded, query, path))
 }
@@ -223,58 +253,11 @@ pub extern "C" fn name_table_find(
     records: u32,
     used: u32,
     query: &[u8],
-) -> Looked {
+) -> FindReply
+    ensures { λ r. ⌜ FindReplies (now (words .entry)) (now (text .entry)) (table-of names modules records used) (now (query .entry)) r ⌝ }
+{
     let t = table_of(names, modules, records, used);
-    looked_up(t.find(words, text, query))
-}
-
-// For callers whose memory is sound: no test.
-#[no_mangle]
-pub extern "C" fn name_table_insert_sound(
-    words: &mut [u32],
-    text: &mut [u8],
-    names: u32,
-    modules: u32,
-    records: u32,
-    used: u32,
-    host: &[u8],
-    id: &[u8],
-    item: u32,
-) -> Reply
-    requires { ⌜ Sound (now words) (now text) (record { names = names; modules = modules; records = records; text = used }) ⌝ }
-{
-    let t = Table {
-        header: Header {
-            names: names,
-            modules: modules,
-            records: records,
-            text: used,
-        },
-    };
-    reply_of(t.insert_sound(words, text, host, id, item))
-}
-
-#[no_mangle]
-pub extern "C" fn name_table_find_sound(
-    words: &[u32],
-    text: &[u8],
-    names: u32,
-    modules: u32,
-    records: u32,
-    used: u32,
-    query: &[u8],
-) -> Looked
-    requires { ⌜ Sound (now words) (now text) (record { names = names; modules = modules; records = records; text = used }) ⌝ }
-{
-    let t = Table {
-        header: Header {
-            names: names,
-            modules: modules,
-            records: records,
-            text: used,
-        },
-    };
-    looked_up(t.find_sound(words, text, query))
+    found_of(t.find(words, text, query))
 }
 
 #[no_mangle]
@@ -290,9 +273,50 @@ pub extern "C" fn name_table_complete(
     budget: u32,
     flat: &mut [u32],
     out: &mut [u8],
-) -> Listing {
+) -> ListReply
+    ensures { λ r. ⌜ ListReplies (now (words .entry)) (now (text .entry)) (table-of names modules records used) ask (now (query .entry)) budget
+        (now (flat .entry)) (now (flat .exit)) (now (out .entry)) (now (out .exit)) r ⌝ }
+{
     let t = table_of(names, modules, records, used);
-    listing_of(t.complete(words, text, ask_of(ask), query, budget, flat, out))
+    listed_of(t.complete(words, text, ask_of(ask), query, budget, flat, out))
+}
+
+// For callers whose memory is sound: no test.
+#[no_mangle]
+pub extern "C" fn name_table_insert_sound(
+    words: &mut [u32],
+    text: &mut [u8],
+    names: u32,
+    modules: u32,
+    records: u32,
+    used: u32,
+    host: &[u8],
+    id: &[u8],
+    item: u32,
+) -> Reply
+    requires { ⌜ IsSound (now words) (now text) (table-of names modules records used) ⌝ }
+    ensures { λ r. ⌜ Replies (now (words .entry)) (now (text .entry)) (now (words .exit)) (now (text .exit)) (table-of names modules records used)
+        (name (now (host .entry)) (now (id .entry)) item) r ⌝ }
+{
+    let t = table_of(names, modules, records, used);
+    reply_of(t.insert_sound(words, text, host, id, item))
+}
+
+#[no_mangle]
+pub extern "C" fn name_table_find_sound(
+    words: &[u32],
+    text: &[u8],
+    names: u32,
+    modules: u32,
+    records: u32,
+    used: u32,
+    query: &[u8],
+) -> FindReply
+    requires { ⌜ IsSound (now words) (now text) (table-of names modules records used) ⌝ }
+    ensures { λ r. ⌜ FindReplies (now (words .entry)) (now (text .entry)) (table-of names modules records used) (now (query .entry)) r ⌝ }
+{
+    let t = table_of(names, modules, records, used);
+    found_of(t.find_sound(words, text, query))
 }
 
 #[no_mangle]
@@ -308,16 +332,11 @@ pub extern "C" fn name_table_complete_sound(
     budget: u32,
     flat: &mut [u32],
     out: &mut [u8],
-) -> Listing
-    requires { ⌜ Sound (now words) (now text) (record { names = names; modules = modules; records = records; text = used }) ⌝ }
+) -> ListReply
+    requires { ⌜ IsSound (now words) (now text) (table-of names modules records used) ⌝ }
+    ensures { λ r. ⌜ ListReplies (now (words .entry)) (now (text .entry)) (table-of names modules records used) ask (now (query .entry)) budget
+        (now (flat .entry)) (now (flat .exit)) (now (out .entry)) (now (out .exit)) r ⌝ }
 {
-    let t = Table {
-        header: Header {
-            names: names,
-            modules: modules,
-            records: records,
-            text: used,
-        },
-    };
-    listing_of(t.complete_sound(words, text, ask_of(ask), query, budget, flat, out))
+    let t = table_of(names, modules, records, used);
+    listed_of(t.complete_sound(words, text, ask_of(ask), query, budget, flat, out))
 }

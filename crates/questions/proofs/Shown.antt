@@ -17,12 +17,13 @@ use Rattle.lines.specs.declared.Ask.{Ask}
 use Rattle.rows.specs.Rows.{words-from, line-seen}
 use Rattle.rows.proofs.Written.{written-lines, written-texts}
 use Rattle.listing.specs.Completes.{output}
-use Rattle.table.specs.Header.{table-in}
+use Rattle.table.specs.Header.{IsSound, table-in}
 use Rattle.refusals.specs.Refusals.{number}
 use Rattle.table.specs.Completions.{completion, refused-by, CompletesAs, Completes}
 use Rattle.table.specs.declared.Table.{Table}
 use Rattle.table.specs.declared.Completed.{Completed}
 use Rattle.table.specs.declared.Completed.the-variants.{Listed, Refused}
+use Rattle.table.specs.declared.Listing.{Listing}
 use Rattle.questions.specs.Questions.{lines-text, completed-text}
 use Rattle.questions.specs.RowReplies.{Shown, shown-text}
 use Rattle.questions.proofs.RowReplies.{rows-text-is, rows-room-is}
@@ -52,7 +53,7 @@ module _ (ask : Ask) (txt flat flat′ out out′ : List ℕ) where
       })
   tells r (C.refused n) (e, w, o) = tells-refused ask flat′ out′ n r e
 
-pub completes-tells : {ws txt flat flat′ out out′ query : List ℕ} {t : Table} {ask : Ask} {budget : ℕ} {r : Completed} → Completes true ws txt t ask query budget flat flat′ out out′ r
-    → Tells ask flat′ out′ r (completion true (table-in ws txt t) ask budget (output flat out) query)
-completes-tells {ws} {txt} {flat} {flat′} {out} {out′} {query} {t} {ask} {budget} {r} x =
-    tells ask txt flat flat′ out out′ r (completion true (table-in ws txt t) ask budget (output flat out) query) (x .says)
+pub completes-tells : {ws txt flat flat′ out out′ query : List ℕ} {t : Table} {ask : Ask} {budget : ℕ} {r : Listing} → IsSound ws txt t → Completes ws txt t ask query budget flat flat′ out out′ r
+    → Tells ask flat′ out′ (r .answer) (completion true (table-in ws txt t) ask budget (output flat out) query)
+completes-tells {ws} {txt} {flat} {flat′} {out} {out′} {query} {t} {ask} {budget} {r} o x =
+    tells ask txt flat flat′ out out′ (r .answer) (completion true (table-in ws txt t) ask budget (output flat out) query) (x .says true o)

@@ -133,7 +133,8 @@ fn complete_line(
     requires { ⌜ at + room (now flat) (now pane) ≤ length (now reply) ⌝ }
     ensures { λ e. ⌜ Laid (now (reply .entry)) (now (reply .exit)) at e (completed-text (asked ask) (completion true (table-in (now (words .entry)) (now (text .entry)) table) ask 4096 (output (now (flat .entry)) (now (pane .entry))) (now (query .entry)))) ⌝ }
 {
-    let c = table.complete_sound(words, text, ask, query, 4096, flat, pane);
+    let l = table.complete_sound(words, text, ask, query, 4096, flat, pane);
+    let c = l.answer;
     put_completed(flat, pane, ask, c, reply, at)
 }
 
@@ -156,7 +157,8 @@ pub fn ask_line(
     match what {
         script::Ask::Find => {
             let f = table.find_sound(words, text, query);
-            put_found(reply, at, f)
+            let a = f.answer;
+            put_found(reply, at, a)
         }
         script::Ask::Complete => complete_line(
             table,

@@ -31,6 +31,7 @@ use Rattle.table.specs.declared.Table.{Table}
 use Rattle.refusals.specs.declared.Refusal.{Refusal}
 use Rattle.table.specs.declared.Completed.{Completed}
 use Rattle.table.specs.declared.Completed.the-variants.{Listed, Refused}
+use Rattle.table.specs.declared.Listing.{Listing}
 use Rattle.wire.specs.Bytes.{words-at, Stored}
 use Rattle.wire.specs.Memory.{state-bytes}
 use Rattle.screen.specs.Replies.{RepliesAs, unchosen, Replies}
@@ -118,12 +119,12 @@ module _ (ask : Ask) (m txt flat flat′ out out′ : List ℕ) (t : Table) (que
   fit-as (C.listed lines entered) a = omega (arith, ap count-of (a .0), a .1 .flat-laid .fits)
   fit-as (C.refused n) a = absurd (Option·none-ne-some n (a .0))
 
-  fit-or : ((b : Bool) → Says b (IsSound m txt t) → Completes b m txt t ask query budget flat flat′ out out′ (Listed k e))
+  fit-or : ((b : Bool) → Says b (IsSound m txt t) → CompletesAs ask txt flat flat′ out out′ (Listed k e) (completion b (table-in m txt t) ask budget (output flat out) query))
       → (b : Bool) → leb (k * 12) (length flat) ≡ b → k * 12 ≤ length flat
   fit-or total true p = leb-true _ _ p
   fit-or total false p =
       fit-as (completion false (table-in m txt t) ask budget (output flat out) query)
-      (total false (λ s. let h = fit-as (completion true (table-in m txt t) ask budget (output flat out) query) (total true s .says) in omega (arith, leb-false (k * 12) (length flat) p)) .says)
+      (total false (λ s. let h = fit-as (completion true (table-in m txt t) ask budget (output flat out) query) (total true s) in omega (arith, leb-false (k * 12) (length flat) p)))
 
 module _ (ask : Ask) (txt flat flat′ ls out out′ : List ℕ) where
   module _ {ls′ : List ℕ} (k e : ℕ) (room : Room flat ls) (stored : Stored flat′ 0 (k * 12) ls ls′) where
@@ -149,23 +150,21 @@ output-is flat ls out room =
     let e : min (length flat / 12) 4294967295 ≡ min (length ls / 48) 512 = omega (arith, room .size) in
     λ i. record { lines = e i; text = min (length out) 4294967295 }
 
-module _ {m txt flat flat′ ls out out′ : List ℕ} {t : Table} {ask : Ask} {query : Str} {budget : ℕ} {r : Completed}
-    (room : Room flat ls)
-    (total : (b : Bool) → Says b (IsSound m txt t) → Completes b m txt t ask query budget flat flat′ out out′ r) where
-  answers : {r′ : Completed} → r ≡ r′ → (b : Bool) → Says b (IsSound m txt t)
+module _ {m txt flat flat′ ls out out′ : List ℕ} {t : Table} {ask : Ask} {query : Str} {budget : ℕ} {l : Listing} (room : Room flat ls) (total : Completes m txt t ask query budget flat flat′ out out′ l) where
+  answers : {r′ : Completed} → l .answer ≡ r′ → (b : Bool) → Says b (IsSound m txt t)
       → CompletesAs ask txt flat flat′ out out′ r′ (completion b (table-in m txt t) ask budget (output-in ls out) query)
-  answers p b i = rw (← p, ← output-is flat ls out room) (total b i .says)
+  answers p b i = rw (← p, ← output-is flat ls out room) (total .says b i)
 
-  pub lines-fits : {k e : ℕ} → r ≡ Listed k e → length flat′ ≡ length flat → (k * 12 * 4 ≤ length ls) × (k * 12 ≤ length flat′)
+  pub lines-fits : {k e : ℕ} → l .answer ≡ Listed k e → length flat′ ≡ length flat → (k * 12 * 4 ≤ length ls) × (k * 12 ≤ length flat′)
   lines-fits {k} {e} p q =
-      let h : k * 12 ≤ length flat = fit-or ask m txt flat flat′ out out′ t query budget k e (rw p at total) _ refl in
+      let h : k * 12 ≤ length flat = fit-or ask m txt flat flat′ out out′ t query budget k e (rw p at (total .says)) _ refl in
       (omega (arith, lines-fit (length ls), room .size), omega arith)
 
-  pub list-listed : {ls′ : List ℕ} {k e : ℕ} → r ≡ Listed k e → Stored flat′ 0 (k * 12) ls ls′
+  pub list-listed : {ls′ : List ℕ} {k e : ℕ} → l .answer ≡ Listed k e → Stored flat′ 0 (k * 12) ls ls′
       → ListsIn m txt t ask query budget ls ls′ out out′ (record { answer = 0; lines = k; entered = e })
   list-listed {k = k} {e = e} p stored = record { says = λ b i. listed-as ask txt flat flat′ ls out out′ k e room stored (completion b (table-in m txt t) ask budget (output-in ls out) query) (answers p b i) }
 
-  pub list-refused : {x : Refusal} {n : ℕ} {c : CompleteReply} → r ≡ Refused x → n ≡ number x → c ≡ no-lines n → ListsIn m txt t ask query budget ls ls out out′ c
+  pub list-refused : {x : Refusal} {n : ℕ} {c : CompleteReply} → l .answer ≡ Refused x → n ≡ number x → c ≡ no-lines n → ListsIn m txt t ask query budget ls ls out out′ c
   list-refused {x} p q s = record { says = λ b i. rw (s, q) (refused-as ask txt flat flat′ ls out out′ x (completion b (table-in m txt t) ask budget (output-in ls out) query) (answers p b i)) }
 
 -- ---- By the bytes

@@ -10,10 +10,10 @@ use Rattle.source.specs.Calls as C
 use Rattle.source.specs.Calls.{lowest, argument-rows, look-up}
 use Rattle.memory.specs.Sound.{Says}
 use Rattle.table.specs.Header.{IsSound, names-in, modules-in}
-use Rattle.table.specs.Answers.{name-found, module-found, FoundInside}
+use Rattle.table.specs.Answers.{name-found, Finds, FindsModule}
 use Rattle.table.specs.declared.Table.{Table}
-use Rattle.table.specs.declared.Found.{Found}
-use Rattle.table.specs.declared.FoundModule.{FoundModule}
+use Rattle.table.specs.declared.Finding.{Finding}
+use Rattle.table.specs.declared.ModuleFinding.{ModuleFinding}
 use Rattle.table.specs.declared.FoundModule.the-variants.{Refused}
 use Rattle.refusals.specs.declared.Refusal.the-variants.{Unsound}
 use Rattle.wire.specs.Memory.{state-bytes}
@@ -36,11 +36,8 @@ module _ {st bs txt : List ℕ} {q : Str} (e : length st ≡ state-bytes → ⊥
 
 -- A look-up by crate table.
 module _ {st bs txt m : List ℕ} {t : Table} {q : Str} (h : Held st bs m t) where
-  pub name-looked : (f : Found) {r : NameReply} → ((b : Bool) → Says b (IsSound m txt t) → name-found f ≡ look-up b (names-in m txt t) q)
-      → r ≡ name-reply (name-found f) → RepliesName st bs txt q r
-  name-looked f g p = record { says = λ b i. rw (← h .lent, h .spelt .header, ← g b (says-memory txt h b i)) p }
+  pub name-looked : {f : Finding} {r : NameReply} → Finds m txt t q f → r ≡ name-reply (name-found (f .answer)) → RepliesName st bs txt q r
+  name-looked g p = record { says = λ b i. rw (← h .lent, h .spelt .header, ← g .says b (says-memory txt h b i)) p }
 
-  pub module-looked : (f : FoundModule) {r : ModuleReply}
-      → ((b : Bool) → Says b (IsSound m txt t) → module-found txt f ≡ look-up b (modules-in m txt t) q)
-      → FoundInside (length txt) f → r ≡ module-reply f → RepliesModule st bs txt q r
-  module-looked f g k p = record { says = λ b i. record { found = f; reply = p; says = rw (← h .lent, h .spelt .header) (g b (says-memory txt h b i)); inside = k } }
+  pub module-looked : {f : ModuleFinding} {r : ModuleReply} → FindsModule m txt t q f → r ≡ module-reply (f .answer) → RepliesModule st bs txt q r
+  module-looked {f} g p = record { says = λ b i. record { found = f .answer; reply = p; says = rw (← h .lent, h .spelt .header) (g .says b (says-memory txt h b i)); inside = g .inside } }

@@ -7,8 +7,10 @@ use lines::Ask;
 use lines::Filter;
 use memory::ModSymbol;
 use table::Completed;
+use table::Finding;
 use table::Found;
 use table::FoundModule;
+use table::ModuleFinding;
 use table::Registered;
 use table::Table;
 ghost use mathlib.Core.Path.{_≡_};
@@ -261,9 +263,10 @@ fn no_module(answer: u32) -> ModuleReply
 }
 
 // The reply of crate table's answer.
-fn name_reply(f: Found) -> NameReply
-    ensures { λ r. ⌜ r ≡ name-reply (name-found f) ⌝ }
+fn name_reply(x: Finding) -> NameReply
+    ensures { λ r. ⌜ r ≡ name-reply (name-found (x .answer)) ⌝ }
 {
+    let f = x.answer;
     match f {
         Found::Item(n) => NameReply { answer: 0, item: n },
         Found::Nothing => no_name(NONE),
@@ -308,9 +311,10 @@ fn symbol_reply(s: ModSymbol) -> ModuleReply
 }
 
 // The reply of crate table's answer.
-fn module_reply(f: FoundModule) -> ModuleReply
-    ensures { λ r. ⌜ r ≡ module-reply f ⌝ }
+fn module_reply(x: ModuleFinding) -> ModuleReply
+    ensures { λ r. ⌜ r ≡ module-reply (x .answer) ⌝ }
 {
+    let f = x.answer;
     match f {
         FoundModule::Symbol(s) => symbol_reply(s),
         FoundModule::Nothing => no_module(NONE),
@@ -412,7 +416,8 @@ fn list(
     requires { ⌜ Room (now flat) (now lines) ⌝ }
     ensures { λ r. ⌜ ListsIn (now (memory .entry)) (now (text .entry)) t ask (now (query .entry)) budget (now (lines .entry)) (now (lines .exit)) (now (out .entry)) (now (out .exit)) r ⌝ }
 {
-    let c = t.complete(memory, text, ask, query, budget, flat, out);
+    let l = t.complete(memory, text, ask, query, budget, flat, out);
+    let c = l.answer;
     match c {
         Completed::Listed(count, entered) => {
             let to = count as usize * lines::LINE;

@@ -60,8 +60,8 @@ module _ (ws txt : List ℕ) (t : Table) (name query : Str) (budget : ℕ) (flat
 -- Demand 3, of the calls.
 pub calls-agree : CallsAgree
 calls-agree = record {
-  of-names = λ ws txt t b s name query found budget flat flat′ out out′ n entered f ok c cover.
-      names-agree ws txt t name query budget flat flat′ out out′ n entered cover b s (name-found found) f ok (c .says);
-  of-modules = λ ws txt t b s name query found budget flat flat′ out out′ n entered f ok c cover.
-      modules-agree ws txt t name query budget flat flat′ out out′ n entered cover b s (module-found txt found) f ok (c .says);
+  of-names = λ ws txt t b s name query f budget flat flat′ out out′ l n entered found ok c e cover.
+      names-agree ws txt t name query budget flat flat′ out out′ n entered cover b s (name-found (f .answer)) (found .says b s) ok (rw e at (c .says b s));
+  of-modules = λ ws txt t b s name query f budget flat flat′ out out′ l n entered found ok c e cover.
+      modules-agree ws txt t name query budget flat flat′ out out′ n entered cover b s (module-found txt (f .answer)) (found .says b s) ok (rw e at (c .says b s));
 }

@@ -37,6 +37,7 @@ use Rattle.table.specs.declared.Completed.{Completed}
 use Rattle.table.specs.declared.Completed.the-variants.{Refused}
 use Rattle.lookup.proofs.Roots.{names-trie, modules-trie}
 use Rattle.memory.specs.Sound.{At}
+use Rattle.table.proofs.Decided.{decided}
 
 -- ---- The query
 
@@ -120,15 +121,18 @@ unfolding complete complete-modules
 on-table ws txt t Names budget out query = rw (autocomplete-lid-is (table-in ws txt t) (segments query))
 on-table ws txt t (Modules f) budget out query = rw (autocomplete-mod-or-ns-is (table-in ws txt t) (segments query))
 
-pub completes-table : {ws txt : List ℕ} {t : Table} {ask : Ask} {query : Str} {root budget : ℕ} {flat flat′ out out′ : List ℕ} {r : Completed} → root ≡ root-for t ask
-    → CompletesOn ws txt ask root query budget flat flat′ out out′ r → Completes true ws txt t ask query budget flat flat′ out out′ r
-completes-table {ws} {txt} {t} {ask} {query} {root} {budget} {flat} {flat′} {out} {out′} {r} e c =
-    record { says = subst (CompletesAs ask txt flat flat′ out out′ r) (on-table ws txt t ask budget (output flat out) query) (rw e at (c .says)) }
+pub completes-table : {ws txt : List ℕ} {t : Table} {ask : Ask} {query : Str} {root budget : ℕ} {flat flat′ out out′ : List ℕ} {r : Completed} → IsSound ws txt t → root ≡ root-for t ask
+    → CompletesOn ws txt ask root query budget flat flat′ out out′ r → Completes ws txt t ask query budget flat flat′ out out′ (record { table = t; answer = r })
+completes-table {ws} {txt} {t} {ask} {query} {root} {budget} {flat} {flat′} {out} {out′} {r} o e c = record {
+  table = refl;
+  says = λ b h. rw (decided _ b true h o) (subst (CompletesAs ask txt flat flat′ out out′ r) (on-table ws txt t ask budget (output flat out) query) (rw e at (c .says)));
+}
 
 -- A memory that is not sound is refused, whatever is asked.
-pub completes-unsound : {ws txt : List ℕ} {t : Table} {ask : Ask} {query : Str} {budget : ℕ} {flat out : List ℕ} → Completes false ws txt t ask query budget flat flat out out (Refused Unsound)
+pub completes-unsound : {ws txt : List ℕ} {t : Table} {ask : Ask} {query : Str} {budget : ℕ} {flat out : List ℕ} → (IsSound ws txt t → ⊥)
+    → Completes ws txt t ask query budget flat flat out out (record { table = t; answer = Refused Unsound })
 unfolding complete complete-modules completed completion-rows lowest argument-rows
-completes-unsound {ws} {txt} {t} {ask} {query} {budget} {flat} {out} = record { says = go ask }
+completes-unsound {ws} {txt} {t} {ask} {query} {budget} {flat} {out} o = record { table = refl; says = λ b h. rw (decided _ b false h o) (go ask) }
   where
     go : (ask : Ask) → CompletesAs ask txt flat flat out out (Refused Unsound) (completion false (table-in ws txt t) ask budget (output flat out) query)
     go Names = (refl, refl, refl)

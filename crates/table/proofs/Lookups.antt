@@ -1,7 +1,7 @@
 -- A look-up: the rows of its query, and the item at its end.
 use Prim.Native.Nat.{ℕ, _+_, _*_, _<_, _≤_}
-use mathlib.Core.Path.{_≡_}
-use mathlib.Core.Bool.{true}
+use mathlib.Core.Path.{_≡_, refl}
+use mathlib.Core.Bool.{true, false}
 use mathlib.Core.List.{List, [], _∷_}
 use mathlib.Core.Option.{none, some}
 use native.Mathlib.Omega.{arith}
@@ -10,19 +10,25 @@ use borrow.Author.Tests.{ne-eqb}
 use Rattle.source.specs.Text.{Str, Query, segments, ends-in-dot}
 use Rattle.source.specs.Types.{Trie, bind, the-item}
 use Rattle.source.specs.Tries.{trie-find-exact}
-use Rattle.source.specs.Calls.{a-look-up, lowest, argument-rows, Found, found, not-found, refused, found-of, look-up}
+use Rattle.source.specs.Calls.{a-look-up, lowest, argument-rows, found, not-found, refused, found-of, look-up}
 use Rattle.source.proofs.Refusals.{argument-rows-none, look-up-whole}
 use Rattle.memory.specs.Layout.{record-at, Which, modules, item-of, tree, trieˢ, kind, what, symbol-word}
-use Rattle.memory.specs.Sound.{LinkOk, SymbolOk}
+use Rattle.memory.specs.Sound.{LinkOk, SymbolOk, At}
 use Rattle.memory.specs.Read.{symbol-in}
 use Rattle.memory.proofs.RecordOk.{zero-one, record-as}
 use Rattle.memory.proofs.Seen.{link-fits, link-later, link-ok}
 use Rattle.tree.specs.Tree.{held}
 use Rattle.lookup.specs.Tries as T
 use Rattle.lookup.specs.Tries.{AnyTrie, FoundIn}
-use Rattle.table.specs.Header.{IsSound}
-use Rattle.table.specs.Answers.{SymbolInside}
+use Rattle.refusals.specs.declared.Refusal.the-variants.{Unsound}
+use Rattle.table.specs.Header.{IsSound, names-in}
+use Rattle.table.specs.Answers.{name-found, SymbolInside, Finds, FindsModule, FindsModuleOn}
 use Rattle.table.specs.declared.Table.{Table}
+use Rattle.table.specs.declared.Found.{Found}
+use Rattle.table.specs.declared.Found.the-variants.{Refused}
+use Rattle.table.specs.declared.FoundModule.{FoundModule}
+use Rattle.table.specs.declared.FoundModule.the-variants.{Refused as Not-found}
+use Rattle.table.proofs.Decided.{decided}
 
 module _ (query : Str) where
   pub query-whole : lowest (argument-rows true (a-look-up query ∷ [])) ≡ none → ends-in-dot query ≡ true
@@ -55,9 +61,26 @@ module _ {txt r : List ℕ} {used : ℕ} (o : SymbolOk txt used r) (h : used ≤
   symbol-in-inside =
       zero-one (symbol-word r) (o .sort) (λ z. rw z (omega (arith, o .name .inside), omega (arith, o .path z .inside))) (λ z. rw z (omega (arith, o .name .inside)))
 
-pub symbol-inside : {ws txt : List ℕ} {t : Table} {l : ℕ} → IsSound ws txt t → LinkOk ws (t .header .modules + 1) l (kind modules (tree bind)) → 0 < l
+pub symbol-inside : {ws txt : List ℕ} {root l : ℕ} → At ws txt modules trieˢ root → LinkOk ws (root + 1) l (kind modules (tree bind)) → 0 < l
     → SymbolInside (length txt) (symbol-in (record-at ws l))
 symbol-inside o i p =
     symbol-in-inside
-    (record-as (link-ok (o .right) (link-later (omega (arith, o .modules-link .earlier)) i) p) modules (tree bind) (i .of-kind (λ e. omega arith)) .2)
-    (o .right .text-fits)
+    (record-as (link-ok (o .sound) (link-later (omega (arith, o .link .earlier)) i) p) modules (tree bind) (i .of-kind (λ e. omega arith)) .2)
+    (o .sound .text-fits)
+
+-- ---- On a table
+
+module _ {ws txt : List ℕ} {t : Table} {query : Str} where
+  pub finds-sound : {f : Found} → IsSound ws txt t → name-found f ≡ look-up true (names-in ws txt t) query → Finds ws txt t query (record { table = t; answer = f })
+  finds-sound o e = record { table = refl; says = λ b h. rw (decided _ b true h o) e }
+
+  pub finds-unsound : (IsSound ws txt t → ⊥) → Finds ws txt t query (record { table = t; answer = Refused Unsound })
+  unfolding lowest argument-rows look-up
+  finds-unsound o = record { table = refl; says = λ b h. rw (decided _ b false h o) refl }
+
+  pub finds-module-sound : {f : FoundModule} → IsSound ws txt t → FindsModuleOn ws txt (t .header .modules) query f → FindsModule ws txt t query (record { table = t; answer = f })
+  finds-module-sound o m = record { table = refl; says = λ b h. rw (decided _ b true h o) (m .says); inside = m .inside }
+
+  pub finds-module-unsound : (IsSound ws txt t → ⊥) → FindsModule ws txt t query (record { table = t; answer = Not-found Unsound })
+  unfolding lowest argument-rows look-up
+  finds-module-unsound o = record { table = refl; says = λ b h. rw (decided _ b false h o) refl; inside = tt }

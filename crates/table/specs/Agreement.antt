@@ -12,21 +12,22 @@ use Rattle.lines.specs.declared.Ask.the-variants.{Names, Modules}
 use Rattle.lines.specs.declared.Filter.the-variants.{All}
 use Rattle.rows.specs.Rows.{lines-seen}
 use Rattle.table.specs.Header.{IsSound, names-in, modules-in}
-use Rattle.table.specs.Answers.{name-found, module-found}
+use Rattle.table.specs.Answers.{name-found, module-found, Finds, FindsModule}
 use Rattle.table.specs.Completions.{Completes}
 use Rattle.table.specs.declared.Table.{Table}
-use Rattle.table.specs.declared.Found.{Found}
-use Rattle.table.specs.declared.FoundModule.{FoundModule}
+use Rattle.table.specs.declared.Finding.{Finding}
+use Rattle.table.specs.declared.ModuleFinding.{ModuleFinding}
+use Rattle.table.specs.declared.Listing.{Listing}
 use Rattle.table.specs.declared.Completed.the-variants.{Listed}
 
 -- On either root, whatever memory is lent (b says whether it is sound): where look-up of a full name is not refused, and a completion that covers the name
 -- is not refused, the lines that it left in the lent output agree with look-up's answer as demand 3 says.
 pub record CallsAgree : Type 0 where
-  pub of-names : (ws txt : List ℕ) (t : Table) (b : Bool) → Says b (IsSound ws txt t) → (name query : Str) (found : Found) (budget : ℕ) (flat flat′ out out′ : List ℕ) (lines entered : ℕ)
-      → name-found found ≡ look-up b (names-in ws txt t) name → NotRefused (name-found found)
-      → Completes b ws txt t Names query budget flat flat′ out out′ (Listed lines entered) → Covers (segments query) (segments name)
-      → (name-found found ≡ look-up true (names-in ws txt t) name) × Agreement (names-in ws txt t) name (lines-seen names txt flat′ out′ lines)
-  pub of-modules : (ws txt : List ℕ) (t : Table) (b : Bool) → Says b (IsSound ws txt t) → (name query : Str) (found : FoundModule) (budget : ℕ) (flat flat′ out out′ : List ℕ) (lines entered : ℕ)
-      → module-found txt found ≡ look-up b (modules-in ws txt t) name → NotRefused (module-found txt found)
-      → Completes b ws txt t (Modules All) query budget flat flat′ out out′ (Listed lines entered) → Covers (segments query) (segments name)
-      → (module-found txt found ≡ look-up true (modules-in ws txt t) name) × Agreement (modules-in ws txt t) name (lines-seen modules txt flat′ out′ lines)
+  pub of-names : (ws txt : List ℕ) (t : Table) (b : Bool) → Says b (IsSound ws txt t) → (name query : Str) (f : Finding) (budget : ℕ) (flat flat′ out out′ : List ℕ) (l : Listing) (lines entered : ℕ)
+      → Finds ws txt t name f → NotRefused (name-found (f .answer))
+      → Completes ws txt t Names query budget flat flat′ out out′ l → l .answer ≡ Listed lines entered → Covers (segments query) (segments name)
+      → (name-found (f .answer) ≡ look-up true (names-in ws txt t) name) × Agreement (names-in ws txt t) name (lines-seen names txt flat′ out′ lines)
+  pub of-modules : (ws txt : List ℕ) (t : Table) (b : Bool) → Says b (IsSound ws txt t) → (name query : Str) (f : ModuleFinding) (budget : ℕ) (flat flat′ out out′ : List ℕ) (l : Listing) (lines entered : ℕ)
+      → FindsModule ws txt t name f → NotRefused (module-found txt (f .answer))
+      → Completes ws txt t (Modules All) query budget flat flat′ out out′ l → l .answer ≡ Listed lines entered → Covers (segments query) (segments name)
+      → (module-found txt (f .answer) ≡ look-up true (modules-in ws txt t) name) × Agreement (modules-in ws txt t) name (lines-seen modules txt flat′ out′ lines)

@@ -1,7 +1,7 @@
 -- What the answers stand for: the requirements' numbers and values.
 use Prim.Native.Nat.{ℕ, _+_, _*_, _≤_, _<_}
 use mathlib.Core.Path.{_≡_}
-use mathlib.Core.Bool.{true}
+use mathlib.Core.Bool.{Bool, true}
 use mathlib.Core.List.{List}
 use lib.ListN.{length}
 use Rattle.source.specs.Text.{Str}
@@ -9,18 +9,22 @@ use Rattle.source.specs.Types.{bind}
 use Rattle.source.specs.Table.{ModSymbol}
 use Rattle.source.specs.Calls as C
 use Rattle.source.specs.Calls.{look-up}
-use Rattle.memory.specs.Layout.{record-at, Which, Item, item-of, tree, trieˢ, kind, what}
-use Rattle.memory.specs.Sound.{LinkOk, At}
+use Rattle.memory.specs.Layout.{record-at, Which, modules, Item, item-of, tree, trieˢ, kind, what}
+use Rattle.memory.specs.Sound.{LinkOk, Says, At}
 use Rattle.memory.specs.Read.{symbol-of}
 use Rattle.memory.specs.declared.ModSymbol as M
 use Rattle.memory.specs.declared.ModSymbol.the-variants.{Module, Namespace}
 use Rattle.refusals.specs.Refusals.{number}
+use Rattle.table.specs.Header.{IsSound, names-in, modules-in}
+use Rattle.table.specs.declared.Table.{Table}
 use Rattle.table.specs.declared.Looked.{Looked}
 use Rattle.table.specs.declared.Looked.the-variants.{Branch, Nothing as No-branch, Refused as Not-looked}
 use Rattle.table.specs.declared.Found.{Found}
 use Rattle.table.specs.declared.Found.the-variants.{Item as Item-of, Nothing, Refused}
 use Rattle.table.specs.declared.FoundModule.{FoundModule}
 use Rattle.table.specs.declared.FoundModule.the-variants.{Symbol, Nothing as No-symbol, Refused as Not-found}
+use Rattle.table.specs.declared.Finding.{Finding}
+use Rattle.table.specs.declared.ModuleFinding.{ModuleFinding}
 
 -- The answer of a look-up of a name.
 abbrev pub name-found : Found → C.Found ℕ
@@ -45,6 +49,19 @@ FoundInside size (Symbol s) = SymbolInside size s
 FoundInside size No-symbol = Unit {0}
 FoundInside size (Not-found r) = Unit {0}
 
+-- What a look-up of a name hands back, in any memory: the table as it was, and the answer of the definition; b says whether the memory is sound.
+pub record Finds (ws txt : List ℕ) (t : Table) (query : Str) (r : Finding) : Type 0 where
+  pub table : r .table ≡ t
+  pub says : (b : Bool) → Says b (IsSound ws txt t) → name-found (r .answer) ≡ look-up b (names-in ws txt t) query
+
+-- The same of a module or namespace, whose texts lie in the lent text.
+pub record FindsModule (ws txt : List ℕ) (t : Table) (query : Str) (r : ModuleFinding) : Type 0 where
+  pub table : r .table ≡ t
+  pub says : (b : Bool) → Says b (IsSound ws txt t) → module-found txt (r .answer) ≡ look-up b (modules-in ws txt t) query
+  pub inside : FoundInside (length txt) (r .answer)
+
+-- ---- On a root of a sound memory
+
 -- The answer of a look-up that ends at a branch of bindings.
 abbrev pub item-found : (w : Which) (ws txt : List ℕ) → Looked → C.Found (Item w)
 item-found w ws txt (Branch l) = C.found (item-of w txt (record-at ws l))
@@ -63,8 +80,13 @@ BranchOf w ws root (Branch l) = LinkOk ws (root + 1) l (kind w (tree bind))
 BranchOf w ws root No-branch = Unit {0}
 BranchOf w ws root (Not-looked r) = Unit {0}
 
--- A look-up on a root, for any table that the trie is of.
+-- A look-up, for any table that the trie is of.
 pub record LookedUp (ws txt : List ℕ) (root : ℕ) (query : Str) (r : Looked) : Type 0 where
   pub fits : BranchFits ws r
   pub link : (w : Which) → At ws txt w trieˢ root → BranchOf w ws root r
   pub says : (w : Which) → At ws txt w trieˢ root → item-found w ws txt r ≡ look-up true (what w ws txt root trieˢ) query
+
+-- A look-up of a module or namespace.
+pub record FindsModuleOn (ws txt : List ℕ) (root : ℕ) (query : Str) (r : FoundModule) : Type 0 where
+  pub says : module-found txt r ≡ look-up true (what modules ws txt root trieˢ) query
+  pub inside : FoundInside (length txt) r

@@ -11,6 +11,7 @@ use Rattle.source.specs.Table as S
 use Rattle.source.specs.Calls as C
 use Rattle.source.specs.Calls.{Output, completed, tries-entered, complete, complete-modules}
 use Rattle.memory.specs.Layout.{Item, trieˢ, what}
+use Rattle.memory.specs.Sound.{Says}
 use Rattle.lines.specs.Ask.{asked, filter-in}
 use Rattle.lines.specs.Output.{Written}
 use Rattle.lines.specs.declared.Ask.{Ask}
@@ -18,12 +19,13 @@ use Rattle.lines.specs.declared.Ask.the-variants.{Names, Modules}
 use Rattle.listing.specs.Completes.{output, lines-of}
 use Rattle.listing.specs.declared.Completion.{Completion}
 use Rattle.listing.specs.declared.Completion.the-variants as L
-use Rattle.table.specs.Header.{table-in}
+use Rattle.table.specs.Header.{IsSound, table-in}
 use Rattle.refusals.specs.Refusals.{number}
 use Rattle.table.specs.declared.Table.{Table}
 use Rattle.refusals.specs.declared.Refusal.the-variants.{Spent, Lines}
 use Rattle.table.specs.declared.Completed.{Completed}
 use Rattle.table.specs.declared.Completed.the-variants.{Listed, Refused}
+use Rattle.table.specs.declared.Listing.{Listing}
 
 -- The requirements' answer to what is asked.
 abbrev pub completion : (sound : Bool) → S.Table → (ask : Ask) → (budget : ℕ) → Output → Str → C.Completed (Item (asked ask))
@@ -40,9 +42,10 @@ abbrev pub CompletesAs : (ask : Ask) (txt flat flat′ out out′ : List ℕ) (r
 CompletesAs ask txt flat flat′ out out′ r (C.listed lines entered) = (r ≡ Listed (length lines) entered) × Written (asked ask) txt flat flat′ out out′ 0 0 lines
 CompletesAs ask txt flat flat′ out out′ r (C.refused n) = (refused-by r ≡ some n) × (flat′ ≡ flat) × (out′ ≡ out)
 
--- The answer r to a completion; b says whether the memory is sound.
-pub record Completes (b : Bool) (ws txt : List ℕ) (t : Table) (ask : Ask) (query : Str) (budget : ℕ) (flat flat′ out out′ : List ℕ) (r : Completed) : Type 0 where
-  pub says : CompletesAs ask txt flat flat′ out out′ r (completion b (table-in ws txt t) ask budget (output flat out) query)
+-- What a completion hands back, in any memory: the table as it was, and the answer of the definition; b says whether the memory is sound.
+pub record Completes (ws txt : List ℕ) (t : Table) (ask : Ask) (query : Str) (budget : ℕ) (flat flat′ out out′ : List ℕ) (r : Listing) : Type 0 where
+  pub table : r .table ≡ t
+  pub says : (b : Bool) → Says b (IsSound ws txt t) → CompletesAs ask txt flat flat′ out out′ (r .answer) (completion b (table-in ws txt t) ask budget (output flat out) query)
 
 -- ---- On a root
 

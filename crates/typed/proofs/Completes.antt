@@ -27,6 +27,8 @@ use Rattle.table.specs.Header.{IsSound, table-in}
 use Rattle.table.specs.Completions.{CompletesAs, completion}
 use Rattle.table.specs.declared.Table.{Table}
 use Rattle.table.specs.declared.Completed.{Completed}
+use Rattle.table.specs.declared.Request.{Request}
+use Rattle.table.specs.declared.Listing.{Listing}
 use Rattle.lines.specs.Output.{matched-word}
 use Rattle.rows.specs.Rows.{words-from, row-in}
 use Rattle.rows.proofs.Rows.{item-seen-is}
@@ -93,14 +95,15 @@ all-held ws txt t ask query budget false s o = go ask
     go Names = tt
     go (Modules f) = tt
 
-module _ {ws txt : List ℕ} {t : Table} {ask : Ask} {query : Str} {budget : ℕ} {flat flat′ out out′ : List ℕ} {r : Completed} {n : ℕ} where
-  pub asked-at : {room : ℕ} → FlatCompletes ws txt t ask query budget room flat flat′ out out′ r → n ≡ lines-in r → length flat′ ≡ length flat → (n ≤ room) × (n * 12 ≤ length flat′)
+module _ {ws txt : List ℕ} {t : Table} {q : Request} {query : Str} {flat flat′ out out′ : List ℕ} {r : Listing} {n : ℕ} where
+  pub asked-at : {room : ℕ} → FlatCompletes ws txt t q query room flat flat′ out out′ r → n ≡ lines-in (r .answer) → length flat′ ≡ length flat → (n ≤ room) × (n * 12 ≤ length flat′)
   asked-at c e l = (omega (arith, c .fit, e), omega (arith, c .lent, e, l))
 
-  pub told-at : {ls ls′ : List Line} → FlatCompletes ws txt t ask query budget (length ls) flat flat′ out out′ r → n ≡ lines-in r → ls′ ≡ stored-lines (line-at ask flat′) ls n
-      → Completes ws txt t ask query budget ls ls′ flat flat′ out out′ r
+  pub told-at : {ls ls′ : List Line} → FlatCompletes ws txt t q query (length ls) flat flat′ out out′ r → n ≡ lines-in (r .answer) → ls′ ≡ stored-lines (line-at (q .ask) flat′) ls n
+      → Completes ws txt t q query ls ls′ flat flat′ out out′ r
   told-at {ls} {ls′} c e s = record {
+    table = c .table;
     says = c .says;
-    shows = λ b h. shown-as ask txt flat flat′ out out′ r ls ls′ (completion b (table-in ws txt t) ask budget (output (length ls) flat out) query) (c .says b h) (all-held ws txt t ask query budget b h (output (length ls) flat out)) (c .fit)
-        (s ∙ ap (stored-lines (line-at ask flat′) ls) e);
+    shows = λ b h. shown-as (q .ask) txt flat flat′ out out′ (r .answer) ls ls′ (completion b (table-in ws txt t) (q .ask) (q .budget) (output (length ls) flat out) query) (c .says b h)
+        (all-held ws txt t (q .ask) query (q .budget) b h (output (length ls) flat out)) (c .fit) (s ∙ ap (stored-lines (line-at (q .ask) flat′) ls) e);
   }

@@ -23,6 +23,8 @@ use Rattle.table.specs.declared.Table.{Table}
 use Rattle.refusals.specs.declared.Refusal.the-variants.{Unsound}
 use Rattle.table.specs.declared.Completed.{Completed}
 use Rattle.table.specs.declared.Completed.the-variants.{Listed, Refused}
+use Rattle.table.specs.declared.Request.{Request}
+use Rattle.table.specs.declared.Listing.{Listing}
 use Rattle.table.proofs.Decided.{decided}
 use Rattle.typed.specs.Lines.{lines-in}
 use Rattle.typed.specs.Completions.{output, FlatCompletes}
@@ -57,28 +59,33 @@ output-part room k flat out h e =
     let n : length (take k flat) / 12 ≡ min (length flat / 12) room = ap (λ m. m / 12) (length-take-le k flat h ∙ e) ∙ omega arith in
     ap (λ m. record { lines = min m 4294967295; text = min (length out) 4294967295 }) n
 
-module _ {ws txt : List ℕ} {t : Table} {ask : Ask} {query : Str} {budget room : ℕ} {flat out : List ℕ} where
-  pub flat-completes : {f out′ : List ℕ} {r : Completed} {k : ℕ} → IsSound ws txt t → k ≡ min (length flat / 12) room * 12
-      → T.Completes true ws txt t ask query budget (take k flat) f out out′ r → FlatCompletes ws txt t ask query budget room flat (f ++ drop k flat) out out′ r
+module _ {ws txt : List ℕ} {t : Table} {q : Request} {query : Str} {room : ℕ} {flat out : List ℕ} where
+  pub flat-completes : {f out′ : List ℕ} {r : Listing} {k : ℕ} → IsSound ws txt t → k ≡ min (length flat / 12) room * 12
+      → T.Completes ws txt t (q .ask) query (q .budget) (take k flat) f out out′ r → FlatCompletes ws txt t q query room flat (f ++ drop k flat) out out′ r
   flat-completes {f} {out′} {r} {k} o e c =
+      let ask : Ask = q .ask in
+      let budget : ℕ = q .budget in
+      let a : Completed = r .answer in
       let h : k ≤ length flat = omega (arith, e) in
-      let n : lines-in r * 12 ≤ k = omega (arith, part-fits ask txt flat f out out′ r k (completion true (table-in ws txt t) ask budget (F.output (take k flat) out) query) (c .says), length-take-le k flat h) in
+      let n : lines-in a * 12 ≤ k = omega (arith, part-fits ask txt flat f out out′ a k (completion true (table-in ws txt t) ask budget (F.output (take k flat) out) query) (c .says true o), length-take-le k flat h) in
       record {
-        says = λ b s. subst (λ x. CompletesAs ask txt flat (f ++ drop k flat) out out′ r (completion x (table-in ws txt t) ask budget (output room flat out) query)) (sym (decided _ b true s o))
-            (part-as ask txt flat f out out′ r k h (completion true (table-in ws txt t) ask budget (output room flat out) query) (subst (λ x. CompletesAs ask txt (take k flat) f out out′ r (completion true (table-in ws txt t) ask budget x query)) (output-part room k flat out h e) (c .says)));
+        table = c .table;
+        says = λ b s. subst (λ x. CompletesAs ask txt flat (f ++ drop k flat) out out′ a (completion x (table-in ws txt t) ask budget (output room flat out) query)) (sym (decided _ b true s o))
+            (part-as ask txt flat f out out′ a k h (completion true (table-in ws txt t) ask budget (output room flat out) query) (subst (λ x. CompletesAs ask txt (take k flat) f out out′ a (completion true (table-in ws txt t) ask budget x query)) (output-part room k flat out h e) (c .says true o)));
         fit = omega (arith, n, e);
         lent = omega (arith, n, h);
       }
 
   -- A memory that is not sound.
-  pub flat-unsound : (IsSound ws txt t → ⊥) → FlatCompletes ws txt t ask query budget room flat flat out out (Refused Unsound)
+  pub flat-unsound : (IsSound ws txt t → ⊥) → FlatCompletes ws txt t q query room flat flat out out (record { table = t; answer = Refused Unsound })
   unfolding complete complete-modules completed completion-rows lowest argument-rows
   flat-unsound o = record {
-    says = λ b s. subst (λ x. CompletesAs ask txt flat flat out out (Refused Unsound) (completion x (table-in ws txt t) ask budget (output room flat out) query)) (sym (decided _ b false s o)) (go ask);
+    table = refl;
+    says = λ b s. subst (λ x. CompletesAs (q .ask) txt flat flat out out (Refused Unsound) (completion x (table-in ws txt t) (q .ask) (q .budget) (output room flat out) query)) (sym (decided _ b false s o)) (go (q .ask));
     fit = zero-le;
     lent = zero-le;
   }
     where
-      go : (ask : Ask) → CompletesAs ask txt flat flat out out (Refused Unsound) (completion false (table-in ws txt t) ask budget (output room flat out) query)
+      go : (ask : Ask) → CompletesAs ask txt flat flat out out (Refused Unsound) (completion false (table-in ws txt t) ask (q .budget) (output room flat out) query)
       go Names = (refl, refl, refl)
       go (Modules f) = (refl, refl, refl)

@@ -17,7 +17,8 @@ use Rattle.table.specs.Header.{IsSound, table-in}
 use Rattle.table.specs.Completions as T
 use Rattle.table.specs.Completions.{completion}
 use Rattle.table.specs.declared.Table.{Table}
-use Rattle.table.specs.declared.Completed.{Completed}
+use Rattle.table.specs.declared.Request.{Request}
+use Rattle.table.specs.declared.Listing.{Listing}
 use Rattle.typed.specs.declared.Line.{Line}
 use Rattle.typed.specs.Lines.{lines-in, record-seen}
 
@@ -35,18 +36,20 @@ abbrev pub ShownAs : (ask : Ask) (txt : List ℕ) (ls ls′ : List Line) → C.C
 ShownAs ask txt ls ls′ (C.listed lines entered) = Shown (asked ask) txt ls ls′ lines
 ShownAs ask txt ls ls′ (C.refused n) = ls′ ≡ ls
 
-module _ (ws txt : List ℕ) (t : Table) (ask : Ask) (query : Str) (budget : ℕ) where
+module _ (ws txt : List ℕ) (t : Table) (q : Request) (query : Str) where
   -- The requirements' answer; b says whether the memory is sound.
-  abbrev pub answer : (b : Bool) → Output → C.Completed (L.Item (asked ask))
-  answer b out = completion b (table-in ws txt t) ask budget out query
+  abbrev pub answer : (b : Bool) → Output → C.Completed (L.Item (asked (q .ask)))
+  answer b out = completion b (table-in ws txt t) (q .ask) (q .budget) out query
 
-  -- The completion into flat words, lent for at most so many lines.
-  pub record FlatCompletes (room : ℕ) (flat flat′ out out′ : List ℕ) (r : Completed) : Type 0 where
-    pub says : (b : Bool) → Says b (IsSound ws txt t) → T.CompletesAs ask txt flat flat′ out out′ r (answer b (output room flat out))
-    pub fit : lines-in r ≤ room
-    pub lent : lines-in r * 12 ≤ length flat
+  -- The completion into flat words, lent for at most so many lines; the table comes back as it was.
+  pub record FlatCompletes (room : ℕ) (flat flat′ out out′ : List ℕ) (r : Listing) : Type 0 where
+    pub table : r .table ≡ t
+    pub says : (b : Bool) → Says b (IsSound ws txt t) → T.CompletesAs (q .ask) txt flat flat′ out out′ (r .answer) (answer b (output room flat out))
+    pub fit : lines-in (r .answer) ≤ room
+    pub lent : lines-in (r .answer) * 12 ≤ length flat
 
   -- The completion into line structs: as into flat words (table's CompletesAs), and the lines are shown.
-  pub record Completes (ls ls′ : List Line) (flat flat′ out out′ : List ℕ) (r : Completed) : Type 0 where
-    pub says : (b : Bool) → Says b (IsSound ws txt t) → T.CompletesAs ask txt flat flat′ out out′ r (answer b (output (length ls) flat out))
-    pub shows : (b : Bool) → Says b (IsSound ws txt t) → ShownAs ask txt ls ls′ (answer b (output (length ls) flat out))
+  pub record Completes (ls ls′ : List Line) (flat flat′ out out′ : List ℕ) (r : Listing) : Type 0 where
+    pub table : r .table ≡ t
+    pub says : (b : Bool) → Says b (IsSound ws txt t) → T.CompletesAs (q .ask) txt flat flat′ out out′ (r .answer) (answer b (output (length ls) flat out))
+    pub shows : (b : Bool) → Says b (IsSound ws txt t) → ShownAs (q .ask) txt ls ls′ (answer b (output (length ls) flat out))

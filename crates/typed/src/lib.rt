@@ -6,6 +6,8 @@ use refusals::Refusal;
 use rows::Row;
 use rows::RowItem;
 use table::Completed;
+use table::Listing;
+use table::Request;
 use table::Table;
 ghost use mathlib.Core.Path.{_≡_};
 ghost use Prim.Native.Nat.{_+_, _*_, _/_, _≤_, _<_, min};
@@ -79,11 +81,12 @@ pub fn store_lines(lines: &mut [Line], flat: &[u32], n: usize, ask: Ask)
     }
 }
 
-// How many lines an answer lists, none of a refusal.
-fn lines_in(r: Completed) -> usize
-    ensures { λ n. ⌜ n ≡ lines-in r ⌝ }
+// How many lines a completion lists, none if it is refused.
+fn lines_in(r: Listing) -> usize
+    ensures { λ n. ⌜ n ≡ lines-in (r .answer) ⌝ }
 {
-    match r {
+    let answer = r.answer;
+    match answer {
         Completed::Listed(lines, entered) => lines as usize,
         Completed::Refused(x) => 0,
     }
@@ -104,20 +107,25 @@ fn complete_flat(
     table: Table,
     words: &[u32],
     text: &[u8],
-    ask: Ask,
+    request: Request,
     query: &[u8],
-    budget: u32,
     room: usize,
     flat: &mut [u32],
     out: &mut [u8],
-) -> Completed
-    ensures { λ r. ⌜ FlatCompletes (now (words .entry)) (now (text .entry)) table ask (now (query .entry)) budget room (now (flat .entry)) (now (flat .exit)) (now (out .entry)) (now (out .exit)) r ⌝ }
+) -> Listing
+    ensures { λ r. ⌜ FlatCompletes (now (words .entry)) (now (text .entry)) table request (now (query .entry)) room
+        (now (flat .entry)) (now (flat .exit)) (now (out .entry)) (now (out .exit)) r ⌝ }
 {
     if table.is_sound(words, text) {
+        let ask = request.ask;
+        let budget = request.budget;
         let lent = words_for(flat.len(), room);
         return table.complete_sound(words, text, ask, query, budget, &mut flat[..lent], out);
     }
-    Completed::Refused(Refusal::Unsound)
+    Listing {
+        table: table,
+        answer: Completed::Refused(Refusal::Unsound),
+    }
 }
 
 // Completion into a lent slice of lines, their texts into `out`. The flat words are lent for the work, twelve to a line.
@@ -125,27 +133,17 @@ pub fn complete(
     table: Table,
     words: &[u32],
     text: &[u8],
-    ask: Ask,
+    request: Request,
     query: &[u8],
-    budget: u32,
     lines: &mut [Line],
     flat: &mut [u32],
     out: &mut [u8],
-) -> Completed
-    ensures { λ r. ⌜ Completes (now (words .entry)) (now (text .entry)) table ask (now (query .entry)) budget (now (lines .entry)) (now (lines .exit)) (now (flat .entry)) (now (flat .exit)) (now (out .entry)) (now (out .exit)) r ⌝ }
+) -> Listing
+    ensures { λ r. ⌜ Completes (now (words .entry)) (now (text .entry)) table request (now (query .entry)) (now (lines .entry)) (now (lines .exit))
+        (now (flat .entry)) (now (flat .exit)) (now (out .entry)) (now (out .exit)) r ⌝ }
 {
-    let r = complete_flat(
-        table,
-        words,
-        text,
-        ask,
-        query,
-        budget,
-        lines.len(),
-        flat,
-        out,
-    );
+    let r = complete_flat(table, words, text, request, query, lines.len(), flat, out);
     let n = lines_in(r);
-    store_lines(lines, flat, n, ask);
+    store_lines(lines, flat, n, request.ask);
     r
 }

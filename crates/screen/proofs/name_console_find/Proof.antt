@@ -29,4 +29,4 @@ name-console-find-spec =
     {- name-reply-requires -}
     (λ c κs. search needs)
     {- returns-2 -}
-    (λ c. name-looked (held (c .before .before .before .before .before .before .before .if1 .left) (c .before .before .before .table-of .ensures) (c .before .before .before .before .before .load .ensures .words)) (c .before .find .result) (c .before .find .ensures) (c .name-reply .ensures)))
+    (λ c. name-looked (held (c .before .before .before .before .before .before .before .if1 .left) (c .before .before .before .table-of .ensures) (c .before .before .before .before .before .load .ensures .words)) (c .before .find .ensures) (c .name-reply .ensures)))

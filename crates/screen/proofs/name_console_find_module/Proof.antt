@@ -29,4 +29,4 @@ name-console-find-module-spec =
     {- module-reply-requires -}
     (λ c κs. search needs)
     {- returns-2 -}
-    (λ c. module-looked (held (c .before .before .before .before .before .before .before .if1 .left) (c .before .before .before .table-of .ensures) (c .before .before .before .before .before .load .ensures .words)) (c .before .find-module .result) (c .before .find-module .ensures .0) (c .before .find-module .ensures .1) (c .module-reply .ensures)))
+    (λ c. module-looked (held (c .before .before .before .before .before .before .before .if1 .left) (c .before .before .before .table-of .ensures) (c .before .before .before .before .before .load .ensures .words)) (c .before .find-module .ensures) (c .module-reply .ensures)))

@@ -1,8 +1,6 @@
 -- Table::complete meets its contract.
-use mathlib.Core.Path.{_∙_}
 use borrow.Author.Needs.{needs}
-use Rattle.memory.proofs.Says.{holds}
-use Rattle.table.proofs.Decided.{decided}
+use Rattle.memory.proofs.Says.{holds, fails}
 use Rattle.table.proofs.Completing.{completes-unsound}
 use Rattle.table.proofs.Table.complete.Statement.{statement}
 use Rattle.table.proofs.Table.complete.Tie as tie
@@ -20,6 +18,6 @@ complete-spec =
     {- same-length-2 -}
     (λ c. search needs)
     {- returns -}
-    (λ c b h. rw (decided _ b (c .before .before .before .before .before .before .before .before .is-sound .result) h (c .before .before .before .before .before .before .before .before .is-sound .ensures) ∙ c .before .before .before .before .before .before .before .if1 .taken) (c .before .before .before .before .complete-sound .ensures))
+    (λ c. c .before .before .before .before .complete-sound .ensures)
     {- returns-2 -}
-    (λ c b h. rw (decided _ b (c .before .is-sound .result) h (c .before .is-sound .ensures) ∙ c .if1 .left) completes-unsound))
+    (λ c. completes-unsound (fails _ (c .before .is-sound .ensures) (c .if1 .left))))

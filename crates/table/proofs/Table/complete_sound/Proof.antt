@@ -17,4 +17,4 @@ complete-sound-spec =
     {- same-length-2 -}
     (λ c. search needs)
     {- returns -}
-    (λ c. completes-table (c .before .before .before .before .before .before .before .root-for .ensures) (c .before .before .before .before .complete-on .ensures)))
+    (λ c. completes-table (c .before .before .before .before .before .before .before .before .before .before .before .before .before .pre) (c .before .before .before .before .before .before .before .root-for .ensures) (c .before .before .before .before .complete-on .ensures)))

@@ -1,16 +1,9 @@
 -- Table::find meets its contract.
-use mathlib.Core.Path.{_∙_}
 use borrow.Author.Needs.{needs}
-use Rattle.source.specs.Calls.{lowest, argument-rows, look-up}
-use Rattle.memory.proofs.Says.{holds}
-use Rattle.table.proofs.Decided.{decided}
+use Rattle.memory.proofs.Says.{holds, fails}
+use Rattle.table.proofs.Lookups.{finds-unsound}
 use Rattle.table.proofs.Table.find.Statement.{statement}
 use Rattle.table.proofs.Table.find.Tie as tie
-
-{- returns-2 -}
-returns-2 : tie.Need-returns-2
-unfolding lowest argument-rows look-up
-returns-2 c b h = rw (decided _ b (c .before .is-sound .result) h (c .before .is-sound .ensures) ∙ c .if1 .left)
 
 pub find-spec : {M : Type 1} → statement M
 find-spec =
@@ -21,5 +14,6 @@ find-spec =
     {- find-sound-requires -}
     (λ c κs. holds _ (c .before .is-sound .ensures) (c .if1 .taken))
     {- returns -}
-    (λ c b h. rw (decided _ b (c .before .before .is-sound .result) h (c .before .before .is-sound .ensures) ∙ c .before .if1 .taken) (c .find-sound .ensures))
-    returns-2)
+    (λ c. c .find-sound .ensures)
+    {- returns-2 -}
+    (λ c. finds-unsound (fails _ (c .before .is-sound .ensures) (c .if1 .left))))

@@ -1,13 +1,6 @@
 -- Table::find_module_sound meets its contract.
-use mathlib.Core.Path.{ap, _∙_}
-use native.Mathlib.Omega.{arith}
-use borrow.Author.Needs.{needs}
-use Rattle.source.specs.Calls.{found}
-use Rattle.memory.specs.Layout.{record-at, modules}
-use Rattle.memory.specs.Read.{symbol-of}
-use Rattle.memory.proofs.Seen.{symbol-item}
-use Rattle.table.proofs.Lookups.{symbol-inside}
-use Rattle.lookup.proofs.Roots.{modules-trie, any-modules}
+use Rattle.lookup.proofs.Roots.{modules-trie}
+use Rattle.table.proofs.Lookups.{finds-module-sound}
 use Rattle.table.proofs.Table.find_module_sound.Statement.{statement}
 use Rattle.table.proofs.Table.find_module_sound.Tie as tie
 
@@ -15,19 +8,7 @@ pub find-module-sound-spec : {M : Type 1} → statement M
 find-module-sound-spec =
     tie.close
     (tie.spec
-    {- look-up-requires -}
-    (λ c κs. any-modules (c .before .before .before .pre))
-    {- enum-known-l -}
-    (λ c. search needs)
-    {- branch-of-requires -}
-    (λ c κs. let h = rw (c .before .l .given .1) at (c .before .before .before .look-up .ensures .fits) in omega arith)
-    {- enum-told -}
-    (λ c. search needs)
-    {- enum-known-l-2 -}
-    (λ c. search needs)
+    {- find-module-on-requires -}
+    (λ c κs. modules-trie (c .before .before .before .pre))
     {- returns -}
-    (λ c. (ap found (ap (symbol-of _) (c .branch-of .ensures .symbol) ∙ symbol-item (c .before .before .before .before .before .before .before .before .args .text .now) (record-at (c .before .before .before .before .before .before .before .before .args .words .now) (c .before .before .l .given .0 .0))) ∙ rw (c .before .before .l .given .1) at (c .before .before .before .before .look-up .ensures .says modules (modules-trie (c .before .before .before .before .before .before .before .before .pre))), let h = rw (c .before .before .l .given .1) at (c .before .before .before .before .look-up .ensures .fits) in rw (c .branch-of .ensures .symbol) (symbol-inside (c .before .before .before .before .before .before .before .before .pre) (rw (c .before .before .l .given .1) at (c .before .before .before .before .look-up .ensures .link modules (modules-trie (c .before .before .before .before .before .before .before .before .pre)))) (h .0))))
-    {- returns-2 -}
-    (λ c. (rw (c .enum-told .given .1) at (c .before .before .look-up .ensures .says modules (modules-trie (c .before .before .before .before .before .before .pre))), tt))
-    {- returns-3 -}
-    (λ c. (rw (c .before .l2 .given .1) at (c .before .before .before .look-up .ensures .says modules (modules-trie (c .before .before .before .before .before .before .before .pre))), tt)))
+    (λ c. finds-module-sound (c .before .before .before .before .pre) (c .find-module-on .ensures)))

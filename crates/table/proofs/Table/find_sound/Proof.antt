@@ -1,10 +1,6 @@
 -- Table::find_sound meets its contract.
-use mathlib.Core.Path.{ap, _∙_}
-use native.Mathlib.Omega.{arith}
-use borrow.Author.Needs.{needs}
-use Rattle.source.specs.Calls.{found}
-use Rattle.memory.specs.Layout.{names}
-use Rattle.lookup.proofs.Roots.{names-trie, any-names}
+use Rattle.lookup.proofs.Roots.{names-trie}
+use Rattle.table.proofs.Lookups.{finds-sound}
 use Rattle.table.proofs.Table.find_sound.Statement.{statement}
 use Rattle.table.proofs.Table.find_sound.Tie as tie
 
@@ -12,19 +8,7 @@ pub find-sound-spec : {M : Type 1} → statement M
 find-sound-spec =
     tie.close
     (tie.spec
-    {- look-up-requires -}
-    (λ c κs. any-names (c .before .before .before .pre))
-    {- enum-known-l -}
-    (λ c. search needs)
-    {- number-of-requires -}
-    (λ c κs. let h = rw (c .before .l .given .1) at (c .before .before .before .look-up .ensures .fits) in omega arith)
-    {- enum-told -}
-    (λ c. search needs)
-    {- enum-known-l-2 -}
-    (λ c. search needs)
+    {- find-on-requires -}
+    (λ c κs. names-trie (c .before .before .before .pre))
     {- returns -}
-    (λ c. ap found (c .number-of .ensures) ∙ rw (c .before .before .l .given .1) at (c .before .before .before .before .look-up .ensures .says names (names-trie (c .before .before .before .before .before .before .before .before .pre))))
-    {- returns-2 -}
-    (λ c. rw (c .enum-told .given .1) at (c .before .before .look-up .ensures .says names (names-trie (c .before .before .before .before .before .before .pre))))
-    {- returns-3 -}
-    (λ c. rw (c .before .l2 .given .1) at (c .before .before .before .look-up .ensures .says names (names-trie (c .before .before .before .before .before .before .before .pre)))))
+    (λ c. finds-sound (c .before .before .before .before .pre) (c .find-on .ensures)))

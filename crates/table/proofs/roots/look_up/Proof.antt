@@ -2,8 +2,8 @@
 use borrow.Author.Needs.{needs}
 use Rattle.refusals.proofs.Rows.{one-flagged, passes, stops}
 use Rattle.table.proofs.Lookups.{query-whole, look-up-refused, look-up-none, look-up-found, branch-fits}
-use Rattle.table.proofs.look_up.Statement.{statement}
-use Rattle.table.proofs.look_up.Tie as tie
+use Rattle.table.proofs.roots.look_up.Statement.{statement}
+use Rattle.table.proofs.roots.look_up.Tie as tie
 
 pub look-up-spec : {M : Type 1} → statement M
 look-up-spec =

@@ -2,8 +2,8 @@
 use borrow.Author.Needs.{needs}
 use Rattle.refusals.proofs.Rows.{one-flagged, passes, stops}
 use Rattle.table.proofs.Completing.{query-whole, completes-refused, completes-passed}
-use Rattle.table.proofs.complete_on.Statement.{statement}
-use Rattle.table.proofs.complete_on.Tie as tie
+use Rattle.table.proofs.roots.complete_on.Statement.{statement}
+use Rattle.table.proofs.roots.complete_on.Tie as tie
 
 pub complete-on-spec : {M : Type 1} → statement M
 complete-on-spec =

@@ -1,0 +1,18 @@
+-- `exports::name_table_find_sound` meets its contract.
+use Rattle.exports.proofs.Replies.{finds-replies}
+use borrow.Author.Needs.{needs}
+use Rattle.exports.proofs.name_table_find_sound.Statement.{statement}
+use Rattle.exports.proofs.name_table_find_sound.Tie as tie
+
+pub name-table-find-sound-spec : {M : Type 1} → statement M
+name-table-find-sound-spec =
+    tie.close
+    (tie.spec
+    {- table-of-requires -}
+    (λ c κs. search needs)
+    {- find-sound-requires -}
+    (λ c κs. rw (c .table-of .ensures) (c .before .before .before .before .pre))
+    {- found-of-requires -}
+    (λ c κs. search needs)
+    {- returns -}
+    (λ c. finds-replies (c .before .before .table-of .ensures) (c .before .find-sound .ensures) (c .found-of .ensures)))

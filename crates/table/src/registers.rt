@@ -1,0 +1,163 @@
+// Registrations under the source's names.
+use crate::Registration;
+use crate::Table;
+use kinds::Kind;
+ghost use mathlib.Core.Bool.{true};
+ghost use Rattle.source.specs.Calls.{name, include, opens, alias, module-path};
+ghost use Rattle.table.specs.Header.{IsSound};
+ghost use Rattle.table.specs.Registrations.{Answers, Total};
+
+impl Table {
+    // The source's insert: a name with its item.
+    pub fn insert(
+        self,
+        words: &mut [u32],
+        text: &mut [u8],
+        host: &[u8],
+        id: &[u8],
+        item: u32,
+    ) -> Registration
+        ensures { λ r. ⌜ Total (now (words .entry)) (now (text .entry)) (now (words .exit)) (now (text .exit)) self
+            (name (now (host .entry)) (now (id .entry)) item) r ⌝ }
+    {
+        self.register(words, text, Kind::Name(item), host, id, &host[..0])
+    }
+
+    // The same, in a sound memory.
+    pub fn insert_sound(
+        self,
+        words: &mut [u32],
+        text: &mut [u8],
+        host: &[u8],
+        id: &[u8],
+        item: u32,
+    ) -> Registration
+        requires { ⌜ IsSound (now words) (now text) self ⌝ }
+        ensures { λ r. ⌜ Answers true (now (words .entry)) (now (text .entry)) (now (words .exit)) (now (text .exit)) self
+            (name (now (host .entry)) (now (id .entry)) item) r ⌝ }
+    {
+        self.register_sound(words, text, Kind::Name(item), host, id, &host[..0])
+    }
+
+    // The source's register_include.
+    pub fn register_include(
+        self,
+        words: &mut [u32],
+        text: &mut [u8],
+        host: &[u8],
+        query: &[u8],
+    ) -> Registration
+        ensures { λ r. ⌜ Total (now (words .entry)) (now (text .entry)) (now (words .exit)) (now (text .exit)) self
+            (include (now (host .entry)) (now (query .entry))) r ⌝ }
+    {
+        self.register(words, text, Kind::Include, host, query, &host[..0])
+    }
+
+    // The same, in a sound memory.
+    pub fn register_include_sound(
+        self,
+        words: &mut [u32],
+        text: &mut [u8],
+        host: &[u8],
+        query: &[u8],
+    ) -> Registration
+        requires { ⌜ IsSound (now words) (now text) self ⌝ }
+        ensures { λ r. ⌜ Answers true (now (words .entry)) (now (text .entry)) (now (words .exit)) (now (text .exit)) self
+            (include (now (host .entry)) (now (query .entry))) r ⌝ }
+    {
+        self.register_sound(words, text, Kind::Include, host, query, &host[..0])
+    }
+
+    // The source's register_open: of a module if `flag` is set, else of a namespace.
+    pub fn register_open(
+        self,
+        words: &mut [u32],
+        text: &mut [u8],
+        flag: bool,
+        host: &[u8],
+        query: &[u8],
+    ) -> Registration
+        ensures { λ r. ⌜ Total (now (words .entry)) (now (text .entry)) (now (words .exit)) (now (text .exit)) self
+            (opens flag (now (host .entry)) (now (query .entry))) r ⌝ }
+    {
+        self.register(words, text, kinds::opened(flag), host, query, &host[..0])
+    }
+
+    // The same, in a sound memory.
+    pub fn register_open_sound(
+        self,
+        words: &mut [u32],
+        text: &mut [u8],
+        flag: bool,
+        host: &[u8],
+        query: &[u8],
+    ) -> Registration
+        requires { ⌜ IsSound (now words) (now text) self ⌝ }
+        ensures { λ r. ⌜ Answers true (now (words .entry)) (now (text .entry)) (now (words .exit)) (now (text .exit)) self
+            (opens flag (now (host .entry)) (now (query .entry))) r ⌝ }
+    {
+        self.register_sound(words, text, kinds::opened(flag), host, query, &host[..0])
+    }
+
+    // The source's register_alias.
+    pub fn register_alias(
+        self,
+        words: &mut [u32],
+        text: &mut [u8],
+        key: &[u8],
+        host: &[u8],
+        query: &[u8],
+    ) -> Registration
+        ensures { λ r. ⌜ Total (now (words .entry)) (now (text .entry)) (now (words .exit)) (now (text .exit)) self
+            (alias (now (key .entry)) (now (host .entry)) (now (query .entry))) r ⌝ }
+    {
+        self.register(words, text, Kind::Alias, host, query, key)
+    }
+
+    // The same, in a sound memory.
+    pub fn register_alias_sound(
+        self,
+        words: &mut [u32],
+        text: &mut [u8],
+        key: &[u8],
+        host: &[u8],
+        query: &[u8],
+    ) -> Registration
+        requires { ⌜ IsSound (now words) (now text) self ⌝ }
+        ensures { λ r. ⌜ Answers true (now (words .entry)) (now (text .entry)) (now (words .exit)) (now (text .exit)) self
+            (alias (now (key .entry)) (now (host .entry)) (now (query .entry))) r ⌝ }
+    {
+        self.register_sound(words, text, Kind::Alias, host, query, key)
+    }
+
+    // The source's register_module_path.
+    pub fn register_module_path(
+        self,
+        words: &mut [u32],
+        text: &mut [u8],
+        loaded: bool,
+        query: &[u8],
+        path: &[u8],
+    ) -> Registration
+        ensures { λ r. ⌜ Total (now (words .entry)) (now (text .entry)) (now (words .exit)) (now (text .exit)) self
+            (module-path loaded (now (query .entry)) (now (path .entry))) r ⌝ }
+    {
+        self.register(words, text, Kind::Module(loaded), query, path, &query[..0])
+    }
+
+    // The same, in a sound memory.
+    pub fn register_module_path_sound(
+        self,
+        words: &mut [u32],
+        text: &mut [u8],
+        loaded: bool,
+        query: &[u8],
+        path: &[u8],
+    ) -> Registration
+        requires { ⌜ IsSound (now words) (now text) self ⌝ }
+        ensures { λ r. ⌜ Answers true (now (words .entry)) (now (text .entry)) (now (words .exit)) (now (text .exit)) self
+            (module-path loaded (now (query .entry)) (now (path .entry))) r ⌝ }
+    {
+        self.register_sound(words, text, Kind::Module(loaded), query, path, &query[..0])
+    }
+}
