@@ -75,13 +75,13 @@ module _ {ws txt : List ℕ} {j : Job} (ok : JobOk ws txt j) where
     line-size : length (output-text (l ∷ [])) ≡ size-of ws j note
     line-size = omega (arith, ap length line-text, length-append (candidate-of ws txt (j .path) (j .branch)) note, candidate-length)
 
-    written-line : {flat flat′ out out′ : List ℕ} → LinePut ws txt j note flat flat′ out out′ → Written w txt flat flat′ out out′ (j .tally .lines) (j .tally .bytes) (l ∷ [])
+    written-line : {flat flat′ out out′ : List ℕ} → LinePut ws txt j note flat flat′ out out′ → Written w ws txt flat flat′ out out′ (j .tally .lines) (j .tally .bytes) (l ∷ [])
     unfolding output-lines line-of rows-flat flatMap
     written-line p =
         let e : (j .tally .lines + 1) * 12 ≡ j .tally .lines * 12 + 12 = omega arith in
         record {
           rows = line-row (record-at ws (j .branch)) (j .matched) (j .tally .bytes) (length (candidate-of ws txt (j .path) (j .branch))) (length note) ∷ [];
-          twelve = (refl, tt);
+          from = (record { twelve = refl; branch = j .branch; at = s .branch-at; item-is = refl; last = refl }, tt);
           reads = rw (s .length-is, s .item-is, s .candidate-is, s .annotation-is, row-item w);
           flat-laid = rw e (p .flat-laid);
           out-laid = rw line-text (p .out-laid);
@@ -90,7 +90,7 @@ module _ {ws txt : List ℕ} {j : Job} (ok : JobOk ws txt j) where
   module _ {note : Str} {t : Tally} (c : Counted j (size-of ws j note) t) where
     goes-line : {flat flat′ out out′ : List ℕ} → length flat′ ≡ length flat → length out′ ≡ length out
         → ((w : Which) (l : Line (Item w)) → Spells ws txt w (j .path) (j .branch) (j .matched) note l
-        → (e : ℕ) → Fit (j .lim) flat out e (j .tally .lines + 1) (j .tally .bytes + size-of ws j note) → Written w txt flat flat′ out out′ (j .tally .lines) (j .tally .bytes) (l ∷ []))
+        → (e : ℕ) → Fit (j .lim) flat out e (j .tally .lines + 1) (j .tally .bytes + size-of ws j note) → Written w ws txt flat flat′ out out′ (j .tally .lines) (j .tally .bytes) (l ∷ []))
         → PutLine ws txt j note t flat flat′ out out′
     goes-line f o put w l s =
         let size = line-size s in

@@ -91,7 +91,7 @@ pub record TriedLine (ws txt : List ℕ) (j : Job) (note flat flat′ out out′
 abbrev pub PutLine : (ws txt : List ℕ) (j : Job) (note : Str) (t : Tally) (flat flat′ out out′ : List ℕ) → Type 0
 PutLine ws txt j note t flat flat′ out out′ =
     (w : Which) (l : Line (Item w)) → Spells ws txt w (j .path) (j .branch) (j .matched) note l
-    → Goes w txt (j .lim) (j .tally) t flat flat′ out out′ (only (l ∷ []))
+    → Goes w ws txt (j .lim) (j .tally) t flat flat′ out out′ (only (l ∷ []))
 
 -- The mod symbol of a branch.
 abbrev pub symbol-at : (ws txt : List ℕ) → ℕ → ModSymbol
@@ -101,4 +101,4 @@ symbol-at ws txt branch = item-of modules txt (record-at ws branch)
 abbrev pub KeptLine : (ws txt : List ℕ) (f : Filter) (j : Job) (t : Tally) (flat flat′ out out′ : List ℕ) → Type 0
 KeptLine ws txt f j t flat flat′ out out′ =
     (l : Line ModSymbol) → Spells ws txt modules (j .path) (j .branch) (j .matched) (mod-annotation (symbol-at ws txt (j .branch))) l
-    → Goes modules txt (j .lim) (j .tally) t flat flat′ out out′ (only (pick (C.keeps (filter-in f) (symbol-at ws txt (j .branch))) (l ∷ []) []))
+    → Goes modules ws txt (j .lim) (j .tally) t flat flat′ out out′ (only (pick (C.keeps (filter-in f) (symbol-at ws txt (j .branch))) (l ∷ []) []))

@@ -83,7 +83,7 @@ module _ (ws txt : List ℕ) (ask : Ask) (root : ℕ) (query : Str) where
   root-matching = record { length-is = match-length-none [] tt; all-matched = λ n. tt }
 
   module _ {lim : Limits} {a : Tally} {flat flat′ out out′ : List ℕ} (r : TrieRuns ws txt ask query root-path lim 4294967295 nothing-yet a flat flat′ out out′ root) where
-    run-goes : Goes (asked ask) txt lim nothing-yet a flat flat′ out out′ (trie-gives ask (suc (depth tr)) tr [] (segments query))
+    run-goes : Goes (asked ask) ws txt lim nothing-yet a flat flat′ out out′ (trie-gives ask (suc (depth tr)) tr [] (segments query))
     run-goes = r .goes [] (suc (depth tr)) on-root root-matching (omega arith)
 
     none-shown : Shows lim 0 0 0 nothing-yet
@@ -105,7 +105,7 @@ module _ (ws txt : List ℕ) (ask : Ask) (root : ℕ) (query : Str) where
     out-kept d e = lent-nothing d out′ (run-goes .out-size ∙ e)
 
     -- What it has written.
-    root-writes : Fit lim flat out tries (length listed) (length (output-text listed)) → Written (asked ask) txt flat flat′ out out′ 0 0 listed
+    root-writes : Fit lim flat out tries (length listed) (length (output-text listed)) → Written (asked ask) ws txt flat flat′ out out′ 0 0 listed
     root-writes f = run-goes .writes 0 0 0 none-shown (record {
       entered-fit = omega (arith, f .entered-fit, tries-entered-count tr (segments query));
       lines-fit = omega (arith, f .lines-fit);
@@ -118,7 +118,7 @@ module _ (ws txt : List ℕ) (ask : Ask) (root : ℕ) (query : Str) where
 pub writes-then : (ws txt : List ℕ) (ask : Ask) (root : ℕ) (query : Str) {lim : Limits} {a : Tally} {flat flat₁ flat′ out out₁ out′ : List ℕ} → flat₁ ≡ flat → out₁ ≡ out
     → TrieRuns ws txt ask query root-path lim 4294967295 nothing-yet a flat₁ flat′ out₁ out′ root
     → Fit lim flat out (tries ws txt ask root query) (length (listed ws txt ask root query)) (length (output-text (listed ws txt ask root query)))
-    → Written (asked ask) txt flat flat′ out out′ 0 0 (listed ws txt ask root query)
+    → Written (asked ask) ws txt flat flat′ out out′ 0 0 (listed ws txt ask root query)
 writes-then ws txt ask root query f o r = root-writes ws txt ask root query (rw (f, o) at r)
 
 -- The limits that a budget and the lent output set.
@@ -182,7 +182,7 @@ module _ {ws txt : List ℕ} {ask : Ask} {root : ℕ} {query : Str} {budget : �
             rw (affordable set s h, lt-ltb (min (length out) 4294967295) (length (output-text (listed ws txt ask root query))) (omega (arith, set .bytes-are)), or-true)
             (refl, f, o)
 
-    pub completes-listed : a .lines ≤ lim .lines → a .bytes ≤ lim .bytes → Written (asked ask) txt flat flat′ out out′ 0 0 (listed ws txt ask root query)
+    pub completes-listed : a .lines ≤ lim .lines → a .bytes ≤ lim .bytes → Written (asked ask) ws txt flat flat′ out out′ 0 0 (listed ws txt ask root query)
         → Completes ws txt ask root query budget flat flat′ out out′ (Listed (a .lines) (a .entered))
     unfolding lowest
     completes-listed l b w =

@@ -41,7 +41,7 @@ lines-of a tr q = made (line-for a) (suc (depth tr)) tr [] q
 module _ (ws txt : List ℕ) (ask : Ask) (flat flat′ out out′ : List ℕ) (r : Completion) where
   -- Listed: so many lines, so many tries entered, and the lines are written. Refused: nothing has changed.
   abbrev pub CompletesAs : (lines : List (Line (Item (asked ask)))) (entered : ℕ) → Option ℕ → Type 0
-  CompletesAs lines entered none = (r ≡ Listed (length lines) entered) × Written (asked ask) txt flat flat′ out out′ 0 0 lines
+  CompletesAs lines entered none = (r ≡ Listed (length lines) entered) × Written (asked ask) ws txt flat flat′ out out′ 0 0 lines
   CompletesAs lines entered (some n) = (row-met r ≡ some n) × (flat′ ≡ flat) × (out′ ≡ out)
 
 -- Completion on a root of well-formed arguments.
