@@ -84,13 +84,13 @@ lines-fit n = omega arith
 by-bytes : (n : ℕ) → n * 12 * 4 ≡ n * 48
 by-bytes n = omega arith
 
-module _ {w : Which} {txt flat flat′ ls ls′ out out′ : List ℕ} {lines : List (Line (Item w))} (room : Room flat ls)
+module _ {w : Which} {ws txt flat flat′ ls ls′ out out′ : List ℕ} {lines : List (Line (Item w))} (room : Room flat ls)
     (stored : Stored flat′ 0 ((0 + length lines) * 12) ls ls′) where
-  pub written-bytes : Written w txt flat flat′ out out′ 0 0 lines → Written w txt (lines-in ls) (lines-in ls′) out out′ 0 0 lines
+  pub written-bytes : Written w ws txt flat flat′ out out′ 0 0 lines → Written w ws txt (lines-in ls) (lines-in ls′) out out′ 0 0 lines
   unfolding lines-in
   written-bytes p = record {
     rows = p .rows;
-    twelve = p .twelve;
+    from = p .from;
     reads = p .reads;
     flat-laid = record {
       end = p .flat-laid .end;
@@ -113,7 +113,7 @@ count-of (Refused x) = 0
 
 -- The lines of a listing fit the words lent.
 module _ (ask : Ask) (m txt flat flat′ out out′ : List ℕ) (t : Table) (query : Str) (budget k e : ℕ) where
-  fit-as : (x : C.Completed (Item (asked ask))) → CompletesAs ask txt flat flat′ out out′ (Listed k e) x → k * 12 ≤ length flat
+  fit-as : (x : C.Completed (Item (asked ask))) → CompletesAs ask m txt flat flat′ out out′ (Listed k e) x → k * 12 ≤ length flat
   fit-as (C.listed lines entered) a = omega (arith, ap count-of (a .0), a .1 .flat-laid .fits)
   fit-as (C.refused n) a = absurd (Option·none-ne-some n (a .0))
 
@@ -124,10 +124,10 @@ module _ (ask : Ask) (m txt flat flat′ out out′ : List ℕ) (t : Table) (que
       fit-as (completion false (table-in m txt t) ask budget (output flat out) query)
       (total false (λ s. let h = fit-as (completion true (table-in m txt t) ask budget (output flat out) query) (total true s .says) in omega (arith, leb-false (k * 12) (length flat) p)) .says)
 
-module _ (ask : Ask) (txt flat flat′ ls out out′ : List ℕ) where
+module _ (ask : Ask) (m txt flat flat′ ls out out′ : List ℕ) where
   module _ {ls′ : List ℕ} (k e : ℕ) (room : Room flat ls) (stored : Stored flat′ 0 (k * 12) ls ls′) where
-    listed-as : (x : C.Completed (Item (asked ask))) → CompletesAs ask txt flat flat′ out out′ (Listed k e) x
-        → ListsAs ask txt ls ls′ out out′ (record { answer = 0; lines = k; entered = e }) x
+    listed-as : (x : C.Completed (Item (asked ask))) → CompletesAs ask m txt flat flat′ out out′ (Listed k e) x
+        → ListsAs ask m txt ls ls′ out out′ (record { answer = 0; lines = k; entered = e }) x
     listed-as (C.listed lines entered) a =
         let f : k ≡ length lines = ap count-of (a .0) in
         let g : k * 12 ≡ (0 + length lines) * 12 = omega arith in
@@ -138,7 +138,7 @@ module _ (ask : Ask) (txt flat flat′ ls out out′ : List ℕ) where
         }
     listed-as (C.refused n) a = absurd (Option·none-ne-some n (a .0))
 
-  refused-as : (x : Refusal) (y : C.Completed (Item (asked ask))) → CompletesAs ask txt flat flat′ out out′ (Refused x) y → ListsAs ask txt ls ls out out′ (no-lines (number x)) y
+  refused-as : (x : Refusal) (y : C.Completed (Item (asked ask))) → CompletesAs ask m txt flat flat′ out out′ (Refused x) y → ListsAs ask m txt ls ls out out′ (no-lines (number x)) y
   refused-as x (C.listed lines entered) a = absurd (Option·none-ne-some (number x) (sym (ap refused-by (a .0))))
   refused-as x (C.refused n) a = record { reply = let e = a .0 in cc; lines = refl; text = a .2 }
 
@@ -152,7 +152,7 @@ module _ {m txt flat flat′ ls out out′ : List ℕ} {t : Table} {ask : Ask} {
     (room : Room flat ls)
     (total : (b : Bool) → Says b (IsSound m txt t) → Completes b m txt t ask query budget flat flat′ out out′ r) where
   answers : {r′ : Completed} → r ≡ r′ → (b : Bool) → Says b (IsSound m txt t)
-      → CompletesAs ask txt flat flat′ out out′ r′ (completion b (table-in m txt t) ask budget (output-in ls out) query)
+      → CompletesAs ask m txt flat flat′ out out′ r′ (completion b (table-in m txt t) ask budget (output-in ls out) query)
   answers p b i = rw (← p, ← output-is flat ls out room) (total b i .says)
 
   pub lines-fits : {k e : ℕ} → r ≡ Listed k e → length flat′ ≡ length flat → (k * 12 * 4 ≤ length ls) × (k * 12 ≤ length flat′)
@@ -162,10 +162,10 @@ module _ {m txt flat flat′ ls out out′ : List ℕ} {t : Table} {ask : Ask} {
 
   pub list-listed : {ls′ : List ℕ} {k e : ℕ} → r ≡ Listed k e → Stored flat′ 0 (k * 12) ls ls′
       → ListsIn m txt t ask query budget ls ls′ out out′ (record { answer = 0; lines = k; entered = e })
-  list-listed {k = k} {e = e} p stored = record { says = λ b i. listed-as ask txt flat flat′ ls out out′ k e room stored (completion b (table-in m txt t) ask budget (output-in ls out) query) (answers p b i) }
+  list-listed {k = k} {e = e} p stored = record { says = λ b i. listed-as ask m txt flat flat′ ls out out′ k e room stored (completion b (table-in m txt t) ask budget (output-in ls out) query) (answers p b i) }
 
   pub list-refused : {x : Refusal} {n : ℕ} {c : CompleteReply} → r ≡ Refused x → n ≡ number x → c ≡ no-lines n → ListsIn m txt t ask query budget ls ls out out′ c
-  list-refused {x} p q s = record { says = λ b i. rw (s, q) (refused-as ask txt flat flat′ ls out out′ x (completion b (table-in m txt t) ask budget (output-in ls out) query) (answers p b i)) }
+  list-refused {x} p q s = record { says = λ b i. rw (s, q) (refused-as ask m txt flat flat′ ls out out′ x (completion b (table-in m txt t) ask budget (output-in ls out) query) (answers p b i)) }
 
 -- ---- By the bytes
 

@@ -54,9 +54,9 @@ abbrev pub no-lines : ℕ → CompleteReply
 no-lines n = record { answer = n; lines = 0; entered = 0 }
 
 -- Listed: the line bytes at exit spell the lines, their texts are in the output text, and every other byte is as it was.
-pub record Lists (ask : Ask) (txt ls ls′ out out′ : List ℕ) (lines : List (Line (Item (asked ask)))) (entered : ℕ) (r : CompleteReply) : Type 0 where
+pub record Lists (ask : Ask) (ws txt ls ls′ out out′ : List ℕ) (lines : List (Line (Item (asked ask)))) (entered : ℕ) (r : CompleteReply) : Type 0 where
   pub reply : r ≡ record { answer = 0; lines = length lines; entered = entered }
-  pub written : Written (asked ask) txt (lines-in ls) (lines-in ls′) out out′ 0 0 lines
+  pub written : Written (asked ask) ws txt (lines-in ls) (lines-in ls′) out out′ 0 0 lines
   pub bytes : Outside 0 (length lines * 48) ls ls′
 
 -- Refused with n: no byte has changed.
@@ -66,25 +66,25 @@ pub record Refuses (n : ℕ) (ls ls′ out out′ : List ℕ) (r : CompleteReply
   pub text : out′ ≡ out
 
 -- The reply r, by what the definition hands back.
-abbrev pub ListsAs : (ask : Ask) (txt ls ls′ out out′ : List ℕ) (r : CompleteReply) → C.Completed (Item (asked ask)) → Type 0
-ListsAs ask txt ls ls′ out out′ r (C.listed lines entered) = Lists ask txt ls ls′ out out′ lines entered r
-ListsAs ask txt ls ls′ out out′ r (C.refused n) = Refuses n ls ls′ out out′ r
+abbrev pub ListsAs : (ask : Ask) (ws txt ls ls′ out out′ : List ℕ) (r : CompleteReply) → C.Completed (Item (asked ask)) → Type 0
+ListsAs ask ws txt ls ls′ out out′ r (C.listed lines entered) = Lists ask ws txt ls ls′ out out′ lines entered r
+ListsAs ask ws txt ls ls′ out out′ r (C.refused n) = Refuses n ls ls′ out out′ r
 
 -- Where nothing is asked the call is malformed, and Unsound is lower.
 abbrev pub unasked : (sound : Bool) → ℕ
 unasked true = 2
 unasked false = 1
 
-module _ (txt : List ℕ) (query : Str) (budget : ℕ) (ls ls′ out out′ : List ℕ) (r : CompleteReply) where
+module _ (ws txt : List ℕ) (query : Str) (budget : ℕ) (ls ls′ out out′ : List ℕ) (r : CompleteReply) where
   -- The reply r to what is asked of the table.
   abbrev pub ListsFor : (sound : Bool) → S.Table → Option Ask → Type 0
-  ListsFor sound tbl (some ask) = ListsAs ask txt ls ls′ out out′ r (completion sound tbl ask budget (output-in ls out) query)
+  ListsFor sound tbl (some ask) = ListsAs ask ws txt ls ls′ out out′ r (completion sound tbl ask budget (output-in ls out) query)
   ListsFor sound tbl none = Refuses (unasked sound) ls ls′ out out′ r
 
 -- The reply r to a completion; b says whether the bytes are a sound table.
 pub record RepliesLines (st bs txt : List ℕ) (ask : Option Ask) (query : Str) (budget : ℕ) (ls ls′ out out′ : List ℕ) (r : CompleteReply) : Type 0 where
-  pub says : (b : Bool) → Says b (SoundBytes st bs txt) → ListsFor txt query budget ls ls′ out out′ r b (table-in (words-in bs) txt (header-in st)) ask
+  pub says : (b : Bool) → Says b (SoundBytes st bs txt) → ListsFor (words-in bs) txt query budget ls ls′ out out′ r b (table-in (words-in bs) txt (header-in st)) ask
 
 -- The same, where the words m and the table t have been read.
 pub record ListsIn (m txt : List ℕ) (t : Table) (ask : Ask) (query : Str) (budget : ℕ) (ls ls′ out out′ : List ℕ) (r : CompleteReply) : Type 0 where
-  pub says : (b : Bool) → Says b (IsSound m txt t) → ListsFor txt query budget ls ls′ out out′ r b (table-in m txt t) (some ask)
+  pub says : (b : Bool) → Says b (IsSound m txt t) → ListsFor m txt query budget ls ls′ out out′ r b (table-in m txt t) (some ask)

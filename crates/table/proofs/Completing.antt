@@ -101,7 +101,7 @@ module _ {ws txt : List ℕ} {ask : Ask} {root : ℕ} {query : Str} {budget : �
       numbered Lines q = q
 
       go : (o : Option ℕ) → L.CompletesAs ws txt ask flat flat′ out out′ r lines (tries-entered tr (segments query)) o
-          → CompletesAs ask txt flat flat′ out out′ (answer-in r) (elim o [ none ↦ C.listed lines (tries-entered tr (segments query)) | some n ↦ C.refused n ])
+          → CompletesAs ask ws txt flat flat′ out out′ (answer-in r) (elim o [ none ↦ C.listed lines (tries-entered tr (segments query)) | some n ↦ C.refused n ])
       go none h = (ap answer-in (h .0), h .1)
       go (some n) h = (numbered r (h .0), h .1, h .2)
 
@@ -124,13 +124,13 @@ on-table ws txt t (Modules f) budget out query = rw (autocomplete-mod-or-ns-is (
 pub completes-table : {ws txt : List ℕ} {t : Table} {ask : Ask} {query : Str} {root budget : ℕ} {flat flat′ out out′ : List ℕ} {r : Completed} → root ≡ root-for t ask
     → CompletesOn ws txt ask root query budget flat flat′ out out′ r → Completes true ws txt t ask query budget flat flat′ out out′ r
 completes-table {ws} {txt} {t} {ask} {query} {root} {budget} {flat} {flat′} {out} {out′} {r} e c =
-    record { says = subst (CompletesAs ask txt flat flat′ out out′ r) (on-table ws txt t ask budget (output flat out) query) (rw e at (c .says)) }
+    record { says = subst (CompletesAs ask ws txt flat flat′ out out′ r) (on-table ws txt t ask budget (output flat out) query) (rw e at (c .says)) }
 
 -- A memory that is not sound is refused, whatever is asked.
 pub completes-unsound : {ws txt : List ℕ} {t : Table} {ask : Ask} {query : Str} {budget : ℕ} {flat out : List ℕ} → Completes false ws txt t ask query budget flat flat out out (Refused Unsound)
 unfolding complete complete-modules completed completion-rows lowest argument-rows
 completes-unsound {ws} {txt} {t} {ask} {query} {budget} {flat} {out} = record { says = go ask }
   where
-    go : (ask : Ask) → CompletesAs ask txt flat flat out out (Refused Unsound) (completion false (table-in ws txt t) ask budget (output flat out) query)
+    go : (ask : Ask) → CompletesAs ask ws txt flat flat out out (Refused Unsound) (completion false (table-in ws txt t) ask budget (output flat out) query)
     go Names = (refl, refl, refl)
     go (Modules f) = (refl, refl, refl)

@@ -21,7 +21,8 @@ use Rattle.tree.specs.Tree.{held}
 use Rattle.lookup.specs.Tries as T
 use Rattle.lookup.specs.Tries.{AnyTrie, FoundIn}
 use Rattle.table.specs.Header.{IsSound}
-use Rattle.table.specs.Answers.{SymbolInside}
+use Rattle.rows.specs.Rows.{SymbolInside}
+use Rattle.rows.proofs.Inside.{symbol-in-inside}
 use Rattle.table.specs.declared.Table.{Table}
 
 module _ (query : Str) where
@@ -49,12 +50,7 @@ module _ (query : Str) where
 pub branch-fits : {ws txt : List ℕ} {root r : ℕ} {q : Query} → AnyTrie ws txt root → T.Found ws txt root q r → (r ≡ 0 → ⊥) → (0 < r) × (r * 12 ≤ length ws)
 branch-fits a h z = (omega arith, link-fits (a .trie .sound) (link-later (omega (arith, a .trie .link .earlier)) (h (a .which) (a .trie) .link)))
 
--- The texts of a right record's symbol lie in the lent text.
-module _ {txt r : List ℕ} {used : ℕ} (o : SymbolOk txt used r) (h : used ≤ length txt) where
-  symbol-in-inside : SymbolInside (length txt) (symbol-in r)
-  symbol-in-inside =
-      zero-one (symbol-word r) (o .sort) (λ z. rw z (omega (arith, o .name .inside), omega (arith, o .path z .inside))) (λ z. rw z (omega (arith, o .name .inside)))
-
+-- The texts of a found symbol lie in the lent text.
 pub symbol-inside : {ws txt : List ℕ} {t : Table} {l : ℕ} → IsSound ws txt t → LinkOk ws (t .header .modules + 1) l (kind modules (tree bind)) → 0 < l
     → SymbolInside (length txt) (symbol-in (record-at ws l))
 symbol-inside o i p =

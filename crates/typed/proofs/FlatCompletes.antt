@@ -42,13 +42,13 @@ pub refused-none : (r : Completed) {n : ℕ} → refused-by r ≡ some n → lin
 refused-none (Listed lines entered) {n} e = absurd (Option·none-ne-some n e)
 refused-none (Refused x) e = refl
 
-module _ (ask : Ask) (txt flat f out out′ : List ℕ) (r : Completed) (k : ℕ) where
-  part-as : k ≤ length flat → (x : C.Completed (Item (asked ask))) → CompletesAs ask txt (take k flat) f out out′ r x → CompletesAs ask txt flat (f ++ drop k flat) out out′ r x
+module _ (ask : Ask) (ws txt flat f out out′ : List ℕ) (r : Completed) (k : ℕ) where
+  part-as : k ≤ length flat → (x : C.Completed (Item (asked ask))) → CompletesAs ask ws txt (take k flat) f out out′ r x → CompletesAs ask ws txt flat (f ++ drop k flat) out out′ r x
   part-as h (C.listed lines entered) c =
-      (c .0, record { rows = c .1 .rows; twelve = c .1 .twelve; reads = c .1 .reads; flat-laid = laid-front h (c .1 .flat-laid); out-laid = c .1 .out-laid })
+      (c .0, record { rows = c .1 .rows; from = c .1 .from; reads = c .1 .reads; flat-laid = laid-front h (c .1 .flat-laid); out-laid = c .1 .out-laid })
   part-as h (C.refused n) c = (c .0, ap (λ l. l ++ drop k flat) (c .1) ∙ take-append-drop k flat, c .2)
 
-  part-fits : (x : C.Completed (Item (asked ask))) → CompletesAs ask txt (take k flat) f out out′ r x → lines-in r * 12 ≤ length (take k flat)
+  part-fits : (x : C.Completed (Item (asked ask))) → CompletesAs ask ws txt (take k flat) f out out′ r x → lines-in r * 12 ≤ length (take k flat)
   part-fits (C.listed lines entered) c = omega (arith, ap lines-in (c .0), c .1 .flat-laid .fits)
   part-fits (C.refused n) c = omega (arith, refused-none r (c .0))
 
@@ -62,10 +62,10 @@ module _ {ws txt : List ℕ} {t : Table} {ask : Ask} {query : Str} {budget room 
       → T.Completes true ws txt t ask query budget (take k flat) f out out′ r → FlatCompletes ws txt t ask query budget room flat (f ++ drop k flat) out out′ r
   flat-completes {f} {out′} {r} {k} o e c =
       let h : k ≤ length flat = omega (arith, e) in
-      let n : lines-in r * 12 ≤ k = omega (arith, part-fits ask txt flat f out out′ r k (completion true (table-in ws txt t) ask budget (F.output (take k flat) out) query) (c .says), length-take-le k flat h) in
+      let n : lines-in r * 12 ≤ k = omega (arith, part-fits ask ws txt flat f out out′ r k (completion true (table-in ws txt t) ask budget (F.output (take k flat) out) query) (c .says), length-take-le k flat h) in
       record {
-        says = λ b s. subst (λ x. CompletesAs ask txt flat (f ++ drop k flat) out out′ r (completion x (table-in ws txt t) ask budget (output room flat out) query)) (sym (decided _ b true s o))
-            (part-as ask txt flat f out out′ r k h (completion true (table-in ws txt t) ask budget (output room flat out) query) (subst (λ x. CompletesAs ask txt (take k flat) f out out′ r (completion true (table-in ws txt t) ask budget x query)) (output-part room k flat out h e) (c .says)));
+        says = λ b s. subst (λ x. CompletesAs ask ws txt flat (f ++ drop k flat) out out′ r (completion x (table-in ws txt t) ask budget (output room flat out) query)) (sym (decided _ b true s o))
+            (part-as ask ws txt flat f out out′ r k h (completion true (table-in ws txt t) ask budget (output room flat out) query) (subst (λ x. CompletesAs ask ws txt (take k flat) f out out′ r (completion true (table-in ws txt t) ask budget x query)) (output-part room k flat out h e) (c .says)));
         fit = omega (arith, n, e);
         lent = omega (arith, n, h);
       }
@@ -74,11 +74,11 @@ module _ {ws txt : List ℕ} {t : Table} {ask : Ask} {query : Str} {budget room 
   pub flat-unsound : (IsSound ws txt t → ⊥) → FlatCompletes ws txt t ask query budget room flat flat out out (Refused Unsound)
   unfolding complete complete-modules completed completion-rows lowest argument-rows
   flat-unsound o = record {
-    says = λ b s. subst (λ x. CompletesAs ask txt flat flat out out (Refused Unsound) (completion x (table-in ws txt t) ask budget (output room flat out) query)) (sym (decided _ b false s o)) (go ask);
+    says = λ b s. subst (λ x. CompletesAs ask ws txt flat flat out out (Refused Unsound) (completion x (table-in ws txt t) ask budget (output room flat out) query)) (sym (decided _ b false s o)) (go ask);
     fit = zero-le;
     lent = zero-le;
   }
     where
-      go : (ask : Ask) → CompletesAs ask txt flat flat out out (Refused Unsound) (completion false (table-in ws txt t) ask budget (output room flat out) query)
+      go : (ask : Ask) → CompletesAs ask ws txt flat flat out out (Refused Unsound) (completion false (table-in ws txt t) ask budget (output room flat out) query)
       go Names = (refl, refl, refl)
       go (Modules f) = (refl, refl, refl)
