@@ -114,13 +114,13 @@ struct name_console_symbol name_console_find_module(const uint8_t *state, size_t
     0                match length: 4294967295 for -1
     4,  8            candidate: start, length in out
    12, 16            annotation: start, length in out
-   20                item of a name; or 0 for a module, else a namespace
+   20                item of a name; or 0 for a module, 1 for a namespace
    24, 28            module or namespace: full name: start, length in the table's text
    32, 36            module: file path: start, length in the table's text
-   40                module or namespace: 1 if loaded, else not
-   44                of no account, and so are those above that do not apply
+   40                module or namespace: 1 if loaded, else 0
+   44                0
 
-   What is promised of a full name or path is the bytes of the table's text from its start, up to its length or to the end of the text. */
+   A full name and a path lie in the table's text. Words above that do not apply are of no account. */
 
 struct name_console_listing {
   uint32_t answer;  /* 0 listed, else the refusal */
@@ -145,10 +145,10 @@ struct name_console_line {
   int32_t match_length;
   uint32_t candidate, candidate_len;
   uint32_t annotation, annotation_len;
-  uint32_t item; /* of a name; or 0 for a module, else a namespace */
+  uint32_t item; /* of a name; or 0 for a module, 1 for a namespace */
   uint32_t name, name_len;
   uint32_t path, path_len;
-  uint32_t loaded; /* 1 if loaded, else not */
+  uint32_t loaded; /* 1 if loaded, else 0 */
 };
 
 /* Word k of the bytes. */

@@ -10,7 +10,6 @@ use Rattle.memory.specs.Sound.{SymbolOk, ItemOk}
 use Rattle.memory.specs.Read.{symbol-in}
 use Rattle.memory.proofs.RecordOk.{record-as, zero-one}
 use Rattle.memory.proofs.Seen.{link-ok}
-use Rattle.lines.specs.Path.{BranchAt}
 use Rattle.lines.specs.Output.{item-words, RowFrom}
 use Rattle.rows.specs.Rows.{item-in, SymbolInside, ItemInside}
 

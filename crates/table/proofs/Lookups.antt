@@ -12,10 +12,10 @@ use Rattle.source.specs.Types.{Trie, bind, the-item}
 use Rattle.source.specs.Tries.{trie-find-exact}
 use Rattle.source.specs.Calls.{a-look-up, lowest, argument-rows, Found, found, not-found, refused, found-of, look-up}
 use Rattle.source.proofs.Refusals.{argument-rows-none, look-up-whole}
-use Rattle.memory.specs.Layout.{record-at, Which, modules, item-of, tree, trieˢ, kind, what, symbol-word}
-use Rattle.memory.specs.Sound.{LinkOk, SymbolOk}
+use Rattle.memory.specs.Layout.{record-at, Which, modules, item-of, tree, trieˢ, kind, what}
+use Rattle.memory.specs.Sound.{LinkOk}
 use Rattle.memory.specs.Read.{symbol-in}
-use Rattle.memory.proofs.RecordOk.{zero-one, record-as}
+use Rattle.memory.proofs.RecordOk.{record-as}
 use Rattle.memory.proofs.Seen.{link-fits, link-later, link-ok}
 use Rattle.tree.specs.Tree.{held}
 use Rattle.lookup.specs.Tries as T
