@@ -1,5 +1,5 @@
 -- The answer to a line is that of its command (`Answered`).
-use Prim.Native.Nat.{ℕ, _*_}
+use Prim.Native.Nat.{ℕ}
 use native.Mathlib.Omega.{arith}
 use mathlib.Core.Path.{_≡_, refl, ap, _∙_}
 use mathlib.Core.Bool.{Bool, true}
@@ -18,7 +18,7 @@ use Rattle.table.specs.Registrations.{Unchanged}
 use Rattle.table.specs.declared.Table.{Table}
 use Rattle.registrations.specs.Registers.{Outcome, registration, Leaves, Registers}
 use Rattle.registrations.specs.declared.Done.{Done}
-use Rattle.registrations.proofs.Registers.{outside-none}
+use Rattle.memory.proofs.Outside.{outside-none}
 use Rattle.questions.specs.Questions.{asked-text}
 use Rattle.answers.specs.Outcomes.{outcome, call-of, Accepted}
 use Rattle.answers.specs.Answers.{Answered}
@@ -73,7 +73,7 @@ module _ {ws txt ws′ txt′ reply reply′ : List ℕ} {t : Table} {line : Str
 -- Nothing has changed but the reply.
 leaves-same : {ws txt reply reply′ : List ℕ} {t : Table} {at e : ℕ} (s : Str) → IsSound ws txt t → Laid reply reply′ at e s
     → Leaves ws txt ws txt t reply reply′ at (record { text = s; after = state ws txt t }) (record { table = t; end = e })
-leaves-same {ws} {txt} {t = t} s sound l = record { sound = sound; reads = refl; words = outside-none (t .header .records * 12) ws; texts = outside-none (t .header .text) txt; grows = (omega arith, omega arith); laid = l }
+leaves-same {ws} {txt} {t = t} s sound l = record { sound = sound; reads = refl; words = outside-none ws; texts = outside-none txt; grows = (omega arith, omega arith); laid = l }
 
 same : {ws txt : List ℕ} {t : Table} → Unchanged ws txt ws txt t t
 same = record { table = refl; words = refl; text = refl }
@@ -89,8 +89,8 @@ module _ {ws txt reply reply′ : List ℕ} {t : Table} {line : Str} {at e : ℕ
     replied = record { says = λ c h. absurd (n c h); bad = λ _. refl };
     laid = l;
     sound = sound;
-    words = outside-none (t .header .records * 12) ws;
-    texts = outside-none (t .header .text) txt;
+    words = outside-none ws;
+    texts = outside-none txt;
     grows = (omega arith, omega arith);
     still = λ _. same;
   }

@@ -13,11 +13,11 @@ use Rattle.script.specs.Script.{Str, _·_, All, LineEnd}
 use Rattle.script.specs.declared.Sort.the-variants.{Line}
 use Rattle.listing.specs.Completes.{output}
 use Rattle.table.specs.Header.{IsSound, state, lent}
-use Rattle.table.specs.Registrations.{Outside}
+use Rattle.memory.specs.Grown.{Outside}
 use Rattle.table.specs.declared.Table.{Table}
 use Rattle.registrations.specs.Registers.{Outcome}
 use Rattle.registrations.specs.declared.Done.{Done}
-use Rattle.registrations.proofs.Registers.{outside-none, outside-then}
+use Rattle.memory.proofs.Outside.{outside-none, outside-next}
 use Rattle.questions.specs.RowReplies.{room}
 use Rattle.answers.specs.Outcomes.{Replied, Session, none, then, unlines}
 use Rattle.answers.specs.Answers.{Answered, Talked}
@@ -71,8 +71,8 @@ going-start {ws} {txt} {reply = reply} {t} {from = from} s h =
       laid = laid-none reply 0 0 refl (omega arith);
       session = none;
       sound = s;
-      words = outside-none (t .header .records * 12) ws;
-      texts = outside-none (t .header .text) txt;
+      words = outside-none ws;
+      texts = outside-none txt;
       grows = (omega arith, omega arith);
       flat-size = refl;
       pane-size = refl;
@@ -114,8 +114,8 @@ module _ {ws₀ txt₀ flat₀ pane₀ reply₀ ws txt flat pane reply : List �
           laid = laid-more (g .laid) (a .laid);
           session = session-on (record { text = a .text; after = _ }) (g .session) (rw (q, g .words .size, g .texts .size, g .flat-size, g .pane-size) at (a .replied));
           sound = a .sound;
-          words = outside-then (omega (arith, g .grows .0)) (omega (arith, a .grows .0)) (g .words) (a .words);
-          texts = outside-then (g .grows .1) (a .grows .1) (g .texts) (a .texts);
+          words = outside-next (omega (arith, g .grows .0)) (omega (arith, a .grows .0)) (g .words) (a .words);
+          texts = outside-next (g .grows .1) (a .grows .1) (g .texts) (a .texts);
           grows = (omega (arith, g .grows .0, a .grows .0), omega (arith, g .grows .1, a .grows .1));
           flat-size = f ∙ g .flat-size;
           pane-size = p ∙ g .pane-size;

@@ -10,7 +10,8 @@ use Rattle.text.specs.Laid.{Laid}
 use Rattle.script.specs.Script.{Str, Command, Reads, All}
 use Rattle.script.specs.declared.Sort.the-variants.{Line}
 use Rattle.table.specs.Header.{IsSound, state, lent}
-use Rattle.table.specs.Registrations.{Outside, Unchanged}
+use Rattle.memory.specs.Grown.{Outside}
+use Rattle.table.specs.Registrations.{Unchanged}
 use Rattle.table.specs.declared.Table.{Table}
 use Rattle.registrations.specs.declared.Done.{Done}
 use Rattle.answers.specs.Outcomes.{Accepted, Replied, Session, unlines}

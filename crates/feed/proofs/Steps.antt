@@ -1,5 +1,5 @@
 -- A step is the session of the lines that were answered (`Steps`), and the end that of what is left (`Ends`).
-use Prim.Native.Nat.{ℕ, zero, suc, _+_, _-_, _*_, _<_, _≤_, min}
+use Prim.Native.Nat.{ℕ, zero, suc, _+_, _-_, _<_, _≤_, min}
 use native.Mathlib.Omega.{arith}
 use mathlib.Core.Path.{_≡_, refl, sym, ap, ap₂, _∙_, subst}
 use mathlib.Core.Bool.{true, false, true≢false}
@@ -12,7 +12,7 @@ use Rattle.script.specs.Script.{Str, _·_, All}
 use Rattle.script.specs.declared.Sort.the-variants.{Line}
 use Rattle.table.specs.Header.{IsSound, state, lent}
 use Rattle.registrations.specs.declared.Done.{Done}
-use Rattle.registrations.proofs.Registers.{outside-none}
+use Rattle.memory.proofs.Outside.{outside-none}
 use Rattle.answers.specs.Outcomes.{Session, none, then, unlines}
 use Rattle.answers.specs.Answers.{Answered, Talked}
 use Rattle.answers.specs.declared.Turn.{Turn}
@@ -141,6 +141,6 @@ ends-none {ws} {txt} {input} {reply} {out} {f} i l sound =
       session = rw e none;
       laid = laid-none reply 0 0 refl (omega arith);
       sound = sound;
-      words = outside-none (f .table .header .records * 12) ws;
-      texts = outside-none (f .table .header .text) txt;
+      words = outside-none ws;
+      texts = outside-none txt;
     }

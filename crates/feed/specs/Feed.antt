@@ -10,7 +10,7 @@ use Rattle.text.specs.Laid.{Laid}
 use Rattle.script.specs.Script.{Str, _·_, All}
 use Rattle.script.specs.declared.Sort.the-variants.{Line}
 use Rattle.table.specs.Header.{IsSound, state, lent}
-use Rattle.table.specs.Registrations.{Outside}
+use Rattle.memory.specs.Grown.{Outside}
 use Rattle.registrations.specs.declared.Done.{Done}
 use Rattle.answers.specs.Outcomes.{Session, unlines}
 use Rattle.feed.specs.declared.Feed.{Feed}

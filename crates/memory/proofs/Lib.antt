@@ -6,6 +6,7 @@ pub mod StoredSizes
 pub mod RecordAs
 pub mod Stays
 pub mod Keeps
+pub mod Outside
 pub mod SoundTable
 mod Examples
 pub mod RecordAt

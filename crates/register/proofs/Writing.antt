@@ -15,7 +15,7 @@ use Rattle.source.specs.Calls.{State, whole-records, free, Call, registered, re
 use Rattle.source.proofs.Refusals.{Acceptable, registration-rows-none}
 use Rattle.memory.specs.Layout.{Which, names, modules, Item, trieˢ, Reading, what, table-of, state-of}
 use Rattle.memory.specs.Sound.{Sound}
-use Rattle.memory.specs.Grown.{Keeps}
+use Rattle.memory.specs.Grown.{Keeps, Outside}
 use Rattle.memory.specs.declared.Header.{Header}
 use Rattle.memory.proofs.Keeps.{what-keeps, table-keeps, used-text}
 use Rattle.names.specs.Made.{Room}
@@ -29,7 +29,7 @@ use Rattle.change.specs.Changes.{which-by, which-of, mutated, Mutation, Mutated
 use Rattle.change.specs.declared.Change.{Change}
 use Rattle.change.proofs.Registered.{Registers}
 use Rattle.register.specs.Checks.{lent, Ready, Passes}
-use Rattle.register.specs.Writes.{Laid, root-at, with-root, with-text, Outside, Accepts}
+use Rattle.register.specs.Writes.{Laid, root-at, with-root, with-text, Accepts}
 use Rattle.register.proofs.Checks.{ready, taken-all}
 use Rattle.register.proofs.Changes.{change-at, Stays, Right, change-right, right-mutation}
 

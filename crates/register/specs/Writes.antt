@@ -2,12 +2,12 @@
 use Prim.Native.Nat.{ℕ, _+_, _*_}
 use mathlib.Core.Path.{_≡_}
 use mathlib.Core.List.{List}
-use lib.ListN.{length, take, drop}
+use lib.ListN.{length, drop}
 use Rattle.source.specs.Text.{Str}
 use Rattle.source.specs.Calls.{State}
 use Rattle.memory.specs.Layout.{span, Which, names, modules, state-of}
 use Rattle.memory.specs.Sound.{Sound}
-use Rattle.memory.specs.Grown.{Keeps}
+use Rattle.memory.specs.Grown.{Keeps, Outside}
 use Rattle.memory.specs.declared.Header.{Header}
 
 -- Three texts stand one after another from a place on.
@@ -35,12 +35,6 @@ with-text h used = record { names = h .names; modules = h .modules; records = h 
 abbrev pub with-root : Which → Header → (link records text : ℕ) → Header
 with-root names h link records text = record { names = link; modules = h .modules; records = records; text = text }
 with-root modules h link records text = record { names = h .names; modules = link; records = records; text = text }
-
--- A list is as it was, except from a place up to another.
-pub record Outside (from to : ℕ) (l l′ : List ℕ) : Type 0 where
-  pub before : take from l′ ≡ take from l
-  pub after : drop to l′ ≡ drop to l
-  pub size : length l′ ≡ length l
 
 -- The header h has become h′, which reads as the state s, and only the free part that was taken has changed.
 pub record Accepts (ws txt ws′ txt′ : List ℕ) (h h′ : Header) (s : State) : Type 0 where

@@ -1,19 +1,18 @@
 -- The reply to a registration is that of the definition (`Registers`).
-use Prim.Native.Nat.{ℕ, _+_, _-_, _*_, _≤_}
+use Prim.Native.Nat.{ℕ, _≤_}
 use native.Mathlib.Omega.{arith}
-use mathlib.Core.Path.{_≡_, refl, sym, ap, _∙_, subst}
+use mathlib.Core.Path.{_≡_, refl, ap, _∙_, subst}
 use mathlib.Core.Bool.{true}
 use mathlib.Core.List.{List}
 use mathlib.Core.Option.{Option, none, some}
-use lib.ListN.{take, drop}
-use lib.Seq.{take-take, drop-drop}
 use Rattle.source.specs.Calls as C
 use Rattle.source.specs.Calls.{Call, State, Lent, register, registration-rows, lowest, after}
 use Rattle.text.specs.Laid.{Laid}
 use Rattle.replies.specs.Replies.{ok-reply, refused-reply}
 use Rattle.table.specs.Header.{IsSound, state, lent}
 use Rattle.refusals.specs.Refusals.{number}
-use Rattle.table.specs.Registrations.{refusal-of, Outside, Unchanged, AnswersAs, Answers}
+use Rattle.memory.proofs.Outside.{outside-none}
+use Rattle.table.specs.Registrations.{refusal-of, Unchanged, AnswersAs, Answers}
 use Rattle.table.specs.declared.Table.{Table}
 use Rattle.table.specs.declared.Registered.{Registered}
 use Rattle.table.specs.declared.Registered.the-variants.{Accepted, Refused}
@@ -28,19 +27,6 @@ text-accepted records (Refused x) e = let z : _≡_ {A = ℕ} 0 1 = cc in absurd
 text-refused : (records n : ℕ) (r : Registered) → refusal-of r ≡ some n → registered-text records r ≡ refused-reply n
 text-refused records n Accepted e = let z : _≡_ {A = ℕ} 0 1 = cc in absurd (omega arith)
 text-refused records n (Refused x) e = let z : number x ≡ n = cc in ap refused-reply z
-
-pub outside-none : (k : ℕ) (l : List ℕ) → Outside k k l l
-outside-none k l = record { before = refl; after = refl; size = refl }
-
--- One change, then another.
-pub outside-then : {a b c : ℕ} {l l′ l″ : List ℕ} → a ≤ b → b ≤ c → Outside a b l l′ → Outside b c l′ l″ → Outside a c l l″
-outside-then {a} {b} {c} {l} {l′} {l″} p q x y =
-    let e : b + (c - b) ≡ c = omega arith in
-    record {
-      before = sym (take-take a b l″ p) ∙ ap (take a) (y .before) ∙ take-take a b l′ p ∙ x .before;
-      after = y .after ∙ ap (λ (k : ℕ). drop k l′) (sym e) ∙ sym (drop-drop (c - b) b l′) ∙ ap (drop (c - b)) (x .after) ∙ drop-drop (c - b) b l ∙ ap (λ (k : ℕ). drop k l) e;
-      size = y .size ∙ x .size;
-    }
 
 -- What is used never shrinks.
 Grows : State → C.Registered → Type 0
@@ -71,8 +57,8 @@ module _ {ws txt ws′ txt′ reply reply′ : List ℕ} {t : Table} {at : ℕ} 
       rw (f .table-is, x .table, x .words, x .text) (record {
         sound = sound;
         reads = refl;
-        words = outside-none (t .header .records * 12) ws;
-        texts = outside-none (t .header .text) txt;
+        words = outside-none ws;
+        texts = outside-none txt;
         grows = (omega arith, omega arith);
         laid = subst (Laid reply reply′ at (a .end)) (text-refused (r .table .header .records) n (r .answer) e) (f .laid);
       })

@@ -12,7 +12,8 @@ use Rattle.script.specs.declared.Import.the-variants.{Include, OpenModule, Open
 use Rattle.replies.specs.Replies.{ok-reply, refused-reply}
 use Rattle.table.specs.Header.{IsSound, state, lent}
 use Rattle.refusals.specs.Refusals.{number}
-use Rattle.table.specs.Registrations.{Outside, Unchanged}
+use Rattle.memory.specs.Grown.{Outside}
+use Rattle.table.specs.Registrations.{Unchanged}
 use Rattle.table.specs.declared.Table.{Table}
 use Rattle.table.specs.declared.Registered.{Registered}
 use Rattle.table.specs.declared.Registered.the-variants.{Accepted, Refused}

@@ -1,5 +1,3 @@
-pub mod Outside
-pub mod Bytes
 pub mod Held
 pub mod Replies
 pub mod RepliesModule

@@ -13,27 +13,30 @@ use Rattle.source.specs.Calls as C
 use Rattle.source.specs.Text.{Str}
 use Rattle.source.specs.Calls.{State, Lent, Call, opens, register}
 use Rattle.memory.specs.Sound.{Says}
+use Rattle.memory.specs.Grown.{Outside}
 use Rattle.table.specs.Header.{IsSound, state, lent}
-use Rattle.table.specs.Registrations.{refusal-of, Outside, AnswersAs, Total}
+use Rattle.table.specs.Registrations.{refusal-of, AnswersAs, Total}
 use Rattle.table.specs.declared.Table.{Table}
 use Rattle.table.specs.declared.Registration.{Registration}
 use Rattle.table.proofs.Decided.{decided}
 use Rattle.table.proofs.Registering.{register-unsound}
-use Rattle.screen.specs.Bytes.{Stored}
-use Rattle.screen.specs.Memory.{header-in, Spells, records-lent, words-in, SoundBytes}
+use Rattle.wire.specs.Bytes.{Stored}
+use Rattle.wire.specs.Memory.{state-bytes, header-in, Spells, records-lent, words-in}
+use Rattle.wire.proofs.Memory.{words-in-length, words-in-fit}
+use Rattle.screen.specs.Memory.{table-at, SoundBytes}
 use Rattle.kinds.specs.Shapes.{call-of, opened}
 use Rattle.kinds.specs.declared.Kind.{Kind}
 use Rattle.kinds.proofs.Shapes.{opened-is}
 use Rattle.screen.specs.Replies.{chosen, unchosen, answer-to, RepliesAs, Replies}
-use Rattle.screen.proofs.Bytes.{read-back}
-use Rattle.screen.proofs.Held.{words-in-length, words-in-fit, Held, says-memory, says-short}
+use Rattle.wire.proofs.Bytes.{read-back}
+use Rattle.screen.proofs.Held.{Held, says-memory, says-short}
 
 answer-unsound : (l : Lent) (s : State) (c : Option Call) → answer-to false l s c ≡ C.refused 1
 answer-unsound l s (some c) = register-unsound l s c
 answer-unsound l s none = refl
 
 -- A state of another length.
-pub reply-short : {st bs txt : List ℕ} {c : Option Call} → (length st ≡ 16 → ⊥) → Replies st bs txt st bs txt c 1
+pub reply-short : {st bs txt : List ℕ} {c : Option Call} → (length st ≡ state-bytes → ⊥) → Replies st bs txt st bs txt c 1
 reply-short {st} {bs} {txt} {c} e = record {
   says = λ b h. rw (says-short st bs txt b e h, answer-unsound _ _ c) (refl, record { state = refl; words = refl; text = refl });
 }
@@ -49,7 +52,7 @@ reply-none {txt = txt} r h p e = record {
 pub reply-opened : {st bs txt st′ bs′ txt′ : List ℕ} {flag : Bool} {k : Kind} {r : ℕ} (host query key : Str) → k ≡ opened flag
     → Replies st bs txt st′ bs′ txt′ (some (call-of k host query key)) r → Replies st bs txt st′ bs′ txt′ (some (opens flag host query)) r
 reply-opened {st} {bs} {txt} {flag = flag} host query key e a =
-    record { says = λ b h. rw (← opened-is flag b (lent (words-in bs) txt) (state (words-in bs) txt (header-in st)) host query key, ← e) (a .says b h) }
+    record { says = λ b h. rw (← opened-is flag b (lent (words-in bs) txt) (state (words-in bs) txt (table-at st)) host query key, ← e) (a .says b h) }
 
 chosen-some : (f : Bool → Call) (n : ℕ) → n < 2 → chosen f n ≡ some (f (eqb n 1))
 unfolding chosen
@@ -95,40 +98,40 @@ module _ {st bs txt m ws txt′ : List ℕ} {t : Table} {c : Call} {r : Registra
   store-fits taken e = let f = accepted-fits taken in (omega (arith, words-in-fit bs), omega (arith, ap length (h .lent)))
 
   answers : (b : Bool) → Says b (SoundBytes st bs txt)
-      → AnswersAs (register b (lent (words-in bs) txt) (state (words-in bs) txt (header-in st)) c) (words-in bs) txt ws txt′ (header-in st) r
+      → AnswersAs (register b (lent (words-in bs) txt) (state (words-in bs) txt (table-at st)) c) (words-in bs) txt ws txt′ (table-at st) r
   answers b i = rw (← h .lent, h .spelt .header) (total b (says-memory txt h b i) .says)
 
   -- It is accepted, and the new words and the new header are stored.
   module _ {st′ bs′ : List ℕ} (taken : refusal-of (r .answer) ≡ none) (stored : Stored ws (t .header .records * 12) (r .table .header .records * 12) bs bs′)
-      (new : Spells st′ (r .table)) where
-    kept : Stored ws (header-in st .header .records * 12) (r .table .header .records * 12) bs bs′
+      (new : Spells st′ (r .table .header)) where
+    kept : Stored ws (header-in st .records * 12) (r .table .header .records * 12) bs bs′
     kept = rw (h .spelt .header) stored
 
-    words-back : Outside (header-in st .header .records * 12) (r .table .header .records * 12) (words-in bs) ws → words-in bs′ ≡ ws
+    words-back : Outside (header-in st .records * 12) (r .table .header .records * 12) (words-in bs) ws → words-in bs′ ≡ ws
     unfolding words-in
     words-back o =
         rw (kept .rest .size)
         (read-back (records-lent (length bs) * 12) o (take-all (records-lent (length bs) * 12) ws (omega (arith, o .size, words-in-length bs))) kept)
 
-    accepted-as : (x : C.Registered) → AnswersAs x (words-in bs) txt ws txt′ (header-in st) r → RepliesAs x st bs txt st′ bs′ txt′ 0
+    accepted-as : (x : C.Registered) → AnswersAs x (words-in bs) txt ws txt′ (table-at st) r → RepliesAs x st bs txt st′ bs′ txt′ 0
     accepted-as (C.accepted s) a = (
       refl,
       record {
         size = new .size;
         table = rw (new .header, words-back (a .1 .words)) (a .1);
-        bytes = rw (new .header) (rw (by-bytes (header-in st .header .records), by-bytes (r .table .header .records)) at (kept .rest));
+        bytes = rw (new .header) (rw (by-bytes (header-in st .records), by-bytes (r .table .header .records)) at (kept .rest));
       },
     )
     accepted-as (C.refused n) a = absurd (Option·none-ne-some n (sym taken ∙ a .0))
 
     pub reply-accepted : Replies st bs txt st′ bs′ txt′ (some c) 0
-    reply-accepted = record { says = λ b i. accepted-as (register b (lent (words-in bs) txt) (state (words-in bs) txt (header-in st)) c) (answers b i) }
+    reply-accepted = record { says = λ b i. accepted-as (register b (lent (words-in bs) txt) (state (words-in bs) txt (table-at st)) c) (answers b i) }
 
   -- It is refused.
   module _ {x k : ℕ} (no : refusal-of (r .answer) ≡ some x) (told : k ≡ x) where
-    refused-as : (y : C.Registered) → AnswersAs y (words-in bs) txt ws txt′ (header-in st) r → RepliesAs y st bs txt st bs txt′ k
+    refused-as : (y : C.Registered) → AnswersAs y (words-in bs) txt ws txt′ (table-at st) r → RepliesAs y st bs txt st bs txt′ k
     refused-as (C.accepted s) a = absurd (Option·none-ne-some x (sym (a .0) ∙ no))
     refused-as (C.refused n) a = (let e = a .0 in cc, record { state = refl; words = refl; text = a .1 .text })
 
     pub reply-refused : Replies st bs txt st bs txt′ (some c) k
-    reply-refused = record { says = λ b i. refused-as (register b (lent (words-in bs) txt) (state (words-in bs) txt (header-in st)) c) (answers b i) }
+    reply-refused = record { says = λ b i. refused-as (register b (lent (words-in bs) txt) (state (words-in bs) txt (table-at st)) c) (answers b i) }

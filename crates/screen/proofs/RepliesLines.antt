@@ -26,16 +26,17 @@ use Rattle.listing.specs.Completes.{output}
 use Rattle.table.specs.Header.{IsSound, table-in}
 use Rattle.refusals.specs.Refusals.{number}
 use Rattle.table.specs.Completions.{completion, refused-by, CompletesAs, Completes}
-use Rattle.table.specs.Registrations.{Outside}
+use Rattle.memory.specs.Grown.{Outside}
 use Rattle.table.specs.declared.Table.{Table}
 use Rattle.refusals.specs.declared.Refusal.{Refusal}
 use Rattle.table.specs.declared.Completed.{Completed}
 use Rattle.table.specs.declared.Completed.the-variants.{Listed, Refused}
-use Rattle.screen.specs.Bytes.{words-at, Stored}
+use Rattle.wire.specs.Bytes.{words-at, Stored}
+use Rattle.wire.specs.Memory.{state-bytes}
 use Rattle.screen.specs.Replies.{RepliesAs, unchosen, Replies}
 use Rattle.screen.specs.Completions.{lines-lent, lines-in, Room, output-in, modules-for, no-lines, ListsAs, unasked, Refuses, RepliesLines, ListsIn}
 use Rattle.screen.specs.declared.CompleteReply.{CompleteReply}
-use Rattle.screen.proofs.Bytes.{words-length, read-back}
+use Rattle.wire.proofs.Bytes.{words-length, read-back}
 use Rattle.screen.proofs.Held.{Held, says-memory, says-short}
 
 -- ---- Lines stored
@@ -189,7 +190,7 @@ unasked-as false st bs txt ls out a p = record { reply = p ∙ ap no-lines (a .0
 
 module _ {st bs txt : List ℕ} {query : Str} {budget : ℕ} {ls out : List ℕ} where
   -- A state of another length.
-  pub lines-short : {ask : Ask} {r : CompleteReply} → (length st ≡ 16 → ⊥) → r ≡ no-lines 1 → RepliesLines st bs txt (some ask) query budget ls ls out out r
+  pub lines-short : {ask : Ask} {r : CompleteReply} → (length st ≡ state-bytes → ⊥) → r ≡ no-lines 1 → RepliesLines st bs txt (some ask) query budget ls ls out out r
   lines-short {ask} e p = record {
     says = λ b h. rw (says-short st bs txt b e h, completion-unsound _ ask _ _ _) (record { reply = p; lines = refl; text = refl });
   }

@@ -16,6 +16,7 @@ use Rattle.table.specs.declared.Found.{Found}
 use Rattle.table.specs.declared.FoundModule.{FoundModule}
 use Rattle.table.specs.declared.FoundModule.the-variants.{Refused}
 use Rattle.refusals.specs.declared.Refusal.the-variants.{Unsound}
+use Rattle.wire.specs.Memory.{state-bytes}
 use Rattle.screen.specs.Replies.{name-reply, RepliesName, no-module, module-reply, RepliesModule}
 use Rattle.screen.specs.declared.NameReply.{NameReply}
 use Rattle.screen.specs.declared.ModuleReply.{ModuleReply}
@@ -26,7 +27,7 @@ unfolding look-up lowest argument-rows
 look-up-unsound root q = refl
 
 -- A state of another length.
-module _ {st bs txt : List ℕ} {q : Str} (e : length st ≡ 16 → ⊥) where
+module _ {st bs txt : List ℕ} {q : Str} (e : length st ≡ state-bytes → ⊥) where
   pub name-short : {r : NameReply} → r ≡ name-reply (C.refused 1) → RepliesName st bs txt q r
   name-short p = record { says = λ b h. rw (says-short st bs txt b e h, look-up-unsound) p }
 

@@ -6,17 +6,18 @@ use lib.ListN.{replicate}
 use Rattle.source.specs.Calls.{State, fresh}
 use Rattle.memory.proofs.Stays.{fresh-sound, fresh-state}
 use Rattle.table.specs.Header.{state}
-use Rattle.screen.specs.Bytes.{word-at}
-use Rattle.screen.specs.Memory.{header-in, words-in, SoundBytes}
+use Rattle.wire.specs.Bytes.{word-at}
+use Rattle.wire.specs.Memory.{state-bytes, header-in, words-in}
+use Rattle.screen.specs.Memory.{table-at, SoundBytes}
 use Rattle.screen.specs.Replies.{AcceptsBytes}
 
 -- Sixteen zero bytes are the fresh table, whatever words and text are lent.
 module _ (bs txt : List ℕ) where
-  pub zero-sound : SoundBytes (replicate 16 0) bs txt
+  pub zero-sound : SoundBytes (replicate state-bytes 0) bs txt
   unfolding header-in word-at
   zero-sound = record { size = refl; sound = fresh-sound (words-in bs) txt }
 
-  pub zero-fresh : state (words-in bs) txt (header-in (replicate 16 0)) ≡ fresh
+  pub zero-fresh : state (words-in bs) txt (table-at (replicate state-bytes 0)) ≡ fresh
   unfolding header-in word-at
   zero-fresh = fresh-state (words-in bs) txt
 

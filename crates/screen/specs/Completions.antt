@@ -19,10 +19,11 @@ use Rattle.lines.specs.declared.Ask.the-variants.{Modules}
 use Rattle.lines.specs.declared.Filter.the-variants.{All, Loaded, ModulesOnly, NamespacesOnly}
 use Rattle.table.specs.Header.{IsSound, table-in}
 use Rattle.table.specs.Completions.{completion}
-use Rattle.table.specs.Registrations.{Outside}
+use Rattle.memory.specs.Grown.{Outside}
 use Rattle.table.specs.declared.Table.{Table}
-use Rattle.screen.specs.Bytes.{words-at}
-use Rattle.screen.specs.Memory.{header-in, words-in, SoundBytes}
+use Rattle.wire.specs.Bytes.{words-at}
+use Rattle.wire.specs.Memory.{words-in}
+use Rattle.screen.specs.Memory.{table-at, SoundBytes}
 use Rattle.screen.specs.declared.CompleteReply.{CompleteReply}
 
 -- Line records lent: whole ones, of 48 bytes each; those past 512 count as not lent.
@@ -83,7 +84,7 @@ module _ (ws txt : List ℕ) (query : Str) (budget : ℕ) (ls ls′ out out′ :
 
 -- The reply r to a completion; b says whether the bytes are a sound table.
 pub record RepliesLines (st bs txt : List ℕ) (ask : Option Ask) (query : Str) (budget : ℕ) (ls ls′ out out′ : List ℕ) (r : CompleteReply) : Type 0 where
-  pub says : (b : Bool) → Says b (SoundBytes st bs txt) → ListsFor (words-in bs) txt query budget ls ls′ out out′ r b (table-in (words-in bs) txt (header-in st)) ask
+  pub says : (b : Bool) → Says b (SoundBytes st bs txt) → ListsFor (words-in bs) txt query budget ls ls′ out out′ r b (table-in (words-in bs) txt (table-at st)) ask
 
 -- The same, where the words m and the table t have been read.
 pub record ListsIn (m txt : List ℕ) (t : Table) (ask : Ask) (query : Str) (budget : ℕ) (ls ls′ out out′ : List ℕ) (r : CompleteReply) : Type 0 where

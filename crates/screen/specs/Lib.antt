@@ -1,4 +1,3 @@
-pub mod Bytes
 pub mod Memory
 pub mod Replies
 pub mod Completions

@@ -15,10 +15,12 @@ use Rattle.memory.specs.declared.ModSymbol.the-variants.{Module, Namespace}
 use Rattle.table.specs.Header.{state, lent, names-in, modules-in}
 use Rattle.table.specs.Answers.{module-found, FoundInside}
 use Rattle.refusals.specs.Refusals.{number}
-use Rattle.table.specs.Registrations.{Outside, Accepts}
+use Rattle.memory.specs.Grown.{Outside}
+use Rattle.table.specs.Registrations.{Accepts}
 use Rattle.table.specs.declared.FoundModule.{FoundModule}
 use Rattle.table.specs.declared.FoundModule.the-variants.{Symbol, Nothing, Refused}
-use Rattle.screen.specs.Memory.{header-in, words-in, SoundBytes}
+use Rattle.wire.specs.Memory.{state-bytes, record-bytes, header-in, words-in}
+use Rattle.screen.specs.Memory.{table-at, SoundBytes}
 use Rattle.screen.specs.declared.NameReply.{NameReply}
 use Rattle.screen.specs.declared.ModuleReply.{ModuleReply}
 
@@ -42,9 +44,9 @@ answer-to sound l s none = unchosen sound
 
 -- The bytes at exit stand for the state s, and only the free records and text that were taken have changed.
 pub record AcceptsBytes (st bs txt st′ bs′ txt′ : List ℕ) (s : State) : Type 0 where
-  pub size : length st′ ≡ 16
-  pub table : Accepts (words-in bs) txt (words-in bs′) txt′ (header-in st) (header-in st′) s
-  pub bytes : Outside (header-in st .header .records * 48) (header-in st′ .header .records * 48) bs bs′
+  pub size : length st′ ≡ state-bytes
+  pub table : Accepts (words-in bs) txt (words-in bs′) txt′ (table-at st) (table-at st′) s
+  pub bytes : Outside (header-in st .records * record-bytes) (header-in st′ .records * record-bytes) bs bs′
 
 -- No byte has changed.
 pub record SameBytes (st bs txt st′ bs′ txt′ : List ℕ) : Type 0 where
@@ -60,7 +62,7 @@ RepliesAs (C.refused n) st bs txt st′ bs′ txt′ r = (r ≡ n) × SameBytes 
 -- The reply r to a registration; b says whether the bytes are a sound table.
 pub record Replies (st bs txt st′ bs′ txt′ : List ℕ) (c : Option Call) (r : ℕ) : Type 0 where
   pub says : (b : Bool) → Says b (SoundBytes st bs txt)
-      → RepliesAs (answer-to b (lent (words-in bs) txt) (state (words-in bs) txt (header-in st)) c) st bs txt st′ bs′ txt′ r
+      → RepliesAs (answer-to b (lent (words-in bs) txt) (state (words-in bs) txt (table-at st)) c) st bs txt st′ bs′ txt′ r
 
 -- ---- Look-ups
 
@@ -76,7 +78,7 @@ name-reply (C.refused n) = record { answer = n; item = 0 }
 
 -- The reply r to a look-up of a name; b says whether the bytes are a sound table.
 pub record RepliesName (st bs txt : List ℕ) (query : Str) (r : NameReply) : Type 0 where
-  pub says : (b : Bool) → Says b (SoundBytes st bs txt) → r ≡ name-reply (look-up b (names-in (words-in bs) txt (header-in st)) query)
+  pub says : (b : Bool) → Says b (SoundBytes st bs txt) → r ≡ name-reply (look-up b (names-in (words-in bs) txt (table-at st)) query)
 
 -- A yes or no as a number.
 abbrev pub flag : Bool → ℕ
@@ -109,4 +111,4 @@ pub record SaysModule (txt : List ℕ) (a : C.Found S.ModSymbol) (r : ModuleRepl
 
 -- The reply r to a look-up of a module or namespace; b says whether the bytes are a sound table.
 pub record RepliesModule (st bs txt : List ℕ) (query : Str) (r : ModuleReply) : Type 0 where
-  pub says : (b : Bool) → Says b (SoundBytes st bs txt) → SaysModule txt (look-up b (modules-in (words-in bs) txt (header-in st)) query) r
+  pub says : (b : Bool) → Says b (SoundBytes st bs txt) → SaysModule txt (look-up b (modules-in (words-in bs) txt (table-at st)) query) r

@@ -1,11 +1,10 @@
 // The exported layer for screen code in C: numbers and bytes in, numbers and bytes out.
-// A slice passes as a pointer and a length. The state is sixteen bytes and the words are four bytes each, lowest first;
+// A slice passes as a pointer and a length. State and words are bytes as crate wire reads them;
 // the layer copies the words in, calls crate table, and copies out what an accepted call has taken.
 // Every exported call answers for whatever bytes are lent.
 use kinds::Kind;
 use lines::Ask;
 use lines::Filter;
-use memory::Header;
 use memory::ModSymbol;
 use table::Completed;
 use table::Found;
@@ -14,21 +13,19 @@ use table::Registered;
 use table::Table;
 ghost use mathlib.Core.Path.{_≡_};
 ghost use mathlib.Core.Option.{none, some};
-ghost use Prim.Native.Nat.{_+_, _*_, _≤_, _<_};
+ghost use Prim.Native.Nat.{_*_, _<_};
 ghost use lib.ListN.{length};
 ghost use Rattle.source.specs.Calls.{name, include, opens, alias, module-path, refused};
 ghost use Rattle.table.specs.Answers.{name-found};
 ghost use Rattle.kinds.specs.Shapes.{call-of};
-ghost use Rattle.screen.specs.Bytes.{word-at, Put, Stored};
-ghost use Rattle.screen.specs.Memory.{header-in, Spells, records-lent, words-in, Loaded};
+ghost use Rattle.wire.specs.Memory.{state-bytes, words-in};
+ghost use Rattle.screen.specs.Memory.{table-at};
 ghost use Rattle.lines.specs.declared.Ask.the-variants.{Names};
 ghost use Rattle.screen.specs.Completions.{lines-lent, Room, modules-for, no-lines, RepliesLines, ListsIn};
 ghost use Rattle.screen.specs.Replies.{chosen, Replies, name-reply, RepliesName, flag, no-module, symbol-reply, module-reply, RepliesModule};
 
-// Bytes of a state: four words. Bytes of a record, and of a line: twelve words.
-const STATE_BYTES: usize = 16;
-
-const RECORD_BYTES: usize = 48;
+// Bytes of a line: twelve words.
+const LINE_BYTES: usize = 48;
 
 // The answer of a look-up that finds nothing: no refusal has this number.
 pub const NONE: u32 = 4294967295;
@@ -61,112 +58,15 @@ pub struct CompleteReply {
     pub entered: u32,
 }
 
-// ---- Words and bytes
-
-// A byte as a word.
-fn wide(x: u8) -> u32
-    ensures { λ r. ⌜ (r ≡ x) × (r < 256) ⌝ }
-{
-    x as u32
-}
-
-// A word as a byte.
-fn low(x: u32) -> u8
-    requires { ⌜ x < 256 ⌝ }
-    ensures { λ r. ⌜ r ≡ x ⌝ }
-{
-    x as u8
-}
-
-// Word `k` of the bytes.
-fn word_at(bytes: &[u8], k: usize) -> u32
-    requires { ⌜ k * 4 + 4 ≤ length (now bytes) ⌝ }
-    ensures { λ r. ⌜ r ≡ word-at (now (bytes .entry)) k ⌝ }
-{
-    let at = k * 4;
-    let a = wide(bytes[at]);
-    let b = wide(bytes[at + 1]);
-    let c = wide(bytes[at + 2]);
-    let d = wide(bytes[at + 3]);
-    a + 256 * b + 65536 * c + 16777216 * d
-}
-
-// Writes word `k`.
-fn put_word(bytes: &mut [u8], k: usize, word: u32)
-    requires { ⌜ k * 4 + 4 ≤ length (now bytes) ⌝ }
-    ensures { λ _. ⌜ Put k word (now (bytes .entry)) (now (bytes .exit)) ⌝ }
-{
-    let at = k * 4;
-    bytes[at] = low(word % 256);
-    bytes[at + 1] = low(word / 256 % 256);
-    bytes[at + 2] = low(word / 65536 % 256);
-    bytes[at + 3] = low(word / 16777216);
-}
-
-// How many words count as lent, of so many bytes.
-fn words_lent(size: usize) -> usize
-    ensures { λ r. ⌜ r ≡ records-lent size * 12 ⌝ }
-{
-    let n = size / RECORD_BYTES;
-    if n < 1024 {
-        return n * memory::ROW;
-    }
-    12288
-}
-
-// Copies the lent words in, and says how many they are.
-fn load(bytes: &[u8], words: &mut [u32]) -> usize
-    requires { ⌜ 12288 ≤ length (now words) ⌝ }
-    ensures { λ r. ⌜ Loaded (now (bytes .entry)) (now (words .exit)) r ⌝ }
-{
-    let n = words_lent(bytes.len());
-    let mut i = 0;
-    while i < n {
-        words[i] = word_at(bytes, i);
-        i += 1;
-    }
-    n
-}
-
-// Copies the words from `from` up to `to` out.
-fn store(bytes: &mut [u8], words: &[u32], from: usize, to: usize)
-    requires { ⌜ (to * 4 ≤ length (now bytes)) × (to ≤ length (now words)) ⌝ }
-    ensures { λ _. ⌜ Stored (now (words .entry)) from to (now (bytes .entry)) (now (bytes .exit)) ⌝ }
-{
-    let mut i = from;
-    while i < to {
-        put_word(bytes, i, words[i]);
-        i += 1;
-    }
-}
-
 // The table that a state spells.
-fn header_of(state: &[u8]) -> Table
-    requires { ⌜ length (now state) ≡ 16 ⌝ }
-    ensures { λ r. ⌜ r ≡ header-in (now (state .entry)) ⌝ }
+fn table_of(state: &[u8]) -> Table
+    requires { ⌜ length (now state) ≡ state-bytes ⌝ }
+    ensures { λ r. ⌜ r ≡ table-at (now (state .entry)) ⌝ }
 {
     Table {
-        header: Header {
-            names: word_at(state, 0),
-            modules: word_at(state, 1),
-            records: word_at(state, 2),
-            text: word_at(state, 3),
-        },
+        header: wire::header_of(state),
     }
 }
-
-// Writes the state of a table.
-fn put_header(state: &mut [u8], t: Table)
-    requires { ⌜ length (now state) ≡ 16 ⌝ }
-    ensures { λ _. ⌜ Spells (now (state .exit)) t ⌝ }
-{
-    put_word(state, 0, t.header.names);
-    put_word(state, 1, t.header.modules);
-    put_word(state, 2, t.header.records);
-    put_word(state, 3, t.header.text);
-}
-
-// ---- Replies
 
 // ---- Registrations
 
@@ -181,11 +81,11 @@ fn enter(
     other: &[u8],
     key: &[u8],
 ) -> u32
-    requires { ⌜ length (now state) ≡ 16 ⌝ }
+    requires { ⌜ length (now state) ≡ state-bytes ⌝ }
     requires { ⌜ now memory ≡ words-in (now words) ⌝ }
     ensures { λ r. ⌜ Replies (now (state .entry)) (now (words .entry)) (now (text .entry)) (now (state .exit)) (now (words .exit)) (now (text .exit)) (some (call-of kind (now (host .entry)) (now (other .entry)) (now (key .entry)))) r ⌝ }
 {
-    let t = header_of(state);
+    let t = table_of(state);
     let r = t.register(memory, text, kind, host, other, key);
     let h = r.table;
     let a = r.answer;
@@ -193,8 +93,8 @@ fn enter(
         Registered::Accepted => {
             let from = t.header.records as usize * memory::ROW;
             let to = h.header.records as usize * memory::ROW;
-            store(words, memory, from, to);
-            put_header(state, h);
+            wire::store(words, memory, from, to);
+            wire::put_header(state, h.header);
             0
         }
         Registered::Refused(x) => refusals::number(x),
@@ -213,11 +113,11 @@ fn register(
 ) -> u32
     ensures { λ r. ⌜ Replies (now (state .entry)) (now (words .entry)) (now (text .entry)) (now (state .exit)) (now (words .exit)) (now (text .exit)) (some (call-of kind (now (host .entry)) (now (other .entry)) (now (key .entry)))) r ⌝ }
 {
-    if state.len() != STATE_BYTES {
+    if state.len() != wire::STATE_BYTES {
         return 1;
     }
-    let mut memory = [0u32; 12288];
-    let n = load(words, &mut memory);
+    let mut memory = [0u32; wire::WORDS];
+    let n = wire::load(words, &mut memory);
     enter(state, words, text, &mut memory[..n], kind, host, other, key)
 }
 
@@ -225,12 +125,12 @@ fn register(
 fn malformed(state: &[u8], words: &[u8], text: &[u8]) -> u32
     ensures { λ r. ⌜ Replies (now (state .entry)) (now (words .entry)) (now (text .entry)) (now (state .entry)) (now (words .entry)) (now (text .entry)) none r ⌝ }
 {
-    if state.len() != STATE_BYTES {
+    if state.len() != wire::STATE_BYTES {
         return 1;
     }
-    let mut memory = [0u32; 12288];
-    let n = load(words, &mut memory);
-    let t = header_of(state);
+    let mut memory = [0u32; wire::WORDS];
+    let n = wire::load(words, &mut memory);
+    let t = table_of(state);
     if t.is_sound(&memory[..n], text) {
         return 2;
     }
@@ -428,12 +328,12 @@ pub extern "C" fn name_console_find(
 ) -> NameReply
     ensures { λ r. ⌜ RepliesName (now (state .entry)) (now (words .entry)) (now (text .entry)) (now (query .entry)) r ⌝ }
 {
-    if state.len() != STATE_BYTES {
+    if state.len() != wire::STATE_BYTES {
         return no_name(1);
     }
-    let mut memory = [0u32; 12288];
-    let n = load(words, &mut memory);
-    let t = header_of(state);
+    let mut memory = [0u32; wire::WORDS];
+    let n = wire::load(words, &mut memory);
+    let t = table_of(state);
     name_reply(t.find(&memory[..n], text, query))
 }
 
@@ -447,12 +347,12 @@ pub extern "C" fn name_console_find_module(
 ) -> ModuleReply
     ensures { λ r. ⌜ RepliesModule (now (state .entry)) (now (words .entry)) (now (text .entry)) (now (query .entry)) r ⌝ }
 {
-    if state.len() != STATE_BYTES {
+    if state.len() != wire::STATE_BYTES {
         return no_module(1);
     }
-    let mut memory = [0u32; 12288];
-    let n = load(words, &mut memory);
-    let t = header_of(state);
+    let mut memory = [0u32; wire::WORDS];
+    let n = wire::load(words, &mut memory);
+    let t = table_of(state);
     module_reply(t.find_module(&memory[..n], text, query))
 }
 
@@ -462,7 +362,7 @@ pub extern "C" fn name_console_find_module(
 fn line_words(size: usize) -> usize
     ensures { λ r. ⌜ r ≡ lines-lent size * 12 ⌝ }
 {
-    let n = size / RECORD_BYTES;
+    let n = size / LINE_BYTES;
     if n < 512 {
         return n * memory::ROW;
     }
@@ -516,7 +416,7 @@ fn list(
     match c {
         Completed::Listed(count, entered) => {
             let to = count as usize * lines::LINE;
-            store(lines, flat, 0, to);
+            wire::store(lines, flat, 0, to);
             CompleteReply {
                 answer: 0,
                 lines: count,
@@ -540,12 +440,12 @@ fn complete(
 ) -> CompleteReply
     ensures { λ r. ⌜ RepliesLines (now (state .entry)) (now (words .entry)) (now (text .entry)) (some ask) (now (query .entry)) budget (now (lines .entry)) (now (lines .exit)) (now (out .entry)) (now (out .exit)) r ⌝ }
 {
-    if state.len() != STATE_BYTES {
+    if state.len() != wire::STATE_BYTES {
         return no_lines(1);
     }
-    let mut memory = [0u32; 12288];
-    let n = load(words, &mut memory);
-    let t = header_of(state);
+    let mut memory = [0u32; wire::WORDS];
+    let n = wire::load(words, &mut memory);
+    let t = table_of(state);
     let mut flat = [0u32; 6144];
     let m = line_words(lines.len());
     list(

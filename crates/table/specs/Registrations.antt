@@ -20,10 +20,6 @@ abbrev pub refusal-of : Registered → Option ℕ
 refusal-of Accepted = none
 refusal-of (Refused r) = some (number r)
 
--- A list is as it was, except from a place up to another.
-abbrev pub Outside : (from to : ℕ) (l l′ : List ℕ) → Type 0
-Outside from to l l′ = R.Outside from to l l′
-
 -- The table t has become t′, which reads as the state s, and only the free part that was taken has changed.
 abbrev pub Accepts : (ws txt ws′ txt′ : List ℕ) (t t′ : Table) (s : State) → Type 0
 Accepts ws txt ws′ txt′ t t′ s = R.Accepts ws txt ws′ txt′ (t .header) (t′ .header) s

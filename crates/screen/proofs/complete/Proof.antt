@@ -1,6 +1,7 @@
 -- complete meets its contract.
 use borrow.Author.Needs.{needs}
-use Rattle.screen.proofs.Held.{loaded-fits, loaded-count, held}
+use Rattle.wire.proofs.Memory.{loaded-fits, loaded-count}
+use Rattle.screen.proofs.Held.{held}
 use Rattle.screen.proofs.RepliesLines.{few-words, taken-words, taken-room, lines-short, lines-replied}
 use Rattle.screen.proofs.complete.Statement.{statement}
 use Rattle.screen.proofs.complete.Tie as tie
@@ -17,7 +18,7 @@ complete-spec =
     (λ c. search needs)
     {- load-requires -}
     (λ c κs. search needs)
-    {- header-of-requires -}
+    {- table-of-requires -}
     (λ c κs. search needs)
     {- line-words-requires -}
     (λ c κs. search needs)
@@ -36,4 +37,4 @@ complete-spec =
     {- same-length-2 -}
     (λ c. search needs)
     {- returns-2 -}
-    (λ c. lines-replied (held (c .before .before .before .before .before .before .before .before .before .before .before .before .before .before .before .if1 .left) (c .before .before .before .before .before .before .before .before .before .before .before .header-of .ensures) (c .before .before .before .before .before .before .before .before .before .before .before .before .before .load .ensures .words)) (c .before .before .before .before .before .list .ensures)))
+    (λ c. lines-replied (held (c .before .before .before .before .before .before .before .before .before .before .before .before .before .before .before .if1 .left) (c .before .before .before .before .before .before .before .before .before .before .before .table-of .ensures) (c .before .before .before .before .before .before .before .before .before .before .before .before .before .load .ensures .words)) (c .before .before .before .before .before .list .ensures)))

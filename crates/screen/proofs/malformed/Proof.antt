@@ -1,6 +1,7 @@
 -- malformed meets its contract.
 use borrow.Author.Needs.{needs}
-use Rattle.screen.proofs.Held.{loaded-fits, loaded-count, held}
+use Rattle.wire.proofs.Memory.{loaded-fits, loaded-count}
+use Rattle.screen.proofs.Held.{held}
 use Rattle.screen.proofs.Replies.{reply-short, reply-none}
 use Rattle.screen.proofs.malformed.Statement.{statement}
 use Rattle.screen.proofs.malformed.Tie as tie
@@ -15,7 +16,7 @@ malformed-spec =
     (λ c. search needs)
     {- load-requires -}
     (λ c κs. search needs)
-    {- header-of-requires -}
+    {- table-of-requires -}
     (λ c κs. search needs)
     {- array-share-prefix-memory -}
     (λ c. loaded-fits (c .before .before .load .ensures))
@@ -24,6 +25,6 @@ malformed-spec =
     {- is-sound-requires -}
     (λ c κs. search needs)
     {- returns-2 -}
-    (λ c. reply-none (c .before .is-sound .result) (held (c .before .before .before .before .before .before .before .if1 .left) (c .before .before .before .header-of .ensures) (c .before .before .before .before .before .load .ensures .words)) (c .before .is-sound .ensures) (rw (c .if2 .taken)))
+    (λ c. reply-none (c .before .is-sound .result) (held (c .before .before .before .before .before .before .before .if1 .left) (c .before .before .before .table-of .ensures) (c .before .before .before .before .before .load .ensures .words)) (c .before .is-sound .ensures) (rw (c .if2 .taken)))
     {- returns-3 -}
-    (λ c. reply-none (c .before .is-sound .result) (held (c .before .before .before .before .before .before .before .if1 .left) (c .before .before .before .header-of .ensures) (c .before .before .before .before .before .load .ensures .words)) (c .before .is-sound .ensures) (rw (c .if2 .left))))
+    (λ c. reply-none (c .before .is-sound .result) (held (c .before .before .before .before .before .before .before .if1 .left) (c .before .before .before .table-of .ensures) (c .before .before .before .before .before .load .ensures .words)) (c .before .is-sound .ensures) (rw (c .if2 .left))))

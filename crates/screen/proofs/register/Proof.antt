@@ -1,6 +1,6 @@
 -- register meets its contract.
 use borrow.Author.Needs.{needs}
-use Rattle.screen.proofs.Held.{loaded-fits, loaded-count}
+use Rattle.wire.proofs.Memory.{loaded-fits, loaded-count}
 use Rattle.screen.proofs.Replies.{reply-short}
 use Rattle.screen.proofs.register.Statement.{statement}
 use Rattle.screen.proofs.register.Tie as tie

@@ -1,9 +1,9 @@
 -- words_lent meets its contract.
 use native.Mathlib.Omega.{arith}
 use borrow.Author.Needs.{needs}
-use Rattle.screen.specs.Memory.{records-lent}
-use Rattle.screen.proofs.words_lent.Statement.{statement}
-use Rattle.screen.proofs.words_lent.Tie as tie
+use Rattle.wire.specs.Memory.{records-lent}
+use Rattle.wire.proofs.words_lent.Statement.{statement}
+use Rattle.wire.proofs.words_lent.Tie as tie
 
 pub words-lent-spec : {M : Type 1} → statement M
 unfolding records-lent

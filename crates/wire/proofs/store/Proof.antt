@@ -1,9 +1,9 @@
 -- store meets its contract. The loop's invariant: the words before i are stored.
 use Prim.Native.Nat.{_-_}
 use native.Mathlib.Omega.{arith}
-use Rattle.screen.proofs.Bytes.{Storing, storing-none, storing-more, storing-done}
-use Rattle.screen.proofs.store.Statement.{statement}
-use Rattle.screen.proofs.store.Tie as tie
+use Rattle.wire.proofs.Bytes.{Storing, storing-none, storing-more, storing-done}
+use Rattle.wire.proofs.store.Statement.{statement}
+use Rattle.wire.proofs.store.Tie as tie
 
 abbrev Inv-loop : tie.InvT-loop
 Inv-loop bytes₀ words from to i₀ bytes i = Storing words from to bytes₀ bytes i

@@ -2,9 +2,9 @@
 use native.Mathlib.Omega.{arith}
 use lib.ListN.{length-set}
 use borrow.Author.Needs.{needs}
-use Rattle.screen.proofs.Bytes.{word-put}
-use Rattle.screen.proofs.put_word.Statement.{statement}
-use Rattle.screen.proofs.put_word.Tie as tie
+use Rattle.wire.proofs.Bytes.{word-put}
+use Rattle.wire.proofs.put_word.Statement.{statement}
+use Rattle.wire.proofs.put_word.Tie as tie
 
 pub put-word-spec : {M : Type 1} → statement M
 put-word-spec =

@@ -1,8 +1,8 @@
 -- put_header meets its contract.
 use borrow.Author.Needs.{needs}
-use Rattle.screen.proofs.Bytes.{header-put}
-use Rattle.screen.proofs.put_header.Statement.{statement}
-use Rattle.screen.proofs.put_header.Tie as tie
+use Rattle.wire.proofs.Memory.{header-put}
+use Rattle.wire.proofs.put_header.Statement.{statement}
+use Rattle.wire.proofs.put_header.Tie as tie
 
 pub put-header-spec : {M : Type 1} → statement M
 put-header-spec =

@@ -11,10 +11,9 @@ use lib.ListN.{length, getD, set, take, length-set, length-append, List·getD-ap
 use lib.Dec.{ltb}
 use borrow.Author.Tests.{ltb-true, ltb-false}
 use lib.Seq.{ext-getD, getD-set-same, getD-set-other, getD-take, getD-at, take-suc-set}
-use Rattle.table.specs.Registrations.{Outside}
-use Rattle.screen.specs.Bytes.{word-at, words-at, Put, Stored}
-use Rattle.screen.specs.Memory.{header-in, Spells}
-use Rattle.screen.proofs.Outside.{outside-none, outside-set, outside-then, outside-wider, getD-before, getD-after}
+use Rattle.memory.specs.Grown.{Outside}
+use Rattle.wire.specs.Bytes.{word-at, words-at, Put, Stored}
+use Rattle.memory.proofs.Outside.{outside-none, outside-set, outside-then, outside-wider, getD-before, getD-after}
 
 -- ---- One word
 
@@ -133,7 +132,7 @@ pub record Storing (ws : List ℕ) (from to : ℕ) (bs bs′ : List ℕ) (i : �
   pub rest : Outside (from * 4) (to * 4) bs bs′
 
 pub storing-none : (ws : List ℕ) (from to : ℕ) (bs : List ℕ) → Storing ws from to bs bs from
-storing-none ws from to bs = record { above = omega arith; words = λ k h g. absurd (omega arith); rest = outside-none _ _ bs }
+storing-none ws from to bs = record { above = omega arith; words = λ k h g. absurd (omega arith); rest = outside-none bs }
 
 pub storing-more : {ws bs bs′ bs″ : List ℕ} {from to i : ℕ} → i < to → Put i (getD ws i 0) bs′ bs″ → Storing ws from to bs bs′ i → Storing ws from to bs bs″ (i + 1)
 storing-more {ws} {bs} {bs′} {bs″} {from} {to} {i} h p s = record {
@@ -170,21 +169,3 @@ module _ {bs bs′ ws new : List ℕ} (n : ℕ) {from to : ℕ} (changed : Outsi
   read-back =
       ext-getD 0 (words-at bs′ n) new (words-length bs′ n ∙ sym (changed .size ∙ words-length bs n))
       (λ k h. let g : k < n = omega (arith, words-length bs′ n) in words-getD bs′ n k g ∙ each k g _ _ refl refl)
-
--- ---- The state
-
--- A header put word by word.
-pub header-put : {s s₁ s₂ s₃ s₄ : List ℕ} {a b c d : ℕ} → length s ≡ 16 → Put 0 a s s₁ → Put 1 b s₁ s₂ → Put 2 c s₂ s₃ → Put 3 d s₃ s₄
-    → Spells s₄ (record { header = record { names = a; modules = b; records = c; text = d } })
-unfolding header-in
-header-put h p q r t = record {
-  size = t .rest .size ∙ r .rest .size ∙ q .rest .size ∙ p .rest .size ∙ h;
-  header = λ i. record {
-    header = record {
-      names = (word-before (t .rest) 0 (omega arith) ∙ word-before (r .rest) 0 (omega arith) ∙ word-before (q .rest) 0 (omega arith) ∙ p .word) i;
-      modules = (word-before (t .rest) 1 (omega arith) ∙ word-before (r .rest) 1 (omega arith) ∙ q .word) i;
-      records = (word-before (t .rest) 2 (omega arith) ∙ r .word) i;
-      text = t .word i;
-    };
-  };
-}

@@ -5,10 +5,10 @@ use mathlib.Core.List.{List}
 use native.Mathlib.Omega.{arith}
 use lib.ListN.{getD, set, take, drop, length-set}
 use lib.Seq.{take-take, drop-drop, take-set-le, drop-set-lt, getD-take, getD-drop}
-use Rattle.table.specs.Registrations.{Outside}
+use Rattle.memory.specs.Grown.{Outside}
 
-pub outside-none : (a b : ℕ) (l : List ℕ) → Outside a b l l
-outside-none a b l = record { before = refl; after = refl; size = refl }
+pub outside-none : {a b : ℕ} (l : List ℕ) → Outside a b l l
+outside-none l = record { before = refl; after = refl; size = refl }
 
 pub outside-set : {a b i : ℕ} (l : List ℕ) (v : ℕ) → a ≤ i → i < b → Outside a b l (set l i v)
 outside-set {a} {b} {i} l v h g = record { before = take-set-le a l i v h; after = drop-set-lt b l i v g; size = length-set l i v }
@@ -25,6 +25,10 @@ outside-wider {a} {b} a′ b′ {l} {m} h g p = record {
   after = drop-more b b′ m g ∙ ap (drop (b′ - b)) (p .after) ∙ sym (drop-more b b′ l g);
   size = p .size;
 }
+
+-- One part, then the next.
+pub outside-next : {a b c : ℕ} {l m n : List ℕ} → a ≤ b → b ≤ c → Outside a b l m → Outside b c m n → Outside a c l n
+outside-next h g p q = outside-then (outside-wider _ _ (omega arith) g p) (outside-wider _ _ h (omega arith) q)
 
 module _ {a b : ℕ} {l m : List ℕ} (p : Outside a b l m) (k : ℕ) where
   pub getD-before : k < a → getD m k 0 ≡ getD l k 0

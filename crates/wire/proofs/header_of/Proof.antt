@@ -1,8 +1,8 @@
 -- header_of meets its contract.
 use borrow.Author.Needs.{needs}
-use Rattle.screen.specs.Memory.{header-in}
-use Rattle.screen.proofs.header_of.Statement.{statement}
-use Rattle.screen.proofs.header_of.Tie as tie
+use Rattle.wire.specs.Memory.{header-in}
+use Rattle.wire.proofs.header_of.Statement.{statement}
+use Rattle.wire.proofs.header_of.Tie as tie
 
 pub header-of-spec : {M : Type 1} → statement M
 unfolding header-in
@@ -18,4 +18,4 @@ header-of-spec =
     {- word-at-requires-4 -}
     (λ c κs. search needs)
     {- returns -}
-    (λ c. λ i. record { header = record { names = c .before .before .before .word-at .ensures i; modules = c .before .before .word-at2 .ensures i; records = c .before .word-at3 .ensures i; text = c .word-at4 .ensures i } }))
+    (λ c. λ i. record { names = c .before .before .before .word-at .ensures i; modules = c .before .before .word-at2 .ensures i; records = c .before .word-at3 .ensures i; text = c .word-at4 .ensures i }))

@@ -3,11 +3,11 @@ use Prim.Native.Nat.{_-_}
 use mathlib.Core.Path.{ap, _∙_}
 use native.Mathlib.Omega.{arith}
 use borrow.Author.Needs.{needs}
-use Rattle.screen.specs.Bytes.{words-at}
-use Rattle.screen.specs.Memory.{records-lent, words-in}
-use Rattle.screen.proofs.Bytes.{Loading, loading-none, loading-more, loading-done}
-use Rattle.screen.proofs.load.Statement.{statement}
-use Rattle.screen.proofs.load.Tie as tie
+use Rattle.wire.specs.Bytes.{words-at}
+use Rattle.wire.specs.Memory.{records-lent, words-in}
+use Rattle.wire.proofs.Bytes.{Loading, loading-none, loading-more, loading-done}
+use Rattle.wire.proofs.load.Statement.{statement}
+use Rattle.wire.proofs.load.Tie as tie
 
 abbrev Inv-loop : tie.InvT-loop
 Inv-loop bytes words₀ n i₀ words i = Loading bytes words₀ words i n

@@ -1,8 +1,8 @@
 -- word_at meets its contract.
 use borrow.Author.Needs.{needs}
-use Rattle.screen.specs.Bytes.{word-at}
-use Rattle.screen.proofs.word_at.Statement.{statement}
-use Rattle.screen.proofs.word_at.Tie as tie
+use Rattle.wire.specs.Bytes.{word-at}
+use Rattle.wire.proofs.word_at.Statement.{statement}
+use Rattle.wire.proofs.word_at.Tie as tie
 
 pub word-at-spec : {M : Type 1} → statement M
 unfolding word-at

@@ -1,0 +1,43 @@
+-- The state put word by word, and the lent words in memory of one's own.
+use Prim.Native.Nat.{ℕ, _*_, _≤_}
+use mathlib.Core.Path.{_≡_, sym, _∙_}
+use mathlib.Core.List.{List}
+use native.Mathlib.Omega.{arith}
+use lib.ListN.{length, take, length-take}
+use Rattle.source.specs.Limits.{record-words}
+use Rattle.wire.specs.Bytes.{Put}
+use Rattle.wire.specs.Memory.{state-bytes, header-in, Spells, records-lent, words-in, Loaded}
+use Rattle.wire.proofs.Bytes.{word-before, words-length}
+
+-- A header put word by word.
+pub header-put : {s s₁ s₂ s₃ s₄ : List ℕ} {a b c d : ℕ} → length s ≡ state-bytes → Put 0 a s s₁ → Put 1 b s₁ s₂ → Put 2 c s₂ s₃ → Put 3 d s₃ s₄
+    → Spells s₄ (record { names = a; modules = b; records = c; text = d })
+unfolding header-in
+header-put h p q r t = record {
+  size = t .rest .size ∙ r .rest .size ∙ q .rest .size ∙ p .rest .size ∙ h;
+  header = λ i. record {
+    names = (word-before (t .rest) 0 (omega arith) ∙ word-before (r .rest) 0 (omega arith) ∙ word-before (q .rest) 0 (omega arith) ∙ p .word) i;
+    modules = (word-before (t .rest) 1 (omega arith) ∙ word-before (r .rest) 1 (omega arith) ∙ q .word) i;
+    records = (word-before (t .rest) 2 (omega arith) ∙ r .word) i;
+    text = t .word i;
+  };
+}
+
+pub words-in-length : (bs : List ℕ) → length (words-in bs) ≡ records-lent (length bs) * record-words
+unfolding words-in
+words-in-length bs = words-length bs _
+
+-- The words lent are among the bytes.
+pub words-in-fit : (bs : List ℕ) → length (words-in bs) * 4 ≤ length bs
+unfolding records-lent
+words-in-fit bs = omega (arith, words-in-length bs)
+
+module _ {bs ws : List ℕ} {n : ℕ} (l : Loaded bs ws n) where
+  loaded-length : length (take n ws) ≡ n
+  loaded-length = rw (l .words, words-in-length bs) (sym (l .count))
+
+  pub loaded-fits : n ≤ length ws
+  loaded-fits = omega (arith, loaded-length, length-take n ws)
+
+  pub loaded-count : n ≡ length (take n ws)
+  loaded-count = sym loaded-length

@@ -1,0 +1,44 @@
+-- The memory that lent bytes stand for.
+use Prim.Native.Nat.{ℕ, _*_, _/_, min}
+use mathlib.Core.Path.{_≡_}
+use mathlib.Core.List.{List}
+use lib.ListN.{length, take}
+use Rattle.source.specs.Limits.{record-words}
+use Rattle.memory.specs.declared.Header.{Header}
+use Rattle.wire.specs.Bytes.{word-at, words-at}
+
+-- Bytes of a state, and of a record.
+abbrev pub state-bytes : ℕ
+state-bytes = 16
+
+abbrev pub record-bytes : ℕ
+record-bytes = 48
+
+-- Records past these count as not lent, and their words.
+abbrev pub records-lent-most : ℕ
+records-lent-most = 1024
+
+abbrev pub words-lent-most : ℕ
+words-lent-most = 12288
+
+-- The state: names root, modules root, records used, text used.
+unfoldable pub header-in : List ℕ → Header
+header-in st = record { names = word-at st 0; modules = word-at st 1; records = word-at st 2; text = word-at st 3 }
+
+-- A state that spells h.
+pub record Spells (st : List ℕ) (h : Header) : Type 0 where
+  pub size : length st ≡ state-bytes
+  pub header : header-in st ≡ h
+
+-- Records lent: whole ones, up to those.
+unfoldable pub records-lent : ℕ → ℕ
+records-lent size = min (size / record-bytes) records-lent-most
+
+-- The words of the records lent.
+unfoldable pub words-in : List ℕ → List ℕ
+words-in bs = words-at bs (records-lent (length bs) * record-words)
+
+-- The words lent have been laid in ws, and r is their number.
+pub record Loaded (bs ws : List ℕ) (r : ℕ) : Type 0 where
+  pub count : r ≡ records-lent (length bs) * record-words
+  pub words : take r ws ≡ words-in bs
