@@ -24,7 +24,6 @@ extern "C" {
 #define NAME_CONSOLE_RECORD 48    /* bytes of a record in the words */
 #define NAME_CONSOLE_RECORDS 1024 /* records past these count as not lent */
 #define NAME_CONSOLE_LINE 48      /* bytes of a line record */
-#define NAME_CONSOLE_LINES 512    /* line records past these count as not lent */
 
 /* Bytes of stack that are enough for a call on x86-64, measured on the tables that need most (tests/layer/tests/stack.rs). */
 #define NAME_CONSOLE_STACK 131072          /* for a registration or look-up */
@@ -106,7 +105,7 @@ struct name_console_symbol name_console_find_module(const uint8_t *state, size_t
 
 /* ---- Completions, which change only the output
 
-   Lines are whole records of 48 bytes in `lines`; their texts stand one after another in `out` from its start, candidate
+   Lines are whole records of 48 bytes in `lines`, as many as are lent; their texts stand one after another in `out` from its start, candidate
    then annotation. Listed, the first `lines` records and the bytes of their texts are written, and every other byte of
    both is as it was. `entered` is the number of tries entered; more than `budget` is refused.
 

@@ -288,7 +288,7 @@ pub extern "C" fn name_table_complete(
     ask: u32,
     query: &[u8],
     budget: u32,
-    flat: &mut [u32],
+    flat: &mut [u8],
     out: &mut [u8],
 ) -> Listing {
     let t = table_of(names, modules, records, used);
@@ -306,7 +306,7 @@ pub extern "C" fn name_table_complete_sound(
     ask: u32,
     query: &[u8],
     budget: u32,
-    flat: &mut [u32],
+    flat: &mut [u8],
     out: &mut [u8],
 ) -> Listing
     requires { ⌜ Sound (now words) (now text) (record { names = names; modules = modules; records = records; text = used }) ⌝ }

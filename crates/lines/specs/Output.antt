@@ -1,4 +1,4 @@
--- The lent output: lines as flat words, twelve to a line, and the text.
+-- The lent output: lines as bytes, 48 to a line, and the text. Four bytes are a word, lowest first (wire's Bytes).
 --
 --   word   of a line
 --   0      match length, 4294967295 for -1
@@ -20,8 +20,17 @@ use Rattle.source.specs.Limits.{record-words}
 use Rattle.source.specs.Shared.{Allˡ}
 use Rattle.memory.specs.Layout.{record-at, word, number-word, name-start, name-len, path-start, path-len, loaded-word, pick, Which, Item, item-of}
 use Rattle.text.specs.Laid.{Laid}
+use Rattle.wire.specs.Bytes.{words-at}
 use Rattle.lines.specs.Path.{BranchAt}
 use Rattle.lines.specs.declared.Limits.{Limits}
+
+-- Bytes of a line.
+abbrev pub line-bytes : ℕ
+line-bytes = 48
+
+-- The twelve words that they spell.
+abbrev pub line-words : List ℕ → List ℕ
+line-words bs = words-at bs record-words
 
 -- The words of a line by name; those of its item are a branch's.
 abbrev pub matched-word : List ℕ → ℕ
@@ -52,7 +61,7 @@ line-of w txt r = record {
   annotation = record { start = annotation-start r; len = annotation-len r };
 }
 
--- The rows one after another.
+-- The bytes of lines one after another.
 unfoldable pub rows-flat : List (List ℕ) → List ℕ
 rows-flat rows = flatMap (λ r. r) rows
 
@@ -60,9 +69,8 @@ rows-flat rows = flatMap (λ r. r) rows
 abbrev pub item-words : List ℕ → List ℕ
 item-words r = number-word r ∷ name-start r ∷ name-len r ∷ path-start r ∷ path-len r ∷ loaded-word r ∷ []
 
--- Twelve words, those of the item as in a branch of bindings of the table, the last 0.
+-- The words of a line: those of the item as in a branch of bindings of the table, the last 0.
 pub record RowFrom (ws txt : List ℕ) (w : Which) (r : List ℕ) : Type 0 where
-  pub twelve : length r ≡ record-words
   pub branch : ℕ
   pub at : BranchAt ws txt w bind branch
   pub item-is : item-words r ≡ item-words (record-at ws branch)
@@ -71,9 +79,10 @@ pub record RowFrom (ws txt : List ℕ) (w : Which) (r : List ℕ) : Type 0 where
 -- The lines are written after the first l line records and the first b bytes, and nothing else changed.
 pub record Written (w : Which) (ws txt flat flat′ out out′ : List ℕ) (l b : ℕ) (lines : List (Line (Item w))) : Type 0 where
   pub rows : List (List ℕ)
-  pub from : Allˡ (RowFrom ws txt w) rows
-  pub reads : map (line-of w txt) rows ≡ output-lines b lines
-  pub flat-laid : Laid flat flat′ (l * 12) ((l + length lines) * 12) (rows-flat rows)
+  pub sized : Allˡ (λ r. length r ≡ line-bytes) rows
+  pub from : Allˡ (RowFrom ws txt w) (map line-words rows)
+  pub reads : map (line-of w txt) (map line-words rows) ≡ output-lines b lines
+  pub flat-laid : Laid flat flat′ (l * line-bytes) ((l + length lines) * line-bytes) (rows-flat rows)
   pub out-laid : Laid out out′ b (b + length (output-text lines)) (output-text lines)
 
 -- ---- Counting
@@ -119,7 +128,7 @@ pub record Fit (lim : Limits) (flat out : List ℕ) (e l b : ℕ) : Type 0 where
   pub entered-fit : e ≤ lim .budget
   pub lines-fit : l ≤ lim .lines
   pub bytes-fit : b ≤ lim .bytes
-  pub flat-lent : lim .lines * 12 ≤ length flat
+  pub flat-lent : lim .lines * line-bytes ≤ length flat
   pub out-lent : lim .bytes ≤ length out
 
 -- The run went on by the part r: it is counted, and where all fits it is written.

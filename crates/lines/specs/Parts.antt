@@ -13,7 +13,7 @@ use Rattle.text.specs.Laid.{Laid}
 use Rattle.names.specs.Entries.{label-at}
 use Rattle.lines.specs.Ask.{filter-in}
 use Rattle.lines.specs.Path.{Path, joined}
-use Rattle.lines.specs.Output.{Tally, Small, Fit, Goes}
+use Rattle.lines.specs.Output.{line-bytes, line-words, Tally, Small, Fit, Goes}
 use Rattle.lines.specs.Run.{Job}
 use Rattle.lines.specs.Lines.{Spells, only}
 use Rattle.lines.specs.declared.Filter.{Filter}
@@ -68,14 +68,15 @@ size-of ws j note = j .path .len + text-len (record-at ws (j .branch)) + length 
 
 -- A line fits what is lent.
 pub record Room (ws : List ℕ) (j : Job) (note flat out : List ℕ) : Type 0 where
-  pub flat-room : j .tally .lines * 12 + 12 ≤ length flat
+  pub flat-room : j .tally .lines * line-bytes + line-bytes ≤ length flat
   pub out-room : j .tally .bytes + size-of ws j note ≤ length out
   pub small : j .tally .bytes + size-of ws j note ≤ 4294967295
 
 -- A line is written after those of the tally.
 pub record LinePut (ws txt : List ℕ) (j : Job) (note flat flat′ out out′ : List ℕ) : Type 0 where
-  pub flat-laid : Laid flat flat′ (j .tally .lines * 12) (j .tally .lines * 12 + 12)
-      (line-row (record-at ws (j .branch)) (j .matched) (j .tally .bytes) (length (candidate-of ws txt (j .path) (j .branch))) (length note))
+  pub bytes : List ℕ
+  pub spell : line-words bytes ≡ line-row (record-at ws (j .branch)) (j .matched) (j .tally .bytes) (length (candidate-of ws txt (j .path) (j .branch))) (length note)
+  pub flat-laid : Laid flat flat′ (j .tally .lines * line-bytes) (j .tally .lines * line-bytes + line-bytes) bytes
   pub out-laid : Laid out out′ (j .tally .bytes) (j .tally .bytes + length (candidate-of ws txt (j .path) (j .branch) ++ note))
       (candidate-of ws txt (j .path) (j .branch) ++ note)
 

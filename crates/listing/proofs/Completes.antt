@@ -22,7 +22,7 @@ use Rattle.memory.specs.Layout.{Item, trieˢ, what}
 use Rattle.memory.proofs.Tries.{trie-shallow}
 use Rattle.lines.specs.Ask.{asked}
 use Rattle.lines.specs.Path.{Path, joined, PathOk, OnPath}
-use Rattle.lines.specs.Output.{Tally, signed-word, Written, Shows, Past, Small, Fit, Goes}
+use Rattle.lines.specs.Output.{line-bytes, Tally, signed-word, Written, Shows, Past, Small, Fit, Goes}
 use Rattle.lines.specs.Run.{path-in, tally-in}
 use Rattle.lines.specs.declared.Ask.{Ask}
 use Rattle.lines.specs.declared.Limits.{Limits}
@@ -125,7 +125,7 @@ writes-then ws txt ask root query f o r = root-writes ws txt ask root query (rw 
 pub record Set (lim : Limits) (budget : ℕ) (flat out : List ℕ) : Type 0 where
   pub budget-is : lim .budget ≡ budget
   pub budget-fits : budget ≤ 4294967295
-  pub lines-are : lim .lines ≡ min (length flat / 12) 4294967295
+  pub lines-are : lim .lines ≡ min (length flat / line-bytes) 4294967295
   pub bytes-are : lim .bytes ≡ min (length out) 4294967295
 
 pub set-small : {lim : Limits} {budget : ℕ} {flat out : List ℕ} → Set lim budget flat out → Small lim
@@ -177,7 +177,7 @@ module _ {ws txt : List ℕ} {ask : Ask} {root : ℕ} {query : Str} {budget : �
         go : Past lim (length (listed ws txt ask root query)) (length (output-text (listed ws txt ask root query)))
             → CompletesAs ws txt ask flat flat′ out out′ Lines (listed ws txt ask root query) (tries ws txt ask root query)
             (lowest (output-rows budget (output flat out) (listed ws txt ask root query) (tries ws txt ask root query)))
-        go (inl k) = rw (affordable set s h, lt-ltb (min (length flat / 12) 4294967295) (length (listed ws txt ask root query)) (omega (arith, set .lines-are))) (refl, f, o)
+        go (inl k) = rw (affordable set s h, lt-ltb (min (length flat / line-bytes) 4294967295) (length (listed ws txt ask root query)) (omega (arith, set .lines-are))) (refl, f, o)
         go (inr k) =
             rw (affordable set s h, lt-ltb (min (length out) 4294967295) (length (output-text (listed ws txt ask root query))) (omega (arith, set .bytes-are)), or-true)
             (refl, f, o)
@@ -191,7 +191,7 @@ module _ {ws txt : List ℕ} {ask : Ask} {root : ℕ} {query : Str} {budget : �
           says =
               rw (
                 affordable set s h,
-                le-ltb (min (length flat / 12) 4294967295) (length (listed ws txt ask root query)) (omega (arith, x .1, set .lines-are)),
+                le-ltb (min (length flat / line-bytes) 4294967295) (length (listed ws txt ask root query)) (omega (arith, x .1, set .lines-are)),
                 le-ltb (min (length out) 4294967295) (length (output-text (listed ws txt ask root query))) (omega (arith, x .2, set .bytes-are)),
               )
               (rw (x .0, x .1), w);

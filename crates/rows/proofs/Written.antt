@@ -11,7 +11,8 @@ use Rattle.source.specs.Shared.{Allˡ}
 use Rattle.source.proofs.Lines.{output-lines-length}
 use Rattle.memory.specs.Layout.{Which, Item, span}
 use Rattle.text.specs.Laid.{Laid}
-use Rattle.lines.specs.Output.{line-of, rows-flat, RowFrom, Written, candidate-start, candidate-len, annotation-start, annotation-len}
+use Rattle.wire.proofs.Parts.{words-front}
+use Rattle.lines.specs.Output.{line-bytes, line-words, line-of, rows-flat, RowFrom, Written, candidate-start, candidate-len, annotation-start, annotation-len}
 use Rattle.rows.specs.Rows.{words-at, words-from, item-in, row-in, ItemInside, line-seen, lines-seen, TextsIn}
 use Rattle.rows.proofs.Inside.{row-inside}
 
@@ -45,14 +46,15 @@ stands-laid {d} {d′} {s} {r} x = record { rest = drop r d; within = omega arit
 
 -- ---- The words
 
-words-are : (ws txt : List ℕ) (w : Which) (flat : List ℕ) (i : ℕ) (rows : List (List ℕ)) → Allˡ (RowFrom ws txt w) rows → Stands flat (i * 12) (rows-flat rows) → words-from flat i (length rows) ≡ rows
+words-are : (flat : List ℕ) (i : ℕ) (rows : List (List ℕ)) → Allˡ (λ r. length r ≡ line-bytes) rows → Stands flat (i * line-bytes) (rows-flat rows)
+    → words-from flat i (length rows) ≡ map line-words rows
 unfolding words-from words-at rows-flat flatMap
-words-are ws txt w flat i [] a x = refl
-words-are ws txt w flat i (r ∷ rows) a x =
-    let p : i * 12 + length r ≡ suc i * 12 = omega (arith, a .0 .twelve) in
+words-are flat i [] a x = refl
+words-are flat i (r ∷ rows) a x =
+    let p : i * line-bytes + length r ≡ suc i * line-bytes = omega (arith, a .0) in
     ap₂ (λ (s : List ℕ) (ss : List (List ℕ)). s ∷ ss)
-    (ap (take 12) (stands-first r (rows-flat rows) x .is) ∙ take-at r _ 12 (a .0 .twelve))
-    (words-are ws txt w flat (suc i) rows (a .1) (rw p at (stands-next r (rows-flat rows) x)))
+    (ap line-words (stands-first r (rows-flat rows) x .is) ∙ words-front r _ 12 (omega (arith, a .0)))
+    (words-are flat (suc i) rows (a .1) (rw p at (stands-next r (rows-flat rows) x)))
 
 -- ---- The lines
 
@@ -120,11 +122,11 @@ module _ (w : Which) (txt out : List ℕ) where
 
 module _ {w : Which} {ws txt flat flat′ out out′ : List ℕ} {lines : List (Line (Item w))} (x : Written w ws txt flat flat′ out out′ 0 0 lines) where
   count : length (x .rows) ≡ length lines
-  count = sym (length-map (x .rows) (line-of w txt)) ∙ ap length (x .reads) ∙ output-lines-length 0 lines
+  count = sym (length-map (map line-words (x .rows)) (line-of w txt) ∙ length-map (x .rows) line-words) ∙ ap length (x .reads) ∙ output-lines-length 0 lines
 
   -- The words of the rows that are lent.
-  pub written-words : words-from flat′ 0 (length lines) ≡ x .rows
-  written-words = ap (words-from flat′ 0) (sym count) ∙ words-are ws txt w flat′ 0 (x .rows) (x .from) (stands-laid (x .flat-laid))
+  pub written-words : words-from flat′ 0 (length lines) ≡ map line-words (x .rows)
+  written-words = ap (words-from flat′ 0) (sym count) ∙ words-are flat′ 0 (x .rows) (x .sized) (stands-laid (x .flat-laid))
 
   -- The line records.
   pub written-records : map (line-of w txt) (words-from flat′ 0 (length lines)) ≡ output-lines 0 lines
@@ -132,21 +134,21 @@ module _ {w : Which} {ws txt flat flat′ out out′ : List ℕ} {lines : List (
 
   -- The lines, and their texts.
   pub written-lines : map (line-seen w txt out′) (words-from flat′ 0 (length lines)) ≡ lines
-  written-lines = rw written-words (lines-are w txt out′ (x .rows) 0 lines (x .reads) (stands-laid (x .out-laid)) .0)
+  written-lines = rw written-words (lines-are w txt out′ (map line-words (x .rows)) 0 lines (x .reads) (stands-laid (x .out-laid)) .0)
 
   pub written-seen : lines-seen w txt flat′ out′ (length lines) ≡ lines
   unfolding lines-seen
   written-seen = written-lines
 
   pub written-texts : Allˡ (λ r. TextsIn out′ (row-in w r)) (words-from flat′ 0 (length lines))
-  written-texts = rw written-words (lines-are w txt out′ (x .rows) 0 lines (x .reads) (stands-laid (x .out-laid)) .1)
+  written-texts = rw written-words (lines-are w txt out′ (map line-words (x .rows)) 0 lines (x .reads) (stands-laid (x .out-laid)) .1)
 
   -- The items, and their texts.
   pub written-from : Allˡ (RowFrom ws txt w) (words-from flat′ 0 (length lines))
   written-from = rw written-words (x .from)
 
   pub written-items : Allˡ (λ r. ItemInside (length txt) (item-in w r)) (words-from flat′ 0 (length lines))
-  written-items = rw written-words (go (x .rows) (x .from))
+  written-items = rw written-words (go (map line-words (x .rows)) (x .from))
     where
       go : (rows : List (List ℕ)) → Allˡ (RowFrom ws txt w) rows → Allˡ (λ r. ItemInside (length txt) (item-in w r)) rows
       go [] a = tt

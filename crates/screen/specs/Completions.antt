@@ -18,29 +18,17 @@ use Rattle.lines.specs.declared.Ask.{Ask}
 use Rattle.lines.specs.declared.Ask.the-variants.{Modules}
 use Rattle.lines.specs.declared.Filter.the-variants.{All, Loaded, ModulesOnly, NamespacesOnly}
 use Rattle.table.specs.Header.{IsSound, table-in}
+use Rattle.listing.specs.Completes.{output}
+use Rattle.refusals.specs.Refusals.{number}
 use Rattle.table.specs.Completions.{completion}
+use Rattle.table.specs.declared.Completed.{Completed}
+use Rattle.table.specs.declared.Completed.the-variants.{Listed, Refused}
 use Rattle.memory.specs.Grown.{Outside}
 use Rattle.table.specs.declared.Table.{Table}
 use Rattle.wire.specs.Bytes.{words-at}
 use Rattle.wire.specs.Memory.{words-in}
 use Rattle.screen.specs.Memory.{table-at, SoundBytes}
 use Rattle.screen.specs.declared.CompleteReply.{CompleteReply}
-
--- Line records lent: whole ones, of 48 bytes each; those past 512 count as not lent.
-unfoldable pub lines-lent : ℕ → ℕ
-lines-lent size = min (size / 48) 512
-
--- Their words, twelve to a line, as lines' Output has them.
-unfoldable pub lines-in : List ℕ → List ℕ
-lines-in ls = words-at ls (lines-lent (length ls) * 12)
-
--- As many words as they have.
-pub record Room (flat ls : List ℕ) : Type 0 where
-  pub size : length flat ≡ lines-lent (length ls) * 12
-
--- The output lent. Text past what 32 bits count is not lent.
-abbrev pub output-in : (ls out : List ℕ) → Output
-output-in ls out = record { lines = lines-lent (length ls); text = min (length out) 4294967295 }
 
 -- What is asked of the modules, by the number of a filter. Another number asks nothing.
 unfoldable pub modules-for : ℕ → Option Ask
@@ -54,11 +42,15 @@ modules-for (suc (suc (suc (suc n)))) = none
 abbrev pub no-lines : ℕ → CompleteReply
 no-lines n = record { answer = n; lines = 0; entered = 0 }
 
--- Listed: the line bytes at exit spell the lines, their texts are in the output text, and every other byte is as it was.
+-- The reply of crate table's answer.
+abbrev pub lines-reply : Completed → CompleteReply
+lines-reply (Listed lines entered) = record { answer = 0; lines = lines; entered = entered }
+lines-reply (Refused x) = no-lines (number x)
+
+-- Listed: the lines are written from the start of the lent bytes, their texts from the start of the output text, and every other byte is as it was.
 pub record Lists (ask : Ask) (ws txt ls ls′ out out′ : List ℕ) (lines : List (Line (Item (asked ask)))) (entered : ℕ) (r : CompleteReply) : Type 0 where
   pub reply : r ≡ record { answer = 0; lines = length lines; entered = entered }
-  pub written : Written (asked ask) ws txt (lines-in ls) (lines-in ls′) out out′ 0 0 lines
-  pub bytes : Outside 0 (length lines * 48) ls ls′
+  pub written : Written (asked ask) ws txt ls ls′ out out′ 0 0 lines
 
 -- Refused with n: no byte has changed.
 pub record Refuses (n : ℕ) (ls ls′ out out′ : List ℕ) (r : CompleteReply) : Type 0 where
@@ -79,13 +71,9 @@ unasked false = 1
 module _ (ws txt : List ℕ) (query : Str) (budget : ℕ) (ls ls′ out out′ : List ℕ) (r : CompleteReply) where
   -- The reply r to what is asked of the table.
   abbrev pub ListsFor : (sound : Bool) → S.Table → Option Ask → Type 0
-  ListsFor sound tbl (some ask) = ListsAs ask ws txt ls ls′ out out′ r (completion sound tbl ask budget (output-in ls out) query)
+  ListsFor sound tbl (some ask) = ListsAs ask ws txt ls ls′ out out′ r (completion sound tbl ask budget (output ls out) query)
   ListsFor sound tbl none = Refuses (unasked sound) ls ls′ out out′ r
 
 -- The reply r to a completion; b says whether the bytes are a sound table.
 pub record RepliesLines (st bs txt : List ℕ) (ask : Option Ask) (query : Str) (budget : ℕ) (ls ls′ out out′ : List ℕ) (r : CompleteReply) : Type 0 where
   pub says : (b : Bool) → Says b (SoundBytes st bs txt) → ListsFor (words-in bs) txt query budget ls ls′ out out′ r b (table-in (words-in bs) txt (table-at st)) ask
-
--- The same, where the words m and the table t have been read.
-pub record ListsIn (m txt : List ℕ) (t : Table) (ask : Ask) (query : Str) (budget : ℕ) (ls ls′ out out′ : List ℕ) (r : CompleteReply) : Type 0 where
-  pub says : (b : Bool) → Says b (IsSound m txt t) → ListsFor m txt query budget ls ls′ out out′ r b (table-in m txt t) (some ask)

@@ -93,7 +93,7 @@ fn complete_on(
     root: u32,
     query: &[u8],
     budget: u32,
-    flat: &mut [u32],
+    flat: &mut [u8],
     out: &mut [u8],
 ) -> Completed
     requires { ⌜ At (now words) (now text) (asked ask) trieˢ root ⌝ }
@@ -161,7 +161,7 @@ impl Table {
         }
     }
 
-    // Completion of names, or of modules and namespaces, in a sound memory. Lines go into `flat`, twelve words to a line, their texts into `out`.
+    // Completion of names, or of modules and namespaces, in a sound memory. Lines go into `flat`, 48 bytes to a line, their texts into `out`.
     pub fn complete_sound(
         self,
         words: &[u32],
@@ -169,7 +169,7 @@ impl Table {
         ask: Ask,
         query: &[u8],
         budget: u32,
-        flat: &mut [u32],
+        flat: &mut [u8],
         out: &mut [u8],
     ) -> Completed
         requires { ⌜ IsSound (now words) (now text) self ⌝ }
@@ -187,7 +187,7 @@ impl Table {
         ask: Ask,
         query: &[u8],
         budget: u32,
-        flat: &mut [u32],
+        flat: &mut [u8],
         out: &mut [u8],
     ) -> Completed
         ensures { λ r. ⌜ ((b : Bool) → Says b (IsSound (now (words .entry)) (now (text .entry)) self) → Completes b (now (words .entry)) (now (text .entry)) self ask (now (query .entry)) budget (now (flat .entry)) (now (flat .exit)) (now (out .entry)) (now (out .exit)) r) ⌝ }

@@ -20,7 +20,7 @@ use Rattle.memory.specs.Layout.{Which, Item, pick}
 use Rattle.memory.specs.Sound.{Says}
 use Rattle.memory.proofs.SoundTable.{sound-table}
 use Rattle.lines.specs.Ask.{asked}
-use Rattle.lines.specs.Output.{signed-word, line-of, Written}
+use Rattle.lines.specs.Output.{line-bytes, signed-word, line-of, Written}
 use Rattle.lines.specs.declared.Ask.{Ask}
 use Rattle.lines.specs.declared.Ask.the-variants.{Names, Modules}
 use Rattle.table.specs.Header.{IsSound, table-in}
@@ -100,7 +100,7 @@ all-held ws txt t ask query budget false s o = go ask
     go (Modules f) = tt
 
 module _ {ws txt : List ℕ} {t : Table} {ask : Ask} {query : Str} {budget : ℕ} {flat flat′ out out′ : List ℕ} {r : Completed} {n : ℕ} where
-  pub asked-at : {room : ℕ} → FlatCompletes ws txt t ask query budget room flat flat′ out out′ r → n ≡ lines-in r → length flat′ ≡ length flat → (n ≤ room) × (n * 12 ≤ length flat′)
+  pub asked-at : {room : ℕ} → FlatCompletes ws txt t ask query budget room flat flat′ out out′ r → n ≡ lines-in r → length flat′ ≡ length flat → (n ≤ room) × (n * line-bytes ≤ length flat′)
   asked-at c e l = (omega (arith, c .fit, e), omega (arith, c .lent, e, l))
 
   pub told-at : {ls ls′ : List Line} → FlatCompletes ws txt t ask query budget (length ls) flat flat′ out out′ r → n ≡ lines-in r → ls′ ≡ stored-lines (line-at ask flat′) ls n

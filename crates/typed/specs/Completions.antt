@@ -13,6 +13,7 @@ use Rattle.source.specs.Shared.{Allˡ}
 use Rattle.memory.specs.Layout as L
 use Rattle.memory.specs.Sound.{Says}
 use Rattle.lines.specs.Ask.{asked}
+use Rattle.lines.specs.Output.{line-bytes}
 use Rattle.lines.specs.declared.Ask.{Ask}
 use Rattle.rows.specs.Rows.{ItemInside}
 use Rattle.table.specs.Header.{IsSound, table-in}
@@ -23,9 +24,9 @@ use Rattle.table.specs.declared.Completed.{Completed}
 use Rattle.typed.specs.declared.Line.{Line}
 use Rattle.typed.specs.Lines.{lines-in, record-seen}
 
--- The output lent: a line takes a line struct and twelve flat words; lines and bytes past those that 32 bits count are not lent.
+-- The output lent: a line takes a line struct and 48 bytes; lines and bytes past those that 32 bits count are not lent.
 abbrev pub output : (room : ℕ) (flat out : List ℕ) → Output
-output room flat out = record { lines = min (min (length flat / 12) room) 4294967295; text = min (length out) 4294967295 }
+output room flat out = record { lines = min (min (length flat / line-bytes) room) 4294967295; text = min (length out) 4294967295 }
 
 -- The lines stand in the first line structs, their items' texts in the table's text, and the structs after are as they were.
 pub record Shown (w : L.Which) (txt : List ℕ) (ls ls′ : List Line) (lines : List (S.Line (L.Item w))) : Type 0 where
@@ -43,13 +44,13 @@ module _ (ws txt : List ℕ) (t : Table) (ask : Ask) (query : Str) (budget : ℕ
   abbrev pub answer : (b : Bool) → Output → C.Completed (L.Item (asked ask))
   answer b out = completion b (table-in ws txt t) ask budget out query
 
-  -- The completion into flat words, lent for at most so many lines.
+  -- The completion into bytes, lent for at most so many lines.
   pub record FlatCompletes (room : ℕ) (flat flat′ out out′ : List ℕ) (r : Completed) : Type 0 where
     pub says : (b : Bool) → Says b (IsSound ws txt t) → T.CompletesAs ask ws txt flat flat′ out out′ r (answer b (output room flat out))
     pub fit : lines-in r ≤ room
-    pub lent : lines-in r * 12 ≤ length flat
+    pub lent : lines-in r * line-bytes ≤ length flat
 
-  -- The completion into line structs: as into flat words (table's CompletesAs), and the lines are shown.
+  -- The completion into line structs: as into bytes (table's CompletesAs), and the lines are shown.
   pub record Completes (ls ls′ : List Line) (flat flat′ out out′ : List ℕ) (r : Completed) : Type 0 where
     pub says : (b : Bool) → Says b (IsSound ws txt t) → T.CompletesAs ask ws txt flat flat′ out out′ r (answer b (output (length ls) flat out))
     pub shows : (b : Bool) → Says b (IsSound ws txt t) → ShownAs ask txt ls ls′ (answer b (output (length ls) flat out))
