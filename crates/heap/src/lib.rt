@@ -14,9 +14,9 @@ ghost use Rattle.heap.specs.Compare.{Heads, cell-cmp, sign};
 ghost use Rattle.heap.specs.Cells.{Root, Rep, Repᶠ, Merges, Inserts, Pairs, Pops, first-cells};
 
 // How many lists a merge takes, and so how many cells there are. As a cell it is none.
-pub const CELLS: usize = 96;
+pub const CELLS: usize = memory::HEAVIEST as usize;
 
-const NO_CELL: u8 = 96;
+const NO_CELL: u8 = memory::HEAVIEST as u8;
 
 // What heap_pop answers: nothing, or the least cell and the root of the rest.
 pub enum Popped {

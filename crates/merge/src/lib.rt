@@ -14,7 +14,7 @@ ghost use Rattle.merge.specs.Lists.{Full, Collected, Single};
 ghost use Rattle.merge.specs.Stream.{Ready, Takes, Begins, Stands, Steps};
 
 // The most trees of a list: its weight is at most 96.
-pub const CELLS: usize = 96;
+pub const CELLS: usize = heap::CELLS;
 
 // The heap at the start of a merge: its cells, each with a tree, its current branch and its label in lent arrays, how many they are, and its root.
 pub struct Start {

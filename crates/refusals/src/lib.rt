@@ -6,13 +6,7 @@ ghost use Rattle.refusals.specs.Refusals.{number, row-of};
 ghost use Rattle.refusals.specs.Rows.{Flagged, no-flags, both-flags, flag-rows, capacity-rows};
 
 // At most so many records, and so many bytes of text, may be used.
-pub const MOST: usize = 65536;
-// The words of a record.
-pub const RECORD: usize = 12;
-// The most bytes of a file path.
-pub const PATH: usize = 120;
-// The most bytes of an id or key.
-pub const NAME: usize = 31;
+const MOST: usize = memory::CAPACITY as usize;
 
 // The refusals of the requirements.
 pub enum Refusal {
@@ -80,7 +74,7 @@ pub fn name_flags(s: &[u8]) -> Flags
     Flags {
         malformed: !text::all_allowed(Rule::Name, s),
         empty: s.len() == 0,
-        long: NAME < s.len(),
+        long: text::NAME_MOST < s.len(),
     }
 }
 
@@ -91,7 +85,7 @@ pub fn path_flags(s: &[u8]) -> Flags
     Flags {
         malformed: !text::all_allowed(Rule::Path, s),
         empty: false,
-        long: PATH < s.len(),
+        long: text::PATH_MOST < s.len(),
     }
 }
 
@@ -202,7 +196,7 @@ pub fn afford(demand: Demand, c: Capacity) -> Admission
     if demand.deep {
         return Admission::Refused(Refusal::Deep);
     }
-    if free(c.words / RECORD, c.records) < demand.records as usize {
+    if free(c.words / memory::ROW, c.records) < demand.records as usize {
         return Admission::Refused(Refusal::Full);
     }
     if free(c.text, c.used) < demand.text {

@@ -1,2 +1,2 @@
-mod Tests
+mod RecordOk
 mod Notes

@@ -6,7 +6,8 @@ use native.Mathlib.Omega.{arith}
 use lib.ListN.{length}
 use Rattle.memory.specs.Sound.{RecordOk}
 use Rattle.memory.proofs.RecordOk.{links-earlier}
-use Rattle.sound.specs.Tests.{Notes, CanNote, NotesOn}
+use Rattle.records.specs.Tests.{Notes}
+use Rattle.sound.specs.Notes.{CanNote, NotesOn}
 
 pub notes-start : {ws least greatest : List ℕ} → NotesOn ws 1 least greatest least greatest
 notes-start = record {

@@ -11,9 +11,9 @@ pub const NAME_MOST: usize = 31;
 
 pub const SEGMENTS_MOST: usize = 17;
 
-pub const QUERY_MOST: usize = 544;
+pub const QUERY_MOST: usize = SEGMENTS_MOST * (NAME_MOST + 1);
 
-pub const FULL_NAME_MOST: usize = 543;
+pub const FULL_NAME_MOST: usize = QUERY_MOST - 1;
 
 pub const PATH_MOST: usize = 120;
 

@@ -10,12 +10,12 @@ ghost use Rattle.wire.specs.Memory.{state-bytes, words-lent-most, header
 // Bytes of a state: four words. Bytes of a record: twelve words.
 pub const STATE_BYTES: usize = 16;
 
-const RECORD_BYTES: usize = 48;
+const RECORD_BYTES: usize = memory::ROW * 4;
 
 // Records past these count as not lent, and their words.
 const RECORDS: usize = 1024;
 
-pub const WORDS: usize = 12288;
+pub const WORDS: usize = RECORDS * memory::ROW;
 
 // A byte as a word.
 fn wide(x: u8) -> u32

@@ -13,7 +13,8 @@ use Rattle.memory.specs.Layout.{names, modules, tree, list, trieˢ}
 use Rattle.memory.proofs.Says.{passes, refuses, says-iff}
 use Rattle.memory.proofs.RecordOk.{own-earlier}
 use Rattle.memory.proofs.StoredSizes.{depth-collection}
-use Rattle.sound.proofs.Tests.{known-as, beside, no-kind, right-as, says-record, says-equal, twelve}
+use Rattle.sound.proofs.RecordOk.{known-as, beside, no-kind, right-as, says-record, twelve}
+use Rattle.records.proofs.Tests.{says-equal}
 
 pub record-ok-spec : {M : Type 1} → statement M
 record-ok-spec =

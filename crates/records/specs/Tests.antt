@@ -1,13 +1,12 @@
--- What the parts of the test find.
-use Prim.Native.Nat.{ℕ, _*_, _<_, _≤_}
+-- What the test of each sort of record finds.
+use Prim.Native.Nat.{ℕ}
 use mathlib.Core.Path.{_≡_}
 use mathlib.Core.Bool.{Bool}
 use mathlib.Core.List.{List}
-use lib.ListN.{length}
 use Rattle.source.specs.Types.{Level, bind, ns}
 use Rattle.source.specs.Terms.{depth-tree}
 use Rattle.source.specs.Rules.{Ordered}
-use Rattle.memory.specs.Layout.{record-at, left-link, right-link, trie-link, depth-word, Which, tree, list, trieˢ, kind, row, what}
+use Rattle.memory.specs.Layout.{trie-link, depth-word, Which, tree, list, trieˢ, kind, row, what}
 use Rattle.fields.specs.Fields.{Noted}
 use Rattle.memory.specs.Sound.{Says, LinkOk, BranchOk, CollectionOk, WeightOk, RecordAs}
 
@@ -15,21 +14,6 @@ use Rattle.memory.specs.Sound.{Says, LinkOk, BranchOk, CollectionOk, WeightOk, 
 pub record Notes (ws : List ℕ) (l : ℕ) (least greatest : List ℕ) : Type 0 where
   pub least-noted : Noted ws 3 l least
   pub greatest-noted : Noted ws 4 l greatest
-
--- The record of link l can be noted next.
-pub record CanNote (ws : List ℕ) (l : ℕ) (least greatest : List ℕ) : Type 0 where
-  pub some : 0 < l
-  pub fits : l * 12 ≤ length ws
-  pub left-earlier : left-link (record-at ws l) < l
-  pub right-earlier : right-link (record-at ws l) < l
-  pub notes : Notes ws l least greatest
-
--- The notes go on to link l.
-pub record NotesOn (ws : List ℕ) (l : ℕ) (least greatest least′ greatest′ : List ℕ) : Type 0 where
-  pub least-size : length least′ ≡ length least
-  pub greatest-size : length greatest′ ≡ length greatest
-  pub least-noted : Noted ws 3 l least′
-  pub greatest-noted : Noted ws 4 l greatest′
 
 -- What the answer b says, of each table and level that the kinds are of.
 module _ (ws txt : List ℕ) (used l : ℕ) (r : List ℕ) where
