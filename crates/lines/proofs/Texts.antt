@@ -29,7 +29,7 @@ module _ {d d′ s t : List ℕ} where
 module _ {d d′ t : List ℕ} (size : length t ≡ 12) (room : line-bytes ≤ length d) (s : Stored t 0 12 d d′) where
   pub row-laid : Laid d d′ 0 line-bytes (take line-bytes d′)
   row-laid = record {
-    end = sym (length-take-le line-bytes d′ (omega (arith, s .rest .size)));
+    end = omega (arith, length-take-le line-bytes d′ (omega (arith, s .rest .size)));
     fits = room;
     is = sym (take-append-drop line-bytes d′) ∙ ap (λ l. take line-bytes d′ ++ l) (s .rest .after);
   }

@@ -1,5 +1,5 @@
 -- Words of bytes that go on, and of bytes where words were stored.
-use Prim.Native.Nat.{ℕ, zero, suc, _+_, _*_, _≤_}
+use Prim.Native.Nat.{ℕ, zero, suc, _+_, _*_, _≤_, _<_}
 use mathlib.Core.Path.{_≡_, refl, sym, ap₂, _∙_}
 use mathlib.Core.List.{List, [], _∷_, _++_}
 use native.Mathlib.Omega.{arith}
@@ -24,4 +24,4 @@ module _ (s t : List ℕ) where
 pub words-stored : {ws bs bs′ : List ℕ} {n : ℕ} → length ws ≡ n → Stored ws 0 n bs bs′ → words-at bs′ n ≡ ws
 words-stored {ws} {bs} {bs′} {n} e s =
     ext-getD 0 (words-at bs′ n) ws (words-length bs′ n ∙ sym e)
-    (λ k h. let g = omega (arith, words-length bs′ n) in words-getD bs′ n k g ∙ s .words k (omega arith) g)
+    (λ k h. let g : k < n = omega (arith, words-length bs′ n) in words-getD bs′ n k g ∙ s .words k (omega arith) g)
