@@ -1,42 +1,31 @@
 -- What a completion replies, by what crate table answers.
-use Prim.Native.Nat.{ℕ, zero, suc, _+_, _*_, _/_, _≤_, _<_, min}
-use mathlib.Core.Path.{_≡_, refl, sym, ap, _∙_}
+use Prim.Native.Nat.{ℕ, zero, suc, _≤_, _<_}
+use mathlib.Core.Path.{_≡_, refl, ap, _∙_}
 use mathlib.Core.Bool.{Bool, true, false}
-use mathlib.Core.List.{List, _++_}
+use mathlib.Core.List.{List}
 use mathlib.Core.Option.{none, some, Option·none-ne-some}
 use native.Mathlib.Omega.{arith}
-use lib.Dec.{leb}
-use lib.ListN.{length, getD, take, drop, length-append, length-drop, List·getD-append}
-use lib.Seq.{take-all, drop-at, length-take-le}
-use borrow.Author.Tests.{leb-true, leb-false}
+use lib.ListN.{length}
 use Rattle.source.specs.Text.{Str}
 use Rattle.source.specs.Table as S
-use Rattle.source.specs.Table.{Line}
 use Rattle.source.specs.Calls as C
 use Rattle.source.specs.Calls.{lowest, argument-rows, Output, completion-rows, completed, complete, complete-modules}
-use Rattle.text.specs.Laid.{Laid}
-use Rattle.memory.specs.Layout.{Which, Item}
+use Rattle.memory.specs.Layout.{Item}
 use Rattle.memory.specs.Sound.{Says}
 use Rattle.lines.specs.Ask.{asked}
-use Rattle.lines.specs.Output.{Written}
 use Rattle.lines.specs.declared.Ask.{Ask}
 use Rattle.lines.specs.declared.Ask.the-variants.{Names, Modules}
 use Rattle.lines.specs.declared.Filter.the-variants.{NamespacesOnly}
 use Rattle.listing.specs.Completes.{output}
 use Rattle.table.specs.Header.{IsSound, table-in}
-use Rattle.refusals.specs.Refusals.{number}
-use Rattle.table.specs.Completions.{completion, refused-by, CompletesAs, Completes}
-use Rattle.memory.specs.Grown.{Outside}
+use Rattle.table.specs.Completions.{completion, CompletesAs, Completes}
 use Rattle.table.specs.declared.Table.{Table}
-use Rattle.refusals.specs.declared.Refusal.{Refusal}
 use Rattle.table.specs.declared.Completed.{Completed}
 use Rattle.table.specs.declared.Completed.the-variants.{Listed, Refused}
-use Rattle.wire.specs.Bytes.{words-at, Stored}
 use Rattle.wire.specs.Memory.{state-bytes}
 use Rattle.screen.specs.Replies.{RepliesAs, unchosen, Replies}
 use Rattle.screen.specs.Completions.{modules-for, no-lines, lines-reply, ListsAs, unasked, Refuses, RepliesLines}
 use Rattle.screen.specs.declared.CompleteReply.{CompleteReply}
-use Rattle.wire.proofs.Bytes.{words-length, read-back}
 use Rattle.screen.proofs.Held.{Held, says-memory, says-short}
 
 -- ---- By crate table's answer

@@ -1,5 +1,5 @@
 -- What the exported completions reply, and what they write.
-use Prim.Native.Nat.{ℕ, zero, suc, _*_, _/_, min}
+use Prim.Native.Nat.{ℕ, zero, suc}
 use mathlib.Core.Path.{_≡_}
 use mathlib.Core.Bool.{Bool, true, false}
 use mathlib.Core.List.{List}
@@ -9,7 +9,6 @@ use Rattle.source.specs.Text.{Str}
 use Rattle.source.specs.Table as S
 use Rattle.source.specs.Table.{Line}
 use Rattle.source.specs.Calls as C
-use Rattle.source.specs.Calls.{Output}
 use Rattle.memory.specs.Layout.{Item}
 use Rattle.memory.specs.Sound.{Says}
 use Rattle.lines.specs.Ask.{asked}
@@ -17,15 +16,13 @@ use Rattle.lines.specs.Output.{Written}
 use Rattle.lines.specs.declared.Ask.{Ask}
 use Rattle.lines.specs.declared.Ask.the-variants.{Modules}
 use Rattle.lines.specs.declared.Filter.the-variants.{All, Loaded, ModulesOnly, NamespacesOnly}
-use Rattle.table.specs.Header.{IsSound, table-in}
+use Rattle.table.specs.Header.{table-in}
 use Rattle.listing.specs.Completes.{output}
 use Rattle.refusals.specs.Refusals.{number}
 use Rattle.table.specs.Completions.{completion}
 use Rattle.table.specs.declared.Completed.{Completed}
 use Rattle.table.specs.declared.Completed.the-variants.{Listed, Refused}
-use Rattle.memory.specs.Grown.{Outside}
 use Rattle.table.specs.declared.Table.{Table}
-use Rattle.wire.specs.Bytes.{words-at}
 use Rattle.wire.specs.Memory.{words-in}
 use Rattle.screen.specs.Memory.{table-at, SoundBytes}
 use Rattle.screen.specs.declared.CompleteReply.{CompleteReply}

@@ -4,7 +4,6 @@ use mathlib.Core.Path.{sym, _∙_}
 use native.Mathlib.Omega.{arith}
 use lib.Seq.{take-all}
 use Rattle.wire.proofs.Bytes.{Loading, loading-none, loading-more, loading-done}
-use borrow.Author.Needs.{needs}
 use Rattle.rows.proofs.words_of.Statement.{statement}
 use Rattle.rows.proofs.words_of.Tie as tie
 

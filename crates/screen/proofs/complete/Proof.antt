@@ -33,4 +33,4 @@ complete-spec =
     {- same-length-2 -}
     (λ c. search needs)
     {- returns-2 -}
-    (λ c. lines-replied (c^complete .result) (held (c^if1 .left) (c^table-of .ensures) (c^load .ensures .words)) (c^complete .ensures) (c^lines-reply .ensures)))
+    (λ c. lines-replied (c .before .before .before .before .before .complete .result) (held (c .before .before .before .before .before .before .before .before .before .before .before .before .before .if1 .left) (c .before .before .before .before .before .before .before .before .before .table-of .ensures) (c .before .before .before .before .before .before .before .before .before .before .before .load .ensures .words)) (c .before .before .before .before .before .complete .ensures) (c .lines-reply .ensures)))
