@@ -8,7 +8,8 @@ use mathlib.Core.Option.{some}
 use Rattle.source.specs.Calls as C
 use Rattle.source.specs.Calls.{State, Output, Call, register}
 use Rattle.text.specs.Laid.{Laid}
-use Rattle.script.specs.Script.{Str, Command, name, import, alias, module-path, ask, Reads}
+use Rattle.numerals.specs.Bytes.{Str}
+use Rattle.script.specs.Script.{Command, name, import, alias, module-path, ask, Reads}
 use Rattle.script.specs.declared.Import.{Import}
 use Rattle.script.specs.declared.Ask.{Ask}
 use Rattle.script.proofs.ReadsOnce.{reads-once}

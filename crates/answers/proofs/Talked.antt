@@ -9,8 +9,8 @@ use Rattle.source.specs.Calls.{State, Lent, Output}
 use Rattle.source.specs.Shared.{Allˡ}
 use Rattle.text.specs.Laid.{Laid}
 use Rattle.text.proofs.Laid.{laid-none, laid-more, laid-length}
-use Rattle.script.specs.Script.{Str, _·_, All, LineEnd}
-use Rattle.script.specs.declared.Sort.the-variants.{Line}
+use Rattle.numerals.specs.Bytes.{Str, _·_, All, LineEnd}
+use Rattle.numerals.specs.declared.Sort.the-variants.{Line}
 use Rattle.listing.specs.Completes.{output}
 use Rattle.table.specs.Header.{IsSound, state, lent}
 use Rattle.memory.specs.Grown.{Outside}

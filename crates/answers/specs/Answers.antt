@@ -4,11 +4,13 @@ use Prim.Native.Nat.{ℕ, _-_, _*_, _≤_}
 use mathlib.Core.Path.{_≡_}
 use mathlib.Core.List.{List}
 use lib.ListN.{length, take, drop}
+use Rattle.source.specs.Limits.{record-words}
 use Rattle.source.specs.Calls.{Output}
 use Rattle.source.specs.Shared.{Allˡ}
 use Rattle.text.specs.Laid.{Laid}
-use Rattle.script.specs.Script.{Str, Command, Reads, All}
-use Rattle.script.specs.declared.Sort.the-variants.{Line}
+use Rattle.numerals.specs.Bytes.{Str, All}
+use Rattle.script.specs.Script.{Command, Reads}
+use Rattle.numerals.specs.declared.Sort.the-variants.{Line}
 use Rattle.table.specs.Header.{IsSound, state, lent}
 use Rattle.memory.specs.Grown.{Outside}
 use Rattle.table.specs.Registrations.{Unchanged}
@@ -25,7 +27,7 @@ pub record Answered (ws txt ws′ txt′ : List ℕ) (t : Table) (line : Str) (o
   pub replied : Replied (lent ws txt) out (state ws txt t) line (record { text = text; after = state ws′ txt′ (r .table) })
   pub laid : Laid reply reply′ at (r .end) text
   pub sound : IsSound ws′ txt′ (r .table)
-  pub words : Outside (t .header .records * 12) (r .table .header .records * 12) ws ws′
+  pub words : Outside (t .header .records * record-words) (r .table .header .records * record-words) ws ws′
   pub texts : Outside (t .header .text) (r .table .header .text) txt txt′
   pub grows : (t .header .records ≤ r .table .header .records) × (t .header .text ≤ r .table .header .text)
   pub still : ((c : Command) → Reads line c → Accepted (lent ws txt) (state ws txt t) c → ⊥) → Unchanged ws txt ws′ txt′ t (r .table)
@@ -41,7 +43,7 @@ pub record Talked (ws txt ws′ txt′ : List ℕ) (t : Table) (input : Str) (fr
   pub session : Session (lent ws txt) out (state ws txt t) lines text (state ws′ txt′ (r .table))
   pub laid : Laid reply reply′ 0 (r .end) text
   pub sound : IsSound ws′ txt′ (r .table)
-  pub words : Outside (t .header .records * 12) (r .table .header .records * 12) ws ws′
+  pub words : Outside (t .header .records * record-words) (r .table .header .records * record-words) ws ws′
   pub texts : Outside (t .header .text) (r .table .header .text) txt txt′
   pub next-fits : (from ≤ r .next) × (r .next ≤ length input)
   pub goes-on : r .next ≡ from → (r .end ≡ 0) × All Line (drop from input)

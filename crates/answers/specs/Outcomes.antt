@@ -5,7 +5,8 @@ use mathlib.Core.List.{List, [], _∷_}
 use mathlib.Core.Option.{Option, some, none as no-call}
 use Rattle.source.specs.Calls as C
 use Rattle.source.specs.Calls.{State, Lent, Output, Call, register}
-use Rattle.script.specs.Script.{Str, _·_, Command, name, import, alias, module-path, ask, Reads}
+use Rattle.numerals.specs.Bytes.{Str, _·_}
+use Rattle.script.specs.Script.{Command, name, import, alias, module-path, ask, Reads}
 use Rattle.replies.specs.Replies.{bad-reply}
 use Rattle.registrations.specs.Registers.{Outcome, registration, import-call}
 use Rattle.questions.specs.Questions.{asked-text}

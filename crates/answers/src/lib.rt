@@ -1,13 +1,13 @@
 // What the program `console` answers to a line: it is read, its call is made on a table whose memory is sound by proof, and the
 // reply is written. A line that is no form is `[bad]`, and changes nothing.
+use numerals::Extent;
 use registrations::Done;
-use script::Extent;
 use script::Form;
 use table::Table;
 ghost use mathlib.Core.Path.{_≡_};
 ghost use Prim.Native.Nat.{_+_, _≤_};
 ghost use lib.ListN.{length};
-ghost use Rattle.script.specs.Script.{Within, part-of};
+ghost use Rattle.numerals.specs.Parts.{Within, part-of};
 ghost use Rattle.listing.specs.Completes.{output};
 ghost use Rattle.table.specs.Header.{IsSound};
 ghost use Rattle.questions.specs.RowReplies.{room};
@@ -140,7 +140,7 @@ pub fn answer_lines(
     let mut at = 0;
     let mut i = from;
     while size <= reply.len() - at {
-        let e = i + script::line_end(&input[i..]);
+        let e = i + numerals::line_end(&input[i..]);
         if e == input.len() {
             break;
         }

@@ -25,35 +25,37 @@ use Rattle.names.proofs.Made.{made-then, made-what, made-link, made-room}
 use Rattle.kinds.specs.Shapes.{shape-of}
 use Rattle.kinds.specs.declared.Form.{Form}
 use Rattle.kinds.specs.declared.Form.the-variants as form
-use Rattle.change.specs.declared.Change.{Change}
+use Rattle.leaves.specs.declared.Change.{Change}
+use Rattle.change.specs.declared.Descent.{Descent}
 use Rattle.lookup.specs.Tries.{Reads}
-use Rattle.change.specs.Changes.{between, passed, which-of, Kinds, node-of, leaf-of, mutated, namespaces-mutated, Cut, Included, ChangeOk, Leaf, Node, NamespacesMutation, Mutation, Builds, LeafBuilt, NodeBuilt, NamespacesMutated, Mutated}
+use Rattle.leaves.specs.Leaves.{which-of, leaf-of, Included, ChangeOk, Leaf, Builds, LeafBuilt}
+use Rattle.change.specs.Changes.{between, passed, Kinds, node-of, mutated, namespaces-mutated, Cut, Node, NamespacesMutation, Mutation, NodeBuilt, NamespacesMutated, Mutated}
 use Rattle.memory.proofs.Tries.{Lists, lists-in}
 use Rattle.lookup.proofs.Links.{holder-scope}
 use Rattle.change.proofs.Between.{place-next, passed-next, key-in}
-use Rattle.change.proofs.Building.{inserted-within, scope-insertion, scope-built}
-use Rattle.change.proofs.Leaves.{less-room}
+use Rattle.leaves.proofs.Building.{inserted-within, scope-insertion, scope-built}
+use Rattle.leaves.proofs.Leaves.{less-room}
 
 -- ---- namespaces_mutate
-module _ {ws txt : List ℕ} {n used x from at len end : ℕ} {ch : Change} (g : NamespacesMutation ws txt n used x from at len end ch) where
+module _ {ws txt : List ℕ} {n used x at len : ℕ} {d : Descent} (g : NamespacesMutation ws txt n used x at len d) where
   pub spaces-key : TextOk IsKey txt used at len
   spaces-key = key-in (g .place) (g .cut)
 
-  pub spaces-list : At ws txt (which-of ch) (list ns) x
+  pub spaces-list : At ws txt (which-of (d .change)) (list ns) x
   spaces-list = record { records = n; used = used; sound = g .change .sound; link = g .link }
 
   module _ {holder count wt scope : ℕ} (z : NamesPlaced ws txt x (span txt at len) holder count wt) (e : scope ≡ trie-in ws holder) where
-    spaces-scope : Reads ws txt (which-of ch) x scope (scope-of (what (which-of ch) ws txt x (list ns)) (span txt at len))
-    spaces-scope = holder-scope spaces-list (z .found (which-of ch) ns spaces-list) e
+    spaces-scope : Reads ws txt (which-of (d .change)) x scope (scope-of (what (which-of (d .change)) ws txt x (list ns)) (span txt at len))
+    spaces-scope = holder-scope spaces-list (z .found (which-of (d .change)) ns spaces-list) e
 
-    abbrev value : Trie (Item (which-of ch))
-    value = mutated ws txt ch (scope-of (what (which-of ch) ws txt x (list ns)) (span txt at len)) from (at + len + 1) end .value
+    abbrev value : Trie (Item (which-of (d .change)))
+    value = mutated ws txt (d .change) (scope-of (what (which-of (d .change)) ws txt x (list ns)) (span txt at len)) (d .from) (at + len + 1) (d .end) .value
 
     -- What is asked of the scope.
-    pub spaces-mutation : Mutation ws txt n used scope from (at + len + 1) end ch
+    pub spaces-mutation : Mutation ws txt n used scope (at + len + 1) d
     unfolding _>>=_
     spaces-mutation =
-        let w = inserted-within (what (which-of ch) ws txt x (list ns)) (span txt at len) value in
+        let w = inserted-within (what (which-of (d .change)) ws txt x (list ns)) (span txt at len) value in
         record {
           change = g .change;
           link = link-later (omega (arith, g .link .earlier)) (spaces-scope .link);
@@ -65,40 +67,40 @@ module _ {ws txt : List ℕ} {n used x from at len end : ℕ} {ch : Change} (g :
           });
         }
 
-    module _ {ws₁ : List ℕ} {s n₁ k : ℕ} (S : Mutated ws ws₁ txt n scope from (at + len + 1) end ch s n₁) (h : Kinds ch k) where
-      scope-builds : Builds ws ws₁ txt n used (which-of ch) trieˢ (mutated ws txt ch (scope-of (what (which-of ch) ws txt x (list ns)) (span txt at len)) from (at + len + 1) end) s n₁
+    module _ {ws₁ : List ℕ} {s n₁ k : ℕ} (S : Mutated ws ws₁ txt n scope (at + len + 1) d s n₁) (h : Kinds (d .change) k) where
+      scope-builds : Builds ws ws₁ txt n used (which-of (d .change)) trieˢ (mutated ws txt (d .change) (scope-of (what (which-of (d .change)) ws txt x (list ns)) (span txt at len)) (d .from) (at + len + 1) (d .end)) s n₁
       scope-builds = rw (spaces-scope .says) at (S used spaces-mutation)
 
-      kind-is : k + 2 ≡ kind (which-of ch) (tree ns)
+      kind-is : k + 2 ≡ kind (which-of (d .change)) (tree ns)
       kind-is = omega (arith, h .1 (tree ns))
 
-      pub spaces-insertion : NamesInsertion ws₁ txt (which-of ch) ns n₁ used x count ((k + 2) ∷ at ∷ len ∷ 0 ∷ 0 ∷ s ∷ 0 ∷ 0 ∷ 0 ∷ 0 ∷ 0 ∷ 0 ∷ [])
+      pub spaces-insertion : NamesInsertion ws₁ txt (which-of (d .change)) ns n₁ used x count ((k + 2) ∷ at ∷ len ∷ 0 ∷ 0 ∷ s ∷ 0 ∷ 0 ∷ 0 ∷ 0 ∷ 0 ∷ 0 ∷ [])
       spaces-insertion = scope-insertion scope-builds (g .change .sound) (g .link) kind-is spaces-key z (g .fits .room) (g .fits .light)
 
       pub spaces-any : AnyNamesInsertion ws₁ txt n₁ x count ((k + 2) ∷ at ∷ len ∷ 0 ∷ 0 ∷ s ∷ 0 ∷ 0 ∷ 0 ∷ 0 ∷ 0 ∷ 0 ∷ [])
-      spaces-any = record { which = which-of ch; level = ns; used = used; insertion = spaces-insertion }
+      spaces-any = record { which = which-of (d .change); level = ns; used = used; insertion = spaces-insertion }
 
       pub spaces-built : {ws₂ : List ℕ} {y : ℕ} → y ≡ n₁ + count + 1 → NamesInserts ws₁ ws₂ txt n₁ x count ((k + 2) ∷ at ∷ len ∷ 0 ∷ 0 ∷ s ∷ 0 ∷ 0 ∷ 0 ∷ 0 ∷ 0 ∷ 0 ∷ []) y
-          → Builds ws ws₂ txt n used (which-of ch) (list ns) (namespaces-mutated ws txt ch (what (which-of ch) ws txt x (list ns)) from at len end) y y
+          → Builds ws ws₂ txt n used (which-of (d .change)) (list ns) (namespaces-mutated ws txt (d .change) (what (which-of (d .change)) ws txt x (list ns)) (d .from) at len (d .end)) y y
       spaces-built f m = scope-built scope-builds (g .change .sound) (g .link) kind-is spaces-key z spaces-insertion f m
 
 -- ---- trie_mutate at the host
-module _ (ws txt : List ℕ) (from at end : ℕ) (e : at ≡ end) where
-  mutated-leaf : (ch : Change) (tr : Trie (Item (which-of ch))) → mutated ws txt ch tr from at end ≡ leaf-of ws txt ch tr
+module _ (ws txt : List ℕ) (at : ℕ) (d : Descent) (e : at ≡ d .end) where
+  mutated-leaf : (tr : Trie (Item (which-of (d .change)))) → mutated ws txt (d .change) tr (d .from) at (d .end) ≡ leaf-of ws txt (d .change) tr
   unfolding trie-mutateᶜ span segments
-  mutated-leaf ch tr = let z : end - at ≡ 0 = omega arith in rw z
+  mutated-leaf tr = let z : d .end - at ≡ 0 = omega arith in rw z
 
-  pub leaf-mutation : {n used x : ℕ} {ch : Change} → Mutation ws txt n used x from at end ch → Leaf ws txt n used x ch
-  leaf-mutation {ch = ch} m = record { change = m .change; link = m .link; fits = rw (mutated-leaf ch) at (m .fits) }
+  pub leaf-mutation : {n used x : ℕ} → Mutation ws txt n used x at d → Leaf ws txt n used x (d .change)
+  leaf-mutation m = record { change = m .change; link = m .link; fits = rw mutated-leaf at (m .fits) }
 
-  pub leaf-mutated : {ws′ : List ℕ} {n x link n′ : ℕ} (ch : Change) → LeafBuilt ws ws′ txt n x ch link n′ → Mutated ws ws′ txt n x from at end ch link n′
-  leaf-mutated ch b used m = rw (mutated-leaf ch) (b used (leaf-mutation m))
+  pub leaf-mutated : {ws′ : List ℕ} {n x link n′ : ℕ} → LeafBuilt ws ws′ txt n x (d .change) link n′ → Mutated ws ws′ txt n x at d link n′
+  leaf-mutated b used m = rw mutated-leaf (b used (leaf-mutation m))
 
 -- ---- trie_mutate above it
 
 -- What segment_in asks.
-pub segment-ready : {ws txt : List ℕ} {n used x from at end : ℕ} {ch : Change} → Mutation ws txt n used x from at end ch → (at ≡ end → ⊥)
-    → (at < end) × (end ≤ length txt) × (end ≤ 65536) × (ends-in-dot (span txt at (end - at)) ≡ true)
+pub segment-ready : {ws txt : List ℕ} {n used x at : ℕ} {d : Descent} → Mutation ws txt n used x at d → (at ≡ d .end → ⊥)
+    → (at < d .end) × (d .end ≤ length txt) × (d .end ≤ 65536) × (ends-in-dot (span txt at (d .end - at)) ≡ true)
 segment-ready m h = (
   omega (arith, m .place .inside),
   omega (arith, m .place .within, m .change .sound .text-fits),
@@ -115,34 +117,34 @@ change-stays {ch} {ws} {ws′} {n = n} {n′} m c = record { sound = m .sound; t
     stays form.Import i = made-link m (omega arith) i
     stays (form.Module loaded) i = i
 
-module _ {ws txt : List ℕ} {n used x from at len end : ℕ} {ch : Change} {p : M.Trie} (m : Mutation ws txt n used x from at end ch) (c : Cut txt at len end) (q : ReadTrie ws x p) where
-  mutation-lists : Lists ws txt n (which-of ch) x p
+module _ {ws txt : List ℕ} {n used x at len : ℕ} {d : Descent} {p : M.Trie} (m : Mutation ws txt n used x at d) (c : Cut txt at len (d .end)) (q : ReadTrie ws x p) where
+  mutation-lists : Lists ws txt n (which-of (d .change)) x p
   mutation-lists = lists-in (m .change .sound) (m .link) q
 
-  abbrev tr : Trie (Item (which-of ch))
-  tr = what (which-of ch) ws txt x trieˢ
+  abbrev tr : Trie (Item (which-of (d .change)))
+  tr = what (which-of (d .change)) ws txt x trieˢ
 
-  abbrev spaces : Counted (NameList (Item (which-of ch)) ns)
-  spaces = namespaces-mutated ws txt ch (namespaces tr) from at len end
+  abbrev spaces : Counted (NameList (Item (which-of (d .change))) ns)
+  spaces = namespaces-mutated ws txt (d .change) (namespaces tr) (d .from) at len (d .end)
 
-  abbrev node : NameList (Item (which-of ch)) ns → Counted (Trie (Item (which-of ch)))
-  node y = node-of txt ch tr (span txt at len) (between txt (at + len + 1) end) (passed txt from at) y
+  abbrev node : NameList (Item (which-of (d .change))) ns → Counted (Trie (Item (which-of (d .change))))
+  node y = node-of txt (d .change) tr (span txt at len) (between txt (at + len + 1) (d .end)) (passed txt (d .from) at) y
 
   -- One step of trie_mutate.
-  step : mutated ws txt ch tr from at end
-      ≡ (mutated ws txt ch (scope-of (namespaces tr) (span txt at len)) from (at + len + 1) end >>= λ scope. names-insertᶜ (namespaces tr) (span txt at len) scope >>= node)
+  step : mutated ws txt (d .change) tr (d .from) at (d .end)
+      ≡ (mutated ws txt (d .change) (scope-of (namespaces tr) (span txt at len)) (d .from) (at + len + 1) (d .end) >>= λ scope. names-insertᶜ (namespaces tr) (span txt at len) scope >>= node)
   unfolding trie-mutateᶜ
   step = rw (passed-next (m .place) c, c .splits)
 
-  step-value : mutated ws txt ch tr from at end .value ≡ node (spaces .value) .value
+  step-value : mutated ws txt (d .change) tr (d .from) at (d .end) .value ≡ node (spaces .value) .value
   unfolding _>>=_
   step-value = rw step
 
-  step-count : mutated ws txt ch tr from at end .count ≡ spaces .count + node (spaces .value) .count
+  step-count : mutated ws txt (d .change) tr (d .from) at (d .end) .count ≡ spaces .count + node (spaces .value) .count
   unfolding _>>=_
   step-count = rw step (omega arith)
 
-  pub mutation-spaces : NamespacesMutation ws txt n used (p .namespaces) from at len end ch
+  pub mutation-spaces : NamespacesMutation ws txt n used (p .namespaces) at len d
   unfolding node-of _>>=_ one heaviest depth
   mutation-spaces = record {
     change = m .change;
@@ -156,14 +158,14 @@ module _ {ws txt : List ℕ} {n used x from at len end : ℕ} {ch : Change} {p :
     });
   }
 
-  module _ {ws₁ : List ℕ} {y n₁ : ℕ} (N : NamespacesMutated ws ws₁ txt n (p .namespaces) from at len end ch y n₁) where
-    spaces-builds : Builds ws ws₁ txt n used (which-of ch) (list ns) spaces y n₁
+  module _ {ws₁ : List ℕ} {y n₁ : ℕ} (N : NamespacesMutated ws ws₁ txt n (p .namespaces) at len d y n₁) where
+    spaces-builds : Builds ws ws₁ txt n used (which-of (d .change)) (list ns) spaces y n₁
     spaces-builds = rw (mutation-lists .n-reads) at (N used mutation-spaces)
 
-    same : what (which-of ch) ws₁ txt x ≡ what (which-of ch) ws txt x
-    same = made-what (spaces-builds .made) (which-of ch) (omega (arith, m .link .earlier))
+    same : what (which-of (d .change)) ws₁ txt x ≡ what (which-of (d .change)) ws txt x
+    same = made-what (spaces-builds .made) (which-of (d .change)) (omega (arith, m .link .earlier))
 
-    pub mutation-node : Node ws₁ txt n₁ used x y from at len end ch
+    pub mutation-node : Node ws₁ txt n₁ used x y at len d
     mutation-node = record {
       change = change-stays (spaces-builds .made) (m .change);
       link = made-link (spaces-builds .made) (omega arith) (m .link);
@@ -177,9 +179,9 @@ module _ {ws txt : List ℕ} {n used x from at len end : ℕ} {ch : Change} {p :
       });
     }
 
-    pub mutation-built : {ws₂ : List ℕ} {r n₂ : ℕ} → NodeBuilt ws₁ ws₂ txt n₁ x y from at len end ch r n₂ → Builds ws ws₂ txt n used (which-of ch) trieˢ (mutated ws txt ch tr from at end) r n₂
-    mutation-built d =
-        let b : Builds ws₁ _ txt n₁ used (which-of ch) trieˢ (node (spaces .value)) _ _ = rw (same, spaces-builds .made .reads) at (d used mutation-node) in
+    pub mutation-built : {ws₂ : List ℕ} {r n₂ : ℕ} → NodeBuilt ws₁ ws₂ txt n₁ x y at len d r n₂ → Builds ws ws₂ txt n used (which-of (d .change)) trieˢ (mutated ws txt (d .change) tr (d .from) at (d .end)) r n₂
+    mutation-built f =
+        let b : Builds ws₁ _ txt n₁ used (which-of (d .change)) trieˢ (node (spaces .value)) _ _ = rw (same, spaces-builds .made .reads) at (f used mutation-node) in
         record {
           number = omega (arith, step-count, b .number, spaces-builds .number);
           made = rw step-value (made-then (spaces-builds .made) (b .made));

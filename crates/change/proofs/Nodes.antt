@@ -8,7 +8,7 @@ use lib.Dec.{eqb}
 use lib.ListN.{length}
 use borrow.Author.Tests.{eqb-true, eqb-false}
 use Rattle.source.specs.Text.{Str, Query, segments, ends-in-dot}
-use Rattle.source.specs.Types.{Value, NameList, bind, ns, item}
+use Rattle.source.specs.Types.{Value, NameList, bind, item}
 use Rattle.source.specs.Tries.{names-find-exact}
 use Rattle.source.specs.Rules.{IsKey, IsFullName, IsPath}
 use Rattle.source.specs.Table.{name-of-revq, ns-inserts}
@@ -26,19 +26,21 @@ use Rattle.memory.specs.declared.Span.{Span}
 use Rattle.kinds.specs.Shapes.{shape-of}
 use Rattle.kinds.specs.declared.Form.{Form}
 use Rattle.kinds.specs.declared.Form.the-variants as form
-use Rattle.change.specs.declared.Change.{Change}
+use Rattle.leaves.specs.declared.Change.{Change}
+use Rattle.change.specs.declared.Descent.{Descent}
 use Rattle.names.specs.Names.{NamesPlaced}
 use Rattle.names.specs.Made.{Room, MadeTrie}
 use Rattle.names.specs.Insert.{NamesInsertion, AnyNamesInsertion, NamesInserts}
 use Rattle.names.proofs.Made.{made-none}
 use Rattle.names.proofs.NamesInsertion.{insertion-after}
 use Rattle.lookup.specs.Tries.{NsInserts}
-use Rattle.change.specs.Changes.{between, passed, which-of, Kinds, bindings-by, node-of, symbol-row, Some, Bindings, Node, Builds, BindingsBuilt}
+use Rattle.leaves.specs.Leaves.{which-of, Some, Builds}
+use Rattle.change.specs.Changes.{between, passed, Kinds, bindings-by, node-of, symbol-row, form-of, bindings-at, node-at, Bindings, Node, BindingsBuilt}
 use Rattle.lookup.proofs.Found.{some-left}
 use Rattle.change.proofs.Between.{span-length, place-next, key-in, full-name-is, full-name-in}
 use Rattle.memory.proofs.Tries.{Lists, lists-in}
-use Rattle.change.proofs.Building.{builds-none, builds-insert, placed-light, placed-count, bindings-ready, bindings-built}
-use Rattle.change.proofs.Leaves.{less-room}
+use Rattle.leaves.proofs.Building.{builds-none, builds-insert, placed-light, placed-count, bindings-ready, bindings-built}
+use Rattle.leaves.proofs.Leaves.{less-room}
 
 -- ---- kinds
 module _ (ch : Change) where
@@ -103,7 +105,7 @@ symbol-reads txt at len from path true false = refl
 symbol-reads txt at len from path false true = refl
 symbol-reads txt at len from path false false = refl
 
-module _ {ws txt : List ℕ} {n used x from at len end : ℕ} {loaded : Bool} {path : Span} (i : Bindings ws txt n used x from at len end (form.Module loaded) path) where
+module _ {ws txt : List ℕ} {n used x at len : ℕ} {d : Descent} {loaded : Bool} (i : Bindings ws txt n used x at len d (form.Module loaded)) where
   pub ins-list : At ws txt modules (list bind) x
   ins-list = record { records = n; used = used; sound = i .sound; link = i .link }
 
@@ -112,29 +114,29 @@ module _ {ws txt : List ℕ} {n used x from at len end : ℕ} {loaded : Bool} {p
 
   module _ {holder count wt : ℕ} {b : Bool} (z : NamesPlaced ws txt x (span txt at len) holder count wt) (f : NsInserts ws holder loaded b) where
     abbrev ins-last : Bool
-    ins-last = eqb (at + len + 1) end
+    ins-last = eqb (at + len + 1) (d .end)
 
-    ins-last-is : ins-last ≡ is-empty (between txt (at + len + 1) end)
+    ins-last-is : ins-last ≡ is-empty (between txt (at + len + 1) (d .end))
     ins-last-is =
-        let d = place-next (i .place) (i .cut) in
-        let h = span-length txt (at + len + 1) (end - (at + len + 1)) (omega (arith, d .inside, d .within, i .sound .text-fits)) in
-        last-in (span txt (at + len + 1) (end - (at + len + 1))) (d .ends) ins-last (λ e. omega (arith, h, eqb-true (at + len + 1) end e)) (λ e. omega (arith, h, d .inside, eqb-false (at + len + 1) end e))
+        let pl = place-next (i .place) (i .cut) in
+        let h = span-length txt (at + len + 1) (d .end - (at + len + 1)) (omega (arith, pl .inside, pl .within, i .sound .text-fits)) in
+        last-in (span txt (at + len + 1) (d .end - (at + len + 1))) (pl .ends) ins-last (λ e. omega (arith, h, eqb-true (at + len + 1) (d .end) e)) (λ e. omega (arith, h, pl .inside, eqb-false (at + len + 1) (d .end) e))
 
-    ins-of : bindings-by txt (form.Module loaded) path (what modules ws txt x (list bind)) (span txt at len) (between txt (at + len + 1) end) (passed txt from at)
+    ins-of : bindings-at txt at len d (form.Module loaded) (what modules ws txt x (list bind))
         ≡ cond (ins-last || b)
-        (names-insertᶜ (what modules ws txt x (list bind)) (span txt at len) (item (item-of modules txt (symbol-row ins-last at len from loaded path))))
+        (names-insertᶜ (what modules ws txt x (list bind)) (span txt at len) (item (item-of modules txt (symbol-row ins-last at len (d .from) loaded (d .change .text)))))
         (pure (what modules ws txt x (list bind)))
     unfolding bindings-by
     ins-of =
-        ins-is (span txt (path .start) (path .len)) (span txt at len) (between txt (at + len + 1) end) (passed txt from at) (what modules ws txt x (list bind)) ins-last loaded b ins-last-is
+        ins-is (span txt (d .change .text .start) (d .change .text .len)) (span txt at len) (between txt (at + len + 1) (d .end)) (passed txt (d .from) at) (what modules ws txt x (list bind)) ins-last loaded b ins-last-is
         (rw (z .found modules bind ins-list .says) (f .says txt))
-        ∙ rw (symbol-reads txt at len from path ins-last loaded, full-name-is (i .place) (i .cut) (i .sound .text-fits))
+        ∙ rw (symbol-reads txt at len (d .from) (d .change .text) ins-last loaded, full-name-is (i .place) (i .cut) (i .sound .text-fits))
 
     module _ (g : ins-last || b ≡ true) where
-      ins-insertion : NamesInsertion ws txt modules bind n used x count (symbol-row ins-last at len from loaded path)
+      ins-insertion : NamesInsertion ws txt modules bind n used x count (symbol-row ins-last at len (d .from) loaded (d .change .text))
       ins-insertion =
-          let v : Value S.ModSymbol bind = item (item-of modules txt (symbol-row ins-last at len from loaded path)) in
-          insertion-after (made-none (list bind) (i .sound) (i .link)) ins-list (omega (arith, i .link .earlier)) (symbol-row ins-last at len from loaded path) z
+          let v : Value S.ModSymbol bind = item (item-of modules txt (symbol-row ins-last at len (d .from) loaded (d .change .text))) in
+          insertion-after (made-none (list bind) (i .sound) (i .link)) ins-list (omega (arith, i .link .earlier)) (symbol-row ins-last at len (d .from) loaded (d .change .text)) z
           (placed-light ins-list z v (rw (← names-insert-value) (rw (ins-of, g) at (i .light))))
           (rw (ins-of, g, placed-count ins-list z v) at (i .room))
           (record {
@@ -143,45 +145,45 @@ module _ {ws txt : List ℕ} {n used x from at len end : ℕ} {loaded : Bool} {p
             holds = symbol-ok (full-name-in (i .place) (i .cut) (i .sound .text-fits)) (i .text-ok) ins-last loaded;
           })
 
-      ins-built : {ws′ : List ℕ} {y : ℕ} → y ≡ n + count + 1 → NamesInserts ws ws′ txt n x count (symbol-row ins-last at len from loaded path) y
-          → Builds ws ws′ txt n used modules (list bind) (bindings-by txt (form.Module loaded) path (what modules ws txt x (list bind)) (span txt at len) (between txt (at + len + 1) end) (passed txt from at)) y y
+      ins-built : {ws′ : List ℕ} {y : ℕ} → y ≡ n + count + 1 → NamesInserts ws ws′ txt n x count (symbol-row ins-last at len (d .from) loaded (d .change .text)) y
+          → Builds ws ws′ txt n used modules (list bind) (bindings-at txt at len d (form.Module loaded) (what modules ws txt x (list bind))) y y
       ins-built e m = rw (ins-of, g) (builds-insert ins-insertion m e)
 
       -- As the code has the row.
-      pub ins-any : {r : List ℕ} → r ≡ symbol-row ins-last at len from loaded path → AnyNamesInsertion ws txt n x count r
+      pub ins-any : {r : List ℕ} → r ≡ symbol-row ins-last at len (d .from) loaded (d .change .text) → AnyNamesInsertion ws txt n x count r
       ins-any e = rw e (record { which = modules; level = bind; used = used; insertion = ins-insertion })
 
-      pub ins-made : {ws′ : List ℕ} {y : ℕ} {r : List ℕ} → r ≡ symbol-row ins-last at len from loaded path → y ≡ n + count + 1 → NamesInserts ws ws′ txt n x count r y
-          → Builds ws ws′ txt n used modules (list bind) (bindings-by txt (form.Module loaded) path (what modules ws txt x (list bind)) (span txt at len) (between txt (at + len + 1) end) (passed txt from at)) y y
+      pub ins-made : {ws′ : List ℕ} {y : ℕ} {r : List ℕ} → r ≡ symbol-row ins-last at len (d .from) loaded (d .change .text) → y ≡ n + count + 1 → NamesInserts ws ws′ txt n x count r y
+          → Builds ws ws′ txt n used modules (list bind) (bindings-at txt at len d (form.Module loaded) (what modules ws txt x (list bind))) y y
       ins-made e f m = ins-built f (rw e at m)
 
     pub ins-none : ins-last || b ≡ false
-        → Builds ws ws txt n used modules (list bind) (bindings-by txt (form.Module loaded) path (what modules ws txt x (list bind)) (span txt at len) (between txt (at + len + 1) end) (passed txt from at)) x n
+        → Builds ws ws txt n used modules (list bind) (bindings-at txt at len d (form.Module loaded) (what modules ws txt x (list bind))) x n
     ins-none g = rw (ins-of, g) (builds-none (list bind) (i .sound) (i .link))
 
 -- ---- the bindings of each form
-module _ {ws txt : List ℕ} {n x from at len end : ℕ} {f : Form} {text : Span} where
-  pub keeps-name : f ≡ form.Name → BindingsBuilt ws ws txt n x from at len end f text x n
+module _ {ws txt : List ℕ} {n x at len : ℕ} {d : Descent} {f : Form} where
+  pub keeps-name : f ≡ form.Name → BindingsBuilt ws ws txt n x at len d f x n
   unfolding bindings-by
   keeps-name e = rw e (λ used i. builds-none (list bind) (i .sound) (i .link))
 
-  pub keeps-import : f ≡ form.Import → BindingsBuilt ws ws txt n x from at len end f text x n
+  pub keeps-import : f ≡ form.Import → BindingsBuilt ws ws txt n x at len d f x n
   unfolding bindings-by
   keeps-import e = rw e (λ used i. builds-none (list bind) (i .sound) (i .link))
 
   module _ {g : Form} (e : f ≡ g) where
-    pub bindings-as : Some (λ used. Bindings ws txt n used x from at len end f text) → Some (λ used. Bindings ws txt n used x from at len end g text)
+    pub bindings-as : Some (λ used. Bindings ws txt n used x at len d f) → Some (λ used. Bindings ws txt n used x at len d g)
     bindings-as i = rw e at i
 
-    pub bindings-to : {ws′ : List ℕ} {link n′ : ℕ} → BindingsBuilt ws ws′ txt n x from at len end g text link n′ → BindingsBuilt ws ws′ txt n x from at len end f text link n′
+    pub bindings-to : {ws′ : List ℕ} {link n′ : ℕ} → BindingsBuilt ws ws′ txt n x at len d g link n′ → BindingsBuilt ws ws′ txt n x at len d f link n′
     bindings-to b = rw e b
 
 -- ---- mut_node
-module _ {ws txt : List ℕ} {n used x y from at len end : ℕ} {ch : Change} {p : M.Trie} (i : Node ws txt n used x y from at len end ch) (q : ReadTrie ws x p) where
-  node-lists : Lists ws txt n (which-of ch) x p
+module _ {ws txt : List ℕ} {n used x y at len : ℕ} {d : Descent} {p : M.Trie} (i : Node ws txt n used x y at len d) (q : ReadTrie ws x p) where
+  node-lists : Lists ws txt n (which-of (d .change)) x p
   node-lists = lists-in (i .change .sound) (i .link) q
 
-  pub node-bindings : Bindings ws txt n used (p .bindings) from at len end (shape-of (ch .kind) .form) (ch .text)
+  pub node-bindings : Bindings ws txt n used (p .bindings) at len d (form-of d)
   unfolding node-of _>>=_ one heaviest
   node-bindings = record {
     sound = i .change .sound;
@@ -193,15 +195,15 @@ module _ {ws txt : List ℕ} {n used x y from at len end : ℕ} {ch : Change} {p
     light = rw (node-lists .b-reads) (omega (arith, i .fits .light));
   }
 
-  module _ {ws₁ : List ℕ} {b n₁ : ℕ} (B : BindingsBuilt ws ws₁ txt n (p .bindings) from at len end (shape-of (ch .kind) .form) (ch .text) b n₁) where
+  module _ {ws₁ : List ℕ} {b n₁ : ℕ} (B : BindingsBuilt ws ws₁ txt n (p .bindings) at len d (form-of d) b n₁) where
     pub node-ready : Room ws₁ n₁ 1 × ((y ≤ n₁) × (depth-in ws₁ y ≤ 16))
     unfolding node-of _>>=_ one depth
     node-ready = bindings-ready (B used node-bindings) (i .list-link) (rw (node-lists .b-reads) (i .fits .room)) (i .fits .shallow)
 
-    pub node-built : {ws₂ : List ℕ} {k r : ℕ} → Kinds ch k → r ≡ n₁ + 1 → MadeTrie ws₁ ws₂ n₁ (k + 5) b y r
-        → Builds ws ws₂ txt n used (which-of ch) trieˢ
-        (node-of txt ch (what (which-of ch) ws txt x trieˢ) (span txt at len) (between txt (at + len + 1) end) (passed txt from at) (what (which-of ch) ws txt y (list ns))) r r
+    pub node-built : {ws₂ : List ℕ} {k r : ℕ} → Kinds (d .change) k → r ≡ n₁ + 1 → MadeTrie ws₁ ws₂ n₁ (k + 5) b y r
+        → Builds ws ws₂ txt n used (which-of (d .change)) trieˢ
+        (node-at ws txt x y at len d) r r
     unfolding node-of
     node-built {k = k} h e m =
-        let f : k + 5 ≡ kind (which-of ch) trieˢ = omega (arith, h .1 trieˢ) in
+        let f : k + 5 ≡ kind (which-of (d .change)) trieˢ = omega (arith, h .1 trieˢ) in
         rw (← node-lists .b-reads) (bindings-built (B used node-bindings) (i .list-link) f e m)

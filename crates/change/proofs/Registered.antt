@@ -17,8 +17,9 @@ use Rattle.memory.specs.Layout.{span, Which, names, modules, Item, trieˢ, what
 use Rattle.memory.specs.Read.{text-of}
 use Rattle.names.specs.Made.{Room}
 use Rattle.kinds.specs.declared.Kind.the-variants.{Name, Include, Open, Alias, Module}
-use Rattle.change.specs.declared.Change.{Change}
-use Rattle.change.specs.Changes.{between, passed, with-kind, label-in, node-of, leaf-by, bindings-by, mutated, Fits}
+use Rattle.leaves.specs.declared.Change.{Change}
+use Rattle.leaves.specs.Leaves.{with-kind, label-in, leaf-by, Fits}
+use Rattle.change.specs.Changes.{between, passed, node-of, bindings-by, mutated}
 
 module _ (ws txt : List ℕ) (at end : ℕ) where
   nothing-passed : passed txt at at ≡ []

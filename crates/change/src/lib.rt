@@ -1,6 +1,8 @@
-// The change of a trie: the source's namespaces_mutate and trie_mutate with the leaf of each kind, building records after the used ones.
+// The change of a trie: the source's namespaces_mutate and trie_mutate with mut_node and mut_leaf, building records after the used ones.
 use kinds::Form;
-use kinds::Kind;
+use leaves::Built;
+use leaves::Change;
+use leaves::mut_leaf;
 use memory::ModSymbol;
 use memory::Span;
 ghost use mathlib.Core.Path.{_≡_};
@@ -9,24 +11,15 @@ ghost use Prim.Native.Nat.{_+_, _-_, _<_, _≤_};
 ghost use lib.ListN.{length};
 ghost use Rattle.source.specs.Text.{ends-in-dot};
 ghost use Rattle.memory.specs.Layout.{span};
-ghost use Rattle.kinds.specs.Shapes.{shape-of};
-ghost use Rattle.kinds.specs.declared.Kind.the-variants.{Name, Include, Open, Alias};
 ghost use Rattle.kinds.specs.declared.Form.the-variants as form;
-ghost use Rattle.change.specs.Changes.{with-kind, label-in, Kinds, symbol-row, Cut, Some, Leaf, Bindings, Node, NamespacesMutation, Mutation, LeafBuilt, BindingsBuilt, NodeBuilt, NamespacesMutated, Mutated};
+ghost use Rattle.leaves.specs.Leaves.{Some};
+ghost use Rattle.change.specs.Changes.{form-of, Kinds, symbol-row, Cut, Bindings, Node, NamespacesMutation, Mutation, BindingsBuilt, NodeBuilt, NamespacesMutated, Mutated};
 
-// A change of a trie: its kind, its second text and key as spans of the table's text, and the included trie.
-// What the kind does not use is of no account.
-pub struct Change {
-    pub kind: Kind,
-    pub text: Span,
-    pub key: Span,
-    pub inc: u32,
-}
-
-// A link, and the records used after its making.
-pub struct Built {
-    pub link: u32,
-    pub records: u32,
+// What stays the same on the way down a query: where the query begins and ends in the text, and the change at its end.
+pub struct Descent {
+    pub from: u32,
+    pub end: u32,
+    pub change: Change,
 }
 
 // The length of the segment of the text that begins at `at`.
@@ -50,125 +43,6 @@ fn kinds_of(change: Change) -> u32
         Form::Name => 0,
         Form::Import => 0,
         Form::Module(_) => 5,
-    }
-}
-
-// One less, down to 0.
-fn less_one(n: u32) -> u32
-    ensures { λ r. ⌜ r ≡ n - 1 ⌝ }
-{
-    if n == 0 {
-        return 0;
-    }
-    n - 1
-}
-
-// The label of an included query: without its last dot.
-fn label_of(text: Span) -> Span
-    ensures { λ r. ⌜ r ≡ label-in text ⌝ }
-{
-    Span {
-        start: text.start,
-        len: less_one(text.len),
-    }
-}
-
-// trie_insert's mut_leaf.
-fn insert_leaf(
-    words: &mut [u32],
-    text: &[u8],
-    records: u32,
-    trie: u32,
-    change: Change,
-    number: u32,
-) -> Built
-    requires { ⌜ Some (λ used. Leaf (now words) (now text) records used trie (with-kind (Name number) change)) ⌝ }
-    ensures { λ r. ⌜ LeafBuilt (now (words .entry)) (now (words .exit)) (now (text .entry)) records trie (with-kind (Name number) change) (r .link) (r .records) ⌝ }
-{
-    let t = memory::trie_of(words, trie);
-    let id = change.text;
-    let start = id.start as usize;
-    let len = id.len as usize;
-    let p = names::names_place(words, text, t.bindings, &text[start..start + len]);
-    let row = memory::make::binding_row(id, number);
-    let b = names::names_insert(words, text, records, t.bindings, p.count, row);
-    let link = names::put_trie(words, b, 5, b, t.namespaces);
-    Built {
-        link: link,
-        records: link,
-    }
-}
-
-// trie_include's.
-fn include_leaf(words: &mut [u32], text: &[u8], records: u32, trie: u32, change: Change) -> Built
-    requires { ⌜ Some (λ used. Leaf (now words) (now text) records used trie (with-kind Include change)) ⌝ }
-    ensures { λ r. ⌜ LeafBuilt (now (words .entry)) (now (words .exit)) (now (text .entry)) records trie (with-kind Include change) (r .link) (r .records) ⌝ }
-{
-    let t = memory::trie_of(words, trie);
-    let i = memory::trie_of(words, change.inc);
-    let label = label_of(change.text);
-    let b = names::imported(words, records, 3, label, i.bindings, t.bindings);
-    let link = names::put_trie(words, b, 5, b, t.namespaces);
-    Built {
-        link: link,
-        records: link,
-    }
-}
-
-// trie_open_namespace's.
-fn open_leaf(words: &mut [u32], text: &[u8], records: u32, trie: u32, change: Change) -> Built
-    requires { ⌜ Some (λ used. Leaf (now words) (now text) records used trie (with-kind Open change)) ⌝ }
-    ensures { λ r. ⌜ LeafBuilt (now (words .entry)) (now (words .exit)) (now (text .entry)) records trie (with-kind Open change) (r .link) (r .records) ⌝ }
-{
-    let t = memory::trie_of(words, trie);
-    let i = memory::trie_of(words, change.inc);
-    let label = label_of(change.text);
-    let n = names::imported(words, records, 4, label, i.namespaces, t.namespaces);
-    let link = names::put_trie(words, n, 5, t.bindings, n);
-    Built {
-        link: link,
-        records: link,
-    }
-}
-
-// trie_add_alias's: at the key a fresh trie of the included bindings alone.
-fn alias_leaf(words: &mut [u32], text: &[u8], records: u32, trie: u32, change: Change) -> Built
-    requires { ⌜ Some (λ used. Leaf (now words) (now text) records used trie (with-kind Alias change)) ⌝ }
-    ensures { λ r. ⌜ LeafBuilt (now (words .entry)) (now (words .exit)) (now (text .entry)) records trie (with-kind Alias change) (r .link) (r .records) ⌝ }
-{
-    let t = memory::trie_of(words, trie);
-    let i = memory::trie_of(words, change.inc);
-    let label = label_of(change.text);
-    let key = change.key;
-    let start = key.start as usize;
-    let len = key.len as usize;
-    let p = names::names_place(words, text, t.namespaces, &text[start..start + len]);
-    let b = names::imported(words, records, 3, label, i.bindings, 0);
-    let scope = names::put_trie(words, b, 5, b, 0);
-    let row = memory::make::namespace_row(0, key, scope);
-    let n = names::names_insert(words, text, scope, t.namespaces, p.count, row);
-    let link = names::put_trie(words, n, 5, t.bindings, n);
-    Built {
-        link: link,
-        records: link,
-    }
-}
-
-// mut_leaf of a change.
-fn mut_leaf(words: &mut [u32], text: &[u8], records: u32, trie: u32, change: Change) -> Built
-    requires { ⌜ Some (λ used. Leaf (now words) (now text) records used trie change) ⌝ }
-    ensures { λ r. ⌜ LeafBuilt (now (words .entry)) (now (words .exit)) (now (text .entry)) records trie change (r .link) (r .records) ⌝ }
-{
-    let kind = change.kind;
-    match kind {
-        Kind::Name(number) => insert_leaf(words, text, records, trie, change, number),
-        Kind::Include => include_leaf(words, text, records, trie, change),
-        Kind::Open => open_leaf(words, text, records, trie, change),
-        Kind::Alias => alias_leaf(words, text, records, trie, change),
-        Kind::Module(_) => Built {
-            link: trie,
-            records: records,
-        },
     }
 }
 
@@ -204,22 +78,21 @@ fn ins(
     text: &[u8],
     records: u32,
     bindings: u32,
-    from: u32,
     at: u32,
     len: u32,
-    end: u32,
+    d: Descent,
     loaded: bool,
-    path: Span,
 ) -> Built
-    requires { ⌜ Some (λ used. Bindings (now words) (now text) records used bindings from at len end (form.Module loaded) path) ⌝ }
-    ensures { λ r. ⌜ BindingsBuilt (now (words .entry)) (now (words .exit)) (now (text .entry)) records bindings from at len end (form.Module loaded) path (r .link) (r .records) ⌝ }
+    requires { ⌜ Some (λ used. Bindings (now words) (now text) records used bindings at len d (form.Module loaded)) ⌝ }
+    ensures { λ r. ⌜ BindingsBuilt (now (words .entry)) (now (words .exit)) (now (text .entry)) records bindings at len d (form.Module loaded) (r .link) (r .records) ⌝ }
 {
     let first = at as usize;
     let size = len as usize;
     let p = names::names_place(words, text, bindings, &text[first..first + size]);
-    let last = at + len + 1 == end;
+    let last = at + len + 1 == d.end;
     if last | lookup::ns_inserts(words, p.holder, loaded) {
-        let row = symbol_row(last, at, len, from, loaded, path);
+        let change = d.change;
+        let row = symbol_row(last, at, len, d.from, loaded, change.text);
         let b = names::names_insert(words, text, records, bindings, p.count, row);
         return Built {
             link: b,
@@ -238,15 +111,14 @@ fn mut_bindings(
     text: &[u8],
     records: u32,
     bindings: u32,
-    from: u32,
     at: u32,
     len: u32,
-    end: u32,
-    change: Change,
+    d: Descent,
 ) -> Built
-    requires { ⌜ Some (λ used. Bindings (now words) (now text) records used bindings from at len end (shape-of (change .kind) .form) (change .text)) ⌝ }
-    ensures { λ r. ⌜ BindingsBuilt (now (words .entry)) (now (words .exit)) (now (text .entry)) records bindings from at len end (shape-of (change .kind) .form) (change .text) (r .link) (r .records) ⌝ }
+    requires { ⌜ Some (λ used. Bindings (now words) (now text) records used bindings at len d (form-of d)) ⌝ }
+    ensures { λ r. ⌜ BindingsBuilt (now (words .entry)) (now (words .exit)) (now (text .entry)) records bindings at len d (form-of d) (r .link) (r .records) ⌝ }
 {
+    let change = d.change;
     let kind = change.kind;
     let s = kinds::shape_of(kind);
     let f = s.form;
@@ -259,18 +131,7 @@ fn mut_bindings(
             link: bindings,
             records: records,
         },
-        Form::Module(loaded) => ins(
-            words,
-            text,
-            records,
-            bindings,
-            from,
-            at,
-            len,
-            end,
-            loaded,
-            change.text,
-        ),
+        Form::Module(loaded) => ins(words, text, records, bindings, at, len, d, loaded),
     }
 }
 
@@ -281,18 +142,16 @@ fn mut_node(
     records: u32,
     trie: u32,
     namespaces: u32,
-    from: u32,
     at: u32,
     len: u32,
-    end: u32,
-    change: Change,
+    d: Descent,
 ) -> Built
-    requires { ⌜ Some (λ used. Node (now words) (now text) records used trie namespaces from at len end change) ⌝ }
-    ensures { λ r. ⌜ NodeBuilt (now (words .entry)) (now (words .exit)) (now (text .entry)) records trie namespaces from at len end change (r .link) (r .records) ⌝ }
+    requires { ⌜ Some (λ used. Node (now words) (now text) records used trie namespaces at len d) ⌝ }
+    ensures { λ r. ⌜ NodeBuilt (now (words .entry)) (now (words .exit)) (now (text .entry)) records trie namespaces at len d (r .link) (r .records) ⌝ }
 {
     let t = memory::trie_of(words, trie);
-    let b = mut_bindings(words, text, records, t.bindings, from, at, len, end, change);
-    let kinds = kinds_of(change);
+    let b = mut_bindings(words, text, records, t.bindings, at, len, d);
+    let kinds = kinds_of(d.change);
     let link = names::put_trie(words, b.records, kinds + 5, b.link, namespaces);
     Built {
         link: link,
@@ -300,27 +159,25 @@ fn mut_node(
     }
 }
 
-// The source's namespaces_mutate. The query begins at `from` and ends at `end`; rev_acc is what stands before `at`; the next segment has `len` bytes.
+// The source's namespaces_mutate. rev_acc is what stands before `at`; the next segment has `len` bytes.
 fn namespaces_mutate(
     words: &mut [u32],
     text: &[u8],
     records: u32,
     namespaces: u32,
-    from: u32,
     at: u32,
     len: u32,
-    end: u32,
-    change: Change,
+    d: Descent,
 ) -> Built
-    requires { ⌜ Some (λ used. NamespacesMutation (now words) (now text) records used namespaces from at len end change) ⌝ }
-    ensures { λ r. ⌜ NamespacesMutated (now (words .entry)) (now (words .exit)) (now (text .entry)) records namespaces from at len end change (r .link) (r .records) ⌝ }
+    requires { ⌜ Some (λ used. NamespacesMutation (now words) (now text) records used namespaces at len d) ⌝ }
+    ensures { λ r. ⌜ NamespacesMutated (now (words .entry)) (now (words .exit)) (now (text .entry)) records namespaces at len d (r .link) (r .records) ⌝ }
 {
     let first = at as usize;
     let size = len as usize;
     let p = names::names_place(words, text, namespaces, &text[first..first + size]);
     let scope = memory::trie_held(words, p.holder);
-    let kinds = kinds_of(change);
-    let m = trie_mutate(words, text, records, scope, from, at + len + 1, end, change);
+    let kinds = kinds_of(d.change);
+    let m = trie_mutate(words, text, records, scope, at + len + 1, d);
     let key = Span {
         start: at,
         len: len,
@@ -333,46 +190,23 @@ fn namespaces_mutate(
     }
 }
 
-// The source's trie_mutate: the trie of `trie` changed below the segments from `at` to `end`.
+// The source's trie_mutate: the trie of `trie` changed below the segments from `at` on.
 pub fn trie_mutate(
     words: &mut [u32],
     text: &[u8],
     records: u32,
     trie: u32,
-    from: u32,
     at: u32,
-    end: u32,
-    change: Change,
+    d: Descent,
 ) -> Built
-    requires { ⌜ Some (λ used. Mutation (now words) (now text) records used trie from at end change) ⌝ }
-    ensures { λ r. ⌜ Mutated (now (words .entry)) (now (words .exit)) (now (text .entry)) records trie from at end change (r .link) (r .records) ⌝ }
+    requires { ⌜ Some (λ used. Mutation (now words) (now text) records used trie at d) ⌝ }
+    ensures { λ r. ⌜ Mutated (now (words .entry)) (now (words .exit)) (now (text .entry)) records trie at d (r .link) (r .records) ⌝ }
 {
-    if at == end {
-        return mut_leaf(words, text, records, trie, change);
+    if at == d.end {
+        return mut_leaf(words, text, records, trie, d.change);
     }
-    let len = segment_in(text, at, end);
+    let len = segment_in(text, at, d.end);
     let t = memory::trie_of(words, trie);
-    let n = namespaces_mutate(
-        words,
-        text,
-        records,
-        t.namespaces,
-        from,
-        at,
-        len,
-        end,
-        change,
-    );
-    mut_node(
-        words,
-        text,
-        n.records,
-        trie,
-        n.link,
-        from,
-        at,
-        len,
-        end,
-        change,
-    )
+    let n = namespaces_mutate(words, text, records, t.namespaces, at, len, d);
+    mut_node(words, text, n.records, trie, n.link, at, len, d)
 }

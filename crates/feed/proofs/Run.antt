@@ -11,8 +11,8 @@ use borrow.Author.Tests.{ltb-true, ltb-false}
 use Rattle.source.specs.Calls.{State, Lent, Output, fresh}
 use Rattle.source.specs.Shared.{Allˡ}
 use Rattle.text.specs.Laid.{Laid}
-use Rattle.script.specs.Script.{Str, _·_, byte-ok, All}
-use Rattle.script.specs.declared.Sort.the-variants.{Line}
+use Rattle.numerals.specs.Bytes.{Str, _·_, byte-ok, All}
+use Rattle.numerals.specs.declared.Sort.the-variants.{Line}
 use Rattle.table.specs.Header.{state, lent, Fresh}
 use Rattle.table.specs.declared.Table.{Table}
 use Rattle.registrations.specs.Registers.{Outcome}

@@ -8,8 +8,8 @@ use lib.ListN.{length, take, drop, take-append-drop, length-drop}
 use lib.Seq.{take-take, take-nil, drop-drop, length-take-le}
 use Rattle.source.specs.Calls.{Output}
 use Rattle.text.proofs.Laid.{laid-none}
-use Rattle.script.specs.Script.{Str, _·_, All}
-use Rattle.script.specs.declared.Sort.the-variants.{Line}
+use Rattle.numerals.specs.Bytes.{Str, _·_, All}
+use Rattle.numerals.specs.declared.Sort.the-variants.{Line}
 use Rattle.table.specs.Header.{IsSound, state, lent}
 use Rattle.registrations.specs.declared.Done.{Done}
 use Rattle.memory.proofs.Outside.{outside-none}

@@ -4,11 +4,12 @@ use mathlib.Core.Path.{_≡_}
 use mathlib.Core.Bool.{true, false}
 use mathlib.Core.List.{List, [], _∷_}
 use lib.ListN.{length, take, drop}
+use Rattle.source.specs.Limits.{record-words}
 use Rattle.source.specs.Calls.{Output}
 use Rattle.source.specs.Shared.{Allˡ}
 use Rattle.text.specs.Laid.{Laid}
-use Rattle.script.specs.Script.{Str, _·_, All}
-use Rattle.script.specs.declared.Sort.the-variants.{Line}
+use Rattle.numerals.specs.Bytes.{Str, _·_, All}
+use Rattle.numerals.specs.declared.Sort.the-variants.{Line}
 use Rattle.table.specs.Header.{IsSound, state, lent}
 use Rattle.memory.specs.Grown.{Outside}
 use Rattle.registrations.specs.declared.Done.{Done}
@@ -46,7 +47,7 @@ pub record Steps (ws txt ws′ txt′ : List ℕ) (f : Feed) (input input′ : L
   pub laid : Laid reply reply′ 0 (r .end) text
   pub kept : Kept rest (pending (r .feed) input′)
   pub sound : IsSound ws′ txt′ (r .feed .table)
-  pub words : Outside (f .table .header .records * 12) (r .feed .table .header .records * 12) ws ws′
+  pub words : Outside (f .table .header .records * record-words) (r .feed .table .header .records * record-words) ws ws′
   pub texts : Outside (f .table .header .text) (r .feed .table .header .text) txt txt′
   pub inside : Inside (r .feed) input′
   pub goes-on : r .more ≡ true → (f .from < r .feed .from) × (r .feed .have ≡ f .have)
@@ -63,5 +64,5 @@ pub record Ends (ws txt ws′ txt′ : List ℕ) (f : Feed) (input : List ℕ) (
   pub session : Session (lent ws txt) out (state ws txt (f .table)) (last-line (pending f input)) text (state ws′ txt′ (r .table))
   pub laid : Laid reply reply′ 0 (r .end) text
   pub sound : IsSound ws′ txt′ (r .table)
-  pub words : Outside (f .table .header .records * 12) (r .table .header .records * 12) ws ws′
+  pub words : Outside (f .table .header .records * record-words) (r .table .header .records * record-words) ws ws′
   pub texts : Outside (f .table .header .text) (r .table .header .text) txt txt′

@@ -6,8 +6,8 @@ use lib.Dec.{eqb}
 use lib.ListN.{length, take, drop}
 use Rattle.source.specs.Calls.{Output, State}
 use Rattle.memory.specs.Layout.{pick}
-use Rattle.script.specs.Script.{Str, _·_, All}
-use Rattle.script.specs.declared.Sort.the-variants.{Line}
+use Rattle.numerals.specs.Bytes.{Str, _·_, All}
+use Rattle.numerals.specs.declared.Sort.the-variants.{Line}
 use Rattle.table.specs.Header.{state}
 use Rattle.registrations.specs.declared.Done.{Done}
 use Rattle.feed.specs.Feed.{pending, last-line, Inside, Steps, Ends}

@@ -4,6 +4,7 @@ use mathlib.Core.Path.{_≡_}
 use mathlib.Core.Bool.{Bool}
 use mathlib.Core.List.{List}
 use lib.ListN.{length, getD}
+use Rattle.source.specs.Limits.{record-words}
 use Rattle.source.specs.Types.{Level}
 use Rattle.source.specs.Rules.{_<ˢ_, AllKeys}
 use Rattle.memory.specs.Layout.{record-at, word, span, Which, tree, kind, what}
@@ -12,7 +13,7 @@ use Rattle.memory.specs.Sound.{Says, LinkOk, RecordOk}
 -- The record of link l and the used text are lent, and the records before l are right.
 pub record Before (ws txt : List ℕ) (used l : ℕ) : Type 0 where
   pub some : 0 < l
-  pub fits : l * 12 ≤ length ws
+  pub fits : l * record-words ≤ length ws
   pub text : used ≤ length txt
   pub rows : (j : ℕ) → 0 < j → j < l → RecordOk ws txt used j
 
@@ -41,16 +42,16 @@ pub record Noted (ws : List ℕ) (k l : ℕ) (notes : List ℕ) : Type 0 where
 -- The record of link l can be noted next.
 pub record Noting (ws : List ℕ) (k l : ℕ) (notes : List ℕ) : Type 0 where
   pub some : 0 < l
-  pub fits : l * 12 ≤ length ws
-  pub word-of : k < 12
+  pub fits : l * record-words ≤ length ws
+  pub word-of : k < record-words
   pub earlier : word (record-at ws l) k < l
   pub noted : Noted ws k l notes
 
 -- The end of the way from a record can be found.
 pub record Ending (ws : List ℕ) (k from : ℕ) (notes : List ℕ) : Type 0 where
   pub some : 0 < from
-  pub fits : from * 12 ≤ length ws
-  pub word-of : k < 12
+  pub fits : from * record-words ≤ length ws
+  pub word-of : k < record-words
   pub falls : (j : ℕ) → 0 < j → j ≤ from → word (record-at ws j) k < j
   pub noted : Noted ws k (from + 1) notes
 

@@ -5,6 +5,7 @@ use text::Rule;
 ghost use mathlib.Core.Path.{_≡_};
 ghost use Prim.Native.Nat.{_+_, _*_, _≤_, _<_};
 ghost use lib.ListN.{length};
+ghost use Rattle.source.specs.Limits.{record-words};
 ghost use Rattle.source.specs.Rules.{Fits, _<ˢ_};
 ghost use Rattle.memory.specs.Layout.{span};
 ghost use Rattle.memory.specs.Sound.{Says, LinkOk, TextOk};
@@ -57,7 +58,7 @@ pub fn same(a: u64, b: u64) -> bool
 
 // Does the link `x`, in the record of `link`, name none or an earlier record of the kind `k`?
 pub fn link_ok(words: &[u32], link: u32, x: u32, k: u32) -> bool
-    requires { ⌜ (0 < link) × (link * 12 ≤ length (now words) + 12) ⌝ }
+    requires { ⌜ (0 < link) × (link * record-words ≤ length (now words) + record-words) ⌝ }
     ensures { λ r. ⌜ Says r (LinkOk (now (words .entry)) link x k) ⌝ }
 {
     if x == 0 {

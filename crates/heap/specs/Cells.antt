@@ -6,6 +6,7 @@ use mathlib.Core.List.{List, [], _∷_, _++_}
 use mathlib.Core.Option.{Option, none, some}
 use lib.Dec.{eqb}
 use lib.ListN.{length, getD}
+use Rattle.source.specs.Limits.{heaviest-list}
 use Rattle.source.specs.Heap.{Heap, Forest, EmptyHeap, HeapOf, []ᶠ, _∷ᶠ_, heap-merge, heap-insert, heap-merge-pairs, heap-pop}
 use Rattle.source.specs.Forward.{sum, sumᶠ}
 use Rattle.heap.specs.declared.Popped.{Popped}
@@ -13,18 +14,18 @@ use Rattle.heap.specs.declared.Popped.the-variants.{Nothing, Least}
 
 -- A root: one of n cells, or none.
 abbrev pub Root : ℕ → ℕ → Type 0
-Root n i = (i ≡ 96 → ⊥) → i < n
+Root n i = (i ≡ heaviest-list → ⊥) → i < n
 
 module _ (n : ℕ) (child next : List ℕ) where
   abbrev mutual
     -- The heap of root i, of cells below n.
     pub Holds : ℕ → Heap ℕ → Type 0
-    Holds i EmptyHeap = i ≡ 96
+    Holds i EmptyHeap = i ≡ heaviest-list
     Holds i (HeapOf v hh) = (i ≡ v) × (v < n) × Holdsᶠ (getD child v 0) hh
 
     -- The heaps of root i and of its next siblings.
     pub Holdsᶠ : ℕ → Forest ℕ → Type 0
-    Holdsᶠ i []ᶠ = i ≡ 96
+    Holdsᶠ i []ᶠ = i ≡ heaviest-list
     Holdsᶠ i (h ∷ᶠ hh) = (i < n) × Holds i h × Holdsᶠ (getD next i 0) hh
 
 -- One for the cell j.
@@ -37,8 +38,8 @@ count j h = sum (is j) h
 
 -- There are 96 of each.
 pub record Sized (child next : List ℕ) : Type 0 where
-  pub children : length child ≡ 96
-  pub siblings : length next ≡ 96
+  pub children : length child ≡ heaviest-list
+  pub siblings : length next ≡ heaviest-list
 
 -- The heap of root i is h, each cell once.
 pub record Rep (n : ℕ) (child next : List ℕ) (i : ℕ) (h : Heap ℕ) : Type 0 where

@@ -4,6 +4,7 @@ use mathlib.Core.Path.{_≡_}
 use mathlib.Core.List.{List}
 use lib.IntN.{ℤ, pos, negsuc}
 use lib.ListN.{getD}
+use Rattle.source.specs.Limits.{heaviest-list}
 use Rattle.source.specs.Text.{Str, then, string-compare}
 use Rattle.source.specs.Lists.{Run, first, priority}
 use Rattle.memory.specs.Read.{TextIn}
@@ -11,7 +12,7 @@ use Rattle.memory.specs.Layout.{key-at}
 
 -- At most 96 cells, and each one's head is a link of a record with its key in the text.
 pub record Heads (ws txt heads : List ℕ) (n : ℕ) : Type 0 where
-  pub few : n ≤ 96
+  pub few : n ≤ heaviest-list
   pub each : (j : ℕ) → j < n → TextIn ws txt (getD heads j 0)
 
 -- The source's run-cmp on n cells: cell j has priority n - 1 - j.

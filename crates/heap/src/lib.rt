@@ -5,6 +5,7 @@ ghost use mathlib.Core.Path.{_≡_};
 ghost use Prim.Native.Nat.{ℕ, _-_, _<_};
 ghost use lib.IntN.{pos, _-ℤ_};
 ghost use lib.ListN.{getD, set};
+ghost use Rattle.source.specs.Limits.{heaviest-list};
 ghost use Rattle.source.specs.Text.{string-compare};
 ghost use Rattle.source.specs.Heap.{Heap, Forest, heap-from-list};
 ghost use Rattle.text.specs.Text.{ordering};
@@ -68,7 +69,7 @@ fn cell_cmp(words: &[u32], text: &[u8], heads: &[u32; CELLS], n: usize, a: usize
 
 // Puts the heap of root `w` before the children of `v`.
 fn link(child: &mut [u8; CELLS], next: &mut [u8; CELLS], v: usize, w: usize) -> usize
-    requires { ⌜ (v < 96) × (w < 96) ⌝ }
+    requires { ⌜ (v < heaviest-list) × (w < heaviest-list) ⌝ }
     ensures { λ r. ⌜ (r ≡ v) × (now (child .exit) ≡ set (now (child .entry)) v w) × (now (next .exit) ≡ set (now (next .entry)) w (getD (now (child .entry)) v 0)) ⌝ }
 {
     next[w] = child[v];

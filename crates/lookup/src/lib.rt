@@ -5,6 +5,7 @@ ghost use mathlib.Core.Path.{_≡_};
 ghost use mathlib.Core.Bool.{true};
 ghost use Prim.Native.Nat.{_*_, _<_, _≤_};
 ghost use lib.ListN.{length, drop};
+ghost use Rattle.source.specs.Limits.{record-words};
 ghost use Rattle.source.specs.Text.{segments, ends-in-dot};
 ghost use Rattle.text.specs.Text.{Segment};
 ghost use Rattle.names.specs.Names.{AnyList};
@@ -66,7 +67,7 @@ pub fn trie_find_exact(words: &[u32], text: &[u8], root: u32, query: &[u8]) -> u
 
 // Whether ins_ns inserts, where `holder` is the branch that has the name, 0 for none.
 pub fn ns_inserts(words: &[u32], holder: u32, loaded: bool) -> bool
-    requires { ⌜ holder * 12 ≤ length (now words) ⌝ }
+    requires { ⌜ holder * record-words ≤ length (now words) ⌝ }
     ensures { λ r. ⌜ NsInserts (now (words .entry)) holder loaded r ⌝ }
 {
     if holder == 0 {

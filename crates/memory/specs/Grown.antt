@@ -4,10 +4,11 @@ use mathlib.Core.Path.{_≡_}
 use mathlib.Core.List.{List}
 use lib.ListN.{length, take, drop}
 use lib.Seq.{paste}
+use Rattle.source.specs.Limits.{record-words}
 
 -- The first n records are as they were, and as many words are lent.
 pub record Stays (n : ℕ) (ws ws′ : List ℕ) : Type 0 where
-  pub same : take (n * 12) ws′ ≡ take (n * 12) ws
+  pub same : take (n * record-words) ws′ ≡ take (n * record-words) ws
   pub size : length ws′ ≡ length ws
 
 -- The first used bytes are as they were, and as many are lent.
@@ -23,7 +24,7 @@ pub record Outside (from to : ℕ) (l l′ : List ℕ) : Type 0 where
 
 -- The words with the twelve words of r as record number n.
 unfoldable pub put : List ℕ → ℕ → List ℕ → List ℕ
-put ws n r = paste ws (n * 12) r 12
+put ws n r = paste ws (n * record-words) r record-words
 
 -- The text with the bytes of s from used on.
 unfoldable pub put-text : List ℕ → ℕ → List ℕ → List ℕ

@@ -15,6 +15,7 @@ use mathlib.Core.Bool.{Bool, true, false}
 use mathlib.Core.List.{List}
 use lib.ListN.{getD, take, drop}
 use lib.Dec.{eqb}
+use Rattle.source.specs.Limits.{record-words}
 use Rattle.source.specs.Text.{Str}
 use Rattle.source.specs.Types.{Level, Value, Tree, NameList, bind, ns, item, trie, StrEmpty, StrBranch, []ᴺ, Names, ImportedNames}
 use Rattle.source.specs.Table.{ModSymbol, Module, Namespace, Table}
@@ -23,7 +24,7 @@ use Rattle.memory.specs.declared.Header.{Header}
 
 -- The twelve words of the record that link l names.
 unfoldable pub record-at : List ℕ → ℕ → List ℕ
-record-at ws l = take 12 (drop ((l - 1) * 12) ws)
+record-at ws l = take record-words (drop ((l - 1) * record-words) ws)
 
 -- Word k of a record.
 abbrev pub word : List ℕ → ℕ → ℕ

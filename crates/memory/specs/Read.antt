@@ -4,6 +4,7 @@ use mathlib.Core.Path.{_≡_}
 use mathlib.Core.List.{List}
 use lib.Dec.{eqb}
 use lib.ListN.{length}
+use Rattle.source.specs.Limits.{record-words}
 use Rattle.source.specs.Text.{Str}
 use Rattle.source.specs.Table as S
 use Rattle.memory.specs.Layout.{record-at, word, text-start, text-len, span, pick}
@@ -22,7 +23,7 @@ text-of txt s = span txt (s .start) (s .len)
 -- Link x names a record whose key or label lies in the text.
 pub record TextIn (ws txt : List ℕ) (x : ℕ) : Type 0 where
   pub some : 0 < x
-  pub within : x * 12 ≤ length ws
+  pub within : x * record-words ≤ length ws
   pub inside : text-start (record-at ws x) + text-len (record-at ws x) ≤ length txt
 
 -- The mod symbol that the words of a bindings branch of the module table hold.

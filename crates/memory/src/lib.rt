@@ -2,110 +2,81 @@
 ghost use mathlib.Core.Path.{_≡_};
 ghost use Prim.Native.Nat.{_+_, _*_, _≤_, _<_};
 ghost use lib.ListN.{length};
-ghost use Rattle.memory.specs.Layout.{record-at, word, text-len, left-link, right-link, trie-link, number-word, own-link, rest-link, sort-word, note-link, note-side, key-at};
-ghost use Rattle.memory.specs.Stored.{stored, weight-in, depth-in, trie-in, left-in, right-in};
+ghost use Rattle.source.specs.Limits.{record-words};
+ghost use Rattle.memory.specs.Layout.{record-at, word, key-at};
+ghost use Rattle.memory.specs.Stored.{stored};
 ghost use Rattle.memory.specs.Grown.{put, put-text};
 ghost use Rattle.memory.specs.Read.{TextIn, symbol-in, ReadBranch, ReadCollection, ReadTrie};
 
 // The words of new records.
 pub mod make;
 
-// The words of a record, by what they hold (specs/Layout.antt).
-pub const KIND: usize = 0;
+// One word of a record, by what it holds.
+mod held;
 
-pub const TEXT_START: usize = 1;
+pub use held::depth_of;
+pub use held::held_of;
+pub use held::left_of;
+pub use held::left_side;
+pub use held::note_link;
+pub use held::note_side;
+pub use held::number_of;
+pub use held::own_of;
+pub use held::rest_of;
+pub use held::right_of;
+pub use held::right_side;
+pub use held::sort_of;
+pub use held::text_len;
+pub use held::trie_held;
+pub use held::weight_of;
+// The words, kinds and limits by name.
+mod layout;
 
-pub const TEXT_LEN: usize = 2;
-
-pub const LEFT: usize = 3;
-
-pub const RIGHT: usize = 4;
-
-pub const HELD: usize = 5;
-
-pub const NUMBER: usize = 5;
-
-pub const SYMBOL: usize = 5;
-
-pub const NAME_START: usize = 6;
-
-pub const NAME_LEN: usize = 7;
-
-pub const PATH_START: usize = 8;
-
-pub const PATH_LEN: usize = 9;
-
-pub const LOADED: usize = 10;
-
-pub const OWN: usize = 3;
-
-pub const REST: usize = 4;
-
-pub const SORT: usize = 5;
-
-pub const WEIGHT: usize = 10;
-
-pub const BINDINGS: usize = 3;
-
-pub const NAMESPACES: usize = 4;
-
-pub const DEPTH: usize = 11;
-// The first two links of a record of any kind.
-pub const FIRST: usize = 3;
-
-pub const SECOND: usize = 4;
-
-// A free record as a note: a link and a side.
-pub const NOTE_LINK: usize = 0;
-
-pub const NOTE_SIDE: usize = 1;
-
-// Words to a record; records, and bytes of text, that a table uses at most.
-pub const ROW: usize = 12;
-
-pub const CAPACITY: u32 = 65536;
-
-// What a list weighs, and how deep a trie is, at most.
-pub const HEAVIEST: u32 = 96;
-
-pub const DEEPEST: u32 = 16;
-
-// The kinds of records of the names table. Those of the module table are OF_MODULES more.
-pub const BINDING_KIND: u32 = 1;
-
-pub const NAMESPACE_KIND: u32 = 2;
-
-pub const BINDINGS_KIND: u32 = 3;
-
-pub const NAMESPACES_KIND: u32 = 4;
-
-pub const TRIE_KIND: u32 = 5;
-
-pub const OF_MODULES: u32 = 5;
-
-pub const MODULE_BINDING_KIND: u32 = 6;
-
-pub const MODULE_NAMESPACE_KIND: u32 = 7;
-
-pub const MODULE_BINDINGS_KIND: u32 = 8;
-
-pub const MODULE_NAMESPACES_KIND: u32 = 9;
-
-pub const MODULE_TRIE_KIND: u32 = 10;
-// In either table: from the branches of a tree to the list of such trees, from a branch of namespaces to the trie that it holds,
-// from a trie to its two lists.
-pub const LIST_OF: u32 = 2;
-
-pub const TRIE_IN: u32 = 3;
-
-pub const BINDINGS_OF: u32 = 2;
-
-pub const NAMESPACES_OF: u32 = 1;
-
-// The sort of a collection.
-pub const OF_TREE: u32 = 0;
-
-pub const IMPORTED: u32 = 1;
+pub use layout::BINDING_KIND;
+pub use layout::BINDINGS;
+pub use layout::BINDINGS_KIND;
+pub use layout::BINDINGS_OF;
+pub use layout::CAPACITY;
+pub use layout::DEEPEST;
+pub use layout::DEPTH;
+pub use layout::FIRST;
+pub use layout::HEAVIEST;
+pub use layout::HELD;
+pub use layout::IMPORTED;
+pub use layout::KIND;
+pub use layout::LEFT;
+pub use layout::LIST_OF;
+pub use layout::LOADED;
+pub use layout::MODULE_BINDING_KIND;
+pub use layout::MODULE_BINDINGS_KIND;
+pub use layout::MODULE_NAMESPACE_KIND;
+pub use layout::MODULE_NAMESPACES_KIND;
+pub use layout::MODULE_TRIE_KIND;
+pub use layout::NAME_LEN;
+pub use layout::NAME_START;
+pub use layout::NAMESPACE_KIND;
+pub use layout::NAMESPACES;
+pub use layout::NAMESPACES_KIND;
+pub use layout::NAMESPACES_OF;
+pub use layout::NOTE_LINK;
+pub use layout::NOTE_SIDE;
+pub use layout::NUMBER;
+pub use layout::OF_MODULES;
+pub use layout::OF_TREE;
+pub use layout::OWN;
+pub use layout::PATH_LEN;
+pub use layout::PATH_START;
+pub use layout::REST;
+pub use layout::RIGHT;
+pub use layout::ROW;
+pub use layout::SECOND;
+pub use layout::SORT;
+pub use layout::SYMBOL;
+pub use layout::TEXT_LEN;
+pub use layout::TEXT_START;
+pub use layout::TRIE_IN;
+pub use layout::TRIE_KIND;
+pub use layout::WEIGHT;
 
 // The table by value: the links of its two roots, records used, text used.
 pub struct Header {
@@ -154,7 +125,7 @@ pub struct Trie {
 
 // Word `k` of the record that `link` names.
 pub fn word_of(words: &[u32], link: u32, k: usize) -> u32
-    requires { ⌜ (0 < link) × (k < 12) × (link * 12 ≤ length (now words)) ⌝ }
+    requires { ⌜ (0 < link) × (k < record-words) × (link * record-words ≤ length (now words)) ⌝ }
     ensures { λ r. ⌜ r ≡ word (record-at (now (words .entry)) link) k ⌝ }
 {
     let at = (link as usize - 1) * ROW + k;
@@ -163,137 +134,13 @@ pub fn word_of(words: &[u32], link: u32, k: usize) -> u32
 
 // The same, 0 of the link 0.
 pub fn stored(words: &[u32], link: u32, k: usize) -> u32
-    requires { ⌜ (k < 12) × (link * 12 ≤ length (now words)) ⌝ }
+    requires { ⌜ (k < record-words) × (link * record-words ≤ length (now words)) ⌝ }
     ensures { λ r. ⌜ r ≡ stored (now (words .entry)) link k ⌝ }
 {
     if link == 0 {
         return 0;
     }
     word_of(words, link, k)
-}
-
-// ---- One word of a record, by name
-
-// The length of the key of a branch, or of the label of a collection.
-pub fn text_len(words: &[u32], link: u32) -> u32
-    requires { ⌜ (0 < link) × (link * 12 ≤ length (now words)) ⌝ }
-    ensures { λ r. ⌜ r ≡ text-len (record-at (now (words .entry)) link) ⌝ }
-{
-    word_of(words, link, TEXT_LEN)
-}
-
-// The left side of a branch.
-pub fn left_of(words: &[u32], link: u32) -> u32
-    requires { ⌜ (0 < link) × (link * 12 ≤ length (now words)) ⌝ }
-    ensures { λ r. ⌜ r ≡ left-link (record-at (now (words .entry)) link) ⌝ }
-{
-    word_of(words, link, LEFT)
-}
-
-// The right side of a branch.
-pub fn right_of(words: &[u32], link: u32) -> u32
-    requires { ⌜ (0 < link) × (link * 12 ≤ length (now words)) ⌝ }
-    ensures { λ r. ⌜ r ≡ right-link (record-at (now (words .entry)) link) ⌝ }
-{
-    word_of(words, link, RIGHT)
-}
-
-// The trie that a branch of namespaces holds.
-pub fn held_of(words: &[u32], link: u32) -> u32
-    requires { ⌜ (0 < link) × (link * 12 ≤ length (now words)) ⌝ }
-    ensures { λ r. ⌜ r ≡ trie-link (record-at (now (words .entry)) link) ⌝ }
-{
-    word_of(words, link, HELD)
-}
-
-// The number of a name.
-pub fn number_of(words: &[u32], link: u32) -> u32
-    requires { ⌜ (0 < link) × (link * 12 ≤ length (now words)) ⌝ }
-    ensures { λ r. ⌜ r ≡ number-word (record-at (now (words .entry)) link) ⌝ }
-{
-    word_of(words, link, NUMBER)
-}
-
-// The tree of a collection, or its imported list.
-pub fn own_of(words: &[u32], link: u32) -> u32
-    requires { ⌜ (0 < link) × (link * 12 ≤ length (now words)) ⌝ }
-    ensures { λ r. ⌜ r ≡ own-link (record-at (now (words .entry)) link) ⌝ }
-{
-    word_of(words, link, OWN)
-}
-
-// The list after a collection.
-pub fn rest_of(words: &[u32], link: u32) -> u32
-    requires { ⌜ (0 < link) × (link * 12 ≤ length (now words)) ⌝ }
-    ensures { λ r. ⌜ r ≡ rest-link (record-at (now (words .entry)) link) ⌝ }
-{
-    word_of(words, link, REST)
-}
-
-// The sort of a collection: OF_TREE or IMPORTED.
-pub fn sort_of(words: &[u32], link: u32) -> u32
-    requires { ⌜ (0 < link) × (link * 12 ≤ length (now words)) ⌝ }
-    ensures { λ r. ⌜ r ≡ sort-word (record-at (now (words .entry)) link) ⌝ }
-{
-    word_of(words, link, SORT)
-}
-
-// The link that a note has.
-pub fn note_link(words: &[u32], link: u32) -> u32
-    requires { ⌜ (0 < link) × (link * 12 ≤ length (now words)) ⌝ }
-    ensures { λ r. ⌜ r ≡ note-link (record-at (now (words .entry)) link) ⌝ }
-{
-    word_of(words, link, NOTE_LINK)
-}
-
-// The side that a note has.
-pub fn note_side(words: &[u32], link: u32) -> u32
-    requires { ⌜ (0 < link) × (link * 12 ≤ length (now words)) ⌝ }
-    ensures { λ r. ⌜ r ≡ note-side (record-at (now (words .entry)) link) ⌝ }
-{
-    word_of(words, link, NOTE_SIDE)
-}
-
-// ---- The same, 0 of the link 0
-
-// The weight of a list.
-pub fn weight_of(words: &[u32], link: u32) -> u32
-    requires { ⌜ link * 12 ≤ length (now words) ⌝ }
-    ensures { λ r. ⌜ r ≡ weight-in (now (words .entry)) link ⌝ }
-{
-    stored(words, link, WEIGHT)
-}
-
-// The depth of a tree or a list of namespaces, or of a trie.
-pub fn depth_of(words: &[u32], link: u32) -> u32
-    requires { ⌜ link * 12 ≤ length (now words) ⌝ }
-    ensures { λ r. ⌜ r ≡ depth-in (now (words .entry)) link ⌝ }
-{
-    stored(words, link, DEPTH)
-}
-
-// The trie that a branch of namespaces holds.
-pub fn trie_held(words: &[u32], link: u32) -> u32
-    requires { ⌜ link * 12 ≤ length (now words) ⌝ }
-    ensures { λ r. ⌜ r ≡ trie-in (now (words .entry)) link ⌝ }
-{
-    stored(words, link, HELD)
-}
-
-// The left side of a branch.
-pub fn left_side(words: &[u32], link: u32) -> u32
-    requires { ⌜ link * 12 ≤ length (now words) ⌝ }
-    ensures { λ r. ⌜ r ≡ left-in (now (words .entry)) link ⌝ }
-{
-    stored(words, link, LEFT)
-}
-
-// The right side of a branch.
-pub fn right_side(words: &[u32], link: u32) -> u32
-    requires { ⌜ link * 12 ≤ length (now words) ⌝ }
-    ensures { λ r. ⌜ r ≡ right-in (now (words .entry)) link ⌝ }
-{
-    stored(words, link, RIGHT)
 }
 
 // The key of a branch, or the label of a collection.
@@ -310,7 +157,7 @@ pub fn key_of<'a>(words: &[u32], text: &'a [u8], link: u32) -> &'a [u8]
 
 // The twelve words of the record that `link` names.
 pub fn row_of(words: &[u32], link: u32) -> [u32; ROW]
-    requires { ⌜ (0 < link) × (link * 12 ≤ length (now words)) ⌝ }
+    requires { ⌜ (0 < link) × (link * record-words ≤ length (now words)) ⌝ }
     ensures { λ r. ⌜ r ≡ record-at (now (words .entry)) link ⌝ }
 {
     let mut row = [0; ROW];
@@ -324,7 +171,7 @@ pub fn row_of(words: &[u32], link: u32) -> [u32; ROW]
 
 // The mod symbol of the branch that `link` names.
 pub fn symbol_of(words: &[u32], link: u32) -> ModSymbol
-    requires { ⌜ (0 < link) × (link * 12 ≤ length (now words)) ⌝ }
+    requires { ⌜ (0 < link) × (link * record-words ≤ length (now words)) ⌝ }
     ensures { λ r. ⌜ r ≡ symbol-in (record-at (now (words .entry)) link) ⌝ }
 {
     let name = Span {
@@ -344,7 +191,7 @@ pub fn symbol_of(words: &[u32], link: u32) -> ModSymbol
 
 // The branch that `link` names.
 pub fn branch_of(words: &[u32], link: u32) -> Branch
-    requires { ⌜ (0 < link) × (link * 12 ≤ length (now words)) ⌝ }
+    requires { ⌜ (0 < link) × (link * record-words ≤ length (now words)) ⌝ }
     ensures { λ r. ⌜ ReadBranch (record-at (now (words .entry)) link) r ⌝ }
 {
     let key = Span {
@@ -362,7 +209,7 @@ pub fn branch_of(words: &[u32], link: u32) -> Branch
 
 // The collection that `link` names.
 pub fn collection_of(words: &[u32], link: u32) -> Collection
-    requires { ⌜ (0 < link) × (link * 12 ≤ length (now words)) ⌝ }
+    requires { ⌜ (0 < link) × (link * record-words ≤ length (now words)) ⌝ }
     ensures { λ r. ⌜ ReadCollection (record-at (now (words .entry)) link) r ⌝ }
 {
     let label = Span {
@@ -380,7 +227,7 @@ pub fn collection_of(words: &[u32], link: u32) -> Collection
 
 // The trie that `link` names, the empty one of the link 0.
 pub fn trie_of(words: &[u32], link: u32) -> Trie
-    requires { ⌜ link * 12 ≤ length (now words) ⌝ }
+    requires { ⌜ link * record-words ≤ length (now words) ⌝ }
     ensures { λ r. ⌜ ReadTrie (now (words .entry)) link r ⌝ }
 {
     Trie {
@@ -394,7 +241,7 @@ pub fn trie_of(words: &[u32], link: u32) -> Trie
 
 // Writes the twelve words of `row` as record number `used`.
 pub fn put_row(words: &mut [u32], used: u32, row: &[u32; ROW])
-    requires { ⌜ (used * 12 + 12 ≤ length (now words)) × (length (now row) ≡ 12) ⌝ }
+    requires { ⌜ (used * record-words + record-words ≤ length (now words)) × (length (now row) ≡ record-words) ⌝ }
     ensures { λ _. ⌜ now (words .exit) ≡ put (now (words .entry)) used (now (row .entry)) ⌝ }
 {
     let base = used as usize * ROW;

@@ -14,6 +14,7 @@ ghost use mathlib.Core.Path.{_≡_};
 ghost use mathlib.Core.Bool.{cond};
 ghost use Prim.Native.Nat.{_≤_};
 ghost use lib.ListN.{length};
+ghost use Rattle.source.specs.Limits.{record-words};
 ghost use Rattle.memory.specs.Made.{binding-row, symbol-row, namespace-row, sided-row, collection-row, trie-row};
 
 // A branch of names: its key and its number. Its sides are none.
@@ -105,7 +106,7 @@ pub fn namespace_row(of: u32, key: Span, trie: u32) -> [u32; ROW]
 
 // A branch with other sides and another depth.
 pub fn with_sides(row: [u32; ROW], left: u32, right: u32, depth: u32) -> [u32; ROW]
-    requires { ⌜ length row ≡ 12 ⌝ }
+    requires { ⌜ length row ≡ record-words ⌝ }
     ensures { λ r. ⌜ r ≡ sided-row row left right depth ⌝ }
 {
     let mut new = row;

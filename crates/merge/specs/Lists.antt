@@ -4,6 +4,7 @@ use mathlib.Core.Path.{_≡_}
 use mathlib.Core.List.{List, [], _∷_, map}
 use mathlib.Core.Option.{Option}
 use lib.ListN.{length, getD}
+use Rattle.source.specs.Limits.{heaviest-list}
 use Rattle.source.specs.Text.{Str}
 use Rattle.source.specs.Types.{Level, Value, []ᴺ, Names}
 use Rattle.source.specs.Trees.{PathElem}
@@ -30,9 +31,9 @@ elements w ws txt v q p c = with-imports (c .imports, map (row-at w ws txt v q) 
 
 -- There are 96 of each.
 pub record Full (roots heads labels : List ℕ) : Type 0 where
-  pub of-roots : length roots ≡ 96
-  pub of-heads : length heads ≡ 96
-  pub of-labels : length labels ≡ 96
+  pub of-roots : length roots ≡ heaviest-list
+  pub of-heads : length heads ≡ heaviest-list
+  pub of-labels : length labels ≡ heaviest-list
 
 -- The cell i is as it was.
 pub record SameCell (roots heads labels roots′ heads′ labels′ : List ℕ) (i : ℕ) : Type 0 where

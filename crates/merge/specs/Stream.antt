@@ -6,6 +6,7 @@ use mathlib.Core.List.{List, [], _∷_, map}
 use mathlib.Core.Option.{Option, none, some}
 use lib.Dec.{eqb}
 use lib.ListN.{length, getD}
+use Rattle.source.specs.Limits.{heaviest-list}
 use Rattle.source.specs.Text.{Str, starts-with}
 use Rattle.source.specs.Types.{Level}
 use Rattle.source.specs.Heap.{Heap, Forest, EmptyHeap, HeapOf}
@@ -77,7 +78,7 @@ pub record CellOk (ws txt : List ℕ) (w : Which) (v : Level) (x : ℕ) (p : Str
 -- The state has the heap h of cells of the list x. A cell in the heap has its tree.
 pub record Holding (ws txt : List ℕ) (w : Which) (v : Level) (x : ℕ) (p : Str) (m : Merge) (h : Heap ℕ) : Type 0 where
   pub here : At ws txt w (list v) x
-  pub few : m .n ≤ 96
+  pub few : m .n ≤ heaviest-list
   pub full : Full (m .roots) (m .heads) (m .labels)
   pub cells : (j : ℕ) → j < m .n → CellOk ws txt w v x p (getD (m .roots) j 0) (getD (m .heads) j 0) (getD (m .labels) j 0)
   pub rep : Rep (m .n) (m .child) (m .next) (m .root) h
@@ -158,7 +159,7 @@ pub record TookCell (ws txt : List ℕ) (w : Which) (v : Level) (x : ℕ) (p : S
 
 -- What is taken of a heap: cell 96 of the empty one.
 abbrev pub TookIn : (ws txt : List ℕ) (w : Which) (v : Level) (x : ℕ) (p : Str) (m m′ : Merge) (t : Taken) → Heap ℕ → Type 0
-TookIn ws txt w v x p m m′ t EmptyHeap = t .cell ≡ 96
+TookIn ws txt w v x p m m′ t EmptyHeap = t .cell ≡ heaviest-list
 TookIn ws txt w v x p m m′ t (HeapOf c hh) = TookCell ws txt w v x p m m′ t c hh
 
 -- The same, for any labels and whatever heap the cells have.
@@ -196,6 +197,6 @@ pub record Stands (ws txt : List ℕ) (p : Str) (roots heads child next : List �
 
 -- The next entry is given, whatever the labels.
 pub record Steps (ws txt : List ℕ) (p : Str) (roots heads child next : List ℕ) (t : Turn) (roots′ heads′ child′ next′ : List ℕ) (r : Taken) : Type 0 where
-  pub small : (r .branch ≡ 0 → ⊥) → r .cell < 96
+  pub small : (r .branch ≡ 0 → ⊥) → r .cell < heaviest-list
   pub gives : (labels : List ℕ) → Gives ws txt p (state roots heads labels child next (t .n) (t .root) (t .last))
       (record { branch = r .branch; label = getD labels (r .cell) 0; m = state roots′ heads′ labels child′ next′ (t .n) (r .root) (r .branch) })

@@ -5,6 +5,7 @@ use text::Order;
 ghost use mathlib.Core.Path.{_≡_};
 ghost use Prim.Native.Nat.{_+_, _<_, _≤_, _*_};
 ghost use lib.ListN.{length};
+ghost use Rattle.source.specs.Limits.{heaviest-list, record-words};
 ghost use Rattle.source.specs.Shared.{same};
 ghost use Rattle.memory.specs.Layout.{key-at};
 ghost use Rattle.memory.specs.Stored.{weight-in};
@@ -46,7 +47,7 @@ struct Labelled {
 
 // The root of the only tree of a list, 0 where it is not one tree.
 pub fn single(words: &[u32], list: u32) -> u32
-    requires { ⌜ list * 12 ≤ length (now words) ⌝ }
+    requires { ⌜ list * record-words ≤ length (now words) ⌝ }
     ensures { λ r. ⌜ Single (now (words .entry)) list r ⌝ }
 {
     if list == 0 {
@@ -74,7 +75,7 @@ fn collect(
     at: usize,
 ) -> usize
     requires { ⌜ AnyList (now words) (now text) (part .list) ⌝ }
-    requires { ⌜ at + weight-in (now words) (part .list) ≤ 96 ⌝ }
+    requires { ⌜ at + weight-in (now words) (part .list) ≤ heaviest-list ⌝ }
     requires { ⌜ Full (now roots) (now heads) (now labels) ⌝ }
     ensures { λ r. ⌜ r ≤ at + weight-in (now (words .entry)) (part .list) ⌝ }
     ensures { λ r. ⌜ Collected (now (words .entry)) (now (text .entry)) (now (prefix .entry)) (part .list) (part .label) at r (now (roots .entry)) (now (heads .entry)) (now (labels .entry)) (now (roots .exit)) (now (heads .exit)) (now (labels .exit)) ⌝ }

@@ -2,6 +2,7 @@
 use Prim.Native.Nat.{ℕ, _+_, _≤_}
 use mathlib.Core.Path.{_≡_}
 use mathlib.Core.List.{List}
+use Rattle.source.specs.Limits.{heaviest-list}
 use Rattle.source.specs.Types.{Level, NameList}
 use Rattle.source.specs.Tries.{names-insert}
 use Rattle.source.specs.Terms.{weight}
@@ -21,7 +22,7 @@ pub record NamesInsertion (ws txt : List ℕ) (w : Which) (v : Level) (records u
   pub link : LinkOk ws (records + 1) x (kind w (list v))
   pub new : NewBranch ws txt used (records + 1) w r v
   pub counted : count ≡ insert-branches (first-tree (what w ws txt x (list v))) (span txt (text-start r) (text-len r))
-  pub light : weight (inserted w ws txt v x r) ≤ 96
+  pub light : weight (inserted w ws txt v x r) ≤ heaviest-list
   pub room : Room ws records (count + 1)
 
 -- The same, of some table and level and some text used.

@@ -3,6 +3,7 @@ use Prim.Native.Nat.{ℕ, _+_, _*_, _≤_, max}
 use mathlib.Core.Path.{_≡_}
 use mathlib.Core.List.{List}
 use lib.ListN.{length, drop}
+use Rattle.source.specs.Limits.{most-used, record-words}
 use Rattle.source.specs.Types.{Level, trie, bind, ns, Names, ImportedNames}
 use Rattle.source.specs.Rules.{IsLabel}
 use Rattle.memory.specs.Layout.{span, Which, Item, Sort, tree, list, trieˢ, Of, kind, what}
@@ -14,15 +15,15 @@ use Rattle.memory.specs.Grown.{Stays}
 
 -- Room for m records after the first n.
 pub record Room (ws : List ℕ) (n m : ℕ) : Type 0 where
-  pub few : n + m ≤ 65536
-  pub fits : (n + m) * 12 ≤ length ws
+  pub few : n + m ≤ most-used
+  pub fits : (n + m) * record-words ≤ length ws
 
 -- After the first n records, which stay, those up to n′ are right; link r reads as t; no word past them has changed.
 pub record Made (ws ws′ txt : List ℕ) (n n′ used : ℕ) (w : Which) (s : Sort) (r : ℕ) (t : Of (Item w) s) : Type 0 where
   pub grows : n ≤ n′
   pub sound : Used ws′ txt n′ used
   pub stays : Stays n ws ws′
-  pub beyond : drop (n′ * 12) ws′ ≡ drop (n′ * 12) ws
+  pub beyond : drop (n′ * record-words) ws′ ≡ drop (n′ * record-words) ws
   pub link : LinkOk ws′ (n′ + 1) r (kind w s)
   pub reads : what w ws′ txt r s ≡ t
 

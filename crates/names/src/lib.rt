@@ -6,6 +6,7 @@ use memory::Trie;
 ghost use mathlib.Core.Path.{_≡_};
 ghost use Prim.Native.Nat.{_+_, _*_, _<_, _≤_};
 ghost use lib.ListN.{length};
+ghost use Rattle.source.specs.Limits.{heaviest-list, deepest-trie, record-words};
 ghost use Rattle.memory.specs.Stored.{weight-in, depth-in};
 ghost use Rattle.memory.specs.Grown.{put};
 ghost use Rattle.names.specs.Names.{AnyList, Led, Holder, NamesPlaced};
@@ -19,7 +20,7 @@ pub struct Lead {
 }
 
 pub fn lead_of(words: &[u32], list: u32) -> Lead
-    requires { ⌜ list * 12 ≤ length (now words) ⌝ }
+    requires { ⌜ list * record-words ≤ length (now words) ⌝ }
     ensures { λ r. ⌜ Led (now (words .entry)) list (r .tree) (r .rest) ⌝ }
 {
     if list == 0 {
@@ -103,7 +104,7 @@ fn put_collection(words: &mut [u32], records: u32, kind: u32, c: Collection) -> 
 // Puts the tree `own` in front of the list `rest`. The answer is the new list.
 pub fn put_names(words: &mut [u32], records: u32, kind: u32, own: u32, rest: u32) -> u32
     requires { ⌜ Room (now words) records 1 ⌝ }
-    requires { ⌜ (own ≤ records) × (rest ≤ records) × (weight-in (now words) rest < 96) ⌝ }
+    requires { ⌜ (own ≤ records) × (rest ≤ records) × (weight-in (now words) rest < heaviest-list) ⌝ }
     ensures { λ r. ⌜ r ≡ records + 1 ⌝ }
     ensures { λ r. ⌜ MadeNames (now (words .entry)) (now (words .exit)) records kind own rest r ⌝ }
 {
@@ -153,7 +154,7 @@ pub fn imported(
     list: u32,
 ) -> u32
     requires { ⌜ Room (now words) records 1 ⌝ }
-    requires { ⌜ (inner ≤ records) × (list ≤ records) × (weight-in (now words) inner + weight-in (now words) list < 96) ⌝ }
+    requires { ⌜ (inner ≤ records) × (list ≤ records) × (weight-in (now words) inner + weight-in (now words) list < heaviest-list) ⌝ }
     ensures { λ r. ⌜ r ≡ records + 1 ⌝ }
     ensures { λ r. ⌜ MadeImported (now (words .entry)) (now (words .exit)) records kind (label .start) (label .len) inner list r ⌝ }
 {
@@ -171,7 +172,7 @@ pub fn imported(
 // Puts the trie of two lists. The answer is its link.
 pub fn put_trie(words: &mut [u32], records: u32, kind: u32, bindings: u32, namespaces: u32) -> u32
     requires { ⌜ Room (now words) records 1 ⌝ }
-    requires { ⌜ (namespaces ≤ records) × (depth-in (now words) namespaces ≤ 16) ⌝ }
+    requires { ⌜ (namespaces ≤ records) × (depth-in (now words) namespaces ≤ deepest-trie) ⌝ }
     ensures { λ r. ⌜ r ≡ records + 1 ⌝ }
     ensures { λ r. ⌜ MadeTrie (now (words .entry)) (now (words .exit)) records kind bindings namespaces r ⌝ }
 {

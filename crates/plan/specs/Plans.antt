@@ -5,6 +5,7 @@ use mathlib.Core.Bool.{Bool, cond, _||_}
 use mathlib.Core.List.{List, []}
 use lib.Dec.{ltb}
 use lib.ListN.{length}
+use Rattle.source.specs.Limits.{heaviest-list, deepest-trie}
 use Rattle.source.specs.Text.{Str, Query, segments}
 use Rattle.source.specs.Types.{Trie, bindings, namespaces}
 use Rattle.source.specs.Tries.{scope-of, included}
@@ -24,7 +25,7 @@ pub record StepIn (ws txt : List ℕ) (w : Which) (x : ℕ) (s : Str) (link reco
   pub next : Reads ws txt w x link (scope-of (namespaces (what w ws txt x trieˢ)) s)
   pub builds : records ≡ suc (inserted-records (namespaces (what w ws txt x trieˢ)) s)
   pub small : records ≤ 70000
-  pub weighs : crowded ≡ ltb 96 (inserted-weight (namespaces (what w ws txt x trieˢ)))
+  pub weighs : crowded ≡ ltb heaviest-list (inserted-weight (namespaces (what w ws txt x trieˢ)))
 
 -- The same, for any table that the trie is of.
 abbrev pub Stepped : (ws txt : List ℕ) (x : ℕ) (s : Str) (link records : ℕ) (crowded : Bool) → Type 0
@@ -36,7 +37,7 @@ pub record Steps {A : Type 0} (builds weighs : Trie A → Str → Query → ℕ)
   pub number : steps + length rest ≡ length q
   pub small : records ≤ steps * 140000
   pub built : (end : Trie A → ℕ) → along _+_ builds end tr q ≡ records + along _+_ builds end at rest
-  pub weighed : (end : Trie A → ℕ) → ltb 96 (along max weighs end tr q) ≡ crowded || ltb 96 (along max weighs end at rest)
+  pub weighed : (end : Trie A → ℕ) → ltb heaviest-list (along max weighs end tr q) ≡ crowded || ltb heaviest-list (along max weighs end at rest)
 
 -- The path to the host of a query.
 pub record Path (ws txt : List ℕ) (root : ℕ) (q : Query) (link steps records : ℕ) (crowded : Bool) : Type 0 where
@@ -47,7 +48,7 @@ pub record Path (ws txt : List ℕ) (root : ℕ) (q : Query) (link steps records
 -- What ins makes of the bindings of a trie: the records, whether the new list weighs over 96.
 pub record InsertedAt (ws txt : List ℕ) (x : ℕ) (s : Str) (q : Query) (loaded : Bool) (records : ℕ) (crowded : Bool) : Type 0 where
   pub builds : records ≡ cond (ins-inserts loaded (bindings (what modules ws txt x trieˢ)) s q) (inserted-records (bindings (what modules ws txt x trieˢ)) s) 0
-  pub weighs : crowded ≡ ltb 96 (cond (ins-inserts loaded (bindings (what modules ws txt x trieˢ)) s q) (inserted-weight (bindings (what modules ws txt x trieˢ))) 0)
+  pub weighs : crowded ≡ ltb heaviest-list (cond (ins-inserts loaded (bindings (what modules ws txt x trieˢ)) s q) (inserted-weight (bindings (what modules ws txt x trieˢ))) 0)
 
 -- The same, where last says that no segment is left.
 pub record Inserted (ws txt : List ℕ) (x : ℕ) (s : Str) (last loaded : Bool) (records : ℕ) (crowded : Bool) : Type 0 where
@@ -58,7 +59,7 @@ pub record Inserted (ws txt : List ℕ) (x : ℕ) (s : Str) (last loaded : Bool)
 pub record Planned (tbl : Table) (c : Call) (p : Plan) : Type 0 where
   pub records : p .records ≡ plan-records tbl c
   pub crowded : p .crowded ≡ plan-crowded tbl c
-  pub deep : p .deep ≡ ltb 16 (plan-depth tbl c)
+  pub deep : p .deep ≡ ltb deepest-trie (plan-depth tbl c)
 
 -- Of a name, for any table of the root.
 abbrev pub NamePlanned : (ws txt : List ℕ) (root : ℕ) (host id : Str) (p : Plan) → Type 0

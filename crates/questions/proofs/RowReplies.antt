@@ -11,7 +11,7 @@ use Rattle.source.specs.Calls.{output-text}
 use Rattle.memory.specs.Layout.{Which, names, modules, item-of, span, symbol-word}
 use Rattle.text.specs.Laid.{Laid}
 use Rattle.text.proofs.Laid.{laid-none, laid-more}
-use Rattle.script.specs.Script.{Str, _·_}
+use Rattle.numerals.specs.Bytes.{Str, _·_}
 use Rattle.replies.specs.Replies.{length-in, reply-room}
 use Rattle.lines.specs.Output.{signed-word, matched-word, candidate-start, candidate-len, annotation-start, annotation-len}
 use Rattle.lines.specs.Output.{candidate-start, candidate-len, annotation-start, annotation-len}

@@ -10,7 +10,7 @@ use Rattle.source.specs.Calls as C
 use Rattle.source.specs.Calls.{output-text}
 use Rattle.memory.specs.Layout.{Item}
 use Rattle.text.proofs.Laid.{laid-length}
-use Rattle.script.specs.Script.{Str, _·_}
+use Rattle.numerals.specs.Bytes.{Str, _·_}
 use Rattle.replies.specs.Replies.{refused-reply, end-reply}
 use Rattle.lines.specs.Ask.{asked}
 use Rattle.lines.specs.declared.Ask.{Ask}

@@ -8,7 +8,7 @@ use Rattle.source.specs.Table.{Line}
 use Rattle.source.specs.Calls as C
 use Rattle.source.specs.Calls.{Output, look-up, complete, complete-modules}
 use Rattle.memory.specs.Layout.{Which, names, modules, Item}
-use Rattle.script.specs.Script.{Str, _·_}
+use Rattle.numerals.specs.Bytes.{Str, _·_}
 use Rattle.script.specs.declared.Ask.{Ask}
 use Rattle.script.specs.declared.Ask.the-variants.{Find, Complete, Modules}
 use Rattle.replies.specs.declared.ItemReply.{ItemReply}

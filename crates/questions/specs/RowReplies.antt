@@ -6,7 +6,7 @@ use Rattle.source.specs.Shared.{Allˡ}
 use Rattle.memory.specs.Layout.{Which}
 use Rattle.memory.specs.Read.{text-of}
 use Rattle.memory.specs.declared.ModSymbol.the-variants as M
-use Rattle.script.specs.Script.{Str, _·_}
+use Rattle.numerals.specs.Bytes.{Str, _·_}
 use Rattle.replies.specs.declared.ItemReply.{ItemReply}
 use Rattle.replies.specs.declared.ItemReply.the-variants.{Number, Module, Namespace}
 use Rattle.replies.specs.Replies.{length-in, refused-reply, line-reply, end-reply, reply-room}

@@ -24,8 +24,9 @@ use Rattle.kinds.specs.Shapes.{shape-of, call-of}
 use Rattle.kinds.specs.declared.Kind.{Kind}
 use Rattle.kinds.specs.declared.Kind.the-variants.{Name, Include, Open, Alias, Module}
 use Rattle.plan.specs.Plans.{Carries}
-use Rattle.change.specs.Changes.{between, which-by, which-of, label-in, mutated, ChangeOk, Mutation}
-use Rattle.change.specs.declared.Change.{Change}
+use Rattle.leaves.specs.Leaves.{which-by, which-of, label-in, ChangeOk}
+use Rattle.change.specs.Changes.{between, mutated, descent, Mutation}
+use Rattle.leaves.specs.declared.Change.{Change}
 use Rattle.change.proofs.Between.{place-first}
 use Rattle.change.proofs.Registered.{Registers, name-registers, include-registers, alias-registers, open-registers, module-registers, registers-fits}
 use Rattle.register.specs.Checks.{Ready}
@@ -108,7 +109,7 @@ module _ {ws txt : List ℕ} (h : Header) {used : ℕ} (o : Sound ws txt (with-t
     -- What trie_mutate asks.
     pub right-mutation : {c : Call} {ch : Change} {x : ℕ} → Right at (at + length host) c ch x → ends-in-dot host ≡ true → IsQuery (segments host)
         → crowded (registered (table-of ws txt h) c) ≡ false → deep (registered (table-of ws txt h) c) ≡ false → Room ws (h .records) (records (table-of ws txt h) c)
-        → Mutation ws txt (h .records) used x at at (at + length host) ch
+        → Mutation ws txt (h .records) used x at (descent at (at + length host) ch)
     right-mutation {ch = ch} r d q light shallow free = let z : at + length host - at ≡ length host = omega arith in record {
       change = r .change;
       link = r .link;

@@ -25,8 +25,9 @@ use Rattle.kinds.specs.declared.Kind.{Kind}
 use Rattle.kinds.specs.declared.Form.{Form}
 use Rattle.kinds.specs.declared.Form.the-variants as form
 use Rattle.plan.specs.Plans.{Carries}
-use Rattle.change.specs.Changes.{which-by, which-of, mutated, Mutation, Mutated, Builds}
-use Rattle.change.specs.declared.Change.{Change}
+use Rattle.leaves.specs.Leaves.{which-by, which-of, Builds}
+use Rattle.change.specs.Changes.{mutated, descent, Mutation, Mutated}
+use Rattle.leaves.specs.declared.Change.{Change}
 use Rattle.change.proofs.Registered.{Registers}
 use Rattle.register.specs.Checks.{lent, Ready, Passes}
 use Rattle.register.specs.Writes.{Laid, root-at, with-root, with-text, Accepts}
@@ -117,7 +118,7 @@ module _ {ws txt : List ℕ} {h : Header} {k : Kind} {host other key : Str} {inc
     right : Right h sound-after (h .text) (h .text + length host) (call-of k host other key) change (root-at (which-of change) h)
     right = change-right h sound-after (h .text) host other key (l .stand) (omega arith) k inc is-ready (carries-keeps (p .sound) (l .keeps) (shape-of k .form) inc other (p .carries))
 
-    pub write-mutation : Mutation ws txt′ (h .records) (text-after h host other key) (root-at (which-by (shape-of k .form)) h) (h .text) (h .text) (h .text + length host) (change-at k inc (h .text) host other key)
+    pub write-mutation : Mutation ws txt′ (h .records) (text-after h host other key) (root-at (which-by (shape-of k .form)) h) (h .text) (descent (h .text) (h .text + length host) (change-at k inc (h .text) host other key))
     write-mutation =
         right-mutation h sound-after (h .text) host other key (l .stand) (omega arith) right (is-ready .host-ends) (is-ready .host-keeps)
         (rw (table-keeps (p .sound) (l .keeps)) (passed .light)) (rw (table-keeps (p .sound) (l .keeps)) (passed .shallow)) (rw (table-keeps (p .sound) (l .keeps)) records-room)
@@ -138,7 +139,7 @@ module _ {ws txt : List ℕ} {h : Header} {k : Kind} {host other key : Str} {inc
         }
 
     pub write-accepts : {ws′ : List ℕ} {x link m : ℕ} {r : Header} → x ≡ root-at (which-by (shape-of k .form)) h
-        → Mutated ws ws′ txt′ (h .records) x (h .text) (h .text) (h .text + length host) (change-at k inc (h .text) host other key) link m
+        → Mutated ws ws′ txt′ (h .records) x (h .text) (descent (h .text) (h .text + length host) (change-at k inc (h .text) host other key)) link m
         → r ≡ with-root (which-by (shape-of k .form)) h link m (text-after h host other key)
         → Accepts ws txt ws′ txt′ h r (after (state-of ws txt h) (call-of k host other key))
     write-accepts e g f = rw f (built-accepts ((rw e at g) _ write-mutation))

@@ -3,6 +3,7 @@ use Prim.Native.Nat.{ℕ, _+_, _*_}
 use mathlib.Core.Path.{_≡_}
 use mathlib.Core.List.{List}
 use lib.ListN.{length, drop}
+use Rattle.source.specs.Limits.{record-words}
 use Rattle.source.specs.Text.{Str}
 use Rattle.source.specs.Calls.{State}
 use Rattle.memory.specs.Layout.{span, Which, names, modules, state-of}
@@ -40,5 +41,5 @@ with-root modules h link records text = record { names = h .names; modules = lin
 pub record Accepts (ws txt ws′ txt′ : List ℕ) (h h′ : Header) (s : State) : Type 0 where
   pub reads : state-of ws′ txt′ h′ ≡ s
   pub sound : Sound ws′ txt′ h′
-  pub words : Outside (h .records * 12) (h′ .records * 12) ws ws′
+  pub words : Outside (h .records * record-words) (h′ .records * record-words) ws ws′
   pub text : Outside (h .text) (h′ .text) txt txt′

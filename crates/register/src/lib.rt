@@ -1,7 +1,8 @@
 // A registration over a header: the rows that it must pass, and what it writes.
-use change::Change;
+use change::Descent;
 use kinds::Form;
 use kinds::Kind;
+use leaves::Change;
 use memory::Header;
 use memory::Span;
 use refusals::Admission;
@@ -14,13 +15,14 @@ ghost use mathlib.Core.Bool.{false, cond};
 ghost use mathlib.Core.List.{[], _∷_};
 ghost use Prim.Native.Nat.{_+_, _≤_};
 ghost use lib.ListN.{length};
+ghost use Rattle.source.specs.Limits.{most-used};
 ghost use Rattle.source.specs.Calls.{a-name, malformed, arguments, after};
 ghost use Rattle.refusals.specs.Rows.{Flagged, AllFlagged};
 ghost use Rattle.memory.specs.Layout.{names, trieˢ, state-of};
 ghost use Rattle.memory.specs.Sound.{Sound, At};
 ghost use Rattle.kinds.specs.Shapes.{call-of, argument-as};
 ghost use Rattle.plan.specs.Plans.{Carries};
-ghost use Rattle.change.specs.Changes.{which-by};
+ghost use Rattle.leaves.specs.Leaves.{which-by};
 ghost use Rattle.register.specs.Checks.{NoKey, Passes, Checks};
 ghost use Rattle.register.specs.Writes.{Laid, root-at, with-root, Accepts};
 
@@ -122,7 +124,7 @@ pub fn check(
 // Writes the texts of a registration after the used ones.
 fn put_texts(text: &mut [u8], used: u32, host: &[u8], other: &[u8], key: &[u8])
     requires { ⌜ used + length (now host) + length (now other) + length (now key) ≤ length (now text) ⌝ }
-    requires { ⌜ used + length (now host) + length (now other) + length (now key) ≤ 65536 ⌝ }
+    requires { ⌜ used + length (now host) + length (now other) + length (now key) ≤ most-used ⌝ }
     ensures { λ _. ⌜ Laid (now (text .entry)) (now (text .exit)) used (now (host .entry)) (now (other .entry)) (now (key .entry)) ⌝ }
 {
     let start = used + host.len() as u32;
@@ -199,6 +201,11 @@ pub fn write(
     let s = kinds::shape_of(kind);
     let form = s.form;
     let root = root_of(h, form);
-    let b = change::trie_mutate(words, text, h.records, root, h.text, h.text, start, change);
+    let d = Descent {
+        from: h.text,
+        end: start,
+        change: change,
+    };
+    let b = change::trie_mutate(words, text, h.records, root, h.text, d);
     changed(h, form, b.link, b.records, end + size)
 }

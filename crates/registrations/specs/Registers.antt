@@ -3,10 +3,11 @@ use Prim.Native.Nat.{ℕ, _*_, _≤_}
 use mathlib.Core.Path.{_≡_}
 use mathlib.Core.Bool.{true, false}
 use mathlib.Core.List.{List}
+use Rattle.source.specs.Limits.{record-words}
 use Rattle.source.specs.Calls as C
 use Rattle.source.specs.Calls.{State, Call, register}
 use Rattle.text.specs.Laid.{Laid}
-use Rattle.script.specs.Script.{Str}
+use Rattle.numerals.specs.Bytes.{Str}
 use Rattle.script.specs.declared.Import.{Import}
 use Rattle.script.specs.declared.Import.the-variants.{Include, OpenModule, OpenNamespace}
 use Rattle.replies.specs.Replies.{ok-reply, refused-reply}
@@ -41,7 +42,7 @@ import-call OpenNamespace host q = C.opens false host q
 pub record Leaves (ws txt ws′ txt′ : List ℕ) (t : Table) (reply reply′ : List ℕ) (at : ℕ) (o : Outcome) (r : Done) : Type 0 where
   pub sound : IsSound ws′ txt′ (r .table)
   pub reads : state ws′ txt′ (r .table) ≡ o .after
-  pub words : Outside (t .header .records * 12) (r .table .header .records * 12) ws ws′
+  pub words : Outside (t .header .records * record-words) (r .table .header .records * record-words) ws ws′
   pub texts : Outside (t .header .text) (r .table .header .text) txt txt′
   pub grows : (t .header .records ≤ r .table .header .records) × (t .header .text ≤ r .table .header .text)
   pub laid : Laid reply reply′ at (r .end) (o .text)

@@ -1,23 +1,14 @@
 -- The replies of the program `console`, and what it is to write one into a lent text.
 use mathlib.Core.Bool.{true, false}
-use mathlib.Core.List.{[], _∷_, _++_}
-use Prim.Native.Nat.{ℕ, zero, suc, _+_, _/_, _%_}
-use lib.Dec.{eqb, ltb}
+use Prim.Native.Nat.{ℕ, suc}
+use lib.Dec.{eqb}
 use lib.IntN.{ℤ, pos, negsuc}
 use Rattle.replies.specs.declared.ItemReply.{ItemReply}
 use Rattle.replies.specs.declared.ItemReply.the-variants.{Number, Module, Namespace}
-use Rattle.script.specs.Script.{Str, bytes, _·_}
+use Rattle.numerals.specs.Bytes.{Str, bytes, _·_}
+use Rattle.numerals.specs.Numerals.{decimal}
 
--- ---- Numbers
-
--- The digits of a number below ten, or of its tenth and then its last digit; fuel of them at most.
-unfoldable pub digits : (fuel n : ℕ) → Str
-digits zero n = []
-digits (suc fuel) n = elim (ltb n 10) [ true ↦ (48 + n) ∷ [] | false ↦ digits fuel (n / 10) ++ ((48 + n % 10) ∷ []) ]
-
--- A number in decimal, without leading zeros.
-unfoldable pub decimal : ℕ → Str
-decimal n = digits (suc n) n
+-- ---- Match lengths
 
 -- A match length: -1 and up.
 unfoldable pub signed : ℤ → Str

@@ -1,10 +1,12 @@
 // The replies of the program `console`. Each function writes one at `at` and returns where it ends; every other byte of `out` stays.
 // Nothing is assumed.
+use numerals::digits::put_number;
 ghost use Prim.Native.Nat.{_+_, _≤_};
 ghost use lib.ListN.{length};
 ghost use Rattle.text.specs.Laid.{Laid};
-ghost use Rattle.script.specs.Script.{bytes, _·_};
-ghost use Rattle.replies.specs.Replies.{decimal, signed, length-in, item-text, ok-reply, found-reply, none-reply, refused-reply, bad-reply, line-reply, end-reply, reply-room};
+ghost use Rattle.numerals.specs.Bytes.{bytes, _·_};
+ghost use Rattle.numerals.specs.Numerals.{decimal};
+ghost use Rattle.replies.specs.Replies.{signed, length-in, item-text, ok-reply, found-reply, none-reply, refused-reply, bad-reply, line-reply, end-reply, reply-room};
 
 // The item of a line: its number in `complete`, module or namespace in `modules`.
 pub enum ItemReply {
@@ -24,28 +26,6 @@ fn put(out: &mut [u8], at: usize, text: &[u8]) -> usize
         i += 1;
     }
     at + i
-}
-
-// Writes the digits of `n`, the first one first.
-fn put_digits(out: &mut [u8], at: usize, n: u32) -> usize
-    requires { ⌜ at + length (decimal n) ≤ length (now out) ⌝ }
-    ensures { λ r. ⌜ Laid (now (out .entry)) (now (out .exit)) at r (decimal n) ⌝ }
-{
-    if n < 10 {
-        out[at] = 48 + n as u8;
-        return at + 1;
-    }
-    let e = put_digits(out, at, n / 10);
-    out[e] = 48 + (n % 10) as u8;
-    e + 1
-}
-
-// Writes `n` in decimal.
-fn put_number(out: &mut [u8], at: usize, n: u32) -> usize
-    requires { ⌜ at + 10 ≤ length (now out) ⌝ }
-    ensures { λ r. ⌜ Laid (now (out .entry)) (now (out .exit)) at r (decimal n) × (r ≤ at + 10) ⌝ }
-{
-    put_digits(out, at, n)
 }
 
 // Writes a word and a number, in brackets.

@@ -6,20 +6,22 @@ use Prim.Native.Nat.{ℕ, _+_, _-_}
 use native.Mathlib.Omega.{arith}
 use lib.ListN.{length, drop}
 use lib.Seq.{drop-at}
-use Rattle.script.specs.declared.Sort.the-variants.{Query, Word}
+use Rattle.numerals.specs.declared.Sort.the-variants.{Query, Word}
 use Rattle.script.specs.declared.Import.{Import}
 use Rattle.script.specs.declared.Import.the-variants.{Include, OpenModule, OpenNamespace}
 use Rattle.script.specs.declared.Ask.{Ask}
 use Rattle.script.specs.declared.Ask.the-variants.{Find, Complete, Modules}
 use Rattle.script.specs.declared.Key.{Key}
 use Rattle.script.specs.declared.Key.the-variants.{Name as NameKey, Alias as AliasKey, Import as ImportKey, Module as ModuleKey, Ask as AskKey}
-use Rattle.script.specs.declared.Extent.{Extent}
+use Rattle.numerals.specs.declared.Extent.{Extent}
 use Rattle.script.specs.declared.Form.the-variants.{Name, Import as ImportForm, Alias, Module, Ask as AskForm}
-use Rattle.script.specs.declared.Pair.the-variants.{At as AtPair}
-use Rattle.script.specs.declared.Tail.the-variants.{At as AtTail}
-use Rattle.script.specs.Script.{Str, _·_, bytes, key, Command, name, import, alias, module-path, ask, NameLine, ImportLine, AliasLine, ModuleLine, AskLine, Spelled, Reads, Parsed}
-use Rattle.script.specs.Parts.{cut, key-of, Only, WordAt, Piece, PieceAt, IdEnd, IdSays, PairEnd, PairSays, LastAt, QueryEnd, QueryAt}
-use Rattle.script.proofs.LineEnd.{part-found, rest-found, cut-length, stops-query, stops-word}
+use Rattle.numerals.specs.declared.Pair.the-variants.{At as AtPair}
+use Rattle.numerals.specs.declared.Tail.the-variants.{At as AtTail}
+use Rattle.numerals.specs.Bytes.{Str, _·_, bytes}
+use Rattle.script.specs.Script.{key, Command, name, import, alias, module-path, ask, NameLine, ImportLine, AliasLine, ModuleLine, AskLine, Spelled, Reads, Parsed}
+use Rattle.numerals.specs.Parts.{cut, WordAt, Piece, PieceAt, IdEnd, IdSays, PairEnd, PairSays, LastAt, QueryEnd, QueryAt}
+use Rattle.script.specs.Keys.{key-of, Only}
+use Rattle.numerals.proofs.Parts.{part-found, rest-found, cut-length, stops-query, stops-word}
 
 -- The command's form.
 abbrev command-key : Command → Key

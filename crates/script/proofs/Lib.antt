@@ -1,4 +1,3 @@
-pub mod Runs
-pub mod LineEnd
 pub mod Forms
 pub mod ReadsOnce
+mod Examples

@@ -3,13 +3,16 @@ use mathlib.Core.Path.{_≡_, refl, sym, ap, _∙_}
 use Prim.Native.Nat.{ℕ}
 use lib.ListN.{length, drop}
 use lib.Seq.{drop-at}
-use Rattle.script.specs.declared.Sort.the-variants.{Query, Word}
+use Rattle.numerals.specs.declared.Sort.the-variants.{Query, Word}
 use Rattle.script.specs.declared.Key.{Key}
 use Rattle.script.specs.declared.Key.the-variants.{Name as NameKey, Alias as AliasKey, Import as ImportKey, Module as ModuleKey, Ask as AskKey}
-use Rattle.script.specs.Script.{Str, _·_, key, Numeral, Command, Reads}
-use Rattle.script.specs.Parts.{key-of, IdEnd, PairEnd, QueryEnd}
-use Rattle.script.proofs.Runs.{piece-once}
-use Rattle.script.proofs.LineEnd.{last-once, stops-query, stops-word, query-piece, pair-piece, id-piece}
+use Rattle.numerals.specs.Bytes.{Str, _·_}
+use Rattle.script.specs.Script.{key, Command, Reads}
+use Rattle.numerals.specs.Numerals.{Numeral}
+use Rattle.script.specs.Keys.{key-of}
+use Rattle.numerals.specs.Parts.{IdEnd, PairEnd, QueryEnd}
+use Rattle.numerals.proofs.Runs.{piece-once}
+use Rattle.numerals.proofs.Parts.{last-once, stops-query, stops-word, query-piece, pair-piece, id-piece}
 use Rattle.script.proofs.Forms.{Keyed, keyed, name-piece, name-id, import-pair, alias-piece, alias-pair, module-piece, ask-query}
 
 -- What follows one word in one line.

@@ -1,16 +1,20 @@
-// The language of the program `console`. `parse` answers the form that spells a line, or that none does; `line_end` cuts a line
-// out of an input. Nothing is assumed.
+// The forms of a line of the program `console`. `parse` answers the form that spells a line, or that none does. Nothing is assumed.
+use numerals::Extent;
+use numerals::Pair;
+use numerals::Part;
+use numerals::Sort;
+use numerals::Tail;
+use numerals::byte_at;
+use numerals::id_end;
+use numerals::last_end;
+use numerals::pair_end;
+use numerals::piece;
+use numerals::query_end;
+use numerals::word_end;
 ghost use mathlib.Core.Path.{_≡_};
-ghost use Prim.Native.Nat.{_+_, _≤_};
-ghost use lib.ListN.{length, getD, drop};
-ghost use Rattle.script.specs.Script.{byte-ok, key, Parsed, LineEnd};
-ghost use Rattle.script.specs.Parts.{run-length, StartsSays, Stops, PieceSays, QuerySays, PairSays, LastSays, ValueSays, NumberSays, WordSays, IdSays, key-by, key-of, Only};
-
-// A part of a line: where it starts, and its length.
-pub struct Extent {
-    pub start: usize,
-    pub len: usize,
-}
+ghost use Rattle.numerals.specs.Parts.{WordSays};
+ghost use Rattle.script.specs.Script.{key, Parsed};
+ghost use Rattle.script.specs.Keys.{key-by, key-of, Only};
 
 // The forms of a host and a query: `include`, `open m`, `open n`.
 pub enum Import {
@@ -55,14 +59,6 @@ pub enum Form {
     Bad,
 }
 
-// What kind of bytes a part has.
-pub enum Sort {
-    Query,
-    Word,
-    Digit,
-    Line,
-}
-
 // A form, by what its line begins with.
 enum Key {
     Name,
@@ -70,231 +66,6 @@ enum Key {
     Import(Import),
     Module(bool),
     Ask(Ask),
-}
-
-// Where a part ends, or that it does not stand there.
-enum Part {
-    At(usize),
-    No,
-}
-
-enum Pair {
-    At { host: Extent, query: Extent },
-    No,
-}
-
-enum Tail {
-    At { id: Extent, item: u32 },
-    No,
-}
-
-enum Number {
-    At(u32),
-    No,
-}
-
-// Whether a byte may stand in a part of this sort.
-fn byte_ok(sort: Sort, b: u8) -> bool
-    ensures { λ r. ⌜ r ≡ byte-ok sort b ⌝ }
-{
-    match sort {
-        Sort::Query => b != b']',
-        Sort::Word => {
-            if b == b' ' {
-                return false;
-            }
-            if b == b'[' {
-                return false;
-            }
-            b != b']'
-        }
-        Sort::Digit => {
-            if b < b'0' {
-                return false;
-            }
-            b <= b'9'
-        }
-        Sort::Line => b != b'\n',
-    }
-}
-
-// Where the bytes from `at` on that may stand in a part end.
-fn run(line: &[u8], at: usize, sort: Sort) -> usize
-    requires { ⌜ at ≤ length (now line) ⌝ }
-    ensures { λ r. ⌜ r ≡ at + run-length sort (drop at (now (line .entry))) ⌝ }
-{
-    let mut i = at;
-    while i < line.len() {
-        if !byte_ok(sort, line[i]) {
-            return i;
-        }
-        i += 1;
-    }
-    i
-}
-
-// Whether `text` stands at `at`.
-fn starts(line: &[u8], at: usize, text: &[u8]) -> bool
-    requires { ⌜ at ≤ length (now line) ⌝ }
-    ensures { λ r. ⌜ StartsSays (drop at (now (line .entry))) (now (text .entry)) r ⌝ }
-{
-    if line.len() - at < text.len() {
-        return false;
-    }
-    let mut i = 0;
-    while i < text.len() {
-        if line[at + i] != text[i] {
-            return false;
-        }
-        i += 1;
-    }
-    true
-}
-
-// The end of the part at `at`, where `close` follows it.
-fn piece(line: &[u8], at: usize, sort: Sort, close: &[u8]) -> Part
-    requires { ⌜ (at ≤ length (now line)) × Stops sort (now close) ⌝ }
-    ensures { λ r. ⌜ PieceSays sort (now (close .entry)) (now (line .entry)) at r ⌝ }
-{
-    let e = run(line, at, sort);
-    if starts(line, e, close) {
-        return Part::At(e);
-    }
-    Part::No
-}
-
-// The end of a query that is followed by the line's last two brackets.
-fn query_end(line: &[u8], at: usize) -> Part
-    requires { ⌜ at ≤ length (now line) ⌝ }
-    ensures { λ r. ⌜ QuerySays (now (line .entry)) at r ⌝ }
-{
-    match piece(line, at, Sort::Query, b"]]") {
-        Part::At(e) => {
-            if e + 2 == line.len() {
-                return Part::At(e);
-            }
-            Part::No
-        }
-        Part::No => Part::No,
-    }
-}
-
-// A host and a query, up to the line's last two brackets.
-fn pair_end(line: &[u8], at: usize) -> Pair
-    requires { ⌜ at ≤ length (now line) ⌝ }
-    ensures { λ r. ⌜ PairSays (now (line .entry)) at r ⌝ }
-{
-    match piece(line, at, Sort::Query, b"] [") {
-        Part::At(e) => match query_end(line, e + 3) {
-            Part::At(f) => Pair::At {
-                host: Extent {
-                    start: at,
-                    len: e - at,
-                },
-                query: Extent {
-                    start: e + 3,
-                    len: f - (e + 3),
-                },
-            },
-            Part::No => Pair::No,
-        },
-        Part::No => Pair::No,
-    }
-}
-
-// The place of the line's last bracket, at or after `at`.
-fn last_end(line: &[u8], at: usize) -> Part
-    ensures { λ r. ⌜ LastSays (now (line .entry)) at r ⌝ }
-{
-    if line.len() <= at {
-        return Part::No;
-    }
-    let e = line.len() - 1;
-    if line[e] == b']' {
-        return Part::At(e);
-    }
-    Part::No
-}
-
-// The byte as a number of 64 bits.
-fn wide(b: u8) -> u64
-    ensures { λ r. ⌜ r ≡ b ⌝ }
-{
-    b as u64
-}
-
-// The number that digits are, where it is at most 4,294,967,295.
-fn value(digits: &[u8]) -> Number
-    ensures { λ r. ⌜ ValueSays (now (digits .entry)) r ⌝ }
-{
-    let mut v: u64 = 0;
-    let mut i = 0;
-    while i < digits.len() {
-        let b = digits[i];
-        if !byte_ok(Sort::Digit, b) {
-            return Number::No;
-        }
-        v = v * 10 + (wide(b) - 48);
-        if 4294967295 < v {
-            return Number::No;
-        }
-        i += 1;
-    }
-    Number::At(v as u32)
-}
-
-// The number that `digits` spell without leading zeros.
-fn numeral(digits: &[u8]) -> Number
-    ensures { λ r. ⌜ NumberSays (now (digits .entry)) r ⌝ }
-{
-    if digits.len() == 0 {
-        return Number::No;
-    }
-    if digits.len() == 1 {
-        return value(digits);
-    }
-    if digits[0] == b'0' {
-        return Number::No;
-    }
-    value(digits)
-}
-
-// An id and a number, up to the line's last bracket.
-fn id_end(line: &[u8], at: usize) -> Tail
-    requires { ⌜ at ≤ length (now line) ⌝ }
-    ensures { λ r. ⌜ IdSays (now (line .entry)) at r ⌝ }
-{
-    match piece(line, at, Sort::Word, b" ") {
-        Part::At(e) => {
-            if e == at {
-                return Tail::No;
-            }
-            match last_end(line, e + 1) {
-                Part::At(f) => match numeral(&line[e + 1..f]) {
-                    Number::At(n) => Tail::At {
-                        id: Extent {
-                            start: at,
-                            len: e - at,
-                        },
-                        item: n,
-                    },
-                    Number::No => Tail::No,
-                },
-                Part::No => Tail::No,
-            }
-        }
-        Part::No => Tail::No,
-    }
-}
-
-// The byte at `i`, or 0 past the line's end.
-fn byte_at(line: &[u8], i: usize) -> u8
-    ensures { λ r. ⌜ r ≡ getD (now (line .entry)) i 0 ⌝ }
-{
-    if i < line.len() {
-        return line[i];
-    }
-    0
 }
 
 // The only form that a line can be, by its bytes 1, 6 and 8.
@@ -336,16 +107,6 @@ fn key_of(line: &[u8]) -> Key
     ensures { λ r. ⌜ r ≡ key-of (now (line .entry)) ⌝ }
 {
     key_by(byte_at(line, 1), byte_at(line, 6), byte_at(line, 8))
-}
-
-// The end of `word` at the line's start.
-fn word_end(line: &[u8], word: &[u8]) -> Part
-    ensures { λ r. ⌜ WordSays (now (line .entry)) (now (word .entry)) r ⌝ }
-{
-    if starts(line, 0, word) {
-        return Part::At(word.len());
-    }
-    Part::No
 }
 
 // The end of the first word of `how`.
@@ -512,11 +273,4 @@ pub fn parse(line: &[u8]) -> Form
         Key::Module(loaded) => module_form(line, loaded),
         Key::Ask(what) => ask_form(line, what),
     }
-}
-
-// Where the first line of `input` ends: at its line feed, or at the end of `input`.
-pub fn line_end(input: &[u8]) -> usize
-    ensures { λ r. ⌜ LineEnd (now (input .entry)) r ⌝ }
-{
-    run(input, 0, Sort::Line)
 }

@@ -5,6 +5,7 @@ use mathlib.Core.Bool.{Bool, true, cond, _||_}
 use mathlib.Core.List.{List}
 use lib.Dec.{eqb}
 use lib.ListN.{length, drop}
+use Rattle.source.specs.Limits.{deepest-trie, most-used, record-words}
 use Rattle.source.specs.Text.{Str, string-compare}
 use Rattle.source.specs.Types.{Level, bind, ns}
 use Rattle.source.specs.Trees.{btree-insert-replace}
@@ -35,8 +36,8 @@ pub record Insertion (ws txt : List ℕ) (w : Which) (v : Level) (records used r
   pub link : LinkOk ws (records + 1) root (kind w (tree v))
   pub new : NewBranch ws txt used (records + 1) w r v
   pub counted : Builds ws txt root (span txt (text-start r) (text-len r)) count
-  pub room : (records + count) * 12 ≤ length ws
-  pub few : records + count ≤ 65536
+  pub room : (records + count) * record-words ≤ length ws
+  pub few : records + count ≤ most-used
 
 -- The same, of some table and level and some text used.
 pub record AnyInsertion (ws txt : List ℕ) (records root count : ℕ) (r : List ℕ) : Type 0 where
@@ -69,7 +70,7 @@ pub data Trail (ws txt : List ℕ) (key : Str) (root : ℕ) : (d n link : ℕ) �
 -- Only record number n changes.
 pub record Changed (ws ws′ : List ℕ) (n : ℕ) : Type 0 where
   pub stays : Stays n ws ws′
-  pub rest : drop (n * 12 + 12) ws′ ≡ drop (n * 12 + 12) ws
+  pub rest : drop (n * record-words + record-words) ws′ ≡ drop (n * record-words + record-words) ws
 
 -- Record number n becomes a note.
 pub record Noted (ws ws′ : List ℕ) (n link side : ℕ) : Type 0 where
@@ -80,7 +81,7 @@ pub record Noted (ws ws′ : List ℕ) (n link side : ℕ) : Type 0 where
 -- The way down to the key's branch, or to where it is missing, is noted in the count records after the used ones.
 pub record Marked (ws ws′ txt : List ℕ) (key : Str) (records root count : ℕ) : Type 0 where
   pub stays : Stays records ws ws′
-  pub rest : drop ((records + count) * 12) ws′ ≡ drop ((records + count) * 12) ws
+  pub rest : drop ((records + count) * record-words) ws′ ≡ drop ((records + count) * record-words) ws
   pub some : 0 < count
   pub trail : Trail ws′ txt key root (count - 1) (records + 1) (noted-link ws′ records)
   pub here : 0 < noted-link ws′ records → Ordering·eq ≡ string-compare key (key-at ws′ txt (noted-link ws′ records))
@@ -97,10 +98,10 @@ branch-depth ws k x a b = cond (of-namespaces k) (max (suc (depth-in ws x)) (max
 
 -- These links can be read, and what a branch of namespaces holds is not too deep.
 pub record DepthOk (ws : List ℕ) (kind held left right : ℕ) : Type 0 where
-  pub left-fits : left * 12 ≤ length ws
-  pub right-fits : right * 12 ≤ length ws
-  pub held-fits : of-namespaces kind ≡ true → held * 12 ≤ length ws
-  pub shallow : of-namespaces kind ≡ true → depth-in ws held ≤ 16
+  pub left-fits : left * record-words ≤ length ws
+  pub right-fits : right * record-words ≤ length ws
+  pub held-fits : of-namespaces kind ≡ true → held * record-words ≤ length ws
+  pub shallow : of-namespaces kind ≡ true → depth-in ws held ≤ deepest-trie
 
 -- The words of a branch with the sides a and b.
 unfoldable pub with-sides : List ℕ → List ℕ → (left right : ℕ) → List ℕ
@@ -114,10 +115,10 @@ raised-row ws n =
 
 -- What that copy asks.
 pub record RaiseOk (ws : List ℕ) (n : ℕ) : Type 0 where
-  pub few : n < 65536
-  pub room : n * 12 + 12 ≤ length ws
+  pub few : n < most-used
+  pub room : n * record-words + record-words ≤ length ws
   pub some : 0 < noted-link ws n
-  pub fits : noted-link ws n * 12 ≤ length ws
+  pub fits : noted-link ws n * record-words ≤ length ws
   pub left : DepthOk ws (kind-word (record-at ws (noted-link ws n))) (trie-link (record-at ws (noted-link ws n))) n (right-link (record-at ws (noted-link ws n)))
   pub right : DepthOk ws (kind-word (record-at ws (noted-link ws n))) (trie-link (record-at ws (noted-link ws n))) (left-link (record-at ws (noted-link ws n))) n
 
@@ -127,9 +128,9 @@ lowest-row ws n r = with-sides ws r (left-in ws (noted-link ws n)) (right-in ws 
 
 -- What it asks.
 pub record LowestOk (ws : List ℕ) (n : ℕ) (r : List ℕ) : Type 0 where
-  pub few : n < 65536
-  pub room : n * 12 + 12 ≤ length ws
-  pub fits : noted-link ws n * 12 ≤ length ws
+  pub few : n < most-used
+  pub room : n * record-words + record-words ≤ length ws
+  pub fits : noted-link ws n * record-words ≤ length ws
   pub sides : DepthOk ws (kind-word r) (trie-link r) (left-in ws (noted-link ws n)) (right-in ws (noted-link ws n))
 
 -- ---- What an insertion leaves
@@ -139,7 +140,7 @@ pub record Inserted (ws ws′ txt : List ℕ) (w : Which) (v : Level) (records u
   pub last : root′ ≡ records + count
   pub sound : Used ws′ txt (records + count) used
   pub stays : Stays records ws ws′
-  pub rest : drop ((records + count) * 12) ws′ ≡ drop ((records + count) * 12) ws
+  pub rest : drop ((records + count) * record-words) ws′ ≡ drop ((records + count) * record-words) ws
   pub link : LinkOk ws′ (records + count + 1) root′ (kind w (tree v))
   pub reads : what w ws′ txt root′ (tree v) ≡ btree-insert-replace (what w ws txt root (tree v)) (span txt (text-start r) (text-len r)) (value w txt r (what w ws txt) v)
 

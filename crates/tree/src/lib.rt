@@ -5,6 +5,7 @@ ghost use mathlib.Core.Path.{_≡_};
 ghost use mathlib.Core.Bool.{true};
 ghost use Prim.Native.Nat.{_+_, _*_, _≤_, _<_, max};
 ghost use lib.ListN.{length};
+ghost use Rattle.source.specs.Limits.{most-used, record-words};
 ghost use Rattle.source.specs.Text.{string-compare, starts-with};
 ghost use Rattle.memory.specs.Layout.{key-at, kind-word, trie-link};
 ghost use Rattle.text.specs.Text.{ordering};
@@ -203,7 +204,7 @@ fn lowest_row(words: &[u32], at: u32, row: [u32; memory::ROW]) -> [u32; memory::
 
 // Notes a branch and a side in record number `at`.
 fn put_note(words: &mut [u32], at: u32, link: u32, side: u32)
-    requires { ⌜ at * 12 + 12 ≤ length (now words) ⌝ }
+    requires { ⌜ at * record-words + record-words ≤ length (now words) ⌝ }
     ensures { λ _. ⌜ Noted (now (words .entry)) (now (words .exit)) at link side ⌝ }
 {
     let base = at as usize * memory::ROW;
@@ -215,7 +216,7 @@ fn put_note(words: &mut [u32], at: u32, link: u32, side: u32)
 fn note_path(words: &mut [u32], text: &[u8], records: u32, root: u32, count: u32, key: &[u8])
     requires { ⌜ AnyTree (now words) (now text) root ⌝ }
     requires { ⌜ Builds (now words) (now text) root (now key) count ⌝ }
-    requires { ⌜ (root ≤ records) × ((records + count) * 12 ≤ length (now words)) × (records + count ≤ 65536) ⌝ }
+    requires { ⌜ (root ≤ records) × ((records + count) * record-words ≤ length (now words)) × (records + count ≤ most-used) ⌝ }
     ensures { λ _. ⌜ Marked (now (words .entry)) (now (words .exit)) (now (text .entry)) (now (key .entry)) records root count ⌝ }
 {
     let mut at = records + count - 1;

@@ -7,7 +7,7 @@ use native.Mathlib.Omega.{arith}
 use Rattle.source.specs.Types.{ns}
 use Rattle.change.specs.Changes.{between}
 use Rattle.lookup.proofs.Links.{holder-fits}
-use Rattle.change.proofs.Building.{placed-part}
+use Rattle.leaves.proofs.Building.{placed-part}
 use Rattle.change.proofs.Cycle.{spaces-key, spaces-list, spaces-mutation, spaces-any, spaces-built, leaf-mutation, leaf-mutated, segment-ready, mutation-spaces, mutation-node, mutation-built}
 use borrow.Fn.Kinds.{In}
 use borrow.Fn.PlainCycle.{Measures, is, falls, and}
@@ -23,17 +23,17 @@ use Rattle.memory.proofs.make.namespace_row.Reads as namespace-row-reads
 use Rattle.names.proofs.names_insert.Reads as names-insert-reads
 use Rattle.names.proofs.names_place.Reads as names-place-reads
 use Rattle.change.proofs.kinds_of.Reads as kinds-of-reads
-use Rattle.change.proofs.mut_leaf.Reads as mut-leaf-reads
+use Rattle.leaves.proofs.mut_leaf.Reads as mut-leaf-reads
 use Rattle.change.proofs.mut_node.Reads as mut-node-reads
 use Rattle.change.proofs.segment_in.Reads as segment-in-reads
 use Rattle.change.proofs.+namespaces_mutate+trie_mutate.{statement}
 use Rattle.change.proofs.+namespaces_mutate+trie_mutate.Tie.{close}
 
 abbrev μ-namespaces-mutate : Measures 2 namespaces-mutate-kinds.ps ℕ
-μ-namespaces-mutate κs a = 2 * length (between (a .1 .0 .now) (a .1 .1 .1 .1 .1 .0 + a .1 .1 .1 .1 .1 .1 .0 + 1) (a .1 .1 .1 .1 .1 .1 .1 .0)) + 1
+μ-namespaces-mutate κs a = 2 * length (between (a .1 .0 .now) (a .1 .1 .1 .1 .0 + a .1 .1 .1 .1 .1 .0 + 1) (a .1 .1 .1 .1 .1 .1 .0 .end)) + 1
 
 abbrev μ-trie-mutate : Measures 2 trie-mutate-kinds.ps ℕ
-μ-trie-mutate κs a = 2 * length (between (a .1 .0 .now) (a .1 .1 .1 .1 .1 .0) (a .1 .1 .1 .1 .1 .1 .0))
+μ-trie-mutate κs a = 2 * length (between (a .1 .0 .now) (a .1 .1 .1 .1 .0) (a .1 .1 .1 .1 .1 .0 .end))
 
 abbrev namespaces-mutate-at : ℕ → In 2 namespaces-mutate-kinds.ps
 namespaces-mutate-at t =
@@ -97,19 +97,19 @@ pub +namespaces-mutate+trie-mutate-spec : {M : Type 1} → statement M
     (trie-mutate-at t)
     trie-mutate.Post
     {- mut-leaf-requires -}
-    (λ c κs. record { used = c .before .before .before .before .pre .1 .used; holds = leaf-mutation _ _ _ _ _ (c .before .if1 .taken) (c .before .before .before .before .pre .1 .holds) })
+    (λ c κs. record { used = c .before .before .before .before .before .pre .1 .used; holds = leaf-mutation _ _ _ _ (c .before .if1 .taken) (c .before .before .before .before .before .pre .1 .holds) })
     {- same-length -}
     (λ c. search needs)
     {- returns -}
-    (λ c. leaf-mutated _ _ _ _ _ (c .before .before .before .before .if1 .taken) _ (c .before .before .mut-leaf .ensures))
+    (λ c. leaf-mutated _ _ _ _ (c .before .before .before .before .if1 .taken) (c .before .before .mut-leaf .ensures))
     {- segment-in-requires -}
-    (λ c κs. segment-ready (c .before .before .before .pre .1 .holds) (c .if1 .left))
+    (λ c κs. segment-ready (c .before .before .before .before .pre .1 .holds) (c .if1 .left))
     {- trie-of-requires -}
-    (λ c κs. omega (arith, c .before .before .before .before .before .pre .1 .holds .link .earlier, c .before .before .before .before .before .pre .1 .holds .change .sound .records-fit))
+    (λ c κs. omega (arith, c .before .before .before .before .before .before .pre .1 .holds .link .earlier, c .before .before .before .before .before .before .pre .1 .holds .change .sound .records-fit))
     {- namespaces-mutate-requires -}
-    (λ c κs. (omega (arith, c .before .before .before .before .before .before .before .pre .0, ap length (c .before .before .before .segment-in .ensures .splits)), record { used = c .before .before .before .before .before .before .before .pre .1 .used; holds = mutation-spaces (c .before .before .before .before .before .before .before .pre .1 .holds) (c .before .before .before .segment-in .ensures) (c .before .trie-of .ensures) }))
+    (λ c κs. (omega (arith, c .before .before .before .before .before .before .before .before .pre .0, ap length (c .before .before .before .segment-in .ensures .splits)), record { used = c .before .before .before .before .before .before .before .before .pre .1 .used; holds = mutation-spaces (c .before .before .before .before .before .before .before .before .pre .1 .holds) (c .before .before .before .segment-in .ensures) (c .before .trie-of .ensures) }))
     {- mut-node-requires -}
-    (λ c κs. record { used = c .before .before .before .before .before .before .before .before .before .before .before .pre .1 .used; holds = mutation-node (c .before .before .before .before .before .before .before .before .before .before .before .pre .1 .holds) (c .before .before .before .before .before .before .before .segment-in .ensures) (c .before .before .before .before .before .trie-of .ensures) (c .before .before .before .namespaces-mutate .ensures) })
+    (λ c κs. record { used = c .before .before .before .before .before .before .before .before .before .before .before .before .pre .1 .used; holds = mutation-node (c .before .before .before .before .before .before .before .before .before .before .before .before .pre .1 .holds) (c .before .before .before .before .before .before .before .segment-in .ensures) (c .before .before .before .before .before .trie-of .ensures) (c .before .before .before .namespaces-mutate .ensures) })
     {- same-length-2 -}
     (λ c. search needs)
     {- returns-2 -}

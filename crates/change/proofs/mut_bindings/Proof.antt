@@ -17,7 +17,7 @@ mut-bindings-spec =
     {- enum-known-f -}
     (λ c. search needs)
     {- ins-requires -}
-    (λ c κs. bindings-as (rw (c .before .before .before .before .shape-of .ensures) at (c .before .before .f .given .1)) (c .before .before .before .before .before .before .before .pre))
+    (λ c κs. bindings-as (rw (c .before .before .before .before .shape-of .ensures) at (c .before .before .f .given .1)) (c .before .before .before .before .before .before .before .before .pre))
     {- returns -}
     (λ c. keeps-name (rw (c .before .before .shape-of .ensures) at (c .enum-told .given .1)))
     {- returns-2 -}

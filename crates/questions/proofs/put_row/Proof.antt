@@ -6,7 +6,7 @@ use lib.ListN.{length}
 use native.Mathlib.Omega.{arith}
 use Rattle.memory.specs.Read.{text-of}
 use Rattle.text.specs.Laid.{Laid}
-use Rattle.script.specs.Script.{Str}
+use Rattle.numerals.specs.Bytes.{Str}
 use Rattle.replies.specs.Replies.{length-in, line-reply}
 use Rattle.replies.specs.declared.ItemReply.{ItemReply}
 use Rattle.rows.specs.declared.Row.{Row}

@@ -1,5 +1,5 @@
 -- `put_counted` writes its three parts.
-use Rattle.script.specs.Script.{bytes}
+use Rattle.numerals.specs.Bytes.{bytes}
 use Rattle.text.proofs.Laid.{laid-more}
 use borrow.Author.Needs.{needs}
 use Rattle.replies.proofs.put_counted.Statement.{statement}

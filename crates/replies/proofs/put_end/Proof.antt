@@ -1,5 +1,5 @@
 -- `put_end` writes its three parts.
-use Rattle.script.specs.Script.{bytes}
+use Rattle.numerals.specs.Bytes.{bytes}
 use Rattle.replies.specs.Replies.{end-reply}
 use Rattle.text.proofs.Laid.{laid-more}
 use borrow.Author.Needs.{needs}

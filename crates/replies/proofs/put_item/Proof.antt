@@ -1,6 +1,6 @@
 -- `put_item` writes by its definition.
 use native.Mathlib.Omega.{arith}
-use Rattle.script.specs.Script.{bytes}
+use Rattle.numerals.specs.Bytes.{bytes}
 use Rattle.replies.specs.Replies.{item-text}
 use borrow.Author.Needs.{needs}
 use Rattle.replies.proofs.put_item.Statement.{statement}

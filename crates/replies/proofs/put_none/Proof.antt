@@ -1,5 +1,5 @@
 -- `put_none` writes its reply.
-use Rattle.script.specs.Script.{bytes}
+use Rattle.numerals.specs.Bytes.{bytes}
 use Rattle.replies.specs.Replies.{none-reply}
 use borrow.Author.Needs.{needs}
 use Rattle.replies.proofs.put_none.Statement.{statement}

@@ -1,5 +1,5 @@
 -- `put_refused` writes its reply.
-use Rattle.script.specs.Script.{bytes}
+use Rattle.numerals.specs.Bytes.{bytes}
 use Rattle.replies.specs.Replies.{refused-reply}
 use borrow.Author.Needs.{needs}
 use Rattle.replies.proofs.put_refused.Statement.{statement}

@@ -1,7 +1,7 @@
 -- `put_row` meets its contract.
 use mathlib.Core.Path.{subst}
 use native.Mathlib.Omega.{arith}
-use Rattle.script.specs.Script.{bytes}
+use Rattle.numerals.specs.Bytes.{bytes}
 use Rattle.text.specs.Laid.{Laid}
 use Rattle.text.proofs.Laid.{laid-more}
 use Rattle.replies.specs.Replies.{length-in}

@@ -1,6 +1,6 @@
 -- `put_words` meets its contract.
 use native.Mathlib.Omega.{arith}
-use Rattle.script.specs.Script.{bytes}
+use Rattle.numerals.specs.Bytes.{bytes}
 use Rattle.text.proofs.Laid.{laid-more}
 use borrow.Author.Needs.{needs}
 use Rattle.replies.proofs.put_words.Statement.{statement}

@@ -1,9 +1,10 @@
 -- `alias_form` answers for every form: a line that begins so can be no other.
 use mathlib.Core.Path.{subst}
 use native.Mathlib.Omega.{arith}
-use Rattle.script.specs.Script.{key, bytes}
-use Rattle.script.specs.Parts.{WordSays, PieceSays, PairSays}
-use Rattle.script.proofs.LineEnd.{stops-word}
+use Rattle.script.specs.Script.{key}
+use Rattle.numerals.specs.Bytes.{bytes}
+use Rattle.numerals.specs.Parts.{WordSays, PieceSays, PairSays}
+use Rattle.numerals.proofs.Parts.{stops-word}
 use Rattle.script.proofs.Forms.{word-none, alias-none, alias-empty, alias-no, alias-yes}
 use borrow.Author.Needs.{needs}
 use Rattle.script.proofs.alias_form.Statement.{statement}

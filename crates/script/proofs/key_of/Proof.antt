@@ -1,5 +1,5 @@
 -- `key_of` answers by its definition.
-use Rattle.script.specs.Parts.{key-of}
+use Rattle.script.specs.Keys.{key-of}
 use borrow.Author.Needs.{needs}
 use Rattle.script.proofs.key_of.Statement.{statement}
 use Rattle.script.proofs.key_of.Tie as tie

@@ -1,9 +1,10 @@
 -- `name_form` answers for every form: a line that begins so can be no other.
 use mathlib.Core.Path.{subst}
 use native.Mathlib.Omega.{arith}
-use Rattle.script.specs.Script.{key, bytes}
-use Rattle.script.specs.Parts.{WordSays, PieceSays, IdSays}
-use Rattle.script.proofs.LineEnd.{stops-query}
+use Rattle.script.specs.Script.{key}
+use Rattle.numerals.specs.Bytes.{bytes}
+use Rattle.numerals.specs.Parts.{WordSays, PieceSays, IdSays}
+use Rattle.numerals.proofs.Parts.{stops-query}
 use Rattle.script.proofs.Forms.{word-none, name-none, name-no, name-yes}
 use borrow.Author.Needs.{needs}
 use Rattle.script.proofs.name_form.Statement.{statement}

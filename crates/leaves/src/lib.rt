@@ -1,0 +1,141 @@
+// mut_leaf of each kind of registration: what is put into the trie at the end of a query, building records after the used ones.
+use kinds::Kind;
+use memory::Span;
+ghost use mathlib.Core.Path.{_≡_};
+ghost use Prim.Native.Nat.{_-_};
+ghost use Rattle.kinds.specs.declared.Kind.the-variants.{Name, Include, Open, Alias};
+ghost use Rattle.leaves.specs.Leaves.{with-kind, label-in, Some, Leaf, LeafBuilt};
+
+// A change of a trie: its kind, its second text and key as spans of the table's text, and the included trie.
+// What the kind does not use is of no account.
+pub struct Change {
+    pub kind: Kind,
+    pub text: Span,
+    pub key: Span,
+    pub inc: u32,
+}
+
+// A link, and the records used after its making.
+pub struct Built {
+    pub link: u32,
+    pub records: u32,
+}
+
+// One less, down to 0.
+fn less_one(n: u32) -> u32
+    ensures { λ r. ⌜ r ≡ n - 1 ⌝ }
+{
+    if n == 0 {
+        return 0;
+    }
+    n - 1
+}
+
+// The label of an included query: without its last dot.
+fn label_of(text: Span) -> Span
+    ensures { λ r. ⌜ r ≡ label-in text ⌝ }
+{
+    Span {
+        start: text.start,
+        len: less_one(text.len),
+    }
+}
+
+// trie_insert's mut_leaf.
+fn insert_leaf(
+    words: &mut [u32],
+    text: &[u8],
+    records: u32,
+    trie: u32,
+    change: Change,
+    number: u32,
+) -> Built
+    requires { ⌜ Some (λ used. Leaf (now words) (now text) records used trie (with-kind (Name number) change)) ⌝ }
+    ensures { λ r. ⌜ LeafBuilt (now (words .entry)) (now (words .exit)) (now (text .entry)) records trie (with-kind (Name number) change) (r .link) (r .records) ⌝ }
+{
+    let t = memory::trie_of(words, trie);
+    let id = change.text;
+    let start = id.start as usize;
+    let len = id.len as usize;
+    let p = names::names_place(words, text, t.bindings, &text[start..start + len]);
+    let row = memory::make::binding_row(id, number);
+    let b = names::names_insert(words, text, records, t.bindings, p.count, row);
+    let link = names::put_trie(words, b, 5, b, t.namespaces);
+    Built {
+        link: link,
+        records: link,
+    }
+}
+
+// trie_include's.
+fn include_leaf(words: &mut [u32], text: &[u8], records: u32, trie: u32, change: Change) -> Built
+    requires { ⌜ Some (λ used. Leaf (now words) (now text) records used trie (with-kind Include change)) ⌝ }
+    ensures { λ r. ⌜ LeafBuilt (now (words .entry)) (now (words .exit)) (now (text .entry)) records trie (with-kind Include change) (r .link) (r .records) ⌝ }
+{
+    let t = memory::trie_of(words, trie);
+    let i = memory::trie_of(words, change.inc);
+    let label = label_of(change.text);
+    let b = names::imported(words, records, 3, label, i.bindings, t.bindings);
+    let link = names::put_trie(words, b, 5, b, t.namespaces);
+    Built {
+        link: link,
+        records: link,
+    }
+}
+
+// trie_open_namespace's.
+fn open_leaf(words: &mut [u32], text: &[u8], records: u32, trie: u32, change: Change) -> Built
+    requires { ⌜ Some (λ used. Leaf (now words) (now text) records used trie (with-kind Open change)) ⌝ }
+    ensures { λ r. ⌜ LeafBuilt (now (words .entry)) (now (words .exit)) (now (text .entry)) records trie (with-kind Open change) (r .link) (r .records) ⌝ }
+{
+    let t = memory::trie_of(words, trie);
+    let i = memory::trie_of(words, change.inc);
+    let label = label_of(change.text);
+    let n = names::imported(words, records, 4, label, i.namespaces, t.namespaces);
+    let link = names::put_trie(words, n, 5, t.bindings, n);
+    Built {
+        link: link,
+        records: link,
+    }
+}
+
+// trie_add_alias's: at the key a fresh trie of the included bindings alone.
+fn alias_leaf(words: &mut [u32], text: &[u8], records: u32, trie: u32, change: Change) -> Built
+    requires { ⌜ Some (λ used. Leaf (now words) (now text) records used trie (with-kind Alias change)) ⌝ }
+    ensures { λ r. ⌜ LeafBuilt (now (words .entry)) (now (words .exit)) (now (text .entry)) records trie (with-kind Alias change) (r .link) (r .records) ⌝ }
+{
+    let t = memory::trie_of(words, trie);
+    let i = memory::trie_of(words, change.inc);
+    let label = label_of(change.text);
+    let key = change.key;
+    let start = key.start as usize;
+    let len = key.len as usize;
+    let p = names::names_place(words, text, t.namespaces, &text[start..start + len]);
+    let b = names::imported(words, records, 3, label, i.bindings, 0);
+    let scope = names::put_trie(words, b, 5, b, 0);
+    let row = memory::make::namespace_row(0, key, scope);
+    let n = names::names_insert(words, text, scope, t.namespaces, p.count, row);
+    let link = names::put_trie(words, n, 5, t.bindings, n);
+    Built {
+        link: link,
+        records: link,
+    }
+}
+
+// mut_leaf of a change.
+pub fn mut_leaf(words: &mut [u32], text: &[u8], records: u32, trie: u32, change: Change) -> Built
+    requires { ⌜ Some (λ used. Leaf (now words) (now text) records used trie change) ⌝ }
+    ensures { λ r. ⌜ LeafBuilt (now (words .entry)) (now (words .exit)) (now (text .entry)) records trie change (r .link) (r .records) ⌝ }
+{
+    let kind = change.kind;
+    match kind {
+        Kind::Name(number) => insert_leaf(words, text, records, trie, change, number),
+        Kind::Include => include_leaf(words, text, records, trie, change),
+        Kind::Open => open_leaf(words, text, records, trie, change),
+        Kind::Alias => alias_leaf(words, text, records, trie, change),
+        Kind::Module(_) => Built {
+            link: trie,
+            records: records,
+        },
+    }
+}
