@@ -27,7 +27,7 @@ extern "C" {
 
 /* Bytes of stack that are enough for a call on x86-64, measured on the tables that need most (tests/layer/tests/stack.rs). */
 #define NAME_CONSOLE_STACK 131072          /* for a registration or look-up */
-#define NAME_CONSOLE_STACK_COMPLETE 327680 /* for a completion */
+#define NAME_CONSOLE_STACK_COMPLETE 212992 /* for a completion */
 
 /* What a call answers. Where several refusals apply, the lowest number is given. A refusal changes no byte that is lent. */
 enum name_console_answer {

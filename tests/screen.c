@@ -294,7 +294,7 @@ static void many(void) {
     id[0] = *p;
     good &= name("", id, (uint32_t)*p) == 0;
   }
-  check("550 lines into 600", good && listed(complete(""), 550, 35) && line(0, "a", "", 'a', 0) && line(549, "z.P", "", 'P', 0));
+  check("550 lines into 600", good && listed(complete(""), 550, 35) && line(0, "a", "", 'a', -1) && line(549, "z.P", "", 'P', -1));
   lines_len = 550 * NAME_CONSOLE_LINE;
   check("550 lines into 550", listed(complete(""), 550, 35));
   lines_len--;
