@@ -1,1 +1,1 @@
-pub mod Notes
+mod Marks
