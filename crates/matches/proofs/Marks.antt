@@ -147,7 +147,7 @@ module _ {notes notes′ : List ℕ} {r : ℕ} (f : Fits notes 0) where
 -- ---- A branch is noted
 
 module _ {notes : List ℕ} {n : ℕ} (f : Fits notes n) where
-  more-fits : (x : ℕ) → n < 48 → Fits (set notes n x) (n + 1)
+  pub more-fits : (x : ℕ) → n < 48 → Fits (set notes n x) (n + 1)
   more-fits x h = record {
     sized = length-set notes n x ∙ f .sized;
     few = omega arith;
@@ -156,7 +156,7 @@ module _ {notes : List ℕ} {n : ℕ} (f : Fits notes n) where
   }
 
   module _ {N M : ℕ → Type 0} (o : Holds N M notes n) where
-    more-holds : (x : ℕ) → N x → n < 48 → Holds N M (set notes n x) (n + 1)
+    pub more-holds : (x : ℕ) → N x → n < 48 → Holds N M (set notes n x) (n + 1)
     more-holds x p h = record {
       note = λ j k. elim (ℕ-discrete j n) [
         | yes e ↦ rw (e, getD-set-same notes n x 0 (omega (arith, f .sized))) p
@@ -166,5 +166,5 @@ module _ {notes : List ℕ} {n : ℕ} (f : Fits notes n) where
       far = λ j k. rw (getD-set-other notes n (far-start + j) x 0 (λ e. omega arith)) (o .far j (omega (arith, getD-set-other notes n far-count x 0 (λ e. omega arith))));
     }
 
-    holds-fewer : {m : ℕ} → m ≤ n → Holds N M notes m
+    pub holds-fewer : {m : ℕ} → m ≤ n → Holds N M notes m
     holds-fewer h = record { note = λ j k. o .note j (omega arith); near = o .near; far = o .far }
