@@ -168,3 +168,18 @@ module _ {notes : List ℕ} {n : ℕ} (f : Fits notes n) where
 
     pub holds-fewer : {m : ℕ} → m ≤ n → Holds N M notes m
     holds-fewer h = record { note = λ j k. o .note j (omega arith); near = o .near; far = o .far }
+
+-- ---- No note and no mark
+
+module _ (notes : List ℕ) (s : length notes ≡ note-words) where
+  no-near : getD (set (set notes near-count 0) far-count 0) near-count 0 ≡ 0
+  no-near = set-first notes near-count far-count 0 0 (omega (arith, s)) (λ e. omega arith)
+
+  no-far : getD (set (set notes near-count 0) far-count 0) far-count 0 ≡ 0
+  no-far = set-second notes near-count far-count 0 0 (omega (arith, s))
+
+  pub clear-fits : Fits (set (set notes near-count 0) far-count 0) 0
+  clear-fits = record { sized = length-sets notes _ _ _ _ ∙ s; few = omega arith; few-near = omega (arith, no-near); few-far = omega (arith, no-far) }
+
+  pub clear-holds : {N M : ℕ → Type 0} → Holds N M (set (set notes near-count 0) far-count 0) 0
+  clear-holds = record { note = λ j h. absurd (omega arith); near = λ j h. absurd (omega (arith, no-near)); far = λ j h. absurd (omega (arith, no-far)) }

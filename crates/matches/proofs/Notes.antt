@@ -14,7 +14,8 @@ use Rattle.source.specs.Shared.{Allˡ}
 use Rattle.source.proofs.Lookup.{Allˡ-map, Increasing}
 use Rattle.source.proofs.Order.{<ˢ-irrefl, <ˢ-trans}
 use Rattle.source.proofs.Trees.{AllKeys-map, before-prefix, past-prefix}
-use Rattle.memory.specs.Layout.{record-at, tree, what, key-at, left-link, right-link}
+use Rattle.memory.specs.Layout.{record-at, tree, kind, what, key-at, left-link, right-link}
+use Rattle.memory.specs.Sound.{LinkOk}
 use Rattle.memory.proofs.At.{at-of}
 use Rattle.tree.specs.Tree.{AnyTree}
 use Rattle.tree.specs.Links.{branches, keep, matches, past, past-by, after, head0}
@@ -23,10 +24,10 @@ use Rattle.tree.proofs.Keep.{by-test, keep-append, keep-none, keep-all, all-kee
 use Rattle.tree.proofs.Links.{branches-at, branches-keys}
 use Rattle.tree.proofs.Matches.{matches-none, matches-increasing, starts-self, after-first}
 use Rattle.tree.proofs.Wanted.{by-order, past-low}
-use Rattle.matches.specs.Marks.{note-words, Fits, Holds, Marks, Taken, NotedAt}
+use Rattle.matches.specs.Marks.{near-count, far-count, note-words, Fits, Holds, Marks, Taken, NotedAt}
 use Rattle.matches.specs.Notes.{to-come, passing, Ahead, NoteOk, Noting, Noted, Descends, AllAfter, NotesLeft, TopTaken, Pops, Matched}
 use Rattle.matches.specs.declared.Next.{Next}
-use Rattle.matches.proofs.Marks.{fits-fewer, holds-fewer, more-fits, more-holds, marks-fits, marks-holds, taken-fits, taken-holds, taken-mark}
+use Rattle.matches.proofs.Marks.{fits-fewer, holds-fewer, more-fits, more-holds, marks-fits, marks-holds, taken-fits, taken-holds, taken-mark, clear-fits, clear-holds}
 
 -- ---- What is past a bound
 
@@ -395,6 +396,10 @@ module _ {ws txt : List ℕ} {p : Str} {notes : List ℕ} {n : ℕ} where
         };
   }
 
+-- What pop asks of what is to the right of a note.
+pub right-after : {ws txt : List ℕ} {p : Str} {b : Str → Bool} {l : List ℕ} {x : ℕ} → NoteOk ws txt p b l x → AllAfter ws txt p (right-link (record-at ws x))
+right-after {ws} {txt} {p} {x = x} a = all-beyond (a .ahead .any) (a .some) (λ y. p <ˢ y) (λ y. after-prefix p (key-at ws txt x) y (a .begins))
+
 -- ---- The walk
 
 module _ {ws txt : List ℕ} {p : Str} {notes : List ℕ} {l : List ℕ} where
@@ -412,3 +417,52 @@ module _ {ws txt : List ℕ} {p : Str} {notes : List ℕ} {l : List ℕ} where
         let g : r .link ≡ x = cc in
         rw (← e, ← g) (t .noted);
   }
+
+-- The root's matches, before anything is noted.
+pub first-noting : (ws txt : List ℕ) (p : Str) (root : ℕ) (notes : List ℕ) → length notes ≡ note-words
+    → Noting ws txt p (past false p) (set (set notes near-count 0) far-count 0) 0 (passing ws txt p (past false p) root) (matches ws txt root p)
+first-noting ws txt p root notes s = noting-none (clear-fits notes s) (clear-holds notes s) [] (sym (pass-all ws txt p root) ∙ sym (append-nil (passing ws txt p (past false p) root)))
+
+pub first-pass : (ws txt : List ℕ) (p : Str) (root : ℕ) → Allˡ (λ x. past false p (key-at ws txt x) ≡ true) (matches ws txt root p)
+first-pass ws txt p root = subst (λ (l : List ℕ). Allˡ (λ x. past false p (key-at ws txt x) ≡ true) l) (pass-all ws txt p root) (kept-pass (key-at ws txt) (past false p) (matches ws txt root p))
+
+pub no-tree : {ws txt : List ℕ} {x : ℕ} → AnyTree ws txt x → AnyTree ws txt 0
+no-tree {ws} {x = x} a = any-tree {w = a .which} {v = a .level} (at-of (a .tree) (tree (a .level)) (omega arith) none)
+  where
+    none : LinkOk ws (x + 1) 0 (kind (a .which) (tree (a .level)))
+    none = record { earlier = omega arith; of-kind = λ e. absurd (e refl) }
+
+-- With no note: a mark's tree, or the root.
+module _ {ws txt : List ℕ} {p : Str} (k : Str) {l notes : List ℕ} {n : ℕ} (o : Noting ws txt p (past true k) notes n [] l) (h : n ≤ 0) where
+  pub none-fits : Fits notes 0
+  none-fits = fits-fewer (o .fits) (omega arith)
+
+  none-holds : Holds (NoteOk ws txt p (past true k) l) (Ahead ws txt p (past true k) l) notes 0
+  none-holds = holds-fewer (o .fits) (o .holds) (omega arith)
+
+  pub root-noting : (root : ℕ) → l ≡ passing ws txt p (past true k) root → Noting ws txt p (past true k) notes 0 (passing ws txt p (past true k) root) l
+  root-noting root e = noting-none none-fits none-holds [] (e ∙ sym (append-nil (passing ws txt p (past true k) root)))
+
+  module _ {notes′ : List ℕ} {m : ℕ} (a : AnyTree ws txt 0) (t : Taken notes notes′ m) where
+    pub mark-ahead : Ahead ws txt p (past true k) l m
+    mark-ahead = taken-mark none-fits none-holds (record { any = a; rest = l; says = rw (pass-none ws txt p (past true k)) }) t
+
+    pub mark-noting : Noting ws txt p (past true k) notes′ 0 (passing ws txt p (past true k) m) l
+    mark-noting = noting-none (taken-fits none-fits t) (taken-holds none-fits none-holds t) (mark-ahead .rest) (mark-ahead .says)
+
+module _ {ws txt : List ℕ} {p : Str} (k low : Str) {l notes notes′ : List ℕ} {r : ℕ} (same : low ≡ k) where
+  -- The walk down from a mark, and from the root.
+  pub next-near : {notes₀ : List ℕ} {n m : ℕ} → Noting ws txt p (past true k) notes₀ n [] l → n ≤ 0 → AnyTree ws txt 0 → Taken notes₀ notes m → Descends ws txt p low true m notes notes′ r → Noting ws txt p (past true k) notes′ r [] l
+  next-near o h a t d = (rw same at d) .notes-on l (mark-noting k o h a t)
+
+  module _ (root : ℕ) (e : l ≡ passing ws txt p (past true k) root) (d : Descends ws txt p low true root notes notes′ r) where
+    pub next-all : {n : ℕ} → Noting ws txt p (past true k) notes n [] l → n ≤ 0 → Noting ws txt p (past true k) notes′ r [] l
+    next-all o h = (rw same at d) .notes-on l (root-noting k o h root e)
+
+    pub next-none : {n : ℕ} → Noting ws txt p (past true k) notes n [] l → n ≤ 0 → r ≤ 0 → Matched ws txt p notes′ l (record { link = 0; n = 0 })
+    next-none o h i = matched-none (fits-fewer (next-all o h .fits) (omega arith)) (e ∙ (rw same at d) .none (omega arith))
+
+-- The first, where nothing is noted.
+pub first-none : (ws txt : List ℕ) (p : Str) (root : ℕ) {notes notes′ : List ℕ} {r : ℕ} → Descends ws txt p p false root notes notes′ r → Noting ws txt p (past false p) notes′ r [] (matches ws txt root p) → r ≤ 0
+    → Matched ws txt p notes′ (matches ws txt root p) (record { link = 0; n = 0 })
+first-none ws txt p root d o h = matched-none (fits-fewer (o .fits) (omega arith)) (sym (pass-all ws txt p root) ∙ d .none (omega arith))
