@@ -1,32 +1,133 @@
 -- Laws of notes, and the matches of a tree by its root.
 use Prim.Native.Nat.{ℕ, zero, suc, _+_, _-_, _<_, _≤_}
 use mathlib.Core.Path.{_≡_, refl, sym, ap, _∙_, subst}
-use mathlib.Core.Bool.{true, false, true≢false, false≢true}
+use mathlib.Core.Bool.{Bool, true, false, true≢false, false≢true}
 use mathlib.Core.Logic.{_⊎_, inl, inr}
-use mathlib.Core.List.{List, [], _∷_, _++_, append-assoc, append-nil}
+use mathlib.Core.List.{List, [], _∷_, _++_, append-assoc, append-nil, nil≢cons}
 use native.Mathlib.Omega.{arith}
 use native.Mathlib.Numerals.{add-one}
-use native.Mathlib.Decide.{ℕ-discrete}
-use lib.ListN.{length, getD, set, length-set}
+use lib.ListN.{length, getD, set}
 use lib.Seq.{getD-set-same, getD-set-other}
 use Rattle.source.specs.Text.{Str, starts-with}
 use Rattle.source.specs.Rules.{_<ˢ_}
 use Rattle.source.specs.Shared.{Allˡ}
-use Rattle.source.proofs.Order.{<ˢ-trans}
+use Rattle.source.proofs.Lookup.{Allˡ-map, Increasing}
+use Rattle.source.proofs.Order.{<ˢ-irrefl, <ˢ-trans}
 use Rattle.source.proofs.Trees.{AllKeys-map, before-prefix, past-prefix}
-use Rattle.memory.specs.Layout.{record-at, tree, what, key-at, left-link, right-link}
+use Rattle.memory.specs.Layout.{record-at, tree, kind, what, key-at, left-link, right-link}
+use Rattle.memory.specs.Sound.{LinkOk}
+use Rattle.memory.proofs.At.{at-of}
 use Rattle.tree.specs.Tree.{AnyTree}
-use Rattle.tree.specs.Links.{branches, keep, matches, past, past-by, head0}
-use Rattle.tree.proofs.Branches.{branch-reads, branch-ordered, left-tree, right-tree, any-left, any-right}
-use Rattle.tree.proofs.Keep.{keep-append, keep-none}
+use Rattle.tree.specs.Links.{branches, keep, matches, past, past-by, after, head0}
+use Rattle.tree.proofs.Branches.{any-tree, branch-reads, branch-ordered, left-tree, right-tree, any-left, any-right}
+use Rattle.tree.proofs.Keep.{by-test, keep-append, keep-none, keep-all, all-keep}
 use Rattle.tree.proofs.Links.{branches-at, branches-keys}
-use Rattle.tree.proofs.Matches.{matches-none, starts-self}
-use Rattle.tree.proofs.Wanted.{by-order}
-use Rattle.matches.specs.Notes.{to-come, Noted, NotedAt, Descends, TopTaken, Pops, Matched}
+use Rattle.tree.proofs.Matches.{matches-none, matches-increasing, starts-self, after-first}
+use Rattle.tree.proofs.Wanted.{by-order, past-low}
+use Rattle.matches.specs.Marks.{near-count, far-count, note-words, Fits, Holds, Marks, Taken, NotedAt}
+use Rattle.matches.specs.Notes.{to-come, passing, Ahead, NoteOk, Noting, Noted, Descends, AllAfter, NotesLeft, TopTaken, Pops, Matched}
 use Rattle.matches.specs.declared.Next.{Next}
+use Rattle.matches.proofs.Marks.{fits-fewer, holds-fewer, more-fits, more-holds, marks-fits, marks-holds, taken-fits, taken-holds, taken-mark, clear-fits, clear-holds}
+
+-- ---- What is past a bound
+
+past-after : (strict : Bool) (low z : Str) → low <ˢ z → past strict low z ≡ true
+unfolding past past-by
+past-after strict low z h =
+    by-order low z (λ e v. rw e) (λ e v. absurd (<ˢ-irrefl z (rw v at h))) (λ e v. absurd (<ˢ-irrefl low (<ˢ-trans low z low h v)))
+
+-- What is after a key that is past is past.
+past-up : (strict : Bool) (low k z : Str) → past strict low k ≡ true → k <ˢ z → past strict low z ≡ true
+unfolding past past-by
+past-up strict low k z e h =
+    by-order low k (λ o v. past-after strict low z (<ˢ-trans low k z v h)) (λ o v. past-after strict low z (rw v h)) (λ o v. absurd (false≢true (rw o at e)))
+
+-- What is before a key that is not past is not past.
+past-down : (strict : Bool) (low k z : Str) → past strict low k ≡ false → z <ˢ k → past strict low z ≡ false
+unfolding past past-by
+past-down strict low k z e h =
+    by-order low k (λ o v. absurd (true≢false (rw o at e))) (λ o v. past-low strict low z (rw v h)) (λ o v. past-low strict low z (<ˢ-trans z k low h v))
+
+-- A key past a bound that begins with p is past p.
+past-of-prefix : (strict : Bool) (low p k : Str) → starts-with low p ≡ true → past strict low k ≡ true → past false p k ≡ true
+unfolding past past-by
+past-of-prefix strict low p k s e =
+    by-order p k
+    (λ o v. rw o)
+    (λ o v. rw o)
+    (λ o v. by-order p low
+    (λ o′ u. absurd (false≢true (sym (past-low strict low k (<ˢ-trans k p low v u)) ∙ e)))
+    (λ o′ u. absurd (false≢true (sym (past-low strict low k (rw (sym u) v)) ∙ e)))
+    (λ o′ u. absurd (false≢true (sym (before-prefix low p u) ∙ s))))
+
+-- A key that begins with p is past it.
+prefix-past : (p k : Str) → starts-with k p ≡ true → past false p k ≡ true
+unfolding past past-by
+prefix-past p k s = by-order p k (λ o v. rw o) (λ o v. rw o) (λ o v. absurd (false≢true (sym (before-prefix k p v) ∙ s)))
+
+-- A key after one that begins with p is after p.
+after-prefix : (p k z : Str) → starts-with k p ≡ true → k <ˢ z → p <ˢ z
+after-prefix p k z s h = by-order p k (λ o v. <ˢ-trans p k z v h) (λ o v. rw v h) (λ o v. absurd (false≢true (sym (before-prefix k p v) ∙ s)))
+
+-- What is after k is after it by `past`, and the other way round.
+past-true : (k z : Str) → past true k z ≡ true → k <ˢ z
+unfolding past past-by
+past-true k z q = by-order k z (λ e v. v) (λ e v. absurd (true≢false (sym (rw e at q)))) (λ e v. absurd (true≢false (sym (rw e at q))))
+
+-- ---- What a test keeps
+
+all-left : {A : Type 0} (P : A → Type 0) (l m : List A) → Allˡ P (l ++ m) → Allˡ P l
+all-left P [] m a = tt
+all-left P (x ∷ l) m a = (a .0, all-left P l m (a .1))
+
+all-after-left : {A : Type 0} (P : A → Type 0) (l : List A) (x : A) (m : List A) → Allˡ P (l ++ (x ∷ m)) → P x
+all-after-left P [] x m a = a .0
+all-after-left P (y ∷ l) x m a = all-after-left P l x m (a .1)
+
+all-always : (P : ℕ → Type 0) → ((x : ℕ) → P x) → (l : List ℕ) → Allˡ P l
+all-always P f [] = tt
+all-always P f (x ∷ l) = (f x, all-always P f l)
+
+module _ (key : ℕ → Str) where
+  pub kept-pass : (b : Str → Bool) (l : List ℕ) → Allˡ (λ y. b (key y) ≡ true) (keep key b l)
+  kept-pass b l = all-keep key (λ y. b (key y) ≡ true) b l (all-always (λ y. b (key y) ≡ true → b (key y) ≡ true) (λ y e. e) l)
+
+  none-kept : (b : Str → Bool) (l : List ℕ) → keep key b l ≡ [] → Allˡ (λ y. b (key y) ≡ false) l
+  unfolding keep
+  none-kept b [] e = tt
+  none-kept b (x ∷ l) e = by-test (b (key x)) (λ z. absurd (nil≢cons (sym (rw z at e)))) (λ z. (z, none-kept b l (rw z at e)))
+
+  module _ (strict : Bool) (low : Str) where
+    -- Where nothing is past the bound, nothing is after a key that is.
+    none-after : (k : Str) (l : List ℕ) → past strict low k ≡ true → keep key (past strict low) l ≡ [] → after key k l ≡ []
+    none-after k l p e =
+        keep-none key (past true k) l
+        (Allˡ-map {P = λ y. past strict low (key y) ≡ false} {Q = λ y. past true k (key y) ≡ false} l
+        (λ y f. by-test (past true k (key y)) (λ z. absurd (false≢true (sym f ∙ past-up strict low k (key y) p (past-true k (key y) z)))) (λ z. z))
+        (none-kept (past strict low) l e))
+
+    -- What is past the bound, after the first: what is after the key of the first.
+    kept-next : (l : List ℕ) → Increasing key l → (x : ℕ) (tl : List ℕ) → keep key (past strict low) l ≡ x ∷ tl → tl ≡ after key (key x) l
+    unfolding keep
+    kept-next [] i x tl e = absurd (nil≢cons e)
+    kept-next (y ∷ l) i x tl e =
+        by-test (past strict low (key y))
+        (λ z.
+        let f : y ∷ keep key (past strict low) l ≡ x ∷ tl = rw z at e in
+        let g : y ≡ x = cc in
+        let h : keep key (past strict low) l ≡ tl = cc in
+        sym h ∙ keep-all key (past strict low) l (Allˡ-map {P = λ u. key y <ˢ key u} {Q = λ u. past strict low (key u) ≡ true} l (λ u. past-up strict low (key y) (key u) z) (i .0)) ∙ rw (← g) (sym (after-first key y l i)))
+        (λ z.
+        let f : keep key (past strict low) l ≡ x ∷ tl = rw z at e in
+        let h : key y <ˢ key x = subst (λ (m : List ℕ). Allˡ (λ u. key y <ˢ key u) m) f (all-keep key (λ u. key y <ˢ key u) (past strict low) l (Allˡ-map {P = λ u. key y <ˢ key u} {Q = λ u. past strict low (key u) ≡ true → key y <ˢ key u} l (λ u v _. v) (i .0))) .0 in
+        kept-next l (i .1) x tl f ∙ rw (past-low true (key x) (key y) h))
 
 -- ---- The matches of a tree by its root
-module _ {ws txt : List ℕ} {x : ℕ} (a : AnyTree ws txt x) (q : 0 < x) (p : Str) where
+all-matches : (ws txt : List ℕ) (p : Str) (x : ℕ) (P : ℕ → Type 0) → Allˡ P (branches ws x) → Allˡ P (matches ws txt x p)
+unfolding matches
+all-matches ws txt p x P a = all-keep (key-at ws txt) P (λ k. starts-with k p) (branches ws x) (Allˡ-map {P = P} {Q = λ y. starts-with (key-at ws txt y) p ≡ true → P y} (branches ws x) (λ y v _. v) a)
+
+module _ {ws txt : List ℕ} {x : ℕ} (a : AnyTree ws txt x) (q : 0 < x) where
   abbrev key : Str
   key = key-at ws txt x
 
@@ -36,179 +137,332 @@ module _ {ws txt : List ℕ} {x : ℕ} (a : AnyTree ws txt x) (q : 0 < x) (p : S
   abbrev right : ℕ
   right = right-link (record-at ws x)
 
-  split : matches ws txt x p ≡ matches ws txt left p ++ keep (key-at ws txt) (λ k. starts-with k p) (x ∷ branches ws right)
-  unfolding matches
-  split = rw (branches-at (a .tree) q) (keep-append (key-at ws txt) (λ k. starts-with k p) (branches ws left) (x ∷ branches ws right))
+  -- What holds of all that is before the key holds to its left, what of all that is after it to its right.
+  all-before : (P : Str → Type 0) → ((y : Str) → y <ˢ key → P y) → Allˡ (λ y. P (key-at ws txt y)) (branches ws left)
+  all-before P f =
+      branches-keys P left (left-tree (a .tree) q)
+      (AllKeys-map {P = λ y. y <ˢ key} {Q = P} (what (a .which) ws txt left (tree (a .level))) f ((rw (branch-reads (a .tree) q) at (branch-ordered (a .tree) q)) .0))
 
-  none-in : (side : ℕ) → Allˡ (λ y. starts-with (key-at ws txt y) p ≡ false) (branches ws side) → matches ws txt side p ≡ []
-  unfolding matches
-  none-in side h = keep-none (key-at ws txt) (λ k. starts-with k p) (branches ws side) h
+  pub all-beyond : (P : Str → Type 0) → ((y : Str) → key <ˢ y → P y) → Allˡ (λ y. P (key-at ws txt y)) (branches ws right)
+  all-beyond P f =
+      branches-keys P right (right-tree (a .tree) q)
+      (AllKeys-map {P = λ y. key <ˢ y} {Q = P} (what (a .which) ws txt right (tree (a .level))) f ((rw (branch-reads (a .tree) q) at (branch-ordered (a .tree) q)) .1))
 
-  -- A match.
-  pub match-here : starts-with key p ≡ true → matches ws txt x p ≡ matches ws txt left p ++ (x ∷ matches ws txt right p)
-  unfolding matches keep
-  match-here e = split ∙ rw e
+  all-of-left : (P : ℕ → Type 0) → Allˡ P (branches ws x) → Allˡ P (branches ws left)
+  all-of-left P h = all-left P (branches ws left) (x ∷ branches ws right) (subst (λ (l : List ℕ). Allˡ P l) (branches-at (a .tree) q) h)
 
-  -- Before the prefix: the left side has none.
-  pub match-right : past false p key ≡ false → matches ws txt x p ≡ matches ws txt right p
-  unfolding matches keep past past-by
-  match-right e =
-      by-order p key
-      (λ o v. absurd (true≢false (rw o at e)))
-      (λ o v. absurd (true≢false (rw o at e)))
-      (λ o v.
-      let no-left : matches ws txt left p ≡ [] = none-in left
-      (branches-keys (λ y. starts-with y p ≡ false) left (left-tree (a .tree) q)
-      (AllKeys-map {P = λ y. y <ˢ key} {Q = λ y. starts-with y p ≡ false} (what (a .which) ws txt left (tree (a .level))) (λ y z. before-prefix y p (<ˢ-trans y key p z v)) ((rw (branch-reads (a .tree) q) at (branch-ordered (a .tree) q)) .0))) in
-      split ∙ rw (no-left, before-prefix key p v))
+  all-here : (P : ℕ → Type 0) → Allˡ P (branches ws x) → P x
+  all-here P h = all-after-left P (branches ws left) x (branches ws right) (subst (λ (l : List ℕ). Allˡ P l) (branches-at (a .tree) q) h)
 
-  -- Past the prefix and no match: the right side has none.
-  pub match-left : past false p key ≡ true → starts-with key p ≡ false → matches ws txt x p ≡ matches ws txt left p
-  unfolding matches keep past past-by
-  match-left e f =
-      by-order p key
-      (λ o v.
-      let no-right : matches ws txt right p ≡ [] = none-in right
-      (branches-keys (λ y. starts-with y p ≡ false) right (right-tree (a .tree) q)
-      (AllKeys-map {P = λ y. key <ˢ y} {Q = λ y. starts-with y p ≡ false} (what (a .which) ws txt right (tree (a .level))) (λ y z. past-prefix key y p v f z) ((rw (branch-reads (a .tree) q) at (branch-ordered (a .tree) q)) .1))) in
-      split ∙ rw (f, no-right) (append-nil (matches ws txt left p)))
-      (λ o v. absurd (true≢false (sym (starts-self key) ∙ rw v at f)))
-      (λ o v. absurd (false≢true (rw o at e)))
+  module _ (p : Str) where
+    split : matches ws txt x p ≡ matches ws txt left p ++ keep (key-at ws txt) (λ k. starts-with k p) (x ∷ branches ws right)
+    unfolding matches
+    split = rw (branches-at (a .tree) q) (keep-append (key-at ws txt) (λ k. starts-with k p) (branches ws left) (x ∷ branches ws right))
+
+    -- A match.
+    match-here : starts-with key p ≡ true → matches ws txt x p ≡ matches ws txt left p ++ (x ∷ matches ws txt right p)
+    unfolding matches keep
+    match-here e = split ∙ rw e
+
+    -- Past the prefix and no match: the right side has none.
+    match-left : past false p key ≡ true → starts-with key p ≡ false → matches ws txt x p ≡ matches ws txt left p
+    unfolding matches keep past past-by
+    match-left e f =
+        by-order p key
+        (λ o v.
+        let no-right : matches ws txt right p ≡ [] = keep-none (key-at ws txt) (λ k. starts-with k p) (branches ws right) (all-beyond (λ y. starts-with y p ≡ false) (λ y z. past-prefix key y p v f z)) in
+        split ∙ rw (f, no-right) (append-nil (matches ws txt left p)))
+        (λ o v. absurd (true≢false (sym (starts-self key) ∙ rw v at f)))
+        (λ o v. absurd (false≢true (rw o at e)))
+
+    -- The same of those that are past a bound.
+    module _ (strict : Bool) (low : Str) where
+      abbrev b : Str → Bool
+      b = past strict low
+
+      pub pass-here : b key ≡ true → starts-with key p ≡ true → passing ws txt p b x ≡ passing ws txt p b left ++ (x ∷ matches ws txt right p)
+      unfolding keep
+      pass-here e f =
+          rw (match-here f, keep-append (key-at ws txt) b (matches ws txt left p) (x ∷ matches ws txt right p), e)
+          (rw (keep-all (key-at ws txt) b (matches ws txt right p) (all-matches ws txt p right (λ y. b (key-at ws txt y) ≡ true) (all-beyond (λ y. b y ≡ true) (λ y. past-up strict low key y e)))) refl)
+
+      pub pass-left : starts-with low p ≡ true → b key ≡ true → starts-with key p ≡ false → passing ws txt p b x ≡ passing ws txt p b left
+      pass-left s e f = ap (keep (key-at ws txt) b) (match-left (past-of-prefix strict low p key s e) f)
+
+      pub pass-right : b key ≡ false → passing ws txt p b x ≡ passing ws txt p b right
+      unfolding keep matches
+      pass-right e =
+          ap (keep (key-at ws txt) b) split
+          ∙ keep-append (key-at ws txt) b (matches ws txt left p) (keep (key-at ws txt) (λ k. starts-with k p) (x ∷ branches ws right))
+          ∙ rw (keep-none (key-at ws txt) b (matches ws txt left p) (all-matches ws txt p left (λ y. b (key-at ws txt y) ≡ false) (all-before (λ y. b y ≡ false) (λ y. past-down strict low key y e))))
+          (by-test (starts-with key p) (λ f. rw (f, e)) (λ f. rw f))
 
 -- ---- Notes
 module _ (ws txt : List ℕ) (p : Str) where
-  come-before : (notes : List ℕ) (k b m : ℕ) → m ≤ k → to-come ws txt p (set notes k b) m ≡ to-come ws txt p notes m
+  come-before : (notes : List ℕ) (k x m : ℕ) → m ≤ k → to-come ws txt p (set notes k x) m ≡ to-come ws txt p notes m
   unfolding to-come
-  come-before notes k b zero h = refl
-  come-before notes k b (suc m) h = rw (getD-set-other notes k m b 0 (λ e. omega arith), come-before notes k b m (omega arith))
+  come-before notes k x zero h = refl
+  come-before notes k x (suc m) h = rw (getD-set-other notes k m x 0 (λ e. omega arith), come-before notes k x m (omega arith))
 
-module _ {ws txt : List ℕ} {p : Str} {notes : List ℕ} {n : ℕ} {l : List ℕ} (o : Noted ws txt p notes n l) where
-  -- A note is added.
-  pub noted-more : (x : ℕ) → (0 < x) × AnyTree ws txt x → n < 48 → Noted ws txt p (set notes n x) (n + 1) (x ∷ (matches ws txt (right-link (record-at ws x)) p ++ l))
-  unfolding to-come
-  noted-more x a h = record {
-    sized = length-set notes n x ∙ o .sized;
-    few = omega arith;
-    each = λ j k. elim (ℕ-discrete j n) [
-      | yes e ↦ rw (e, getD-set-same notes n x 0 (omega (arith, o .sized))) a
-      | no ne ↦ rw (getD-set-other notes n j x 0 ne) (o .each j (omega arith))
-    ];
-    rest = o .rest;
-    says = rw (add-one n, getD-set-same notes n x 0 (omega (arith, o .sized)), come-before ws txt p notes n x n (omega arith), o .says) (ap (_∷_ x) (sym (append-assoc (matches ws txt (right-link (record-at ws x)) p) (to-come ws txt p notes n) (o .rest))));
-  }
+  pub pass-none : (b : Str → Bool) → passing ws txt p b 0 ≡ []
+  unfolding keep
+  pass-none b = rw (matches-none ws txt p)
 
-  -- All notes are dropped.
-  pub noted-none : Noted ws txt p notes 0 l
+  -- The matches are all past the prefix.
+  pub pass-all : (x : ℕ) → passing ws txt p (past false p) x ≡ matches ws txt x p
+  unfolding matches
+  pass-all x =
+      keep-all (key-at ws txt) (past false p) (matches ws txt x p)
+      (all-keep (key-at ws txt) (λ y. past false p (key-at ws txt y) ≡ true) (λ k. starts-with k p) (branches ws x)
+      (all-always (λ y. starts-with (key-at ws txt y) p ≡ true → past false p (key-at ws txt y) ≡ true) (λ y. prefix-past p (key-at ws txt y)) (branches ws x)))
+
+module _ {ws txt : List ℕ} {p : Str} {b : Str → Bool} {l : List ℕ} where
+  -- Notes are none.
+  pub noting-none : {notes h : List ℕ} → Fits notes 0 → Holds (NoteOk ws txt p b l) (Ahead ws txt p b l) notes 0 → (rest : List ℕ) → l ≡ h ++ rest → Noting ws txt p b notes 0 h l
   unfolding to-come
-  noted-none = record { sized = o .sized; few = omega arith; each = λ j h. absurd (omega arith); rest = l; says = refl }
+  noting-none f o rest e = record { fits = f; holds = o; rest = rest; says = e }
+
+  module _ {notes : List ℕ} {n : ℕ} {h : List ℕ} (o : Noting ws txt p b notes n h l) where
+    -- A note is added.
+    noting-more : (x : ℕ) {g : List ℕ} → h ≡ g ++ (x ∷ matches ws txt (right-link (record-at ws x)) p) → NoteOk ws txt p b l x → n < 48 → Noting ws txt p b (set notes n x) (n + 1) g l
+    unfolding to-come
+    noting-more x {g} e a k =
+        let right = matches ws txt (right-link (record-at ws x)) p in
+        let come = to-come ws txt p notes n in
+        let says : l ≡ g ++ (x ∷ ((right ++ come) ++ o .rest)) = o .says ∙ ap (λ (y : List ℕ). y ++ (come ++ o .rest)) e ∙ append-assoc g (x ∷ right) (come ++ o .rest) ∙ ap (λ (y : List ℕ). g ++ (x ∷ y)) (sym (append-assoc right come (o .rest))) in
+        record {
+          fits = more-fits (o .fits) x k;
+          holds = more-holds (o .fits) (o .holds) x a k;
+          rest = o .rest;
+          says = rw (add-one n, getD-set-same notes n x 0 (omega (arith, o .fits .sized)), come-before ws txt p notes n x n (omega arith)) says;
+        }
+
+    -- All notes are dropped, and the first is marked.
+    noting-marked : {notes′ : List ℕ} → 0 < n → Marks notes notes′ (getD notes 0 0) → Noting ws txt p b notes′ 0 h l
+    noting-marked k t =
+        noting-none (marks-fits (fits-fewer (o .fits) (omega arith)) t) (marks-holds (fits-fewer (o .fits) (omega arith)) t (holds-fewer (o .fits) (o .holds) (omega arith)) (o .holds .note 0 k .ahead))
+        (to-come ws txt p notes n ++ o .rest) (o .says)
+
+    -- What is at hand comes first.
+    ahead-here : {x : ℕ} → AnyTree ws txt x → h ≡ passing ws txt p b x → Ahead ws txt p b l x
+    ahead-here a e = record { any = a; rest = to-come ws txt p notes n ++ o .rest; says = o .says ∙ rw e }
+
+-- A branch is noted.
+noting-note : {ws txt : List ℕ} {p : Str} {b : Str → Bool} {l notes notes′ : List ℕ} {n x r : ℕ} {h g : List ℕ} → Noting ws txt p b notes n h l → h ≡ g ++ (x ∷ matches ws txt (right-link (record-at ws x)) p) → NoteOk ws txt p b l x
+    → NotedAt notes notes′ n x r → Noting ws txt p b notes′ r g l
+noting-note {ws} {txt} {p} {b} {l} {notes} {n = n} {x} {g = g} o e a t = rw (t .is, t .count) (go (t .k) (t .between) (t .which) (t .below))
+  where
+    go : (k : ℕ) (m : List ℕ) → ((k ≡ n) × (m ≡ notes)) ⊎ ((k ≡ 0) × (0 < n) × Marks notes m (getD notes 0 0)) → k < 48 → Noting ws txt p b (set m k x) (k + 1) g l
+    go k m (inl z) i = rw (z .0, z .1) (noting-more o x e a (rw (z .0) at i))
+    go k m (inr z) i = rw (z .0) (noting-more (noting-marked o (z .1) (z .2)) x e a (omega arith))
+
+-- Room is kept.
+pub note-fits : {notes notes′ : List ℕ} {n x r : ℕ} → Fits notes n → NotedAt notes notes′ n x r → Fits notes′ r
+note-fits {notes} {n = n} {x} f t = rw (t .is, t .count) (go (t .k) (t .between) (t .which) (t .below))
+  where
+    go : (k : ℕ) (m : List ℕ) → ((k ≡ n) × (m ≡ notes)) ⊎ ((k ≡ 0) × (0 < n) × Marks notes m (getD notes 0 0)) → k < 48 → Fits (set m k x) (k + 1)
+    go k m (inl z) i = rw (z .0, z .1) (more-fits f x (rw (z .0) at i))
+    go k m (inr z) i = rw (z .0) (more-fits (marks-fits (fits-fewer f (omega arith)) (z .2)) x (omega arith))
 
 -- ---- descend
 
--- The matches of the tree from, before l, are those of the tree at before what is noted.
-pub record Descending (ws txt : List ℕ) (p : Str) (from at : ℕ) (notes notes′ : List ℕ) (n m : ℕ) : Type 0 where
+-- The matches of the tree from past the bound are those of the tree at before what is noted.
+pub record Descending (ws txt : List ℕ) (p low : Str) (strict : Bool) (from at : ℕ) (notes notes′ : List ℕ) (m : ℕ) : Type 0 where
+  pub bound : starts-with low p ≡ true
   pub any : AnyTree ws txt at
-  pub sized : length notes′ ≡ 48
-  pub few : m ≤ 48
-  pub on : (l : List ℕ) → Noted ws txt p notes n l → (l′ : List ℕ) × (matches ws txt from p ++ l ≡ matches ws txt at p ++ l′) × Noted ws txt p notes′ m l′
+  pub fits : Fits notes′ m
+  pub on : (l : List ℕ) → Noting ws txt p (past strict low) notes 0 (passing ws txt p (past strict low) from) l → Noting ws txt p (past strict low) notes′ m (passing ws txt p (past strict low) at) l
+  pub none : m ≡ 0 → passing ws txt p (past strict low) from ≡ passing ws txt p (past strict low) at
 
-module _ {ws txt : List ℕ} {p : Str} {from : ℕ} {notes : List ℕ} {n : ℕ} where
-  pub descending-all : AnyTree ws txt from → (length notes ≡ 48) × (n ≤ 48) → Descending ws txt p from from notes notes n n
-  descending-all a s = record { any = a; sized = s .0; few = s .1; on = λ l o. (l, refl, o) }
+module _ {ws txt : List ℕ} {p low : Str} {strict : Bool} {from : ℕ} {notes : List ℕ} where
+  pub descending-all : AnyTree ws txt from → starts-with low p ≡ true → Fits notes 0 → Descending ws txt p low strict from from notes notes 0
+  descending-all a s f = record { bound = s; any = a; fits = f; on = λ l o. o; none = λ e. refl }
 
-  module _ {at : ℕ} {notes′ : List ℕ} {m : ℕ} (d : Descending ws txt p from at notes notes′ n m) where
-    pub descending-done : at ≤ 0 → Descends ws txt p from notes notes′ n m
-    descending-done h = record {
-      notes-on = λ l o.
-          let k = d .on l o in
-          let z : at ≡ 0 = omega arith in
-          subst (Noted ws txt p notes′ m) (sym (k .1 ∙ rw (z, matches-none ws txt p))) (k .2);
-    }
+  module _ {at : ℕ} {notes′ : List ℕ} {m : ℕ} (d : Descending ws txt p low strict from at notes notes′ m) where
+    pub descending-done : at ≤ 0 → Descends ws txt p low strict from notes notes′ m
+    descending-done h =
+        let z : at ≡ 0 = omega arith in
+        let e : passing ws txt p (past strict low) at ≡ [] = rw z (pass-none ws txt p (past strict low)) in
+        record { notes-on = λ l o. rw e at (d .on l o); none = λ i. d .none i ∙ e }
 
     module _ (q : 0 < at) where
-      descending-full : Descending ws txt p from at notes notes′ n 0
-      descending-full = record { any = d .any; sized = d .sized; few = omega arith; on = λ l o. let k = d .on l o in (k .0, k .1, noted-none (k .2)) }
+      -- A match is noted, and the way goes left.
+      pub descending-note : {x r : ℕ} {notes″ : List ℕ} → past strict low (key-at ws txt at) ≡ true → starts-with (key-at ws txt at) p ≡ true → NotedAt notes′ notes″ m at r → x ≡ left-link (record-at ws at)
+          → Descending ws txt p low strict from x notes notes″ r
+      descending-note e i t f = rw f (record {
+        bound = d .bound;
+        any = any-left (d .any) q;
+        fits = note-fits (d .fits) t;
+        on = λ l o. noting-note (d .on l o) (pass-here (d .any) q p strict low e i) (record { some = q; begins = i; ahead = ahead-here (d .on l o) (d .any) refl }) t;
+        none = λ z. absurd (omega (arith, t .count));
+      })
 
-      descending-match : {b : ℕ} → starts-with (key-at ws txt at) p ≡ true → m < 48 → b ≡ left-link (record-at ws at) → Descending ws txt p from b notes (set notes′ m at) n (m + 1)
-      descending-match e h f = record {
-        any = rw f (any-left (d .any) q);
-        sized = length-set notes′ m at ∙ d .sized;
-        few = omega arith;
-        on = λ l o.
-            let k = d .on l o in (
-              at ∷ (matches ws txt (right-link (record-at ws at)) p ++ k .0),
-              k .1 ∙ rw (match-here (d .any) q p e, f) (append-assoc (matches ws txt (left-link (record-at ws at)) p) (at ∷ matches ws txt (right-link (record-at ws at)) p) (k .0)),
-              noted-more (k .2) at (q, d .any) h,
+      pub descending-left : {x : ℕ} → past strict low (key-at ws txt at) ≡ true → starts-with (key-at ws txt at) p ≡ false → x ≡ left-link (record-at ws at) → Descending ws txt p low strict from x notes notes′ m
+      descending-left e i f =
+          let s = pass-left (d .any) q p strict low (d .bound) e i in
+          rw f (record { bound = d .bound; any = any-left (d .any) q; fits = d .fits; on = λ l o. rw s at (d .on l o); none = λ z. d .none z ∙ s })
+
+      pub descending-right : {x : ℕ} → past strict low (key-at ws txt at) ≡ false → x ≡ right-link (record-at ws at) → Descending ws txt p low strict from x notes notes′ m
+      descending-right e f =
+          let s = pass-right (d .any) q p strict low e in
+          rw f (record { bound = d .bound; any = any-right (d .any) q; fits = d .fits; on = λ l o. rw s at (d .on l o); none = λ z. d .none z ∙ s })
+
+-- ---- note_left
+
+-- The matches of the tree from are those of the tree at before what is noted.
+pub record Lefting (ws txt : List ℕ) (p : Str) (from at : ℕ) (notes notes′ : List ℕ) (n m : ℕ) : Type 0 where
+  pub any : AnyTree ws txt at
+  pub later : AllAfter ws txt p at
+  pub fits : Fits notes′ m
+  pub on : (b : Str → Bool) (l : List ℕ) → Allˡ (λ x. b (key-at ws txt x) ≡ true) (branches ws from) → Noting ws txt p b notes n (matches ws txt from p) l
+      → Allˡ (λ x. b (key-at ws txt x) ≡ true) (branches ws at) × Noting ws txt p b notes′ m (matches ws txt at p) l
+
+module _ {ws txt : List ℕ} {p : Str} {from : ℕ} {notes : List ℕ} {n : ℕ} where
+  pub lefting-all : AnyTree ws txt from → AllAfter ws txt p from → Fits notes n → Lefting ws txt p from from notes notes n n
+  lefting-all a s f = record { any = a; later = s; fits = f; on = λ b l h o. (h, o) }
+
+  module _ {at : ℕ} {notes′ : List ℕ} {m : ℕ} (d : Lefting ws txt p from at notes notes′ n m) where
+    pub lefting-done : at ≤ 0 → NotesLeft ws txt p from notes notes′ n m
+    lefting-done h =
+        let z : at ≡ 0 = omega arith in
+        let e : matches ws txt at p ≡ [] = rw z (matches-none ws txt p) in
+        record { notes-on = λ b l a o. rw e at (d .on b l a o .1) }
+
+    module _ (q : 0 < at) where
+      pub lefting-note : {x r : ℕ} {notes″ : List ℕ} → starts-with (key-at ws txt at) p ≡ true → NotedAt notes′ notes″ m at r → x ≡ left-link (record-at ws at) → Lefting ws txt p from x notes notes″ n r
+      lefting-note i t f = rw f (record {
+        any = any-left (d .any) q;
+        later = all-of-left (d .any) q (λ y. p <ˢ key-at ws txt y) (d .later);
+        fits = note-fits (d .fits) t;
+        on = λ b l a o.
+            let k = d .on b l a o in
+            let e : passing ws txt p b at ≡ matches ws txt at p = keep-all (key-at ws txt) b (matches ws txt at p) (all-matches ws txt p at (λ y. b (key-at ws txt y) ≡ true) (k .0)) in (
+              all-of-left (d .any) q (λ y. b (key-at ws txt y) ≡ true) (k .0),
+              noting-note (k .1) (match-here (d .any) q p i) (record { some = q; begins = i; ahead = ahead-here (k .1) (d .any) (sym e) }) t,
             );
-      }
+      })
 
-      pub descending-left : {b : ℕ} → past false p (key-at ws txt at) ≡ true → starts-with (key-at ws txt at) p ≡ false → b ≡ left-link (record-at ws at) → Descending ws txt p from b notes notes′ n m
-      descending-left e i f = record {
-        any = rw f (any-left (d .any) q);
-        sized = d .sized;
-        few = d .few;
-        on = λ l o. let k = d .on l o in (k .0, k .1 ∙ rw (match-left (d .any) q p e i, f), k .2);
-      }
-
-      pub descending-right : {b : ℕ} → past false p (key-at ws txt at) ≡ false → b ≡ right-link (record-at ws at) → Descending ws txt p from b notes notes′ n m
-      descending-right e f = record {
-        any = rw f (any-right (d .any) q);
-        sized = d .sized;
-        few = d .few;
-        on = λ l o. let k = d .on l o in (k .0, k .1 ∙ rw (match-right (d .any) q p e, f), k .2);
-      }
-
--- A match is noted, and the way goes left.
-pub descending-note : {ws txt : List ℕ} {p : Str} {from at b : ℕ} {notes notes′ notes″ : List ℕ} {n m r : ℕ} (d : Descending ws txt p from at notes notes′ n m) → 0 < at → starts-with (key-at ws txt at) p ≡ true
-    → NotedAt notes′ notes″ m at r → b ≡ left-link (record-at ws at) → Descending ws txt p from b notes notes″ n r
-descending-note {ws} {txt} {p} {from} {at} {b} {notes} {notes′} {n = n} {m} d q e t f = rw (t .is, t .count) (go (t .k) (t .which) (t .below))
-  where
-    go : (k : ℕ) → (k ≡ m) ⊎ (k ≡ 0) → k < 48 → Descending ws txt p from b notes (set notes′ k at) n (k + 1)
-    go k (inl z) h = rw z (descending-match d q e (rw z at h) f)
-    go k (inr z) h = rw z (descending-match (descending-full d q) q e (omega arith) f)
+      pub lefting-left : {x : ℕ} → starts-with (key-at ws txt at) p ≡ false → x ≡ left-link (record-at ws at) → Lefting ws txt p from x notes notes′ n m
+      lefting-left i f =
+          let e = match-left (d .any) q p (past-after false p (key-at ws txt at) (all-here (d .any) q (λ y. p <ˢ key-at ws txt y) (d .later))) i in
+          rw f (record {
+            any = any-left (d .any) q;
+            later = all-of-left (d .any) q (λ y. p <ˢ key-at ws txt y) (d .later);
+            fits = d .fits;
+            on = λ b l a o. let k = d .on b l a o in (all-of-left (d .any) q (λ y. b (key-at ws txt y) ≡ true) (k .0), rw e at (k .1));
+          })
 
 -- ---- pop
 
-module _ {ws txt : List ℕ} {p : Str} {notes : List ℕ} {n : ℕ} where
-  -- The last note, and what the others say.
-  pub pop-noted : {l : List ℕ} → Noted ws txt p notes n l → 0 < n → (m : ℕ) → m ≡ n - 1
-      → (l′ : List ℕ) × (l ≡ getD notes m 0 ∷ (matches ws txt (right-link (record-at ws (getD notes m 0))) p ++ l′)) × Noted ws txt p notes m l′
-  unfolding to-come
-  pop-noted o h m e =
-      let s : n ≡ suc m = omega arith in (
-        to-come ws txt p notes m ++ o .rest,
-        o .says ∙ rw s (ap (_∷_ (getD notes m 0)) (append-assoc (matches ws txt (right-link (record-at ws (getD notes m 0))) p) (to-come ws txt p notes m) (o .rest))),
-        record { sized = o .sized; few = omega (arith, o .few); each = λ j k. o .each j (omega arith); rest = o .rest; says = refl },
-      )
+-- Once the first of the list is given, what is ahead is past its key.
+module _ {ws txt : List ℕ} {p : Str} (low : Str) (strict : Bool) {l l′ : List ℕ} {x : ℕ} (s : l ≡ x ∷ l′) (h : past strict low (key-at ws txt x) ≡ true) where
+  ahead-next : {m : ℕ} → Ahead ws txt p (past strict low) l m → Ahead ws txt p (past true (key-at ws txt x)) l′ m
+  ahead-next {m} a = go (passing ws txt p (past strict low) m) refl (sym s ∙ a .says)
+    where
+      go : (k : List ℕ) → passing ws txt p (past strict low) m ≡ k → x ∷ l′ ≡ k ++ a .rest → Ahead ws txt p (past true (key-at ws txt x)) l′ m
+      go [] e f = record { any = a .any; rest = l′; says = rw (none-after (key-at ws txt) strict low (key-at ws txt x) (matches ws txt m p) h e) }
+      go (y ∷ k) e f =
+          let same : x ≡ y = cc in
+          let tail : l′ ≡ k ++ a .rest = cc in
+          record { any = a .any; rest = a .rest; says = tail ∙ rw (kept-next (key-at ws txt) strict low (matches ws txt m p) (matches-increasing (a .any .tree) p) y k e, same) }
 
-  pub pops : {m top right r : ℕ} {notes′ : List ℕ} → 0 < n → m ≡ n - 1 → top ≡ getD notes m 0 → right ≡ right-link (record-at ws top) → Descends ws txt p right notes notes′ m r
+  note-next : {y : ℕ} → NoteOk ws txt p (past strict low) l y → NoteOk ws txt p (past true (key-at ws txt x)) l′ y
+  note-next a = record { some = a .some; begins = a .begins; ahead = ahead-next (a .ahead) }
+
+module _ {ws txt : List ℕ} {p : Str} {notes : List ℕ} {n : ℕ} where
+  pub pops : {m top right r : ℕ} {notes′ : List ℕ} → 0 < n → m ≡ n - 1 → top ≡ getD notes m 0 → right ≡ right-link (record-at ws top) → NotesLeft ws txt p right notes notes′ m r
       → Pops ws txt p notes notes′ n (record { link = top; n = r })
+  unfolding to-come
   pops {m} {top} {right} h e t f d = record {
-    takes = λ l o.
-        let k = pop-noted o h m e in
-        record { after = matches ws txt right p ++ k .0; splits = rw (f, t) (k .1); noted = d .notes-on (k .0) (k .2) };
+    takes = λ low strict l a o.
+        let i : n ≡ suc m = omega arith in
+        let k = rw (← t) at (o .holds .note m (omega arith)) in
+        let l′ = matches ws txt right p ++ (to-come ws txt p notes m ++ o .rest) in
+        let s : l ≡ top ∷ l′ = o .says ∙ rw (i, ← t, f) (ap (_∷_ top) (append-assoc (matches ws txt (right-link (record-at ws top)) p) (to-come ws txt p notes m) (o .rest))) in
+        let past-top : past strict low (key-at ws txt top) ≡ true = subst (λ (y : List ℕ). Allˡ (λ x. past strict low (key-at ws txt x) ≡ true) y) s a .0 in
+        record {
+          after = l′;
+          splits = s;
+          noted = d .notes-on (past true (key-at ws txt top)) l′ (rw f (all-beyond (k .ahead .any) (k .some) (λ y. past true (key-at ws txt top) y ≡ true) (λ y. past-after true (key-at ws txt top) y))) (record {
+            fits = fits-fewer (o .fits) (omega arith);
+            holds = record {
+              note = λ j z. note-next low strict s past-top (o .holds .note j (omega arith));
+              near = λ j z. ahead-next low strict s past-top (o .holds .near j z);
+              far = λ j z. ahead-next low strict s past-top (o .holds .far j z);
+            };
+            rest = o .rest;
+            says = refl;
+          });
+        };
   }
+
+-- What pop asks of what is to the right of a note.
+pub right-after : {ws txt : List ℕ} {p : Str} {b : Str → Bool} {l : List ℕ} {x : ℕ} → NoteOk ws txt p b l x → AllAfter ws txt p (right-link (record-at ws x))
+right-after {ws} {txt} {p} {x = x} a = all-beyond (a .ahead .any) (a .some) (λ y. p <ˢ y) (λ y. after-prefix p (key-at ws txt x) y (a .begins))
 
 -- ---- The walk
 
-module _ {ws txt : List ℕ} {p : Str} {notes : List ℕ} where
-  noted-zero : length notes ≡ 48 → (l : List ℕ) → Noted ws txt p notes 0 l
-  unfolding to-come
-  noted-zero s l = record { sized = s; few = omega arith; each = λ j h. absurd (omega arith); rest = l; says = refl }
+module _ {ws txt : List ℕ} {p : Str} {notes : List ℕ} {l : List ℕ} where
+  -- There is none.
+  pub matched-none : Fits notes 0 → l ≡ [] → Matched ws txt p notes l (record { link = 0; n = 0 })
+  matched-none f e = record { head = rw e; sized = f .sized; noted = λ x after g. absurd (nil≢cons (sym e ∙ g)) }
 
-  -- With no note the branch was searched for.
-  pub matched-searched : {l : List ℕ} {x : ℕ} → length notes ≡ 48 → x ≡ head0 l → Matched ws txt p notes l (record { link = x; n = 0 })
-  matched-searched s e = record { head = e; sized = s; noted = λ x after f. noted-zero s after }
-
-  pub matched-popped : {l : List ℕ} {r : Next} → TopTaken ws txt p notes l r → Matched ws txt p notes l r
-  matched-popped t = record {
+  pub matched-popped : {r : Next} → TopTaken ws txt p notes l r → Matched ws txt p notes l r
+  matched-popped {r} t = record {
     head = sym (ap head0 (t .splits));
-    sized = t .noted .sized;
-    noted = λ x after f. let e : t .after ≡ after = tail-is (sym (t .splits) ∙ f) in subst (Noted ws txt p notes _) e (t .noted);
+    sized = t .noted .fits .sized;
+    noted = λ x after f.
+        let s : r .link ∷ t .after ≡ x ∷ after = sym (t .splits) ∙ f in
+        let e : t .after ≡ after = cc in
+        let g : r .link ≡ x = cc in
+        rw (← e, ← g) (t .noted);
   }
-    where
-      tail-is : {a b : ℕ} {l m : List ℕ} → a ∷ l ≡ b ∷ m → l ≡ m
-      tail-is e = cc
 
--- The root's matches are noted from nothing.
-pub first-noted : {ws txt : List ℕ} {p : Str} {root : ℕ} {notes notes′ : List ℕ} {n : ℕ} → length notes ≡ 48 → Descends ws txt p root notes notes′ 0 n → Noted ws txt p notes′ n (matches ws txt root p)
-first-noted {ws} {txt} {p} {root} {notes′ = notes′} {n} s d = subst (Noted ws txt p notes′ n) (append-nil (matches ws txt root p)) (d .notes-on [] (noted-zero s []))
+-- The root's matches, before anything is noted.
+pub first-noting : (ws txt : List ℕ) (p : Str) (root : ℕ) (notes : List ℕ) → length notes ≡ note-words
+    → Noting ws txt p (past false p) (set (set notes near-count 0) far-count 0) 0 (passing ws txt p (past false p) root) (matches ws txt root p)
+first-noting ws txt p root notes s = noting-none (clear-fits notes s) (clear-holds notes s) [] (sym (pass-all ws txt p root) ∙ sym (append-nil (passing ws txt p (past false p) root)))
+
+pub first-pass : (ws txt : List ℕ) (p : Str) (root : ℕ) → Allˡ (λ x. past false p (key-at ws txt x) ≡ true) (matches ws txt root p)
+first-pass ws txt p root = subst (λ (l : List ℕ). Allˡ (λ x. past false p (key-at ws txt x) ≡ true) l) (pass-all ws txt p root) (kept-pass (key-at ws txt) (past false p) (matches ws txt root p))
+
+pub no-tree : {ws txt : List ℕ} {x : ℕ} → AnyTree ws txt x → AnyTree ws txt 0
+no-tree {ws} {x = x} a = any-tree {w = a .which} {v = a .level} (at-of (a .tree) (tree (a .level)) (omega arith) none)
+  where
+    none : LinkOk ws (x + 1) 0 (kind (a .which) (tree (a .level)))
+    none = record { earlier = omega arith; of-kind = λ e. absurd (e refl) }
+
+-- With no note: a mark's tree, or the root.
+module _ {ws txt : List ℕ} {p : Str} (k : Str) {l notes : List ℕ} {n : ℕ} (o : Noting ws txt p (past true k) notes n [] l) (h : n ≤ 0) where
+  pub none-fits : Fits notes 0
+  none-fits = fits-fewer (o .fits) (omega arith)
+
+  none-holds : Holds (NoteOk ws txt p (past true k) l) (Ahead ws txt p (past true k) l) notes 0
+  none-holds = holds-fewer (o .fits) (o .holds) (omega arith)
+
+  pub root-noting : (root : ℕ) → l ≡ passing ws txt p (past true k) root → Noting ws txt p (past true k) notes 0 (passing ws txt p (past true k) root) l
+  root-noting root e = noting-none none-fits none-holds [] (e ∙ sym (append-nil (passing ws txt p (past true k) root)))
+
+  module _ {notes′ : List ℕ} {m : ℕ} (a : AnyTree ws txt 0) (t : Taken notes notes′ m) where
+    pub mark-ahead : Ahead ws txt p (past true k) l m
+    mark-ahead = taken-mark none-fits none-holds (record { any = a; rest = l; says = rw (pass-none ws txt p (past true k)) }) t
+
+    pub mark-noting : Noting ws txt p (past true k) notes′ 0 (passing ws txt p (past true k) m) l
+    mark-noting = noting-none (taken-fits none-fits t) (taken-holds none-fits none-holds t) (mark-ahead .rest) (mark-ahead .says)
+
+module _ {ws txt : List ℕ} {p : Str} (k low : Str) {l notes notes′ : List ℕ} {r : ℕ} (same : low ≡ k) where
+  -- The walk down from a mark, and from the root.
+  pub next-near : {notes₀ : List ℕ} {n m : ℕ} → Noting ws txt p (past true k) notes₀ n [] l → n ≤ 0 → AnyTree ws txt 0 → Taken notes₀ notes m → Descends ws txt p low true m notes notes′ r → Noting ws txt p (past true k) notes′ r [] l
+  next-near o h a t d = (rw same at d) .notes-on l (mark-noting k o h a t)
+
+  module _ (root : ℕ) (e : l ≡ passing ws txt p (past true k) root) (d : Descends ws txt p low true root notes notes′ r) where
+    pub next-all : {n : ℕ} → Noting ws txt p (past true k) notes n [] l → n ≤ 0 → Noting ws txt p (past true k) notes′ r [] l
+    next-all o h = (rw same at d) .notes-on l (root-noting k o h root e)
+
+    pub next-none : {n : ℕ} → Noting ws txt p (past true k) notes n [] l → n ≤ 0 → r ≤ 0 → Matched ws txt p notes′ l (record { link = 0; n = 0 })
+    next-none o h i = matched-none (fits-fewer (next-all o h .fits) (omega arith)) (e ∙ (rw same at d) .none (omega arith))
+
+-- The first, where nothing is noted.
+pub first-none : (ws txt : List ℕ) (p : Str) (root : ℕ) {notes notes′ : List ℕ} {r : ℕ} → Descends ws txt p p false root notes notes′ r → Noting ws txt p (past false p) notes′ r [] (matches ws txt root p) → r ≤ 0
+    → Matched ws txt p notes′ (matches ws txt root p) (record { link = 0; n = 0 })
+first-none ws txt p root d o h = matched-none (fits-fewer (o .fits) (omega arith)) (sym (pass-all ws txt p root) ∙ d .none (omega arith))

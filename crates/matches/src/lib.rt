@@ -1,5 +1,6 @@
 // The branches of a tree that begin with a prefix, one after another: those still to come are noted on the way down.
-// Notes are a help: where they run out, the next branch is searched for from the root.
+// Notes are a help. Where they are full they are dropped, and the first of them is marked: once they run out, its tree is walked down again, to the branches past the last one given.
+// Marks are near or far, a far one for as many near ones as there is room for. Where all are full or gone the walk starts at the root.
 ghost use mathlib.Core.Path.{_≡_};
 ghost use mathlib.Core.Bool.{true};
 ghost use Prim.Native.Nat.{_<_, _≤_};
@@ -8,10 +9,27 @@ ghost use Rattle.tree.specs.Tree.{AnyTree};
 ghost use Rattle.source.specs.Text.{starts-with};
 ghost use Rattle.memory.specs.Layout.{key-at};
 ghost use Rattle.tree.specs.Links.{matches, after};
-ghost use Rattle.matches.specs.Notes.{NotedAt, Noted, Descends, CanPop, Pops, Matched};
+ghost use Rattle.matches.specs.Marks.{note-words, Fits, PartOk, PutAt, Marks, Taken, NotedAt};
+ghost use Rattle.matches.specs.Notes.{Noted, Descends, AllAfter, NotesLeft, CanPop, Pops, Matched};
 
-// How many branches can be noted.
-pub const NOTES: usize = 48;
+// At most so many notes, near marks and far marks: their product is past memory::CAPACITY.
+const MOST_NOTES: usize = 48;
+
+const MOST_NEAR: u32 = 32;
+
+const MOST_FAR: u32 = 43;
+
+// Where the near and the far marks begin, and where their numbers stand.
+const NEAR_START: usize = 48;
+
+const FAR_START: usize = 80;
+
+const NEAR_COUNT: usize = 123;
+
+const FAR_COUNT: usize = 124;
+
+// The length of the array of notes and marks.
+pub const NOTES: usize = 125;
 
 // A branch, 0 for none, and how many notes there are after it.
 pub struct Next {
@@ -19,12 +37,63 @@ pub struct Next {
     pub n: usize,
 }
 
-// Notes a branch after the others. Where the notes are full the others are dropped.
+// Puts a branch after the others of a part. Where the part is full the others are dropped.
+fn put(notes: &mut [u32; NOTES], start: usize, most: u32, count: usize, branch: u32)
+    requires { ⌜ PartOk (now notes) start most count ⌝ }
+    ensures { λ _. ⌜ PutAt (now (notes .entry)) (now (notes .exit)) start most count branch ⌝ }
+{
+    let k = notes[count];
+    if k == most {
+        notes[start] = branch;
+        notes[count] = 1;
+        return;
+    }
+    notes[start + k as usize] = branch;
+    notes[count] = k + 1;
+}
+
+// Marks a branch. Where the near marks are full their first becomes a far one, and the others are dropped.
+fn mark(notes: &mut [u32; NOTES], branch: u32)
+    requires { ⌜ Fits (now notes) 0 ⌝ }
+    ensures { λ _. ⌜ Marks (now (notes .entry)) (now (notes .exit)) branch ⌝ }
+{
+    if notes[NEAR_COUNT] == MOST_NEAR {
+        let first = notes[NEAR_START];
+        put(notes, FAR_START, MOST_FAR, FAR_COUNT, first);
+        put(notes, NEAR_START, MOST_NEAR, NEAR_COUNT, branch);
+        return;
+    }
+    put(notes, NEAR_START, MOST_NEAR, NEAR_COUNT, branch);
+}
+
+// Takes the last mark, 0 for none.
+fn take_mark(notes: &mut [u32; NOTES]) -> u32
+    requires { ⌜ Fits (now notes) 0 ⌝ }
+    ensures { λ r. ⌜ Taken (now (notes .entry)) (now (notes .exit)) r ⌝ }
+{
+    let near = notes[NEAR_COUNT];
+    if 0 < near {
+        let last = notes[NEAR_START + (near - 1) as usize];
+        notes[NEAR_COUNT] = near - 1;
+        return last;
+    }
+    let far = notes[FAR_COUNT];
+    if 0 < far {
+        let last = notes[FAR_START + (far - 1) as usize];
+        notes[FAR_COUNT] = far - 1;
+        return last;
+    }
+    0
+}
+
+// Notes a branch after the others. Where the notes are full the others are dropped, and the first of them is marked.
 fn note(notes: &mut [u32; NOTES], n: usize, branch: u32) -> usize
-    requires { ⌜ (length (now notes) ≡ 48) × (n ≤ 48) ⌝ }
+    requires { ⌜ Fits (now notes) n ⌝ }
     ensures { λ r. ⌜ NotedAt (now (notes .entry)) (now (notes .exit)) n branch r ⌝ }
 {
-    if n == NOTES {
+    if n == MOST_NOTES {
+        let first = notes[0];
+        mark(notes, first);
         notes[0] = branch;
         return 1;
     }
@@ -32,23 +101,25 @@ fn note(notes: &mut [u32; NOTES], n: usize, branch: u32) -> usize
     n + 1
 }
 
-// Notes the branches of the tree `from` that begin with `prefix`, the first one last: those on the way down to it.
+// Notes the branches of the tree `from` that are past `low` and begin with `prefix`, the first one last: those on the way down to it.
 fn descend(
     words: &[u32],
     text: &[u8],
     prefix: &[u8],
+    low: &[u8],
+    strict: bool,
     from: u32,
     notes: &mut [u32; NOTES],
-    count: usize,
 ) -> usize
     requires { ⌜ AnyTree (now words) (now text) from ⌝ }
-    requires { ⌜ (length (now notes) ≡ 48) × (count ≤ 48) ⌝ }
-    ensures { λ r. ⌜ Descends (now (words .entry)) (now (text .entry)) (now (prefix .entry)) from (now (notes .entry)) (now (notes .exit)) count r ⌝ }
+    requires { ⌜ starts-with (now low) (now prefix) ≡ true ⌝ }
+    requires { ⌜ Fits (now notes) 0 ⌝ }
+    ensures { λ r. ⌜ Descends (now (words .entry)) (now (text .entry)) (now (prefix .entry)) (now (low .entry)) strict from (now (notes .entry)) (now (notes .exit)) r ⌝ }
 {
     let mut at = from;
-    let mut n = count;
+    let mut n = 0;
     while 0 < at {
-        if tree::key_past(words, text, at, prefix, false) {
+        if tree::key_past(words, text, at, low, strict) {
             if tree::key_begins(words, text, at, prefix) {
                 n = note(notes, n, at);
                 at = memory::left_of(words, at);
@@ -62,6 +133,33 @@ fn descend(
     n
 }
 
+// Notes the same of a tree whose keys are all after `prefix`, so that the way goes left alone.
+fn note_left(
+    words: &[u32],
+    text: &[u8],
+    prefix: &[u8],
+    from: u32,
+    notes: &mut [u32; NOTES],
+    count: usize,
+) -> usize
+    requires { ⌜ AnyTree (now words) (now text) from ⌝ }
+    requires { ⌜ AllAfter (now words) (now text) (now prefix) from ⌝ }
+    requires { ⌜ Fits (now notes) count ⌝ }
+    ensures { λ r. ⌜ NotesLeft (now (words .entry)) (now (text .entry)) (now (prefix .entry)) from (now (notes .entry)) (now (notes .exit)) count r ⌝ }
+{
+    let mut at = from;
+    let mut n = count;
+    while 0 < at {
+        if tree::key_begins(words, text, at, prefix) {
+            n = note(notes, n, at);
+            at = memory::left_of(words, at);
+        } else {
+            at = memory::left_of(words, at);
+        }
+    }
+    n
+}
+
 // Takes the last note, and notes what is to its right.
 fn pop(words: &[u32], text: &[u8], prefix: &[u8], notes: &mut [u32; NOTES], n: usize) -> Next
     requires { ⌜ CanPop (now words) (now text) (now prefix) (now notes) n ⌝ }
@@ -69,7 +167,7 @@ fn pop(words: &[u32], text: &[u8], prefix: &[u8], notes: &mut [u32; NOTES], n: u
 {
     let top = notes[n - 1];
     let right = memory::right_of(words, top);
-    let m = descend(words, text, prefix, right, notes, n - 1);
+    let m = note_left(words, text, prefix, right, notes, n - 1);
     Next { link: top, n: m }
 }
 
@@ -82,17 +180,16 @@ pub fn first_match(
     notes: &mut [u32; NOTES],
 ) -> Next
     requires { ⌜ AnyTree (now words) (now text) root ⌝ }
-    requires { ⌜ length (now notes) ≡ 48 ⌝ }
+    requires { ⌜ length (now notes) ≡ note-words ⌝ }
     ensures { λ r. ⌜ Matched (now (words .entry)) (now (text .entry)) (now (prefix .entry)) (now (notes .exit)) (matches (now (words .entry)) (now (text .entry)) root (now (prefix .entry))) r ⌝ }
 {
-    let n = descend(words, text, prefix, root, notes, 0);
+    notes[NEAR_COUNT] = 0;
+    notes[FAR_COUNT] = 0;
+    let n = descend(words, text, prefix, prefix, false, root, notes);
     if 0 < n {
         return pop(words, text, prefix, notes, n);
     }
-    Next {
-        link: tree::tree_first(words, text, root, prefix),
-        n: 0,
-    }
+    Next { link: 0, n: 0 }
 }
 
 // The next one after the branch `at`, of which there are `n` notes.
@@ -108,14 +205,21 @@ pub fn next_match(
     requires { ⌜ AnyTree (now words) (now text) root ⌝ }
     requires { ⌜ (0 < at) × AnyTree (now words) (now text) at ⌝ }
     requires { ⌜ starts-with (key-at (now words) (now text) at) (now prefix) ≡ true ⌝ }
-    requires { ⌜ Noted (now words) (now text) (now prefix) (now notes) n (after (key-at (now words) (now text)) (key-at (now words) (now text) at) (matches (now words) (now text) root (now prefix))) ⌝ }
+    requires { ⌜ Noted (now words) (now text) (now prefix) (now notes) n (key-at (now words) (now text) at) (after (key-at (now words) (now text)) (key-at (now words) (now text) at) (matches (now words) (now text) root (now prefix))) ⌝ }
     ensures { λ r. ⌜ Matched (now (words .entry)) (now (text .entry)) (now (prefix .entry)) (now (notes .exit)) (after (key-at (now (words .entry)) (now (text .entry))) (key-at (now (words .entry)) (now (text .entry)) at) (matches (now (words .entry)) (now (text .entry)) root (now (prefix .entry)))) r ⌝ }
 {
     if 0 < n {
         return pop(words, text, prefix, notes, n);
     }
-    Next {
-        link: tree::tree_next(words, text, root, prefix, at),
-        n: 0,
+    let low = memory::key_of(words, text, at);
+    let marked = take_mark(notes);
+    let near = descend(words, text, prefix, low, true, marked, notes);
+    if 0 < near {
+        return pop(words, text, prefix, notes, near);
     }
+    let all = descend(words, text, prefix, low, true, root, notes);
+    if 0 < all {
+        return pop(words, text, prefix, notes, all);
+    }
+    Next { link: 0, n: 0 }
 }

@@ -1,4 +1,4 @@
--- `descend` notes the matches of a tree: the tree at hand and the notes say the whole.
+-- `descend` notes the matches of a tree past a bound: the tree at hand and the notes say the whole.
 use mathlib.Core.Path.{sym, _∙_}
 use native.Mathlib.Omega.{arith}
 use Rattle.tree.proofs.Branches.{tree-fits, sides-earlier}
@@ -10,22 +10,22 @@ pub descend-spec : {M : Type 1} → statement M
 descend-spec =
     tie.close
     (tie.spec
-    (λ words text prefix from notes₀ count at₀ n₀ notes at n. Descending words text prefix from at notes₀ notes count n)
-    (λ words text prefix from notes₀ count at₀ n₀ notes at n. at)
+    (λ words text prefix low strict from notes₀ at₀ n₀ notes at n. Descending words text prefix low strict from at notes₀ notes n)
+    (λ words text prefix low strict from notes₀ at₀ n₀ notes at n. at)
     {- loop-holds -}
-    (λ c. descending-all (c .before .before .before .pre .0) (c .before .before .before .pre .1))
+    (λ c. descending-all (c .before .before .before .before .pre .0) (c .before .before .before .before .pre .1 .0) (c .before .before .before .before .pre .1 .1))
     {- key-past-requires -}
     (λ c κs. (c .loop-test .taken, c .before .loop .inv .any))
     {- key-begins-requires -}
     (λ c κs. (c .before .before .loop-test .taken, c .before .before .before .loop .inv .any))
     {- note-requires -}
-    (λ c κs. (c .before .before .before .before .before .before .loop .inv .sized, c .before .before .before .before .before .before .loop .inv .few))
+    (λ c κs. c .before .before .before .before .before .before .loop .inv .fits)
     {- left-of-requires -}
     (λ c κs. omega (arith, tree-fits (c .before .before .before .before .before .before .before .loop .inv .any), c .before .before .before .before .before .before .loop-test .taken))
     {- loop-less -}
     (λ c. omega (arith, c .left-of .ensures, sides-earlier (c .before .before .before .before .before .before .before .before .loop .inv .any) (c .before .before .before .before .before .before .before .loop-test .taken)))
     {- loop-again -}
-    (λ c. descending-note (c .before .before .before .before .before .before .before .before .loop .inv) (c .before .before .before .before .before .before .before .loop-test .taken) (sym (c .before .before .before .before .key-begins .ensures) ∙ c .before .before .before .if2 .taken) (c .before .note .ensures) (c .left-of .ensures))
+    (λ c. descending-note (c .before .before .before .before .before .before .before .before .loop .inv) (c .before .before .before .before .before .before .before .loop-test .taken) (sym (c .before .before .before .before .before .before .key-past .ensures) ∙ c .before .before .before .before .before .if1 .taken) (sym (c .before .before .before .before .key-begins .ensures) ∙ c .before .before .before .if2 .taken) (c .before .note .ensures) (c .left-of .ensures))
     {- left-of-requires-2 -}
     (λ c κs. omega (arith, tree-fits (c .before .before .before .before .before .loop .inv .any), c .before .before .before .before .loop-test .taken))
     {- loop-less-2 -}

@@ -1,6 +1,9 @@
 -- `first_match` gives the first match and notes the others.
-use native.Mathlib.Omega.{arith}
-use Rattle.matches.proofs.Notes.{first-noted, matched-popped, matched-searched}
+use mathlib.Core.Bool.{false}
+use borrow.Author.Needs.{needs}
+use Rattle.tree.proofs.Matches.{starts-self}
+use Rattle.matches.proofs.Marks.{clear-fits}
+use Rattle.matches.proofs.Notes.{first-noting, first-pass, first-none, matched-popped}
 use Rattle.matches.proofs.first_match.Statement.{statement}
 use Rattle.matches.proofs.first_match.Tie as tie
 
@@ -8,13 +11,15 @@ pub first-match-spec : {M : Type 1} → statement M
 first-match-spec =
     tie.close
     (tie.spec
+    {- element-write-notes -}
+    (λ c. search needs)
+    {- element-write-notes-2 -}
+    (λ c. search needs)
     {- descend-requires -}
-    (λ c κs. (c .before .before .before .before .pre .0, (c .before .before .before .before .pre .1, omega arith)))
+    (λ c κs. (c .before .before .before .before .pre .0, (starts-self (c .before .before .before .before .args .prefix .now), clear-fits (c .before .before .before .before .args .notes .now) (c .before .before .before .before .pre .1))))
     {- pop-requires -}
-    (λ c κs. record { list = _; noted = first-noted (c .before .before .before .before .before .before .before .pre .1) (c .before .before .descend .ensures); some = c .before .if1 .taken })
+    (λ c κs. record { test = _; list = _; noted = (c .before .before .descend .ensures .notes-on _ (first-noting (c .before .before .before .before .before .before .before .args .words .now) (c .before .before .before .before .before .before .before .args .text .now) (c .before .before .before .before .before .before .before .args .prefix .now) (c .before .before .before .before .before .before .before .args .root) (c .before .before .before .before .before .before .before .args .notes .now) (c .before .before .before .before .before .before .before .pre .1))); some = c .before .if1 .taken })
     {- returns -}
-    (λ c. matched-popped (c .pop .ensures .takes _ (first-noted (c .before .before .before .before .before .before .before .before .pre .1) (c .before .before .before .descend .ensures))))
-    {- tree-first-requires -}
-    (λ c κs. c .before .before .before .before .before .before .pre .0)
+    (λ c. matched-popped (c .pop .ensures .takes (c .before .before .before .before .before .before .before .before .args .prefix .now) false _ (first-pass (c .before .before .before .before .before .before .before .before .args .words .now) (c .before .before .before .before .before .before .before .before .args .text .now) (c .before .before .before .before .before .before .before .before .args .prefix .now) (c .before .before .before .before .before .before .before .before .args .root)) (c .before .before .before .descend .ensures .notes-on _ (first-noting (c .before .before .before .before .before .before .before .before .args .words .now) (c .before .before .before .before .before .before .before .before .args .text .now) (c .before .before .before .before .before .before .before .before .args .prefix .now) (c .before .before .before .before .before .before .before .before .args .root) (c .before .before .before .before .before .before .before .before .args .notes .now) (c .before .before .before .before .before .before .before .before .pre .1)))))
     {- returns-2 -}
-    (λ c. matched-searched (first-noted (c .before .before .before .before .before .before .before .pre .1) (c .before .before .descend .ensures) .sized) (c .tree-first .ensures)))
+    (λ c. first-none (c .before .before .before .before .before .before .args .words .now) (c .before .before .before .before .before .before .args .text .now) (c .before .before .before .before .before .before .args .prefix .now) (c .before .before .before .before .before .before .args .root) (c .before .descend .ensures) (c .before .descend .ensures .notes-on _ (first-noting (c .before .before .before .before .before .before .args .words .now) (c .before .before .before .before .before .before .args .text .now) (c .before .before .before .before .before .before .args .prefix .now) (c .before .before .before .before .before .before .args .root) (c .before .before .before .before .before .before .args .notes .now) (c .before .before .before .before .before .before .pre .1))) (c .if1 .left)))

@@ -1,4 +1,4 @@
--- `note` puts the branch after the others, or alone.
+-- `note` puts the branch after the others, or alone, the first of them marked.
 use mathlib.Core.Path.{refl}
 use mathlib.Core.Logic.{inl, inr}
 use native.Mathlib.Omega.{arith}
@@ -10,15 +10,19 @@ pub note-spec : {M : Type 1} → statement M
 note-spec =
     tie.close
     (tie.spec
+    {- element-copy-out-first -}
+    (λ c. search needs)
+    {- mark-requires -}
+    (λ c κs. search needs)
     {- element-write-notes -}
     (λ c. search needs)
     {- returns -}
-    (λ c. record { k = 0; which = inr refl; below = omega arith; is = refl; count = refl })
+    (λ c. record { k = 0; between = _; which = inr (refl, omega (arith, c .before .before .before .if1 .taken), c .mark .ensures); below = omega arith; is = refl; count = refl })
     {- mul-notes -}
-    (λ c. omega (arith, c .if1 .left, c .before .pre .1))
+    (λ c. search needs)
     {- element-write-notes-2 -}
-    (λ c. omega (arith, c .if1 .left, c .before .pre .1, c .before .pre .0))
+    (λ c. search needs)
     {- add-result -}
     (λ c. search needs)
     {- returns-2 -}
-    (λ c. record { k = c .before .args .n; which = inl refl; below = omega (arith, c .if1 .left, c .before .pre .1); is = refl; count = refl }))
+    (λ c. record { k = c .before .args .n; between = _; which = inl (refl, refl); below = omega (arith, c .if1 .left, c .before .pre .few); is = refl; count = refl }))
