@@ -1,14 +1,13 @@
 -- Laws of the array's parts: what holds of notes and marks is kept where a branch is noted, marked or taken.
-use Prim.Native.Nat.{ℕ, suc, _+_, _-_, _<_, _≤_}
-use mathlib.Core.Path.{_≡_, refl, sym, _∙_}
+use Prim.Native.Nat.{ℕ, _+_, _-_, _<_, _≤_}
+use mathlib.Core.Path.{_≡_, _∙_}
 use mathlib.Core.Logic.{_⊎_, inl, inr}
 use mathlib.Core.List.{List}
 use native.Mathlib.Omega.{arith}
-use native.Mathlib.Numerals.{add-one}
 use native.Mathlib.Decide.{ℕ-discrete}
 use lib.ListN.{length, getD, set, length-set}
 use lib.Seq.{getD-set-same, getD-set-other}
-use Rattle.matches.specs.Marks.{most-near, most-far, near-start, far-start, near-count, far-count, note-words, Fits, Holds, PartOk, PutAt, Marks, TakenOf, Taken, NotedAt}
+use Rattle.matches.specs.Marks.{most-near, most-far, near-start, far-start, near-count, far-count, note-words, Fits, Holds, PartOk, PutAt, Marks, Taken}
 
 -- ---- Room
 

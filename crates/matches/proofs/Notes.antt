@@ -25,7 +25,7 @@ use Rattle.tree.proofs.Links.{branches-at, branches-keys}
 use Rattle.tree.proofs.Matches.{matches-none, matches-increasing, starts-self, after-first}
 use Rattle.tree.proofs.Wanted.{by-order, past-low}
 use Rattle.matches.specs.Marks.{near-count, far-count, note-words, Fits, Holds, Marks, Taken, NotedAt}
-use Rattle.matches.specs.Notes.{to-come, passing, Ahead, NoteOk, Noting, Noted, Descends, AllAfter, NotesLeft, TopTaken, Pops, Matched}
+use Rattle.matches.specs.Notes.{to-come, passing, Ahead, NoteOk, Noting, Descends, AllAfter, NotesLeft, TopTaken, Pops, Matched}
 use Rattle.matches.specs.declared.Next.{Next}
 use Rattle.matches.proofs.Marks.{fits-fewer, holds-fewer, more-fits, more-holds, marks-fits, marks-holds, taken-fits, taken-holds, taken-mark, clear-fits, clear-holds}
 

@@ -3,7 +3,7 @@
 // Marks are near or far, a far one for as many near ones as there is room for. Where all are full or gone the walk starts at the root.
 ghost use mathlib.Core.Path.{_≡_};
 ghost use mathlib.Core.Bool.{true};
-ghost use Prim.Native.Nat.{_<_, _≤_};
+ghost use Prim.Native.Nat.{_<_};
 ghost use lib.ListN.{length};
 ghost use Rattle.tree.specs.Tree.{AnyTree};
 ghost use Rattle.source.specs.Text.{starts-with};

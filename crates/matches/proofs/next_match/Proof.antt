@@ -1,7 +1,6 @@
 -- `next_match` gives the next match by the notes, or notes again from a mark or the root.
 use mathlib.Core.Path.{refl}
 use mathlib.Core.Bool.{true}
-use borrow.Author.Needs.{needs}
 use Rattle.memory.specs.Layout.{key-at}
 use Rattle.tree.specs.Links.{matches, past}
 use Rattle.tree.proofs.Branches.{text-in}
