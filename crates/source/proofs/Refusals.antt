@@ -1,6 +1,6 @@
 -- What the number of a refusal says, and what a call has passed that is not refused.
 use Prim.Native.Nat.{ℕ, _≤_, _<_}
-use mathlib.Core.Path.{_≡_, refl, sym}
+use mathlib.Core.Path.{_≡_, refl, sym, subst}
 use mathlib.Core.Bool.{Bool, true, false, not, _||_}
 use mathlib.Core.List.{List, [], _∷_, _++_}
 use mathlib.Core.Option.{Option, none, some, Option·none-ne-some}
@@ -9,8 +9,10 @@ use lib.Dec.{ltb}
 use lib.ListN.{length}
 use borrow.Author.Tests.{not-false}
 use Rattle.source.specs.Text.{Str, segments, ends-in-dot}
+use Rattle.source.specs.Types.{Trie, Value, bind}
+use Rattle.source.specs.Tries.{trie-find-exact}
 use Rattle.source.specs.Table.{Line}
-use Rattle.source.specs.Calls.{Argument, a-look-up, a-completion, is-empty, any, bad-query, malformed, empty-name, too-long, Row, _when_, lowest, argument-rows, State, Lent, whole-records, free, Call, arguments, registered, records, text-taken, crowded, deep, registration-rows, after, Registered, accepted, refused, register, Output, output-text, completion-rows}
+use Rattle.source.specs.Calls.{Argument, a-look-up, a-completion, is-empty, any, bad-query, malformed, empty-name, too-long, Row, _when_, lowest, argument-rows, State, Lent, whole-records, free, Call, arguments, registered, records, text-taken, crowded, deep, registration-rows, after, Registered, accepted, refused, register, Output, output-text, completion-rows, Found, found-of, look-up, Completed, listed, completed}
 use Rattle.source.proofs.Queries.{or-parts}
 use Rattle.source.specs.Shared.{Allˡ}
 use Rattle.source.proofs.Lookup.{Allˡ-map}
@@ -50,6 +52,13 @@ unfolding lowest
 lowest-past [] ys e = refl
 lowest-past ((k when true) ∷ xs) ys e = absurd (Option·none-ne-some _ (sym e))
 lowest-past ((k when false) ∷ xs) ys e = lowest-past xs ys e
+
+-- It is the number of some row.
+lowest-among : (P : ℕ → Type 0) (rows : List Row) {n : ℕ} → Allˡ (λ r. P (number r)) rows → lowest rows ≡ some n → P n
+unfolding lowest
+lowest-among P [] a e = absurd (Option·none-ne-some _ e)
+lowest-among P ((k when true) ∷ rows) {n} a e = let z : k ≡ n = cc in subst P z (a .0)
+lowest-among P ((k when false) ∷ rows) a e = lowest-among P rows (a .1) e
 
 pub lowest-none : (rows : List Row) → lowest rows ≡ none → Allˡ (λ r. holds r ≡ false) rows
 unfolding lowest
@@ -186,3 +195,32 @@ accepted-is sound lent s s′ c e = accepted-view sound lent s s′ c e .1
 
 pub accepted-acceptable : (sound : Bool) (lent : Lent) (s s′ : State) (c : Call) → register sound lent s c ≡ accepted s′ → Acceptable sound lent s c
 accepted-acceptable sound lent s s′ c e = accepted-view sound lent s s′ c e .0
+
+-- ---- refused look-ups and completions
+pub look-up-refused : {A : Type 0} (sound : Bool) (root : Trie A) (q : Str) {n : ℕ} → look-up sound root q ≡ refused n → (0 < n) × (n ≤ 10)
+unfolding look-up argument-rows found-of
+look-up-refused {A} sound root q {n} e = go (lowest (argument-rows sound (a-look-up q ∷ []))) refl (found-of (trie-find-exact root (segments q))) (λ m. found-not (trie-find-exact root (segments q)) m) e
+  where
+    found-not : (o : Option (Value A bind)) (m : ℕ) → found-of o ≡ refused m → ⊥
+    found-not none m e = let z : _≡_ {A = ℕ} 0 1 = cc in omega arith
+    found-not (some v) m e = let z : _≡_ {A = ℕ} 0 1 = cc in omega arith
+
+    go : (o : Option ℕ) → lowest (argument-rows sound (a-look-up q ∷ [])) ≡ o → (f : Found A) → ((m : ℕ) → f ≡ refused m → ⊥)
+        → _≡_ {A = Found A} (elim o [ none ↦ f | some m ↦ refused m ]) (refused n) → (0 < n) × (n ≤ 10)
+    go none h f k e = absurd (k n e)
+    go (some m) h f k e =
+        let z : m ≡ n = cc in
+        rw (← z) (lowest-among (λ j. (0 < j) × (j ≤ 10)) (argument-rows sound (a-look-up q ∷ [])) ((omega arith, omega arith), ((omega arith, omega arith), ((omega arith, omega arith), ((omega arith, omega arith), tt)))) h)
+
+pub completed-refused : {A : Type 0} (sound : Bool) (budget : ℕ) (out : Output) (query : Str) (lines : List (Line A)) (entered : ℕ) {n : ℕ}
+    → completed sound budget out query lines entered ≡ refused n → (0 < n) × (n ≤ 10)
+unfolding completed completion-rows argument-rows
+completed-refused {A} sound budget out query lines entered {n} e = go (lowest (completion-rows sound budget out query lines entered)) refl e
+  where
+    go : (o : Option ℕ) → lowest (completion-rows sound budget out query lines entered) ≡ o
+        → _≡_ {A = Completed A} (elim o [ none ↦ listed lines entered | some m ↦ refused m ]) (refused n) → (0 < n) × (n ≤ 10)
+    go none h e = let z : _≡_ {A = ℕ} 0 1 = cc in absurd (omega arith)
+    go (some m) h e =
+        let z : m ≡ n = cc in
+        rw (← z) (lowest-among (λ j. (0 < j) × (j ≤ 10)) (completion-rows sound budget out query lines entered)
+        ((omega arith, omega arith), ((omega arith, omega arith), ((omega arith, omega arith), ((omega arith, omega arith), ((omega arith, omega arith), ((omega arith, omega arith), tt)))))) h)

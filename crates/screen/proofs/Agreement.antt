@@ -1,0 +1,113 @@
+-- Demand 3 of the exported calls follows from their contracts and from the theorem over the definitions.
+use Prim.Native.Nat.{ℕ, _<_, _≤_}
+use mathlib.Core.Path.{_≡_, refl, sym, ap, _∙_}
+use mathlib.Core.Logic.{⊎-elim}
+use mathlib.Core.Bool.{Bool, true, false}
+use mathlib.Core.List.{List}
+use native.Mathlib.Omega.{arith}
+use lib.ListN.{length}
+use Rattle.source.specs.Text.{Str, segments}
+use Rattle.source.specs.Table as S
+use Rattle.source.specs.Table.{ModSymbol, Line}
+use Rattle.source.specs.Calls as C
+use Rattle.source.specs.Calls.{look-up, lowest, argument-rows, Output, complete, complete-modules}
+use Rattle.source.specs.Agreement.{Covers, NotRefused, Agreement}
+use Rattle.source.proofs.Agreement.{agreement}
+use Rattle.source.proofs.Refusals.{look-up-refused, completed-refused}
+use Rattle.memory.specs.Layout.{names, modules, Item}
+use Rattle.memory.specs.Sound.{Says}
+use Rattle.memory.proofs.SoundTable.{sound-table}
+use Rattle.lines.specs.Ask.{asked}
+use Rattle.lines.specs.declared.Ask.{Ask}
+use Rattle.lines.specs.declared.Ask.the-variants.{Names, Modules}
+use Rattle.lines.specs.declared.Filter.the-variants.{All}
+use Rattle.rows.specs.Rows.{lines-seen}
+use Rattle.rows.proofs.Written.{written-seen}
+use Rattle.listing.specs.Completes.{output}
+use Rattle.refusals.specs.Refusals.{number}
+use Rattle.table.specs.Header.{table-in, names-in, modules-in}
+use Rattle.table.specs.Answers.{module-found}
+use Rattle.table.specs.Completions.{completion}
+use Rattle.table.specs.declared.FoundModule.{FoundModule}
+use Rattle.table.specs.declared.FoundModule.the-variants.{Symbol, Nothing, Refused}
+use Rattle.memory.specs.declared.ModSymbol.the-variants.{Module, Namespace}
+use Rattle.wire.specs.Memory.{words-in}
+use Rattle.screen.specs.Memory.{table-at, SoundBytes}
+use Rattle.screen.specs.Replies.{no-answer, name-reply, module-reply, SaysModule}
+use Rattle.screen.specs.Completions.{modules-for, ListsAs}
+use Rattle.screen.specs.Agreement.{Answered, BytesAgree}
+use Rattle.screen.specs.declared.NameReply.{NameReply}
+use Rattle.screen.specs.declared.ModuleReply.{ModuleReply}
+use Rattle.screen.specs.declared.CompleteReply.{CompleteReply}
+
+-- ---- Numbers
+
+-- A number of a refusal is no answer.
+not-answered : {n a : ℕ} → (0 < n) × (n ≤ 10) → a ≡ n → Answered a → ⊥
+not-answered p e h = ⊎-elim (λ z. omega (arith, p .0)) (λ z. omega (arith, p .1)) h
+
+module _ (b : Bool) (tbl : S.Table) (budget : ℕ) (o : Output) (q : Str) {n : ℕ} where
+  names-refused : complete b tbl budget o q ≡ C.refused n → 0 < n
+  unfolding complete
+  names-refused e = completed-refused b budget o q _ _ e .0
+
+  modules-refused : complete-modules b tbl C.All budget o q ≡ C.refused n → 0 < n
+  unfolding complete-modules
+  modules-refused e = completed-refused b budget o q _ _ e .0
+
+-- ---- Look-up
+
+name-answered : (a : C.Found ℕ) {f : NameReply} → f ≡ name-reply a → Answered (f .answer) → ((n : ℕ) → a ≡ C.refused n → (0 < n) × (n ≤ 10)) → NotRefused a
+name-answered (C.found v) e h k = tt
+name-answered C.not-found e h k = tt
+name-answered (C.refused n) e h k = not-answered (k n refl) (ap (λ (x : NameReply). x .answer) e) h
+
+module-answered : (txt : List ℕ) (g : FoundModule) {a : C.Found ModSymbol} {f : ModuleReply} → f ≡ module-reply g → module-found txt g ≡ a → Answered (f .answer)
+    → ((n : ℕ) → a ≡ C.refused n → (0 < n) × (n ≤ 10)) → NotRefused a
+module-answered txt (Symbol s) e p h k = rw (← p) tt
+module-answered txt Nothing e p h k = rw (← p) tt
+module-answered txt (Refused x) e p h k = absurd (not-answered (k (number x) (sym p)) (ap (λ (y : ModuleReply). y .answer) e) h)
+
+-- ---- A listing that was not refused
+
+listed-bytes : (ask : Ask) (ws txt ls ls′ out out′ : List ℕ) (r : CompleteReply) (o : C.Completed (Item (asked ask))) → ListsAs ask ws txt ls ls′ out out′ r o → r .answer ≡ 0
+    → ((n : ℕ) → o ≡ C.refused n → 0 < n)
+    → (lines : List (Line (Item (asked ask)))) × (entered : ℕ) × (o ≡ C.listed lines entered) × (lines-seen (asked ask) txt ls′ out′ (r .lines) ≡ lines)
+listed-bytes ask ws txt ls ls′ out out′ r (C.listed lines e) h z k = (lines, e, refl, rw (ap (λ (x : CompleteReply). x .lines) (h .reply)) (written-seen (h .written)))
+listed-bytes ask ws txt ls ls′ out out′ r (C.refused n) h z k = absurd (omega (arith, k n refl, ap (λ (x : CompleteReply). x .answer) (h .reply)))
+
+-- ---- Both
+
+module _ (st bs txt : List ℕ) (name query : Str) (budget : ℕ) (ls ls′ out out′ : List ℕ) (l : CompleteReply) (cover : Covers (segments query) (segments name)) where
+  abbrev tbl : S.Table
+  tbl = table-in (words-in bs) txt (table-at st)
+
+  names-agree : (b : Bool) → Says b (SoundBytes st bs txt) → (f : NameReply) → f ≡ name-reply (look-up b (names-in (words-in bs) txt (table-at st)) name) → Answered (f .answer)
+      → ListsAs Names (words-in bs) txt ls ls′ out out′ l (complete b tbl budget (output ls out) query) → l .answer ≡ 0
+      → (f ≡ name-reply (look-up true (names-in (words-in bs) txt (table-at st)) name)) × Agreement (names-in (words-in bs) txt (table-at st)) name (lines-seen names txt ls′ out′ (l .lines))
+  unfolding look-up lowest argument-rows
+  names-agree false s f e h c z = absurd (name-answered (C.refused 1) e h (λ n i. let j : 1 ≡ n = cc in (omega arith, omega arith)))
+  names-agree true s f e h c z =
+      let ok = name-answered _ e h (λ n. look-up-refused true (names-in (words-in bs) txt (table-at st)) name) in
+      let k = listed-bytes Names (words-in bs) txt ls ls′ out out′ l _ c z (λ n. names-refused true tbl budget (output ls out) query) in
+      (e, rw (k .3) (agreement .names tbl (sound-table (s .sound)) name query budget (output ls out) (k .0) (k .1) ok (k .2) cover))
+
+  modules-agree : (b : Bool) → Says b (SoundBytes st bs txt) → (f : ModuleReply) → SaysModule txt (look-up b (modules-in (words-in bs) txt (table-at st)) name) f → Answered (f .answer)
+      → ListsAs (Modules All) (words-in bs) txt ls ls′ out out′ l (complete-modules b tbl C.All budget (output ls out) query) → l .answer ≡ 0
+      → SaysModule txt (look-up true (modules-in (words-in bs) txt (table-at st)) name) f × Agreement (modules-in (words-in bs) txt (table-at st)) name (lines-seen modules txt ls′ out′ (l .lines))
+  unfolding look-up lowest argument-rows
+  modules-agree false s f e h c z = absurd (module-answered txt (e .found) {a = C.refused 1} (e .reply) (e .says) h (λ n i. let j : 1 ≡ n = cc in (omega arith, omega arith)))
+  modules-agree true s f e h c z =
+      let ok = module-answered txt (e .found) (e .reply) (e .says) h (λ n. look-up-refused true (modules-in (words-in bs) txt (table-at st)) name) in
+      let k = listed-bytes (Modules All) (words-in bs) txt ls ls′ out out′ l _ c z (λ n. modules-refused true tbl budget (output ls out) query) in
+      (e, rw (k .3) (agreement .modules tbl (sound-table (s .sound)) name query budget (output ls out) (k .0) (k .1) ok (k .2) cover))
+
+-- Demand 3, of the exported calls.
+pub bytes-agree : BytesAgree
+unfolding modules-for
+bytes-agree = record {
+  of-names = λ st bs txt b s name query f budget ls ls′ out out′ l found ok c z cover.
+      names-agree st bs txt name query budget ls ls′ out out′ l cover b s f (found .says b s) ok (c .says b s) z;
+  of-modules = λ st bs txt b s name query f budget ls ls′ out out′ l found ok c z cover.
+      modules-agree st bs txt name query budget ls ls′ out out′ l cover b s f (found .says b s) ok (c .says b s) z;
+}
