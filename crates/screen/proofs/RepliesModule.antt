@@ -1,15 +1,13 @@
 -- What a look-up replies, by what crate table answers.
 use Prim.Native.Nat.{ℕ}
 use mathlib.Core.Path.{_≡_, refl}
-use mathlib.Core.Bool.{Bool, false}
+use mathlib.Core.Bool.{false}
 use mathlib.Core.List.{List}
 use lib.ListN.{length}
 use Rattle.source.specs.Text.{Str}
 use Rattle.source.specs.Types.{Trie}
 use Rattle.source.specs.Calls as C
 use Rattle.source.specs.Calls.{lowest, argument-rows, look-up}
-use Rattle.memory.specs.Sound.{Says}
-use Rattle.table.specs.Header.{IsSound, names-in, modules-in}
 use Rattle.table.specs.Answers.{name-found, Finds, FindsModule}
 use Rattle.table.specs.declared.Table.{Table}
 use Rattle.table.specs.declared.Finding.{Finding}
