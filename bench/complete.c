@@ -18,7 +18,7 @@ struct list {
 struct run {
     const uint32_t *words;
     const uint8_t *text;
-    uint32_t *flat;
+    uint8_t *lines_at;
     uint8_t *out;
     size_t lines, bytes;     // lent
     size_t budget, entered;  // tries
@@ -124,10 +124,10 @@ static void list(struct run *r, uint32_t trie, const uint8_t *q, size_t qn, size
                 memcpy(o, r->base, base);
                 memcpy(o + base, r->text + b[1], b[2]);
                 if (c) memcpy(o + candidate, r->text + c[1], note);
-                uint32_t *w = r->flat + r->count * 12;
+                uint8_t *w = r->lines_at + r->count * 48;
                 memcpy(w, (uint32_t[]){matched, (uint32_t)r->used, (uint32_t)candidate, (uint32_t)(r->used + candidate), (uint32_t)note}, 20);
-                memcpy(w + 5, b + 5, 24);
-                w[11] = 0;
+                memcpy(w + 20, b + 5, 24);
+                memset(w + 44, 0, 4);
             }
             r->count++;
             r->used += candidate + note;
@@ -145,9 +145,9 @@ static void list(struct run *r, uint32_t trie, const uint8_t *q, size_t qn, size
 }
 
 // The number of lines, or -9 or -10.
-int64_t c_complete(const uint32_t *words, const uint8_t *text, uint32_t root, const uint8_t *query, size_t nquery, uint32_t budget, uint32_t *flat,
-                   size_t nflat, uint8_t *out, size_t nout) {
-    struct run r = {words, text, flat, out, nflat / 12, nout, budget, 0, 0, 0, false, {0}};
+int64_t c_complete(const uint32_t *words, const uint8_t *text, uint32_t root, const uint8_t *query, size_t nquery, uint32_t budget, uint8_t *lines,
+                   size_t nlines, uint8_t *out, size_t nout) {
+    struct run r = {words, text, lines, out, nlines / 48, nout, budget, 0, 0, 0, false, {0}};
     list(&r, root, query, nquery, 0, 4294967295u, 0);
     if (r.entered > budget) return -9;
     if (r.count > r.lines || r.used > r.bytes) return -10;

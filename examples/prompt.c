@@ -11,7 +11,7 @@
 
 #include "name_console.h"
 
-enum { TEXT = 32768, OUT = 32768, BUDGET = 4096, LONGEST = 2048, PARTS = 3 };
+enum { TEXT = 32768, LINES = 512, OUT = 32768, BUDGET = 4096, LONGEST = 2048, PARTS = 3 };
 
 /* The table: zero bytes are the fresh one. */
 static uint8_t state[NAME_CONSOLE_STATE];
@@ -20,7 +20,7 @@ static uint8_t text[TEXT];
 #define TABLE state, sizeof state, words, sizeof words, text, sizeof text
 
 /* What a completion writes. */
-static uint8_t lines[NAME_CONSOLE_LINES * NAME_CONSOLE_LINE];
+static uint8_t lines[LINES * NAME_CONSOLE_LINE];
 static uint8_t out[OUT];
 #define OUTPUT BUDGET, lines, sizeof lines, out, sizeof out
 
@@ -212,7 +212,7 @@ static void run(char *line) {
 /* ---- Tab */
 
 /* The annotations of the names on offer, in their order. */
-static char *notes[NAME_CONSOLE_LINES];
+static char *notes[LINES];
 static int noted;
 
 static void drop_notes(void) {

@@ -24,11 +24,10 @@ extern "C" {
 #define NAME_CONSOLE_RECORD 48    /* bytes of a record in the words */
 #define NAME_CONSOLE_RECORDS 1024 /* records past these count as not lent */
 #define NAME_CONSOLE_LINE 48      /* bytes of a line record */
-#define NAME_CONSOLE_LINES 512    /* line records past these count as not lent */
 
 /* Bytes of stack that are enough for a call on x86-64, measured on the tables that need most (tests/layer/tests/stack.rs). */
 #define NAME_CONSOLE_STACK 131072          /* for a registration or look-up */
-#define NAME_CONSOLE_STACK_COMPLETE 327680 /* for a completion */
+#define NAME_CONSOLE_STACK_COMPLETE 212992 /* for a completion */
 
 /* What a call answers. Where several refusals apply, the lowest number is given. A refusal changes no byte that is lent. */
 enum name_console_answer {
@@ -106,7 +105,7 @@ struct name_console_symbol name_console_find_module(const uint8_t *state, size_t
 
 /* ---- Completions, which change only the output
 
-   Lines are whole records of 48 bytes in `lines`; their texts stand one after another in `out` from its start, candidate
+   Lines are whole records of 48 bytes in `lines`, as many as are lent; their texts stand one after another in `out` from its start, candidate
    then annotation. Listed, the first `lines` records and the bytes of their texts are written, and every other byte of
    both is as it was. `entered` is the number of tries entered; more than `budget` is refused.
 
@@ -114,13 +113,13 @@ struct name_console_symbol name_console_find_module(const uint8_t *state, size_t
     0                match length: 4294967295 for -1
     4,  8            candidate: start, length in out
    12, 16            annotation: start, length in out
-   20                item of a name; or 0 for a module, else a namespace
+   20                item of a name; or 0 for a module, 1 for a namespace
    24, 28            module or namespace: full name: start, length in the table's text
    32, 36            module: file path: start, length in the table's text
-   40                module or namespace: 1 if loaded, else not
-   44                of no account, and so are those above that do not apply
+   40                module or namespace: 1 if loaded, else 0
+   44                0
 
-   What is promised of a full name or path is the bytes of the table's text from its start, up to its length or to the end of the text. */
+   A full name and a path lie in the table's text. Words above that do not apply are of no account. */
 
 struct name_console_listing {
   uint32_t answer;  /* 0 listed, else the refusal */
@@ -145,10 +144,10 @@ struct name_console_line {
   int32_t match_length;
   uint32_t candidate, candidate_len;
   uint32_t annotation, annotation_len;
-  uint32_t item; /* of a name; or 0 for a module, else a namespace */
+  uint32_t item; /* of a name; or 0 for a module, 1 for a namespace */
   uint32_t name, name_len;
   uint32_t path, path_len;
-  uint32_t loaded; /* 1 if loaded, else not */
+  uint32_t loaded; /* 1 if loaded, else 0 */
 };
 
 /* Word k of the bytes. */

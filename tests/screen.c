@@ -8,7 +8,7 @@
 #include "name_console.h"
 
 static uint8_t state[NAME_CONSOLE_STATE], words[NAME_CONSOLE_RECORDS * NAME_CONSOLE_RECORD], text[32768];
-static uint8_t lines[(NAME_CONSOLE_LINES + 88) * NAME_CONSOLE_LINE], out[65536];
+static uint8_t lines[600 * NAME_CONSOLE_LINE], out[65536];
 static uint8_t lines_before[sizeof lines], out_before[sizeof out];
 static uint8_t state_before[sizeof state], words_before[sizeof words], text_before[sizeof text];
 static size_t lines_len = sizeof lines, out_len = sizeof out;
@@ -272,7 +272,7 @@ static void unsound(void) {
   check("sound again", listed(complete(""), 3, 3));
 }
 
-/* Line records past 512 count as not lent. */
+/* As many lines as line records are lent. */
 static void many(void) {
   char id[2] = "";
   fresh();
@@ -286,8 +286,20 @@ static void many(void) {
     good &= name_console_alias(TABLE, S(id), S(""), S("N.")) == 0;
   }
   check("31 namespaces of 16 names", good && listed(complete(""), 496, 32));
-  check("one more", name_console_alias(TABLE, S("F"), S(""), S("N.")) == 0 && listed(complete(""), 512, 33));
-  check("513 lines", name("", "last", 1) == 0 && sizeof lines / NAME_CONSOLE_LINE > 513 && refused(complete(""), NAME_CONSOLE_NO_ROOM));
+  for (const char *p = "FJA"; *p; p++) {
+    id[0] = *p;
+    good &= name_console_alias(TABLE, S(id), S(""), S("N.")) == 0;
+  }
+  for (const char *p = "dbface"; *p; p++) {
+    id[0] = *p;
+    good &= name("", id, (uint32_t)*p) == 0;
+  }
+  check("550 lines into 600", good && listed(complete(""), 550, 35) && line(0, "a", "", 'a', -1) && line(549, "z.P", "", 'P', -1));
+  lines_len = 550 * NAME_CONSOLE_LINE;
+  check("550 lines into 550", listed(complete(""), 550, 35));
+  lines_len--;
+  check("550 lines into 549", refused(complete(""), NAME_CONSOLE_NO_ROOM));
+  lines_len = sizeof lines;
 }
 
 int main(void) {

@@ -9,7 +9,7 @@ use product::Output;
 extern "C" {
     fn c_sound(words: *const u32, nwords: usize, text: *const u8, ntext: usize, names: u32, modules: u32, records: u32, used: u32) -> bool;
     fn c_complete(words: *const u32, text: *const u8, root: u32, query: *const u8, nquery: usize, budget: u32,
-        flat: *mut u32, nflat: usize, out: *mut u8, nout: usize) -> i64;
+        lines: *mut u8, nlines: usize, out: *mut u8, nout: usize) -> i64;
     fn c_insert(words: *mut u32, nwords: usize, text: *mut u8, ntext: usize, header: *mut [u32; 4],
         host: *const u8, nhost: usize, id: *const u8, nid: usize, item: u32) -> u32;
     fn c_find(words: *const u32, text: *const u8, root: u32, query: *const u8, nquery: usize, item: *mut u32) -> u32;
@@ -23,13 +23,13 @@ pub fn sound(m: &Memory) -> bool {
 
 /// Completion of names by hand in C, in a memory that is sound and for a query that is well formed: lines, or the refusal.
 pub fn complete(m: &Memory, query: &[u8], budget: u32, out: &mut Output) -> Result<u32, u32> {
-    let (flat, text) = (&mut out.flat, &mut out.text);
+    let (lines, text) = (&mut out.lines, &mut out.text);
     #[rustfmt::skip]
-    let lines = unsafe {
+    let answer = unsafe {
         c_complete(m.words.as_ptr(), m.text.as_ptr(), m.header.names, query.as_ptr(), query.len(), budget,
-            flat.as_mut_ptr(), flat.len(), text.as_mut_ptr(), text.len())
+            lines.as_mut_ptr(), lines.len(), text.as_mut_ptr(), text.len())
     };
-    u32::try_from(lines).map_err(|_| -lines as u32)
+    u32::try_from(answer).map_err(|_| -answer as u32)
 }
 
 /// Registration of a name by hand in C, in a memory that is sound: 0 or the refusal.

@@ -61,9 +61,9 @@ w.keep('t0', 't1', 't2', 't3', 't4', 't5', 'words', 'text', 'query', 'flat', 'ou
 for k in ('words', 'text', 'query'):
     nm, v, ty, val = SHARED[k]; K = k.capitalize()
     w.copy(k, f'use1 W (‵ {K} ⊛ ‵ {K}) (shr-slice-copy 𝓤 H A W (named {nm}) κ{nm} {ty} .twice {v} ({val} ∷ [])) $'); w.nl()
-# complete_flat, with the flat words lent again
+# complete_flat, with the bytes lent again
 w.bind('lft-new ! tt (λ ν.'); w.add('tν')
-w.use(['flat', 't4'], '(later (some (λ (δ : GName). ‵ (MutSlice (named 3) (ν ∷ []) u32 .own (f δ fs) (v₆ ∷ [])) ⊛ ‵ (LentAgain u32 κ4 (ν ∷ []) q4 γ b o δ fs))))', '(lends-again u32 κ4 (ν ∷ []) q4 γ b o 𝓤 H A W (named 4) (named 3) fs)', 'h')
+w.use(['flat', 't4'], '(later (some (λ (δ : GName). ‵ (MutSlice (named 3) (ν ∷ []) u8 .own (f δ fs) (v₆ ∷ [])) ⊛ ‵ (LentAgain u8 κ4 (ν ∷ []) q4 γ b o δ fs))))', '(lends-again u8 κ4 (ν ∷ []) q4 γ b o 𝓤 H A W (named 4) (named 3) fs)', 'h')
 w.emit('await ! tt $'); w.bind('pick ! (λ δ.'); w.emit('split ! $'); w.head('flat', 'kept'); w.nl(); w.note()
 w.group(['words', 'text', 'query', 'out', 'flat', 't0', 't1', 't2', 'tν', 't5'], 'g')
 w.use(['g'], '(raw (Flat 𝓤 H A mem run .pre (to-flat ν δ)))', '(goes-flat ν δ (room₈ .0))', 'pre'); w.nl()
@@ -84,7 +84,7 @@ w.split('tr', ['tk', 'rr']); w.move('rr')
 w.bind('peeks ! R.the-row (Is R.the-row) (shows 𝓤 H A R.the-row) r (u ∷ []) (λ r-is.'); w.nl()
 w.land('_9', '(LL.lawful R.the-type R′.the-laws 𝓤 H A W .typed r _ r-is .0)'); w.nl()
 w.split('tk', ['t0', 't1', 't2', 'tν', 't5', 'true3']); w.move('tν'); w.emit('lft-end ! tt $'); w.head('dead'); w.nl()
-w.use(['dead', 'kept', 'ff'], f'(later (‵ (MutSlice (named 4) κ4 u32 .own (f γ {G}) (v₆ ∷ [])) ⊛ ‵ (flft κ4 q4)))', f'(comes-back u32 κ4 (ν ∷ []) q4 γ b o 𝓤 H A W (named 4) (named 3) fs δ {G} room lf)', 'h')
+w.use(['dead', 'kept', 'ff'], f'(later (‵ (MutSlice (named 4) κ4 u8 .own (f γ {G}) (v₆ ∷ [])) ⊛ ‵ (flft κ4 q4)))', f'(comes-back u8 κ4 (ν ∷ []) q4 γ b o 𝓤 H A W (named 4) (named 3) fs δ {G} room lf)', 'h')
 w.emit('await ! tt $ split ! $'); w.head('flat', 't4'); w.nl(); w.note()
 # lines_in
 w.move('rr'); w.use(['rr'], '(raw (LinesIn 𝓤 H A mem run .pre (to-lines-in r u)))', '(goes-lines-in r u)', 'pre'); w.nl()
@@ -94,14 +94,14 @@ w.emit('await ! tt $'); w.bind('pick ! (λ n.'); w.emit('split ! $'); w.head('tn
 w.use(['ens'], '(raw (fact 𝓤 (n ≡ linesIn (r .answer))))', '(lines-in-said r n)', 'fact'); w.bind('heard ! (n ≡ linesIn (r .answer)) (λ en.'); w.ctx = w.ctx[1:]
 w.split('tn', ['true4', 'nn']); w.move('nn'); w.bind('peeks ! usize (Is usize) (shows 𝓤 H A usize) n (u′ ∷ []) (λ is.'); w.nl()
 w.land('_10', '(uint-lawful 𝓤 H A W w64 .typed n _ is .0)'); w.emit(f'rewrite ! {w.at("_10")} (λ (z : Val). ‵ (fat fullShare (tyInt w64) l10 0 z)) (ap only (is .0)) refl $'); w.nl()
-# store_lines, with the flat words lent shared
+# store_lines, with the bytes lent shared
 w.reborrow('_17', '_18', '_6', 'room₈ .0'); w.reborrow('_19', '_20', '_7', 'room .0')
 w.bind('lft-new ! tt (λ ν′.'); w.add('tν'); w.move('flat', 't4')
 RW = lambda T, e: f'rewrite ! 0 (λ (j : ℕ). ‵ ({T} (sliceVal (b, o) j ∷ []))) {e} refl $'
-w.emit(RW(f'MutSlice (named 4) κ4 u32 .own (f γ {G})', '(sym lf)')); w.nl()
-w.use(['flat', 't4'], f'(later (some (λ (δ′ : GName). ‵ (ShrSlice (named 1) (ν′ ∷ []) u32 .own (f δ′ {G}) (sliceVal (b, o) (length {G}) ∷ [])) ⊛ ‵ (LentShared u32 κ4 (ν′ ∷ []) q4 γ b o {G}))))', f'(lends-shared u32 κ4 (ν′ ∷ []) q4 γ b o 𝓤 H A W (named 4) (named 1) {G})', 'h')
+w.emit(RW(f'MutSlice (named 4) κ4 u8 .own (f γ {G})', '(sym lf)')); w.nl()
+w.use(['flat', 't4'], f'(later (some (λ (δ′ : GName). ‵ (ShrSlice (named 1) (ν′ ∷ []) u8 .own (f δ′ {G}) (sliceVal (b, o) (length {G}) ∷ [])) ⊛ ‵ (LentShared u8 κ4 (ν′ ∷ []) q4 γ b o {G}))))', f'(lends-shared u8 κ4 (ν′ ∷ []) q4 γ b o 𝓤 H A W (named 4) (named 1) {G})', 'h')
 w.emit('await ! tt $'); w.bind('pick ! (λ δ′.'); w.emit('split ! $'); w.head('flat', 'kept')
-w.emit(RW(f'ShrSlice (named 1) (ν′ ∷ []) u32 .own (f δ′ {G})', 'lf')); w.nl(); w.note()
+w.emit(RW(f'ShrSlice (named 1) (ν′ ∷ []) u8 .own (f δ′ {G})', 'lf')); w.nl(); w.note()
 w.group(['lines', 'flat', 't3', 'tν'], 'g')
 w.use(['g'], f'(raw (StoreLines 𝓤 H A mem run .pre (to-store ν′ δ′ {G} n)))', f'(goes-store ν′ δ′ {G} n (is .1) (asked-at said en lf))', 'pre'); w.nl()
 w.bind(f'calls-at ! fm (StoreLines 𝓤 H A mem run) known-store (to-store ν′ δ′ {G} n) ' + w.args([w.load('_18'), w.load('_20'), w.load('_10'), w.field('_4', 0)]) + ' (λ u″.'); w.nl()
@@ -115,8 +115,8 @@ w.split('lasts2', ['ll', 'more3'], 'fsplit'); w.split('ll', ['lines', 'lenl'], '
 w.split('tz', ['tk2', 'zz']); w.move('zz'); w.bind('peeks ! Nothing (Is Nothing) (shows 𝓤 H A Nothing) z (u″ ∷ []) (λ isu.'); w.nl()
 w.land('_16', '(nothing-lawful 𝓤 H A W .typed z _ isu .0)')
 w.split('tk2', ['t3', 'tν', 'true5']); w.move('tν'); w.emit('lft-end ! tt $'); w.head('dead'); w.nl()
-w.use(['dead', 'kept'], f'(later (‵ (MutSlice (named 4) κ4 u32 .own (f γ {G}) (sliceVal (b, o) (length {G}) ∷ [])) ⊛ ‵ (flft κ4 q4)))', f'(shared-back u32 κ4 (ν′ ∷ []) q4 γ b o 𝓤 H A W (named 4) (named 1) {G} (subst (Room u32) (sym lf) room))', 'h')
-w.emit('await ! tt $ split ! $'); w.head('flat', 't4'); w.emit(RW(f'MutSlice (named 4) κ4 u32 .own (f γ {G})', 'lf')); w.nl(); w.note()
+w.use(['dead', 'kept'], f'(later (‵ (MutSlice (named 4) κ4 u8 .own (f γ {G}) (sliceVal (b, o) (length {G}) ∷ [])) ⊛ ‵ (flft κ4 q4)))', f'(shared-back u8 κ4 (ν′ ∷ []) q4 γ b o 𝓤 H A W (named 4) (named 1) {G} (subst (Room u8) (sym lf) room))', 'h')
+w.emit('await ! tt $ split ! $'); w.head('flat', 't4'); w.emit(RW(f'MutSlice (named 4) κ4 u8 .own (f γ {G})', 'lf')); w.nl(); w.note()
 w.assign('_0', f'(of-opd ! {w.load("_9")})', '(LL.lawful R.the-type R′.the-laws 𝓤 H A W .typed r _ r-is .0)'); w.nl()
 w.finish()
 w.keep('t0', 't1', 't2', 't3', 't4', 't5', 'words2', 'text2', 'query2', 'flat', 'out', 'lines')

@@ -14,7 +14,7 @@ pub const LINE: usize = 48;
 /// Bytes of stack that are enough for a registration or look-up.
 pub const STACK: usize = 131072;
 /// Bytes of stack that are enough for a completion.
-pub const STACK_COMPLETE: usize = 327680;
+pub const STACK_COMPLETE: usize = 212992;
 
 /// The answer of a call that was accepted, or found or listed something.
 pub const OK: u32 = 0;

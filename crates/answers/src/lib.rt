@@ -36,7 +36,7 @@ pub fn answer(
     words: &mut [u32],
     text: &mut [u8],
     line: &[u8],
-    flat: &mut [u32],
+    flat: &mut [u8],
     pane: &mut [u8],
     reply: &mut [u8],
     at: usize,
@@ -126,7 +126,7 @@ pub fn answer_lines(
     text: &mut [u8],
     input: &[u8],
     from: usize,
-    flat: &mut [u32],
+    flat: &mut [u8],
     pane: &mut [u8],
     reply: &mut [u8],
 ) -> Turn
@@ -135,7 +135,7 @@ pub fn answer_lines(
     requires { ⌜ from ≤ length (now input) ⌝ }
     ensures { λ r. ⌜ Talked (now (words .entry)) (now (text .entry)) (now (words .exit)) (now (text .exit)) table (now (input .entry)) from (output (now (flat .entry)) (now (pane .entry))) (now (reply .entry)) (now (reply .exit)) r ⌝ }
 {
-    let size = flat.len() / lines::LINE * 40 + pane.len() + 40;
+    let size = flat.len() / lines::LINE_BYTES * 40 + pane.len() + 40;
     let mut t = table;
     let mut at = 0;
     let mut i = from;

@@ -20,7 +20,7 @@ fn say_number(n: u32) {
 fn play(first: &[u8], script: &[u8]) {
     let mut words = [0u32; 16384];
     let mut text = [0u8; 32768];
-    let mut flat = [0u32; 6144];
+    let mut flat = [0u8; 24576];
     let mut pane = [0u8; 32768];
     let mut reply = [0u8; 65536];
     let fresh = Table::fresh();
@@ -100,7 +100,7 @@ fn listed(
     words: &[u32],
     text: &[u8],
     budget: u32,
-    flat: &mut [u32],
+    flat: &mut [u8],
     pane: &mut [u8],
 ) -> u32 {
     let l = t.complete(
@@ -199,8 +199,8 @@ fn texts() {
 fn outputs() {
     let mut words = [0u32; 600];
     let mut text = [0u8; 64];
-    let mut flat = [0u32; 12];
-    let mut none = [0u32; 11];
+    let mut flat = [0u8; 48];
+    let mut none = [0u8; 47];
     let mut pane = [0u8; 64];
     let t = build(&mut words, &mut text);
     say(b"case 13\n");
@@ -212,7 +212,7 @@ fn outputs() {
 fn damaged() {
     let mut words = [0u32; 600];
     let mut text = [0u8; 64];
-    let mut flat = [0u32; 12];
+    let mut flat = [0u8; 48];
     let mut pane = [0u8; 64];
     let t = build(&mut words, &mut text);
     say(b"a damaged table\n");

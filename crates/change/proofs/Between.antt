@@ -7,46 +7,18 @@ use native.Mathlib.Omega.{arith}
 use lib.Dec.{eqb}
 use lib.ListN.{length, take, drop, length-take, length-drop, drop-of-length-le}
 use lib.Seq.{take-add, take-take, drop-drop, drop-at, length-take-le}
-use Rattle.source.specs.Text.{Str, Query, dot, onto-first, segments, ends-in-dot}
+use Rattle.source.specs.Text.{Str, Query, dot, segments, ends-in-dot}
 use Rattle.source.specs.Rules.{IsKey, IsFullName}
 use Rattle.source.specs.Table.{name-of-revq}
 use Rattle.source.specs.Shared.{Allˡ}
 use Rattle.source.specs.Queries.{IsQuery}
-use Rattle.source.proofs.Queries.{segments-dot, segments-other, string-is, name-of-revq-full-name}
+use Rattle.source.proofs.Queries.{segments-append, string-is, name-of-revq-full-name}
 use Rattle.text.specs.Text.{before-dot}
 use Rattle.text.specs.Text.{Segment}
 use Rattle.text.proofs.Segments.{segment-at, before-inside}
 use Rattle.memory.specs.Layout.{span}
 use Rattle.memory.specs.Sound.{TextOk}
 use Rattle.change.specs.Changes.{between, passed, Place, Cut}
-
--- ---- Segments of two texts, the first of which ends in a dot
-onto-append : (b : ℕ) (q r : Query) → 0 < length q → onto-first b (q ++ r) ≡ onto-first b q ++ r
-unfolding onto-first
-onto-append b [] r h = absurd (omega arith)
-onto-append b (g ∷ q) r h = refl
-
-segments-cons : (b : ℕ) (s : Str) → 0 < length (segments (b ∷ s))
-unfolding onto-first
-segments-cons b s = go (eqb b dot) refl
-  where
-    onto : (q : Query) → 0 < length (onto-first b q)
-    onto [] = omega arith
-    onto (g ∷ q) = omega arith
-
-    go : (t : Bool) → eqb b dot ≡ t → 0 < length (segments (b ∷ s))
-    go true e = rw (segments-dot b s e) (omega arith)
-    go false e = rw (segments-other b s e) (onto (segments s))
-
-pub segments-append : (s t : Str) → ends-in-dot s ≡ true → segments (s ++ t) ≡ segments s ++ segments t
-unfolding segments ends-in-dot
-segments-append [] t e = refl
-segments-append (b ∷ []) t e = rw (segments-dot b t e, segments-dot b [] e)
-segments-append (b ∷ (c ∷ s)) t e = go (eqb b dot) refl (segments-append (c ∷ s) t e)
-  where
-    go : (d : Bool) → eqb b dot ≡ d → segments (c ∷ (s ++ t)) ≡ segments (c ∷ s) ++ segments t → segments (b ∷ (c ∷ (s ++ t))) ≡ segments (b ∷ (c ∷ s)) ++ segments t
-    go true d i = rw (segments-dot b (c ∷ (s ++ t)) d, segments-dot b (c ∷ s) d, i)
-    go false d i = rw (segments-other b (c ∷ (s ++ t)) d, segments-other b (c ∷ s) d, i) (onto-append b (segments (c ∷ s)) (segments t) (segments-cons c s))
 
 -- ---- Parts of the text
 pub span-join : (txt : List ℕ) (a b c : ℕ) → a ≤ b → b ≤ c → span txt a (c - a) ≡ span txt a (b - a) ++ span txt b (c - b)

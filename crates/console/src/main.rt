@@ -76,7 +76,7 @@ fn reply_all(
     words: &mut [u32],
     text: &mut [u8],
     input: &mut [u8],
-    flat: &mut [u32],
+    flat: &mut [u8],
     pane: &mut [u8],
     reply: &mut [u8],
 ) -> Rest
@@ -111,7 +111,7 @@ fn reply_last(
     words: &mut [u32],
     text: &mut [u8],
     input: &[u8],
-    flat: &mut [u32],
+    flat: &mut [u8],
     pane: &mut [u8],
     reply: &mut [u8],
 ) -> bool
@@ -128,7 +128,7 @@ fn reply_last(
 fn talk() {
     let mut words = [0u32; 16384];
     let mut text = [0u8; 32768];
-    let mut flat = [0u32; 6144];
+    let mut flat = [0u8; 24576];
     let mut pane = [0u8; 32768];
     let mut reply = [0u8; 65536];
     let mut input = [0u8; 65536];

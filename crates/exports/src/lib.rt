@@ -271,7 +271,7 @@ pub extern "C" fn name_table_complete(
     ask: u32,
     query: &[u8],
     budget: u32,
-    flat: &mut [u32],
+    flat: &mut [u8],
     out: &mut [u8],
 ) -> ListReply
     ensures { λ r. ⌜ ListReplies (now (words .entry)) (now (text .entry)) (table-of names modules records used) ask (now (query .entry)) budget
@@ -330,7 +330,7 @@ pub extern "C" fn name_table_complete_sound(
     ask: u32,
     query: &[u8],
     budget: u32,
-    flat: &mut [u32],
+    flat: &mut [u8],
     out: &mut [u8],
 ) -> ListReply
     requires { ⌜ IsSound (now words) (now text) (table-of names modules records used) ⌝ }

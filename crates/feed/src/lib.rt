@@ -57,7 +57,7 @@ pub fn step(
     words: &mut [u32],
     text: &mut [u8],
     input: &mut [u8],
-    flat: &mut [u32],
+    flat: &mut [u8],
     pane: &mut [u8],
     reply: &mut [u8],
 ) -> Progress
@@ -102,7 +102,7 @@ pub fn last(
     words: &mut [u32],
     text: &mut [u8],
     input: &[u8],
-    flat: &mut [u32],
+    flat: &mut [u8],
     pane: &mut [u8],
     reply: &mut [u8],
 ) -> Done

@@ -1,7 +1,7 @@
 -- A run goes on by parts: nothing, one part then the next, past the budget anything, past the lines or bytes any lines.
 use Prim.Native.Nat.{ℕ, _+_, _*_, _<_, _≤_}
 use mathlib.Core.Path.{_≡_, refl, sym, ap, _∙_}
-use mathlib.Core.List.{List, [], _∷_, _++_, flatMap, map-append}
+use mathlib.Core.List.{List, [], _∷_, _++_, map, flatMap, map-append}
 use mathlib.Core.Logic.{inr}
 use native.Mathlib.Omega.{arith}
 use lib.ListN.{length, length-append}
@@ -11,7 +11,7 @@ use Rattle.source.specs.Shared.{Allˡ}
 use Rattle.source.proofs.Lines.{flatMap-append, output-text-append, output-lines-append}
 use Rattle.memory.specs.Layout.{Which, Item}
 use Rattle.text.proofs.Laid.{laid-none, laid-more}
-use Rattle.lines.specs.Output.{Tally, line-of, rows-flat, Written, Result, _⊕_, Past, Goes}
+use Rattle.lines.specs.Output.{line-bytes, line-words, Tally, line-of, rows-flat, Written, Result, _⊕_, Past, Goes}
 use Rattle.lines.specs.Lines.{only}
 use Rattle.lines.specs.declared.Limits.{Limits}
 use Rattle.lines.proofs.Counting.{past-more, not-past, tells-past}
@@ -26,35 +26,38 @@ rows-append xs ys = flatMap-append (λ r. r) xs ys
 
 -- ---- Written
 
-module _ {w : Which} {txt : List ℕ} where
-  pub written-none : (flat out : List ℕ) (l b : ℕ) → l * 12 ≤ length flat → b ≤ length out → Written w txt flat flat out out l b []
+module _ {w : Which} {ws txt : List ℕ} where
+  pub written-none : (flat out : List ℕ) (l b : ℕ) → l * line-bytes ≤ length flat → b ≤ length out → Written w ws txt flat flat out out l b []
   unfolding output-text output-lines rows-flat flatMap
   written-none flat out l b h k = record {
     rows = [];
-    twelve = tt;
+    sized = tt;
+    from = tt;
     reads = refl;
-    flat-laid = laid-none flat (l * 12) ((l + 0) * 12) (omega arith) (omega arith);
+    flat-laid = laid-none flat (l * line-bytes) ((l + 0) * line-bytes) (omega arith) (omega arith);
     out-laid = laid-none out b (b + 0) (omega arith) (omega arith);
   }
 
-  pub written-then : {flat flat₁ flat₂ out out₁ out₂ : List ℕ} {l b : ℕ} {xs ys : List (Line (Item w))} → Written w txt flat flat₁ out out₁ l b xs
-      → Written w txt flat₁ flat₂ out₁ out₂ (l + length xs) (b + length (output-text xs)) ys → Written w txt flat flat₂ out out₂ l b (xs ++ ys)
+  pub written-then : {flat flat₁ flat₂ out out₁ out₂ : List ℕ} {l b : ℕ} {xs ys : List (Line (Item w))} → Written w ws txt flat flat₁ out out₁ l b xs
+      → Written w ws txt flat₁ flat₂ out₁ out₂ (l + length xs) (b + length (output-text xs)) ys → Written w ws txt flat flat₂ out out₂ l b (xs ++ ys)
   written-then {l = l} {b = b} {xs = xs} {ys = ys} x y =
-      let el : (l + length (xs ++ ys)) * 12 ≡ (l + length xs + length ys) * 12 = omega (arith, length-append xs ys) in
+      let el : (l + length (xs ++ ys)) * line-bytes ≡ (l + length xs + length ys) * line-bytes = omega (arith, length-append xs ys) in
       let eb : b + length (output-text (xs ++ ys)) ≡ b + length (output-text xs) + length (output-text ys) =
       omega (arith, ap length (output-text-append xs ys), length-append (output-text xs) (output-text ys)) in
       record {
         rows = x .rows ++ y .rows;
-        twelve = all-append _ (x .rows) (y .rows) (x .twelve) (y .twelve);
-        reads = map-append (line-of w txt) (x .rows) (y .rows) ∙ rw (x .reads, y .reads) (sym (output-lines-append b xs ys));
+        sized = all-append _ (x .rows) (y .rows) (x .sized) (y .sized);
+        from = rw (map-append line-words (x .rows) (y .rows)) (all-append _ (map line-words (x .rows)) (map line-words (y .rows)) (x .from) (y .from));
+        reads = ap (map (line-of w txt)) (map-append line-words (x .rows) (y .rows)) ∙ map-append (line-of w txt) (map line-words (x .rows)) (map line-words (y .rows))
+            ∙ rw (x .reads, y .reads) (sym (output-lines-append b xs ys));
         flat-laid = rw (el, rows-append (x .rows) (y .rows)) (laid-more (x .flat-laid) (y .flat-laid));
         out-laid = rw (eb, output-text-append xs ys) (laid-more (x .out-laid) (y .out-laid));
       }
 
 -- ---- Goes
 
-module _ {w : Which} {txt : List ℕ} {lim : Limits} where
-  pub goes-none : (a : Tally) (flat out : List ℕ) → Goes w txt lim a a flat flat out out (only [])
+module _ {w : Which} {ws txt : List ℕ} {lim : Limits} where
+  pub goes-none : (a : Tally) (flat out : List ℕ) → Goes w ws txt lim a a flat flat out out (only [])
   unfolding output-text
   goes-none a flat out = record {
     flat-size = refl;
@@ -65,7 +68,7 @@ module _ {w : Which} {txt : List ℕ} {lim : Limits} where
 
   -- One part, then the next.
   pub goes-then : {a m t : Tally} {flat flat₁ flat₂ out out₁ out₂ : List ℕ} {r s : Result (Item w)}
-      → Goes w txt lim a m flat flat₁ out out₁ r → Goes w txt lim m t flat₁ flat₂ out₁ out₂ s → Goes w txt lim a t flat flat₂ out out₂ (r ⊕ s)
+      → Goes w ws txt lim a m flat flat₁ out out₁ r → Goes w ws txt lim m t flat₁ flat₂ out₁ out₂ s → Goes w ws txt lim a t flat flat₂ out out₂ (r ⊕ s)
   unfolding _⊕_
   goes-then {a} {m} {t} {flat} {flat₁} {flat₂} {out} {out₁} {out₂} {r} {s} x y = record {
     flat-size = y .flat-size ∙ x .flat-size;
@@ -99,7 +102,7 @@ module _ {w : Which} {txt : List ℕ} {lim : Limits} where
       bytes b = omega (arith, ap length (output-text-append (r .lines) (s .lines)), length-append (output-text (r .lines)) (output-text (s .lines)))
 
   -- Past the budget nothing more is said.
-  pub goes-spent : {a : Tally} (flat out : List ℕ) (r : Result (Item w)) → lim .budget < a .entered → Goes w txt lim a a flat flat out out r
+  pub goes-spent : {a : Tally} (flat out : List ℕ) (r : Result (Item w)) → lim .budget < a .entered → Goes w ws txt lim a a flat flat out out r
   goes-spent {a} flat out r p = record {
     flat-size = refl;
     out-size = refl;
@@ -114,7 +117,7 @@ module _ {w : Which} {txt : List ℕ} {lim : Limits} where
   }
 
   -- Past the lines or bytes, lines need no more counting.
-  pub goes-past : {a : Tally} (flat out : List ℕ) (r : Result (Item w)) → r .entered ≡ 0 → Past lim (a .lines) (a .bytes) → Goes w txt lim a a flat flat out out r
+  pub goes-past : {a : Tally} (flat out : List ℕ) (r : Result (Item w)) → r .entered ≡ 0 → Past lim (a .lines) (a .bytes) → Goes w ws txt lim a a flat flat out out r
   goes-past {a} flat out r z p = record {
     flat-size = refl;
     out-size = refl;

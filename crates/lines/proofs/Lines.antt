@@ -4,24 +4,25 @@ use mathlib.Core.Path.{_≡_, refl, ap, _∙_}
 use mathlib.Core.Bool.{Bool, true, false, not}
 use mathlib.Core.List.{List, [], _∷_, _++_, flatMap, append-nil}
 use native.Mathlib.Omega.{arith}
-use lib.ListN.{length, length-append}
+use lib.ListN.{length, take, length-append}
 use borrow.Rule.Slice.PartMut.{putMid, midOf}
 use Rattle.source.specs.Text.{Str}
 use Rattle.source.specs.Table.{Line}
 use Rattle.source.specs.Calls.{output-text, output-lines}
 use Rattle.memory.specs.Layout.{record-at, Which, names, modules, Item, item-of, key-at, text-len}
-use Rattle.memory.specs.Grown.{put, put-text}
+use Rattle.memory.specs.Grown.{put-text}
 use Rattle.memory.specs.Sound.{Says}
 use Rattle.memory.proofs.Says.{passes, refuses}
 use Rattle.text.specs.Laid.{Laid}
 use Rattle.text.proofs.Laid.{laid-length, laid-more, lent-laid, room-left}
+use Rattle.wire.specs.Bytes.{Stored}
 use Rattle.lines.specs.Path.{joined}
-use Rattle.lines.specs.Output.{Tally, line-of, rows-flat, Written, Capped, Fit}
+use Rattle.lines.specs.Output.{line-bytes, Tally, line-of, rows-flat, Written, Capped, Fit}
 use Rattle.lines.specs.Lines.{Spells}
 use Rattle.lines.specs.Parts.{JobOk, candidate-of, line-row, size-of, Room, LinePut, TriedLine, PutLine}
 use Rattle.lines.specs.Run.{Job}
 use Rattle.lines.proofs.Counting.{tells-is, tells-more}
-use Rattle.lines.proofs.Texts.{text-laid, row-laid}
+use Rattle.lines.proofs.Texts.{text-laid, row-laid, row-spelled}
 
 -- The tally after a line of some bytes.
 pub record Counted (j : Job) (size : ℕ) (t : Tally) : Type 0 where
@@ -35,7 +36,7 @@ counted e f g = record { entered-same = refl; lines-more = f; bytes-more = rw e 
 
 -- What is tested before it is written.
 abbrev RowFits : Job → List ℕ → Type 0
-RowFits j flat = (j .tally .lines + 1 ≤ j .lim .lines) × (j .tally .lines + 1 ≤ length flat / 12)
+RowFits j flat = (j .tally .lines + 1 ≤ j .lim .lines) × (j .tally .lines + 1 ≤ length flat / line-bytes)
 
 abbrev TextFits : Job → ℕ → List ℕ → Type 0
 TextFits j n out = (j .tally .bytes + n ≤ j .lim .bytes) × (j .tally .bytes + n ≤ length out)
@@ -56,14 +57,18 @@ module _ {ws txt : List ℕ} {j : Job} (ok : JobOk ws txt j) where
 
     pub line-put : {out₂ flat₁ row : List ℕ} → out₂ ≡ put-text (midOf end (length out₁ - end) out₁) 0 note
         → row ≡ line-row (record-at ws (j .branch)) (j .matched) (j .tally .bytes) (end - j .tally .bytes) (length note)
-        → flat₁ ≡ put (midOf (j .tally .lines * 12) (length flat - j .tally .lines * 12) flat) 0 row
-        → LinePut ws txt j note flat (putMid (j .tally .lines * 12) (length flat - j .tally .lines * 12) flat flat₁) out (putMid end (length out₁ - end) out₁ out₂)
-    line-put p q r =
+        → Stored row 0 12 (midOf (j .tally .lines * line-bytes) (length flat - j .tally .lines * line-bytes) flat) flat₁
+        → LinePut ws txt j note flat (putMid (j .tally .lines * line-bytes) (length flat - j .tally .lines * line-bytes) flat flat₁) out (putMid end (length out₁ - end) out₁ out₂)
+    line-put {flat₁ = flat₁} {row} p q r =
         let e : end - j .tally .bytes ≡ length (candidate-of ws txt (j .path) (j .branch)) = omega (arith, x .end) in
         let z : j .tally .bytes + length (candidate-of ws txt (j .path) (j .branch) ++ note) ≡ end + length note =
         omega (arith, x .end, length-append (candidate-of ws txt (j .path) (j .branch)) note) in
+        let size : length row ≡ 12 = ap length q in
+        let some = room-left flat (j .tally .lines * line-bytes) line-bytes (room .flat-room) in
         record {
-          flat-laid = lent-laid (j .tally .lines * 12) (omega (arith, room .flat-room)) (row-laid refl (room-left flat (j .tally .lines * 12) 12 (room .flat-room)) (q ∙ rw e) r);
+          bytes = take line-bytes flat₁;
+          spell = row-spelled size some r ∙ q ∙ rw e;
+          flat-laid = lent-laid (j .tally .lines * line-bytes) (omega (arith, room .flat-room)) (row-laid size some r);
           out-laid = rw z (laid-more x (lent-laid end (omega (arith, x .end, x .fits, laid-length x)) (text-laid refl note-room refl p)));
         }
 
@@ -75,22 +80,23 @@ module _ {ws txt : List ℕ} {j : Job} (ok : JobOk ws txt j) where
     line-size : length (output-text (l ∷ [])) ≡ size-of ws j note
     line-size = omega (arith, ap length line-text, length-append (candidate-of ws txt (j .path) (j .branch)) note, candidate-length)
 
-    written-line : {flat flat′ out out′ : List ℕ} → LinePut ws txt j note flat flat′ out out′ → Written w txt flat flat′ out out′ (j .tally .lines) (j .tally .bytes) (l ∷ [])
+    written-line : {flat flat′ out out′ : List ℕ} → LinePut ws txt j note flat flat′ out out′ → Written w ws txt flat flat′ out out′ (j .tally .lines) (j .tally .bytes) (l ∷ [])
     unfolding output-lines line-of rows-flat flatMap
     written-line p =
-        let e : (j .tally .lines + 1) * 12 ≡ j .tally .lines * 12 + 12 = omega arith in
+        let e : (j .tally .lines + 1) * line-bytes ≡ j .tally .lines * line-bytes + line-bytes = omega arith in
         record {
-          rows = line-row (record-at ws (j .branch)) (j .matched) (j .tally .bytes) (length (candidate-of ws txt (j .path) (j .branch))) (length note) ∷ [];
-          twelve = (refl, tt);
-          reads = rw (s .length-is, s .item-is, s .candidate-is, s .annotation-is, row-item w);
-          flat-laid = rw e (p .flat-laid);
+          rows = p .bytes ∷ [];
+          sized = (omega (arith, p .flat-laid .end), tt);
+          from = rw (p .spell) (record { branch = j .branch; at = s .branch-at; item-is = refl; last = refl }, tt);
+          reads = rw (p .spell, s .length-is, s .item-is, s .candidate-is, s .annotation-is, row-item w);
+          flat-laid = rw (e, append-nil (p .bytes)) (p .flat-laid);
           out-laid = rw line-text (p .out-laid);
         }
 
   module _ {note : Str} {t : Tally} (c : Counted j (size-of ws j note) t) where
     goes-line : {flat flat′ out out′ : List ℕ} → length flat′ ≡ length flat → length out′ ≡ length out
         → ((w : Which) (l : Line (Item w)) → Spells ws txt w (j .path) (j .branch) (j .matched) note l
-        → (e : ℕ) → Fit (j .lim) flat out e (j .tally .lines + 1) (j .tally .bytes + size-of ws j note) → Written w txt flat flat′ out out′ (j .tally .lines) (j .tally .bytes) (l ∷ []))
+        → (e : ℕ) → Fit (j .lim) flat out e (j .tally .lines + 1) (j .tally .bytes + size-of ws j note) → Written w ws txt flat flat′ out out′ (j .tally .lines) (j .tally .bytes) (l ∷ []))
         → PutLine ws txt j note t flat flat′ out out′
     goes-line f o put w l s =
         let size = line-size s in

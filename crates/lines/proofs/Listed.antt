@@ -22,7 +22,7 @@ use Rattle.tree.specs.Tree.{held}
 use Rattle.tree.specs.Links.{row-at}
 use Rattle.names.specs.Entries.{label-at, shown, outer}
 use Rattle.lines.specs.Ask.{filter-in, asked, line-for}
-use Rattle.lines.specs.Path.{Path, OnPath}
+use Rattle.lines.specs.Path.{Path, BranchAt, OnPath}
 use Rattle.lines.specs.Lines.{only, Listed}
 use Rattle.lines.specs.Parts.{candidate-of, note-at, outermost, PutLine, KeptLine}
 use Rattle.lines.specs.declared.Filter.{Filter}
@@ -69,29 +69,29 @@ module _ (ws txt : List ℕ) (k : Task) (f : Found) (run run′ flat flat′ out
       (path : PathOf) (x : PathElem × Value (Item (asked ask)) bind) (q : Option Str) → OnPath ws txt (path-in run) path
       → outer x ≡ shown (asked ask) ws txt bind q (record { branch = f .link; label = f .label })
       → match-length-of-path (reverse (x .0 ∷ path)) ≡ signed-word (k .matched)
-      → Goes (asked ask) txt (k .lim) (tally-in run) (tally-in run′) flat flat′ out out′ (only (line-for ask (line path x)))
+      → Goes (asked ask) ws txt (k .lim) (tally-in run) (tally-in run′) flat flat′ out out′ (only (line-for ask (line path x)))
 
-  as-names : PutLine ws txt (job-in k (f .link) run) (note-at ws txt (outermost (path-in run) (f .label))) (tally-in run′) flat flat′ out out′ → ListedAs Names
+  as-names : BranchAt ws txt names bind (f .link) → PutLine ws txt (job-in k (f .link) run) (note-at ws txt (outermost (path-in run) (f .label))) (tally-in run′) flat flat′ out out′ → ListedAs Names
   unfolding completion-result-of-lid
-  as-names put path x q o e m =
+  as-names b put path x q o e m =
       let i = element names (f .link) (f .label) x q o e in
       put names (completion-result-of-lid (line path x))
-      (record { length-is = m; item-is = i .item; candidate-is = i .candidate; annotation-is = ap (dflt []) (i .import) })
+      (record { branch-at = b; length-is = m; item-is = i .item; candidate-is = i .candidate; annotation-is = ap (dflt []) (i .import) })
 
-  as-modules : (filter : Filter) → KeptLine ws txt filter (job-in k (f .link) run) (tally-in run′) flat flat′ out out′ → ListedAs (Modules filter)
+  as-modules : (filter : Filter) → BranchAt ws txt modules bind (f .link) → KeptLine ws txt filter (job-in k (f .link) run) (tally-in run′) flat flat′ out out′ → ListedAs (Modules filter)
   unfolding completion-result-of-ns-or-mod
-  as-modules filter put path x q o e m =
+  as-modules filter b put path x q o e m =
       let i = element modules (f .link) (f .label) x q o e in
       rw (kept-is (filter-in filter) (line path x) _ (i .item))
       (put (completion-result-of-ns-or-mod (line path x))
-      (record { length-is = m; item-is = i .item; candidate-is = i .candidate; annotation-is = ap mod-annotation (i .item) }))
+      (record { branch-at = b; length-is = m; item-is = i .item; candidate-is = i .candidate; annotation-is = ap mod-annotation (i .item) }))
 
 -- What line answers: of names, of modules and namespaces.
-module _ {ws txt : List ℕ} {k : Task} {f : Found} {run run′ flat flat′ out out′ : List ℕ} (s : SamePath run run′) where
+module _ {ws txt : List ℕ} {k : Task} {f : Found} {run run′ flat flat′ out out′ : List ℕ} (b : BranchAt ws txt (asked (k .ask)) bind (f .link)) (s : SamePath run run′) where
   pub listed-names : k .ask ≡ Names → PutLine ws txt (job-in k (f .link) run) (note-at ws txt (outermost (path-in run) (f .label))) (tally-in run′) flat flat′ out out′
       → Listed ws txt k f run run′ flat flat′ out out′
-  listed-names e put = record { same = s; goes = subst (ListedAs ws txt k f run run′ flat flat′ out out′) (sym e) (as-names ws txt k f run run′ flat flat′ out out′ put) }
+  listed-names e put = record { same = s; goes = subst (ListedAs ws txt k f run run′ flat flat′ out out′) (sym e) (as-names ws txt k f run run′ flat flat′ out out′ (rw e at b) put) }
 
   pub listed-modules : (filter : Filter) → k .ask ≡ Modules filter → KeptLine ws txt filter (job-in k (f .link) run) (tally-in run′) flat flat′ out out′
       → Listed ws txt k f run run′ flat flat′ out out′
-  listed-modules filter e put = record { same = s; goes = subst (ListedAs ws txt k f run run′ flat flat′ out out′) (sym e) (as-modules ws txt k f run run′ flat flat′ out out′ filter put) }
+  listed-modules filter e put = record { same = s; goes = subst (ListedAs ws txt k f run run′ flat flat′ out out′) (sym e) (as-modules ws txt k f run run′ flat flat′ out out′ filter (rw e at b) put) }

@@ -1,17 +1,20 @@
 -- The texts and words of a line, written one after another.
 use Prim.Native.Nat.{ℕ, zero, suc, _+_, _-_, _<_, _≤_}
-use mathlib.Core.Path.{_≡_, refl, ap, _∙_}
+use mathlib.Core.Path.{_≡_, refl, sym, ap, _∙_}
 use mathlib.Core.List.{List, [], _∷_, _++_}
 use native.Mathlib.Omega.{arith}
 use native.Mathlib.Numerals.{add-one}
-use lib.ListN.{length, getD, set, drop, length-append}
-use lib.Seq.{take-all, take-length}
+use lib.ListN.{length, getD, set, take, drop, length-append, take-append-drop}
+use lib.Seq.{take-length, length-take-le}
 use Rattle.source.specs.Text.{dot}
 use Rattle.memory.specs.Layout.{key-at}
-use Rattle.memory.specs.Grown.{put, put-text}
+use Rattle.memory.specs.Grown.{put-text}
 use Rattle.text.specs.Laid.{Laid}
 use Rattle.text.proofs.Laid.{laid-length, laid-none, laid-more, laid-next}
+use Rattle.wire.specs.Bytes.{Stored}
+use Rattle.wire.proofs.Parts.{words-front, words-stored}
 use Rattle.lines.specs.Path.{joined}
+use Rattle.lines.specs.Output.{line-bytes, line-words}
 
 module _ {d d′ s t : List ℕ} where
   pub text-laid : {n : ℕ} → n ≡ length t → length t ≤ length d → s ≡ t → d′ ≡ put-text d 0 s → Laid d d′ 0 n t
@@ -22,9 +25,19 @@ module _ {d d′ s t : List ℕ} where
     is = f ∙ rw (e, take-length t) (ap (λ k. t ++ drop k d) (let z : 0 + length t ≡ n = omega arith in z));
   }
 
-  pub row-laid : length t ≡ 12 → 12 ≤ length d → s ≡ t → d′ ≡ put d 0 s → Laid d d′ 0 12 t
-  unfolding put
-  row-laid n h e f = record { end = omega arith; fits = h; is = f ∙ rw (e, take-all 12 t (omega arith)) }
+-- Words stored at the start: the bytes of a line.
+module _ {d d′ t : List ℕ} (size : length t ≡ 12) (room : line-bytes ≤ length d) (s : Stored t 0 12 d d′) where
+  pub row-laid : Laid d d′ 0 line-bytes (take line-bytes d′)
+  row-laid = record {
+    end = omega (arith, length-take-le line-bytes d′ (omega (arith, s .rest .size)));
+    fits = room;
+    is = sym (take-append-drop line-bytes d′) ∙ ap (λ l. take line-bytes d′ ++ l) (s .rest .after);
+  }
+
+  pub row-spelled : line-words (take line-bytes d′) ≡ t
+  row-spelled =
+      sym (words-front (take line-bytes d′) (drop line-bytes d′) 12 (omega (arith, length-take-le line-bytes d′ (omega (arith, s .rest .size)))))
+      ∙ ap line-words (take-append-drop line-bytes d′) ∙ words-stored size s
 
 -- ---- The path of a candidate
 

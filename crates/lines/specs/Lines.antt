@@ -20,6 +20,7 @@ use Rattle.lines.specs.declared.Found.{Found}
 
 -- The line of a branch below a path.
 pub record Spells (ws txt : List ℕ) (w : Which) (p : Path) (branch matched : ℕ) (note : Str) (l : Line (Item w)) : Type 0 where
+  pub branch-at : BranchAt ws txt w bind branch
   pub length-is : l .match-length ≡ signed-word matched
   pub item-is : l .item-of ≡ item-of w txt (record-at ws branch)
   pub candidate-is : l .candidate ≡ joined ws txt (p .links) (p .n) ++ key-at ws txt branch
@@ -42,4 +43,4 @@ pub record Listed (ws txt : List ℕ) (k : Task) (f : Found) (run run′ flat fl
   pub goes : (path : PathOf) (x : PathElem × Value (Item (asked (k .ask))) bind) (q : Option Str) → OnPath ws txt (path-in run) path
       → outer x ≡ shown (asked (k .ask)) ws txt bind q (record { branch = f .link; label = f .label })
       → match-length-of-path (reverse (x .0 ∷ path)) ≡ signed-word (k .matched)
-      → Goes (asked (k .ask)) txt (k .lim) (tally-in run) (tally-in run′) flat flat′ out out′ (only (line-for (k .ask) (line path x)))
+      → Goes (asked (k .ask)) ws txt (k .lim) (tally-in run) (tally-in run′) flat flat′ out out′ (only (line-for (k .ask) (line path x)))

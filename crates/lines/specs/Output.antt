@@ -1,4 +1,4 @@
--- The lent output: lines as flat words, twelve to a line, and the text.
+-- The lent output: lines as bytes, 48 to a line, and the text. Four bytes are a word, lowest first (wire's Bytes).
 --
 --   word   of a line
 --   0      match length, 4294967295 for -1
@@ -9,16 +9,28 @@
 use Prim.Native.Nat.{ℕ, _+_, _*_, _<_, _≤_}
 use mathlib.Core.Path.{_≡_}
 use mathlib.Core.Logic.{_⊎_}
-use mathlib.Core.List.{List, _++_, map, flatMap}
+use mathlib.Core.List.{List, [], _∷_, _++_, map, flatMap}
 use lib.Dec.{eqb}
 use lib.IntN.{ℤ, pos, negsuc}
 use lib.ListN.{length}
 use Rattle.source.specs.Table.{Line}
 use Rattle.source.specs.Calls.{LineRecord, output-text, output-lines}
+use Rattle.source.specs.Types.{bind}
+use Rattle.source.specs.Limits.{record-words}
 use Rattle.source.specs.Shared.{Allˡ}
-use Rattle.memory.specs.Layout.{word, pick, Which, Item, item-of}
+use Rattle.memory.specs.Layout.{record-at, word, number-word, name-start, name-len, path-start, path-len, loaded-word, pick, Which, Item, item-of}
 use Rattle.text.specs.Laid.{Laid}
+use Rattle.wire.specs.Bytes.{words-at}
+use Rattle.lines.specs.Path.{BranchAt}
 use Rattle.lines.specs.declared.Limits.{Limits}
+
+-- Bytes of a line.
+abbrev pub line-bytes : ℕ
+line-bytes = 48
+
+-- The twelve words that they spell.
+abbrev pub line-words : List ℕ → List ℕ
+line-words bs = words-at bs record-words
 
 -- The words of a line by name; those of its item are a branch's.
 abbrev pub matched-word : List ℕ → ℕ
@@ -49,16 +61,28 @@ line-of w txt r = record {
   annotation = record { start = annotation-start r; len = annotation-len r };
 }
 
--- The rows one after another.
+-- The bytes of lines one after another.
 unfoldable pub rows-flat : List (List ℕ) → List ℕ
 rows-flat rows = flatMap (λ r. r) rows
 
--- The lines are written after the first l line records and the first b bytes, and nothing else changed.
-pub record Written (w : Which) (txt flat flat′ out out′ : List ℕ) (l b : ℕ) (lines : List (Line (Item w))) : Type 0 where
+-- The words of an item, in a line or in a branch of bindings.
+abbrev pub item-words : List ℕ → List ℕ
+item-words r = number-word r ∷ name-start r ∷ name-len r ∷ path-start r ∷ path-len r ∷ loaded-word r ∷ []
+
+-- The words of a line: those of the item as in a branch of bindings of the table, the last 0.
+pub record RowFrom (ws txt : List ℕ) (w : Which) (r : List ℕ) : Type 0 where
+  pub branch : ℕ
+  pub at : BranchAt ws txt w bind branch
+  pub item-is : item-words r ≡ item-words (record-at ws branch)
+  pub last : word r 11 ≡ 0
+
+-- The lines are written after the first l line records and the first b bytes, and nothing else changed; rows are the bytes of each line.
+pub record Written (w : Which) (ws txt flat flat′ out out′ : List ℕ) (l b : ℕ) (lines : List (Line (Item w))) : Type 0 where
   pub rows : List (List ℕ)
-  pub twelve : Allˡ (λ r. length r ≡ 12) rows
-  pub reads : map (line-of w txt) rows ≡ output-lines b lines
-  pub flat-laid : Laid flat flat′ (l * 12) ((l + length lines) * 12) (rows-flat rows)
+  pub sized : Allˡ (λ r. length r ≡ line-bytes) rows
+  pub from : Allˡ (RowFrom ws txt w) (map line-words rows)
+  pub reads : map (line-of w txt) (map line-words rows) ≡ output-lines b lines
+  pub flat-laid : Laid flat flat′ (l * line-bytes) ((l + length lines) * line-bytes) (rows-flat rows)
   pub out-laid : Laid out out′ b (b + length (output-text lines)) (output-text lines)
 
 -- ---- Counting
@@ -104,13 +128,13 @@ pub record Fit (lim : Limits) (flat out : List ℕ) (e l b : ℕ) : Type 0 where
   pub entered-fit : e ≤ lim .budget
   pub lines-fit : l ≤ lim .lines
   pub bytes-fit : b ≤ lim .bytes
-  pub flat-lent : lim .lines * 12 ≤ length flat
+  pub flat-lent : lim .lines * line-bytes ≤ length flat
   pub out-lent : lim .bytes ≤ length out
 
 -- The run went on by the part r: it is counted, and where all fits it is written.
-pub record Goes (w : Which) (txt : List ℕ) (lim : Limits) (a t : Tally) (flat flat′ out out′ : List ℕ) (r : Result (Item w)) : Type 0 where
+pub record Goes (w : Which) (ws txt : List ℕ) (lim : Limits) (a t : Tally) (flat flat′ out out′ : List ℕ) (r : Result (Item w)) : Type 0 where
   pub flat-size : length flat′ ≡ length flat
   pub out-size : length out′ ≡ length out
   pub shows : (e l b : ℕ) → Shows lim e l b a → Shows lim (e + r .entered) (l + length (r .lines)) (b + length (output-text (r .lines))) t
   pub writes : (e l b : ℕ) → Shows lim e l b a → Fit lim flat out (e + r .entered) (l + length (r .lines)) (b + length (output-text (r .lines)))
-      → Written w txt flat flat′ out out′ l b (r .lines)
+      → Written w ws txt flat flat′ out out′ l b (r .lines)

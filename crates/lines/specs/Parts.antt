@@ -13,7 +13,7 @@ use Rattle.text.specs.Laid.{Laid}
 use Rattle.names.specs.Entries.{label-at}
 use Rattle.lines.specs.Ask.{filter-in}
 use Rattle.lines.specs.Path.{Path, joined}
-use Rattle.lines.specs.Output.{Tally, Small, Fit, Goes}
+use Rattle.lines.specs.Output.{line-bytes, line-words, Tally, Small, Fit, Goes}
 use Rattle.lines.specs.Run.{Job}
 use Rattle.lines.specs.Lines.{Spells, only}
 use Rattle.lines.specs.declared.Filter.{Filter}
@@ -68,14 +68,15 @@ size-of ws j note = j .path .len + text-len (record-at ws (j .branch)) + length 
 
 -- A line fits what is lent.
 pub record Room (ws : List ℕ) (j : Job) (note flat out : List ℕ) : Type 0 where
-  pub flat-room : j .tally .lines * 12 + 12 ≤ length flat
+  pub flat-room : j .tally .lines * line-bytes + line-bytes ≤ length flat
   pub out-room : j .tally .bytes + size-of ws j note ≤ length out
   pub small : j .tally .bytes + size-of ws j note ≤ 4294967295
 
 -- A line is written after those of the tally.
 pub record LinePut (ws txt : List ℕ) (j : Job) (note flat flat′ out out′ : List ℕ) : Type 0 where
-  pub flat-laid : Laid flat flat′ (j .tally .lines * 12) (j .tally .lines * 12 + 12)
-      (line-row (record-at ws (j .branch)) (j .matched) (j .tally .bytes) (length (candidate-of ws txt (j .path) (j .branch))) (length note))
+  pub bytes : List ℕ
+  pub spell : line-words bytes ≡ line-row (record-at ws (j .branch)) (j .matched) (j .tally .bytes) (length (candidate-of ws txt (j .path) (j .branch))) (length note)
+  pub flat-laid : Laid flat flat′ (j .tally .lines * line-bytes) (j .tally .lines * line-bytes + line-bytes) bytes
   pub out-laid : Laid out out′ (j .tally .bytes) (j .tally .bytes + length (candidate-of ws txt (j .path) (j .branch) ++ note))
       (candidate-of ws txt (j .path) (j .branch) ++ note)
 
@@ -91,7 +92,7 @@ pub record TriedLine (ws txt : List ℕ) (j : Job) (note flat flat′ out out′
 abbrev pub PutLine : (ws txt : List ℕ) (j : Job) (note : Str) (t : Tally) (flat flat′ out out′ : List ℕ) → Type 0
 PutLine ws txt j note t flat flat′ out out′ =
     (w : Which) (l : Line (Item w)) → Spells ws txt w (j .path) (j .branch) (j .matched) note l
-    → Goes w txt (j .lim) (j .tally) t flat flat′ out out′ (only (l ∷ []))
+    → Goes w ws txt (j .lim) (j .tally) t flat flat′ out out′ (only (l ∷ []))
 
 -- The mod symbol of a branch.
 abbrev pub symbol-at : (ws txt : List ℕ) → ℕ → ModSymbol
@@ -101,4 +102,4 @@ symbol-at ws txt branch = item-of modules txt (record-at ws branch)
 abbrev pub KeptLine : (ws txt : List ℕ) (f : Filter) (j : Job) (t : Tally) (flat flat′ out out′ : List ℕ) → Type 0
 KeptLine ws txt f j t flat flat′ out out′ =
     (l : Line ModSymbol) → Spells ws txt modules (j .path) (j .branch) (j .matched) (mod-annotation (symbol-at ws txt (j .branch))) l
-    → Goes modules txt (j .lim) (j .tally) t flat flat′ out out′ (only (pick (C.keeps (filter-in f) (symbol-at ws txt (j .branch))) (l ∷ []) []))
+    → Goes modules ws txt (j .lim) (j .tally) t flat flat′ out out′ (only (pick (C.keeps (filter-in f) (symbol-at ws txt (j .branch))) (l ∷ []) []))

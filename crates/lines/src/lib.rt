@@ -15,8 +15,10 @@ ghost use Rattle.lines.specs.Output.{Capped};
 ghost use Rattle.lines.specs.Lines.{CanList, Listed};
 ghost use Rattle.lines.specs.Parts.{TextAt, PathAt, JobOk, Room, candidate-of, note-at, outermost, line-row, LinePut, TriedLine, PutLine, KeptLine};
 
-// Words to a line.
+// Words of a line, and its bytes.
 pub const LINE: usize = 12;
+
+pub const LINE_BYTES: usize = 48;
 
 // The filter argument: Loaded is of either sort.
 pub enum Filter {
@@ -175,7 +177,7 @@ fn write_line(
     branch: u32,
     note: &[u8],
     run: &[usize; RUN],
-    flat: &mut [u32],
+    flat: &mut [u8],
     out: &mut [u8],
 )
     requires { ⌜ JobOk (now words) (now text) (job-in task branch (now run)) ⌝ }
@@ -183,7 +185,7 @@ fn write_line(
     ensures { λ _. ⌜ LinePut (now (words .entry)) (now (text .entry)) (job-in task branch (now (run .entry))) (now (note .entry)) (now (flat .entry)) (now (flat .exit)) (now (out .entry)) (now (out .exit)) ⌝ }
 {
     let at = run[BYTES];
-    let base = run[LINES] * LINE;
+    let base = run[LINES] * LINE_BYTES;
     let end = put_candidate(words, text, run, branch, out, at);
     memory::put_text(&mut out[end..], 0, note);
     let row = line_row(
@@ -194,7 +196,7 @@ fn write_line(
         (end - at) as u32,
         note.len() as u32,
     );
-    memory::put_row(&mut flat[base..], 0, &row);
+    wire::store(&mut flat[base..], &row, 0, LINE);
 }
 
 // Writes it where it fits.
@@ -205,7 +207,7 @@ fn try_line(
     branch: u32,
     note: &[u8],
     run: &[usize; RUN],
-    flat: &mut [u32],
+    flat: &mut [u8],
     out: &mut [u8],
 )
     requires { ⌜ JobOk (now words) (now text) (job-in task branch (now run)) ⌝ }
@@ -213,7 +215,7 @@ fn try_line(
     ensures { λ _. ⌜ TriedLine (now (words .entry)) (now (text .entry)) (job-in task branch (now (run .entry))) (now (note .entry)) (now (flat .entry)) (now (flat .exit)) (now (out .entry)) (now (out .exit)) ⌝ }
 {
     let lim = task.lim;
-    if !fits(run[LINES], 1, lim.lines, flat.len() / LINE) {
+    if !fits(run[LINES], 1, lim.lines, flat.len() / LINE_BYTES) {
         return;
     }
     let size = run[LENGTH] + memory::text_len(words, branch) as usize + note.len();
@@ -231,7 +233,7 @@ fn put_line(
     branch: u32,
     note: &[u8],
     run: &mut [usize; RUN],
-    flat: &mut [u32],
+    flat: &mut [u8],
     out: &mut [u8],
 )
     requires { ⌜ JobOk (now words) (now text) (job-in task branch (now run)) ⌝ }
@@ -266,7 +268,7 @@ fn name_line(
     task: Task,
     found: Found,
     run: &mut [usize; RUN],
-    flat: &mut [u32],
+    flat: &mut [u8],
     out: &mut [u8],
 )
     requires { ⌜ JobOk (now words) (now text) (job-in task (found .link) (now run)) ⌝ }
@@ -311,7 +313,7 @@ fn module_line(
     task: Task,
     branch: u32,
     run: &mut [usize; RUN],
-    flat: &mut [u32],
+    flat: &mut [u8],
     out: &mut [u8],
 )
     requires { ⌜ JobOk (now words) (now text) (job-in task branch (now run)) ⌝ }
@@ -350,7 +352,7 @@ pub fn line(
     task: Task,
     found: Found,
     run: &mut [usize; RUN],
-    flat: &mut [u32],
+    flat: &mut [u8],
     out: &mut [u8],
 )
     requires { ⌜ CanList (now words) (now text) task found (now run) ⌝ }

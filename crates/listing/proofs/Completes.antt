@@ -22,7 +22,7 @@ use Rattle.memory.specs.Layout.{Item, trieˢ, what}
 use Rattle.memory.proofs.Tries.{trie-shallow}
 use Rattle.lines.specs.Ask.{asked}
 use Rattle.lines.specs.Path.{Path, joined, PathOk, OnPath}
-use Rattle.lines.specs.Output.{Tally, signed-word, Written, Shows, Past, Small, Fit, Goes}
+use Rattle.lines.specs.Output.{line-bytes, Tally, signed-word, Written, Shows, Past, Small, Fit, Goes}
 use Rattle.lines.specs.Run.{path-in, tally-in}
 use Rattle.lines.specs.declared.Ask.{Ask}
 use Rattle.lines.specs.declared.Limits.{Limits}
@@ -83,7 +83,7 @@ module _ (ws txt : List ℕ) (ask : Ask) (root : ℕ) (query : Str) where
   root-matching = record { length-is = match-length-none [] tt; all-matched = λ n. tt }
 
   module _ {lim : Limits} {a : Tally} {flat flat′ out out′ : List ℕ} (r : TrieRuns ws txt ask query root-path lim 4294967295 nothing-yet a flat flat′ out out′ root) where
-    run-goes : Goes (asked ask) txt lim nothing-yet a flat flat′ out out′ (trie-gives ask (suc (depth tr)) tr [] (segments query))
+    run-goes : Goes (asked ask) ws txt lim nothing-yet a flat flat′ out out′ (trie-gives ask (suc (depth tr)) tr [] (segments query))
     run-goes = r .goes [] (suc (depth tr)) on-root root-matching (omega arith)
 
     none-shown : Shows lim 0 0 0 nothing-yet
@@ -105,7 +105,7 @@ module _ (ws txt : List ℕ) (ask : Ask) (root : ℕ) (query : Str) where
     out-kept d e = lent-nothing d out′ (run-goes .out-size ∙ e)
 
     -- What it has written.
-    root-writes : Fit lim flat out tries (length listed) (length (output-text listed)) → Written (asked ask) txt flat flat′ out out′ 0 0 listed
+    root-writes : Fit lim flat out tries (length listed) (length (output-text listed)) → Written (asked ask) ws txt flat flat′ out out′ 0 0 listed
     root-writes f = run-goes .writes 0 0 0 none-shown (record {
       entered-fit = omega (arith, f .entered-fit, tries-entered-count tr (segments query));
       lines-fit = omega (arith, f .lines-fit);
@@ -118,14 +118,14 @@ module _ (ws txt : List ℕ) (ask : Ask) (root : ℕ) (query : Str) where
 pub writes-then : (ws txt : List ℕ) (ask : Ask) (root : ℕ) (query : Str) {lim : Limits} {a : Tally} {flat flat₁ flat′ out out₁ out′ : List ℕ} → flat₁ ≡ flat → out₁ ≡ out
     → TrieRuns ws txt ask query root-path lim 4294967295 nothing-yet a flat₁ flat′ out₁ out′ root
     → Fit lim flat out (tries ws txt ask root query) (length (listed ws txt ask root query)) (length (output-text (listed ws txt ask root query)))
-    → Written (asked ask) txt flat flat′ out out′ 0 0 (listed ws txt ask root query)
+    → Written (asked ask) ws txt flat flat′ out out′ 0 0 (listed ws txt ask root query)
 writes-then ws txt ask root query f o r = root-writes ws txt ask root query (rw (f, o) at r)
 
 -- The limits that a budget and the lent output set.
 pub record Set (lim : Limits) (budget : ℕ) (flat out : List ℕ) : Type 0 where
   pub budget-is : lim .budget ≡ budget
   pub budget-fits : budget ≤ 4294967295
-  pub lines-are : lim .lines ≡ min (length flat / 12) 4294967295
+  pub lines-are : lim .lines ≡ min (length flat / line-bytes) 4294967295
   pub bytes-are : lim .bytes ≡ min (length out) 4294967295
 
 pub set-small : {lim : Limits} {budget : ℕ} {flat out : List ℕ} → Set lim budget flat out → Small lim
@@ -177,12 +177,12 @@ module _ {ws txt : List ℕ} {ask : Ask} {root : ℕ} {query : Str} {budget : �
         go : Past lim (length (listed ws txt ask root query)) (length (output-text (listed ws txt ask root query)))
             → CompletesAs ws txt ask flat flat′ out out′ Lines (listed ws txt ask root query) (tries ws txt ask root query)
             (lowest (output-rows budget (output flat out) (listed ws txt ask root query) (tries ws txt ask root query)))
-        go (inl k) = rw (affordable set s h, lt-ltb (min (length flat / 12) 4294967295) (length (listed ws txt ask root query)) (omega (arith, set .lines-are))) (refl, f, o)
+        go (inl k) = rw (affordable set s h, lt-ltb (min (length flat / line-bytes) 4294967295) (length (listed ws txt ask root query)) (omega (arith, set .lines-are))) (refl, f, o)
         go (inr k) =
             rw (affordable set s h, lt-ltb (min (length out) 4294967295) (length (output-text (listed ws txt ask root query))) (omega (arith, set .bytes-are)), or-true)
             (refl, f, o)
 
-    pub completes-listed : a .lines ≤ lim .lines → a .bytes ≤ lim .bytes → Written (asked ask) txt flat flat′ out out′ 0 0 (listed ws txt ask root query)
+    pub completes-listed : a .lines ≤ lim .lines → a .bytes ≤ lim .bytes → Written (asked ask) ws txt flat flat′ out out′ 0 0 (listed ws txt ask root query)
         → Completes ws txt ask root query budget flat flat′ out out′ (Listed (a .lines) (a .entered))
     unfolding lowest
     completes-listed l b w =
@@ -191,7 +191,7 @@ module _ {ws txt : List ℕ} {ask : Ask} {root : ℕ} {query : Str} {budget : �
           says =
               rw (
                 affordable set s h,
-                le-ltb (min (length flat / 12) 4294967295) (length (listed ws txt ask root query)) (omega (arith, x .1, set .lines-are)),
+                le-ltb (min (length flat / line-bytes) 4294967295) (length (listed ws txt ask root query)) (omega (arith, x .1, set .lines-are)),
                 le-ltb (min (length out) 4294967295) (length (output-text (listed ws txt ask root query))) (omega (arith, x .2, set .bytes-are)),
               )
               (rw (x .0, x .1), w);

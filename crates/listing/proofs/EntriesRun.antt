@@ -34,8 +34,8 @@ module _ (ws txt : List ℕ) (ask : Ask) (rest : Str) (p : Path) (lim : Limits) 
   pub record Rest (a t : Tally) (flat flat′ out out′ : List ℕ) (es : List Entry) (path : PathOf) (o : Option Str) (n : ℕ) (xs : List Element) : Type 0 where
     pub ys : List Element
     pub left : Shown o n es ys
-    pub on : (t″ : Tally) (flat″ out″ : List ℕ) → Goes (asked ask) txt lim t t″ flat′ flat″ out′ out″ (elements-give ask (level-of leaf) n path (segments rest) ys)
-        → Goes (asked ask) txt lim a t″ flat flat″ out out″ (elements-give ask (level-of leaf) n path (segments rest) xs)
+    pub on : (t″ : Tally) (flat″ out″ : List ℕ) → Goes (asked ask) ws txt lim t t″ flat′ flat″ out′ out″ (elements-give ask (level-of leaf) n path (segments rest) ys)
+        → Goes (asked ask) ws txt lim a t″ flat flat″ out out″ (elements-give ask (level-of leaf) n path (segments rest) xs)
 
   -- Of the entries all the es are left.
   pub record Left (a t : Tally) (flat flat′ out out′ : List ℕ) (all es : List Entry) : Type 0 where
@@ -55,9 +55,9 @@ module _ (ws txt : List ℕ) (ask : Ask) (rest : Str) (p : Path) (lim : Limits) 
     left-none l = record { goes = λ path xs o n on st sh dp. let r = l .says path o n xs on st (record { shows = sh; deep = dp }) in go path xs o n (r .ys) (r .left .shows) (r .on t flat′ out′) }
       where
         go : (path : PathOf) (xs : List Element) (o : Option Str) (n : ℕ) (ys : List Element) → map outer ys ≡ map (shown (asked ask) ws txt (level-of leaf) o) []
-            → (Goes (asked ask) txt lim t t flat′ flat′ out′ out′ (elements-give ask (level-of leaf) n path (segments rest) ys)
-            → Goes (asked ask) txt lim a t flat flat′ out out′ (elements-give ask (level-of leaf) n path (segments rest) xs))
-            → Goes (asked ask) txt lim a t flat flat′ out out′ (elements-give ask (level-of leaf) n path (segments rest) xs)
+            → (Goes (asked ask) ws txt lim t t flat′ flat′ out′ out′ (elements-give ask (level-of leaf) n path (segments rest) ys)
+            → Goes (asked ask) ws txt lim a t flat flat′ out out′ (elements-give ask (level-of leaf) n path (segments rest) xs))
+            → Goes (asked ask) ws txt lim a t flat flat′ out out′ (elements-give ask (level-of leaf) n path (segments rest) xs)
         go path xs o n [] e f = f (goes-none t flat′ out′)
         go path xs o n (y ∷ ys) e f = absurd (nil≢cons (sym e))
 
@@ -84,8 +84,8 @@ module _ (ws txt : List ℕ) (ask : Ask) (rest : Str) (p : Path) (lim : Limits) 
       where
         go : (path : PathOf) (o : Option Str) (n : ℕ) (xs : List Element) → OnPath ws txt p path → Steps path o (segments rest) matched
             → (ys : List Element) → map outer ys ≡ map (shown (asked ask) ws txt (level-of leaf) o) (e ∷ es) → (leaf ≡ false → Allˡ (λ x. depth (x .1) < n) ys)
-            → ((t″ : Tally) (f o′ : List ℕ) → Goes (asked ask) txt lim t t″ flat′ f out′ o′ (elements-give ask (level-of leaf) n path (segments rest) ys)
-            → Goes (asked ask) txt lim a t″ flat f out o′ (elements-give ask (level-of leaf) n path (segments rest) xs))
+            → ((t″ : Tally) (f o′ : List ℕ) → Goes (asked ask) ws txt lim t t″ flat′ f out′ o′ (elements-give ask (level-of leaf) n path (segments rest) ys)
+            → Goes (asked ask) ws txt lim a t″ flat f out o′ (elements-give ask (level-of leaf) n path (segments rest) xs))
             → Rest a t′ flat flat″ out out″ es path o n xs
         go path o n xs on st [] q dp f = absurd (nil≢cons q)
         go path o n xs on st (y ∷ ys) q dp f = record {

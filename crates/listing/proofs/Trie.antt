@@ -45,10 +45,10 @@ found-none : {A : Type 0} {v : Level} (n : NameList A v) → found n NSTNone ≡
 unfolding found names-find-rev matching-values merge-increasing-lists-rev merge-nonempty nonempty
 found-none n = refl
 
-module _ {w : Which} {txt : List ℕ} {lim : Limits} where
+module _ {w : Which} {ws txt : List ℕ} {lim : Limits} where
   -- A trie is entered within the budget.
   goes-once : (a : Tally) (flat out : List ℕ) → a .entered < lim .budget
-      → Goes w txt lim a (inside a) flat flat out out once
+      → Goes w ws txt lim a (inside a) flat flat out out once
   unfolding output-text
   goes-once a flat out h = record {
     flat-size = refl;
@@ -73,7 +73,7 @@ module _ {w : Which} {txt : List ℕ} {lim : Limits} where
 
   -- A trie is entered past the budget.
   goes-over : (a : Tally) (flat out : List ℕ) (r : Result (Item w)) → lim .budget ≤ a .entered → 1 ≤ r .entered
-      → Goes w txt lim a (record { entered = lim .budget + 1; lines = a .lines; bytes = a .bytes }) flat flat out out r
+      → Goes w ws txt lim a (record { entered = lim .budget + 1; lines = a .lines; bytes = a .bytes }) flat flat out out r
   goes-over a flat out r h k = record {
     flat-size = refl;
     out-size = refl;
@@ -135,7 +135,7 @@ module _ {ws txt : List ℕ} {ask : Ask} {query : Str} {p : Path} {lim : Limits}
       trie-both {m} {e} {flat} {flat₁} {flat₂} {out} {out₁} {out₂} last b n = record { goes = λ path k on mt d. go path k on mt d }
         where
           go : (path : PathOf) (k : ℕ) → OnPath ws txt p path → Matching path (segments query) matched → depth (what (asked ask) ws txt trie-link trieˢ) < k
-              → Goes (asked ask) txt lim a e flat flat₂ out out₂ (trie-gives ask k (what (asked ask) ws txt trie-link trieˢ) path (segments query))
+              → Goes (asked ask) ws txt lim a e flat flat₂ out out₂ (trie-gives ask k (what (asked ask) ws txt trie-link trieˢ) path (segments query))
           go path zero on mt d = absurd (omega arith)
           go path (suc k) on mt d =
               let st = cut .steps path (r .ready .path-ok .len-is ∙ ap length (on .text)) mt in
@@ -152,7 +152,7 @@ module _ {ws txt : List ℕ} {ask : Ask} {query : Str} {p : Path} {lim : Limits}
       trie-spaces {e} {flat} {flat₂} {out} {out₂} more n = record { goes = λ path k on mt d. go path k on mt d }
         where
           go : (path : PathOf) (k : ℕ) → OnPath ws txt p path → Matching path (segments query) matched → depth (what (asked ask) ws txt trie-link trieˢ) < k
-              → Goes (asked ask) txt lim a e flat flat₂ out out₂ (trie-gives ask k (what (asked ask) ws txt trie-link trieˢ) path (segments query))
+              → Goes (asked ask) ws txt lim a e flat flat₂ out out₂ (trie-gives ask k (what (asked ask) ws txt trie-link trieˢ) path (segments query))
           go path zero on mt d = absurd (omega arith)
           go path (suc k) on mt d =
               let st = cut .steps path (r .ready .path-ok .len-is ∙ ap length (on .text)) mt in
@@ -168,7 +168,7 @@ module _ {ws txt : List ℕ} {ask : Ask} {query : Str} {p : Path} {lim : Limits}
       trie-past {e} {flat} {flat₂} {out} {out₂} past n = record { goes = λ path k on mt d. go path k on mt d }
         where
           go : (path : PathOf) (k : ℕ) → OnPath ws txt p path → Matching path (segments query) matched → depth (what (asked ask) ws txt trie-link trieˢ) < k
-              → Goes (asked ask) txt lim a e flat flat₂ out out₂ (trie-gives ask k (what (asked ask) ws txt trie-link trieˢ) path (segments query))
+              → Goes (asked ask) ws txt lim a e flat flat₂ out out₂ (trie-gives ask k (what (asked ask) ws txt trie-link trieˢ) path (segments query))
           go path zero on mt d = absurd (omega arith)
           go path (suc k) on mt d =
               let st = cut .steps path (r .ready .path-ok .len-is ∙ ap length (on .text)) mt in

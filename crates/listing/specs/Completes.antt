@@ -14,14 +14,14 @@ use Rattle.source.specs.Calls.{Row, _when_, lowest, Output, output-text, tries-
 use Rattle.source.specs.Forward.{made}
 use Rattle.memory.specs.Layout.{Item, trieˢ, what}
 use Rattle.lines.specs.Ask.{asked, line-for}
-use Rattle.lines.specs.Output.{Written}
+use Rattle.lines.specs.Output.{line-bytes, Written}
 use Rattle.lines.specs.declared.Ask.{Ask}
 use Rattle.listing.specs.declared.Completion.{Completion}
 use Rattle.listing.specs.declared.Completion.the-variants.{Listed, Spent, Lines}
 
--- The output lent: twelve words to a line; lines and bytes past those that 32 bits count are not lent.
+-- The output lent: 48 bytes to a line; lines and bytes past those that 32 bits count are not lent.
 abbrev pub output : (flat out : List ℕ) → Output
-output flat out = record { lines = min (length flat / 12) 4294967295; text = min (length out) 4294967295 }
+output flat out = record { lines = min (length flat / line-bytes) 4294967295; text = min (length out) 4294967295 }
 
 -- Rows 9 and 10.
 abbrev pub output-rows : {A : Type 0} → (budget : ℕ) → Output → List (Line A) → (entered : ℕ) → List Row
@@ -41,7 +41,7 @@ lines-of a tr q = made (line-for a) (suc (depth tr)) tr [] q
 module _ (ws txt : List ℕ) (ask : Ask) (flat flat′ out out′ : List ℕ) (r : Completion) where
   -- Listed: so many lines, so many tries entered, and the lines are written. Refused: nothing has changed.
   abbrev pub CompletesAs : (lines : List (Line (Item (asked ask)))) (entered : ℕ) → Option ℕ → Type 0
-  CompletesAs lines entered none = (r ≡ Listed (length lines) entered) × Written (asked ask) txt flat flat′ out out′ 0 0 lines
+  CompletesAs lines entered none = (r ≡ Listed (length lines) entered) × Written (asked ask) ws txt flat flat′ out out′ 0 0 lines
   CompletesAs lines entered (some n) = (row-met r ≡ some n) × (flat′ ≡ flat) × (out′ ≡ out)
 
 -- Completion on a root of well-formed arguments.

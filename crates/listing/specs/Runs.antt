@@ -150,7 +150,7 @@ module _ (ws txt : List ℕ) (ask : Ask) (rest : Str) (p : Path) (lim : Limits) 
   -- The run went on by what is listed, wherever in the source's listing it stands.
   module _ (matched : ℕ) (a t : Tally) (flat flat′ out out′ : List ℕ) where
     abbrev Went : Result (Item (asked ask)) → Type 0
-    Went r = Goes (asked ask) txt lim a t flat flat′ out out′ r
+    Went r = Goes (asked ask) ws txt lim a t flat flat′ out out′ r
 
     -- By an element that the branch and the label show.
     pub record BranchRuns (leaf : Bool) (branch label : ℕ) : Type 0 where

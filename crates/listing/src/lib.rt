@@ -100,7 +100,7 @@ fn list_branch(
     place: Place,
     found: Found,
     run: &mut [usize; lines::RUN],
-    flat: &mut [u32],
+    flat: &mut [u8],
     out: &mut [u8],
 )
     requires { ⌜ BranchAsked (now words) (now text) (now query) place (now run) found ⌝ }
@@ -129,7 +129,7 @@ fn list_tree(
     place: Place,
     found: Found,
     run: &mut [usize; lines::RUN],
-    flat: &mut [u32],
+    flat: &mut [u8],
     out: &mut [u8],
 )
     requires { ⌜ TreeAsked (now words) (now text) (now query) place (now run) found ⌝ }
@@ -163,7 +163,7 @@ fn list_merged(
     place: Place,
     list: u32,
     run: &mut [usize; lines::RUN],
-    flat: &mut [u32],
+    flat: &mut [u8],
     out: &mut [u8],
 )
     requires { ⌜ ListAsked (now words) (now text) (now query) place (now run) list ⌝ }
@@ -236,7 +236,7 @@ fn list_names(
     place: Place,
     list: u32,
     run: &mut [usize; lines::RUN],
-    flat: &mut [u32],
+    flat: &mut [u8],
     out: &mut [u8],
 )
     requires { ⌜ ListAsked (now words) (now text) (now query) place (now run) list ⌝ }
@@ -263,7 +263,7 @@ fn list_trie(
     task: Task,
     trie: u32,
     run: &mut [usize; lines::RUN],
-    flat: &mut [u32],
+    flat: &mut [u8],
     out: &mut [u8],
 )
     requires { ⌜ TrieAsked (now words) (now text) (now query) task (now run) trie ⌝ }
@@ -334,14 +334,14 @@ pub fn complete(
     root: u32,
     query: &[u8],
     budget: u32,
-    flat: &mut [u32],
+    flat: &mut [u8],
     out: &mut [u8],
 ) -> Completion
     requires { ⌜ At (now words) (now text) (asked ask) trieˢ root ⌝ }
     requires { ⌜ (ends-in-dot (now query) ≡ true) × (length (now query) ≤ 544) ⌝ }
     ensures { λ r. ⌜ Completes (now (words .entry)) (now (text .entry)) ask root (now (query .entry)) budget (now (flat .entry)) (now (flat .exit)) (now (out .entry)) (now (out .exit)) r ⌝ }
 {
-    let lines = lent(flat.len() / lines::LINE);
+    let lines = lent(flat.len() / lines::LINE_BYTES);
     let bytes = lent(out.len());
     let most = budget as usize;
     let lim = Limits {

@@ -37,8 +37,8 @@ tells-refused : (ask : Ask) (flat′ out′ : List ℕ) (n : ℕ) (r : Completed
 tells-refused ask flat′ out′ n (Listed lines entered) e = let z : _≡_ {A = ℕ} 0 1 = cc in absurd (omega arith)
 tells-refused ask flat′ out′ n (Refused x) e = let z : number x ≡ n = cc in record { shown = tt; text-is = ap refused-reply z }
 
-module _ (ask : Ask) (txt flat flat′ out out′ : List ℕ) where
-  tells : (r : Completed) (v : C.Completed (Item (asked ask))) → CompletesAs ask txt flat flat′ out out′ r v → Tells ask flat′ out′ r v
+module _ (ask : Ask) (ws txt flat flat′ out out′ : List ℕ) where
+  tells : (r : Completed) (v : C.Completed (Item (asked ask))) → CompletesAs ask ws txt flat flat′ out out′ r v → Tells ask flat′ out′ r v
   tells r (C.listed lines entered) (e, w) =
       let rows : List (List ℕ) = words-from flat′ 0 (length lines) in
       let seen : map (line-seen (asked ask) txt out′) rows ≡ lines = written-lines w in
@@ -56,4 +56,4 @@ module _ (ask : Ask) (txt flat flat′ out out′ : List ℕ) where
 pub completes-tells : {ws txt flat flat′ out out′ query : List ℕ} {t : Table} {ask : Ask} {budget : ℕ} {r : Listing} → IsSound ws txt t → Completes ws txt t ask query budget flat flat′ out out′ r
     → Tells ask flat′ out′ (r .answer) (completion true (table-in ws txt t) ask budget (output flat out) query)
 completes-tells {ws} {txt} {flat} {flat′} {out} {out′} {query} {t} {ask} {budget} {r} o x =
-    tells ask txt flat flat′ out out′ (r .answer) (completion true (table-in ws txt t) ask budget (output flat out) query) (x .says true o)
+    tells ask ws txt flat flat′ out out′ (r .answer) (completion true (table-in ws txt t) ask budget (output flat out) query) (x .says true o)

@@ -10,6 +10,7 @@ use Rattle.numerals.specs.Bytes.{Str, _·_}
 use Rattle.replies.specs.declared.ItemReply.{ItemReply}
 use Rattle.replies.specs.declared.ItemReply.the-variants.{Number, Module, Namespace}
 use Rattle.replies.specs.Replies.{length-in, refused-reply, line-reply, end-reply, reply-room}
+use Rattle.lines.specs.Output.{line-bytes}
 use Rattle.rows.specs.Rows.{words-from, row-in, TextsIn}
 use Rattle.rows.specs.declared.RowItem.{RowItem}
 use Rattle.rows.specs.declared.RowItem.the-variants.{Name, Symbol}
@@ -45,14 +46,14 @@ rows-room w (r ∷ rs) = row-room (row-in w r) + rows-room w rs
 
 -- n whole rows are lent, and their texts lie in the pane.
 pub record RowsIn (w : Which) (flat pane : List ℕ) (n : ℕ) : Type 0 where
-  pub whole : n * 12 ≤ length flat
+  pub whole : n * line-bytes ≤ length flat
   pub texts : Allˡ (λ r. TextsIn pane (row-in w r)) (words-from flat 0 n)
 
 -- ---- A completion
 
 -- Room for the reply to any line, where so many lines and bytes of output are lent.
 abbrev pub room : (flat pane : List ℕ) → ℕ
-room flat pane = length flat / 12 * reply-room + length pane + reply-room
+room flat pane = length flat / line-bytes * reply-room + length pane + reply-room
 
 -- The lines of a completion stand in flat and pane.
 abbrev pub Shown : (w : Which) (flat pane : List ℕ) → Completed → Type 0

@@ -71,7 +71,7 @@ fn put_row(row: Row, pane: &[u8], reply: &mut [u8], at: usize) -> usize
 
 // Writes the replies of the first `n` rows.
 fn put_rows(
-    flat: &[u32],
+    flat: &[u8],
     pane: &[u8],
     ask: lines::Ask,
     n: usize,
@@ -94,7 +94,7 @@ fn put_rows(
 
 // Writes the reply to a completion, whose lines stand in `flat` and `pane`.
 fn put_completed(
-    flat: &[u32],
+    flat: &[u8],
     pane: &[u8],
     ask: lines::Ask,
     c: Completed,
@@ -124,7 +124,7 @@ fn complete_line(
     text: &[u8],
     ask: lines::Ask,
     query: &[u8],
-    flat: &mut [u32],
+    flat: &mut [u8],
     pane: &mut [u8],
     reply: &mut [u8],
     at: usize,
@@ -145,7 +145,7 @@ pub fn ask_line(
     text: &[u8],
     what: script::Ask,
     query: &[u8],
-    flat: &mut [u32],
+    flat: &mut [u8],
     pane: &mut [u8],
     reply: &mut [u8],
     at: usize,

@@ -1,13 +1,13 @@
--- The flags of a call's arguments and rows 1 to 4 by them; the first row that is met, where rows are two lots.
-use Prim.Native.Nat.{ℕ}
+-- The flags of a call's arguments, and rows 1 to 4 by them.
 use mathlib.Core.Path.{_≡_, refl, sym, ap, _∙_}
-use mathlib.Core.Bool.{Bool, true, false, not, _||_, or-false}
+use mathlib.Core.Bool.{true, false, not, or-false}
 use mathlib.Core.List.{List, [], _∷_, _++_}
-use mathlib.Core.Option.{none, some, Option·none-ne-some}
+use mathlib.Core.Option.{none, some}
 use borrow.Author.Tests.{not-false}
 use Rattle.source.specs.Text.{Str, ends-in-dot}
 use Rattle.source.specs.Calls.{Argument, a-query, any, bad-query, malformed, empty-name, too-long, Row, _when_, lowest, argument-rows}
 use Rattle.source.proofs.Queries.{or-parts}
+use Rattle.source.proofs.Refusals.{any-append}
 use Rattle.refusals.specs.Refusals.{number, row-of}
 use Rattle.refusals.specs.Rows.{Flagged, AllFlagged, no-flags, both-flags, flag-rows}
 use Rattle.refusals.specs.declared.Flags.{Flags}
@@ -22,15 +22,6 @@ one-flagged h = record { malformed = rw or-false (h .malformed); empty = rw or-f
 pub none-flagged : AllFlagged [] no-flags
 unfolding any
 none-flagged = record { malformed = refl; empty = refl; long = refl }
-
-pub any-append : (p : Argument → Bool) (xs ys : List Argument) → any p (xs ++ ys) ≡ any p xs || any p ys
-unfolding any
-any-append p [] ys = refl
-any-append p (a ∷ xs) ys = go (p a) (any-append p xs ys)
-  where
-    go : (b : Bool) → any p (xs ++ ys) ≡ any p xs || any p ys → b || any p (xs ++ ys) ≡ (b || any p xs) || any p ys
-    go true e = refl
-    go false e = e
 
 pub both-flagged : {xs ys : List Argument} {f g : Flags} → AllFlagged xs f → AllFlagged ys g → AllFlagged (xs ++ ys) (both-flags f g)
 both-flagged {xs} {ys} h i = record {
@@ -59,16 +50,3 @@ module _ {args : List Argument} {f : Flags} {a : Admission} (h : AllFlagged args
 
   pub stops : {x : Refusal} → a ≡ Refused x → lowest (argument-rows true args) ≡ some (number x)
   stops k = rows-of h ∙ sym (rw k at e)
-
--- ---- Two lots of rows
-pub lowest-stops : (xs ys : List Row) {n : ℕ} → lowest xs ≡ some n → lowest (xs ++ ys) ≡ some n
-unfolding lowest
-lowest-stops [] ys e = absurd (Option·none-ne-some _ e)
-lowest-stops ((k when true) ∷ xs) ys e = e
-lowest-stops ((k when false) ∷ xs) ys e = lowest-stops xs ys e
-
-pub lowest-past : (xs ys : List Row) → lowest xs ≡ none → lowest (xs ++ ys) ≡ lowest ys
-unfolding lowest
-lowest-past [] ys e = refl
-lowest-past ((k when true) ∷ xs) ys e = absurd (Option·none-ne-some _ (sym e))
-lowest-past ((k when false) ∷ xs) ys e = lowest-past xs ys e

@@ -1,24 +1,24 @@
 -- The rows of a registration: what its texts keep, and rows 5 to 8 by its plan.
-use Prim.Native.Nat.{ℕ, _+_, _-_, _≤_}
-use mathlib.Core.Path.{_≡_, ap, _∙_}
+use Prim.Native.Nat.{ℕ, _+_, _≤_}
+use mathlib.Core.Path.{_≡_, _∙_}
 use mathlib.Core.Bool.{Bool, true, false, cond, _||_}
-use mathlib.Core.List.{List, [], _∷_, _++_}
+use mathlib.Core.List.{[], _∷_}
 use mathlib.Core.Option.{none, some}
 use native.Mathlib.Omega.{arith}
-use lib.ListN.{length, length-take}
-use Rattle.source.specs.Text.{Str, segments, ends-in-dot}
+use lib.ListN.{length}
+use Rattle.source.specs.Text.{Str}
 use Rattle.source.specs.Rules.{SoundTable}
-use Rattle.source.specs.Calls.{Argument, a-query, a-name, any, malformed, lowest, argument-rows, State, Lent, Call, arguments, text-taken, registration-rows}
+use Rattle.source.specs.Calls.{a-query, a-name, any, malformed, lowest, argument-rows, State, Lent, Call, arguments, text-taken, registration-rows}
 use Rattle.source.specs.Shared.{Allˡ}
-use Rattle.source.specs.Queries.{IsQuery, Keeps}
-use Rattle.source.proofs.Queries.{or-parts, query-to-string-label, string-is}
-use Rattle.source.proofs.Keeps.{admitted-keeps}
-use Rattle.source.proofs.Refusals.{Admitted}
+use Rattle.source.specs.Queries.{Keeps}
+use Rattle.source.proofs.Queries.{or-parts, query-bound}
+use Rattle.source.proofs.Keeps.{keeps-parts, admitted-keeps}
+use Rattle.source.proofs.Refusals.{any-append, lowest-stops, lowest-past, Admitted}
 use Rattle.source.proofs.PlannedDepth.{deep-planned}
 use Rattle.source.proofs.PlannedWeight.{crowded-planned}
 use Rattle.source.proofs.PlannedRecords.{records-planned}
 use Rattle.refusals.specs.Rows.{capacity-rows}
-use Rattle.refusals.proofs.Rows.{any-append, query-ends, lowest-stops, lowest-past}
+use Rattle.refusals.proofs.Rows.{query-ends}
 use Rattle.kinds.specs.Shapes.{shape-of, call-of, argument-as, other-argument, key-argument}
 use Rattle.kinds.specs.declared.Kind.{Kind}
 use Rattle.kinds.specs.declared.Form.{Form}
@@ -29,16 +29,12 @@ use Rattle.plan.specs.declared.Plan.{Plan}
 use Rattle.register.specs.Checks.{NoKey, Ready}
 
 -- ---- Texts
-all-parts : (xs ys : List Argument) → Allˡ Keeps (xs ++ ys) → Allˡ Keeps xs × Allˡ Keeps ys
-all-parts [] ys a = (tt, a)
-all-parts (x ∷ xs) ys a = let p = all-parts xs ys (a .1) in ((a .0, p .0), p .1)
-
 pub ready : (k : Kind) (host other key : Str) → Admitted true (arguments (call-of k host other key)) → Ready k host other key
 unfolding any
 ready k host other key a =
     let m = or-parts (any malformed (key-argument k key)) _ (rw (arguments-of k host other key, any-append) at (a .well-formed)) in
     let h = or-parts (malformed (a-query host)) (malformed (other-argument k other) || false) (m .1) in
-    let t = all-parts (key-argument k key) _ (rw (arguments-of k host other key) at (admitted-keeps true _ a)) in
+    let t = keeps-parts (key-argument k key) _ (rw (arguments-of k host other key) at (admitted-keeps true _ a)) in
     record {
       host-ends = query-ends host (h .0);
       host-keeps = t .1 .0;
@@ -46,10 +42,6 @@ ready k host other key a =
       other-keeps = t .1 .1 .0;
       key-keeps = t .0;
     }
-
--- 17 segments, each with a dot.
-query-bound : (s : Str) → ends-in-dot s ≡ true → IsQuery (segments s) → length s ≤ 544
-query-bound s e q = omega (arith, query-to-string-label (segments s) q .short, ap length (string-is s e), length-take (length s - 1) s)
 
 other-bound : (f : Form) (s : Str) → malformed (argument-as f s) ≡ false → Keeps (argument-as f s) → length s ≤ 544
 other-bound form.Name s e k = omega (arith, k .short)

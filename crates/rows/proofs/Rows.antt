@@ -11,12 +11,19 @@ use lib.Seq.{take-all, length-take-le}
 use Rattle.memory.specs.Layout.{Which, names, modules, record-at, item-of, pick, span, symbol-word}
 use Rattle.memory.specs.Read.{symbol-of}
 use Rattle.memory.specs.declared.ModSymbol.{ModSymbol}
+use Rattle.wire.proofs.Bytes.{words-length}
+use Rattle.lines.specs.Output.{line-bytes, line-words}
 use Rattle.rows.specs.Rows.{words-at, item-in, item-seen}
 
--- The words at the start of the part from a row on.
-pub part-words : (flat : List ℕ) (k : ℕ) → k * 12 + 12 ≤ length flat → record-at (take (length flat - k * 12) (drop (k * 12) flat)) 1 ≡ words-at flat k
-unfolding record-at words-at
-part-words flat k h = ap (take 12) (take-all (length flat - k * 12) (drop (k * 12) flat) (omega (arith, length-drop (k * 12) flat)))
+-- The words of the part from a row on.
+pub part-words : (flat : List ℕ) (k : ℕ) → line-words (take (length flat - k * line-bytes) (drop (k * line-bytes) flat)) ≡ words-at flat k
+unfolding words-at
+part-words flat k = ap line-words (take-all (length flat - k * line-bytes) (drop (k * line-bytes) flat) (omega (arith, length-drop (k * line-bytes) flat)))
+
+-- Twelve words are a record.
+pub one-record : (bs : List ℕ) → record-at (line-words bs) 1 ≡ line-words bs
+unfolding record-at
+one-record bs = take-all 12 (line-words bs) (omega (arith, words-length bs 12))
 
 -- A part from a to a + b, and its length.
 pub part-span : (text : List ℕ) (a b : ℕ) → take (a + b - a) (drop a text) ≡ span text a b

@@ -11,8 +11,10 @@ use Rattle.source.specs.Shared.{Allˡ}
 use Rattle.source.proofs.Lines.{output-lines-length}
 use Rattle.memory.specs.Layout.{Which, Item, span}
 use Rattle.text.specs.Laid.{Laid}
-use Rattle.lines.specs.Output.{line-of, rows-flat, Written, candidate-start, candidate-len, annotation-start, annotation-len}
-use Rattle.rows.specs.Rows.{words-at, words-from, row-in, line-seen, lines-seen, TextsIn}
+use Rattle.wire.proofs.Parts.{words-front}
+use Rattle.lines.specs.Output.{line-bytes, line-words, line-of, rows-flat, RowFrom, Written, candidate-start, candidate-len, annotation-start, annotation-len}
+use Rattle.rows.specs.Rows.{words-at, words-from, item-in, row-in, ItemInside, line-seen, lines-seen, TextsIn}
+use Rattle.rows.proofs.Inside.{row-inside}
 
 -- ---- A list that stands at a place of another
 
@@ -44,13 +46,14 @@ stands-laid {d} {d′} {s} {r} x = record { rest = drop r d; within = omega arit
 
 -- ---- The words
 
-words-are : (flat : List ℕ) (i : ℕ) (rows : List (List ℕ)) → Allˡ (λ r. length r ≡ 12) rows → Stands flat (i * 12) (rows-flat rows) → words-from flat i (length rows) ≡ rows
+words-are : (flat : List ℕ) (i : ℕ) (rows : List (List ℕ)) → Allˡ (λ r. length r ≡ line-bytes) rows → Stands flat (i * line-bytes) (rows-flat rows)
+    → words-from flat i (length rows) ≡ map line-words rows
 unfolding words-from words-at rows-flat flatMap
 words-are flat i [] a x = refl
 words-are flat i (r ∷ rows) a x =
-    let p : i * 12 + length r ≡ suc i * 12 = omega (arith, a .0) in
+    let p : i * line-bytes + length r ≡ suc i * line-bytes = omega (arith, a .0) in
     ap₂ (λ (s : List ℕ) (ss : List (List ℕ)). s ∷ ss)
-    (ap (take 12) (stands-first r (rows-flat rows) x .is) ∙ take-at r _ 12 (a .0))
+    (ap line-words (stands-first r (rows-flat rows) x .is) ∙ words-front r _ 12 (omega (arith, a .0)))
     (words-are flat (suc i) rows (a .1) (rw p at (stands-next r (rows-flat rows) x)))
 
 -- ---- The lines
@@ -117,13 +120,13 @@ module _ (w : Which) (txt out : List ℕ) where
       let rest = lines-are rows (b + length (l .candidate) + length (l .annotation)) ls others (rw q at (stands-next (l .candidate ++ l .annotation) (output-text ls) o′)) in
       (ap₂ (λ (x : Line (Item w)) (xs : List (Line (Item w))). x ∷ xs) (line-is r b l here first) (rest .0), (texts-in r b l here first, rest .1))
 
-module _ {w : Which} {txt flat flat′ out out′ : List ℕ} {lines : List (Line (Item w))} (x : Written w txt flat flat′ out out′ 0 0 lines) where
+module _ {w : Which} {ws txt flat flat′ out out′ : List ℕ} {lines : List (Line (Item w))} (x : Written w ws txt flat flat′ out out′ 0 0 lines) where
   count : length (x .rows) ≡ length lines
-  count = sym (length-map (x .rows) (line-of w txt)) ∙ ap length (x .reads) ∙ output-lines-length 0 lines
+  count = sym (length-map (map line-words (x .rows)) (line-of w txt) ∙ length-map (x .rows) line-words) ∙ ap length (x .reads) ∙ output-lines-length 0 lines
 
   -- The words of the rows that are lent.
-  pub written-words : words-from flat′ 0 (length lines) ≡ x .rows
-  written-words = ap (words-from flat′ 0) (sym count) ∙ words-are flat′ 0 (x .rows) (x .twelve) (stands-laid (x .flat-laid))
+  pub written-words : words-from flat′ 0 (length lines) ≡ map line-words (x .rows)
+  written-words = ap (words-from flat′ 0) (sym count) ∙ words-are flat′ 0 (x .rows) (x .sized) (stands-laid (x .flat-laid))
 
   -- The line records.
   pub written-records : map (line-of w txt) (words-from flat′ 0 (length lines)) ≡ output-lines 0 lines
@@ -131,11 +134,22 @@ module _ {w : Which} {txt flat flat′ out out′ : List ℕ} {lines : List (Lin
 
   -- The lines, and their texts.
   pub written-lines : map (line-seen w txt out′) (words-from flat′ 0 (length lines)) ≡ lines
-  written-lines = rw written-words (lines-are w txt out′ (x .rows) 0 lines (x .reads) (stands-laid (x .out-laid)) .0)
+  written-lines = rw written-words (lines-are w txt out′ (map line-words (x .rows)) 0 lines (x .reads) (stands-laid (x .out-laid)) .0)
 
   pub written-seen : lines-seen w txt flat′ out′ (length lines) ≡ lines
   unfolding lines-seen
   written-seen = written-lines
 
   pub written-texts : Allˡ (λ r. TextsIn out′ (row-in w r)) (words-from flat′ 0 (length lines))
-  written-texts = rw written-words (lines-are w txt out′ (x .rows) 0 lines (x .reads) (stands-laid (x .out-laid)) .1)
+  written-texts = rw written-words (lines-are w txt out′ (map line-words (x .rows)) 0 lines (x .reads) (stands-laid (x .out-laid)) .1)
+
+  -- The items, and their texts.
+  pub written-from : Allˡ (RowFrom ws txt w) (words-from flat′ 0 (length lines))
+  written-from = rw written-words (x .from)
+
+  pub written-items : Allˡ (λ r. ItemInside (length txt) (item-in w r)) (words-from flat′ 0 (length lines))
+  written-items = rw written-words (go (map line-words (x .rows)) (x .from))
+    where
+      go : (rows : List (List ℕ)) → Allˡ (RowFrom ws txt w) rows → Allˡ (λ r. ItemInside (length txt) (item-in w r)) rows
+      go [] a = tt
+      go (r ∷ rows) a = (row-inside w (a .0), go rows (a .1))

@@ -2,18 +2,20 @@
 use Prim.Native.Nat.{ℕ, zero, suc, _+_, _*_, _≤_}
 use mathlib.Core.List.{List, [], _∷_, map}
 use mathlib.Core.Option.{Option, none, some}
-use lib.ListN.{length, take, drop}
+use lib.ListN.{length, drop}
 use Rattle.source.specs.Table.{Line}
 use Rattle.memory.specs.Layout.{Which, names, modules, Item, item-of, number-word, span}
 use Rattle.memory.specs.Read.{symbol-in, symbol-of}
-use Rattle.lines.specs.Output.{matched-word, candidate-start, candidate-len, annotation-start, annotation-len, signed-word}
+use Rattle.memory.specs.declared.ModSymbol.{ModSymbol}
+use Rattle.memory.specs.declared.ModSymbol.the-variants.{Module, Namespace}
+use Rattle.lines.specs.Output.{line-bytes, line-words, matched-word, candidate-start, candidate-len, annotation-start, annotation-len, signed-word}
 use Rattle.rows.specs.declared.RowItem.{RowItem}
 use Rattle.rows.specs.declared.RowItem.the-variants.{Name, Symbol}
 use Rattle.rows.specs.declared.Row.{Row}
 
--- The words of row k.
+-- The words of row k: those that the bytes from k * 48 on spell.
 unfoldable pub words-at : List ℕ → ℕ → List ℕ
-words-at flat k = take 12 (drop (k * 12) flat)
+words-at flat k = line-words (drop (k * line-bytes) flat)
 
 -- The words of n rows from row i on.
 unfoldable pub words-from : List ℕ → (i n : ℕ) → List (List ℕ)
@@ -40,6 +42,16 @@ item-seen names txt (Name n) = some n
 item-seen names txt (Symbol s) = none
 item-seen modules txt (Name n) = none
 item-seen modules txt (Symbol s) = some (symbol-of txt s)
+
+-- The texts of a mod symbol lie in a text of so many bytes.
+abbrev pub SymbolInside : ℕ → ModSymbol → Type 0
+SymbolInside size (Module name path loaded) = (name .start + name .len ≤ size) × (path .start + path .len ≤ size)
+SymbolInside size (Namespace name loaded) = name .start + name .len ≤ size
+
+-- So do those of an item: a name has none.
+abbrev pub ItemInside : ℕ → RowItem → Type 0
+ItemInside size (Name n) = Unit {0}
+ItemInside size (Symbol s) = SymbolInside size s
 
 -- ---- What a reader sees
 

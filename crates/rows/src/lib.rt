@@ -8,6 +8,7 @@ ghost use lib.ListN.{length};
 ghost use Rattle.memory.specs.Layout.{record-at};
 ghost use Rattle.memory.specs.Read.{text-of};
 ghost use Rattle.lines.specs.Ask.{asked};
+ghost use Rattle.lines.specs.Output.{line-bytes, line-words};
 ghost use Rattle.rows.specs.Rows.{item-in, row-in, words-at};
 
 // The words of a row, by what they hold (lines' specs/Output.antt). Those of its item are a branch's, by memory's names.
@@ -68,13 +69,28 @@ fn row_in(words: &[u32], ask: Ask) -> Row
     }
 }
 
-// Row `k` of the flat words.
-pub fn row_at(flat: &[u32], k: usize, ask: Ask) -> Row
-    requires { ⌜ k * 12 + 12 ≤ length (now flat) ⌝ }
+// The words that the bytes of a row spell.
+fn words_of(bytes: &[u8]) -> [u32; lines::LINE]
+    requires { ⌜ line-bytes ≤ length (now bytes) ⌝ }
+    ensures { λ r. ⌜ r ≡ line-words (now (bytes .entry)) ⌝ }
+{
+    let mut words = [0u32; lines::LINE];
+    let mut i = 0;
+    while i < lines::LINE {
+        words[i] = wire::word_at(bytes, i);
+        i += 1;
+    }
+    words
+}
+
+// Row `k` of the bytes.
+pub fn row_at(flat: &[u8], k: usize, ask: Ask) -> Row
+    requires { ⌜ k * line-bytes + line-bytes ≤ length (now flat) ⌝ }
     ensures { λ r. ⌜ r ≡ row-in (asked ask) (words-at (now (flat .entry)) k) ⌝ }
 {
-    let at = k * lines::LINE;
-    row_in(&flat[at..], ask)
+    let at = k * lines::LINE_BYTES;
+    let words = words_of(&flat[at..]);
+    row_in(&words, ask)
 }
 
 // The text of a span: a row's in the output text, a mod symbol's in the table text.

@@ -1,13 +1,9 @@
--- How many lines are lent, and what a filter's number asks, by example.
+-- What a filter's number asks, by example.
 use mathlib.Core.Path.{_≡_, refl}
 use mathlib.Core.Option.{none, some}
 use Rattle.lines.specs.declared.Ask.the-variants.{Modules}
 use Rattle.lines.specs.declared.Filter.the-variants.{NamespacesOnly}
-use Rattle.screen.specs.Completions.{lines-lent, modules-for}
-
-most-lines : lines-lent 28800 ≡ 512
-unfolding lines-lent
-most-lines = refl
+use Rattle.screen.specs.Completions.{modules-for}
 
 last-filter : modules-for 3 ≡ some (Modules NamespacesOnly)
 unfolding modules-for

@@ -1,5 +1,5 @@
 -- What the exported completions reply, and what they write.
-use Prim.Native.Nat.{ℕ, zero, suc, _*_, _/_, min}
+use Prim.Native.Nat.{ℕ, zero, suc}
 use mathlib.Core.Path.{_≡_}
 use mathlib.Core.Bool.{Bool, true, false}
 use mathlib.Core.List.{List}
@@ -9,7 +9,6 @@ use Rattle.source.specs.Text.{Str}
 use Rattle.source.specs.Table as S
 use Rattle.source.specs.Table.{Line}
 use Rattle.source.specs.Calls as C
-use Rattle.source.specs.Calls.{Output}
 use Rattle.memory.specs.Layout.{Item}
 use Rattle.memory.specs.Sound.{Says}
 use Rattle.lines.specs.Ask.{asked}
@@ -17,30 +16,16 @@ use Rattle.lines.specs.Output.{Written}
 use Rattle.lines.specs.declared.Ask.{Ask}
 use Rattle.lines.specs.declared.Ask.the-variants.{Modules}
 use Rattle.lines.specs.declared.Filter.the-variants.{All, Loaded, ModulesOnly, NamespacesOnly}
-use Rattle.table.specs.Header.{IsSound, table-in}
+use Rattle.table.specs.Header.{table-in}
+use Rattle.listing.specs.Completes.{output}
+use Rattle.refusals.specs.Refusals.{number}
 use Rattle.table.specs.Completions.{completion}
-use Rattle.memory.specs.Grown.{Outside}
+use Rattle.table.specs.declared.Completed.{Completed}
+use Rattle.table.specs.declared.Completed.the-variants.{Listed, Refused}
 use Rattle.table.specs.declared.Table.{Table}
-use Rattle.wire.specs.Bytes.{words-at}
 use Rattle.wire.specs.Memory.{words-in}
 use Rattle.screen.specs.Memory.{table-at, SoundBytes}
 use Rattle.screen.specs.declared.CompleteReply.{CompleteReply}
-
--- Line records lent: whole ones, of 48 bytes each; those past 512 count as not lent.
-unfoldable pub lines-lent : ℕ → ℕ
-lines-lent size = min (size / 48) 512
-
--- Their words, twelve to a line, as lines' Output has them.
-unfoldable pub lines-in : List ℕ → List ℕ
-lines-in ls = words-at ls (lines-lent (length ls) * 12)
-
--- As many words as they have.
-pub record Room (flat ls : List ℕ) : Type 0 where
-  pub size : length flat ≡ lines-lent (length ls) * 12
-
--- The output lent. Text past what 32 bits count is not lent.
-abbrev pub output-in : (ls out : List ℕ) → Output
-output-in ls out = record { lines = lines-lent (length ls); text = min (length out) 4294967295 }
 
 -- What is asked of the modules, by the number of a filter. Another number asks nothing.
 unfoldable pub modules-for : ℕ → Option Ask
@@ -54,11 +39,15 @@ modules-for (suc (suc (suc (suc n)))) = none
 abbrev pub no-lines : ℕ → CompleteReply
 no-lines n = record { answer = n; lines = 0; entered = 0 }
 
--- Listed: the line bytes at exit spell the lines, their texts are in the output text, and every other byte is as it was.
-pub record Lists (ask : Ask) (txt ls ls′ out out′ : List ℕ) (lines : List (Line (Item (asked ask)))) (entered : ℕ) (r : CompleteReply) : Type 0 where
+-- The reply of crate table's answer.
+abbrev pub lines-reply : Completed → CompleteReply
+lines-reply (Listed lines entered) = record { answer = 0; lines = lines; entered = entered }
+lines-reply (Refused x) = no-lines (number x)
+
+-- Listed: the lines are written from the start of the lent bytes, their texts from the start of the output text, and every other byte is as it was.
+pub record Lists (ask : Ask) (ws txt ls ls′ out out′ : List ℕ) (lines : List (Line (Item (asked ask)))) (entered : ℕ) (r : CompleteReply) : Type 0 where
   pub reply : r ≡ record { answer = 0; lines = length lines; entered = entered }
-  pub written : Written (asked ask) txt (lines-in ls) (lines-in ls′) out out′ 0 0 lines
-  pub bytes : Outside 0 (length lines * 48) ls ls′
+  pub written : Written (asked ask) ws txt ls ls′ out out′ 0 0 lines
 
 -- Refused with n: no byte has changed.
 pub record Refuses (n : ℕ) (ls ls′ out out′ : List ℕ) (r : CompleteReply) : Type 0 where
@@ -67,25 +56,21 @@ pub record Refuses (n : ℕ) (ls ls′ out out′ : List ℕ) (r : CompleteReply
   pub text : out′ ≡ out
 
 -- The reply r, by what the definition hands back.
-abbrev pub ListsAs : (ask : Ask) (txt ls ls′ out out′ : List ℕ) (r : CompleteReply) → C.Completed (Item (asked ask)) → Type 0
-ListsAs ask txt ls ls′ out out′ r (C.listed lines entered) = Lists ask txt ls ls′ out out′ lines entered r
-ListsAs ask txt ls ls′ out out′ r (C.refused n) = Refuses n ls ls′ out out′ r
+abbrev pub ListsAs : (ask : Ask) (ws txt ls ls′ out out′ : List ℕ) (r : CompleteReply) → C.Completed (Item (asked ask)) → Type 0
+ListsAs ask ws txt ls ls′ out out′ r (C.listed lines entered) = Lists ask ws txt ls ls′ out out′ lines entered r
+ListsAs ask ws txt ls ls′ out out′ r (C.refused n) = Refuses n ls ls′ out out′ r
 
 -- Where nothing is asked the call is malformed, and Unsound is lower.
 abbrev pub unasked : (sound : Bool) → ℕ
 unasked true = 2
 unasked false = 1
 
-module _ (txt : List ℕ) (query : Str) (budget : ℕ) (ls ls′ out out′ : List ℕ) (r : CompleteReply) where
+module _ (ws txt : List ℕ) (query : Str) (budget : ℕ) (ls ls′ out out′ : List ℕ) (r : CompleteReply) where
   -- The reply r to what is asked of the table.
   abbrev pub ListsFor : (sound : Bool) → S.Table → Option Ask → Type 0
-  ListsFor sound tbl (some ask) = ListsAs ask txt ls ls′ out out′ r (completion sound tbl ask budget (output-in ls out) query)
+  ListsFor sound tbl (some ask) = ListsAs ask ws txt ls ls′ out out′ r (completion sound tbl ask budget (output ls out) query)
   ListsFor sound tbl none = Refuses (unasked sound) ls ls′ out out′ r
 
 -- The reply r to a completion; b says whether the bytes are a sound table.
 pub record RepliesLines (st bs txt : List ℕ) (ask : Option Ask) (query : Str) (budget : ℕ) (ls ls′ out out′ : List ℕ) (r : CompleteReply) : Type 0 where
-  pub says : (b : Bool) → Says b (SoundBytes st bs txt) → ListsFor txt query budget ls ls′ out out′ r b (table-in (words-in bs) txt (table-at st)) ask
-
--- The same, where the words m and the table t have been read.
-pub record ListsIn (m txt : List ℕ) (t : Table) (ask : Ask) (query : Str) (budget : ℕ) (ls ls′ out out′ : List ℕ) (r : CompleteReply) : Type 0 where
-  pub says : (b : Bool) → Says b (IsSound m txt t) → ListsFor txt query budget ls ls′ out out′ r b (table-in m txt t) (some ask)
+  pub says : (b : Bool) → Says b (SoundBytes st bs txt) → ListsFor (words-in bs) txt query budget ls ls′ out out′ r b (table-in (words-in bs) txt (table-at st)) ask

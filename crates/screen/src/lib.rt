@@ -1,6 +1,6 @@
 // The exported layer for screen code in C: numbers and bytes in, numbers and bytes out.
 // A slice passes as a pointer and a length. State and words are bytes as crate wire reads them;
-// the layer copies the words in, calls crate table, and copies out what an accepted call has taken.
+// the layer copies the words in, calls crate table, and copies out what an accepted call has taken. Lines are written in place.
 // Every exported call answers for whatever bytes are lent.
 use kinds::Kind;
 use lines::Ask;
@@ -15,7 +15,7 @@ use table::Registered;
 use table::Table;
 ghost use mathlib.Core.Path.{_≡_};
 ghost use mathlib.Core.Option.{none, some};
-ghost use Prim.Native.Nat.{_*_, _<_};
+ghost use Prim.Native.Nat.{_<_};
 ghost use lib.ListN.{length};
 ghost use Rattle.source.specs.Calls.{name, include, opens, alias, module-path, refused};
 ghost use Rattle.table.specs.Answers.{name-found};
@@ -23,11 +23,8 @@ ghost use Rattle.kinds.specs.Shapes.{call-of};
 ghost use Rattle.wire.specs.Memory.{state-bytes, words-in};
 ghost use Rattle.screen.specs.Memory.{table-at};
 ghost use Rattle.lines.specs.declared.Ask.the-variants.{Names};
-ghost use Rattle.screen.specs.Completions.{lines-lent, Room, modules-for, no-lines, RepliesLines, ListsIn};
+ghost use Rattle.screen.specs.Completions.{modules-for, no-lines, lines-reply, RepliesLines};
 ghost use Rattle.screen.specs.Replies.{chosen, Replies, name-reply, RepliesName, flag, no-module, symbol-reply, module-reply, RepliesModule};
-
-// Bytes of a line: twelve words.
-const LINE_BYTES: usize = 48;
 
 // The answer of a look-up that finds nothing: no refusal has this number.
 pub const NONE: u32 = 4294967295;
@@ -362,17 +359,6 @@ pub extern "C" fn name_console_find_module(
 
 // ---- Completions
 
-// How many words of line records count as lent, of so many bytes.
-fn line_words(size: usize) -> usize
-    ensures { λ r. ⌜ r ≡ lines-lent size * 12 ⌝ }
-{
-    let n = size / LINE_BYTES;
-    if n < 512 {
-        return n * memory::ROW;
-    }
-    6144
-}
-
 // The reply of a number alone.
 fn no_lines(answer: u32) -> CompleteReply
     ensures { λ r. ⌜ r ≡ no-lines answer ⌝ }
@@ -401,33 +387,16 @@ fn ask_of(filter: u32) -> Ask
     Ask::Modules(Filter::NamespacesOnly)
 }
 
-// A completion, where `memory` has the lent words and `flat` is for the lines.
-fn list(
-    t: Table,
-    memory: &[u32],
-    text: &[u8],
-    ask: Ask,
-    query: &[u8],
-    budget: u32,
-    flat: &mut [u32],
-    lines: &mut [u8],
-    out: &mut [u8],
-) -> CompleteReply
-    requires { ⌜ Room (now flat) (now lines) ⌝ }
-    ensures { λ r. ⌜ ListsIn (now (memory .entry)) (now (text .entry)) t ask (now (query .entry)) budget (now (lines .entry)) (now (lines .exit)) (now (out .entry)) (now (out .exit)) r ⌝ }
+// The reply of crate table's answer.
+fn lines_reply(c: Completed) -> CompleteReply
+    ensures { λ r. ⌜ r ≡ lines-reply c ⌝ }
 {
-    let l = t.complete(memory, text, ask, query, budget, flat, out);
-    let c = l.answer;
     match c {
-        Completed::Listed(count, entered) => {
-            let to = count as usize * lines::LINE;
-            wire::store(lines, flat, 0, to);
-            CompleteReply {
-                answer: 0,
-                lines: count,
-                entered: entered,
-            }
-        }
+        Completed::Listed(lines, entered) => CompleteReply {
+            answer: 0,
+            lines: lines,
+            entered: entered,
+        },
         Completed::Refused(x) => no_lines(refusals::number(x)),
     }
 }
@@ -451,19 +420,8 @@ fn complete(
     let mut memory = [0u32; wire::WORDS];
     let n = wire::load(words, &mut memory);
     let t = table_of(state);
-    let mut flat = [0u32; 6144];
-    let m = line_words(lines.len());
-    list(
-        t,
-        &memory[..n],
-        text,
-        ask,
-        query,
-        budget,
-        &mut flat[..m],
-        lines,
-        out,
-    )
+    let l = t.complete(&memory[..n], text, ask, query, budget, lines, out);
+    lines_reply(l.answer)
 }
 
 // Completes a name: lines of 48 bytes into `lines`, their texts into `out`.

@@ -2,7 +2,7 @@
 use Prim.Native.Nat.{max, Ordering, Ordering·lt, Ordering·eq, Ordering·gt}
 use mathlib.Core.Path.{_≡_}
 use mathlib.Core.Bool.{Bool, true, false, cond}
-use mathlib.Core.List.{List, [], _∷_, reverseAux}
+use mathlib.Core.List.{List, [], _∷_, _++_, reverseAux}
 use mathlib.Core.Option.{Option, none, some}
 use native.Mathlib.Omega.{arith}
 use borrow.Author.Tests.{ltb-false, not-false}
@@ -214,6 +214,10 @@ argument-keeps (a-look-up s) m e l =
     let h = or-parts (any is-empty (segments s)) (is-empty (segments s)) e in
     (segments-query s m (h .0) l, nonempty-length (segments s) (h .1))
 argument-keeps (a-completion s) m e l = segments-completion s m l
+
+pub keeps-parts : (xs ys : List Argument) → Allˡ Keeps (xs ++ ys) → Allˡ Keeps xs × Allˡ Keeps ys
+keeps-parts [] ys a = (tt, a)
+keeps-parts (x ∷ xs) ys a = let p = keeps-parts xs ys (a .1) in ((a .0, p .0), p .1)
 
 pub admitted-keeps : (sound : Bool) (args : List Argument) → Admitted sound args → Allˡ Keeps args
 admitted-keeps sound args h =

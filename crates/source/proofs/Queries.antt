@@ -5,7 +5,7 @@ use mathlib.Core.Bool.{Bool, true, false, not, _&&_, _||_, true≢false, false�
 use mathlib.Core.List.{List, [], _∷_, _++_, reverse, reverseAux, reverseAux-eq}
 use native.Mathlib.Omega.{arith}
 use lib.Dec.{ltb, eqb}
-use lib.ListN.{length, take, length-append, length-reverse}
+use lib.ListN.{length, take, length-append, length-reverse, length-take}
 use native.Mathlib.Numerals.{sub-one}
 use borrow.Author.Tests.{eqb-true, ltb-false, not-false}
 use Rattle.source.specs.Text.{Str, Query, dot, query-to-string, onto-first, segments, ends-in-dot, name-byte, query-byte, path-byte}
@@ -170,6 +170,23 @@ segments-some b s = go (eqb b dot) refl
     go true e = rw (segments-dot b s e) (omega arith)
     go false e = rw (segments-other b s e) (onto (segments s))
 
+-- ---- the segments of two texts, the first of which ends in a dot
+
+onto-append : (b : ℕ) (q r : Query) → 0 < length q → onto-first b (q ++ r) ≡ onto-first b q ++ r
+unfolding onto-first
+onto-append b [] r h = absurd (omega arith)
+onto-append b (g ∷ q) r h = refl
+
+pub segments-append : (s t : Str) → ends-in-dot s ≡ true → segments (s ++ t) ≡ segments s ++ segments t
+unfolding segments ends-in-dot
+segments-append [] t e = refl
+segments-append (b ∷ []) t e = rw (segments-dot b t e, segments-dot b [] e)
+segments-append (b ∷ (c ∷ s)) t e = go (eqb b dot) refl (segments-append (c ∷ s) t e)
+  where
+    go : (d : Bool) → eqb b dot ≡ d → segments (c ∷ (s ++ t)) ≡ segments (c ∷ s) ++ segments t → segments (b ∷ (c ∷ (s ++ t))) ≡ segments (b ∷ (c ∷ s)) ++ segments t
+    go true d i = rw (segments-dot b (c ∷ (s ++ t)) d, segments-dot b (c ∷ s) d, i)
+    go false d i = rw (segments-other b (c ∷ (s ++ t)) d, segments-other b (c ∷ s) d, i) (onto-append b (segments (c ∷ s)) (segments t) (segments-some c s))
+
 -- ---- a query as one text: without the last dot
 
 string-onto : (b : ℕ) (q : Query) → query-to-string (onto-first b q) ≡ b ∷ query-to-string q
@@ -196,3 +213,7 @@ pub string-is : (s : Str) → ends-in-dot s ≡ true → query-to-string (segmen
 unfolding segments query-to-string
 string-is [] e = refl
 string-is (b ∷ s) e = rw sub-one (string-cons b s e)
+
+-- 17 segments, each with a dot.
+pub query-bound : (s : Str) → ends-in-dot s ≡ true → IsQuery (segments s) → length s ≤ 544
+query-bound s e q = omega (arith, query-to-string-label (segments s) q .short, ap length (string-is s e), length-take (length s - 1) s)

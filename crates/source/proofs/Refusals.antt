@@ -15,6 +15,16 @@ use Rattle.source.proofs.Queries.{or-parts}
 use Rattle.source.specs.Shared.{Allˡ}
 use Rattle.source.proofs.Lookup.{Allˡ-map}
 
+-- ---- any
+pub any-append : (p : Argument → Bool) (xs ys : List Argument) → any p (xs ++ ys) ≡ any p xs || any p ys
+unfolding any
+any-append p [] ys = refl
+any-append p (a ∷ xs) ys = go (p a) (any-append p xs ys)
+  where
+    go : (b : Bool) → any p (xs ++ ys) ≡ any p xs || any p ys → b || any p (xs ++ ys) ≡ (b || any p xs) || any p ys
+    go true e = refl
+    go false e = e
+
 -- A row's number, and whether its condition holds.
 abbrev pub number : Row → ℕ
 number (n when b) = n
@@ -28,6 +38,19 @@ Ascending m [] = Unit {0}
 Ascending m ((n when b) ∷ rows) = (m < n) × Ascending n rows
 
 -- ---- lowest
+-- Of two lots of rows.
+pub lowest-stops : (xs ys : List Row) {n : ℕ} → lowest xs ≡ some n → lowest (xs ++ ys) ≡ some n
+unfolding lowest
+lowest-stops [] ys e = absurd (Option·none-ne-some _ e)
+lowest-stops ((k when true) ∷ xs) ys e = e
+lowest-stops ((k when false) ∷ xs) ys e = lowest-stops xs ys e
+
+pub lowest-past : (xs ys : List Row) → lowest xs ≡ none → lowest (xs ++ ys) ≡ lowest ys
+unfolding lowest
+lowest-past [] ys e = refl
+lowest-past ((k when true) ∷ xs) ys e = absurd (Option·none-ne-some _ (sym e))
+lowest-past ((k when false) ∷ xs) ys e = lowest-past xs ys e
+
 pub lowest-none : (rows : List Row) → lowest rows ≡ none → Allˡ (λ r. holds r ≡ false) rows
 unfolding lowest
 lowest-none [] e = tt

@@ -30,31 +30,31 @@ use Rattle.table.specs.declared.Completed.{Completed}
 use Rattle.table.specs.declared.Completed.the-variants.{Listed}
 
 -- A listing that was not refused.
-listed-lines : (ask : Ask) (txt flat flat′ out out′ : List ℕ) (n entered : ℕ) (o : C.Completed (Item (asked ask))) → CompletesAs ask txt flat flat′ out out′ (Listed n entered) o
+listed-lines : (ask : Ask) (ws txt flat flat′ out out′ : List ℕ) (n entered : ℕ) (o : C.Completed (Item (asked ask))) → CompletesAs ask ws txt flat flat′ out out′ (Listed n entered) o
     → (lines : List (Line (Item (asked ask)))) × (o ≡ C.listed lines entered) × (lines-seen (asked ask) txt flat′ out′ n ≡ lines)
-listed-lines ask txt flat flat′ out out′ n entered (C.listed lines e) h =
+listed-lines ask ws txt flat flat′ out out′ n entered (C.listed lines e) h =
     let k : n ≡ length lines = cc in
     let f : e ≡ entered = cc in
     (lines, rw f, rw k (written-seen (h .1)))
-listed-lines ask txt flat flat′ out out′ n entered (C.refused m) h = absurd (Option·none-ne-some m (h .0))
+listed-lines ask ws txt flat flat′ out out′ n entered (C.refused m) h = absurd (Option·none-ne-some m (h .0))
 
 module _ (ws txt : List ℕ) (t : Table) (name query : Str) (budget : ℕ) (flat flat′ out out′ : List ℕ) (n entered : ℕ) (cover : Covers (segments query) (segments name)) where
   names-agree : (b : Bool) → Says b (IsSound ws txt t) → (a : C.Found ℕ) → a ≡ look-up b (names-in ws txt t) name → NotRefused a
-      → CompletesAs Names txt flat flat′ out out′ (Listed n entered) (complete b (table-in ws txt t) budget (output flat out) query)
+      → CompletesAs Names ws txt flat flat′ out out′ (Listed n entered) (complete b (table-in ws txt t) budget (output flat out) query)
       → (a ≡ look-up true (names-in ws txt t) name) × Agreement (names-in ws txt t) name (lines-seen names txt flat′ out′ n)
   unfolding look-up lowest argument-rows
   names-agree false s a f ok c = absurd (rw f at ok)
   names-agree true s a f ok c =
-      let l = listed-lines Names txt flat flat′ out out′ n entered _ c in
+      let l = listed-lines Names ws txt flat flat′ out out′ n entered _ c in
       (f, rw (l .2) (agreement .names (table-in ws txt t) (sound-table s) name query budget (output flat out) (l .0) entered (rw f at ok) (l .1) cover))
 
   modules-agree : (b : Bool) → Says b (IsSound ws txt t) → (a : C.Found ModSymbol) → a ≡ look-up b (modules-in ws txt t) name → NotRefused a
-      → CompletesAs (Modules All) txt flat flat′ out out′ (Listed n entered) (complete-modules b (table-in ws txt t) C.All budget (output flat out) query)
+      → CompletesAs (Modules All) ws txt flat flat′ out out′ (Listed n entered) (complete-modules b (table-in ws txt t) C.All budget (output flat out) query)
       → (a ≡ look-up true (modules-in ws txt t) name) × Agreement (modules-in ws txt t) name (lines-seen modules txt flat′ out′ n)
   unfolding look-up lowest argument-rows
   modules-agree false s a f ok c = absurd (rw f at ok)
   modules-agree true s a f ok c =
-      let l = listed-lines (Modules All) txt flat flat′ out out′ n entered _ c in
+      let l = listed-lines (Modules All) ws txt flat flat′ out out′ n entered _ c in
       (f, rw (l .2) (agreement .modules (table-in ws txt t) (sound-table s) name query budget (output flat out) (l .0) entered (rw f at ok) (l .1) cover))
 
 -- Demand 3, of the calls.

@@ -15,7 +15,7 @@ use Rattle.source.specs.Table.{Line}
 use Rattle.source.specs.Calls as C
 use Rattle.source.specs.Calls.{a-completion, any, bad-query, long-query, malformed, too-long, lowest, argument-rows, Output, completion-rows, completed, tries-entered, complete, complete-modules}
 use Rattle.source.proofs.Queries.{or-parts}
-use Rattle.source.proofs.Refusals.{Admitted, argument-rows-none}
+use Rattle.source.proofs.Refusals.{lowest-stops, lowest-past, Admitted, argument-rows-none}
 use Rattle.source.proofs.Lines.{autocomplete-lid-is, autocomplete-mod-or-ns-is}
 use Rattle.text.specs.Text.{before-dot}
 use Rattle.text.proofs.Segments.{First, first-segment, before-inside}
@@ -35,7 +35,6 @@ use Rattle.refusals.specs.declared.Refusal.{Refusal}
 use Rattle.refusals.specs.declared.Refusal.the-variants.{Unsound}
 use Rattle.table.specs.declared.Completed.{Completed}
 use Rattle.table.specs.declared.Completed.the-variants.{Refused}
-use Rattle.refusals.proofs.Rows.{lowest-stops, lowest-past}
 use Rattle.lookup.proofs.Roots.{names-trie, modules-trie}
 use Rattle.memory.specs.Sound.{At}
 use Rattle.table.proofs.Decided.{decided}
@@ -102,7 +101,7 @@ module _ {ws txt : List ℕ} {ask : Ask} {root : ℕ} {query : Str} {budget : �
       numbered Lines q = q
 
       go : (o : Option ℕ) → L.CompletesAs ws txt ask flat flat′ out out′ r lines (tries-entered tr (segments query)) o
-          → CompletesAs ask txt flat flat′ out out′ (answer-in r) (elim o [ none ↦ C.listed lines (tries-entered tr (segments query)) | some n ↦ C.refused n ])
+          → CompletesAs ask ws txt flat flat′ out out′ (answer-in r) (elim o [ none ↦ C.listed lines (tries-entered tr (segments query)) | some n ↦ C.refused n ])
       go none h = (ap answer-in (h .0), h .1)
       go (some n) h = (numbered r (h .0), h .1, h .2)
 
@@ -126,7 +125,7 @@ pub completes-table : {ws txt : List ℕ} {t : Table} {ask : Ask} {query : Str} 
     → CompletesOn ws txt ask root query budget flat flat′ out out′ r → Completes ws txt t ask query budget flat flat′ out out′ (record { table = t; answer = r })
 completes-table {ws} {txt} {t} {ask} {query} {root} {budget} {flat} {flat′} {out} {out′} {r} o e c = record {
   table = refl;
-  says = λ b h. rw (decided _ b true h o) (subst (CompletesAs ask txt flat flat′ out out′ r) (on-table ws txt t ask budget (output flat out) query) (rw e at (c .says)));
+  says = λ b h. rw (decided _ b true h o) (subst (CompletesAs ask ws txt flat flat′ out out′ r) (on-table ws txt t ask budget (output flat out) query) (rw e at (c .says)));
 }
 
 -- A memory that is not sound is refused, whatever is asked.
@@ -135,6 +134,6 @@ pub completes-unsound : {ws txt : List ℕ} {t : Table} {ask : Ask} {query : Str
 unfolding complete complete-modules completed completion-rows lowest argument-rows
 completes-unsound {ws} {txt} {t} {ask} {query} {budget} {flat} {out} o = record { table = refl; says = λ b h. rw (decided _ b false h o) (go ask) }
   where
-    go : (ask : Ask) → CompletesAs ask txt flat flat out out (Refused Unsound) (completion false (table-in ws txt t) ask budget (output flat out) query)
+    go : (ask : Ask) → CompletesAs ask ws txt flat flat out out (Refused Unsound) (completion false (table-in ws txt t) ask budget (output flat out) query)
     go Names = (refl, refl, refl)
     go (Modules f) = (refl, refl, refl)

@@ -12,17 +12,19 @@ use Rattle.source.specs.Types.{Trie, bind, the-item}
 use Rattle.source.specs.Tries.{trie-find-exact}
 use Rattle.source.specs.Calls.{a-look-up, lowest, argument-rows, found, not-found, refused, found-of, look-up}
 use Rattle.source.proofs.Refusals.{argument-rows-none, look-up-whole}
-use Rattle.memory.specs.Layout.{record-at, Which, modules, item-of, tree, trieˢ, kind, what, symbol-word}
-use Rattle.memory.specs.Sound.{LinkOk, SymbolOk, At}
+use Rattle.memory.specs.Layout.{record-at, Which, modules, item-of, tree, trieˢ, kind, what}
+use Rattle.memory.specs.Sound.{LinkOk, At}
 use Rattle.memory.specs.Read.{symbol-in}
-use Rattle.memory.proofs.RecordOk.{zero-one, record-as}
+use Rattle.memory.proofs.RecordOk.{record-as}
 use Rattle.memory.proofs.Seen.{link-fits, link-later, link-ok}
 use Rattle.tree.specs.Tree.{held}
 use Rattle.lookup.specs.Tries as T
 use Rattle.lookup.specs.Tries.{AnyTrie, FoundIn}
 use Rattle.refusals.specs.declared.Refusal.the-variants.{Unsound}
 use Rattle.table.specs.Header.{IsSound, names-in}
-use Rattle.table.specs.Answers.{name-found, SymbolInside, Finds, FindsModule, FindsModuleOn}
+use Rattle.table.specs.Answers.{name-found, Finds, FindsModule, FindsModuleOn}
+use Rattle.rows.specs.Rows.{SymbolInside}
+use Rattle.rows.proofs.Inside.{symbol-in-inside}
 use Rattle.table.specs.declared.Table.{Table}
 use Rattle.table.specs.declared.Found.{Found}
 use Rattle.table.specs.declared.Found.the-variants.{Refused}
@@ -55,12 +57,7 @@ module _ (query : Str) where
 pub branch-fits : {ws txt : List ℕ} {root r : ℕ} {q : Query} → AnyTrie ws txt root → T.Found ws txt root q r → (r ≡ 0 → ⊥) → (0 < r) × (r * 12 ≤ length ws)
 branch-fits a h z = (omega arith, link-fits (a .trie .sound) (link-later (omega (arith, a .trie .link .earlier)) (h (a .which) (a .trie) .link)))
 
--- The texts of a right record's symbol lie in the lent text.
-module _ {txt r : List ℕ} {used : ℕ} (o : SymbolOk txt used r) (h : used ≤ length txt) where
-  symbol-in-inside : SymbolInside (length txt) (symbol-in r)
-  symbol-in-inside =
-      zero-one (symbol-word r) (o .sort) (λ z. rw z (omega (arith, o .name .inside), omega (arith, o .path z .inside))) (λ z. rw z (omega (arith, o .name .inside)))
-
+-- The texts of a found symbol lie in the lent text.
 pub symbol-inside : {ws txt : List ℕ} {root l : ℕ} → At ws txt modules trieˢ root → LinkOk ws (root + 1) l (kind modules (tree bind)) → 0 < l
     → SymbolInside (length txt) (symbol-in (record-at ws l))
 symbol-inside o i p =

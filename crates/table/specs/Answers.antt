@@ -12,9 +12,8 @@ use Rattle.source.specs.Calls.{look-up}
 use Rattle.memory.specs.Layout.{record-at, Which, modules, Item, item-of, tree, trieˢ, kind, what}
 use Rattle.memory.specs.Sound.{LinkOk, Says, At}
 use Rattle.memory.specs.Read.{symbol-of}
-use Rattle.memory.specs.declared.ModSymbol as M
-use Rattle.memory.specs.declared.ModSymbol.the-variants.{Module, Namespace}
 use Rattle.refusals.specs.Refusals.{number}
+use Rattle.rows.specs.Rows.{SymbolInside}
 use Rattle.table.specs.Header.{IsSound, names-in, modules-in}
 use Rattle.table.specs.declared.Table.{Table}
 use Rattle.table.specs.declared.Looked.{Looked}
@@ -38,12 +37,7 @@ module-found txt (Symbol s) = C.found (symbol-of txt s)
 module-found txt No-symbol = C.not-found
 module-found txt (Not-found r) = C.refused (number r)
 
--- The texts of a symbol lie in a text of so many bytes.
-abbrev pub SymbolInside : ℕ → M.ModSymbol → Type 0
-SymbolInside size (Module name path loaded) = (name .start + name .len ≤ size) × (path .start + path .len ≤ size)
-SymbolInside size (Namespace name loaded) = name .start + name .len ≤ size
-
--- So do those of an answer.
+-- The texts of an answer lie in a text of so many bytes.
 abbrev pub FoundInside : ℕ → FoundModule → Type 0
 FoundInside size (Symbol s) = SymbolInside size s
 FoundInside size No-symbol = Unit {0}

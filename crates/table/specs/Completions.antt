@@ -38,14 +38,14 @@ refused-by (Listed lines entered) = none
 refused-by (Refused r) = some (number r)
 
 -- Listed: so many lines, so many tries entered, and the lines are written from the start of what is lent. Refused: nothing has changed.
-abbrev pub CompletesAs : (ask : Ask) (txt flat flat′ out out′ : List ℕ) (r : Completed) → C.Completed (Item (asked ask)) → Type 0
-CompletesAs ask txt flat flat′ out out′ r (C.listed lines entered) = (r ≡ Listed (length lines) entered) × Written (asked ask) txt flat flat′ out out′ 0 0 lines
-CompletesAs ask txt flat flat′ out out′ r (C.refused n) = (refused-by r ≡ some n) × (flat′ ≡ flat) × (out′ ≡ out)
+abbrev pub CompletesAs : (ask : Ask) (ws txt flat flat′ out out′ : List ℕ) (r : Completed) → C.Completed (Item (asked ask)) → Type 0
+CompletesAs ask ws txt flat flat′ out out′ r (C.listed lines entered) = (r ≡ Listed (length lines) entered) × Written (asked ask) ws txt flat flat′ out out′ 0 0 lines
+CompletesAs ask ws txt flat flat′ out out′ r (C.refused n) = (refused-by r ≡ some n) × (flat′ ≡ flat) × (out′ ≡ out)
 
 -- What a completion hands back, in any memory: the table as it was, and the answer of the definition; b says whether the memory is sound.
 pub record Completes (ws txt : List ℕ) (t : Table) (ask : Ask) (query : Str) (budget : ℕ) (flat flat′ out out′ : List ℕ) (r : Listing) : Type 0 where
   pub table : r .table ≡ t
-  pub says : (b : Bool) → Says b (IsSound ws txt t) → CompletesAs ask txt flat flat′ out out′ (r .answer) (completion b (table-in ws txt t) ask budget (output flat out) query)
+  pub says : (b : Bool) → Says b (IsSound ws txt t) → CompletesAs ask ws txt flat flat′ out out′ (r .answer) (completion b (table-in ws txt t) ask budget (output flat out) query)
 
 -- ---- On a root
 
@@ -64,5 +64,5 @@ answer-in L.Lines = Refused Lines
 pub record CompletesOn (ws txt : List ℕ) (ask : Ask) (root : ℕ) (query : Str) (budget : ℕ) (flat flat′ out out′ : List ℕ) (r : Completed) : Type 0 where
   pub says :
       let tr : Trie (Item (asked ask)) = what (asked ask) ws txt root trieˢ in
-      CompletesAs ask txt flat flat′ out out′ r
+      CompletesAs ask ws txt flat flat′ out out′ r
       (completed true budget (output flat out) query (lines-of ask tr (segments query)) (tries-entered tr (segments query)))

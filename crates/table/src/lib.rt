@@ -118,7 +118,7 @@ impl Table {
         }
     }
 
-    // Completion of names, or of modules and namespaces, in a sound memory. Lines go into `flat`, twelve words to a line, their texts into `out`.
+    // Completion of names, or of modules and namespaces, in a sound memory. Lines go into `flat`, 48 bytes to a line, their texts into `out`.
     pub fn complete_sound(
         self,
         words: &[u32],
@@ -126,7 +126,7 @@ impl Table {
         ask: Ask,
         query: &[u8],
         budget: u32,
-        flat: &mut [u32],
+        flat: &mut [u8],
         out: &mut [u8],
     ) -> Listing
         requires { ⌜ IsSound (now words) (now text) self ⌝ }
@@ -149,7 +149,7 @@ impl Table {
         ask: Ask,
         query: &[u8],
         budget: u32,
-        flat: &mut [u32],
+        flat: &mut [u8],
         out: &mut [u8],
     ) -> Listing
         ensures { λ r. ⌜ Completes (now (words .entry)) (now (text .entry)) self ask (now (query .entry)) budget

@@ -84,7 +84,7 @@ pub fn complete_on(
     root: u32,
     query: &[u8],
     budget: u32,
-    flat: &mut [u32],
+    flat: &mut [u8],
     out: &mut [u8],
 ) -> Completed
     requires { ⌜ At (now words) (now text) (asked ask) trieˢ root ⌝ }

@@ -20,7 +20,7 @@ use Rattle.memory.specs.Layout.{Which, Item, pick}
 use Rattle.memory.specs.Sound.{Says}
 use Rattle.memory.proofs.SoundTable.{sound-table}
 use Rattle.lines.specs.Ask.{asked}
-use Rattle.lines.specs.Output.{signed-word, line-of, Written}
+use Rattle.lines.specs.Output.{line-bytes, signed-word, line-of, Written}
 use Rattle.lines.specs.declared.Ask.{Ask}
 use Rattle.lines.specs.declared.Ask.the-variants.{Names, Modules}
 use Rattle.table.specs.Header.{IsSound, table-in}
@@ -30,9 +30,9 @@ use Rattle.table.specs.declared.Completed.{Completed}
 use Rattle.table.specs.declared.Request.{Request}
 use Rattle.table.specs.declared.Listing.{Listing}
 use Rattle.lines.specs.Output.{matched-word}
-use Rattle.rows.specs.Rows.{words-from, row-in}
+use Rattle.rows.specs.Rows.{words-from, item-in, row-in, ItemInside}
 use Rattle.rows.proofs.Rows.{item-seen-is}
-use Rattle.rows.proofs.Written.{written-records}
+use Rattle.rows.proofs.Written.{written-records, written-items}
 use Rattle.typed.specs.Lines.{held, held-length, line-of-row, line-at, stored-lines, lines-in, record-seen}
 use Rattle.typed.specs.Completions.{output, Shown, ShownAs, FlatCompletes, Completes}
 use Rattle.typed.specs.declared.Line.{Line}
@@ -67,8 +67,13 @@ unfolding line-of
 rows-seen w txt [] a = refl
 rows-seen w txt (r ∷ rows) a = ap₂ (λ (x : Option (LineRecord (Item w))) (xs : List (Option (LineRecord (Item w)))). x ∷ xs) (record-seen-is w txt r (a .0)) (rows-seen w txt rows (a .1))
 
-module _ (ask : Ask) (txt flat flat′ out out′ : List ℕ) (r : Completed) (ls ls′ : List Line) where
-  shown : (lines : List (S.Line (Item (asked ask)))) → Written (asked ask) txt flat flat′ out out′ 0 0 lines → Allˡ (λ l. Held (l .match-length)) lines
+rows-inside : (w : Which) (txt : List ℕ) (rows : List (List ℕ)) → Allˡ (λ r. ItemInside (length txt) (item-in w r)) rows
+    → Allˡ (λ l. ItemInside (length txt) (l .item)) (map (λ r. line-of-row (row-in w r)) rows)
+rows-inside w txt [] a = tt
+rows-inside w txt (r ∷ rows) a = (a .0, rows-inside w txt rows (a .1))
+
+module _ (ask : Ask) (ws txt flat flat′ out out′ : List ℕ) (r : Completed) (ls ls′ : List Line) where
+  shown : (lines : List (S.Line (Item (asked ask)))) → Written (asked ask) ws txt flat flat′ out out′ 0 0 lines → Allˡ (λ l. Held (l .match-length)) lines
       → length lines ≤ length ls → ls′ ≡ stored-lines (line-at ask flat′) ls (length lines) → Shown (asked ask) txt ls ls′ lines
   shown lines w a h e =
       let n : ℕ = length lines in
@@ -79,10 +84,11 @@ module _ (ask : Ask) (txt flat flat′ out out′ : List ℕ) (r : Completed) (l
       record {
         first = ap (λ l. map (record-seen (asked ask) txt) (take n l)) all ∙ ap (map (record-seen (asked ask) txt)) (take-at made (drop n ls) n size)
             ∙ rows-seen (asked ask) txt rows (subst (Allˡ (λ s. Held (s .match-length))) (sym (written-records w)) (output-held 0 lines a)) ∙ ap (map some) (written-records w);
+        inside = subst (Allˡ (λ l. ItemInside (length txt) (l .item))) (sym (ap (take n) all ∙ take-at made (drop n ls) n size)) (rows-inside (asked ask) txt rows (written-items w));
         after = ap (drop n) all ∙ drop-at made (drop n ls) n size;
       }
 
-  shown-as : (x : C.Completed (Item (asked ask))) → CompletesAs ask txt flat flat′ out out′ r x → AnswerHeld x → lines-in r ≤ length ls → ls′ ≡ stored-lines (line-at ask flat′) ls (lines-in r) → ShownAs ask txt ls ls′ x
+  shown-as : (x : C.Completed (Item (asked ask))) → CompletesAs ask ws txt flat flat′ out out′ r x → AnswerHeld x → lines-in r ≤ length ls → ls′ ≡ stored-lines (line-at ask flat′) ls (lines-in r) → ShownAs ask txt ls ls′ x
   shown-as (C.listed lines entered) c a h e = shown lines (c .1) a (omega (arith, h, ap lines-in (c .0))) (e ∙ ap (stored-lines (line-at ask flat′) ls) (ap lines-in (c .0)))
   shown-as (C.refused n) c a h e = e ∙ ap (stored-lines (line-at ask flat′) ls) (refused-none r (c .0))
 
@@ -96,7 +102,7 @@ all-held ws txt t ask query budget false s o = go ask
     go (Modules f) = tt
 
 module _ {ws txt : List ℕ} {t : Table} {q : Request} {query : Str} {flat flat′ out out′ : List ℕ} {r : Listing} {n : ℕ} where
-  pub asked-at : {room : ℕ} → FlatCompletes ws txt t q query room flat flat′ out out′ r → n ≡ lines-in (r .answer) → length flat′ ≡ length flat → (n ≤ room) × (n * 12 ≤ length flat′)
+  pub asked-at : {room : ℕ} → FlatCompletes ws txt t q query room flat flat′ out out′ r → n ≡ lines-in (r .answer) → length flat′ ≡ length flat → (n ≤ room) × (n * line-bytes ≤ length flat′)
   asked-at c e l = (omega (arith, c .fit, e), omega (arith, c .lent, e, l))
 
   pub told-at : {ls ls′ : List Line} → FlatCompletes ws txt t q query (length ls) flat flat′ out out′ r → n ≡ lines-in (r .answer) → ls′ ≡ stored-lines (line-at (q .ask) flat′) ls n
@@ -104,6 +110,6 @@ module _ {ws txt : List ℕ} {t : Table} {q : Request} {query : Str} {flat flat�
   told-at {ls} {ls′} c e s = record {
     table = c .table;
     says = c .says;
-    shows = λ b h. shown-as (q .ask) txt flat flat′ out out′ (r .answer) ls ls′ (completion b (table-in ws txt t) (q .ask) (q .budget) (output (length ls) flat out) query) (c .says b h)
+    shows = λ b h. shown-as (q .ask) ws txt flat flat′ out out′ (r .answer) ls ls′ (completion b (table-in ws txt t) (q .ask) (q .budget) (output (length ls) flat out) query) (c .says b h)
         (all-held ws txt t (q .ask) query (q .budget) b h (output (length ls) flat out)) (c .fit) (s ∙ ap (stored-lines (line-at (q .ask) flat′) ls) e);
   }

@@ -1,4 +1,4 @@
--- Laws of `stored-lines`: lines that are stored one after another are the lines of the rows that the flat words hold.
+-- Laws of `stored-lines`: lines that are stored one after another are the lines of the rows that the bytes hold.
 use mathlib.Core.Path.{_≡_, refl, sym, ap, ap₂, _∙_}
 use Prim.Native.Nat.{ℕ, zero, suc, _+_, _≤_}
 use mathlib.Core.List.{List, [], _∷_, _++_, map, append-assoc}
@@ -50,7 +50,7 @@ unfolding from words-from line-at
 from-rows ask flat i zero = refl
 from-rows ask flat i (suc n) = ap (_∷_ (line-at ask flat i)) (from-rows ask flat (suc i) n)
 
--- The lines of the first rows of the flat words.
+-- The lines of the first rows of the bytes.
 pub stored-rows : (ask : Ask) (flat : List ℕ) (n : ℕ) (ls : List Line) → n ≤ length ls
     → stored-lines (line-at ask flat) ls n ≡ map (λ r. line-of-row (row-in (asked ask) r)) (words-from flat 0 n) ++ drop n ls
 stored-rows ask flat n ls h = stored-are (line-at ask flat) ls n h ∙ ap (λ l. l ++ drop n ls) (from-rows ask flat 0 n)

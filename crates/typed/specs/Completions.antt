@@ -9,10 +9,13 @@ use Rattle.source.specs.Text.{Str}
 use Rattle.source.specs.Table as S
 use Rattle.source.specs.Calls as C
 use Rattle.source.specs.Calls.{Output, output-lines}
+use Rattle.source.specs.Shared.{Allˡ}
 use Rattle.memory.specs.Layout as L
 use Rattle.memory.specs.Sound.{Says}
 use Rattle.lines.specs.Ask.{asked}
+use Rattle.lines.specs.Output.{line-bytes}
 use Rattle.lines.specs.declared.Ask.{Ask}
+use Rattle.rows.specs.Rows.{ItemInside}
 use Rattle.table.specs.Header.{IsSound, table-in}
 use Rattle.table.specs.Completions as T
 use Rattle.table.specs.Completions.{completion}
@@ -22,13 +25,14 @@ use Rattle.table.specs.declared.Listing.{Listing}
 use Rattle.typed.specs.declared.Line.{Line}
 use Rattle.typed.specs.Lines.{lines-in, record-seen}
 
--- The output lent: a line takes a line struct and twelve flat words; lines and bytes past those that 32 bits count are not lent.
+-- The output lent: a line takes a line struct and 48 bytes; lines and bytes past those that 32 bits count are not lent.
 abbrev pub output : (room : ℕ) (flat out : List ℕ) → Output
-output room flat out = record { lines = min (min (length flat / 12) room) 4294967295; text = min (length out) 4294967295 }
+output room flat out = record { lines = min (min (length flat / line-bytes) room) 4294967295; text = min (length out) 4294967295 }
 
--- The lines stand in the first line structs, and those after are as they were.
+-- The lines stand in the first line structs, their items' texts in the table's text, and the structs after are as they were.
 pub record Shown (w : L.Which) (txt : List ℕ) (ls ls′ : List Line) (lines : List (S.Line (L.Item w))) : Type 0 where
   pub first : map (record-seen w txt) (take (length lines) ls′) ≡ map some (output-lines 0 lines)
+  pub inside : Allˡ (λ l. ItemInside (length txt) (l .item)) (take (length lines) ls′)
   pub after : drop (length lines) ls′ ≡ drop (length lines) ls
 
 -- By the requirements' answer: listed, the lines are shown; refused, no line has changed.
@@ -41,15 +45,15 @@ module _ (ws txt : List ℕ) (t : Table) (q : Request) (query : Str) where
   abbrev pub answer : (b : Bool) → Output → C.Completed (L.Item (asked (q .ask)))
   answer b out = completion b (table-in ws txt t) (q .ask) (q .budget) out query
 
-  -- The completion into flat words, lent for at most so many lines; the table comes back as it was.
+  -- The completion into bytes, lent for at most so many lines; the table comes back as it was.
   pub record FlatCompletes (room : ℕ) (flat flat′ out out′ : List ℕ) (r : Listing) : Type 0 where
     pub table : r .table ≡ t
-    pub says : (b : Bool) → Says b (IsSound ws txt t) → T.CompletesAs (q .ask) txt flat flat′ out out′ (r .answer) (answer b (output room flat out))
+    pub says : (b : Bool) → Says b (IsSound ws txt t) → T.CompletesAs (q .ask) ws txt flat flat′ out out′ (r .answer) (answer b (output room flat out))
     pub fit : lines-in (r .answer) ≤ room
-    pub lent : lines-in (r .answer) * 12 ≤ length flat
+    pub lent : lines-in (r .answer) * line-bytes ≤ length flat
 
-  -- The completion into line structs: as into flat words (table's CompletesAs), and the lines are shown.
+  -- The completion into line structs: as into bytes (table's CompletesAs), and the lines are shown.
   pub record Completes (ls ls′ : List Line) (flat flat′ out out′ : List ℕ) (r : Listing) : Type 0 where
     pub table : r .table ≡ t
-    pub says : (b : Bool) → Says b (IsSound ws txt t) → T.CompletesAs (q .ask) txt flat flat′ out out′ (r .answer) (answer b (output (length ls) flat out))
+    pub says : (b : Bool) → Says b (IsSound ws txt t) → T.CompletesAs (q .ask) ws txt flat flat′ out out′ (r .answer) (answer b (output (length ls) flat out))
     pub shows : (b : Bool) → Says b (IsSound ws txt t) → ShownAs (q .ask) txt ls ls′ (answer b (output (length ls) flat out))

@@ -29,7 +29,7 @@ held-length m = pick (eqb m 4294967295) (negsuc 0) (held m)
 abbrev pub line-of-row : Row → Line
 line-of-row r = record { «match_length» = held-length (r .matched); item = r .item; candidate = r .candidate; annotation = r .annotation }
 
--- Line k of the flat words.
+-- Line k of the bytes.
 unfoldable pub line-at : Ask → List ℕ → ℕ → Line
 line-at ask flat k = line-of-row (row-in (asked ask) (words-at flat k))
 

@@ -12,6 +12,7 @@ use table::Table;
 ghost use mathlib.Core.Path.{_≡_};
 ghost use Prim.Native.Nat.{_+_, _*_, _/_, _≤_, _<_, min};
 ghost use lib.ListN.{length, set};
+ghost use Rattle.lines.specs.Output.{line-bytes};
 ghost use Rattle.typed.specs.Lines.{held-length, line-of-row, line-at, stored-lines, lines-in};
 ghost use Rattle.typed.specs.Completions.{FlatCompletes, Completes};
 
@@ -52,9 +53,9 @@ fn line_of(r: Row) -> Line
     }
 }
 
-// Line `k` of the flat words.
-pub fn line_at(flat: &[u32], k: usize, ask: Ask) -> Line
-    requires { ⌜ k * 12 + 12 ≤ length (now flat) ⌝ }
+// Line `k` of the bytes.
+pub fn line_at(flat: &[u8], k: usize, ask: Ask) -> Line
+    requires { ⌜ k * line-bytes + line-bytes ≤ length (now flat) ⌝ }
     ensures { λ r. ⌜ r ≡ line-at ask (now (flat .entry)) k ⌝ }
 {
     line_of(rows::row_at(flat, k, ask))
@@ -68,9 +69,9 @@ pub fn store_line(lines: &mut [Line], at: usize, line: Line)
     lines[at] = line;
 }
 
-// Stores the first `n` lines of the flat words.
-pub fn store_lines(lines: &mut [Line], flat: &[u32], n: usize, ask: Ask)
-    requires { ⌜ (n ≤ length (now lines)) × (n * 12 ≤ length (now flat)) ⌝ }
+// Stores the first `n` lines of the bytes.
+pub fn store_lines(lines: &mut [Line], flat: &[u8], n: usize, ask: Ask)
+    requires { ⌜ (n ≤ length (now lines)) × (n * line-bytes ≤ length (now flat)) ⌝ }
     ensures { λ _. ⌜ now (lines .exit) ≡ stored-lines (line-at ask (now (flat .entry))) (now (lines .entry)) n ⌝ }
 {
     let mut i = 0;
@@ -92,17 +93,17 @@ fn lines_in(r: Listing) -> usize
     }
 }
 
-// How many of `flat` words are lent for at most `room` lines.
-fn words_for(flat: usize, room: usize) -> usize
-    ensures { λ r. ⌜ r ≡ min (flat / 12) room * 12 ⌝ }
+// How many of `flat` bytes are lent for at most `room` lines.
+fn bytes_for(flat: usize, room: usize) -> usize
+    ensures { λ r. ⌜ r ≡ min (flat / line-bytes) room * line-bytes ⌝ }
 {
-    if flat / lines::LINE <= room {
-        return flat / lines::LINE * lines::LINE;
+    if flat / lines::LINE_BYTES <= room {
+        return flat / lines::LINE_BYTES * lines::LINE_BYTES;
     }
-    room * lines::LINE
+    room * lines::LINE_BYTES
 }
 
-// Completion into flat words, lent for at most `room` lines.
+// Completion into bytes, lent for at most `room` lines.
 fn complete_flat(
     table: Table,
     words: &[u32],
@@ -110,7 +111,7 @@ fn complete_flat(
     request: Request,
     query: &[u8],
     room: usize,
-    flat: &mut [u32],
+    flat: &mut [u8],
     out: &mut [u8],
 ) -> Listing
     ensures { λ r. ⌜ FlatCompletes (now (words .entry)) (now (text .entry)) table request (now (query .entry)) room
@@ -119,7 +120,7 @@ fn complete_flat(
     if table.is_sound(words, text) {
         let ask = request.ask;
         let budget = request.budget;
-        let lent = words_for(flat.len(), room);
+        let lent = bytes_for(flat.len(), room);
         return table.complete_sound(words, text, ask, query, budget, &mut flat[..lent], out);
     }
     Listing {
@@ -128,7 +129,7 @@ fn complete_flat(
     }
 }
 
-// Completion into a lent slice of lines, their texts into `out`. The flat words are lent for the work, twelve to a line.
+// Completion into a lent slice of lines, their texts into `out`. The bytes of `flat` are lent for the work, 48 to a line.
 pub fn complete(
     table: Table,
     words: &[u32],
@@ -136,7 +137,7 @@ pub fn complete(
     request: Request,
     query: &[u8],
     lines: &mut [Line],
-    flat: &mut [u32],
+    flat: &mut [u8],
     out: &mut [u8],
 ) -> Listing
     ensures { λ r. ⌜ Completes (now (words .entry)) (now (text .entry)) table request (now (query .entry)) (now (lines .entry)) (now (lines .exit))

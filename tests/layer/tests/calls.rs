@@ -79,7 +79,7 @@ fn listed<A: PartialEq + std::fmt::Debug>(
     let before = out.clone();
     let answer = complete(t, filter, query, budget, &mut out);
     let size = |l: &[CompletionResult<A>]| l.iter().map(|r| r.candidate.len() + r.annotation.len()).sum::<usize>();
-    let fits = |l: &[CompletionResult<A>]| l.len() <= room.0.min(512) && size(l) <= room.1;
+    let fits = |l: &[CompletionResult<A>]| l.len() <= room.0 && size(l) <= room.1;
     let expected = expected.and_then(|(l, e)| if fits(&l) { Ok((l, e)) } else { Err(Refusal::Lines) });
     match expected {
         Err(r) => {

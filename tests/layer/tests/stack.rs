@@ -193,7 +193,7 @@ fn completions() {
     for (what, table) in tables() {
         for q in queries() {
             for ask in [None, Some(0), Some(1), Some(2), Some(3)] {
-                for (budget, room) in [(u32::MAX, 512), (u32::MAX, 0), (16, 512)] {
+                for (budget, room) in [(u32::MAX, 2000), (u32::MAX, 0), (16, 512)] {
                     let mut out = Output::with_room(room, 65536);
                     let mut answer = 0;
                     let used = used_by(stack, || answer = complete(&table, ask, &q, budget, &mut out).err().unwrap_or(0));

@@ -54,9 +54,9 @@ extern "C" {
     fn name_table_find_sound(words: *const u32, nwords: usize, text: Bytes, ntext: usize, names: u32, modules: u32, records: u32, used: u32,
         query: Bytes, nquery: usize) -> Looked;
     fn name_table_complete(words: *const u32, nwords: usize, text: Bytes, ntext: usize, names: u32, modules: u32, records: u32, used: u32,
-        ask: u32, query: Bytes, nquery: usize, budget: u32, flat: Words, nflat: usize, out: *mut u8, nout: usize) -> Listing;
+        ask: u32, query: Bytes, nquery: usize, budget: u32, lines: *mut u8, nlines: usize, out: *mut u8, nout: usize) -> Listing;
     fn name_table_complete_sound(words: *const u32, nwords: usize, text: Bytes, ntext: usize, names: u32, modules: u32, records: u32, used: u32,
-        ask: u32, query: Bytes, nquery: usize, budget: u32, flat: Words, nflat: usize, out: *mut u8, nout: usize) -> Listing;
+        ask: u32, query: Bytes, nquery: usize, budget: u32, lines: *mut u8, nlines: usize, out: *mut u8, nout: usize) -> Listing;
 }
 
 /// The soundness test.
@@ -156,7 +156,7 @@ impl Ask {
 /// The output lent for a completion.
 #[derive(Clone, PartialEq)]
 pub struct Output {
-    pub flat: Vec<u32>,
+    pub lines: Vec<u8>,
     pub text: Vec<u8>,
 }
 
@@ -175,7 +175,7 @@ pub fn complete(m: &Memory, ask: Ask, query: &[u8], budget: u32, out: &mut Outpu
     #[rustfmt::skip]
     let r = unsafe {
         name_table_complete(m.words.as_ptr(), m.words.len(), m.text.as_ptr(), m.text.len(), h.names, h.modules, h.records, h.text,
-            ask.number(), query.as_ptr(), query.len(), budget, out.flat.as_mut_ptr(), out.flat.len(), out.text.as_mut_ptr(), out.text.len())
+            ask.number(), query.as_ptr(), query.len(), budget, out.lines.as_mut_ptr(), out.lines.len(), out.text.as_mut_ptr(), out.text.len())
     };
     r.result()
 }
@@ -188,19 +188,24 @@ pub unsafe fn complete_sound(m: &Memory, ask: Ask, query: &[u8], budget: u32, ou
     let h = m.header;
     #[rustfmt::skip]
     let r = name_table_complete_sound(m.words.as_ptr(), m.words.len(), m.text.as_ptr(), m.text.len(), h.names, h.modules, h.records, h.text,
-        ask.number(), query.as_ptr(), query.len(), budget, out.flat.as_mut_ptr(), out.flat.len(), out.text.as_mut_ptr(), out.text.len());
+        ask.number(), query.as_ptr(), query.len(), budget, out.lines.as_mut_ptr(), out.lines.len(), out.text.as_mut_ptr(), out.text.len());
     r.result()
 }
 
 impl Output {
     /// Room for so many lines and bytes, filled with what a call must leave where it writes nothing.
     pub fn with_room(lines: usize, bytes: usize) -> Output {
-        Output { flat: vec![0xA5A5_A5A5; lines * 12], text: vec![0x5A; bytes] }
+        Output { lines: vec![0xA5; lines * 48], text: vec![0x5A; bytes] }
+    }
+
+    /// The twelve words of line `k`, each four bytes, lowest first.
+    pub fn words(&self, k: usize) -> [u32; 12] {
+        std::array::from_fn(|i| u32::from_le_bytes(self.lines[k * 48 + i * 4..][..4].try_into().unwrap()))
     }
 
     /// Line `k`, its item read by `item` from the twelve words.
     pub fn line<A>(&self, k: usize, item: impl Fn(&[u32]) -> A) -> CompletionResult<A> {
-        let w = &self.flat[k * 12..k * 12 + 12];
+        let w = &self.words(k)[..];
         let part = |start: u32, len: u32| Str::from(&self.text[start as usize..(start + len) as usize]);
         CompletionResult { match_length: w[0] as i32, item: item(w), candidate: part(w[1], w[2]), annotation: part(w[3], w[4]) }
     }

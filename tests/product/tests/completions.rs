@@ -38,11 +38,13 @@ fn hold<A: PartialEq + Debug>(
                 let mut used = 0;
                 for (k, r) in results.iter().enumerate() {
                     assert_eq!(&out.line(k, item), r, "line {k} of {ask:?} {query:?}");
-                    assert_eq!(out.flat[k * 12 + 1] as usize, used);
-                    assert_eq!(out.flat[k * 12 + 3] as usize, used + r.candidate.len());
+                    let w = out.words(k);
+                    assert_eq!(w[1] as usize, used);
+                    assert_eq!(w[3] as usize, used + r.candidate.len());
+                    assert_eq!(w[11], 0);
                     used += r.candidate.len() + r.annotation.len();
                 }
-                assert!(out.flat[results.len() * 12..].iter().all(|&w| w == 0xA5A5_A5A5));
+                assert!(out.lines[results.len() * 48..].iter().all(|&b| b == 0xA5));
                 assert!(out.text[used..].iter().all(|&b| b == 0x5A));
             }
         }

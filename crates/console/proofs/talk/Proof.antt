@@ -10,7 +10,7 @@ use Rattle.console.proofs.Steady.{on}
 use borrow.Author.Needs.{needs}
 
 abbrev Inv-loop : tie.InvT-loop
-Inv-loop words₀ text₀ flat₀ pane₀ reply₀ input₀ table₀ have₀ left₀ t14 t15 t16 words text flat pane reply input table have left = (length words ≡ 16384) × (length text ≡ 32768) × (length flat ≡ 6144) × (length pane ≡ 32768) × (length reply ≡ 65536) × (length input ≡ 65536) × (have ≤ 2049) × IsSound words text table
+Inv-loop words₀ text₀ flat₀ pane₀ reply₀ input₀ table₀ have₀ left₀ t14 t15 t16 words text flat pane reply input table have left = (length words ≡ 16384) × (length text ≡ 32768) × (length flat ≡ 24576) × (length pane ≡ 32768) × (length reply ≡ 65536) × (length input ≡ 65536) × (have ≤ 2049) × IsSound words text table
 
 abbrev μ-loop : tie.MeasureT-loop
 μ-loop words₀ text₀ flat₀ pane₀ reply₀ input₀ table₀ have₀ left₀ t14 t15 t16 words text flat pane reply input table have left = left

@@ -24,10 +24,10 @@ line-spec =
     {- same-length-2 -}
     (λ c. search needs)
     {- returns -}
-    (λ c. (listed-names (c .before .before .before .before .name-line .ensures .0) (c .before .before .before .before .before .before .before .before .before .before .enum-told .given .1) (rw (c .before .before .before .before .before .before .before .before .outermost .ensures) at (c .before .before .before .before .name-line .ensures .1))))
+    (λ c. (listed-names (c .before .before .before .before .before .before .before .before .before .before .before .before .before .before .before .before .pre .branch-at) (c .before .before .before .before .name-line .ensures .0) (c .before .before .before .before .before .before .before .before .before .before .enum-told .given .1) (rw (c .before .before .before .before .before .before .before .before .outermost .ensures) at (c .before .before .before .before .name-line .ensures .1))))
     {- same-length-3 -}
     (λ c. search needs)
     {- same-length-4 -}
     (λ c. search needs)
     {- returns-2 -}
-    (λ c. (listed-modules (c .before .before .before .before .module-line .ensures .0) (c .before .before .before .before .before .before .before .before .before .ask .given .0 .0) (c .before .before .before .before .before .before .before .before .before .ask .given .1) (c .before .before .before .before .module-line .ensures .1))))
+    (λ c. (listed-modules (c .before .before .before .before .before .before .before .before .before .before .before .before .before .before .before .pre .branch-at) (c .before .before .before .before .module-line .ensures .0) (c .before .before .before .before .before .before .before .before .before .ask .given .0 .0) (c .before .before .before .before .before .before .before .before .before .ask .given .1) (c .before .before .before .before .module-line .ensures .1))))

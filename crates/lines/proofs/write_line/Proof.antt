@@ -35,19 +35,19 @@ write-line-spec =
     (λ c. search needs)
     {- line-row-requires -}
     (λ c κs. omega (arith, c .before .before .before .before .before .before .put-candidate .ensures .end, candidate-length (c .before .before .before .before .before .before .before .before .before .before .before .before .before .before .before .pre .0), c .before .before .before .before .before .before .before .before .before .before .before .before .before .before .before .pre .1 .small, c .before .before .before .before .before .before .before .before .before .before .before .before .before .before .before .pre .0 .branch .some, c .before .before .before .before .before .before .before .before .before .before .before .before .before .before .before .pre .0 .branch .within))
-    {- mul-put-row -}
+    {- sub-store -}
     (λ c. search needs)
-    {- sub-put-row -}
+    {- part-store-start -}
     (λ c. search needs)
-    {- part-put-row-start -}
+    {- part-store-end -}
     (λ c. search needs)
-    {- part-put-row-end -}
+    {- slice-aggregate-store -}
     (λ c. search needs)
-    {- put-row-requires -}
+    {- store-requires -}
     (λ c κs. search needs)
     {- same-length -}
     (λ c. search needs)
     {- same-length-2 -}
     (λ c. search needs)
     {- returns -}
-    (λ c. line-put (c .before .before .before .before .before .before .before .before .before .before .before .before .before .before .before .before .before .before .before .before .before .pre .0) (c .before .before .before .before .before .before .before .before .before .before .before .before .before .before .before .before .before .before .before .before .before .pre .1) (c .before .before .before .before .before .before .before .before .before .before .before .before .put-candidate .ensures) (c .before .before .before .before .before .before .before .before .put-text .ensures) (c .before .before .before .before .before .line-row .ensures) (c .before .before .put-row .ensures)))
+    (λ c. line-put (c .before .before .before .before .before .before .before .before .before .before .before .before .before .before .before .before .before .before .before .before .before .pre .0) (c .before .before .before .before .before .before .before .before .before .before .before .before .before .before .before .before .before .before .before .before .before .pre .1) (c .before .before .before .before .before .before .before .before .before .before .before .before .put-candidate .ensures) (c .before .before .before .before .before .before .before .before .put-text .ensures) (c .before .before .before .before .before .line-row .ensures) (c .before .before .store .ensures)))

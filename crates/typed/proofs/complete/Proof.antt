@@ -1,4 +1,4 @@
--- `typed::complete` meets its contract: a walk of its MIR, by hand. The flat words are lent again to `complete_flat`, come back, and are lent shared to `store_lines`; the text and the lines are passed on for good. Written by tools/walk/gen_complete.py.
+-- `typed::complete` meets its contract: a walk of its MIR, by hand. The bytes are lent again to `complete_flat`, come back, and are lent shared to `store_lines`; the text and the lines are passed on for good. Written by tools/walk/gen_complete.py.
 -- Assumes nothing.
 use mathlib.Core.Path.{_≡_, refl, sym, ap, subst}
 use Prim.Native.Nat.{ℕ, _*_, _≤_, _<_, _^_}
@@ -39,6 +39,7 @@ use denote.Triple.Clauses.{ensured, lasts}
 use denote.Triple.Table.{entered, cited}
 use denote.Triple.Walked.{says, Stays, stay-none, stay-slice, gave-slice, stay-none-slice, walkOf, AllGo, goes-none, goes-slice, goes-gave-slice, goes-none-slice, Walks, ends-at, walked, walk-meets}
 use denote.Exit.{yes}
+use Rattle.lines.specs.Output.{line-bytes}
 use Rattle.lines.specs.declared.Ask.{Ask}
 use Rattle.lines.proofs.Ask as Q
 use Rattle.lines.proofs.Ask.Laws as Q′
@@ -86,7 +87,7 @@ stayed = (
         stay-none (λ _. Rq.the-row) yes,
         (
           stay-none-slice (2 ∷ []) tt (plain (λ _. u8)) yes,
-          (gave-slice (3 ∷ []) tt (plain (λ _. T.the-row)), (stay-slice (4 ∷ []) tt (plain (λ _. u32)), (gave-slice (5 ∷ []) tt (plain (λ _. u8)), tt))),
+          (gave-slice (3 ∷ []) tt (plain (λ _. T.the-row)), (stay-slice (4 ∷ []) tt (plain (λ _. u8)), (gave-slice (5 ∷ []) tt (plain (λ _. u8)), tt))),
         ),
       ),
     ),
@@ -106,7 +107,7 @@ module _ {M : Type 1} (𝓤 : URA M) (H : Heap 𝓤) (A : Atoms 𝓤) (mem : Mem
 module _ {M : Type 1} (𝓤 : URA M) (H : Heap 𝓤) (A : Atoms 𝓤) (W : Given 𝓤 H A) (mem : Memory → SProp 𝓤) (run : Routine → Fun 𝓤)
     (κ0 κ1 κ2 κ3 κ4 κ5 : Lft) (q0 q1 q2 q3 q4 q5 : Share) (t : Table) (t-is : Is Tb.the-row t (LL.val Tb.the-type Tb′.the-laws t ∷ []))
     (w x : RefT (List ℕ)) (rq : Request) (rq-is : Is Rq.the-row rq (LL.val Rq.the-type Rq′.the-laws rq ∷ [])) (y : RefT (List ℕ)) (b o : ℕ) (γ : GName) (fs : List ℕ) (ou : RefT (List ℕ)) (ln : RefT (List Line)) where
-  -- the flat words, under the name δ at the list l
+  -- the bytes, under the name δ at the list l
   abbrev f : GName → List ℕ → RefT (List ℕ)
   f δ l = record { ptr = (b, o); name = δ; now = l }
 
@@ -179,21 +180,21 @@ module _ {M : Type 1} (𝓤 : URA M) (H : Heap 𝓤) (A : Atoms 𝓤) (W : Given
 
   exits : (r : Listing) (u : Val) (gs os : List ℕ) (zs : List Line) → Is R.the-row r (u ∷ []) → Completes (w .now) (x .now) t rq (y .now) (ln .now) zs fs gs (ou .now) os r
       → length gs ≡ length fs → length os ≡ length (ou .now) → length zs ≡ m
-      → ent 𝓤 (⋆ 𝓤 H A (‵ (flft κ0 q0) ∷ ‵ (flft κ1 q1) ∷ ‵ (flft κ2 q2) ∷ ‵ (flft κ3 q3) ∷ ‵ (flft κ4 q4) ∷ ‵ (flft κ5 q5) ∷ ‵ Words ∷ ‵ Text ∷ ‵ Query ∷ ‵ (MutSlice (named 4) κ4 u32 .own (f γ gs) (v₆ ∷ [])) ∷ ‵ (finally u8 (ou .name) os) ∷ ‵ (finally T.the-row (ln .name) zs) ∷ [])) (Post u)
+      → ent 𝓤 (⋆ 𝓤 H A (‵ (flft κ0 q0) ∷ ‵ (flft κ1 q1) ∷ ‵ (flft κ2 q2) ∷ ‵ (flft κ3 q3) ∷ ‵ (flft κ4 q4) ∷ ‵ (flft κ5 q5) ∷ ‵ Words ∷ ‵ Text ∷ ‵ Query ∷ ‵ (MutSlice (named 4) κ4 u8 .own (f γ gs) (v₆ ∷ [])) ∷ ‵ (finally u8 (ou .name) os) ∷ ‵ (finally T.the-row (ln .name) zs) ∷ [])) (Post u)
   exits r u gs os zs r-is said lg lo lz =
-      qed W (‵ (flft κ0 q0) ∷ ‵ (flft κ1 q1) ∷ ‵ (flft κ2 q2) ∷ ‵ (flft κ3 q3) ∷ ‵ (flft κ4 q4) ∷ ‵ (flft κ5 q5) ∷ ‵ Words ∷ ‵ Text ∷ ‵ Query ∷ ‵ (MutSlice (named 4) κ4 u32 .own (f γ gs) (v₆ ∷ [])) ∷ ‵ (finally u8 (ou .name) os) ∷ ‵ (finally T.the-row (ln .name) zs) ∷ []) ∵
+      qed W (‵ (flft κ0 q0) ∷ ‵ (flft κ1 q1) ∷ ‵ (flft κ2 q2) ∷ ‵ (flft κ3 q3) ∷ ‵ (flft κ4 q4) ∷ ‵ (flft κ5 q5) ∷ ‵ Words ∷ ‵ Text ∷ ‵ Query ∷ ‵ (MutSlice (named 4) κ4 u8 .own (f γ gs) (v₆ ∷ [])) ∷ ‵ (finally u8 (ou .name) os) ∷ ‵ (finally T.the-row (ln .name) zs) ∷ []) ∵
       suffices ! _ (ends-at 𝓤 H A complete.ended stayed (complete.clauses 𝓤 H A mem run) W (((κ0, (κ1, (κ2, (κ3, (κ4, (κ5, tt)))))), (q0, (q1, (q2, (q3, (q4, (q5, tt)))))), tt, a, vals), tt) u r (tt, (tt, (tt, (tt, (tt, (zs, (gs, (os, tt)))))))) (tt, (tt, (tt, (tt, (tt, (lz, (lg, (lo, tt))))))))) $ says ! said $
       nothing ! $ move ! (6 ∷ 0 ∷ []) $ join ! $ move ! (5 ∷ 0 ∷ []) $ join ! $ move ! (4 ∷ 0 ∷ []) $ join ! $ move ! (3 ∷ 0 ∷ []) $ join ! $ move ! (2 ∷ 0 ∷ []) $ join ! $ move ! (1 ∷ 0 ∷ []) $ join ! $ frame ! $
       nothing ! $ move ! (5 ∷ 0 ∷ []) $ fjoin ! $ move ! (4 ∷ 0 ∷ []) $ fjoin ! $ move ! (4 ∷ 0 ∷ []) $ fjoin ! $ move ! (3 ∷ 0 ∷ []) $ fjoin ! $ owned ! Rq.the-row (Is Rq.the-row) (LL.makes Rq.the-type Rq′.the-plain 𝓤 H A) rq _ rq-is $ fjoin ! $ move ! (2 ∷ 0 ∷ []) $ fjoin ! $ move ! (1 ∷ 0 ∷ []) $ fjoin ! $ owned ! Tb.the-row (Is Tb.the-row) (LL.makes Tb.the-type Tb′.the-plain 𝓤 H A) t _ t-is $ fjoin ! $ owned ! R.the-row (Is R.the-row) (LL.makes R.the-type R′.the-plain 𝓤 H A) r _ r-is $ move ! (1 ∷ 0 ∷ []) $
       done !
 
-  -- the call of `complete_flat`, with the flat words lent again for ν under the name δ
+  -- the call of `complete_flat`, with the bytes lent again for ν under the name δ
   abbrev to-flat : ℕ → GName → Flat 𝓤 H A mem run .Ghost
   to-flat ν δ = (((κ0, (κ1, (κ2, (ν ∷ [], (κ5, tt))))), (q0, (q1, (q2, (fullShare, (q5, tt))))), tt, (t, (w, (x, (rq, (y, (m, (f δ fs, (ou, tt)))))))), (v₁ ∷ [], (v₂ ∷ [], (v₃ ∷ [], (vq ∷ [], (v₄ ∷ [], (vint w64 m ∷ [], (v₆ ∷ [], (v₇ ∷ [], tt))))))))), tt)
 
-  goes-flat : (ν : ℕ) (δ : GName) → m < 2 ^ 64 → ent 𝓤 (⋆ 𝓤 H A (‵ Words ∷ ‵ Text ∷ ‵ Query ∷ ‵ Out ∷ ‵ (MutSlice (named 3) (ν ∷ []) u32 .own (f δ fs) (v₆ ∷ [])) ∷ ‵ (flft κ0 q0) ∷ ‵ (flft κ1 q1) ∷ ‵ (flft κ2 q2) ∷ ‵ (flft (ν ∷ []) fullShare) ∷ ‵ (flft κ5 q5) ∷ [])) (Flat 𝓤 H A mem run .pre (to-flat ν δ))
+  goes-flat : (ν : ℕ) (δ : GName) → m < 2 ^ 64 → ent 𝓤 (⋆ 𝓤 H A (‵ Words ∷ ‵ Text ∷ ‵ Query ∷ ‵ Out ∷ ‵ (MutSlice (named 3) (ν ∷ []) u8 .own (f δ fs) (v₆ ∷ [])) ∷ ‵ (flft κ0 q0) ∷ ‵ (flft κ1 q1) ∷ ‵ (flft κ2 q2) ∷ ‵ (flft (ν ∷ []) fullShare) ∷ ‵ (flft κ5 q5) ∷ [])) (Flat 𝓤 H A mem run .pre (to-flat ν δ))
   goes-flat ν δ m-fits =
-      qed W (‵ Words ∷ ‵ Text ∷ ‵ Query ∷ ‵ Out ∷ ‵ (MutSlice (named 3) (ν ∷ []) u32 .own (f δ fs) (v₆ ∷ [])) ∷ ‵ (flft κ0 q0) ∷ ‵ (flft κ1 q1) ∷ ‵ (flft κ2 q2) ∷ ‵ (flft (ν ∷ []) fullShare) ∷ ‵ (flft κ5 q5) ∷ []) ∵
+      qed W (‵ Words ∷ ‵ Text ∷ ‵ Query ∷ ‵ Out ∷ ‵ (MutSlice (named 3) (ν ∷ []) u8 .own (f δ fs) (v₆ ∷ [])) ∷ ‵ (flft κ0 q0) ∷ ‵ (flft κ1 q1) ∷ ‵ (flft κ2 q2) ∷ ‵ (flft (ν ∷ []) fullShare) ∷ ‵ (flft κ5 q5) ∷ []) ∵
       nothing ! $ move ! (4 ∷ 0 ∷ []) $ fjoin ! $ move ! (4 ∷ 0 ∷ []) $ fjoin ! $ owned ! usize (Is usize) (uint-makes 𝓤 H A W w64) m _ (refl, m-fits) $ fjoin ! $ move ! (3 ∷ 0 ∷ []) $ fjoin ! $ owned ! Rq.the-row (Is Rq.the-row) (LL.makes Rq.the-type Rq′.the-plain 𝓤 H A) rq _ rq-is $ fjoin ! $ move ! (2 ∷ 0 ∷ []) $ fjoin ! $ move ! (1 ∷ 0 ∷ []) $ fjoin ! $ owned ! Tb.the-row (Is Tb.the-row) (LL.makes Tb.the-type Tb′.the-plain 𝓤 H A) t _ t-is $ fjoin ! $ nothing ! $ move ! (6 ∷ 0 ∷ []) $ join ! $ move ! (5 ∷ 0 ∷ []) $ join ! $ move ! (4 ∷ 0 ∷ []) $ join ! $ move ! (3 ∷ 0 ∷ []) $ join ! $ move ! (2 ∷ 0 ∷ []) $ join ! $ join ! $ frame ! $
       done !
 
@@ -211,19 +212,19 @@ module _ {M : Type 1} (𝓤 : URA M) (H : Heap 𝓤) (A : Atoms 𝓤) (W : Given
   abbrev to-store : ℕ → GName → List ℕ → ℕ → StoreLines 𝓤 H A mem run .Ghost
   to-store ν δ gs n = (((κ3, (ν ∷ [], tt)), (q3, (fullShare, tt)), tt, (ln, (f δ gs, (n, (ak, tt)))), (v₈ ∷ [], (v₆ ∷ [], (vint w64 n ∷ [], (va ∷ [], tt))))), tt)
 
-  goes-store : (ν : ℕ) (δ : GName) (gs : List ℕ) (n : ℕ) → n < 2 ^ 64 → (n ≤ m) × (n * 12 ≤ length gs)
-      → ent 𝓤 (⋆ 𝓤 H A (‵ Lines ∷ ‵ (ShrSlice (named 1) (ν ∷ []) u32 .own (f δ gs) (v₆ ∷ [])) ∷ ‵ (flft κ3 q3) ∷ ‵ (flft (ν ∷ []) fullShare) ∷ [])) (StoreLines 𝓤 H A mem run .pre (to-store ν δ gs n))
+  goes-store : (ν : ℕ) (δ : GName) (gs : List ℕ) (n : ℕ) → n < 2 ^ 64 → (n ≤ m) × (n * line-bytes ≤ length gs)
+      → ent 𝓤 (⋆ 𝓤 H A (‵ Lines ∷ ‵ (ShrSlice (named 1) (ν ∷ []) u8 .own (f δ gs) (v₆ ∷ [])) ∷ ‵ (flft κ3 q3) ∷ ‵ (flft (ν ∷ []) fullShare) ∷ [])) (StoreLines 𝓤 H A mem run .pre (to-store ν δ gs n))
   goes-store ν δ gs n n-fits asked =
-      qed W (‵ Lines ∷ ‵ (ShrSlice (named 1) (ν ∷ []) u32 .own (f δ gs) (v₆ ∷ [])) ∷ ‵ (flft κ3 q3) ∷ ‵ (flft (ν ∷ []) fullShare) ∷ []) ∵
+      qed W (‵ Lines ∷ ‵ (ShrSlice (named 1) (ν ∷ []) u8 .own (f δ gs) (v₆ ∷ [])) ∷ ‵ (flft κ3 q3) ∷ ‵ (flft (ν ∷ []) fullShare) ∷ []) ∵
       says ! asked $ nothing ! $ move ! (4 ∷ 0 ∷ []) $ join ! $ move ! (3 ∷ 0 ∷ []) $ join ! $ frame ! $
       nothing ! $ owned ! Q.the-row (Is Q.the-row) (LE.makes Q.the-type Q′.the-plain 𝓤 H A) ak _ ak-is $ fjoin ! $ owned ! usize (Is usize) (uint-makes 𝓤 H A W w64) n _ (refl, n-fits) $ fjoin ! $ move ! (2 ∷ 0 ∷ []) $ fjoin ! $ move ! (1 ∷ 0 ∷ []) $ fjoin ! $
       done !
 
   module _ (C : Calls 𝓤 H) (Λ : Loops 𝓤 H) (fm : FmC 𝓤 H (W .laws) C) (known-flat : Triple 𝓤 (C #typed·complete-flat) (Flat 𝓤 H A mem run)) (known-lines-in : Triple 𝓤 (C #typed·lines-in) (LinesIn 𝓤 H A mem run)) (known-store : Triple 𝓤 (C #typed·store-lines) (StoreLines 𝓤 H A mem run)) where
-    walk : Is (ShrSlice (named 0) κ0 u32) w (v₂ ∷ []) → Is (ShrSlice (named 1) κ1 u8) x (v₃ ∷ []) → Is (ShrSlice (named 2) κ2 u8) y (v₄ ∷ []) → Room T.the-row m → Room u32 (length fs) → Room u8 (length (ou .now))
+    walk : Is (ShrSlice (named 0) κ0 u32) w (v₂ ∷ []) → Is (ShrSlice (named 1) κ1 u8) x (v₃ ∷ []) → Is (ShrSlice (named 2) κ2 u8) y (v₄ ∷ []) → Room T.the-row m → Room u8 (length fs) → Room u8 (length (ou .now))
         → ent 𝓤 (onEntry 𝓤 H A complete.signature (κ0, (κ1, (κ2, (κ3, (κ4, (κ5, tt)))))) (q0, (q1, (q2, (q3, (q4, (q5, tt)))))) a vals) (WpFn 𝓤 H C Λ code.function (v₁ ∷ v₂ ∷ v₃ ∷ vq ∷ v₄ ∷ v₈ ∷ v₆ ∷ v₇ ∷ []) Post)
     walk p₂ p₃ p₄ room₈ room room₇ =
-        qed W ((‵ (flft κ0 q0) ⊛ (‵ (flft κ1 q1) ⊛ (‵ (flft κ2 q2) ⊛ (‵ (flft κ3 q3) ⊛ (‵ (flft κ4 q4) ⊛ (‵ (flft κ5 q5) ⊛ ‵ ftrue)))))) ∷ ‵ (owns (Tb.the-row ∷ ShrSlice (named 0) κ0 u32 ∷ ShrSlice (named 1) κ1 u8 ∷ Rq.the-row ∷ ShrSlice (named 2) κ2 u8 ∷ MutSlice (named 3) κ3 T.the-row ∷ MutSlice (named 4) κ4 u32 ∷ MutSlice (named 5) κ5 u8 ∷ []) a vals) ∷ []) ∵ enter ! C Λ code.function (v₁ ∷ v₂ ∷ v₃ ∷ vq ∷ v₄ ∷ v₈ ∷ v₆ ∷ v₇ ∷ []) _ $
+        qed W ((‵ (flft κ0 q0) ⊛ (‵ (flft κ1 q1) ⊛ (‵ (flft κ2 q2) ⊛ (‵ (flft κ3 q3) ⊛ (‵ (flft κ4 q4) ⊛ (‵ (flft κ5 q5) ⊛ ‵ ftrue)))))) ∷ ‵ (owns (Tb.the-row ∷ ShrSlice (named 0) κ0 u32 ∷ ShrSlice (named 1) κ1 u8 ∷ Rq.the-row ∷ ShrSlice (named 2) κ2 u8 ∷ MutSlice (named 3) κ3 T.the-row ∷ MutSlice (named 4) κ4 u8 ∷ MutSlice (named 5) κ5 u8 ∷ []) a vals) ∷ []) ∵ enter ! C Λ code.function (v₁ ∷ v₂ ∷ v₃ ∷ vq ∷ v₄ ∷ v₈ ∷ v₆ ∷ v₇ ∷ []) _ $
         alloc1 ! (λ l0. alloc1 ! (λ l1. alloc1 ! (λ l2. alloc1 ! (λ l3. alloc1 ! (λ l4. alloc1 ! (λ l5. alloc1 ! (λ l6. alloc1 ! (λ l7. alloc1 ! (λ l8. alloc1 ! (λ l9. alloc1 ! (λ l10. alloc1 ! (λ l11. alloc1 ! (λ l12. alloc1 ! (λ l13. alloc1 ! (λ l14. alloc1 ! (λ l15. alloc1 ! (λ l16. alloc1 ! (λ l17. alloc1 ! (λ l18. alloc1 ! (λ l19. alloc1 ! (λ l20. alloc0 ! $ params1 ! $
         pass1 ! (init ! 38 refl (LL.lawful Tb.the-type Tb′.the-laws 𝓤 H A W .typed t _ t-is .0)) $ pass1 ! (init ! 36 refl (shr-slice-lawful 𝓤 H A W (named 0) κ0 u32 .typed w (v₂ ∷ []) p₂ .0)) $ pass1 ! (init ! 34 refl (shr-slice-lawful 𝓤 H A W (named 1) κ1 u8 .typed x (v₃ ∷ []) p₃ .0)) $ pass1 ! (init ! 32 refl (LL.lawful Rq.the-type Rq′.the-laws 𝓤 H A W .typed rq _ rq-is .0)) $ pass1 ! (init ! 30 refl (shr-slice-lawful 𝓤 H A W (named 2) κ2 u8 .typed y (v₄ ∷ []) p₄ .0)) $ pass1 ! (init ! 28 refl (tt, (tt, (record { fits = room₈ .0 }, tt)))) $ pass1 ! (init ! 26 refl (tt, (tt, (record { fits = room .0 }, tt)))) $ pass1 ! (init ! 24 refl (tt, (tt, (record { fits = room₇ .0 }, tt)))) $ pass0 ! $
         assigns ! (of-opd ! (load ! (from ! (fld ! refl (stop !))) (look-in ! 28 (sub ! 1 refl (whole !))))) (from ! (stop !)) (init ! 18 refl (tt, record { fits = room₈ .0 })) $
@@ -238,7 +239,7 @@ module _ {M : Type 1} (𝓤 : URA M) (H : Heap 𝓤) (A : Atoms 𝓤) (W : Given
         move ! (6 ∷ []) $ use1 W (‵ Words ⊛ ‵ Words) (shr-slice-copy 𝓤 H A W (named 0) κ0 u32 .twice w (v₂ ∷ [])) $ split ! $
         move ! (8 ∷ []) $ use1 W (‵ Text ⊛ ‵ Text) (shr-slice-copy 𝓤 H A W (named 1) κ1 u8 .twice x (v₃ ∷ [])) $ split ! $
         move ! (10 ∷ []) $ use1 W (‵ Query ⊛ ‵ Query) (shr-slice-copy 𝓤 H A W (named 2) κ2 u8 .twice y (v₄ ∷ [])) $ split ! $
-        lft-new ! tt (λ ν. move ! (13 ∷ 11 ∷ []) $ use2 W (later (some (λ (δ : GName). ‵ (MutSlice (named 3) (ν ∷ []) u32 .own (f δ fs) (v₆ ∷ [])) ⊛ ‵ (LentAgain u32 κ4 (ν ∷ []) q4 γ b o δ fs)))) (lends-again u32 κ4 (ν ∷ []) q4 γ b o 𝓤 H A W (named 4) (named 3) fs) $ await ! tt $ pick ! (λ δ. split ! $
+        lft-new ! tt (λ ν. move ! (13 ∷ 11 ∷ []) $ use2 W (later (some (λ (δ : GName). ‵ (MutSlice (named 3) (ν ∷ []) u8 .own (f δ fs) (v₆ ∷ [])) ⊛ ‵ (LentAgain u8 κ4 (ν ∷ []) q4 γ b o δ fs)))) (lends-again u8 κ4 (ν ∷ []) q4 γ b o 𝓤 H A W (named 4) (named 3) fs) $ await ! tt $ pick ! (λ δ. split ! $
         -- [flat; kept; tν; query; query2; text; text2; words; words2; t0; t1; t2; t3; t5; out; lines; locals]
         move ! (7 ∷ 5 ∷ 3 ∷ 14 ∷ 0 ∷ 9 ∷ 10 ∷ 11 ∷ 2 ∷ 13 ∷ []) $ group ! 10 $ use1 W (raw (Flat 𝓤 H A mem run .pre (to-flat ν δ))) (goes-flat ν δ (room₈ .0)) $
         calls-at ! fm (Flat 𝓤 H A mem run) known-flat (to-flat ν δ) (and-then ! (load ! (from ! (stop !)) (look ! 45 refl)) (and-then ! (load ! (from ! (stop !)) (look ! 43 refl)) (and-then ! (load ! (from ! (stop !)) (look ! 41 refl)) (and-then ! (load ! (from ! (stop !)) (look ! 39 refl)) (and-then ! (load ! (from ! (stop !)) (look ! 37 refl)) (and-then ! (load ! (from ! (stop !)) (look ! 25 refl)) (and-then ! (load ! (from ! (stop !)) (look ! 21 refl)) (and-then ! (load ! (from ! (stop !)) (look ! 17 refl)) (no-more !))))))))) (λ u.
@@ -248,7 +249,7 @@ module _ {M : Type 1} (𝓤 : URA M) (H : Heap 𝓤) (A : Atoms 𝓤) (W : Given
         move ! (9 ∷ []) $ split ! $ move ! (1 ∷ []) $ peeks ! R.the-row (Is R.the-row) (shows 𝓤 H A R.the-row) r (u ∷ []) (λ r-is.
         land ! (from ! (stop !)) (init ! 39 refl (LL.lawful R.the-type R′.the-laws 𝓤 H A W .typed r _ r-is .0)) $
         move ! (1 ∷ []) $ split ! $ move ! (1 ∷ []) $ split ! $ move ! (1 ∷ []) $ split ! $ move ! (1 ∷ []) $ split ! $ move ! (1 ∷ []) $ split ! $ move ! (2 ∷ []) $ lft-end ! tt $
-        move ! (0 ∷ 16 ∷ 9 ∷ []) $ use3 W (later (‵ (MutSlice (named 4) κ4 u32 .own (f γ (gs .1 .1 .1 .1 .1 .1 .0)) (v₆ ∷ [])) ⊛ ‵ (flft κ4 q4))) (comes-back u32 κ4 (ν ∷ []) q4 γ b o 𝓤 H A W (named 4) (named 3) fs δ (gs .1 .1 .1 .1 .1 .1 .0) room lf) $ await ! tt $ split ! $
+        move ! (0 ∷ 16 ∷ 9 ∷ []) $ use3 W (later (‵ (MutSlice (named 4) κ4 u8 .own (f γ (gs .1 .1 .1 .1 .1 .1 .0)) (v₆ ∷ [])) ⊛ ‵ (flft κ4 q4))) (comes-back u8 κ4 (ν ∷ []) q4 γ b o 𝓤 H A W (named 4) (named 3) fs δ (gs .1 .1 .1 .1 .1 .1 .0) room lf) $ await ! tt $ split ! $
         -- [flat; t4; t5; true3; t2; t1; t0; rr; out; more2; u5; u4; u3; u2; u1; u0; query2; text2; words2; t3; lines; locals]
         move ! (7 ∷ []) $ use1 W (raw (LinesIn 𝓤 H A mem run .pre (to-lines-in r u))) (goes-lines-in r u) $
         calls-at ! fm (LinesIn 𝓤 H A mem run) known-lines-in (to-lines-in r u) (and-then ! (load ! (from ! (stop !)) (look ! 43 refl)) (no-more !)) (λ u′. use1 W (later (some (λ (n : ℕ). (‵ ftrue ⊛ ‵ (usize .own n (u′ ∷ []))) ⊛ raw (ensured 𝓤 H A lines-in.ended (lines-in.clauses 𝓤 H A mem run) tt (r, tt) tt n)))) (id⊢ 𝓤 _) $ await ! tt $ pick ! (λ n. split ! $
@@ -258,8 +259,8 @@ module _ {M : Type 1} (𝓤 : URA M) (H : Heap 𝓤) (A : Atoms 𝓤) (W : Given
         assigns ! (agg ! (and-then ! (load ! (from ! (stop !)) (look ! 28 refl)) (and-then ! (load ! (from ! (fld ! refl (stop !))) (look-in ! 50 (sub ! 1 refl (whole !)))) (no-more !)))) (from ! (stop !)) (init ! 26 refl (tt, (tt, (record { fits = room₈ .0 }, tt)))) $
         assigns ! (addr ! (from ! (fld ! refl (hop ! (look-in ! 48 (sub ! 0 refl (whole !))) (stop !))))) (from ! (stop !)) (init ! 24 refl (tt, tt)) $
         assigns ! (agg ! (and-then ! (load ! (from ! (stop !)) (look ! 24 refl)) (and-then ! (load ! (from ! (fld ! refl (stop !))) (look-in ! 48 (sub ! 1 refl (whole !)))) (no-more !)))) (from ! (stop !)) (init ! 22 refl (tt, (tt, (record { fits = room .0 }, tt)))) $
-        lft-new ! tt (λ ν′. move ! (3 ∷ 4 ∷ []) $ rewrite ! 0 (λ (j : ℕ). ‵ (MutSlice (named 4) κ4 u32 .own (f γ (gs .1 .1 .1 .1 .1 .1 .0)) (sliceVal (b, o) j ∷ []))) (sym lf) refl $
-        use2 W (later (some (λ (δ′ : GName). ‵ (ShrSlice (named 1) (ν′ ∷ []) u32 .own (f δ′ (gs .1 .1 .1 .1 .1 .1 .0)) (sliceVal (b, o) (length (gs .1 .1 .1 .1 .1 .1 .0)) ∷ [])) ⊛ ‵ (LentShared u32 κ4 (ν′ ∷ []) q4 γ b o (gs .1 .1 .1 .1 .1 .1 .0))))) (lends-shared u32 κ4 (ν′ ∷ []) q4 γ b o 𝓤 H A W (named 4) (named 1) (gs .1 .1 .1 .1 .1 .1 .0)) $ await ! tt $ pick ! (λ δ′. split ! $ rewrite ! 0 (λ (j : ℕ). ‵ (ShrSlice (named 1) (ν′ ∷ []) u32 .own (f δ′ (gs .1 .1 .1 .1 .1 .1 .0)) (sliceVal (b, o) j ∷ []))) lf refl $
+        lft-new ! tt (λ ν′. move ! (3 ∷ 4 ∷ []) $ rewrite ! 0 (λ (j : ℕ). ‵ (MutSlice (named 4) κ4 u8 .own (f γ (gs .1 .1 .1 .1 .1 .1 .0)) (sliceVal (b, o) j ∷ []))) (sym lf) refl $
+        use2 W (later (some (λ (δ′ : GName). ‵ (ShrSlice (named 1) (ν′ ∷ []) u8 .own (f δ′ (gs .1 .1 .1 .1 .1 .1 .0)) (sliceVal (b, o) (length (gs .1 .1 .1 .1 .1 .1 .0)) ∷ [])) ⊛ ‵ (LentShared u8 κ4 (ν′ ∷ []) q4 γ b o (gs .1 .1 .1 .1 .1 .1 .0))))) (lends-shared u8 κ4 (ν′ ∷ []) q4 γ b o 𝓤 H A W (named 4) (named 1) (gs .1 .1 .1 .1 .1 .1 .0)) $ await ! tt $ pick ! (λ δ′. split ! $ rewrite ! 0 (λ (j : ℕ). ‵ (ShrSlice (named 1) (ν′ ∷ []) u8 .own (f δ′ (gs .1 .1 .1 .1 .1 .1 .0)) (sliceVal (b, o) j ∷ []))) lf refl $
         -- [flat; kept; tν; nn; true4; t5; true3; t2; t1; t0; out; more2; u5; u4; u3; u2; u1; u0; query2; text2; words2; t3; lines; locals]
         move ! (22 ∷ 0 ∷ 21 ∷ 2 ∷ []) $ group ! 4 $ use1 W (raw (StoreLines 𝓤 H A mem run .pre (to-store ν′ δ′ (gs .1 .1 .1 .1 .1 .1 .0) n))) (goes-store ν′ δ′ (gs .1 .1 .1 .1 .1 .1 .0) n (is .1) (asked-at said en lf)) $
         calls-at ! fm (StoreLines 𝓤 H A mem run) known-store (to-store ν′ δ′ (gs .1 .1 .1 .1 .1 .1 .0) n) (and-then ! (load ! (from ! (stop !)) (look ! 24 refl)) (and-then ! (load ! (from ! (stop !)) (look ! 20 refl)) (and-then ! (load ! (from ! (stop !)) (look ! 40 refl)) (and-then ! (load ! (from ! (fld ! refl (stop !))) (look-in ! 52 (sub ! 0 refl (whole !)))) (no-more !))))) (λ u″.
@@ -267,7 +268,7 @@ module _ {M : Type 1} (𝓤 : URA M) (H : Heap 𝓤) (A : Atoms 𝓤) (W : Given
         move ! (1 ∷ []) $ use1 W (some (λ (zs : List Line × (Unit {0} × (Unit {0} × (Unit {0} × Unit {0})))). ‵ (lasts store-lines.ended (κ3, (ν′ ∷ [], tt)) (ln, (f δ′ (gs .1 .1 .1 .1 .1 .1 .0), (n, (ak, tt)))) zs) ⊛ raw (fact 𝓤 (zs .0 ≡ stored-lines (line-at ak (gs .1 .1 .1 .1 .1 .1 .0)) (ln .now) n)))) (id⊢ 𝓤 _) $ pick ! (λ zs. split ! $ move ! (1 ∷ []) $ heard ! (zs .0 ≡ stored-lines (line-at ak (gs .1 .1 .1 .1 .1 .1 .0)) (ln .now) n) (λ e.
         fsplit ! $ fsplit ! $ move ! (1 ∷ []) $ feqL ! (λ lz. move ! (2 ∷ []) $ split ! $ move ! (1 ∷ []) $ peeks ! Nothing (Is Nothing) (shows 𝓤 H A Nothing) z (u″ ∷ []) (λ isu.
         land ! (from ! (stop !)) (init ! 31 refl (nothing-lawful 𝓤 H A W .typed z _ isu .0)) $ move ! (1 ∷ []) $ split ! $ move ! (1 ∷ []) $ split ! $ lft-end ! tt $
-        move ! (0 ∷ 6 ∷ []) $ use2 W (later (‵ (MutSlice (named 4) κ4 u32 .own (f γ (gs .1 .1 .1 .1 .1 .1 .0)) (sliceVal (b, o) (length (gs .1 .1 .1 .1 .1 .1 .0)) ∷ [])) ⊛ ‵ (flft κ4 q4))) (shared-back u32 κ4 (ν′ ∷ []) q4 γ b o 𝓤 H A W (named 4) (named 1) (gs .1 .1 .1 .1 .1 .1 .0) (subst (Room u32) (sym lf) room)) $ await ! tt $ split ! $ rewrite ! 0 (λ (j : ℕ). ‵ (MutSlice (named 4) κ4 u32 .own (f γ (gs .1 .1 .1 .1 .1 .1 .0)) (sliceVal (b, o) j ∷ []))) lf refl $
+        move ! (0 ∷ 6 ∷ []) $ use2 W (later (‵ (MutSlice (named 4) κ4 u8 .own (f γ (gs .1 .1 .1 .1 .1 .1 .0)) (sliceVal (b, o) (length (gs .1 .1 .1 .1 .1 .1 .0)) ∷ [])) ⊛ ‵ (flft κ4 q4))) (shared-back u8 κ4 (ν′ ∷ []) q4 γ b o 𝓤 H A W (named 4) (named 1) (gs .1 .1 .1 .1 .1 .1 .0) (subst (Room u8) (sym lf) room)) $ await ! tt $ split ! $ rewrite ! 0 (λ (j : ℕ). ‵ (MutSlice (named 4) κ4 u8 .own (f γ (gs .1 .1 .1 .1 .1 .1 .0)) (sliceVal (b, o) j ∷ []))) lf refl $
         -- [flat; t4; true5; t3; zz; lines; more3; nn; true4; t5; true3; t2; t1; t0; out; more2; u5; u4; u3; u2; u1; u0; query2; text2; words2; locals]
         assigns ! (of-opd ! (load ! (from ! (stop !)) (look ! 47 refl))) (from ! (stop !)) (init ! 65 refl (LL.lawful R.the-type R′.the-laws 𝓤 H A W .typed r _ r-is .0)) $
         returns ! (look ! 65 refl) $ forget ! 25 refl $ forget ! 27 refl $ forget ! 29 refl $ forget ! 31 refl $ forget ! 33 refl $ forget ! 35 refl $ forget ! 37 refl $ forget ! 39 refl $ forget ! 41 refl $ forget ! 43 refl $ forget ! 45 refl $ forget ! 47 refl $ forget ! 49 refl $ forget ! 51 refl $ forget ! 53 refl $ forget ! 55 refl $ forget ! 57 refl $ forget ! 59 refl $ forget ! 61 refl $ forget ! 63 refl $ forget ! 65 refl $
@@ -290,7 +291,7 @@ module _ {M : Type 1} (𝓤 : URA M) (H : Heap 𝓤) (A : Atoms 𝓤) (W : Given
               LL.tells Rq.the-type Rq′.the-laws,
               (
                 shr-slice-tells (named 2) (κs .1 .1 .0) u8,
-                (mut-slice-tells (named 3) (κs .1 .1 .1 .0) T.the-row, (mut-slice-tells (named 4) (κs .1 .1 .1 .1 .0) u32, (mut-slice-tells (named 5) (κs .1 .1 .1 .1 .1 .0) u8, tt))),
+                (mut-slice-tells (named 3) (κs .1 .1 .1 .0) T.the-row, (mut-slice-tells (named 4) (κs .1 .1 .1 .1 .0) u8, (mut-slice-tells (named 5) (κs .1 .1 .1 .1 .1 .0) u8, tt))),
               ),
             ),
           ),
@@ -312,7 +313,7 @@ module _ {M : Type 1} (𝓤 : URA M) (H : Heap 𝓤) (A : Atoms 𝓤) (W : Given
           goes-none 𝓤 H A W 6 (λ _. Rq.the-row) yes (λ κs x f. refl),
           (
             goes-none-slice 𝓤 H A W 6 (2 ∷ []) tt (plain (λ _. u8)) yes,
-            (goes-gave-slice 𝓤 H A W 6 3 tt (plain (λ _. T.the-row)), (goes-slice 𝓤 H A W 6 4 tt (plain (λ _. u32)), (goes-gave-slice 𝓤 H A W 6 5 tt (plain (λ _. u8)), tt))),
+            (goes-gave-slice 𝓤 H A W 6 3 tt (plain (λ _. T.the-row)), (goes-slice 𝓤 H A W 6 4 tt (plain (λ _. u8)), (goes-gave-slice 𝓤 H A W 6 5 tt (plain (λ _. u8)), tt))),
           ),
         ),
       ),

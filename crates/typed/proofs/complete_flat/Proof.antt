@@ -14,12 +14,12 @@ complete-flat-spec =
     (tie.spec
     {- is-sound-requires -}
     (λ c κs. search needs)
-    {- words-for-requires -}
+    {- bytes-for-requires -}
     (λ c κs. search needs)
     {- slice-relend-prefix-complete-sound -}
     (λ c. search needs)
     {- slice-aggregate-complete-sound -}
-    (λ c. sym (length-take-le (c .before .words-for .result) (c .before .before .before .before .before .before .before .before .before .args .flat .now) (omega (arith, c .before .words-for .ensures))))
+    (λ c. sym (length-take-le (c .before .bytes-for .result) (c .before .before .before .before .before .before .before .before .before .args .flat .now) (omega (arith, c .before .bytes-for .ensures))))
     {- complete-sound-requires -}
     (λ c κs. holds _ (c .before .before .before .before .is-sound .ensures) (c .before .before .before .if1 .taken))
     {- same-length -}
@@ -27,6 +27,6 @@ complete-flat-spec =
     {- same-length-2 -}
     (λ c. search needs)
     {- returns -}
-    (λ c. flat-completes (holds _ (c .before .before .before .before .before .before .before .before .before .is-sound .ensures) (c .before .before .before .before .before .before .before .before .if1 .taken)) (c .before .before .before .before .before .before .before .words-for .ensures) (c .before .before .before .before .complete-sound .ensures))
+    (λ c. flat-completes (holds _ (c .before .before .before .before .before .before .before .before .before .is-sound .ensures) (c .before .before .before .before .before .before .before .before .if1 .taken)) (c .before .before .before .before .before .before .before .bytes-for .ensures) (c .before .before .before .before .complete-sound .ensures))
     {- returns-2 -}
     (λ c. flat-unsound (fails _ (c .before .is-sound .ensures) (c .if1 .left))))
