@@ -421,7 +421,8 @@ fn complete(
     let n = wire::load(words, &mut memory);
     let t = table_of(state);
     let l = t.complete(&memory[..n], text, ask, query, budget, lines, out);
-    lines_reply(l.answer)
+    let c = l.answer;
+    lines_reply(c)
 }
 
 // Completes a name: lines of 48 bytes into `lines`, their texts into `out`.
