@@ -3,4 +3,5 @@ pub mod Replies
 pub mod RepliesModule
 pub mod RepliesLines
 pub mod SoundBytes
+pub mod Agreement
 mod Examples

@@ -1,3 +1,4 @@
 pub mod Memory
 pub mod Replies
 pub mod Completions
+pub mod Agreement
