@@ -1,11 +1,10 @@
 -- Demand 3 of the exported calls follows from their contracts and from the theorem over the definitions.
 use Prim.Native.Nat.{ℕ, _<_, _≤_}
-use mathlib.Core.Path.{_≡_, refl, sym, ap, _∙_}
+use mathlib.Core.Path.{_≡_, refl, sym, ap}
 use mathlib.Core.Logic.{⊎-elim}
 use mathlib.Core.Bool.{Bool, true, false}
 use mathlib.Core.List.{List}
 use native.Mathlib.Omega.{arith}
-use lib.ListN.{length}
 use Rattle.source.specs.Text.{Str, segments}
 use Rattle.source.specs.Table as S
 use Rattle.source.specs.Table.{ModSymbol, Line}
@@ -27,13 +26,11 @@ use Rattle.listing.specs.Completes.{output}
 use Rattle.refusals.specs.Refusals.{number}
 use Rattle.table.specs.Header.{table-in, names-in, modules-in}
 use Rattle.table.specs.Answers.{module-found}
-use Rattle.table.specs.Completions.{completion}
 use Rattle.table.specs.declared.FoundModule.{FoundModule}
 use Rattle.table.specs.declared.FoundModule.the-variants.{Symbol, Nothing, Refused}
-use Rattle.memory.specs.declared.ModSymbol.the-variants.{Module, Namespace}
 use Rattle.wire.specs.Memory.{words-in}
 use Rattle.screen.specs.Memory.{table-at, SoundBytes}
-use Rattle.screen.specs.Replies.{no-answer, name-reply, module-reply, SaysModule}
+use Rattle.screen.specs.Replies.{name-reply, module-reply, SaysModule}
 use Rattle.screen.specs.Completions.{modules-for, ListsAs}
 use Rattle.screen.specs.Agreement.{Answered, BytesAgree}
 use Rattle.screen.specs.declared.NameReply.{NameReply}

@@ -1,15 +1,16 @@
 -- Demand 3 of the typed completion follows from its contract and from the theorem over the definitions.
-use Prim.Native.Nat.{ℕ}
-use mathlib.Core.Path.{_≡_, refl}
+use Prim.Native.Nat.{ℕ, _+_}
+use mathlib.Core.Path.{_≡_}
 use mathlib.Core.Bool.{Bool, true, false}
 use mathlib.Core.List.{List}
 use mathlib.Core.Option.{Option·none-ne-some}
+use native.Mathlib.Omega.{arith}
 use lib.ListN.{length}
 use Rattle.source.specs.Text.{Str, segments}
 use Rattle.source.specs.Table as S
 use Rattle.source.specs.Table.{ModSymbol}
 use Rattle.source.specs.Calls as C
-use Rattle.source.specs.Calls.{look-up, lowest, argument-rows, complete, complete-modules}
+use Rattle.source.specs.Calls.{look-up, lowest, argument-rows, output-text, complete, complete-modules}
 use Rattle.source.specs.Agreement.{Covers, NotRefused, Agreement}
 use Rattle.source.proofs.Agreement.{agreement}
 use Rattle.memory.specs.Layout.{names, modules, Item}
@@ -35,7 +36,8 @@ listed-lines : (ask : Ask) (ws txt flat flat′ out out′ : List ℕ) (ls ls′
 listed-lines ask ws txt flat flat′ out out′ ls ls′ n entered (C.listed lines e) h s =
     let k : n ≡ length lines = cc in
     let f : e ≡ entered = cc in
-    (lines, rw f, record { count = k; shown = s; texts = h .1 .out-laid })
+    let z : 0 + length (output-text lines) ≡ length (output-text lines) = omega arith in
+    (lines, rw f, record { count = k; shown = s; texts = rw z at (h .1 .out-laid) })
 listed-lines ask ws txt flat flat′ out out′ ls ls′ n entered (C.refused m) h s = absurd (Option·none-ne-some m (h .0))
 
 module _ (ws txt : List ℕ) (t : Table) (name query : Str) (budget : ℕ) (ls ls′ : List Line) (flat flat′ out out′ : List ℕ) (n entered : ℕ) (cover : Covers (segments query) (segments name)) where
