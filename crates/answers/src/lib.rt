@@ -1,6 +1,7 @@
 // What the program `console` answers to a line: it is read, its call is made on a table whose memory is sound by proof, and the
 // reply is written. A line that is no form is `[bad]`, and changes nothing.
 use numerals::Extent;
+use questions::Start;
 use registrations::Done;
 use script::Form;
 use table::Table;
@@ -92,8 +93,12 @@ pub fn answer(
             at,
         ),
         Form::Ask { what, query } => {
+            let start = Start {
+                table: table,
+                at: at,
+            };
             let e = questions::ask_line(
-                table,
+                start,
                 words,
                 text,
                 what,
@@ -101,7 +106,6 @@ pub fn answer(
                 flat,
                 pane,
                 reply,
-                at,
             );
             Done {
                 table: table,

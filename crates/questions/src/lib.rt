@@ -117,9 +117,15 @@ fn put_completed(
     }
 }
 
+// The table that is asked, and where its reply begins.
+pub struct Start {
+    pub table: Table,
+    pub at: usize,
+}
+
 // `[complete [q]]`, `[modules [q]]`
 fn complete_line(
-    table: Table,
+    start: Start,
     words: &[u32],
     text: &[u8],
     ask: lines::Ask,
@@ -127,20 +133,20 @@ fn complete_line(
     flat: &mut [u8],
     pane: &mut [u8],
     reply: &mut [u8],
-    at: usize,
 ) -> usize
-    requires { ⌜ IsSound (now words) (now text) table ⌝ }
-    requires { ⌜ at + room (now flat) (now pane) ≤ length (now reply) ⌝ }
-    ensures { λ e. ⌜ Laid (now (reply .entry)) (now (reply .exit)) at e (completed-text (asked ask) (completion true (table-in (now (words .entry)) (now (text .entry)) table) ask 4096 (output (now (flat .entry)) (now (pane .entry))) (now (query .entry)))) ⌝ }
+    requires { ⌜ IsSound (now words) (now text) (start .table) ⌝ }
+    requires { ⌜ start .at + room (now flat) (now pane) ≤ length (now reply) ⌝ }
+    ensures { λ e. ⌜ Laid (now (reply .entry)) (now (reply .exit)) (start .at) e (completed-text (asked ask) (completion true (table-in (now (words .entry)) (now (text .entry)) (start .table)) ask 4096 (output (now (flat .entry)) (now (pane .entry))) (now (query .entry)))) ⌝ }
 {
+    let table = start.table;
     let l = table.complete_sound(words, text, ask, query, 4096, flat, pane);
     let c = l.answer;
-    put_completed(flat, pane, ask, c, reply, at)
+    put_completed(flat, pane, ask, c, reply, start.at)
 }
 
 // `[find [q]]`, `[complete [q]]`, `[modules [q]]`
 pub fn ask_line(
-    table: Table,
+    start: Start,
     words: &[u32],
     text: &[u8],
     what: script::Ask,
@@ -148,20 +154,20 @@ pub fn ask_line(
     flat: &mut [u8],
     pane: &mut [u8],
     reply: &mut [u8],
-    at: usize,
 ) -> usize
-    requires { ⌜ IsSound (now words) (now text) table ⌝ }
-    requires { ⌜ at + room (now flat) (now pane) ≤ length (now reply) ⌝ }
-    ensures { λ e. ⌜ Laid (now (reply .entry)) (now (reply .exit)) at e (asked-text (output (now (flat .entry)) (now (pane .entry))) (table-in (now (words .entry)) (now (text .entry)) table) what (now (query .entry))) ⌝ }
+    requires { ⌜ IsSound (now words) (now text) (start .table) ⌝ }
+    requires { ⌜ start .at + room (now flat) (now pane) ≤ length (now reply) ⌝ }
+    ensures { λ e. ⌜ Laid (now (reply .entry)) (now (reply .exit)) (start .at) e (asked-text (output (now (flat .entry)) (now (pane .entry))) (table-in (now (words .entry)) (now (text .entry)) (start .table)) what (now (query .entry))) ⌝ }
 {
     match what {
         script::Ask::Find => {
+            let table = start.table;
             let f = table.find_sound(words, text, query);
             let a = f.answer;
-            put_found(reply, at, a)
+            put_found(reply, start.at, a)
         }
         script::Ask::Complete => complete_line(
-            table,
+            start,
             words,
             text,
             lines::Ask::Names,
@@ -169,10 +175,9 @@ pub fn ask_line(
             flat,
             pane,
             reply,
-            at,
         ),
         script::Ask::Modules => complete_line(
-            table,
+            start,
             words,
             text,
             lines::Ask::Modules(lines::Filter::All),
@@ -180,7 +185,6 @@ pub fn ask_line(
             flat,
             pane,
             reply,
-            at,
         ),
     }
 }

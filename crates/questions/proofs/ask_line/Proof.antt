@@ -29,7 +29,7 @@ same-length : tie.Need-same-length
 same-length c = search needs
 
 returns : tie.Need-returns
-returns c = rw (c .before .before .before .before .before .enum-told .given .1) (rw (c .before .before .before .before .find-sound .ensures .says true (c .before .before .before .before .before .before .before .before .before .before .before .before .before .pre .0)) at (c .before .before .put-found .ensures))
+returns c = rw (c .before .before .before .before .before .before .enum-told .given .1) (rw (c .before .before .before .before .find-sound .ensures .says true (c .before .before .before .before .before .before .before .before .before .before .before .before .before .before .pre .0)) at (c .before .before .put-found .ensures))
 
 same-length-2 : tie.Need-same-length-2
 same-length-2 c = search needs
