@@ -170,10 +170,10 @@ module _ (ws txt : List ℕ) (query : Str) (place : Place) (f : Found) (run run�
     pub same : SamePath run run′
     pub along : Along ws txt (place .task .ask) (drop (place .next) query) (path-in run) (place .task .lim) (place .task .matched) (place .leaf) (f .link) (f .label) (take (place .len) query)
         (tally-in run) (tally-in run′) flat flat′ out out′ (s .link)
-    pub noted : (s .link ≡ 0 → ⊥) → Noted ws txt (take (place .len) query) notes (s .n) (key-at ws txt (s .link)) (later ws txt (take (place .len) query) (f .link) (s .link))
+    pub noted : (s .link ≡ 0 → ⊥) → Noted ws txt (take (place .len) query) notes (s .n) (s .link) (later ws txt (take (place .len) query) (f .link) (s .link))
 
 noted-after : (ws txt : List ℕ) (prefix : Str) (root : ℕ) {notes : List ℕ} {l : List ℕ} {s : Next} → Matched ws txt prefix notes l s → onward ws txt prefix root (s .link) ≡ l → (s .link ≡ 0 → ⊥)
-    → Noted ws txt prefix notes (s .n) (key-at ws txt (s .link)) (later ws txt prefix root (s .link))
+    → Noted ws txt prefix notes (s .n) (s .link) (later ws txt prefix root (s .link))
 unfolding onward
 noted-after ws txt prefix root {s = s} w e n = w .noted (s .link) (later ws txt prefix root (s .link)) (sym e ∙ rw (ne-eqb (s .link) 0 n))
 

@@ -7,7 +7,7 @@ use native.Mathlib.Omega.{arith}
 use native.Mathlib.Decide.{ℕ-discrete}
 use lib.ListN.{length, getD, set, length-set}
 use lib.Seq.{getD-set-same, getD-set-other}
-use Rattle.matches.specs.Marks.{most-near, most-far, near-start, far-start, near-count, far-count, note-words, Fits, Holds, PartOk, PutAt, Marks, Taken}
+use Rattle.matches.specs.Marks.{most-near, most-far, near-start, far-start, near-count, far-count, dropped, note-words, Fits, Holds, PartOk, PutAt, Marks, Drops, Taken}
 
 -- ---- Room
 
@@ -106,6 +106,36 @@ module _ {notes notes′ : List ℕ} {x : ℕ} (f : Fits notes 0) (t : Marks not
     pub marks-holds : Holds N M notes′ 0
     marks-holds = near-holds between-fits between-holds m (t .last)
 
+-- ---- Notes are dropped
+
+module _ {notes notes′ : List ℕ} {n : ℕ} (f : Fits notes n) (t : Drops notes notes′) where
+  marked-fits : Fits (t .between) 0
+  marked-fits = marks-fits (fits-fewer f (omega arith)) (t .marks)
+
+  pub drops-fits : Fits notes′ 0
+  drops-fits = rw (t .is) (record {
+    sized = length-set (t .between) dropped 1 ∙ marked-fits .sized;
+    few = omega arith;
+    few-near = omega (arith, getD-set-other (t .between) dropped near-count 1 0 (λ e. omega arith), marked-fits .few-near);
+    few-far = omega (arith, getD-set-other (t .between) dropped far-count 1 0 (λ e. omega arith), marked-fits .few-far);
+  })
+
+  pub drops-told : getD notes′ dropped 0 ≡ 1
+  drops-told = rw (t .is) (getD-set-same (t .between) dropped 1 0 (omega (arith, marked-fits .sized)))
+
+  module _ {N M : ℕ → Type 0} (o : Holds N M notes n) (m : M (getD notes 0 0)) where
+    without-notes : Holds N M notes 0
+    without-notes = record { note = λ j h. absurd (omega arith); near = o .near; far = o .far }
+
+    pub drops-holds : Holds N M notes′ 0
+    drops-holds =
+        let k = marks-holds (fits-fewer f (omega arith)) (t .marks) without-notes m in
+        rw (t .is) (record {
+          note = λ j h. absurd (omega arith);
+          near = λ j h. rw (getD-set-other (t .between) dropped (near-start + j) 1 0 (λ e. omega (arith, getD-set-other (t .between) dropped near-count 1 0 (λ e. omega arith), marked-fits .few-near))) (k .near j (omega (arith, getD-set-other (t .between) dropped near-count 1 0 (λ e. omega arith))));
+          far = λ j h. rw (getD-set-other (t .between) dropped (far-start + j) 1 0 (λ e. omega (arith, getD-set-other (t .between) dropped far-count 1 0 (λ e. omega arith), marked-fits .few-far))) (k .far j (omega (arith, getD-set-other (t .between) dropped far-count 1 0 (λ e. omega arith))));
+        })
+
 -- ---- A mark is taken
 
 module _ {notes notes′ : List ℕ} {r : ℕ} (f : Fits notes 0) where
@@ -123,6 +153,11 @@ module _ {notes notes′ : List ℕ} {r : ℕ} (f : Fits notes 0) where
     few-far = omega (arith, getD-set-same notes far-count (getD notes far-count 0 - 1) 0 (omega (arith, f .sized)), f .few-far);
   })
   taken-fits (inr (inr t)) = rw (t .0) f
+
+  pub taken-told : Taken notes notes′ r → getD notes′ dropped 0 ≡ getD notes dropped 0
+  taken-told (inl t) = rw (t .is) (getD-set-other notes near-count dropped (getD notes near-count 0 - 1) 0 (λ e. omega arith))
+  taken-told (inr (inl t)) = rw (t .is) (getD-set-other notes far-count dropped (getD notes far-count 0 - 1) 0 (λ e. omega arith))
+  taken-told (inr (inr t)) = rw (t .0)
 
   module _ {N M : ℕ → Type 0} (o : Holds N M notes 0) where
     pub taken-holds : Taken notes notes′ r → Holds N M notes′ 0
@@ -171,14 +206,22 @@ module _ {notes : List ℕ} {n : ℕ} (f : Fits notes n) where
 -- ---- No note and no mark
 
 module _ (notes : List ℕ) (s : length notes ≡ note-words) where
-  no-near : getD (set (set notes near-count 0) far-count 0) near-count 0 ≡ 0
-  no-near = set-first notes near-count far-count 0 0 (omega (arith, s)) (λ e. omega arith)
+  abbrev pub cleared : List ℕ
+  cleared = set (set (set notes near-count 0) far-count 0) dropped 0
 
-  no-far : getD (set (set notes near-count 0) far-count 0) far-count 0 ≡ 0
-  no-far = set-second notes near-count far-count 0 0 (omega (arith, s))
+  no-near : getD cleared near-count 0 ≡ 0
+  no-near = getD-set-other (set (set notes near-count 0) far-count 0) dropped near-count 0 0 (λ e. omega arith) ∙ set-first notes near-count far-count 0 0 (omega (arith, s)) (λ e. omega arith)
 
-  pub clear-fits : Fits (set (set notes near-count 0) far-count 0) 0
-  clear-fits = record { sized = length-sets notes _ _ _ _ ∙ s; few = omega arith; few-near = omega (arith, no-near); few-far = omega (arith, no-far) }
+  no-far : getD cleared far-count 0 ≡ 0
+  no-far = getD-set-other (set (set notes near-count 0) far-count 0) dropped far-count 0 0 (λ e. omega arith) ∙ set-second notes near-count far-count 0 0 (omega (arith, s))
 
-  pub clear-holds : {N M : ℕ → Type 0} → Holds N M (set (set notes near-count 0) far-count 0) 0
+  pub clear-fits : Fits cleared 0
+  clear-fits = record {
+    sized = length-set (set (set notes near-count 0) far-count 0) dropped 0 ∙ length-sets notes _ _ _ _ ∙ s;
+    few = omega arith;
+    few-near = omega (arith, no-near);
+    few-far = omega (arith, no-far);
+  }
+
+  pub clear-holds : {N M : ℕ → Type 0} → Holds N M cleared 0
   clear-holds = record { note = λ j h. absurd (omega arith); near = λ j h. absurd (omega (arith, no-near)); far = λ j h. absurd (omega (arith, no-far)) }

@@ -1,5 +1,5 @@
 -- Laws of notes, and the matches of a tree by its root.
-use Prim.Native.Nat.{ℕ, zero, suc, _+_, _-_, _<_, _≤_}
+use Prim.Native.Nat.{ℕ, zero, suc, _+_, _<_, _≤_}
 use mathlib.Core.Path.{_≡_, refl, sym, ap, _∙_, subst}
 use mathlib.Core.Bool.{Bool, true, false, true≢false, false≢true}
 use mathlib.Core.Logic.{_⊎_, inl, inr}
@@ -24,10 +24,10 @@ use Rattle.tree.proofs.Keep.{by-test, keep-append, keep-none, keep-all, all-kee
 use Rattle.tree.proofs.Links.{branches-at, branches-keys}
 use Rattle.tree.proofs.Matches.{matches-none, matches-increasing, starts-self, after-first}
 use Rattle.tree.proofs.Wanted.{by-order, past-low}
-use Rattle.matches.specs.Marks.{near-count, far-count, note-words, Fits, Holds, Marks, Taken, NotedAt}
-use Rattle.matches.specs.Notes.{to-come, passing, Ahead, NoteOk, Noting, Descends, AllAfter, NotesLeft, TopTaken, Pops, Matched}
+use Rattle.matches.specs.Marks.{dropped, note-words, Fits, Holds, Drops, Taken, NotedAt}
+use Rattle.matches.specs.Notes.{to-come, passing, Ahead, NoteOk, Noting, Noted, Descends, AllAfter, NotesLeft, LastNote, Matched}
 use Rattle.matches.specs.declared.Next.{Next}
-use Rattle.matches.proofs.Marks.{fits-fewer, holds-fewer, more-fits, more-holds, marks-fits, marks-holds, taken-fits, taken-holds, taken-mark, clear-fits, clear-holds}
+use Rattle.matches.proofs.Marks.{fits-fewer, holds-fewer, more-fits, more-holds, drops-fits, drops-told, drops-holds, taken-fits, taken-told, taken-holds, taken-mark, cleared, clear-fits, clear-holds}
 
 -- ---- What is past a bound
 
@@ -218,9 +218,9 @@ module _ (ws txt : List ℕ) (p : Str) where
 
 module _ {ws txt : List ℕ} {p : Str} {b : Str → Bool} {l : List ℕ} where
   -- Notes are none.
-  pub noting-none : {notes h : List ℕ} → Fits notes 0 → Holds (NoteOk ws txt p b l) (Ahead ws txt p b l) notes 0 → (rest : List ℕ) → l ≡ h ++ rest → Noting ws txt p b notes 0 h l
+  pub noting-none : {notes h : List ℕ} → Fits notes 0 → Holds (NoteOk ws txt p b l) (Ahead ws txt p b l) notes 0 → (rest : List ℕ) → l ≡ h ++ rest → (getD notes dropped 0 ≡ 0 → rest ≡ []) → Noting ws txt p b notes 0 h l
   unfolding to-come
-  noting-none f o rest e = record { fits = f; holds = o; rest = rest; says = e }
+  noting-none f o rest e w = record { fits = f; holds = o; rest = rest; says = e; whole = w }
 
   module _ {notes : List ℕ} {n : ℕ} {h : List ℕ} (o : Noting ws txt p b notes n h l) where
     -- A note is added.
@@ -235,13 +235,14 @@ module _ {ws txt : List ℕ} {p : Str} {b : Str → Bool} {l : List ℕ} where
           holds = more-holds (o .fits) (o .holds) x a k;
           rest = o .rest;
           says = rw (add-one n, getD-set-same notes n x 0 (omega (arith, o .fits .sized)), come-before ws txt p notes n x n (omega arith)) says;
+          whole = λ z. o .whole (sym (getD-set-other notes n dropped x 0 (λ e. omega arith)) ∙ z);
         }
 
-    -- All notes are dropped, and the first is marked.
-    noting-marked : {notes′ : List ℕ} → 0 < n → Marks notes notes′ (getD notes 0 0) → Noting ws txt p b notes′ 0 h l
-    noting-marked k t =
-        noting-none (marks-fits (fits-fewer (o .fits) (omega arith)) t) (marks-holds (fits-fewer (o .fits) (omega arith)) t (holds-fewer (o .fits) (o .holds) (omega arith)) (o .holds .note 0 k .ahead))
-        (to-come ws txt p notes n ++ o .rest) (o .says)
+    -- All notes are dropped.
+    noting-drops : {notes′ : List ℕ} → 0 < n → Drops notes notes′ → Noting ws txt p b notes′ 0 h l
+    noting-drops k t =
+        noting-none (drops-fits (o .fits) t) (drops-holds (o .fits) t (o .holds) (o .holds .note 0 k .ahead))
+        (to-come ws txt p notes n ++ o .rest) (o .says) (λ z. absurd (omega (arith, drops-told (o .fits) t)))
 
     -- What is at hand comes first.
     ahead-here : {x : ℕ} → AnyTree ws txt x → h ≡ passing ws txt p b x → Ahead ws txt p b l x
@@ -252,17 +253,17 @@ noting-note : {ws txt : List ℕ} {p : Str} {b : Str → Bool} {l notes notes′
     → NotedAt notes notes′ n x r → Noting ws txt p b notes′ r g l
 noting-note {ws} {txt} {p} {b} {l} {notes} {n = n} {x} {g = g} o e a t = rw (t .is, t .count) (go (t .k) (t .between) (t .which) (t .below))
   where
-    go : (k : ℕ) (m : List ℕ) → ((k ≡ n) × (m ≡ notes)) ⊎ ((k ≡ 0) × (0 < n) × Marks notes m (getD notes 0 0)) → k < 48 → Noting ws txt p b (set m k x) (k + 1) g l
+    go : (k : ℕ) (m : List ℕ) → ((k ≡ n) × (m ≡ notes)) ⊎ ((k ≡ 0) × (0 < n) × Drops notes m) → k < 48 → Noting ws txt p b (set m k x) (k + 1) g l
     go k m (inl z) i = rw (z .0, z .1) (noting-more o x e a (rw (z .0) at i))
-    go k m (inr z) i = rw (z .0) (noting-more (noting-marked o (z .1) (z .2)) x e a (omega arith))
+    go k m (inr z) i = rw (z .0) (noting-more (noting-drops o (z .1) (z .2)) x e a (omega arith))
 
 -- Room is kept.
 pub note-fits : {notes notes′ : List ℕ} {n x r : ℕ} → Fits notes n → NotedAt notes notes′ n x r → Fits notes′ r
 note-fits {notes} {n = n} {x} f t = rw (t .is, t .count) (go (t .k) (t .between) (t .which) (t .below))
   where
-    go : (k : ℕ) (m : List ℕ) → ((k ≡ n) × (m ≡ notes)) ⊎ ((k ≡ 0) × (0 < n) × Marks notes m (getD notes 0 0)) → k < 48 → Fits (set m k x) (k + 1)
+    go : (k : ℕ) (m : List ℕ) → ((k ≡ n) × (m ≡ notes)) ⊎ ((k ≡ 0) × (0 < n) × Drops notes m) → k < 48 → Fits (set m k x) (k + 1)
     go k m (inl z) i = rw (z .0, z .1) (more-fits f x (rw (z .0) at i))
-    go k m (inr z) i = rw (z .0) (more-fits (marks-fits (fits-fewer f (omega arith)) (z .2)) x (omega arith))
+    go k m (inr z) i = rw (z .0) (more-fits (drops-fits f (z .2)) x (omega arith))
 
 -- ---- descend
 
@@ -283,7 +284,7 @@ module _ {ws txt : List ℕ} {p low : Str} {strict : Bool} {from : ℕ} {notes :
     descending-done h =
         let z : at ≡ 0 = omega arith in
         let e : passing ws txt p (past strict low) at ≡ [] = rw z (pass-none ws txt p (past strict low)) in
-        record { notes-on = λ l o. rw e at (d .on l o); none = λ i. d .none i ∙ e }
+        record { fits = d .fits; notes-on = λ l o. rw e at (d .on l o); none = λ i. d .none i ∙ e }
 
     module _ (q : 0 < at) where
       -- A match is noted, and the way goes left.
@@ -326,7 +327,7 @@ module _ {ws txt : List ℕ} {p : Str} {from : ℕ} {notes : List ℕ} {n : ℕ}
     lefting-done h =
         let z : at ≡ 0 = omega arith in
         let e : matches ws txt at p ≡ [] = rw z (matches-none ws txt p) in
-        record { notes-on = λ b l a o. rw e at (d .on b l a o .1) }
+        record { fits = d .fits; notes-on = λ b l a o. rw e at (d .on b l a o .1) }
 
     module _ (q : 0 < at) where
       pub lefting-note : {x r : ℕ} {notes″ : List ℕ} → starts-with (key-at ws txt at) p ≡ true → NotedAt notes′ notes″ m at r → x ≡ left-link (record-at ws at) → Lefting ws txt p from x notes notes″ n r
@@ -352,7 +353,7 @@ module _ {ws txt : List ℕ} {p : Str} {from : ℕ} {notes : List ℕ} {n : ℕ}
             on = λ b l a o. let k = d .on b l a o in (all-of-left (d .any) q (λ y. b (key-at ws txt y) ≡ true) (k .0), rw e at (k .1));
           })
 
--- ---- pop
+-- ---- The first of the list
 
 -- Once the first of the list is given, what is ahead is past its key.
 module _ {ws txt : List ℕ} {p : Str} (low : Str) (strict : Bool) {l l′ : List ℕ} {x : ℕ} (s : l ≡ x ∷ l′) (h : past strict low (key-at ws txt x) ≡ true) where
@@ -369,62 +370,58 @@ module _ {ws txt : List ℕ} {p : Str} (low : Str) (strict : Bool) {l l′ : Lis
   note-next : {y : ℕ} → NoteOk ws txt p (past strict low) l y → NoteOk ws txt p (past true (key-at ws txt x)) l′ y
   note-next a = record { some = a .some; begins = a .begins; ahead = ahead-next (a .ahead) }
 
-module _ {ws txt : List ℕ} {p : Str} {notes : List ℕ} {n : ℕ} where
-  pub pops : {m top right r : ℕ} {notes′ : List ℕ} → 0 < n → m ≡ n - 1 → top ≡ getD notes m 0 → right ≡ right-link (record-at ws top) → NotesLeft ws txt p right notes notes′ m r
-      → Pops ws txt p notes notes′ n (record { link = top; n = r })
-  unfolding to-come
-  pops {m} {top} {right} h e t f d = record {
-    takes = λ low strict l a o.
-        let i : n ≡ suc m = omega arith in
-        let k = rw (← t) at (o .holds .note m (omega arith)) in
-        let l′ = matches ws txt right p ++ (to-come ws txt p notes m ++ o .rest) in
-        let s : l ≡ top ∷ l′ = o .says ∙ rw (i, ← t, f) (ap (_∷_ top) (append-assoc (matches ws txt (right-link (record-at ws top)) p) (to-come ws txt p notes m) (o .rest))) in
-        let past-top : past strict low (key-at ws txt top) ≡ true = subst (λ (y : List ℕ). Allˡ (λ x. past strict low (key-at ws txt x) ≡ true) y) s a .0 in
-        record {
-          after = l′;
-          splits = s;
-          noted = d .notes-on (past true (key-at ws txt top)) l′ (rw f (all-beyond (k .ahead .any) (k .some) (λ y. past true (key-at ws txt top) y ≡ true) (λ y. past-after true (key-at ws txt top) y))) (record {
-            fits = fits-fewer (o .fits) (omega arith);
-            holds = record {
-              note = λ j z. note-next low strict s past-top (o .holds .note j (omega arith));
-              near = λ j z. ahead-next low strict s past-top (o .holds .near j z);
-              far = λ j z. ahead-next low strict s past-top (o .holds .far j z);
-            };
-            rest = o .rest;
-            says = refl;
-          });
-        };
-  }
+-- The last note is the first of the list.
+pub matched-top : {ws txt : List ℕ} {p : Str} (low : Str) (strict : Bool) {notes : List ℕ} {n : ℕ} {l : List ℕ} {r : Next} → Noting ws txt p (past strict low) notes n [] l → Allˡ (λ x. past strict low (key-at ws txt x) ≡ true) l → 0 < n
+    → LastNote notes n r → Matched ws txt p notes l r
+unfolding to-come
+matched-top {ws} {txt} {p} low strict {notes} {n} {l} {r} o a h t =
+    let m = r .n in
+    let x = r .link in
+    let i : n ≡ suc (r .n) = omega (arith, t .before) in
+    let e : x ≡ getD notes m 0 = t .link ∙ rw (t .before) in
+    let right = matches ws txt (right-link (record-at ws x)) p in
+    let rest = right ++ (to-come ws txt p notes m ++ o .rest) in
+    let s : l ≡ x ∷ rest = o .says ∙ rw (i, ← e) (ap (_∷_ x) (append-assoc right (to-come ws txt p notes m) (o .rest))) in
+    let past-top : past strict low (key-at ws txt x) ≡ true = subst (λ (y : List ℕ). Allˡ (λ z. past strict low (key-at ws txt z) ≡ true) y) s a .0 in
+    let noted : Noted ws txt p notes m x rest = record {
+      fits = fits-fewer (o .fits) (omega (arith, t .before));
+      holds = record {
+        note = λ j z. note-next low strict s past-top (o .holds .note j (omega (arith, t .before)));
+        near = λ j z. ahead-next low strict s past-top (o .holds .near j z);
+        far = λ j z. ahead-next low strict s past-top (o .holds .far j z);
+      };
+      rest = o .rest;
+      says = refl;
+      whole = o .whole;
+    } in
+    record {
+      head = sym (ap head0 s);
+      sized = o .fits .sized;
+      noted = λ y after f.
+          let g : x ∷ rest ≡ y ∷ after = sym s ∙ f in
+          let tails : rest ≡ after = cc in
+          let heads : x ≡ y = cc in
+          rw (← tails, ← heads) noted;
+    }
 
--- What pop asks of what is to the right of a note.
-pub right-after : {ws txt : List ℕ} {p : Str} {b : Str → Bool} {l : List ℕ} {x : ℕ} → NoteOk ws txt p b l x → AllAfter ws txt p (right-link (record-at ws x))
-right-after {ws} {txt} {p} {x = x} a = all-beyond (a .ahead .any) (a .some) (λ y. p <ˢ y) (λ y. after-prefix p (key-at ws txt x) y (a .begins))
+-- There is none.
+pub matched-none : {ws txt : List ℕ} {p : Str} {notes l : List ℕ} → length notes ≡ note-words → l ≡ [] → Matched ws txt p notes l (record { link = 0; n = 0 })
+matched-none f e = record { head = rw e; sized = f; noted = λ x after g. absurd (nil≢cons (sym e ∙ g)) }
 
 -- ---- The walk
 
-module _ {ws txt : List ℕ} {p : Str} {notes : List ℕ} {l : List ℕ} where
-  -- There is none.
-  pub matched-none : Fits notes 0 → l ≡ [] → Matched ws txt p notes l (record { link = 0; n = 0 })
-  matched-none f e = record { head = rw e; sized = f .sized; noted = λ x after g. absurd (nil≢cons (sym e ∙ g)) }
-
-  pub matched-popped : {r : Next} → TopTaken ws txt p notes l r → Matched ws txt p notes l r
-  matched-popped {r} t = record {
-    head = sym (ap head0 (t .splits));
-    sized = t .noted .fits .sized;
-    noted = λ x after f.
-        let s : r .link ∷ t .after ≡ x ∷ after = sym (t .splits) ∙ f in
-        let e : t .after ≡ after = cc in
-        let g : r .link ≡ x = cc in
-        rw (← e, ← g) (t .noted);
-  }
-
 -- The root's matches, before anything is noted.
-pub first-noting : (ws txt : List ℕ) (p : Str) (root : ℕ) (notes : List ℕ) → length notes ≡ note-words
-    → Noting ws txt p (past false p) (set (set notes near-count 0) far-count 0) 0 (passing ws txt p (past false p) root) (matches ws txt root p)
-first-noting ws txt p root notes s = noting-none (clear-fits notes s) (clear-holds notes s) [] (sym (pass-all ws txt p root) ∙ sym (append-nil (passing ws txt p (past false p) root)))
+pub first-noting : (ws txt : List ℕ) (p : Str) (root : ℕ) (notes : List ℕ) (s : length notes ≡ note-words)
+    → Noting ws txt p (past false p) (cleared notes s) 0 (passing ws txt p (past false p) root) (matches ws txt root p)
+first-noting ws txt p root notes s = noting-none (clear-fits notes s) (clear-holds notes s) [] (sym (pass-all ws txt p root) ∙ sym (append-nil (passing ws txt p (past false p) root))) (λ z. refl)
 
 pub first-pass : (ws txt : List ℕ) (p : Str) (root : ℕ) → Allˡ (λ x. past false p (key-at ws txt x) ≡ true) (matches ws txt root p)
 first-pass ws txt p root = subst (λ (l : List ℕ). Allˡ (λ x. past false p (key-at ws txt x) ≡ true) l) (pass-all ws txt p root) (kept-pass (key-at ws txt) (past false p) (matches ws txt root p))
+
+-- The first, where nothing is noted.
+pub first-none : (ws txt : List ℕ) (p : Str) (root : ℕ) {notes notes′ : List ℕ} {r : ℕ} → Descends ws txt p p false root notes notes′ r → r ≤ 0
+    → Matched ws txt p notes′ (matches ws txt root p) (record { link = 0; n = 0 })
+first-none ws txt p root d h = matched-none (d .fits .sized) (sym (pass-all ws txt p root) ∙ d .none (omega arith))
 
 pub no-tree : {ws txt : List ℕ} {x : ℕ} → AnyTree ws txt x → AnyTree ws txt 0
 no-tree {ws} {x = x} a = any-tree {w = a .which} {v = a .level} (at-of (a .tree) (tree (a .level)) (omega arith) none)
@@ -432,7 +429,21 @@ no-tree {ws} {x = x} a = any-tree {w = a .which} {v = a .level} (at-of (a .tree)
     none : LinkOk ws (x + 1) 0 (kind (a .which) (tree (a .level)))
     none = record { earlier = omega arith; of-kind = λ e. absurd (e refl) }
 
--- With no note: a mark's tree, or the root.
+-- What is to the right of a match.
+module _ {ws txt : List ℕ} (p : Str) {at : ℕ} (a : (0 < at) × AnyTree ws txt at) (s : starts-with (key-at ws txt at) p ≡ true) where
+  pub right-after : AllAfter ws txt p (right-link (record-at ws at))
+  right-after = all-beyond (a .1) (a .0) (λ y. p <ˢ y) (λ y. after-prefix p (key-at ws txt at) y s)
+
+  pub next-here : {notes notes′ l : List ℕ} {n x r : ℕ} → Noted ws txt p notes n at l → x ≡ right-link (record-at ws at) → NotesLeft ws txt p x notes notes′ n r → Noting ws txt p (past true (key-at ws txt at)) notes′ r [] l
+  next-here {l = l} o e d =
+      (rw e at d) .notes-on (past true (key-at ws txt at)) l (all-beyond (a .1) (a .0) (λ y. past true (key-at ws txt at) y ≡ true) (λ y. past-after true (key-at ws txt at) y)) o
+
+-- With no note: what notes that were not dropped said was all.
+pub next-end : {ws txt : List ℕ} {p : Str} {b : Str → Bool} {notes l : List ℕ} {n : ℕ} → Noting ws txt p b notes n [] l → n ≤ 0 → getD notes dropped 0 ≡ 0 → Matched ws txt p notes l (record { link = 0; n = 0 })
+unfolding to-come
+next-end {n = n} o h z = let e : n ≡ 0 = omega arith in matched-none (o .fits .sized) (o .says ∙ rw (e, o .whole z))
+
+-- Else a mark's tree, or the root.
 module _ {ws txt : List ℕ} {p : Str} (k : Str) {l notes : List ℕ} {n : ℕ} (o : Noting ws txt p (past true k) notes n [] l) (h : n ≤ 0) where
   pub none-fits : Fits notes 0
   none-fits = fits-fewer (o .fits) (omega arith)
@@ -440,29 +451,25 @@ module _ {ws txt : List ℕ} {p : Str} (k : Str) {l notes : List ℕ} {n : ℕ} 
   none-holds : Holds (NoteOk ws txt p (past true k) l) (Ahead ws txt p (past true k) l) notes 0
   none-holds = holds-fewer (o .fits) (o .holds) (omega arith)
 
-  pub root-noting : (root : ℕ) → l ≡ passing ws txt p (past true k) root → Noting ws txt p (past true k) notes 0 (passing ws txt p (past true k) root) l
-  root-noting root e = noting-none none-fits none-holds [] (e ∙ sym (append-nil (passing ws txt p (past true k) root)))
+  root-noting : (root : ℕ) → l ≡ passing ws txt p (past true k) root → Noting ws txt p (past true k) notes 0 (passing ws txt p (past true k) root) l
+  root-noting root e = noting-none none-fits none-holds [] (e ∙ sym (append-nil (passing ws txt p (past true k) root))) (λ z. refl)
 
   module _ {notes′ : List ℕ} {m : ℕ} (a : AnyTree ws txt 0) (t : Taken notes notes′ m) where
     pub mark-ahead : Ahead ws txt p (past true k) l m
     mark-ahead = taken-mark none-fits none-holds (record { any = a; rest = l; says = rw (pass-none ws txt p (past true k)) }) t
 
-    pub mark-noting : Noting ws txt p (past true k) notes′ 0 (passing ws txt p (past true k) m) l
-    mark-noting = noting-none (taken-fits none-fits t) (taken-holds none-fits none-holds t) (mark-ahead .rest) (mark-ahead .says)
+    mark-noting : (getD notes dropped 0 ≡ 0 → ⊥) → Noting ws txt p (past true k) notes′ 0 (passing ws txt p (past true k) m) l
+    mark-noting z = noting-none (taken-fits none-fits t) (taken-holds none-fits none-holds t) (mark-ahead .rest) (mark-ahead .says) (λ y. absurd (z (sym (taken-told none-fits t) ∙ y)))
 
 module _ {ws txt : List ℕ} {p : Str} (k low : Str) {l notes notes′ : List ℕ} {r : ℕ} (same : low ≡ k) where
   -- The walk down from a mark, and from the root.
-  pub next-near : {notes₀ : List ℕ} {n m : ℕ} → Noting ws txt p (past true k) notes₀ n [] l → n ≤ 0 → AnyTree ws txt 0 → Taken notes₀ notes m → Descends ws txt p low true m notes notes′ r → Noting ws txt p (past true k) notes′ r [] l
-  next-near o h a t d = (rw same at d) .notes-on l (mark-noting k o h a t)
+  pub next-near : {notes₀ : List ℕ} {n m : ℕ} → Noting ws txt p (past true k) notes₀ n [] l → n ≤ 0 → (getD notes₀ dropped 0 ≡ 0 → ⊥) → AnyTree ws txt 0 → Taken notes₀ notes m → Descends ws txt p low true m notes notes′ r
+      → Noting ws txt p (past true k) notes′ r [] l
+  next-near o h z a t d = (rw same at d) .notes-on l (mark-noting k o h a t z)
 
   module _ (root : ℕ) (e : l ≡ passing ws txt p (past true k) root) (d : Descends ws txt p low true root notes notes′ r) where
     pub next-all : {n : ℕ} → Noting ws txt p (past true k) notes n [] l → n ≤ 0 → Noting ws txt p (past true k) notes′ r [] l
     next-all o h = (rw same at d) .notes-on l (root-noting k o h root e)
 
-    pub next-none : {n : ℕ} → Noting ws txt p (past true k) notes n [] l → n ≤ 0 → r ≤ 0 → Matched ws txt p notes′ l (record { link = 0; n = 0 })
-    next-none o h i = matched-none (fits-fewer (next-all o h .fits) (omega arith)) (e ∙ (rw same at d) .none (omega arith))
-
--- The first, where nothing is noted.
-pub first-none : (ws txt : List ℕ) (p : Str) (root : ℕ) {notes notes′ : List ℕ} {r : ℕ} → Descends ws txt p p false root notes notes′ r → Noting ws txt p (past false p) notes′ r [] (matches ws txt root p) → r ≤ 0
-    → Matched ws txt p notes′ (matches ws txt root p) (record { link = 0; n = 0 })
-first-none ws txt p root d o h = matched-none (fits-fewer (o .fits) (omega arith)) (sym (pass-all ws txt p root) ∙ d .none (omega arith))
+    pub next-none : r ≤ 0 → Matched ws txt p notes′ l (record { link = 0; n = 0 })
+    next-none i = matched-none (d .fits .sized) (e ∙ (rw same at d) .none (omega arith))

@@ -1,4 +1,4 @@
--- The array of notes by its parts: notes, near marks, far marks, and how many marks there are.
+-- The array of notes by its parts: notes, near marks, far marks, and how many marks there are, whether notes were dropped.
 use Prim.Native.Nat.{ℕ, _+_, _-_, _<_, _≤_}
 use mathlib.Core.Path.{_≡_}
 use mathlib.Core.List.{List}
@@ -28,9 +28,13 @@ near-count = 123
 abbrev pub far-count : ℕ
 far-count = 124
 
+-- Where it stands whether notes were ever dropped: 1, else 0.
+abbrev pub dropped : ℕ
+dropped = 125
+
 -- The length of the array.
 abbrev pub note-words : ℕ
-note-words = 125
+note-words = 126
 
 -- There is room for n notes and for as many marks as are counted.
 pub record Fits (notes : List ℕ) (n : ℕ) : Type 0 where
@@ -76,11 +80,17 @@ pub record TakenOf (notes notes′ : List ℕ) (start count r : ℕ) : Type 0 wh
 abbrev pub Taken : (notes notes′ : List ℕ) → ℕ → Type 0
 Taken notes notes′ r = TakenOf notes notes′ near-start near-count r ⊎ (TakenOf notes notes′ far-start far-count r ⊎ ((notes′ ≡ notes) × (r ≡ 0)))
 
--- A branch is noted after the first k, which are all n, or none where the first of them was marked.
+-- The notes are dropped: the first of them is marked.
+pub record Drops (notes notes′ : List ℕ) : Type 0 where
+  pub between : List ℕ
+  pub marks : Marks notes between (getD notes 0 0)
+  pub is : notes′ ≡ set between dropped 1
+
+-- A branch is noted after the first k, which are all n, or none where these were dropped.
 pub record NotedAt (notes notes′ : List ℕ) (n branch r : ℕ) : Type 0 where
   pub k : ℕ
   pub between : List ℕ
-  pub which : ((k ≡ n) × (between ≡ notes)) ⊎ ((k ≡ 0) × (0 < n) × Marks notes between (getD notes 0 0))
+  pub which : ((k ≡ n) × (between ≡ notes)) ⊎ ((k ≡ 0) × (0 < n) × Drops notes between)
   pub below : k < most-notes
   pub is : notes′ ≡ set between k branch
   pub count : r ≡ k + 1

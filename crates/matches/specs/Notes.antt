@@ -1,5 +1,5 @@
 -- Notes of branches still to come, and what they say of the matches of a tree.
-use Prim.Native.Nat.{ℕ, zero, suc, _<_}
+use Prim.Native.Nat.{ℕ, zero, suc, _-_, _<_}
 use mathlib.Core.Path.{_≡_}
 use mathlib.Core.Bool.{Bool, true}
 use mathlib.Core.List.{List, [], _∷_, _++_}
@@ -10,7 +10,7 @@ use Rattle.source.specs.Shared.{Allˡ}
 use Rattle.memory.specs.Layout.{record-at, right-link, key-at}
 use Rattle.tree.specs.Tree.{AnyTree}
 use Rattle.tree.specs.Links.{branches, matches, keep, past, head0}
-use Rattle.matches.specs.Marks.{note-words, Fits, Holds}
+use Rattle.matches.specs.Marks.{dropped, note-words, Fits, Holds}
 use Rattle.matches.specs.declared.Next.{Next}
 
 -- What the first n notes say is to come: the last one, the matches to its right, then what the others say.
@@ -35,19 +35,21 @@ pub record NoteOk (ws txt : List ℕ) (prefix : Str) (b : Str → Bool) (l : Lis
   pub begins : starts-with (key-at ws txt x) prefix ≡ true
   pub ahead : Ahead ws txt prefix b l x
 
--- The list l begins with h and what the first n notes say. Each note and each mark is ahead.
+-- The list l begins with h and what the first n notes say, and is that where no notes were dropped. Each note and each mark is ahead.
 pub record Noting (ws txt : List ℕ) (prefix : Str) (b : Str → Bool) (notes : List ℕ) (n : ℕ) (h l : List ℕ) : Type 0 where
   pub fits : Fits notes n
   pub holds : Holds (NoteOk ws txt prefix b l) (Ahead ws txt prefix b l) notes n
   pub rest : List ℕ
   pub says : l ≡ h ++ (to-come ws txt prefix notes n ++ rest)
+  pub whole : getD notes dropped 0 ≡ 0 → rest ≡ []
 
--- The list l, all after the key k, begins with what the first n notes say.
-abbrev pub Noted : (ws txt : List ℕ) (prefix : Str) (notes : List ℕ) (n : ℕ) (k : Str) (l : List ℕ) → Type 0
-Noted ws txt prefix notes n k l = Noting ws txt prefix (past true k) notes n [] l
+-- The list l, all after the branch at, begins with the matches to its right and what the first n notes say.
+abbrev pub Noted : (ws txt : List ℕ) (prefix : Str) (notes : List ℕ) (n at : ℕ) (l : List ℕ) → Type 0
+Noted ws txt prefix notes n at l = Noting ws txt prefix (past true (key-at ws txt at)) notes n (matches ws txt (right-link (record-at ws at)) prefix) l
 
 -- The matches of the tree from that are past low are noted. With none noted there are none.
 pub record Descends (ws txt : List ℕ) (prefix low : Str) (strict : Bool) (from : ℕ) (notes notes′ : List ℕ) (r : ℕ) : Type 0 where
+  pub fits : Fits notes′ r
   pub notes-on : (l : List ℕ) → Noting ws txt prefix (past strict low) notes 0 (passing ws txt prefix (past strict low) from) l → Noting ws txt prefix (past strict low) notes′ r [] l
   pub none : r ≡ 0 → passing ws txt prefix (past strict low) from ≡ []
 
@@ -57,26 +59,16 @@ AllAfter ws txt prefix from = Allˡ (λ x. prefix <ˢ key-at ws txt x) (branches
 
 -- The matches of the tree from are noted before what was noted already.
 pub record NotesLeft (ws txt : List ℕ) (prefix : Str) (from : ℕ) (notes notes′ : List ℕ) (n r : ℕ) : Type 0 where
+  pub fits : Fits notes′ r
   pub notes-on : (b : Str → Bool) (l : List ℕ) → Allˡ (λ x. b (key-at ws txt x) ≡ true) (branches ws from) → Noting ws txt prefix b notes n (matches ws txt from prefix) l → Noting ws txt prefix b notes′ r [] l
 
--- Some notes are there.
-pub record CanPop (ws txt : List ℕ) (prefix : Str) (notes : List ℕ) (n : ℕ) : Type 0 where
-  pub test : Str → Bool
-  pub list : List ℕ
-  pub noted : Noting ws txt prefix test notes n [] list
-  pub some : 0 < n
-
--- The first of the list is taken, and the notes are of the rest.
-pub record TopTaken (ws txt : List ℕ) (prefix : Str) (notes : List ℕ) (l : List ℕ) (r : Next) : Type 0 where
-  pub after : List ℕ
-  pub splits : l ≡ r .link ∷ after
-  pub noted : Noted ws txt prefix notes (r .n) (key-at ws txt (r .link)) after
-
-pub record Pops (ws txt : List ℕ) (prefix : Str) (notes notes′ : List ℕ) (n : ℕ) (r : Next) : Type 0 where
-  pub takes : (low : Str) (strict : Bool) (l : List ℕ) → Allˡ (λ x. past strict low (key-at ws txt x) ≡ true) l → Noting ws txt prefix (past strict low) notes n [] l → TopTaken ws txt prefix notes′ l r
+-- The last of n notes, and how many there are before it.
+pub record LastNote (notes : List ℕ) (n : ℕ) (r : Next) : Type 0 where
+  pub link : r .link ≡ getD notes (n - 1) 0
+  pub before : r .n ≡ n - 1
 
 -- The first of the list l, 0 where it is empty, and notes of the rest.
 pub record Matched (ws txt : List ℕ) (prefix : Str) (notes : List ℕ) (l : List ℕ) (r : Next) : Type 0 where
   pub head : r .link ≡ head0 l
   pub sized : length notes ≡ note-words
-  pub noted : (x : ℕ) (after : List ℕ) → l ≡ x ∷ after → Noted ws txt prefix notes (r .n) (key-at ws txt x) after
+  pub noted : (x : ℕ) (after : List ℕ) → l ≡ x ∷ after → Noted ws txt prefix notes (r .n) x after

@@ -1,6 +1,6 @@
 // The branches of a tree that begin with a prefix, one after another: those still to come are noted on the way down.
-// Notes are a help. Where they are full they are dropped, and the first of them is marked: once they run out, its tree is walked down again, to the branches past the last one given.
-// Marks are near or far, a far one for as many near ones as there is room for. Where all are full or gone the walk starts at the root.
+// Where the notes are full they are dropped, and the first of them is marked: once they run out, its tree is walked down again, to the branches past the last one given.
+// Marks are near or far, a far one for as many near ones as there is room for. Where notes were dropped and no mark is left the walk starts at the root.
 ghost use mathlib.Core.Path.{_≡_};
 ghost use mathlib.Core.Bool.{true};
 ghost use Prim.Native.Nat.{_<_};
@@ -10,7 +10,7 @@ ghost use Rattle.source.specs.Text.{starts-with};
 ghost use Rattle.memory.specs.Layout.{key-at};
 ghost use Rattle.tree.specs.Links.{matches, after};
 ghost use Rattle.matches.specs.Marks.{note-words, Fits, PartOk, PutAt, Marks, Taken, NotedAt};
-ghost use Rattle.matches.specs.Notes.{Noted, Descends, AllAfter, NotesLeft, CanPop, Pops, Matched};
+ghost use Rattle.matches.specs.Notes.{Noted, Descends, AllAfter, NotesLeft, LastNote, Matched};
 
 // At most so many notes, near marks and far marks: their product is past memory::CAPACITY.
 const MOST_NOTES: usize = 48;
@@ -28,10 +28,13 @@ const NEAR_COUNT: usize = 123;
 
 const FAR_COUNT: usize = 124;
 
-// The length of the array of notes and marks.
-pub const NOTES: usize = 125;
+// Where it stands whether notes were ever dropped.
+const DROPPED: usize = 125;
 
-// A branch, 0 for none, and how many notes there are after it.
+// The length of the array of notes and marks.
+pub const NOTES: usize = 126;
+
+// A branch, 0 for none, and how many notes there are beside what is to its right.
 pub struct Next {
     pub link: u32,
     pub n: usize,
@@ -94,6 +97,7 @@ fn note(notes: &mut [u32; NOTES], n: usize, branch: u32) -> usize
     if n == MOST_NOTES {
         let first = notes[0];
         mark(notes, first);
+        notes[DROPPED] = 1;
         notes[0] = branch;
         return 1;
     }
@@ -160,15 +164,16 @@ fn note_left(
     n
 }
 
-// Takes the last note, and notes what is to its right.
-fn pop(words: &[u32], text: &[u8], prefix: &[u8], notes: &mut [u32; NOTES], n: usize) -> Next
-    requires { ⌜ CanPop (now words) (now text) (now prefix) (now notes) n ⌝ }
-    ensures { λ r. ⌜ Pops (now (words .entry)) (now (text .entry)) (now (prefix .entry)) (now (notes .entry)) (now (notes .exit)) n r ⌝ }
+// The last of `n` notes, which comes first.
+fn last_note(notes: &[u32; NOTES], n: usize) -> Next
+    requires { ⌜ Fits (now notes) n ⌝ }
+    requires { ⌜ 0 < n ⌝ }
+    ensures { λ r. ⌜ LastNote (now (notes .entry)) n r ⌝ }
 {
-    let top = notes[n - 1];
-    let right = memory::right_of(words, top);
-    let m = note_left(words, text, prefix, right, notes, n - 1);
-    Next { link: top, n: m }
+    Next {
+        link: notes[n - 1],
+        n: n - 1,
+    }
 }
 
 // The first branch of a tree that begins with `prefix`, 0 for none, and notes of those after it.
@@ -185,14 +190,15 @@ pub fn first_match(
 {
     notes[NEAR_COUNT] = 0;
     notes[FAR_COUNT] = 0;
+    notes[DROPPED] = 0;
     let n = descend(words, text, prefix, prefix, false, root, notes);
     if 0 < n {
-        return pop(words, text, prefix, notes, n);
+        return last_note(notes, n);
     }
     Next { link: 0, n: 0 }
 }
 
-// The next one after the branch `at`, of which there are `n` notes.
+// The next one after the branch `at`, to which there are `n` notes: what is to its right comes first.
 pub fn next_match(
     words: &[u32],
     text: &[u8],
@@ -205,21 +211,26 @@ pub fn next_match(
     requires { ⌜ AnyTree (now words) (now text) root ⌝ }
     requires { ⌜ (0 < at) × AnyTree (now words) (now text) at ⌝ }
     requires { ⌜ starts-with (key-at (now words) (now text) at) (now prefix) ≡ true ⌝ }
-    requires { ⌜ Noted (now words) (now text) (now prefix) (now notes) n (key-at (now words) (now text) at) (after (key-at (now words) (now text)) (key-at (now words) (now text) at) (matches (now words) (now text) root (now prefix))) ⌝ }
+    requires { ⌜ Noted (now words) (now text) (now prefix) (now notes) n at (after (key-at (now words) (now text)) (key-at (now words) (now text) at) (matches (now words) (now text) root (now prefix))) ⌝ }
     ensures { λ r. ⌜ Matched (now (words .entry)) (now (text .entry)) (now (prefix .entry)) (now (notes .exit)) (after (key-at (now (words .entry)) (now (text .entry))) (key-at (now (words .entry)) (now (text .entry)) at) (matches (now (words .entry)) (now (text .entry)) root (now (prefix .entry)))) r ⌝ }
 {
-    if 0 < n {
-        return pop(words, text, prefix, notes, n);
+    let right = memory::right_of(words, at);
+    let here = note_left(words, text, prefix, right, notes, n);
+    if 0 < here {
+        return last_note(notes, here);
+    }
+    if notes[DROPPED] == 0 {
+        return Next { link: 0, n: 0 };
     }
     let low = memory::key_of(words, text, at);
     let marked = take_mark(notes);
     let near = descend(words, text, prefix, low, true, marked, notes);
     if 0 < near {
-        return pop(words, text, prefix, notes, near);
+        return last_note(notes, near);
     }
     let all = descend(words, text, prefix, low, true, root, notes);
     if 0 < all {
-        return pop(words, text, prefix, notes, all);
+        return last_note(notes, all);
     }
     Next { link: 0, n: 0 }
 }

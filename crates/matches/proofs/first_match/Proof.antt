@@ -3,7 +3,7 @@ use mathlib.Core.Bool.{false}
 use borrow.Author.Needs.{needs}
 use Rattle.tree.proofs.Matches.{starts-self}
 use Rattle.matches.proofs.Marks.{clear-fits}
-use Rattle.matches.proofs.Notes.{first-noting, first-pass, first-none, matched-popped}
+use Rattle.matches.proofs.Notes.{first-noting, first-pass, first-none, matched-top}
 use Rattle.matches.proofs.first_match.Statement.{statement}
 use Rattle.matches.proofs.first_match.Tie as tie
 
@@ -15,11 +15,13 @@ first-match-spec =
     (λ c. search needs)
     {- element-write-notes-2 -}
     (λ c. search needs)
+    {- element-write-notes-3 -}
+    (λ c. search needs)
     {- descend-requires -}
     (λ c κs. (c .before .before .before .before .pre .0, (starts-self (c .before .before .before .before .args .prefix .now), clear-fits (c .before .before .before .before .args .notes .now) (c .before .before .before .before .pre .1))))
-    {- pop-requires -}
-    (λ c κs. record { test = _; list = _; noted = (c .before .before .descend .ensures .notes-on _ (first-noting (c .before .before .before .before .before .before .before .args .words .now) (c .before .before .before .before .before .before .before .args .text .now) (c .before .before .before .before .before .before .before .args .prefix .now) (c .before .before .before .before .before .before .before .args .root) (c .before .before .before .before .before .before .before .args .notes .now) (c .before .before .before .before .before .before .before .pre .1))); some = c .before .if1 .taken })
+    {- last-note-requires -}
+    (λ c κs. (c .before .before .descend .ensures .fits, c .before .if1 .taken))
     {- returns -}
-    (λ c. matched-popped (c .pop .ensures .takes (c .before .before .before .before .before .before .before .before .args .prefix .now) false _ (first-pass (c .before .before .before .before .before .before .before .before .args .words .now) (c .before .before .before .before .before .before .before .before .args .text .now) (c .before .before .before .before .before .before .before .before .args .prefix .now) (c .before .before .before .before .before .before .before .before .args .root)) (c .before .before .before .descend .ensures .notes-on _ (first-noting (c .before .before .before .before .before .before .before .before .args .words .now) (c .before .before .before .before .before .before .before .before .args .text .now) (c .before .before .before .before .before .before .before .before .args .prefix .now) (c .before .before .before .before .before .before .before .before .args .root) (c .before .before .before .before .before .before .before .before .args .notes .now) (c .before .before .before .before .before .before .before .before .pre .1)))))
+    (λ c. matched-top (c .before .before .before .before .before .before .before .before .args .prefix .now) false (c .before .before .before .descend .ensures .notes-on _ (first-noting (c .before .before .before .before .before .before .before .before .args .words .now) (c .before .before .before .before .before .before .before .before .args .text .now) (c .before .before .before .before .before .before .before .before .args .prefix .now) (c .before .before .before .before .before .before .before .before .args .root) (c .before .before .before .before .before .before .before .before .args .notes .now) (c .before .before .before .before .before .before .before .before .pre .1))) (first-pass (c .before .before .before .before .before .before .before .before .args .words .now) (c .before .before .before .before .before .before .before .before .args .text .now) (c .before .before .before .before .before .before .before .before .args .prefix .now) (c .before .before .before .before .before .before .before .before .args .root)) (c .before .before .if1 .taken) (c .last-note .ensures))
     {- returns-2 -}
-    (λ c. first-none (c .before .before .before .before .before .before .args .words .now) (c .before .before .before .before .before .before .args .text .now) (c .before .before .before .before .before .before .args .prefix .now) (c .before .before .before .before .before .before .args .root) (c .before .descend .ensures) (c .before .descend .ensures .notes-on _ (first-noting (c .before .before .before .before .before .before .args .words .now) (c .before .before .before .before .before .before .args .text .now) (c .before .before .before .before .before .before .args .prefix .now) (c .before .before .before .before .before .before .args .root) (c .before .before .before .before .before .before .args .notes .now) (c .before .before .before .before .before .before .pre .1))) (c .if1 .left)))
+    (λ c. first-none (c .before .before .before .before .before .before .args .words .now) (c .before .before .before .before .before .before .args .text .now) (c .before .before .before .before .before .before .args .prefix .now) (c .before .before .before .before .before .before .args .root) (c .before .descend .ensures) (c .if1 .left)))

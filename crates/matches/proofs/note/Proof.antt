@@ -1,4 +1,4 @@
--- `note` puts the branch after the others, or alone, the first of them marked.
+-- `note` puts the branch after the others, or alone, the others dropped.
 use mathlib.Core.Path.{refl}
 use mathlib.Core.Logic.{inl, inr}
 use native.Mathlib.Omega.{arith}
@@ -16,11 +16,13 @@ note-spec =
     (λ c κs. search needs)
     {- element-write-notes -}
     (λ c. search needs)
+    {- element-write-notes-2 -}
+    (λ c. search needs)
     {- returns -}
-    (λ c. record { k = 0; between = _; which = inr (refl, omega (arith, c .before .before .before .if1 .taken), c .mark .ensures); below = omega arith; is = refl; count = refl })
+    (λ c. record { k = 0; between = _; which = inr (refl, omega (arith, c .before .before .before .if1 .taken), record { between = _; marks = c .mark .ensures; is = refl }); below = omega arith; is = refl; count = refl })
     {- mul-notes -}
     (λ c. search needs)
-    {- element-write-notes-2 -}
+    {- element-write-notes-3 -}
     (λ c. search needs)
     {- add-result -}
     (λ c. search needs)
