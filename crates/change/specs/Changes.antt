@@ -3,6 +3,7 @@ use Prim.Native.Nat.{ℕ, _+_, _-_, _≤_, _<_}
 use mathlib.Core.Path.{_≡_}
 use mathlib.Core.Bool.{Bool, true, cond}
 use mathlib.Core.List.{List, [], _∷_, reverse}
+use Rattle.source.specs.Limits.{heaviest-list, deepest-trie}
 use Rattle.source.specs.Text.{Str, Query, segments, ends-in-dot}
 use Rattle.source.specs.Types.{Trie, NameList, bind, ns, trie, bindings}
 use Rattle.source.specs.Tries.{scope-of}
@@ -100,8 +101,8 @@ node-at ws txt x y at len d =
 -- The same of a list of namespaces.
 pub record FitsNames {A : Type 0} (ws : List ℕ) (n : ℕ) (c : Counted (NameList A ns)) : Type 0 where
   pub room : Room ws n (c .count)
-  pub light : heaviest-names (c .value) ≤ 96
-  pub shallow : depth-names (c .value) ≤ 16
+  pub light : heaviest-names (c .value) ≤ heaviest-list
+  pub shallow : depth-names (c .value) ≤ deepest-trie
 
 -- What the change of a trie's bindings asks, where the form is f.
 pub record Bindings (ws txt : List ℕ) (n used x at len : ℕ) (d : Descent) (f : Form) : Type 0 where
@@ -111,7 +112,7 @@ pub record Bindings (ws txt : List ℕ) (n used x at len : ℕ) (d : Descent) (f
   pub place : Place txt used (d .from) at (d .end)
   pub cut : Cut txt at len (d .end)
   pub room : Room ws n (bindings-at txt at len d f (what (which-by f) ws txt x (list bind)) .count)
-  pub light : heaviest-names (bindings-at txt at len d f (what (which-by f) ws txt x (list bind)) .value) ≤ 96
+  pub light : heaviest-names (bindings-at txt at len d f (what (which-by f) ws txt x (list bind)) .value) ≤ heaviest-list
 
 -- What mut_node asks, where y is the new list of namespaces.
 pub record Node (ws txt : List ℕ) (n used x y at len : ℕ) (d : Descent) : Type 0 where

@@ -9,6 +9,7 @@ ghost use mathlib.Core.Path.{_≡_};
 ghost use mathlib.Core.Bool.{true};
 ghost use Prim.Native.Nat.{_+_, _-_, _<_, _≤_};
 ghost use lib.ListN.{length};
+ghost use Rattle.source.specs.Limits.{most-used};
 ghost use Rattle.source.specs.Text.{ends-in-dot};
 ghost use Rattle.memory.specs.Layout.{span};
 ghost use Rattle.kinds.specs.declared.Form.the-variants as form;
@@ -24,7 +25,7 @@ pub struct Descent {
 
 // The length of the segment of the text that begins at `at`.
 fn segment_in(text: &[u8], at: u32, end: u32) -> u32
-    requires { ⌜ (at < end) × (end ≤ length (now text)) × (end ≤ 65536) × (ends-in-dot (span (now text) at (end - at)) ≡ true) ⌝ }
+    requires { ⌜ (at < end) × (end ≤ length (now text)) × (end ≤ most-used) × (ends-in-dot (span (now text) at (end - at)) ≡ true) ⌝ }
     ensures { λ r. ⌜ Cut (now (text .entry)) at r end ⌝ }
 {
     let first = at as usize;
@@ -55,7 +56,7 @@ fn symbol_row(
     loaded: bool,
     path: Span,
 ) -> [u32; memory::ROW]
-    requires { ⌜ (from ≤ at) × (at + len ≤ 65536) ⌝ }
+    requires { ⌜ (from ≤ at) × (at + len ≤ most-used) ⌝ }
     ensures { λ r. ⌜ r ≡ symbol-row last at len from loaded path ⌝ }
 {
     let key = Span {

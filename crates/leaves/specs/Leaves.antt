@@ -3,6 +3,7 @@ use Prim.Native.Nat.{ℕ, _+_, _-_, _≤_}
 use mathlib.Core.Path.{_≡_}
 use mathlib.Core.Bool.{Bool, true, false}
 use mathlib.Core.List.{List}
+use Rattle.source.specs.Limits.{heaviest-list, deepest-trie}
 use Rattle.source.specs.Types.{Trie, item, trie, []ᴺ, ImportedNames, bindings, namespaces}
 use Rattle.source.specs.Terms.{heaviest, depth}
 use Rattle.source.specs.Rules.{IsKey, IsLabel, IsPath}
@@ -94,8 +95,8 @@ pub record ChangeOk (ws txt : List ℕ) (n used : ℕ) (ch : Change) : Type 0 wh
 -- Room for the records of a trie, and no list of it too heavy, nor itself too deep.
 pub record Fits {A : Type 0} (ws : List ℕ) (n : ℕ) (c : Counted (Trie A)) : Type 0 where
   pub room : Room ws n (c .count)
-  pub light : heaviest (c .value) ≤ 96
-  pub shallow : depth (c .value) ≤ 16
+  pub light : heaviest (c .value) ≤ heaviest-list
+  pub shallow : depth (c .value) ≤ deepest-trie
 
 -- What mut_leaf asks.
 pub record Leaf (ws txt : List ℕ) (n used x : ℕ) (ch : Change) : Type 0 where

@@ -4,6 +4,7 @@ use mathlib.Core.Path.{_≡_}
 use mathlib.Core.List.{List, [], _∷_, _++_}
 use lib.Dec.{eqb}
 use lib.ListN.{length, getD}
+use Rattle.source.specs.Limits.{longest-full-name, deepest-trie, most-used, record-words}
 use Rattle.source.specs.Text.{Str}
 use Rattle.source.specs.Tries.{dflt}
 use Rattle.source.specs.Table.{ModSymbol, Line, mod-annotation}
@@ -23,16 +24,16 @@ use Rattle.lines.specs.declared.Filter.{Filter}
 -- Link x names a record with a text, a key or a label, that is in the table's text.
 pub record TextAt (ws txt : List ℕ) (x : ℕ) : Type 0 where
   pub some : 0 < x
-  pub within : x * 12 ≤ length ws
+  pub within : x * record-words ≤ length ws
   pub inside : text-start (record-at ws x) + text-len (record-at ws x) ≤ length txt
   pub size : length (key-at ws txt x) ≡ text-len (record-at ws x)
-  pub short : text-len (record-at ws x) ≤ 543
-  pub few : x ≤ 65536
+  pub short : text-len (record-at ws x) ≤ longest-full-name
+  pub few : x ≤ most-used
 
 -- The links of a path name keys, and the length is that of their text.
 pub record PathAt (ws txt : List ℕ) (p : Path) : Type 0 where
   pub sized : length (p .links) ≡ 22
-  pub few : p .n ≤ 16
+  pub few : p .n ≤ deepest-trie
   pub each : (j : ℕ) → j < p .n → TextAt ws txt (getD (p .links) j 0)
   pub len-is : p .len ≡ length (joined ws txt (p .links) (p .n))
   pub short : p .len ≤ p .n * 32

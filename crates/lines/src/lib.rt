@@ -3,6 +3,7 @@ use memory::ModSymbol;
 ghost use mathlib.Core.Path.{_≡_};
 ghost use Prim.Native.Nat.{ℕ, _+_, _*_, _<_, _≤_};
 ghost use lib.ListN.{length};
+ghost use Rattle.source.specs.Limits.{longest-full-name, most-used, record-words};
 ghost use Rattle.source.specs.Text.{Str};
 ghost use Rattle.source.specs.Table.{Module, Namespace};
 ghost use Rattle.source.specs.Calls as C;
@@ -77,7 +78,7 @@ pub const RUN: usize = 22;
 
 // The sum, where `a` is not past the limit already.
 fn add(a: usize, n: usize, limit: usize) -> usize
-    requires { ⌜ (n ≤ 65536) × (limit ≤ 4294967295) ⌝ }
+    requires { ⌜ (n ≤ most-used) × (limit ≤ 4294967295) ⌝ }
     ensures { λ r. ⌜ ((x : ℕ) → Capped limit x a → Capped limit (x + n) r) ⌝ }
 {
     if a <= limit {
@@ -149,7 +150,7 @@ fn line_row(
     len: u32,
     note: u32,
 ) -> [u32; LINE]
-    requires { ⌜ (0 < branch) × (branch * 12 ≤ length (now words)) × (start + len ≤ 4294967295) ⌝ }
+    requires { ⌜ (0 < branch) × (branch * record-words ≤ length (now words)) × (start + len ≤ 4294967295) ⌝ }
     ensures { λ r. ⌜ r ≡ line-row (record-at (now (words .entry)) branch) matched start len note ⌝ }
 {
     let item = memory::row_of(words, branch);
@@ -211,7 +212,7 @@ fn try_line(
     out: &mut [u8],
 )
     requires { ⌜ JobOk (now words) (now text) (job-in task branch (now run)) ⌝ }
-    requires { ⌜ length (now note) ≤ 543 ⌝ }
+    requires { ⌜ length (now note) ≤ longest-full-name ⌝ }
     ensures { λ _. ⌜ TriedLine (now (words .entry)) (now (text .entry)) (job-in task branch (now (run .entry))) (now (note .entry)) (now (flat .entry)) (now (flat .exit)) (now (out .entry)) (now (out .exit)) ⌝ }
 {
     let lim = task.lim;
@@ -237,7 +238,7 @@ fn put_line(
     out: &mut [u8],
 )
     requires { ⌜ JobOk (now words) (now text) (job-in task branch (now run)) ⌝ }
-    requires { ⌜ length (now note) ≤ 543 ⌝ }
+    requires { ⌜ length (now note) ≤ longest-full-name ⌝ }
     ensures { λ _. ⌜ SamePath (now (run .entry)) (now (run .exit)) ⌝ }
     ensures { λ _. ⌜ PutLine (now (words .entry)) (now (text .entry)) (job-in task branch (now (run .entry))) (now (note .entry)) (tally-in (now (run .exit))) (now (flat .entry)) (now (flat .exit)) (now (out .entry)) (now (out .exit)) ⌝ }
 {
@@ -252,7 +253,7 @@ fn put_line(
 
 // The collection of the outermost label of the path and the branch below it, 0 for none.
 fn outermost(run: &[usize; RUN], label: u32) -> u32
-    requires { ⌜ path-in (now run) .label ≤ 65536 ⌝ }
+    requires { ⌜ path-in (now run) .label ≤ most-used ⌝ }
     ensures { λ r. ⌜ r ≡ outermost (path-in (now (run .entry))) label ⌝ }
 {
     if run[COUNT] == 0 {

@@ -7,6 +7,7 @@ use mathlib.Core.List.{List, [], _∷_, map, reverse, tail}
 use mathlib.Core.Option.{Option, some}
 use lib.Dec.{eqb}
 use lib.ListN.{length, getD, take, drop}
+use Rattle.source.specs.Limits.{longest-query, deepest-trie}
 use Rattle.source.specs.Text.{Str, Query, segments, ends-in-dot}
 use Rattle.source.specs.Types.{Level, Value, Trie, bind, ns}
 use Rattle.source.specs.Trees.{PathElem}
@@ -97,7 +98,7 @@ pub record Entered (ws : List ℕ) (f : Found) (run run′ : List ℕ) : Type 0 
 -- The run's path has n of its links, the length and the label.
 pub record PathSet (run run′ : List ℕ) (n len label : ℕ) : Type 0 where
   pub size : length run′ ≡ length run
-  pub links : (j : ℕ) → j < 16 → getD run′ j 0 ≡ getD run j 0
+  pub links : (j : ℕ) → j < deepest-trie → getD run′ j 0 ≡ getD run j 0
   pub count : getD run′ 16 0 ≡ n
   pub len-is : getD run′ 17 0 ≡ len
   pub label-is : getD run′ 18 0 ≡ label
@@ -111,7 +112,7 @@ level-of leaf = pick leaf bind ns
 
 -- An entry's branch of namespaces leaves room in the path.
 abbrev pub HasRoom : (ws txt : List ℕ) (ask : Ask) (p : Path) → Entry → Type 0
-HasRoom ws txt ask p e = p .n + depth (held (asked ask) ws txt ns (e .branch)) < 16
+HasRoom ws txt ask p e = p .n + depth (held (asked ask) ws txt ns (e .branch)) < deepest-trie
 
 -- The matches of a tree, each with the tree's label.
 unfoldable pub tree-entries : (ws txt : List ℕ) (root label : ℕ) (prefix : Str) → List Entry
@@ -122,7 +123,7 @@ module _ (ws txt : List ℕ) (ask : Ask) (rest : Str) (p : Path) (lim : Limits) 
   pub record RunReady : Type 0 where
     pub path-ok : PathOk ws txt (asked ask) p
     pub ends : ends-in-dot rest ≡ true
-    pub short : length rest ≤ 544
+    pub short : length rest ≤ longest-query
     pub small : Small lim
 
   pub record BranchReady (leaf : Bool) (branch label : ℕ) : Type 0 where
@@ -140,12 +141,12 @@ module _ (ws txt : List ℕ) (ask : Ask) (rest : Str) (p : Path) (lim : Limits) 
   pub record ListReady (leaf : Bool) (x : ℕ) : Type 0 where
     pub ready : RunReady
     pub list-at : At ws txt (asked ask) (list (level-of leaf)) x
-    pub room : leaf ≡ false → p .n + depth-names (what (asked ask) ws txt x (list ns)) ≤ 16
+    pub room : leaf ≡ false → p .n + depth-names (what (asked ask) ws txt x (list ns)) ≤ deepest-trie
 
   pub record TrieReady (trie : ℕ) : Type 0 where
     pub ready : RunReady
     pub trie-at : At ws txt (asked ask) trieˢ trie
-    pub room : p .n + depth (what (asked ask) ws txt trie trieˢ) ≤ 16
+    pub room : p .n + depth (what (asked ask) ws txt trie trieˢ) ≤ deepest-trie
 
   -- The run went on by what is listed, wherever in the source's listing it stands.
   module _ (matched : ℕ) (a t : Tally) (flat flat′ out out′ : List ℕ) where

@@ -10,6 +10,7 @@ ghost use mathlib.Core.Path.{_≡_};
 ghost use mathlib.Core.Bool.{true};
 ghost use Prim.Native.Nat.{_+_, _*_, _≤_, _<_, min};
 ghost use lib.ListN.{length};
+ghost use Rattle.source.specs.Limits.{longest-query, deepest-trie, record-words};
 ghost use Rattle.source.specs.Text.{ends-in-dot};
 ghost use Rattle.lines.specs.Ask.{asked};
 ghost use Rattle.lines.specs.Run.{path-in};
@@ -35,7 +36,7 @@ struct Place {
 
 // Cuts the first segment off, if there is one.
 fn cut_query(query: &[u8], base: usize, matched: u32) -> Cut
-    requires { ⌜ (ends-in-dot (now query) ≡ true) × (length (now query) ≤ 544) × (base ≤ 544) ⌝ }
+    requires { ⌜ (ends-in-dot (now query) ≡ true) × (length (now query) ≤ longest-query) × (base ≤ longest-query) ⌝ }
     ensures { λ r. ⌜ Cuts (now (query .entry)) base matched r ⌝ }
 {
     if query.len() == 0 {
@@ -78,8 +79,8 @@ fn set_path(run: &mut [usize; lines::RUN], n: usize, len: usize, label: usize)
 
 // Puts a branch of namespaces onto the path.
 fn enter(words: &[u32], found: Found, run: &mut [usize; lines::RUN])
-    requires { ⌜ (0 < found .link) × (found .link * 12 ≤ length (now words)) ⌝ }
-    requires { ⌜ (length (now run) ≡ 22) × (path-in (now run) .n < 16) × (path-in (now run) .len ≤ 544) ⌝ }
+    requires { ⌜ (0 < found .link) × (found .link * record-words ≤ length (now words)) ⌝ }
+    requires { ⌜ (length (now run) ≡ 22) × (path-in (now run) .n < deepest-trie) × (path-in (now run) .len ≤ longest-query) ⌝ }
     ensures { λ _. ⌜ Entered (now (words .entry)) found (now (run .entry)) (now (run .exit)) ⌝ }
 {
     let n = run[lines::COUNT];
@@ -338,7 +339,7 @@ pub fn complete(
     out: &mut [u8],
 ) -> Completion
     requires { ⌜ At (now words) (now text) (asked ask) trieˢ root ⌝ }
-    requires { ⌜ (ends-in-dot (now query) ≡ true) × (length (now query) ≤ 544) ⌝ }
+    requires { ⌜ (ends-in-dot (now query) ≡ true) × (length (now query) ≤ longest-query) ⌝ }
     ensures { λ r. ⌜ Completes (now (words .entry)) (now (text .entry)) ask root (now (query .entry)) budget (now (flat .entry)) (now (flat .exit)) (now (out .entry)) (now (out .exit)) r ⌝ }
 {
     let lines = lent(flat.len() / lines::LINE_BYTES);

@@ -15,6 +15,10 @@ longest-path = 120
 abbrev pub longest-full-name : ℕ
 longest-full-name = 543
 
+-- Bytes of a query: as many segments, each with a dot.
+abbrev pub longest-query : ℕ
+longest-query = 544
+
 -- Row 5: weight of a list. Row 6: depth of a trie.
 abbrev pub heaviest-list : ℕ
 heaviest-list = 96

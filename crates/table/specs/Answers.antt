@@ -4,6 +4,7 @@ use mathlib.Core.Path.{_≡_}
 use mathlib.Core.Bool.{Bool, true}
 use mathlib.Core.List.{List}
 use lib.ListN.{length}
+use Rattle.source.specs.Limits.{record-words}
 use Rattle.source.specs.Text.{Str}
 use Rattle.source.specs.Types.{bind}
 use Rattle.source.specs.Table.{ModSymbol}
@@ -64,7 +65,7 @@ item-found w ws txt (Not-looked r) = C.refused (number r)
 
 -- The branch is a record.
 abbrev pub BranchFits : List ℕ → Looked → Type 0
-BranchFits ws (Branch l) = (0 < l) × (l * 12 ≤ length ws)
+BranchFits ws (Branch l) = (0 < l) × (l * record-words ≤ length ws)
 BranchFits ws No-branch = Unit {0}
 BranchFits ws (Not-looked r) = Unit {0}
 
