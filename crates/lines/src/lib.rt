@@ -1,20 +1,21 @@
 // One line of a listing: counted, and written where it fits the lent output.
+mod write;
+
 use memory::ModSymbol;
 ghost use mathlib.Core.Path.{_≡_};
-ghost use Prim.Native.Nat.{ℕ, _+_, _*_, _<_, _≤_};
+ghost use Prim.Native.Nat.{ℕ, _+_, _<_, _≤_};
 ghost use lib.ListN.{length};
-ghost use Rattle.source.specs.Limits.{longest-full-name, most-used, record-words};
+ghost use Rattle.source.specs.Limits.{longest-full-name, most-used};
 ghost use Rattle.source.specs.Text.{Str};
 ghost use Rattle.source.specs.Table.{Module, Namespace};
 ghost use Rattle.source.specs.Calls as C;
-ghost use Rattle.memory.specs.Layout.{record-at, pick, key-at};
+ghost use Rattle.memory.specs.Layout.{pick};
 ghost use Rattle.memory.specs.Sound.{Says};
-ghost use Rattle.text.specs.Laid.{Laid};
 ghost use Rattle.lines.specs.Ask.{filter-in};
 ghost use Rattle.lines.specs.Run.{path-in, tally-in, job-in, SamePath};
 ghost use Rattle.lines.specs.Output.{Capped};
 ghost use Rattle.lines.specs.Lines.{CanList, Listed};
-ghost use Rattle.lines.specs.Parts.{TextAt, PathAt, JobOk, Room, candidate-of, note-at, outermost, line-row, LinePut, TriedLine, PutLine, KeptLine};
+ghost use Rattle.lines.specs.Parts.{TextAt, JobOk, note-at, outermost, TriedLine, PutLine, KeptLine};
 
 // Words of a line, and its bytes.
 pub const LINE: usize = 12;
@@ -103,103 +104,6 @@ fn fits(at: usize, n: usize, limit: usize, lent: usize) -> bool
     n <= lent - at
 }
 
-// Writes the key of a branch from `at` on: lends on the part after the last text.
-fn put_key(words: &[u32], text: &[u8], branch: u32, out: &mut [u8], at: usize) -> usize
-    requires { ⌜ TextAt (now words) (now text) branch ⌝ }
-    requires { ⌜ at + length (key-at (now words) (now text) branch) ≤ length (now out) ⌝ }
-    ensures { λ r. ⌜ Laid (now (out .entry)) (now (out .exit)) at r (key-at (now (words .entry)) (now (text .entry)) branch) ⌝ }
-{
-    let key = memory::key_of(words, text, branch);
-    memory::put_text(&mut out[at..], 0, key);
-    at + key.len()
-}
-
-// Writes the candidate of a branch below the path from `at` on.
-fn put_candidate(
-    words: &[u32],
-    text: &[u8],
-    run: &[usize; RUN],
-    branch: u32,
-    out: &mut [u8],
-    at: usize,
-) -> usize
-    requires { ⌜ PathAt (now words) (now text) (path-in (now run)) ⌝ }
-    requires { ⌜ TextAt (now words) (now text) branch ⌝ }
-    requires { ⌜ at + path-in (now run) .len + length (key-at (now words) (now text) branch) ≤ length (now out) ⌝ }
-    ensures { λ r. ⌜ Laid (now (out .entry)) (now (out .exit)) at r (candidate-of (now (words .entry)) (now (text .entry)) (path-in (now (run .entry))) branch) ⌝ }
-{
-    let n = run[COUNT];
-    let mut end = at;
-    let mut i = 0;
-    while i < n {
-        let link = run[i] as u32;
-        end = put_key(words, text, link, out, end);
-        out[end] = 46;
-        end += 1;
-        i += 1;
-    }
-    put_key(words, text, branch, out, end)
-}
-
-// The words of a line.
-fn line_row(
-    words: &[u32],
-    branch: u32,
-    matched: u32,
-    start: u32,
-    len: u32,
-    note: u32,
-) -> [u32; LINE]
-    requires { ⌜ (0 < branch) × (branch * record-words ≤ length (now words)) × (start + len ≤ 4294967295) ⌝ }
-    ensures { λ r. ⌜ r ≡ line-row (record-at (now (words .entry)) branch) matched start len note ⌝ }
-{
-    let item = memory::row_of(words, branch);
-    [
-        matched,
-        start,
-        len,
-        start + len,
-        note,
-        item[memory::NUMBER],
-        item[memory::NAME_START],
-        item[memory::NAME_LEN],
-        item[memory::PATH_START],
-        item[memory::PATH_LEN],
-        item[memory::LOADED],
-        0,
-    ]
-}
-
-// Writes a line with the annotation `note`, after the lines and bytes that the run has taken.
-fn write_line(
-    words: &[u32],
-    text: &[u8],
-    task: Task,
-    branch: u32,
-    note: &[u8],
-    run: &[usize; RUN],
-    flat: &mut [u8],
-    out: &mut [u8],
-)
-    requires { ⌜ JobOk (now words) (now text) (job-in task branch (now run)) ⌝ }
-    requires { ⌜ Room (now words) (job-in task branch (now run)) (now note) (now flat) (now out) ⌝ }
-    ensures { λ _. ⌜ LinePut (now (words .entry)) (now (text .entry)) (job-in task branch (now (run .entry))) (now (note .entry)) (now (flat .entry)) (now (flat .exit)) (now (out .entry)) (now (out .exit)) ⌝ }
-{
-    let at = run[BYTES];
-    let base = run[LINES] * LINE_BYTES;
-    let end = put_candidate(words, text, run, branch, out, at);
-    memory::put_text(&mut out[end..], 0, note);
-    let row = line_row(
-        words,
-        branch,
-        task.matched,
-        at as u32,
-        (end - at) as u32,
-        note.len() as u32,
-    );
-    wire::store(&mut flat[base..], &row, 0, LINE);
-}
-
 // Writes it where it fits.
 fn try_line(
     words: &[u32],
@@ -223,7 +127,7 @@ fn try_line(
     if !fits(run[BYTES], size, lim.bytes, out.len()) {
         return;
     }
-    write_line(words, text, task, branch, note, run, flat, out);
+    write::write_line(words, text, task, branch, note, run, flat, out);
 }
 
 // Counts the line with the annotation `note`, and writes it where it fits.

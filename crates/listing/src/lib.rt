@@ -1,6 +1,8 @@
 // The listing of a trie: bindings ascending, then each namespace ascending with its own listing.
 // One run serves counting and writing: a line is written where it fits what is lent, and counting lends nothing.
 // The calls go no deeper than five to a trie, and tries no deeper than 17.
+mod steps;
+
 use lines::Ask;
 use lines::Found;
 use lines::Limits;
@@ -8,14 +10,13 @@ use lines::Task;
 use merge::Turn;
 ghost use mathlib.Core.Path.{_≡_};
 ghost use mathlib.Core.Bool.{true};
-ghost use Prim.Native.Nat.{_+_, _*_, _≤_, _<_, min};
+ghost use Prim.Native.Nat.{_+_, _≤_, _<_, min};
 ghost use lib.ListN.{length};
-ghost use Rattle.source.specs.Limits.{longest-query, deepest-trie, record-words};
+ghost use Rattle.source.specs.Limits.{longest-query};
 ghost use Rattle.source.specs.Text.{ends-in-dot};
 ghost use Rattle.lines.specs.Ask.{asked};
-ghost use Rattle.lines.specs.Run.{path-in};
 ghost use Rattle.listing.specs.Completes.{Completes};
-ghost use Rattle.listing.specs.Runs.{Cuts, Skips, Entered, PathSet, BranchAsked, BranchListed, TreeAsked, TreeListed, ListAsked, ListListed, TrieAsked, TrieListed};
+ghost use Rattle.listing.specs.Runs.{BranchAsked, BranchListed, TreeAsked, TreeListed, ListAsked, ListListed, TrieAsked, TrieListed};
 ghost use Rattle.memory.specs.Sound.{At};
 ghost use Rattle.memory.specs.Layout.{trieˢ};
 
@@ -32,65 +33,6 @@ struct Place {
     leaf: bool,
     len: usize,
     next: usize,
-}
-
-// Cuts the first segment off, if there is one.
-fn cut_query(query: &[u8], base: usize, matched: u32) -> Cut
-    requires { ⌜ (ends-in-dot (now query) ≡ true) × (length (now query) ≤ longest-query) × (base ≤ longest-query) ⌝ }
-    ensures { λ r. ⌜ Cuts (now (query .entry)) base matched r ⌝ }
-{
-    if query.len() == 0 {
-        return Cut {
-            len: 0,
-            next: 0,
-            matched: matched,
-        };
-    }
-    let len = text::segment_length(query);
-    Cut {
-        len: len,
-        next: len + 1,
-        matched: (base + len) as u32,
-    }
-}
-
-// Whether a trie's bindings need no listing: more than one segment is left, or lines or bytes are past the limits already.
-fn skips_bindings(run: &[usize; lines::RUN], lim: Limits, size: usize, next: usize) -> bool
-    ensures { λ r. ⌜ Skips (now (run .entry)) lim size next r ⌝ }
-{
-    if next < size {
-        return true;
-    }
-    if lim.lines < run[lines::LINES] {
-        return true;
-    }
-    lim.bytes < run[lines::BYTES]
-}
-
-// Gives the path as many of its links, the length and the label.
-fn set_path(run: &mut [usize; lines::RUN], n: usize, len: usize, label: usize)
-    requires { ⌜ length (now run) ≡ 22 ⌝ }
-    ensures { λ _. ⌜ PathSet (now (run .entry)) (now (run .exit)) n len label ⌝ }
-{
-    run[lines::COUNT] = n;
-    run[lines::LENGTH] = len;
-    run[lines::LABEL] = label;
-}
-
-// Puts a branch of namespaces onto the path.
-fn enter(words: &[u32], found: Found, run: &mut [usize; lines::RUN])
-    requires { ⌜ (0 < found .link) × (found .link * record-words ≤ length (now words)) ⌝ }
-    requires { ⌜ (length (now run) ≡ 22) × (path-in (now run) .n < deepest-trie) × (path-in (now run) .len ≤ longest-query) ⌝ }
-    ensures { λ _. ⌜ Entered (now (words .entry)) found (now (run .entry)) (now (run .exit)) ⌝ }
-{
-    let n = run[lines::COUNT];
-    let len = run[lines::LENGTH] + memory::text_len(words, found.link) as usize + 1;
-    let mut label = run[lines::LABEL];
-    if n == 0 {
-        label = found.label as usize;
-    }
-    run[n] = found.link as usize;
-    set_path(run, n + 1, len, label);
 }
 
 // What a found branch gives: the line of a branch of bindings, the listing of a namespace.
@@ -117,9 +59,9 @@ fn list_branch(
     let n = run[lines::COUNT];
     let len = run[lines::LENGTH];
     let label = run[lines::LABEL];
-    enter(words, found, run);
+    steps::enter(words, found, run);
     list_trie(words, text, &query[next..], task, child, run, flat, out);
-    set_path(run, n, len, label);
+    steps::set_path(run, n, len, label);
 }
 
 // What the branches of a tree that begin with a prefix give, in order, each with the tree's label. Stops once the budget is passed.
@@ -279,8 +221,8 @@ fn list_trie(
         return;
     }
     let t = memory::trie_of(words, trie);
-    let c = cut_query(query, base, task.matched);
-    let skip = skips_bindings(run, lim, query.len(), c.next);
+    let c = steps::cut_query(query, base, task.matched);
+    let skip = steps::skips_bindings(run, lim, query.len(), c.next);
     run[lines::ENTERED] = before + 1;
     let ask = task.ask;
     let below = Task {

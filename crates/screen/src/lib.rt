@@ -2,6 +2,8 @@
 // A slice passes as a pointer and a length. State and words are bytes as crate wire reads them;
 // the layer copies the words in, calls crate table, and copies out what an accepted call has taken. Lines are written in place.
 // Every exported call answers for whatever bytes are lent.
+mod reply;
+
 use kinds::Kind;
 use lines::Ask;
 use lines::Filter;
@@ -17,14 +19,13 @@ ghost use mathlib.Core.Path.{_≡_};
 ghost use mathlib.Core.Option.{none, some};
 ghost use Prim.Native.Nat.{_<_};
 ghost use lib.ListN.{length};
-ghost use Rattle.source.specs.Calls.{name, include, opens, alias, module-path, refused};
-ghost use Rattle.table.specs.Answers.{name-found};
+ghost use Rattle.source.specs.Calls.{name, include, opens, alias, module-path};
 ghost use Rattle.kinds.specs.Shapes.{call-of};
 ghost use Rattle.wire.specs.Memory.{state-bytes, words-in};
 ghost use Rattle.screen.specs.Memory.{table-at};
 ghost use Rattle.lines.specs.declared.Ask.the-variants.{Names};
-ghost use Rattle.screen.specs.Completions.{modules-for, no-lines, lines-reply, RepliesLines};
-ghost use Rattle.screen.specs.Replies.{chosen, Replies, name-reply, RepliesName, flag, no-module, symbol-reply, module-reply, RepliesModule};
+ghost use Rattle.screen.specs.Completions.{modules-for, RepliesLines};
+ghost use Rattle.screen.specs.Replies.{chosen, Replies, RepliesName, flag, RepliesModule};
 
 // The answer of a look-up that finds nothing: no refusal has this number.
 pub const NONE: u32 = 4294967295;
@@ -234,91 +235,6 @@ pub extern "C" fn name_console_module(
 
 // ---- Look-ups
 
-// The reply of a number alone.
-fn no_name(answer: u32) -> NameReply
-    ensures { λ r. ⌜ r ≡ name-reply (refused answer) ⌝ }
-{
-    NameReply {
-        answer: answer,
-        item: 0,
-    }
-}
-
-// The reply of a number alone.
-fn no_module(answer: u32) -> ModuleReply
-    ensures { λ r. ⌜ r ≡ no-module answer ⌝ }
-{
-    ModuleReply {
-        answer: answer,
-        sort: 0,
-        name_start: 0,
-        name_len: 0,
-        path_start: 0,
-        path_len: 0,
-        loaded: 0,
-    }
-}
-
-// The reply of crate table's answer.
-fn name_reply(x: Finding) -> NameReply
-    ensures { λ r. ⌜ r ≡ name-reply (name-found (x .answer)) ⌝ }
-{
-    let f = x.answer;
-    match f {
-        Found::Item(n) => NameReply { answer: 0, item: n },
-        Found::Nothing => no_name(NONE),
-        Found::Refused(x) => no_name(refusals::number(x)),
-    }
-}
-
-// A yes or no as a number.
-fn flag_of(b: bool) -> u32
-    ensures { λ r. ⌜ r ≡ flag b ⌝ }
-{
-    if b {
-        return 1;
-    }
-    0
-}
-
-// The reply of a module or namespace.
-fn symbol_reply(s: ModSymbol) -> ModuleReply
-    ensures { λ r. ⌜ r ≡ symbol-reply s ⌝ }
-{
-    match s {
-        ModSymbol::Module(name, path, loaded) => ModuleReply {
-            answer: 0,
-            sort: 0,
-            name_start: name.start,
-            name_len: name.len,
-            path_start: path.start,
-            path_len: path.len,
-            loaded: flag_of(loaded),
-        },
-        ModSymbol::Namespace(name, loaded) => ModuleReply {
-            answer: 0,
-            sort: 1,
-            name_start: name.start,
-            name_len: name.len,
-            path_start: 0,
-            path_len: 0,
-            loaded: flag_of(loaded),
-        },
-    }
-}
-
-// The reply of crate table's answer.
-fn module_reply(x: ModuleFinding) -> ModuleReply
-    ensures { λ r. ⌜ r ≡ module-reply (x .answer) ⌝ }
-{
-    let f = x.answer;
-    match f {
-        FoundModule::Symbol(s) => symbol_reply(s),
-        FoundModule::Nothing => no_module(NONE),
-        FoundModule::Refused(x) => no_module(refusals::number(x)),
-    }
-}
-
 // Looks a name up.
 #[no_mangle]
 pub extern "C" fn name_console_find(
@@ -330,12 +246,12 @@ pub extern "C" fn name_console_find(
     ensures { λ r. ⌜ RepliesName (now (state .entry)) (now (words .entry)) (now (text .entry)) (now (query .entry)) r ⌝ }
 {
     if state.len() != wire::STATE_BYTES {
-        return no_name(1);
+        return reply::no_name(1);
     }
     let mut memory = [0u32; wire::WORDS];
     let n = wire::load(words, &mut memory);
     let t = table_of(state);
-    name_reply(t.find(&memory[..n], text, query))
+    reply::name_reply(t.find(&memory[..n], text, query))
 }
 
 // Looks a module or namespace up.
@@ -349,26 +265,15 @@ pub extern "C" fn name_console_find_module(
     ensures { λ r. ⌜ RepliesModule (now (state .entry)) (now (words .entry)) (now (text .entry)) (now (query .entry)) r ⌝ }
 {
     if state.len() != wire::STATE_BYTES {
-        return no_module(1);
+        return reply::no_module(1);
     }
     let mut memory = [0u32; wire::WORDS];
     let n = wire::load(words, &mut memory);
     let t = table_of(state);
-    module_reply(t.find_module(&memory[..n], text, query))
+    reply::module_reply(t.find_module(&memory[..n], text, query))
 }
 
 // ---- Completions
-
-// The reply of a number alone.
-fn no_lines(answer: u32) -> CompleteReply
-    ensures { λ r. ⌜ r ≡ no-lines answer ⌝ }
-{
-    CompleteReply {
-        answer: answer,
-        lines: 0,
-        entered: 0,
-    }
-}
 
 // What a filter's number asks.
 fn ask_of(filter: u32) -> Ask
@@ -387,20 +292,6 @@ fn ask_of(filter: u32) -> Ask
     Ask::Modules(Filter::NamespacesOnly)
 }
 
-// The reply of crate table's answer.
-fn lines_reply(c: Completed) -> CompleteReply
-    ensures { λ r. ⌜ r ≡ lines-reply c ⌝ }
-{
-    match c {
-        Completed::Listed(lines, entered) => CompleteReply {
-            answer: 0,
-            lines: lines,
-            entered: entered,
-        },
-        Completed::Refused(x) => no_lines(refusals::number(x)),
-    }
-}
-
 // A completion.
 fn complete(
     state: &[u8],
@@ -415,14 +306,14 @@ fn complete(
     ensures { λ r. ⌜ RepliesLines (now (state .entry)) (now (words .entry)) (now (text .entry)) (some ask) (now (query .entry)) budget (now (lines .entry)) (now (lines .exit)) (now (out .entry)) (now (out .exit)) r ⌝ }
 {
     if state.len() != wire::STATE_BYTES {
-        return no_lines(1);
+        return reply::no_lines(1);
     }
     let mut memory = [0u32; wire::WORDS];
     let n = wire::load(words, &mut memory);
     let t = table_of(state);
     let l = t.complete(&memory[..n], text, ask, query, budget, lines, out);
     let c = l.answer;
-    lines_reply(c)
+    reply::lines_reply(c)
 }
 
 // Completes a name: lines of 48 bytes into `lines`, their texts into `out`.
@@ -467,5 +358,5 @@ pub extern "C" fn name_console_complete_modules(
             out,
         );
     }
-    no_lines(malformed(state, words, text))
+    reply::no_lines(malformed(state, words, text))
 }

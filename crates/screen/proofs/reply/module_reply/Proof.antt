@@ -2,8 +2,8 @@
 use mathlib.Core.Path.{ap, _∙_}
 use borrow.Author.Needs.{needs}
 use Rattle.screen.specs.Replies.{no-module}
-use Rattle.screen.proofs.module_reply.Statement.{statement}
-use Rattle.screen.proofs.module_reply.Tie as tie
+use Rattle.screen.proofs.reply.module_reply.Statement.{statement}
+use Rattle.screen.proofs.reply.module_reply.Tie as tie
 
 pub module-reply-spec : {M : Type 1} → statement M
 module-reply-spec =

@@ -5,8 +5,8 @@ use borrow.Author.Needs.{needs}
 use native.Mathlib.Omega.{arith}
 use Rattle.text.proofs.Laid.{lent-laid, room-left}
 use Rattle.lines.proofs.Texts.{text-laid}
-use Rattle.lines.proofs.put_key.Statement.{statement}
-use Rattle.lines.proofs.put_key.Tie as tie
+use Rattle.lines.proofs.write.put_key.Statement.{statement}
+use Rattle.lines.proofs.write.put_key.Tie as tie
 
 pub put-key-spec : {M : Type 1} → statement M
 put-key-spec =

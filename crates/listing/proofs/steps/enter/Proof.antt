@@ -6,8 +6,8 @@ use borrow.Author.Needs.{needs}
 use borrow.Author.Tests.{eq-eqb, ne-eqb}
 use lib.ListN.{length-set}
 use Rattle.listing.proofs.PathDown.{entered}
-use Rattle.listing.proofs.enter.Statement.{statement}
-use Rattle.listing.proofs.enter.Tie as tie
+use Rattle.listing.proofs.steps.enter.Statement.{statement}
+use Rattle.listing.proofs.steps.enter.Tie as tie
 
 pub enter-spec : {M : Type 1} → statement M
 enter-spec =

@@ -2,8 +2,8 @@
 use mathlib.Core.Path.{ap, _∙_}
 use borrow.Author.Needs.{needs}
 use Rattle.screen.specs.Completions.{no-lines}
-use Rattle.screen.proofs.lines_reply.Statement.{statement}
-use Rattle.screen.proofs.lines_reply.Tie as tie
+use Rattle.screen.proofs.reply.lines_reply.Statement.{statement}
+use Rattle.screen.proofs.reply.lines_reply.Tie as tie
 
 pub lines-reply-spec : {M : Type 1} → statement M
 lines-reply-spec =

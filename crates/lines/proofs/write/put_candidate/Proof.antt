@@ -2,8 +2,8 @@
 use Prim.Native.Nat.{_-_}
 use Rattle.text.proofs.Laid.{laid-length, laid-more}
 use Rattle.lines.proofs.Texts.{Joining, joining-none, joining-room, joining-more, joining-done}
-use Rattle.lines.proofs.put_candidate.Statement.{statement}
-use Rattle.lines.proofs.put_candidate.Tie as tie
+use Rattle.lines.proofs.write.put_candidate.Statement.{statement}
+use Rattle.lines.proofs.write.put_candidate.Tie as tie
 use borrow.Author.Needs.{needs}
 use native.Mathlib.Omega.{arith}
 

@@ -1,0 +1,71 @@
+// The steps between two lists: the cut of the query, the limits, the path.
+use crate::Cut;
+use lines::Found;
+use lines::Limits;
+ghost use mathlib.Core.Path.{_≡_};
+ghost use mathlib.Core.Bool.{true};
+ghost use Prim.Native.Nat.{_+_, _*_, _≤_, _<_};
+ghost use lib.ListN.{length};
+ghost use Rattle.source.specs.Limits.{longest-query, deepest-trie, record-words};
+ghost use Rattle.source.specs.Text.{ends-in-dot};
+ghost use Rattle.lines.specs.Run.{path-in};
+ghost use Rattle.listing.specs.Runs.{Cuts, Skips, Entered, PathSet};
+
+// Cuts the first segment off, if there is one.
+pub fn cut_query(query: &[u8], base: usize, matched: u32) -> Cut
+    requires { ⌜ (ends-in-dot (now query) ≡ true) × (length (now query) ≤ longest-query) × (base ≤ longest-query) ⌝ }
+    ensures { λ r. ⌜ Cuts (now (query .entry)) base matched r ⌝ }
+{
+    if query.len() == 0 {
+        return Cut {
+            len: 0,
+            next: 0,
+            matched: matched,
+        };
+    }
+    let len = text::segment_length(query);
+    Cut {
+        len: len,
+        next: len + 1,
+        matched: (base + len) as u32,
+    }
+}
+
+// Whether a trie's bindings need no listing: more than one segment is left, or lines or bytes are past the limits already.
+pub fn skips_bindings(run: &[usize; lines::RUN], lim: Limits, size: usize, next: usize) -> bool
+    ensures { λ r. ⌜ Skips (now (run .entry)) lim size next r ⌝ }
+{
+    if next < size {
+        return true;
+    }
+    if lim.lines < run[lines::LINES] {
+        return true;
+    }
+    lim.bytes < run[lines::BYTES]
+}
+
+// Gives the path as many of its links, the length and the label.
+pub fn set_path(run: &mut [usize; lines::RUN], n: usize, len: usize, label: usize)
+    requires { ⌜ length (now run) ≡ 22 ⌝ }
+    ensures { λ _. ⌜ PathSet (now (run .entry)) (now (run .exit)) n len label ⌝ }
+{
+    run[lines::COUNT] = n;
+    run[lines::LENGTH] = len;
+    run[lines::LABEL] = label;
+}
+
+// Puts a branch of namespaces onto the path.
+pub fn enter(words: &[u32], found: Found, run: &mut [usize; lines::RUN])
+    requires { ⌜ (0 < found .link) × (found .link * record-words ≤ length (now words)) ⌝ }
+    requires { ⌜ (length (now run) ≡ 22) × (path-in (now run) .n < deepest-trie) × (path-in (now run) .len ≤ longest-query) ⌝ }
+    ensures { λ _. ⌜ Entered (now (words .entry)) found (now (run .entry)) (now (run .exit)) ⌝ }
+{
+    let n = run[lines::COUNT];
+    let len = run[lines::LENGTH] + memory::text_len(words, found.link) as usize + 1;
+    let mut label = run[lines::LABEL];
+    if n == 0 {
+        label = found.label as usize;
+    }
+    run[n] = found.link as usize;
+    set_path(run, n + 1, len, label);
+}

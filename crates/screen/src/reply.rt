@@ -1,0 +1,126 @@
+// Replies as numbers, by what crate table hands back.
+use crate::CompleteReply;
+use crate::ModuleReply;
+use crate::NONE;
+use crate::NameReply;
+use memory::ModSymbol;
+use table::Completed;
+use table::Finding;
+use table::Found;
+use table::FoundModule;
+use table::ModuleFinding;
+ghost use mathlib.Core.Path.{_≡_};
+ghost use Rattle.source.specs.Calls.{name, refused};
+ghost use Rattle.table.specs.Answers.{name-found};
+ghost use Rattle.screen.specs.Completions.{no-lines, lines-reply};
+ghost use Rattle.screen.specs.Replies.{name-reply, flag, no-module, symbol-reply, module-reply};
+
+// The reply of a number alone.
+pub fn no_name(answer: u32) -> NameReply
+    ensures { λ r. ⌜ r ≡ name-reply (refused answer) ⌝ }
+{
+    NameReply {
+        answer: answer,
+        item: 0,
+    }
+}
+
+// The reply of a number alone.
+pub fn no_module(answer: u32) -> ModuleReply
+    ensures { λ r. ⌜ r ≡ no-module answer ⌝ }
+{
+    ModuleReply {
+        answer: answer,
+        sort: 0,
+        name_start: 0,
+        name_len: 0,
+        path_start: 0,
+        path_len: 0,
+        loaded: 0,
+    }
+}
+
+// The reply of crate table's answer.
+pub fn name_reply(x: Finding) -> NameReply
+    ensures { λ r. ⌜ r ≡ name-reply (name-found (x .answer)) ⌝ }
+{
+    let f = x.answer;
+    match f {
+        Found::Item(n) => NameReply { answer: 0, item: n },
+        Found::Nothing => no_name(NONE),
+        Found::Refused(x) => no_name(refusals::number(x)),
+    }
+}
+
+// A yes or no as a number.
+pub fn flag_of(b: bool) -> u32
+    ensures { λ r. ⌜ r ≡ flag b ⌝ }
+{
+    if b {
+        return 1;
+    }
+    0
+}
+
+// The reply of a module or namespace.
+pub fn symbol_reply(s: ModSymbol) -> ModuleReply
+    ensures { λ r. ⌜ r ≡ symbol-reply s ⌝ }
+{
+    match s {
+        ModSymbol::Module(name, path, loaded) => ModuleReply {
+            answer: 0,
+            sort: 0,
+            name_start: name.start,
+            name_len: name.len,
+            path_start: path.start,
+            path_len: path.len,
+            loaded: flag_of(loaded),
+        },
+        ModSymbol::Namespace(name, loaded) => ModuleReply {
+            answer: 0,
+            sort: 1,
+            name_start: name.start,
+            name_len: name.len,
+            path_start: 0,
+            path_len: 0,
+            loaded: flag_of(loaded),
+        },
+    }
+}
+
+// The reply of crate table's answer.
+pub fn module_reply(x: ModuleFinding) -> ModuleReply
+    ensures { λ r. ⌜ r ≡ module-reply (x .answer) ⌝ }
+{
+    let f = x.answer;
+    match f {
+        FoundModule::Symbol(s) => symbol_reply(s),
+        FoundModule::Nothing => no_module(NONE),
+        FoundModule::Refused(x) => no_module(refusals::number(x)),
+    }
+}
+
+// The reply of a number alone.
+pub fn no_lines(answer: u32) -> CompleteReply
+    ensures { λ r. ⌜ r ≡ no-lines answer ⌝ }
+{
+    CompleteReply {
+        answer: answer,
+        lines: 0,
+        entered: 0,
+    }
+}
+
+// The reply of crate table's answer.
+pub fn lines_reply(c: Completed) -> CompleteReply
+    ensures { λ r. ⌜ r ≡ lines-reply c ⌝ }
+{
+    match c {
+        Completed::Listed(lines, entered) => CompleteReply {
+            answer: 0,
+            lines: lines,
+            entered: entered,
+        },
+        Completed::Refused(x) => no_lines(refusals::number(x)),
+    }
+}
