@@ -7,7 +7,7 @@ use native.Mathlib.Omega.{arith}
 use native.Mathlib.Decide.{ℕ-discrete}
 use lib.ListN.{length, getD, set, length-set}
 use lib.Seq.{getD-set-same, getD-set-other}
-use Rattle.matches.specs.Marks.{most-near, most-far, near-start, far-start, near-count, far-count, dropped, note-words, Fits, Holds, PartOk, PutAt, Marks, Drops, Taken}
+use Rattle.matches.specs.Marks.{most-notes, most-near, most-far, near-start, far-start, near-count, far-count, dropped, note-words, Fits, Holds, PartOk, PutAt, Marks, Drops, Taken}
 
 -- ---- Room
 
@@ -181,7 +181,7 @@ module _ {notes notes′ : List ℕ} {r : ℕ} (f : Fits notes 0) where
 -- ---- A branch is noted
 
 module _ {notes : List ℕ} {n : ℕ} (f : Fits notes n) where
-  pub more-fits : (x : ℕ) → n < 48 → Fits (set notes n x) (n + 1)
+  pub more-fits : (x : ℕ) → n < most-notes → Fits (set notes n x) (n + 1)
   more-fits x h = record {
     sized = length-set notes n x ∙ f .sized;
     few = omega arith;
@@ -190,7 +190,7 @@ module _ {notes : List ℕ} {n : ℕ} (f : Fits notes n) where
   }
 
   module _ {N M : ℕ → Type 0} (o : Holds N M notes n) where
-    pub more-holds : (x : ℕ) → N x → n < 48 → Holds N M (set notes n x) (n + 1)
+    pub more-holds : (x : ℕ) → N x → n < most-notes → Holds N M (set notes n x) (n + 1)
     more-holds x p h = record {
       note = λ j k. elim (ℕ-discrete j n) [
         | yes e ↦ rw (e, getD-set-same notes n x 0 (omega (arith, f .sized))) p

@@ -24,7 +24,7 @@ use Rattle.tree.proofs.Keep.{by-test, keep-append, keep-none, keep-all, all-kee
 use Rattle.tree.proofs.Links.{branches-at, branches-keys}
 use Rattle.tree.proofs.Matches.{matches-none, matches-increasing, starts-self, after-first}
 use Rattle.tree.proofs.Wanted.{by-order, past-low}
-use Rattle.matches.specs.Marks.{dropped, note-words, Fits, Holds, Drops, Taken, NotedAt}
+use Rattle.matches.specs.Marks.{most-notes, dropped, note-words, Fits, Holds, Drops, Taken, NotedAt}
 use Rattle.matches.specs.Notes.{to-come, passing, Ahead, NoteOk, Noting, Noted, Descends, AllAfter, NotesLeft, LastNote, Matched}
 use Rattle.matches.specs.declared.Next.{Next}
 use Rattle.matches.proofs.Marks.{fits-fewer, holds-fewer, more-fits, more-holds, drops-fits, drops-told, drops-holds, taken-fits, taken-told, taken-holds, taken-mark, cleared, clear-fits, clear-holds}
@@ -224,7 +224,7 @@ module _ {ws txt : List ℕ} {p : Str} {b : Str → Bool} {l : List ℕ} where
 
   module _ {notes : List ℕ} {n : ℕ} {h : List ℕ} (o : Noting ws txt p b notes n h l) where
     -- A note is added.
-    noting-more : (x : ℕ) {g : List ℕ} → h ≡ g ++ (x ∷ matches ws txt (right-link (record-at ws x)) p) → NoteOk ws txt p b l x → n < 48 → Noting ws txt p b (set notes n x) (n + 1) g l
+    noting-more : (x : ℕ) {g : List ℕ} → h ≡ g ++ (x ∷ matches ws txt (right-link (record-at ws x)) p) → NoteOk ws txt p b l x → n < most-notes → Noting ws txt p b (set notes n x) (n + 1) g l
     unfolding to-come
     noting-more x {g} e a k =
         let right = matches ws txt (right-link (record-at ws x)) p in
@@ -253,7 +253,7 @@ noting-note : {ws txt : List ℕ} {p : Str} {b : Str → Bool} {l notes notes′
     → NotedAt notes notes′ n x r → Noting ws txt p b notes′ r g l
 noting-note {ws} {txt} {p} {b} {l} {notes} {n = n} {x} {g = g} o e a t = rw (t .is, t .count) (go (t .k) (t .between) (t .which) (t .below))
   where
-    go : (k : ℕ) (m : List ℕ) → ((k ≡ n) × (m ≡ notes)) ⊎ ((k ≡ 0) × (0 < n) × Drops notes m) → k < 48 → Noting ws txt p b (set m k x) (k + 1) g l
+    go : (k : ℕ) (m : List ℕ) → ((k ≡ n) × (m ≡ notes)) ⊎ ((k ≡ 0) × (0 < n) × Drops notes m) → k < most-notes → Noting ws txt p b (set m k x) (k + 1) g l
     go k m (inl z) i = rw (z .0, z .1) (noting-more o x e a (rw (z .0) at i))
     go k m (inr z) i = rw (z .0) (noting-more (noting-drops o (z .1) (z .2)) x e a (omega arith))
 
@@ -261,7 +261,7 @@ noting-note {ws} {txt} {p} {b} {l} {notes} {n = n} {x} {g = g} o e a t = rw (t .
 pub note-fits : {notes notes′ : List ℕ} {n x r : ℕ} → Fits notes n → NotedAt notes notes′ n x r → Fits notes′ r
 note-fits {notes} {n = n} {x} f t = rw (t .is, t .count) (go (t .k) (t .between) (t .which) (t .below))
   where
-    go : (k : ℕ) (m : List ℕ) → ((k ≡ n) × (m ≡ notes)) ⊎ ((k ≡ 0) × (0 < n) × Drops notes m) → k < 48 → Fits (set m k x) (k + 1)
+    go : (k : ℕ) (m : List ℕ) → ((k ≡ n) × (m ≡ notes)) ⊎ ((k ≡ 0) × (0 < n) × Drops notes m) → k < most-notes → Fits (set m k x) (k + 1)
     go k m (inl z) i = rw (z .0, z .1) (more-fits f x (rw (z .0) at i))
     go k m (inr z) i = rw (z .0) (more-fits (drops-fits f (z .2)) x (omega arith))
 

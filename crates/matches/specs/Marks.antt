@@ -7,34 +7,34 @@ use lib.ListN.{length, getD, set}
 
 -- At most so many notes, near marks and far marks.
 abbrev pub most-notes : ℕ
-most-notes = 48
+most-notes = 32
 
 abbrev pub most-near : ℕ
-most-near = 32
+most-near = 14
 
 abbrev pub most-far : ℕ
-most-far = 43
+most-far = 15
 
 -- Where the near and the far marks begin, and where their numbers stand.
 abbrev pub near-start : ℕ
-near-start = 48
+near-start = 32
 
 abbrev pub far-start : ℕ
-far-start = 80
+far-start = 46
 
 abbrev pub near-count : ℕ
-near-count = 123
+near-count = 61
 
 abbrev pub far-count : ℕ
-far-count = 124
+far-count = 62
 
 -- Where it stands whether notes were ever dropped: 1, else 0.
 abbrev pub dropped : ℕ
-dropped = 125
+dropped = 63
 
 -- The length of the array.
 abbrev pub note-words : ℕ
-note-words = 126
+note-words = 64
 
 -- There is room for n notes and for as many marks as are counted.
 pub record Fits (notes : List ℕ) (n : ℕ) : Type 0 where

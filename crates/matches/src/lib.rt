@@ -12,27 +12,27 @@ ghost use Rattle.tree.specs.Links.{matches, after};
 ghost use Rattle.matches.specs.Marks.{note-words, Fits, PartOk, PutAt, Marks, Taken, NotedAt};
 ghost use Rattle.matches.specs.Notes.{Noted, Descends, AllAfter, NotesLeft, LastNote, Matched};
 
-// At most so many notes, near marks and far marks: their product is past memory::CAPACITY.
-const MOST_NOTES: usize = 48;
+// At most so many notes, near marks and far marks. Of a chain to the left as many branches as their product are given for each walk from the root.
+const MOST_NOTES: usize = 32;
 
-const MOST_NEAR: u32 = 32;
+const MOST_NEAR: u32 = 14;
 
-const MOST_FAR: u32 = 43;
+const MOST_FAR: u32 = 15;
 
 // Where the near and the far marks begin, and where their numbers stand.
-const NEAR_START: usize = 48;
+const NEAR_START: usize = 32;
 
-const FAR_START: usize = 80;
+const FAR_START: usize = 46;
 
-const NEAR_COUNT: usize = 123;
+const NEAR_COUNT: usize = 61;
 
-const FAR_COUNT: usize = 124;
+const FAR_COUNT: usize = 62;
 
 // Where it stands whether notes were ever dropped.
-const DROPPED: usize = 125;
+const DROPPED: usize = 63;
 
 // The length of the array of notes and marks.
-pub const NOTES: usize = 126;
+pub const NOTES: usize = 64;
 
 // A branch, 0 for none, and how many notes there are beside what is to its right.
 pub struct Next {
