@@ -33,10 +33,10 @@ use Rattle.listing.proofs.list_trie.Reads as list-trie
 use Rattle.listing.proofs.list_trie.Kinds as list-trie-kinds
 use Rattle.listing.proofs.+list_branch+list_merged+list_names+list_tree+list_trie.Lts-list_trie as list-trie-lts
 use Rattle.lines.proofs.line.Reads as line-reads
-use Rattle.listing.proofs.cut_query.Reads as cut-query-reads
-use Rattle.listing.proofs.enter.Reads as enter-reads
-use Rattle.listing.proofs.set_path.Reads as set-path-reads
-use Rattle.listing.proofs.skips_bindings.Reads as skips-bindings-reads
+use Rattle.listing.proofs.steps.cut_query.Reads as cut-query-reads
+use Rattle.listing.proofs.steps.enter.Reads as enter-reads
+use Rattle.listing.proofs.steps.set_path.Reads as set-path-reads
+use Rattle.listing.proofs.steps.skips_bindings.Reads as skips-bindings-reads
 use Rattle.matches.proofs.first_match.Reads as first-match-reads
 use Rattle.matches.proofs.next_match.Reads as next-match-reads
 use Rattle.memory.proofs.held_of.Reads as held-of-reads
