@@ -11,7 +11,7 @@ use Rattle.text.specs.Laid.{Laid}
 use Rattle.numerals.specs.Bytes.{Str}
 use Rattle.script.specs.Script.{Command, name, import, alias, module-path, ask, Reads}
 use Rattle.script.specs.declared.Import.{Import}
-use Rattle.script.specs.declared.Ask.{Ask}
+use Rattle.script.specs.declared.Question.{Question}
 use Rattle.script.proofs.ReadsOnce.{reads-once}
 use Rattle.replies.specs.Replies.{bad-reply}
 use Rattle.table.specs.Header.{IsSound, state, lent, table-in}
@@ -37,7 +37,7 @@ module _ {line : Str} where
   pub module-reads : {loaded : Bool} {q path q′ path′ : Str} → q ≡ q′ → path ≡ path′ → Reads line (module-path loaded q′ path′) → Reads line (module-path loaded q path)
   module-reads p q r = rw (p, q) r
 
-  pub ask-reads : {what : Ask} {q q′ : Str} → q ≡ q′ → Reads line (ask what q′) → Reads line (ask what q)
+  pub ask-reads : {what : Question} {q q′ : Str} → q ≡ q′ → Reads line (ask what q′) → Reads line (ask what q)
   ask-reads p r = rw p r
 
 -- What an outcome is, by its parts.
@@ -80,7 +80,7 @@ same : {ws txt : List ℕ} {t : Table} → Unchanged ws txt ws txt t t
 same = record { table = refl; words = refl; text = refl }
 
 module _ {ws txt reply reply′ : List ℕ} {t : Table} {line : Str} {at e : ℕ} (out : Output) (sound : IsSound ws txt t) where
-  pub answered-ask : {what : Ask} {q : Str} → Reads line (ask what q) → Laid reply reply′ at e (asked-text out (table-in ws txt t) what q)
+  pub answered-ask : {what : Question} {q : Str} → Reads line (ask what q) → Laid reply reply′ at e (asked-text out (table-in ws txt t) what q)
       → Answered ws txt ws txt t line out reply reply′ at (record { table = t; end = e })
   answered-ask {what} {q} h l = answered-by out h (leaves-same (asked-text out (table-in ws txt t) what q) sound l) (λ _. same)
 

@@ -19,7 +19,7 @@ use Rattle.wire.specs.Bytes.{Stored}
 use Rattle.lines.specs.Path.{joined}
 use Rattle.lines.specs.Output.{line-bytes, Tally, line-of, rows-flat, Written, Capped, Fit}
 use Rattle.lines.specs.Lines.{Spells}
-use Rattle.lines.specs.Parts.{JobOk, candidate-of, line-row, size-of, Room, LinePut, TriedLine, PutLine}
+use Rattle.lines.specs.Parts.{JobOk, candidate-of, line-row, size-of, LineFits, LinePut, TriedLine, PutLine}
 use Rattle.lines.specs.Run.{Job}
 use Rattle.lines.proofs.Counting.{tells-is, tells-more}
 use Rattle.lines.proofs.Texts.{text-laid, row-laid, row-spelled}
@@ -51,7 +51,7 @@ module _ {ws txt : List ℕ} {j : Job} (ok : JobOk ws txt j) where
   candidate-length = omega (arith, length-append (joined ws txt (j .path .links) (j .path .n)) (key-at ws txt (j .branch)), ok .path .len-is, ok .branch .size)
 
   -- The texts and the row, written into lent parts.
-  module _ {note flat out out₁ : List ℕ} {end : ℕ} (room : Room ws j note flat out) (x : Laid out out₁ (j .tally .bytes) end (candidate-of ws txt (j .path) (j .branch))) where
+  module _ {note flat out out₁ : List ℕ} {end : ℕ} (room : LineFits ws j note flat out) (x : Laid out out₁ (j .tally .bytes) end (candidate-of ws txt (j .path) (j .branch))) where
     pub note-room : length note ≤ length (midOf end (length out₁ - end) out₁)
     note-room = room-left out₁ end (length note) (omega (arith, x .end, laid-length x, candidate-length, room .out-room))
 
@@ -139,7 +139,7 @@ module _ {ws txt : List ℕ} {j : Job} (ok : JobOk ws txt j) where
 
   -- Both let it pass.
   pub passed : {note flat out : List ℕ} {n : ℕ} (a b : Bool) → n ≡ size-of ws j note → Says a (RowFits j flat) → not a ≡ false → Says b (TextFits j n out) → not b ≡ false
-      → Room ws j note flat out
+      → LineFits ws j note flat out
   passed {flat = flat} {out} {n} a b z says e tells f =
       let l : RowFits j flat = passes a says e in
       let k : TextFits j n out = passes b tells f in

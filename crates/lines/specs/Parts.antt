@@ -68,7 +68,7 @@ abbrev pub size-of : (ws : List ℕ) → Job → Str → ℕ
 size-of ws j note = j .path .len + text-len (record-at ws (j .branch)) + length note
 
 -- A line fits what is lent.
-pub record Room (ws : List ℕ) (j : Job) (note flat out : List ℕ) : Type 0 where
+pub record LineFits (ws : List ℕ) (j : Job) (note flat out : List ℕ) : Type 0 where
   pub flat-room : j .tally .lines * line-bytes + line-bytes ≤ length flat
   pub out-room : j .tally .bytes + size-of ws j note ≤ length out
   pub small : j .tally .bytes + size-of ws j note ≤ 4294967295

@@ -13,7 +13,7 @@ ghost use Rattle.source.specs.Limits.{record-words};
 ghost use Rattle.memory.specs.Layout.{record-at, key-at};
 ghost use Rattle.text.specs.Laid.{Laid};
 ghost use Rattle.lines.specs.Run.{path-in, job-in};
-ghost use Rattle.lines.specs.Parts.{TextAt, PathAt, JobOk, Room, candidate-of, line-row, LinePut};
+ghost use Rattle.lines.specs.Parts.{TextAt, PathAt, JobOk, LineFits, candidate-of, line-row, LinePut};
 
 // Writes the key of a branch from `at` on: lends on the part after the last text.
 pub fn put_key(words: &[u32], text: &[u8], branch: u32, out: &mut [u8], at: usize) -> usize
@@ -94,7 +94,7 @@ pub fn write_line(
     out: &mut [u8],
 )
     requires { ⌜ JobOk (now words) (now text) (job-in task branch (now run)) ⌝ }
-    requires { ⌜ Room (now words) (job-in task branch (now run)) (now note) (now flat) (now out) ⌝ }
+    requires { ⌜ LineFits (now words) (job-in task branch (now run)) (now note) (now flat) (now out) ⌝ }
     ensures { λ _. ⌜ LinePut (now (words .entry)) (now (text .entry)) (job-in task branch (now (run .entry))) (now (note .entry)) (now (flat .entry)) (now (flat .exit)) (now (out .entry)) (now (out .exit)) ⌝ }
 {
     let at = run[BYTES];

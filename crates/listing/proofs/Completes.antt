@@ -28,7 +28,7 @@ use Rattle.lines.specs.declared.Ask.{Ask}
 use Rattle.lines.specs.declared.Limits.{Limits}
 use Rattle.lines.proofs.Counting.{tally-is, tells-past}
 use Rattle.listing.specs.Runs.{trie-gives, Matching, TrieReady, TrieRuns}
-use Rattle.listing.specs.Completes.{output, output-rows, lines-of, CompletesAs, Completes}
+use Rattle.listing.specs.Completes.{output, output-rows, lines-of, CompletesAs, CompletesTrie}
 use Rattle.listing.specs.declared.Completion.the-variants.{Listed, Spent, Lines}
 use Rattle.listing.proofs.Loops.{no-label}
 use Rattle.memory.specs.Sound.{At}
@@ -164,13 +164,13 @@ affordable {budget = budget} {e = e} set s h = le-ltb budget e (omega (arith, wi
 
 module _ {ws txt : List ℕ} {ask : Ask} {root : ℕ} {query : Str} {budget : ℕ} {flat flat′ out out′ : List ℕ} {lim : Limits} {a : Tally} (set : Set lim budget flat out)
     (s : Shows lim (tries ws txt ask root query) (length (listed ws txt ask root query)) (length (output-text (listed ws txt ask root query))) a) where
-  pub completes-spent : lim .budget < a .entered → flat′ ≡ flat → out′ ≡ out → Completes ws txt ask root query budget flat flat′ out out′ Spent
+  pub completes-spent : lim .budget < a .entered → flat′ ≡ flat → out′ ≡ out → CompletesTrie ws txt ask root query budget flat flat′ out out′ Spent
   unfolding lowest
   completes-spent h f o = record { says = rw (lt-ltb budget (tries ws txt ask root query) (omega (arith, passed s h, set .budget-is))) (refl, f, o) }
 
   module _ (h : a .entered ≤ lim .budget) where
     -- Lines or bytes past what is lent.
-    pub completes-past : Past lim (a .lines) (a .bytes) → flat′ ≡ flat → out′ ≡ out → Completes ws txt ask root query budget flat flat′ out out′ Lines
+    pub completes-past : Past lim (a .lines) (a .bytes) → flat′ ≡ flat → out′ ≡ out → CompletesTrie ws txt ask root query budget flat flat′ out out′ Lines
     unfolding lowest
     completes-past p f o = record { says = go (tells-past lim a p (s .counted (within s h))) }
       where
@@ -183,7 +183,7 @@ module _ {ws txt : List ℕ} {ask : Ask} {root : ℕ} {query : Str} {budget : �
             (refl, f, o)
 
     pub completes-listed : a .lines ≤ lim .lines → a .bytes ≤ lim .bytes → Written (asked ask) ws txt flat flat′ out out′ 0 0 (listed ws txt ask root query)
-        → Completes ws txt ask root query budget flat flat′ out out′ (Listed (a .lines) (a .entered))
+        → CompletesTrie ws txt ask root query budget flat flat′ out out′ (Listed (a .lines) (a .entered))
     unfolding lowest
     completes-listed l b w =
         let x = exact s h l b in

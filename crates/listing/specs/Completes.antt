@@ -45,7 +45,7 @@ module _ (ws txt : List ℕ) (ask : Ask) (flat flat′ out out′ : List ℕ) (r
   CompletesAs lines entered (some n) = (row-met r ≡ some n) × (flat′ ≡ flat) × (out′ ≡ out)
 
 -- Completion on a root of well-formed arguments.
-pub record Completes (ws txt : List ℕ) (ask : Ask) (root : ℕ) (query : Str) (budget : ℕ) (flat flat′ out out′ : List ℕ) (r : Completion) : Type 0 where
+pub record CompletesTrie (ws txt : List ℕ) (ask : Ask) (root : ℕ) (query : Str) (budget : ℕ) (flat flat′ out out′ : List ℕ) (r : Completion) : Type 0 where
   pub says :
       let tr : Trie (Item (asked ask)) = what (asked ask) ws txt root trieˢ in
       let lines : List (Line (Item (asked ask))) = lines-of ask tr (segments query) in

@@ -15,7 +15,7 @@ ghost use lib.ListN.{length};
 ghost use Rattle.source.specs.Limits.{longest-query};
 ghost use Rattle.source.specs.Text.{ends-in-dot};
 ghost use Rattle.lines.specs.Ask.{asked};
-ghost use Rattle.listing.specs.Completes.{Completes};
+ghost use Rattle.listing.specs.Completes.{CompletesTrie};
 ghost use Rattle.listing.specs.Runs.{BranchAsked, BranchListed, TreeAsked, TreeListed, ListAsked, ListListed, TrieAsked, TrieListed};
 ghost use Rattle.memory.specs.Sound.{At};
 ghost use Rattle.memory.specs.Layout.{trieˢ};
@@ -282,7 +282,7 @@ pub fn complete(
 ) -> Completion
     requires { ⌜ At (now words) (now text) (asked ask) trieˢ root ⌝ }
     requires { ⌜ (ends-in-dot (now query) ≡ true) × (length (now query) ≤ longest-query) ⌝ }
-    ensures { λ r. ⌜ Completes (now (words .entry)) (now (text .entry)) ask root (now (query .entry)) budget (now (flat .entry)) (now (flat .exit)) (now (out .entry)) (now (out .exit)) r ⌝ }
+    ensures { λ r. ⌜ CompletesTrie (now (words .entry)) (now (text .entry)) ask root (now (query .entry)) budget (now (flat .entry)) (now (flat .exit)) (now (out .entry)) (now (out .exit)) r ⌝ }
 {
     let lines = lent(flat.len() / lines::LINE_BYTES);
     let bytes = lent(out.len());

@@ -19,7 +19,7 @@ use Rattle.tree.specs.Tree.{AnyTree}
 use Rattle.tree.specs.Links.{BranchOf}
 use Rattle.names.specs.Entries.{Entry, entry-key}
 use Rattle.names.specs.Entries.{LabelOk}
-use Rattle.merge.specs.Stream.{Merge, Step, run-at, remaining, Holding, heap-of, Last, Rest, AnyRest, left-in, GivenIn, GivesIn, Gives, state, Takes, Ready}
+use Rattle.merge.specs.Stream.{Merge, Step, run-at, remaining, Holding, heap-of, Last, Rest, AnyRest, left-in, GivenIn, GivesIn, Gives, state, Takes, CellsReady}
 use Rattle.merge.specs.declared.Taken.{Taken}
 use Rattle.merge.proofs.Cells.{branch-tree}
 
@@ -127,7 +127,7 @@ module _ {ws txt : List ℕ} {p : Str} {m : Merge} {roots heads child next : Lis
   abbrev now-rest : Rest ws txt (y .which) (y .level) (y .link) p (state roots heads (m .labels) child next (m .n) root (m .last)) (y .entries)
   now-rest = o .says (y .which) (y .level) (y .link) (y .entries) (y .rest)
 
-  pub passing-ready : Ready ws txt p (m .n) root roots heads child next
+  pub passing-ready : CellsReady ws txt p (m .n) root roots heads child next
   passing-ready = record {
     labels = m .labels;
     last = m .last;

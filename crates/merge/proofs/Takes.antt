@@ -25,7 +25,7 @@ use Rattle.heap.proofs.Rep.{stands-pairs, stands-insert}
 use Rattle.tree.specs.Tree.{AnyTree}
 use Rattle.tree.specs.Links.{head0}
 use Rattle.names.specs.Entries.{Entry, entry-key}
-use Rattle.merge.specs.Stream.{later, run-at, left, Holding, state, TookCell, TookIn, Takes, Ready}
+use Rattle.merge.specs.Stream.{later, run-at, left, Holding, state, TookCell, TookIn, Takes, CellsReady}
 use Rattle.merge.specs.declared.Taken.{Taken}
 use Rattle.merge.proofs.Cells.{Next, later-end, later-next, branch-tree, branch-head, cell-tree, next-branch, stands, remaining-less}
 use Rattle.memory.proofs.At.{no-link}
@@ -187,11 +187,11 @@ module _ {ws txt : List ℕ} {p : Str} {n root : ℕ} {roots heads child next ch
 -- ---- What take answers, and what its calls ask, once heap_pop gave the cell
 
 pub record Least-cell (ws txt : List ℕ) (p : Str) (n root : ℕ) (roots heads child next child′ next′ : List ℕ) (cell rest : ℕ) : Type 0 where
-  pub ready : Ready ws txt p n root roots heads child next
+  pub ready : CellsReady ws txt p n root roots heads child next
   pub pops : Pops (cell-cmp ws txt heads n) n child next child′ next′ (Least cell rest) root
 
 module _ {ws txt : List ℕ} {p : Str} {n root cell rest : ℕ} {roots heads child next child′ next′ : List ℕ} (k : Least-cell ws txt p n root roots heads child next child′ next′ cell rest) where
-  abbrev y : Ready ws txt p n root roots heads child next
+  abbrev y : CellsReady ws txt p n root roots heads child next
   y = k .ready
 
   abbrev g : Holding ws txt (y .which) (y .level) (y .link) p (state roots heads (y .labels) child next n root (y .last)) (y .heap)

@@ -168,7 +168,7 @@ pub record Takes (ws txt : List ℕ) (p : Str) (n root : ℕ) (roots heads child
       → TookIn ws txt w v x p (state roots heads labels child next n root last) (state roots′ heads′ labels child′ next′ n (t .root) last) t h
 
 -- The cells have some heap.
-pub record Ready (ws txt : List ℕ) (p : Str) (n root : ℕ) (roots heads child next : List ℕ) : Type 0 where
+pub record CellsReady (ws txt : List ℕ) (p : Str) (n root : ℕ) (roots heads child next : List ℕ) : Type 0 where
   pub labels : List ℕ
   pub last : ℕ
   pub which : Which

@@ -12,7 +12,7 @@ ghost use Rattle.memory.specs.Stored.{weight-in};
 ghost use Rattle.tree.specs.Tree.{AnyTree};
 ghost use Rattle.names.specs.Names.{AnyList};
 ghost use Rattle.merge.specs.Lists.{Full, Collected, Single};
-ghost use Rattle.merge.specs.Stream.{Ready, Takes, Begins, Stands, Steps};
+ghost use Rattle.merge.specs.Stream.{CellsReady, Takes, Begins, Stands, Steps};
 
 // The most trees of a list: its weight is at most 96.
 pub const CELLS: usize = heap::CELLS;
@@ -136,7 +136,7 @@ fn take(
     next: &mut [u8; CELLS],
     turn: Turn,
 ) -> Taken
-    requires { ⌜ Ready (now words) (now text) (now prefix) (turn .n) (turn .root) (now roots) (now heads) (now child) (now next) ⌝ }
+    requires { ⌜ CellsReady (now words) (now text) (now prefix) (turn .n) (turn .root) (now roots) (now heads) (now child) (now next) ⌝ }
     ensures { λ r. ⌜ Takes (now (words .entry)) (now (text .entry)) (now (prefix .entry)) (turn .n) (turn .root) (now (roots .entry)) (now (heads .entry)) (now (child .entry)) (now (next .entry)) (now (roots .exit)) (now (heads .exit)) (now (child .exit)) (now (next .exit)) r ⌝ }
 {
     let n = turn.n;

@@ -9,8 +9,8 @@ use Rattle.source.specs.Calls as C
 use Rattle.source.specs.Calls.{Output, look-up, complete, complete-modules}
 use Rattle.memory.specs.Layout.{Which, names, modules, Item}
 use Rattle.numerals.specs.Bytes.{Str, _·_}
-use Rattle.script.specs.declared.Ask.{Ask}
-use Rattle.script.specs.declared.Ask.the-variants.{Find, Complete, Modules}
+use Rattle.script.specs.declared.Question.{Question}
+use Rattle.script.specs.declared.Question.the-variants.{Find, Complete, Modules}
 use Rattle.replies.specs.declared.ItemReply.{ItemReply}
 use Rattle.replies.specs.declared.ItemReply.the-variants.{Number, Module, Namespace}
 use Rattle.replies.specs.Replies.{found-reply, none-reply, refused-reply, line-reply, end-reply}
@@ -44,7 +44,7 @@ abbrev pub completed-text : (w : Which) → C.Completed (Item w) → Str
 completed-text w (C.listed lines entered) = lines-text w lines · end-reply (length lines) entered
 completed-text w (C.refused n) = refused-reply n
 
-abbrev pub asked-text : Output → S.Table → Ask → Str → Str
+abbrev pub asked-text : Output → S.Table → Question → Str → Str
 asked-text out tbl Find q = found-text (look-up true (tbl .tbl-lids) q)
 asked-text out tbl Complete q = completed-text names (complete true tbl budget out q)
 asked-text out tbl Modules q = completed-text modules (complete-modules true tbl C.All budget out q)

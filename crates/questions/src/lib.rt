@@ -149,7 +149,7 @@ pub fn ask_line(
     start: Start,
     words: &[u32],
     text: &[u8],
-    what: script::Ask,
+    what: script::Question,
     query: &[u8],
     flat: &mut [u8],
     pane: &mut [u8],
@@ -160,13 +160,13 @@ pub fn ask_line(
     ensures { λ e. ⌜ Laid (now (reply .entry)) (now (reply .exit)) (start .at) e (asked-text (output (now (flat .entry)) (now (pane .entry))) (table-in (now (words .entry)) (now (text .entry)) (start .table)) what (now (query .entry))) ⌝ }
 {
     match what {
-        script::Ask::Find => {
+        script::Question::Find => {
             let table = start.table;
             let f = table.find_sound(words, text, query);
             let a = f.answer;
             put_found(reply, start.at, a)
         }
-        script::Ask::Complete => complete_line(
+        script::Question::Complete => complete_line(
             start,
             words,
             text,
@@ -176,7 +176,7 @@ pub fn ask_line(
             pane,
             reply,
         ),
-        script::Ask::Modules => complete_line(
+        script::Question::Modules => complete_line(
             start,
             words,
             text,

@@ -8,7 +8,7 @@ use lib.Seq.{take-take, drop-drop, drop-paste}
 use Rattle.source.specs.Text.{Str}
 use Rattle.memory.specs.Grown.{Keeps, put-text}
 use Rattle.memory.proofs.Keeps.{put-text-keeps, put-text-span, span-keeps}
-use Rattle.register.specs.Writes.{Laid}
+use Rattle.register.specs.Writes.{TextsLaid}
 
 keeps-then : {m n : ℕ} {t t′ t″ : List ℕ} → m ≤ n → Keeps m t t′ → Keeps n t′ t″ → Keeps m t t″
 keeps-then {m} {n} {t′ = t′} {t″} h a b = record {
@@ -22,7 +22,7 @@ put-text-beyond t at s m h =
     sym (drop-drop m (at + length s) _) ∙ ap (λ (l : List ℕ). drop m l) (drop-paste t at s (length s) (omega arith) (omega arith)) ∙ drop-drop m (at + length s) t
 
 module _ (txt : List ℕ) (at : ℕ) (host other key : Str) (room : at + length host + length other + length key ≤ length txt) where
-  laid-put : Laid txt (put-text (put-text (put-text txt at host) (at + length host) other) (at + length host + length other) key) at host other key
+  laid-put : TextsLaid txt (put-text (put-text (put-text txt at host) (at + length host) other) (at + length host + length other) key) at host other key
   laid-put =
       let one = put-text txt at host in
       let two = put-text one (at + length host) other in
@@ -44,5 +44,5 @@ module _ (txt : List ℕ) (at : ℕ) (host other key : Str) (room : at + length 
         };
       }
 
-  pub laid : {a b c : List ℕ} → a ≡ put-text txt at host → b ≡ put-text a (at + length host) other → c ≡ put-text b (at + length host + length other) key → Laid txt c at host other key
+  pub laid : {a b c : List ℕ} → a ≡ put-text txt at host → b ≡ put-text a (at + length host) other → c ≡ put-text b (at + length host + length other) key → TextsLaid txt c at host other key
   laid e f g = rw (g, f, e) laid-put

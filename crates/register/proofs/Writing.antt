@@ -30,7 +30,7 @@ use Rattle.change.specs.Changes.{mutated, descent, Mutation, Mutated}
 use Rattle.leaves.specs.declared.Change.{Change}
 use Rattle.change.proofs.Registered.{Registers}
 use Rattle.register.specs.Checks.{lent, Ready, Passes}
-use Rattle.register.specs.Writes.{Laid, root-at, with-root, with-text, Accepts}
+use Rattle.register.specs.Writes.{TextsLaid, root-at, with-root, with-text, Accepts}
 use Rattle.register.proofs.Checks.{ready, taken-all}
 use Rattle.register.proofs.Changes.{change-at, Stays, Right, change-right, right-mutation}
 
@@ -108,7 +108,7 @@ module _ {ws txt : List ℕ} {h : Header} {k : Kind} {host other key : Str} {inc
       let f = ltb-false (free (whole-records (length ws)) (h .records)) (records (table-of ws txt h) (call-of k host other key)) (passed .records-fit) in
       record { few = omega (arith, p .sound .right .few, p .sound .right .records-fit); fits = omega (arith, p .sound .right .few, p .sound .right .records-fit) }
 
-  module _ {txt′ : List ℕ} (l : Laid txt txt′ (h .text) host other key) where
+  module _ {txt′ : List ℕ} (l : TextsLaid txt txt′ (h .text) host other key) where
     sound-after : Sound ws txt′ (with-text h (text-after h host other key))
     sound-after = record { right = used-text (p .sound .right) (l .keeps) (omega arith) (text-room .1) (omega (arith, text-room, l .keeps .size)); names-link = p .sound .names-link; modules-link = p .sound .modules-link }
 

@@ -18,7 +18,7 @@ pub record Stand (txt : List ℕ) (at : ℕ) (host other key : Str) : Type 0 whe
   pub key-at : span txt (at + length host + length other) (length key) ≡ key
 
 -- They have been put there, and no other byte has changed.
-pub record Laid (txt txt′ : List ℕ) (at : ℕ) (host other key : Str) : Type 0 where
+pub record TextsLaid (txt txt′ : List ℕ) (at : ℕ) (host other key : Str) : Type 0 where
   pub keeps : Keeps at txt txt′
   pub beyond : drop (at + length host + length other + length key) txt′ ≡ drop (at + length host + length other + length key) txt
   pub stand : Stand txt′ at host other key

@@ -24,7 +24,7 @@ ghost use Rattle.kinds.specs.Shapes.{call-of, argument-as};
 ghost use Rattle.plan.specs.Plans.{Carries};
 ghost use Rattle.leaves.specs.Leaves.{which-by};
 ghost use Rattle.register.specs.Checks.{NoKey, Passes, Checks};
-ghost use Rattle.register.specs.Writes.{Laid, root-at, with-root, Accepts};
+ghost use Rattle.register.specs.Writes.{TextsLaid, root-at, with-root, Accepts};
 
 // Whether a registration passes every row, with the link of the included trie.
 pub enum Checked {
@@ -125,7 +125,7 @@ pub fn check(
 fn put_texts(text: &mut [u8], used: u32, host: &[u8], other: &[u8], key: &[u8])
     requires { ⌜ used + length (now host) + length (now other) + length (now key) ≤ length (now text) ⌝ }
     requires { ⌜ used + length (now host) + length (now other) + length (now key) ≤ most-used ⌝ }
-    ensures { λ _. ⌜ Laid (now (text .entry)) (now (text .exit)) used (now (host .entry)) (now (other .entry)) (now (key .entry)) ⌝ }
+    ensures { λ _. ⌜ TextsLaid (now (text .entry)) (now (text .exit)) used (now (host .entry)) (now (other .entry)) (now (key .entry)) ⌝ }
 {
     let start = used + host.len() as u32;
     let end = start + other.len() as u32;

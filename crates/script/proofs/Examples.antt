@@ -8,7 +8,7 @@ use Rattle.numerals.specs.Numerals.{value-from}
 use Rattle.numerals.specs.Parts.{run-length}
 use Rattle.numerals.proofs.Runs.{run-all}
 use Rattle.script.specs.declared.Import.the-variants.{Include}
-use Rattle.script.specs.declared.Ask.the-variants.{Complete}
+use Rattle.script.specs.declared.Question.the-variants.{Complete}
 use Rattle.script.specs.Script.{key, name, import, module-path, ask, Reads}
 
 name-line : Reads (bytes "[name [Live.] offset 3]") (name (bytes "Live.") (bytes "offset") 3)

@@ -9,8 +9,8 @@ use lib.Seq.{drop-at}
 use Rattle.numerals.specs.declared.Sort.the-variants.{Query, Word}
 use Rattle.script.specs.declared.Import.{Import}
 use Rattle.script.specs.declared.Import.the-variants.{Include, OpenModule, OpenNamespace}
-use Rattle.script.specs.declared.Ask.{Ask}
-use Rattle.script.specs.declared.Ask.the-variants.{Find, Complete, Modules}
+use Rattle.script.specs.declared.Question.{Question}
+use Rattle.script.specs.declared.Question.the-variants.{Find, Complete, Modules}
 use Rattle.script.specs.declared.Key.{Key}
 use Rattle.script.specs.declared.Key.the-variants.{Name as NameKey, Alias as AliasKey, Import as ImportKey, Module as ModuleKey, Ask as AskKey}
 use Rattle.numerals.specs.declared.Extent.{Extent}
@@ -105,7 +105,7 @@ pub module-piece : {loaded : Bool} {line q path s : Str} → ModuleLine loaded l
 unfolding bytes
 module-piece r e = record { ok = r .query-ok; spelled = e }
 
-pub ask-query : {what : Ask} {line q s : Str} → AskLine what line q → s ≡ q · bytes "]]" → QueryEnd s q
+pub ask-query : {what : Question} {line q s : Str} → AskLine what line q → s ≡ q · bytes "]]" → QueryEnd s q
 ask-query r e = record { query-ok = r .query-ok; spelled = e }
 
 -- ---- Each form, found or refused
@@ -205,7 +205,7 @@ module _ {loaded : Bool} {line : Str} {at : ℕ} (o : Only line (ModuleKey loade
       },
     )
 
-module _ {what : Ask} {line : Str} {at : ℕ} (o : Only line (AskKey what)) (w : WordAt line (key (AskKey what)) at) where
+module _ {what : Question} {line : Str} {at : ℕ} (o : Only line (AskKey what)) (w : WordAt line (key (AskKey what)) at) where
   pub ask-no : ((q : Str) → QueryEnd (drop at line) q → ⊥) → (c : Command) → Reads line c → ⊥
   ask-no n = refused o (λ c k. n (k .0) (ask-query (k .2) (after-word w (k .2 .spelled))))
 

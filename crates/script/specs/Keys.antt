@@ -6,7 +6,7 @@ use lib.Dec.{eqb}
 use lib.ListN.{length, getD}
 use Rattle.numerals.specs.Bytes.{Str}
 use Rattle.script.specs.declared.Import.the-variants.{Include, OpenModule, OpenNamespace}
-use Rattle.script.specs.declared.Ask.the-variants.{Find, Complete, Modules}
+use Rattle.script.specs.declared.Question.the-variants.{Find, Complete, Modules}
 use Rattle.script.specs.declared.Key.{Key}
 use Rattle.script.specs.declared.Key.the-variants.{Name, Alias, Import, Module, Ask}
 

@@ -9,8 +9,8 @@ use Rattle.numerals.specs.Numerals.{Numeral}
 use Rattle.numerals.specs.Parts.{Within, part-of}
 use Rattle.script.specs.declared.Import.{Import}
 use Rattle.script.specs.declared.Import.the-variants.{Include, OpenModule, OpenNamespace}
-use Rattle.script.specs.declared.Ask.{Ask}
-use Rattle.script.specs.declared.Ask.the-variants.{Find, Complete, Modules}
+use Rattle.script.specs.declared.Question.{Question}
+use Rattle.script.specs.declared.Question.the-variants.{Find, Complete, Modules}
 use Rattle.script.specs.declared.Key.{Key}
 use Rattle.script.specs.declared.Key.the-variants.{Name as NameKey, Alias as AliasKey, Import as ImportKey, Module as ModuleKey, Ask as AskKey}
 use Rattle.script.specs.declared.Form.{Form}
@@ -37,7 +37,7 @@ pub data Command : Type 0 where
   import : (how : Import) (host q : Str) → Command
   alias : (word host q : Str) → Command
   module-path : (loaded : Bool) (q path : Str) → Command
-  ask : (what : Ask) (q : Str) → Command
+  ask : (what : Question) (q : Str) → Command
 
 -- `[name [host] id N]`
 pub record NameLine (line host id : Str) (n : ℕ) : Type 0 where
@@ -68,7 +68,7 @@ pub record ModuleLine (loaded : Bool) (line q path : Str) : Type 0 where
   pub spelled : line ≡ key (ModuleKey loaded) · q · bytes "] " · path · bytes "]"
 
 -- `[find [q]]`, `[complete [q]]`, `[modules [q]]`
-pub record AskLine (what : Ask) (line q : Str) : Type 0 where
+pub record AskLine (what : Question) (line q : Str) : Type 0 where
   pub query-ok : All Query q
   pub spelled : line ≡ key (AskKey what) · q · bytes "]]"
 

@@ -24,7 +24,7 @@ pub enum Import {
 }
 
 // The forms of a query alone: `find`, `complete`, `modules`.
-pub enum Ask {
+pub enum Question {
     Find,
     Complete,
     Modules,
@@ -53,7 +53,7 @@ pub enum Form {
         path: Extent,
     },
     Ask {
-        what: Ask,
+        what: Question,
         query: Extent,
     },
     Bad,
@@ -65,7 +65,7 @@ enum Key {
     Alias,
     Import(Import),
     Module(bool),
-    Ask(Ask),
+    Ask(Question),
 }
 
 // The only form that a line can be, by its bytes 1, 6 and 8.
@@ -88,10 +88,10 @@ fn key_by(b: u8, c: u8, d: u8) -> Key
         return Key::Import(Import::OpenNamespace);
     }
     if b == b'f' {
-        return Key::Ask(Ask::Find);
+        return Key::Ask(Question::Find);
     }
     if b == b'c' {
-        return Key::Ask(Ask::Complete);
+        return Key::Ask(Question::Complete);
     }
     if d == b'l' {
         return Key::Module(true);
@@ -99,7 +99,7 @@ fn key_by(b: u8, c: u8, d: u8) -> Key
     if d == b'u' {
         return Key::Module(false);
     }
-    Key::Ask(Ask::Modules)
+    Key::Ask(Question::Modules)
 }
 
 // The only form that the line can be.
@@ -131,13 +131,13 @@ fn module_word(line: &[u8], loaded: bool) -> Part
 }
 
 // The end of the first word of `what`.
-fn ask_word(line: &[u8], what: Ask) -> Part
+fn ask_word(line: &[u8], what: Question) -> Part
     ensures { λ r. ⌜ WordSays (now (line .entry)) (key (Key.Ask what)) r ⌝ }
 {
     match what {
-        Ask::Find => word_end(line, b"[find ["),
-        Ask::Complete => word_end(line, b"[complete ["),
-        Ask::Modules => word_end(line, b"[modules ["),
+        Question::Find => word_end(line, b"[find ["),
+        Question::Complete => word_end(line, b"[complete ["),
+        Question::Modules => word_end(line, b"[modules ["),
     }
 }
 
@@ -240,7 +240,7 @@ fn module_form(line: &[u8], loaded: bool) -> Form
 }
 
 // `[find [q]]`, `[complete [q]]`, `[modules [q]]`
-fn ask_form(line: &[u8], what: Ask) -> Form
+fn ask_form(line: &[u8], what: Question) -> Form
     requires { ⌜ Only (now line) (Key.Ask what) ⌝ }
     ensures { λ r. ⌜ Parsed (now (line .entry)) r ⌝ }
 {

@@ -26,13 +26,13 @@ use Rattle.table.specs.Completions.{CompletesAs}
 use Rattle.table.specs.declared.Table.{Table}
 use Rattle.table.specs.declared.Completed.the-variants.{Listed}
 use Rattle.typed.specs.Completions.{output, ShownAs}
-use Rattle.typed.specs.Agreement.{Stand, TypedAgree}
+use Rattle.typed.specs.Agreement.{LinesStand, TypedAgree}
 use Rattle.typed.specs.declared.Line.{Line}
 
 -- A listing that was not refused.
 listed-lines : (ask : Ask) (ws txt flat flat′ out out′ : List ℕ) (ls ls′ : List Line) (n entered : ℕ) (o : C.Completed (Item (asked ask)))
     → CompletesAs ask ws txt flat flat′ out out′ (Listed n entered) o → ShownAs ask txt ls ls′ o
-    → (lines : List (S.Line (Item (asked ask)))) × (o ≡ C.listed lines entered) × Stand (asked ask) txt ls ls′ out out′ n lines
+    → (lines : List (S.Line (Item (asked ask)))) × (o ≡ C.listed lines entered) × LinesStand (asked ask) txt ls ls′ out out′ n lines
 listed-lines ask ws txt flat flat′ out out′ ls ls′ n entered (C.listed lines e) h s =
     let k : n ≡ length lines = cc in
     let f : e ≡ entered = cc in
@@ -44,7 +44,7 @@ module _ (ws txt : List ℕ) (t : Table) (name query : Str) (budget : ℕ) (ls l
   names-agree : (b : Bool) → Says b (IsSound ws txt t) → (a : C.Found ℕ) → a ≡ look-up b (names-in ws txt t) name → NotRefused a
       → CompletesAs Names ws txt flat flat′ out out′ (Listed n entered) (complete b (table-in ws txt t) budget (output (length ls) flat out) query)
       → ShownAs Names txt ls ls′ (complete b (table-in ws txt t) budget (output (length ls) flat out) query)
-      → (a ≡ look-up true (names-in ws txt t) name) × ((lines : List (S.Line ℕ)) × Stand names txt ls ls′ out out′ n lines × Agreement (names-in ws txt t) name lines)
+      → (a ≡ look-up true (names-in ws txt t) name) × ((lines : List (S.Line ℕ)) × LinesStand names txt ls ls′ out out′ n lines × Agreement (names-in ws txt t) name lines)
   unfolding look-up lowest argument-rows
   names-agree false s a f ok c v = absurd (rw f at ok)
   names-agree true s a f ok c v =
@@ -54,7 +54,7 @@ module _ (ws txt : List ℕ) (t : Table) (name query : Str) (budget : ℕ) (ls l
   modules-agree : (b : Bool) → Says b (IsSound ws txt t) → (a : C.Found ModSymbol) → a ≡ look-up b (modules-in ws txt t) name → NotRefused a
       → CompletesAs (Modules All) ws txt flat flat′ out out′ (Listed n entered) (complete-modules b (table-in ws txt t) C.All budget (output (length ls) flat out) query)
       → ShownAs (Modules All) txt ls ls′ (complete-modules b (table-in ws txt t) C.All budget (output (length ls) flat out) query)
-      → (a ≡ look-up true (modules-in ws txt t) name) × ((lines : List (S.Line ModSymbol)) × Stand modules txt ls ls′ out out′ n lines × Agreement (modules-in ws txt t) name lines)
+      → (a ≡ look-up true (modules-in ws txt t) name) × ((lines : List (S.Line ModSymbol)) × LinesStand modules txt ls ls′ out out′ n lines × Agreement (modules-in ws txt t) name lines)
   unfolding look-up lowest argument-rows
   modules-agree false s a f ok c v = absurd (rw f at ok)
   modules-agree true s a f ok c v =

@@ -34,7 +34,7 @@ use Rattle.rows.specs.Rows.{words-from, item-in, row-in, ItemInside}
 use Rattle.rows.proofs.Rows.{item-seen-is}
 use Rattle.rows.proofs.Written.{written-records, written-items}
 use Rattle.typed.specs.Lines.{held, held-length, line-of-row, line-at, stored-lines, lines-in, record-seen}
-use Rattle.typed.specs.Completions.{output, Shown, ShownAs, FlatCompletes, Completes}
+use Rattle.typed.specs.Completions.{output, Shown, ShownAs, FlatCompletes, CompletesLines}
 use Rattle.typed.specs.declared.Line.{Line}
 use Rattle.typed.proofs.Lines.{stored-rows}
 use Rattle.typed.proofs.FlatCompletes.{refused-none}
@@ -106,7 +106,7 @@ module _ {ws txt : List ℕ} {t : Table} {q : Request} {query : Str} {flat flat�
   asked-at c e l = (omega (arith, c .fit, e), omega (arith, c .lent, e, l))
 
   pub told-at : {ls ls′ : List Line} → FlatCompletes ws txt t q query (length ls) flat flat′ out out′ r → n ≡ lines-in (r .answer) → ls′ ≡ stored-lines (line-at (q .ask) flat′) ls n
-      → Completes ws txt t q query ls ls′ flat flat′ out out′ r
+      → CompletesLines ws txt t q query ls ls′ flat flat′ out out′ r
   told-at {ls} {ls′} c e s = record {
     table = c .table;
     says = c .says;

@@ -22,11 +22,11 @@ use Rattle.table.specs.declared.Finding.{Finding}
 use Rattle.table.specs.declared.ModuleFinding.{ModuleFinding}
 use Rattle.table.specs.declared.Listing.{Listing}
 use Rattle.table.specs.declared.Completed.the-variants.{Listed}
-use Rattle.typed.specs.Completions.{Shown, Completes}
+use Rattle.typed.specs.Completions.{Shown, CompletesLines}
 use Rattle.typed.specs.declared.Line.{Line}
 
 -- The n lines stand in the first line structs, and their texts from the start of the output text on.
-pub record Stand (w : L.Which) (txt : List ℕ) (ls ls′ : List Line) (out out′ : List ℕ) (n : ℕ) (lines : List (S.Line (L.Item w))) : Type 0 where
+pub record LinesStand (w : L.Which) (txt : List ℕ) (ls ls′ : List Line) (out out′ : List ℕ) (n : ℕ) (lines : List (S.Line (L.Item w))) : Type 0 where
   pub count : n ≡ length lines
   pub shown : Shown w txt ls ls′ lines
   pub texts : Laid out out′ 0 (length (output-text lines)) (output-text lines)
@@ -36,11 +36,11 @@ pub record Stand (w : L.Which) (txt : List ℕ) (ls ls′ : List Line) (out out�
 pub record TypedAgree : Type 0 where
   pub of-names : (ws txt : List ℕ) (t : Table) (b : Bool) → Says b (IsSound ws txt t) → (name query : Str) (f : Finding) (budget : ℕ) (ls ls′ : List Line) (flat flat′ out out′ : List ℕ) (l : Listing) (n entered : ℕ)
       → Finds ws txt t name f → NotRefused (name-found (f .answer))
-      → Completes ws txt t (record { ask = Names; budget = budget }) query ls ls′ flat flat′ out out′ l → l .answer ≡ Listed n entered → Covers (segments query) (segments name)
+      → CompletesLines ws txt t (record { ask = Names; budget = budget }) query ls ls′ flat flat′ out out′ l → l .answer ≡ Listed n entered → Covers (segments query) (segments name)
       → (name-found (f .answer) ≡ look-up true (names-in ws txt t) name)
-      × ((lines : List (S.Line ℕ)) × Stand names txt ls ls′ out out′ n lines × Agreement (names-in ws txt t) name lines)
+      × ((lines : List (S.Line ℕ)) × LinesStand names txt ls ls′ out out′ n lines × Agreement (names-in ws txt t) name lines)
   pub of-modules : (ws txt : List ℕ) (t : Table) (b : Bool) → Says b (IsSound ws txt t) → (name query : Str) (f : ModuleFinding) (budget : ℕ) (ls ls′ : List Line) (flat flat′ out out′ : List ℕ) (l : Listing) (n entered : ℕ)
       → FindsModule ws txt t name f → NotRefused (module-found txt (f .answer))
-      → Completes ws txt t (record { ask = Modules All; budget = budget }) query ls ls′ flat flat′ out out′ l → l .answer ≡ Listed n entered → Covers (segments query) (segments name)
+      → CompletesLines ws txt t (record { ask = Modules All; budget = budget }) query ls ls′ flat flat′ out out′ l → l .answer ≡ Listed n entered → Covers (segments query) (segments name)
       → (module-found txt (f .answer) ≡ look-up true (modules-in ws txt t) name)
-      × ((lines : List (S.Line ModSymbol)) × Stand modules txt ls ls′ out out′ n lines × Agreement (modules-in ws txt t) name lines)
+      × ((lines : List (S.Line ModSymbol)) × LinesStand modules txt ls ls′ out out′ n lines × Agreement (modules-in ws txt t) name lines)

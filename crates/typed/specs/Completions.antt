@@ -53,7 +53,7 @@ module _ (ws txt : List ℕ) (t : Table) (q : Request) (query : Str) where
     pub lent : lines-in (r .answer) * line-bytes ≤ length flat
 
   -- The completion into line structs: as into bytes (table's CompletesAs), and the lines are shown.
-  pub record Completes (ls ls′ : List Line) (flat flat′ out out′ : List ℕ) (r : Listing) : Type 0 where
+  pub record CompletesLines (ls ls′ : List Line) (flat flat′ out out′ : List ℕ) (r : Listing) : Type 0 where
     pub table : r .table ≡ t
     pub says : (b : Bool) → Says b (IsSound ws txt t) → T.CompletesAs (q .ask) ws txt flat flat′ out out′ (r .answer) (answer b (output (length ls) flat out))
     pub shows : (b : Bool) → Says b (IsSound ws txt t) → ShownAs (q .ask) txt ls ls′ (answer b (output (length ls) flat out))

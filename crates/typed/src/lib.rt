@@ -14,7 +14,7 @@ ghost use Prim.Native.Nat.{_+_, _*_, _/_, _≤_, _<_, min};
 ghost use lib.ListN.{length, set};
 ghost use Rattle.lines.specs.Output.{line-bytes};
 ghost use Rattle.typed.specs.Lines.{held-length, line-of-row, line-at, stored-lines, lines-in};
-ghost use Rattle.typed.specs.Completions.{FlatCompletes, Completes};
+ghost use Rattle.typed.specs.Completions.{FlatCompletes, CompletesLines};
 
 // A line record. Its spans are in the output text.
 pub struct Line {
@@ -140,7 +140,7 @@ pub fn complete(
     flat: &mut [u8],
     out: &mut [u8],
 ) -> Listing
-    ensures { λ r. ⌜ Completes (now (words .entry)) (now (text .entry)) table request (now (query .entry)) (now (lines .entry)) (now (lines .exit))
+    ensures { λ r. ⌜ CompletesLines (now (words .entry)) (now (text .entry)) table request (now (query .entry)) (now (lines .entry)) (now (lines .exit))
         (now (flat .entry)) (now (flat .exit)) (now (out .entry)) (now (out .exit)) r ⌝ }
 {
     let r = complete_flat(table, words, text, request, query, lines.len(), flat, out);

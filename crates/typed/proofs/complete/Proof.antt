@@ -53,7 +53,7 @@ use Rattle.table.proofs.Request.Laws as Rq′
 use Rattle.table.proofs.Listing as R
 use Rattle.table.proofs.Listing.Laws as R′
 use Rattle.typed.specs.Lines.{line-at, stored-lines, lines-in as linesIn}
-use Rattle.typed.specs.Completions.{FlatCompletes, Completes}
+use Rattle.typed.specs.Completions.{FlatCompletes, CompletesLines}
 use Rattle.typed.specs.declared.Line.{Line}
 use Rattle.typed.proofs.Line as T
 use Rattle.typed.proofs.LentAgain.{LentAgain, lends-again, comes-back}
@@ -178,7 +178,7 @@ module _ {M : Type 1} (𝓤 : URA M) (H : Heap 𝓤) (A : Atoms 𝓤) (W : Given
   abbrev Lines : Fml
   Lines = MutSlice (named 3) κ3 T.the-row .own ln (v₈ ∷ [])
 
-  exits : (r : Listing) (u : Val) (gs os : List ℕ) (zs : List Line) → Is R.the-row r (u ∷ []) → Completes (w .now) (x .now) t rq (y .now) (ln .now) zs fs gs (ou .now) os r
+  exits : (r : Listing) (u : Val) (gs os : List ℕ) (zs : List Line) → Is R.the-row r (u ∷ []) → CompletesLines (w .now) (x .now) t rq (y .now) (ln .now) zs fs gs (ou .now) os r
       → length gs ≡ length fs → length os ≡ length (ou .now) → length zs ≡ m
       → ent 𝓤 (⋆ 𝓤 H A (‵ (flft κ0 q0) ∷ ‵ (flft κ1 q1) ∷ ‵ (flft κ2 q2) ∷ ‵ (flft κ3 q3) ∷ ‵ (flft κ4 q4) ∷ ‵ (flft κ5 q5) ∷ ‵ Words ∷ ‵ Text ∷ ‵ Query ∷ ‵ (MutSlice (named 4) κ4 u8 .own (f γ gs) (v₆ ∷ [])) ∷ ‵ (finally u8 (ou .name) os) ∷ ‵ (finally T.the-row (ln .name) zs) ∷ [])) (Post u)
   exits r u gs os zs r-is said lg lo lz =
