@@ -11,7 +11,7 @@ use Rattle.text.specs.Laid.{Laid}
 use Rattle.text.proofs.Laid.{laid-none, laid-more, laid-length}
 use Rattle.numerals.specs.Bytes.{Str, _·_, All, LineEnd}
 use Rattle.numerals.specs.declared.Sort.the-variants.{Line}
-use Rattle.listing.specs.Completes.{output}
+use Rattle.completion.specs.Completes.{output}
 use Rattle.table.specs.Header.{IsSound, state, lent}
 use Rattle.memory.specs.Grown.{Outside}
 use Rattle.table.specs.declared.Table.{Table}

@@ -9,7 +9,7 @@ ghost use mathlib.Core.Path.{_≡_};
 ghost use Prim.Native.Nat.{_+_, _≤_};
 ghost use lib.ListN.{length};
 ghost use Rattle.numerals.specs.Parts.{Within, part-of};
-ghost use Rattle.listing.specs.Completes.{output};
+ghost use Rattle.completion.specs.Completes.{output};
 ghost use Rattle.table.specs.Header.{IsSound};
 ghost use Rattle.questions.specs.RowReplies.{room};
 ghost use Rattle.answers.specs.Answers.{Answered, Talked};

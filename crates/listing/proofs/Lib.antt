@@ -6,4 +6,3 @@ pub mod EntriesRun
 pub mod Branch
 pub mod Loops
 pub mod Trie
-pub mod Completes

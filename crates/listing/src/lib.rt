@@ -8,17 +8,9 @@ use lines::Found;
 use lines::Limits;
 use lines::Task;
 use merge::Turn;
-ghost use mathlib.Core.Path.{_≡_};
 ghost use mathlib.Core.Bool.{true};
-ghost use Prim.Native.Nat.{_+_, _≤_, _<_, min};
-ghost use lib.ListN.{length};
-ghost use Rattle.source.specs.Limits.{longest-query};
-ghost use Rattle.source.specs.Text.{ends-in-dot};
-ghost use Rattle.lines.specs.Ask.{asked};
-ghost use Rattle.listing.specs.Completes.{CompletesTrie};
+ghost use Prim.Native.Nat.{_+_, _<_};
 ghost use Rattle.listing.specs.Runs.{BranchAsked, BranchListed, TreeAsked, TreeListed, ListAsked, ListListed, TrieAsked, TrieListed};
-ghost use Rattle.memory.specs.Sound.{At};
-ghost use Rattle.memory.specs.Layout.{trieˢ};
 
 // Where a query is cut: the first segment's length, where the rest begins, and the match length of what the segment takes.
 struct Cut {
@@ -199,7 +191,7 @@ fn list_names(
 
 // The source's trie_find_prefix': the trie is entered, then its bindings, where at most one segment is left, and its namespaces.
 // Once lines or bytes are past the limits only the tries entered are counted.
-fn list_trie(
+pub fn list_trie(
     words: &[u32],
     text: &[u8],
     query: &[u8],
@@ -250,78 +242,4 @@ fn list_trie(
     };
     list_names(words, text, query, bindings, t.bindings, run, flat, out);
     list_names(words, text, query, namespaces, t.namespaces, run, flat, out);
-}
-
-// What a completion of well-formed arguments hands back: the lines and the tries entered, or rows 9 and 10.
-pub enum Completion {
-    Listed(u32, u32),
-    Spent,
-    Lines,
-}
-
-// What can be lent of `n` lines or bytes: as many as 32 bits count.
-fn lent(n: usize) -> usize
-    ensures { λ r. ⌜ r ≡ min n 4294967295 ⌝ }
-{
-    if n < 4294967295 {
-        return n;
-    }
-    4294967295
-}
-
-// Completion on a root: counted first, so that a refusal writes nothing, then written.
-pub fn complete(
-    words: &[u32],
-    text: &[u8],
-    ask: Ask,
-    root: u32,
-    query: &[u8],
-    budget: u32,
-    flat: &mut [u8],
-    out: &mut [u8],
-) -> Completion
-    requires { ⌜ At (now words) (now text) (asked ask) trieˢ root ⌝ }
-    requires { ⌜ (ends-in-dot (now query) ≡ true) × (length (now query) ≤ longest-query) ⌝ }
-    ensures { λ r. ⌜ CompletesTrie (now (words .entry)) (now (text .entry)) ask root (now (query .entry)) budget (now (flat .entry)) (now (flat .exit)) (now (out .entry)) (now (out .exit)) r ⌝ }
-{
-    let lines = lent(flat.len() / lines::LINE_BYTES);
-    let bytes = lent(out.len());
-    let most = budget as usize;
-    let lim = Limits {
-        budget: most,
-        lines: lines,
-        bytes: bytes,
-    };
-    // -1: no element was matched.
-    let task = Task {
-        ask: ask,
-        lim: lim,
-        matched: 4294967295,
-    };
-    let mut run = [0; lines::RUN];
-    list_trie(
-        words,
-        text,
-        query,
-        task,
-        root,
-        &mut run,
-        &mut flat[0..0],
-        &mut out[0..0],
-    );
-    let entered = run[lines::ENTERED];
-    if most < entered {
-        return Completion::Spent;
-    }
-    let count = run[lines::LINES];
-    let size = run[lines::BYTES];
-    if lines < count {
-        return Completion::Lines;
-    }
-    if bytes < size {
-        return Completion::Lines;
-    }
-    let mut again = [0; lines::RUN];
-    list_trie(words, text, query, task, root, &mut again, flat, out);
-    Completion::Listed(count as u32, entered as u32)
 }

@@ -16,7 +16,7 @@ use Rattle.lines.specs.Ask.{asked}
 use Rattle.lines.specs.declared.Ask.{Ask}
 use Rattle.rows.specs.Rows.{words-from, line-seen}
 use Rattle.rows.proofs.Written.{written-lines, written-texts}
-use Rattle.listing.specs.Completes.{output}
+use Rattle.completion.specs.Completes.{output}
 use Rattle.table.specs.Header.{IsSound, table-in}
 use Rattle.refusals.specs.Refusals.{number}
 use Rattle.table.specs.Completions.{completion, refused-by, CompletesAs, Completes}

@@ -14,7 +14,7 @@ ghost use Rattle.text.specs.Laid.{Laid};
 ghost use Rattle.replies.specs.Replies.{reply-room};
 ghost use Rattle.lines.specs.Ask.{asked};
 ghost use Rattle.rows.specs.Rows.{TextsIn, words-from};
-ghost use Rattle.listing.specs.Completes.{output};
+ghost use Rattle.completion.specs.Completes.{output};
 ghost use Rattle.table.specs.Header.{IsSound, table-in};
 ghost use Rattle.table.specs.Answers.{name-found};
 ghost use Rattle.table.specs.Completions.{completion};

@@ -22,7 +22,7 @@ use Rattle.lines.specs.declared.Ask.the-variants.{Names, Modules}
 use Rattle.lines.specs.declared.Filter.the-variants.{All}
 use Rattle.rows.specs.Rows.{lines-seen}
 use Rattle.rows.proofs.Written.{written-seen}
-use Rattle.listing.specs.Completes.{output}
+use Rattle.completion.specs.Completes.{output}
 use Rattle.refusals.specs.Refusals.{number}
 use Rattle.table.specs.Header.{table-in, names-in, modules-in}
 use Rattle.table.specs.Answers.{module-found}

@@ -15,7 +15,7 @@ use Rattle.lines.specs.Ask.{asked}
 use Rattle.lines.specs.declared.Ask.{Ask}
 use Rattle.lines.specs.declared.Ask.the-variants.{Names, Modules}
 use Rattle.lines.specs.declared.Filter.the-variants.{NamespacesOnly}
-use Rattle.listing.specs.Completes.{output}
+use Rattle.completion.specs.Completes.{output}
 use Rattle.table.specs.Header.{table-in}
 use Rattle.table.specs.Completions.{completion, CompletesAs, Completes}
 use Rattle.table.specs.declared.Table.{Table}

@@ -17,7 +17,7 @@ use Rattle.lines.specs.declared.Ask.{Ask}
 use Rattle.lines.specs.declared.Ask.the-variants.{Modules}
 use Rattle.lines.specs.declared.Filter.the-variants.{All, Loaded, ModulesOnly, NamespacesOnly}
 use Rattle.table.specs.Header.{table-in}
-use Rattle.listing.specs.Completes.{output}
+use Rattle.completion.specs.Completes.{output}
 use Rattle.refusals.specs.Refusals.{number}
 use Rattle.table.specs.Completions.{completion}
 use Rattle.table.specs.declared.Completed.{Completed}

@@ -20,7 +20,7 @@ use Rattle.lines.specs.declared.Ask.the-variants.{Names, Modules}
 use Rattle.lines.specs.declared.Filter.the-variants.{All}
 use Rattle.rows.specs.Rows.{lines-seen}
 use Rattle.rows.proofs.Written.{written-seen}
-use Rattle.listing.specs.Completes.{output}
+use Rattle.completion.specs.Completes.{output}
 use Rattle.table.specs.Header.{IsSound, table-in, names-in, modules-in}
 use Rattle.table.specs.Answers.{name-found, module-found}
 use Rattle.table.specs.Completions.{CompletesAs}

@@ -23,10 +23,10 @@ use Rattle.memory.specs.Layout.{Item, trieˢ, what}
 use Rattle.lines.specs.Ask.{asked}
 use Rattle.lines.specs.declared.Ask.{Ask}
 use Rattle.lines.specs.declared.Ask.the-variants.{Names, Modules}
-use Rattle.listing.specs.Completes as L
-use Rattle.listing.specs.Completes.{output, output-rows, row-met, lines-of}
-use Rattle.listing.specs.declared.Completion.{Completion}
-use Rattle.listing.specs.declared.Completion.the-variants.{Listed, Spent, Lines}
+use Rattle.completion.specs.Completes as L
+use Rattle.completion.specs.Completes.{output, output-rows, row-met, lines-of}
+use Rattle.completion.specs.declared.Completion.{Completion}
+use Rattle.completion.specs.declared.Completion.the-variants.{Listed, Spent, Lines}
 use Rattle.table.specs.Header.{IsSound, table-in}
 use Rattle.refusals.specs.Refusals.{number}
 use Rattle.table.specs.Completions.{completion, refused-by, CompletesAs, Completes, root-for, answer-in, CompletesOn}

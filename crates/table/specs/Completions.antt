@@ -16,9 +16,9 @@ use Rattle.lines.specs.Ask.{asked, filter-in}
 use Rattle.lines.specs.Output.{Written}
 use Rattle.lines.specs.declared.Ask.{Ask}
 use Rattle.lines.specs.declared.Ask.the-variants.{Names, Modules}
-use Rattle.listing.specs.Completes.{output, lines-of}
-use Rattle.listing.specs.declared.Completion.{Completion}
-use Rattle.listing.specs.declared.Completion.the-variants as L
+use Rattle.completion.specs.Completes.{output, lines-of}
+use Rattle.completion.specs.declared.Completion.{Completion}
+use Rattle.completion.specs.declared.Completion.the-variants as L
 use Rattle.table.specs.Header.{IsSound, table-in}
 use Rattle.refusals.specs.Refusals.{number}
 use Rattle.table.specs.declared.Table.{Table}

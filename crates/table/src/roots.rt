@@ -3,8 +3,8 @@ use crate::Completed;
 use crate::Found;
 use crate::FoundModule;
 use crate::Looked;
+use completion::Completion;
 use lines::Ask;
-use listing::Completion;
 use refusals::Admission;
 use refusals::Refusal;
 ghost use mathlib.Core.Path.{_≡_};
@@ -94,7 +94,7 @@ pub fn complete_on(
     let a = refusals::admit(refusals::completion_flags(query));
     match a {
         Admission::Refused(x) => Completed::Refused(x),
-        Admission::Admitted => answer_of(listing::complete(
+        Admission::Admitted => answer_of(completion::complete(
             words,
             text,
             ask,

@@ -16,7 +16,7 @@ use Rattle.lines.specs.Ask.{asked}
 use Rattle.lines.specs.Output.{line-bytes}
 use Rattle.lines.specs.declared.Ask.{Ask}
 use Rattle.lines.specs.declared.Ask.the-variants.{Names, Modules}
-use Rattle.listing.specs.Completes as F
+use Rattle.completion.specs.Completes as F
 use Rattle.table.specs.Header.{IsSound, table-in}
 use Rattle.table.specs.Completions as T
 use Rattle.table.specs.Completions.{CompletesAs, completion, refused-by}

@@ -1,7 +1,7 @@
 -- `answer` meets its contract.
 use Rattle.answers.proofs.Answered.{name-reads, import-reads, alias-reads, module-reads, ask-reads, answered-call, answered-ask, answered-bad}
 use mathlib.Core.Path.{refl}
-use Rattle.listing.specs.Completes.{output}
+use Rattle.completion.specs.Completes.{output}
 use borrow.Author.Needs.{needs}
 use Rattle.answers.proofs.answer.Statement.{statement}
 use Rattle.answers.proofs.answer.Tie as tie

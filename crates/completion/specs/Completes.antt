@@ -16,8 +16,8 @@ use Rattle.memory.specs.Layout.{Item, trieˢ, what}
 use Rattle.lines.specs.Ask.{asked, line-for}
 use Rattle.lines.specs.Output.{line-bytes, Written}
 use Rattle.lines.specs.declared.Ask.{Ask}
-use Rattle.listing.specs.declared.Completion.{Completion}
-use Rattle.listing.specs.declared.Completion.the-variants.{Listed, Spent, Lines}
+use Rattle.completion.specs.declared.Completion.{Completion}
+use Rattle.completion.specs.declared.Completion.the-variants.{Listed, Spent, Lines}
 
 -- The output lent: 48 bytes to a line; lines and bytes past those that 32 bits count are not lent.
 abbrev pub output : (flat out : List ℕ) → Output
