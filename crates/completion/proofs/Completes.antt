@@ -27,7 +27,8 @@ use Rattle.lines.specs.Run.{path-in, tally-in}
 use Rattle.lines.specs.declared.Ask.{Ask}
 use Rattle.lines.specs.declared.Limits.{Limits}
 use Rattle.lines.proofs.Counting.{tally-is, tells-past}
-use Rattle.listing.specs.Runs.{trie-gives, Matching, TrieReady, TrieRuns}
+use Rattle.steps.specs.Steps.{Matching}
+use Rattle.listing.specs.Runs.{trie-gives, TrieReady, TrieRuns}
 use Rattle.completion.specs.Completes.{output, output-rows, lines-of, CompletesAs, CompletesTrie}
 use Rattle.completion.specs.declared.Completion.the-variants.{Listed, Spent, Lines}
 use Rattle.listing.proofs.Loops.{no-label}

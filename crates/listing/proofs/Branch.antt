@@ -25,9 +25,10 @@ use Rattle.lines.specs.Lines.{CanList, Listed}
 use Rattle.lines.specs.declared.Ask.{Ask}
 use Rattle.lines.specs.declared.Limits.{Limits}
 use Rattle.lines.specs.declared.Found.{Found}
-use Rattle.listing.specs.Runs.{PathDown, Entered, PathSet, level-of, BranchReady, BranchRuns, TrieReady, TrieRuns, BranchAsked, BranchListed, TrieAsked, TrieListed}
+use Rattle.steps.specs.Steps.{PathDown, Entered, PathSet}
+use Rattle.listing.specs.Runs.{level-of, BranchReady, BranchRuns, TrieReady, TrieRuns, BranchAsked, BranchListed, TrieAsked, TrieListed}
 use Rattle.listing.specs.declared.Place.{Place}
-use Rattle.listing.proofs.PathDown.{branch-fits, path-down, on-path-down}
+use Rattle.steps.proofs.PathDown.{branch-fits, path-down, on-path-down}
 use Rattle.memory.proofs.At.{at-of}
 
 -- The trie that a branch of namespaces holds.

@@ -19,7 +19,8 @@ use Rattle.lines.specs.Output.{Tally, Goes}
 use Rattle.lines.specs.declared.Ask.{Ask}
 use Rattle.lines.specs.declared.Limits.{Limits}
 use Rattle.lines.proofs.Goes.{goes-none, goes-then, goes-spent}
-use Rattle.listing.specs.Runs.{Steps, HasRoom, level-of, elements-give, BranchRuns, EntriesRun}
+use Rattle.steps.specs.Steps.{Steps}
+use Rattle.listing.specs.Runs.{HasRoom, level-of, elements-give, BranchRuns, EntriesRun}
 
 module _ (ws txt : List ℕ) (ask : Ask) (rest : Str) (p : Path) (lim : Limits) (matched : ℕ) (leaf : Bool) where
   abbrev pub Element : Type 0

@@ -29,9 +29,10 @@ use Rattle.lines.specs.declared.Limits.{Limits}
 use Rattle.lines.specs.declared.Task.{Task}
 use Rattle.lines.proofs.Run.{same-then, same-set, tally-entered}
 use Rattle.lines.proofs.Goes.{written-none, goes-none, goes-then, goes-past}
-use Rattle.listing.specs.Runs.{trie-gives, elements-give, Matching, Cuts, RunReady, ListReady, ListRuns, TrieReady, TrieRuns, PlaceOk, ListAsked, ListListed, TrieAsked, TrieListed}
+use Rattle.steps.specs.Steps.{Matching, Cuts}
+use Rattle.listing.specs.Runs.{trie-gives, elements-give, RunReady, ListReady, ListRuns, TrieReady, TrieRuns, PlaceOk, ListAsked, ListListed, TrieAsked, TrieListed}
 use Rattle.listing.specs.declared.Place.{Place}
-use Rattle.listing.specs.declared.Cut.{Cut}
+use Rattle.steps.specs.declared.Cut.{Cut}
 use Rattle.listing.proofs.Runs.{list-ready-at, list-runs-at}
 use Rattle.listing.proofs.Gives.{once, bind-entered, trie-gives-is}
 use Rattle.memory.proofs.At.{at-fits}

@@ -1,8 +1,6 @@
 // The listing of a trie: bindings ascending, then each namespace ascending with its own listing.
 // One run serves counting and writing: a line is written where it fits what is lent, and counting lends nothing.
 // The calls go no deeper than five to a trie, and tries no deeper than 17.
-mod steps;
-
 use lines::Ask;
 use lines::Found;
 use lines::Limits;
@@ -11,13 +9,6 @@ use merge::Turn;
 ghost use mathlib.Core.Bool.{true};
 ghost use Prim.Native.Nat.{_+_, _<_};
 ghost use Rattle.listing.specs.Runs.{BranchAsked, BranchListed, TreeAsked, TreeListed, ListAsked, ListListed, TrieAsked, TrieListed};
-
-// Where a query is cut: the first segment's length, where the rest begins, and the match length of what the segment takes.
-struct Cut {
-    len: usize,
-    next: usize,
-    matched: u32,
-}
 
 // Where a run stands in a trie: what the lines of the list have in common, whether it is of bindings, and where the query is cut.
 struct Place {

@@ -10,7 +10,7 @@ use Rattle.text.proofs.Texts.{tail-is}
 use Rattle.tree.proofs.Branches.{any-tree}
 use Rattle.memory.proofs.At.{at-fits}
 use Rattle.lines.proofs.Run.{same-path}
-use Rattle.listing.proofs.Cuts.{front-is}
+use Rattle.steps.proofs.Cuts.{front-is}
 use Rattle.listing.proofs.Branch.{leaf-runs, line-ready, branch-named, space-at, below-ready, child-earlier, namespace-ready, namespace-sized, namespace-runs}
 use Rattle.listing.proofs.Loops.{onward, along-earlier, along-tree, along-begins, Stepping, stepping-first, stepping-branch, stepping-next, stepping-less, stepping-spent, stepping-done, list-any, one-earlier, one-ready, one-runs, Merging, merging-first, merging-any, merging-done, merging-earlier, merging-less, merging-branch, merging-next, merging-spent}
 use Rattle.listing.proofs.Trie.{trie-spent, trie-named, cut-ready, bindings-earlier, namespaces-earlier, bindings-asked, namespaces-asked, trie-all, trie-few}
@@ -33,10 +33,10 @@ use Rattle.listing.proofs.list_trie.Reads as list-trie
 use Rattle.listing.proofs.list_trie.Kinds as list-trie-kinds
 use Rattle.listing.proofs.+list_branch+list_merged+list_names+list_tree+list_trie.Lts-list_trie as list-trie-lts
 use Rattle.lines.proofs.line.Reads as line-reads
-use Rattle.listing.proofs.steps.cut_query.Reads as cut-query-reads
-use Rattle.listing.proofs.steps.enter.Reads as enter-reads
-use Rattle.listing.proofs.steps.set_path.Reads as set-path-reads
-use Rattle.listing.proofs.steps.skips_bindings.Reads as skips-bindings-reads
+use Rattle.steps.proofs.cut_query.Reads as cut-query-reads
+use Rattle.steps.proofs.enter.Reads as enter-reads
+use Rattle.steps.proofs.set_path.Reads as set-path-reads
+use Rattle.steps.proofs.skips_bindings.Reads as skips-bindings-reads
 use Rattle.matches.proofs.first_match.Reads as first-match-reads
 use Rattle.matches.proofs.next_match.Reads as next-match-reads
 use Rattle.memory.proofs.held_of.Reads as held-of-reads

@@ -1,8 +1,8 @@
 -- `set_path` gives the path its numbers.
 use borrow.Author.Needs.{needs}
-use Rattle.listing.proofs.PathDown.{path-set}
-use Rattle.listing.proofs.steps.set_path.Statement.{statement}
-use Rattle.listing.proofs.steps.set_path.Tie as tie
+use Rattle.steps.proofs.PathDown.{path-set}
+use Rattle.steps.proofs.set_path.Statement.{statement}
+use Rattle.steps.proofs.set_path.Tie as tie
 
 pub set-path-spec : {M : Type 1} → statement M
 set-path-spec =

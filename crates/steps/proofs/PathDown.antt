@@ -26,7 +26,7 @@ use Rattle.names.specs.Entries.{label-at, shown, outer}
 use Rattle.lines.specs.Path.{Path, joined, BranchAt, LabelAt, PathOk, OnPath}
 use Rattle.lines.proofs.Run.{joined-same}
 use Rattle.lines.specs.declared.Found.{Found}
-use Rattle.listing.specs.Runs.{PathDown, Entered, PathSet}
+use Rattle.steps.specs.Steps.{PathDown, Entered, PathSet}
 use Rattle.memory.proofs.At.{at-fits}
 
 -- A branch is a tree.

@@ -2,10 +2,10 @@
 use mathlib.Core.Path.{refl}
 use native.Mathlib.Omega.{arith}
 use Rattle.text.proofs.Segments.{before-inside}
-use Rattle.listing.proofs.Cuts.{cuts-none, cuts-some}
+use Rattle.steps.proofs.Cuts.{cuts-none, cuts-some}
 use borrow.Author.Needs.{needs}
-use Rattle.listing.proofs.steps.cut_query.Statement.{statement}
-use Rattle.listing.proofs.steps.cut_query.Tie as tie
+use Rattle.steps.proofs.cut_query.Statement.{statement}
+use Rattle.steps.proofs.cut_query.Tie as tie
 
 pub cut-query-spec : {M : Type 1} → statement M
 cut-query-spec =

@@ -4,8 +4,8 @@ use mathlib.Core.Logic.{inl, inr}
 use native.Mathlib.Omega.{arith}
 use borrow.Author.Needs.{needs}
 use borrow.Author.Tests.{ltb-true}
-use Rattle.listing.proofs.steps.skips_bindings.Statement.{statement}
-use Rattle.listing.proofs.steps.skips_bindings.Tie as tie
+use Rattle.steps.proofs.skips_bindings.Statement.{statement}
+use Rattle.steps.proofs.skips_bindings.Tie as tie
 
 pub skips-bindings-spec : {M : Type 1} → statement M
 skips-bindings-spec =

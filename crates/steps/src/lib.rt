@@ -1,5 +1,4 @@
-// The steps between two lists: the cut of the query, the limits, the path.
-use crate::Cut;
+// The steps between two lists of a run: the cut of the query, the limits, the path.
 use lines::Found;
 use lines::Limits;
 ghost use mathlib.Core.Path.{_≡_};
@@ -9,7 +8,14 @@ ghost use lib.ListN.{length};
 ghost use Rattle.source.specs.Limits.{longest-query, deepest-trie, record-words};
 ghost use Rattle.source.specs.Text.{ends-in-dot};
 ghost use Rattle.lines.specs.Run.{path-in};
-ghost use Rattle.listing.specs.Runs.{Cuts, Skips, Entered, PathSet};
+ghost use Rattle.steps.specs.Steps.{Cuts, Skips, Entered, PathSet};
+
+// Where a query is cut: the first segment's length, where the rest begins, and the match length of what the segment takes.
+pub struct Cut {
+    pub len: usize,
+    pub next: usize,
+    pub matched: u32,
+}
 
 // Cuts the first segment off, if there is one.
 pub fn cut_query(query: &[u8], base: usize, matched: u32) -> Cut

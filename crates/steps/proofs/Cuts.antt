@@ -17,7 +17,7 @@ use Rattle.text.specs.Text.{before-dot}
 use Rattle.text.proofs.Segments.{first-segment, before-inside}
 use Rattle.names.specs.Entries.{by-prefix, by-all}
 use Rattle.lines.specs.Output.{signed-word}
-use Rattle.listing.specs.Runs.{Cuts}
+use Rattle.steps.specs.Steps.{Cuts}
 
 signed-small : (m : ℕ) → m < 4294967295 → signed-word m ≡ pos m
 unfolding signed-word

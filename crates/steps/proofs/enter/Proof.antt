@@ -5,9 +5,9 @@ use native.Mathlib.Omega.{arith}
 use borrow.Author.Needs.{needs}
 use borrow.Author.Tests.{eq-eqb, ne-eqb}
 use lib.ListN.{length-set}
-use Rattle.listing.proofs.PathDown.{entered}
-use Rattle.listing.proofs.steps.enter.Statement.{statement}
-use Rattle.listing.proofs.steps.enter.Tie as tie
+use Rattle.steps.proofs.PathDown.{entered}
+use Rattle.steps.proofs.enter.Statement.{statement}
+use Rattle.steps.proofs.enter.Tie as tie
 
 pub enter-spec : {M : Type 1} → statement M
 enter-spec =
