@@ -15,9 +15,6 @@ module _ {notes : List ℕ} {n : ℕ} (f : Fits notes n) where
   pub near-part : PartOk notes near-start most-near near-count
   near-part = record { sized = f .sized; some = omega arith; inside = omega arith; counted = omega arith; few = f .few-near }
 
-  pub far-part : PartOk notes far-start most-far far-count
-  far-part = record { sized = f .sized; some = omega arith; inside = omega arith; counted = omega arith; few = f .few-far }
-
   pub fits-fewer : {m : ℕ} → m ≤ n → Fits notes m
   fits-fewer h = record { sized = f .sized; few = omega (arith, f .few); few-near = f .few-near; few-far = f .few-far }
 
