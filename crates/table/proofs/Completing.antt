@@ -84,7 +84,7 @@ module _ {ws txt : List ℕ} {ask : Ask} {root : ℕ} {query : Str} {budget : �
   unfolding completed completion-rows
   completes-refused e = record { says = rw (completed, completion-rows, lowest-stops (argument-rows true (a-completion query ∷ [])) _ e) (refl, refl, refl) }
 
-  pub completes-passed : {flat′ out′ : List ℕ} {r : Completion} → lowest (argument-rows true (a-completion query ∷ [])) ≡ none → L.Completes ws txt ask root query budget flat flat′ out out′ r
+  pub completes-passed : {flat′ out′ : List ℕ} {r : Completion} → lowest (argument-rows true (a-completion query ∷ [])) ≡ none → L.CompletesTrie ws txt ask root query budget flat flat′ out out′ r
       → CompletesOn ws txt ask root query budget flat flat′ out out′ (answer-in r)
   unfolding completed completion-rows
   completes-passed {flat′} {out′} {r} e c = record { says = rw (completed, completion-rows, lowest-past (argument-rows true (a-completion query ∷ [])) _ e) (go (lowest (output-rows budget (output flat out) lines (tries-entered tr (segments query)))) (c .says)) }
