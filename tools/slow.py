@@ -17,7 +17,8 @@ def main():
     folder = os.path.join("target", "inc", name)
     shutil.rmtree(folder, ignore_errors=True)
     run = subprocess.run(["rt", "dev", name], capture_output=True, text=True)
-    print((run.stdout.strip().splitlines() or ["?"])[-1][:120])
+    said = (run.stdout + run.stderr).strip().splitlines()
+    print((said or ["rt dev said nothing"])[-1][:120])
     written = []
     for where, _, files in os.walk(folder):
         if where.endswith("/records"):
