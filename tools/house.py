@@ -4,7 +4,8 @@
 Prints a row a crate: lines of code, definitions, laws and function proofs. Then what is out of order, a line each:
   a dependency that crates.txt names and no file uses (a type or a definition that a used crate's structs or contracts name counts as used);
   a use that crates.txt does not name; a definition (specs/, or a contract) that cites proofs/;
-  a bare word number outside crate memory, in code (`word_of(words, x, 3)`, `row[3]`) or in definitions and laws (`word r 3`, `stored ws x 10`).
+  a bare word number outside crate memory, in code (`word_of(words, x, 3)`, `row[3]`) or in definitions and laws (`word r 3`, `stored ws x 10`);
+  a line of a contract over 160 characters; a function of more than eight parameters that is not exported.
 --check prints these alone and closes with 'N passed, M failed'; README's picture of the crates is held to crates.txt. --picture writes it there anew.
 """
 import collections
@@ -16,6 +17,7 @@ import sys
 KINDS = ['code', 'definitions', 'laws', 'proofs']
 # Where the words of a line, which are not a record's, have their names.
 LAYOUTS = ('lines/specs/Output.antt',)
+LONGEST_CONTRACT, MOST_PARAMETERS = 160, 8
 CITE = re.compile(r'^\s*(?:pub )?(?:ghost )?use Rattle·([a-z0-9_]+)(?:·(?:specs|proofs))?\.(specs|proofs)\.')
 CALL = re.compile(r'\b([a-z][a-z0-9_]*)::')
 BARE_CODE = re.compile(r'\b(?:word_of|stored)\([^;]*, \d+\)|\b(?:row|old|new|r|item)\[\d+\]')
@@ -57,6 +59,17 @@ def reached(crates):
     return out
 
 
+def signatures(where, text):
+    """What is out of order in the contracts and parameters of a file of code."""
+    for n, s in enumerate(text.split('\n'), 1):
+        if '⌜' in s and len(s) > LONGEST_CONTRACT:
+            yield f'{where}:{n}: a contract line of {len(s)} characters'
+    for m in re.finditer(r'^ *((?:pub )?(?:extern "C" )?)fn (\w+)(?:<[^>]*>)?\(([^{]*?)\)(?: ->|$| \{)', text, re.M | re.S):
+        count = len([p for p in m.group(3).split(',') if p.strip()])
+        if 'extern' not in m.group(1) and count > MOST_PARAMETERS:
+            yield f'{where}:{text.count(chr(10), 0, m.start()) + 1}: {m.group(2)} has {count} parameters'
+
+
 def survey():
     deps = dependencies()
     size = {c: collections.Counter() for c in deps}
@@ -64,6 +77,8 @@ def survey():
     for crate in deps:
         for rel, kind, lines in lines_of(crate):
             called, cited = set(), set()
+            if kind == 'code':
+                wrong += signatures(f'crates/{crate}/{rel}', '\n'.join(lines))
             for n, s in enumerate(lines, 1):
                 size[crate][kind] += bool(s.strip())
                 m = CITE.match(s)
