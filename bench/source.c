@@ -18,8 +18,8 @@ static inline __attribute__((always_inline)) void *take(size_t n) {
     return p;
 }
 
-// A new block of a type, whose first word is the header.
-#define NEW(type, ...) memcpy(take(sizeof(type)), &(type){sizeof(type), __VA_ARGS__}, sizeof(type))
+// A new block of a type, whose first word is the header, written where it stands.
+#define NEW(type, ...) ({ type *p_ = take(sizeof(type)); *p_ = (type){sizeof(type), __VA_ARGS__}; (const type *)p_; })
 
 typedef uintptr_t value;  // an item, or a block
 
