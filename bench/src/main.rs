@@ -4,6 +4,7 @@ mod baseline;
 mod calls;
 mod layer;
 mod measure;
+mod ocaml;
 mod plot;
 mod shapes;
 mod source;
@@ -24,29 +25,84 @@ fn module(i: usize) -> Vec<u8> {
 }
 
 /// 1,000 names in random order over 20 modules in turn, then ten includes, each of module k in module k + 1.
-fn work() -> Vec<Row> {
-    let mut rng = Rng::new(3);
-    let mut numbers: Vec<u32> = (0..1000).collect();
-    for k in (1..numbers.len()).rev() {
-        numbers.swap(k, rng.below(k + 1));
+struct Work {
+    names: Vec<Name>,
+    includes: Vec<Registration>,
+    /// With the names, and with the includes too.
+    named: Memory,
+    memory: Memory,
+    missing: Vec<Vec<u8>>,
+    begun: Vec<Vec<u8>>,
+}
+
+impl Work {
+    fn new() -> Work {
+        let mut rng = Rng::new(3);
+        let mut numbers: Vec<u32> = (0..1000).collect();
+        for k in (1..numbers.len()).rev() {
+            numbers.swap(k, rng.below(k + 1));
+        }
+        let names: Vec<Name> = numbers.iter().enumerate().map(|(k, n)| Name::new(module(k % 20), format!("id{n}").into_bytes(), *n)).collect();
+        let includes: Vec<Registration> = (0..10).map(|k| Registration::Include { host: module(k + 1), included: module(k) }).collect();
+        let named = made(&names);
+        let mut memory = named.clone();
+        for call in &includes {
+            assert_eq!(product::register(&mut memory, call), 0);
+        }
+        let missing = (0..1000).map(|k| [&module(k % 20)[..], format!("no{k}.").as_bytes()].concat()).collect();
+        let begun = (0..20).map(|i| [&module(i)[..], b"id1."].concat()).collect();
+        Work { names, includes, named, memory, missing, begun }
     }
-    let names: Vec<Name> = numbers.iter().enumerate().map(|(k, n)| Name::new(module(k % 20), format!("id{n}").into_bytes(), *n)).collect();
-    let mut rows = vec![registrations("register 1,000 names", &fresh(), &names)];
-    let mut m = made(&names);
-    for k in 0..10 {
-        let call = Registration::Include { host: module(k + 1), included: module(k) };
-        assert_eq!(product::register(&mut m, &call), 0);
+
+    fn rows(&self) -> Vec<Row> {
+        // No id stands in two modules, so that an include hides none.
+        let there: Vec<(&[u8], Option<u32>)> = self.names.iter().map(|n| (&n.query[..], Some(n.item))).collect();
+        let missing: Vec<(&[u8], Option<u32>)> = self.missing.iter().map(|q| (&q[..], None)).collect();
+        vec![
+            registrations("register 1,000 names", &fresh(), &self.names),
+            look_ups("look full names up", &self.memory, &there),
+            look_ups("look missing names up", &self.memory, &missing),
+            completions("complete Mod<i>.Sub<k>.id1.", &self.memory, &slices(&self.begun)),
+            completions("list all names", &self.memory, &[b""]),
+        ]
     }
-    // No id stands in two modules, so that an include hides none.
-    let there: Vec<(&[u8], Option<u32>)> = names.iter().map(|n| (&n.query[..], Some(n.item))).collect();
-    rows.push(look_ups("look full names up", &m, &there));
-    let missing: Vec<Vec<u8>> = (0..1000).map(|k| [&module(k % 20)[..], format!("no{k}.").as_bytes()].concat()).collect();
-    let missing: Vec<(&[u8], Option<u32>)> = missing.iter().map(|q| (&q[..], None)).collect();
-    rows.push(look_ups("look missing names up", &m, &missing));
-    let begun: Vec<Vec<u8>> = (0..20).map(|i| [&module(i)[..], b"id1."].concat()).collect();
-    rows.push(completions("complete Mod<i>.Sub<k>.id1.", &m, &begun.iter().map(|q| &q[..]).collect::<Vec<_>>()));
-    rows.push(completions("list all names", &m, &[b""]));
-    rows
+
+    /// Nanoseconds of the product's calls for proved callers, each row alone, as OCaml's run.
+    fn alone(&self) -> [f64; 5] {
+        let (mut now, empty) = (fresh(), fresh().header);
+        let mut out = Output::with_room(32768, 1 << 20);
+        // SAFETY, of all: the memory is sound.
+        let mut register = || {
+            now.header = empty;
+            self.names.iter().all(|n| unsafe { product::insert_sound(&mut now, &n.host, &n.id, n.item) } == 0)
+        };
+        let there = || self.names.iter().all(|n| unsafe { product::find_sound(&self.memory, &n.query) } == Ok(Some(n.item)));
+        let missing = || self.missing.iter().all(|q| unsafe { product::find_sound(&self.memory, q) } == Ok(None));
+        let mut complete = |q: &[u8]| unsafe { product::complete_sound(&self.memory, Ask::Names, q, u32::MAX, &mut out) }.is_ok();
+        [
+            least(&mut register) / self.names.len() as f64,
+            least(there) / self.names.len() as f64,
+            least(missing) / self.missing.len() as f64,
+            least(|| self.begun.iter().all(|q| complete(q))) / self.begun.len() as f64,
+            least(|| complete(b"")),
+        ]
+    }
+
+    /// The same rows for OCaml.
+    fn script(&self) -> ocaml::Script {
+        let mut script = ocaml::Script::default();
+        script.register(&self.names.iter().map(Name::call).collect::<Vec<_>>(), &self.named);
+        script.apart(&self.includes);
+        script.find(&self.memory, &self.names.iter().map(|n| &n.query[..]).collect::<Vec<_>>());
+        script.find(&self.memory, &slices(&self.missing));
+        script.complete(&self.memory, &slices(&self.begun));
+        script.complete(&self.memory, &[b""]);
+        script
+    }
+}
+
+fn slices(texts: &[Vec<u8>]) -> Vec<&[u8]> {
+    texts.iter().map(|t| &t[..]).collect()
 }
 
 /// So many names below four hosts, in random order.
@@ -214,9 +270,12 @@ fn run() {
     let sizes = sizes();
     let by_call: Vec<&Row> = (0..4).flat_map(|k| sizes.iter().map(move |rows| &rows[k])).collect();
     let by_call = by_call.iter().fold(measure::HEAD.to_string(), |all, row| all + &row.print());
-    let sections = [
+    let work = Work::new();
+    let rows = work.rows();
+    let ocaml = work.script().run(measure::TURNS).map(|times| ocaml::table(&rows, &work.alone(), &times));
+    let mut sections = vec![
         ("machine", machine),
-        ("work", measure::table(&work())),
+        ("work", measure::table(&rows)),
         ("sizes", by_call),
         ("merges", measure::table(&merges())),
         ("trees", measure::table(&trees(&keys))),
@@ -224,6 +283,11 @@ fn run() {
         ("sound", sound(&keys)),
         ("layer", layer::parts(&names(200))),
     ];
+    // Without OCaml the page keeps what it has.
+    match ocaml {
+        Some(table) => sections.insert(2, ("ocaml", table)),
+        None => println!("{}", ocaml::LEFT_OUT),
+    }
     for (name, text) in &sections {
         println!("{name}\n\n{text}");
     }

@@ -3,7 +3,7 @@ use std::hint::black_box;
 use std::time::{Duration, Instant};
 
 /// A measurement takes so many turns, or fewer once it has taken so long.
-const TURNS: usize = 200;
+pub const TURNS: usize = 200;
 const LONGEST: Duration = Duration::from_millis(400);
 
 /// Nanoseconds of each run, the least over the turns, one after another in each turn. A run says whether its result is right.

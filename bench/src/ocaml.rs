@@ -1,0 +1,215 @@
+//! The source's own code in OCaml (source.ml), built by OCaml's compiler and timed by source_main.ml, on the product's work.
+use crate::measure::Row;
+use model::layout::Memory;
+use model::model::Registration;
+use product::{Ask, Output};
+use std::fmt::Write as _;
+use std::io::{ErrorKind, Write as _};
+use std::process::{Command, Stdio};
+use std::sync::OnceLock;
+
+pub const LEFT_OUT: &str = "ocaml\n\nLeft out: there is no ocamlopt on the PATH (apt-get install --no-install-recommends ocaml-nox).\n";
+
+/// Options of the compiler. -O3 counts where it was built with flambda.
+const OPTIONS: [&str; 4] = ["-O3", "-unsafe", "-inline", "100"];
+
+/// How many names were found or lines listed, and a hash of all of them.
+#[derive(Default, Debug, PartialEq)]
+struct Sum {
+    count: u32,
+    hash: u32,
+}
+
+impl Sum {
+    fn number(&mut self, n: u32) {
+        self.hash = self.hash.wrapping_mul(31).wrapping_add(n);
+    }
+
+    fn text(&mut self, text: &[u8]) {
+        self.number(text.len() as u32);
+        text.iter().for_each(|b| self.number(*b as u32));
+    }
+
+    /// The product's look-up.
+    fn find(&mut self, m: &Memory, query: &[u8]) {
+        // SAFETY: the memory is sound.
+        match unsafe { product::find_sound(m, query) }.expect("found or none") {
+            None => self.number(0),
+            Some(item) => {
+                self.count += 1;
+                self.number(1);
+                self.number(item);
+            }
+        }
+    }
+
+    /// The product's lines.
+    fn complete(&mut self, m: &Memory, query: &[u8]) {
+        let mut out = Output::with_room(32768, 1 << 20);
+        // SAFETY: the memory is sound.
+        let (lines, _) = unsafe { product::complete_sound(m, Ask::Names, query, u32::MAX, &mut out) }.expect("listed");
+        for k in 0..lines as usize {
+            let line = out.line(k, |w| w[5]);
+            self.count += 1;
+            self.text(&line.candidate);
+            self.text(&line.annotation);
+            self.number(line.match_length as u32);
+            self.number(line.item);
+        }
+    }
+}
+
+/// Work for source_main.ml, from the empty table on, and the sums of the product's results, one for each row.
+#[derive(Default)]
+pub struct Script {
+    lines: String,
+    sums: Vec<Sum>,
+}
+
+impl Script {
+    fn registrations(&mut self, calls: &[Registration]) {
+        let text = String::from_utf8_lossy;
+        for call in calls {
+            match call {
+                Registration::Name { host, id, item } => writeln!(self.lines, "name {} {} {item}", text(host), text(id)),
+                Registration::Include { host, included } => writeln!(self.lines, "include {} {}", text(host), text(included)),
+                Registration::Open { module, host, included } => {
+                    writeln!(self.lines, "open {} {} {}", if *module { "m" } else { "n" }, text(host), text(included))
+                }
+                Registration::Alias { key, host, included } => writeln!(self.lines, "alias {} {} {}", text(key), text(host), text(included)),
+                Registration::Module { .. } => panic!("no name: {call:?}"),
+            }
+            .unwrap();
+        }
+    }
+
+    /// Registrations that are not timed.
+    pub fn apart(&mut self, calls: &[Registration]) {
+        self.lines += "apart\n";
+        self.registrations(calls);
+    }
+
+    /// A row of registrations; the memory after them.
+    pub fn register(&mut self, calls: &[Registration], after: &Memory) {
+        self.lines += "row\n";
+        self.registrations(calls);
+        let mut sum = Sum::default();
+        sum.complete(after, b"");
+        self.sums.push(sum);
+    }
+
+    fn queries(&mut self, word: &str, m: &Memory, queries: &[&[u8]], call: fn(&mut Sum, &Memory, &[u8])) {
+        self.lines += "row\n";
+        let mut sum = Sum::default();
+        for q in queries {
+            writeln!(self.lines, "{word} {}", String::from_utf8_lossy(q)).unwrap();
+            call(&mut sum, m, q);
+        }
+        self.sums.push(sum);
+    }
+
+    /// A row of look-ups.
+    pub fn find(&mut self, m: &Memory, queries: &[&[u8]]) {
+        self.queries("find", m, queries, Sum::find);
+    }
+
+    /// A row of completions.
+    pub fn complete(&mut self, m: &Memory, queries: &[&[u8]]) {
+        self.queries("complete", m, queries, Sum::complete);
+    }
+
+    /// Nanoseconds a call of each row, the least of so many turns, or none where OCaml's compiler is missing. Other results than the
+    /// product's end the program.
+    pub fn run(&self, turns: usize) -> Option<Vec<f64>> {
+        let mut program = Command::new(built()?).arg(turns.to_string()).stdin(Stdio::piped()).stdout(Stdio::piped()).spawn().expect("the OCaml program");
+        program.stdin.take().unwrap().write_all(self.lines.as_bytes()).expect("its input");
+        let answer = program.wait_with_output().expect("its output");
+        assert!(answer.status.success(), "the OCaml program failed");
+        let answer = String::from_utf8(answer.stdout).unwrap();
+        let rows: Vec<(f64, Sum)> = answer.lines().map(parse).collect();
+        assert!(rows.iter().map(|r| &r.1).eq(&self.sums), "OCaml has other results: {rows:?}, the product {:?}", self.sums);
+        Some(rows.into_iter().map(|r| r.0).collect())
+    }
+}
+
+/// Time, count and hash.
+fn parse(line: &str) -> (f64, Sum) {
+    let words: Vec<&str> = line.split(' ').collect();
+    let [time, count, hash] = words[..] else { panic!("{line}") };
+    (time.parse().unwrap(), Sum { count: count.parse().unwrap(), hash: hash.parse().unwrap() })
+}
+
+/// The OCaml program, built once, or none where the compiler is missing.
+fn built() -> Option<&'static str> {
+    static PROGRAM: OnceLock<Option<String>> = OnceLock::new();
+    PROGRAM.get_or_init(build).as_deref()
+}
+
+fn build() -> Option<String> {
+    let here = env!("CARGO_MANIFEST_DIR");
+    let to = format!("{here}/target/ocaml");
+    std::fs::create_dir_all(&to).expect("target/ocaml");
+    // The compiler leaves its files beside the sources.
+    let files = ["clock.c", "source.ml", "source_main.ml"];
+    for file in files {
+        std::fs::copy(format!("{here}/{file}"), format!("{to}/{file}")).expect(file);
+    }
+    match Command::new("ocamlopt").current_dir(&to).args(OPTIONS).args(files).args(["-o", "source"]).status() {
+        Err(e) if e.kind() == ErrorKind::NotFound => None,
+        status => {
+            assert!(status.expect("ocamlopt").success(), "ocamlopt failed");
+            Some(format!("{to}/source"))
+        }
+    }
+}
+
+/// The compiler, as it says.
+fn compiler() -> String {
+    let config = Command::new("ocamlopt").arg("-config").output().expect("ocamlopt -config").stdout;
+    let config = String::from_utf8_lossy(&config);
+    let of = |key: &str| config.lines().find_map(|l| l.strip_prefix(key)).unwrap_or("unknown").trim().to_string();
+    format!("Built by `ocamlopt {}`, version {}, flambda {}.\n", OPTIONS.join(" "), of("version:"), of("flambda:"))
+}
+
+/// The calls, with the product's times and OCaml's.
+pub fn table(rows: &[Row], alone: &[f64], ocaml: &[f64]) -> String {
+    let mut all = String::from("| call | proved callers, ns | OCaml, ns | OCaml / proved |\n|---|---|---|---|\n");
+    for ((row, proved), ocaml) in rows.iter().zip(alone).zip(ocaml) {
+        writeln!(all, "| {} | {proved:.0} | {ocaml:.0} | {:.2} |", row.what, ocaml / proved).unwrap();
+    }
+    all + "\n" + &compiler()
+}
+
+#[cfg(test)]
+mod tests {
+    use super::*;
+    use crate::calls::fresh;
+    use crate::slices;
+    use model::gen::{completion_query, full_name, registration, Rng};
+
+    /// Names, includes, opens and aliases at random.
+    #[test]
+    fn ocaml_does_the_same_work() {
+        let mut rng = Rng::new(4);
+        for _ in 0..20 {
+            let mut m = fresh();
+            let calls: Vec<Registration> = (0..30).map(|_| registration(&mut rng, &[4, 2, 1, 1, 0])).filter(|call| product::register(&mut m, call) == 0).collect();
+            let mut script = Script::default();
+            script.register(&calls, &m);
+            let names: Vec<Vec<u8>> = (0..100).map(|_| full_name(&mut rng)).filter(|q| product::find(&m, q).is_ok()).collect();
+            script.find(&m, &slices(&names));
+            let begun: Vec<Vec<u8>> = (0..30).map(|_| completion_query(&mut rng)).collect();
+            script.complete(&m, &slices(&begun));
+            if script.run(1).is_none() {
+                return println!("{LEFT_OUT}");
+            }
+        }
+    }
+
+    #[test]
+    fn ocaml_does_the_same_on_the_modules() {
+        if crate::Work::new().script().run(1).is_none() {
+            println!("{LEFT_OUT}");
+        }
+    }
+}
