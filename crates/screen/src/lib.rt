@@ -86,7 +86,10 @@ fn enter(
     ensures { λ r. ⌜ Replies (now (state .entry)) (now (words .entry)) (now (text .entry)) (now (state .exit)) (now (words .exit)) (now (text .exit)) (some (call-of kind (now (host .entry)) (now (other .entry)) (now (key .entry)))) r ⌝ }
 {
     let t = table_of(state);
-    let r = t.register(memory, text, kind, host, other, key);
+    if !t.is_sound_small(memory, text) {
+        return 1;
+    }
+    let r = t.register_sound(memory, text, kind, host, other, key);
     let h = r.table;
     let a = r.answer;
     match a {
@@ -131,7 +134,7 @@ fn malformed(state: &[u8], words: &[u8], text: &[u8]) -> u32
     let mut memory = [0u32; wire::WORDS];
     let n = wire::load(words, &mut memory);
     let t = table_of(state);
-    if t.is_sound(&memory[..n], text) {
+    if t.is_sound_small(&memory[..n], text) {
         return 2;
     }
     1
@@ -251,7 +254,10 @@ pub extern "C" fn name_console_find(
     let mut memory = [0u32; wire::WORDS];
     let n = wire::load(words, &mut memory);
     let t = table_of(state);
-    reply::name_reply(t.find(&memory[..n], text, query))
+    if !t.is_sound_small(&memory[..n], text) {
+        return reply::no_name(1);
+    }
+    reply::name_reply(t.find_sound(&memory[..n], text, query))
 }
 
 // Looks a module or namespace up.
@@ -270,7 +276,10 @@ pub extern "C" fn name_console_find_module(
     let mut memory = [0u32; wire::WORDS];
     let n = wire::load(words, &mut memory);
     let t = table_of(state);
-    reply::module_reply(t.find_module(&memory[..n], text, query))
+    if !t.is_sound_small(&memory[..n], text) {
+        return reply::no_module(1);
+    }
+    reply::module_reply(t.find_module_sound(&memory[..n], text, query))
 }
 
 // ---- Completions
@@ -311,7 +320,10 @@ fn complete(
     let mut memory = [0u32; wire::WORDS];
     let n = wire::load(words, &mut memory);
     let t = table_of(state);
-    let l = t.complete(&memory[..n], text, ask, query, budget, lines, out);
+    if !t.is_sound_small(&memory[..n], text) {
+        return reply::no_lines(1);
+    }
+    let l = t.complete_sound(&memory[..n], text, ask, query, budget, lines, out);
     let c = l.answer;
     reply::lines_reply(c)
 }
