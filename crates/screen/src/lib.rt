@@ -1,6 +1,7 @@
 // The exported layer for screen code in C: numbers and bytes in, numbers and bytes out.
 // A slice passes as a pointer and a length. State and words are bytes as crate wire reads them;
-// the layer copies the words in, calls crate table, and copies out what an accepted call has taken. Lines are written in place.
+// the layer copies the words in, tests them with little stack, calls crate table, and copies out what an accepted call has taken.
+// Lines are written in place.
 // Every exported call answers for whatever bytes are lent.
 mod reply;
 

@@ -108,7 +108,7 @@ impl Table {
         sound::sound(words, text, self.header)
     }
 
-    // The same, with little stack: linear for tables of at most 1,024 records.
+    // The same, with little stack. Linear for small tables (`SMALL` of crate sound).
     pub fn is_sound_small(self, words: &[u32], text: &[u8]) -> bool
         ensures { λ r. ⌜ Says r (IsSound (now (words .entry)) (now (text .entry)) self) ⌝ }
     {
