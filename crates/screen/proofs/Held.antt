@@ -31,6 +31,12 @@ module _ {st bs m : List ℕ} {t : Table} (txt : List ℕ) (h : Held st bs m t) 
   pub says-memory : (b : Bool) → Says b (SoundBytes st bs txt) → Says b (IsSound m txt t)
   says-memory b i = says-iff b i sound-there sound-here
 
+  pub unsound-memory : (IsSound m txt t → ⊥) → SoundBytes st bs txt → ⊥
+  unsound-memory o s = o (sound-there s)
+
 -- With a state of another length the bytes are no sound table.
-pub says-short : (st bs txt : List ℕ) (b : Bool) → (length st ≡ state-bytes → ⊥) → Says b (SoundBytes st bs txt) → b ≡ false
-says-short st bs txt b e h = decided _ b false h (λ s. e (s .size))
+pub unsound-short : {st bs txt : List ℕ} → (length st ≡ state-bytes → ⊥) → SoundBytes st bs txt → ⊥
+unsound-short e s = e (s .size)
+
+pub says-unsound : {st bs txt : List ℕ} (b : Bool) → (SoundBytes st bs txt → ⊥) → Says b (SoundBytes st bs txt) → b ≡ false
+says-unsound b e h = decided _ b false h e

@@ -5,23 +5,22 @@ use mathlib.Core.Bool.{Bool, true, false}
 use mathlib.Core.List.{List}
 use mathlib.Core.Option.{Option, none, some, Option·none-ne-some}
 use native.Mathlib.Omega.{arith}
-use lib.Dec.{leb, eqb}
+use lib.Dec.{eqb}
 use lib.ListN.{length}
 use lib.Seq.{take-all}
-use borrow.Author.Tests.{leb-true, leb-false}
 use Rattle.source.specs.Calls as C
 use Rattle.source.specs.Text.{Str}
 use Rattle.source.specs.Calls.{State, Lent, Call, opens, register}
 use Rattle.memory.specs.Sound.{Says}
 use Rattle.memory.specs.Grown.{Outside}
 use Rattle.table.specs.Header.{IsSound, state, lent}
-use Rattle.table.specs.Registrations.{refusal-of, AnswersAs, Total}
+use Rattle.table.specs.Registrations.{refusal-of, AnswersAs, Answers}
 use Rattle.table.specs.declared.Table.{Table}
 use Rattle.table.specs.declared.Registration.{Registration}
 use Rattle.table.proofs.Decided.{decided}
 use Rattle.table.proofs.Registering.{register-unsound}
 use Rattle.wire.specs.Bytes.{Stored}
-use Rattle.wire.specs.Memory.{state-bytes, header-in, Spells, records-lent, words-in}
+use Rattle.wire.specs.Memory.{header-in, Spells, records-lent, words-in}
 use Rattle.wire.proofs.Memory.{words-in-length, words-in-fit}
 use Rattle.screen.specs.Memory.{table-at, SoundBytes}
 use Rattle.kinds.specs.Shapes.{call-of, opened}
@@ -29,16 +28,15 @@ use Rattle.kinds.specs.declared.Kind.{Kind}
 use Rattle.kinds.proofs.Shapes.{opened-is}
 use Rattle.screen.specs.Replies.{chosen, unchosen, answer-to, RepliesAs, Replies}
 use Rattle.wire.proofs.Bytes.{read-back}
-use Rattle.screen.proofs.Held.{Held, says-memory, says-short}
+use Rattle.screen.proofs.Held.{Held, says-memory, says-unsound}
 
 answer-unsound : (l : Lent) (s : State) (c : Option Call) → answer-to false l s c ≡ C.refused 1
 answer-unsound l s (some c) = register-unsound l s c
 answer-unsound l s none = refl
 
--- A state of another length.
-pub reply-short : {st bs txt : List ℕ} {c : Option Call} → (length st ≡ state-bytes → ⊥) → Replies st bs txt st bs txt c 1
-reply-short {st} {bs} {txt} {c} e = record {
-  says = λ b h. rw (says-short st bs txt b e h, answer-unsound _ _ c) (refl, record { state = refl; words = refl; text = refl });
+pub reply-unsound : {st bs txt : List ℕ} {c : Option Call} → (SoundBytes st bs txt → ⊥) → Replies st bs txt st bs txt c 1
+reply-unsound {c = c} e = record {
+  says = λ b h. rw (says-unsound b e h, answer-unsound _ _ c) (refl, record { state = refl; words = refl; text = refl });
 }
 
 -- ---- No call
@@ -81,25 +79,19 @@ module _ (ws txt ws′ txt′ : List ℕ) (t : Table) (r : Registration) (taken 
   fit-as (C.accepted s) a = omega (arith, a .1 .sound .right .records-fit, a .1 .words .size)
   fit-as (C.refused n) a = absurd (Option·none-ne-some n (sym taken ∙ a .0))
 
-  fit-or : (c : Call) → Total ws txt ws′ txt′ t c r → (b : Bool) → leb (r .table .header .records * 12) (length ws) ≡ b → r .table .header .records * 12 ≤ length ws
-  fit-or c total true e = leb-true _ _ e
-  fit-or c total false e =
-      fit-as (C.refused 1)
-      (rw register-unsound at (total false (λ s. let h = fit-as (register true (lent ws txt) (state ws txt t) c) (total true s .says) in omega (arith, leb-false (r .table .header .records * 12) (length ws) e)) .says))
-
 by-bytes : (n : ℕ) → n * 12 * 4 ≡ n * 48
 by-bytes n = omega arith
 
-module _ {st bs txt m ws txt′ : List ℕ} {t : Table} {c : Call} {r : Registration} (h : Held st bs m t) (total : Total m txt ws txt′ t c r) where
+module _ {st bs txt m ws txt′ : List ℕ} {t : Table} {c : Call} {r : Registration} (h : Held st bs m t) (sound : IsSound m txt t) (a : Answers true m txt ws txt′ t c r) where
   accepted-fits : refusal-of (r .answer) ≡ none → r .table .header .records * 12 ≤ length (words-in bs)
-  accepted-fits taken = rw (h .lent) at (fit-or m txt ws txt′ t r taken c total _ refl)
+  accepted-fits taken = rw (h .lent) at (fit-as m txt ws txt′ t r taken (register true (lent m txt) (state m txt t) c) (a .says))
 
   pub store-fits : refusal-of (r .answer) ≡ none → length ws ≡ length m → (r .table .header .records * 12 * 4 ≤ length bs) × (r .table .header .records * 12 ≤ length ws)
   store-fits taken e = let f = accepted-fits taken in (omega (arith, words-in-fit bs), omega (arith, ap length (h .lent)))
 
   answers : (b : Bool) → Says b (SoundBytes st bs txt)
       → AnswersAs (register b (lent (words-in bs) txt) (state (words-in bs) txt (table-at st)) c) (words-in bs) txt ws txt′ (table-at st) r
-  answers b i = rw (← h .lent, h .spelt .header) (total b (says-memory txt h b i) .says)
+  answers b i = rw (decided _ b true (says-memory txt h b i) sound, ← h .lent, h .spelt .header) (a .says)
 
   -- It is accepted, and the new words and the new header are stored.
   module _ {st′ bs′ : List ℕ} (taken : refusal-of (r .answer) ≡ none) (stored : Stored ws (t .header .records * 12) (r .table .header .records * 12) bs bs′)

@@ -5,7 +5,6 @@ use mathlib.Core.Bool.{Bool, true, false}
 use mathlib.Core.List.{List}
 use mathlib.Core.Option.{none, some, Option·none-ne-some}
 use native.Mathlib.Omega.{arith}
-use lib.ListN.{length}
 use Rattle.source.specs.Text.{Str}
 use Rattle.source.specs.Table as S
 use Rattle.source.specs.Calls as C
@@ -22,11 +21,11 @@ use Rattle.table.specs.declared.Table.{Table}
 use Rattle.table.specs.declared.Completed.{Completed}
 use Rattle.table.specs.declared.Completed.the-variants.{Listed, Refused}
 use Rattle.table.specs.declared.Listing.{Listing}
-use Rattle.wire.specs.Memory.{state-bytes}
+use Rattle.screen.specs.Memory.{SoundBytes}
 use Rattle.screen.specs.Replies.{RepliesAs, unchosen, Replies}
 use Rattle.screen.specs.Completions.{modules-for, no-lines, lines-reply, ListsAs, unasked, Refuses, RepliesLines}
 use Rattle.screen.specs.declared.CompleteReply.{CompleteReply}
-use Rattle.screen.proofs.Held.{Held, says-memory, says-short}
+use Rattle.screen.proofs.Held.{Held, says-memory, says-unsound}
 
 -- ---- By crate table's answer
 
@@ -60,10 +59,9 @@ unasked-as true st bs txt ls out a p = record { reply = p ∙ ap no-lines (a .0)
 unasked-as false st bs txt ls out a p = record { reply = p ∙ ap no-lines (a .0); lines = refl; text = refl }
 
 module _ {st bs txt : List ℕ} {query : Str} {budget : ℕ} {ls out : List ℕ} where
-  -- A state of another length.
-  pub lines-short : {ask : Ask} {r : CompleteReply} → (length st ≡ state-bytes → ⊥) → r ≡ no-lines 1 → RepliesLines st bs txt (some ask) query budget ls ls out out r
-  lines-short {ask} e p = record {
-    says = λ b h. rw (says-short st bs txt b e h, completion-unsound _ ask _ _ _) (record { reply = p; lines = refl; text = refl });
+  pub lines-unsound : {ask : Ask} {r : CompleteReply} → (SoundBytes st bs txt → ⊥) → r ≡ no-lines 1 → RepliesLines st bs txt (some ask) query budget ls ls out out r
+  lines-unsound {ask} e p = record {
+    says = λ b h. rw (says-unsound b e h, completion-unsound _ ask _ _ _) (record { reply = p; lines = refl; text = refl });
   }
 
   pub lines-replied : {m ls′ out′ : List ℕ} {t : Table} {ask : Ask} (r : Listing) {c : CompleteReply} → Held st bs m t

@@ -3,7 +3,6 @@ use Prim.Native.Nat.{ℕ}
 use mathlib.Core.Path.{_≡_, refl}
 use mathlib.Core.Bool.{false}
 use mathlib.Core.List.{List}
-use lib.ListN.{length}
 use Rattle.source.specs.Text.{Str}
 use Rattle.source.specs.Types.{Trie}
 use Rattle.source.specs.Calls as C
@@ -14,23 +13,22 @@ use Rattle.table.specs.declared.Finding.{Finding}
 use Rattle.table.specs.declared.ModuleFinding.{ModuleFinding}
 use Rattle.table.specs.declared.FoundModule.the-variants.{Refused}
 use Rattle.refusals.specs.declared.Refusal.the-variants.{Unsound}
-use Rattle.wire.specs.Memory.{state-bytes}
+use Rattle.screen.specs.Memory.{SoundBytes}
 use Rattle.screen.specs.Replies.{name-reply, RepliesName, no-module, module-reply, RepliesModule}
 use Rattle.screen.specs.declared.NameReply.{NameReply}
 use Rattle.screen.specs.declared.ModuleReply.{ModuleReply}
-use Rattle.screen.proofs.Held.{Held, says-memory, says-short}
+use Rattle.screen.proofs.Held.{Held, says-memory, says-unsound}
 
 look-up-unsound : {A : Type 0} (root : Trie A) (q : Str) → look-up false root q ≡ C.refused 1
 unfolding look-up lowest argument-rows
 look-up-unsound root q = refl
 
--- A state of another length.
-module _ {st bs txt : List ℕ} {q : Str} (e : length st ≡ state-bytes → ⊥) where
-  pub name-short : {r : NameReply} → r ≡ name-reply (C.refused 1) → RepliesName st bs txt q r
-  name-short p = record { says = λ b h. rw (says-short st bs txt b e h, look-up-unsound) p }
+module _ {st bs txt : List ℕ} {q : Str} (e : SoundBytes st bs txt → ⊥) where
+  pub name-unsound : {r : NameReply} → r ≡ name-reply (C.refused 1) → RepliesName st bs txt q r
+  name-unsound p = record { says = λ b h. rw (says-unsound b e h, look-up-unsound) p }
 
-  pub module-short : {r : ModuleReply} → r ≡ no-module 1 → RepliesModule st bs txt q r
-  module-short p = record { says = λ b h. record { found = Refused Unsound; reply = p; says = rw (says-short st bs txt b e h, look-up-unsound); inside = tt } }
+  pub module-unsound : {r : ModuleReply} → r ≡ no-module 1 → RepliesModule st bs txt q r
+  module-unsound p = record { says = λ b h. record { found = Refused Unsound; reply = p; says = rw (says-unsound b e h, look-up-unsound); inside = tt } }
 
 -- A look-up by crate table.
 module _ {st bs txt m : List ℕ} {t : Table} {q : Str} (h : Held st bs m t) where

@@ -1,6 +1,7 @@
 // The exported layer for screen code in C: numbers and bytes in, numbers and bytes out.
 // A slice passes as a pointer and a length. State and words are bytes as crate wire reads them;
-// the layer copies the words in, calls crate table, and copies out what an accepted call has taken. Lines are written in place.
+// the layer copies the words in, tests them with little stack, calls crate table, and copies out what an accepted call has taken.
+// Lines are written in place.
 // Every exported call answers for whatever bytes are lent.
 mod reply;
 
@@ -86,7 +87,10 @@ fn enter(
     ensures { λ r. ⌜ Replies (now (state .entry)) (now (words .entry)) (now (text .entry)) (now (state .exit)) (now (words .exit)) (now (text .exit)) (some (call-of kind (now (host .entry)) (now (other .entry)) (now (key .entry)))) r ⌝ }
 {
     let t = table_of(state);
-    let r = t.register(memory, text, kind, host, other, key);
+    if !t.is_sound_small(memory, text) {
+        return 1;
+    }
+    let r = t.register_sound(memory, text, kind, host, other, key);
     let h = r.table;
     let a = r.answer;
     match a {
@@ -131,7 +135,7 @@ fn malformed(state: &[u8], words: &[u8], text: &[u8]) -> u32
     let mut memory = [0u32; wire::WORDS];
     let n = wire::load(words, &mut memory);
     let t = table_of(state);
-    if t.is_sound(&memory[..n], text) {
+    if t.is_sound_small(&memory[..n], text) {
         return 2;
     }
     1
@@ -251,7 +255,10 @@ pub extern "C" fn name_console_find(
     let mut memory = [0u32; wire::WORDS];
     let n = wire::load(words, &mut memory);
     let t = table_of(state);
-    reply::name_reply(t.find(&memory[..n], text, query))
+    if !t.is_sound_small(&memory[..n], text) {
+        return reply::no_name(1);
+    }
+    reply::name_reply(t.find_sound(&memory[..n], text, query))
 }
 
 // Looks a module or namespace up.
@@ -270,7 +277,10 @@ pub extern "C" fn name_console_find_module(
     let mut memory = [0u32; wire::WORDS];
     let n = wire::load(words, &mut memory);
     let t = table_of(state);
-    reply::module_reply(t.find_module(&memory[..n], text, query))
+    if !t.is_sound_small(&memory[..n], text) {
+        return reply::no_module(1);
+    }
+    reply::module_reply(t.find_module_sound(&memory[..n], text, query))
 }
 
 // ---- Completions
@@ -311,7 +321,10 @@ fn complete(
     let mut memory = [0u32; wire::WORDS];
     let n = wire::load(words, &mut memory);
     let t = table_of(state);
-    let l = t.complete(&memory[..n], text, ask, query, budget, lines, out);
+    if !t.is_sound_small(&memory[..n], text) {
+        return reply::no_lines(1);
+    }
+    let l = t.complete_sound(&memory[..n], text, ask, query, budget, lines, out);
     let c = l.answer;
     reply::lines_reply(c)
 }

@@ -108,6 +108,13 @@ impl Table {
         sound::sound(words, text, self.header)
     }
 
+    // The same, with little stack. Linear for small tables (`SMALL` of crate sound).
+    pub fn is_sound_small(self, words: &[u32], text: &[u8]) -> bool
+        ensures { λ r. ⌜ Says r (IsSound (now (words .entry)) (now (text .entry)) self) ⌝ }
+    {
+        sound::sound_small(words, text, self.header)
+    }
+
     // The root that is asked.
     fn root_for(self, ask: Ask) -> u32
         ensures { λ r. ⌜ r ≡ root-for self ask ⌝ }

@@ -1,6 +1,8 @@
 //! Damages sound tables one word, byte or header field at a time and holds the product's soundness test to the independent one.
-use model::gen::{damages, registered_memory, sound_memory, Rng};
-use model::layout::Memory;
+use model::gen::{damages, registered_memory, sound_memory, Damage, Rng};
+use model::layout::{Memory, BINDINGS_LIST};
+use model::model::WORDS_A_RECORD;
+use model::written::{Key, Written};
 
 struct Count {
     cases: u64,
@@ -49,6 +51,43 @@ fn every_word_of_tables_written_record_by_record() {
         }
     }
     report("written tables", &count);
+}
+
+/// So many records: a chain to the right or to the left, and the branches that all have it to their other side.
+fn shared_chain(records: usize, right: bool) -> Memory {
+    let mut t = Written::default();
+    let keys: Vec<Key> = (0..records.min(16_000) / 2).map(|k| t.key(&format!("k{k:04}"))).collect();
+    let (least, greatest) = (t.key("a"), t.key("z"));
+    let chain = t.chain(&keys, |_| !right, &Written::leaf);
+    let mut root = 0;
+    while t.records.len() < records - 2 {
+        root = if right { t.leaf(greatest, chain, 0) } else { t.leaf(least, 0, chain) };
+    }
+    let list = t.tree(BINDINGS_LIST, root, 0);
+    let trie = t.trie(list, 0);
+    t.memory(trie)
+}
+
+/// The test has notes for 1,024, for 8,192 and for 65,536 records.
+#[test]
+fn some_words_of_tables_about_the_sizes_of_the_notes() {
+    let mut rng = Rng::new(Rng::seed_or(3));
+    let mut count = Count { cases: 0, sound: 0 };
+    for records in [1_024, 1_025, 8_192, 8_193, 65_536] {
+        for right in [false, true] {
+            let memory = shared_chain(records, right);
+            hold(&memory, &mut count);
+            for _ in 0..100 {
+                // A record with a text, a side or a weight of another one.
+                let (to, from) = (rng.below(records), rng.below(records));
+                let word = rng.below(WORDS_A_RECORD);
+                let mut m = memory.clone();
+                Damage::Word { at: to * WORDS_A_RECORD + word, value: memory.words[from * WORDS_A_RECORD + word] }.apply(&mut m);
+                hold(&m, &mut count);
+            }
+        }
+    }
+    report("tables about the sizes of the notes", &count);
 }
 
 fn report(what: &str, count: &Count) {

@@ -1,8 +1,9 @@
 -- complete meets its contract.
 use borrow.Author.Needs.{needs}
+use Rattle.memory.proofs.Says.{passes, refuses}
 use Rattle.wire.proofs.Memory.{loaded-fits, loaded-count}
-use Rattle.screen.proofs.Held.{held}
-use Rattle.screen.proofs.RepliesLines.{lines-short, lines-replied}
+use Rattle.screen.proofs.Held.{held, unsound-memory, unsound-short}
+use Rattle.screen.proofs.RepliesLines.{lines-unsound, lines-replied}
 use Rattle.screen.proofs.complete.Statement.{statement}
 use Rattle.screen.proofs.complete.Tie as tie
 
@@ -13,7 +14,7 @@ complete-spec =
     {- no-lines-requires -}
     (λ c κs. search needs)
     {- returns -}
-    (λ c. lines-short (c .before .if1 .taken) (c .no-lines .ensures))
+    (λ c. lines-unsound (unsound-short (c .before .if1 .taken)) (c .no-lines .ensures))
     {- slice-aggregate-load -}
     (λ c. search needs)
     {- load-requires -}
@@ -22,15 +23,25 @@ complete-spec =
     (λ c κs. search needs)
     {- array-share-prefix-memory -}
     (λ c. loaded-fits (c .before .before .load .ensures))
-    {- slice-aggregate-complete -}
+    {- slice-aggregate-is-sound-small -}
     (λ c. loaded-count (c .before .before .before .load .ensures))
-    {- complete-requires -}
+    {- is-sound-small-requires -}
     (λ c κs. search needs)
+    {- no-lines-requires-2 -}
+    (λ c κs. search needs)
+    {- returns-2 -}
+    (λ c. lines-unsound (unsound-memory _ (held (c .before .before .before .before .before .before .before .before .if1 .left) (c .before .before .before .before .table-of .ensures) (c .before .before .before .before .before .before .load .ensures .words)) (refuses (c .before .before .is-sound-small .result) (c .before .before .is-sound-small .ensures) (c .before .if2 .taken))) (c .no-lines2 .ensures))
+    {- array-share-prefix-memory-2 -}
+    (λ c. loaded-fits (c .before .before .before .before .before .load .ensures))
+    {- slice-aggregate-complete-sound -}
+    (λ c. loaded-count (c .before .before .before .before .before .before .load .ensures))
+    {- complete-sound-requires -}
+    (λ c κs. passes (c .before .before .before .before .is-sound-small .result) (c .before .before .before .before .is-sound-small .ensures) (c .before .before .before .if2 .left))
     {- lines-reply-requires -}
     (λ c κs. search needs)
     {- same-length -}
     (λ c. search needs)
     {- same-length-2 -}
     (λ c. search needs)
-    {- returns-2 -}
-    (λ c. lines-replied (c .before .before .before .before .before .complete .result) (held (c .before .before .before .before .before .before .before .before .before .before .before .before .before .if1 .left) (c .before .before .before .before .before .before .before .before .before .table-of .ensures) (c .before .before .before .before .before .before .before .before .before .before .before .load .ensures .words)) (c .before .before .before .before .before .complete .ensures) (c .lines-reply .ensures)))
+    {- returns-3 -}
+    (λ c. lines-replied (c .before .before .before .before .before .complete-sound .result) (held (c .before .before .before .before .before .before .before .before .before .before .before .before .before .before .before .before .if1 .left) (c .before .before .before .before .before .before .before .before .before .before .before .before .table-of .ensures) (c .before .before .before .before .before .before .before .before .before .before .before .before .before .before .load .ensures .words)) (c .before .before .before .before .before .complete-sound .ensures) (c .lines-reply .ensures)))

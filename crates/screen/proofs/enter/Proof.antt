@@ -1,9 +1,10 @@
 -- enter meets its contract.
 use mathlib.Core.Path.{ap}
 use borrow.Author.Needs.{needs}
+use Rattle.memory.proofs.Says.{passes, refuses}
 use Rattle.table.specs.Registrations.{refusal-of}
-use Rattle.screen.proofs.Held.{held}
-use Rattle.screen.proofs.Replies.{store-fits, reply-accepted, reply-refused}
+use Rattle.screen.proofs.Held.{held, unsound-memory}
+use Rattle.screen.proofs.Replies.{store-fits, reply-unsound, reply-accepted, reply-refused}
 use Rattle.screen.proofs.enter.Statement.{statement}
 use Rattle.screen.proofs.enter.Tie as tie
 
@@ -13,8 +14,18 @@ enter-spec =
     (tie.spec
     {- table-of-requires -}
     (λ c κs. search needs)
-    {- register-requires -}
+    {- is-sound-small-requires -}
     (λ c κs. search needs)
+    {- same-length -}
+    (λ c. search needs)
+    {- same-length-2 -}
+    (λ c. search needs)
+    {- same-length-3 -}
+    (λ c. search needs)
+    {- returns -}
+    (λ c. reply-unsound (unsound-memory _ (held (c .before .before .before .before .before .before .before .before .before .before .before .before .before .pre .0) (c .before .before .before .before .table-of .ensures) (c .before .before .before .before .before .before .before .before .before .before .before .before .before .pre .1)) (refuses (c .before .is-sound-small .result) (c .before .is-sound-small .ensures) (c .if1 .taken))))
+    {- register-sound-requires -}
+    (λ c κs. passes (c .before .before .before .is-sound-small .result) (c .before .before .before .is-sound-small .ensures) (c .before .before .if1 .left))
     {- enum-told -}
     (λ c. search needs)
     {- cast-from -}
@@ -26,23 +37,15 @@ enter-spec =
     {- mul-to -}
     (λ c. search needs)
     {- store-requires -}
-    (λ c κs. store-fits (held (c .before .before .before .before .before .before .before .before .before .before .before .before .before .before .before .before .before .before .before .before .before .before .before .pre .0) (c .before .before .before .before .before .before .before .before .before .before .before .before .before .before .table-of .ensures) (c .before .before .before .before .before .before .before .before .before .before .before .before .before .before .before .before .before .before .before .before .before .before .before .pre .1)) (c .before .before .before .before .before .before .before .before .before .before .before .register .ensures) (ap refusal-of (c .before .before .before .before .enum-told .given .1)) (c .before .before .before .before .before .before .before .before .before .before .before .register .kept .1 .0))
+    (λ c κs. store-fits (held (c .before .before .before .before .before .before .before .before .before .before .before .before .before .before .before .before .before .before .before .before .before .before .before .before .before .before .before .pre .0) (c .before .before .before .before .before .before .before .before .before .before .before .before .before .before .before .before .before .before .table-of .ensures) (c .before .before .before .before .before .before .before .before .before .before .before .before .before .before .before .before .before .before .before .before .before .before .before .before .before .before .before .pre .1)) (passes (c .before .before .before .before .before .before .before .before .before .before .before .before .before .before .before .is-sound-small .result) (c .before .before .before .before .before .before .before .before .before .before .before .before .before .before .before .is-sound-small .ensures) (c .before .before .before .before .before .before .before .before .before .before .before .before .before .before .if1 .left)) (c .before .before .before .before .before .before .before .before .before .before .before .register-sound .ensures) (ap refusal-of (c .before .before .before .before .enum-told .given .1)) (c .before .before .before .before .before .before .before .before .before .before .before .register-sound .kept .1 .0))
     {- put-header-requires -}
-    (λ c κs. c .before .before .before .before .before .before .before .before .before .before .before .before .before .before .before .before .before .before .before .before .before .before .before .before .before .before .before .pre .0)
+    (λ c κs. c .before .before .before .before .before .before .before .before .before .before .before .before .before .before .before .before .before .before .before .before .before .before .before .before .before .before .before .before .before .before .before .pre .0)
     {- enum-known-a -}
     (λ c. search needs)
     {- number-requires -}
     (λ c κs. search needs)
-    {- same-length -}
-    (λ c. search needs)
-    {- same-length-2 -}
-    (λ c. search needs)
-    {- same-length-3 -}
-    (λ c. search needs)
     {- same-length-4 -}
     (λ c. search needs)
-    {- returns -}
-    (λ c. reply-accepted (held (c .before .before .before .before .before .before .before .before .before .before .before .before .before .before .before .before .before .before .before .before .before .before .before .before .before .before .before .before .before .before .pre .0) (c .before .before .before .before .before .before .before .before .before .before .before .before .before .before .before .before .before .before .before .before .before .table-of .ensures) (c .before .before .before .before .before .before .before .before .before .before .before .before .before .before .before .before .before .before .before .before .before .before .before .before .before .before .before .before .before .before .pre .1)) (c .before .before .before .before .before .before .before .before .before .before .before .before .before .before .before .before .before .before .register .ensures) (ap refusal-of (c .before .before .before .before .before .before .before .before .before .before .before .enum-told .given .1)) (c .before .before .before .before .before .before .store .ensures) (c .before .before .put-header .ensures))
     {- same-length-5 -}
     (λ c. search needs)
     {- same-length-6 -}
@@ -50,4 +53,12 @@ enter-spec =
     {- same-length-7 -}
     (λ c. search needs)
     {- returns-2 -}
-    (λ c. reply-refused (held (c .before .before .before .before .before .before .before .before .before .before .before .before .before .before .before .before .before .before .before .before .before .pre .0) (c .before .before .before .before .before .before .before .before .before .before .before .before .table-of .ensures) (c .before .before .before .before .before .before .before .before .before .before .before .before .before .before .before .before .before .before .before .before .before .pre .1)) (c .before .before .before .before .before .before .before .before .before .register .ensures) (ap refusal-of (c .before .before .a .given .1)) (c .number .ensures)))
+    (λ c. reply-accepted (held (c .before .before .before .before .before .before .before .before .before .before .before .before .before .before .before .before .before .before .before .before .before .before .before .before .before .before .before .before .before .before .before .before .before .before .pre .0) (c .before .before .before .before .before .before .before .before .before .before .before .before .before .before .before .before .before .before .before .before .before .before .before .before .before .table-of .ensures) (c .before .before .before .before .before .before .before .before .before .before .before .before .before .before .before .before .before .before .before .before .before .before .before .before .before .before .before .before .before .before .before .before .before .before .pre .1)) (passes (c .before .before .before .before .before .before .before .before .before .before .before .before .before .before .before .before .before .before .before .before .before .before .is-sound-small .result) (c .before .before .before .before .before .before .before .before .before .before .before .before .before .before .before .before .before .before .before .before .before .before .is-sound-small .ensures) (c .before .before .before .before .before .before .before .before .before .before .before .before .before .before .before .before .before .before .before .before .before .if1 .left)) (c .before .before .before .before .before .before .before .before .before .before .before .before .before .before .before .before .before .before .register-sound .ensures) (ap refusal-of (c .before .before .before .before .before .before .before .before .before .before .before .enum-told .given .1)) (c .before .before .before .before .before .before .store .ensures) (c .before .before .put-header .ensures))
+    {- same-length-8 -}
+    (λ c. search needs)
+    {- same-length-9 -}
+    (λ c. search needs)
+    {- same-length-10 -}
+    (λ c. search needs)
+    {- returns-3 -}
+    (λ c. reply-refused (held (c .before .before .before .before .before .before .before .before .before .before .before .before .before .before .before .before .before .before .before .before .before .before .before .before .before .pre .0) (c .before .before .before .before .before .before .before .before .before .before .before .before .before .before .before .before .table-of .ensures) (c .before .before .before .before .before .before .before .before .before .before .before .before .before .before .before .before .before .before .before .before .before .before .before .before .before .pre .1)) (passes (c .before .before .before .before .before .before .before .before .before .before .before .before .before .is-sound-small .result) (c .before .before .before .before .before .before .before .before .before .before .before .before .before .is-sound-small .ensures) (c .before .before .before .before .before .before .before .before .before .before .before .before .if1 .left)) (c .before .before .before .before .before .before .before .before .before .register-sound .ensures) (ap refusal-of (c .before .before .a .given .1)) (c .number .ensures)))

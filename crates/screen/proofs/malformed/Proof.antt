@@ -1,8 +1,8 @@
 -- malformed meets its contract.
 use borrow.Author.Needs.{needs}
 use Rattle.wire.proofs.Memory.{loaded-fits, loaded-count}
-use Rattle.screen.proofs.Held.{held}
-use Rattle.screen.proofs.Replies.{reply-short, reply-none}
+use Rattle.screen.proofs.Held.{held, unsound-short}
+use Rattle.screen.proofs.Replies.{reply-unsound, reply-none}
 use Rattle.screen.proofs.malformed.Statement.{statement}
 use Rattle.screen.proofs.malformed.Tie as tie
 
@@ -11,7 +11,7 @@ malformed-spec =
     tie.close
     (tie.spec
     {- returns -}
-    (λ c. reply-short (c .if1 .taken))
+    (λ c. reply-unsound (unsound-short (c .if1 .taken)))
     {- slice-aggregate-load -}
     (λ c. search needs)
     {- load-requires -}
@@ -20,11 +20,11 @@ malformed-spec =
     (λ c κs. search needs)
     {- array-share-prefix-memory -}
     (λ c. loaded-fits (c .before .before .load .ensures))
-    {- slice-aggregate-is-sound -}
+    {- slice-aggregate-is-sound-small -}
     (λ c. loaded-count (c .before .before .before .load .ensures))
-    {- is-sound-requires -}
+    {- is-sound-small-requires -}
     (λ c κs. search needs)
     {- returns-2 -}
-    (λ c. reply-none (c .before .is-sound .result) (held (c .before .before .before .before .before .before .before .if1 .left) (c .before .before .before .table-of .ensures) (c .before .before .before .before .before .load .ensures .words)) (c .before .is-sound .ensures) (rw (c .if2 .taken)))
+    (λ c. reply-none (c .before .is-sound-small .result) (held (c .before .before .before .before .before .before .before .if1 .left) (c .before .before .before .table-of .ensures) (c .before .before .before .before .before .load .ensures .words)) (c .before .is-sound-small .ensures) (rw (c .if2 .taken)))
     {- returns-3 -}
-    (λ c. reply-none (c .before .is-sound .result) (held (c .before .before .before .before .before .before .before .if1 .left) (c .before .before .before .table-of .ensures) (c .before .before .before .before .before .load .ensures .words)) (c .before .is-sound .ensures) (rw (c .if2 .left))))
+    (λ c. reply-none (c .before .is-sound-small .result) (held (c .before .before .before .before .before .before .before .if1 .left) (c .before .before .before .table-of .ensures) (c .before .before .before .before .before .load .ensures .words)) (c .before .is-sound-small .ensures) (rw (c .if2 .left))))

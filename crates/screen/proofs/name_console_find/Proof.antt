@@ -1,8 +1,9 @@
 -- name_console_find meets its contract.
 use borrow.Author.Needs.{needs}
+use Rattle.memory.proofs.Says.{passes, refuses}
 use Rattle.wire.proofs.Memory.{loaded-fits, loaded-count}
-use Rattle.screen.proofs.Held.{held}
-use Rattle.screen.proofs.RepliesModule.{name-short, name-looked}
+use Rattle.screen.proofs.Held.{held, unsound-memory, unsound-short}
+use Rattle.screen.proofs.RepliesModule.{name-unsound, name-looked}
 use Rattle.screen.proofs.name_console_find.Statement.{statement}
 use Rattle.screen.proofs.name_console_find.Tie as tie
 
@@ -13,7 +14,7 @@ name-console-find-spec =
     {- no-name-requires -}
     (λ c κs. search needs)
     {- returns -}
-    (λ c. name-short (c .before .if1 .taken) (c .no-name .ensures))
+    (λ c. name-unsound (unsound-short (c .before .if1 .taken)) (c .no-name .ensures))
     {- slice-aggregate-load -}
     (λ c. search needs)
     {- load-requires -}
@@ -22,11 +23,21 @@ name-console-find-spec =
     (λ c κs. search needs)
     {- array-share-prefix-memory -}
     (λ c. loaded-fits (c .before .before .load .ensures))
-    {- slice-aggregate-find -}
+    {- slice-aggregate-is-sound-small -}
     (λ c. loaded-count (c .before .before .before .load .ensures))
-    {- find-requires -}
+    {- is-sound-small-requires -}
     (λ c κs. search needs)
-    {- name-reply-requires -}
+    {- no-name-requires-2 -}
     (λ c κs. search needs)
     {- returns-2 -}
-    (λ c. name-looked (held (c .before .before .before .before .before .before .before .if1 .left) (c .before .before .before .table-of .ensures) (c .before .before .before .before .before .load .ensures .words)) (c .before .find .ensures) (c .name-reply .ensures)))
+    (λ c. name-unsound (unsound-memory _ (held (c .before .before .before .before .before .before .before .before .if1 .left) (c .before .before .before .before .table-of .ensures) (c .before .before .before .before .before .before .load .ensures .words)) (refuses (c .before .before .is-sound-small .result) (c .before .before .is-sound-small .ensures) (c .before .if2 .taken))) (c .no-name2 .ensures))
+    {- array-share-prefix-memory-2 -}
+    (λ c. loaded-fits (c .before .before .before .before .before .load .ensures))
+    {- slice-aggregate-find-sound -}
+    (λ c. loaded-count (c .before .before .before .before .before .before .load .ensures))
+    {- find-sound-requires -}
+    (λ c κs. passes (c .before .before .is-sound-small .result) (c .before .before .is-sound-small .ensures) (c .before .if2 .left))
+    {- name-reply-requires -}
+    (λ c κs. search needs)
+    {- returns-3 -}
+    (λ c. name-looked (held (c .before .before .before .before .before .before .before .before .before .before .if1 .left) (c .before .before .before .before .before .before .table-of .ensures) (c .before .before .before .before .before .before .before .before .load .ensures .words)) (c .before .find-sound .ensures) (c .name-reply .ensures)))

@@ -1,8 +1,9 @@
 -- name_console_find_module meets its contract.
 use borrow.Author.Needs.{needs}
+use Rattle.memory.proofs.Says.{passes, refuses}
 use Rattle.wire.proofs.Memory.{loaded-fits, loaded-count}
-use Rattle.screen.proofs.Held.{held}
-use Rattle.screen.proofs.RepliesModule.{module-short, module-looked}
+use Rattle.screen.proofs.Held.{held, unsound-memory, unsound-short}
+use Rattle.screen.proofs.RepliesModule.{module-unsound, module-looked}
 use Rattle.screen.proofs.name_console_find_module.Statement.{statement}
 use Rattle.screen.proofs.name_console_find_module.Tie as tie
 
@@ -13,7 +14,7 @@ name-console-find-module-spec =
     {- no-module-requires -}
     (λ c κs. search needs)
     {- returns -}
-    (λ c. module-short (c .before .if1 .taken) (c .no-module .ensures))
+    (λ c. module-unsound (unsound-short (c .before .if1 .taken)) (c .no-module .ensures))
     {- slice-aggregate-load -}
     (λ c. search needs)
     {- load-requires -}
@@ -22,11 +23,21 @@ name-console-find-module-spec =
     (λ c κs. search needs)
     {- array-share-prefix-memory -}
     (λ c. loaded-fits (c .before .before .load .ensures))
-    {- slice-aggregate-find-module -}
+    {- slice-aggregate-is-sound-small -}
     (λ c. loaded-count (c .before .before .before .load .ensures))
-    {- find-module-requires -}
+    {- is-sound-small-requires -}
     (λ c κs. search needs)
-    {- module-reply-requires -}
+    {- no-module-requires-2 -}
     (λ c κs. search needs)
     {- returns-2 -}
-    (λ c. module-looked (held (c .before .before .before .before .before .before .before .if1 .left) (c .before .before .before .table-of .ensures) (c .before .before .before .before .before .load .ensures .words)) (c .before .find-module .ensures) (c .module-reply .ensures)))
+    (λ c. module-unsound (unsound-memory _ (held (c .before .before .before .before .before .before .before .before .if1 .left) (c .before .before .before .before .table-of .ensures) (c .before .before .before .before .before .before .load .ensures .words)) (refuses (c .before .before .is-sound-small .result) (c .before .before .is-sound-small .ensures) (c .before .if2 .taken))) (c .no-module2 .ensures))
+    {- array-share-prefix-memory-2 -}
+    (λ c. loaded-fits (c .before .before .before .before .before .load .ensures))
+    {- slice-aggregate-find-module-sound -}
+    (λ c. loaded-count (c .before .before .before .before .before .before .load .ensures))
+    {- find-module-sound-requires -}
+    (λ c κs. passes (c .before .before .is-sound-small .result) (c .before .before .is-sound-small .ensures) (c .before .if2 .left))
+    {- module-reply-requires -}
+    (λ c κs. search needs)
+    {- returns-3 -}
+    (λ c. module-looked (held (c .before .before .before .before .before .before .before .before .before .before .if1 .left) (c .before .before .before .before .before .before .table-of .ensures) (c .before .before .before .before .before .before .before .before .load .ensures .words)) (c .before .find-module-sound .ensures) (c .module-reply .ensures)))

@@ -1,7 +1,8 @@
 -- register meets its contract.
 use borrow.Author.Needs.{needs}
 use Rattle.wire.proofs.Memory.{loaded-fits, loaded-count}
-use Rattle.screen.proofs.Replies.{reply-short}
+use Rattle.screen.proofs.Held.{unsound-short}
+use Rattle.screen.proofs.Replies.{reply-unsound}
 use Rattle.screen.proofs.register.Statement.{statement}
 use Rattle.screen.proofs.register.Tie as tie
 
@@ -10,7 +11,7 @@ register-spec =
     tie.close
     (tie.spec
     {- returns -}
-    (λ c. reply-short (c .if1 .taken))
+    (λ c. reply-unsound (unsound-short (c .if1 .taken)))
     {- slice-aggregate-load -}
     (λ c. search needs)
     {- load-requires -}
