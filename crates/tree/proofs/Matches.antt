@@ -22,7 +22,7 @@ use Rattle.tree.proofs.Branches.{any-tree, no-tree, branch-reads}
 use Rattle.tree.proofs.Keep.{by-test, all-among, map-append, keep-append, keep-none, keep-all, keep-swap, all-keep, kept-pass, keep-increasing}
 use Rattle.tree.specs.Links.{BranchOf}
 use Rattle.tree.proofs.Links.{tree-ordered, branches-none, branches-at, branches-of, branches-rows, by-sides, all-before, all-beyond, branch-tree, among-branch}
-use Rattle.tree.proofs.Past.{by-order, prefix-past, past-of-prefix, past-begun}
+use Rattle.tree.proofs.Past.{by-order, prefix-past, past-of-prefix, past-begun, starts-self}
 use Rattle.memory.specs.Sound.{At}
 
 -- ---- The matches of a tree
@@ -151,25 +151,34 @@ first-begun key p (x ∷ l) i a =
     (ap head0 (keep-none key (λ k. starts-with k p) l (Allˡ-map {P = λ y. key x <ˢ key y} {Q = λ y. starts-with (key y) p ≡ false} l (λ y. past-begun p (key x) (key y) (a .0 .1) e) (i .0))))))
 
 module _ {ws txt : List ℕ} {root : ℕ} (a : AnyTree ws txt root) where
-  -- The first match past a bound is the first branch past it, or there is none.
-  pub match-begun : (strict : Bool) (low p : Str) → starts-with low p ≡ true
-      → begun (key-at ws txt) p (head0 (keep (key-at ws txt) (past strict low) (branches ws root))) ≡ head0 (keep (key-at ws txt) (past strict low) (matches ws txt root p))
-  unfolding matches
-  match-begun strict low p s =
-      let b = past strict low in
-      let l = keep (key-at ws txt) b (branches ws root) in
-      let some : Allˡ (λ y. 0 < y) l = all-keep (key-at ws txt) (λ y. 0 < y) b (branches ws root) (Allˡ-map {P = BranchOf ws (a .which) (a .level) root} {Q = λ y. b (key-at ws txt y) ≡ true → 0 < y} (branches ws root) (λ y o _. o .some) (branches-of root (a .tree))) in
-      sym (first-begun (key-at ws txt) p l (keep-increasing (key-at ws txt) b (branches ws root) (branches-increasing (a .tree)))
-      (Allˡ-zip {P = λ y. 0 < y} {Q = λ y. b (key-at ws txt y) ≡ true} {R = λ y. (0 < y) × (past false p (key-at ws txt y) ≡ true)} l (λ y o e. (o, past-of-prefix strict low p (key-at ws txt y) s e)) some (kept-pass (key-at ws txt) b (branches ws root))))
-      ∙ ap head0 (keep-swap (key-at ws txt) (λ k. starts-with k p) b (branches ws root))
+  -- The branches past a bound are branches.
+  past-of : (strict : Bool) (low : Str) → Allˡ (BranchOf ws (a .which) (a .level) root) (keep (key-at ws txt) (past strict low) (branches ws root))
+  past-of strict low =
+      all-keep (key-at ws txt) (BranchOf ws (a .which) (a .level) root) (past strict low) (branches ws root)
+      (Allˡ-map {P = BranchOf ws (a .which) (a .level) root} {Q = λ y. past strict low (key-at ws txt y) ≡ true → BranchOf ws (a .which) (a .level) root y} (branches ws root) (λ y o _. o) (branches-of root (a .tree)))
 
-  -- The first of some branches is a tree too.
-  pub first-tree : (strict : Bool) (low : Str) → AnyTree ws txt (head0 (keep (key-at ws txt) (past strict low) (branches ws root)))
-  first-tree strict low = go (keep (key-at ws txt) (past strict low) (branches ws root)) kept
+  -- The first of them is a tree.
+  pub first-tree : (strict : Bool) (low : Str) {x : ℕ} → x ≡ head0 (keep (key-at ws txt) (past strict low) (branches ws root)) → AnyTree ws txt x
+  first-tree strict low e = rw e (go (keep (key-at ws txt) (past strict low) (branches ws root)) (past-of strict low))
     where
-      kept : Allˡ (BranchOf ws (a .which) (a .level) root) (keep (key-at ws txt) (past strict low) (branches ws root))
-      kept = all-keep (key-at ws txt) (BranchOf ws (a .which) (a .level) root) (past strict low) (branches ws root) (Allˡ-map {P = BranchOf ws (a .which) (a .level) root} {Q = λ y. past strict low (key-at ws txt y) ≡ true → BranchOf ws (a .which) (a .level) root y} (branches ws root) (λ y o _. o) (branches-of root (a .tree)))
-
       go : (l : List ℕ) → Allˡ (BranchOf ws (a .which) (a .level) root) l → AnyTree ws txt (head0 l)
       go [] o = no-tree a
-      go (x ∷ l) o = branch-tree (a .tree) (o .0)
+      go (y ∷ l) o = branch-tree (a .tree) (o .0)
+
+  -- The first match past a bound is the first branch past it, or there is none.
+  pub next-is : (strict : Bool) (low p : Str) → starts-with low p ≡ true → {x r : ℕ} → x ≡ head0 (keep (key-at ws txt) (past strict low) (branches ws root)) → r ≡ begun (key-at ws txt) p x
+      → r ≡ head0 (keep (key-at ws txt) (past strict low) (matches ws txt root p))
+  unfolding matches
+  next-is strict low p s e f =
+      let b = past strict low in
+      let l = keep (key-at ws txt) b (branches ws root) in
+      f
+      ∙ ap (begun (key-at ws txt) p) e
+      ∙ sym (first-begun (key-at ws txt) p l (keep-increasing (key-at ws txt) b (branches ws root) (branches-increasing (a .tree)))
+      (Allˡ-zip {P = BranchOf ws (a .which) (a .level) root} {Q = λ y. b (key-at ws txt y) ≡ true} {R = λ y. (0 < y) × (past false p (key-at ws txt y) ≡ true)} l
+      (λ y o h. (o .some, past-of-prefix strict low p (key-at ws txt y) s h)) (past-of strict low) (kept-pass (key-at ws txt) b (branches ws root))))
+      ∙ ap head0 (keep-swap (key-at ws txt) (λ k. starts-with k p) b (branches ws root))
+
+  -- The first match is the first branch past the prefix, or there is none.
+  pub first-is : (p : Str) {x r : ℕ} → x ≡ head0 (keep (key-at ws txt) (past false p) (branches ws root)) → r ≡ begun (key-at ws txt) p x → r ≡ head0 (matches ws txt root p)
+  first-is p e f = next-is false p p (starts-self p) e f ∙ ap head0 (matches-past ws txt p root)

@@ -1,9 +1,8 @@
 -- tree_next meets its contract: the next match is the branch after the last one.
-use mathlib.Core.Path.{_∙_}
 use mathlib.Core.Bool.{true}
 use borrow.Author.Needs.{needs}
 use Rattle.memory.specs.Layout.{key-at}
-use Rattle.tree.proofs.Matches.{match-begun, first-tree}
+use Rattle.tree.proofs.Matches.{first-tree, next-is}
 use Rattle.tree.proofs.tree_next.Statement.{statement}
 use Rattle.tree.proofs.tree_next.Tie as tie
 
@@ -14,9 +13,6 @@ tree-next-spec =
     {- branch-after-requires -}
     (λ c κs. search needs)
     {- begun-requires -}
-    (λ c κs. let s = c .before .before .before .before .args in rw (c .branch-after .ensures) (first-tree (c .before .before .before .before .pre .0) true (key-at (s .words .now) (s .text .now) (s .at))))
+    (λ c κs. let s = c .before .before .before .before .args in first-tree (c .before .before .before .before .pre .0) true (key-at (s .words .now) (s .text .now) (s .at)) (c .branch-after .ensures))
     {- returns -}
-    (λ c.
-    let s = c .before .before .before .before .before .args in
-    rw (c .before .branch-after .ensures) at (c .begun .ensures)
-    ∙ match-begun (c .before .before .before .before .before .pre .0) true (key-at (s .words .now) (s .text .now) (s .at)) (s .prefix .now) (c .before .before .before .before .before .pre .1 .1)))
+    (λ c. let s = c .before .before .before .before .before .args in next-is (c .before .before .before .before .before .pre .0) true (key-at (s .words .now) (s .text .now) (s .at)) (s .prefix .now) (c .before .before .before .before .before .pre .1 .1) (c .before .branch-after .ensures) (c .begun .ensures)))
