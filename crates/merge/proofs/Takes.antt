@@ -27,7 +27,7 @@ use Rattle.tree.specs.Links.{branches, head0}
 use Rattle.names.specs.Entries.{Entry, entry-key}
 use Rattle.merge.specs.Stream.{later, run-at, left, Holding, state, TookCell, TookIn, Takes, CellsReady}
 use Rattle.merge.specs.declared.Taken.{Taken}
-use Rattle.merge.proofs.Cells.{Next, later-end, later-next, branch-tree, branch-head, cell-tree, next-branch, stands, remaining-less}
+use Rattle.merge.proofs.Cells.{Next, later-end, later-next, branch-head, cell-tree, next-branch, stands, remaining-less}
 use Rattle.memory.proofs.At.{no-link}
 
 -- A cell's lists before and after a change of another cell.
