@@ -1,17 +1,20 @@
--- The least branch of a tree, and the least whose key is past a bound, each by one way down.
+-- The least branch of a tree, the least whose key is past a bound, and the one after another, each by one way down.
 use Prim.Native.Nat.{ℕ, _≤_, _<_}
 use mathlib.Core.Path.{_≡_, refl, sym, _∙_}
-use mathlib.Core.Bool.{Bool, true, false}
-use mathlib.Core.List.{List, [], _∷_, _++_}
+use mathlib.Core.Bool.{Bool, true, false, true≢false}
+use mathlib.Core.Logic.{⊎-elim}
+use mathlib.Core.List.{List, [], _∷_, _++_, List·Memᴰ, List·Memᴰ·not-nil, List·Memᴰ·cases-cons, List·Memᴰ·append-cases}
 use native.Mathlib.Omega.{arith}
 use Rattle.source.specs.Text.{Str}
+use Rattle.source.specs.Rules.{_<ˢ_}
 use Rattle.memory.specs.Layout.{record-at, key-at, left-link, right-link}
+use Rattle.memory.proofs.RecordOk.{zero-some}
 use Rattle.tree.specs.Tree.{AnyTree}
 use Rattle.tree.specs.Links.{branches, keep, past, head0}
 use Rattle.tree.proofs.Branches.{any-left, any-right}
-use Rattle.tree.proofs.Keep.{keep-append, keep-none}
-use Rattle.tree.proofs.Links.{branches-none, branches-at, all-before}
-use Rattle.tree.proofs.Past.{past-down}
+use Rattle.tree.proofs.Keep.{all-at, keep-append, keep-none}
+use Rattle.tree.proofs.Links.{branches-none, branches-at, all-before, all-beyond, among-branch}
+use Rattle.tree.proofs.Past.{past-low, past-after, past-down, past-self}
 
 -- The first element, d where there is none.
 abbrev first : ℕ → List ℕ → ℕ
@@ -81,3 +84,65 @@ module _ {ws txt : List ℕ} (strict : Bool) (low : Str) {root link found : ℕ}
     says = g .says ∙ here
         ∙ rw (e, q, keep-none (key-at ws txt) (past strict low) (branches ws left) (all-before (g .any) p (λ y. past strict low y ≡ false) (λ y. past-down strict low (key-at ws txt link) y e)));
   }
+
+-- ---- The branch after one with no right side
+
+module _ {ws txt : List ℕ} {link at : ℕ} (a : AnyTree ws txt link) (m : List·Memᴰ at (branches ws link)) where
+  pub among-some : 0 < link
+  among-some = zero-some link (λ z. absurd (List·Memᴰ·not-nil (rw (z, branches-none ws) at m))) (λ p. p)
+
+  pub among-earlier : at ≤ link
+  among-earlier = omega (arith, among-branch (a .tree) m .link .earlier)
+
+module _ {ws txt : List ℕ} {link at : ℕ} (a : AnyTree ws txt link) (m : List·Memᴰ at (branches ws link)) (n : link ≡ at → ⊥) where
+  -- The branch is on the left and its key before that of link, or on the right and after it.
+  by-side : {G : Type 0} → (List·Memᴰ at (branches ws (left-link (record-at ws link))) → past true (key-at ws txt at) (key-at ws txt link) ≡ true → G)
+      → (List·Memᴰ at (branches ws (right-link (record-at ws link))) → past true (key-at ws txt at) (key-at ws txt link) ≡ false → G) → G
+  by-side f g =
+      let p = among-some a m in
+      let k = key-at ws txt link in
+      let left = left-link (record-at ws link) in
+      let right = right-link (record-at ws link) in
+      ⊎-elim
+      (λ i. f i (past-after true (key-at ws txt at) k (all-at (λ y. key-at ws txt y <ˢ k) (branches ws left) (all-before a p (λ y. y <ˢ k) (λ y z. z)) at i)))
+      (λ i. ⊎-elim
+      (λ e. absurd (n (sym e)))
+      (λ j. g j (past-low true (key-at ws txt at) k (all-at (λ y. k <ˢ key-at ws txt y) (branches ws right) (all-beyond a p (λ y. k <ˢ y) (λ y z. z)) at j)))
+      (List·Memᴰ·cases-cons i))
+      (List·Memᴰ·append-cases (branches ws left) (rw (branches-at (a .tree) p) at m))
+
+  -- The sides' links tell.
+  pub left-by : right-link (record-at ws link) < at → true ≡ past true (key-at ws txt at) (key-at ws txt link)
+  left-by h = by-side (λ i e. sym e) (λ j e. absurd (omega (arith, among-earlier (any-right a (among-some a m)) j)))
+
+  pub right-by : left-link (record-at ws link) < at → false ≡ past true (key-at ws txt at) (key-at ws txt link)
+  right-by h = by-side (λ i e. absurd (omega (arith, among-earlier (any-left a (among-some a m)) i))) (λ j e. sym e)
+
+  among-left : past true (key-at ws txt at) (key-at ws txt link) ≡ true → List·Memᴰ at (branches ws (left-link (record-at ws link)))
+  among-left h = by-side (λ i e. i) (λ j e. absurd (true≢false (sym h ∙ e)))
+
+  among-right : past true (key-at ws txt at) (key-at ws txt link) ≡ false → List·Memᴰ at (branches ws (right-link (record-at ws link)))
+  among-right h = by-side (λ i e. absurd (true≢false (sym e ∙ h))) (λ j e. j)
+
+-- A way down to the branch at stands at link.
+pub record Nearing (ws txt : List ℕ) (root at link found : ℕ) : Type 0 where
+  pub among : List·Memᴰ at (branches ws link)
+  pub seeking : Seeking ws txt (passing ws txt true (key-at ws txt at)) root link found
+
+pub near-all : {ws txt : List ℕ} {root at : ℕ} → AnyTree ws txt root → List·Memᴰ at (branches ws root) → Nearing ws txt root at root 0
+near-all {ws} {txt} {at = at} a m = record { among = m; seeking = seek-all (passing ws txt true (key-at ws txt at)) a }
+
+module _ {ws txt : List ℕ} {root at link found : ℕ} (g : Nearing ws txt root at link found) where
+  pub near-some : 0 < link
+  near-some = among-some (g .seeking .any) (g .among)
+
+  module _ (n : link ≡ at → ⊥) where
+    pub near-left : {k : ℕ} → past true (key-at ws txt at) (key-at ws txt link) ≡ true → k ≡ left-link (record-at ws link) → Nearing ws txt root at k link
+    near-left e q = record { among = rw q (among-left (g .seeking .any) (g .among) n e); seeking = past-left true (key-at ws txt at) (g .seeking) near-some e q }
+
+    pub near-right : {k : ℕ} → past true (key-at ws txt at) (key-at ws txt link) ≡ false → k ≡ right-link (record-at ws link) → Nearing ws txt root at k found
+    near-right e q = record { among = rw q (among-right (g .seeking .any) (g .among) n e); seeking = past-right true (key-at ws txt at) (g .seeking) near-some e q }
+
+-- At the branch: nothing of its tree is after it.
+pub near-end : {ws txt : List ℕ} {root at found : ℕ} → Nearing ws txt root at at found → right-link (record-at ws at) ≡ 0 → found ≡ head0 (passing ws txt true (key-at ws txt at) root)
+near-end {ws} {txt} {at = at} g e = sym (past-right true (key-at ws txt at) (g .seeking) (near-some g) (past-self (key-at ws txt at)) refl .says ∙ rw (e, passing-none ws txt true (key-at ws txt at)))

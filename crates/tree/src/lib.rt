@@ -2,13 +2,13 @@
 // A tree is the link of its root; the same functions serve both tables and both levels.
 use text::Order;
 ghost use mathlib.Core.Path.{_≡_};
-ghost use mathlib.Core.Bool.{true};
+ghost use mathlib.Core.Bool.{true, false};
 ghost use mathlib.Core.List.{List·Memᴰ};
 ghost use Prim.Native.Nat.{_+_, _*_, _≤_, _<_, max};
 ghost use lib.ListN.{length};
 ghost use Rattle.source.specs.Limits.{most-used, record-words};
 ghost use Rattle.source.specs.Text.{string-compare, starts-with};
-ghost use Rattle.memory.specs.Layout.{key-at, kind-word, trie-link};
+ghost use Rattle.memory.specs.Layout.{record-at, right-link, key-at, kind-word, trie-link};
 ghost use Rattle.text.specs.Text.{ordering};
 ghost use Rattle.tree.specs.Tree.{AnyTree, Found, Builds, Placed};
 ghost use Rattle.tree.specs.Insert.{of-namespaces, branch-depth, DepthOk, with-sides, raised-row, RaiseOk, lowest-row, LowestOk, Noted, Marked, AnyInsertion, Inserts};
@@ -87,15 +87,15 @@ pub fn key_past(words: &[u32], text: &[u8], link: u32, low: &[u8], strict: bool)
     }
 }
 
-// The branch with the least key past `low`, 0 for none.
-fn least_past(words: &[u32], text: &[u8], root: u32, low: &[u8], strict: bool) -> u32
+// The branch with the least key that is not before `low`, 0 for none.
+fn least_from(words: &[u32], text: &[u8], root: u32, low: &[u8]) -> u32
     requires { ⌜ AnyTree (now words) (now text) root ⌝ }
-    ensures { λ r. ⌜ r ≡ head0 (keep (key-at (now (words .entry)) (now (text .entry))) (past strict (now (low .entry))) (branches (now (words .entry)) root)) ⌝ }
+    ensures { λ r. ⌜ r ≡ head0 (keep (key-at (now (words .entry)) (now (text .entry))) (past false (now (low .entry))) (branches (now (words .entry)) root)) ⌝ }
 {
     let mut at = root;
     let mut found = 0;
     while 0 < at {
-        if key_past(words, text, at, low, strict) {
+        if key_past(words, text, at, low, false) {
             found = at;
             at = memory::left_of(words, at);
         } else {
@@ -119,7 +119,44 @@ fn least_of(words: &[u32], text: &[u8], root: u32) -> u32
     found
 }
 
-// The branch after the branch `at`, 0 for none: the least to its right, or where nothing is there the least past its key.
+// Whether the branch `at` of the tree of `link` is to the left of `link`. A link is no later than those above it, so that often the sides' links say it.
+fn is_left(words: &[u32], text: &[u8], link: u32, at: u32) -> bool
+    requires { ⌜ AnyTree (now words) (now text) link ⌝ }
+    requires { ⌜ List·Memᴰ at (branches (now words) link) ⌝ }
+    requires { ⌜ (link ≡ at → ⊥) ⌝ }
+    ensures { λ r. ⌜ r ≡ past true (key-at (now (words .entry)) (now (text .entry)) at) (key-at (now (words .entry)) (now (text .entry)) link) ⌝ }
+{
+    if memory::right_of(words, link) < at {
+        return true;
+    }
+    if memory::left_of(words, link) < at {
+        return false;
+    }
+    let key = memory::key_of(words, text, at);
+    key_past(words, text, link, key, true)
+}
+
+// The branch above `at` that is the nearest to have it to its left, 0 for none.
+fn branch_above(words: &[u32], text: &[u8], root: u32, at: u32) -> u32
+    requires { ⌜ AnyTree (now words) (now text) root ⌝ }
+    requires { ⌜ List·Memᴰ at (branches (now words) root) ⌝ }
+    requires { ⌜ right-link (record-at (now words) at) ≡ 0 ⌝ }
+    ensures { λ r. ⌜ r ≡ head0 (after (key-at (now (words .entry)) (now (text .entry))) (key-at (now (words .entry)) (now (text .entry)) at) (branches (now (words .entry)) root)) ⌝ }
+{
+    let mut link = root;
+    let mut found = 0;
+    while link != at {
+        if is_left(words, text, link, at) {
+            found = link;
+            link = memory::left_of(words, link);
+        } else {
+            link = memory::right_of(words, link);
+        }
+    }
+    found
+}
+
+// The branch after the branch `at`, 0 for none: the least to its right, or where nothing is there one above it.
 fn branch_after(words: &[u32], text: &[u8], root: u32, at: u32) -> u32
     requires { ⌜ AnyTree (now words) (now text) root ⌝ }
     requires { ⌜ List·Memᴰ at (branches (now words) root) ⌝ }
@@ -129,8 +166,7 @@ fn branch_after(words: &[u32], text: &[u8], root: u32, at: u32) -> u32
     if 0 < right {
         return least_of(words, text, right);
     }
-    let low = memory::key_of(words, text, at);
-    least_past(words, text, root, low, true)
+    branch_above(words, text, root, at)
 }
 
 // The branch `link` where its key begins with `prefix`, 0 where it does not.
@@ -152,7 +188,7 @@ pub fn tree_first(words: &[u32], text: &[u8], root: u32, prefix: &[u8]) -> u32
     requires { ⌜ AnyTree (now words) (now text) root ⌝ }
     ensures { λ r. ⌜ r ≡ head0 (matches (now (words .entry)) (now (text .entry)) root (now (prefix .entry))) ⌝ }
 {
-    let least = least_past(words, text, root, prefix, false);
+    let least = least_from(words, text, root, prefix);
     begun(words, text, least, prefix)
 }
 

@@ -1,7 +1,7 @@
 -- branch_after meets its contract: the right side comes next, where there is one.
 use mathlib.Core.Path.{_∙_}
-use borrow.Author.Needs.{needs}
-use Rattle.tree.proofs.Branches.{tree-fits, text-in, any-right}
+use native.Mathlib.Omega.{arith}
+use Rattle.tree.proofs.Branches.{tree-fits, any-right}
 use Rattle.tree.proofs.Links.{among-tree}
 use Rattle.tree.proofs.After.{right-next}
 use Rattle.tree.proofs.branch_after.Statement.{statement}
@@ -17,9 +17,7 @@ branch-after-spec =
     (λ c κs. let o = among-tree (c .before .before .before .before .pre .0) (c .before .before .before .before .pre .1) in rw (c .before .right-of .ensures) (any-right (o .1) (o .0)))
     {- returns -}
     (λ c. rw (c .before .before .right-of .ensures) at (c .least-of .ensures) ∙ right-next (c .before .before .before .before .before .pre .0) (c .before .before .before .before .before .pre .1) (rw (c .before .before .right-of .ensures) at (c .before .if1 .taken)))
-    {- key-of-requires -}
-    (λ c κs. let o = among-tree (c .before .before .before .before .pre .0) (c .before .before .before .before .pre .1) in text-in (o .1) (o .0))
-    {- least-past-requires -}
-    (λ c κs. search needs)
+    {- branch-above-requires -}
+    (λ c κs. (c .before .before .before .before .pre .0, (c .before .before .before .before .pre .1, omega (arith, c .before .right-of .ensures, c .if1 .left))))
     {- returns-2 -}
-    (λ c. rw (c .before .key-of .ensures) at (c .least-past .ensures)))
+    (λ c. c .branch-above .ensures))

@@ -9,9 +9,9 @@ pub tree-first-spec : {M : Type 1} → statement M
 tree-first-spec =
     tie.close
     (tie.spec
-    {- least-past-requires -}
+    {- least-from-requires -}
     (λ c κs. search needs)
     {- begun-requires -}
-    (λ c κs. first-tree (c .before .before .before .before .pre) false (c .before .before .before .before .args .prefix .now) (c .least-past .ensures))
+    (λ c κs. first-tree (c .before .before .before .before .pre) false (c .before .before .before .before .args .prefix .now) (c .least-from .ensures))
     {- returns -}
-    (λ c. first-is (c .before .before .before .before .before .pre) (c .before .before .before .before .before .args .prefix .now) (c .before .least-past .ensures) (c .begun .ensures)))
+    (λ c. first-is (c .before .before .before .before .before .pre) (c .before .before .before .before .before .args .prefix .now) (c .before .least-from .ensures) (c .begun .ensures)))
