@@ -19,7 +19,7 @@ pub all-append : {A : Type 0} (P : A → Type 0) (l m : List A) → Allˡ P l �
 all-append P [] m a b = b
 all-append P (x ∷ l) m a b = (a .0, all-append P l m (a .1) b)
 
-pub all-always : {A : Type 0} (P : A → Type 0) → ((x : A) → P x) → (l : List A) → Allˡ P l
+all-always : {A : Type 0} (P : A → Type 0) → ((x : A) → P x) → (l : List A) → Allˡ P l
 all-always P f [] = tt
 all-always P f (x ∷ l) = (f x, all-always P f l)
 
@@ -53,12 +53,12 @@ module _ (key : ℕ → Str) where
   keep-all b [] a = refl
   keep-all b (x ∷ l) a = rw (a .0, keep-all b l (a .1))
 
-  pub keep-ext : (b c : Str → Bool) → ((k : Str) → b k ≡ c k) → (l : List ℕ) → keep key b l ≡ keep key c l
+  keep-ext : (b c : Str → Bool) → ((k : Str) → b k ≡ c k) → (l : List ℕ) → keep key b l ≡ keep key c l
   unfolding keep
   keep-ext b c e [] = refl
   keep-ext b c e (x ∷ l) = rw (e (key x), keep-ext b c e l)
 
-  pub keep-keep : (b c : Str → Bool) (l : List ℕ) → keep key b (keep key c l) ≡ keep key (λ k. b k && c k) l
+  keep-keep : (b c : Str → Bool) (l : List ℕ) → keep key b (keep key c l) ≡ keep key (λ k. b k && c k) l
   unfolding keep
   keep-keep b c [] = refl
   keep-keep b c (x ∷ l) =

@@ -5,15 +5,18 @@ use mathlib.Core.Bool.{Bool, true, false, true≢false}
 use mathlib.Core.Logic.{⊎-elim}
 use mathlib.Core.List.{List, [], _∷_, _++_, List·Memᴰ, List·Memᴰ·not-nil, List·Memᴰ·cases-cons, List·Memᴰ·append-cases}
 use native.Mathlib.Omega.{arith}
+use native.Mathlib.Decide.{ℕ-discrete}
 use Rattle.source.specs.Text.{Str}
+use Rattle.source.specs.Types.{Level}
 use Rattle.source.specs.Rules.{_<ˢ_}
-use Rattle.memory.specs.Layout.{record-at, key-at, left-link, right-link}
+use Rattle.memory.specs.Sound.{At}
+use Rattle.memory.specs.Layout.{record-at, Which, tree, key-at, left-link, right-link}
 use Rattle.memory.proofs.RecordOk.{zero-some}
 use Rattle.tree.specs.Tree.{AnyTree}
 use Rattle.tree.specs.Links.{branches, keep, past, head0}
 use Rattle.tree.proofs.Branches.{any-left, any-right}
-use Rattle.tree.proofs.Keep.{all-at, keep-append, keep-none}
-use Rattle.tree.proofs.Links.{branches-none, branches-at, all-before, all-beyond, among-branch}
+use Rattle.tree.proofs.Keep.{by-test, all-at, keep-append, keep-none, keep-all}
+use Rattle.tree.proofs.Links.{branches-none, branches-at, by-sides, all-before, all-beyond, among-branch}
 use Rattle.tree.proofs.Past.{past-low, past-after, past-down, past-self}
 
 -- The first element, d where there is none.
@@ -29,7 +32,7 @@ first-zero : (l : List ℕ) → first 0 l ≡ head0 l
 first-zero [] = refl
 first-zero (x ∷ l) = refl
 
--- A way down stands at link, and has found what comes first if there is none: the first of the list l is that of the tree's.
+-- A way down from root stands at link: the first of the root's list is the first of link's, or what was found where that is empty.
 pub record Seeking (ws txt : List ℕ) (of : ℕ → List ℕ) (root link found : ℕ) : Type 0 where
   pub any : AnyTree ws txt link
   pub says : head0 (of root) ≡ first found (of link)
@@ -54,30 +57,30 @@ module _ {ws txt : List ℕ} {root link found : ℕ} (g : Seeking ws txt (branch
 -- ---- The least past a bound
 
 -- The branches of the tree x past the bound.
-abbrev pub passing : (ws txt : List ℕ) (strict : Bool) (low : Str) → ℕ → List ℕ
-passing ws txt strict low x = keep (key-at ws txt) (past strict low) (branches ws x)
+abbrev pub branches-past : (ws txt : List ℕ) (strict : Bool) (low : Str) → ℕ → List ℕ
+branches-past ws txt strict low x = keep (key-at ws txt) (past strict low) (branches ws x)
 
-pub passing-none : (ws txt : List ℕ) (strict : Bool) (low : Str) → passing ws txt strict low 0 ≡ []
+pub past-none : (ws txt : List ℕ) (strict : Bool) (low : Str) → branches-past ws txt strict low 0 ≡ []
 unfolding keep
-passing-none ws txt strict low = rw (branches-none ws)
+past-none ws txt strict low = rw (branches-none ws)
 
-module _ {ws txt : List ℕ} (strict : Bool) (low : Str) {root link found : ℕ} (g : Seeking ws txt (passing ws txt strict low) root link found) (p : 0 < link) where
+module _ {ws txt : List ℕ} (strict : Bool) (low : Str) {root link found : ℕ} (g : Seeking ws txt (branches-past ws txt strict low) root link found) (p : 0 < link) where
   abbrev left : ℕ
   left = left-link (record-at ws link)
 
   abbrev right : ℕ
   right = right-link (record-at ws link)
 
-  here : first found (passing ws txt strict low link) ≡ first (first found (keep (key-at ws txt) (past strict low) (link ∷ branches ws right))) (passing ws txt strict low left)
-  here = rw (branches-at (g .any .tree) p, keep-append (key-at ws txt) (past strict low) (branches ws left) (link ∷ branches ws right)) (first-append found (passing ws txt strict low left) _)
+  here : first found (branches-past ws txt strict low link) ≡ first (first found (keep (key-at ws txt) (past strict low) (link ∷ branches ws right))) (branches-past ws txt strict low left)
+  here = rw (branches-at (g .any .tree) p, keep-append (key-at ws txt) (past strict low) (branches ws left) (link ∷ branches ws right)) (first-append found (branches-past ws txt strict low left) _)
 
   -- A branch that is past is found; what is to its left comes first.
-  pub past-left : {k : ℕ} → past strict low (key-at ws txt link) ≡ true → k ≡ left → Seeking ws txt (passing ws txt strict low) root k link
+  pub past-left : {k : ℕ} → past strict low (key-at ws txt link) ≡ true → k ≡ left → Seeking ws txt (branches-past ws txt strict low) root k link
   unfolding keep
   past-left e q = record { any = rw q (any-left (g .any) p); says = g .says ∙ here ∙ rw (e, q) }
 
   -- Nothing to the left of one that is not past is past.
-  pub past-right : {k : ℕ} → past strict low (key-at ws txt link) ≡ false → k ≡ right → Seeking ws txt (passing ws txt strict low) root k found
+  pub past-right : {k : ℕ} → past strict low (key-at ws txt link) ≡ false → k ≡ right → Seeking ws txt (branches-past ws txt strict low) root k found
   unfolding keep
   past-right e q = record {
     any = rw q (any-right (g .any) p);
@@ -85,13 +88,13 @@ module _ {ws txt : List ℕ} (strict : Bool) (low : Str) {root link found : ℕ}
         ∙ rw (e, q, keep-none (key-at ws txt) (past strict low) (branches ws left) (all-before (g .any) p (λ y. past strict low y ≡ false) (λ y. past-down strict low (key-at ws txt link) y e)));
   }
 
--- ---- The branch after one with no right side
+-- ---- The branch after another
 
 module _ {ws txt : List ℕ} {link at : ℕ} (a : AnyTree ws txt link) (m : List·Memᴰ at (branches ws link)) where
   pub among-some : 0 < link
   among-some = zero-some link (λ z. absurd (List·Memᴰ·not-nil (rw (z, branches-none ws) at m))) (λ p. p)
 
-  pub among-earlier : at ≤ link
+  among-earlier : at ≤ link
   among-earlier = omega (arith, among-branch (a .tree) m .link .earlier)
 
 module _ {ws txt : List ℕ} {link at : ℕ} (a : AnyTree ws txt link) (m : List·Memᴰ at (branches ws link)) (n : link ≡ at → ⊥) where
@@ -127,10 +130,10 @@ module _ {ws txt : List ℕ} {link at : ℕ} (a : AnyTree ws txt link) (m : List
 -- A way down to the branch at stands at link.
 pub record Nearing (ws txt : List ℕ) (root at link found : ℕ) : Type 0 where
   pub among : List·Memᴰ at (branches ws link)
-  pub seeking : Seeking ws txt (passing ws txt true (key-at ws txt at)) root link found
+  pub seeking : Seeking ws txt (branches-past ws txt true (key-at ws txt at)) root link found
 
 pub near-all : {ws txt : List ℕ} {root at : ℕ} → AnyTree ws txt root → List·Memᴰ at (branches ws root) → Nearing ws txt root at root 0
-near-all {ws} {txt} {at = at} a m = record { among = m; seeking = seek-all (passing ws txt true (key-at ws txt at)) a }
+near-all {ws} {txt} {at = at} a m = record { among = m; seeking = seek-all (branches-past ws txt true (key-at ws txt at)) a }
 
 module _ {ws txt : List ℕ} {root at link found : ℕ} (g : Nearing ws txt root at link found) where
   pub near-some : 0 < link
@@ -143,6 +146,35 @@ module _ {ws txt : List ℕ} {root at link found : ℕ} (g : Nearing ws txt root
     pub near-right : {k : ℕ} → past true (key-at ws txt at) (key-at ws txt link) ≡ false → k ≡ right-link (record-at ws link) → Nearing ws txt root at k found
     near-right e q = record { among = rw q (among-right (g .seeking .any) (g .among) n e); seeking = past-right true (key-at ws txt at) (g .seeking) near-some e q }
 
--- At the branch: nothing of its tree is after it.
-pub near-end : {ws txt : List ℕ} {root at found : ℕ} → Nearing ws txt root at at found → right-link (record-at ws at) ≡ 0 → found ≡ head0 (passing ws txt true (key-at ws txt at) root)
-near-end {ws} {txt} {at = at} g e = sym (past-right true (key-at ws txt at) (g .seeking) (near-some g) (past-self (key-at ws txt at)) refl .says ∙ rw (e, passing-none ws txt true (key-at ws txt at)))
+-- At the branch: what is to its right comes next.
+near-here : {ws txt : List ℕ} {root at found : ℕ} → Nearing ws txt root at at found → head0 (branches-past ws txt true (key-at ws txt at) root) ≡ first found (branches ws (right-link (record-at ws at)))
+near-here {ws} {txt} {at = at} g =
+    let k = key-at ws txt at in
+    past-right true k (g .seeking) (near-some g) (past-self k) refl .says
+    ∙ rw (keep-all (key-at ws txt) (past true k) (branches ws (right-link (record-at ws at))) (all-beyond (g .seeking .any) (near-some g) (λ y. past true k y ≡ true) (λ y. past-after true k y)))
+
+pub near-end : {ws txt : List ℕ} {root at found : ℕ} → Nearing ws txt root at at found → right-link (record-at ws at) ≡ 0 → found ≡ head0 (branches-past ws txt true (key-at ws txt at) root)
+near-end {ws} g e = sym (near-here g ∙ rw (e, branches-none ws))
+
+-- Each way down to the branch reaches it.
+near-at : {ws txt : List ℕ} {w : Which} {v : Level} {root at : ℕ} (x : ℕ) → At ws txt w (tree v) x → (found : ℕ) → Nearing ws txt root at x found → (f : ℕ) × Nearing ws txt root at at f
+near-at {ws} {txt} {root = root} {at} =
+    by-sides (λ x. (found : ℕ) → Nearing ws txt root at x found → (f : ℕ) × Nearing ws txt root at at f)
+    (λ found g. absurd (omega (arith, near-some g)))
+    (λ x t p left right found g.
+    elim (ℕ-discrete x at) [
+      | yes e ↦ (found, rw e at g)
+      | no n ↦ by-test (past true (key-at ws txt at) (key-at ws txt x)) (λ e. left x (near-left g n e refl)) (λ e. right found (near-right g n e refl))
+    ])
+
+first-some : (d : ℕ) (l m : List ℕ) (x : ℕ) → first d (l ++ (x ∷ m)) ≡ head0 (l ++ (x ∷ m))
+first-some d [] m x = refl
+first-some d (y ∷ l) m x = refl
+
+-- Where a branch has a right side, the least of it comes next.
+pub right-next : {ws txt : List ℕ} {root at : ℕ} → AnyTree ws txt root → List·Memᴰ at (branches ws root) → 0 < right-link (record-at ws at)
+    → head0 (branches ws (right-link (record-at ws at))) ≡ head0 (branches-past ws txt true (key-at ws txt at) root)
+right-next {ws} {root = root} {at} a m q =
+    let g = near-at root (a .tree) 0 (near-all a m) in
+    let right = right-link (record-at ws at) in
+    sym (near-here (g .1) ∙ rw (branches-at (any-right (g .1 .seeking .any) (near-some (g .1)) .tree) q) (first-some (g .0) (branches ws (left-link (record-at ws right))) (branches ws (right-link (record-at ws right))) right))

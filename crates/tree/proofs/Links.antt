@@ -70,7 +70,7 @@ module _ {ws txt : List ℕ} {w : Which} {v : Level} where
     pub by-sides : (x : ℕ) → At ws txt w (tree v) x → P x
     by-sides x = upto x x (omega arith)
 
-  pub branches-keys : (P : Str → Type 0) (x : ℕ) → At ws txt w (tree v) x → AllKeys P (what w ws txt x (tree v)) → Allˡ (λ y. P (key-at ws txt y)) (branches ws x)
+  branches-keys : (P : Str → Type 0) (x : ℕ) → At ws txt w (tree v) x → AllKeys P (what w ws txt x (tree v)) → Allˡ (λ y. P (key-at ws txt y)) (branches ws x)
   branches-keys P =
       by-sides (λ x. AllKeys P (what w ws txt x (tree v)) → Allˡ (λ y. P (key-at ws txt y)) (branches ws x))
       (λ a. rw (branches-none ws) tt)

@@ -96,7 +96,7 @@ module _ {ws txt : List ℕ} {w : Which} {v : Level} {root : ℕ} (t : At ws txt
       (Allˡ-map {P = λ y. List·Memᴰ y (branches ws root)} {Q = λ y. starts-with (key-at ws txt y) p ≡ true → MatchOf ws txt w v root p y} (branches ws root)
       (λ y m e. record { among = m; branch = among-branch t m; begins = e }) (all-among (branches ws root)))
 
-  pub branches-increasing : Increasing (key-at ws txt) (branches ws root)
+  branches-increasing : Increasing (key-at ws txt) (branches ws root)
   unfolding row-at entry-key
   branches-increasing = keys (branches ws root) (rw (← branches-rows none root t) at (find-all-ascends none (what w ws txt root (tree v)) (tree-ordered t)))
     where

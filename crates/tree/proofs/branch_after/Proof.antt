@@ -3,7 +3,7 @@ use mathlib.Core.Path.{_∙_}
 use native.Mathlib.Omega.{arith}
 use Rattle.tree.proofs.Branches.{tree-fits, any-right}
 use Rattle.tree.proofs.Links.{among-tree}
-use Rattle.tree.proofs.After.{right-next}
+use Rattle.tree.proofs.Least.{right-next}
 use Rattle.tree.proofs.branch_after.Statement.{statement}
 use Rattle.tree.proofs.branch_after.Tie as tie
 

@@ -3,7 +3,7 @@ use mathlib.Core.Path.{sym, _∙_}
 use mathlib.Core.Bool.{false}
 use native.Mathlib.Omega.{arith}
 use Rattle.tree.proofs.Branches.{tree-fits, sides-earlier}
-use Rattle.tree.proofs.Least.{Seeking, seek-all, seek-end, passing, passing-none, past-left, past-right}
+use Rattle.tree.proofs.Least.{Seeking, seek-all, seek-end, branches-past, past-none, past-left, past-right}
 use Rattle.tree.proofs.least_from.Statement.{statement}
 use Rattle.tree.proofs.least_from.Tie as tie
 
@@ -11,10 +11,10 @@ pub least-from-spec : {M : Type 1} → statement M
 least-from-spec =
     tie.close
     (tie.spec
-    (λ words text root low at₀ found₀ at found. Seeking words text (passing words text false low) root at found)
+    (λ words text root low at₀ found₀ at found. Seeking words text (branches-past words text false low) root at found)
     (λ words text root low at₀ found₀ at found. at)
     {- loop-holds -}
-    (λ c. seek-all (passing (c .before .before .before .args .words .now) (c .before .before .before .args .text .now) false (c .before .before .before .args .low .now)) (c .before .before .before .pre))
+    (λ c. seek-all (branches-past (c .before .before .before .args .words .now) (c .before .before .before .args .text .now) false (c .before .before .before .args .low .now)) (c .before .before .before .pre))
     {- key-past-requires -}
     (λ c κs. (c .loop-test .taken, c .before .loop .inv .any))
     {- left-of-requires -}
@@ -30,4 +30,4 @@ least-from-spec =
     {- loop-again-2 -}
     (λ c. past-right false (c .before .before .before .before .before .before .before .before .args .low .now) (c .before .before .before .before .loop .inv) (c .before .before .before .loop-test .taken) (sym (c .before .before .key-past .ensures) ∙ c .before .if1 .left) (c .right-of .ensures))
     {- returns -}
-    (λ c. seek-end (c .before .loop .inv) (passing-none (c .before .before .before .before .before .args .words .now) (c .before .before .before .before .before .args .text .now) false (c .before .before .before .before .before .args .low .now)) (c .loop-test .left)))
+    (λ c. seek-end (c .before .loop .inv) (past-none (c .before .before .before .before .before .args .words .now) (c .before .before .before .before .before .args .text .now) false (c .before .before .before .before .before .args .low .now)) (c .loop-test .left)))
