@@ -23,7 +23,8 @@ use Rattle.memory.specs.Sound.{Used, At}
 use Rattle.tree.specs.Tree.{held, AnyTree}
 use Rattle.tree.specs.Links.{matches, head0, row-at}
 use Rattle.tree.proofs.Branches.{any-tree}
-use Rattle.tree.proofs.Matches.{MatchOf, matches-of, matches-increasing, after-first}
+use Rattle.tree.proofs.After.{after-first}
+use Rattle.tree.proofs.Matches.{MatchOf, matches-of, matches-increasing}
 use Rattle.tree.proofs.Keep.{all-append}
 use Rattle.matches.specs.Notes.{Noted, Matched}
 use Rattle.matches.specs.declared.Next.{Next}

@@ -1,7 +1,7 @@
 -- Laws of notes, and the matches of a tree by its root.
 use Prim.Native.Nat.{ℕ, zero, suc, _+_, _<_, _≤_}
 use mathlib.Core.Path.{_≡_, refl, sym, ap, _∙_, subst}
-use mathlib.Core.Bool.{Bool, true, false, true≢false, false≢true}
+use mathlib.Core.Bool.{Bool, true, false, false≢true}
 use mathlib.Core.Logic.{_⊎_, inl, inr}
 use mathlib.Core.List.{List, [], _∷_, _++_, append-assoc, append-nil, nil≢cons}
 use native.Mathlib.Omega.{arith}
@@ -12,67 +12,25 @@ use Rattle.source.specs.Text.{Str, starts-with}
 use Rattle.source.specs.Rules.{_<ˢ_}
 use Rattle.source.specs.Shared.{Allˡ}
 use Rattle.source.proofs.Lookup.{Allˡ-map, Increasing}
-use Rattle.source.proofs.Order.{<ˢ-irrefl, <ˢ-trans}
-use Rattle.source.proofs.Trees.{AllKeys-map, before-prefix, past-prefix}
-use Rattle.memory.specs.Layout.{record-at, tree, kind, what, key-at, left-link, right-link}
-use Rattle.memory.specs.Sound.{LinkOk}
-use Rattle.memory.proofs.At.{at-of}
+use Rattle.source.proofs.Order.{<ˢ-trans}
+use Rattle.source.proofs.Trees.{before-prefix}
+use Rattle.memory.specs.Layout.{record-at, tree, key-at, left-link, right-link}
 use Rattle.tree.specs.Tree.{AnyTree}
-use Rattle.tree.specs.Links.{branches, keep, matches, past, past-by, after, head0}
-use Rattle.tree.proofs.Branches.{any-tree, branch-reads, branch-ordered, left-tree, right-tree, any-left, any-right}
-use Rattle.tree.proofs.Keep.{by-test, keep-append, keep-none, keep-all, all-keep}
-use Rattle.tree.proofs.Links.{branches-at, branches-keys}
-use Rattle.tree.proofs.Matches.{matches-none, matches-increasing, starts-self, after-first}
-use Rattle.tree.proofs.Wanted.{by-order, past-low}
+use Rattle.tree.specs.Links.{branches, keep, matches, past, after, head0}
+use Rattle.tree.proofs.Branches.{any-left, any-right}
+use Rattle.tree.proofs.Keep.{by-test, keep-append, keep-none, keep-all, all-keep, kept-pass}
+use Rattle.tree.proofs.Links.{branches-at, all-before, all-beyond}
+use Rattle.tree.proofs.Past.{by-order, past-low, past-after, past-up, past-down, past-true, past-of-prefix, past-begun}
+use Rattle.tree.proofs.After.{after-first}
+use Rattle.tree.proofs.Matches.{matches-none, matches-increasing, matches-past}
 use Rattle.matches.specs.Marks.{most-notes, dropped, note-words, Fits, Holds, Drops, Taken, NotedAt}
 use Rattle.matches.specs.Notes.{to-come, passing, Ahead, NoteOk, Noting, Noted, Descends, AllAfter, NotesLeft, LastNote, Matched}
 use Rattle.matches.specs.declared.Next.{Next}
 use Rattle.matches.proofs.Marks.{fits-fewer, holds-fewer, more-fits, more-holds, drops-fits, drops-told, drops-holds, taken-fits, taken-told, taken-holds, taken-mark, cleared, clear-fits, clear-holds}
 
--- ---- What is past a bound
-
-past-after : (strict : Bool) (low z : Str) → low <ˢ z → past strict low z ≡ true
-unfolding past past-by
-past-after strict low z h =
-    by-order low z (λ e v. rw e) (λ e v. absurd (<ˢ-irrefl z (rw v at h))) (λ e v. absurd (<ˢ-irrefl low (<ˢ-trans low z low h v)))
-
--- What is after a key that is past is past.
-past-up : (strict : Bool) (low k z : Str) → past strict low k ≡ true → k <ˢ z → past strict low z ≡ true
-unfolding past past-by
-past-up strict low k z e h =
-    by-order low k (λ o v. past-after strict low z (<ˢ-trans low k z v h)) (λ o v. past-after strict low z (rw v h)) (λ o v. absurd (false≢true (rw o at e)))
-
--- What is before a key that is not past is not past.
-past-down : (strict : Bool) (low k z : Str) → past strict low k ≡ false → z <ˢ k → past strict low z ≡ false
-unfolding past past-by
-past-down strict low k z e h =
-    by-order low k (λ o v. absurd (true≢false (rw o at e))) (λ o v. past-low strict low z (rw v h)) (λ o v. past-low strict low z (<ˢ-trans z k low h v))
-
--- A key past a bound that begins with p is past p.
-past-of-prefix : (strict : Bool) (low p k : Str) → starts-with low p ≡ true → past strict low k ≡ true → past false p k ≡ true
-unfolding past past-by
-past-of-prefix strict low p k s e =
-    by-order p k
-    (λ o v. rw o)
-    (λ o v. rw o)
-    (λ o v. by-order p low
-    (λ o′ u. absurd (false≢true (sym (past-low strict low k (<ˢ-trans k p low v u)) ∙ e)))
-    (λ o′ u. absurd (false≢true (sym (past-low strict low k (rw (sym u) v)) ∙ e)))
-    (λ o′ u. absurd (false≢true (sym (before-prefix low p u) ∙ s))))
-
--- A key that begins with p is past it.
-prefix-past : (p k : Str) → starts-with k p ≡ true → past false p k ≡ true
-unfolding past past-by
-prefix-past p k s = by-order p k (λ o v. rw o) (λ o v. rw o) (λ o v. absurd (false≢true (sym (before-prefix k p v) ∙ s)))
-
 -- A key after one that begins with p is after p.
 after-prefix : (p k z : Str) → starts-with k p ≡ true → k <ˢ z → p <ˢ z
 after-prefix p k z s h = by-order p k (λ o v. <ˢ-trans p k z v h) (λ o v. rw v h) (λ o v. absurd (false≢true (sym (before-prefix k p v) ∙ s)))
-
--- What is after k is after it by `past`, and the other way round.
-past-true : (k z : Str) → past true k z ≡ true → k <ˢ z
-unfolding past past-by
-past-true k z q = by-order k z (λ e v. v) (λ e v. absurd (true≢false (sym (rw e at q)))) (λ e v. absurd (true≢false (sym (rw e at q))))
 
 -- ---- What a test keeps
 
@@ -84,14 +42,7 @@ all-after-left : {A : Type 0} (P : A → Type 0) (l : List A) (x : A) (m : List 
 all-after-left P [] x m a = a .0
 all-after-left P (y ∷ l) x m a = all-after-left P l x m (a .1)
 
-all-always : (P : ℕ → Type 0) → ((x : ℕ) → P x) → (l : List ℕ) → Allˡ P l
-all-always P f [] = tt
-all-always P f (x ∷ l) = (f x, all-always P f l)
-
 module _ (key : ℕ → Str) where
-  pub kept-pass : (b : Str → Bool) (l : List ℕ) → Allˡ (λ y. b (key y) ≡ true) (keep key b l)
-  kept-pass b l = all-keep key (λ y. b (key y) ≡ true) b l (all-always (λ y. b (key y) ≡ true → b (key y) ≡ true) (λ y e. e) l)
-
   none-kept : (b : Str → Bool) (l : List ℕ) → keep key b l ≡ [] → Allˡ (λ y. b (key y) ≡ false) l
   unfolding keep
   none-kept b [] e = tt
@@ -137,17 +88,6 @@ module _ {ws txt : List ℕ} {x : ℕ} (a : AnyTree ws txt x) (q : 0 < x) where
   abbrev right : ℕ
   right = right-link (record-at ws x)
 
-  -- What holds of all that is before the key holds to its left, what of all that is after it to its right.
-  all-before : (P : Str → Type 0) → ((y : Str) → y <ˢ key → P y) → Allˡ (λ y. P (key-at ws txt y)) (branches ws left)
-  all-before P f =
-      branches-keys P left (left-tree (a .tree) q)
-      (AllKeys-map {P = λ y. y <ˢ key} {Q = P} (what (a .which) ws txt left (tree (a .level))) f ((rw (branch-reads (a .tree) q) at (branch-ordered (a .tree) q)) .0))
-
-  pub all-beyond : (P : Str → Type 0) → ((y : Str) → key <ˢ y → P y) → Allˡ (λ y. P (key-at ws txt y)) (branches ws right)
-  all-beyond P f =
-      branches-keys P right (right-tree (a .tree) q)
-      (AllKeys-map {P = λ y. key <ˢ y} {Q = P} (what (a .which) ws txt right (tree (a .level))) f ((rw (branch-reads (a .tree) q) at (branch-ordered (a .tree) q)) .1))
-
   all-of-left : (P : ℕ → Type 0) → Allˡ P (branches ws x) → Allˡ P (branches ws left)
   all-of-left P h = all-left P (branches ws left) (x ∷ branches ws right) (subst (λ (l : List ℕ). Allˡ P l) (branches-at (a .tree) q) h)
 
@@ -166,14 +106,10 @@ module _ {ws txt : List ℕ} {x : ℕ} (a : AnyTree ws txt x) (q : 0 < x) where
 
     -- Past the prefix and no match: the right side has none.
     match-left : past false p key ≡ true → starts-with key p ≡ false → matches ws txt x p ≡ matches ws txt left p
-    unfolding matches keep past past-by
+    unfolding matches keep
     match-left e f =
-        by-order p key
-        (λ o v.
-        let no-right : matches ws txt right p ≡ [] = keep-none (key-at ws txt) (λ k. starts-with k p) (branches ws right) (all-beyond (λ y. starts-with y p ≡ false) (λ y z. past-prefix key y p v f z)) in
-        split ∙ rw (f, no-right) (append-nil (matches ws txt left p)))
-        (λ o v. absurd (true≢false (sym (starts-self key) ∙ rw v at f)))
-        (λ o v. absurd (false≢true (rw o at e)))
+        let no-right : matches ws txt right p ≡ [] = keep-none (key-at ws txt) (λ k. starts-with k p) (branches ws right) (all-beyond a q (λ y. starts-with y p ≡ false) (λ y. past-begun p key y e f)) in
+        split ∙ rw (f, no-right) (append-nil (matches ws txt left p))
 
     -- The same of those that are past a bound.
     module _ (strict : Bool) (low : Str) where
@@ -184,7 +120,7 @@ module _ {ws txt : List ℕ} {x : ℕ} (a : AnyTree ws txt x) (q : 0 < x) where
       unfolding keep
       pass-here e f =
           rw (match-here f, keep-append (key-at ws txt) b (matches ws txt left p) (x ∷ matches ws txt right p), e)
-          (rw (keep-all (key-at ws txt) b (matches ws txt right p) (all-matches ws txt p right (λ y. b (key-at ws txt y) ≡ true) (all-beyond (λ y. b y ≡ true) (λ y. past-up strict low key y e)))) refl)
+          (rw (keep-all (key-at ws txt) b (matches ws txt right p) (all-matches ws txt p right (λ y. b (key-at ws txt y) ≡ true) (all-beyond a q (λ y. b y ≡ true) (λ y. past-up strict low key y e)))) refl)
 
       pub pass-left : starts-with low p ≡ true → b key ≡ true → starts-with key p ≡ false → passing ws txt p b x ≡ passing ws txt p b left
       pass-left s e f = ap (keep (key-at ws txt) b) (match-left (past-of-prefix strict low p key s e) f)
@@ -194,7 +130,7 @@ module _ {ws txt : List ℕ} {x : ℕ} (a : AnyTree ws txt x) (q : 0 < x) where
       pass-right e =
           ap (keep (key-at ws txt) b) split
           ∙ keep-append (key-at ws txt) b (matches ws txt left p) (keep (key-at ws txt) (λ k. starts-with k p) (x ∷ branches ws right))
-          ∙ rw (keep-none (key-at ws txt) b (matches ws txt left p) (all-matches ws txt p left (λ y. b (key-at ws txt y) ≡ false) (all-before (λ y. b y ≡ false) (λ y. past-down strict low key y e))))
+          ∙ rw (keep-none (key-at ws txt) b (matches ws txt left p) (all-matches ws txt p left (λ y. b (key-at ws txt y) ≡ false) (all-before a q (λ y. b y ≡ false) (λ y. past-down strict low key y e))))
           (by-test (starts-with key p) (λ f. rw (f, e)) (λ f. rw f))
 
 -- ---- Notes
@@ -207,14 +143,6 @@ module _ (ws txt : List ℕ) (p : Str) where
   pub pass-none : (b : Str → Bool) → passing ws txt p b 0 ≡ []
   unfolding keep
   pass-none b = rw (matches-none ws txt p)
-
-  -- The matches are all past the prefix.
-  pub pass-all : (x : ℕ) → passing ws txt p (past false p) x ≡ matches ws txt x p
-  unfolding matches
-  pass-all x =
-      keep-all (key-at ws txt) (past false p) (matches ws txt x p)
-      (all-keep (key-at ws txt) (λ y. past false p (key-at ws txt y) ≡ true) (λ k. starts-with k p) (branches ws x)
-      (all-always (λ y. starts-with (key-at ws txt y) p ≡ true → past false p (key-at ws txt y) ≡ true) (λ y. prefix-past p (key-at ws txt y)) (branches ws x)))
 
 module _ {ws txt : List ℕ} {p : Str} {b : Str → Bool} {l : List ℕ} where
   -- Notes are none.
@@ -413,21 +341,15 @@ matched-none f e = record { head = rw e; sized = f; noted = λ x after g. absurd
 -- The root's matches, before anything is noted.
 pub first-noting : (ws txt : List ℕ) (p : Str) (root : ℕ) (notes : List ℕ) (s : length notes ≡ note-words)
     → Noting ws txt p (past false p) (cleared notes s) 0 (passing ws txt p (past false p) root) (matches ws txt root p)
-first-noting ws txt p root notes s = noting-none (clear-fits notes s) (clear-holds notes s) [] (sym (pass-all ws txt p root) ∙ sym (append-nil (passing ws txt p (past false p) root))) (λ z. refl)
+first-noting ws txt p root notes s = noting-none (clear-fits notes s) (clear-holds notes s) [] (sym (matches-past ws txt p root) ∙ sym (append-nil (passing ws txt p (past false p) root))) (λ z. refl)
 
 pub first-pass : (ws txt : List ℕ) (p : Str) (root : ℕ) → Allˡ (λ x. past false p (key-at ws txt x) ≡ true) (matches ws txt root p)
-first-pass ws txt p root = subst (λ (l : List ℕ). Allˡ (λ x. past false p (key-at ws txt x) ≡ true) l) (pass-all ws txt p root) (kept-pass (key-at ws txt) (past false p) (matches ws txt root p))
+first-pass ws txt p root = subst (λ (l : List ℕ). Allˡ (λ x. past false p (key-at ws txt x) ≡ true) l) (matches-past ws txt p root) (kept-pass (key-at ws txt) (past false p) (matches ws txt root p))
 
 -- The first, where nothing is noted.
 pub first-none : (ws txt : List ℕ) (p : Str) (root : ℕ) {notes notes′ : List ℕ} {r : ℕ} → Descends ws txt p p false root notes notes′ r → r ≤ 0
     → Matched ws txt p notes′ (matches ws txt root p) (record { link = 0; n = 0 })
-first-none ws txt p root d h = matched-none (d .fits .sized) (sym (pass-all ws txt p root) ∙ d .none (omega arith))
-
-pub no-tree : {ws txt : List ℕ} {x : ℕ} → AnyTree ws txt x → AnyTree ws txt 0
-no-tree {ws} {x = x} a = any-tree {w = a .which} {v = a .level} (at-of (a .tree) (tree (a .level)) (omega arith) none)
-  where
-    none : LinkOk ws (x + 1) 0 (kind (a .which) (tree (a .level)))
-    none = record { earlier = omega arith; of-kind = λ e. absurd (e refl) }
+first-none ws txt p root d h = matched-none (d .fits .sized) (sym (matches-past ws txt p root) ∙ d .none (omega arith))
 
 -- What is to the right of a match.
 module _ {ws txt : List ℕ} (p : Str) {at : ℕ} (a : (0 < at) × AnyTree ws txt at) (s : starts-with (key-at ws txt at) p ≡ true) where

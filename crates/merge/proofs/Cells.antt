@@ -18,7 +18,8 @@ use Rattle.tree.specs.Tree.{AnyTree}
 use Rattle.tree.specs.Links.{matches, head0}
 use Rattle.tree.proofs.Branches.{text-in}
 use Rattle.tree.specs.Links.{BranchOf}
-use Rattle.tree.proofs.Matches.{MatchOf, matches-of, matches-increasing, all-after, after-next}
+use Rattle.tree.proofs.After.{all-after, after-next}
+use Rattle.tree.proofs.Matches.{MatchOf, matches-of, matches-increasing}
 use Rattle.names.specs.Entries.{entry-key}
 use Rattle.merge.specs.Stream.{Merge, later, run-at, left, remaining, Holding}
 use Rattle.memory.specs.Sound.{At}

@@ -31,7 +31,8 @@ use Rattle.heap.proofs.Compare.{cell-cmp-run}
 use Rattle.heap.proofs.CellCounts.{rep-below, is-other}
 use Rattle.heap.proofs.HeapMap.{map-insert}
 use Rattle.tree.specs.Links.{matches, row-at}
-use Rattle.tree.proofs.Matches.{matches-none, matches-of, matches-increasing, after-first}
+use Rattle.tree.proofs.After.{after-first}
+use Rattle.tree.proofs.Matches.{matches-none, matches-of, matches-increasing}
 use Rattle.names.specs.Entries.{Entry, entry-key, label-at, shown, outer, Asks}
 use Rattle.merge.specs.Lists.{Part, elements, HasPart, HasParts, more, match-lists-in, CollectedIn, Collected}
 use Rattle.merge.specs.Stream.{later, run-at, CellOk, Starts, state, OneTree}
@@ -147,6 +148,7 @@ module _ {ws txt : List ℕ} {w : Which} {v : Level} {x : ℕ} {p : Str} {roots 
         record {
           root-link = rw (o .root-is) (o .root-link);
           branch = record { some = m .branch .some; link = link-later (omega (arith, o .root-link .earlier)) (m .branch .link) };
+          among = λ l. rw (o .root-is) (m .among);
           begins = m .begins;
           label-ok = rw (o .label-is) (o .label-ok);
         }

@@ -2,7 +2,7 @@
 use Prim.Native.Nat.{ℕ, _<_}
 use mathlib.Core.Path.{_≡_, refl, sym, ap, _∙_}
 use mathlib.Core.Bool.{true}
-use mathlib.Core.List.{List, []}
+use mathlib.Core.List.{List, [], List·Memᴰ}
 use native.Mathlib.Omega.{arith}
 use native.Mathlib.Decide.{ℕ-discrete}
 use lib.ListN.{length, getD, set, length-set}
@@ -23,11 +23,11 @@ use Rattle.heap.proofs.CellCounts.{root-in, rep-below, all-counted, is-self, is
 use Rattle.heap.proofs.HeapMap.{map-same}
 use Rattle.heap.proofs.Rep.{stands-pairs, stands-insert}
 use Rattle.tree.specs.Tree.{AnyTree}
-use Rattle.tree.specs.Links.{head0}
+use Rattle.tree.specs.Links.{branches, head0}
 use Rattle.names.specs.Entries.{Entry, entry-key}
 use Rattle.merge.specs.Stream.{later, run-at, left, Holding, state, TookCell, TookIn, Takes, CellsReady}
 use Rattle.merge.specs.declared.Taken.{Taken}
-use Rattle.merge.proofs.Cells.{Next, later-end, later-next, branch-tree, branch-head, cell-tree, next-branch, stands, remaining-less}
+use Rattle.merge.proofs.Cells.{Next, later-end, later-next, branch-head, cell-tree, next-branch, stands, remaining-less}
 use Rattle.memory.proofs.At.{no-link}
 
 -- A cell's lists before and after a change of another cell.
@@ -89,6 +89,10 @@ module _ {ws txt : List ℕ} {w : Which} {v : Level} {x : ℕ} {p : Str} {n root
                 | no ne ↦ rw (getD-set-other roots c j 0 0 ne) (k .root-link)
               ];
               branch = k .branch;
+              among = elim (ℕ-discrete j c) [
+                | yes q ↦ λ z. absurd (omega (arith, getD-set-same roots c 0 0 (omega (arith, g .few, g .full .of-roots)), ap (λ (i : ℕ). getD (set roots c 0) i 0) q))
+                | no ne ↦ rw (getD-set-other roots c j 0 0 ne) (k .among)
+              ];
               begins = k .begins;
               label-ok = k .label-ok;
             };
@@ -138,6 +142,10 @@ module _ {ws txt : List ℕ} {w : Which} {v : Level} {x : ℕ} {p : Str} {n root
                   branch = elim (ℕ-discrete j c) [
                     | yes q ↦ rw (q, head-set) (next-branch g below next-match)
                     | no ne ↦ rw (getD-set-other heads c j r 0 ne) (k .branch)
+                  ];
+                  among = elim (ℕ-discrete j c) [
+                    | yes q ↦ rw (q, head-set) (λ z. next-match .match .among)
+                    | no ne ↦ rw (getD-set-other heads c j r 0 ne) (k .among)
                   ];
                   begins = elim (ℕ-discrete j c) [
                     | yes q ↦ rw (q, head-set) (next-match .match .begins)
@@ -197,21 +205,21 @@ module _ {ws txt : List ℕ} {p : Str} {n root cell rest : ℕ} {roots heads chi
   abbrev g : Holding ws txt (y .which) (y .level) (y .link) p (state roots heads (y .labels) child next n root (y .last)) (y .heap)
   g = y .holding
 
-  popped-cell : (cell < n) × Root n rest
+  popped-cell : (cell < n) × Root n rest × (0 < getD roots cell 0)
   unfolding heap-pop
-  popped-cell = go (y .heap) (g .rep)
+  popped-cell = go (y .heap) (g .rep) (g .live)
     where
-      go : (h : Heap ℕ) → Rep n child next root h → (cell < n) × Root n rest
-      go EmptyHeap s = absurd (k .pops EmptyHeap s)
-      go (HeapOf c hh) s = let q = k .pops (HeapOf c hh) s in (rw (q .0) (s .holds .1), root-in n child′ next′ (g .few) (q .1 .rep))
+      go : (h : Heap ℕ) → Rep n child next root h → ((j : ℕ) → 0 < count j h → 0 < getD roots j 0) → (cell < n) × Root n rest × (0 < getD roots cell 0)
+      go EmptyHeap s l = absurd (k .pops EmptyHeap s)
+      go (HeapOf c hh) s l = let q = k .pops (HeapOf c hh) s in rw (q .0) (s .holds .1, root-in n child′ next′ (g .few) (q .1 .rep), l c (omega (arith, is-self c)))
 
   pub cell-small : cell < 96
   cell-small = omega (arith, popped-cell .0, g .few)
 
-  pub next-asks : AnyTree ws txt (getD roots cell 0) × (((0 < getD heads cell 0) × AnyTree ws txt (getD heads cell 0)) × (starts-with (key-at ws txt (getD heads cell 0)) p ≡ true))
+  pub next-asks : AnyTree ws txt (getD roots cell 0) × (List·Memᴰ (getD heads cell 0) (branches ws (getD roots cell 0)) × (starts-with (key-at ws txt (getD heads cell 0)) p ≡ true))
   next-asks =
       let j = g .cells cell (popped-cell .0) in
-      (record { which = y .which; level = y .level; tree = cell-tree g cell (popped-cell .0) }, (branch-tree (g .here) (j .branch), j .begins))
+      (record { which = y .which; level = y .level; tree = cell-tree g cell (popped-cell .0) }, (j .among (popped-cell .2), j .begins))
 
   module _ {r : ℕ} (e : r ≡ head0 (later ws txt p (getD roots cell 0) (getD heads cell 0))) where
     pub takes-last : r ≡ 0 → Takes ws txt p n root roots heads child next (set roots cell 0) heads child′ next′ (record { cell = cell; branch = getD heads cell 0; root = rest })

@@ -2,7 +2,7 @@
 use Prim.Native.Nat.{ℕ, zero, suc, _+_, _-_, _<_, _≤_}
 use mathlib.Core.Path.{_≡_}
 use mathlib.Core.Bool.{true, cond}
-use mathlib.Core.List.{List, [], _∷_, map}
+use mathlib.Core.List.{List, [], _∷_, map, List·Memᴰ}
 use mathlib.Core.Option.{Option, none, some}
 use lib.Dec.{eqb}
 use lib.ListN.{length, getD}
@@ -18,8 +18,7 @@ use Rattle.source.specs.Forward.{found}
 use Rattle.memory.specs.Layout.{Which, tree, list, kind, what, key-at}
 use Rattle.memory.specs.Sound.{LinkOk, At}
 use Rattle.heap.specs.Cells.{count, Rep}
-use Rattle.tree.specs.Links.{matches, after}
-use Rattle.tree.specs.Links.{BranchOf}
+use Rattle.tree.specs.Links.{branches, matches, after, BranchOf}
 use Rattle.names.specs.Entries.{Entry, entry-key, shown, outer, Asks}
 use Rattle.names.specs.Entries.{LabelOk}
 use Rattle.merge.specs.Lists.{Full}
@@ -68,10 +67,11 @@ unfoldable pub remaining : (ws txt : List ℕ) (p : Str) (roots heads : List ℕ
 remaining ws txt p roots heads zero = 0
 remaining ws txt p roots heads (suc n) = left ws txt p (getD roots n 0) (getD heads n 0) + remaining ws txt p roots heads n
 
--- A cell's tree, head and label, no later than the list x.
+-- A cell's tree, head and label, no later than the list x. The head is a branch of the tree, unless that is 0.
 pub record CellOk (ws txt : List ℕ) (w : Which) (v : Level) (x : ℕ) (p : Str) (root head label : ℕ) : Type 0 where
   pub root-link : LinkOk ws (x + 1) root (kind w (tree v))
   pub branch : BranchOf ws w v x head
+  pub among : 0 < root → List·Memᴰ head (branches ws root)
   pub begins : starts-with (key-at ws txt head) p ≡ true
   pub label-ok : LabelOk ws w v x label
 

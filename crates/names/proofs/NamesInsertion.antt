@@ -17,7 +17,7 @@ use Rattle.tree.specs.Tree.{Builds}
 use Rattle.tree.specs.Insert.{NewBranch, Insertion, Inserted}
 use Rattle.tree.proofs.Branches.{branch-right, branch-reads}
 use Rattle.tree.proofs.Links.{by-sides}
-use Rattle.tree.proofs.Wanted.{by-order}
+use Rattle.tree.proofs.Past.{by-order}
 use Rattle.names.specs.Names.{LedIn, Led, NamesPlaced}
 use Rattle.names.specs.Made.{Room, Made, MadeNames}
 use Rattle.names.specs.Insert.{inserted, NamesInsertion}

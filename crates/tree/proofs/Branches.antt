@@ -13,7 +13,7 @@ use Rattle.memory.proofs.RecordOk.{links-earlier, branch-at, ordered-at}
 use Rattle.memory.proofs.Seen.{link-fits, link-ok, link-what}
 use Rattle.text.proofs.Texts.{part-is}
 use Rattle.tree.specs.Tree.{held, AnyTree}
-use Rattle.memory.proofs.At.{at-of}
+use Rattle.memory.proofs.At.{no-link, at-of}
 
 pub any-tree : {ws txt : List ℕ} {w : Which} {v : Level} {x : ℕ} → At ws txt w (tree v) x → AnyTree ws txt x
 any-tree {w = w} {v} t = record { which = w; level = v; tree = t }
@@ -35,6 +35,9 @@ module _ {ws txt : List ℕ} {w : Which} {v : Level} {x : ℕ} (t : At ws txt w 
 
     pub right-tree : At ws txt w (tree v) (right-link (record-at ws x))
     right-tree = at-of t (tree v) (omega arith) (branch-right .right)
+
+pub no-tree : {ws txt : List ℕ} {x : ℕ} → AnyTree ws txt x → AnyTree ws txt 0
+no-tree {x = x} a = any-tree {w = a .which} {v = a .level} (at-of (a .tree) (tree (a .level)) (omega arith) (no-link x _))
 
 module _ {ws txt : List ℕ} {x : ℕ} (a : AnyTree ws txt x) where
   pub tree-fits : x * 12 ≤ length ws

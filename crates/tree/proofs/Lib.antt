@@ -1,8 +1,10 @@
 pub mod Branches
 pub mod Placed
+pub mod Past
 pub mod Keep
 pub mod Links
-pub mod Wanted
+pub mod Least
+pub mod After
 pub mod Matches
 pub mod Changed
 pub mod Marked

@@ -1,7 +1,7 @@
 -- The branches of a tree as links: each in its place, what holds of each, and the rows that they give.
 use Prim.Native.Nat.{ℕ, zero, suc, _≤_, _<_}
 use mathlib.Core.Path.{_≡_, refl, sym, _∙_, subst}
-use mathlib.Core.List.{List, [], _∷_, _++_, map, append-assoc, append-nil}
+use mathlib.Core.List.{List, [], _∷_, _++_, map, append-assoc, append-nil, List·Memᴰ}
 use mathlib.Core.Logic.{⊎-elim}
 use mathlib.Core.Option.{Option}
 use native.Mathlib.Omega.{arith}
@@ -10,17 +10,20 @@ use borrow.Author.Tests.{eq-eqb, ne-eqb}
 use Rattle.source.specs.Text.{Str}
 use Rattle.source.specs.Types.{Level, Value}
 use Rattle.source.specs.Trees.{PrefixMatch, btree-fold, btree-find-all}
-use Rattle.source.specs.Rules.{AllKeys, Ordered}
+use Rattle.source.specs.Rules.{_<ˢ_, AllKeys, Ordered}
 use Rattle.source.specs.Shared.{Allˡ}
 use Rattle.source.proofs.Lookup.{Allˡ-map}
+use Rattle.source.proofs.Trees.{AllKeys-map}
 use Rattle.memory.specs.Layout.{record-at, Which, Item, tree, what, key-at, left-link, right-link}
 use Rattle.memory.specs.Sound.{At}
 use Rattle.memory.proofs.What.{what-none}
 use Rattle.memory.proofs.RecordOk.{zero-some}
+use Rattle.memory.proofs.At.{at-of}
 use Rattle.memory.proofs.Seen.{link-later}
+use Rattle.tree.specs.Tree.{AnyTree}
 use Rattle.tree.specs.Links.{branches-among, branches, row-at}
-use Rattle.tree.proofs.Branches.{branch-right, branch-ordered, branch-reads, left-tree, right-tree}
-use Rattle.tree.proofs.Keep.{all-append, map-append}
+use Rattle.tree.proofs.Branches.{any-tree, branch-right, branch-ordered, branch-reads, left-tree, right-tree}
+use Rattle.tree.proofs.Keep.{all-append, all-at, map-append}
 use Rattle.tree.specs.Links.{BranchOf}
 
 module _ (ws : List ℕ) where
@@ -67,7 +70,7 @@ module _ {ws txt : List ℕ} {w : Which} {v : Level} where
     pub by-sides : (x : ℕ) → At ws txt w (tree v) x → P x
     by-sides x = upto x x (omega arith)
 
-  pub branches-keys : (P : Str → Type 0) (x : ℕ) → At ws txt w (tree v) x → AllKeys P (what w ws txt x (tree v)) → Allˡ (λ y. P (key-at ws txt y)) (branches ws x)
+  branches-keys : (P : Str → Type 0) (x : ℕ) → At ws txt w (tree v) x → AllKeys P (what w ws txt x (tree v)) → Allˡ (λ y. P (key-at ws txt y)) (branches ws x)
   branches-keys P =
       by-sides (λ x. AllKeys P (what w ws txt x (tree v)) → Allˡ (λ y. P (key-at ws txt y)) (branches ws x))
       (λ a. rw (branches-none ws) tt)
@@ -102,3 +105,28 @@ module _ {ws txt : List ℕ} {w : Which} {v : Level} where
     pub branches-rows : (x : ℕ) → At ws txt w (tree v) x → map (row-at w ws txt v q) (branches ws x) ≡ btree-find-all q (what w ws txt x (tree v))
     unfolding btree-find-all
     branches-rows x t = sym (append-nil _) ∙ rows-onto x t []
+
+module _ {ws txt : List ℕ} {w : Which} {v : Level} {root : ℕ} (t : At ws txt w (tree v) root) where
+  pub branch-tree : {x : ℕ} → BranchOf ws w v root x → AnyTree ws txt x
+  branch-tree o = any-tree (at-of t (tree _) (omega arith) (o .link))
+
+  -- A branch by the list.
+  pub among-branch : {x : ℕ} → List·Memᴰ x (branches ws root) → BranchOf ws w v root x
+  among-branch {x} m = all-at (BranchOf ws w v root) (branches ws root) (branches-of root t) x m
+
+pub among-tree : {ws txt : List ℕ} {root x : ℕ} → AnyTree ws txt root → List·Memᴰ x (branches ws root) → (0 < x) × AnyTree ws txt x
+among-tree a m = let o = among-branch (a .tree) m in (o .some, branch-tree (a .tree) o)
+
+module _ {ws txt : List ℕ} {x : ℕ} (a : AnyTree ws txt x) (q : 0 < x) where
+  -- What holds of all that is before the key holds to its left, what of all that is after it to its right.
+  pub all-before : (P : Str → Type 0) → ((y : Str) → y <ˢ key-at ws txt x → P y) → Allˡ (λ y. P (key-at ws txt y)) (branches ws (left-link (record-at ws x)))
+  all-before P f =
+      let left = left-link (record-at ws x) in
+      branches-keys P left (left-tree (a .tree) q)
+      (AllKeys-map {P = λ y. y <ˢ key-at ws txt x} {Q = P} (what (a .which) ws txt left (tree (a .level))) f ((rw (branch-reads (a .tree) q) at (branch-ordered (a .tree) q)) .0))
+
+  pub all-beyond : (P : Str → Type 0) → ((y : Str) → key-at ws txt x <ˢ y → P y) → Allˡ (λ y. P (key-at ws txt y)) (branches ws (right-link (record-at ws x)))
+  all-beyond P f =
+      let right = right-link (record-at ws x) in
+      branches-keys P right (right-tree (a .tree) q)
+      (AllKeys-map {P = λ y. key-at ws txt x <ˢ y} {Q = P} (what (a .which) ws txt right (tree (a .level))) f ((rw (branch-reads (a .tree) q) at (branch-ordered (a .tree) q)) .1))

@@ -14,7 +14,7 @@ use Rattle.memory.proofs.Stays.{record-stays, stays-same, stays-on}
 use Rattle.tree.specs.Tree.{AnyTree, Builds}
 use Rattle.tree.specs.Insert.{noted-link, Turn, Trail, top, turn, Noted, Marked}
 use Rattle.tree.proofs.Placed.{Search, search-all, search-left, search-right, search-here, search-none}
-use Rattle.tree.proofs.Wanted.{by-order}
+use Rattle.tree.proofs.Past.{by-order}
 use Rattle.tree.proofs.Changed.{drop-more, key-stays, any-stays, trail-stays}
 
 some-branches : {A : Type 0} {v : Level} (t : Tree A v) (k : Str) → 0 < insert-branches t k

@@ -1,90 +1,29 @@
 -- The links of the branches whose keys begin with a prefix: ascending, each a branch of the tree, and together the rows of btree_find_prefix.
 use Prim.Native.Nat.{ℕ, _<_}
-use mathlib.Core.Path.{_≡_, refl, sym, ap, _∙_, subst}
-use mathlib.Core.Bool.{Bool, true, false, true≢false}
-use mathlib.Core.List.{List, [], _∷_, _++_, map, append-assoc, append-nil, nil≢cons}
+use mathlib.Core.Path.{_≡_, refl, sym, ap, _∙_}
+use mathlib.Core.Bool.{Bool, true, false}
+use mathlib.Core.List.{List, [], _∷_, _++_, map, append-assoc, append-nil, List·Memᴰ}
 use mathlib.Core.Option.{Option, none, some}
-use borrow.Author.Tests.{eq-eqb}
+use borrow.Author.Tests.{ne-eqb}
 use native.Mathlib.Omega.{arith}
 use Rattle.source.specs.Text.{Str, starts-with}
 use Rattle.source.specs.Types.{Level, Value}
 use Rattle.source.specs.Trees.{PrefixMatch, find-prefix-onto, btree-find-prefix, btree-find-all}
 use Rattle.source.specs.Rules.{_<ˢ_}
-use Rattle.source.proofs.Order.{<ˢ-irrefl, <ˢ-trans}
+use Rattle.source.proofs.Order.{<ˢ-trans}
 use Rattle.source.specs.Shared.{Allˡ}
-use Rattle.source.proofs.Lookup.{Allˡ-map, Above, Increasing}
-use Rattle.source.proofs.Trees.{AllKeys-map, before-prefix, past-prefix, entry-key, find-all-ascends}
+use Rattle.source.proofs.Lookup.{Allˡ-map, Allˡ-zip, Above, Increasing}
+use Rattle.source.proofs.Trees.{before-prefix, past-prefix, entry-key, find-all-ascends}
 use Rattle.memory.specs.Layout.{record-at, Which, Item, tree, what, key-at, left-link, right-link}
 use Rattle.memory.proofs.What.{what-none}
 use Rattle.tree.specs.Tree.{AnyTree}
-use Rattle.tree.specs.Links.{branches, keep, matches, past-by, past, after, head0, wanted, row-at}
-use Rattle.tree.proofs.Branches.{any-tree, branch-reads, left-tree, right-tree}
-use Rattle.tree.proofs.Keep.{by-test, map-append, keep-append, keep-none, keep-all, keep-ext, keep-keep, all-keep, keep-increasing}
+use Rattle.tree.specs.Links.{branches, keep, matches, past, head0, begun, row-at}
+use Rattle.tree.proofs.Branches.{any-tree, no-tree, branch-reads}
+use Rattle.tree.proofs.Keep.{by-test, all-among, map-append, keep-append, keep-none, keep-all, keep-swap, all-keep, kept-pass, keep-increasing}
 use Rattle.tree.specs.Links.{BranchOf}
-use Rattle.tree.proofs.Links.{tree-ordered, branches-none, branches-at, branches-keys, branches-of, branches-rows, by-sides}
-use Rattle.tree.proofs.Wanted.{by-order, past-low}
+use Rattle.tree.proofs.Links.{tree-ordered, branches-none, branches-at, branches-of, branches-rows, by-sides, all-before, all-beyond, branch-tree, among-branch}
+use Rattle.tree.proofs.Past.{by-order, prefix-past, past-of-prefix, past-begun, starts-self}
 use Rattle.memory.specs.Sound.{At}
-use Rattle.memory.proofs.At.{at-of}
-
--- ---- The first, and the next
-
-pub starts-self : (p : Str) → starts-with p p ≡ true
-unfolding starts-with
-starts-self [] = refl
-starts-self (a ∷ p) = rw (eq-eqb a a refl) (starts-self p)
-
-pub first-is : (ws txt : List ℕ) (root : ℕ) (p : Str) → head0 (keep (key-at ws txt) (wanted false p p) (branches ws root)) ≡ head0 (matches ws txt root p)
-unfolding matches past past-by
-first-is ws txt root p = ap head0 (keep-ext (key-at ws txt) (wanted false p p) (λ k. starts-with k p) same (branches ws root))
-  where
-    same : (k : Str) → wanted false p p k ≡ starts-with k p
-    same k = by-order p k (λ e v. rw e) (λ e v. rw e) (λ e v. rw e (sym (before-prefix k p v)))
-
-pub next-is : (ws txt : List ℕ) (root : ℕ) (p k : Str) → head0 (keep (key-at ws txt) (wanted true k p) (branches ws root)) ≡ head0 (after (key-at ws txt) k (matches ws txt root p))
-unfolding matches
-next-is ws txt root p k = ap head0 (sym (keep-keep (key-at ws txt) (past true k) (λ k. starts-with k p) (branches ws root)))
-
--- ---- What is left after a key
-
-past-lt : (k x : Str) → k <ˢ x → past true k x ≡ true
-unfolding past past-by
-past-lt k x h = by-order k x (λ e v. rw e) (λ e v. absurd (<ˢ-irrefl x (rw v at h))) (λ e v. absurd (<ˢ-irrefl k (<ˢ-trans k x k h v)))
-
-past-true : (k x : Str) → past true k x ≡ true → k <ˢ x
-unfolding past past-by
-past-true k x q = by-order k x (λ e v. v) (λ e v. absurd (true≢false (sym (rw e at q)))) (λ e v. absurd (true≢false (sym (rw e at q))))
-
-past-self : (k : Str) → past true k k ≡ false
-unfolding past past-by
-past-self k = by-order k k (λ e v. absurd (<ˢ-irrefl k v)) (λ e v. rw e) (λ e v. rw e)
-
-module _ (key : ℕ → Str) where
-  pub after-all : (k : Str) (l : List ℕ) → Above key k l → after key k l ≡ l
-  after-all k l a = keep-all key (past true k) l (Allˡ-map {P = λ y. k <ˢ key y} {Q = λ y. past true k (key y) ≡ true} l (λ y. past-lt k (key y)) a)
-
-  pub all-after : (P : ℕ → Type 0) (k : Str) (l : List ℕ) → Allˡ P l → Allˡ P (after key k l)
-  all-after P k l a = all-keep key P (past true k) l (Allˡ-map {P = P} {Q = λ y. past true k (key y) ≡ true → P y} l (λ y h _. h) a)
-
-  -- After the key of the first element of an ascending list: the rest.
-  pub after-first : (x : ℕ) (l : List ℕ) → Increasing key (x ∷ l) → after key (key x) (x ∷ l) ≡ l
-  unfolding keep
-  after-first x l i = rw (past-self (key x)) (after-all (key x) l (i .0))
-
-  -- What is left after a key is nothing, or an element and what is left after its key.
-  pub after-next : (k : Str) (l : List ℕ) → Increasing key l → (x : ℕ) (tl : List ℕ) → after key k l ≡ x ∷ tl → tl ≡ after key (key x) l
-  unfolding keep
-  after-next k [] i x tl e = absurd (nil≢cons e)
-  after-next k (y ∷ l) i x tl e =
-      by-test (past true k (key y))
-      (λ z.
-      let f : y ∷ after key k l ≡ x ∷ tl = rw z at e in
-      let g : y ≡ x = cc in
-      let h : after key k l ≡ tl = cc in
-      sym h ∙ after-all k l (Allˡ-map {P = λ u. key y <ˢ key u} {Q = λ u. k <ˢ key u} l (λ u. <ˢ-trans k (key y) (key u) (past-true k (key y) z)) (i .0)) ∙ rw (← g) (sym (after-first y l i)))
-      (λ z.
-      let f : after key k l ≡ x ∷ tl = rw z at e in
-      let h : key y <ˢ key x = subst (λ (m : List ℕ). Allˡ (λ u. key y <ˢ key u) m) f (all-after (λ u. key y <ˢ key u) k l (i .0)) .0 in
-      after-next k l (i .1) x tl f ∙ rw (past-low true (key x) (key y) h))
 
 -- ---- The matches of a tree
 
@@ -117,16 +56,10 @@ module _ (ws txt : List ℕ) (w : Which) (v : Level) (p : Str) where
     right = right-link (record-at ws x)
 
     none-left : ((y : Str) → y <ˢ key → y <ˢ p) → kept left ≡ []
-    none-left h =
-        keep-none (key-at ws txt) (λ k. starts-with k p) (branches ws left)
-        (branches-keys (λ y. starts-with y p ≡ false) left (left-tree t q)
-        (AllKeys-map {P = λ y. y <ˢ key} {Q = λ y. starts-with y p ≡ false} (what w ws txt left (tree v)) (λ y z. before-prefix y p (h y z)) ((rw (branch-reads t q) at (tree-ordered t)) .0)))
+    none-left h = keep-none (key-at ws txt) (λ k. starts-with k p) (branches ws left) (all-before (any-tree t) q (λ y. starts-with y p ≡ false) (λ y z. before-prefix y p (h y z)))
 
     none-right : p <ˢ key → starts-with key p ≡ false → kept right ≡ []
-    none-right h i =
-        keep-none (key-at ws txt) (λ k. starts-with k p) (branches ws right)
-        (branches-keys (λ y. starts-with y p ≡ false) right (right-tree t q)
-        (AllKeys-map {P = λ y. key <ˢ y} {Q = λ y. starts-with y p ≡ false} (what w ws txt right (tree v)) (λ y z. past-prefix key y p h i z) ((rw (branch-reads t q) at (tree-ordered t)) .1)))
+    none-right h i = keep-none (key-at ws txt) (λ k. starts-with k p) (branches ws right) (all-beyond (any-tree t) q (λ y. starts-with y p ≡ false) (λ y z. past-prefix key y p h i z))
 
     here : (acc : Rows) → rows (kept x) ++ acc ≡ rows (kept left) ++ (rows (keep (key-at ws txt) (λ k. starts-with k p) (x ∷ branches ws right)) ++ acc)
     here acc = rw (branches-at t q, keep-append (key-at ws txt) (λ k. starts-with k p) (branches ws left) (x ∷ branches ws right), map-append, append-assoc)
@@ -151,26 +84,21 @@ module _ (ws txt : List ℕ) (w : Which) (v : Level) (p : Str) where
 
 -- A branch of the tree whose key begins with p.
 pub record MatchOf (ws txt : List ℕ) (w : Which) (v : Level) (root : ℕ) (p : Str) (x : ℕ) : Type 0 where
+  pub among : List·Memᴰ x (branches ws root)
   pub branch : BranchOf ws w v root x
   pub begins : starts-with (key-at ws txt x) p ≡ true
 
 module _ {ws txt : List ℕ} {w : Which} {v : Level} {root : ℕ} (t : At ws txt w (tree v) root) where
-  -- What tree_next asks of a match.
-  pub match-tree : {x : ℕ} → BranchOf ws w v root x → AnyTree ws txt x
-  match-tree o = any-tree (at-of t (tree _) (omega arith) (o .link))
-
   pub matches-of : (p : Str) → Allˡ (MatchOf ws txt w v root p) (matches ws txt root p)
   unfolding matches
   matches-of p =
       all-keep (key-at ws txt) (MatchOf ws txt w v root p) (λ k. starts-with k p) (branches ws root)
-      (Allˡ-map {P = BranchOf ws w v root} {Q = λ y. starts-with (key-at ws txt y) p ≡ true → MatchOf ws txt w v root p y} (branches ws root)
-      (λ y o e. record { branch = o; begins = e }) (branches-of root t))
+      (Allˡ-map {P = λ y. List·Memᴰ y (branches ws root)} {Q = λ y. starts-with (key-at ws txt y) p ≡ true → MatchOf ws txt w v root p y} (branches ws root)
+      (λ y m e. record { among = m; branch = among-branch t m; begins = e }) (all-among (branches ws root)))
 
-  pub matches-increasing : (p : Str) → Increasing (key-at ws txt) (matches ws txt root p)
-  unfolding matches row-at entry-key
-  matches-increasing p =
-      keep-increasing (key-at ws txt) (λ k. starts-with k p) (branches ws root)
-      (keys (branches ws root) (rw (← branches-rows none root t) at (find-all-ascends none (what w ws txt root (tree v)) (tree-ordered t))))
+  branches-increasing : Increasing (key-at ws txt) (branches ws root)
+  unfolding row-at entry-key
+  branches-increasing = keys (branches ws root) (rw (← branches-rows none root t) at (find-all-ascends none (what w ws txt root (tree v)) (tree-ordered t)))
     where
       row : ℕ → PrefixMatch × Value (Item w) v
       row = row-at w ws txt v none
@@ -182,6 +110,10 @@ module _ {ws txt : List ℕ} {w : Which} {v : Level} {root : ℕ} (t : At ws txt
       keys : (l : List ℕ) → Increasing entry-key (map row l) → Increasing (key-at ws txt) l
       keys [] i = tt
       keys (x ∷ l) i = (above (key-at ws txt x) l (i .0), keys l (i .1))
+
+  pub matches-increasing : (p : Str) → Increasing (key-at ws txt) (matches ws txt root p)
+  unfolding matches
+  matches-increasing p = keep-increasing (key-at ws txt) (λ k. starts-with k p) (branches ws root) branches-increasing
 
   -- With no prefix, the rows of btree_find_all.
   pub all-rows : (q : Option Str) → map (row-at w ws txt v q) (matches ws txt root []) ≡ btree-find-all q (what w ws txt root (tree v))
@@ -196,3 +128,57 @@ module _ {ws txt : List ℕ} {w : Which} {v : Level} {root : ℕ} (t : At ws txt
   pub prefix-rows : (p : Str) → map (row-at w ws txt v (some p)) (matches ws txt root p) ≡ btree-find-prefix (what w ws txt root (tree v)) p
   unfolding matches btree-find-prefix
   prefix-rows p = sym (append-nil _) ∙ prefix-onto ws txt w v p root t []
+
+-- The matches are all past the prefix.
+pub matches-past : (ws txt : List ℕ) (p : Str) (x : ℕ) → keep (key-at ws txt) (past false p) (matches ws txt x p) ≡ matches ws txt x p
+unfolding matches
+matches-past ws txt p x =
+    keep-all (key-at ws txt) (past false p) (matches ws txt x p)
+    (Allˡ-map {P = λ y. starts-with (key-at ws txt y) p ≡ true} {Q = λ y. past false p (key-at ws txt y) ≡ true} (matches ws txt x p) (λ y. prefix-past p (key-at ws txt y))
+    (kept-pass (key-at ws txt) (λ k. starts-with k p) (branches ws x)))
+
+-- ---- The first, and the next
+
+-- Of ascending keys past p those that begin with it come first.
+first-begun : (key : ℕ → Str) (p : Str) (l : List ℕ) → Increasing key l → Allˡ (λ y. (0 < y) × (past false p (key y) ≡ true)) l → head0 (keep key (λ k. starts-with k p) l) ≡ begun key p (head0 l)
+unfolding keep begun
+first-begun key p [] i a = refl
+first-begun key p (x ∷ l) i a =
+    rw (ne-eqb x 0 (λ e. omega (arith, a .0 .0)))
+    (by-test (starts-with (key x) p)
+    (λ e. rw e)
+    (λ e. rw e
+    (ap head0 (keep-none key (λ k. starts-with k p) l (Allˡ-map {P = λ y. key x <ˢ key y} {Q = λ y. starts-with (key y) p ≡ false} l (λ y. past-begun p (key x) (key y) (a .0 .1) e) (i .0))))))
+
+module _ {ws txt : List ℕ} {root : ℕ} (a : AnyTree ws txt root) where
+  -- The branches past a bound are branches.
+  past-of : (strict : Bool) (low : Str) → Allˡ (BranchOf ws (a .which) (a .level) root) (keep (key-at ws txt) (past strict low) (branches ws root))
+  past-of strict low =
+      all-keep (key-at ws txt) (BranchOf ws (a .which) (a .level) root) (past strict low) (branches ws root)
+      (Allˡ-map {P = BranchOf ws (a .which) (a .level) root} {Q = λ y. past strict low (key-at ws txt y) ≡ true → BranchOf ws (a .which) (a .level) root y} (branches ws root) (λ y o _. o) (branches-of root (a .tree)))
+
+  -- The first of them is a tree.
+  pub first-tree : (strict : Bool) (low : Str) {x : ℕ} → x ≡ head0 (keep (key-at ws txt) (past strict low) (branches ws root)) → AnyTree ws txt x
+  first-tree strict low e = rw e (go (keep (key-at ws txt) (past strict low) (branches ws root)) (past-of strict low))
+    where
+      go : (l : List ℕ) → Allˡ (BranchOf ws (a .which) (a .level) root) l → AnyTree ws txt (head0 l)
+      go [] o = no-tree a
+      go (y ∷ l) o = branch-tree (a .tree) (o .0)
+
+  -- The first match past a bound is the first branch past it, or there is none.
+  pub next-is : (strict : Bool) (low p : Str) → starts-with low p ≡ true → {x r : ℕ} → x ≡ head0 (keep (key-at ws txt) (past strict low) (branches ws root)) → r ≡ begun (key-at ws txt) p x
+      → r ≡ head0 (keep (key-at ws txt) (past strict low) (matches ws txt root p))
+  unfolding matches
+  next-is strict low p s e f =
+      let b = past strict low in
+      let l = keep (key-at ws txt) b (branches ws root) in
+      f
+      ∙ ap (begun (key-at ws txt) p) e
+      ∙ sym (first-begun (key-at ws txt) p l (keep-increasing (key-at ws txt) b (branches ws root) (branches-increasing (a .tree)))
+      (Allˡ-zip {P = BranchOf ws (a .which) (a .level) root} {Q = λ y. b (key-at ws txt y) ≡ true} {R = λ y. (0 < y) × (past false p (key-at ws txt y) ≡ true)} l
+      (λ y o h. (o .some, past-of-prefix strict low p (key-at ws txt y) s h)) (past-of strict low) (kept-pass (key-at ws txt) b (branches ws root))))
+      ∙ ap head0 (keep-swap (key-at ws txt) (λ k. starts-with k p) b (branches ws root))
+
+  -- The first match is the first branch past the prefix, or there is none.
+  pub first-is : (p : Str) {x r : ℕ} → x ≡ head0 (keep (key-at ws txt) (past false p) (branches ws root)) → r ≡ begun (key-at ws txt) p x → r ≡ head0 (matches ws txt root p)
+  first-is p e f = next-is false p p (starts-self p) e f ∙ ap head0 (matches-past ws txt p root)

@@ -1,6 +1,6 @@
 -- The branches of a tree as links: those whose keys begin with a prefix, and what is left of them after a key.
 use Prim.Native.Nat.{ℕ, zero, suc, _+_, _<_, Ordering, Ordering·lt, Ordering·eq, Ordering·gt}
-use mathlib.Core.Bool.{Bool, true, false, cond, not, _&&_}
+use mathlib.Core.Bool.{Bool, true, false, cond, not}
 use mathlib.Core.List.{List, [], _∷_, _++_}
 use mathlib.Core.Option.{Option}
 use lib.Dec.{eqb}
@@ -51,9 +51,9 @@ abbrev pub head0 : List ℕ → ℕ
 head0 [] = 0
 head0 (x ∷ l) = x
 
--- The keys past low that begin with p.
-abbrev pub wanted : Bool → Str → Str → Str → Bool
-wanted strict low p k = past strict low k && starts-with k p
+-- The link x where its key begins with p, 0 where it does not.
+unfoldable pub begun : (ℕ → Str) → Str → ℕ → ℕ
+begun key p x = cond (eqb x 0) 0 (cond (starts-with (key x) p) x 0)
 
 -- The row of btree_find_prefix that the branch of link l gives.
 unfoldable pub row-at : (w : Which) → List ℕ → List ℕ → (v : Level) → Option Str → ℕ → PrefixMatch × Value (Item w) v

@@ -2,16 +2,17 @@
 // A tree is the link of its root; the same functions serve both tables and both levels.
 use text::Order;
 ghost use mathlib.Core.Path.{_≡_};
-ghost use mathlib.Core.Bool.{true};
+ghost use mathlib.Core.Bool.{true, false};
+ghost use mathlib.Core.List.{List·Memᴰ};
 ghost use Prim.Native.Nat.{_+_, _*_, _≤_, _<_, max};
 ghost use lib.ListN.{length};
 ghost use Rattle.source.specs.Limits.{most-used, record-words};
 ghost use Rattle.source.specs.Text.{string-compare, starts-with};
-ghost use Rattle.memory.specs.Layout.{key-at, kind-word, trie-link};
+ghost use Rattle.memory.specs.Layout.{record-at, right-link, key-at, kind-word, trie-link};
 ghost use Rattle.text.specs.Text.{ordering};
 ghost use Rattle.tree.specs.Tree.{AnyTree, Found, Builds, Placed};
 ghost use Rattle.tree.specs.Insert.{of-namespaces, branch-depth, DepthOk, with-sides, raised-row, RaiseOk, lowest-row, LowestOk, Noted, Marked, AnyInsertion, Inserts};
-ghost use Rattle.tree.specs.Links.{branches, keep, matches, past, after, head0, wanted};
+ghost use Rattle.tree.specs.Links.{branches, keep, matches, past, after, head0, begun};
 
 // How `key` compares with the key of a branch.
 pub fn key_order(words: &[u32], text: &[u8], link: u32, key: &[u8]) -> Order
@@ -86,26 +87,16 @@ pub fn key_past(words: &[u32], text: &[u8], link: u32, low: &[u8], strict: bool)
     }
 }
 
-// The branch with the least key past `low` that begins with `prefix`, 0 for none.
-pub fn tree_above(
-    words: &[u32],
-    text: &[u8],
-    root: u32,
-    prefix: &[u8],
-    low: &[u8],
-    strict: bool,
-) -> u32
+// The branch with the least key that is not before `low`, 0 for none.
+fn least_from(words: &[u32], text: &[u8], root: u32, low: &[u8]) -> u32
     requires { ⌜ AnyTree (now words) (now text) root ⌝ }
-    requires { ⌜ starts-with (now low) (now prefix) ≡ true ⌝ }
-    ensures { λ r. ⌜ r ≡ head0 (keep (key-at (now (words .entry)) (now (text .entry))) (wanted strict (now (low .entry)) (now (prefix .entry))) (branches (now (words .entry)) root)) ⌝ }
+    ensures { λ r. ⌜ r ≡ head0 (keep (key-at (now (words .entry)) (now (text .entry))) (past false (now (low .entry))) (branches (now (words .entry)) root)) ⌝ }
 {
     let mut at = root;
     let mut found = 0;
     while 0 < at {
-        if key_past(words, text, at, low, strict) {
-            if key_begins(words, text, at, prefix) {
-                found = at;
-            }
+        if key_past(words, text, at, low, false) {
+            found = at;
             at = memory::left_of(words, at);
         } else {
             at = memory::right_of(words, at);
@@ -114,23 +105,102 @@ pub fn tree_above(
     found
 }
 
+// The branch with the least key, 0 for none.
+fn least_of(words: &[u32], text: &[u8], root: u32) -> u32
+    requires { ⌜ AnyTree (now words) (now text) root ⌝ }
+    ensures { λ r. ⌜ r ≡ head0 (branches (now (words .entry)) root) ⌝ }
+{
+    let mut at = root;
+    let mut found = 0;
+    while 0 < at {
+        found = at;
+        at = memory::left_of(words, at);
+    }
+    found
+}
+
+// Whether the branch `at` of the tree of `link` is to the left of `link`. A link is no later than those above it, so that often the sides' links say it.
+fn is_left(words: &[u32], text: &[u8], link: u32, at: u32) -> bool
+    requires { ⌜ AnyTree (now words) (now text) link ⌝ }
+    requires { ⌜ List·Memᴰ at (branches (now words) link) ⌝ }
+    requires { ⌜ (link ≡ at → ⊥) ⌝ }
+    ensures { λ r. ⌜ r ≡ past true (key-at (now (words .entry)) (now (text .entry)) at) (key-at (now (words .entry)) (now (text .entry)) link) ⌝ }
+{
+    if memory::right_of(words, link) < at {
+        return true;
+    }
+    if memory::left_of(words, link) < at {
+        return false;
+    }
+    let key = memory::key_of(words, text, at);
+    key_past(words, text, link, key, true)
+}
+
+// The branch above `at` that is the nearest to have it to its left, 0 for none.
+fn branch_above(words: &[u32], text: &[u8], root: u32, at: u32) -> u32
+    requires { ⌜ AnyTree (now words) (now text) root ⌝ }
+    requires { ⌜ List·Memᴰ at (branches (now words) root) ⌝ }
+    requires { ⌜ right-link (record-at (now words) at) ≡ 0 ⌝ }
+    ensures { λ r. ⌜ r ≡ head0 (after (key-at (now (words .entry)) (now (text .entry))) (key-at (now (words .entry)) (now (text .entry)) at) (branches (now (words .entry)) root)) ⌝ }
+{
+    let mut link = root;
+    let mut found = 0;
+    while link != at {
+        if is_left(words, text, link, at) {
+            found = link;
+            link = memory::left_of(words, link);
+        } else {
+            link = memory::right_of(words, link);
+        }
+    }
+    found
+}
+
+// The branch after the branch `at`, 0 for none: the least to its right, or where nothing is there one above it.
+fn branch_after(words: &[u32], text: &[u8], root: u32, at: u32) -> u32
+    requires { ⌜ AnyTree (now words) (now text) root ⌝ }
+    requires { ⌜ List·Memᴰ at (branches (now words) root) ⌝ }
+    ensures { λ r. ⌜ r ≡ head0 (after (key-at (now (words .entry)) (now (text .entry))) (key-at (now (words .entry)) (now (text .entry)) at) (branches (now (words .entry)) root)) ⌝ }
+{
+    let right = memory::right_of(words, at);
+    if 0 < right {
+        return least_of(words, text, right);
+    }
+    branch_above(words, text, root, at)
+}
+
+// The branch `link` where its key begins with `prefix`, 0 where it does not.
+fn begun(words: &[u32], text: &[u8], link: u32, prefix: &[u8]) -> u32
+    requires { ⌜ AnyTree (now words) (now text) link ⌝ }
+    ensures { λ r. ⌜ r ≡ begun (key-at (now (words .entry)) (now (text .entry))) (now (prefix .entry)) link ⌝ }
+{
+    if link == 0 {
+        return 0;
+    }
+    if key_begins(words, text, link, prefix) {
+        return link;
+    }
+    0
+}
+
 // The first branch whose key begins with `prefix`, 0 for none.
 pub fn tree_first(words: &[u32], text: &[u8], root: u32, prefix: &[u8]) -> u32
     requires { ⌜ AnyTree (now words) (now text) root ⌝ }
     ensures { λ r. ⌜ r ≡ head0 (matches (now (words .entry)) (now (text .entry)) root (now (prefix .entry))) ⌝ }
 {
-    tree_above(words, text, root, prefix, prefix, false)
+    let least = least_from(words, text, root, prefix);
+    begun(words, text, least, prefix)
 }
 
-// The next one after the branch `at`, 0 for none.
+// The next one after the branch `at`, 0 for none. Those that begin with the prefix stand together, so that only the next branch can be one.
 pub fn tree_next(words: &[u32], text: &[u8], root: u32, prefix: &[u8], at: u32) -> u32
     requires { ⌜ AnyTree (now words) (now text) root ⌝ }
-    requires { ⌜ (0 < at) × AnyTree (now words) (now text) at ⌝ }
+    requires { ⌜ List·Memᴰ at (branches (now words) root) ⌝ }
     requires { ⌜ starts-with (key-at (now words) (now text) at) (now prefix) ≡ true ⌝ }
     ensures { λ r. ⌜ r ≡ head0 (after (key-at (now (words .entry)) (now (text .entry))) (key-at (now (words .entry)) (now (text .entry)) at) (matches (now (words .entry)) (now (text .entry)) root (now (prefix .entry)))) ⌝ }
 {
-    let low = memory::key_of(words, text, at);
-    tree_above(words, text, root, prefix, low, true)
+    let next = branch_after(words, text, root, at);
+    begun(words, text, next, prefix)
 }
 
 // ---- Insertion

@@ -1,5 +1,5 @@
 -- key_past meets its contract, by how the bound compares with the key.
-use Rattle.tree.proofs.Wanted.{past-is}
+use Rattle.tree.proofs.Past.{past-is}
 use Rattle.tree.specs.Links.{past-by}
 use borrow.Author.Needs.{needs}
 use Rattle.tree.proofs.key_past.Statement.{statement}

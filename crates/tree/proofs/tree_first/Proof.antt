@@ -1,6 +1,7 @@
--- tree_first meets its contract: the least match is past the prefix itself.
-use mathlib.Core.Path.{_∙_}
-use Rattle.tree.proofs.Matches.{starts-self, first-is}
+-- tree_first meets its contract: the first match is the first branch past the prefix.
+use mathlib.Core.Bool.{false}
+use borrow.Author.Needs.{needs}
+use Rattle.tree.proofs.Matches.{first-tree, first-is}
 use Rattle.tree.proofs.tree_first.Statement.{statement}
 use Rattle.tree.proofs.tree_first.Tie as tie
 
@@ -8,7 +9,9 @@ pub tree-first-spec : {M : Type 1} → statement M
 tree-first-spec =
     tie.close
     (tie.spec
-    {- tree-above-requires -}
-    (λ c κs. (c .before .before .before .pre, starts-self (c .before .before .before .args .prefix .now)))
+    {- least-from-requires -}
+    (λ c κs. search needs)
+    {- begun-requires -}
+    (λ c κs. first-tree (c .before .before .before .before .pre) false (c .before .before .before .before .args .prefix .now) (c .least-from .ensures))
     {- returns -}
-    (λ c. c .tree-above .ensures ∙ first-is (c .before .before .before .before .args .words .now) (c .before .before .before .before .args .text .now) (c .before .before .before .before .args .root) (c .before .before .before .before .args .prefix .now)))
+    (λ c. first-is (c .before .before .before .before .before .pre) (c .before .before .before .before .before .args .prefix .now) (c .before .least-from .ensures) (c .begun .ensures)))

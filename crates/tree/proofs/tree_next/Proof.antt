@@ -1,8 +1,8 @@
--- tree_next meets its contract: the next match is past the key of the last.
-use mathlib.Core.Path.{_∙_}
-use Rattle.tree.proofs.Branches.{text-in}
-use Rattle.tree.proofs.Matches.{next-is}
+-- tree_next meets its contract: the next match is the branch after the last one.
+use mathlib.Core.Bool.{true}
+use borrow.Author.Needs.{needs}
 use Rattle.memory.specs.Layout.{key-at}
+use Rattle.tree.proofs.Matches.{first-tree, next-is}
 use Rattle.tree.proofs.tree_next.Statement.{statement}
 use Rattle.tree.proofs.tree_next.Tie as tie
 
@@ -10,12 +10,9 @@ pub tree-next-spec : {M : Type 1} → statement M
 tree-next-spec =
     tie.close
     (tie.spec
-    {- key-of-requires -}
-    (λ c κs. let u = c .before .before .before in text-in (u .pre .1 .0 .1) (u .pre .1 .0 .0))
-    {- tree-above-requires -}
-    (λ c κs. let u = c .before .before .before .before in (u .pre .0, rw (c .key-of .ensures) (u .pre .1 .1)))
+    {- branch-after-requires -}
+    (λ c κs. search needs)
+    {- begun-requires -}
+    (λ c κs. let s = c .before .before .before .before .args in first-tree (c .before .before .before .before .pre .0) true (key-at (s .words .now) (s .text .now) (s .at)) (c .branch-after .ensures))
     {- returns -}
-    (λ c.
-    let u = c .before .before .before .before .before in
-    rw (c .before .key-of .ensures) at (c .tree-above .ensures)
-    ∙ next-is (u .args .words .now) (u .args .text .now) (u .args .root) (u .args .prefix .now) (key-at (u .args .words .now) (u .args .text .now) (u .args .at))))
+    (λ c. let s = c .before .before .before .before .before .args in next-is (c .before .before .before .before .before .pre .0) true (key-at (s .words .now) (s .text .now) (s .at)) (s .prefix .now) (c .before .before .before .before .before .pre .1 .1) (c .before .branch-after .ensures) (c .begun .ensures)))
