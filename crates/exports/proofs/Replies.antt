@@ -7,7 +7,7 @@ use Rattle.source.specs.Text.{Str}
 use Rattle.source.specs.Calls.{Call}
 use Rattle.lines.specs.declared.Ask.{Ask}
 use Rattle.table.specs.Header.{IsSound}
-use Rattle.table.specs.Answers.{Finds}
+use Rattle.table.specs.Answers.{name-found, Finds}
 use Rattle.table.specs.Completions.{Completes}
 use Rattle.table.specs.Registrations.{Answers, Total}
 use Rattle.table.specs.declared.Table.{Table}
@@ -15,10 +15,11 @@ use Rattle.table.specs.declared.Registration.{Registration}
 use Rattle.table.specs.declared.Finding.{Finding}
 use Rattle.table.specs.declared.Listing.{Listing}
 use Rattle.table.proofs.Decided.{decided}
-use Rattle.exports.specs.Replies.{ask-of, reply-of, found-of, listed-of, Replies, FindReplies, ListReplies}
+use Rattle.numbers.specs.Replies.{name-reply, lines-reply}
+use Rattle.numbers.specs.declared.NameReply.{NameReply}
+use Rattle.numbers.specs.declared.CompleteReply.{CompleteReply}
+use Rattle.exports.specs.Replies.{ask-of, reply-of, Replies, FindReplies, ListReplies}
 use Rattle.exports.specs.declared.Reply.{Reply}
-use Rattle.exports.specs.declared.FindReply.{FindReply}
-use Rattle.exports.specs.declared.ListReply.{ListReply}
 
 module _ {ws txt ws′ txt′ : List ℕ} {t t′ : Table} {c : Call} {x : Registration} {r : Reply} where
   pub replies : t ≡ t′ → Total ws txt ws′ txt′ t c x → r ≡ reply-of x → Replies ws txt ws′ txt′ t′ c r
@@ -28,11 +29,11 @@ module _ {ws txt ws′ txt′ : List ℕ} {t t′ : Table} {c : Call} {x : Regis
   pub replies-sound : t ≡ t′ → IsSound ws txt t′ → Answers true ws txt ws′ txt′ t c x → r ≡ reply-of x → Replies ws txt ws′ txt′ t′ c r
   replies-sound e o a f = record { answer = x; total = λ b h. rw (decided _ b true h o) (subst (λ u. Answers true ws txt ws′ txt′ u c x) e a); reply = f }
 
-pub finds-replies : {ws txt : List ℕ} {t t′ : Table} {query : Str} {x : Finding} {r : FindReply} → t ≡ t′ → Finds ws txt t query x → r ≡ found-of (x .answer) → FindReplies ws txt t′ query r
+pub finds-replies : {ws txt : List ℕ} {t t′ : Table} {query : Str} {x : Finding} {r : NameReply} → t ≡ t′ → Finds ws txt t query x → r ≡ name-reply (name-found (x .answer)) → FindReplies ws txt t′ query r
 finds-replies {ws} {txt} {query = query} {x} e a f = record { answer = x; finds = subst (λ u. Finds ws txt u query x) e a; reply = f }
 
-pub lists-replies : {ws txt : List ℕ} {t t′ : Table} {ask : Ask} {n : ℕ} {query : Str} {budget : ℕ} {flat flat′ out out′ : List ℕ} {x : Listing} {r : ListReply} → t ≡ t′ → ask ≡ ask-of n
-    → Completes ws txt t ask query budget flat flat′ out out′ x → r ≡ listed-of (x .answer) → ListReplies ws txt t′ n query budget flat flat′ out out′ r
+pub lists-replies : {ws txt : List ℕ} {t t′ : Table} {ask : Ask} {n : ℕ} {query : Str} {budget : ℕ} {flat flat′ out out′ : List ℕ} {x : Listing} {r : CompleteReply} → t ≡ t′ → ask ≡ ask-of n
+    → Completes ws txt t ask query budget flat flat′ out out′ x → r ≡ lines-reply (x .answer) → ListReplies ws txt t′ n query budget flat flat′ out out′ r
 lists-replies {ws} {txt} {t′ = t′} {ask} {query = query} {budget} {flat} {flat′} {out} {out′} {x} e g a f = record {
   answer = x;
   completes = subst (λ (k : Ask). Completes ws txt t′ k query budget flat flat′ out out′ x) g (subst (λ (u : Table). Completes ws txt u ask query budget flat flat′ out out′ x) e a);

@@ -14,18 +14,15 @@ use Rattle.table.specs.declared.Table.{Table}
 use Rattle.table.specs.declared.Registered.{Registered}
 use Rattle.table.specs.declared.Registered.the-variants.{Accepted, Refused}
 use Rattle.table.specs.declared.Registration.{Registration}
-use Rattle.table.specs.declared.Found.{Found}
-use Rattle.table.specs.declared.Found.the-variants.{Item, Nothing, Refused as Not-looked}
 use Rattle.table.specs.declared.Finding.{Finding}
-use Rattle.table.specs.declared.Completed.{Completed}
-use Rattle.table.specs.declared.Completed.the-variants.{Listed, Refused as Not-listed}
 use Rattle.table.specs.declared.Listing.{Listing}
-use Rattle.table.specs.Answers.{Finds}
+use Rattle.table.specs.Answers.{name-found, Finds}
 use Rattle.table.specs.Completions.{Completes}
 use Rattle.table.specs.Registrations.{Total}
+use Rattle.numbers.specs.Replies.{name-reply, lines-reply}
+use Rattle.numbers.specs.declared.NameReply.{NameReply}
+use Rattle.numbers.specs.declared.CompleteReply.{CompleteReply}
 use Rattle.exports.specs.declared.Reply.{Reply}
-use Rattle.exports.specs.declared.FindReply.{FindReply}
-use Rattle.exports.specs.declared.ListReply.{ListReply}
 
 -- The table of four numbers.
 abbrev pub table-of : (names modules records used : ℕ) → Table
@@ -59,29 +56,16 @@ pub record Replies (ws txt ws′ txt′ : List ℕ) (t : Table) (c : Call) (r : 
 
 -- ---- Look-ups
 
--- The answer of a look-up that finds nothing.
-abbrev pub none : ℕ
-none = 4294967295
-
-abbrev pub found-of : Found → FindReply
-found-of (Item n) = record { answer = 0; item = n }
-found-of Nothing = record { answer = none; item = 0 }
-found-of (Not-looked x) = record { answer = number x; item = 0 }
-
 -- The reply to a look-up of a name: that of what table's contract says.
-pub record FindReplies (ws txt : List ℕ) (t : Table) (query : Str) (r : FindReply) : Type 0 where
+pub record FindReplies (ws txt : List ℕ) (t : Table) (query : Str) (r : NameReply) : Type 0 where
   pub answer : Finding
   pub finds : Finds ws txt t query answer
-  pub reply : r ≡ found-of (answer .answer)
+  pub reply : r ≡ name-reply (name-found (answer .answer))
 
 -- ---- Completions
 
-abbrev pub listed-of : Completed → ListReply
-listed-of (Listed lines entered) = record { refusal = 0; lines = lines; entered = entered }
-listed-of (Not-listed x) = record { refusal = number x; lines = 0; entered = 0 }
-
 -- The reply to a completion: that of what table's contract says.
-pub record ListReplies (ws txt : List ℕ) (t : Table) (ask : ℕ) (query : Str) (budget : ℕ) (flat flat′ out out′ : List ℕ) (r : ListReply) : Type 0 where
+pub record ListReplies (ws txt : List ℕ) (t : Table) (ask : ℕ) (query : Str) (budget : ℕ) (flat flat′ out out′ : List ℕ) (r : CompleteReply) : Type 0 where
   pub answer : Listing
   pub completes : Completes ws txt t (ask-of ask) query budget flat flat′ out out′ answer
-  pub reply : r ≡ listed-of (answer .answer)
+  pub reply : r ≡ lines-reply (answer .answer)

@@ -3,10 +3,8 @@
 use lines::Ask;
 use lines::Filter;
 use memory::Header;
-use table::Completed;
-use table::Finding;
-use table::Found;
-use table::Listing;
+use numbers::CompleteReply;
+use numbers::NameReply;
 use table::Registered;
 use table::Registration;
 use table::Table;
@@ -14,7 +12,7 @@ ghost use mathlib.Core.Path.{_≡_};
 ghost use Rattle.source.specs.Calls.{name, include, opens, alias, module-path};
 ghost use Rattle.memory.specs.Sound.{Says};
 ghost use Rattle.table.specs.Header.{IsSound};
-ghost use Rattle.exports.specs.Replies.{table-of, ask-of, refusal-of, reply-of, found-of, listed-of, Replies, FindReplies, ListReplies};
+ghost use Rattle.exports.specs.Replies.{table-of, ask-of, refusal-of, reply-of, Replies, FindReplies, ListReplies};
 
 // A registration's reply: 0 or the number of the refusal, and the table.
 #[repr(C)]
@@ -24,24 +22,6 @@ pub struct Reply {
     pub modules: u32,
     pub records: u32,
     pub text: u32,
-}
-
-// The answer of a look-up that finds nothing: no refusal has this number.
-pub const NONE: u32 = 4294967295;
-
-// A look-up's reply: 0 for an item, NONE, else the number of the refusal.
-#[repr(C)]
-pub struct FindReply {
-    pub answer: u32,
-    pub item: u32,
-}
-
-// A completion's reply: 0 or the number of the refusal, lines and tries entered.
-#[repr(C)]
-pub struct ListReply {
-    pub refusal: u32,
-    pub lines: u32,
-    pub entered: u32,
 }
 
 // What is asked: 0 for names, else modules with a filter: 1 All, 2 Loaded, 3 ModulesOnly, any other NamespacesOnly.
@@ -61,24 +41,6 @@ fn ask_of(n: u32) -> Ask
         return Ask::Modules(Filter::ModulesOnly);
     }
     Ask::Modules(Filter::NamespacesOnly)
-}
-
-fn listed_of(l: Listing) -> ListReply
-    ensures { λ r. ⌜ r ≡ listed-of (l .answer) ⌝ }
-{
-    let c = l.answer;
-    match c {
-        Completed::Listed(lines, entered) => ListReply {
-            refusal: 0,
-            lines: lines,
-            entered: entered,
-        },
-        Completed::Refused(x) => ListReply {
-            refusal: refusals::number(x),
-            lines: 0,
-            entered: 0,
-        },
-    }
 }
 
 fn refusal_of(a: Registered) -> u32
@@ -101,23 +63,6 @@ fn reply_of(x: Registration) -> Reply
         modules: t.header.modules,
         records: t.header.records,
         text: t.header.text,
-    }
-}
-
-fn found_of(f: Finding) -> FindReply
-    ensures { λ r. ⌜ r ≡ found-of (f .answer) ⌝ }
-{
-    let a = f.answer;
-    match a {
-        Found::Item(n) => FindReply { answer: 0, item: n },
-        Found::Nothing => FindReply {
-            answer: NONE,
-            item: 0,
-        },
-        Found::Refused(x) => FindReply {
-            answer: refusals::number(x),
-            item: 0,
-        },
     }
 }
 
@@ -253,11 +198,11 @@ pub extern "C" fn name_table_find(
     records: u32,
     used: u32,
     query: &[u8],
-) -> FindReply
+) -> NameReply
     ensures { λ r. ⌜ FindReplies (now (words .entry)) (now (text .entry)) (table-of names modules records used) (now (query .entry)) r ⌝ }
 {
     let t = table_of(names, modules, records, used);
-    found_of(t.find(words, text, query))
+    numbers::name_reply(t.find(words, text, query))
 }
 
 #[no_mangle]
@@ -273,12 +218,12 @@ pub extern "C" fn name_table_complete(
     budget: u32,
     flat: &mut [u8],
     out: &mut [u8],
-) -> ListReply
+) -> CompleteReply
     ensures { λ r. ⌜ ListReplies (now (words .entry)) (now (text .entry)) (table-of names modules records used) ask (now (query .entry)) budget
         (now (flat .entry)) (now (flat .exit)) (now (out .entry)) (now (out .exit)) r ⌝ }
 {
     let t = table_of(names, modules, records, used);
-    listed_of(t.complete(words, text, ask_of(ask), query, budget, flat, out))
+    numbers::lines_reply(t.complete(words, text, ask_of(ask), query, budget, flat, out))
 }
 
 // For callers whose memory is sound: no test.
@@ -311,12 +256,12 @@ pub extern "C" fn name_table_find_sound(
     records: u32,
     used: u32,
     query: &[u8],
-) -> FindReply
+) -> NameReply
     requires { ⌜ IsSound (now words) (now text) (table-of names modules records used) ⌝ }
     ensures { λ r. ⌜ FindReplies (now (words .entry)) (now (text .entry)) (table-of names modules records used) (now (query .entry)) r ⌝ }
 {
     let t = table_of(names, modules, records, used);
-    found_of(t.find_sound(words, text, query))
+    numbers::name_reply(t.find_sound(words, text, query))
 }
 
 #[no_mangle]
@@ -332,11 +277,11 @@ pub extern "C" fn name_table_complete_sound(
     budget: u32,
     flat: &mut [u8],
     out: &mut [u8],
-) -> ListReply
+) -> CompleteReply
     requires { ⌜ IsSound (now words) (now text) (table-of names modules records used) ⌝ }
     ensures { λ r. ⌜ ListReplies (now (words .entry)) (now (text .entry)) (table-of names modules records used) ask (now (query .entry)) budget
         (now (flat .entry)) (now (flat .exit)) (now (out .entry)) (now (out .exit)) r ⌝ }
 {
     let t = table_of(names, modules, records, used);
-    listed_of(t.complete_sound(words, text, ask_of(ask), query, budget, flat, out))
+    numbers::lines_reply(t.complete_sound(words, text, ask_of(ask), query, budget, flat, out))
 }

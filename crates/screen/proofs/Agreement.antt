@@ -1,16 +1,15 @@
 -- Demand 3 of the exported calls follows from their contracts and from the theorem over the definitions.
-use Prim.Native.Nat.{ℕ, _<_, _≤_}
-use mathlib.Core.Path.{_≡_, refl, sym, ap}
-use mathlib.Core.Logic.{⊎-elim}
+use Prim.Native.Nat.{ℕ, _<_}
+use mathlib.Core.Path.{_≡_, refl, ap}
 use mathlib.Core.Bool.{Bool, true, false}
 use mathlib.Core.List.{List}
 use native.Mathlib.Omega.{arith}
 use Rattle.source.specs.Text.{Str, segments}
 use Rattle.source.specs.Table as S
-use Rattle.source.specs.Table.{ModSymbol, Line}
+use Rattle.source.specs.Table.{Line}
 use Rattle.source.specs.Calls as C
 use Rattle.source.specs.Calls.{look-up, lowest, argument-rows, Output, complete, complete-modules}
-use Rattle.source.specs.Agreement.{Covers, NotRefused, Agreement}
+use Rattle.source.specs.Agreement.{Covers, Agreement}
 use Rattle.source.proofs.Agreement.{agreement}
 use Rattle.source.proofs.Refusals.{look-up-refused, completed-refused}
 use Rattle.memory.specs.Layout.{names, modules, Item}
@@ -23,25 +22,17 @@ use Rattle.lines.specs.declared.Filter.the-variants.{All}
 use Rattle.rows.specs.Rows.{lines-seen}
 use Rattle.rows.proofs.Written.{written-seen}
 use Rattle.completion.specs.Completes.{output}
-use Rattle.refusals.specs.Refusals.{number}
 use Rattle.table.specs.Header.{table-in, names-in, modules-in}
-use Rattle.table.specs.Answers.{module-found}
-use Rattle.table.specs.declared.FoundModule.{FoundModule}
-use Rattle.table.specs.declared.FoundModule.the-variants.{Symbol, Nothing, Refused}
+use Rattle.numbers.specs.Replies.{name-reply, Answered}
+use Rattle.numbers.specs.declared.NameReply.{NameReply}
+use Rattle.numbers.specs.declared.ModuleReply.{ModuleReply}
+use Rattle.numbers.specs.declared.CompleteReply.{CompleteReply}
+use Rattle.numbers.proofs.Answered.{name-answered, module-answered}
 use Rattle.wire.specs.Memory.{words-in}
 use Rattle.screen.specs.Memory.{table-at, SoundBytes}
-use Rattle.screen.specs.Replies.{name-reply, module-reply, SaysModule}
+use Rattle.screen.specs.Replies.{SaysModule}
 use Rattle.screen.specs.Completions.{modules-for, ListsAs}
-use Rattle.screen.specs.Agreement.{Answered, BytesAgree}
-use Rattle.screen.specs.declared.NameReply.{NameReply}
-use Rattle.screen.specs.declared.ModuleReply.{ModuleReply}
-use Rattle.screen.specs.declared.CompleteReply.{CompleteReply}
-
--- ---- Numbers
-
--- A number of a refusal is no answer.
-not-answered : {n a : ℕ} → (0 < n) × (n ≤ 10) → a ≡ n → Answered a → ⊥
-not-answered p e h = ⊎-elim (λ z. omega (arith, p .0)) (λ z. omega (arith, p .1)) h
+use Rattle.screen.specs.Agreement.{BytesAgree}
 
 module _ (b : Bool) (tbl : S.Table) (budget : ℕ) (o : Output) (q : Str) {n : ℕ} where
   names-refused : complete b tbl budget o q ≡ C.refused n → 0 < n
@@ -51,19 +42,6 @@ module _ (b : Bool) (tbl : S.Table) (budget : ℕ) (o : Output) (q : Str) {n : �
   modules-refused : complete-modules b tbl C.All budget o q ≡ C.refused n → 0 < n
   unfolding complete-modules
   modules-refused e = completed-refused b budget o q _ _ e .0
-
--- ---- Look-up
-
-name-answered : (a : C.Found ℕ) {f : NameReply} → f ≡ name-reply a → Answered (f .answer) → ((n : ℕ) → a ≡ C.refused n → (0 < n) × (n ≤ 10)) → NotRefused a
-name-answered (C.found v) e h k = tt
-name-answered C.not-found e h k = tt
-name-answered (C.refused n) e h k = not-answered (k n refl) (ap (λ (x : NameReply). x .answer) e) h
-
-module-answered : (txt : List ℕ) (g : FoundModule) {a : C.Found ModSymbol} {f : ModuleReply} → f ≡ module-reply g → module-found txt g ≡ a → Answered (f .answer)
-    → ((n : ℕ) → a ≡ C.refused n → (0 < n) × (n ≤ 10)) → NotRefused a
-module-answered txt (Symbol s) e p h k = rw (← p) tt
-module-answered txt Nothing e p h k = rw (← p) tt
-module-answered txt (Refused x) e p h k = absurd (not-answered (k (number x) (sym p)) (ap (λ (y : ModuleReply). y .answer) e) h)
 
 -- ---- A listing that was not refused
 

@@ -21,10 +21,11 @@ use Rattle.table.specs.declared.Table.{Table}
 use Rattle.table.specs.declared.Completed.{Completed}
 use Rattle.table.specs.declared.Completed.the-variants.{Listed, Refused}
 use Rattle.table.specs.declared.Listing.{Listing}
+use Rattle.numbers.specs.Replies.{no-lines, lines-reply}
+use Rattle.numbers.specs.declared.CompleteReply.{CompleteReply}
 use Rattle.screen.specs.Memory.{SoundBytes}
 use Rattle.screen.specs.Replies.{RepliesAs, unchosen, Replies}
-use Rattle.screen.specs.Completions.{modules-for, no-lines, lines-reply, ListsAs, unasked, Refuses, RepliesLines}
-use Rattle.screen.specs.declared.CompleteReply.{CompleteReply}
+use Rattle.screen.specs.Completions.{modules-for, ListsAs, unasked, Refuses, RepliesLines}
 use Rattle.screen.proofs.Held.{Held, says-memory, says-unsound}
 
 -- ---- By crate table's answer

@@ -13,10 +13,11 @@ use Rattle.table.specs.declared.Finding.{Finding}
 use Rattle.table.specs.declared.ModuleFinding.{ModuleFinding}
 use Rattle.table.specs.declared.FoundModule.the-variants.{Refused}
 use Rattle.refusals.specs.declared.Refusal.the-variants.{Unsound}
+use Rattle.numbers.specs.Replies.{name-reply, no-module, module-reply}
+use Rattle.numbers.specs.declared.NameReply.{NameReply}
+use Rattle.numbers.specs.declared.ModuleReply.{ModuleReply}
 use Rattle.screen.specs.Memory.{SoundBytes}
-use Rattle.screen.specs.Replies.{name-reply, RepliesName, no-module, module-reply, RepliesModule}
-use Rattle.screen.specs.declared.NameReply.{NameReply}
-use Rattle.screen.specs.declared.ModuleReply.{ModuleReply}
+use Rattle.screen.specs.Replies.{RepliesName, RepliesModule}
 use Rattle.screen.proofs.Held.{Held, says-memory, says-unsound}
 
 look-up-unsound : {A : Type 0} (root : Trie A) (q : Str) → look-up false root q ≡ C.refused 1

@@ -1,7 +1,6 @@
 -- Demand 3 of the exported calls, over bytes: what a caller reads of the lines in the lent bytes, and what it has to do with look-up.
 use Prim.Native.Nat.{ℕ}
 use mathlib.Core.Path.{_≡_}
-use mathlib.Core.Logic.{_⊎_}
 use mathlib.Core.Bool.{Bool, true}
 use mathlib.Core.List.{List}
 use mathlib.Core.Option.{some}
@@ -13,17 +12,14 @@ use Rattle.memory.specs.Sound.{Says}
 use Rattle.lines.specs.declared.Ask.the-variants.{Names}
 use Rattle.rows.specs.Rows.{lines-seen}
 use Rattle.table.specs.Header.{names-in, modules-in}
+use Rattle.numbers.specs.Replies.{name-reply, Answered}
+use Rattle.numbers.specs.declared.NameReply.{NameReply}
+use Rattle.numbers.specs.declared.ModuleReply.{ModuleReply}
+use Rattle.numbers.specs.declared.CompleteReply.{CompleteReply}
 use Rattle.wire.specs.Memory.{words-in}
 use Rattle.screen.specs.Memory.{table-at, SoundBytes}
-use Rattle.screen.specs.Replies.{no-answer, name-reply, RepliesName, SaysModule, RepliesModule}
+use Rattle.screen.specs.Replies.{RepliesName, SaysModule, RepliesModule}
 use Rattle.screen.specs.Completions.{modules-for, RepliesLines}
-use Rattle.screen.specs.declared.NameReply.{NameReply}
-use Rattle.screen.specs.declared.ModuleReply.{ModuleReply}
-use Rattle.screen.specs.declared.CompleteReply.{CompleteReply}
-
--- The answer of a look-up that is not refused.
-abbrev pub Answered : ℕ → Type 0
-Answered a = (a ≡ 0) ⊎ (a ≡ no-answer)
 
 -- On either root, whatever bytes are lent (b says whether they are a sound table): where look-up of a full name is not refused, and a completion that
 -- covers the name is not refused, the lines that it left in the lent bytes agree with look-up's reply as demand 3 says.

@@ -18,14 +18,11 @@ use Rattle.lines.specs.declared.Ask.the-variants.{Modules}
 use Rattle.lines.specs.declared.Filter.the-variants.{All, Loaded, ModulesOnly, NamespacesOnly}
 use Rattle.table.specs.Header.{table-in}
 use Rattle.completion.specs.Completes.{output}
-use Rattle.refusals.specs.Refusals.{number}
 use Rattle.table.specs.Completions.{completion}
-use Rattle.table.specs.declared.Completed.{Completed}
-use Rattle.table.specs.declared.Completed.the-variants.{Listed, Refused}
-use Rattle.table.specs.declared.Table.{Table}
+use Rattle.numbers.specs.Replies.{no-lines}
+use Rattle.numbers.specs.declared.CompleteReply.{CompleteReply}
 use Rattle.wire.specs.Memory.{words-in}
 use Rattle.screen.specs.Memory.{table-at, SoundBytes}
-use Rattle.screen.specs.declared.CompleteReply.{CompleteReply}
 
 -- What is asked of the modules, by the number of a filter. Another number asks nothing.
 unfoldable pub modules-for : ℕ → Option Ask
@@ -34,15 +31,6 @@ modules-for (suc zero) = some (Modules Loaded)
 modules-for (suc (suc zero)) = some (Modules ModulesOnly)
 modules-for (suc (suc (suc zero))) = some (Modules NamespacesOnly)
 modules-for (suc (suc (suc (suc n)))) = none
-
--- The reply of a number alone.
-abbrev pub no-lines : ℕ → CompleteReply
-no-lines n = record { answer = n; lines = 0; entered = 0 }
-
--- The reply of crate table's answer.
-abbrev pub lines-reply : Completed → CompleteReply
-lines-reply (Listed lines entered) = record { answer = 0; lines = lines; entered = entered }
-lines-reply (Refused x) = no-lines (number x)
 
 -- Listed: the lines are written from the start of the lent bytes, their texts from the start of the output text, and every other byte is as it was.
 pub record Lists (ask : Ask) (ws txt ls ls′ out out′ : List ℕ) (lines : List (Line (Item (asked ask)))) (entered : ℕ) (r : CompleteReply) : Type 0 where

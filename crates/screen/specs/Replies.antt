@@ -10,19 +10,16 @@ use Rattle.source.specs.Table as S
 use Rattle.source.specs.Calls as C
 use Rattle.source.specs.Calls.{State, Lent, Call, register, look-up}
 use Rattle.memory.specs.Sound.{Says}
-use Rattle.memory.specs.declared.ModSymbol.{ModSymbol}
-use Rattle.memory.specs.declared.ModSymbol.the-variants.{Module, Namespace}
 use Rattle.table.specs.Header.{state, lent, names-in, modules-in}
 use Rattle.table.specs.Answers.{module-found, FoundInside}
-use Rattle.refusals.specs.Refusals.{number}
 use Rattle.memory.specs.Grown.{Outside}
 use Rattle.table.specs.Registrations.{Accepts}
 use Rattle.table.specs.declared.FoundModule.{FoundModule}
-use Rattle.table.specs.declared.FoundModule.the-variants.{Symbol, Nothing, Refused}
+use Rattle.numbers.specs.Replies.{name-reply, module-reply}
+use Rattle.numbers.specs.declared.NameReply.{NameReply}
+use Rattle.numbers.specs.declared.ModuleReply.{ModuleReply}
 use Rattle.wire.specs.Memory.{state-bytes, record-bytes, header-in, words-in}
 use Rattle.screen.specs.Memory.{table-at, SoundBytes}
-use Rattle.screen.specs.declared.NameReply.{NameReply}
-use Rattle.screen.specs.declared.ModuleReply.{ModuleReply}
 
 -- ---- Registrations
 
@@ -66,41 +63,9 @@ pub record Replies (st bs txt st′ bs′ txt′ : List ℕ) (c : Option Call) (
 
 -- ---- Look-ups
 
--- The answer of a look-up that finds nothing: no refusal has this number.
-abbrev pub no-answer : ℕ
-no-answer = 4294967295
-
--- The reply to a look-up of a name: 0 with the item, no-answer, else the number of the refusal.
-abbrev pub name-reply : C.Found ℕ → NameReply
-name-reply (C.found n) = record { answer = 0; item = n }
-name-reply C.not-found = record { answer = no-answer; item = 0 }
-name-reply (C.refused n) = record { answer = n; item = 0 }
-
 -- The reply r to a look-up of a name; b says whether the bytes are a sound table.
 pub record RepliesName (st bs txt : List ℕ) (query : Str) (r : NameReply) : Type 0 where
   pub says : (b : Bool) → Says b (SoundBytes st bs txt) → r ≡ name-reply (look-up b (names-in (words-in bs) txt (table-at st)) query)
-
--- A yes or no as a number.
-abbrev pub flag : Bool → ℕ
-flag true = 1
-flag false = 0
-
--- The reply of a number alone.
-abbrev pub no-module : ℕ → ModuleReply
-no-module n = record { answer = n; sort = 0; «name_start» = 0; «name_len» = 0; «path_start» = 0; «path_len» = 0; loaded = 0 }
-
--- The reply of a module or namespace, by the spans of its texts. A namespace has no path.
-abbrev pub symbol-reply : ModSymbol → ModuleReply
-symbol-reply (Module name path loaded) =
-    record { answer = 0; sort = 0; «name_start» = name .start; «name_len» = name .len; «path_start» = path .start; «path_len» = path .len; loaded = flag loaded }
-symbol-reply (Namespace name loaded) =
-    record { answer = 0; sort = 1; «name_start» = name .start; «name_len» = name .len; «path_start» = 0; «path_len» = 0; loaded = flag loaded }
-
--- The reply to a look-up of a module or namespace: 0 with its symbol, no-answer, else the number of the refusal.
-abbrev pub module-reply : FoundModule → ModuleReply
-module-reply (Symbol s) = symbol-reply s
-module-reply Nothing = no-module no-answer
-module-reply (Refused x) = no-module (number x)
 
 -- The reply r says the answer a, its texts being spans of the lent text.
 pub record SaysModule (txt : List ℕ) (a : C.Found S.ModSymbol) (r : ModuleReply) : Type 0 where

@@ -3,17 +3,12 @@
 // the layer copies the words in, tests them with little stack, calls crate table, and copies out what an accepted call has taken.
 // Lines are written in place.
 // Every exported call answers for whatever bytes are lent.
-mod reply;
-
 use kinds::Kind;
 use lines::Ask;
 use lines::Filter;
-use memory::ModSymbol;
-use table::Completed;
-use table::Finding;
-use table::Found;
-use table::FoundModule;
-use table::ModuleFinding;
+use numbers::CompleteReply;
+use numbers::ModuleReply;
+use numbers::NameReply;
 use table::Registered;
 use table::Table;
 ghost use mathlib.Core.Path.{_≡_};
@@ -26,38 +21,7 @@ ghost use Rattle.wire.specs.Memory.{state-bytes, words-in};
 ghost use Rattle.screen.specs.Memory.{table-at};
 ghost use Rattle.lines.specs.declared.Ask.the-variants.{Names};
 ghost use Rattle.screen.specs.Completions.{modules-for, RepliesLines};
-ghost use Rattle.screen.specs.Replies.{chosen, Replies, RepliesName, flag, RepliesModule};
-
-// The answer of a look-up that finds nothing: no refusal has this number.
-pub const NONE: u32 = 4294967295;
-
-// The reply to a look-up of a name: 0 with its item, NONE, else the number of the refusal.
-#[repr(C)]
-pub struct NameReply {
-    pub answer: u32,
-    pub item: u32,
-}
-
-// The reply to a look-up of a module or namespace: 0 with its sort (0 a Module, 1 a Namespace), the spans of its full name and
-// path in the lent text, and 1 if it is loaded; NONE, else the number of the refusal. What does not apply is 0.
-#[repr(C)]
-pub struct ModuleReply {
-    pub answer: u32,
-    pub sort: u32,
-    pub name_start: u32,
-    pub name_len: u32,
-    pub path_start: u32,
-    pub path_len: u32,
-    pub loaded: u32,
-}
-
-// The reply to a completion: 0 with the lines written and the tries entered, else the number of the refusal and zeros.
-#[repr(C)]
-pub struct CompleteReply {
-    pub answer: u32,
-    pub lines: u32,
-    pub entered: u32,
-}
+ghost use Rattle.screen.specs.Replies.{chosen, Replies, RepliesName, RepliesModule};
 
 // The table that a state spells.
 fn table_of(state: &[u8]) -> Table
@@ -250,15 +214,15 @@ pub extern "C" fn name_console_find(
     ensures { λ r. ⌜ RepliesName (now (state .entry)) (now (words .entry)) (now (text .entry)) (now (query .entry)) r ⌝ }
 {
     if state.len() != wire::STATE_BYTES {
-        return reply::no_name(1);
+        return numbers::no_name(1);
     }
     let mut memory = [0u32; wire::WORDS];
     let n = wire::load(words, &mut memory);
     let t = table_of(state);
     if !t.is_sound_small(&memory[..n], text) {
-        return reply::no_name(1);
+        return numbers::no_name(1);
     }
-    reply::name_reply(t.find_sound(&memory[..n], text, query))
+    numbers::name_reply(t.find_sound(&memory[..n], text, query))
 }
 
 // Looks a module or namespace up.
@@ -272,15 +236,15 @@ pub extern "C" fn name_console_find_module(
     ensures { λ r. ⌜ RepliesModule (now (state .entry)) (now (words .entry)) (now (text .entry)) (now (query .entry)) r ⌝ }
 {
     if state.len() != wire::STATE_BYTES {
-        return reply::no_module(1);
+        return numbers::no_module(1);
     }
     let mut memory = [0u32; wire::WORDS];
     let n = wire::load(words, &mut memory);
     let t = table_of(state);
     if !t.is_sound_small(&memory[..n], text) {
-        return reply::no_module(1);
+        return numbers::no_module(1);
     }
-    reply::module_reply(t.find_module_sound(&memory[..n], text, query))
+    numbers::module_reply(t.find_module_sound(&memory[..n], text, query))
 }
 
 // ---- Completions
@@ -316,17 +280,15 @@ fn complete(
     ensures { λ r. ⌜ RepliesLines (now (state .entry)) (now (words .entry)) (now (text .entry)) (some ask) (now (query .entry)) budget (now (lines .entry)) (now (lines .exit)) (now (out .entry)) (now (out .exit)) r ⌝ }
 {
     if state.len() != wire::STATE_BYTES {
-        return reply::no_lines(1);
+        return numbers::no_lines(1);
     }
     let mut memory = [0u32; wire::WORDS];
     let n = wire::load(words, &mut memory);
     let t = table_of(state);
     if !t.is_sound_small(&memory[..n], text) {
-        return reply::no_lines(1);
+        return numbers::no_lines(1);
     }
-    let l = t.complete_sound(&memory[..n], text, ask, query, budget, lines, out);
-    let c = l.answer;
-    reply::lines_reply(c)
+    numbers::lines_reply(t.complete_sound(&memory[..n], text, ask, query, budget, lines, out))
 }
 
 // Completes a name: lines of 48 bytes into `lines`, their texts into `out`.
@@ -371,5 +333,5 @@ pub extern "C" fn name_console_complete_modules(
             out,
         );
     }
-    reply::no_lines(malformed(state, words, text))
+    numbers::no_lines(malformed(state, words, text))
 }

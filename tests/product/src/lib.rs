@@ -26,7 +26,7 @@ struct Looked {
 /// A completion's reply: 0 or the number of the refusal, lines and tries entered.
 #[repr(C)]
 struct Listing {
-    refusal: u32,
+    answer: u32,
     lines: u32,
     entered: u32,
 }
@@ -162,7 +162,7 @@ pub struct Output {
 
 impl Listing {
     fn result(&self) -> Result<(u32, u32), u32> {
-        match self.refusal {
+        match self.answer {
             0 => Ok((self.lines, self.entered)),
             n => Err(n),
         }

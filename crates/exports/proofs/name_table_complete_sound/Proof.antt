@@ -14,11 +14,11 @@ name-table-complete-sound-spec =
     (λ c κs. search needs)
     {- complete-sound-requires -}
     (λ c κs. rw (c .before .before .before .table-of .ensures) (c .before .before .before .before .before .before .before .before .before .pre))
-    {- listed-of-requires -}
+    {- lines-reply-requires -}
     (λ c κs. search needs)
     {- same-length -}
     (λ c. search needs)
     {- same-length-2 -}
     (λ c. search needs)
     {- returns -}
-    (λ c. lists-replies (c .before .before .before .before .before .before .before .before .before .table-of .ensures) (c .before .before .before .before .before .before .before .before .ask-of .ensures) (c .before .before .before .before .before .complete-sound .ensures) (c .listed-of .ensures)))
+    (λ c. lists-replies (c .before .before .before .before .before .before .before .before .before .table-of .ensures) (c .before .before .before .before .before .before .before .before .ask-of .ensures) (c .before .before .before .before .before .complete-sound .ensures) (c .lines-reply .ensures)))

@@ -12,7 +12,7 @@ name-table-find-spec =
     (λ c κs. search needs)
     {- find-requires -}
     (λ c κs. search needs)
-    {- found-of-requires -}
+    {- name-reply-requires -}
     (λ c κs. search needs)
     {- returns -}
-    (λ c. finds-replies (c .before .before .table-of .ensures) (c .before .find .ensures) (c .found-of .ensures)))
+    (λ c. finds-replies (c .before .before .table-of .ensures) (c .before .find .ensures) (c .name-reply .ensures)))

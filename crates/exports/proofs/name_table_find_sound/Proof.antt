@@ -12,7 +12,7 @@ name-table-find-sound-spec =
     (λ c κs. search needs)
     {- find-sound-requires -}
     (λ c κs. rw (c .table-of .ensures) (c .before .before .before .before .pre))
-    {- found-of-requires -}
+    {- name-reply-requires -}
     (λ c κs. search needs)
     {- returns -}
-    (λ c. finds-replies (c .before .before .table-of .ensures) (c .before .find-sound .ensures) (c .found-of .ensures)))
+    (λ c. finds-replies (c .before .before .table-of .ensures) (c .before .find-sound .ensures) (c .name-reply .ensures)))

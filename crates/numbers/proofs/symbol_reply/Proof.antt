@@ -1,7 +1,7 @@
 -- symbol_reply meets its contract.
 use borrow.Author.Needs.{needs}
-use Rattle.screen.proofs.reply.symbol_reply.Statement.{statement}
-use Rattle.screen.proofs.reply.symbol_reply.Tie as tie
+use Rattle.numbers.proofs.symbol_reply.Statement.{statement}
+use Rattle.numbers.proofs.symbol_reply.Tie as tie
 
 pub symbol-reply-spec : {M : Type 1} → statement M
 symbol-reply-spec =

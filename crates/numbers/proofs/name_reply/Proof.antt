@@ -3,9 +3,9 @@ use Prim.Native.Nat.{ℕ}
 use mathlib.Core.Path.{ap, _∙_}
 use borrow.Author.Needs.{needs}
 use Rattle.source.specs.Calls.{refused}
-use Rattle.screen.specs.Replies.{name-reply}
-use Rattle.screen.proofs.reply.name_reply.Statement.{statement}
-use Rattle.screen.proofs.reply.name_reply.Tie as tie
+use Rattle.numbers.specs.Replies.{name-reply}
+use Rattle.numbers.proofs.name_reply.Statement.{statement}
+use Rattle.numbers.proofs.name_reply.Tie as tie
 
 pub name-reply-spec : {M : Type 1} → statement M
 name-reply-spec =

@@ -1,19 +1,46 @@
 // Replies as numbers, by what crate table hands back.
-use crate::CompleteReply;
-use crate::ModuleReply;
-use crate::NONE;
-use crate::NameReply;
 use memory::ModSymbol;
 use table::Completed;
 use table::Finding;
 use table::Found;
 use table::FoundModule;
+use table::Listing;
 use table::ModuleFinding;
 ghost use mathlib.Core.Path.{_≡_};
-ghost use Rattle.source.specs.Calls.{name, refused};
+ghost use Rattle.source.specs.Calls.{refused};
 ghost use Rattle.table.specs.Answers.{name-found};
-ghost use Rattle.screen.specs.Completions.{no-lines, lines-reply};
-ghost use Rattle.screen.specs.Replies.{name-reply, flag, no-module, symbol-reply, module-reply};
+ghost use Rattle.numbers.specs.Replies.{name-reply, flag, no-module, symbol-reply, module-reply, no-lines, lines-reply};
+
+// The answer of a look-up that finds nothing: no refusal has this number.
+pub const NONE: u32 = 4294967295;
+
+// The reply to a look-up of a name: 0 with its item, NONE, else the number of the refusal.
+#[repr(C)]
+pub struct NameReply {
+    pub answer: u32,
+    pub item: u32,
+}
+
+// The reply to a look-up of a module or namespace: 0 with its sort (0 a Module, 1 a Namespace), the spans of its full name and
+// path in the lent text, and 1 if it is loaded; NONE, else the number of the refusal. What does not apply is 0.
+#[repr(C)]
+pub struct ModuleReply {
+    pub answer: u32,
+    pub sort: u32,
+    pub name_start: u32,
+    pub name_len: u32,
+    pub path_start: u32,
+    pub path_len: u32,
+    pub loaded: u32,
+}
+
+// The reply to a completion: 0 with the lines written and the tries entered, else the number of the refusal and zeros.
+#[repr(C)]
+pub struct CompleteReply {
+    pub answer: u32,
+    pub lines: u32,
+    pub entered: u32,
+}
 
 // The reply of a number alone.
 pub fn no_name(answer: u32) -> NameReply
@@ -53,7 +80,7 @@ pub fn name_reply(x: Finding) -> NameReply
 }
 
 // A yes or no as a number.
-pub fn flag_of(b: bool) -> u32
+fn flag_of(b: bool) -> u32
     ensures { λ r. ⌜ r ≡ flag b ⌝ }
 {
     if b {
@@ -63,7 +90,7 @@ pub fn flag_of(b: bool) -> u32
 }
 
 // The reply of a module or namespace.
-pub fn symbol_reply(s: ModSymbol) -> ModuleReply
+fn symbol_reply(s: ModSymbol) -> ModuleReply
     ensures { λ r. ⌜ r ≡ symbol-reply s ⌝ }
 {
     match s {
@@ -112,9 +139,10 @@ pub fn no_lines(answer: u32) -> CompleteReply
 }
 
 // The reply of crate table's answer.
-pub fn lines_reply(c: Completed) -> CompleteReply
-    ensures { λ r. ⌜ r ≡ lines-reply c ⌝ }
+pub fn lines_reply(x: Listing) -> CompleteReply
+    ensures { λ r. ⌜ r ≡ lines-reply (x .answer) ⌝ }
 {
+    let c = x.answer;
     match c {
         Completed::Listed(lines, entered) => CompleteReply {
             answer: 0,
