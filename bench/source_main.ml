@@ -2,7 +2,8 @@
    A line is one of
      name HOST ID ITEM, include HOST QUERY, open m HOST QUERY, open n HOST QUERY, alias KEY HOST QUERY, find QUERY, complete QUERY
    The calls after a line 'row', all of one sort, are timed together; registrations after a line 'apart' are only done. Each row
-   prints a line: nanoseconds a call in the least turn, how many names were found or lines listed, and a hash of the results. *)
+   prints a line: nanoseconds a call in the least turn, processor time a call in the mean of all turns, which holds the collections of
+   garbage, how many names were found or lines listed, and a hash of the results. *)
 
 open Source
 
@@ -57,15 +58,16 @@ external clock : unit -> int = "bench_clock" [@@noalloc]
 let most = int_of_string Sys.argv.(1)
 let longest = 400_000_000
 
-let least (run : unit -> unit) : int =
-  let best = ref max_int and turns = ref 0 and begun = clock () in
+(* Nanoseconds of the least turn, and of processor time in the mean. *)
+let timed (run : unit -> unit) : float * float =
+  let best = ref max_int and turns = ref 0 and begun = clock () and used = Sys.time () in
   while !turns < most && clock () - begun <= longest do
     let start = clock () in
     run ();
     best := min !best (clock () - start);
     incr turns
   done;
-  !best
+  (float_of_int !best, (Sys.time () -. used) *. 1e9 /. float_of_int !turns)
 
 let find tbl q = trie_find_exact tbl.tbl_lids (query q)
 let complete tbl q = autocomplete_lid tbl (query q)
@@ -78,22 +80,23 @@ let row (tbl : table) (calls : call list) : table =
   let ignore x = ignore (Sys.opaque_identity x) in
   count := 0;
   hash := 0;
-  let (after, time) =
+  let (after, (least, mean)) =
     match calls with
     | [] -> failwith "an empty row"
     | Register _ :: _ ->
       let all () = List.fold_left put tbl calls in
       sum_lines (all ()) [];
-      (all (), least (fun () -> ignore (all ())))
+      (all (), timed (fun () -> ignore (all ())))
     | Find _ :: _ ->
       let queries = List.map found calls in
       List.iter (fun q -> sum_item (find tbl q)) queries;
-      (tbl, least (fun () -> List.iter (fun q -> ignore (find tbl q)) queries))
+      (tbl, timed (fun () -> List.iter (fun q -> ignore (find tbl q)) queries))
     | Complete _ :: _ ->
       let queries = List.map completed calls in
       List.iter (fun q -> sum_lines tbl (query q)) queries;
-      (tbl, least (fun () -> List.iter (fun q -> ignore (complete tbl q)) queries)) in
-  Printf.printf "%.1f %d %d\n" (float_of_int time /. float_of_int (List.length calls)) !count !hash;
+      (tbl, timed (fun () -> List.iter (fun q -> ignore (complete tbl q)) queries)) in
+  let n = float_of_int (List.length calls) in
+  Printf.printf "%.1f %.1f %d %d\n" (least /. n) (mean /. n) !count !hash;
   after
 
 let apart (tbl : table) (calls : call list) : table = List.fold_left put tbl calls

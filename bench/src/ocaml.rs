@@ -118,25 +118,25 @@ impl Script {
         self.queries("complete", m, queries, Sum::complete);
     }
 
-    /// Nanoseconds a call of each row, the least of so many turns, or none where OCaml's compiler is missing. Other results than the
+    /// Nanoseconds a call of each row, in the least of so many turns and in their mean, or none where OCaml's compiler is missing. Other results than the
     /// product's end the program.
-    pub fn run(&self, turns: usize) -> Option<Vec<f64>> {
+    pub fn run(&self, turns: usize) -> Option<Vec<[f64; 2]>> {
         let mut program = Command::new(built()?).arg(turns.to_string()).stdin(Stdio::piped()).stdout(Stdio::piped()).spawn().expect("the OCaml program");
         program.stdin.take().unwrap().write_all(self.lines.as_bytes()).expect("its input");
         let answer = program.wait_with_output().expect("its output");
         assert!(answer.status.success(), "the OCaml program failed");
         let answer = String::from_utf8(answer.stdout).unwrap();
-        let rows: Vec<(f64, Sum)> = answer.lines().map(parse).collect();
+        let rows: Vec<([f64; 2], Sum)> = answer.lines().map(parse).collect();
         assert!(rows.iter().map(|r| &r.1).eq(&self.sums), "OCaml has other results: {rows:?}, the product {:?}", self.sums);
         Some(rows.into_iter().map(|r| r.0).collect())
     }
 }
 
-/// Time, count and hash.
-fn parse(line: &str) -> (f64, Sum) {
+/// Times, count and hash.
+fn parse(line: &str) -> ([f64; 2], Sum) {
     let words: Vec<&str> = line.split(' ').collect();
-    let [time, count, hash] = words[..] else { panic!("{line}") };
-    (time.parse().unwrap(), Sum { count: count.parse().unwrap(), hash: hash.parse().unwrap() })
+    let [least, mean, count, hash] = words[..] else { panic!("{line}") };
+    ([least, mean].map(|t| t.parse().unwrap()), Sum { count: count.parse().unwrap(), hash: hash.parse().unwrap() })
 }
 
 /// The OCaml program, built once, or none where the compiler is missing.
@@ -172,10 +172,10 @@ fn compiler() -> String {
 }
 
 /// The calls, with the product's times and OCaml's.
-pub fn table(rows: &[Row], alone: &[f64], ocaml: &[f64]) -> String {
-    let mut all = String::from("| call | proved callers, ns | OCaml, ns | OCaml / proved |\n|---|---|---|---|\n");
-    for ((row, proved), ocaml) in rows.iter().zip(alone).zip(ocaml) {
-        writeln!(all, "| {} | {proved:.0} | {ocaml:.0} | {:.2} |", row.what, ocaml / proved).unwrap();
+pub fn table(rows: &[Row], alone: &[f64], ocaml: &[[f64; 2]]) -> String {
+    let mut all = String::from("| call | proved callers, ns | OCaml, least turn | OCaml, mean with collections | least / proved | mean / proved |\n|---|---|---|---|---|---|\n");
+    for ((row, proved), [least, mean]) in rows.iter().zip(alone).zip(ocaml) {
+        writeln!(all, "| {} | {proved:.0} | {least:.0} | {mean:.0} | {:.2} | {:.2} |", row.what, least / proved, mean / proved).unwrap();
     }
     all + "\n" + &compiler()
 }
