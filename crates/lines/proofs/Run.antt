@@ -1,4 +1,4 @@
--- A run keeps its path while its tally changes, and what is known of the path with it.
+-- A run keeps its path and its limits while its tally changes, and what is known of the path with it.
 use Prim.Native.Nat.{ℕ, zero, suc, _<_, _≤_}
 use mathlib.Core.Path.{_≡_, refl, sym, ap, _∙_}
 use mathlib.Core.List.{List}
@@ -8,36 +8,55 @@ use lib.Seq.{getD-set-same, getD-set-other}
 use Rattle.source.specs.Listing.{PathOf}
 use Rattle.memory.specs.Layout.{Which}
 use Rattle.lines.specs.Path.{joined, PathOk, OnPath}
-use Rattle.lines.specs.Run.{path-in, tally-in, SamePath}
+use Rattle.lines.specs.Run.{path-in, tally-in, limits-in, SamePath, SameRun}
 
-pub same-path : (run : List ℕ) → SamePath run run
-same-path run = record { size = refl; links = λ j h. refl; count = refl; len-is = refl; label-is = refl }
+pub same-run : (run : List ℕ) → SameRun run run
+same-run run = record { path = record { size = refl; links = λ j h. refl; count = refl; len-is = refl; label-is = refl; limits-same = refl }; matched-same = refl }
 
-pub same-then : {run run₁ run₂ : List ℕ} → SamePath run run₁ → SamePath run₁ run₂ → SamePath run run₂
-same-then s t = record {
+pub path-then : {run run₁ run₂ : List ℕ} → SamePath run run₁ → SamePath run₁ run₂ → SamePath run run₂
+path-then s t = record {
   size = t .size ∙ s .size;
   links = λ j h. t .links j (omega (arith, s .count)) ∙ s .links j h;
   count = t .count ∙ s .count;
   len-is = t .len-is ∙ s .len-is;
   label-is = t .label-is ∙ s .label-is;
+  limits-same = t .limits-same ∙ s .limits-same;
 }
 
-module _ (run : List ℕ) (k v : ℕ) (few : getD run 16 0 ≤ 16) (h : 18 < k) where
-  pub same-set : SamePath run (set run k v)
-  same-set = record {
+pub same-then : {run run₁ run₂ : List ℕ} → SameRun run run₁ → SameRun run₁ run₂ → SameRun run run₂
+same-then s t = record { path = path-then (s .path) (t .path); matched-same = t .matched-same ∙ s .matched-same }
+
+-- A number that is neither of the path nor a limit is set.
+module _ (run : List ℕ) (k v : ℕ) (few : getD run 16 0 ≤ 16) (h : 18 < k) (apart : (j : ℕ) → 21 < j → j < 25 → j ≡ k → ⊥) where
+  pub path-set : SamePath run (set run k v)
+  path-set = record {
     size = length-set run k v;
     links = λ j i. getD-set-other run k j v 0 (λ e. omega arith);
     count = getD-set-other run k 16 v 0 (λ e. omega arith);
     len-is = getD-set-other run k 17 v 0 (λ e. omega arith);
     label-is = getD-set-other run k 18 v 0 (λ e. omega arith);
+    limits-same = rw (
+      getD-set-other run k 22 v 0 (apart 22 (omega arith) (omega arith)),
+      getD-set-other run k 23 v 0 (apart 23 (omega arith) (omega arith)),
+      getD-set-other run k 24 v 0 (apart 24 (omega arith) (omega arith)),
+    );
   }
+
+-- A number of the tally is set.
+module _ (run : List ℕ) (k v : ℕ) (few : getD run 16 0 ≤ 16) (h : 18 < k) (i : k < 22) where
+  pub same-set : SameRun run (set run k v)
+  same-set = record { path = path-set run k v few h (λ j a b e. omega arith); matched-same = getD-set-other run k 25 v 0 (λ e. omega arith) }
+
+-- The limit of the bytes, once the lines are counted.
+pub most-bytes : (run : List ℕ) (l : ℕ) → getD (set run 20 l) 24 0 ≡ getD run 24 0
+most-bytes run l = getD-set-other run 20 24 l 0 (λ e. omega arith)
 
 -- The lines and the bytes are counted.
 module _ (run : List ℕ) (l b : ℕ) where
-  pub same-counted : getD run 16 0 ≤ 16 → SamePath run (set (set run 20 l) 21 b)
-  same-counted few = let s = same-set run 20 l few (omega arith) in same-then s (same-set (set run 20 l) 21 b (omega (arith, s .count)) (omega arith))
+  pub same-counted : getD run 16 0 ≤ 16 → SameRun run (set (set run 20 l) 21 b)
+  same-counted few = let s = same-set run 20 l few (omega arith) (omega arith) in same-then s (same-set (set run 20 l) 21 b (omega (arith, s .path .count)) (omega arith) (omega arith))
 
-  pub tally-counted : length run ≡ 22 → tally-in (set (set run 20 l) 21 b) ≡ record { entered = getD run 19 0; lines = l; bytes = b }
+  pub tally-counted : length run ≡ 26 → tally-in (set (set run 20 l) 21 b) ≡ record { entered = getD run 19 0; lines = l; bytes = b }
   tally-counted e = rw (
     getD-set-other (set run 20 l) 21 19 b 0 (λ z. omega arith),
     getD-set-other run 20 19 l 0 (λ z. omega arith),
@@ -47,7 +66,7 @@ module _ (run : List ℕ) (l b : ℕ) where
   )
 
 module _ (run : List ℕ) (l : ℕ) where
-  pub tally-entered : length run ≡ 22 → tally-in (set run 19 l) ≡ record { entered = l; lines = getD run 20 0; bytes = getD run 21 0 }
+  pub tally-entered : length run ≡ 26 → tally-in (set run 19 l) ≡ record { entered = l; lines = getD run 20 0; bytes = getD run 21 0 }
   tally-entered e = rw (getD-set-same run 19 l 0 (omega arith), getD-set-other run 19 20 l 0 (λ z. omega arith), getD-set-other run 19 21 l 0 (λ z. omega arith))
 
 -- ---- What is known of a path
