@@ -8,7 +8,7 @@ use lib.Seq.{getD-set-same, getD-set-other}
 use Rattle.source.specs.Listing.{PathOf}
 use Rattle.memory.specs.Layout.{Which}
 use Rattle.lines.specs.Path.{joined, PathOk, OnPath}
-use Rattle.lines.specs.Run.{path-in, tally-in, limits-in, SamePath, SameRun}
+use Rattle.lines.specs.Run.{path-in, tally-in, limits-in, matched-in, SamePath, SameRun}
 
 pub same-run : (run : List ℕ) → SameRun run run
 same-run run = record { path = record { size = refl; links = λ j h. refl; count = refl; len-is = refl; label-is = refl; limits-same = refl }; matched-same = refl }
@@ -28,8 +28,8 @@ same-then s t = record { path = path-then (s .path) (t .path); matched-same = t 
 
 -- A number that is neither of the path nor a limit is set.
 module _ (run : List ℕ) (k v : ℕ) (few : getD run 16 0 ≤ 16) (h : 18 < k) (apart : (j : ℕ) → 21 < j → j < 25 → j ≡ k → ⊥) where
-  pub path-set : SamePath run (set run k v)
-  path-set = record {
+  pub path-kept : SamePath run (set run k v)
+  path-kept = record {
     size = length-set run k v;
     links = λ j i. getD-set-other run k j v 0 (λ e. omega arith);
     count = getD-set-other run k 16 v 0 (λ e. omega arith);
@@ -45,7 +45,7 @@ module _ (run : List ℕ) (k v : ℕ) (few : getD run 16 0 ≤ 16) (h : 18 < k) 
 -- A number of the tally is set.
 module _ (run : List ℕ) (k v : ℕ) (few : getD run 16 0 ≤ 16) (h : 18 < k) (i : k < 22) where
   pub same-set : SameRun run (set run k v)
-  same-set = record { path = path-set run k v few h (λ j a b e. omega arith); matched-same = getD-set-other run k 25 v 0 (λ e. omega arith) }
+  same-set = record { path = path-kept run k v few h (λ j a b e. omega arith); matched-same = getD-set-other run k 25 v 0 (λ e. omega arith) }
 
 -- The limit of the bytes, once the lines are counted.
 pub most-bytes : (run : List ℕ) (l : ℕ) → getD (set run 20 l) 24 0 ≡ getD run 24 0
@@ -68,6 +68,37 @@ module _ (run : List ℕ) (l b : ℕ) where
 module _ (run : List ℕ) (l : ℕ) where
   pub tally-entered : length run ≡ 26 → tally-in (set run 19 l) ≡ record { entered = l; lines = getD run 20 0; bytes = getD run 21 0 }
   tally-entered e = rw (getD-set-same run 19 l 0 (omega arith), getD-set-other run 19 20 l 0 (λ z. omega arith), getD-set-other run 19 21 l 0 (λ z. omega arith))
+
+-- The match length is set.
+module _ (run : List ℕ) (m : ℕ) where
+  pub tally-matched : tally-in (set run 25 m) ≡ tally-in run
+  tally-matched = rw (getD-set-other run 25 19 m 0 (λ z. omega arith), getD-set-other run 25 20 m 0 (λ z. omega arith), getD-set-other run 25 21 m 0 (λ z. omega arith))
+
+  pub path-matched : getD run 16 0 ≤ 16 → SamePath run (set run 25 m)
+  path-matched few = path-kept run 25 m few (omega arith) (λ j a b e. omega arith)
+
+-- A trie is entered, and what is listed in it has the match length m.
+module _ (run : List ℕ) (l m : ℕ) where
+  abbrev pub inside : List ℕ
+  inside = set (set run 19 l) 25 m
+
+  pub path-inside : getD run 16 0 ≤ 16 → SamePath run inside
+  path-inside few = let s = same-set run 19 l few (omega arith) (omega arith) .path in path-then s (path-matched (set run 19 l) m (omega (arith, s .count)))
+
+  module _ (e : length run ≡ 26) where
+    pub tally-inside : tally-in inside ≡ record { entered = l; lines = getD run 20 0; bytes = getD run 21 0 }
+    tally-inside = tally-matched (set run 19 l) m ∙ tally-entered run l e
+
+    pub matched-inside : matched-in inside ≡ m
+    matched-inside = getD-set-same (set run 19 l) 25 m 0 (omega (arith, length-set run 19 l))
+
+-- What stands after the path is as it was.
+module _ (run run′ : List ℕ) (s : (k : ℕ) → 18 < k → getD run′ k 0 ≡ getD run k 0) where
+  pub tally-after : tally-in run′ ≡ tally-in run
+  tally-after = rw (s 19 (omega arith), s 20 (omega arith), s 21 (omega arith))
+
+  pub limits-after : limits-in run′ ≡ limits-in run
+  limits-after = rw (s 22 (omega arith), s 23 (omega arith), s 24 (omega arith))
 
 -- ---- What is known of a path
 
