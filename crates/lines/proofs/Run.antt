@@ -79,17 +79,17 @@ module _ (run : List ℕ) (m : ℕ) where
 
 -- A trie is entered, and what is listed in it has the match length m.
 module _ (run : List ℕ) (l m : ℕ) where
-  abbrev pub inside : List ℕ
-  inside = set (set run 19 l) 25 m
+  abbrev pub run-inside : List ℕ
+  run-inside = set (set run 19 l) 25 m
 
-  pub path-inside : getD run 16 0 ≤ 16 → SamePath run inside
+  pub path-inside : getD run 16 0 ≤ 16 → SamePath run run-inside
   path-inside few = let s = same-set run 19 l few (omega arith) (omega arith) .path in path-then s (path-matched (set run 19 l) m (omega (arith, s .count)))
 
   module _ (e : length run ≡ 26) where
-    pub tally-inside : tally-in inside ≡ record { entered = l; lines = getD run 20 0; bytes = getD run 21 0 }
+    pub tally-inside : tally-in run-inside ≡ record { entered = l; lines = getD run 20 0; bytes = getD run 21 0 }
     tally-inside = tally-matched (set run 19 l) m ∙ tally-entered run l e
 
-    pub matched-inside : matched-in inside ≡ m
+    pub matched-inside : matched-in run-inside ≡ m
     matched-inside = getD-set-same (set run 19 l) 25 m 0 (omega (arith, length-set run 19 l))
 
 -- What stands after the path is as it was.
