@@ -25,7 +25,7 @@ use Rattle.lines.specs.Path.{Path, OnPath}
 use Rattle.lines.specs.Output.{Tally, Limits, Result, Past, Shows, Goes}
 use Rattle.lines.specs.Run.{path-in, tally-in, limits-in, matched-in, SamePath, SameRun}
 use Rattle.lines.specs.declared.Ask.{Ask}
-use Rattle.lines.proofs.Run.{path-then, same-then, same-set, tally-entered, run-inside, path-inside, tally-inside, matched-inside}
+use Rattle.lines.proofs.Run.{path-then, same-set, tally-entered, run-inside, path-inside, tally-inside, matched-inside}
 use Rattle.lines.proofs.Goes.{written-none, goes-none, goes-then, goes-past}
 use Rattle.steps.specs.Steps.{Matching, Cuts}
 use Rattle.listing.specs.Runs.{trie-gives, elements-give, RunReady, ListReady, ListRuns, TrieReady, TrieRuns, PlaceOk, ListAsked, ListListed, TrieAsked, TrieListed}
