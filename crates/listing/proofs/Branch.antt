@@ -27,7 +27,7 @@ use Rattle.lines.specs.Lines.{CanList, Listed}
 use Rattle.lines.specs.declared.Ask.{Ask}
 use Rattle.lines.specs.declared.Found.{Found}
 use Rattle.steps.specs.Steps.{PathDown, Entered, PathSet}
-use Rattle.listing.specs.Runs.{level-of, BranchReady, BranchRuns, TrieReady, TrieRuns, BranchAsked, BranchListed, TrieAsked, TrieListed}
+use Rattle.listing.specs.Runs.{level-of, spaces, BranchReady, BranchRuns, TrieReady, TrieRuns, BranchAsked, BranchListed, TrieAsked, TrieListed}
 use Rattle.listing.specs.declared.Place.{Place}
 use Rattle.steps.proofs.PathDown.{branch-fits, path-down, on-path-down}
 use Rattle.memory.proofs.At.{at-of}
@@ -120,6 +120,15 @@ module _ {ws txt : List ℕ} {ask : Ask} {rest : Str} {p : Path} {lim : Limits} 
 -- A line can be listed.
 pub line-ready : {ws txt : List ℕ} {query : Str} {place : Place} {f : Found} {run : List ℕ} → BranchAsked ws txt query place run f → place .leaf ≡ true → CanList ws txt (place .ask) f run
 line-ready r e = record { path-ok = r .can .ready .path-ok; branch-at = leaf-at (r .can) e .0; label-at = leaf-at (r .can) e .1; small = r .can .ready .small; fits = r .place-ok .fits }
+
+-- A branch of namespaces, by what is left to ask.
+module _ {ws txt : List ℕ} {query : Str} {place : Place} {f : Found} {run : List ℕ} (e : place .leaf ≡ false) where
+  pub below-asked : BranchAsked ws txt query place run f → BranchAsked ws txt query (spaces (place .ask) (place .next)) run f
+  below-asked r = record { place-ok = record { len-inside = omega arith; next-inside = r .place-ok .next-inside; fits = r .place-ok .fits }; can = rw e at (r .can) }
+
+  pub below-listed : {run′ flat flat′ out out′ : List ℕ} → BranchListed ws txt query (spaces (place .ask) (place .next)) run run′ flat flat′ out out′ f
+      → BranchListed ws txt query place run run′ flat flat′ out out′ f
+  below-listed l = record { same = l .same; runs = rw e (l .runs) }
 
 -- A namespace is entered, listed and left.
 module _ {ws txt : List ℕ} {query : Str} {place : Place} {f : Found} {run run₁ : List ℕ} {child : ℕ} (r : BranchAsked ws txt query place run f) (e : place .leaf ≡ false) (d : Entered ws f run run₁)

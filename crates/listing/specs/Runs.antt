@@ -127,6 +127,10 @@ module _ (ws txt : List ℕ) (ask : Ask) (rest : Str) (p : Path) (lim : Limits) 
 
 -- ---- The contracts: of a query that is cut, and the lent run
 
+-- The place of a namespace that was found: its key is not asked for again.
+abbrev pub spaces : Ask → ℕ → Place
+spaces ask next = record { ask = ask; leaf = false; len = 0; next = next }
+
 -- The query is cut within, and the match length fits.
 pub record PlaceOk (query : Str) (place : Place) (run : List ℕ) : Type 0 where
   pub len-inside : place .len ≤ length query

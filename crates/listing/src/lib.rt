@@ -4,10 +4,9 @@
 use lines::Ask;
 use lines::Found;
 use merge::Turn;
-ghost use mathlib.Core.Path.{_≡_};
-ghost use mathlib.Core.Bool.{true, false};
+ghost use mathlib.Core.Bool.{true};
 ghost use Prim.Native.Nat.{_+_, _<_};
-ghost use Rattle.listing.specs.Runs.{BranchAsked, BranchListed, TreeAsked, TreeListed, ListAsked, ListListed, TrieAsked, TrieListed};
+ghost use Rattle.listing.specs.Runs.{spaces, BranchAsked, BranchListed, TreeAsked, TreeListed, ListAsked, ListListed, TrieAsked, TrieListed};
 
 // Where a run stands in a trie: what is asked, whether the list is of bindings, and where the query is cut.
 struct Place {
@@ -22,18 +21,17 @@ fn list_below(
     words: &[u32],
     text: &[u8],
     query: &[u8],
-    place: Place,
+    ask: Ask,
+    next: usize,
     found: Found,
     run: &mut [usize; lines::RUN],
     flat: &mut [u8],
     out: &mut [u8],
 )
-    requires { ⌜ BranchAsked (now words) (now text) (now query) place (now run) found × (place .leaf ≡ false) ⌝ }
-    ensures { λ _. ⌜ BranchListed (now (words .entry)) (now (text .entry)) (now (query .entry)) place (now (run .entry)) (now (run .exit))
-        (now (flat .entry)) (now (flat .exit)) (now (out .entry)) (now (out .exit)) found ⌝ }
+    requires { ⌜ BranchAsked (now words) (now text) (now query) (spaces ask next) (now run) found ⌝ }
+    ensures { λ _. ⌜ BranchListed (now (words .entry)) (now (text .entry)) (now (query .entry)) (spaces ask next)
+        (now (run .entry)) (now (run .exit)) (now (flat .entry)) (now (flat .exit)) (now (out .entry)) (now (out .exit)) found ⌝ }
 {
-    let ask = place.ask;
-    let next = place.next;
     let child = memory::held_of(words, found.link);
     let n = run[lines::COUNT];
     let len = run[lines::LENGTH];
@@ -45,7 +43,7 @@ fn list_below(
     run[lines::MATCHED] = matched;
 }
 
-// What a found branch gives: the line of a branch of bindings, the listing of a namespace. Small, so that loops take it in.
+// What a found branch gives: the line of a branch of bindings, the listing of a namespace. So small that the loops take it in.
 fn list_branch(
     words: &[u32],
     text: &[u8],
@@ -60,12 +58,12 @@ fn list_branch(
     ensures { λ _. ⌜ BranchListed (now (words .entry)) (now (text .entry)) (now (query .entry)) place (now (run .entry)) (now (run .exit))
         (now (flat .entry)) (now (flat .exit)) (now (out .entry)) (now (out .exit)) found ⌝ }
 {
+    let ask = place.ask;
     if place.leaf {
-        let ask = place.ask;
         lines::line(words, text, ask, found, run, flat, out);
         return;
     }
-    list_below(words, text, query, place, found, run, flat, out);
+    list_below(words, text, query, ask, place.next, found, run, flat, out);
 }
 
 // What the branches of a tree that begin with a prefix give, in order, each with the tree's label. Stops once the budget is passed.

@@ -11,7 +11,7 @@ use Rattle.tree.proofs.Branches.{any-tree}
 use Rattle.memory.proofs.At.{at-fits}
 use Rattle.lines.proofs.Run.{same-run}
 use Rattle.steps.proofs.Cuts.{front-is}
-use Rattle.listing.proofs.Branch.{leaf-runs, line-ready, branch-named, space-at, below-ready, child-earlier, namespace-ready, namespace-sized, namespace-runs}
+use Rattle.listing.proofs.Branch.{leaf-runs, line-ready, branch-named, space-at, below-ready, child-earlier, below-asked, below-listed, namespace-ready, namespace-sized, namespace-runs}
 use Rattle.listing.proofs.Loops.{onward, along-earlier, along-tree, along-begins, Stepping, stepping-first, stepping-branch, stepping-next, stepping-less, stepping-spent, stepping-done, list-any, one-earlier, one-ready, one-runs, Merging, merging-first, merging-any, merging-done, merging-earlier, merging-less, merging-branch, merging-next, merging-spent}
 use Rattle.listing.proofs.Trie.{trie-spent, trie-named, cut-ready, bindings-earlier, namespaces-earlier, bindings-asked, namespaces-asked, trie-all, trie-few}
 use Prim.Native.Nat.{ℕ, _<_}
@@ -55,7 +55,7 @@ use Rattle.listing.proofs.+list_below+list_branch+list_merged+list_name
 }
 
 abbrev μ-list-below : Measures 6 list-below-kinds.ps ℕ
-μ-list-below κs a = 6 * a .1 .1 .1 .1 .0 .link
+μ-list-below κs a = 6 * a .1 .1 .1 .1 .1 .0 .link
 
 abbrev μ-list-branch : Measures 6 list-branch-kinds.ps ℕ
 μ-list-branch κs a = 6 * a .1 .1 .1 .1 .0 .link + 1
@@ -146,7 +146,7 @@ pub +list-below+list-branch+list-merged+list-names+list-tree+list-trie-spec : {M
     (list-below-at t)
     list-below.Post
     {- held-of-requires -}
-    (λ c κs. branch-named (c .before .before .before .before .before .pre .1 .0 .can))
+    (λ c κs. branch-named (c .before .before .before .before .before .pre .1 .can))
     {- element-copy-out-n -}
     (λ c. search needs)
     {- element-copy-out-len -}
@@ -156,17 +156,17 @@ pub +list-below+list-branch+list-merged+list-names+list-tree+list-trie-spec : {M
     {- element-copy-out-matched -}
     (λ c. search needs)
     {- enter-requires -}
-    (λ c κs. (branch-named (c .before .before .before .before .before .before .before .before .before .before .before .pre .1 .0 .can), below-ready (c .before .before .before .before .before .before .before .before .before .before .before .pre .1 .0 .can) (c .before .before .before .before .before .before .before .before .before .before .before .pre .1 .1)))
+    (λ c κs. (branch-named (c .before .before .before .before .before .before .before .before .before .before .before .pre .1 .can), below-ready (c .before .before .before .before .before .before .before .before .before .before .before .pre .1 .can) refl))
     {- sub-list-trie -}
-    (λ c. omega (arith, c .before .before .before .before .before .before .before .before .before .before .before .before .pre .1 .0 .place-ok .next-inside))
+    (λ c. omega (arith, c .before .before .before .before .before .before .before .before .before .before .before .before .pre .1 .place-ok .next-inside))
     {- part-list-trie-start -}
-    (λ c. omega (arith, c .before .before .before .before .before .before .before .before .before .before .before .before .pre .1 .0 .place-ok .next-inside))
+    (λ c. omega (arith, c .before .before .before .before .before .before .before .before .before .before .before .before .pre .1 .place-ok .next-inside))
     {- part-list-trie-end -}
     (λ c. search needs)
     {- list-trie-requires -}
-    (λ c κs. (omega (arith, c .before .before .before .before .before .before .before .before .before .before .before .before .before .before .before .before .pre .0, c .before .before .before .before .before .before .before .before .before .before .held-of .ensures, child-earlier (space-at (c .before .before .before .before .before .before .before .before .before .before .before .before .before .before .before .before .pre .1 .0 .can) (c .before .before .before .before .before .before .before .before .before .before .before .before .before .before .before .before .pre .1 .1) .0)), rw tail-is (namespace-ready (c .before .before .before .before .before .before .before .before .before .before .before .before .before .before .before .before .pre .1 .0) (c .before .before .before .before .before .before .before .before .before .before .before .before .before .before .before .before .pre .1 .1) (c .before .before .before .before .enter .ensures) (c .before .before .before .before .before .before .before .before .before .before .held-of .ensures))))
+    (λ c κs. (omega (arith, c .before .before .before .before .before .before .before .before .before .before .before .before .before .before .before .before .pre .0, c .before .before .before .before .before .before .before .before .before .before .held-of .ensures, child-earlier (space-at (c .before .before .before .before .before .before .before .before .before .before .before .before .before .before .before .before .pre .1 .can) refl .0)), rw tail-is (namespace-ready (c .before .before .before .before .before .before .before .before .before .before .before .before .before .before .before .before .pre .1) refl (c .before .before .before .before .enter .ensures) (c .before .before .before .before .before .before .before .before .before .before .held-of .ensures))))
     {- set-path-requires -}
-    (λ c κs. namespace-sized (c .before .before .before .before .before .before .before .before .before .before .before .before .before .before .before .before .before .before .before .before .before .before .pre .1 .0) (c .before .before .before .before .before .before .before .before .before .before .before .before .before .before .before .before .before .before .before .before .before .before .pre .1 .1) (c .before .before .before .before .before .before .before .before .before .before .enter .ensures) (c .before .before .before .before .before .before .before .before .before .before .before .before .before .before .before .before .held-of .ensures) (rw tail-is at (c .before .before .before .before .before .list-trie .ensures)))
+    (λ c κs. namespace-sized (c .before .before .before .before .before .before .before .before .before .before .before .before .before .before .before .before .before .before .before .before .before .before .pre .1) refl (c .before .before .before .before .before .before .before .before .before .before .enter .ensures) (c .before .before .before .before .before .before .before .before .before .before .before .before .before .before .before .before .held-of .ensures) (rw tail-is at (c .before .before .before .before .before .list-trie .ensures)))
     {- element-write-run -}
     (λ c. search needs)
     {- same-length -}
@@ -174,7 +174,7 @@ pub +list-below+list-branch+list-merged+list-names+list-tree+list-trie-spec : {M
     {- same-length-2 -}
     (λ c. search needs)
     {- returns -}
-    (λ c. namespace-runs (c .before .before .before .before .before .before .before .before .before .before .before .before .before .before .before .before .before .before .before .before .before .before .before .pre .1 .0) (c .before .before .before .before .before .before .before .before .before .before .before .before .before .before .before .before .before .before .before .before .before .before .before .pre .1 .1) (c .before .before .before .before .before .before .before .before .before .before .before .enter .ensures) (c .before .before .before .before .before .before .before .before .before .before .before .before .before .before .before .before .before .held-of .ensures) (rw tail-is at (c .before .before .before .before .before .before .list-trie .ensures)) (c .set-path .ensures)))
+    (λ c. namespace-runs (c .before .before .before .before .before .before .before .before .before .before .before .before .before .before .before .before .before .before .before .before .before .before .before .pre .1) refl (c .before .before .before .before .before .before .before .before .before .before .before .enter .ensures) (c .before .before .before .before .before .before .before .before .before .before .before .before .before .before .before .before .before .held-of .ensures) (rw tail-is at (c .before .before .before .before .before .before .list-trie .ensures)) (c .set-path .ensures)))
     (λ t. list-branch-lts.spec (line-reads.Asked, line-reads.Learnt, list-below-below t, list-below.Post)
     (list-branch-at t)
     list-branch.Post
@@ -187,13 +187,13 @@ pub +list-below+list-branch+list-merged+list-names+list-tree+list-trie-spec : {M
     {- returns -}
     (λ c. leaf-runs (c .before .before .before .before .before .before .before .before .if1 .taken) (c .before .before .before .before .line .ensures))
     {- list-below-requires -}
-    (λ c κs. (omega (arith, c .before .before .before .before .before .before .before .before .before .pre .0), (c .before .before .before .before .before .before .before .before .before .pre .1, c .before .before .before .if1 .left)))
+    (λ c κs. (omega (arith, c .before .before .before .before .before .before .before .before .before .pre .0), below-asked (c .before .before .before .if1 .left) (c .before .before .before .before .before .before .before .before .before .pre .1)))
     {- same-length-3 -}
     (λ c. search needs)
     {- same-length-4 -}
     (λ c. search needs)
     {- returns-2 -}
-    (λ c. c .before .before .before .before .list-below .ensures))
+    (λ c. below-listed (c .before .before .before .before .before .before .before .before .if1 .left) (c .before .before .before .before .list-below .ensures)))
     (λ t. list-merged-lts.spec (merge-start-reads.Asked, merge-start-reads.Learnt, list-tree-below t, list-tree.Post, merge-next-reads.Asked, merge-next-reads.Learnt, list-branch-below t, list-branch.Post)
     (list-merged-at t)
     list-merged.Post
