@@ -67,7 +67,8 @@ module _ (ws txt : List ℕ) (ask : Ask) (root : ℕ) (query : Str) where
     label-ok = no-label (t .sound);
   }
 
-  pub root-ready : {lim : Limits} → At ws txt (asked ask) trieˢ root → (ends-in-dot query ≡ true) × (length query ≤ 544) → Small lim → TrieReady ws txt ask query (root-path lim) lim root
+  pub root-ready : {lim : Limits} → At ws txt (asked ask) trieˢ root → (ends-in-dot query ≡ true) × (length query ≤ 544) → Small lim
+      → TrieReady ws txt ask query (root-path lim) lim root
   root-ready {lim} t q s = record {
     ready = record { path-ok = root-ok lim t; ends = q .0; short = q .1; small = s };
     trie-at = t;
@@ -75,8 +76,10 @@ module _ (ws txt : List ℕ) (ask : Ask) (root : ℕ) (query : Str) where
   }
 
   -- What a run from the root gives.
-  pub root-runs : {budget lines bytes : ℕ} {run run′ flat flat′ out out′ : List ℕ} → run ≡ start-run budget lines bytes → TrieListed ws txt query ask run run′ flat flat′ out out′ root
-      → let lim : Limits = record { budget = budget; lines = lines; bytes = bytes } in TrieRuns ws txt ask query (root-path lim) lim 4294967295 nothing-yet (tally-in run′) flat flat′ out out′ root
+  pub root-runs : {budget lines bytes : ℕ} {run run′ flat flat′ out out′ : List ℕ} → run ≡ start-run budget lines bytes
+      → TrieListed ws txt query ask run run′ flat flat′ out out′ root
+      → let lim : Limits = record { budget = budget; lines = lines; bytes = bytes } in
+      TrieRuns ws txt ask query (root-path lim) lim 4294967295 nothing-yet (tally-in run′) flat flat′ out out′ root
   root-runs e t = (rw e at t) .runs
 
   on-root : (lim : Limits) → OnPath ws txt (root-path lim) []
@@ -87,7 +90,8 @@ module _ (ws txt : List ℕ) (ask : Ask) (root : ℕ) (query : Str) where
   unfolding signed-word
   root-matching = record { length-is = match-length-none [] tt; all-matched = λ n. tt }
 
-  module _ {lim : Limits} {a : Tally} {flat flat′ out out′ : List ℕ} (r : TrieRuns ws txt ask query (root-path lim) lim 4294967295 nothing-yet a flat flat′ out out′ root) where
+  module _ {lim : Limits} {a : Tally} {flat flat′ out out′ : List ℕ}
+      (r : TrieRuns ws txt ask query (root-path lim) lim 4294967295 nothing-yet a flat flat′ out out′ root) where
     run-goes : Goes (asked ask) ws txt lim nothing-yet a flat flat′ out out′ (trie-gives ask (suc (depth tr)) tr [] (segments query))
     run-goes = r .goes [] (suc (depth tr)) (on-root lim) root-matching (omega arith)
 

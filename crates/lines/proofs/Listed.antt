@@ -70,14 +70,16 @@ module _ (ws txt : List ℕ) (f : Found) (run run′ flat flat′ out out′ : L
       → match-length-of-path (reverse (x .0 ∷ path)) ≡ signed-word (matched-in run)
       → Goes (asked ask) ws txt (limits-in run) (tally-in run) (tally-in run′) flat flat′ out out′ (only (line-for ask (line path x)))
 
-  as-names : BranchAt ws txt names bind (f .link) → PutLine ws txt (job-in (f .link) run) (note-at ws txt (outermost (path-in run) (f .label))) (tally-in run′) flat flat′ out out′ → ListedAs Names
+  as-names : BranchAt ws txt names bind (f .link)
+      → PutLine ws txt (job-in (f .link) run) (note-at ws txt (outermost (path-in run) (f .label))) (tally-in run′) flat flat′ out out′ → ListedAs Names
   unfolding completion-result-of-lid
   as-names b put path x q o e m =
       let i = element names (f .link) (f .label) x q o e in
       put names (completion-result-of-lid (line path x))
       (record { branch-at = b; length-is = m; item-is = i .item; candidate-is = i .candidate; annotation-is = ap (dflt []) (i .import) })
 
-  as-modules : (filter : Filter) → BranchAt ws txt modules bind (f .link) → KeptLine ws txt filter (job-in (f .link) run) (tally-in run′) flat flat′ out out′ → ListedAs (Modules filter)
+  as-modules : (filter : Filter) → BranchAt ws txt modules bind (f .link)
+      → KeptLine ws txt filter (job-in (f .link) run) (tally-in run′) flat flat′ out out′ → ListedAs (Modules filter)
   unfolding completion-result-of-ns-or-mod
   as-modules filter b put path x q o e m =
       let i = element modules (f .link) (f .label) x q o e in
@@ -86,11 +88,19 @@ module _ (ws txt : List ℕ) (f : Found) (run run′ flat flat′ out out′ : L
       (record { branch-at = b; length-is = m; item-is = i .item; candidate-is = i .candidate; annotation-is = ap mod-annotation (i .item) }))
 
 -- What line answers: of names, of modules and namespaces.
-module _ {ws txt : List ℕ} {ask : Ask} {f : Found} {run run′ flat flat′ out out′ : List ℕ} (b : BranchAt ws txt (asked ask) bind (f .link)) (s : SameRun run run′) where
-  pub listed-names : ask ≡ Names → PutLine ws txt (job-in (f .link) run) (note-at ws txt (outermost (path-in run) (f .label))) (tally-in run′) flat flat′ out out′
+module _ {ws txt : List ℕ} {ask : Ask} {f : Found} {run run′ flat flat′ out out′ : List ℕ}
+    (b : BranchAt ws txt (asked ask) bind (f .link)) (s : SameRun run run′) where
+  pub listed-names : ask ≡ Names
+      → PutLine ws txt (job-in (f .link) run) (note-at ws txt (outermost (path-in run) (f .label))) (tally-in run′) flat flat′ out out′
       → Listed ws txt ask f run run′ flat flat′ out out′
-  listed-names e put = record { same = s; goes = subst (ListedAs ws txt f run run′ flat flat′ out out′) (sym e) (as-names ws txt f run run′ flat flat′ out out′ (rw e at b) put) }
+  listed-names e put = record {
+    same = s;
+    goes = subst (ListedAs ws txt f run run′ flat flat′ out out′) (sym e) (as-names ws txt f run run′ flat flat′ out out′ (rw e at b) put);
+  }
 
   pub listed-modules : (filter : Filter) → ask ≡ Modules filter → KeptLine ws txt filter (job-in (f .link) run) (tally-in run′) flat flat′ out out′
       → Listed ws txt ask f run run′ flat flat′ out out′
-  listed-modules filter e put = record { same = s; goes = subst (ListedAs ws txt f run run′ flat flat′ out out′) (sym e) (as-modules ws txt f run run′ flat flat′ out out′ filter (rw e at b) put) }
+  listed-modules filter e put = record {
+    same = s;
+    goes = subst (ListedAs ws txt f run run′ flat flat′ out out′) (sym e) (as-modules ws txt f run run′ flat flat′ out out′ filter (rw e at b) put);
+  }

@@ -11,7 +11,10 @@ use Rattle.lines.specs.Path.{joined, PathOk, OnPath}
 use Rattle.lines.specs.Run.{path-in, tally-in, limits-in, matched-in, SamePath, SameRun}
 
 pub same-run : (run : List ℕ) → SameRun run run
-same-run run = record { path = record { size = refl; links = λ j h. refl; count = refl; len-is = refl; label-is = refl; limits-same = refl }; matched-same = refl }
+same-run run = record {
+  path = record { size = refl; links = λ j h. refl; count = refl; len-is = refl; label-is = refl; limits-same = refl };
+  matched-same = refl;
+}
 
 pub path-then : {run run₁ run₂ : List ℕ} → SamePath run run₁ → SamePath run₁ run₂ → SamePath run run₂
 path-then s t = record {
@@ -54,7 +57,9 @@ most-bytes run l = getD-set-other run 20 24 l 0 (λ e. omega arith)
 -- The lines and the bytes are counted.
 module _ (run : List ℕ) (l b : ℕ) where
   pub same-counted : getD run 16 0 ≤ 16 → SameRun run (set (set run 20 l) 21 b)
-  same-counted few = let s = same-set run 20 l few (omega arith) (omega arith) in same-then s (same-set (set run 20 l) 21 b (omega (arith, s .path .count)) (omega arith) (omega arith))
+  same-counted few =
+      let s = same-set run 20 l few (omega arith) (omega arith) in
+      same-then s (same-set (set run 20 l) 21 b (omega (arith, s .path .count)) (omega arith) (omega arith))
 
   pub tally-counted : length run ≡ 26 → tally-in (set (set run 20 l) 21 b) ≡ record { entered = getD run 19 0; lines = l; bytes = b }
   tally-counted e = rw (
@@ -72,7 +77,11 @@ module _ (run : List ℕ) (l : ℕ) where
 -- The match length is set.
 module _ (run : List ℕ) (m : ℕ) where
   pub tally-matched : tally-in (set run 25 m) ≡ tally-in run
-  tally-matched = rw (getD-set-other run 25 19 m 0 (λ z. omega arith), getD-set-other run 25 20 m 0 (λ z. omega arith), getD-set-other run 25 21 m 0 (λ z. omega arith))
+  tally-matched = rw (
+    getD-set-other run 25 19 m 0 (λ z. omega arith),
+    getD-set-other run 25 20 m 0 (λ z. omega arith),
+    getD-set-other run 25 21 m 0 (λ z. omega arith),
+  )
 
   pub path-matched : getD run 16 0 ≤ 16 → SamePath run (set run 25 m)
   path-matched few = path-kept run 25 m few (omega arith) (λ j a b e. omega arith)

@@ -58,14 +58,19 @@ module _ (ws txt : List ℕ) (w : Which) (v : Level) (o : Option Str) (branch la
   shown-prefix = ap (λ y. y .1 .0 .prefix) e
 
 -- The line of a branch of bindings.
-pub leaf-runs : {ws txt : List ℕ} {query : Str} {place : Place} {f : Found} {run run′ flat flat′ out out′ : List ℕ} → place .leaf ≡ true → Listed ws txt (place .ask) f run run′ flat flat′ out out′
+pub leaf-runs : {ws txt : List ℕ} {query : Str} {place : Place} {f : Found} {run run′ flat flat′ out out′ : List ℕ} → place .leaf ≡ true
+    → Listed ws txt (place .ask) f run run′ flat flat′ out out′
     → BranchListed ws txt query place run run′ flat flat′ out out′ f
 leaf-runs {ws} {txt} {query} {place} {f} {run} {run′} {flat} {flat′} {out} {out′} e l = record { same = l .same; runs = go (place .leaf) e }
   where
     go : (z : Bool) → z ≡ true
-        → BranchRuns ws txt (place .ask) (drop (place .next) query) (path-in run) (limits-in run) (matched-in run) (tally-in run) (tally-in run′) flat flat′ out out′ z (f .link) (f .label)
+        → BranchRuns ws txt (place .ask) (drop (place .next) query) (path-in run) (limits-in run) (matched-in run)
+        (tally-in run) (tally-in run′) flat flat′ out out′ z (f .link) (f .label)
     go false e = absurd (true≢false (sym e))
-    go true e = record { goes = λ path x o n on st sh dp. l .goes path x o on sh (st (x .0) (shown-prefix ws txt (asked (place .ask)) bind o (f .link) (f .label) x sh) .length-is) }
+    go true e = record {
+      goes = λ path x o n on st sh dp.
+          l .goes path x o on sh (st (x .0) (shown-prefix ws txt (asked (place .ask)) bind o (f .link) (f .label) x sh) .length-is);
+    }
 
 module _ {ws txt : List ℕ} {ask : Ask} {rest : Str} {p : Path} {lim : Limits} where
   module _ {leaf : Bool} {branch label : ℕ} (r : BranchReady ws txt ask rest p lim leaf branch label) where
@@ -118,13 +123,23 @@ module _ {ws txt : List ℕ} {ask : Ask} {rest : Str} {p : Path} {lim : Limits} 
             }
 
 -- A line can be listed.
-pub line-ready : {ws txt : List ℕ} {query : Str} {place : Place} {f : Found} {run : List ℕ} → BranchAsked ws txt query place run f → place .leaf ≡ true → CanList ws txt (place .ask) f run
-line-ready r e = record { path-ok = r .can .ready .path-ok; branch-at = leaf-at (r .can) e .0; label-at = leaf-at (r .can) e .1; small = r .can .ready .small; fits = r .place-ok .fits }
+pub line-ready : {ws txt : List ℕ} {query : Str} {place : Place} {f : Found} {run : List ℕ} → BranchAsked ws txt query place run f
+    → place .leaf ≡ true → CanList ws txt (place .ask) f run
+line-ready r e = record {
+  path-ok = r .can .ready .path-ok;
+  branch-at = leaf-at (r .can) e .0;
+  label-at = leaf-at (r .can) e .1;
+  small = r .can .ready .small;
+  fits = r .place-ok .fits;
+}
 
 -- A branch of namespaces, by what is left to ask.
 module _ {ws txt : List ℕ} {query : Str} {place : Place} {f : Found} {run : List ℕ} (e : place .leaf ≡ false) where
   pub below-asked : BranchAsked ws txt query place run f → BranchAsked ws txt query (spaces (place .ask) (place .next)) run f
-  below-asked r = record { place-ok = record { len-inside = omega arith; next-inside = r .place-ok .next-inside; fits = r .place-ok .fits }; can = rw e at (r .can) }
+  below-asked r = record {
+    place-ok = record { len-inside = omega arith; next-inside = r .place-ok .next-inside; fits = r .place-ok .fits };
+    can = rw e at (r .can);
+  }
 
   pub below-listed : {run′ flat flat′ out out′ : List ℕ} → BranchListed ws txt query (spaces (place .ask) (place .next)) run run′ flat flat′ out out′ f
       → BranchListed ws txt query place run run′ flat flat′ out out′ f
@@ -134,7 +149,10 @@ module _ {ws txt : List ℕ} {query : Str} {place : Place} {f : Found} {run : Li
 module _ {ws txt : List ℕ} {query : Str} {place : Place} {f : Found} {run run₁ : List ℕ} {child : ℕ} (r : BranchAsked ws txt query place run f) (e : place .leaf ≡ false) (d : Entered ws f run run₁)
     (c : child ≡ trie-link (record-at ws (f .link))) where
   pub namespace-ready : TrieAsked ws txt (drop (place .next) query) (place .ask) run₁ child
-  namespace-ready = record { can = rw (limits-after run run₁ (d .after)) (child-ready (r .can) e (d .down) c); fits = omega (arith, d .after 25 (omega arith), r .place-ok .fits) }
+  namespace-ready = record {
+    can = rw (limits-after run run₁ (d .after)) (child-ready (r .can) e (d .down) c);
+    fits = omega (arith, d .after 25 (omega arith), r .place-ok .fits);
+  }
 
   module _ {run₂ flat flat′ out out′ : List ℕ} (t : TrieListed ws txt (drop (place .next) query) (place .ask) run₁ run₂ flat flat′ out out′ child) where
     pub namespace-sized : length run₂ ≡ 26

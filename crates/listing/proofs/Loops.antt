@@ -167,8 +167,8 @@ module _ {ws txt : List ℕ} {ask : Ask} {rest : Str} {p : Path} {lim : Limits} 
 module _ (ws txt : List ℕ) (query : Str) (place : Place) (f : Found) (run run′ flat flat′ out out′ notes : List ℕ) (s : Next) where
   pub record Stepping : Type 0 where
     pub same : SameRun run run′
-    pub along : Along ws txt (place .ask) (drop (place .next) query) (path-in run) (limits-in run) (matched-in run) (place .leaf) (f .link) (f .label) (take (place .len) query)
-        (tally-in run) (tally-in run′) flat flat′ out out′ (s .link)
+    pub along : Along ws txt (place .ask) (drop (place .next) query) (path-in run) (limits-in run) (matched-in run) (place .leaf)
+        (f .link) (f .label) (take (place .len) query) (tally-in run) (tally-in run′) flat flat′ out out′ (s .link)
     pub noted : (s .link ≡ 0 → ⊥) → Noted ws txt (take (place .len) query) notes (s .n) (s .link) (later ws txt (take (place .len) query) (f .link) (s .link))
 
 noted-after : (ws txt : List ℕ) (prefix : Str) (root : ℕ) {notes : List ℕ} {l : List ℕ} {s : Next} → Matched ws txt prefix notes l s → onward ws txt prefix root (s .link) ≡ l → (s .link ≡ 0 → ⊥)
@@ -198,7 +198,10 @@ module _ {ws txt : List ℕ} {query : Str} {place : Place} {f : Found} {run : Li
 
       module _ {run″ flat″ out″ : List ℕ} (b : BranchListed ws txt query place run′ run″ flat′ flat″ out′ out″ at-hand) (lf : length flat″ ≡ length flat′) (lo : length out″ ≡ length out′) where
         pub stepping-spent : getD run 22 0 < getD run″ 19 0 → TreeListed ws txt query place run run″ flat flat″ out out″ f
-        stepping-spent k = record { same = same-then (g .same) (b .same); runs = along-spent (g .along) n (branch-runs-at (g .same .path) (g .same .matched-same) (b .runs)) lf lo k }
+        stepping-spent k = record {
+          same = same-then (g .same) (b .same);
+          runs = along-spent (g .along) n (branch-runs-at (g .same .path) (g .same .matched-same) (b .runs)) lf lo k;
+        }
 
         module _ {notes′ : List ℕ} {s′ : Next} (w : Matched ws txt (take (place .len) query) notes′ (later ws txt (take (place .len) query) (f .link) (s .link)) s′) where
           pub stepping-next : Stepping ws txt query place f run run″ flat flat″ out out″ notes′ s′
@@ -295,10 +298,12 @@ module _ (ws txt : List ℕ) (query : Str) (place : Place) (x : ℕ) (run run′
     pub same : SameRun run run′
     pub all : List Entry
     pub says : (term : SearchTerm) (o : Option Str) → Asks term (take (place .len) query) o
-        → map outer (found (what (asked (place .ask)) ws txt x (list (level-of (place .leaf)))) term) ≡ map (shown (asked (place .ask)) ws txt (level-of (place .leaf)) o) all
+        → map outer (found (what (asked (place .ask)) ws txt x (list (level-of (place .leaf)))) term)
+        ≡ map (shown (asked (place .ask)) ws txt (level-of (place .leaf)) o) all
     pub entries : List Entry
     pub gives : M.Rest ws txt (asked (place .ask)) (level-of (place .leaf)) x (take (place .len) query) m entries
-    pub left : Left ws txt (place .ask) (drop (place .next) query) (path-in run) (limits-in run) (matched-in run) (place .leaf) (tally-in run) (tally-in run′) flat flat′ out out′ all entries
+    pub left : Left ws txt (place .ask) (drop (place .next) query) (path-in run) (limits-in run) (matched-in run) (place .leaf)
+        (tally-in run) (tally-in run′) flat flat′ out out′ all entries
 
 module _ {ws txt : List ℕ} {query : Str} {place : Place} {x : ℕ} {run : List ℕ} where
   pub merging-first : {flat out : List ℕ} {m : Merge} → ListAsked ws txt query place run x → Starts ws txt x (take (place .len) query) m → Merging ws txt query place x run run flat flat out out m
@@ -310,7 +315,8 @@ module _ {ws txt : List ℕ} {query : Str} {place : Place} {x : ℕ} {run : List
         says = k .says;
         entries = k .entries;
         gives = k .rest;
-        left = left-all ws txt (place .ask) (drop (place .next) query) (path-in run) (limits-in run) (matched-in run) (place .leaf) (list-room (r .can) (take (place .len) query) (k .entries) (k .says));
+        left = left-all ws txt (place .ask) (drop (place .next) query) (path-in run) (limits-in run) (matched-in run) (place .leaf)
+            (list-room (r .can) (take (place .len) query) (k .entries) (k .says));
       }
 
   module _ {run′ flat flat′ out out′ : List ℕ} {m : Merge} (g : Merging ws txt query place x run run′ flat flat′ out out′ m) where

@@ -16,14 +16,17 @@ module _ {ws txt : List ℕ} {ask : Ask} {rest : Str} {run run′ : List ℕ} (s
   ready-at : RunReady ws txt ask rest (path-in run) (limits-in run) → RunReady ws txt ask rest (path-in run′) (limits-in run′)
   ready-at r = record { path-ok = path-ok-at s (r .path-ok); ends = r .ends; short = r .short; small = rw (s .limits-same) (r .small) }
 
-  pub branch-ready-at : {leaf : Bool} {branch label : ℕ} → BranchReady ws txt ask rest (path-in run) (limits-in run) leaf branch label → BranchReady ws txt ask rest (path-in run′) (limits-in run′) leaf branch label
+  pub branch-ready-at : {leaf : Bool} {branch label : ℕ} → BranchReady ws txt ask rest (path-in run) (limits-in run) leaf branch label
+      → BranchReady ws txt ask rest (path-in run′) (limits-in run′) leaf branch label
   branch-ready-at r = record { ready = ready-at (r .ready); branch-at = r .branch-at; label-at = r .label-at; room = λ z. omega (arith, s .count, r .room z) }
 
-  pub list-ready-at : {leaf : Bool} {x : ℕ} → ListReady ws txt ask rest (path-in run) (limits-in run) leaf x → ListReady ws txt ask rest (path-in run′) (limits-in run′) leaf x
+  pub list-ready-at : {leaf : Bool} {x : ℕ} → ListReady ws txt ask rest (path-in run) (limits-in run) leaf x
+      → ListReady ws txt ask rest (path-in run′) (limits-in run′) leaf x
   list-ready-at r = record { ready = ready-at (r .ready); list-at = r .list-at; room = λ z. omega (arith, s .count, r .room z) }
 
   module _ {m : ℕ} (e : matched-in run′ ≡ m) {a t : Tally} {flat flat′ out out′ : List ℕ} {leaf : Bool} where
-    pub branch-runs-at : {branch label : ℕ} → BranchRuns ws txt ask rest (path-in run′) (limits-in run′) (matched-in run′) a t flat flat′ out out′ leaf branch label
+    pub branch-runs-at : {branch label : ℕ}
+        → BranchRuns ws txt ask rest (path-in run′) (limits-in run′) (matched-in run′) a t flat flat′ out out′ leaf branch label
         → BranchRuns ws txt ask rest (path-in run) (limits-in run) m a t flat flat′ out out′ leaf branch label
     branch-runs-at {branch} {label} b = rw (s .limits-same, e) at b′
       where

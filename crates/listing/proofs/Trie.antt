@@ -202,20 +202,29 @@ module _ {ws txt : List ℕ} {query : Str} {ask : Ask} {run : List ℕ} {x : ℕ
     matched₁ = matched-inside run (getD run 19 0 + 1) (c .matched) (r .can .ready .path-ok .sized)
 
     place-ok : (leaf : Bool) → PlaceOk query (down leaf) run₁
-    place-ok leaf = record { len-inside = omega (arith, cut .within, cut .inside); next-inside = cut .inside; fits = omega (arith, matched₁, cut .fits (r .fits)) }
+    place-ok leaf = record {
+      len-inside = omega (arith, cut .within, cut .inside);
+      next-inside = cut .inside;
+      fits = omega (arith, matched₁, cut .fits (r .fits));
+    }
 
     pub bindings-asked : ListAsked ws txt query (down true) run₁ (t .bindings)
     bindings-asked = record { place-ok = place-ok true; can = list-ready-at same₁ (bindings-ready (r .can) seen cut) }
 
     pub namespaces-asked : {run₂ : List ℕ} → SameRun run₁ run₂ → ListAsked ws txt query (down false) run₂ (t .namespaces)
-    namespaces-asked s = record { place-ok = place-ok-at s (place-ok false); can = list-ready-at (path-then same₁ (s .path)) (namespaces-ready (r .can) seen cut) }
+    namespaces-asked s = record {
+      place-ok = place-ok-at s (place-ok false);
+      can = list-ready-at (path-then same₁ (s .path)) (namespaces-ready (r .can) seen cut);
+    }
 
     module _ {run₂ flat flat₁ out out₁ : List ℕ} where
-      pub trie-few : (c .next < length query) ⊎ Past (limits-in run) (getD run 20 0) (getD run 21 0) → ListListed ws txt query (down false) run₁ run₂ flat flat₁ out out₁ (t .namespaces) → TrieListed ws txt query ask run run₂ flat flat₁ out out₁ x
+      pub trie-few : (c .next < length query) ⊎ Past (limits-in run) (getD run 20 0) (getD run 21 0)
+          → ListListed ws txt query (down false) run₁ run₂ flat flat₁ out out₁ (t .namespaces) → TrieListed ws txt query ask run run₂ flat flat₁ out out₁ x
       trie-few skip n = record { same = path-then same₁ (n .same .path); runs = go skip (rw tally₁ at (list-runs-at same₁ matched₁ (n .runs))) }
         where
           go : (c .next < length query) ⊎ Past (limits-in run) (getD run 20 0) (getD run 21 0)
-              → ListRuns ws txt ask (drop (c .next) query) (path-in run) (limits-in run) (c .matched) (inside (tally-in run)) (tally-in run₂) flat flat₁ out out₁ false (t .namespaces) (take (c .len) query)
+              → ListRuns ws txt ask (drop (c .next) query) (path-in run) (limits-in run) (c .matched)
+              (inside (tally-in run)) (tally-in run₂) flat flat₁ out out₁ false (t .namespaces) (take (c .len) query)
               → TrieRuns ws txt ask query (path-in run) (limits-in run) (matched-in run) (tally-in run) (tally-in run₂) flat flat₁ out out₁ x
           go (inl more) m = trie-spaces (r .can) seen cut h more m
           go (inr past) m = trie-past (r .can) seen cut h past m
@@ -224,5 +233,6 @@ module _ {ws txt : List ℕ} {query : Str} {ask : Ask} {run : List ℕ} {x : ℕ
           → ListListed ws txt query (down false) run₂ run₃ flat₁ flat₂ out₁ out₂ (t .namespaces) → TrieListed ws txt query ask run run₃ flat flat₂ out out₂ x
       trie-all last b n = record {
         same = path-then same₁ (path-then (b .same .path) (n .same .path));
-        runs = trie-both (r .can) seen cut h last (rw tally₁ at (list-runs-at same₁ matched₁ (b .runs))) (list-runs-at (path-then same₁ (b .same .path)) (b .same .matched-same ∙ matched₁) (n .runs));
+        runs = trie-both (r .can) seen cut h last (rw tally₁ at (list-runs-at same₁ matched₁ (b .runs)))
+            (list-runs-at (path-then same₁ (b .same .path)) (b .same .matched-same ∙ matched₁) (n .runs));
       }

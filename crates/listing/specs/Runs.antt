@@ -144,7 +144,8 @@ module _ (ws txt : List ℕ) (query : Str) (place : Place) (run : List ℕ) wher
 
   pub record TreeAsked (f : Found) : Type 0 where
     pub place-ok : PlaceOk query place run
-    pub can : TreeReady ws txt (place .ask) (drop (place .next) query) (path-in run) (limits-in run) (place .leaf) (f .link) (f .label) (take (place .len) query)
+    pub can : TreeReady ws txt (place .ask) (drop (place .next) query) (path-in run) (limits-in run) (place .leaf)
+        (f .link) (f .label) (take (place .len) query)
 
   pub record ListAsked (x : ℕ) : Type 0 where
     pub place-ok : PlaceOk query place run
@@ -153,16 +154,19 @@ module _ (ws txt : List ℕ) (query : Str) (place : Place) (run : List ℕ) wher
   module _ (run′ flat flat′ out out′ : List ℕ) where
     pub record BranchListed (f : Found) : Type 0 where
       pub same : SameRun run run′
-      pub runs : BranchRuns ws txt (place .ask) (drop (place .next) query) (path-in run) (limits-in run) (matched-in run) (tally-in run) (tally-in run′) flat flat′ out out′ (place .leaf) (f .link) (f .label)
+      pub runs : BranchRuns ws txt (place .ask) (drop (place .next) query) (path-in run) (limits-in run) (matched-in run)
+          (tally-in run) (tally-in run′) flat flat′ out out′ (place .leaf) (f .link) (f .label)
 
     pub record TreeListed (f : Found) : Type 0 where
       pub same : SameRun run run′
-      pub runs : EntriesRun ws txt (place .ask) (drop (place .next) query) (path-in run) (limits-in run) (matched-in run) (tally-in run) (tally-in run′) flat flat′ out out′ (place .leaf)
+      pub runs : EntriesRun ws txt (place .ask) (drop (place .next) query) (path-in run) (limits-in run) (matched-in run)
+          (tally-in run) (tally-in run′) flat flat′ out out′ (place .leaf)
           (tree-entries ws txt (f .link) (f .label) (take (place .len) query))
 
     pub record ListListed (x : ℕ) : Type 0 where
       pub same : SameRun run run′
-      pub runs : ListRuns ws txt (place .ask) (drop (place .next) query) (path-in run) (limits-in run) (matched-in run) (tally-in run) (tally-in run′) flat flat′ out out′ (place .leaf) x (take (place .len) query)
+      pub runs : ListRuns ws txt (place .ask) (drop (place .next) query) (path-in run) (limits-in run) (matched-in run)
+          (tally-in run) (tally-in run′) flat flat′ out out′ (place .leaf) x (take (place .len) query)
 
 module _ (ws txt : List ℕ) (query : Str) (ask : Ask) (run : List ℕ) where
   pub record TrieAsked (x : ℕ) : Type 0 where
