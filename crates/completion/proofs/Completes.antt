@@ -6,7 +6,7 @@ use mathlib.Core.List.{List, [], _∷_}
 use mathlib.Core.Logic.{inl, inr}
 use native.Mathlib.Omega.{arith}
 use lib.Dec.{ltb}
-use lib.ListN.{length, replicate}
+use lib.ListN.{length}
 use borrow.Author.Tests.{ltb-true, ltb-false, lt-ltb, le-ltb}
 use borrow.Rule.Slice.PartMut.{putMid}
 use Rattle.source.specs.Text.{Str, segments, ends-in-dot}
@@ -22,24 +22,23 @@ use Rattle.memory.specs.Layout.{Item, trieˢ, what}
 use Rattle.memory.proofs.Tries.{trie-shallow}
 use Rattle.lines.specs.Ask.{asked}
 use Rattle.lines.specs.Path.{Path, joined, PathOk, OnPath}
-use Rattle.lines.specs.Output.{line-bytes, Tally, signed-word, Written, Shows, Past, Small, Fit, Goes}
+use Rattle.lines.specs.Output.{line-bytes, Tally, Limits, signed-word, Written, Shows, Past, Small, Fit, Goes}
 use Rattle.lines.specs.Run.{path-in, tally-in}
 use Rattle.lines.specs.declared.Ask.{Ask}
-use Rattle.lines.specs.declared.Limits.{Limits}
 use Rattle.lines.proofs.Counting.{tally-is, tells-past}
 use Rattle.steps.specs.Steps.{Matching}
-use Rattle.listing.specs.Runs.{trie-gives, TrieReady, TrieRuns}
-use Rattle.completion.specs.Completes.{output, output-rows, lines-of, CompletesAs, CompletesTrie}
+use Rattle.listing.specs.Runs.{trie-gives, TrieReady, TrieRuns, TrieListed}
+use Rattle.completion.specs.Completes.{output, output-rows, start-run, lines-of, CompletesAs, CompletesTrie}
 use Rattle.completion.specs.declared.Completion.the-variants.{Listed, Spent, Lines}
 use Rattle.listing.proofs.Loops.{no-label}
 use Rattle.memory.specs.Sound.{At}
 
 -- The path to the root, and nothing counted.
-abbrev root-path : Path
-root-path = path-in (replicate 22 0)
+abbrev root-path : Limits → Path
+root-path lim = path-in (start-run (lim .budget) (lim .lines) (lim .bytes))
 
 abbrev nothing-yet : Tally
-nothing-yet = tally-in (replicate 22 0)
+nothing-yet = tally-in (start-run 0 0 0)
 
 -- A lent part of no element leaves all.
 lent-nothing : (d part : List ℕ) → length part ≡ 0 → putMid 0 0 d part ≡ d
@@ -56,9 +55,9 @@ module _ (ws txt : List ℕ) (ask : Ask) (root : ℕ) (query : Str) where
   abbrev tries : ℕ
   tries = tries-entered tr (segments query)
 
-  root-ok : At ws txt (asked ask) trieˢ root → PathOk ws txt (asked ask) root-path
+  root-ok : (lim : Limits) → At ws txt (asked ask) trieˢ root → PathOk ws txt (asked ask) (root-path lim)
   unfolding joined
-  root-ok t = record {
+  root-ok lim t = record {
     sized = refl;
     few = omega arith;
     each = λ j h. absurd (omega arith);
@@ -68,24 +67,33 @@ module _ (ws txt : List ℕ) (ask : Ask) (root : ℕ) (query : Str) where
     label-ok = no-label (t .sound);
   }
 
-  pub root-ready : {lim : Limits} → At ws txt (asked ask) trieˢ root → (ends-in-dot query ≡ true) × (length query ≤ 544) → Small lim → TrieReady ws txt ask query root-path lim root
-  root-ready t q s = record {
-    ready = record { path-ok = root-ok t; ends = q .0; short = q .1; small = s };
+  pub root-ready : {lim : Limits} → At ws txt (asked ask) trieˢ root → (ends-in-dot query ≡ true) × (length query ≤ 544) → Small lim
+      → TrieReady ws txt ask query (root-path lim) lim root
+  root-ready {lim} t q s = record {
+    ready = record { path-ok = root-ok lim t; ends = q .0; short = q .1; small = s };
     trie-at = t;
     room = omega (arith, trie-shallow t);
   }
 
-  on-root : OnPath ws txt root-path []
+  -- What a run from the root gives.
+  pub root-runs : {budget lines bytes : ℕ} {run run′ flat flat′ out out′ : List ℕ} → run ≡ start-run budget lines bytes
+      → TrieListed ws txt query ask run run′ flat flat′ out out′ root
+      → let lim : Limits = record { budget = budget; lines = lines; bytes = bytes } in
+      TrieRuns ws txt ask query (root-path lim) lim 4294967295 nothing-yet (tally-in run′) flat flat′ out out′ root
+  root-runs e t = (rw e at t) .runs
+
+  on-root : (lim : Limits) → OnPath ws txt (root-path lim) []
   unfolding joined base first-import-of-path
-  on-root = record { count = refl; text = refl; label-is = refl }
+  on-root lim = record { count = refl; text = refl; label-is = refl }
 
   root-matching : Matching [] (segments query) 4294967295
   unfolding signed-word
   root-matching = record { length-is = match-length-none [] tt; all-matched = λ n. tt }
 
-  module _ {lim : Limits} {a : Tally} {flat flat′ out out′ : List ℕ} (r : TrieRuns ws txt ask query root-path lim 4294967295 nothing-yet a flat flat′ out out′ root) where
+  module _ {lim : Limits} {a : Tally} {flat flat′ out out′ : List ℕ}
+      (r : TrieRuns ws txt ask query (root-path lim) lim 4294967295 nothing-yet a flat flat′ out out′ root) where
     run-goes : Goes (asked ask) ws txt lim nothing-yet a flat flat′ out out′ (trie-gives ask (suc (depth tr)) tr [] (segments query))
-    run-goes = r .goes [] (suc (depth tr)) on-root root-matching (omega arith)
+    run-goes = r .goes [] (suc (depth tr)) (on-root lim) root-matching (omega arith)
 
     none-shown : Shows lim 0 0 0 nothing-yet
     none-shown = record { spent = λ h. h; entered-is = λ h. refl; counted = λ h. inl (refl, refl) }
@@ -117,7 +125,7 @@ module _ (ws txt : List ℕ) (ask : Ask) (root : ℕ) (query : Str) where
 
 -- What is written where the output is as it was.
 pub writes-then : (ws txt : List ℕ) (ask : Ask) (root : ℕ) (query : Str) {lim : Limits} {a : Tally} {flat flat₁ flat′ out out₁ out′ : List ℕ} → flat₁ ≡ flat → out₁ ≡ out
-    → TrieRuns ws txt ask query root-path lim 4294967295 nothing-yet a flat₁ flat′ out₁ out′ root
+    → TrieRuns ws txt ask query (root-path lim) lim 4294967295 nothing-yet a flat₁ flat′ out₁ out′ root
     → Fit lim flat out (tries ws txt ask root query) (length (listed ws txt ask root query)) (length (output-text (listed ws txt ask root query)))
     → Written (asked ask) ws txt flat flat′ out out′ 0 0 (listed ws txt ask root query)
 writes-then ws txt ask root query f o r = root-writes ws txt ask root query (rw (f, o) at r)

@@ -1,7 +1,5 @@
 // Completion on a root of well-formed arguments: rows 9 and 10, counted before anything is written.
 use lines::Ask;
-use lines::Limits;
-use lines::Task;
 ghost use mathlib.Core.Path.{_≡_};
 ghost use mathlib.Core.Bool.{true};
 ghost use Prim.Native.Nat.{_≤_, min};
@@ -11,7 +9,7 @@ ghost use Rattle.source.specs.Text.{ends-in-dot};
 ghost use Rattle.memory.specs.Layout.{trieˢ};
 ghost use Rattle.memory.specs.Sound.{At};
 ghost use Rattle.lines.specs.Ask.{asked};
-ghost use Rattle.completion.specs.Completes.{CompletesTrie};
+ghost use Rattle.completion.specs.Completes.{start-run, CompletesTrie};
 
 // What a completion of well-formed arguments hands back: the lines and the tries entered, or rows 9 and 10.
 pub enum Completion {
@@ -30,6 +28,18 @@ fn lent(n: usize) -> usize
     4294967295
 }
 
+// A run at the root: nothing is taken, so much may be, and -1 is the match length, since no element was matched.
+fn start(budget: usize, lines: usize, bytes: usize) -> [usize; lines::RUN]
+    ensures { λ r. ⌜ r ≡ start-run budget lines bytes ⌝ }
+{
+    let mut run = [0; lines::RUN];
+    run[lines::BUDGET] = budget;
+    run[lines::MOST_LINES] = lines;
+    run[lines::MOST_BYTES] = bytes;
+    run[lines::MATCHED] = 4294967295;
+    run
+}
+
 // Completion on a root: counted first, so that a refusal writes nothing, then written.
 pub fn complete(
     words: &[u32],
@@ -43,28 +53,18 @@ pub fn complete(
 ) -> Completion
     requires { ⌜ At (now words) (now text) (asked ask) trieˢ root ⌝ }
     requires { ⌜ (ends-in-dot (now query) ≡ true) × (length (now query) ≤ longest-query) ⌝ }
-    ensures { λ r. ⌜ CompletesTrie (now (words .entry)) (now (text .entry)) ask root (now (query .entry)) budget (now (flat .entry)) (now (flat .exit)) (now (out .entry)) (now (out .exit)) r ⌝ }
+    ensures { λ r. ⌜ CompletesTrie (now (words .entry)) (now (text .entry)) ask root (now (query .entry)) budget
+        (now (flat .entry)) (now (flat .exit)) (now (out .entry)) (now (out .exit)) r ⌝ }
 {
     let lines = lent(flat.len() / lines::LINE_BYTES);
     let bytes = lent(out.len());
     let most = budget as usize;
-    let lim = Limits {
-        budget: most,
-        lines: lines,
-        bytes: bytes,
-    };
-    // -1: no element was matched.
-    let task = Task {
-        ask: ask,
-        lim: lim,
-        matched: 4294967295,
-    };
-    let mut run = [0; lines::RUN];
+    let mut run = start(most, lines, bytes);
     listing::list_trie(
         words,
         text,
         query,
-        task,
+        ask,
         root,
         &mut run,
         &mut flat[0..0],
@@ -82,7 +82,7 @@ pub fn complete(
     if bytes < size {
         return Completion::Lines;
     }
-    let mut again = [0; lines::RUN];
-    listing::list_trie(words, text, query, task, root, &mut again, flat, out);
+    let mut again = start(most, lines, bytes);
+    listing::list_trie(words, text, query, ask, root, &mut again, flat, out);
     Completion::Listed(count as u32, entered as u32)
 }

@@ -27,11 +27,10 @@ use Rattle.lines.specs.Lines.{only, Listed}
 use Rattle.lines.specs.Parts.{candidate-of, note-at, outermost, PutLine, KeptLine}
 use Rattle.lines.specs.declared.Filter.{Filter}
 use Rattle.lines.specs.declared.Ask.{Ask}
-use Rattle.lines.specs.declared.Task.{Task}
 use Rattle.lines.specs.declared.Found.{Found}
 use Rattle.lines.specs.declared.Ask.the-variants.{Names, Modules}
 use Rattle.lines.specs.Output.{signed-word, Goes}
-use Rattle.lines.specs.Run.{path-in, tally-in, job-in, SamePath}
+use Rattle.lines.specs.Run.{path-in, tally-in, limits-in, matched-in, job-in, SameRun}
 
 -- What a found element of bindings and its path say of its line.
 record Element (ws txt : List ℕ) (w : Which) (p : Path) (branch label : ℕ) (path : PathOf) (x : PathElem × Value (Item w) bind) : Type 0 where
@@ -63,22 +62,24 @@ kept-is f y m e = go (keeps f (y .1)) ∙ rw e
     go true = refl
     go false = refl
 
-module _ (ws txt : List ℕ) (k : Task) (f : Found) (run run′ flat flat′ out out′ : List ℕ) where
+module _ (ws txt : List ℕ) (f : Found) (run run′ flat flat′ out out′ : List ℕ) where
   abbrev ListedAs : Ask → Type 0
   ListedAs ask =
       (path : PathOf) (x : PathElem × Value (Item (asked ask)) bind) (q : Option Str) → OnPath ws txt (path-in run) path
       → outer x ≡ shown (asked ask) ws txt bind q (record { branch = f .link; label = f .label })
-      → match-length-of-path (reverse (x .0 ∷ path)) ≡ signed-word (k .matched)
-      → Goes (asked ask) ws txt (k .lim) (tally-in run) (tally-in run′) flat flat′ out out′ (only (line-for ask (line path x)))
+      → match-length-of-path (reverse (x .0 ∷ path)) ≡ signed-word (matched-in run)
+      → Goes (asked ask) ws txt (limits-in run) (tally-in run) (tally-in run′) flat flat′ out out′ (only (line-for ask (line path x)))
 
-  as-names : BranchAt ws txt names bind (f .link) → PutLine ws txt (job-in k (f .link) run) (note-at ws txt (outermost (path-in run) (f .label))) (tally-in run′) flat flat′ out out′ → ListedAs Names
+  as-names : BranchAt ws txt names bind (f .link)
+      → PutLine ws txt (job-in (f .link) run) (note-at ws txt (outermost (path-in run) (f .label))) (tally-in run′) flat flat′ out out′ → ListedAs Names
   unfolding completion-result-of-lid
   as-names b put path x q o e m =
       let i = element names (f .link) (f .label) x q o e in
       put names (completion-result-of-lid (line path x))
       (record { branch-at = b; length-is = m; item-is = i .item; candidate-is = i .candidate; annotation-is = ap (dflt []) (i .import) })
 
-  as-modules : (filter : Filter) → BranchAt ws txt modules bind (f .link) → KeptLine ws txt filter (job-in k (f .link) run) (tally-in run′) flat flat′ out out′ → ListedAs (Modules filter)
+  as-modules : (filter : Filter) → BranchAt ws txt modules bind (f .link)
+      → KeptLine ws txt filter (job-in (f .link) run) (tally-in run′) flat flat′ out out′ → ListedAs (Modules filter)
   unfolding completion-result-of-ns-or-mod
   as-modules filter b put path x q o e m =
       let i = element modules (f .link) (f .label) x q o e in
@@ -87,11 +88,19 @@ module _ (ws txt : List ℕ) (k : Task) (f : Found) (run run′ flat flat′ out
       (record { branch-at = b; length-is = m; item-is = i .item; candidate-is = i .candidate; annotation-is = ap mod-annotation (i .item) }))
 
 -- What line answers: of names, of modules and namespaces.
-module _ {ws txt : List ℕ} {k : Task} {f : Found} {run run′ flat flat′ out out′ : List ℕ} (b : BranchAt ws txt (asked (k .ask)) bind (f .link)) (s : SamePath run run′) where
-  pub listed-names : k .ask ≡ Names → PutLine ws txt (job-in k (f .link) run) (note-at ws txt (outermost (path-in run) (f .label))) (tally-in run′) flat flat′ out out′
-      → Listed ws txt k f run run′ flat flat′ out out′
-  listed-names e put = record { same = s; goes = subst (ListedAs ws txt k f run run′ flat flat′ out out′) (sym e) (as-names ws txt k f run run′ flat flat′ out out′ (rw e at b) put) }
+module _ {ws txt : List ℕ} {ask : Ask} {f : Found} {run run′ flat flat′ out out′ : List ℕ}
+    (b : BranchAt ws txt (asked ask) bind (f .link)) (s : SameRun run run′) where
+  pub listed-names : ask ≡ Names
+      → PutLine ws txt (job-in (f .link) run) (note-at ws txt (outermost (path-in run) (f .label))) (tally-in run′) flat flat′ out out′
+      → Listed ws txt ask f run run′ flat flat′ out out′
+  listed-names e put = record {
+    same = s;
+    goes = subst (ListedAs ws txt f run run′ flat flat′ out out′) (sym e) (as-names ws txt f run run′ flat flat′ out out′ (rw e at b) put);
+  }
 
-  pub listed-modules : (filter : Filter) → k .ask ≡ Modules filter → KeptLine ws txt filter (job-in k (f .link) run) (tally-in run′) flat flat′ out out′
-      → Listed ws txt k f run run′ flat flat′ out out′
-  listed-modules filter e put = record { same = s; goes = subst (ListedAs ws txt k f run run′ flat flat′ out out′) (sym e) (as-modules ws txt k f run run′ flat flat′ out out′ filter (rw e at b) put) }
+  pub listed-modules : (filter : Filter) → ask ≡ Modules filter → KeptLine ws txt filter (job-in (f .link) run) (tally-in run′) flat flat′ out out′
+      → Listed ws txt ask f run run′ flat flat′ out out′
+  listed-modules filter e put = record {
+    same = s;
+    goes = subst (ListedAs ws txt f run run′ flat flat′ out out′) (sym e) (as-modules ws txt f run run′ flat flat′ out out′ filter (rw e at b) put);
+  }

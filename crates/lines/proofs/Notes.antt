@@ -1,11 +1,14 @@
 -- The annotation that a label is.
-use Prim.Native.Nat.{ℕ}
-use mathlib.Core.Path.{_≡_}
+use Prim.Native.Nat.{ℕ, _<_, _≤_}
+use mathlib.Core.Path.{_≡_, ap}
 use mathlib.Core.List.{List, []}
+use native.Mathlib.Omega.{arith}
+use native.Mathlib.Decide.{ℕ-discrete}
+use lib.ListN.{length}
 use borrow.Author.Tests.{ne-eqb}
 use Rattle.source.specs.Tries.{dflt}
 use Rattle.memory.specs.Layout.{key-at}
-use Rattle.lines.specs.Parts.{note-at}
+use Rattle.lines.specs.Parts.{TextAt, note-at}
 
 module _ (ws txt : List ℕ) (label : ℕ) where
   pub note-none : label ≡ 0 → note-at ws txt label ≡ []
@@ -15,3 +18,11 @@ module _ (ws txt : List ℕ) (label : ℕ) where
   pub note-some : (label ≡ 0 → ⊥) → note-at ws txt label ≡ key-at ws txt label
   unfolding dflt
   note-some ne = rw (ne-eqb label 0 ne)
+
+  -- It is short.
+  pub note-short : (0 < label → TextAt ws txt label) → length (note-at ws txt label) ≤ 543
+  note-short t =
+      elim (ℕ-discrete label 0) [
+        | yes e ↦ omega (arith, ap length (note-none e))
+        | no ne ↦ let k = t (omega arith) in omega (arith, ap length (note-some ne), k .size, k .short)
+      ]

@@ -17,7 +17,7 @@ use Rattle.lines.specs.Path.{Path, BranchAt, LabelAt, PathOk}
 use Rattle.lines.specs.Run.{path-in, job-in}
 use Rattle.lines.specs.Lines.{CanList}
 use Rattle.lines.specs.Parts.{TextAt, PathAt, JobOk, outermost}
-use Rattle.lines.specs.declared.Task.{Task}
+use Rattle.lines.specs.declared.Ask.{Ask}
 use Rattle.lines.specs.declared.Found.{Found}
 
 module _ {ws txt : List ℕ} {n used x k : ℕ} (o : Used ws txt n used) (i : LinkOk ws (n + 1) x k) (p : 0 < x) where
@@ -43,9 +43,9 @@ pub path-at : {ws txt : List ℕ} {w : Which} {p : Path} → PathOk ws txt w p �
 path-at o = record { sized = o .sized; few = o .few; each = λ j h. branch-text (o .each j h); len-is = o .len-is; short = o .short }
 
 -- What line is given is what its parts need.
-module _ {ws txt : List ℕ} {k : Task} {f : Found} {run : List ℕ} (o : CanList ws txt k f run) where
-  pub job-ok : JobOk ws txt (job-in k (f .link) run)
-  job-ok = record { path = path-at (o .path-ok); branch = branch-text (o .branch-at); small = o .small }
+module _ {ws txt : List ℕ} {ask : Ask} {f : Found} {run : List ℕ} (o : CanList ws txt ask f run) where
+  pub job-ok : JobOk ws txt (job-in (f .link) run)
+  job-ok = record { path = path-at (o .path-ok); branch = branch-text (o .branch-at); small = o .small; fits = o .fits }
 
   pub label-small : path-in run .label ≤ 65536
   label-small = let l = o .path-ok .label-ok in omega (arith, l .at .link .earlier, l .at .sound .few)

@@ -1,5 +1,5 @@
 -- What one line of a listing says.
-use Prim.Native.Nat.{ℕ}
+use Prim.Native.Nat.{ℕ, _≤_}
 use mathlib.Core.Path.{_≡_}
 use mathlib.Core.List.{List, _∷_, _++_, reverse}
 use mathlib.Core.Option.{Option}
@@ -14,8 +14,8 @@ use Rattle.names.specs.Entries.{shown, outer}
 use Rattle.lines.specs.Ask.{asked, line-for}
 use Rattle.lines.specs.Path.{Path, joined, BranchAt, LabelAt, PathOk, OnPath}
 use Rattle.lines.specs.Output.{signed-word, Result, Small, Goes}
-use Rattle.lines.specs.Run.{path-in, tally-in, SamePath}
-use Rattle.lines.specs.declared.Task.{Task}
+use Rattle.lines.specs.Run.{path-in, tally-in, limits-in, matched-in, SameRun}
+use Rattle.lines.specs.declared.Ask.{Ask}
 use Rattle.lines.specs.declared.Found.{Found}
 
 -- The line of a branch below a path.
@@ -30,17 +30,18 @@ pub record Spells (ws txt : List ℕ) (w : Which) (p : Path) (branch matched : �
 abbrev pub only : {A : Type 0} → List (Line A) → Result A
 only ls = record { lines = ls; entered = 0 }
 
--- The path, a found branch of bindings and its label are there, and the limits are small.
-pub record CanList (ws txt : List ℕ) (k : Task) (f : Found) (run : List ℕ) : Type 0 where
-  pub path-ok : PathOk ws txt (asked (k .ask)) (path-in run)
-  pub branch-at : BranchAt ws txt (asked (k .ask)) bind (f .link)
-  pub label-at : LabelAt ws txt (asked (k .ask)) bind (f .label)
-  pub small : Small (k .lim)
+-- The path, a found branch of bindings and its label are there, the limits are small, and the match length fits.
+pub record CanList (ws txt : List ℕ) (ask : Ask) (f : Found) (run : List ℕ) : Type 0 where
+  pub path-ok : PathOk ws txt (asked ask) (path-in run)
+  pub branch-at : BranchAt ws txt (asked ask) bind (f .link)
+  pub label-at : LabelAt ws txt (asked ask) bind (f .label)
+  pub small : Small (limits-in run)
+  pub fits : matched-in run ≤ 4294967295
 
 -- The run went on by what is asked of a found element of bindings, where the branch and the label show it and it ends a path.
-pub record Listed (ws txt : List ℕ) (k : Task) (f : Found) (run run′ flat flat′ out out′ : List ℕ) : Type 0 where
-  pub same : SamePath run run′
-  pub goes : (path : PathOf) (x : PathElem × Value (Item (asked (k .ask))) bind) (q : Option Str) → OnPath ws txt (path-in run) path
-      → outer x ≡ shown (asked (k .ask)) ws txt bind q (record { branch = f .link; label = f .label })
-      → match-length-of-path (reverse (x .0 ∷ path)) ≡ signed-word (k .matched)
-      → Goes (asked (k .ask)) ws txt (k .lim) (tally-in run) (tally-in run′) flat flat′ out out′ (only (line-for (k .ask) (line path x)))
+pub record Listed (ws txt : List ℕ) (ask : Ask) (f : Found) (run run′ flat flat′ out out′ : List ℕ) : Type 0 where
+  pub same : SameRun run run′
+  pub goes : (path : PathOf) (x : PathElem × Value (Item (asked ask)) bind) (q : Option Str) → OnPath ws txt (path-in run) path
+      → outer x ≡ shown (asked ask) ws txt bind q (record { branch = f .link; label = f .label })
+      → match-length-of-path (reverse (x .0 ∷ path)) ≡ signed-word (matched-in run)
+      → Goes (asked ask) ws txt (limits-in run) (tally-in run) (tally-in run′) flat flat′ out out′ (only (line-for ask (line path x)))

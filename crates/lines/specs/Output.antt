@@ -22,7 +22,6 @@ use Rattle.memory.specs.Layout.{record-at, word, number-word, name-start, name-
 use Rattle.text.specs.Laid.{Laid}
 use Rattle.wire.specs.Bytes.{words-at}
 use Rattle.lines.specs.Path.{BranchAt}
-use Rattle.lines.specs.declared.Limits.{Limits}
 
 -- Bytes of a line.
 abbrev pub line-bytes : ℕ
@@ -104,6 +103,12 @@ Capped limit x a = (a ≡ x) ⊎ ((limit < x) × (limit < a))
 -- What a completion has taken.
 pub record Tally : Type 0 where
   pub entered : ℕ
+  pub lines : ℕ
+  pub bytes : ℕ
+
+-- What it may take.
+pub record Limits : Type 0 where
+  pub budget : ℕ
   pub lines : ℕ
   pub bytes : ℕ
 

@@ -32,7 +32,7 @@ pub record TextAt (ws txt : List ℕ) (x : ℕ) : Type 0 where
 
 -- The links of a path name keys, and the length is that of their text.
 pub record PathAt (ws txt : List ℕ) (p : Path) : Type 0 where
-  pub sized : length (p .links) ≡ 22
+  pub sized : length (p .links) ≡ 26
   pub few : p .n ≤ deepest-trie
   pub each : (j : ℕ) → j < p .n → TextAt ws txt (getD (p .links) j 0)
   pub len-is : p .len ≡ length (joined ws txt (p .links) (p .n))
@@ -43,6 +43,7 @@ pub record JobOk (ws txt : List ℕ) (j : Job) : Type 0 where
   pub path : PathAt ws txt (j .path)
   pub branch : TextAt ws txt (j .branch)
   pub small : Small (j .lim)
+  pub fits : j .matched ≤ 4294967295
 
 -- The candidate of a branch below a path.
 abbrev pub candidate-of : (ws txt : List ℕ) → Path → ℕ → Str

@@ -38,7 +38,7 @@ pub record LabelAt (ws txt : List ℕ) (w : Which) (v : Level) (x : ℕ) : Type 
 
 -- The links are branches of namespaces, at most 16, and the length is that of their text.
 pub record PathOk (ws txt : List ℕ) (w : Which) (p : Path) : Type 0 where
-  pub sized : length (p .links) ≡ 22
+  pub sized : length (p .links) ≡ 26
   pub few : p .n ≤ deepest-trie
   pub each : (j : ℕ) → j < p .n → BranchAt ws txt w ns (getD (p .links) j 0)
   pub len-is : p .len ≡ length (joined ws txt (p .links) (p .n))

@@ -12,7 +12,7 @@ ghost use Rattle.source.specs.Calls as C;
 ghost use Rattle.memory.specs.Layout.{pick};
 ghost use Rattle.memory.specs.Sound.{Says};
 ghost use Rattle.lines.specs.Ask.{filter-in};
-ghost use Rattle.lines.specs.Run.{path-in, tally-in, job-in, SamePath};
+ghost use Rattle.lines.specs.Run.{path-in, tally-in, job-in, SameRun};
 ghost use Rattle.lines.specs.Output.{Capped};
 ghost use Rattle.lines.specs.Lines.{CanList, Listed};
 ghost use Rattle.lines.specs.Parts.{TextAt, JobOk, note-at, outermost, TriedLine, PutLine, KeptLine};
@@ -34,20 +34,6 @@ pub enum Filter {
 pub enum Ask {
     Names,
     Modules(Filter),
-}
-
-// What a completion may take: tries entered, lines, bytes.
-pub struct Limits {
-    pub budget: usize,
-    pub lines: usize,
-    pub bytes: usize,
-}
-
-// What the lines of a list have in common: what is asked, what may be taken, and the match length, 4294967295 for -1.
-pub struct Task {
-    pub ask: Ask,
-    pub lim: Limits,
-    pub matched: u32,
 }
 
 // A branch or a tree that was found, and the collection of its outermost label, 0 for none.
@@ -72,10 +58,22 @@ pub const ENTERED: usize = 19;
 // lines,
 pub const LINES: usize = 20;
 
-// bytes.
+// bytes;
 pub const BYTES: usize = 21;
 
-pub const RUN: usize = 22;
+// what it may take: tries entered,
+pub const BUDGET: usize = 22;
+
+// lines,
+pub const MOST_LINES: usize = 23;
+
+// bytes;
+pub const MOST_BYTES: usize = 24;
+
+// the match length of what is listed, 4294967295 for -1.
+pub const MATCHED: usize = 25;
+
+pub const RUN: usize = 26;
 
 // The sum, where `a` is not past the limit already.
 fn add(a: usize, n: usize, limit: usize) -> usize
@@ -108,51 +106,49 @@ fn fits(at: usize, n: usize, limit: usize, lent: usize) -> bool
 fn try_line(
     words: &[u32],
     text: &[u8],
-    task: Task,
     branch: u32,
     note: &[u8],
     run: &[usize; RUN],
     flat: &mut [u8],
     out: &mut [u8],
 )
-    requires { ⌜ JobOk (now words) (now text) (job-in task branch (now run)) ⌝ }
+    requires { ⌜ JobOk (now words) (now text) (job-in branch (now run)) ⌝ }
     requires { ⌜ length (now note) ≤ longest-full-name ⌝ }
-    ensures { λ _. ⌜ TriedLine (now (words .entry)) (now (text .entry)) (job-in task branch (now (run .entry))) (now (note .entry)) (now (flat .entry)) (now (flat .exit)) (now (out .entry)) (now (out .exit)) ⌝ }
+    ensures { λ _. ⌜ TriedLine (now (words .entry)) (now (text .entry)) (job-in branch (now (run .entry))) (now (note .entry))
+        (now (flat .entry)) (now (flat .exit)) (now (out .entry)) (now (out .exit)) ⌝ }
 {
-    let lim = task.lim;
-    if !fits(run[LINES], 1, lim.lines, flat.len() / LINE_BYTES) {
+    if !fits(run[LINES], 1, run[MOST_LINES], flat.len() / LINE_BYTES) {
         return;
     }
     let size = run[LENGTH] + memory::text_len(words, branch) as usize + note.len();
-    if !fits(run[BYTES], size, lim.bytes, out.len()) {
+    if !fits(run[BYTES], size, run[MOST_BYTES], out.len()) {
         return;
     }
-    write::write_line(words, text, task, branch, note, run, flat, out);
+    write::write_line(words, text, branch, note, run, flat, out);
 }
 
 // Counts the line with the annotation `note`, and writes it where it fits.
 fn put_line(
     words: &[u32],
     text: &[u8],
-    task: Task,
     branch: u32,
     note: &[u8],
     run: &mut [usize; RUN],
     flat: &mut [u8],
     out: &mut [u8],
 )
-    requires { ⌜ JobOk (now words) (now text) (job-in task branch (now run)) ⌝ }
+    requires { ⌜ JobOk (now words) (now text) (job-in branch (now run)) ⌝ }
     requires { ⌜ length (now note) ≤ longest-full-name ⌝ }
-    ensures { λ _. ⌜ SamePath (now (run .entry)) (now (run .exit)) ⌝ }
-    ensures { λ _. ⌜ PutLine (now (words .entry)) (now (text .entry)) (job-in task branch (now (run .entry))) (now (note .entry)) (tally-in (now (run .exit))) (now (flat .entry)) (now (flat .exit)) (now (out .entry)) (now (out .exit)) ⌝ }
+    ensures { λ _. ⌜ SameRun (now (run .entry)) (now (run .exit)) ⌝ }
+    ensures { λ _. ⌜ PutLine (now (words .entry)) (now (text .entry)) (job-in branch (now (run .entry))) (now (note .entry))
+        (tally-in (now (run .exit))) (now (flat .entry)) (now (flat .exit)) (now (out .entry)) (now (out .exit)) ⌝ }
 {
-    let lim = task.lim;
     let lines = run[LINES];
     let bytes = run[BYTES];
     let size = run[LENGTH] + memory::text_len(words, branch) as usize + note.len();
-    try_line(words, text, task, branch, note, run, flat, out);
-    run[LINES] = add(lines, 1, lim.lines);
-    run[BYTES] = add(bytes, size, lim.bytes);
+    try_line(words, text, branch, note, run, flat, out);
+    run[LINES] = add(lines, 1, run[MOST_LINES]);
+    run[BYTES] = add(bytes, size, run[MOST_BYTES]);
 }
 
 // The collection of the outermost label of the path and the branch below it, 0 for none.
@@ -166,36 +162,35 @@ fn outermost(run: &[usize; RUN], label: u32) -> u32
     run[LABEL] as u32
 }
 
+// The label of a collection, empty for none.
+fn note_of<'a>(words: &[u32], text: &'a [u8], label: u32) -> &'a [u8]
+    requires { ⌜ (0 < label → TextAt (now words) (now text) label) ⌝ }
+    ensures { λ r. ⌜ now r ≡ note-at (now (words .entry)) (now (text .entry)) label ⌝ }
+{
+    if label == 0 {
+        return &text[0..0];
+    }
+    memory::key_of(words, text, label)
+}
+
 // The line of a name: its annotation is the label of the collection `found.label`.
 fn name_line(
     words: &[u32],
     text: &[u8],
-    task: Task,
     found: Found,
     run: &mut [usize; RUN],
     flat: &mut [u8],
     out: &mut [u8],
 )
-    requires { ⌜ JobOk (now words) (now text) (job-in task (found .link) (now run)) ⌝ }
+    requires { ⌜ JobOk (now words) (now text) (job-in (found .link) (now run)) ⌝ }
     requires { ⌜ (0 < found .label → TextAt (now words) (now text) (found .label)) ⌝ }
-    ensures { λ _. ⌜ SamePath (now (run .entry)) (now (run .exit)) ⌝ }
-    ensures { λ _. ⌜ PutLine (now (words .entry)) (now (text .entry)) (job-in task (found .link) (now (run .entry))) (note-at (now (words .entry)) (now (text .entry)) (found .label)) (tally-in (now (run .exit))) (now (flat .entry)) (now (flat .exit)) (now (out .entry)) (now (out .exit)) ⌝ }
+    ensures { λ _. ⌜ SameRun (now (run .entry)) (now (run .exit)) ⌝ }
+    ensures { λ _. ⌜ PutLine (now (words .entry)) (now (text .entry)) (job-in (found .link) (now (run .entry)))
+        (note-at (now (words .entry)) (now (text .entry)) (found .label)) (tally-in (now (run .exit)))
+        (now (flat .entry)) (now (flat .exit)) (now (out .entry)) (now (out .exit)) ⌝ }
 {
-    let label = found.label;
-    if label == 0 {
-        put_line(words, text, task, found.link, b"", run, flat, out);
-        return;
-    }
-    put_line(
-        words,
-        text,
-        task,
-        found.link,
-        memory::key_of(words, text, label),
-        run,
-        flat,
-        out,
-    );
+    let note = note_of(words, text, found.label);
+    put_line(words, text, found.link, note, run, flat, out);
 }
 
 // Whether the filter keeps a symbol: a module where `m`, else a namespace, loaded or not.
@@ -215,15 +210,15 @@ fn module_line(
     words: &[u32],
     text: &[u8],
     f: Filter,
-    task: Task,
     branch: u32,
     run: &mut [usize; RUN],
     flat: &mut [u8],
     out: &mut [u8],
 )
-    requires { ⌜ JobOk (now words) (now text) (job-in task branch (now run)) ⌝ }
-    ensures { λ _. ⌜ SamePath (now (run .entry)) (now (run .exit)) ⌝ }
-    ensures { λ _. ⌜ KeptLine (now (words .entry)) (now (text .entry)) f (job-in task branch (now (run .entry))) (tally-in (now (run .exit))) (now (flat .entry)) (now (flat .exit)) (now (out .entry)) (now (out .exit)) ⌝ }
+    requires { ⌜ JobOk (now words) (now text) (job-in branch (now run)) ⌝ }
+    ensures { λ _. ⌜ SameRun (now (run .entry)) (now (run .exit)) ⌝ }
+    ensures { λ _. ⌜ KeptLine (now (words .entry)) (now (text .entry)) f (job-in branch (now (run .entry))) (tally-in (now (run .exit)))
+        (now (flat .entry)) (now (flat .exit)) (now (out .entry)) (now (out .exit)) ⌝ }
 {
     let symbol = memory::symbol_of(words, branch);
     match symbol {
@@ -232,20 +227,20 @@ fn module_line(
                 return;
             }
             if loaded {
-                put_line(words, text, task, branch, b" mod ", run, flat, out);
+                put_line(words, text, branch, b" mod ", run, flat, out);
                 return;
             }
-            put_line(words, text, task, branch, b"(mod)", run, flat, out);
+            put_line(words, text, branch, b"(mod)", run, flat, out);
         }
         ModSymbol::Namespace(_, loaded) => {
             if !keeps(f, false, loaded) {
                 return;
             }
             if loaded {
-                put_line(words, text, task, branch, b" ns ", run, flat, out);
+                put_line(words, text, branch, b" ns ", run, flat, out);
                 return;
             }
-            put_line(words, text, task, branch, b"(ns)", run, flat, out);
+            put_line(words, text, branch, b"(ns)", run, flat, out);
         }
     }
 }
@@ -254,24 +249,24 @@ fn module_line(
 pub fn line(
     words: &[u32],
     text: &[u8],
-    task: Task,
+    ask: Ask,
     found: Found,
     run: &mut [usize; RUN],
     flat: &mut [u8],
     out: &mut [u8],
 )
-    requires { ⌜ CanList (now words) (now text) task found (now run) ⌝ }
-    ensures { λ _. ⌜ Listed (now (words .entry)) (now (text .entry)) task found (now (run .entry)) (now (run .exit)) (now (flat .entry)) (now (flat .exit)) (now (out .entry)) (now (out .exit)) ⌝ }
+    requires { ⌜ CanList (now words) (now text) ask found (now run) ⌝ }
+    ensures { λ _. ⌜ Listed (now (words .entry)) (now (text .entry)) ask found (now (run .entry)) (now (run .exit))
+        (now (flat .entry)) (now (flat .exit)) (now (out .entry)) (now (out .exit)) ⌝ }
 {
-    let ask = task.ask;
     match ask {
         Ask::Names => {
             let named = Found {
                 link: found.link,
                 label: outermost(run, found.label),
             };
-            name_line(words, text, task, named, run, flat, out);
+            name_line(words, text, named, run, flat, out);
         }
-        Ask::Modules(f) => module_line(words, text, f, task, found.link, run, flat, out),
+        Ask::Modules(f) => module_line(words, text, f, found.link, run, flat, out),
     }
 }

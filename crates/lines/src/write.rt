@@ -4,8 +4,8 @@ use crate::COUNT;
 use crate::LINE;
 use crate::LINE_BYTES;
 use crate::LINES;
+use crate::MATCHED;
 use crate::RUN;
-use crate::Task;
 ghost use mathlib.Core.Path.{_≡_};
 ghost use Prim.Native.Nat.{_+_, _*_, _<_, _≤_};
 ghost use lib.ListN.{length};
@@ -38,7 +38,8 @@ pub fn put_candidate(
     requires { ⌜ PathAt (now words) (now text) (path-in (now run)) ⌝ }
     requires { ⌜ TextAt (now words) (now text) branch ⌝ }
     requires { ⌜ at + path-in (now run) .len + length (key-at (now words) (now text) branch) ≤ length (now out) ⌝ }
-    ensures { λ r. ⌜ Laid (now (out .entry)) (now (out .exit)) at r (candidate-of (now (words .entry)) (now (text .entry)) (path-in (now (run .entry))) branch) ⌝ }
+    ensures { λ r. ⌜ Laid (now (out .entry)) (now (out .exit)) at r
+        (candidate-of (now (words .entry)) (now (text .entry)) (path-in (now (run .entry))) branch) ⌝ }
 {
     let n = run[COUNT];
     let mut end = at;
@@ -86,16 +87,16 @@ pub fn line_row(
 pub fn write_line(
     words: &[u32],
     text: &[u8],
-    task: Task,
     branch: u32,
     note: &[u8],
     run: &[usize; RUN],
     flat: &mut [u8],
     out: &mut [u8],
 )
-    requires { ⌜ JobOk (now words) (now text) (job-in task branch (now run)) ⌝ }
-    requires { ⌜ LineFits (now words) (job-in task branch (now run)) (now note) (now flat) (now out) ⌝ }
-    ensures { λ _. ⌜ LinePut (now (words .entry)) (now (text .entry)) (job-in task branch (now (run .entry))) (now (note .entry)) (now (flat .entry)) (now (flat .exit)) (now (out .entry)) (now (out .exit)) ⌝ }
+    requires { ⌜ JobOk (now words) (now text) (job-in branch (now run)) ⌝ }
+    requires { ⌜ LineFits (now words) (job-in branch (now run)) (now note) (now flat) (now out) ⌝ }
+    ensures { λ _. ⌜ LinePut (now (words .entry)) (now (text .entry)) (job-in branch (now (run .entry))) (now (note .entry))
+        (now (flat .entry)) (now (flat .exit)) (now (out .entry)) (now (out .exit)) ⌝ }
 {
     let at = run[BYTES];
     let base = run[LINES] * LINE_BYTES;
@@ -104,7 +105,7 @@ pub fn write_line(
     let row = line_row(
         words,
         branch,
-        task.matched,
+        run[MATCHED] as u32,
         at as u32,
         (end - at) as u32,
         note.len() as u32,

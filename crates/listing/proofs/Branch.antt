@@ -1,11 +1,12 @@
--- list_branch: a line, or the listing of the trie below.
+-- list_branch and list_below: a line, or the listing of the trie below.
 use Prim.Native.Nat.{ℕ, _*_, _<_, _≤_}
 use mathlib.Core.Path.{_≡_, refl, sym, ap, _∙_}
 use mathlib.Core.Bool.{Bool, true, false, true≢false}
 use mathlib.Core.List.{List, _∷_}
 use mathlib.Core.Option.{Option}
 use native.Mathlib.Omega.{arith}
-use lib.ListN.{length, getD, drop}
+use lib.ListN.{length, getD, set, drop}
+use lib.Seq.{getD-set-same}
 use Rattle.source.specs.Text.{Str}
 use Rattle.source.specs.Types.{Level, Value, bind, ns}
 use Rattle.source.specs.Trees.{PathElem}
@@ -19,14 +20,14 @@ use Rattle.tree.specs.Links.{row-at}
 use Rattle.names.specs.Entries.{shown, outer}
 use Rattle.lines.specs.Ask.{asked}
 use Rattle.lines.specs.Path.{Path, BranchAt, LabelAt}
-use Rattle.lines.specs.Output.{Tally}
-use Rattle.lines.specs.Run.{path-in, tally-in}
+use Rattle.lines.specs.Output.{Tally, Limits}
+use Rattle.lines.specs.Run.{path-in, tally-in, limits-in, matched-in, SamePath}
+use Rattle.lines.proofs.Run.{path-then, path-matched, tally-matched, tally-after, limits-after}
 use Rattle.lines.specs.Lines.{CanList, Listed}
 use Rattle.lines.specs.declared.Ask.{Ask}
-use Rattle.lines.specs.declared.Limits.{Limits}
 use Rattle.lines.specs.declared.Found.{Found}
 use Rattle.steps.specs.Steps.{PathDown, Entered, PathSet}
-use Rattle.listing.specs.Runs.{level-of, BranchReady, BranchRuns, TrieReady, TrieRuns, BranchAsked, BranchListed, TrieAsked, TrieListed}
+use Rattle.listing.specs.Runs.{level-of, spaces, BranchReady, BranchRuns, TrieReady, TrieRuns, BranchAsked, BranchListed, TrieAsked, TrieListed}
 use Rattle.listing.specs.declared.Place.{Place}
 use Rattle.steps.proofs.PathDown.{branch-fits, path-down, on-path-down}
 use Rattle.memory.proofs.At.{at-of}
@@ -57,14 +58,19 @@ module _ (ws txt : List ℕ) (w : Which) (v : Level) (o : Option Str) (branch la
   shown-prefix = ap (λ y. y .1 .0 .prefix) e
 
 -- The line of a branch of bindings.
-pub leaf-runs : {ws txt : List ℕ} {query : Str} {place : Place} {f : Found} {run run′ flat flat′ out out′ : List ℕ} → place .leaf ≡ true → Listed ws txt (place .task) f run run′ flat flat′ out out′
+pub leaf-runs : {ws txt : List ℕ} {query : Str} {place : Place} {f : Found} {run run′ flat flat′ out out′ : List ℕ} → place .leaf ≡ true
+    → Listed ws txt (place .ask) f run run′ flat flat′ out out′
     → BranchListed ws txt query place run run′ flat flat′ out out′ f
 leaf-runs {ws} {txt} {query} {place} {f} {run} {run′} {flat} {flat′} {out} {out′} e l = record { same = l .same; runs = go (place .leaf) e }
   where
     go : (z : Bool) → z ≡ true
-        → BranchRuns ws txt (place .task .ask) (drop (place .next) query) (path-in run) (place .task .lim) (place .task .matched) (tally-in run) (tally-in run′) flat flat′ out out′ z (f .link) (f .label)
+        → BranchRuns ws txt (place .ask) (drop (place .next) query) (path-in run) (limits-in run) (matched-in run)
+        (tally-in run) (tally-in run′) flat flat′ out out′ z (f .link) (f .label)
     go false e = absurd (true≢false (sym e))
-    go true e = record { goes = λ path x o n on st sh dp. l .goes path x o on sh (st (x .0) (shown-prefix ws txt (asked (place .task .ask)) bind o (f .link) (f .label) x sh) .length-is) }
+    go true e = record {
+      goes = λ path x o n on st sh dp.
+          l .goes path x o on sh (st (x .0) (shown-prefix ws txt (asked (place .ask)) bind o (f .link) (f .label) x sh) .length-is);
+    }
 
 module _ {ws txt : List ℕ} {ask : Ask} {rest : Str} {p : Path} {lim : Limits} where
   module _ {leaf : Bool} {branch label : ℕ} (r : BranchReady ws txt ask rest p lim leaf branch label) where
@@ -88,7 +94,7 @@ module _ {ws txt : List ℕ} {ask : Ask} {rest : Str} {p : Path} {lim : Limits} 
           go false e b l = (b, l)
           go true e b l = absurd (true≢false e)
 
-      pub below-ready : (length (p .links) ≡ 22) × (p .n < 16) × (p .len ≤ 544)
+      pub below-ready : (length (p .links) ≡ 26) × (p .n < 16) × (p .len ≤ 544)
       below-ready = let ok = r .ready .path-ok in (ok .sized, omega (arith, r .room e), omega (arith, ok .short, ok .few))
 
       module _ {longer : Path} {child : ℕ} (d : PathDown ws p branch label longer) (c : child ≡ trie-link (record-at ws branch)) where
@@ -117,27 +123,59 @@ module _ {ws txt : List ℕ} {ask : Ask} {rest : Str} {p : Path} {lim : Limits} 
             }
 
 -- A line can be listed.
-pub line-ready : {ws txt : List ℕ} {query : Str} {place : Place} {f : Found} {run : List ℕ} → BranchAsked ws txt query place run f → place .leaf ≡ true → CanList ws txt (place .task) f run
-line-ready r e = record { path-ok = r .can .ready .path-ok; branch-at = leaf-at (r .can) e .0; label-at = leaf-at (r .can) e .1; small = r .can .ready .small }
+pub line-ready : {ws txt : List ℕ} {query : Str} {place : Place} {f : Found} {run : List ℕ} → BranchAsked ws txt query place run f
+    → place .leaf ≡ true → CanList ws txt (place .ask) f run
+line-ready r e = record {
+  path-ok = r .can .ready .path-ok;
+  branch-at = leaf-at (r .can) e .0;
+  label-at = leaf-at (r .can) e .1;
+  small = r .can .ready .small;
+  fits = r .place-ok .fits;
+}
+
+-- A branch of namespaces, by what is left to ask.
+module _ {ws txt : List ℕ} {query : Str} {place : Place} {f : Found} {run : List ℕ} (e : place .leaf ≡ false) where
+  pub below-asked : BranchAsked ws txt query place run f → BranchAsked ws txt query (spaces (place .ask) (place .next)) run f
+  below-asked r = record {
+    place-ok = record { len-inside = omega arith; next-inside = r .place-ok .next-inside; fits = r .place-ok .fits };
+    can = rw e at (r .can);
+  }
+
+  pub below-listed : {run′ flat flat′ out out′ : List ℕ} → BranchListed ws txt query (spaces (place .ask) (place .next)) run run′ flat flat′ out out′ f
+      → BranchListed ws txt query place run run′ flat flat′ out out′ f
+  below-listed l = record { same = l .same; runs = rw e (l .runs) }
 
 -- A namespace is entered, listed and left.
 module _ {ws txt : List ℕ} {query : Str} {place : Place} {f : Found} {run run₁ : List ℕ} {child : ℕ} (r : BranchAsked ws txt query place run f) (e : place .leaf ≡ false) (d : Entered ws f run run₁)
     (c : child ≡ trie-link (record-at ws (f .link))) where
-  pub namespace-ready : TrieAsked ws txt (drop (place .next) query) (place .task) run₁ child
-  namespace-ready = record { can = child-ready (r .can) e (d .down) c }
+  pub namespace-ready : TrieAsked ws txt (drop (place .next) query) (place .ask) run₁ child
+  namespace-ready = record {
+    can = rw (limits-after run run₁ (d .after)) (child-ready (r .can) e (d .down) c);
+    fits = omega (arith, d .after 25 (omega arith), r .place-ok .fits);
+  }
 
-  module _ {run₂ flat flat′ out out′ : List ℕ} (t : TrieListed ws txt (drop (place .next) query) (place .task) run₁ run₂ flat flat′ out out′ child) where
-    pub namespace-sized : length run₂ ≡ 22
+  module _ {run₂ flat flat′ out out′ : List ℕ} (t : TrieListed ws txt (drop (place .next) query) (place .ask) run₁ run₂ flat flat′ out out′ child) where
+    pub namespace-sized : length run₂ ≡ 26
     namespace-sized = t .same .size ∙ d .down .size ∙ r .can .ready .path-ok .sized
 
-    pub namespace-runs : {run₃ : List ℕ} → PathSet run₂ run₃ (getD run 16 0) (getD run 17 0) (getD run 18 0) → BranchListed ws txt query place run run₃ flat flat′ out out′ f
-    namespace-runs z = record {
-      same = record {
+    module _ {run₃ : List ℕ} (z : PathSet run₂ run₃ (getD run 16 0) (getD run 17 0) (getD run 18 0)) where
+      path-back : SamePath run run₃
+      path-back = record {
         size = z .size ∙ t .same .size ∙ d .down .size;
         links = λ j h. z .links j (omega (arith, r .can .ready .path-ok .few)) ∙ t .same .links j (omega (arith, d .down .count)) ∙ d .down .before j h;
         count = z .count;
         len-is = z .len-is;
         label-is = z .label-is;
-      };
-      runs = space-runs (r .can) e (d .down) c (rw (z .tally-same, ← d .tally-same) (t .runs));
-    }
+        limits-same = limits-after run₂ run₃ (z .after) ∙ t .same .limits-same ∙ limits-after run run₁ (d .after);
+      }
+
+      pub namespace-runs : BranchListed ws txt query place run (set run₃ 25 (matched-in run)) flat flat′ out out′ f
+      namespace-runs = record {
+        same = record {
+          path = path-then path-back (path-matched run₃ (matched-in run) (omega (arith, z .count, r .can .ready .path-ok .few)));
+          matched-same = getD-set-same run₃ 25 (matched-in run) 0 (omega (arith, path-back .size, r .can .ready .path-ok .sized));
+        };
+        runs =
+            let k = rw (limits-after run run₁ (d .after), d .after 25 (omega arith), tally-after run run₁ (d .after)) at (t .runs) in
+            space-runs (r .can) e (d .down) c (rw (tally-matched run₃ (matched-in run), tally-after run₂ run₃ (z .after)) k);
+      }

@@ -15,9 +15,8 @@ use Rattle.memory.specs.Layout.{Item}
 use Rattle.names.specs.Entries.{Entry, shown, outer}
 use Rattle.lines.specs.Ask.{asked}
 use Rattle.lines.specs.Path.{Path, OnPath}
-use Rattle.lines.specs.Output.{Tally, Goes}
+use Rattle.lines.specs.Output.{Tally, Limits, Goes}
 use Rattle.lines.specs.declared.Ask.{Ask}
-use Rattle.lines.specs.declared.Limits.{Limits}
 use Rattle.lines.proofs.Goes.{goes-none, goes-then, goes-spent}
 use Rattle.steps.specs.Steps.{Steps}
 use Rattle.listing.specs.Runs.{HasRoom, level-of, elements-give, BranchRuns, EntriesRun}

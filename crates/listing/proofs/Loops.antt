@@ -35,17 +35,16 @@ use Rattle.merge.specs.Stream as M
 use Rattle.merge.specs.Stream.{Merge, Step, later, left-in, AnyRest, Starts, Gives, OneTree}
 use Rattle.merge.proofs.Cells.{later-end, later-next}
 use Rattle.merge.proofs.Rest.{rest-any, gives-end, gives-more}
-use Rattle.lines.specs.Output.{Tally}
+use Rattle.lines.specs.Output.{Tally, Limits}
 use Rattle.lines.specs.Ask.{asked}
 use Rattle.lines.specs.Path.{Path, BranchAt, LabelAt}
-use Rattle.lines.specs.Run.{path-in, tally-in, SamePath}
+use Rattle.lines.specs.Run.{path-in, tally-in, limits-in, matched-in, SameRun}
 use Rattle.lines.specs.declared.Ask.{Ask}
-use Rattle.lines.specs.declared.Limits.{Limits}
 use Rattle.lines.specs.declared.Found.{Found}
-use Rattle.lines.proofs.Run.{same-path, same-then}
+use Rattle.lines.proofs.Run.{same-run, same-then}
 use Rattle.listing.specs.Runs.{HasRoom, level-of, tree-entries, BranchReady, BranchRuns, TreeReady, EntriesRun, ListReady, ListRuns, BranchAsked, BranchListed, TreeAsked, TreeListed, ListAsked, ListListed}
 use Rattle.listing.specs.declared.Place.{Place}
-use Rattle.listing.proofs.Runs.{branch-ready-at, branch-runs-at}
+use Rattle.listing.proofs.Runs.{branch-ready-at, branch-runs-at, place-ok-at}
 use Rattle.listing.proofs.EntriesRun.{Left, left-all, left-none, left-spent, left-next}
 use Rattle.memory.proofs.At.{no-link, at-of, at-in}
 
@@ -168,9 +167,9 @@ module _ {ws txt : List ℕ} {ask : Ask} {rest : Str} {p : Path} {lim : Limits} 
 -- The run, with notes of the branches after the one at hand.
 module _ (ws txt : List ℕ) (query : Str) (place : Place) (f : Found) (run run′ flat flat′ out out′ notes : List ℕ) (s : Next) where
   pub record Stepping : Type 0 where
-    pub same : SamePath run run′
-    pub along : Along ws txt (place .task .ask) (drop (place .next) query) (path-in run) (place .task .lim) (place .task .matched) (place .leaf) (f .link) (f .label) (take (place .len) query)
-        (tally-in run) (tally-in run′) flat flat′ out out′ (s .link)
+    pub same : SameRun run run′
+    pub along : Along ws txt (place .ask) (drop (place .next) query) (path-in run) (limits-in run) (matched-in run) (place .leaf)
+        (f .link) (f .label) (take (place .len) query) (tally-in run) (tally-in run′) flat flat′ out out′ (s .link)
     pub noted : (s .link ≡ 0 → ⊥) → Noted ws txt (take (place .len) query) notes (s .n) (s .link) (later ws txt (take (place .len) query) (f .link) (s .link))
 
 noted-after : (ws txt : List ℕ) (prefix : Str) (root : ℕ) {notes : List ℕ} {l : List ℕ} {s : Next} → Matched ws txt prefix notes l s → onward ws txt prefix root (s .link) ≡ l → (s .link ≡ 0 → ⊥)
@@ -182,7 +181,7 @@ module _ {ws txt : List ℕ} {query : Str} {place : Place} {f : Found} {run : Li
   pub stepping-first : {flat out notes : List ℕ} {s : Next} → TreeAsked ws txt query place run f → Matched ws txt (take (place .len) query) notes (matches ws txt (f .link) (take (place .len) query)) s
       → Stepping ws txt query place f run run flat flat out out notes s
   stepping-first {s = s} r w = record {
-    same = same-path run;
+    same = same-run run;
     along = along-first (r .can) (w .head);
     noted = noted-after ws txt (take (place .len) query) (f .link) w (first-onward (r .can .tree-at) (take (place .len) query) (s .link) (w .head) .0);
   }
@@ -196,18 +195,21 @@ module _ {ws txt : List ℕ} {query : Str} {place : Place} {f : Found} {run : Li
 
     module _ (n : s .link ≡ 0 → ⊥) where
       pub stepping-branch : TreeAsked ws txt query place run f → BranchAsked ws txt query place run′ at-hand
-      stepping-branch r = record { place-ok = r .place-ok; can = branch-ready-at (g .same) (along-branch (g .along) n (r .can)) }
+      stepping-branch r = record { place-ok = place-ok-at (g .same) (r .place-ok); can = branch-ready-at (g .same .path) (along-branch (g .along) n (r .can)) }
 
       module _ {run″ flat″ out″ : List ℕ} (b : BranchListed ws txt query place run′ run″ flat′ flat″ out′ out″ at-hand) (lf : length flat″ ≡ length flat′) (lo : length out″ ≡ length out′) where
-        pub stepping-spent : place .task .lim .budget < getD run″ 19 0 → TreeListed ws txt query place run run″ flat flat″ out out″ f
-        stepping-spent k = record { same = same-then (g .same) (b .same); runs = along-spent (g .along) n (branch-runs-at (g .same) (b .runs)) lf lo k }
+        pub stepping-spent : getD run 22 0 < getD run″ 19 0 → TreeListed ws txt query place run run″ flat flat″ out out″ f
+        stepping-spent k = record {
+          same = same-then (g .same) (b .same);
+          runs = along-spent (g .along) n (branch-runs-at (g .same .path) (g .same .matched-same) (b .runs)) lf lo k;
+        }
 
         module _ {notes′ : List ℕ} {s′ : Next} (w : Matched ws txt (take (place .len) query) notes′ (later ws txt (take (place .len) query) (f .link) (s .link)) s′) where
           pub stepping-next : Stepping ws txt query place f run run″ flat flat″ out out″ notes′ s′
           unfolding onward
           stepping-next = record {
             same = same-then (g .same) (b .same);
-            along = along-next (g .along) n (branch-runs-at (g .same) (b .runs)) lf lo (w .head);
+            along = along-next (g .along) n (branch-runs-at (g .same .path) (g .same .matched-same) (b .runs)) lf lo (w .head);
             noted = noted-after ws txt (take (place .len) query) (f .link) w (let e = next-onward (g .along .tree-at) (take (place .len) query) (s .link) (s′ .link) n (w .head) .0 in tail-of (sym (rw (ne-eqb (s .link) 0 n) at e)));
           }
             where
@@ -215,7 +217,7 @@ module _ {ws txt : List ℕ} {query : Str} {place : Place} {f : Found} {run : Li
               tail-of e = cc
 
           pub stepping-less : length (onward ws txt (take (place .len) query) (f .link) (s′ .link)) < length (onward ws txt (take (place .len) query) (f .link) (s .link))
-          stepping-less = along-less (g .along) n (branch-runs-at (g .same) (b .runs)) lf lo (w .head)
+          stepping-less = along-less (g .along) n (branch-runs-at (g .same .path) (g .same .matched-same) (b .runs)) lf lo (w .head)
 
 -- ---- A list
 
@@ -262,7 +264,7 @@ entries-list {ws} {txt} {ask} {leaf = leaf} {x} says runs = record {
 -- ---- One tree
 
 module _ {ws txt : List ℕ} {query : Str} {place : Place} {run : List ℕ} {x root label : ℕ} (r : ListAsked ws txt query place run x)
-    (o : OneTree ws txt (asked (place .task .ask)) (level-of (place .leaf)) x (take (place .len) query) root label) where
+    (o : OneTree ws txt (asked (place .ask)) (level-of (place .leaf)) x (take (place .len) query) root label) where
   abbrev pub alone : Found
   alone = record { link = root; label = label }
 
@@ -270,8 +272,8 @@ module _ {ws txt : List ℕ} {query : Str} {place : Place} {run : List ℕ} {x r
   one-earlier = omega (arith, o .root-link .earlier)
 
   one-says : (term : SearchTerm) (q : Option Str) → Asks term (take (place .len) query) q
-      → map outer (found (what (asked (place .task .ask)) ws txt x (list (level-of (place .leaf)))) term)
-      ≡ map (shown (asked (place .task .ask)) ws txt (level-of (place .leaf)) q) (tree-entries ws txt root label (take (place .len) query))
+      → map outer (found (what (asked (place .ask)) ws txt x (list (level-of (place .leaf)))) term)
+      ≡ map (shown (asked (place .ask)) ws txt (level-of (place .leaf)) q) (tree-entries ws txt root label (take (place .len) query))
   unfolding tree-entries
   one-says term q asks = o .says term q asks
 
@@ -294,25 +296,28 @@ module _ {ws txt : List ℕ} {query : Str} {place : Place} {run : List ℕ} {x r
 module _ (ws txt : List ℕ) (query : Str) (place : Place) (x : ℕ) (run run′ flat flat′ out out′ : List ℕ) (m : Merge) where
   -- The run over a list has come to what the state m gives.
   pub record Merging : Type 0 where
-    pub same : SamePath run run′
+    pub same : SameRun run run′
     pub all : List Entry
     pub says : (term : SearchTerm) (o : Option Str) → Asks term (take (place .len) query) o
-        → map outer (found (what (asked (place .task .ask)) ws txt x (list (level-of (place .leaf)))) term) ≡ map (shown (asked (place .task .ask)) ws txt (level-of (place .leaf)) o) all
+        → map outer (found (what (asked (place .ask)) ws txt x (list (level-of (place .leaf)))) term)
+        ≡ map (shown (asked (place .ask)) ws txt (level-of (place .leaf)) o) all
     pub entries : List Entry
-    pub gives : M.Rest ws txt (asked (place .task .ask)) (level-of (place .leaf)) x (take (place .len) query) m entries
-    pub left : Left ws txt (place .task .ask) (drop (place .next) query) (path-in run) (place .task .lim) (place .task .matched) (place .leaf) (tally-in run) (tally-in run′) flat flat′ out out′ all entries
+    pub gives : M.Rest ws txt (asked (place .ask)) (level-of (place .leaf)) x (take (place .len) query) m entries
+    pub left : Left ws txt (place .ask) (drop (place .next) query) (path-in run) (limits-in run) (matched-in run) (place .leaf)
+        (tally-in run) (tally-in run′) flat flat′ out out′ all entries
 
 module _ {ws txt : List ℕ} {query : Str} {place : Place} {x : ℕ} {run : List ℕ} where
   pub merging-first : {flat out : List ℕ} {m : Merge} → ListAsked ws txt query place run x → Starts ws txt x (take (place .len) query) m → Merging ws txt query place x run run flat flat out out m
   merging-first r s =
-      let k = s (asked (place .task .ask)) (level-of (place .leaf)) (r .can .list-at) in
+      let k = s (asked (place .ask)) (level-of (place .leaf)) (r .can .list-at) in
       record {
-        same = same-path run;
+        same = same-run run;
         all = k .entries;
         says = k .says;
         entries = k .entries;
         gives = k .rest;
-        left = left-all ws txt (place .task .ask) (drop (place .next) query) (path-in run) (place .task .lim) (place .task .matched) (place .leaf) (list-room (r .can) (take (place .len) query) (k .entries) (k .says));
+        left = left-all ws txt (place .ask) (drop (place .next) query) (path-in run) (limits-in run) (matched-in run) (place .leaf)
+            (list-room (r .can) (take (place .len) query) (k .entries) (k .says));
       }
 
   module _ {run′ flat flat′ out out′ : List ℕ} {m : Merge} (g : Merging ws txt query place x run run′ flat flat′ out out′ m) where
@@ -338,8 +343,8 @@ module _ {ws txt : List ℕ} {query : Str} {place : Place} {x : ℕ} {run : List
             let k = gives-more (g .gives) f n in
             let t = r .can .list-at in
             record {
-              place-ok = r .place-ok;
-              can = branch-ready-at (g .same) (record {
+              place-ok = place-ok-at (g .same) (r .place-ok);
+              can = branch-ready-at (g .same .path) (record {
                 ready = r .can .ready;
                 branch-at = record { some = k .given .branch .some; at = at-of t (tree _) (omega arith) (k .given .branch .link) };
                 label-at = record { at = at-of t (list _) (omega arith) (k .given .label-ok .link); imports = k .given .label-ok .imports };
@@ -357,8 +362,8 @@ module _ {ws txt : List ℕ} {query : Str} {place : Place} {x : ℕ} {run : List
                 says = g .says;
                 entries = k .after;
                 gives = k .given .rest;
-                left = left-next ws txt _ _ _ _ _ _ (rw (k .is) at (g .left)) (branch-runs-at (g .same) (b .runs)) lf lo;
+                left = left-next ws txt _ _ _ _ _ _ (rw (k .is) at (g .left)) (branch-runs-at (g .same .path) (g .same .matched-same) (b .runs)) lf lo;
               }
 
-          pub merging-spent : place .task .lim .budget < getD run″ 19 0 → ListListed ws txt query place run run″ flat flat″ out out″ x
+          pub merging-spent : getD run 22 0 < getD run″ 19 0 → ListListed ws txt query place run run″ flat flat″ out out″ x
           merging-spent z = record { same = merging-next .same; runs = entries-list (merging-next .says) (left-spent ws txt _ _ _ _ _ _ (merging-next .left) z) }

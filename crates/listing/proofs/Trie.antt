@@ -22,18 +22,16 @@ use Rattle.memory.specs.declared.Trie.{Trie}
 use Rattle.memory.proofs.Tries.{lists-seen, bindings-at, namespaces-at, bindings-read, namespaces-read}
 use Rattle.lines.specs.Ask.{asked}
 use Rattle.lines.specs.Path.{Path, OnPath}
-use Rattle.lines.specs.Output.{Tally, Result, Past, Shows, Goes}
-use Rattle.lines.specs.Run.{path-in, tally-in, SamePath}
+use Rattle.lines.specs.Output.{Tally, Limits, Result, Past, Shows, Goes}
+use Rattle.lines.specs.Run.{path-in, tally-in, limits-in, matched-in, SamePath, SameRun}
 use Rattle.lines.specs.declared.Ask.{Ask}
-use Rattle.lines.specs.declared.Limits.{Limits}
-use Rattle.lines.specs.declared.Task.{Task}
-use Rattle.lines.proofs.Run.{same-then, same-set, tally-entered}
+use Rattle.lines.proofs.Run.{path-then, same-set, tally-entered, run-inside, path-inside, tally-inside, matched-inside}
 use Rattle.lines.proofs.Goes.{written-none, goes-none, goes-then, goes-past}
 use Rattle.steps.specs.Steps.{Matching, Cuts}
 use Rattle.listing.specs.Runs.{trie-gives, elements-give, RunReady, ListReady, ListRuns, TrieReady, TrieRuns, PlaceOk, ListAsked, ListListed, TrieAsked, TrieListed}
 use Rattle.listing.specs.declared.Place.{Place}
 use Rattle.steps.specs.declared.Cut.{Cut}
-use Rattle.listing.proofs.Runs.{list-ready-at, list-runs-at}
+use Rattle.listing.proofs.Runs.{list-ready-at, list-runs-at, place-ok-at}
 use Rattle.listing.proofs.Gives.{once, bind-entered, trie-gives-is}
 use Rattle.memory.proofs.At.{at-fits}
 
@@ -180,45 +178,61 @@ module _ {ws txt : List ℕ} {ask : Ask} {query : Str} {p : Path} {lim : Limits}
 
 -- ---- The lent run
 
-module _ {ws txt : List ℕ} {query : Str} {task : Task} {run : List ℕ} {x : ℕ} (r : TrieAsked ws txt query task run x) where
-  pub trie-spent : {flat out : List ℕ} → task .lim .budget ≤ getD run 19 0 → TrieListed ws txt query task run (set run 19 (task .lim .budget + 1)) flat flat out out x
+module _ {ws txt : List ℕ} {query : Str} {ask : Ask} {run : List ℕ} {x : ℕ} (r : TrieAsked ws txt query ask run x) where
+  pub trie-spent : {flat out : List ℕ} → getD run 22 0 ≤ getD run 19 0 → TrieListed ws txt query ask run (set run 19 (getD run 22 0 + 1)) flat flat out out x
   trie-spent h = record {
-    same = same-set run 19 (task .lim .budget + 1) (r .can .ready .path-ok .few) (omega arith);
-    runs = rw (tally-entered run (task .lim .budget + 1) (r .can .ready .path-ok .sized)) (trie-over (r .can) h);
+    same = same-set run 19 (getD run 22 0 + 1) (r .can .ready .path-ok .few) (omega arith) (omega arith) .path;
+    runs = rw (tally-entered run (getD run 22 0 + 1) (r .can .ready .path-ok .sized)) (trie-over (r .can) h);
   }
 
-  module _ {t : Trie} (seen : ReadTrie ws x t) {c : Cut} (cut : Cuts query (getD run 17 0) (task .matched) c) (h : getD run 19 0 < task .lim .budget) where
+  module _ {t : Trie} (seen : ReadTrie ws x t) {c : Cut} (cut : Cuts query (getD run 17 0) (matched-in run) c) (h : getD run 19 0 < getD run 22 0) where
     abbrev pub down : Bool → Place
-    down leaf = record { task = record { ask = task .ask; lim = task .lim; matched = c .matched }; leaf = leaf; len = c .len; next = c .next }
+    down leaf = record { ask = ask; leaf = leaf; len = c .len; next = c .next }
 
     abbrev pub run₁ : List ℕ
-    run₁ = set run 19 (getD run 19 0 + 1)
+    run₁ = run-inside run (getD run 19 0 + 1) (c .matched)
 
     same₁ : SamePath run run₁
-    same₁ = same-set run 19 (getD run 19 0 + 1) (r .can .ready .path-ok .few) (omega arith)
+    same₁ = path-inside run (getD run 19 0 + 1) (c .matched) (r .can .ready .path-ok .few)
 
-    place-ok : (leaf : Bool) → PlaceOk query (down leaf)
-    place-ok leaf = record { len-inside = omega (arith, cut .within, cut .inside); next-inside = cut .inside }
+    tally₁ : tally-in run₁ ≡ inside (tally-in run)
+    tally₁ = tally-inside run (getD run 19 0 + 1) (c .matched) (r .can .ready .path-ok .sized)
+
+    matched₁ : matched-in run₁ ≡ c .matched
+    matched₁ = matched-inside run (getD run 19 0 + 1) (c .matched) (r .can .ready .path-ok .sized)
+
+    place-ok : (leaf : Bool) → PlaceOk query (down leaf) run₁
+    place-ok leaf = record {
+      len-inside = omega (arith, cut .within, cut .inside);
+      next-inside = cut .inside;
+      fits = omega (arith, matched₁, cut .fits (r .fits));
+    }
 
     pub bindings-asked : ListAsked ws txt query (down true) run₁ (t .bindings)
     bindings-asked = record { place-ok = place-ok true; can = list-ready-at same₁ (bindings-ready (r .can) seen cut) }
 
-    pub namespaces-asked : {run₂ : List ℕ} → SamePath run₁ run₂ → ListAsked ws txt query (down false) run₂ (t .namespaces)
-    namespaces-asked s = record { place-ok = place-ok false; can = list-ready-at (same-then same₁ s) (namespaces-ready (r .can) seen cut) }
+    pub namespaces-asked : {run₂ : List ℕ} → SameRun run₁ run₂ → ListAsked ws txt query (down false) run₂ (t .namespaces)
+    namespaces-asked s = record {
+      place-ok = place-ok-at s (place-ok false);
+      can = list-ready-at (path-then same₁ (s .path)) (namespaces-ready (r .can) seen cut);
+    }
 
     module _ {run₂ flat flat₁ out out₁ : List ℕ} where
-      pub trie-few : (c .next < length query) ⊎ Past (task .lim) (getD run 20 0) (getD run 21 0) → ListListed ws txt query (down false) run₁ run₂ flat flat₁ out out₁ (t .namespaces) → TrieListed ws txt query task run run₂ flat flat₁ out out₁ x
-      trie-few skip n = record { same = same-then same₁ (n .same); runs = go skip (rw (tally-entered run (getD run 19 0 + 1) (r .can .ready .path-ok .sized)) at (list-runs-at same₁ (n .runs))) }
+      pub trie-few : (c .next < length query) ⊎ Past (limits-in run) (getD run 20 0) (getD run 21 0)
+          → ListListed ws txt query (down false) run₁ run₂ flat flat₁ out out₁ (t .namespaces) → TrieListed ws txt query ask run run₂ flat flat₁ out out₁ x
+      trie-few skip n = record { same = path-then same₁ (n .same .path); runs = go skip (rw tally₁ at (list-runs-at same₁ matched₁ (n .runs))) }
         where
-          go : (c .next < length query) ⊎ Past (task .lim) (getD run 20 0) (getD run 21 0)
-              → ListRuns ws txt (task .ask) (drop (c .next) query) (path-in run) (task .lim) (c .matched) (inside (tally-in run)) (tally-in run₂) flat flat₁ out out₁ false (t .namespaces) (take (c .len) query)
-              → TrieRuns ws txt (task .ask) query (path-in run) (task .lim) (task .matched) (tally-in run) (tally-in run₂) flat flat₁ out out₁ x
+          go : (c .next < length query) ⊎ Past (limits-in run) (getD run 20 0) (getD run 21 0)
+              → ListRuns ws txt ask (drop (c .next) query) (path-in run) (limits-in run) (c .matched)
+              (inside (tally-in run)) (tally-in run₂) flat flat₁ out out₁ false (t .namespaces) (take (c .len) query)
+              → TrieRuns ws txt ask query (path-in run) (limits-in run) (matched-in run) (tally-in run) (tally-in run₂) flat flat₁ out out₁ x
           go (inl more) m = trie-spaces (r .can) seen cut h more m
           go (inr past) m = trie-past (r .can) seen cut h past m
 
       pub trie-all : {run₃ flat₂ out₂ : List ℕ} → length query ≤ c .next → ListListed ws txt query (down true) run₁ run₂ flat flat₁ out out₁ (t .bindings)
-          → ListListed ws txt query (down false) run₂ run₃ flat₁ flat₂ out₁ out₂ (t .namespaces) → TrieListed ws txt query task run run₃ flat flat₂ out out₂ x
+          → ListListed ws txt query (down false) run₂ run₃ flat₁ flat₂ out₁ out₂ (t .namespaces) → TrieListed ws txt query ask run run₃ flat flat₂ out out₂ x
       trie-all last b n = record {
-        same = same-then same₁ (same-then (b .same) (n .same));
-        runs = trie-both (r .can) seen cut h last (rw (tally-entered run (getD run 19 0 + 1) (r .can .ready .path-ok .sized)) at (list-runs-at same₁ (b .runs))) (list-runs-at (same-then same₁ (b .same)) (n .runs));
+        same = path-then same₁ (path-then (b .same .path) (n .same .path));
+        runs = trie-both (r .can) seen cut h last (rw tally₁ at (list-runs-at same₁ matched₁ (b .runs)))
+            (list-runs-at (path-then same₁ (b .same .path)) (b .same .matched-same ∙ matched₁) (n .runs));
       }

@@ -21,12 +21,10 @@ use Rattle.tree.specs.Links.{matches}
 use Rattle.names.specs.Entries.{Entry, shown, outer, Asks}
 use Rattle.lines.specs.Ask.{asked, line-for}
 use Rattle.lines.specs.Path.{Path, BranchAt, LabelAt, PathOk, OnPath}
-use Rattle.lines.specs.Output.{Result, Tally, _⊕_, Small, Goes}
+use Rattle.lines.specs.Output.{Result, Tally, Limits, _⊕_, Small, Goes}
 use Rattle.lines.specs.Lines.{only}
-use Rattle.lines.specs.Run.{path-in, tally-in, SamePath}
+use Rattle.lines.specs.Run.{path-in, tally-in, limits-in, matched-in, SamePath, SameRun}
 use Rattle.lines.specs.declared.Ask.{Ask}
-use Rattle.lines.specs.declared.Limits.{Limits}
-use Rattle.lines.specs.declared.Task.{Task}
 use Rattle.lines.specs.declared.Found.{Found}
 use Rattle.steps.specs.Steps.{Matching, Steps}
 use Rattle.listing.specs.declared.Place.{Place}
@@ -129,42 +127,52 @@ module _ (ws txt : List ℕ) (ask : Ask) (rest : Str) (p : Path) (lim : Limits) 
 
 -- ---- The contracts: of a query that is cut, and the lent run
 
--- The query is cut within.
-pub record PlaceOk (query : Str) (place : Place) : Type 0 where
+-- The place of a namespace that was found: its key is not asked for again.
+abbrev pub spaces : Ask → ℕ → Place
+spaces ask next = record { ask = ask; leaf = false; len = 0; next = next }
+
+-- The query is cut within, and the match length fits.
+pub record PlaceOk (query : Str) (place : Place) (run : List ℕ) : Type 0 where
   pub len-inside : place .len ≤ length query
   pub next-inside : place .next ≤ length query
+  pub fits : matched-in run ≤ 4294967295
 
 module _ (ws txt : List ℕ) (query : Str) (place : Place) (run : List ℕ) where
   pub record BranchAsked (f : Found) : Type 0 where
-    pub place-ok : PlaceOk query place
-    pub can : BranchReady ws txt (place .task .ask) (drop (place .next) query) (path-in run) (place .task .lim) (place .leaf) (f .link) (f .label)
+    pub place-ok : PlaceOk query place run
+    pub can : BranchReady ws txt (place .ask) (drop (place .next) query) (path-in run) (limits-in run) (place .leaf) (f .link) (f .label)
 
   pub record TreeAsked (f : Found) : Type 0 where
-    pub place-ok : PlaceOk query place
-    pub can : TreeReady ws txt (place .task .ask) (drop (place .next) query) (path-in run) (place .task .lim) (place .leaf) (f .link) (f .label) (take (place .len) query)
+    pub place-ok : PlaceOk query place run
+    pub can : TreeReady ws txt (place .ask) (drop (place .next) query) (path-in run) (limits-in run) (place .leaf)
+        (f .link) (f .label) (take (place .len) query)
 
   pub record ListAsked (x : ℕ) : Type 0 where
-    pub place-ok : PlaceOk query place
-    pub can : ListReady ws txt (place .task .ask) (drop (place .next) query) (path-in run) (place .task .lim) (place .leaf) x
+    pub place-ok : PlaceOk query place run
+    pub can : ListReady ws txt (place .ask) (drop (place .next) query) (path-in run) (limits-in run) (place .leaf) x
 
   module _ (run′ flat flat′ out out′ : List ℕ) where
     pub record BranchListed (f : Found) : Type 0 where
-      pub same : SamePath run run′
-      pub runs : BranchRuns ws txt (place .task .ask) (drop (place .next) query) (path-in run) (place .task .lim) (place .task .matched) (tally-in run) (tally-in run′) flat flat′ out out′ (place .leaf) (f .link) (f .label)
+      pub same : SameRun run run′
+      pub runs : BranchRuns ws txt (place .ask) (drop (place .next) query) (path-in run) (limits-in run) (matched-in run)
+          (tally-in run) (tally-in run′) flat flat′ out out′ (place .leaf) (f .link) (f .label)
 
     pub record TreeListed (f : Found) : Type 0 where
-      pub same : SamePath run run′
-      pub runs : EntriesRun ws txt (place .task .ask) (drop (place .next) query) (path-in run) (place .task .lim) (place .task .matched) (tally-in run) (tally-in run′) flat flat′ out out′ (place .leaf)
+      pub same : SameRun run run′
+      pub runs : EntriesRun ws txt (place .ask) (drop (place .next) query) (path-in run) (limits-in run) (matched-in run)
+          (tally-in run) (tally-in run′) flat flat′ out out′ (place .leaf)
           (tree-entries ws txt (f .link) (f .label) (take (place .len) query))
 
     pub record ListListed (x : ℕ) : Type 0 where
-      pub same : SamePath run run′
-      pub runs : ListRuns ws txt (place .task .ask) (drop (place .next) query) (path-in run) (place .task .lim) (place .task .matched) (tally-in run) (tally-in run′) flat flat′ out out′ (place .leaf) x (take (place .len) query)
+      pub same : SameRun run run′
+      pub runs : ListRuns ws txt (place .ask) (drop (place .next) query) (path-in run) (limits-in run) (matched-in run)
+          (tally-in run) (tally-in run′) flat flat′ out out′ (place .leaf) x (take (place .len) query)
 
-module _ (ws txt : List ℕ) (query : Str) (task : Task) (run : List ℕ) where
+module _ (ws txt : List ℕ) (query : Str) (ask : Ask) (run : List ℕ) where
   pub record TrieAsked (x : ℕ) : Type 0 where
-    pub can : TrieReady ws txt (task .ask) query (path-in run) (task .lim) x
+    pub can : TrieReady ws txt ask query (path-in run) (limits-in run) x
+    pub fits : matched-in run ≤ 4294967295
 
   pub record TrieListed (run′ flat flat′ out out′ : List ℕ) (x : ℕ) : Type 0 where
     pub same : SamePath run run′
-    pub runs : TrieRuns ws txt (task .ask) query (path-in run) (task .lim) (task .matched) (tally-in run) (tally-in run′) flat flat′ out out′ x
+    pub runs : TrieRuns ws txt ask query (path-in run) (limits-in run) (matched-in run) (tally-in run) (tally-in run′) flat flat′ out out′ x

@@ -1,24 +1,49 @@
 // The listing of a trie: bindings ascending, then each namespace ascending with its own listing.
 // One run serves counting and writing: a line is written where it fits what is lent, and counting lends nothing.
-// The calls go no deeper than five to a trie, and tries no deeper than 17.
+// The calls go no deeper than six to a trie, and tries no deeper than 17.
 use lines::Ask;
 use lines::Found;
-use lines::Limits;
-use lines::Task;
 use merge::Turn;
 ghost use mathlib.Core.Bool.{true};
 ghost use Prim.Native.Nat.{_+_, _<_};
-ghost use Rattle.listing.specs.Runs.{BranchAsked, BranchListed, TreeAsked, TreeListed, ListAsked, ListListed, TrieAsked, TrieListed};
+ghost use Rattle.listing.specs.Runs.{spaces, BranchAsked, BranchListed, TreeAsked, TreeListed, ListAsked, ListListed, TrieAsked, TrieListed};
 
-// Where a run stands in a trie: what the lines of the list have in common, whether it is of bindings, and where the query is cut.
+// Where a run stands in a trie: what is asked, whether the list is of bindings, and where the query is cut.
 struct Place {
-    task: Task,
+    ask: Ask,
     leaf: bool,
     len: usize,
     next: usize,
 }
 
-// What a found branch gives: the line of a branch of bindings, the listing of a namespace.
+// What a found namespace gives, its listing: path and match length are those of the namespace meanwhile.
+fn list_below(
+    words: &[u32],
+    text: &[u8],
+    query: &[u8],
+    ask: Ask,
+    next: usize,
+    found: Found,
+    run: &mut [usize; lines::RUN],
+    flat: &mut [u8],
+    out: &mut [u8],
+)
+    requires { ⌜ BranchAsked (now words) (now text) (now query) (spaces ask next) (now run) found ⌝ }
+    ensures { λ _. ⌜ BranchListed (now (words .entry)) (now (text .entry)) (now (query .entry)) (spaces ask next)
+        (now (run .entry)) (now (run .exit)) (now (flat .entry)) (now (flat .exit)) (now (out .entry)) (now (out .exit)) found ⌝ }
+{
+    let child = memory::held_of(words, found.link);
+    let n = run[lines::COUNT];
+    let len = run[lines::LENGTH];
+    let label = run[lines::LABEL];
+    let matched = run[lines::MATCHED];
+    steps::enter(words, found, run);
+    list_trie(words, text, &query[next..], ask, child, run, flat, out);
+    steps::set_path(run, n, len, label);
+    run[lines::MATCHED] = matched;
+}
+
+// What a found branch gives: the line of a branch of bindings, the listing of a namespace. So small that the loops take it in.
 fn list_branch(
     words: &[u32],
     text: &[u8],
@@ -30,21 +55,15 @@ fn list_branch(
     out: &mut [u8],
 )
     requires { ⌜ BranchAsked (now words) (now text) (now query) place (now run) found ⌝ }
-    ensures { λ _. ⌜ BranchListed (now (words .entry)) (now (text .entry)) (now (query .entry)) place (now (run .entry)) (now (run .exit)) (now (flat .entry)) (now (flat .exit)) (now (out .entry)) (now (out .exit)) found ⌝ }
+    ensures { λ _. ⌜ BranchListed (now (words .entry)) (now (text .entry)) (now (query .entry)) place (now (run .entry)) (now (run .exit))
+        (now (flat .entry)) (now (flat .exit)) (now (out .entry)) (now (out .exit)) found ⌝ }
 {
-    let task = place.task;
+    let ask = place.ask;
     if place.leaf {
-        lines::line(words, text, task, found, run, flat, out);
+        lines::line(words, text, ask, found, run, flat, out);
         return;
     }
-    let next = place.next;
-    let child = memory::held_of(words, found.link);
-    let n = run[lines::COUNT];
-    let len = run[lines::LENGTH];
-    let label = run[lines::LABEL];
-    steps::enter(words, found, run);
-    list_trie(words, text, &query[next..], task, child, run, flat, out);
-    steps::set_path(run, n, len, label);
+    list_below(words, text, query, ask, place.next, found, run, flat, out);
 }
 
 // What the branches of a tree that begin with a prefix give, in order, each with the tree's label. Stops once the budget is passed.
@@ -59,9 +78,10 @@ fn list_tree(
     out: &mut [u8],
 )
     requires { ⌜ TreeAsked (now words) (now text) (now query) place (now run) found ⌝ }
-    ensures { λ _. ⌜ TreeListed (now (words .entry)) (now (text .entry)) (now (query .entry)) place (now (run .entry)) (now (run .exit)) (now (flat .entry)) (now (flat .exit)) (now (out .entry)) (now (out .exit)) found ⌝ }
+    ensures { λ _. ⌜ TreeListed (now (words .entry)) (now (text .entry)) (now (query .entry)) place (now (run .entry)) (now (run .exit))
+        (now (flat .entry)) (now (flat .exit)) (now (out .entry)) (now (out .exit)) found ⌝ }
 {
-    let budget = place.task.lim.budget;
+    let budget = run[lines::BUDGET];
     let len = place.len;
     let root = found.link;
     let mut notes = [0; matches::NOTES];
@@ -93,9 +113,10 @@ fn list_merged(
     out: &mut [u8],
 )
     requires { ⌜ ListAsked (now words) (now text) (now query) place (now run) list ⌝ }
-    ensures { λ _. ⌜ ListListed (now (words .entry)) (now (text .entry)) (now (query .entry)) place (now (run .entry)) (now (run .exit)) (now (flat .entry)) (now (flat .exit)) (now (out .entry)) (now (out .exit)) list ⌝ }
+    ensures { λ _. ⌜ ListListed (now (words .entry)) (now (text .entry)) (now (query .entry)) place (now (run .entry)) (now (run .exit))
+        (now (flat .entry)) (now (flat .exit)) (now (out .entry)) (now (out .exit)) list ⌝ }
 {
-    let budget = place.task.lim.budget;
+    let budget = run[lines::BUDGET];
     let len = place.len;
     let mut roots = [0; merge::CELLS];
     let mut heads = [0; merge::CELLS];
@@ -166,7 +187,8 @@ fn list_names(
     out: &mut [u8],
 )
     requires { ⌜ ListAsked (now words) (now text) (now query) place (now run) list ⌝ }
-    ensures { λ _. ⌜ ListListed (now (words .entry)) (now (text .entry)) (now (query .entry)) place (now (run .entry)) (now (run .exit)) (now (flat .entry)) (now (flat .exit)) (now (out .entry)) (now (out .exit)) list ⌝ }
+    ensures { λ _. ⌜ ListListed (now (words .entry)) (now (text .entry)) (now (query .entry)) place (now (run .entry)) (now (run .exit))
+        (now (flat .entry)) (now (flat .exit)) (now (out .entry)) (now (out .exit)) list ⌝ }
 {
     let root = merge::single(words, list);
     if 0 < root {
@@ -186,17 +208,17 @@ pub fn list_trie(
     words: &[u32],
     text: &[u8],
     query: &[u8],
-    task: Task,
+    ask: Ask,
     trie: u32,
     run: &mut [usize; lines::RUN],
     flat: &mut [u8],
     out: &mut [u8],
 )
-    requires { ⌜ TrieAsked (now words) (now text) (now query) task (now run) trie ⌝ }
-    ensures { λ _. ⌜ TrieListed (now (words .entry)) (now (text .entry)) (now (query .entry)) task (now (run .entry)) (now (run .exit)) (now (flat .entry)) (now (flat .exit)) (now (out .entry)) (now (out .exit)) trie ⌝ }
+    requires { ⌜ TrieAsked (now words) (now text) (now query) ask (now run) trie ⌝ }
+    ensures { λ _. ⌜ TrieListed (now (words .entry)) (now (text .entry)) (now (query .entry)) ask (now (run .entry)) (now (run .exit))
+        (now (flat .entry)) (now (flat .exit)) (now (out .entry)) (now (out .exit)) trie ⌝ }
 {
-    let lim = task.lim;
-    let budget = lim.budget;
+    let budget = run[lines::BUDGET];
     let before = run[lines::ENTERED];
     let base = run[lines::LENGTH];
     if budget <= before {
@@ -204,19 +226,14 @@ pub fn list_trie(
         return;
     }
     let t = memory::trie_of(words, trie);
-    let c = steps::cut_query(query, base, task.matched);
-    let skip = steps::skips_bindings(run, lim, query.len(), c.next);
+    let c = steps::cut_query(query, base, run[lines::MATCHED]);
+    let skip = steps::skips_bindings(run, query.len(), c.next);
     run[lines::ENTERED] = before + 1;
-    let ask = task.ask;
-    let below = Task {
-        ask: ask,
-        lim: lim,
-        matched: c.matched,
-    };
+    run[lines::MATCHED] = c.matched;
     let len = c.len;
     let next = c.next;
     let namespaces = Place {
-        task: below,
+        ask: ask,
         leaf: false,
         len: len,
         next: next,
@@ -226,7 +243,7 @@ pub fn list_trie(
         return;
     }
     let bindings = Place {
-        task: below,
+        ask: ask,
         leaf: true,
         len: len,
         next: next,

@@ -36,6 +36,7 @@ cuts-none [] len matched e = record {
   last-one = λ h. refl;
   more = λ h. absurd (omega arith);
   steps = λ path l m el p. record { length-is = match-length-skip el path p ∙ m .length-is; all-matched = λ n. absurd (n refl) };
+  fits = λ h. h;
 }
 cuts-none (b ∷ s) len matched e = absurd (omega arith)
 
@@ -77,6 +78,7 @@ cuts-some query len matched k m d n short small e em =
                 ∙ sym (signed-small m (omega arith));
             all-matched = λ z. ((take k query, p), g .all-matched (λ z. nil≢cons (sym z ∙ split)));
           };
+      fits = λ h. omega arith;
     }
 
 -- What `&s[0..n]` holds.

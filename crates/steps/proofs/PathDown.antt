@@ -96,17 +96,17 @@ module _ (run : List ℕ) (n len label : ℕ) where
   kept : (k : ℕ) → (k ≡ 16 → ⊥) → (k ≡ 17 → ⊥) → (k ≡ 18 → ⊥) → getD given k 0 ≡ getD run k 0
   kept k a b c = getD-set-other (set (set run 16 n) 17 len) 18 k label 0 c ∙ getD-set-other (set run 16 n) 17 k len 0 b ∙ getD-set-other run 16 k n 0 a
 
-  pub path-set : length run ≡ 22 → PathSet run given n len label
+  pub path-set : length run ≡ 26 → PathSet run given n len label
   path-set e = record {
     size = simp length-set;
     links = λ j h. kept j (λ z. omega arith) (λ z. omega arith) (λ z. omega arith);
     count = getD-set-other (set (set run 16 n) 17 len) 18 16 label 0 (λ z. omega arith) ∙ getD-set-other (set run 16 n) 17 16 len 0 (λ z. omega arith) ∙ getD-set-same run 16 n 0 (omega arith);
     len-is = getD-set-other (set (set run 16 n) 17 len) 18 17 label 0 (λ z. omega arith) ∙ getD-set-same (set run 16 n) 17 len 0 (omega (arith, length-set run 16 n));
     label-is = getD-set-same (set (set run 16 n) 17 len) 18 label 0 (omega (arith, length-set (set run 16 n) 17 len, length-set run 16 n));
-    tally-same = rw (kept 19 (λ z. omega arith) (λ z. omega arith) (λ z. omega arith), kept 20 (λ z. omega arith) (λ z. omega arith) (λ z. omega arith), kept 21 (λ z. omega arith) (λ z. omega arith) (λ z. omega arith));
+    after = λ k h. kept k (λ z. omega arith) (λ z. omega arith) (λ z. omega arith);
   }
 
-pub entered : {ws : List ℕ} (f : Found) {run run′ : List ℕ} {len label : ℕ} → (length run ≡ 22) × (getD run 16 0 < 16) × (getD run 17 0 ≤ 544)
+pub entered : {ws : List ℕ} (f : Found) {run run′ : List ℕ} {len label : ℕ} → (length run ≡ 26) × (getD run 16 0 < 16) × (getD run 17 0 ≤ 544)
     → PathSet (set run (getD run 16 0) (f .link)) run′ (getD run 16 0 + 1) len label
     → len ≡ getD run 17 0 + text-len (record-at ws (f .link)) + 1 → label ≡ pick (eqb (getD run 16 0) 0) (f .label) (getD run 18 0) → Entered ws f run run′
 entered f {run} r s l b = record {
@@ -118,7 +118,7 @@ entered f {run} r s l b = record {
     len-is = s .len-is ∙ l;
     label-is = s .label-is ∙ b;
   };
-  tally-same = s .tally-same ∙ rw (apart 19 (λ z. omega (arith, r .1)), apart 20 (λ z. omega (arith, r .1)), apart 21 (λ z. omega (arith, r .1)));
+  after = λ k h. s .after k h ∙ apart k (λ z. omega (arith, r .1));
 }
   where
     apart : (j : ℕ) → (j ≡ getD run 16 0 → ⊥) → getD (set run (getD run 16 0) (f .link)) j 0 ≡ getD run j 0

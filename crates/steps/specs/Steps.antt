@@ -18,8 +18,7 @@ use Rattle.memory.specs.Layout.{record-at, text-len, pick}
 use Rattle.names.specs.Entries.{Asks}
 use Rattle.lines.specs.Path.{Path}
 use Rattle.lines.specs.Output.{signed-word, Past}
-use Rattle.lines.specs.Run.{path-in, tally-in}
-use Rattle.lines.specs.declared.Limits.{Limits}
+use Rattle.lines.specs.Run.{path-in, limits-in}
 use Rattle.lines.specs.declared.Found.{Found}
 use Rattle.steps.specs.declared.Cut.{Cut}
 
@@ -45,10 +44,11 @@ pub record Cuts (query : Str) (len matched : ℕ) (c : Cut) : Type 0 where
   pub last-one : length query ≤ c .next → bindings-search-term (segments query) ≡ ns-search-term (segments query)
   pub more : c .next < length query → bindings-search-term (segments query) ≡ NSTNone
   pub steps : (path : PathOf) → len ≡ length (base path) → Matching path (segments query) matched → Steps path prefix-is (tail (segments query)) (c .matched)
+  pub fits : matched ≤ 4294967295 → c .matched ≤ 4294967295
 
 -- Bindings are skipped only where more than one segment is left, or the tally is past the limits.
-pub record Skips (run : List ℕ) (lim : Limits) (size next : ℕ) (r : Bool) : Type 0 where
-  pub when : r ≡ true → (next < size) ⊎ Past lim (getD run 20 0) (getD run 21 0)
+pub record Skips (run : List ℕ) (size next : ℕ) (r : Bool) : Type 0 where
+  pub when : r ≡ true → (next < size) ⊎ Past (limits-in run) (getD run 20 0) (getD run 21 0)
   pub unless : r ≡ false → size ≤ next
 
 -- The path p with one more branch.
@@ -60,16 +60,16 @@ pub record PathDown (ws : List ℕ) (p : Path) (branch label : ℕ) (r : Path) :
   pub len-is : r .len ≡ p .len + text-len (record-at ws branch) + 1
   pub label-is : r .label ≡ pick (eqb (p .n) 0) label (p .label)
 
--- The run's path has one more branch.
+-- The run's path has one more branch; what stands after the path is as it was.
 pub record Entered (ws : List ℕ) (f : Found) (run run′ : List ℕ) : Type 0 where
   pub down : PathDown ws (path-in run) (f .link) (f .label) (path-in run′)
-  pub tally-same : tally-in run′ ≡ tally-in run
+  pub after : (k : ℕ) → 18 < k → getD run′ k 0 ≡ getD run k 0
 
--- The run's path has n of its links, the length and the label.
+-- The run's path has n of its links, the length and the label; what stands after it is as it was.
 pub record PathSet (run run′ : List ℕ) (n len label : ℕ) : Type 0 where
   pub size : length run′ ≡ length run
   pub links : (j : ℕ) → j < deepest-trie → getD run′ j 0 ≡ getD run j 0
   pub count : getD run′ 16 0 ≡ n
   pub len-is : getD run′ 17 0 ≡ len
   pub label-is : getD run′ 18 0 ≡ label
-  pub tally-same : tally-in run′ ≡ tally-in run
+  pub after : (k : ℕ) → 18 < k → getD run′ k 0 ≡ getD run k 0

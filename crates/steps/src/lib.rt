@@ -1,6 +1,5 @@
 // The steps between two lists of a run: the cut of the query, the limits, the path.
 use lines::Found;
-use lines::Limits;
 ghost use mathlib.Core.Path.{_≡_};
 ghost use mathlib.Core.Bool.{true};
 ghost use Prim.Native.Nat.{_+_, _*_, _≤_, _<_};
@@ -14,11 +13,11 @@ ghost use Rattle.steps.specs.Steps.{Cuts, Skips, Entered, PathSet};
 pub struct Cut {
     pub len: usize,
     pub next: usize,
-    pub matched: u32,
+    pub matched: usize,
 }
 
 // Cuts the first segment off, if there is one.
-pub fn cut_query(query: &[u8], base: usize, matched: u32) -> Cut
+pub fn cut_query(query: &[u8], base: usize, matched: usize) -> Cut
     requires { ⌜ (ends-in-dot (now query) ≡ true) × (length (now query) ≤ longest-query) × (base ≤ longest-query) ⌝ }
     ensures { λ r. ⌜ Cuts (now (query .entry)) base matched r ⌝ }
 {
@@ -33,26 +32,26 @@ pub fn cut_query(query: &[u8], base: usize, matched: u32) -> Cut
     Cut {
         len: len,
         next: len + 1,
-        matched: (base + len) as u32,
+        matched: base + len,
     }
 }
 
 // Whether a trie's bindings need no listing: more than one segment is left, or lines or bytes are past the limits already.
-pub fn skips_bindings(run: &[usize; lines::RUN], lim: Limits, size: usize, next: usize) -> bool
-    ensures { λ r. ⌜ Skips (now (run .entry)) lim size next r ⌝ }
+pub fn skips_bindings(run: &[usize; lines::RUN], size: usize, next: usize) -> bool
+    ensures { λ r. ⌜ Skips (now (run .entry)) size next r ⌝ }
 {
     if next < size {
         return true;
     }
-    if lim.lines < run[lines::LINES] {
+    if run[lines::MOST_LINES] < run[lines::LINES] {
         return true;
     }
-    lim.bytes < run[lines::BYTES]
+    run[lines::MOST_BYTES] < run[lines::BYTES]
 }
 
 // Gives the path as many of its links, the length and the label.
 pub fn set_path(run: &mut [usize; lines::RUN], n: usize, len: usize, label: usize)
-    requires { ⌜ length (now run) ≡ 22 ⌝ }
+    requires { ⌜ length (now run) ≡ 26 ⌝ }
     ensures { λ _. ⌜ PathSet (now (run .entry)) (now (run .exit)) n len label ⌝ }
 {
     run[lines::COUNT] = n;
@@ -63,7 +62,7 @@ pub fn set_path(run: &mut [usize; lines::RUN], n: usize, len: usize, label: usiz
 // Puts a branch of namespaces onto the path.
 pub fn enter(words: &[u32], found: Found, run: &mut [usize; lines::RUN])
     requires { ⌜ (0 < found .link) × (found .link * record-words ≤ length (now words)) ⌝ }
-    requires { ⌜ (length (now run) ≡ 22) × (path-in (now run) .n < deepest-trie) × (path-in (now run) .len ≤ longest-query) ⌝ }
+    requires { ⌜ (length (now run) ≡ 26) × (path-in (now run) .n < deepest-trie) × (path-in (now run) .len ≤ longest-query) ⌝ }
     ensures { λ _. ⌜ Entered (now (words .entry)) found (now (run .entry)) (now (run .exit)) ⌝ }
 {
     let n = run[lines::COUNT];

@@ -19,7 +19,5 @@ cut-query-spec =
     (λ c. omega (arith, c .segment-length .ensures, c .before .before .before .pre .1, before-inside (c .before .before .before .args .query .now) (c .before .before .before .pre .0) (omega (arith, c .before .if1 .left))))
     {- add-t7 -}
     (λ c. omega (arith, c .segment-length .ensures, c .before .before .before .pre .1, c .before .before .before .pre .2, before-inside (c .before .before .before .args .query .now) (c .before .before .before .pre .0) (omega (arith, c .before .if1 .left))))
-    {- cast-t8 -}
-    (λ c. omega (arith, c .segment-length .ensures, c .before .before .before .pre .1, c .before .before .before .pre .2, before-inside (c .before .before .before .args .query .now) (c .before .before .before .pre .0) (omega (arith, c .before .if1 .left))))
     {- returns-2 -}
     (λ c. cuts-some (c .before .before .before .args .query .now) _ _ _ _ (c .before .before .before .pre .0) (c .before .if1 .left) (c .before .before .before .pre .1) (c .before .before .before .pre .2) (c .segment-length .ensures) refl))

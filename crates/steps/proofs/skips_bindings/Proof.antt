@@ -15,9 +15,13 @@ skips-bindings-spec =
     (λ c. record { when = λ e. inl (c .if1 .taken); unless = λ e. absurd (true≢false e) })
     {- element-copy-out-if2 -}
     (λ c. search needs)
+    {- element-copy-out-if2-2 -}
+    (λ c. search needs)
     {- returns-2 -}
     (λ c. record { when = λ e. inr (inl (c .if2 .taken)); unless = λ e. absurd (true≢false e) })
     {- element-copy-out-result -}
+    (λ c. search needs)
+    {- element-copy-out-result-2 -}
     (λ c. search needs)
     {- returns-3 -}
     (λ c. record { when = λ e. inr (inr (ltb-true _ _ e)); unless = λ e. omega (arith, c .before .before .before .before .before .if1 .left) }))

@@ -25,16 +25,20 @@ write-line-spec =
     (λ c. search needs)
     {- put-text-requires -}
     (λ c κs. omega (arith, note-room (c .before .before .before .before .before .before .before .before .before .before .before .before .pre .0) (c .before .before .before .before .before .before .before .before .before .before .before .before .pre .1) (c .before .before .before .put-candidate .ensures)))
+    {- element-copy-out-line-row -}
+    (λ c. search needs)
     {- cast-line-row -}
+    (λ c. search needs)
+    {- cast-line-row-2 -}
     (λ c. search needs)
     {- sub-line-row -}
     (λ c. search needs)
-    {- cast-line-row-2 -}
-    (λ c. omega (arith, c .before .before .before .before .before .before .put-candidate .ensures .end, candidate-length (c .before .before .before .before .before .before .before .before .before .before .before .before .before .before .before .pre .0), c .before .before .before .before .before .before .before .before .before .before .before .before .before .before .before .pre .1 .small))
     {- cast-line-row-3 -}
+    (λ c. omega (arith, c .before .before .before .before .before .before .before .put-candidate .ensures .end, candidate-length (c .before .before .before .before .before .before .before .before .before .before .before .before .before .before .before .before .pre .0), c .before .before .before .before .before .before .before .before .before .before .before .before .before .before .before .before .pre .1 .small))
+    {- cast-line-row-4 -}
     (λ c. search needs)
     {- line-row-requires -}
-    (λ c κs. omega (arith, c .before .before .before .before .before .before .put-candidate .ensures .end, candidate-length (c .before .before .before .before .before .before .before .before .before .before .before .before .before .before .before .pre .0), c .before .before .before .before .before .before .before .before .before .before .before .before .before .before .before .pre .1 .small, c .before .before .before .before .before .before .before .before .before .before .before .before .before .before .before .pre .0 .branch .some, c .before .before .before .before .before .before .before .before .before .before .before .before .before .before .before .pre .0 .branch .within))
+    (λ c κs. omega (arith, c .before .before .before .before .before .before .before .put-candidate .ensures .end, candidate-length (c .before .before .before .before .before .before .before .before .before .before .before .before .before .before .before .before .pre .0), c .before .before .before .before .before .before .before .before .before .before .before .before .before .before .before .before .pre .1 .small, c .before .before .before .before .before .before .before .before .before .before .before .before .before .before .before .before .pre .0 .branch .some, c .before .before .before .before .before .before .before .before .before .before .before .before .before .before .before .before .pre .0 .branch .within))
     {- sub-store -}
     (λ c. search needs)
     {- part-store-start -}
@@ -50,4 +54,4 @@ write-line-spec =
     {- same-length-2 -}
     (λ c. search needs)
     {- returns -}
-    (λ c. line-put (c .before .before .before .before .before .before .before .before .before .before .before .before .before .before .before .before .before .before .before .before .before .pre .0) (c .before .before .before .before .before .before .before .before .before .before .before .before .before .before .before .before .before .before .before .before .before .pre .1) (c .before .before .before .before .before .before .before .before .before .before .before .before .put-candidate .ensures) (c .before .before .before .before .before .before .before .before .put-text .ensures) (c .before .before .before .before .before .line-row .ensures) (c .before .before .store .ensures)))
+    (λ c. line-put (c .before .before .before .before .before .before .before .before .before .before .before .before .before .before .before .before .before .before .before .before .before .before .pre .0) (c .before .before .before .before .before .before .before .before .before .before .before .before .before .before .before .before .before .before .before .before .before .before .pre .1) (c .before .before .before .before .before .before .before .before .before .before .before .before .before .put-candidate .ensures) (c .before .before .before .before .before .before .before .before .before .put-text .ensures) (c .before .before .before .before .before .line-row .ensures) (c .before .before .store .ensures)))
