@@ -102,7 +102,7 @@ fn collect(
         let mid = collect(words, text, prefix, imported, roots, heads, labels, at);
         return collect(words, text, prefix, rest, roots, heads, labels, mid);
     }
-    let first = tree::tree_first(words, text, own, prefix);
+    let first = successor::tree_first(words, text, own, prefix);
     if first == 0 {
         return collect(words, text, prefix, rest, roots, heads, labels, at);
     }
@@ -149,7 +149,7 @@ fn take(
         Popped::Least(cell, rest) => {
             let branch = heads[cell];
             let own = roots[cell];
-            let after = tree::tree_next(words, text, own, prefix, branch);
+            let after = successor::tree_next(words, text, own, prefix, branch);
             if after == 0 {
                 roots[cell] = 0;
                 return Taken {

@@ -19,7 +19,7 @@ use Rattle.memory.specs.Grown.{put}
 use Rattle.memory.proofs.Stays.{stays-same, stays-on, what-stays, stored-stays, link-stays}
 use Rattle.memory.proofs.StoredSizes.{stored-weight, stored-list, weight-row, depth-collection, depth-trie}
 use Rattle.memory.proofs.Put.{put-stays, put-what, put-used, put-link}
-use Rattle.tree.proofs.Changed.{drop-more}
+use Rattle.insertion.proofs.Changed.{drop-more}
 use Rattle.names.specs.Made.{Room, Made, collection-over, MadeNames, MadeImported, MadeTrie}
 use Rattle.memory.proofs.At.{rows-before}
 

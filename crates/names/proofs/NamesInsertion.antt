@@ -14,7 +14,7 @@ use Rattle.memory.proofs.What.{what-none}
 use Rattle.memory.proofs.RecordOk.{zero-some, kind-one}
 use Rattle.memory.proofs.Seen.{link-later}
 use Rattle.tree.specs.Tree.{Builds}
-use Rattle.tree.specs.Insert.{NewBranch, Insertion, Inserted}
+use Rattle.insertion.specs.Insert.{NewBranch, Insertion, Inserted}
 use Rattle.tree.proofs.Branches.{branch-right, branch-reads}
 use Rattle.tree.proofs.Links.{by-sides}
 use Rattle.tree.proofs.Past.{by-order}

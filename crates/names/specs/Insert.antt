@@ -9,7 +9,7 @@ use Rattle.source.specs.Terms.{weight}
 use Rattle.source.specs.Plans.{insert-branches, first-tree}
 use Rattle.memory.specs.Layout.{span, Which, Item, list, kind, value, what, text-len, text-start}
 use Rattle.memory.specs.Sound.{LinkOk, Used}
-use Rattle.tree.specs.Insert.{NewBranch}
+use Rattle.insertion.specs.Insert.{NewBranch}
 use Rattle.names.specs.Made.{Room, Made}
 
 -- names_insert of the key and the value of a new branch r into the list of link x.

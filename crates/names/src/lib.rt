@@ -134,7 +134,7 @@ pub fn names_insert(
     ensures { λ r. ⌜ NamesInserts (now (words .entry)) (now (words .exit)) (now (text .entry)) records list count row r ⌝ }
 {
     let lead = lead_of(words, list);
-    let tree = tree::btree_insert_replace(words, text, records, lead.tree, count, row);
+    let tree = insertion::btree_insert_replace(words, text, records, lead.tree, count, row);
     put_names(
         words,
         records + count,

@@ -3,10 +3,5 @@ pub mod Placed
 pub mod Past
 pub mod Keep
 pub mod Links
-pub mod Least
 pub mod After
 pub mod Matches
-pub mod Changed
-pub mod Marked
-pub mod WithSides
-pub mod Inserted

@@ -51,10 +51,6 @@ abbrev pub head0 : List ℕ → ℕ
 head0 [] = 0
 head0 (x ∷ l) = x
 
--- The link x where its key begins with p, 0 where it does not.
-unfoldable pub begun : (ℕ → Str) → Str → ℕ → ℕ
-begun key p x = cond (eqb x 0) 0 (cond (starts-with (key x) p) x 0)
-
 -- The row of btree_find_prefix that the branch of link l gives.
 unfoldable pub row-at : (w : Which) → List ℕ → List ℕ → (v : Level) → Option Str → ℕ → PrefixMatch × Value (Item w) v
 row-at w ws txt v p l = (record { prefix = p; completion = key-at ws txt l }, held w ws txt v l)

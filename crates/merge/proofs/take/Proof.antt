@@ -5,7 +5,7 @@ use Rattle.merge.proofs.Cells.{heads-of}
 use Rattle.merge.proofs.Takes.{takes-none, Least-cell, cell-small, next-asks, takes-last, insert-asks, takes-next}
 use Rattle.heap.proofs.heap_pop.Reads as heap-pop-reads
 use Rattle.heap.proofs.heap_insert.Reads as heap-insert-reads
-use Rattle.tree.proofs.tree_next.Reads as tree-next-reads
+use Rattle.successor.proofs.tree_next.Reads as tree-next-reads
 use Rattle.merge.proofs.take.Reads as reads
 use Rattle.merge.proofs.take.Lts as lts
 use Rattle.merge.proofs.take.Statement.{statement}

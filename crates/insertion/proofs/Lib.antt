@@ -1,0 +1,4 @@
+pub mod Changed
+mod Marked
+mod WithSides
+mod Inserted

@@ -1,0 +1,2 @@
+mod Least
+mod NextMatch
