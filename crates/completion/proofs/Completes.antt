@@ -23,7 +23,7 @@ use Rattle.memory.proofs.Tries.{trie-shallow}
 use Rattle.lines.specs.Ask.{asked}
 use Rattle.lines.specs.Path.{Path, joined, PathOk, OnPath}
 use Rattle.lines.specs.Output.{line-bytes, Tally, Limits, signed-word, Written, Shows, Past, Small, Fit, Goes}
-use Rattle.lines.specs.Run.{path-in, tally-in}
+use Rattle.lines.specs.Run.{path-in, tally-in, matched-in}
 use Rattle.lines.specs.declared.Ask.{Ask}
 use Rattle.lines.proofs.Counting.{tally-is, tells-past}
 use Rattle.steps.specs.Steps.{Matching}
@@ -33,12 +33,15 @@ use Rattle.completion.specs.declared.Completion.the-variants.{Listed, Sp
 use Rattle.listing.proofs.Loops.{no-label}
 use Rattle.memory.specs.Sound.{At}
 
--- The path to the root, and nothing counted.
+-- The path to the root, nothing counted, and no element matched.
 abbrev root-path : Limits → Path
 root-path lim = path-in (start-run (lim .budget) (lim .lines) (lim .bytes))
 
 abbrev nothing-yet : Tally
 nothing-yet = tally-in (start-run 0 0 0)
+
+abbrev unmatched : ℕ
+unmatched = matched-in (start-run 0 0 0)
 
 -- A lent part of no element leaves all.
 lent-nothing : (d part : List ℕ) → length part ≡ 0 → putMid 0 0 d part ≡ d
@@ -79,19 +82,19 @@ module _ (ws txt : List ℕ) (ask : Ask) (root : ℕ) (query : Str) where
   pub root-runs : {budget lines bytes : ℕ} {run run′ flat flat′ out out′ : List ℕ} → run ≡ start-run budget lines bytes
       → TrieListed ws txt query ask run run′ flat flat′ out out′ root
       → let lim : Limits = record { budget = budget; lines = lines; bytes = bytes } in
-      TrieRuns ws txt ask query (root-path lim) lim 4294967295 nothing-yet (tally-in run′) flat flat′ out out′ root
+      TrieRuns ws txt ask query (root-path lim) lim unmatched nothing-yet (tally-in run′) flat flat′ out out′ root
   root-runs e t = (rw e at t) .runs
 
   on-root : (lim : Limits) → OnPath ws txt (root-path lim) []
   unfolding joined base first-import-of-path
   on-root lim = record { count = refl; text = refl; label-is = refl }
 
-  root-matching : Matching [] (segments query) 4294967295
+  root-matching : Matching [] (segments query) unmatched
   unfolding signed-word
   root-matching = record { length-is = match-length-none [] tt; all-matched = λ n. tt }
 
   module _ {lim : Limits} {a : Tally} {flat flat′ out out′ : List ℕ}
-      (r : TrieRuns ws txt ask query (root-path lim) lim 4294967295 nothing-yet a flat flat′ out out′ root) where
+      (r : TrieRuns ws txt ask query (root-path lim) lim unmatched nothing-yet a flat flat′ out out′ root) where
     run-goes : Goes (asked ask) ws txt lim nothing-yet a flat flat′ out out′ (trie-gives ask (suc (depth tr)) tr [] (segments query))
     run-goes = r .goes [] (suc (depth tr)) (on-root lim) root-matching (omega arith)
 
@@ -125,7 +128,7 @@ module _ (ws txt : List ℕ) (ask : Ask) (root : ℕ) (query : Str) where
 
 -- What is written where the output is as it was.
 pub writes-then : (ws txt : List ℕ) (ask : Ask) (root : ℕ) (query : Str) {lim : Limits} {a : Tally} {flat flat₁ flat′ out out₁ out′ : List ℕ} → flat₁ ≡ flat → out₁ ≡ out
-    → TrieRuns ws txt ask query (root-path lim) lim 4294967295 nothing-yet a flat₁ flat′ out₁ out′ root
+    → TrieRuns ws txt ask query (root-path lim) lim unmatched nothing-yet a flat₁ flat′ out₁ out′ root
     → Fit lim flat out (tries ws txt ask root query) (length (listed ws txt ask root query)) (length (output-text (listed ws txt ask root query)))
     → Written (asked ask) ws txt flat flat′ out out′ 0 0 (listed ws txt ask root query)
 writes-then ws txt ask root query f o r = root-writes ws txt ask root query (rw (f, o) at r)

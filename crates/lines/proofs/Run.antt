@@ -50,10 +50,6 @@ module _ (run : List ℕ) (k v : ℕ) (few : getD run 16 0 ≤ 16) (h : 18 < k) 
   pub same-set : SameRun run (set run k v)
   same-set = record { path = path-kept run k v few h (λ j a b e. omega arith); matched-same = getD-set-other run k 25 v 0 (λ e. omega arith) }
 
--- The limit of the bytes, once the lines are counted.
-pub most-bytes : (run : List ℕ) (l : ℕ) → getD (set run 20 l) 24 0 ≡ getD run 24 0
-most-bytes run l = getD-set-other run 20 24 l 0 (λ e. omega arith)
-
 -- The lines and the bytes are counted.
 module _ (run : List ℕ) (l b : ℕ) where
   pub same-counted : getD run 16 0 ≤ 16 → SameRun run (set (set run 20 l) 21 b)

@@ -147,8 +147,9 @@ fn put_line(
     let bytes = run[BYTES];
     let size = run[LENGTH] + memory::text_len(words, branch) as usize + note.len();
     try_line(words, text, branch, note, run, flat, out);
+    let most = run[MOST_BYTES];
     run[LINES] = add(lines, 1, run[MOST_LINES]);
-    run[BYTES] = add(bytes, size, run[MOST_BYTES]);
+    run[BYTES] = add(bytes, size, most);
 }
 
 // The collection of the outermost label of the path and the branch below it, 0 for none.

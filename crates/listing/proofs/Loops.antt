@@ -44,7 +44,7 @@ use Rattle.lines.specs.declared.Found.{Found}
 use Rattle.lines.proofs.Run.{same-run, same-then}
 use Rattle.listing.specs.Runs.{HasRoom, level-of, tree-entries, BranchReady, BranchRuns, TreeReady, EntriesRun, ListReady, ListRuns, BranchAsked, BranchListed, TreeAsked, TreeListed, ListAsked, ListListed}
 use Rattle.listing.specs.declared.Place.{Place}
-use Rattle.listing.proofs.Runs.{branch-ready-at, branch-runs-at, place-ok-at}
+use Rattle.listing.proofs.Runs.{branch-ready-at, branch-runs-at}
 use Rattle.listing.proofs.EntriesRun.{Left, left-all, left-none, left-spent, left-next}
 use Rattle.memory.proofs.At.{no-link, at-of, at-in}
 
@@ -194,10 +194,10 @@ module _ {ws txt : List ℕ} {query : Str} {place : Place} {f : Found} {run : Li
     stepping-done z = record { same = g .same; runs = along-done (g .along) z }
 
     module _ (n : s .link ≡ 0 → ⊥) where
-      pub stepping-branch : TreeAsked ws txt query place run f → BranchAsked ws txt query place run′ at-hand
-      stepping-branch r = record { place-ok = place-ok-at (g .same) (r .place-ok); can = branch-ready-at (g .same .path) (along-branch (g .along) n (r .can)) }
+      pub stepping-branch : TreeAsked ws txt query place run f → BranchAsked ws txt (drop (place .next) query) (place .ask) (place .leaf) run′ at-hand
+      stepping-branch r = record { fits = omega (arith, g .same .matched-same, r .place-ok .fits); can = branch-ready-at (g .same .path) (along-branch (g .along) n (r .can)) }
 
-      module _ {run″ flat″ out″ : List ℕ} (b : BranchListed ws txt query place run′ run″ flat′ flat″ out′ out″ at-hand) (lf : length flat″ ≡ length flat′) (lo : length out″ ≡ length out′) where
+      module _ {run″ flat″ out″ : List ℕ} (b : BranchListed ws txt (drop (place .next) query) (place .ask) (place .leaf) run′ run″ flat′ flat″ out′ out″ at-hand) (lf : length flat″ ≡ length flat′) (lo : length out″ ≡ length out′) where
         pub stepping-spent : getD run 22 0 < getD run″ 19 0 → TreeListed ws txt query place run run″ flat flat″ out out″ f
         stepping-spent k = record {
           same = same-then (g .same) (b .same);
@@ -338,12 +338,12 @@ module _ {ws txt : List ℕ} {query : Str} {place : Place} {x : ℕ} {run : List
         pub merging-less : left-in ws txt (take (place .len) query) (s .m) < left-in ws txt (take (place .len) query) m
         merging-less = gives-more (g .gives) f n .given .fewer
 
-        pub merging-branch : ListAsked ws txt query place run x → BranchAsked ws txt query place run′ given
+        pub merging-branch : ListAsked ws txt query place run x → BranchAsked ws txt (drop (place .next) query) (place .ask) (place .leaf) run′ given
         merging-branch r =
             let k = gives-more (g .gives) f n in
             let t = r .can .list-at in
             record {
-              place-ok = place-ok-at (g .same) (r .place-ok);
+              fits = omega (arith, g .same .matched-same, r .place-ok .fits);
               can = branch-ready-at (g .same .path) (record {
                 ready = r .can .ready;
                 branch-at = record { some = k .given .branch .some; at = at-of t (tree _) (omega arith) (k .given .branch .link) };
@@ -352,7 +352,7 @@ module _ {ws txt : List ℕ} {query : Str} {place : Place} {x : ℕ} {run : List
               });
             }
 
-        module _ {run″ flat″ out″ : List ℕ} (b : BranchListed ws txt query place run′ run″ flat′ flat″ out′ out″ given) (lf : length flat″ ≡ length flat′) (lo : length out″ ≡ length out′) where
+        module _ {run″ flat″ out″ : List ℕ} (b : BranchListed ws txt (drop (place .next) query) (place .ask) (place .leaf) run′ run″ flat′ flat″ out′ out″ given) (lf : length flat″ ≡ length flat′) (lo : length out″ ≡ length out′) where
           pub merging-next : Merging ws txt query place x run run″ flat flat″ out out″ (s .m)
           merging-next =
               let k = gives-more (g .gives) f n in

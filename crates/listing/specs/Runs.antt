@@ -127,9 +127,15 @@ module _ (ws txt : List ℕ) (ask : Ask) (rest : Str) (p : Path) (lim : Limits) 
 
 -- ---- The contracts: of a query that is cut, and the lent run
 
--- The place of a namespace that was found: its key is not asked for again.
-abbrev pub spaces : Ask → ℕ → Place
-spaces ask next = record { ask = ask; leaf = false; len = 0; next = next }
+module _ (ws txt : List ℕ) (rest : Str) (ask : Ask) (leaf : Bool) (run : List ℕ) where
+  pub record BranchAsked (f : Found) : Type 0 where
+    pub can : BranchReady ws txt ask rest (path-in run) (limits-in run) leaf (f .link) (f .label)
+    pub fits : matched-in run ≤ 4294967295
+
+  pub record BranchListed (run′ flat flat′ out out′ : List ℕ) (f : Found) : Type 0 where
+    pub same : SameRun run run′
+    pub runs : BranchRuns ws txt ask rest (path-in run) (limits-in run) (matched-in run)
+        (tally-in run) (tally-in run′) flat flat′ out out′ leaf (f .link) (f .label)
 
 -- The query is cut within, and the match length fits.
 pub record PlaceOk (query : Str) (place : Place) (run : List ℕ) : Type 0 where
@@ -138,10 +144,6 @@ pub record PlaceOk (query : Str) (place : Place) (run : List ℕ) : Type 0 where
   pub fits : matched-in run ≤ 4294967295
 
 module _ (ws txt : List ℕ) (query : Str) (place : Place) (run : List ℕ) where
-  pub record BranchAsked (f : Found) : Type 0 where
-    pub place-ok : PlaceOk query place run
-    pub can : BranchReady ws txt (place .ask) (drop (place .next) query) (path-in run) (limits-in run) (place .leaf) (f .link) (f .label)
-
   pub record TreeAsked (f : Found) : Type 0 where
     pub place-ok : PlaceOk query place run
     pub can : TreeReady ws txt (place .ask) (drop (place .next) query) (path-in run) (limits-in run) (place .leaf)
@@ -152,11 +154,6 @@ module _ (ws txt : List ℕ) (query : Str) (place : Place) (run : List ℕ) wher
     pub can : ListReady ws txt (place .ask) (drop (place .next) query) (path-in run) (limits-in run) (place .leaf) x
 
   module _ (run′ flat flat′ out out′ : List ℕ) where
-    pub record BranchListed (f : Found) : Type 0 where
-      pub same : SameRun run run′
-      pub runs : BranchRuns ws txt (place .ask) (drop (place .next) query) (path-in run) (limits-in run) (matched-in run)
-          (tally-in run) (tally-in run′) flat flat′ out out′ (place .leaf) (f .link) (f .label)
-
     pub record TreeListed (f : Found) : Type 0 where
       pub same : SameRun run run′
       pub runs : EntriesRun ws txt (place .ask) (drop (place .next) query) (path-in run) (limits-in run) (matched-in run)

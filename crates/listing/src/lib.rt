@@ -4,9 +4,9 @@
 use lines::Ask;
 use lines::Found;
 use merge::Turn;
-ghost use mathlib.Core.Bool.{true};
+ghost use mathlib.Core.Bool.{true, false};
 ghost use Prim.Native.Nat.{_+_, _<_};
-ghost use Rattle.listing.specs.Runs.{spaces, BranchAsked, BranchListed, TreeAsked, TreeListed, ListAsked, ListListed, TrieAsked, TrieListed};
+ghost use Rattle.listing.specs.Runs.{BranchAsked, BranchListed, TreeAsked, TreeListed, ListAsked, ListListed, TrieAsked, TrieListed};
 
 // Where a run stands in a trie: what is asked, whether the list is of bindings, and where the query is cut.
 struct Place {
@@ -20,16 +20,15 @@ struct Place {
 fn list_below(
     words: &[u32],
     text: &[u8],
-    query: &[u8],
+    rest: &[u8],
     ask: Ask,
-    next: usize,
     found: Found,
     run: &mut [usize; lines::RUN],
     flat: &mut [u8],
     out: &mut [u8],
 )
-    requires { ⌜ BranchAsked (now words) (now text) (now query) (spaces ask next) (now run) found ⌝ }
-    ensures { λ _. ⌜ BranchListed (now (words .entry)) (now (text .entry)) (now (query .entry)) (spaces ask next)
+    requires { ⌜ BranchAsked (now words) (now text) (now rest) ask false (now run) found ⌝ }
+    ensures { λ _. ⌜ BranchListed (now (words .entry)) (now (text .entry)) (now (rest .entry)) ask false
         (now (run .entry)) (now (run .exit)) (now (flat .entry)) (now (flat .exit)) (now (out .entry)) (now (out .exit)) found ⌝ }
 {
     let child = memory::held_of(words, found.link);
@@ -38,7 +37,7 @@ fn list_below(
     let label = run[lines::LABEL];
     let matched = run[lines::MATCHED];
     steps::enter(words, found, run);
-    list_trie(words, text, &query[next..], ask, child, run, flat, out);
+    list_trie(words, text, rest, ask, child, run, flat, out);
     steps::set_path(run, n, len, label);
     run[lines::MATCHED] = matched;
 }
@@ -47,23 +46,23 @@ fn list_below(
 fn list_branch(
     words: &[u32],
     text: &[u8],
-    query: &[u8],
+    rest: &[u8],
     place: Place,
     found: Found,
     run: &mut [usize; lines::RUN],
     flat: &mut [u8],
     out: &mut [u8],
 )
-    requires { ⌜ BranchAsked (now words) (now text) (now query) place (now run) found ⌝ }
-    ensures { λ _. ⌜ BranchListed (now (words .entry)) (now (text .entry)) (now (query .entry)) place (now (run .entry)) (now (run .exit))
-        (now (flat .entry)) (now (flat .exit)) (now (out .entry)) (now (out .exit)) found ⌝ }
+    requires { ⌜ BranchAsked (now words) (now text) (now rest) (place .ask) (place .leaf) (now run) found ⌝ }
+    ensures { λ _. ⌜ BranchListed (now (words .entry)) (now (text .entry)) (now (rest .entry)) (place .ask) (place .leaf)
+        (now (run .entry)) (now (run .exit)) (now (flat .entry)) (now (flat .exit)) (now (out .entry)) (now (out .exit)) found ⌝ }
 {
     let ask = place.ask;
     if place.leaf {
         lines::line(words, text, ask, found, run, flat, out);
         return;
     }
-    list_below(words, text, query, ask, place.next, found, run, flat, out);
+    list_below(words, text, rest, ask, found, run, flat, out);
 }
 
 // What the branches of a tree that begin with a prefix give, in order, each with the tree's label. Stops once the budget is passed.
@@ -83,6 +82,7 @@ fn list_tree(
 {
     let budget = run[lines::BUDGET];
     let len = place.len;
+    let rest = place.next;
     let root = found.link;
     let mut notes = [0; matches::NOTES];
     let mut step = matches::first_match(words, text, root, &query[0..len], &mut notes);
@@ -92,7 +92,7 @@ fn list_tree(
             link: at,
             label: found.label,
         };
-        list_branch(words, text, query, place, here, run, flat, out);
+        list_branch(words, text, &query[rest..], place, here, run, flat, out);
         if budget < run[lines::ENTERED] {
             return;
         }
@@ -118,6 +118,7 @@ fn list_merged(
 {
     let budget = run[lines::BUDGET];
     let len = place.len;
+    let rest = place.next;
     let mut roots = [0; merge::CELLS];
     let mut heads = [0; merge::CELLS];
     let mut labels = [0; merge::CELLS];
@@ -166,7 +167,7 @@ fn list_merged(
             link: branch,
             label: labels[cell],
         };
-        list_branch(words, text, query, place, here, run, flat, out);
+        list_branch(words, text, &query[rest..], place, here, run, flat, out);
         if budget < run[lines::ENTERED] {
             return;
         }

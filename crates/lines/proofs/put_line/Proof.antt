@@ -1,6 +1,6 @@
 -- `lines::put_line` meets its contract.
 use Rattle.lines.proofs.Lines.{counted, line-counted}
-use Rattle.lines.proofs.Run.{most-bytes, same-counted, tally-counted}
+use Rattle.lines.proofs.Run.{same-counted, tally-counted}
 use native.Mathlib.Omega.{arith}
 use Rattle.lines.proofs.put_line.Statement.{statement}
 use Rattle.lines.proofs.put_line.Tie as tie
@@ -26,16 +26,16 @@ put-line-spec =
     (λ c. search needs)
     {- try-line-requires -}
     (λ c κs. search needs)
+    {- element-copy-out-most -}
+    (λ c. search needs)
     {- element-copy-out-add -}
     (λ c. search needs)
     {- add-requires -}
     (λ c κs. search needs)
     {- element-write-run -}
     (λ c. search needs)
-    {- element-copy-out-add-2 -}
-    (λ c. search needs)
     {- add-requires-2 -}
-    (λ c κs. omega (arith, most-bytes (c .before .before .before .before .before .before .before .before .before .before .before .before .before .before .before .before .before .before .before .before .args .run .now) (c .before .add .result), c .before .before .before .before .before .before .before .before .before .before .before .before .before .before .before .before .before .before .before .before .pre .0 .small .bytes-small))
+    (λ c κs. search needs)
     {- element-write-run-2 -}
     (λ c. search needs)
     {- same-length -}
@@ -43,4 +43,4 @@ put-line-spec =
     {- same-length-2 -}
     (λ c. search needs)
     {- returns -}
-    (λ c. (same-counted (c .before .before .before .before .before .before .before .before .before .before .before .before .before .before .before .before .before .before .before .before .before .args .run .now) (c .before .before .add .result) (c .add2 .result) (c .before .before .before .before .before .before .before .before .before .before .before .before .before .before .before .before .before .before .before .before .before .pre .0 .path .few), rw (tally-counted (c .before .before .before .before .before .before .before .before .before .before .before .before .before .before .before .before .before .before .before .before .before .args .run .now) (c .before .before .add .result) (c .add2 .result) (c .before .before .before .before .before .before .before .before .before .before .before .before .before .before .before .before .before .before .before .before .before .pre .0 .path .sized)) (line-counted (c .before .before .before .before .before .before .before .before .before .before .before .before .before .before .before .before .before .before .before .before .before .pre .0) (counted (omega (arith, c .before .before .before .before .before .before .before .before .before .before .before .before .text-len .ensures)) (c .before .before .add .ensures) (rw (most-bytes (c .before .before .before .before .before .before .before .before .before .before .before .before .before .before .before .before .before .before .before .before .before .args .run .now) (c .before .before .add .result)) at (c .add2 .ensures))) (c .before .before .before .before .before .before .before .before .try-line .ensures)))))
+    (λ c. (same-counted (c .before .before .before .before .before .before .before .before .before .before .before .before .before .before .before .before .before .before .before .before .before .args .run .now) (c .before .add .result) (c .add2 .result) (c .before .before .before .before .before .before .before .before .before .before .before .before .before .before .before .before .before .before .before .before .before .pre .0 .path .few), rw (tally-counted (c .before .before .before .before .before .before .before .before .before .before .before .before .before .before .before .before .before .before .before .before .before .args .run .now) (c .before .add .result) (c .add2 .result) (c .before .before .before .before .before .before .before .before .before .before .before .before .before .before .before .before .before .before .before .before .before .pre .0 .path .sized)) (line-counted (c .before .before .before .before .before .before .before .before .before .before .before .before .before .before .before .before .before .before .before .before .before .pre .0) (counted (omega (arith, c .before .before .before .before .before .before .before .before .before .before .before .before .text-len .ensures)) (c .before .add .ensures) (c .add2 .ensures)) (c .before .before .before .before .before .before .before .before .try-line .ensures)))))

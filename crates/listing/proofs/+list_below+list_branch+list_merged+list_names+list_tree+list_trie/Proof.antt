@@ -11,7 +11,7 @@ use Rattle.tree.proofs.Branches.{any-tree}
 use Rattle.memory.proofs.At.{at-fits}
 use Rattle.lines.proofs.Run.{same-run}
 use Rattle.steps.proofs.Cuts.{front-is}
-use Rattle.listing.proofs.Branch.{leaf-runs, line-ready, branch-named, space-at, below-ready, child-earlier, below-asked, below-listed, namespace-ready, namespace-sized, namespace-runs}
+use Rattle.listing.proofs.Branch.{leaf-runs, line-ready, branch-named, space-at, below-ready, child-earlier, namespace-ready, namespace-sized, namespace-runs}
 use Rattle.listing.proofs.Loops.{onward, along-earlier, along-tree, along-begins, Stepping, stepping-first, stepping-branch, stepping-next, stepping-less, stepping-spent, stepping-done, list-any, one-earlier, one-ready, one-runs, Merging, merging-first, merging-any, merging-done, merging-earlier, merging-less, merging-branch, merging-next, merging-spent}
 use Rattle.listing.proofs.Trie.{trie-spent, trie-named, cut-ready, bindings-earlier, namespaces-earlier, bindings-asked, namespaces-asked, trie-all, trie-few}
 use Prim.Native.Nat.{ℕ, _<_}
@@ -55,7 +55,7 @@ use Rattle.listing.proofs.+list_below+list_branch+list_merged+list_name
 }
 
 abbrev μ-list-below : Measures 6 list-below-kinds.ps ℕ
-μ-list-below κs a = 6 * a .1 .1 .1 .1 .1 .0 .link
+μ-list-below κs a = 6 * a .1 .1 .1 .1 .0 .link
 
 abbrev μ-list-branch : Measures 6 list-branch-kinds.ps ℕ
 μ-list-branch κs a = 6 * a .1 .1 .1 .1 .0 .link + 1
@@ -118,19 +118,19 @@ list-trie-below t =
     and 6 list-trie-kinds.ps (falls 6 list-trie-kinds.ps _<_ μ-list-trie t) list-trie.Pre
 
 abbrev list-merged-Inv-loop : list-merged-lts.InvT-loop
-list-merged-Inv-loop words text query place list run₀ flat₀ out₀ budget len roots₀ heads₀ labels n child₀ next₀ turn₀ run flat out roots heads child next turn =
+list-merged-Inv-loop words text query place list run₀ flat₀ out₀ budget len rest roots₀ heads₀ labels n child₀ next₀ turn₀ run flat out roots heads child next turn =
     Merging words text query place list run₀ run flat₀ flat out₀ out (state roots heads labels child next (turn .n) (turn .root) (turn .last))
 
 abbrev list-merged-μ-loop : list-merged-lts.MeasureT-loop
-list-merged-μ-loop words text query place list run₀ flat₀ out₀ budget len roots₀ heads₀ labels n child₀ next₀ turn₀ run flat out roots heads child next turn =
+list-merged-μ-loop words text query place list run₀ flat₀ out₀ budget len rest roots₀ heads₀ labels n child₀ next₀ turn₀ run flat out roots heads child next turn =
     left-in words text (take (place .len) query) (state roots heads labels child next (turn .n) (turn .root) (turn .last))
 
 abbrev list-tree-Inv-loop : list-tree-lts.InvT-loop
-list-tree-Inv-loop words text query place found run₀ flat₀ out₀ budget len root notes₀ step₀ run flat out notes step =
+list-tree-Inv-loop words text query place found run₀ flat₀ out₀ budget len rest root notes₀ step₀ run flat out notes step =
     Stepping words text query place found run₀ run flat₀ flat out₀ out notes step
 
 abbrev list-tree-μ-loop : list-tree-lts.MeasureT-loop
-list-tree-μ-loop words text query place found run₀ flat₀ out₀ budget len root notes₀ step₀ run flat out notes step =
+list-tree-μ-loop words text query place found run₀ flat₀ out₀ budget len rest root notes₀ step₀ run flat out notes step =
     length (onward words text (take (place .len) query) (found .link) (step .link))
 
 pub +list-below+list-branch+list-merged+list-names+list-tree+list-trie-spec : {M : Type 1} → statement M
@@ -157,16 +157,10 @@ pub +list-below+list-branch+list-merged+list-names+list-tree+list-trie-spec : {M
     (λ c. search needs)
     {- enter-requires -}
     (λ c κs. (branch-named (c .before .before .before .before .before .before .before .before .before .before .before .pre .1 .can), below-ready (c .before .before .before .before .before .before .before .before .before .before .before .pre .1 .can) refl))
-    {- sub-list-trie -}
-    (λ c. omega (arith, c .before .before .before .before .before .before .before .before .before .before .before .before .pre .1 .place-ok .next-inside))
-    {- part-list-trie-start -}
-    (λ c. omega (arith, c .before .before .before .before .before .before .before .before .before .before .before .before .pre .1 .place-ok .next-inside))
-    {- part-list-trie-end -}
-    (λ c. search needs)
     {- list-trie-requires -}
-    (λ c κs. (omega (arith, c .before .before .before .before .before .before .before .before .before .before .before .before .before .before .before .before .pre .0, c .before .before .before .before .before .before .before .before .before .before .held-of .ensures, child-earlier (space-at (c .before .before .before .before .before .before .before .before .before .before .before .before .before .before .before .before .pre .1 .can) refl .0)), rw tail-is (namespace-ready (c .before .before .before .before .before .before .before .before .before .before .before .before .before .before .before .before .pre .1) refl (c .before .before .before .before .enter .ensures) (c .before .before .before .before .before .before .before .before .before .before .held-of .ensures))))
+    (λ c κs. (omega (arith, c .before .before .before .before .before .before .before .before .before .before .before .before .before .before .before .pre .0, c .before .before .before .before .before .before .before .before .before .held-of .ensures, child-earlier (space-at (c .before .before .before .before .before .before .before .before .before .before .before .before .before .before .before .pre .1 .can) refl .0)), namespace-ready (c .before .before .before .before .before .before .before .before .before .before .before .before .before .before .before .pre .1) (c .before .before .before .enter .ensures) (c .before .before .before .before .before .before .before .before .before .held-of .ensures)))
     {- set-path-requires -}
-    (λ c κs. namespace-sized (c .before .before .before .before .before .before .before .before .before .before .before .before .before .before .before .before .before .before .before .before .before .before .pre .1) refl (c .before .before .before .before .before .before .before .before .before .before .enter .ensures) (c .before .before .before .before .before .before .before .before .before .before .before .before .before .before .before .before .held-of .ensures) (rw tail-is at (c .before .before .before .before .before .list-trie .ensures)))
+    (λ c κs. namespace-sized (c .before .before .before .before .before .before .before .before .before .before .before .before .before .before .before .before .before .before .before .before .before .pre .1) (c .before .before .before .before .before .before .before .before .before .enter .ensures) (c .before .before .before .before .before .before .before .before .before .before .before .before .before .before .before .held-of .ensures) (c .before .before .before .before .before .list-trie .ensures))
     {- element-write-run -}
     (λ c. search needs)
     {- same-length -}
@@ -174,7 +168,7 @@ pub +list-below+list-branch+list-merged+list-names+list-tree+list-trie-spec : {M
     {- same-length-2 -}
     (λ c. search needs)
     {- returns -}
-    (λ c. namespace-runs (c .before .before .before .before .before .before .before .before .before .before .before .before .before .before .before .before .before .before .before .before .before .before .before .pre .1) refl (c .before .before .before .before .before .before .before .before .before .before .before .enter .ensures) (c .before .before .before .before .before .before .before .before .before .before .before .before .before .before .before .before .before .held-of .ensures) (rw tail-is at (c .before .before .before .before .before .before .list-trie .ensures)) (c .set-path .ensures)))
+    (λ c. namespace-runs (c .before .before .before .before .before .before .before .before .before .before .before .before .before .before .before .before .before .before .before .before .before .before .pre .1) (c .before .before .before .before .before .before .before .before .before .before .enter .ensures) (c .before .before .before .before .before .before .before .before .before .before .before .before .before .before .before .before .held-of .ensures) (c .before .before .before .before .before .before .list-trie .ensures) (c .set-path .ensures)))
     (λ t. list-branch-lts.spec (line-reads.Asked, line-reads.Learnt, list-below-below t, list-below.Post)
     (list-branch-at t)
     list-branch.Post
@@ -187,13 +181,13 @@ pub +list-below+list-branch+list-merged+list-names+list-tree+list-trie-spec : {M
     {- returns -}
     (λ c. leaf-runs (c .before .before .before .before .before .before .before .before .if1 .taken) (c .before .before .before .before .line .ensures))
     {- list-below-requires -}
-    (λ c κs. (omega (arith, c .before .before .before .before .before .before .before .before .before .pre .0), below-asked (c .before .before .before .if1 .left) (c .before .before .before .before .before .before .before .before .before .pre .1)))
+    (λ c κs. (omega (arith, c .before .before .before .before .before .before .before .before .before .pre .0), rw (c .before .before .before .if1 .left) at (c .before .before .before .before .before .before .before .before .before .pre .1)))
     {- same-length-3 -}
     (λ c. search needs)
     {- same-length-4 -}
     (λ c. search needs)
     {- returns-2 -}
-    (λ c. below-listed (c .before .before .before .before .before .before .before .before .if1 .left) (c .before .before .before .before .list-below .ensures)))
+    (λ c. rw (c .before .before .before .before .before .before .before .before .if1 .left) (c .before .before .before .before .list-below .ensures)))
     (λ t. list-merged-lts.spec (merge-start-reads.Asked, merge-start-reads.Learnt, list-tree-below t, list-tree.Post, merge-next-reads.Asked, merge-next-reads.Learnt, list-branch-below t, list-branch.Post)
     (list-merged-at t)
     list-merged.Post
@@ -209,9 +203,9 @@ pub +list-below+list-branch+list-merged+list-names+list-tree+list-trie-spec : {M
     (λ c. omega (arith, c .before .before .before .before .before .before .pre .1 .place-ok .len-inside))
     {- merge-start-requires -}
     (λ c κs. (list-any (c .before .before .before .before .before .before .before .before .before .before .pre .1 .can), record { of-roots = refl; of-heads = refl; of-labels = refl }))
-    {- array-read-t36 -}
+    {- array-read-t37 -}
     (λ c. search needs)
-    {- array-read-t39 -}
+    {- array-read-t40 -}
     (λ c. search needs)
     {- list-tree-requires -}
     (λ c κs. (omega (arith, c .before .before .before .before .before .before .before .before .before .before .before .before .before .before .before .pre .0, one-earlier (c .before .before .before .before .before .before .before .before .before .before .before .before .before .before .before .pre .1) ((rw front-is at (c .before .before .before .before .merge-start .ensures)) .one (c .before .before .before .if1 .taken) _ _ (c .before .before .before .before .before .before .before .before .before .before .before .before .before .before .before .pre .1 .can .list-at))), one-ready (c .before .before .before .before .before .before .before .before .before .before .before .before .before .before .before .pre .1) ((rw front-is at (c .before .before .before .before .merge-start .ensures)) .one (c .before .before .before .if1 .taken) _ _ (c .before .before .before .before .before .before .before .before .before .before .before .before .before .before .before .pre .1 .can .list-at))))
@@ -237,24 +231,30 @@ pub +list-below+list-branch+list-merged+list-names+list-tree+list-trie-spec : {M
     (λ c. c .before .before .before .before .before .before .before .loop .inv .left .out-size)
     {- returns-2 -}
     (λ c. merging-done (c .before .before .before .before .before .before .before .loop .inv) ((rw front-is at (c .before .merge-next .ensures)) .gives _) (c .if2 .taken))
-    {- mul-t47 -}
+    {- mul-t48 -}
     (λ c. omega (arith, c .before .merge-next .ensures .small (c .if2 .left)))
-    {- array-read-t57 -}
+    {- array-read-t58 -}
     (λ c. c .before .merge-next .ensures .small (c .if2 .left))
+    {- sub-list-branch -}
+    (λ c. omega (arith, c .before .before .before .before .before .before .before .before .before .before .before .before .before .before .before .before .before .before .before .before .before .before .pre .1 .place-ok .next-inside))
+    {- part-list-branch-start -}
+    (λ c. omega (arith, c .before .before .before .before .before .before .before .before .before .before .before .before .before .before .before .before .before .before .before .before .before .before .pre .1 .place-ok .next-inside))
+    {- part-list-branch-end -}
+    (λ c. search needs)
     {- list-branch-requires -}
-    (λ c κs. (omega (arith, c .before .before .before .before .before .before .before .before .before .before .before .before .before .before .before .before .before .before .before .before .before .before .before .before .before .pre .0, merging-earlier (c .before .before .before .before .before .before .before .before .before .before .loop .inv) ((rw front-is at (c .before .before .before .before .merge-next .ensures)) .gives _) (c .before .before .before .if2 .left)), merging-branch (c .before .before .before .before .before .before .before .before .before .before .loop .inv) ((rw front-is at (c .before .before .before .before .merge-next .ensures)) .gives _) (c .before .before .before .if2 .left) (c .before .before .before .before .before .before .before .before .before .before .before .before .before .before .before .before .before .before .before .before .before .before .before .before .before .pre .1)))
+    (λ c κs. (omega (arith, c .before .before .before .before .before .before .before .before .before .before .before .before .before .before .before .before .before .before .before .before .before .before .before .before .before .before .pre .0, merging-earlier (c .before .before .before .before .before .before .before .before .before .before .before .loop .inv) ((rw front-is at (c .before .before .before .before .before .merge-next .ensures)) .gives _) (c .before .before .before .before .if2 .left)), rw tail-is (merging-branch (c .before .before .before .before .before .before .before .before .before .before .before .loop .inv) ((rw front-is at (c .before .before .before .before .before .merge-next .ensures)) .gives _) (c .before .before .before .before .if2 .left) (c .before .before .before .before .before .before .before .before .before .before .before .before .before .before .before .before .before .before .before .before .before .before .before .before .before .before .pre .1))))
     {- element-copy-out-if3 -}
     (λ c. search needs)
     {- same-length-5 -}
-    (λ c. merging-next (c .before .before .before .before .before .before .before .before .before .before .before .before .before .before .before .before .before .loop .inv) ((rw front-is at (c .before .before .before .before .before .before .before .before .before .before .before .merge-next .ensures)) .gives _) (c .before .before .before .before .before .before .before .before .before .before .if2 .left) (c .before .before .before .before .before .before .list-branch .ensures) (c .before .before .before .before .before .flat2 .given) (c .before .before .before .out2 .given) .left .flat-size)
+    (λ c. merging-next (c .before .before .before .before .before .before .before .before .before .before .before .before .before .before .before .before .before .before .loop .inv) ((rw front-is at (c .before .before .before .before .before .before .before .before .before .before .before .before .merge-next .ensures)) .gives _) (c .before .before .before .before .before .before .before .before .before .before .before .if2 .left) (rw tail-is at (c .before .before .before .before .before .before .list-branch .ensures)) (c .before .before .before .before .before .flat2 .given) (c .before .before .before .out2 .given) .left .flat-size)
     {- same-length-6 -}
-    (λ c. merging-next (c .before .before .before .before .before .before .before .before .before .before .before .before .before .before .before .before .before .loop .inv) ((rw front-is at (c .before .before .before .before .before .before .before .before .before .before .before .merge-next .ensures)) .gives _) (c .before .before .before .before .before .before .before .before .before .before .if2 .left) (c .before .before .before .before .before .before .list-branch .ensures) (c .before .before .before .before .before .flat2 .given) (c .before .before .before .out2 .given) .left .out-size)
+    (λ c. merging-next (c .before .before .before .before .before .before .before .before .before .before .before .before .before .before .before .before .before .before .loop .inv) ((rw front-is at (c .before .before .before .before .before .before .before .before .before .before .before .before .merge-next .ensures)) .gives _) (c .before .before .before .before .before .before .before .before .before .before .before .if2 .left) (rw tail-is at (c .before .before .before .before .before .before .list-branch .ensures)) (c .before .before .before .before .before .flat2 .given) (c .before .before .before .out2 .given) .left .out-size)
     {- returns-3 -}
-    (λ c. merging-spent (c .before .before .before .before .before .before .before .before .before .before .before .before .before .before .before .before .before .loop .inv) ((rw front-is at (c .before .before .before .before .before .before .before .before .before .before .before .merge-next .ensures)) .gives _) (c .before .before .before .before .before .before .before .before .before .before .if2 .left) (c .before .before .before .before .before .before .list-branch .ensures) (c .before .before .before .before .before .flat2 .given) (c .before .before .before .out2 .given) (c .if3 .taken))
+    (λ c. merging-spent (c .before .before .before .before .before .before .before .before .before .before .before .before .before .before .before .before .before .before .loop .inv) ((rw front-is at (c .before .before .before .before .before .before .before .before .before .before .before .before .merge-next .ensures)) .gives _) (c .before .before .before .before .before .before .before .before .before .before .before .if2 .left) (rw tail-is at (c .before .before .before .before .before .before .list-branch .ensures)) (c .before .before .before .before .before .flat2 .given) (c .before .before .before .out2 .given) (c .if3 .taken))
     {- loop-less -}
-    (λ c. merging-less (c .before .before .before .before .before .before .before .before .before .before .before .before .before .before .before .before .before .loop .inv) ((rw front-is at (c .before .before .before .before .before .before .before .before .before .before .before .merge-next .ensures)) .gives _) (c .before .before .before .before .before .before .before .before .before .before .if2 .left))
+    (λ c. merging-less (c .before .before .before .before .before .before .before .before .before .before .before .before .before .before .before .before .before .before .loop .inv) ((rw front-is at (c .before .before .before .before .before .before .before .before .before .before .before .before .merge-next .ensures)) .gives _) (c .before .before .before .before .before .before .before .before .before .before .before .if2 .left))
     {- loop-again -}
-    (λ c. merging-next (c .before .before .before .before .before .before .before .before .before .before .before .before .before .before .before .before .before .loop .inv) ((rw front-is at (c .before .before .before .before .before .before .before .before .before .before .before .merge-next .ensures)) .gives _) (c .before .before .before .before .before .before .before .before .before .before .if2 .left) (c .before .before .before .before .before .before .list-branch .ensures) (c .before .before .before .before .before .flat2 .given) (c .before .before .before .out2 .given)))
+    (λ c. merging-next (c .before .before .before .before .before .before .before .before .before .before .before .before .before .before .before .before .before .before .loop .inv) ((rw front-is at (c .before .before .before .before .before .before .before .before .before .before .before .before .merge-next .ensures)) .gives _) (c .before .before .before .before .before .before .before .before .before .before .before .if2 .left) (rw tail-is at (c .before .before .before .before .before .before .list-branch .ensures)) (c .before .before .before .before .before .flat2 .given) (c .before .before .before .out2 .given)))
     (λ t. list-names-lts.spec (single-reads.Asked, single-reads.Learnt, list-tree-below t, list-tree.Post, list-merged-below t, list-merged.Post)
     (list-names-at t)
     list-names.Post
@@ -293,28 +293,34 @@ pub +list-below+list-branch+list-merged+list-names+list-tree+list-trie-spec : {M
     (λ c κs. (any-tree (c .before .before .before .before .before .before .before .before .pre .1 .can .tree-at), refl))
     {- loop-holds -}
     (λ c. stepping-first (c .before .before .before .before .before .before .before .before .before .pre .1) (rw front-is at (c .first-match .ensures)))
+    {- sub-list-branch -}
+    (λ c. omega (arith, c .before .before .before .before .before .before .before .before .before .before .before .before .pre .1 .place-ok .next-inside))
+    {- part-list-branch-start -}
+    (λ c. omega (arith, c .before .before .before .before .before .before .before .before .before .before .before .before .pre .1 .place-ok .next-inside))
+    {- part-list-branch-end -}
+    (λ c. search needs)
     {- list-branch-requires -}
-    (λ c κs. (omega (arith, c .before .before .before .before .before .before .before .before .before .before .before .before .before .before .before .pre .0, along-earlier (c .before .before .before .before .before .loop .inv .along) (λ z. omega (arith, c .before .before .before .if1 .taken))), stepping-branch (c .before .before .before .before .before .loop .inv) (λ z. omega (arith, c .before .before .before .if1 .taken)) (c .before .before .before .before .before .before .before .before .before .before .before .before .before .before .before .pre .1)))
+    (λ c κs. (omega (arith, c .before .before .before .before .before .before .before .before .before .before .before .before .before .before .before .before .pre .0, along-earlier (c .before .before .before .before .before .before .loop .inv .along) (λ z. omega (arith, c .before .before .before .before .if1 .taken))), rw tail-is (stepping-branch (c .before .before .before .before .before .before .loop .inv) (λ z. omega (arith, c .before .before .before .before .if1 .taken)) (c .before .before .before .before .before .before .before .before .before .before .before .before .before .before .before .before .pre .1))))
     {- element-copy-out-if2 -}
     (λ c. search needs)
     {- same-length -}
-    (λ c. c .before .before .before .before .before .flat .given ∙ c .before .before .before .before .before .before .before .before .before .before .before .before .loop .inv .along .left .flat-size)
+    (λ c. c .before .before .before .before .before .flat .given ∙ c .before .before .before .before .before .before .before .before .before .before .before .before .before .loop .inv .along .left .flat-size)
     {- same-length-2 -}
-    (λ c. c .before .before .before .out .given ∙ c .before .before .before .before .before .before .before .before .before .before .before .before .loop .inv .along .left .out-size)
+    (λ c. c .before .before .before .out .given ∙ c .before .before .before .before .before .before .before .before .before .before .before .before .before .loop .inv .along .left .out-size)
     {- returns -}
-    (λ c. stepping-spent (c .before .before .before .before .before .before .before .before .before .before .before .before .loop .inv) (λ z. omega (arith, c .before .before .before .before .before .before .before .before .before .before .if1 .taken)) (c .before .before .before .before .before .before .list-branch .ensures) (c .before .before .before .before .before .flat .given) (c .before .before .before .out .given) (c .if2 .taken))
+    (λ c. stepping-spent (c .before .before .before .before .before .before .before .before .before .before .before .before .before .loop .inv) (λ z. omega (arith, c .before .before .before .before .before .before .before .before .before .before .before .if1 .taken)) (rw tail-is at (c .before .before .before .before .before .before .list-branch .ensures)) (c .before .before .before .before .before .flat .given) (c .before .before .before .out .given) (c .if2 .taken))
     {- sub-next-match -}
     (λ c. search needs)
     {- part-next-match-start -}
     (λ c. search needs)
     {- part-next-match-end -}
-    (λ c. omega (arith, c .before .before .before .before .before .before .before .before .before .before .before .before .before .before .before .before .before .before .before .before .before .before .pre .1 .place-ok .len-inside))
+    (λ c. omega (arith, c .before .before .before .before .before .before .before .before .before .before .before .before .before .before .before .before .before .before .before .before .before .before .before .pre .1 .place-ok .len-inside))
     {- next-match-requires -}
-    (λ c κs. (any-tree (c .before .before .before .before .before .before .before .before .before .before .before .before .before .before .before .before .before .before .before .before .before .before .before .before .pre .1 .can .tree-at), (along-tree (c .before .before .before .before .before .before .before .before .before .before .before .before .before .before .loop .inv .along) (λ z. omega (arith, c .before .before .before .before .before .before .before .before .before .before .before .before .if1 .taken)), (rw front-is (along-begins (c .before .before .before .before .before .before .before .before .before .before .before .before .before .before .loop .inv .along) (λ z. omega (arith, c .before .before .before .before .before .before .before .before .before .before .before .before .if1 .taken))), rw front-is (c .before .before .before .before .before .before .before .before .before .before .before .before .before .before .loop .inv .noted (λ z. omega (arith, c .before .before .before .before .before .before .before .before .before .before .before .before .if1 .taken)))))))
+    (λ c κs. (any-tree (c .before .before .before .before .before .before .before .before .before .before .before .before .before .before .before .before .before .before .before .before .before .before .before .before .before .pre .1 .can .tree-at), (along-tree (c .before .before .before .before .before .before .before .before .before .before .before .before .before .before .before .loop .inv .along) (λ z. omega (arith, c .before .before .before .before .before .before .before .before .before .before .before .before .before .if1 .taken)), (rw front-is (along-begins (c .before .before .before .before .before .before .before .before .before .before .before .before .before .before .before .loop .inv .along) (λ z. omega (arith, c .before .before .before .before .before .before .before .before .before .before .before .before .before .if1 .taken))), rw front-is (c .before .before .before .before .before .before .before .before .before .before .before .before .before .before .before .loop .inv .noted (λ z. omega (arith, c .before .before .before .before .before .before .before .before .before .before .before .before .before .if1 .taken)))))))
     {- loop-less -}
-    (λ c. stepping-less (c .before .before .before .before .before .before .before .before .before .before .before .before .before .before .before .loop .inv) (λ z. omega (arith, c .before .before .before .before .before .before .before .before .before .before .before .before .before .if1 .taken)) (c .before .before .before .before .before .before .before .before .before .list-branch .ensures) (c .before .before .before .before .before .before .before .before .flat .given) (c .before .before .before .before .before .before .out .given) (rw front-is at (c .next-match .ensures)))
+    (λ c. stepping-less (c .before .before .before .before .before .before .before .before .before .before .before .before .before .before .before .before .loop .inv) (λ z. omega (arith, c .before .before .before .before .before .before .before .before .before .before .before .before .before .before .if1 .taken)) (rw tail-is at (c .before .before .before .before .before .before .before .before .before .list-branch .ensures)) (c .before .before .before .before .before .before .before .before .flat .given) (c .before .before .before .before .before .before .out .given) (rw front-is at (c .next-match .ensures)))
     {- loop-again -}
-    (λ c. stepping-next (c .before .before .before .before .before .before .before .before .before .before .before .before .before .before .before .loop .inv) (λ z. omega (arith, c .before .before .before .before .before .before .before .before .before .before .before .before .before .if1 .taken)) (c .before .before .before .before .before .before .before .before .before .list-branch .ensures) (c .before .before .before .before .before .before .before .before .flat .given) (c .before .before .before .before .before .before .out .given) (rw front-is at (c .next-match .ensures)))
+    (λ c. stepping-next (c .before .before .before .before .before .before .before .before .before .before .before .before .before .before .before .before .loop .inv) (λ z. omega (arith, c .before .before .before .before .before .before .before .before .before .before .before .before .before .before .if1 .taken)) (rw tail-is at (c .before .before .before .before .before .before .before .before .before .list-branch .ensures)) (c .before .before .before .before .before .before .before .before .flat .given) (c .before .before .before .before .before .before .out .given) (rw front-is at (c .next-match .ensures)))
     {- same-length-3 -}
     (λ c. c .before .before .loop .inv .along .left .flat-size)
     {- same-length-4 -}
