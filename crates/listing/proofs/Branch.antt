@@ -65,7 +65,10 @@ leaf-runs {ws} {txt} {rest} {ask} {leaf} {f} {run} {run′} {flat} {flat′} {ou
     go : (z : Bool) → z ≡ true
         → BranchRuns ws txt ask rest (path-in run) (limits-in run) (matched-in run) (tally-in run) (tally-in run′) flat flat′ out out′ z (f .link) (f .label)
     go false e = absurd (true≢false (sym e))
-    go true e = record { goes = λ path x o n on st sh dp. l .goes path x o on sh (st (x .0) (shown-prefix ws txt (asked ask) bind o (f .link) (f .label) x sh) .length-is) }
+    go true e = record {
+      goes = λ path x o n on st sh dp.
+          l .goes path x o on sh (st (x .0) (shown-prefix ws txt (asked ask) bind o (f .link) (f .label) x sh) .length-is);
+    }
 
 module _ {ws txt : List ℕ} {ask : Ask} {rest : Str} {p : Path} {lim : Limits} where
   module _ {leaf : Bool} {branch label : ℕ} (r : BranchReady ws txt ask rest p lim leaf branch label) where
@@ -129,7 +132,8 @@ line-ready r e = record {
 }
 
 -- A namespace is entered, listed and left.
-module _ {ws txt : List ℕ} {rest : Str} {ask : Ask} {f : Found} {run run₁ : List ℕ} {child : ℕ} (r : BranchAsked ws txt rest ask false run f) (d : Entered ws f run run₁)
+module _ {ws txt : List ℕ} {rest : Str} {ask : Ask} {f : Found} {run run₁ : List ℕ} {child : ℕ}
+    (r : BranchAsked ws txt rest ask false run f) (d : Entered ws f run run₁)
     (c : child ≡ trie-link (record-at ws (f .link))) where
   pub namespace-ready : TrieAsked ws txt rest ask run₁ child
   namespace-ready = record {

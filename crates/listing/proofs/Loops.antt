@@ -195,9 +195,14 @@ module _ {ws txt : List ℕ} {query : Str} {place : Place} {f : Found} {run : Li
 
     module _ (n : s .link ≡ 0 → ⊥) where
       pub stepping-branch : TreeAsked ws txt query place run f → BranchAsked ws txt (drop (place .next) query) (place .ask) (place .leaf) run′ at-hand
-      stepping-branch r = record { fits = omega (arith, g .same .matched-same, r .place-ok .fits); can = branch-ready-at (g .same .path) (along-branch (g .along) n (r .can)) }
+      stepping-branch r = record {
+        can = branch-ready-at (g .same .path) (along-branch (g .along) n (r .can));
+        fits = omega (arith, g .same .matched-same, r .place-ok .fits);
+      }
 
-      module _ {run″ flat″ out″ : List ℕ} (b : BranchListed ws txt (drop (place .next) query) (place .ask) (place .leaf) run′ run″ flat′ flat″ out′ out″ at-hand) (lf : length flat″ ≡ length flat′) (lo : length out″ ≡ length out′) where
+      module _ {run″ flat″ out″ : List ℕ}
+          (b : BranchListed ws txt (drop (place .next) query) (place .ask) (place .leaf) run′ run″ flat′ flat″ out′ out″ at-hand)
+          (lf : length flat″ ≡ length flat′) (lo : length out″ ≡ length out′) where
         pub stepping-spent : getD run 22 0 < getD run″ 19 0 → TreeListed ws txt query place run run″ flat flat″ out out″ f
         stepping-spent k = record {
           same = same-then (g .same) (b .same);
@@ -352,7 +357,9 @@ module _ {ws txt : List ℕ} {query : Str} {place : Place} {x : ℕ} {run : List
               });
             }
 
-        module _ {run″ flat″ out″ : List ℕ} (b : BranchListed ws txt (drop (place .next) query) (place .ask) (place .leaf) run′ run″ flat′ flat″ out′ out″ given) (lf : length flat″ ≡ length flat′) (lo : length out″ ≡ length out′) where
+        module _ {run″ flat″ out″ : List ℕ}
+            (b : BranchListed ws txt (drop (place .next) query) (place .ask) (place .leaf) run′ run″ flat′ flat″ out′ out″ given)
+            (lf : length flat″ ≡ length flat′) (lo : length out″ ≡ length out′) where
           pub merging-next : Merging ws txt query place x run run″ flat flat″ out out″ (s .m)
           merging-next =
               let k = gives-more (g .gives) f n in

@@ -204,7 +204,7 @@ fn list_names(
 }
 
 // The source's trie_find_prefix': the trie is entered, then its bindings, where at most one segment is left, and its namespaces.
-// Once lines or bytes are past the limits only the tries entered are counted.
+// Once lines or bytes are past the limits only the tries entered are counted. Leaves the match length of its own lists in the run.
 pub fn list_trie(
     words: &[u32],
     text: &[u8],
