@@ -26,125 +26,6 @@ Inv-loop2 child₀ next₀ words text heads n i stack₀ at r₀ child next stac
 abbrev μ-loop2 : tie.MeasureT-loop2
 μ-loop2 child₀ next₀ words text heads n i stack₀ at r₀ child next stack r = siblings 96 next stack
 
-loop-holds : tie.Need-loop-holds Inv-loop μ-loop Inv-loop2 μ-loop2
-loop-holds c = none-paired
-
-element-copy-out-k : tie.Need-element-copy-out-k Inv-loop μ-loop Inv-loop2 μ-loop2
-element-copy-out-k c =
-    let s = c .before .before .before .before in
-    let f = s .pre .0 .few in
-    let w = c .before .loop .inv (s .pre .1 .0) (s .pre .1 .1) in
-    omega (arith, inside f (w .rest) (c .loop-test .taken))
-
-cast-k : tie.Need-cast-k Inv-loop μ-loop Inv-loop2 μ-loop2
-cast-k c =
-    let s = c .before .before .before .before .before in
-    let f = s .pre .0 .few in
-    let w = c .before .before .loop .inv (s .pre .1 .0) (s .pre .1 .1) in
-    omega (arith, small f (after f (w .rest) (c .before .loop-test .taken)))
-
-cast-next : tie.Need-cast-next Inv-loop μ-loop Inv-loop2 μ-loop2
-cast-next c =
-    let s = c .before .before .before .before .before .before in
-    let f = s .pre .0 .few in
-    let w = c .before .before .before .loop .inv (s .pre .1 .0) (s .pre .1 .1) in
-    omega (arith, small f (w .stage .done))
-
-element-write-next : tie.Need-element-write-next Inv-loop μ-loop Inv-loop2 μ-loop2
-element-write-next c =
-    let s = c .before .before .before .before .before .before in
-    let f = s .pre .0 .few in
-    let w = c .before .before .before .loop .inv (s .pre .1 .0) (s .pre .1 .1) in
-    omega (arith, inside f (w .rest) (c .before .before .loop-test .taken))
-
-loop-less : tie.Need-loop-less Inv-loop μ-loop Inv-loop2 μ-loop2
-loop-less c = some-siblings _ _ _ (c .before .before .loop-test .taken)
-
-loop-again : tie.Need-loop-again Inv-loop μ-loop Inv-loop2 μ-loop2
-loop-again c = λ hh p. let w = c .before .before .before .loop .inv hh p in odd-one (c .before .before .before .before .before .before .pre .0 .few) (w .rest .0) (w .rest .1) (w .stage) (c .before .before .loop-test .taken) (c .if1 .taken)
-
-element-copy-out-rest : tie.Need-element-copy-out-rest Inv-loop μ-loop Inv-loop2 μ-loop2
-element-copy-out-rest c =
-    let s = c .before .before .before .before .before .before in
-    let f = s .pre .0 .few in
-    let w = c .before .before .before .loop .inv (s .pre .1 .0) (s .pre .1 .1) in
-    omega (arith, inside f (after f (w .rest) (c .before .before .loop-test .taken)) (c .if1 .left))
-
-cast-rest : tie.Need-cast-rest Inv-loop μ-loop Inv-loop2 μ-loop2
-cast-rest c =
-    let s = c .before .before .before .before .before .before .before in
-    let f = s .pre .0 .few in
-    let w = c .before .before .before .before .loop .inv (s .pre .1 .0) (s .pre .1 .1) in
-    omega (arith, small f (after f (after f (w .rest) (c .before .before .before .loop-test .taken)) (c .before .if1 .left)))
-
-heap-merge-requires : tie.Need-heap-merge-requires Inv-loop μ-loop Inv-loop2 μ-loop2
-heap-merge-requires c κs =
-    let s = c .before .before .before .before .before .before .before .before .before in
-    let f = s .pre .0 .few in
-    let w = c .before .before .before .before .before .before .loop .inv (s .pre .1 .0) (s .pre .1 .1) in
-    (s .pre .0, ((λ _. inside f (w .rest) (c .before .before .before .before .before .loop-test .taken)), inside f (after f (w .rest) (c .before .before .before .before .before .loop-test .taken))))
-
-cast-next-2 : tie.Need-cast-next-2 Inv-loop μ-loop Inv-loop2 μ-loop2
-cast-next-2 c =
-    let s = c .before .before .before .before .before .before .before .before .before .before in
-    let f = s .pre .0 .few in
-    let w = c .before .before .before .before .before .before .before .loop .inv (s .pre .1 .0) (s .pre .1 .1) in
-    omega (arith, small f (w .stage .done))
-
-element-write-next-2 : tie.Need-element-write-next-2 Inv-loop μ-loop Inv-loop2 μ-loop2
-element-write-next-2 c =
-    let s = c .before .before .before .before .before .before .before .before .before .before in
-    let f = s .pre .0 .few in
-    let w = c .before .before .before .before .before .before .before .loop .inv (s .pre .1 .0) (s .pre .1 .1) in
-    omega (arith, pair-up f (w .rest .0) (w .rest .1) (w .stage) (c .before .before .before .before .before .before .loop-test .taken) (c .before .before .before .before .if1 .left) (c .heap-merge .ensures) .0)
-
-loop-less-2 : tie.Need-loop-less-2 Inv-loop μ-loop Inv-loop2 μ-loop2
-loop-less-2 c =
-    let s = c .before .before .before .before .before .before .before .before .before .before in
-    let f = s .pre .0 .few in
-    let w = c .before .before .before .before .before .before .before .loop .inv (s .pre .1 .0) (s .pre .1 .1) in
-    pair-up f (w .rest .0) (w .rest .1) (w .stage) (c .before .before .before .before .before .before .loop-test .taken) (c .before .before .before .before .if1 .left) (c .heap-merge .ensures) .2
-
-loop-again-2 : tie.Need-loop-again-2 Inv-loop μ-loop Inv-loop2 μ-loop2
-loop-again-2 c = λ hh p. let w = c .before .before .before .before .before .before .before .loop .inv hh p in pair-up (c .before .before .before .before .before .before .before .before .before .before .pre .0 .few) (w .rest .0) (w .rest .1) (w .stage) (c .before .before .before .before .before .before .loop-test .taken) (c .before .before .before .before .if1 .left) (c .heap-merge .ensures) .1
-
-loop2-holds : tie.Need-loop2-holds Inv-loop μ-loop Inv-loop2 μ-loop2
-loop2-holds c = λ _ _ _ w. w
-
-element-copy-out-below : tie.Need-element-copy-out-below Inv-loop μ-loop Inv-loop2 μ-loop2
-element-copy-out-below c =
-    let s = c .before .before .before .before .before .before in
-    let f = s .pre .0 .few in
-    let v = c .before .loop2 .inv _ _ _ (all-paired f (c .before .before .before .loop .inv (s .pre .1 .0) (s .pre .1 .1)) (c .before .before .loop-test .left)) in
-    omega (arith, inside f (v .stage .done) (c .loop2-test .taken))
-
-cast-below : tie.Need-cast-below Inv-loop μ-loop Inv-loop2 μ-loop2
-cast-below c =
-    let s = c .before .before .before .before .before .before .before in
-    let f = s .pre .0 .few in
-    let v = c .before .before .loop2 .inv _ _ _ (all-paired f (c .before .before .before .before .loop .inv (s .pre .1 .0) (s .pre .1 .1)) (c .before .before .before .loop-test .left)) in
-    omega (arith, small f (after f (v .stage .done) (c .before .loop2-test .taken)))
-
-heap-merge-requires-2 : tie.Need-heap-merge-requires-2 Inv-loop μ-loop Inv-loop2 μ-loop2
-heap-merge-requires-2 c κs =
-    let s = c .before .before .before .before .before .before .before .before .before in
-    let f = s .pre .0 .few in
-    let v = c .before .before .before .before .loop2 .inv _ _ _ (all-paired f (c .before .before .before .before .before .before .loop .inv (s .pre .1 .0) (s .pre .1 .1)) (c .before .before .before .before .before .loop-test .left)) in
-    (s .pre .0, (inside f (v .stage .done), root-in _ _ _ f (v .root)))
-
-loop2-less : tie.Need-loop2-less Inv-loop μ-loop Inv-loop2 μ-loop2
-loop2-less c =
-    let s = c .before .before .before .before .before .before .before .before .before .before in
-    let f = s .pre .0 .few in
-    let v = c .before .before .before .before .before .loop2 .inv _ _ _ (all-paired f (c .before .before .before .before .before .before .before .loop .inv (s .pre .1 .0) (s .pre .1 .1)) (c .before .before .before .before .before .before .loop-test .left)) in
-    merge-on f v (c .before .before .before .before .loop2-test .taken) (c .heap-merge2 .ensures) .1
-
-loop2-again : tie.Need-loop2-again Inv-loop μ-loop Inv-loop2 μ-loop2
-loop2-again c = λ child₁ next₁ all w. merge-on (c .before .before .before .before .before .before .before .before .before .before .pre .0 .few) (c .before .before .before .before .before .loop2 .inv child₁ next₁ all w) (c .before .before .before .before .loop2-test .taken) (c .heap-merge2 .ensures) .0
-
-returns : tie.Need-returns Inv-loop μ-loop Inv-loop2 μ-loop2
-returns c = λ hh p. let f = c .before .before .before .before .before .before .pre .0 .few in all-merged f (c .before .loop2 .inv _ _ _ (all-paired f (c .before .before .before .loop .inv hh p) (c .before .before .loop-test .left))) (c .loop2-test .left)
-
 pub heap-merge-pairs-spec : {M : Type 1} → statement M
 heap-merge-pairs-spec =
     tie.close
@@ -153,24 +34,45 @@ heap-merge-pairs-spec =
     μ-loop
     Inv-loop2
     μ-loop2
-    loop-holds
-    element-copy-out-k
-    cast-k
-    cast-next
-    element-write-next
-    loop-less
-    loop-again
-    element-copy-out-rest
-    cast-rest
-    heap-merge-requires
-    cast-next-2
-    element-write-next-2
-    loop-less-2
-    loop-again-2
-    loop2-holds
-    element-copy-out-below
-    cast-below
-    heap-merge-requires-2
-    loop2-less
-    loop2-again
-    returns)
+    {- loop-holds -}
+    (λ c. none-paired)
+    {- element-copy-out-k -}
+    (λ c. let s = c .before .before .before .before in let f = s .pre .0 .few in let w = c .before .loop .inv (s .pre .1 .0) (s .pre .1 .1) in omega (arith, inside f (w .rest) (c .loop-test .taken)))
+    {- cast-k -}
+    (λ c. let s = c .before .before .before .before .before in let f = s .pre .0 .few in let w = c .before .before .loop .inv (s .pre .1 .0) (s .pre .1 .1) in omega (arith, small f (after f (w .rest) (c .before .loop-test .taken))))
+    {- cast-next -}
+    (λ c. let s = c .before .before .before .before .before .before in let f = s .pre .0 .few in let w = c .before .before .before .loop .inv (s .pre .1 .0) (s .pre .1 .1) in omega (arith, small f (w .stage .done)))
+    {- element-write-next -}
+    (λ c. let s = c .before .before .before .before .before .before in let f = s .pre .0 .few in let w = c .before .before .before .loop .inv (s .pre .1 .0) (s .pre .1 .1) in omega (arith, inside f (w .rest) (c .before .before .loop-test .taken)))
+    {- loop-less -}
+    (λ c. some-siblings _ _ _ (c .before .before .loop-test .taken))
+    {- loop-again -}
+    (λ c hh p. let w = c .before .before .before .loop .inv hh p in odd-one (c .before .before .before .before .before .before .pre .0 .few) (w .rest .0) (w .rest .1) (w .stage) (c .before .before .loop-test .taken) (c .if1 .taken))
+    {- element-copy-out-rest -}
+    (λ c. let s = c .before .before .before .before .before .before in let f = s .pre .0 .few in let w = c .before .before .before .loop .inv (s .pre .1 .0) (s .pre .1 .1) in omega (arith, inside f (after f (w .rest) (c .before .before .loop-test .taken)) (c .if1 .left)))
+    {- cast-rest -}
+    (λ c. let s = c .before .before .before .before .before .before .before in let f = s .pre .0 .few in let w = c .before .before .before .before .loop .inv (s .pre .1 .0) (s .pre .1 .1) in omega (arith, small f (after f (after f (w .rest) (c .before .before .before .loop-test .taken)) (c .before .if1 .left))))
+    {- heap-merge-requires -}
+    (λ c κs. let s = c .before .before .before .before .before .before .before .before .before in let f = s .pre .0 .few in let w = c .before .before .before .before .before .before .loop .inv (s .pre .1 .0) (s .pre .1 .1) in (s .pre .0, ((λ _. inside f (w .rest) (c .before .before .before .before .before .loop-test .taken)), inside f (after f (w .rest) (c .before .before .before .before .before .loop-test .taken)))))
+    {- cast-next-2 -}
+    (λ c. let s = c .before .before .before .before .before .before .before .before .before .before in let f = s .pre .0 .few in let w = c .before .before .before .before .before .before .before .loop .inv (s .pre .1 .0) (s .pre .1 .1) in omega (arith, small f (w .stage .done)))
+    {- element-write-next-2 -}
+    (λ c. let s = c .before .before .before .before .before .before .before .before .before .before in let f = s .pre .0 .few in let w = c .before .before .before .before .before .before .before .loop .inv (s .pre .1 .0) (s .pre .1 .1) in omega (arith, pair-up f (w .rest .0) (w .rest .1) (w .stage) (c .before .before .before .before .before .before .loop-test .taken) (c .before .before .before .before .if1 .left) (c .heap-merge .ensures) .0))
+    {- loop-less-2 -}
+    (λ c. let s = c .before .before .before .before .before .before .before .before .before .before in let f = s .pre .0 .few in let w = c .before .before .before .before .before .before .before .loop .inv (s .pre .1 .0) (s .pre .1 .1) in pair-up f (w .rest .0) (w .rest .1) (w .stage) (c .before .before .before .before .before .before .loop-test .taken) (c .before .before .before .before .if1 .left) (c .heap-merge .ensures) .2)
+    {- loop-again-2 -}
+    (λ c hh p. let w = c .before .before .before .before .before .before .before .loop .inv hh p in pair-up (c .before .before .before .before .before .before .before .before .before .before .pre .0 .few) (w .rest .0) (w .rest .1) (w .stage) (c .before .before .before .before .before .before .loop-test .taken) (c .before .before .before .before .if1 .left) (c .heap-merge .ensures) .1)
+    {- loop2-holds -}
+    (λ c _ _ _ w. w)
+    {- element-copy-out-below -}
+    (λ c. let s = c .before .before .before .before .before .before in let f = s .pre .0 .few in let v = c .before .loop2 .inv _ _ _ (all-paired f (c .before .before .before .loop .inv (s .pre .1 .0) (s .pre .1 .1)) (c .before .before .loop-test .left)) in omega (arith, inside f (v .stage .done) (c .loop2-test .taken)))
+    {- cast-below -}
+    (λ c. let s = c .before .before .before .before .before .before .before in let f = s .pre .0 .few in let v = c .before .before .loop2 .inv _ _ _ (all-paired f (c .before .before .before .before .loop .inv (s .pre .1 .0) (s .pre .1 .1)) (c .before .before .before .loop-test .left)) in omega (arith, small f (after f (v .stage .done) (c .before .loop2-test .taken))))
+    {- heap-merge-requires-2 -}
+    (λ c κs. let s = c .before .before .before .before .before .before .before .before .before in let f = s .pre .0 .few in let v = c .before .before .before .before .loop2 .inv _ _ _ (all-paired f (c .before .before .before .before .before .before .loop .inv (s .pre .1 .0) (s .pre .1 .1)) (c .before .before .before .before .before .loop-test .left)) in (s .pre .0, (inside f (v .stage .done), root-in _ _ _ f (v .root))))
+    {- loop2-less -}
+    (λ c. let s = c .before .before .before .before .before .before .before .before .before .before in let f = s .pre .0 .few in let v = c .before .before .before .before .before .loop2 .inv _ _ _ (all-paired f (c .before .before .before .before .before .before .before .loop .inv (s .pre .1 .0) (s .pre .1 .1)) (c .before .before .before .before .before .before .loop-test .left)) in merge-on f v (c .before .before .before .before .loop2-test .taken) (c .heap-merge2 .ensures) .1)
+    {- loop2-again -}
+    (λ c child₁ next₁ all w. merge-on (c .before .before .before .before .before .before .before .before .before .before .pre .0 .few) (c .before .before .before .before .before .loop2 .inv child₁ next₁ all w) (c .before .before .before .before .loop2-test .taken) (c .heap-merge2 .ensures) .0)
+    {- returns -}
+    (λ c hh p. let f = c .before .before .before .before .before .before .pre .0 .few in all-merged f (c .before .loop2 .inv _ _ _ (all-paired f (c .before .before .before .loop .inv hh p) (c .before .before .loop-test .left))) (c .loop2-test .left)))
