@@ -124,7 +124,8 @@ pub fn heap_insert(
     heap_merge(child, next, words, text, heads, n, v, i)
 }
 
-// heap_merge_pairs, of the heaps of root `i` and of its next siblings.
+// heap_merge_pairs, of the heaps of root `i` and of its next siblings: each two are merged, and what comes of them
+// is put before what came of the ones before, by `next`; then all is merged, the last one first.
 pub fn heap_merge_pairs(
     child: &mut [u8; CELLS],
     next: &mut [u8; CELLS],
@@ -138,17 +139,29 @@ pub fn heap_merge_pairs(
     requires { ⌜ ((hh : Forest ℕ) × Repᶠ n (now child) (now next) i hh) ⌝ }
     ensures { λ r. ⌜ Pairs (cell-cmp (now (words .entry)) (now (text .entry)) (now (heads .entry)) n) n (now (child .entry)) (now (next .entry)) (now (child .exit)) (now (next .exit)) r i ⌝ }
 {
-    if i == CELLS {
-        return CELLS;
+    let mut stack = CELLS;
+    let mut at = i;
+    while at != CELLS {
+        let k = next[at] as usize;
+        if k == CELLS {
+            next[at] = stack as u8;
+            stack = at;
+            at = CELLS;
+        } else {
+            let rest = next[k] as usize;
+            let m = heap_merge(child, next, words, text, heads, n, at, k);
+            next[m] = stack as u8;
+            stack = m;
+            at = rest;
+        }
     }
-    let k = next[i] as usize;
-    if k == CELLS {
-        return i;
+    let mut r = CELLS;
+    while stack != CELLS {
+        let below = next[stack] as usize;
+        r = heap_merge(child, next, words, text, heads, n, stack, r);
+        stack = below;
     }
-    let rest = next[k] as usize;
-    let first = heap_merge(child, next, words, text, heads, n, i, k);
-    let then = heap_merge_pairs(child, next, words, text, heads, n, rest);
-    heap_merge(child, next, words, text, heads, n, first, then)
+    r
 }
 
 // heap_pop, of the heap of root `i`.
