@@ -139,7 +139,7 @@ pub fn answer_lines(
     requires { ⌜ from ≤ length (now input) ⌝ }
     ensures { λ r. ⌜ Talked (now (words .entry)) (now (text .entry)) (now (words .exit)) (now (text .exit)) table (now (input .entry)) from (output (now (flat .entry)) (now (pane .entry))) (now (reply .entry)) (now (reply .exit)) r ⌝ }
 {
-    let size = flat.len() / lines::LINE_BYTES * 40 + pane.len() + 40;
+    let size = flat.len() / output::LINE_BYTES * 40 + pane.len() + 40;
     let mut t = table;
     let mut at = 0;
     let mut i = from;

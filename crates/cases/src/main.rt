@@ -106,7 +106,7 @@ fn listed(
     let l = t.complete(
         words,
         text,
-        lines::Ask::Names,
+        asks::Ask::Names,
         b"Live.off.",
         budget,
         flat,

@@ -20,11 +20,13 @@ use Rattle.source.specs.Forward.{base}
 use Rattle.source.proofs.Paths.{match-length-none}
 use Rattle.memory.specs.Layout.{Item, trieˢ, what}
 use Rattle.memory.proofs.Tries.{trie-shallow}
-use Rattle.lines.specs.Ask.{asked}
-use Rattle.lines.specs.Path.{Path, joined, PathOk, OnPath}
-use Rattle.lines.specs.Output.{line-bytes, Tally, Limits, signed-word, Written, Shows, Past, Small, Fit, Goes}
-use Rattle.lines.specs.Run.{path-in, tally-in, matched-in}
-use Rattle.lines.specs.declared.Ask.{Ask}
+use Rattle.asks.specs.Ask.{asked}
+use Rattle.output.specs.Path.{Path, joined}
+use Rattle.lines.specs.OnPath.{PathOk, OnPath}
+use Rattle.output.specs.Output.{line-bytes, signed-word, Written}
+use Rattle.output.specs.Run.{Tally, Limits, Small, path-in, tally-in, matched-in}
+use Rattle.lines.specs.Goes.{Shows, Past, Fit, Goes}
+use Rattle.asks.specs.declared.Ask.{Ask}
 use Rattle.lines.proofs.Counting.{tally-is, tells-past}
 use Rattle.steps.specs.Steps.{Matching}
 use Rattle.listing.specs.Runs.{trie-gives, TrieReady, TrieRuns, TrieListed}

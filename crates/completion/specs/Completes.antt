@@ -13,9 +13,9 @@ use Rattle.source.specs.Table.{Line}
 use Rattle.source.specs.Calls.{Row, _when_, lowest, Output, output-text, tries-entered}
 use Rattle.source.specs.Forward.{made}
 use Rattle.memory.specs.Layout.{Item, trieˢ, what}
-use Rattle.lines.specs.Ask.{asked, line-for}
-use Rattle.lines.specs.Output.{line-bytes, Written}
-use Rattle.lines.specs.declared.Ask.{Ask}
+use Rattle.asks.specs.Ask.{asked, line-for}
+use Rattle.output.specs.Output.{line-bytes, Written}
+use Rattle.asks.specs.declared.Ask.{Ask}
 use Rattle.completion.specs.declared.Completion.{Completion}
 use Rattle.completion.specs.declared.Completion.the-variants.{Listed, Spent, Lines}
 

@@ -1,5 +1,5 @@
 // Completion on a root of well-formed arguments: rows 9 and 10, counted before anything is written.
-use lines::Ask;
+use asks::Ask;
 ghost use mathlib.Core.Path.{_≡_};
 ghost use mathlib.Core.Bool.{true};
 ghost use Prim.Native.Nat.{_≤_, min};
@@ -8,7 +8,7 @@ ghost use Rattle.source.specs.Limits.{longest-query};
 ghost use Rattle.source.specs.Text.{ends-in-dot};
 ghost use Rattle.memory.specs.Layout.{trieˢ};
 ghost use Rattle.memory.specs.Sound.{At};
-ghost use Rattle.lines.specs.Ask.{asked};
+ghost use Rattle.asks.specs.Ask.{asked};
 ghost use Rattle.completion.specs.Completes.{start-run, CompletesTrie};
 
 // What a completion of well-formed arguments hands back: the lines and the tries entered, or rows 9 and 10.
@@ -29,14 +29,14 @@ fn lent(n: usize) -> usize
 }
 
 // A run at the root: nothing is taken, so much may be, and -1 is the match length, since no element was matched.
-fn start(budget: usize, lines: usize, bytes: usize) -> [usize; lines::RUN]
+fn start(budget: usize, lines: usize, bytes: usize) -> [usize; output::RUN]
     ensures { λ r. ⌜ r ≡ start-run budget lines bytes ⌝ }
 {
-    let mut run = [0; lines::RUN];
-    run[lines::BUDGET] = budget;
-    run[lines::MOST_LINES] = lines;
-    run[lines::MOST_BYTES] = bytes;
-    run[lines::MATCHED] = 4294967295;
+    let mut run = [0; output::RUN];
+    run[output::BUDGET] = budget;
+    run[output::MOST_LINES] = lines;
+    run[output::MOST_BYTES] = bytes;
+    run[output::MATCHED] = 4294967295;
     run
 }
 
@@ -56,7 +56,7 @@ pub fn complete(
     ensures { λ r. ⌜ CompletesTrie (now (words .entry)) (now (text .entry)) ask root (now (query .entry)) budget
         (now (flat .entry)) (now (flat .exit)) (now (out .entry)) (now (out .exit)) r ⌝ }
 {
-    let lines = lent(flat.len() / lines::LINE_BYTES);
+    let lines = lent(flat.len() / output::LINE_BYTES);
     let bytes = lent(out.len());
     let most = budget as usize;
     let mut run = start(most, lines, bytes);
@@ -70,12 +70,12 @@ pub fn complete(
         &mut flat[0..0],
         &mut out[0..0],
     );
-    let entered = run[lines::ENTERED];
+    let entered = run[output::ENTERED];
     if most < entered {
         return Completion::Spent;
     }
-    let count = run[lines::LINES];
-    let size = run[lines::BYTES];
+    let count = run[output::LINES];
+    let size = run[output::BYTES];
     if lines < count {
         return Completion::Lines;
     }

@@ -5,7 +5,7 @@ use mathlib.Core.Bool.{true}
 use mathlib.Core.List.{List}
 use Rattle.source.specs.Text.{Str}
 use Rattle.source.specs.Calls.{Call}
-use Rattle.lines.specs.declared.Ask.{Ask}
+use Rattle.asks.specs.declared.Ask.{Ask}
 use Rattle.table.specs.Header.{IsSound}
 use Rattle.table.specs.Answers.{name-found, Finds}
 use Rattle.table.specs.Completions.{Completes}

@@ -7,9 +7,9 @@ use Rattle.source.specs.Text.{Str}
 use Rattle.source.specs.Calls.{Call}
 use Rattle.memory.specs.Layout.{pick}
 use Rattle.refusals.specs.Refusals.{number}
-use Rattle.lines.specs.declared.Ask.{Ask}
-use Rattle.lines.specs.declared.Ask.the-variants.{Names, Modules}
-use Rattle.lines.specs.declared.Filter.the-variants.{All, Loaded, ModulesOnly, NamespacesOnly}
+use Rattle.asks.specs.declared.Ask.{Ask}
+use Rattle.asks.specs.declared.Ask.the-variants.{Names, Modules}
+use Rattle.asks.specs.declared.Filter.the-variants.{All, Loaded, ModulesOnly, NamespacesOnly}
 use Rattle.table.specs.declared.Table.{Table}
 use Rattle.table.specs.declared.Registered.{Registered}
 use Rattle.table.specs.declared.Registered.the-variants.{Accepted, Refused}

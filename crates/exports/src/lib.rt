@@ -1,7 +1,7 @@
 // Calls for tests and benchmarks outside Rattle: slices pass as a pointer and a length, a table as its four numbers.
 // Each replies what crate table hands back.
-use lines::Ask;
-use lines::Filter;
+use asks::Ask;
+use asks::Filter;
 use memory::Header;
 use numbers::CompleteReply;
 use numbers::NameReply;

@@ -7,7 +7,8 @@ use native.Mathlib.Omega.{arith}
 use lib.Dec.{leb}
 use borrow.Author.Tests.{leb-true, leb-false}
 use Rattle.memory.specs.Sound.{Says}
-use Rattle.lines.specs.Output.{Tally, Limits, Capped, Past}
+use Rattle.output.specs.Run.{Tally, Limits}
+use Rattle.lines.specs.Goes.{Capped, Past}
 
 module _ {limit x a : ℕ} where
   pub capped-more : (n : ℕ) → a ≤ limit → Capped limit x a → Capped limit (x + n) (a + n)

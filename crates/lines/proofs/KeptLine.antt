@@ -1,4 +1,4 @@
--- What a filter keeps, by the sort of the symbol and whether it is loaded.
+-- The line of a symbol that a filter keeps.
 use Prim.Native.Nat.{ℕ}
 use mathlib.Core.Path.{_≡_, refl, sym, ap, _∙_}
 use mathlib.Core.Bool.{Bool, true, false, not}
@@ -6,44 +6,18 @@ use mathlib.Core.List.{List, []}
 use borrow.Author.Tests.{not-true, not-false}
 use Rattle.source.specs.Text.{Str}
 use Rattle.source.specs.Table.{ModSymbol, Module, Namespace, mod-annotation}
-use Rattle.source.specs.Calls as C
-use Rattle.source.specs.Calls.{Loaded, ModulesOnly, NamespacesOnly, keeps}
+use Rattle.source.specs.Calls.{keeps}
 use Rattle.memory.specs.Layout.{record-at, pick, modules}
 use Rattle.memory.specs.Read.{text-of, symbol-in, symbol-of}
 use Rattle.memory.specs.declared.Span.{Span}
 use Rattle.memory.specs.declared.ModSymbol.{ModSymbol as Read}
 use Rattle.memory.specs.declared.ModSymbol.the-variants.{Module as ReadModule, Namespace as ReadNamespace}
 use Rattle.memory.proofs.Seen.{symbol-item}
-use Rattle.lines.specs.Ask.{filter-in}
+use Rattle.asks.specs.Ask.{filter-in}
 use Rattle.lines.specs.Parts.{symbol-at, PutLine, KeptLine}
-use Rattle.lines.specs.declared.Filter.{Filter}
-use Rattle.lines.specs.Output.{Tally}
-use Rattle.lines.specs.Run.{Job}
+use Rattle.asks.specs.declared.Filter.{Filter}
+use Rattle.output.specs.Run.{Tally, Job}
 use Rattle.lines.proofs.Goes.{goes-none}
-
--- ---- What a filter keeps
-
-module _ (m loaded : Bool) (name path : Str) where
-  abbrev kept : C.Filter → Bool
-  kept f = keeps f (pick m (Module name path loaded) (Namespace name loaded))
-
-module _ (loaded : Bool) (name path : Str) where
-  pub keeps-loaded : (m : Bool) → loaded ≡ kept m loaded name path Loaded
-  unfolding keeps
-  keeps-loaded true = refl
-  keeps-loaded false = refl
-
-  pub keeps-modules : (m : Bool) → m ≡ kept m loaded name path ModulesOnly
-  unfolding keeps
-  keeps-modules true = refl
-  keeps-modules false = refl
-
-  pub keeps-namespaces : (m : Bool) → not m ≡ kept m loaded name path NamespacesOnly
-  unfolding keeps
-  keeps-namespaces true = refl
-  keeps-namespaces false = refl
-
--- ---- The line that it keeps
 
 -- The annotation of each sort.
 abbrev pub annotation : (m loaded : Bool) → Str

@@ -1,7 +1,6 @@
 pub mod Goes
 pub mod Run
 pub mod Counting
-pub mod Texts
 mod KeptLine
 mod Notes
 mod TextAt

@@ -21,16 +21,20 @@ use Rattle.memory.specs.Layout.{record-at, pick, Which, names, modules, Item, i
 use Rattle.tree.specs.Tree.{held}
 use Rattle.tree.specs.Links.{row-at}
 use Rattle.names.specs.Entries.{label-at, shown, outer}
-use Rattle.lines.specs.Ask.{filter-in, asked, line-for}
-use Rattle.lines.specs.Path.{Path, BranchAt, OnPath}
+use Rattle.asks.specs.Ask.{filter-in, asked, line-for}
+use Rattle.output.specs.Path.{Path, BranchAt}
+use Rattle.lines.specs.OnPath.{OnPath}
 use Rattle.lines.specs.Lines.{only, Listed}
-use Rattle.lines.specs.Parts.{candidate-of, note-at, outermost, PutLine, KeptLine}
-use Rattle.lines.specs.declared.Filter.{Filter}
-use Rattle.lines.specs.declared.Ask.{Ask}
+use Rattle.output.specs.Parts.{candidate-of}
+use Rattle.lines.specs.Parts.{note-at, outermost, PutLine, KeptLine}
+use Rattle.asks.specs.declared.Filter.{Filter}
+use Rattle.asks.specs.declared.Ask.{Ask}
 use Rattle.lines.specs.declared.Found.{Found}
-use Rattle.lines.specs.declared.Ask.the-variants.{Names, Modules}
-use Rattle.lines.specs.Output.{signed-word, Goes}
-use Rattle.lines.specs.Run.{path-in, tally-in, limits-in, matched-in, job-in, SameRun}
+use Rattle.asks.specs.declared.Ask.the-variants.{Names, Modules}
+use Rattle.output.specs.Output.{signed-word}
+use Rattle.lines.specs.Goes.{Goes}
+use Rattle.output.specs.Run.{path-in, tally-in, limits-in, matched-in, job-in}
+use Rattle.lines.specs.SameRun.{SameRun}
 
 -- What a found element of bindings and its path say of its line.
 record Element (ws txt : List ℕ) (w : Which) (p : Path) (branch label : ℕ) (path : PathOf) (x : PathElem × Value (Item w) bind) : Type 0 where

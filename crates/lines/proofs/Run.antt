@@ -7,8 +7,10 @@ use lib.ListN.{length, getD, set, length-set}
 use lib.Seq.{getD-set-same, getD-set-other}
 use Rattle.source.specs.Listing.{PathOf}
 use Rattle.memory.specs.Layout.{Which}
-use Rattle.lines.specs.Path.{joined, PathOk, OnPath}
-use Rattle.lines.specs.Run.{path-in, tally-in, limits-in, matched-in, SamePath, SameRun}
+use Rattle.output.specs.Path.{joined}
+use Rattle.lines.specs.OnPath.{PathOk, OnPath}
+use Rattle.output.specs.Run.{path-in, tally-in, limits-in, matched-in}
+use Rattle.lines.specs.SameRun.{SamePath, SameRun}
 
 pub same-run : (run : List ℕ) → SameRun run run
 same-run run = record {

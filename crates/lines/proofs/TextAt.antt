@@ -13,11 +13,13 @@ use Rattle.memory.proofs.RecordOk.{branch-at, collection-at}
 use Rattle.memory.proofs.Seen.{link-fits, link-ok}
 use lib.Dec.{eqb}
 use lib.ListN.{length}
-use Rattle.lines.specs.Path.{Path, BranchAt, LabelAt, PathOk}
-use Rattle.lines.specs.Run.{path-in, job-in}
+use Rattle.output.specs.Path.{Path, BranchAt}
+use Rattle.lines.specs.OnPath.{LabelAt, PathOk}
+use Rattle.output.specs.Run.{path-in, job-in}
 use Rattle.lines.specs.Lines.{CanList}
-use Rattle.lines.specs.Parts.{TextAt, PathAt, JobOk, outermost}
-use Rattle.lines.specs.declared.Ask.{Ask}
+use Rattle.output.specs.Parts.{TextAt, PathAt, JobOk}
+use Rattle.lines.specs.Parts.{outermost}
+use Rattle.asks.specs.declared.Ask.{Ask}
 use Rattle.lines.specs.declared.Found.{Found}
 
 module _ {ws txt : List ℕ} {n used x k : ℕ} (o : Used ws txt n used) (i : LinkOk ws (n + 1) x k) (p : 0 < x) where

@@ -1,6 +1,5 @@
-pub mod Ask
-pub mod Path
-pub mod Output
-pub mod Run
+pub mod OnPath
+pub mod Goes
+pub mod SameRun
 pub mod Lines
 pub mod Parts

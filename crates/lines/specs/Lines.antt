@@ -1,7 +1,7 @@
 -- What one line of a listing says.
 use Prim.Native.Nat.{ℕ, _≤_}
 use mathlib.Core.Path.{_≡_}
-use mathlib.Core.List.{List, _∷_, _++_, reverse}
+use mathlib.Core.List.{List, _∷_, reverse}
 use mathlib.Core.Option.{Option}
 use Rattle.source.specs.Text.{Str}
 use Rattle.source.specs.Types.{Value, bind}
@@ -9,22 +9,17 @@ use Rattle.source.specs.Trees.{PathElem}
 use Rattle.source.specs.Listing.{PathOf}
 use Rattle.source.specs.Table.{Line, match-length-of-path}
 use Rattle.source.specs.Forward.{line}
-use Rattle.memory.specs.Layout.{record-at, Which, Item, item-of, key-at}
+use Rattle.memory.specs.Layout.{Item}
 use Rattle.names.specs.Entries.{shown, outer}
-use Rattle.lines.specs.Ask.{asked, line-for}
-use Rattle.lines.specs.Path.{Path, joined, BranchAt, LabelAt, PathOk, OnPath}
-use Rattle.lines.specs.Output.{signed-word, Result, Small, Goes}
-use Rattle.lines.specs.Run.{path-in, tally-in, limits-in, matched-in, SameRun}
-use Rattle.lines.specs.declared.Ask.{Ask}
+use Rattle.asks.specs.Ask.{asked, line-for}
+use Rattle.output.specs.Path.{BranchAt}
+use Rattle.lines.specs.OnPath.{LabelAt, PathOk, OnPath}
+use Rattle.output.specs.Output.{signed-word}
+use Rattle.lines.specs.Goes.{Result, Goes}
+use Rattle.output.specs.Run.{Small, path-in, tally-in, limits-in, matched-in}
+use Rattle.lines.specs.SameRun.{SameRun}
+use Rattle.asks.specs.declared.Ask.{Ask}
 use Rattle.lines.specs.declared.Found.{Found}
-
--- The line of a branch below a path.
-pub record Spells (ws txt : List ℕ) (w : Which) (p : Path) (branch matched : ℕ) (note : Str) (l : Line (Item w)) : Type 0 where
-  pub branch-at : BranchAt ws txt w bind branch
-  pub length-is : l .match-length ≡ signed-word matched
-  pub item-is : l .item-of ≡ item-of w txt (record-at ws branch)
-  pub candidate-is : l .candidate ≡ joined ws txt (p .links) (p .n) ++ key-at ws txt branch
-  pub annotation-is : l .annotation ≡ note
 
 -- Lines alone.
 abbrev pub only : {A : Type 0} → List (Line A) → Result A

@@ -1,79 +1,33 @@
 // One line of a listing: counted, and written where it fits the lent output.
-mod write;
-
+use asks::Ask;
+use asks::Filter;
 use memory::ModSymbol;
+use output::BYTES;
+use output::COUNT;
+use output::LABEL;
+use output::LENGTH;
+use output::LINE_BYTES;
+use output::LINES;
+use output::MOST_BYTES;
+use output::MOST_LINES;
+use output::RUN;
 ghost use mathlib.Core.Path.{_≡_};
 ghost use Prim.Native.Nat.{ℕ, _+_, _<_, _≤_};
 ghost use lib.ListN.{length};
 ghost use Rattle.source.specs.Limits.{longest-full-name, most-used};
-ghost use Rattle.source.specs.Text.{Str};
-ghost use Rattle.source.specs.Table.{Module, Namespace};
-ghost use Rattle.source.specs.Calls as C;
-ghost use Rattle.memory.specs.Layout.{pick};
 ghost use Rattle.memory.specs.Sound.{Says};
-ghost use Rattle.lines.specs.Ask.{filter-in};
-ghost use Rattle.lines.specs.Run.{path-in, tally-in, job-in, SameRun};
-ghost use Rattle.lines.specs.Output.{Capped};
+ghost use Rattle.output.specs.Run.{path-in, tally-in, job-in};
+ghost use Rattle.lines.specs.SameRun.{SameRun};
+ghost use Rattle.lines.specs.Goes.{Capped};
 ghost use Rattle.lines.specs.Lines.{CanList, Listed};
-ghost use Rattle.lines.specs.Parts.{TextAt, JobOk, note-at, outermost, TriedLine, PutLine, KeptLine};
-
-// Words of a line, and its bytes.
-pub const LINE: usize = 12;
-
-pub const LINE_BYTES: usize = 48;
-
-// The filter argument: Loaded is of either sort.
-pub enum Filter {
-    All,
-    Loaded,
-    ModulesOnly,
-    NamespacesOnly,
-}
-
-// What a completion asks: names, or modules and namespaces with a filter.
-pub enum Ask {
-    Names,
-    Modules(Filter),
-}
+ghost use Rattle.output.specs.Parts.{TextAt, JobOk};
+ghost use Rattle.lines.specs.Parts.{note-at, outermost, TriedLine, PutLine, KeptLine};
 
 // A branch or a tree that was found, and the collection of its outermost label, 0 for none.
 pub struct Found {
     pub link: u32,
     pub label: u32,
 }
-
-// A run is lent as numbers. First the links of the path to the trie at hand, branches of namespaces from the root on, 16 at most. Then:
-// how many they are,
-pub const COUNT: usize = 16;
-
-// the bytes of their keys with a dot after each,
-pub const LENGTH: usize = 17;
-
-// the collection of the outermost label of the first, 0 for none;
-pub const LABEL: usize = 18;
-
-// what the completion has taken: tries entered,
-pub const ENTERED: usize = 19;
-
-// lines,
-pub const LINES: usize = 20;
-
-// bytes;
-pub const BYTES: usize = 21;
-
-// what it may take: tries entered,
-pub const BUDGET: usize = 22;
-
-// lines,
-pub const MOST_LINES: usize = 23;
-
-// bytes;
-pub const MOST_BYTES: usize = 24;
-
-// the match length of what is listed, 4294967295 for -1.
-pub const MATCHED: usize = 25;
-
-pub const RUN: usize = 26;
 
 // The sum, where `a` is not past the limit already.
 fn add(a: usize, n: usize, limit: usize) -> usize
@@ -124,7 +78,7 @@ fn try_line(
     if !fits(run[BYTES], size, run[MOST_BYTES], out.len()) {
         return;
     }
-    write::write_line(words, text, branch, note, run, flat, out);
+    output::write_line(words, text, branch, note, run, flat, out);
 }
 
 // Counts the line with the annotation `note`, and writes it where it fits.
@@ -194,18 +148,6 @@ fn name_line(
     put_line(words, text, found.link, note, run, flat, out);
 }
 
-// Whether the filter keeps a symbol: a module where `m`, else a namespace, loaded or not.
-fn keeps(f: Filter, m: bool, loaded: bool) -> bool
-    ensures { λ r. ⌜ ((name path : Str) → r ≡ C.keeps (filter-in f) (pick m (Module name path loaded) (Namespace name loaded))) ⌝ }
-{
-    match f {
-        Filter::All => true,
-        Filter::Loaded => loaded,
-        Filter::ModulesOnly => m,
-        Filter::NamespacesOnly => !m,
-    }
-}
-
 // The line of a module or namespace that the filter keeps.
 fn module_line(
     words: &[u32],
@@ -224,7 +166,7 @@ fn module_line(
     let symbol = memory::symbol_of(words, branch);
     match symbol {
         ModSymbol::Module(_, _, loaded) => {
-            if !keeps(f, true, loaded) {
+            if !asks::keeps(f, true, loaded) {
                 return;
             }
             if loaded {
@@ -234,7 +176,7 @@ fn module_line(
             put_line(words, text, branch, b"(mod)", run, flat, out);
         }
         ModSymbol::Namespace(_, loaded) => {
-            if !keeps(f, false, loaded) {
+            if !asks::keeps(f, false, loaded) {
                 return;
             }
             if loaded {

@@ -18,13 +18,14 @@ use Rattle.memory.proofs.Seen.{link-ok}
 use Rattle.tree.specs.Tree.{held}
 use Rattle.tree.specs.Links.{row-at}
 use Rattle.names.specs.Entries.{shown, outer}
-use Rattle.lines.specs.Ask.{asked}
-use Rattle.lines.specs.Path.{Path, BranchAt, LabelAt}
-use Rattle.lines.specs.Output.{Tally, Limits}
-use Rattle.lines.specs.Run.{path-in, tally-in, limits-in, matched-in, SamePath}
+use Rattle.asks.specs.Ask.{asked}
+use Rattle.output.specs.Path.{Path, BranchAt}
+use Rattle.lines.specs.OnPath.{LabelAt}
+use Rattle.output.specs.Run.{Tally, Limits, path-in, tally-in, limits-in, matched-in}
+use Rattle.lines.specs.SameRun.{SamePath}
 use Rattle.lines.proofs.Run.{path-then, path-matched, tally-matched, tally-after, limits-after}
 use Rattle.lines.specs.Lines.{CanList, Listed}
-use Rattle.lines.specs.declared.Ask.{Ask}
+use Rattle.asks.specs.declared.Ask.{Ask}
 use Rattle.lines.specs.declared.Found.{Found}
 use Rattle.steps.specs.Steps.{PathDown, Entered, PathSet}
 use Rattle.listing.specs.Runs.{level-of, BranchReady, BranchRuns, TrieReady, TrieRuns, BranchAsked, BranchListed, TrieAsked, TrieListed}

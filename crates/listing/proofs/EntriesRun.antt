@@ -13,10 +13,12 @@ use Rattle.source.specs.Listing.{PathOf}
 use Rattle.source.specs.Shared.{Allˡ}
 use Rattle.memory.specs.Layout.{Item}
 use Rattle.names.specs.Entries.{Entry, shown, outer}
-use Rattle.lines.specs.Ask.{asked}
-use Rattle.lines.specs.Path.{Path, OnPath}
-use Rattle.lines.specs.Output.{Tally, Limits, Goes}
-use Rattle.lines.specs.declared.Ask.{Ask}
+use Rattle.asks.specs.Ask.{asked}
+use Rattle.output.specs.Path.{Path}
+use Rattle.lines.specs.OnPath.{OnPath}
+use Rattle.output.specs.Run.{Tally, Limits}
+use Rattle.lines.specs.Goes.{Goes}
+use Rattle.asks.specs.declared.Ask.{Ask}
 use Rattle.lines.proofs.Goes.{goes-none, goes-then, goes-spent}
 use Rattle.steps.specs.Steps.{Steps}
 use Rattle.listing.specs.Runs.{HasRoom, level-of, elements-give, BranchRuns, EntriesRun}

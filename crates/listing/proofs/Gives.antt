@@ -13,9 +13,9 @@ use Rattle.source.specs.Forward.{found}
 use Rattle.source.specs.Forward.{line, made}
 use Rattle.source.proofs.Lines.{made-is, entered-is}
 use Rattle.memory.specs.Layout.{Item}
-use Rattle.lines.specs.Ask.{asked, line-for}
-use Rattle.lines.specs.Output.{Result, _⊕_}
-use Rattle.lines.specs.declared.Ask.{Ask}
+use Rattle.asks.specs.Ask.{asked, line-for}
+use Rattle.lines.specs.Goes.{Result, _⊕_}
+use Rattle.asks.specs.declared.Ask.{Ask}
 use Rattle.listing.specs.Runs.{trie-gives, elements-give}
 
 -- One trie entered, with no line.

@@ -35,11 +35,12 @@ use Rattle.merge.specs.Stream as M
 use Rattle.merge.specs.Stream.{Merge, Step, later, left-in, AnyRest, Starts, Gives, OneTree}
 use Rattle.merge.proofs.Cells.{later-end, later-next}
 use Rattle.merge.proofs.Rest.{rest-any, gives-end, gives-more}
-use Rattle.lines.specs.Output.{Tally, Limits}
-use Rattle.lines.specs.Ask.{asked}
-use Rattle.lines.specs.Path.{Path, BranchAt, LabelAt}
-use Rattle.lines.specs.Run.{path-in, tally-in, limits-in, matched-in, SameRun}
-use Rattle.lines.specs.declared.Ask.{Ask}
+use Rattle.output.specs.Run.{Tally, Limits, path-in, tally-in, limits-in, matched-in}
+use Rattle.asks.specs.Ask.{asked}
+use Rattle.output.specs.Path.{Path, BranchAt}
+use Rattle.lines.specs.OnPath.{LabelAt}
+use Rattle.lines.specs.SameRun.{SameRun}
+use Rattle.asks.specs.declared.Ask.{Ask}
 use Rattle.lines.specs.declared.Found.{Found}
 use Rattle.lines.proofs.Run.{same-run, same-then}
 use Rattle.listing.specs.Runs.{HasRoom, level-of, tree-entries, BranchReady, BranchRuns, TreeReady, EntriesRun, ListReady, ListRuns, BranchAsked, BranchListed, TreeAsked, TreeListed, ListAsked, ListListed}

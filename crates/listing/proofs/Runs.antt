@@ -5,9 +5,9 @@ use mathlib.Core.Bool.{Bool}
 use mathlib.Core.List.{List}
 use native.Mathlib.Omega.{arith}
 use Rattle.source.specs.Text.{Str}
-use Rattle.lines.specs.Output.{Tally}
-use Rattle.lines.specs.Run.{path-in, limits-in, matched-in, SamePath, SameRun}
-use Rattle.lines.specs.declared.Ask.{Ask}
+use Rattle.output.specs.Run.{Tally, path-in, limits-in, matched-in}
+use Rattle.lines.specs.SameRun.{SamePath, SameRun}
+use Rattle.asks.specs.declared.Ask.{Ask}
 use Rattle.lines.proofs.Run.{path-ok-at, on-path-at}
 use Rattle.listing.specs.declared.Place.{Place}
 use Rattle.listing.specs.Runs.{PlaceOk, RunReady, BranchReady, BranchRuns, ListReady, ListRuns}

@@ -20,13 +20,16 @@ use Rattle.memory.specs.Layout.{Which, Item, list, trieˢ, what}
 use Rattle.memory.specs.Read.{ReadTrie}
 use Rattle.memory.specs.declared.Trie.{Trie}
 use Rattle.memory.proofs.Tries.{lists-seen, bindings-at, namespaces-at, bindings-read, namespaces-read}
-use Rattle.lines.specs.Ask.{asked}
-use Rattle.lines.specs.Path.{Path, OnPath}
-use Rattle.lines.specs.Output.{Tally, Limits, Result, Past, Shows, Goes}
-use Rattle.lines.specs.Run.{path-in, tally-in, limits-in, matched-in, SamePath, SameRun}
-use Rattle.lines.specs.declared.Ask.{Ask}
+use Rattle.asks.specs.Ask.{asked}
+use Rattle.output.specs.Path.{Path}
+use Rattle.lines.specs.OnPath.{OnPath}
+use Rattle.output.specs.Run.{Tally, Limits, path-in, tally-in, limits-in, matched-in}
+use Rattle.lines.specs.Goes.{Result, Past, Shows, Goes}
+use Rattle.lines.specs.SameRun.{SamePath, SameRun}
+use Rattle.asks.specs.declared.Ask.{Ask}
 use Rattle.lines.proofs.Run.{path-then, same-set, tally-entered, run-inside, path-inside, tally-inside, matched-inside}
-use Rattle.lines.proofs.Goes.{written-none, goes-none, goes-then, goes-past}
+use Rattle.output.proofs.Written.{written-none}
+use Rattle.lines.proofs.Goes.{goes-none, goes-then, goes-past}
 use Rattle.steps.specs.Steps.{Matching, Cuts}
 use Rattle.listing.specs.Runs.{trie-gives, elements-give, RunReady, ListReady, ListRuns, TrieReady, TrieRuns, PlaceOk, ListAsked, ListListed, TrieAsked, TrieListed}
 use Rattle.listing.specs.declared.Place.{Place}

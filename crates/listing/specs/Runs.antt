@@ -19,12 +19,14 @@ use Rattle.memory.specs.Layout.{pick, Item, tree, list, trieˢ, what}
 use Rattle.tree.specs.Tree.{held}
 use Rattle.tree.specs.Links.{matches}
 use Rattle.names.specs.Entries.{Entry, shown, outer, Asks}
-use Rattle.lines.specs.Ask.{asked, line-for}
-use Rattle.lines.specs.Path.{Path, BranchAt, LabelAt, PathOk, OnPath}
-use Rattle.lines.specs.Output.{Result, Tally, Limits, _⊕_, Small, Goes}
+use Rattle.asks.specs.Ask.{asked, line-for}
+use Rattle.output.specs.Path.{Path, BranchAt}
+use Rattle.lines.specs.OnPath.{LabelAt, PathOk, OnPath}
+use Rattle.lines.specs.Goes.{Result, _⊕_, Goes}
+use Rattle.output.specs.Run.{Tally, Limits, Small, path-in, tally-in, limits-in, matched-in}
 use Rattle.lines.specs.Lines.{only}
-use Rattle.lines.specs.Run.{path-in, tally-in, limits-in, matched-in, SamePath, SameRun}
-use Rattle.lines.specs.declared.Ask.{Ask}
+use Rattle.lines.specs.SameRun.{SamePath, SameRun}
+use Rattle.asks.specs.declared.Ask.{Ask}
 use Rattle.lines.specs.declared.Found.{Found}
 use Rattle.steps.specs.Steps.{Matching, Steps}
 use Rattle.listing.specs.declared.Place.{Place}

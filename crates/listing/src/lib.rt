@@ -1,7 +1,7 @@
 // The listing of a trie: bindings ascending, then each namespace ascending with its own listing.
 // One run serves counting and writing: a line is written where it fits what is lent, and counting lends nothing.
 // The calls go no deeper than six to a trie, and tries no deeper than 17.
-use lines::Ask;
+use asks::Ask;
 use lines::Found;
 use merge::Turn;
 ghost use mathlib.Core.Bool.{true, false};
@@ -23,7 +23,7 @@ fn list_below(
     rest: &[u8],
     ask: Ask,
     found: Found,
-    run: &mut [usize; lines::RUN],
+    run: &mut [usize; output::RUN],
     flat: &mut [u8],
     out: &mut [u8],
 )
@@ -32,14 +32,14 @@ fn list_below(
         (now (run .entry)) (now (run .exit)) (now (flat .entry)) (now (flat .exit)) (now (out .entry)) (now (out .exit)) found ⌝ }
 {
     let child = memory::held_of(words, found.link);
-    let n = run[lines::COUNT];
-    let len = run[lines::LENGTH];
-    let label = run[lines::LABEL];
-    let matched = run[lines::MATCHED];
+    let n = run[output::COUNT];
+    let len = run[output::LENGTH];
+    let label = run[output::LABEL];
+    let matched = run[output::MATCHED];
     steps::enter(words, found, run);
     list_trie(words, text, rest, ask, child, run, flat, out);
     steps::set_path(run, n, len, label);
-    run[lines::MATCHED] = matched;
+    run[output::MATCHED] = matched;
 }
 
 // What a found branch gives: the line of a branch of bindings, the listing of a namespace. So small that the loops take it in.
@@ -49,7 +49,7 @@ fn list_branch(
     rest: &[u8],
     place: Place,
     found: Found,
-    run: &mut [usize; lines::RUN],
+    run: &mut [usize; output::RUN],
     flat: &mut [u8],
     out: &mut [u8],
 )
@@ -72,7 +72,7 @@ fn list_tree(
     query: &[u8],
     place: Place,
     found: Found,
-    run: &mut [usize; lines::RUN],
+    run: &mut [usize; output::RUN],
     flat: &mut [u8],
     out: &mut [u8],
 )
@@ -80,7 +80,7 @@ fn list_tree(
     ensures { λ _. ⌜ TreeListed (now (words .entry)) (now (text .entry)) (now (query .entry)) place (now (run .entry)) (now (run .exit))
         (now (flat .entry)) (now (flat .exit)) (now (out .entry)) (now (out .exit)) found ⌝ }
 {
-    let budget = run[lines::BUDGET];
+    let budget = run[output::BUDGET];
     let len = place.len;
     let rest = place.next;
     let root = found.link;
@@ -93,7 +93,7 @@ fn list_tree(
             label: found.label,
         };
         list_branch(words, text, &query[rest..], place, here, run, flat, out);
-        if budget < run[lines::ENTERED] {
+        if budget < run[output::ENTERED] {
             return;
         }
         step = matches::next_match(words, text, root, &query[0..len], at, &mut notes, step.n);
@@ -108,7 +108,7 @@ fn list_merged(
     query: &[u8],
     place: Place,
     list: u32,
-    run: &mut [usize; lines::RUN],
+    run: &mut [usize; output::RUN],
     flat: &mut [u8],
     out: &mut [u8],
 )
@@ -116,7 +116,7 @@ fn list_merged(
     ensures { λ _. ⌜ ListListed (now (words .entry)) (now (text .entry)) (now (query .entry)) place (now (run .entry)) (now (run .exit))
         (now (flat .entry)) (now (flat .exit)) (now (out .entry)) (now (out .exit)) list ⌝ }
 {
-    let budget = run[lines::BUDGET];
+    let budget = run[output::BUDGET];
     let len = place.len;
     let rest = place.next;
     let mut roots = [0; merge::CELLS];
@@ -168,7 +168,7 @@ fn list_merged(
             label: labels[cell],
         };
         list_branch(words, text, &query[rest..], place, here, run, flat, out);
-        if budget < run[lines::ENTERED] {
+        if budget < run[output::ENTERED] {
             return;
         }
         turn.root = t.root;
@@ -183,7 +183,7 @@ fn list_names(
     query: &[u8],
     place: Place,
     list: u32,
-    run: &mut [usize; lines::RUN],
+    run: &mut [usize; output::RUN],
     flat: &mut [u8],
     out: &mut [u8],
 )
@@ -211,7 +211,7 @@ pub fn list_trie(
     query: &[u8],
     ask: Ask,
     trie: u32,
-    run: &mut [usize; lines::RUN],
+    run: &mut [usize; output::RUN],
     flat: &mut [u8],
     out: &mut [u8],
 )
@@ -219,18 +219,18 @@ pub fn list_trie(
     ensures { λ _. ⌜ TrieListed (now (words .entry)) (now (text .entry)) (now (query .entry)) ask (now (run .entry)) (now (run .exit))
         (now (flat .entry)) (now (flat .exit)) (now (out .entry)) (now (out .exit)) trie ⌝ }
 {
-    let budget = run[lines::BUDGET];
-    let before = run[lines::ENTERED];
-    let base = run[lines::LENGTH];
+    let budget = run[output::BUDGET];
+    let before = run[output::ENTERED];
+    let base = run[output::LENGTH];
     if budget <= before {
-        run[lines::ENTERED] = budget + 1;
+        run[output::ENTERED] = budget + 1;
         return;
     }
     let t = memory::trie_of(words, trie);
-    let c = steps::cut_query(query, base, run[lines::MATCHED]);
+    let c = steps::cut_query(query, base, run[output::MATCHED]);
     let skip = steps::skips_bindings(run, query.len(), c.next);
-    run[lines::ENTERED] = before + 1;
-    run[lines::MATCHED] = c.matched;
+    run[output::ENTERED] = before + 1;
+    run[output::MATCHED] = c.matched;
     let len = c.len;
     let next = c.next;
     let namespaces = Place {

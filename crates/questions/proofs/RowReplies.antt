@@ -13,8 +13,7 @@ use Rattle.text.specs.Laid.{Laid}
 use Rattle.text.proofs.Laid.{laid-none, laid-more}
 use Rattle.numerals.specs.Bytes.{Str, _·_}
 use Rattle.replies.specs.Replies.{length-in, reply-room}
-use Rattle.lines.specs.Output.{signed-word, matched-word, candidate-start, candidate-len, annotation-start, annotation-len}
-use Rattle.lines.specs.Output.{candidate-start, candidate-len, annotation-start, annotation-len}
+use Rattle.output.specs.Output.{signed-word, matched-word, candidate-start, candidate-len, annotation-start, annotation-len}
 use Rattle.rows.specs.Rows.{words-at, words-from, item-in, row-in, line-seen, TextsIn}
 use Rattle.rows.proofs.Rows.{span-length}
 use Rattle.questions.specs.Questions.{item-reply, line-text, lines-text}

@@ -12,8 +12,8 @@ use Rattle.memory.specs.Layout.{Item}
 use Rattle.text.proofs.Laid.{laid-length}
 use Rattle.numerals.specs.Bytes.{Str, _·_}
 use Rattle.replies.specs.Replies.{refused-reply, end-reply}
-use Rattle.lines.specs.Ask.{asked}
-use Rattle.lines.specs.declared.Ask.{Ask}
+use Rattle.asks.specs.Ask.{asked}
+use Rattle.asks.specs.declared.Ask.{Ask}
 use Rattle.rows.specs.Rows.{words-from, line-seen}
 use Rattle.rows.proofs.Written.{written-lines, written-texts}
 use Rattle.completion.specs.Completes.{output}

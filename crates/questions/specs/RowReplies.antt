@@ -10,7 +10,7 @@ use Rattle.numerals.specs.Bytes.{Str, _·_}
 use Rattle.replies.specs.declared.ItemReply.{ItemReply}
 use Rattle.replies.specs.declared.ItemReply.the-variants.{Number, Module, Namespace}
 use Rattle.replies.specs.Replies.{length-in, refused-reply, line-reply, end-reply, reply-room}
-use Rattle.lines.specs.Output.{line-bytes}
+use Rattle.output.specs.Output.{line-bytes}
 use Rattle.rows.specs.Rows.{words-from, row-in, TextsIn}
 use Rattle.rows.specs.declared.RowItem.{RowItem}
 use Rattle.rows.specs.declared.RowItem.the-variants.{Name, Symbol}

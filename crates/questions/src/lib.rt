@@ -12,7 +12,7 @@ ghost use Prim.Native.Nat.{_+_, _≤_};
 ghost use lib.ListN.{length};
 ghost use Rattle.text.specs.Laid.{Laid};
 ghost use Rattle.replies.specs.Replies.{reply-room};
-ghost use Rattle.lines.specs.Ask.{asked};
+ghost use Rattle.asks.specs.Ask.{asked};
 ghost use Rattle.rows.specs.Rows.{TextsIn, words-from};
 ghost use Rattle.completion.specs.Completes.{output};
 ghost use Rattle.table.specs.Header.{IsSound, table-in};
@@ -73,7 +73,7 @@ fn put_row(row: Row, pane: &[u8], reply: &mut [u8], at: usize) -> usize
 fn put_rows(
     flat: &[u8],
     pane: &[u8],
-    ask: lines::Ask,
+    ask: asks::Ask,
     n: usize,
     reply: &mut [u8],
     at: usize,
@@ -96,7 +96,7 @@ fn put_rows(
 fn put_completed(
     flat: &[u8],
     pane: &[u8],
-    ask: lines::Ask,
+    ask: asks::Ask,
     c: Completed,
     reply: &mut [u8],
     at: usize,
@@ -128,7 +128,7 @@ fn complete_line(
     start: Start,
     words: &[u32],
     text: &[u8],
-    ask: lines::Ask,
+    ask: asks::Ask,
     query: &[u8],
     flat: &mut [u8],
     pane: &mut [u8],
@@ -170,7 +170,7 @@ pub fn ask_line(
             start,
             words,
             text,
-            lines::Ask::Names,
+            asks::Ask::Names,
             query,
             flat,
             pane,
@@ -180,7 +180,7 @@ pub fn ask_line(
             start,
             words,
             text,
-            lines::Ask::Modules(lines::Filter::All),
+            asks::Ask::Modules(asks::Filter::All),
             query,
             flat,
             pane,

@@ -10,7 +10,7 @@ use Rattle.memory.specs.Sound.{SymbolOk, ItemOk}
 use Rattle.memory.specs.Read.{symbol-in}
 use Rattle.memory.proofs.RecordOk.{record-as, zero-one}
 use Rattle.memory.proofs.Seen.{link-ok}
-use Rattle.lines.specs.Output.{item-words, RowFrom}
+use Rattle.output.specs.Output.{item-words, RowFrom}
 use Rattle.rows.specs.Rows.{item-in, SymbolInside, ItemInside}
 
 pub symbol-in-inside : {txt r : List ℕ} {used : ℕ} → SymbolOk txt used r → used ≤ length txt → SymbolInside (length txt) (symbol-in r)

@@ -12,7 +12,7 @@ use Rattle.memory.specs.Layout.{Which, names, modules, record-at, item-of, pick
 use Rattle.memory.specs.Read.{symbol-of}
 use Rattle.memory.specs.declared.ModSymbol.{ModSymbol}
 use Rattle.wire.proofs.Bytes.{words-length}
-use Rattle.lines.specs.Output.{line-bytes, line-words}
+use Rattle.output.specs.Output.{line-bytes, line-words}
 use Rattle.rows.specs.Rows.{words-at, item-in, item-seen}
 
 -- The words of the part from a row on.

@@ -12,7 +12,7 @@ use Rattle.source.proofs.Lines.{output-lines-length}
 use Rattle.memory.specs.Layout.{Which, Item, span}
 use Rattle.text.specs.Laid.{Laid}
 use Rattle.wire.proofs.Parts.{words-front}
-use Rattle.lines.specs.Output.{line-bytes, line-words, line-of, rows-flat, RowFrom, Written, candidate-start, candidate-len, annotation-start, annotation-len}
+use Rattle.output.specs.Output.{line-bytes, line-words, line-of, rows-flat, RowFrom, Written, candidate-start, candidate-len, annotation-start, annotation-len}
 use Rattle.rows.specs.Rows.{words-at, words-from, item-in, row-in, ItemInside, line-seen, lines-seen, TextsIn}
 use Rattle.rows.proofs.Inside.{row-inside}
 

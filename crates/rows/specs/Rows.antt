@@ -8,7 +8,7 @@ use Rattle.memory.specs.Layout.{Which, names, modules, Item, item-of, number-wo
 use Rattle.memory.specs.Read.{symbol-in, symbol-of}
 use Rattle.memory.specs.declared.ModSymbol.{ModSymbol}
 use Rattle.memory.specs.declared.ModSymbol.the-variants.{Module, Namespace}
-use Rattle.lines.specs.Output.{line-bytes, line-words, matched-word, candidate-start, candidate-len, annotation-start, annotation-len, signed-word}
+use Rattle.output.specs.Output.{line-bytes, line-words, matched-word, candidate-start, candidate-len, annotation-start, annotation-len, signed-word}
 use Rattle.rows.specs.declared.RowItem.{RowItem}
 use Rattle.rows.specs.declared.RowItem.the-variants.{Name, Symbol}
 use Rattle.rows.specs.declared.Row.{Row}

@@ -1,5 +1,5 @@
 // A listing read back from the lent output: each row as a struct, and its texts as parts of the text that they are in.
-use lines::Ask;
+use asks::Ask;
 use memory::ModSymbol;
 use memory::Span;
 ghost use mathlib.Core.Path.{_≡_};
@@ -7,8 +7,8 @@ ghost use Prim.Native.Nat.{_+_, _*_, _≤_};
 ghost use lib.ListN.{length};
 ghost use Rattle.memory.specs.Layout.{record-at};
 ghost use Rattle.memory.specs.Read.{text-of};
-ghost use Rattle.lines.specs.Ask.{asked};
-ghost use Rattle.lines.specs.Output.{line-bytes, line-words};
+ghost use Rattle.asks.specs.Ask.{asked};
+ghost use Rattle.output.specs.Output.{line-bytes, line-words};
 ghost use Rattle.rows.specs.Rows.{item-in, row-in, words-at};
 
 // The words of a row, by what they hold (lines' specs/Output.antt). Those of its item are a branch's, by memory's names.
@@ -70,13 +70,13 @@ fn row_in(words: &[u32], ask: Ask) -> Row
 }
 
 // The words that the bytes of a row spell.
-fn words_of(bytes: &[u8]) -> [u32; lines::LINE]
+fn words_of(bytes: &[u8]) -> [u32; output::LINE]
     requires { ⌜ line-bytes ≤ length (now bytes) ⌝ }
     ensures { λ r. ⌜ r ≡ line-words (now (bytes .entry)) ⌝ }
 {
-    let mut words = [0u32; lines::LINE];
+    let mut words = [0u32; output::LINE];
     let mut i = 0;
-    while i < lines::LINE {
+    while i < output::LINE {
         words[i] = wire::word_at(bytes, i);
         i += 1;
     }
@@ -88,7 +88,7 @@ pub fn row_at(flat: &[u8], k: usize, ask: Ask) -> Row
     requires { ⌜ k * line-bytes + line-bytes ≤ length (now flat) ⌝ }
     ensures { λ r. ⌜ r ≡ row-in (asked ask) (words-at (now (flat .entry)) k) ⌝ }
 {
-    let at = k * lines::LINE_BYTES;
+    let at = k * output::LINE_BYTES;
     let words = words_of(&flat[at..]);
     row_in(&words, ask)
 }

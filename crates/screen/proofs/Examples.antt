@@ -1,8 +1,8 @@
 -- What a filter's number asks, by example.
 use mathlib.Core.Path.{_≡_, refl}
 use mathlib.Core.Option.{none, some}
-use Rattle.lines.specs.declared.Ask.the-variants.{Modules}
-use Rattle.lines.specs.declared.Filter.the-variants.{NamespacesOnly}
+use Rattle.asks.specs.declared.Ask.the-variants.{Modules}
+use Rattle.asks.specs.declared.Filter.the-variants.{NamespacesOnly}
 use Rattle.screen.specs.Completions.{modules-for}
 
 last-filter : modules-for 3 ≡ some (Modules NamespacesOnly)

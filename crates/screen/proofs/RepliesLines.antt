@@ -10,10 +10,10 @@ use Rattle.source.specs.Table as S
 use Rattle.source.specs.Calls as C
 use Rattle.source.specs.Calls.{lowest, argument-rows, Output, completion-rows, completed, complete, complete-modules}
 use Rattle.memory.specs.Layout.{Item}
-use Rattle.lines.specs.Ask.{asked}
-use Rattle.lines.specs.declared.Ask.{Ask}
-use Rattle.lines.specs.declared.Ask.the-variants.{Names, Modules}
-use Rattle.lines.specs.declared.Filter.the-variants.{NamespacesOnly}
+use Rattle.asks.specs.Ask.{asked}
+use Rattle.asks.specs.declared.Ask.{Ask}
+use Rattle.asks.specs.declared.Ask.the-variants.{Names, Modules}
+use Rattle.asks.specs.declared.Filter.the-variants.{NamespacesOnly}
 use Rattle.completion.specs.Completes.{output}
 use Rattle.table.specs.Header.{table-in}
 use Rattle.table.specs.Completions.{completion, CompletesAs, Completes}

@@ -9,7 +9,7 @@ use Rattle.source.specs.Calls.{look-up}
 use Rattle.source.specs.Agreement.{Covers, Agreement}
 use Rattle.memory.specs.Layout.{names, modules}
 use Rattle.memory.specs.Sound.{Says}
-use Rattle.lines.specs.declared.Ask.the-variants.{Names}
+use Rattle.asks.specs.declared.Ask.the-variants.{Names}
 use Rattle.rows.specs.Rows.{lines-seen}
 use Rattle.table.specs.Header.{names-in, modules-in}
 use Rattle.numbers.specs.Replies.{name-reply, Answered}

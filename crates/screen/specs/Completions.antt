@@ -11,11 +11,11 @@ use Rattle.source.specs.Table.{Line}
 use Rattle.source.specs.Calls as C
 use Rattle.memory.specs.Layout.{Item}
 use Rattle.memory.specs.Sound.{Says}
-use Rattle.lines.specs.Ask.{asked}
-use Rattle.lines.specs.Output.{Written}
-use Rattle.lines.specs.declared.Ask.{Ask}
-use Rattle.lines.specs.declared.Ask.the-variants.{Modules}
-use Rattle.lines.specs.declared.Filter.the-variants.{All, Loaded, ModulesOnly, NamespacesOnly}
+use Rattle.asks.specs.Ask.{asked}
+use Rattle.output.specs.Output.{Written}
+use Rattle.asks.specs.declared.Ask.{Ask}
+use Rattle.asks.specs.declared.Ask.the-variants.{Modules}
+use Rattle.asks.specs.declared.Filter.the-variants.{All, Loaded, ModulesOnly, NamespacesOnly}
 use Rattle.table.specs.Header.{table-in}
 use Rattle.completion.specs.Completes.{output}
 use Rattle.table.specs.Completions.{completion}

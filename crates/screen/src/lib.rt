@@ -3,9 +3,9 @@
 // the layer copies the words in, tests them with little stack, calls crate table, and copies out what an accepted call has taken.
 // Lines are written in place.
 // Every exported call answers for whatever bytes are lent.
+use asks::Ask;
+use asks::Filter;
 use kinds::Kind;
-use lines::Ask;
-use lines::Filter;
 use numbers::CompleteReply;
 use numbers::ModuleReply;
 use numbers::NameReply;
@@ -19,7 +19,7 @@ ghost use Rattle.source.specs.Calls.{name, include, opens, alias, module-path};
 ghost use Rattle.kinds.specs.Shapes.{call-of};
 ghost use Rattle.wire.specs.Memory.{state-bytes, words-in};
 ghost use Rattle.screen.specs.Memory.{table-at};
-ghost use Rattle.lines.specs.declared.Ask.the-variants.{Names};
+ghost use Rattle.asks.specs.declared.Ask.the-variants.{Names};
 ghost use Rattle.screen.specs.Completions.{modules-for, RepliesLines};
 ghost use Rattle.screen.specs.Replies.{chosen, Replies, RepliesName, RepliesModule};
 

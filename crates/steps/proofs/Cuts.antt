@@ -16,7 +16,7 @@ use Rattle.source.proofs.Paths.{match-length-skip, match-length-some, so-far-is
 use Rattle.text.specs.Text.{before-dot}
 use Rattle.text.proofs.Segments.{first-segment, before-inside}
 use Rattle.names.specs.Entries.{by-prefix, by-all}
-use Rattle.lines.specs.Output.{signed-word}
+use Rattle.output.specs.Output.{signed-word}
 use Rattle.steps.specs.Steps.{Cuts}
 
 signed-small : (m : ℕ) → m < 4294967295 → signed-word m ≡ pos m

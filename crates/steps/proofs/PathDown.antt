@@ -23,7 +23,8 @@ use Rattle.memory.proofs.Pasted.{span-length}
 use Rattle.tree.specs.Links.{row-at}
 use Rattle.tree.proofs.Branches.{branch-right, any-tree, key-inside}
 use Rattle.names.specs.Entries.{label-at, shown, outer}
-use Rattle.lines.specs.Path.{Path, joined, BranchAt, LabelAt, PathOk, OnPath}
+use Rattle.output.specs.Path.{Path, joined, BranchAt}
+use Rattle.lines.specs.OnPath.{LabelAt, PathOk, OnPath}
 use Rattle.lines.proofs.Run.{joined-same}
 use Rattle.lines.specs.declared.Found.{Found}
 use Rattle.steps.specs.Steps.{PathDown, Entered, PathSet}

@@ -16,9 +16,10 @@ use Rattle.source.specs.Shared.{Allˡ}
 use Rattle.source.specs.Forward.{base}
 use Rattle.memory.specs.Layout.{record-at, text-len, pick}
 use Rattle.names.specs.Entries.{Asks}
-use Rattle.lines.specs.Path.{Path}
-use Rattle.lines.specs.Output.{signed-word, Past}
-use Rattle.lines.specs.Run.{path-in, limits-in}
+use Rattle.output.specs.Path.{Path}
+use Rattle.output.specs.Output.{signed-word}
+use Rattle.lines.specs.Goes.{Past}
+use Rattle.output.specs.Run.{path-in, limits-in}
 use Rattle.lines.specs.declared.Found.{Found}
 use Rattle.steps.specs.declared.Cut.{Cut}
 

@@ -6,7 +6,7 @@ ghost use Prim.Native.Nat.{_+_, _*_, _≤_, _<_};
 ghost use lib.ListN.{length};
 ghost use Rattle.source.specs.Limits.{longest-query, deepest-trie, record-words};
 ghost use Rattle.source.specs.Text.{ends-in-dot};
-ghost use Rattle.lines.specs.Run.{path-in};
+ghost use Rattle.output.specs.Run.{path-in};
 ghost use Rattle.steps.specs.Steps.{Cuts, Skips, Entered, PathSet};
 
 // Where a query is cut: the first segment's length, where the rest begins, and the match length of what the segment takes.
@@ -37,37 +37,37 @@ pub fn cut_query(query: &[u8], base: usize, matched: usize) -> Cut
 }
 
 // Whether a trie's bindings need no listing: more than one segment is left, or lines or bytes are past the limits already.
-pub fn skips_bindings(run: &[usize; lines::RUN], size: usize, next: usize) -> bool
+pub fn skips_bindings(run: &[usize; output::RUN], size: usize, next: usize) -> bool
     ensures { λ r. ⌜ Skips (now (run .entry)) size next r ⌝ }
 {
     if next < size {
         return true;
     }
-    if run[lines::MOST_LINES] < run[lines::LINES] {
+    if run[output::MOST_LINES] < run[output::LINES] {
         return true;
     }
-    run[lines::MOST_BYTES] < run[lines::BYTES]
+    run[output::MOST_BYTES] < run[output::BYTES]
 }
 
 // Gives the path as many of its links, the length and the label.
-pub fn set_path(run: &mut [usize; lines::RUN], n: usize, len: usize, label: usize)
+pub fn set_path(run: &mut [usize; output::RUN], n: usize, len: usize, label: usize)
     requires { ⌜ length (now run) ≡ 26 ⌝ }
     ensures { λ _. ⌜ PathSet (now (run .entry)) (now (run .exit)) n len label ⌝ }
 {
-    run[lines::COUNT] = n;
-    run[lines::LENGTH] = len;
-    run[lines::LABEL] = label;
+    run[output::COUNT] = n;
+    run[output::LENGTH] = len;
+    run[output::LABEL] = label;
 }
 
 // Puts a branch of namespaces onto the path.
-pub fn enter(words: &[u32], found: Found, run: &mut [usize; lines::RUN])
+pub fn enter(words: &[u32], found: Found, run: &mut [usize; output::RUN])
     requires { ⌜ (0 < found .link) × (found .link * record-words ≤ length (now words)) ⌝ }
     requires { ⌜ (length (now run) ≡ 26) × (path-in (now run) .n < deepest-trie) × (path-in (now run) .len ≤ longest-query) ⌝ }
     ensures { λ _. ⌜ Entered (now (words .entry)) found (now (run .entry)) (now (run .exit)) ⌝ }
 {
-    let n = run[lines::COUNT];
-    let len = run[lines::LENGTH] + memory::text_len(words, found.link) as usize + 1;
-    let mut label = run[lines::LABEL];
+    let n = run[output::COUNT];
+    let len = run[output::LENGTH] + memory::text_len(words, found.link) as usize + 1;
+    let mut label = run[output::LABEL];
     if n == 0 {
         label = found.label as usize;
     }

@@ -20,9 +20,9 @@ use Rattle.source.proofs.Lines.{autocomplete-lid-is, autocomplete-mod-or-ns-is}
 use Rattle.text.specs.Text.{before-dot}
 use Rattle.text.proofs.Segments.{First, first-segment, before-inside}
 use Rattle.memory.specs.Layout.{Item, trieˢ, what}
-use Rattle.lines.specs.Ask.{asked}
-use Rattle.lines.specs.declared.Ask.{Ask}
-use Rattle.lines.specs.declared.Ask.the-variants.{Names, Modules}
+use Rattle.asks.specs.Ask.{asked}
+use Rattle.asks.specs.declared.Ask.{Ask}
+use Rattle.asks.specs.declared.Ask.the-variants.{Names, Modules}
 use Rattle.completion.specs.Completes as L
 use Rattle.completion.specs.Completes.{output, output-rows, row-met, lines-of}
 use Rattle.completion.specs.declared.Completion.{Completion}

@@ -8,8 +8,8 @@ use Rattle.source.specs.Calls.{look-up}
 use Rattle.source.specs.Agreement.{Covers, NotRefused, Agreement}
 use Rattle.memory.specs.Layout.{names, modules}
 use Rattle.memory.specs.Sound.{Says}
-use Rattle.lines.specs.declared.Ask.the-variants.{Names, Modules}
-use Rattle.lines.specs.declared.Filter.the-variants.{All}
+use Rattle.asks.specs.declared.Ask.the-variants.{Names, Modules}
+use Rattle.asks.specs.declared.Filter.the-variants.{All}
 use Rattle.rows.specs.Rows.{lines-seen}
 use Rattle.table.specs.Header.{IsSound, names-in, modules-in}
 use Rattle.table.specs.Answers.{name-found, module-found, Finds, FindsModule}

@@ -12,10 +12,10 @@ use Rattle.source.specs.Calls as C
 use Rattle.source.specs.Calls.{Output, completed, tries-entered, complete, complete-modules}
 use Rattle.memory.specs.Layout.{Item, trieˢ, what}
 use Rattle.memory.specs.Sound.{Says}
-use Rattle.lines.specs.Ask.{asked, filter-in}
-use Rattle.lines.specs.Output.{Written}
-use Rattle.lines.specs.declared.Ask.{Ask}
-use Rattle.lines.specs.declared.Ask.the-variants.{Names, Modules}
+use Rattle.asks.specs.Ask.{asked, filter-in}
+use Rattle.output.specs.Output.{Written}
+use Rattle.asks.specs.declared.Ask.{Ask}
+use Rattle.asks.specs.declared.Ask.the-variants.{Names, Modules}
 use Rattle.completion.specs.Completes.{output, lines-of}
 use Rattle.completion.specs.declared.Completion.{Completion}
 use Rattle.completion.specs.declared.Completion.the-variants as L

@@ -3,8 +3,8 @@
 mod registers;
 mod roots;
 
+use asks::Ask;
 use kinds::Kind;
-use lines::Ask;
 use memory::Header;
 use memory::ModSymbol;
 use refusals::Refusal;

@@ -3,8 +3,8 @@ use crate::Completed;
 use crate::Found;
 use crate::FoundModule;
 use crate::Looked;
+use asks::Ask;
 use completion::Completion;
-use lines::Ask;
 use refusals::Admission;
 use refusals::Refusal;
 ghost use mathlib.Core.Path.{_≡_};
@@ -13,7 +13,7 @@ ghost use Rattle.source.specs.Calls.{look-up};
 ghost use Rattle.memory.specs.Layout.{names, modules, trieˢ, what};
 ghost use Rattle.memory.specs.Sound.{At};
 ghost use Rattle.lookup.specs.Tries.{AnyTrie};
-ghost use Rattle.lines.specs.Ask.{asked};
+ghost use Rattle.asks.specs.Ask.{asked};
 ghost use Rattle.table.specs.Answers.{LookedUp, name-found, FindsModuleOn};
 ghost use Rattle.table.specs.Completions.{answer-in, CompletesOn};
 

@@ -16,10 +16,10 @@ use Rattle.source.proofs.Agreement.{agreement}
 use Rattle.memory.specs.Layout.{names, modules, Item}
 use Rattle.memory.specs.Sound.{Says}
 use Rattle.memory.proofs.SoundTable.{sound-table}
-use Rattle.lines.specs.Ask.{asked}
-use Rattle.lines.specs.declared.Ask.{Ask}
-use Rattle.lines.specs.declared.Ask.the-variants.{Names, Modules}
-use Rattle.lines.specs.declared.Filter.the-variants.{All}
+use Rattle.asks.specs.Ask.{asked}
+use Rattle.asks.specs.declared.Ask.{Ask}
+use Rattle.asks.specs.declared.Ask.the-variants.{Names, Modules}
+use Rattle.asks.specs.declared.Filter.the-variants.{All}
 use Rattle.table.specs.Header.{IsSound, table-in, names-in, modules-in}
 use Rattle.table.specs.Answers.{name-found, module-found}
 use Rattle.table.specs.Completions.{CompletesAs}

@@ -19,17 +19,16 @@ use Rattle.source.proofs.Lines.{output-lines-length}
 use Rattle.memory.specs.Layout.{Which, Item, pick}
 use Rattle.memory.specs.Sound.{Says}
 use Rattle.memory.proofs.SoundTable.{sound-table}
-use Rattle.lines.specs.Ask.{asked}
-use Rattle.lines.specs.Output.{line-bytes, signed-word, line-of, Written}
-use Rattle.lines.specs.declared.Ask.{Ask}
-use Rattle.lines.specs.declared.Ask.the-variants.{Names, Modules}
+use Rattle.asks.specs.Ask.{asked}
+use Rattle.output.specs.Output.{line-bytes, signed-word, line-of, Written, matched-word}
+use Rattle.asks.specs.declared.Ask.{Ask}
+use Rattle.asks.specs.declared.Ask.the-variants.{Names, Modules}
 use Rattle.table.specs.Header.{IsSound, table-in}
 use Rattle.table.specs.Completions.{CompletesAs, completion}
 use Rattle.table.specs.declared.Table.{Table}
 use Rattle.table.specs.declared.Completed.{Completed}
 use Rattle.table.specs.declared.Request.{Request}
 use Rattle.table.specs.declared.Listing.{Listing}
-use Rattle.lines.specs.Output.{matched-word}
 use Rattle.rows.specs.Rows.{words-from, item-in, row-in, ItemInside}
 use Rattle.rows.proofs.Rows.{item-seen-is}
 use Rattle.rows.proofs.Written.{written-records, written-items}

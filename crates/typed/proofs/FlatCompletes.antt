@@ -12,10 +12,10 @@ use Rattle.source.specs.Calls as C
 use Rattle.source.specs.Calls.{complete, complete-modules, completed, completion-rows, lowest, argument-rows}
 use Rattle.memory.specs.Layout.{Item}
 use Rattle.text.specs.Laid.{Laid}
-use Rattle.lines.specs.Ask.{asked}
-use Rattle.lines.specs.Output.{line-bytes}
-use Rattle.lines.specs.declared.Ask.{Ask}
-use Rattle.lines.specs.declared.Ask.the-variants.{Names, Modules}
+use Rattle.asks.specs.Ask.{asked}
+use Rattle.output.specs.Output.{line-bytes}
+use Rattle.asks.specs.declared.Ask.{Ask}
+use Rattle.asks.specs.declared.Ask.the-variants.{Names, Modules}
 use Rattle.completion.specs.Completes as F
 use Rattle.table.specs.Header.{IsSound, table-in}
 use Rattle.table.specs.Completions as T

@@ -5,8 +5,8 @@ use mathlib.Core.List.{List, [], _∷_, _++_, map, append-assoc}
 use native.Mathlib.Omega.{arith}
 use lib.ListN.{length, drop, set, length-append, length-drop}
 use lib.Seq.{take-at, drop-at, drop-drop, set-split}
-use Rattle.lines.specs.Ask.{asked}
-use Rattle.lines.specs.declared.Ask.{Ask}
+use Rattle.asks.specs.Ask.{asked}
+use Rattle.asks.specs.declared.Ask.{Ask}
 use Rattle.rows.specs.Rows.{words-from, row-in}
 use Rattle.typed.specs.Lines.{line-of-row, line-at, stored-lines}
 use Rattle.typed.specs.declared.Line.{Line}

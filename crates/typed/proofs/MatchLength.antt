@@ -26,9 +26,9 @@ use Rattle.source.specs.Forward.{line, lines, made, kept-line}
 use Rattle.source.proofs.Lines.{autocomplete-lid-is, autocomplete-mod-or-ns-is}
 use Rattle.source.proofs.Paths.{matched, match-length-skip, match-length-some, match-length-none}
 use Rattle.text.proofs.Texts.{starts-short}
-use Rattle.lines.specs.Ask.{filter-in}
-use Rattle.lines.specs.declared.Ask.{Ask}
-use Rattle.lines.specs.declared.Ask.the-variants as Asks
+use Rattle.asks.specs.Ask.{filter-in}
+use Rattle.asks.specs.declared.Ask.{Ask}
+use Rattle.asks.specs.declared.Ask.the-variants as Asks
 use Rattle.table.specs.Completions.{completion}
 
 -- -1, or at most 543: 17 keys of 31 bytes with their dots.

@@ -13,8 +13,8 @@ use Rattle.memory.specs.Layout as L
 use Rattle.memory.specs.Layout.{names, modules}
 use Rattle.memory.specs.Sound.{Says}
 use Rattle.text.specs.Laid.{Laid}
-use Rattle.lines.specs.declared.Ask.the-variants.{Names, Modules}
-use Rattle.lines.specs.declared.Filter.the-variants.{All}
+use Rattle.asks.specs.declared.Ask.the-variants.{Names, Modules}
+use Rattle.asks.specs.declared.Filter.the-variants.{All}
 use Rattle.table.specs.Header.{IsSound, names-in, modules-in}
 use Rattle.table.specs.Answers.{name-found, module-found, Finds, FindsModule}
 use Rattle.table.specs.declared.Table.{Table}

@@ -12,9 +12,9 @@ use Rattle.source.specs.Calls.{Output, output-lines}
 use Rattle.source.specs.Shared.{Allˡ}
 use Rattle.memory.specs.Layout as L
 use Rattle.memory.specs.Sound.{Says}
-use Rattle.lines.specs.Ask.{asked}
-use Rattle.lines.specs.Output.{line-bytes}
-use Rattle.lines.specs.declared.Ask.{Ask}
+use Rattle.asks.specs.Ask.{asked}
+use Rattle.output.specs.Output.{line-bytes}
+use Rattle.asks.specs.declared.Ask.{Ask}
 use Rattle.rows.specs.Rows.{ItemInside}
 use Rattle.table.specs.Header.{IsSound, table-in}
 use Rattle.table.specs.Completions as T

@@ -7,8 +7,8 @@ use lib.IntN.{ℤ, pos, negsuc}
 use lib.ListN.{set}
 use Rattle.source.specs.Calls.{LineRecord}
 use Rattle.memory.specs.Layout.{Which, Item, pick}
-use Rattle.lines.specs.Ask.{asked}
-use Rattle.lines.specs.declared.Ask.{Ask}
+use Rattle.asks.specs.Ask.{asked}
+use Rattle.asks.specs.declared.Ask.{Ask}
 use Rattle.rows.specs.Rows.{words-at, row-in, item-seen}
 use Rattle.rows.specs.declared.Row.{Row}
 use Rattle.table.specs.declared.Completed.{Completed}

@@ -1,6 +1,6 @@
 // The typed completion: a line is a struct, and lines go into a lent slice of these.
 // `store_line`, `store_lines` and `complete` are proved by hand; what they call is covered.
-use lines::Ask;
+use asks::Ask;
 use memory::Span;
 use refusals::Refusal;
 use rows::Row;
@@ -12,7 +12,7 @@ use table::Table;
 ghost use mathlib.Core.Path.{_≡_};
 ghost use Prim.Native.Nat.{_+_, _*_, _/_, _≤_, _<_, min};
 ghost use lib.ListN.{length, set};
-ghost use Rattle.lines.specs.Output.{line-bytes};
+ghost use Rattle.output.specs.Output.{line-bytes};
 ghost use Rattle.typed.specs.Lines.{held-length, line-of-row, line-at, stored-lines, lines-in};
 ghost use Rattle.typed.specs.Completions.{FlatCompletes, CompletesLines};
 
@@ -97,10 +97,10 @@ fn lines_in(r: Listing) -> usize
 fn bytes_for(flat: usize, room: usize) -> usize
     ensures { λ r. ⌜ r ≡ min (flat / line-bytes) room * line-bytes ⌝ }
 {
-    if flat / lines::LINE_BYTES <= room {
-        return flat / lines::LINE_BYTES * lines::LINE_BYTES;
+    if flat / output::LINE_BYTES <= room {
+        return flat / output::LINE_BYTES * output::LINE_BYTES;
     }
-    room * lines::LINE_BYTES
+    room * output::LINE_BYTES
 }
 
 // Completion into bytes, lent for at most `room` lines.

@@ -2,7 +2,7 @@
 use mathlib.Core.Bool.{true, false}
 use mathlib.Core.List.{[]}
 use Rattle.source.specs.Table.{mod-annotation}
-use Rattle.lines.specs.Run.{job-in}
+use Rattle.output.specs.Run.{job-in}
 use Rattle.lines.proofs.Run.{same-run}
 use Rattle.lines.proofs.KeptLine.{module-at, namespace-at, line-dropped, line-kept}
 use Rattle.lines.proofs.module_line.Statement.{statement}

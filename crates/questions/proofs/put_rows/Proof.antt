@@ -2,7 +2,7 @@
 use Prim.Native.Nat.{_-_, _<_}
 use native.Mathlib.Omega.{arith}
 use Rattle.text.proofs.Laid.{laid-length}
-use Rattle.lines.specs.Ask.{asked}
+use Rattle.asks.specs.Ask.{asked}
 use Rattle.questions.proofs.RowReplies.{Going, going-start, going-texts, going-space, going-on, going-end}
 use Rattle.questions.proofs.put_rows.Statement.{statement}
 use Rattle.questions.proofs.put_rows.Tie as tie

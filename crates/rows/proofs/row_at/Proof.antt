@@ -1,7 +1,7 @@
 -- `row_at` meets its contract.
 use mathlib.Core.Path.{ap, _∙_}
 use Rattle.memory.specs.Layout.{record-at}
-use Rattle.lines.specs.Ask.{asked}
+use Rattle.asks.specs.Ask.{asked}
 use Rattle.rows.specs.Rows.{row-in}
 use Rattle.rows.proofs.Rows.{part-words, one-record}
 use borrow.Author.Needs.{needs}

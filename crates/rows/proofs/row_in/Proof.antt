@@ -3,8 +3,8 @@ use mathlib.Core.Path.{_≡_}
 use Prim.Native.Nat.{ℕ}
 use mathlib.Core.List.{List}
 use Rattle.memory.specs.Layout.{Which, record-at}
-use Rattle.lines.specs.Ask.{asked}
-use Rattle.lines.specs.Output.{matched-word, candidate-start, candidate-len, annotation-start, annotation-len}
+use Rattle.asks.specs.Ask.{asked}
+use Rattle.output.specs.Output.{matched-word, candidate-start, candidate-len, annotation-start, annotation-len}
 use Rattle.rows.specs.Rows.{item-in, row-in}
 use Rattle.rows.specs.declared.RowItem.{RowItem}
 use Rattle.rows.specs.declared.Row.{Row}

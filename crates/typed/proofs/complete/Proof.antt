@@ -39,10 +39,10 @@ use denote.Triple.Clauses.{ensured, lasts}
 use denote.Triple.Table.{entered, cited}
 use denote.Triple.Walked.{says, Stays, stay-none, stay-slice, gave-slice, stay-none-slice, walkOf, AllGo, goes-none, goes-slice, goes-gave-slice, goes-none-slice, Walks, ends-at, walked, walk-meets}
 use denote.Exit.{yes}
-use Rattle.lines.specs.Output.{line-bytes}
-use Rattle.lines.specs.declared.Ask.{Ask}
-use Rattle.lines.proofs.Ask as Q
-use Rattle.lines.proofs.Ask.Laws as Q′
+use Rattle.output.specs.Output.{line-bytes}
+use Rattle.asks.specs.declared.Ask.{Ask}
+use Rattle.asks.proofs.Ask as Q
+use Rattle.asks.proofs.Ask.Laws as Q′
 use Rattle.table.specs.declared.Table.{Table}
 use Rattle.table.specs.declared.Request.{Request}
 use Rattle.table.specs.declared.Listing.{Listing}

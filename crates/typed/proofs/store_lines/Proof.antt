@@ -48,10 +48,10 @@ use denote.Triple.Clauses.{ensured, lasts}
 use denote.Triple.Table.{entered, cited}
 use denote.Triple.Walked.{says, needs, Stays, stay-slice, stay-none, stay-none-slice, walkOf, AllGo, goes-slice, goes-none, goes-none-slice, Walks, ends-at, walked, walk-meets}
 use denote.Exit.{yes}
-use Rattle.lines.specs.Output.{line-bytes}
-use Rattle.lines.specs.declared.Ask.{Ask}
-use Rattle.lines.proofs.Ask as Q
-use Rattle.lines.proofs.Ask.Laws as Q′
+use Rattle.output.specs.Output.{line-bytes}
+use Rattle.asks.specs.declared.Ask.{Ask}
+use Rattle.asks.proofs.Ask as Q
+use Rattle.asks.proofs.Ask.Laws as Q′
 use Rattle.typed.specs.Lines.{line-at as lineAt, stored-lines as storedLines}
 use Rattle.typed.specs.declared.Line.{Line}
 use Rattle.typed.proofs.Line as T

@@ -1,8 +1,8 @@
--- `lines::keeps` meets its contract.
+-- `asks::keeps` meets its contract.
 use Rattle.source.specs.Calls.{keeps}
-use Rattle.lines.proofs.KeptLine.{keeps-loaded, keeps-modules, keeps-namespaces}
-use Rattle.lines.proofs.keeps.Statement.{statement}
-use Rattle.lines.proofs.keeps.Tie as tie
+use Rattle.asks.proofs.Kept.{keeps-loaded, keeps-modules, keeps-namespaces}
+use Rattle.asks.proofs.keeps.Statement.{statement}
+use Rattle.asks.proofs.keeps.Tie as tie
 use borrow.Author.Needs.{needs}
 
 pub keeps-spec : {M : Type 1} → statement M

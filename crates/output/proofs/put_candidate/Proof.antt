@@ -1,9 +1,9 @@
--- `lines::put_candidate` meets its contract. The loop's invariant: the first keys are written, each with a dot.
+-- `output::put_candidate` meets its contract. The loop's invariant: the first keys are written, each with a dot.
 use Prim.Native.Nat.{_-_}
 use Rattle.text.proofs.Laid.{laid-length, laid-more}
-use Rattle.lines.proofs.Texts.{Joining, joining-none, joining-room, joining-more, joining-done}
-use Rattle.lines.proofs.write.put_candidate.Statement.{statement}
-use Rattle.lines.proofs.write.put_candidate.Tie as tie
+use Rattle.output.proofs.Texts.{Joining, joining-none, joining-room, joining-more, joining-done}
+use Rattle.output.proofs.put_candidate.Statement.{statement}
+use Rattle.output.proofs.put_candidate.Tie as tie
 use borrow.Author.Needs.{needs}
 use native.Mathlib.Omega.{arith}
 

@@ -1,6 +1,6 @@
--- `lines::line_row` meets its contract.
-use Rattle.lines.proofs.write.line_row.Statement.{statement}
-use Rattle.lines.proofs.write.line_row.Tie as tie
+-- `output::line_row` meets its contract.
+use Rattle.output.proofs.line_row.Statement.{statement}
+use Rattle.output.proofs.line_row.Tie as tie
 use borrow.Author.Needs.{needs}
 
 pub line-row-spec : {M : Type 1} → statement M

@@ -1,22 +1,53 @@
-// Writing of a line: its candidate, its annotation, its twelve words.
-use crate::BYTES;
-use crate::COUNT;
-use crate::LINE;
-use crate::LINE_BYTES;
-use crate::LINES;
-use crate::MATCHED;
-use crate::RUN;
+// The writing of one line into the lent output: its candidate, its annotation, its twelve words.
 ghost use mathlib.Core.Path.{_≡_};
 ghost use Prim.Native.Nat.{_+_, _*_, _<_, _≤_};
 ghost use lib.ListN.{length};
 ghost use Rattle.source.specs.Limits.{record-words};
 ghost use Rattle.memory.specs.Layout.{record-at, key-at};
 ghost use Rattle.text.specs.Laid.{Laid};
-ghost use Rattle.lines.specs.Run.{path-in, job-in};
-ghost use Rattle.lines.specs.Parts.{TextAt, PathAt, JobOk, LineFits, candidate-of, line-row, LinePut};
+ghost use Rattle.output.specs.Run.{path-in, job-in};
+ghost use Rattle.output.specs.Parts.{TextAt, PathAt, JobOk, LineFits, candidate-of, line-row, LinePut};
+
+// Words of a line, and its bytes.
+pub const LINE: usize = 12;
+
+pub const LINE_BYTES: usize = 48;
+
+// A run is lent as numbers. First the links of the path to the trie at hand, branches of namespaces from the root on, 16 at most. Then:
+// how many they are,
+pub const COUNT: usize = 16;
+
+// the bytes of their keys with a dot after each,
+pub const LENGTH: usize = 17;
+
+// the collection of the outermost label of the first, 0 for none;
+pub const LABEL: usize = 18;
+
+// what the completion has taken: tries entered,
+pub const ENTERED: usize = 19;
+
+// lines,
+pub const LINES: usize = 20;
+
+// bytes;
+pub const BYTES: usize = 21;
+
+// what it may take: tries entered,
+pub const BUDGET: usize = 22;
+
+// lines,
+pub const MOST_LINES: usize = 23;
+
+// bytes;
+pub const MOST_BYTES: usize = 24;
+
+// the match length of what is listed, 4294967295 for -1.
+pub const MATCHED: usize = 25;
+
+pub const RUN: usize = 26;
 
 // Writes the key of a branch from `at` on: lends on the part after the last text.
-pub fn put_key(words: &[u32], text: &[u8], branch: u32, out: &mut [u8], at: usize) -> usize
+fn put_key(words: &[u32], text: &[u8], branch: u32, out: &mut [u8], at: usize) -> usize
     requires { ⌜ TextAt (now words) (now text) branch ⌝ }
     requires { ⌜ at + length (key-at (now words) (now text) branch) ≤ length (now out) ⌝ }
     ensures { λ r. ⌜ Laid (now (out .entry)) (now (out .exit)) at r (key-at (now (words .entry)) (now (text .entry)) branch) ⌝ }
@@ -27,7 +58,7 @@ pub fn put_key(words: &[u32], text: &[u8], branch: u32, out: &mut [u8], at: usiz
 }
 
 // Writes the candidate of a branch below the path from `at` on.
-pub fn put_candidate(
+fn put_candidate(
     words: &[u32],
     text: &[u8],
     run: &[usize; RUN],
@@ -55,7 +86,7 @@ pub fn put_candidate(
 }
 
 // The words of a line.
-pub fn line_row(
+fn line_row(
     words: &[u32],
     branch: u32,
     matched: u32,

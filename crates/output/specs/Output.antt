@@ -6,10 +6,9 @@
 --   3, 4   annotation: start, length in the output text
 --   5..10  item: as in the branch that it is from (memory's Layout)
 --   11     0
-use Prim.Native.Nat.{ℕ, _+_, _*_, _<_, _≤_}
+use Prim.Native.Nat.{ℕ, _+_, _*_}
 use mathlib.Core.Path.{_≡_}
-use mathlib.Core.Logic.{_⊎_}
-use mathlib.Core.List.{List, [], _∷_, _++_, map, flatMap}
+use mathlib.Core.List.{List, [], _∷_, map, flatMap}
 use lib.Dec.{eqb}
 use lib.IntN.{ℤ, pos, negsuc}
 use lib.ListN.{length}
@@ -21,7 +20,7 @@ use Rattle.source.specs.Shared.{Allˡ}
 use Rattle.memory.specs.Layout.{record-at, word, number-word, name-start, name-len, path-start, path-len, loaded-word, pick, Which, Item, item-of}
 use Rattle.text.specs.Laid.{Laid}
 use Rattle.wire.specs.Bytes.{words-at}
-use Rattle.lines.specs.Path.{BranchAt}
+use Rattle.output.specs.Path.{BranchAt}
 
 -- Bytes of a line.
 abbrev pub line-bytes : ℕ
@@ -83,63 +82,3 @@ pub record Written (w : Which) (ws txt flat flat′ out out′ : List ℕ) (l b 
   pub reads : map (line-of w txt) (map line-words rows) ≡ output-lines b lines
   pub flat-laid : Laid flat flat′ (l * line-bytes) ((l + length lines) * line-bytes) (rows-flat rows)
   pub out-laid : Laid out out′ b (b + length (output-text lines)) (output-text lines)
-
--- ---- Counting
-
--- What a part of a listing gives: its lines, and the tries entered.
-pub record Result (A : Type 0) : Type 0 where
-  pub lines : List (Line A)
-  pub entered : ℕ
-
-infixr 20 _⊕_
--- One part, then the next.
-unfoldable pub _⊕_ : {A : Type 0} → Result A → Result A → Result A
-r ⊕ s = record { lines = r .lines ++ s .lines; entered = r .entered + s .entered }
-
--- a is x, or both are past the limit.
-abbrev pub Capped : (limit x a : ℕ) → Type 0
-Capped limit x a = (a ≡ x) ⊎ ((limit < x) × (limit < a))
-
--- What a completion has taken.
-pub record Tally : Type 0 where
-  pub entered : ℕ
-  pub lines : ℕ
-  pub bytes : ℕ
-
--- What it may take.
-pub record Limits : Type 0 where
-  pub budget : ℕ
-  pub lines : ℕ
-  pub bytes : ℕ
-
--- Lines or bytes past the limits.
-abbrev pub Past : (lim : Limits) (l b : ℕ) → Type 0
-Past lim l b = (lim .lines < l) ⊎ (lim .bytes < b)
-
--- A tally of e tries entered, l lines and b bytes. Past the budget it says only that; past the lines or bytes it says that of lines and bytes.
-pub record Shows (lim : Limits) (e l b : ℕ) (t : Tally) : Type 0 where
-  pub spent : lim .budget < e → lim .budget < t .entered
-  pub entered-is : e ≤ lim .budget → t .entered ≡ e
-  pub counted : e ≤ lim .budget → ((t .lines ≡ l) × (t .bytes ≡ b)) ⊎ (Past lim l b × Past lim (t .lines) (t .bytes))
-
--- Limits that 32 bits hold.
-pub record Small (lim : Limits) : Type 0 where
-  pub budget-small : lim .budget ≤ 4294967295
-  pub lines-small : lim .lines ≤ 4294967295
-  pub bytes-small : lim .bytes ≤ 4294967295
-
--- Totals within the limits, and these within what is lent.
-pub record Fit (lim : Limits) (flat out : List ℕ) (e l b : ℕ) : Type 0 where
-  pub entered-fit : e ≤ lim .budget
-  pub lines-fit : l ≤ lim .lines
-  pub bytes-fit : b ≤ lim .bytes
-  pub flat-lent : lim .lines * line-bytes ≤ length flat
-  pub out-lent : lim .bytes ≤ length out
-
--- The run went on by the part r: it is counted, and where all fits it is written.
-pub record Goes (w : Which) (ws txt : List ℕ) (lim : Limits) (a t : Tally) (flat flat′ out out′ : List ℕ) (r : Result (Item w)) : Type 0 where
-  pub flat-size : length flat′ ≡ length flat
-  pub out-size : length out′ ≡ length out
-  pub shows : (e l b : ℕ) → Shows lim e l b a → Shows lim (e + r .entered) (l + length (r .lines)) (b + length (output-text (r .lines))) t
-  pub writes : (e l b : ℕ) → Shows lim e l b a → Fit lim flat out (e + r .entered) (l + length (r .lines)) (b + length (output-text (r .lines)))
-      → Written w ws txt flat flat′ out out′ l b (r .lines)

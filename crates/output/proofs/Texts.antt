@@ -13,8 +13,8 @@ use Rattle.text.specs.Laid.{Laid}
 use Rattle.text.proofs.Laid.{laid-length, laid-none, laid-more, laid-next}
 use Rattle.wire.specs.Bytes.{Stored}
 use Rattle.wire.proofs.Parts.{words-front, words-stored}
-use Rattle.lines.specs.Path.{joined}
-use Rattle.lines.specs.Output.{line-bytes, line-words}
+use Rattle.output.specs.Path.{joined}
+use Rattle.output.specs.Output.{line-bytes, line-words}
 
 module _ {d d′ s t : List ℕ} where
   pub text-laid : {n : ℕ} → n ≡ length t → length t ≤ length d → s ≡ t → d′ ≡ put-text d 0 s → Laid d d′ 0 n t

@@ -1,8 +1,8 @@
--- `lines::write_line` meets its contract.
-use Rattle.lines.proofs.Lines.{candidate-length, note-room, line-put}
+-- `output::write_line` meets its contract.
+use Rattle.output.proofs.Put.{candidate-length, note-room, line-put}
 use native.Mathlib.Omega.{arith}
-use Rattle.lines.proofs.write.write_line.Statement.{statement}
-use Rattle.lines.proofs.write.write_line.Tie as tie
+use Rattle.output.proofs.write_line.Statement.{statement}
+use Rattle.output.proofs.write_line.Tie as tie
 use borrow.Author.Needs.{needs}
 
 pub write-line-spec : {M : Type 1} → statement M

@@ -6,10 +6,10 @@ use Rattle.source.specs.Calls as C
 use Rattle.source.specs.Calls.{filter-of}
 use Rattle.source.specs.Forward.{kept-line}
 use Rattle.memory.specs.Layout.{Which, names, modules, Item}
-use Rattle.lines.specs.declared.Filter.{Filter}
-use Rattle.lines.specs.declared.Filter.the-variants.{All, Loaded, ModulesOnly, NamespacesOnly}
-use Rattle.lines.specs.declared.Ask.{Ask}
-use Rattle.lines.specs.declared.Ask.the-variants.{Names, Modules}
+use Rattle.asks.specs.declared.Filter.{Filter}
+use Rattle.asks.specs.declared.Filter.the-variants.{All, Loaded, ModulesOnly, NamespacesOnly}
+use Rattle.asks.specs.declared.Ask.{Ask}
+use Rattle.asks.specs.declared.Ask.the-variants.{Names, Modules}
 
 -- The filter argument.
 abbrev pub filter-in : Filter → C.Filter

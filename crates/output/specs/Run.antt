@@ -8,12 +8,28 @@
 --   19..21   tries entered, lines, bytes
 --   22..24   how many of each may be
 --   25       match length, 4294967295 for -1
-use Prim.Native.Nat.{ℕ, _<_}
-use mathlib.Core.Path.{_≡_}
+use Prim.Native.Nat.{ℕ, _≤_}
 use mathlib.Core.List.{List}
-use lib.ListN.{length, getD}
-use Rattle.lines.specs.Path.{Path}
-use Rattle.lines.specs.Output.{Tally, Limits}
+use lib.ListN.{getD}
+use Rattle.output.specs.Path.{Path}
+
+-- What a completion has taken.
+pub record Tally : Type 0 where
+  pub entered : ℕ
+  pub lines : ℕ
+  pub bytes : ℕ
+
+-- What it may take.
+pub record Limits : Type 0 where
+  pub budget : ℕ
+  pub lines : ℕ
+  pub bytes : ℕ
+
+-- Limits that 32 bits hold.
+pub record Small (lim : Limits) : Type 0 where
+  pub budget-small : lim .budget ≤ 4294967295
+  pub lines-small : lim .lines ≤ 4294967295
+  pub bytes-small : lim .bytes ≤ 4294967295
 
 abbrev pub path-in : List ℕ → Path
 path-in run = record { links = run; n = getD run 16 0; len = getD run 17 0; label = getD run 18 0 }
@@ -26,20 +42,6 @@ limits-in run = record { budget = getD run 22 0; lines = getD run 23 0; bytes = 
 
 abbrev pub matched-in : List ℕ → ℕ
 matched-in run = getD run 25 0
-
--- The path and the limits are as they were.
-pub record SamePath (run run′ : List ℕ) : Type 0 where
-  pub size : length run′ ≡ length run
-  pub links : (j : ℕ) → j < getD run 16 0 → getD run′ j 0 ≡ getD run j 0
-  pub count : getD run′ 16 0 ≡ getD run 16 0
-  pub len-is : getD run′ 17 0 ≡ getD run 17 0
-  pub label-is : getD run′ 18 0 ≡ getD run 18 0
-  pub limits-same : limits-in run′ ≡ limits-in run
-
--- All is but what has been taken.
-pub record SameRun (run run′ : List ℕ) : Type 0 where
-  pub path : SamePath run run′
-  pub matched-same : matched-in run′ ≡ matched-in run
 
 -- A line to list: its path and branch, what matched, what the completion may take and what it has taken.
 pub record Job : Type 0 where

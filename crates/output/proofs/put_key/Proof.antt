@@ -1,12 +1,12 @@
--- `lines::put_key` meets its contract.
+-- `output::put_key` meets its contract.
 use mathlib.Core.Path.{ap}
 use lib.ListN.{length}
 use borrow.Author.Needs.{needs}
 use native.Mathlib.Omega.{arith}
 use Rattle.text.proofs.Laid.{lent-laid, room-left}
-use Rattle.lines.proofs.Texts.{text-laid}
-use Rattle.lines.proofs.write.put_key.Statement.{statement}
-use Rattle.lines.proofs.write.put_key.Tie as tie
+use Rattle.output.proofs.Texts.{text-laid}
+use Rattle.output.proofs.put_key.Statement.{statement}
+use Rattle.output.proofs.put_key.Tie as tie
 
 pub put-key-spec : {M : Type 1} → statement M
 put-key-spec =

@@ -1,0 +1,4 @@
+pub mod Path
+pub mod Output
+pub mod Run
+pub mod Parts
