@@ -17,7 +17,7 @@ use Rattle.table.specs.Registrations.{Unchanged}
 use Rattle.table.specs.declared.Table.{Table}
 use Rattle.registrations.specs.declared.Done.{Done}
 use Rattle.answers.specs.Outcomes.{Accepted, Replied, Session, unlines}
-use Rattle.answers.specs.declared.Turn.{Turn}
+use Rattle.answers.specs.declared.AfterLines.{AfterLines}
 
 -- The answer r to a line: the outcome that it must have, its reply in the reply text from at on and its table in what is lent, of
 -- which only the free part that was taken has changed. The table is sound. Where nothing is registered, header, words and text are as
@@ -35,7 +35,7 @@ pub record Answered (ws txt ws′ txt′ : List ℕ) (t : Table) (line : Str) (o
 -- The answer r to the lines of an input from a place on, up to another: their session, its replies at the start of the reply text,
 -- which is as it was past them. Of words and text only the free part that was taken has changed. It stops where no line feed is left,
 -- or where the reply text is too full for one more.
-pub record Talked (ws txt ws′ txt′ : List ℕ) (t : Table) (input : Str) (from : ℕ) (out : Output) (reply reply′ : List ℕ) (r : Turn) : Type 0 where
+pub record Talked (ws txt ws′ txt′ : List ℕ) (t : Table) (input : Str) (from : ℕ) (out : Output) (reply reply′ : List ℕ) (r : AfterLines) : Type 0 where
   pub lines : List Str
   pub each : Allˡ (All Line) lines
   pub cut : take (r .next - from) (drop from input) ≡ unlines lines

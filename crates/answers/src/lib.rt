@@ -1,13 +1,14 @@
 // What the program `console` answers to a line: it is read, its call is made on a table whose memory is sound by proof, and the
 // reply is written. A line that is no form is `[bad]`, and changes nothing.
 use numerals::Extent;
-use questions::Start;
+use questions::Asking;
 use registrations::Done;
-use script::Form;
+use script::LineForm;
 use table::Table;
 ghost use mathlib.Core.Path.{_≡_};
 ghost use Prim.Native.Nat.{_+_, _≤_};
 ghost use lib.ListN.{length};
+ghost use Rattle.source.specs.Lent.{old, new};
 ghost use Rattle.numerals.specs.Parts.{Within, part-of};
 ghost use Rattle.completion.specs.Completes.{output};
 ghost use Rattle.table.specs.Header.{IsSound};
@@ -15,7 +16,7 @@ ghost use Rattle.questions.specs.RowReplies.{room};
 ghost use Rattle.answers.specs.Answers.{Answered, Talked};
 
 // The table after some lines of an input, where their replies end, and where the next line starts.
-pub struct Turn {
+pub struct AfterLines {
     pub table: Table,
     pub end: usize,
     pub next: usize,
@@ -24,7 +25,7 @@ pub struct Turn {
 // The bytes of a part of the line.
 fn part(line: &[u8], s: Extent) -> &[u8]
     requires { ⌜ Within (now line) s ⌝ }
-    ensures { λ r. ⌜ now r ≡ part-of (now (line .entry)) s ⌝ }
+    ensures { λ r. ⌜ now r ≡ part-of (old line) s ⌝ }
 {
     let a = s.start;
     let e = a + s.len;
@@ -44,11 +45,11 @@ pub fn answer(
 ) -> Done
     requires { ⌜ IsSound (now words) (now text) table ⌝ }
     requires { ⌜ at + room (now flat) (now pane) ≤ length (now reply) ⌝ }
-    ensures { λ r. ⌜ Answered (now (words .entry)) (now (text .entry)) (now (words .exit)) (now (text .exit)) table (now (line .entry)) (output (now (flat .entry)) (now (pane .entry))) (now (reply .entry)) (now (reply .exit)) at r ⌝ }
+    ensures { λ r. ⌜ Answered (old words) (old text) (new words) (new text) table (old line) (output (old flat) (old pane)) (old reply) (new reply) at r ⌝ }
 {
     let form = script::parse(line);
     match form {
-        Form::Name { host, id, item } => registrations::name_line(
+        LineForm::Name { host, id, item } => registrations::name_line(
             table,
             words,
             text,
@@ -58,7 +59,7 @@ pub fn answer(
             reply,
             at,
         ),
-        Form::Import { how, host, query } => registrations::import_line(
+        LineForm::Import { how, host, query } => registrations::import_line(
             table,
             words,
             text,
@@ -68,7 +69,7 @@ pub fn answer(
             reply,
             at,
         ),
-        Form::Alias { word, host, query } => registrations::alias_line(
+        LineForm::Alias { word, host, query } => registrations::alias_line(
             table,
             words,
             text,
@@ -78,7 +79,7 @@ pub fn answer(
             reply,
             at,
         ),
-        Form::Module {
+        LineForm::Module {
             loaded,
             query,
             path,
@@ -92,8 +93,8 @@ pub fn answer(
             reply,
             at,
         ),
-        Form::Ask { what, query } => {
-            let start = Start {
+        LineForm::Ask { what, query } => {
+            let start = Asking {
                 table: table,
                 at: at,
             };
@@ -112,7 +113,7 @@ pub fn answer(
                 end: e,
             }
         }
-        Form::Bad => {
+        LineForm::Bad => {
             let e = replies::put_bad(reply, at);
             Done {
                 table: table,
@@ -133,11 +134,11 @@ pub fn answer_lines(
     flat: &mut [u8],
     pane: &mut [u8],
     reply: &mut [u8],
-) -> Turn
+) -> AfterLines
     requires { ⌜ IsSound (now words) (now text) table ⌝ }
     requires { ⌜ room (now flat) (now pane) ≤ length (now reply) ⌝ }
     requires { ⌜ from ≤ length (now input) ⌝ }
-    ensures { λ r. ⌜ Talked (now (words .entry)) (now (text .entry)) (now (words .exit)) (now (text .exit)) table (now (input .entry)) from (output (now (flat .entry)) (now (pane .entry))) (now (reply .entry)) (now (reply .exit)) r ⌝ }
+    ensures { λ r. ⌜ Talked (old words) (old text) (new words) (new text) table (old input) from (output (old flat) (old pane)) (old reply) (new reply) r ⌝ }
 {
     let size = flat.len() / output::LINE_BYTES * 40 + pane.len() + 40;
     let mut t = table;
@@ -153,7 +154,7 @@ pub fn answer_lines(
         at = d.end;
         i = e + 1;
     }
-    Turn {
+    AfterLines {
         table: t,
         end: at,
         next: i,

@@ -29,11 +29,11 @@ use Rattle.leaves.specs.declared.Change.{Change}
 use Rattle.change.specs.declared.Descent.{Descent}
 use Rattle.lookup.specs.Tries.{Reads}
 use Rattle.leaves.specs.Leaves.{which-of, leaf-of, Included, ChangeOk, Leaf, Builds, LeafBuilt}
-use Rattle.change.specs.Changes.{between, passed, Kinds, node-of, mutated, namespaces-mutated, Cut, Node, NamespacesMutation, Mutation, NodeBuilt, NamespacesMutated, Mutated}
+use Rattle.change.specs.Changes.{between, passed, Kinds, node-of, mutated, namespaces-mutated, SegmentCut, Node, NamespacesMutation, Mutation, NodeBuilt, NamespacesMutated, Mutated}
 use Rattle.memory.proofs.Tries.{Lists, lists-in}
 use Rattle.lookup.proofs.Links.{holder-scope}
-use Rattle.change.proofs.Between.{place-next, passed-next, key-in}
-use Rattle.leaves.proofs.Building.{inserted-within, scope-insertion, scope-built}
+use Rattle.change.proofs.QueryPlace.{place-next, passed-next, key-in}
+use Rattle.leaves.proofs.Builds.{inserted-within, scope-insertion, scope-built}
 use Rattle.leaves.proofs.Leaves.{less-room}
 
 -- ---- namespaces_mutate
@@ -117,7 +117,7 @@ change-stays {ch} {ws} {ws′} {n = n} {n′} m c = record { sound = m .sound; t
     stays form.Import i = made-link m (omega arith) i
     stays (form.Module loaded) i = i
 
-module _ {ws txt : List ℕ} {n used x at len : ℕ} {d : Descent} {p : M.Trie} (m : Mutation ws txt n used x at d) (c : Cut txt at len (d .end)) (q : ReadTrie ws x p) where
+module _ {ws txt : List ℕ} {n used x at len : ℕ} {d : Descent} {p : M.Trie} (m : Mutation ws txt n used x at d) (c : SegmentCut txt at len (d .end)) (q : ReadTrie ws x p) where
   mutation-lists : Lists ws txt n (which-of (d .change)) x p
   mutation-lists = lists-in (m .change .sound) (m .link) q
 

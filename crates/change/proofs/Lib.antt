@@ -1,4 +1,4 @@
-pub mod Between
+pub mod QueryPlace
 pub mod Nodes
 pub mod Cycle
 pub mod Registered

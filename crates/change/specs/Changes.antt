@@ -33,7 +33,7 @@ abbrev pub passed : List ℕ → ℕ → ℕ → Query
 passed txt from at = reverse (between txt from at)
 
 -- A query from from to end, and in it the place between two segments.
-pub record Place (txt : List ℕ) (used from at end : ℕ) : Type 0 where
+pub record QueryPlace (txt : List ℕ) (used from at end : ℕ) : Type 0 where
   pub early : from ≤ at
   pub inside : at ≤ end
   pub within : end ≤ used
@@ -42,7 +42,7 @@ pub record Place (txt : List ℕ) (used from at end : ℕ) : Type 0 where
   pub query : IsQuery (between txt from end)
 
 -- The len bytes from at on are the next segment of a text that ends at end.
-pub record Cut (txt : List ℕ) (at len end : ℕ) : Type 0 where
+pub record SegmentCut (txt : List ℕ) (at len end : ℕ) : Type 0 where
   pub inside : at + len < end
   pub alone : between txt at (at + len + 1) ≡ span txt at len ∷ []
   pub splits : between txt at end ≡ span txt at len ∷ between txt (at + len + 1) end
@@ -109,8 +109,8 @@ pub record Bindings (ws txt : List ℕ) (n used x at len : ℕ) (d : Descent) (f
   pub sound : Used ws txt n used
   pub text-ok : TextFor f txt used (d .change .text)
   pub link : LinkOk ws (n + 1) x (kind (which-by f) (list bind))
-  pub place : Place txt used (d .from) at (d .end)
-  pub cut : Cut txt at len (d .end)
+  pub place : QueryPlace txt used (d .from) at (d .end)
+  pub cut : SegmentCut txt at len (d .end)
   pub room : Room ws n (bindings-at txt at len d f (what (which-by f) ws txt x (list bind)) .count)
   pub light : heaviest-names (bindings-at txt at len d f (what (which-by f) ws txt x (list bind)) .value) ≤ heaviest-list
 
@@ -119,23 +119,23 @@ pub record Node (ws txt : List ℕ) (n used x y at len : ℕ) (d : Descent) : Ty
   pub change : ChangeOk ws txt n used (d .change)
   pub link : LinkOk ws (n + 1) x (kind (which-of (d .change)) trieˢ)
   pub list-link : LinkOk ws (n + 1) y (kind (which-of (d .change)) (list ns))
-  pub place : Place txt used (d .from) at (d .end)
-  pub cut : Cut txt at len (d .end)
+  pub place : QueryPlace txt used (d .from) at (d .end)
+  pub cut : SegmentCut txt at len (d .end)
   pub fits : Fits ws n (node-at ws txt x y at len d)
 
 -- What namespaces_mutate asks.
 pub record NamespacesMutation (ws txt : List ℕ) (n used x at len : ℕ) (d : Descent) : Type 0 where
   pub change : ChangeOk ws txt n used (d .change)
   pub link : LinkOk ws (n + 1) x (kind (which-of (d .change)) (list ns))
-  pub place : Place txt used (d .from) at (d .end)
-  pub cut : Cut txt at len (d .end)
+  pub place : QueryPlace txt used (d .from) at (d .end)
+  pub cut : SegmentCut txt at len (d .end)
   pub fits : FitsNames ws n (namespaces-mutated ws txt (d .change) (what (which-of (d .change)) ws txt x (list ns)) (d .from) at len (d .end))
 
 -- What trie_mutate asks.
 pub record Mutation (ws txt : List ℕ) (n used x at : ℕ) (d : Descent) : Type 0 where
   pub change : ChangeOk ws txt n used (d .change)
   pub link : LinkOk ws (n + 1) x (kind (which-of (d .change)) trieˢ)
-  pub place : Place txt used (d .from) at (d .end)
+  pub place : QueryPlace txt used (d .from) at (d .end)
   pub fits : Fits ws n (mutated ws txt (d .change) (what (which-of (d .change)) ws txt x trieˢ) (d .from) at (d .end))
 
 -- ---- What a change makes

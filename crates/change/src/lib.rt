@@ -9,12 +9,13 @@ ghost use mathlib.Core.Path.{_≡_};
 ghost use mathlib.Core.Bool.{true};
 ghost use Prim.Native.Nat.{_+_, _-_, _<_, _≤_};
 ghost use lib.ListN.{length};
+ghost use Rattle.source.specs.Lent.{old, new};
 ghost use Rattle.source.specs.Limits.{most-used};
 ghost use Rattle.source.specs.Text.{ends-in-dot};
 ghost use Rattle.memory.specs.Layout.{span};
 ghost use Rattle.kinds.specs.declared.Form.the-variants as form;
 ghost use Rattle.leaves.specs.Leaves.{Some};
-ghost use Rattle.change.specs.Changes.{form-of, Kinds, symbol-row, Cut, Bindings, Node, NamespacesMutation, Mutation, BindingsBuilt, NodeBuilt, NamespacesMutated, Mutated};
+ghost use Rattle.change.specs.Changes.{form-of, Kinds, symbol-row, SegmentCut, Bindings, Node, NamespacesMutation, Mutation, BindingsBuilt, NodeBuilt, NamespacesMutated, Mutated};
 
 // What stays the same on the way down a query: where the query begins and ends in the text, and the change at its end.
 pub struct Descent {
@@ -26,7 +27,7 @@ pub struct Descent {
 // The length of the segment of the text that begins at `at`.
 fn segment_in(text: &[u8], at: u32, end: u32) -> u32
     requires { ⌜ (at < end) × (end ≤ length (now text)) × (end ≤ most-used) × (ends-in-dot (span (now text) at (end - at)) ≡ true) ⌝ }
-    ensures { λ r. ⌜ Cut (now (text .entry)) at r end ⌝ }
+    ensures { λ r. ⌜ SegmentCut (old text) at r end ⌝ }
 {
     let first = at as usize;
     let last = end as usize;
@@ -85,7 +86,7 @@ fn ins(
     loaded: bool,
 ) -> Built
     requires { ⌜ Some (λ used. Bindings (now words) (now text) records used bindings at len d (form.Module loaded)) ⌝ }
-    ensures { λ r. ⌜ BindingsBuilt (now (words .entry)) (now (words .exit)) (now (text .entry)) records bindings at len d (form.Module loaded) (r .link) (r .records) ⌝ }
+    ensures { λ r. ⌜ BindingsBuilt (old words) (new words) (old text) records bindings at len d (form.Module loaded) (r .link) (r .records) ⌝ }
 {
     let first = at as usize;
     let size = len as usize;
@@ -117,7 +118,7 @@ fn mut_bindings(
     d: Descent,
 ) -> Built
     requires { ⌜ Some (λ used. Bindings (now words) (now text) records used bindings at len d (form-of d)) ⌝ }
-    ensures { λ r. ⌜ BindingsBuilt (now (words .entry)) (now (words .exit)) (now (text .entry)) records bindings at len d (form-of d) (r .link) (r .records) ⌝ }
+    ensures { λ r. ⌜ BindingsBuilt (old words) (new words) (old text) records bindings at len d (form-of d) (r .link) (r .records) ⌝ }
 {
     let change = d.change;
     let kind = change.kind;
@@ -148,7 +149,7 @@ fn mut_node(
     d: Descent,
 ) -> Built
     requires { ⌜ Some (λ used. Node (now words) (now text) records used trie namespaces at len d) ⌝ }
-    ensures { λ r. ⌜ NodeBuilt (now (words .entry)) (now (words .exit)) (now (text .entry)) records trie namespaces at len d (r .link) (r .records) ⌝ }
+    ensures { λ r. ⌜ NodeBuilt (old words) (new words) (old text) records trie namespaces at len d (r .link) (r .records) ⌝ }
 {
     let t = memory::trie_of(words, trie);
     let b = mut_bindings(words, text, records, t.bindings, at, len, d);
@@ -171,7 +172,7 @@ fn namespaces_mutate(
     d: Descent,
 ) -> Built
     requires { ⌜ Some (λ used. NamespacesMutation (now words) (now text) records used namespaces at len d) ⌝ }
-    ensures { λ r. ⌜ NamespacesMutated (now (words .entry)) (now (words .exit)) (now (text .entry)) records namespaces at len d (r .link) (r .records) ⌝ }
+    ensures { λ r. ⌜ NamespacesMutated (old words) (new words) (old text) records namespaces at len d (r .link) (r .records) ⌝ }
 {
     let first = at as usize;
     let size = len as usize;
@@ -201,7 +202,7 @@ pub fn trie_mutate(
     d: Descent,
 ) -> Built
     requires { ⌜ Some (λ used. Mutation (now words) (now text) records used trie at d) ⌝ }
-    ensures { λ r. ⌜ Mutated (now (words .entry)) (now (words .exit)) (now (text .entry)) records trie at d (r .link) (r .records) ⌝ }
+    ensures { λ r. ⌜ Mutated (old words) (new words) (old text) records trie at d (r .link) (r .records) ⌝ }
 {
     if at == d.end {
         return mut_leaf(words, text, records, trie, d.change);

@@ -27,12 +27,12 @@ use Rattle.output.specs.Output.{line-bytes, signed-word, Written}
 use Rattle.output.specs.Run.{Tally, Limits, Small, path-in, tally-in, matched-in}
 use Rattle.lines.specs.Goes.{Shows, Past, Fit, Goes}
 use Rattle.asks.specs.declared.Ask.{Ask}
-use Rattle.lines.proofs.Counting.{tally-is, tells-past}
+use Rattle.lines.proofs.Capped.{tally-is, tells-past}
 use Rattle.steps.specs.Steps.{Matching}
 use Rattle.listing.specs.Runs.{trie-gives, TrieReady, TrieRuns, TrieListed}
 use Rattle.completion.specs.Completes.{output, output-rows, start-run, lines-of, CompletesAs, CompletesTrie}
 use Rattle.completion.specs.declared.Completion.the-variants.{Listed, Spent, Lines}
-use Rattle.listing.proofs.Loops.{no-label}
+use Rattle.listing.proofs.Listed.{no-label}
 use Rattle.memory.specs.Sound.{At}
 
 -- The path to the root, nothing counted, and no element matched.

@@ -4,6 +4,7 @@ ghost use mathlib.Core.Path.{_≡_};
 ghost use mathlib.Core.Bool.{true};
 ghost use Prim.Native.Nat.{_≤_, min};
 ghost use lib.ListN.{length};
+ghost use Rattle.source.specs.Lent.{old, new};
 ghost use Rattle.source.specs.Limits.{longest-query};
 ghost use Rattle.source.specs.Text.{ends-in-dot};
 ghost use Rattle.memory.specs.Layout.{trieˢ};
@@ -53,8 +54,8 @@ pub fn complete(
 ) -> Completion
     requires { ⌜ At (now words) (now text) (asked ask) trieˢ root ⌝ }
     requires { ⌜ (ends-in-dot (now query) ≡ true) × (length (now query) ≤ longest-query) ⌝ }
-    ensures { λ r. ⌜ CompletesTrie (now (words .entry)) (now (text .entry)) ask root (now (query .entry)) budget
-        (now (flat .entry)) (now (flat .exit)) (now (out .entry)) (now (out .exit)) r ⌝ }
+    ensures { λ r. ⌜ CompletesTrie (old words) (old text) ask root (old query) budget
+        (old flat) (new flat) (old out) (new out) r ⌝ }
 {
     let lines = lent(flat.len() / output::LINE_BYTES);
     let bytes = lent(out.len());

@@ -9,7 +9,7 @@ use Rattle.source.specs.Calls.{Output}
 use Rattle.text.specs.Laid.{Laid}
 use Rattle.text.proofs.Laid.{laid-length}
 use Rattle.table.specs.Header.{IsSound}
-use Rattle.feed.specs.Feed.{Inside, Steps}
+use Rattle.feed.specs.Feed.{Inside, Feeds}
 use Rattle.feed.specs.declared.Feed.{Feed}
 use Rattle.feed.specs.declared.Progress.{Progress}
 
@@ -41,7 +41,7 @@ steady-start flat pane reply s i =
     record { sound = s; inside = i; words-size = refl; text-size = refl; input-size = refl; flat-size = refl; pane-size = refl; reply-size = refl }
 
 pub steady-on : {words₀ text₀ input₀ flat₀ pane₀ reply₀ words text input flat pane reply words′ text′ input′ flat′ pane′ reply′ : List ℕ} {out : Output} {g : Feed} {r : Progress}
-    → Steady words₀ text₀ input₀ flat₀ pane₀ reply₀ words text input flat pane reply g → Steps words text words′ text′ g input input′ out reply reply′ r
+    → Steady words₀ text₀ input₀ flat₀ pane₀ reply₀ words text input flat pane reply g → Feeds words text words′ text′ g input input′ out reply reply′ r
     → length input′ ≡ length input → length flat′ ≡ length flat → length pane′ ≡ length pane
     → Steady words₀ text₀ input₀ flat₀ pane₀ reply₀ words′ text′ input′ flat′ pane′ reply′ (r .feed)
 steady-on s x i f p = record {

@@ -6,7 +6,7 @@ use mathlib.Core.List.{List}
 use lib.ListN.{length, take}
 use Rattle.table.specs.Header.{IsSound}
 use Rattle.feed.specs.Feed.{Inside}
-use Rattle.console.specs.declared.Rest.{Rest}
+use Rattle.console.specs.declared.AfterRead.{AfterRead}
 
 -- A read leaves the bytes that were there, and what is read stands after them (a read of feed's `Run`).
 pub record Filled (input input′ : List ℕ) (have n : ℕ) : Type 0 where
@@ -15,7 +15,7 @@ pub record Filled (input input′ : List ℕ) (have n : ℕ) : Type 0 where
   pub inside : n ≤ length input′
 
 -- The table is sound, and what is left lies in the input; after all replies, at its start, and leaves room for a read.
-pub record Rests (ws txt input : List ℕ) (r : Rest) : Type 0 where
+pub record Rests (ws txt input : List ℕ) (r : AfterRead) : Type 0 where
   pub sound : IsSound ws txt (r .feed .table)
   pub inside : Inside (r .feed) input
   pub short : r .written ≡ true → (r .feed .from ≡ 0) × (r .feed .have ≤ 2049)

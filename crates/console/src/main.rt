@@ -5,6 +5,7 @@ mod help;
 
 ghost use Prim.Native.Nat.{_≤_};
 ghost use lib.ListN.{length};
+ghost use Rattle.source.specs.Lent.{old, new};
 ghost use Rattle.table.specs.Header.{IsSound};
 ghost use Rattle.questions.specs.RowReplies.{room};
 ghost use Rattle.feed.specs.Feed.{Inside};
@@ -22,7 +23,7 @@ struct Got {
 }
 
 // What is left after a read was answered, and whether every reply was written.
-struct Rest {
+struct AfterRead {
     feed: Feed,
     written: bool,
 }
@@ -30,7 +31,7 @@ struct Rest {
 // Reads more into `input`, after the first `have` bytes.
 fn fill(input: &mut [u8], have: usize) -> Got
     requires { ⌜ have ≤ length (now input) ⌝ }
-    ensures { λ r. ⌜ Filled (now (input .entry)) (now (input .exit)) have (r .n) ⌝ }
+    ensures { λ r. ⌜ Filled (old input) (new input) have (r .n) ⌝ }
 {
     let got = libc::read(STDIN_FILENO, &mut input[have..]);
     if got < 0 {
@@ -79,11 +80,11 @@ fn reply_all(
     flat: &mut [u8],
     pane: &mut [u8],
     reply: &mut [u8],
-) -> Rest
+) -> AfterRead
     requires { ⌜ IsSound (now words) (now text) (f .table) ⌝ }
     requires { ⌜ room (now flat) (now pane) ≤ length (now reply) ⌝ }
     requires { ⌜ Inside f (now input) ⌝ }
-    ensures { λ r. ⌜ Rests (now (words .exit)) (now (text .exit)) (now (input .exit)) r ⌝ }
+    ensures { λ r. ⌜ Rests (new words) (new text) (new input) r ⌝ }
 {
     let mut g = f;
     loop {
@@ -91,13 +92,13 @@ fn reply_all(
         let e = r.end;
         g = r.feed;
         if !put(STDOUT_FILENO, &reply[..e]) {
-            return Rest {
+            return AfterRead {
                 feed: g,
                 written: false,
             };
         }
         if !r.more {
-            return Rest {
+            return AfterRead {
                 feed: g,
                 written: true,
             };

@@ -14,19 +14,19 @@ use Rattle.table.specs.declared.Table.{Table}
 use Rattle.table.specs.declared.Registration.{Registration}
 use Rattle.table.specs.declared.Finding.{Finding}
 use Rattle.table.specs.declared.Listing.{Listing}
-use Rattle.table.proofs.Decided.{decided}
+use Rattle.table.proofs.Says.{decided}
 use Rattle.numbers.specs.Replies.{name-reply, lines-reply}
 use Rattle.numbers.specs.declared.NameReply.{NameReply}
 use Rattle.numbers.specs.declared.CompleteReply.{CompleteReply}
-use Rattle.exports.specs.Replies.{ask-of, reply-of, Replies, FindReplies, ListReplies}
+use Rattle.exports.specs.Replies.{ask-of, reply-of, RegisterReplies, FindReplies, ListReplies}
 use Rattle.exports.specs.declared.Reply.{Reply}
 
 module _ {ws txt ws′ txt′ : List ℕ} {t t′ : Table} {c : Call} {x : Registration} {r : Reply} where
-  pub replies : t ≡ t′ → Total ws txt ws′ txt′ t c x → r ≡ reply-of x → Replies ws txt ws′ txt′ t′ c r
+  pub replies : t ≡ t′ → Total ws txt ws′ txt′ t c x → r ≡ reply-of x → RegisterReplies ws txt ws′ txt′ t′ c r
   replies e a f = record { answer = x; total = subst (λ u. Total ws txt ws′ txt′ u c x) e a; reply = f }
 
   -- In a sound memory.
-  pub replies-sound : t ≡ t′ → IsSound ws txt t′ → Answers true ws txt ws′ txt′ t c x → r ≡ reply-of x → Replies ws txt ws′ txt′ t′ c r
+  pub replies-sound : t ≡ t′ → IsSound ws txt t′ → Answers true ws txt ws′ txt′ t c x → r ≡ reply-of x → RegisterReplies ws txt ws′ txt′ t′ c r
   replies-sound e o a f = record { answer = x; total = λ b h. rw (decided _ b true h o) (subst (λ u. Answers true ws txt ws′ txt′ u c x) e a); reply = f }
 
 pub finds-replies : {ws txt : List ℕ} {t t′ : Table} {query : Str} {x : Finding} {r : NameReply} → t ≡ t′ → Finds ws txt t query x → r ≡ name-reply (name-found (x .answer)) → FindReplies ws txt t′ query r

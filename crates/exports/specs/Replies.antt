@@ -49,7 +49,7 @@ reply-of x = record {
 }
 
 -- The reply to a registration: that of what table's contract says.
-pub record Replies (ws txt ws′ txt′ : List ℕ) (t : Table) (c : Call) (r : Reply) : Type 0 where
+pub record RegisterReplies (ws txt ws′ txt′ : List ℕ) (t : Table) (c : Call) (r : Reply) : Type 0 where
   pub answer : Registration
   pub total : Total ws txt ws′ txt′ t c answer
   pub reply : r ≡ reply-of answer

@@ -9,10 +9,11 @@ use table::Registered;
 use table::Registration;
 use table::Table;
 ghost use mathlib.Core.Path.{_≡_};
+ghost use Rattle.source.specs.Lent.{old, new};
 ghost use Rattle.source.specs.Calls.{name, include, opens, alias, module-path};
 ghost use Rattle.memory.specs.Sound.{Says};
 ghost use Rattle.table.specs.Header.{IsSound};
-ghost use Rattle.exports.specs.Replies.{table-of, ask-of, refusal-of, reply-of, Replies, FindReplies, ListReplies};
+ghost use Rattle.exports.specs.Replies.{table-of, ask-of, refusal-of, reply-of, RegisterReplies, FindReplies, ListReplies};
 
 // A registration's reply: 0 or the number of the refusal, and the table.
 #[repr(C)]
@@ -89,7 +90,7 @@ pub extern "C" fn name_table_sound(
     records: u32,
     used: u32,
 ) -> bool
-    ensures { λ r. ⌜ Says r (IsSound (now (words .entry)) (now (text .entry)) (table-of names modules records used)) ⌝ }
+    ensures { λ r. ⌜ Says r (IsSound (old words) (old text) (table-of names modules records used)) ⌝ }
 {
     let t = table_of(names, modules, records, used);
     t.is_sound(words, text)
@@ -107,8 +108,8 @@ pub extern "C" fn name_table_insert(
     id: &[u8],
     item: u32,
 ) -> Reply
-    ensures { λ r. ⌜ Replies (now (words .entry)) (now (text .entry)) (now (words .exit)) (now (text .exit)) (table-of names modules records used)
-        (name (now (host .entry)) (now (id .entry)) item) r ⌝ }
+    ensures { λ r. ⌜ RegisterReplies (old words) (old text) (new words) (new text) (table-of names modules records used)
+        (name (old host) (old id) item) r ⌝ }
 {
     let t = table_of(names, modules, records, used);
     reply_of(t.insert(words, text, host, id, item))
@@ -125,8 +126,8 @@ pub extern "C" fn name_table_include(
     host: &[u8],
     query: &[u8],
 ) -> Reply
-    ensures { λ r. ⌜ Replies (now (words .entry)) (now (text .entry)) (now (words .exit)) (now (text .exit)) (table-of names modules records used)
-        (include (now (host .entry)) (now (query .entry))) r ⌝ }
+    ensures { λ r. ⌜ RegisterReplies (old words) (old text) (new words) (new text) (table-of names modules records used)
+        (include (old host) (old query)) r ⌝ }
 {
     let t = table_of(names, modules, records, used);
     reply_of(t.register_include(words, text, host, query))
@@ -144,8 +145,8 @@ pub extern "C" fn name_table_open(
     host: &[u8],
     query: &[u8],
 ) -> Reply
-    ensures { λ r. ⌜ Replies (now (words .entry)) (now (text .entry)) (now (words .exit)) (now (text .exit)) (table-of names modules records used)
-        (opens modular (now (host .entry)) (now (query .entry))) r ⌝ }
+    ensures { λ r. ⌜ RegisterReplies (old words) (old text) (new words) (new text) (table-of names modules records used)
+        (opens modular (old host) (old query)) r ⌝ }
 {
     let t = table_of(names, modules, records, used);
     reply_of(t.register_open(words, text, modular, host, query))
@@ -163,8 +164,8 @@ pub extern "C" fn name_table_alias(
     host: &[u8],
     query: &[u8],
 ) -> Reply
-    ensures { λ r. ⌜ Replies (now (words .entry)) (now (text .entry)) (now (words .exit)) (now (text .exit)) (table-of names modules records used)
-        (alias (now (key .entry)) (now (host .entry)) (now (query .entry))) r ⌝ }
+    ensures { λ r. ⌜ RegisterReplies (old words) (old text) (new words) (new text) (table-of names modules records used)
+        (alias (old key) (old host) (old query)) r ⌝ }
 {
     let t = table_of(names, modules, records, used);
     reply_of(t.register_alias(words, text, key, host, query))
@@ -182,8 +183,8 @@ pub extern "C" fn name_table_module(
     query: &[u8],
     path: &[u8],
 ) -> Reply
-    ensures { λ r. ⌜ Replies (now (words .entry)) (now (text .entry)) (now (words .exit)) (now (text .exit)) (table-of names modules records used)
-        (module-path loaded (now (query .entry)) (now (path .entry))) r ⌝ }
+    ensures { λ r. ⌜ RegisterReplies (old words) (old text) (new words) (new text) (table-of names modules records used)
+        (module-path loaded (old query) (old path)) r ⌝ }
 {
     let t = table_of(names, modules, records, used);
     reply_of(t.register_module_path(words, text, loaded, query, path))
@@ -199,7 +200,7 @@ pub extern "C" fn name_table_find(
     used: u32,
     query: &[u8],
 ) -> NameReply
-    ensures { λ r. ⌜ FindReplies (now (words .entry)) (now (text .entry)) (table-of names modules records used) (now (query .entry)) r ⌝ }
+    ensures { λ r. ⌜ FindReplies (old words) (old text) (table-of names modules records used) (old query) r ⌝ }
 {
     let t = table_of(names, modules, records, used);
     numbers::name_reply(t.find(words, text, query))
@@ -219,8 +220,8 @@ pub extern "C" fn name_table_complete(
     flat: &mut [u8],
     out: &mut [u8],
 ) -> CompleteReply
-    ensures { λ r. ⌜ ListReplies (now (words .entry)) (now (text .entry)) (table-of names modules records used) ask (now (query .entry)) budget
-        (now (flat .entry)) (now (flat .exit)) (now (out .entry)) (now (out .exit)) r ⌝ }
+    ensures { λ r. ⌜ ListReplies (old words) (old text) (table-of names modules records used) ask (old query) budget
+        (old flat) (new flat) (old out) (new out) r ⌝ }
 {
     let t = table_of(names, modules, records, used);
     numbers::lines_reply(t.complete(words, text, ask_of(ask), query, budget, flat, out))
@@ -240,8 +241,8 @@ pub extern "C" fn name_table_insert_sound(
     item: u32,
 ) -> Reply
     requires { ⌜ IsSound (now words) (now text) (table-of names modules records used) ⌝ }
-    ensures { λ r. ⌜ Replies (now (words .entry)) (now (text .entry)) (now (words .exit)) (now (text .exit)) (table-of names modules records used)
-        (name (now (host .entry)) (now (id .entry)) item) r ⌝ }
+    ensures { λ r. ⌜ RegisterReplies (old words) (old text) (new words) (new text) (table-of names modules records used)
+        (name (old host) (old id) item) r ⌝ }
 {
     let t = table_of(names, modules, records, used);
     reply_of(t.insert_sound(words, text, host, id, item))
@@ -258,7 +259,7 @@ pub extern "C" fn name_table_find_sound(
     query: &[u8],
 ) -> NameReply
     requires { ⌜ IsSound (now words) (now text) (table-of names modules records used) ⌝ }
-    ensures { λ r. ⌜ FindReplies (now (words .entry)) (now (text .entry)) (table-of names modules records used) (now (query .entry)) r ⌝ }
+    ensures { λ r. ⌜ FindReplies (old words) (old text) (table-of names modules records used) (old query) r ⌝ }
 {
     let t = table_of(names, modules, records, used);
     numbers::name_reply(t.find_sound(words, text, query))
@@ -279,8 +280,8 @@ pub extern "C" fn name_table_complete_sound(
     out: &mut [u8],
 ) -> CompleteReply
     requires { ⌜ IsSound (now words) (now text) (table-of names modules records used) ⌝ }
-    ensures { λ r. ⌜ ListReplies (now (words .entry)) (now (text .entry)) (table-of names modules records used) ask (now (query .entry)) budget
-        (now (flat .entry)) (now (flat .exit)) (now (out .entry)) (now (out .exit)) r ⌝ }
+    ensures { λ r. ⌜ ListReplies (old words) (old text) (table-of names modules records used) ask (old query) budget
+        (old flat) (new flat) (old out) (new out) r ⌝ }
 {
     let t = table_of(names, modules, records, used);
     numbers::lines_reply(t.complete_sound(words, text, ask_of(ask), query, budget, flat, out))

@@ -1,4 +1,4 @@
--- A step is the session of the lines that were answered (`Steps`), and the end that of what is left (`Ends`).
+-- A step is the session of the lines that were answered (`Feeds`), and the end that of what is left (`Ends`).
 use Prim.Native.Nat.{ℕ, zero, suc, _+_, _-_, _<_, _≤_, min}
 use native.Mathlib.Omega.{arith}
 use mathlib.Core.Path.{_≡_, refl, sym, ap, ap₂, _∙_, subst}
@@ -15,8 +15,8 @@ use Rattle.registrations.specs.declared.Done.{Done}
 use Rattle.memory.proofs.Outside.{outside-none}
 use Rattle.answers.specs.Outcomes.{Session, none, then, unlines}
 use Rattle.answers.specs.Answers.{Answered, Talked}
-use Rattle.answers.specs.declared.Turn.{Turn}
-use Rattle.feed.specs.Feed.{pending, Inside, Moves, Kept, whole, start, Steps, last-line, Ends}
+use Rattle.answers.specs.declared.AfterLines.{AfterLines}
+use Rattle.feed.specs.Feed.{pending, Inside, Moves, Kept, whole, start, Feeds, last-line, Ends}
 use Rattle.feed.specs.declared.Feed.{Feed}
 
 -- ---- Parts of lists
@@ -52,7 +52,7 @@ moved-is {input} {input′} {from} {have} {n} h m =
 
 -- ---- A step
 
-module _ {ws txt ws′ txt′ input reply reply′ : List ℕ} {out : Output} {f : Feed} {r : Turn} (i : Inside f input)
+module _ {ws txt ws′ txt′ input reply reply′ : List ℕ} {out : Output} {f : Feed} {r : AfterLines} (i : Inside f input)
     (x : Talked ws txt ws′ txt′ (f .table) (take (f .have) input) (f .from) out reply reply′ r) where
   abbrev rest : Str
   rest = drop (r .next) (take (f .have) input)
@@ -65,7 +65,7 @@ module _ {ws txt ws′ txt′ input reply reply′ : List ℕ} {out : Output} {f
 
   -- Whole lines may be left.
   pub steps-on : f .from < r .next
-      → Steps ws txt ws′ txt′ f input input out reply reply′ (record { feed = record { table = r .table; from = r .next; have = f .have }; end = r .end; more = true })
+      → Feeds ws txt ws′ txt′ f input input out reply reply′ (record { feed = record { table = r .table; from = r .next; have = f .have }; end = r .end; more = true })
   steps-on l = record {
     lines = x .lines;
     each = x .each;
@@ -85,7 +85,7 @@ module _ {ws txt ws′ txt′ input reply reply′ : List ℕ} {out : Output} {f
 
   -- There is none left.
   pub steps-out : {input′ : List ℕ} {n : ℕ} → r .next ≤ f .from → length input′ ≡ length input → Moves input input′ (f .from) (f .have) n
-      → Steps ws txt ws′ txt′ f input input′ out reply reply′ (record { feed = record { table = r .table; from = 0; have = n }; end = r .end; more = false })
+      → Feeds ws txt ws′ txt′ f input input′ out reply reply′ (record { feed = record { table = r .table; from = 0; have = n }; end = r .end; more = false })
   steps-out {input′} {n} l size m =
       let e : r .next ≡ f .from = omega (arith, x .next-fits .0) in
       let a : All Line rest = rw e (x .goes-on e .1) in

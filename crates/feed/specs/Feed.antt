@@ -37,7 +37,7 @@ pub data Kept : Str → Str → Type 0 where
   start : {s : Str} → All Line s → Kept s (take 2049 s)
 
 -- A step: the session of some whole lines, its replies at the start of the reply text, and what follows them kept.
-pub record Steps (ws txt ws′ txt′ : List ℕ) (f : Feed) (input input′ : List ℕ) (out : Output) (reply reply′ : List ℕ) (r : Progress) : Type 0 where
+pub record Feeds (ws txt ws′ txt′ : List ℕ) (f : Feed) (input input′ : List ℕ) (out : Output) (reply reply′ : List ℕ) (r : Progress) : Type 0 where
   pub lines : List Str
   pub each : Allˡ (All Line) lines
   pub rest : Str

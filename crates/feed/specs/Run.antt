@@ -10,7 +10,7 @@ use Rattle.numerals.specs.Bytes.{Str, _·_, All}
 use Rattle.numerals.specs.declared.Sort.the-variants.{Line}
 use Rattle.table.specs.Header.{state}
 use Rattle.registrations.specs.declared.Done.{Done}
-use Rattle.feed.specs.Feed.{pending, last-line, Inside, Steps, Ends}
+use Rattle.feed.specs.Feed.{pending, last-line, Inside, Feeds, Ends}
 use Rattle.feed.specs.declared.Feed.{Feed}
 use Rattle.feed.specs.declared.Progress.{Progress}
 
@@ -43,7 +43,7 @@ pub data Run (out : Output) : Program → List Str → Str → State → Type 0 
       → take (p .feed .have) input ≡ take (p .feed .have) (p .input) → p .feed .have + n ≤ length input
       → Run out (fed p input n) reads written s → Run out p (take n (drop (p .feed .have) input) ∷ reads) written s
   step : {p : Program} {reads : List Str} {written : Str} {s : State} {ws txt input reply reply′ : List ℕ} {r : Progress}
-      → Steps (p .words) (p .text) ws txt (p .feed) (p .input) input out reply reply′ r
+      → Feeds (p .words) (p .text) ws txt (p .feed) (p .input) input out reply reply′ r
       → Run out (record { words = ws; text = txt; input = input; feed = r .feed }) reads written s → Run out p reads (take (r .end) reply′ · written) s
   end : {p : Program} {ws txt reply reply′ : List ℕ} {r : Done} → All Line (pending (p .feed) (p .input))
       → Ends (p .words) (p .text) ws txt (p .feed) (p .input) out reply reply′ r → Run out p [] (take (r .end) reply′) (state ws txt (r .table))

@@ -6,10 +6,11 @@ use table::Table;
 ghost use mathlib.Core.Path.{_≡_};
 ghost use Prim.Native.Nat.{_≤_, min};
 ghost use lib.ListN.{length};
+ghost use Rattle.source.specs.Lent.{old, new};
 ghost use Rattle.completion.specs.Completes.{output};
 ghost use Rattle.table.specs.Header.{IsSound};
 ghost use Rattle.questions.specs.RowReplies.{room};
-ghost use Rattle.feed.specs.Feed.{Inside, Moves, Steps, Ends};
+ghost use Rattle.feed.specs.Feed.{Inside, Moves, Feeds, Ends};
 
 // The table, and which bytes of the input text are not answered yet: those from `from` up to `have`.
 pub struct Feed {
@@ -39,7 +40,7 @@ fn short(n: usize) -> usize
 // whatever follows, 2,049 bytes are kept.
 fn keep(input: &mut [u8], from: usize, have: usize) -> usize
     requires { ⌜ (from ≤ have) × (have ≤ length (now input)) ⌝ }
-    ensures { λ r. ⌜ Moves (now (input .entry)) (now (input .exit)) from have r ⌝ }
+    ensures { λ r. ⌜ Moves (old input) (new input) from have r ⌝ }
 {
     let n = short(have - from);
     let mut i = 0;
@@ -64,7 +65,7 @@ pub fn step(
     requires { ⌜ IsSound (now words) (now text) (f .table) ⌝ }
     requires { ⌜ room (now flat) (now pane) ≤ length (now reply) ⌝ }
     requires { ⌜ Inside f (now input) ⌝ }
-    ensures { λ r. ⌜ Steps (now (words .entry)) (now (text .entry)) (now (words .exit)) (now (text .exit)) f (now (input .entry)) (now (input .exit)) (output (now (flat .entry)) (now (pane .entry))) (now (reply .entry)) (now (reply .exit)) r ⌝ }
+    ensures { λ r. ⌜ Feeds (old words) (old text) (new words) (new text) f (old input) (new input) (output (old flat) (old pane)) (old reply) (new reply) r ⌝ }
 {
     let t = f.table;
     let from = f.from;
@@ -109,7 +110,7 @@ pub fn last(
     requires { ⌜ IsSound (now words) (now text) (f .table) ⌝ }
     requires { ⌜ room (now flat) (now pane) ≤ length (now reply) ⌝ }
     requires { ⌜ Inside f (now input) ⌝ }
-    ensures { λ r. ⌜ Ends (now (words .entry)) (now (text .entry)) (now (words .exit)) (now (text .exit)) f (now (input .entry)) (output (now (flat .entry)) (now (pane .entry))) (now (reply .entry)) (now (reply .exit)) r ⌝ }
+    ensures { λ r. ⌜ Ends (old words) (old text) (new words) (new text) f (old input) (output (old flat) (old pane)) (old reply) (new reply) r ⌝ }
 {
     let t = f.table;
     let from = f.from;

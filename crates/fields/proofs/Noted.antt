@@ -8,16 +8,16 @@ use native.Mathlib.Nat.{eq-or-lt-of-le}
 use lib.ListN.{length, getD, set, length-set}
 use lib.Seq.{getD-set-same, getD-set-other}
 use Rattle.memory.specs.Layout.{record-at, word}
-use Rattle.fields.specs.Fields.{Far, here, on, Noted, Noting, Ending}
+use Rattle.fields.specs.Fields.{Far, here, on, WaysNoted, CanNoteWay, Ending}
 
-module _ {ws notes : List ℕ} {k l next : ℕ} (n : Noting ws k l notes) (e : next ≡ word (record-at ws l) k) where
+module _ {ws notes : List ℕ} {k l next : ℕ} (n : CanNoteWay ws k l notes) (e : next ≡ word (record-at ws l) k) where
   pub far-on : 0 < next → l < length notes → Far ws k l (getD notes next 0)
   far-on p h = rw e (on (rw e at p) (n .noted .far (word (record-at ws l) k) (rw e at p) (n .earlier) (omega (arith, n .earlier))))
 
   pub far-here : next ≤ 0 → Far ws k l l
   far-here p = let z : word (record-at ws l) k ≡ 0 = omega (arith, e) in here {x = l} z
 
-pub noted-more : {ws notes : List ℕ} {k l r : ℕ} → Noting ws k l notes → l < length notes → Far ws k l r → Noted ws k (l + 1) (set notes l r)
+pub noted-more : {ws notes : List ℕ} {k l r : ℕ} → CanNoteWay ws k l notes → l < length notes → Far ws k l r → WaysNoted ws k (l + 1) (set notes l r)
 noted-more {ws} {notes} {k} {l} {r} n room f = record {
   far = λ j p h b.
       ⊎-elim
@@ -27,7 +27,7 @@ noted-more {ws} {notes} {k} {l} {r} n room f = record {
 }
 
 -- A record that the notes do not reach.
-pub noted-past : {ws notes : List ℕ} {k l : ℕ} → Noting ws k l notes → length notes ≤ l → Noted ws k (l + 1) notes
+pub noted-past : {ws notes : List ℕ} {k l : ℕ} → CanNoteWay ws k l notes → length notes ≤ l → WaysNoted ws k (l + 1) notes
 noted-past n past = record { far = λ j p h b. n .noted .far j p (omega arith) b }
 
 -- On the way from a record: the end of what is left is the end of the whole.
@@ -56,5 +56,5 @@ module _ {ws notes : List ℕ} {k from : ℕ} (n : Ending ws k from notes) where
   going-noted {x} g h = g .back _ (n .noted .far x (g .some) (omega (arith, g .within)) h)
 
 -- The notes of earlier records, as far as a link.
-pub noted-upto : {ws notes : List ℕ} {k l x : ℕ} → Noted ws k l notes → x < l → Noted ws k (x + 1) notes
+pub noted-upto : {ws notes : List ℕ} {k l x : ℕ} → WaysNoted ws k l notes → x < l → WaysNoted ws k (x + 1) notes
 noted-upto n h = record { far = λ j p q b. n .far j p (omega arith) b }

@@ -36,16 +36,16 @@ pub data Far (ws : List ℕ) (k : ℕ) : ℕ → ℕ → Type 0 where
   on : {x r : ℕ} → 0 < word (record-at ws x) k → Far ws k (word (record-at ws x) k) r → Far ws k x r
 
 -- The notes of the records before link l, as far as they reach: where their ways by the links in word k end.
-pub record Noted (ws : List ℕ) (k l : ℕ) (notes : List ℕ) : Type 0 where
+pub record WaysNoted (ws : List ℕ) (k l : ℕ) (notes : List ℕ) : Type 0 where
   pub far : (j : ℕ) → 0 < j → j < l → j < length notes → Far ws k j (getD notes j 0)
 
 -- The record of link l can be noted next.
-pub record Noting (ws : List ℕ) (k l : ℕ) (notes : List ℕ) : Type 0 where
+pub record CanNoteWay (ws : List ℕ) (k l : ℕ) (notes : List ℕ) : Type 0 where
   pub some : 0 < l
   pub fits : l * record-words ≤ length ws
   pub word-of : k < record-words
   pub earlier : word (record-at ws l) k < l
-  pub noted : Noted ws k l notes
+  pub noted : WaysNoted ws k l notes
 
 -- The end of the way from a record can be found.
 pub record Ending (ws : List ℕ) (k from : ℕ) (notes : List ℕ) : Type 0 where
@@ -53,7 +53,7 @@ pub record Ending (ws : List ℕ) (k from : ℕ) (notes : List ℕ) : Type 0 whe
   pub fits : from * record-words ≤ length ws
   pub word-of : k < record-words
   pub falls : (j : ℕ) → 0 < j → j ≤ from → word (record-at ws j) k < j
-  pub noted : Noted ws k (from + 1) notes
+  pub noted : WaysNoted ws k (from + 1) notes
 
 -- What the answer b says, of each table and level that the kinds are of.
 module _ (ws txt : List ℕ) where

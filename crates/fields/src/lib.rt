@@ -5,12 +5,13 @@ use text::Rule;
 ghost use mathlib.Core.Path.{_≡_};
 ghost use Prim.Native.Nat.{_+_, _*_, _≤_, _<_};
 ghost use lib.ListN.{length};
+ghost use Rattle.source.specs.Lent.{old, new};
 ghost use Rattle.source.specs.Limits.{record-words};
 ghost use Rattle.source.specs.Rules.{Fits, _<ˢ_};
 ghost use Rattle.memory.specs.Layout.{span};
 ghost use Rattle.memory.specs.Sound.{Says, LinkOk, TextOk};
 ghost use Rattle.text.specs.Text.{byte-rule};
-ghost use Rattle.fields.specs.Fields.{Subtree, Far, Noted, Noting, Ending, SaysLeft, SaysRight};
+ghost use Rattle.fields.specs.Fields.{Subtree, Far, WaysNoted, CanNoteWay, Ending, SaysLeft, SaysRight};
 
 // Is the span in the used part, `low` to `high` bytes long, and does each byte keep the rule?
 pub fn text_ok(
@@ -23,7 +24,7 @@ pub fn text_ok(
     rule: Rule,
 ) -> bool
     requires { ⌜ used ≤ length (now text) ⌝ }
-    ensures { λ r. ⌜ Says r (TextOk (Fits (byte-rule rule) low high) (now (text .entry)) used start len) ⌝ }
+    ensures { λ r. ⌜ Says r (TextOk (Fits (byte-rule rule) low high) (old text) used start len) ⌝ }
 {
     let s = start as usize;
     let n = len as usize;
@@ -59,7 +60,7 @@ pub fn same(a: u64, b: u64) -> bool
 // Does the link `x`, in the record of `link`, name none or an earlier record of the kind `k`?
 pub fn link_ok(words: &[u32], link: u32, x: u32, k: u32) -> bool
     requires { ⌜ (0 < link) × (link * record-words ≤ length (now words) + record-words) ⌝ }
-    ensures { λ r. ⌜ Says r (LinkOk (now (words .entry)) link x k) ⌝ }
+    ensures { λ r. ⌜ Says r (LinkOk (old words) link x k) ⌝ }
 {
     if x == 0 {
         return true;
@@ -75,7 +76,7 @@ pub fn link_ok(words: &[u32], link: u32, x: u32, k: u32) -> bool
 
 // Is `a` before `b`?
 fn less(a: &[u8], b: &[u8]) -> bool
-    ensures { λ r. ⌜ Says r (now (a .entry) <ˢ now (b .entry)) ⌝ }
+    ensures { λ r. ⌜ Says r (old a <ˢ old b) ⌝ }
 {
     match text::string_compare(a, b) {
         Order::Less => true,
@@ -87,7 +88,7 @@ fn less(a: &[u8], b: &[u8]) -> bool
 // Is the text of the first span before that of the second?
 fn spans_less(text: &[u8], s: u32, n: u32, t: u32, m: u32) -> bool
     requires { ⌜ (s + n ≤ length (now text)) × (t + m ≤ length (now text)) ⌝ }
-    ensures { λ r. ⌜ Says r (span (now (text .entry)) s n <ˢ span (now (text .entry)) t m) ⌝ }
+    ensures { λ r. ⌜ Says r (span (old text) s n <ˢ span (old text) t m) ⌝ }
 {
     let a = s as usize;
     let b = t as usize;
@@ -96,9 +97,9 @@ fn spans_less(text: &[u8], s: u32, n: u32, t: u32, m: u32) -> bool
 
 // Notes for the record of `link` where the way by the links in word `k` ends: at itself, or where that of the next record does. Records past the notes are not noted.
 pub fn note(words: &[u32], link: u32, k: usize, notes: &mut [u32])
-    requires { ⌜ Noting (now words) k link (now notes) ⌝ }
-    ensures { λ _. ⌜ Noted (now (words .entry)) k (link + 1) (now (notes .exit)) ⌝ }
-    ensures { λ _. ⌜ length (now (notes .exit)) ≡ length (now (notes .entry)) ⌝ }
+    requires { ⌜ CanNoteWay (now words) k link (now notes) ⌝ }
+    ensures { λ _. ⌜ WaysNoted (old words) k (link + 1) (new notes) ⌝ }
+    ensures { λ _. ⌜ length (new notes) ≡ length (old notes) ⌝ }
 {
     let at = link as usize;
     if notes.len() <= at {
@@ -115,7 +116,7 @@ pub fn note(words: &[u32], link: u32, k: usize, notes: &mut [u32])
 // Where the way from `from` by the links in word `k` ends. The notes have it for the records that they reach.
 fn end_of(words: &[u32], from: u32, k: usize, notes: &[u32]) -> u32
     requires { ⌜ Ending (now words) k from (now notes) ⌝ }
-    ensures { λ r. ⌜ Far (now (words .entry)) k from r ⌝ }
+    ensures { λ r. ⌜ Far (old words) k from r ⌝ }
 {
     let noted = notes.len();
     let mut x = from;
@@ -141,8 +142,8 @@ pub fn left_ok(
     notes: &[u32],
 ) -> bool
     requires { ⌜ Subtree (now words) (now text) used link k top (key .start) (key .len) ⌝ }
-    requires { ⌜ Noted (now words) 4 link (now notes) ⌝ }
-    ensures { λ r. ⌜ SaysLeft (now (words .entry)) (now (text .entry)) k top (key .start) (key .len) r ⌝ }
+    requires { ⌜ WaysNoted (now words) 4 link (now notes) ⌝ }
+    ensures { λ r. ⌜ SaysLeft (old words) (old text) k top (key .start) (key .len) r ⌝ }
 {
     if top == 0 {
         return true;
@@ -165,8 +166,8 @@ pub fn right_ok(
     notes: &[u32],
 ) -> bool
     requires { ⌜ Subtree (now words) (now text) used link k top (key .start) (key .len) ⌝ }
-    requires { ⌜ Noted (now words) 3 link (now notes) ⌝ }
-    ensures { λ r. ⌜ SaysRight (now (words .entry)) (now (text .entry)) k top (key .start) (key .len) r ⌝ }
+    requires { ⌜ WaysNoted (now words) 3 link (now notes) ⌝ }
+    ensures { λ r. ⌜ SaysRight (old words) (old text) k top (key .start) (key .len) r ⌝ }
 {
     if top == 0 {
         return true;

@@ -5,6 +5,7 @@ ghost use mathlib.Core.Path.{_≡_};
 ghost use Prim.Native.Nat.{ℕ, _-_, _<_};
 ghost use lib.IntN.{pos, _-ℤ_};
 ghost use lib.ListN.{getD, set};
+ghost use Rattle.source.specs.Lent.{old, new};
 ghost use Rattle.source.specs.Limits.{heaviest-list};
 ghost use Rattle.source.specs.Text.{string-compare};
 ghost use Rattle.source.specs.Heap.{Heap, Forest, heap-from-list};
@@ -36,7 +37,7 @@ pub struct Cells {
 fn compare_keys(words: &[u32], text: &[u8], x: u32, y: u32) -> Order
     requires { ⌜ TextIn (now words) (now text) x ⌝ }
     requires { ⌜ TextIn (now words) (now text) y ⌝ }
-    ensures { λ r. ⌜ ordering r ≡ string-compare (key-at (now (words .entry)) (now (text .entry)) x) (key-at (now (words .entry)) (now (text .entry)) y) ⌝ }
+    ensures { λ r. ⌜ ordering r ≡ string-compare (key-at (old words) (old text) x) (key-at (old words) (old text) y) ⌝ }
 {
     text::string_compare(
         memory::key_of(words, text, x),
@@ -56,7 +57,7 @@ fn priority_difference(n: usize, a: usize, b: usize) -> i32
 fn cell_cmp(words: &[u32], text: &[u8], heads: &[u32; CELLS], n: usize, a: usize, b: usize) -> i32
     requires { ⌜ Heads (now words) (now text) (now heads) n ⌝ }
     requires { ⌜ (a < n) × (b < n) ⌝ }
-    ensures { λ r. ⌜ sign r ≡ cell-cmp (now (words .entry)) (now (text .entry)) (now (heads .entry)) n a b ⌝ }
+    ensures { λ r. ⌜ sign r ≡ cell-cmp (old words) (old text) (old heads) n a b ⌝ }
 {
     let x = heads[a];
     let y = heads[b];
@@ -70,7 +71,7 @@ fn cell_cmp(words: &[u32], text: &[u8], heads: &[u32; CELLS], n: usize, a: usize
 // Puts the heap of root `w` before the children of `v`.
 fn link(child: &mut [u8; CELLS], next: &mut [u8; CELLS], v: usize, w: usize) -> usize
     requires { ⌜ (v < heaviest-list) × (w < heaviest-list) ⌝ }
-    ensures { λ r. ⌜ (r ≡ v) × (now (child .exit) ≡ set (now (child .entry)) v w) × (now (next .exit) ≡ set (now (next .entry)) w (getD (now (child .entry)) v 0)) ⌝ }
+    ensures { λ r. ⌜ (r ≡ v) × (new child ≡ set (old child) v w) × (new next ≡ set (old next) w (getD (old child) v 0)) ⌝ }
 {
     next[w] = child[v];
     child[v] = w as u8;
@@ -90,7 +91,7 @@ pub fn heap_merge(
 ) -> usize
     requires { ⌜ Heads (now words) (now text) (now heads) n ⌝ }
     requires { ⌜ Root n a × Root n b ⌝ }
-    ensures { λ r. ⌜ Merges (cell-cmp (now (words .entry)) (now (text .entry)) (now (heads .entry)) n) n (now (child .entry)) (now (next .entry)) (now (child .exit)) (now (next .exit)) r a b ⌝ }
+    ensures { λ r. ⌜ Merges (cell-cmp (old words) (old text) (old heads) n) n (old child) (old next) (new child) (new next) r a b ⌝ }
 {
     if a == CELLS {
         return b;
@@ -118,7 +119,7 @@ pub fn heap_insert(
 ) -> usize
     requires { ⌜ Heads (now words) (now text) (now heads) n ⌝ }
     requires { ⌜ Root n i × (v < n) ⌝ }
-    ensures { λ r. ⌜ Inserts (cell-cmp (now (words .entry)) (now (text .entry)) (now (heads .entry)) n) n (now (child .entry)) (now (next .entry)) (now (child .exit)) (now (next .exit)) r i v ⌝ }
+    ensures { λ r. ⌜ Inserts (cell-cmp (old words) (old text) (old heads) n) n (old child) (old next) (new child) (new next) r i v ⌝ }
 {
     child[v] = NO_CELL;
     heap_merge(child, next, words, text, heads, n, v, i)
@@ -137,7 +138,7 @@ pub fn heap_merge_pairs(
 ) -> usize
     requires { ⌜ Heads (now words) (now text) (now heads) n ⌝ }
     requires { ⌜ ((hh : Forest ℕ) × Repᶠ n (now child) (now next) i hh) ⌝ }
-    ensures { λ r. ⌜ Pairs (cell-cmp (now (words .entry)) (now (text .entry)) (now (heads .entry)) n) n (now (child .entry)) (now (next .entry)) (now (child .exit)) (now (next .exit)) r i ⌝ }
+    ensures { λ r. ⌜ Pairs (cell-cmp (old words) (old text) (old heads) n) n (old child) (old next) (new child) (new next) r i ⌝ }
 {
     let mut stack = CELLS;
     let mut at = i;
@@ -176,7 +177,7 @@ pub fn heap_pop(
 ) -> Popped
     requires { ⌜ Heads (now words) (now text) (now heads) n ⌝ }
     requires { ⌜ ((h : Heap ℕ) × Rep n (now child) (now next) i h) ⌝ }
-    ensures { λ r. ⌜ Pops (cell-cmp (now (words .entry)) (now (text .entry)) (now (heads .entry)) n) n (now (child .entry)) (now (next .entry)) (now (child .exit)) (now (next .exit)) r i ⌝ }
+    ensures { λ r. ⌜ Pops (cell-cmp (old words) (old text) (old heads) n) n (old child) (old next) (new child) (new next) r i ⌝ }
 {
     if i == CELLS {
         return Popped::Nothing;
@@ -189,7 +190,7 @@ pub fn heap_pop(
 // heap_from_list, of the cells below `n`, the first one first.
 pub fn heap_from_list(words: &[u32], text: &[u8], heads: &[u32; CELLS], n: usize) -> Cells
     requires { ⌜ Heads (now words) (now text) (now heads) n ⌝ }
-    ensures { λ r. ⌜ Rep n (r .child) (r .next) (r .root) (heap-from-list (cell-cmp (now (words .entry)) (now (text .entry)) (now (heads .entry)) n) (first-cells n)) ⌝ }
+    ensures { λ r. ⌜ Rep n (r .child) (r .next) (r .root) (heap-from-list (cell-cmp (old words) (old text) (old heads) n) (first-cells n)) ⌝ }
 {
     let mut child = [NO_CELL; CELLS];
     let mut next = [NO_CELL; CELLS];

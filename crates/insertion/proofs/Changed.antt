@@ -14,7 +14,7 @@ use Rattle.memory.proofs.Stays.{record-stays, link-stays, ok-stays}
 use Rattle.memory.proofs.Put.{put-stays}
 use Rattle.memory.proofs.RecordAt.{word-at}
 use Rattle.tree.specs.Tree.{AnyTree}
-use Rattle.insertion.specs.Insert.{Turn, Trail, top, turn, Changed, Noted}
+use Rattle.insertion.specs.Insert.{SideTaken, Trail, top, turn, Changed, NotePut}
 use Rattle.tree.proofs.Branches.{any-tree}
 
 -- ---- One record changes
@@ -32,7 +32,7 @@ pub put-changes : (ws r : List ℕ) (n : ℕ) → n * 12 + 12 ≤ length ws → 
 unfolding put
 put-changes ws r n room twelve = record { stays = put-stays ws r n room twelve; rest = drop-paste ws (n * 12) r 12 (omega arith) (omega arith) }
 
-pub note-put : (ws : List ℕ) (n link side : ℕ) → n * 12 + 12 ≤ length ws → Noted ws (set (set ws (n * 12) link) (n * 12 + 1) side) n link side
+pub note-put : (ws : List ℕ) (n link side : ℕ) → n * 12 + 12 ≤ length ws → NotePut ws (set (set ws (n * 12) link) (n * 12 + 1) side) n link side
 note-put ws n link side room =
     let e : (n + 1 - 1) * 12 + 0 ≡ n * 12 = omega arith in
     let f : (n + 1 - 1) * 12 + 1 ≡ n * 12 + 1 = omega arith in
@@ -83,7 +83,7 @@ module _ {n : ℕ} {ws ws′ : List ℕ} (y : Stays n ws ws′) where
 
   -- ---- Notes stay
   module _ {txt : List ℕ} {key : Str} {root : ℕ} (h : root ≤ n) where
-    turn-stays : {l side link : ℕ} → Turn ws txt key root l side link → Turn ws′ txt key root l side link
+    turn-stays : {l side link : ℕ} → SideTaken ws txt key root l side link → SideTaken ws′ txt key root l side link
     turn-stays {l} t =
         let k = key-stays txt l (t .some) (omega (arith, t .within)) in
         let r = record-stays y l (t .some) (omega (arith, t .within)) in

@@ -23,7 +23,7 @@ use Rattle.memory.proofs.RecordAt.{record-length}
 use Rattle.memory.proofs.SoundTable.{IsItem, link-fine}
 use Rattle.memory.proofs.Seen.{link-later, link-fits}
 use Rattle.tree.specs.Tree.{held, AnyTree, Builds}
-use Rattle.insertion.specs.Insert.{NewBranch, HeldOk, Insertion, Inserted, noted-link, noted-side, Turn, Trail, top, turn, Changed, Marked, with-sides, raised-row, RaiseOk, lowest-row, LowestOk}
+use Rattle.insertion.specs.Insert.{NewBranch, HeldOk, Insertion, Inserted, noted-link, noted-side, SideTaken, Trail, top, turn, Changed, Marked, with-sides, raised-row, RaiseOk, lowest-row, LowestOk}
 use Rattle.tree.proofs.Branches.{part-span, any-tree, branch-right, branch-reads}
 use Rattle.tree.proofs.Placed.{same-key}
 use Rattle.insertion.proofs.Changed.{drop-more, put-changes, sound-stays, trail-stays}
@@ -42,7 +42,7 @@ trail-link {ws} {n = n} t (turn x r) =
 
 -- The next branch up.
 trail-up : {ws txt : List ℕ} {key : Str} {root d n link : ℕ} → Trail ws txt key root d n link → 0 < d
-    → Turn ws txt key root (noted-link ws n) (noted-side ws n) link × Trail ws txt key root (d - 1) (n + 1) (noted-link ws n)
+    → SideTaken ws txt key root (noted-link ws n) (noted-side ws n) link × Trail ws txt key root (d - 1) (n + 1) (noted-link ws n)
 trail-up top p = absurd (omega arith)
 trail-up (turn {d = d} x r) p = let e : suc d - 1 ≡ d = omega arith in (x, rw e r)
 
@@ -145,7 +145,7 @@ module _ {base ws txt : List ℕ} {w : Which} {v : Level} {used : ℕ} {key : St
   abbrev r : List ℕ
   r = record-at ws l
 
-  up : Turn ws txt key root l (noted-side ws n) (g .below) × Trail ws txt key root (g .d - 1) (n + 1) l
+  up : SideTaken ws txt key root l (noted-side ws n) (g .below) × Trail ws txt key root (g .d - 1) (n + 1) l
   up = trail-up (g .trail) (omega (arith, g .level))
 
   l-link : LinkOk ws (n + 1) l (kind w (tree v))

@@ -12,7 +12,7 @@ use Rattle.memory.specs.Layout.{record-at, tree, what, key-at, left-link, right
 use Rattle.memory.specs.Grown.{Stays}
 use Rattle.memory.proofs.Stays.{record-stays, stays-same, stays-on}
 use Rattle.tree.specs.Tree.{AnyTree, Builds}
-use Rattle.insertion.specs.Insert.{noted-link, Turn, Trail, top, turn, Noted, Marked}
+use Rattle.insertion.specs.Insert.{noted-link, SideTaken, Trail, top, turn, NotePut, Marked}
 use Rattle.tree.proofs.Placed.{Search, search-all, search-left, search-right, search-here, search-none}
 use Rattle.tree.proofs.Past.{by-order}
 use Rattle.insertion.proofs.Changed.{drop-more, key-stays, any-stays, trail-stays}
@@ -79,7 +79,7 @@ module _ {ws txt : List ℕ} {key : Str} {records root count : ℕ} {ws′ : Lis
   mark-fits = omega (arith, g .asked .room, g .level, g .stays .size)
 
   -- The note of link is put.
-  module _ {ws″ : List ℕ} {side : ℕ} (q : Noted ws′ ws″ n link side) where
+  module _ {ws″ : List ℕ} {side : ℕ} (q : NotePut ws′ ws″ n link side) where
     stays-more : Stays records ws ws″
     stays-more = stays-on mark-above (g .stays) (q .changed .stays)
 
@@ -93,7 +93,7 @@ module _ {ws txt : List ℕ} {key : Str} {records root count : ℕ} {ws′ : Lis
     trail-more = rw (q .of-link) (trail-stays (q .changed .stays) (omega (arith, mark-above, g .asked .within)) (n + 1) (omega arith) past (g .trail))
 
     -- The way goes on at j.
-    mark-more : (j : ℕ) → 0 < link → Search ws txt root key j (g .d + 1 + 1) → Turn ws″ txt key root link side j → Marking ws txt key records root count ws″ (n - 1) j
+    mark-more : (j : ℕ) → 0 < link → Search ws txt root key j (g .d + 1 + 1) → SideTaken ws″ txt key root link side j → Marking ws txt key records root count ws″ (n - 1) j
     mark-more j p s t =
         let e : n - 1 + 1 ≡ n = omega (arith, search-room (g .asked) s, g .level) in
         record {
@@ -134,24 +134,24 @@ module _ {ws txt : List ℕ} {key : Str} {records root count : ℕ} {ws′ : Lis
     right-room e = omega (arith, search-room (g .asked) (search-right (g .search) p (rw old-key at e) refl), g .level)
 
     module _ {ws″ : List ℕ} {j : ℕ} where
-      new-turn : {side : ℕ} → Noted ws′ ws″ n link side
+      new-turn : {side : ℕ} → NotePut ws′ ws″ n link side
           → (side ≡ 0 → (Ordering·lt ≡ string-compare key (key-at ws′ txt link)) × (j ≡ left-link (record-at ws′ link)))
-          → ((side ≡ 0 → ⊥) → (Ordering·gt ≡ string-compare key (key-at ws′ txt link)) × (j ≡ right-link (record-at ws′ link))) → Turn ws″ txt key root link side j
+          → ((side ≡ 0 → ⊥) → (Ordering·gt ≡ string-compare key (key-at ws′ txt link)) × (j ≡ right-link (record-at ws′ link))) → SideTaken ws″ txt key root link side j
       new-turn q f h =
           let k = key-stays (q .changed .stays) txt link p (omega (arith, mark-within, mark-above)) in
           let r = record-stays (q .changed .stays) link p (omega (arith, mark-within, mark-above)) in
           record { some = p; within = omega (arith, g .search .small); left = λ z. rw (k, r) (f z); right = λ z. rw (k, r) (h z) }
 
-      pub mark-left : Ordering·lt ≡ string-compare key (key-at ws′ txt link) → j ≡ left-link (record-at ws′ link) → Noted ws′ ws″ n link 0 → Marking ws txt key records root count ws″ (n - 1) j
+      pub mark-left : Ordering·lt ≡ string-compare key (key-at ws′ txt link) → j ≡ left-link (record-at ws′ link) → NotePut ws′ ws″ n link 0 → Marking ws txt key records root count ws″ (n - 1) j
       mark-left e i q = mark-more q j p (search-left (g .search) p (rw old-key at e) (rw old-record at i)) (new-turn q (λ _. (e, i)) (λ z. absurd (z refl)))
 
-      pub mark-right : Ordering·gt ≡ string-compare key (key-at ws′ txt link) → j ≡ right-link (record-at ws′ link) → Noted ws′ ws″ n link 1 → Marking ws txt key records root count ws″ (n - 1) j
+      pub mark-right : Ordering·gt ≡ string-compare key (key-at ws′ txt link) → j ≡ right-link (record-at ws′ link) → NotePut ws′ ws″ n link 1 → Marking ws txt key records root count ws″ (n - 1) j
       mark-right e i q = mark-more q j p (search-right (g .search) p (rw old-key at e) (rw old-record at i)) (new-turn q (λ z. absurd (omega arith)) (λ _. (e, i)))
 
-    pub mark-here : {ws″ : List ℕ} → Ordering·eq ≡ string-compare key (key-at ws′ txt link) → Noted ws′ ws″ n link 0 → Marked ws ws″ txt key records root count
+    pub mark-here : {ws″ : List ℕ} → Ordering·eq ≡ string-compare key (key-at ws′ txt link) → NotePut ws′ ws″ n link 0 → Marked ws ws″ txt key records root count
     mark-here e q = mark-end q (search-here (g .search) p (rw old-key at e) .builds) (λ _. e)
 
-  pub mark-none : {ws″ : List ℕ} → link ≤ 0 → Noted ws′ ws″ n 0 0 → Marked ws ws″ txt key records root count
+  pub mark-none : {ws″ : List ℕ} → link ≤ 0 → NotePut ws′ ws″ n 0 0 → Marked ws ws″ txt key records root count
   mark-none h q =
       let z : link ≡ 0 = omega arith in
       mark-end {side = 0} (rw z q) (search-none (g .search) h .builds) (λ p. absurd (omega arith))

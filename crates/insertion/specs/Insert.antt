@@ -56,7 +56,7 @@ abbrev pub noted-side : List ℕ → ℕ → ℕ
 noted-side ws n = note-side (record-at ws (n + 1))
 
 -- The branch l leads to link on the side that the key takes: left where side is 0.
-pub record Turn (ws txt : List ℕ) (key : Str) (root l side link : ℕ) : Type 0 where
+pub record SideTaken (ws txt : List ℕ) (key : Str) (root l side link : ℕ) : Type 0 where
   pub some : 0 < l
   pub within : l ≤ root
   pub left : side ≡ 0 → (Ordering·lt ≡ string-compare key (key-at ws txt l)) × (link ≡ left-link (record-at ws l))
@@ -65,7 +65,7 @@ pub record Turn (ws txt : List ℕ) (key : Str) (root l side link : ℕ) : Type 
 -- The records from number n on note the d branches on the way from link up to root, each with its side.
 pub data Trail (ws txt : List ℕ) (key : Str) (root : ℕ) : (d n link : ℕ) → Type 0 where
   top : {n : ℕ} → Trail ws txt key root zero n root
-  turn : {d n link : ℕ} → Turn ws txt key root (noted-link ws n) (noted-side ws n) link → Trail ws txt key root d (n + 1) (noted-link ws n) → Trail ws txt key root (suc d) n link
+  turn : {d n link : ℕ} → SideTaken ws txt key root (noted-link ws n) (noted-side ws n) link → Trail ws txt key root d (n + 1) (noted-link ws n) → Trail ws txt key root (suc d) n link
 
 -- Only record number n changes.
 pub record Changed (ws ws′ : List ℕ) (n : ℕ) : Type 0 where
@@ -73,7 +73,7 @@ pub record Changed (ws ws′ : List ℕ) (n : ℕ) : Type 0 where
   pub rest : drop (n * record-words + record-words) ws′ ≡ drop (n * record-words + record-words) ws
 
 -- Record number n becomes a note.
-pub record Noted (ws ws′ : List ℕ) (n link side : ℕ) : Type 0 where
+pub record NotePut (ws ws′ : List ℕ) (n link side : ℕ) : Type 0 where
   pub changed : Changed ws ws′ n
   pub of-link : noted-link ws′ n ≡ link
   pub of-side : noted-side ws′ n ≡ side

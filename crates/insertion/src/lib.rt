@@ -4,10 +4,11 @@ use text::Order;
 ghost use mathlib.Core.Path.{_≡_};
 ghost use Prim.Native.Nat.{_+_, _*_, _≤_, max};
 ghost use lib.ListN.{length};
+ghost use Rattle.source.specs.Lent.{old, new};
 ghost use Rattle.source.specs.Limits.{most-used, record-words};
 ghost use Rattle.memory.specs.Layout.{kind-word, trie-link};
 ghost use Rattle.tree.specs.Tree.{AnyTree, Builds};
-ghost use Rattle.insertion.specs.Insert.{of-namespaces, branch-depth, DepthOk, with-sides, raised-row, RaiseOk, lowest-row, LowestOk, Noted, Marked, AnyInsertion, Inserts};
+ghost use Rattle.insertion.specs.Insert.{of-namespaces, branch-depth, DepthOk, with-sides, raised-row, RaiseOk, lowest-row, LowestOk, NotePut, Marked, AnyInsertion, Inserts};
 
 // The larger of two numbers.
 fn larger(a: u32, b: u32) -> u32
@@ -29,7 +30,7 @@ fn of_namespaces(kind: u32) -> bool
 // The depth that a branch stores, by what its links store.
 fn branch_depth(words: &[u32], kind: u32, held: u32, left: u32, right: u32) -> u32
     requires { ⌜ DepthOk (now words) kind held left right ⌝ }
-    ensures { λ r. ⌜ r ≡ branch-depth (now (words .entry)) kind held left right ⌝ }
+    ensures { λ r. ⌜ r ≡ branch-depth (old words) kind held left right ⌝ }
 {
     if of_namespaces(kind) {
         let sides = larger(
@@ -44,7 +45,7 @@ fn branch_depth(words: &[u32], kind: u32, held: u32, left: u32, right: u32) -> u
 // The words of a branch with other sides.
 fn with_sides(words: &[u32], row: [u32; memory::ROW], left: u32, right: u32) -> [u32; memory::ROW]
     requires { ⌜ DepthOk (now words) (kind-word row) (trie-link row) left right ⌝ }
-    ensures { λ r. ⌜ r ≡ with-sides (now (words .entry)) row left right ⌝ }
+    ensures { λ r. ⌜ r ≡ with-sides (old words) row left right ⌝ }
 {
     let depth = branch_depth(words, row[memory::KIND], row[memory::HELD], left, right);
     memory::make::with_sides(row, left, right, depth)
@@ -53,7 +54,7 @@ fn with_sides(words: &[u32], row: [u32; memory::ROW], left: u32, right: u32) -> 
 // The copy of the branch that record number `at` notes, with the link `at` on the side taken.
 fn raised_row(words: &[u32], at: u32) -> [u32; memory::ROW]
     requires { ⌜ RaiseOk (now words) at ⌝ }
-    ensures { λ r. ⌜ r ≡ raised-row (now (words .entry)) at ⌝ }
+    ensures { λ r. ⌜ r ≡ raised-row (old words) at ⌝ }
 {
     let old = memory::row_of(words, memory::note_link(words, at + 1));
     if memory::note_side(words, at + 1) == 0 {
@@ -65,7 +66,7 @@ fn raised_row(words: &[u32], at: u32) -> [u32; memory::ROW]
 // The new branch with the sides of the one that record number `at` notes.
 fn lowest_row(words: &[u32], at: u32, row: [u32; memory::ROW]) -> [u32; memory::ROW]
     requires { ⌜ LowestOk (now words) at row ⌝ }
-    ensures { λ r. ⌜ r ≡ lowest-row (now (words .entry)) at row ⌝ }
+    ensures { λ r. ⌜ r ≡ lowest-row (old words) at row ⌝ }
 {
     let link = memory::note_link(words, at + 1);
     with_sides(
@@ -79,7 +80,7 @@ fn lowest_row(words: &[u32], at: u32, row: [u32; memory::ROW]) -> [u32; memory::
 // Notes a branch and a side in record number `at`.
 fn put_note(words: &mut [u32], at: u32, link: u32, side: u32)
     requires { ⌜ at * record-words + record-words ≤ length (now words) ⌝ }
-    ensures { λ _. ⌜ Noted (now (words .entry)) (now (words .exit)) at link side ⌝ }
+    ensures { λ _. ⌜ NotePut (old words) (new words) at link side ⌝ }
 {
     let base = at as usize * memory::ROW;
     words[base] = link;
@@ -91,7 +92,7 @@ fn note_path(words: &mut [u32], text: &[u8], records: u32, root: u32, count: u32
     requires { ⌜ AnyTree (now words) (now text) root ⌝ }
     requires { ⌜ Builds (now words) (now text) root (now key) count ⌝ }
     requires { ⌜ (root ≤ records) × ((records + count) * record-words ≤ length (now words)) × (records + count ≤ most-used) ⌝ }
-    ensures { λ _. ⌜ Marked (now (words .entry)) (now (words .exit)) (now (text .entry)) (now (key .entry)) records root count ⌝ }
+    ensures { λ _. ⌜ Marked (old words) (new words) (old text) (old key) records root count ⌝ }
 {
     let mut at = records + count - 1;
     let mut link = root;
@@ -129,7 +130,7 @@ pub fn btree_insert_replace(
     row: [u32; memory::ROW],
 ) -> u32
     requires { ⌜ AnyInsertion (now words) (now text) records root count row ⌝ }
-    ensures { λ r. ⌜ Inserts (now (words .entry)) (now (words .exit)) (now (text .entry)) records root count row r ⌝ }
+    ensures { λ r. ⌜ Inserts (old words) (new words) (old text) records root count row r ⌝ }
 {
     let start = row[memory::TEXT_START] as usize;
     let len = row[memory::TEXT_LEN] as usize;

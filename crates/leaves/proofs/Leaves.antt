@@ -26,7 +26,7 @@ use Rattle.kinds.specs.declared.Kind.the-variants.{Name, Include, Open, Alias, 
 use Rattle.leaves.specs.declared.Change.{Change}
 use Rattle.leaves.specs.Leaves.{change-of, with-kind, leaf-by, leaf-of, Some, Leaf, Builds, LeafBuilt}
 use Rattle.memory.proofs.Tries.{Lists, lists-in}
-use Rattle.leaves.proofs.Building.{inserted-within, builds-one, builds-none, builds-insert, bindings-ready, bindings-built, namespaces-ready, namespaces-built, placed-light, placed-count, scope-insertion, scope-built}
+use Rattle.leaves.proofs.Builds.{inserted-within, builds-one, builds-none, builds-insert, bindings-ready, bindings-built, namespaces-ready, namespaces-built, placed-light, placed-count, scope-insertion, scope-built}
 use Rattle.memory.specs.Sound.{LinkOk, Used, At}
 use Rattle.memory.proofs.At.{no-link}
 

@@ -3,6 +3,7 @@ use kinds::Kind;
 use memory::Span;
 ghost use mathlib.Core.Path.{_≡_};
 ghost use Prim.Native.Nat.{_-_};
+ghost use Rattle.source.specs.Lent.{old, new};
 ghost use Rattle.kinds.specs.declared.Kind.the-variants.{Name, Include, Open, Alias};
 ghost use Rattle.leaves.specs.Leaves.{with-kind, label-in, Some, Leaf, LeafBuilt};
 
@@ -51,7 +52,7 @@ fn insert_leaf(
     number: u32,
 ) -> Built
     requires { ⌜ Some (λ used. Leaf (now words) (now text) records used trie (with-kind (Name number) change)) ⌝ }
-    ensures { λ r. ⌜ LeafBuilt (now (words .entry)) (now (words .exit)) (now (text .entry)) records trie (with-kind (Name number) change) (r .link) (r .records) ⌝ }
+    ensures { λ r. ⌜ LeafBuilt (old words) (new words) (old text) records trie (with-kind (Name number) change) (r .link) (r .records) ⌝ }
 {
     let t = memory::trie_of(words, trie);
     let id = change.text;
@@ -70,7 +71,7 @@ fn insert_leaf(
 // trie_include's.
 fn include_leaf(words: &mut [u32], text: &[u8], records: u32, trie: u32, change: Change) -> Built
     requires { ⌜ Some (λ used. Leaf (now words) (now text) records used trie (with-kind Include change)) ⌝ }
-    ensures { λ r. ⌜ LeafBuilt (now (words .entry)) (now (words .exit)) (now (text .entry)) records trie (with-kind Include change) (r .link) (r .records) ⌝ }
+    ensures { λ r. ⌜ LeafBuilt (old words) (new words) (old text) records trie (with-kind Include change) (r .link) (r .records) ⌝ }
 {
     let t = memory::trie_of(words, trie);
     let i = memory::trie_of(words, change.inc);
@@ -86,7 +87,7 @@ fn include_leaf(words: &mut [u32], text: &[u8], records: u32, trie: u32, change:
 // trie_open_namespace's.
 fn open_leaf(words: &mut [u32], text: &[u8], records: u32, trie: u32, change: Change) -> Built
     requires { ⌜ Some (λ used. Leaf (now words) (now text) records used trie (with-kind Open change)) ⌝ }
-    ensures { λ r. ⌜ LeafBuilt (now (words .entry)) (now (words .exit)) (now (text .entry)) records trie (with-kind Open change) (r .link) (r .records) ⌝ }
+    ensures { λ r. ⌜ LeafBuilt (old words) (new words) (old text) records trie (with-kind Open change) (r .link) (r .records) ⌝ }
 {
     let t = memory::trie_of(words, trie);
     let i = memory::trie_of(words, change.inc);
@@ -102,7 +103,7 @@ fn open_leaf(words: &mut [u32], text: &[u8], records: u32, trie: u32, change: Ch
 // trie_add_alias's: at the key a fresh trie of the included bindings alone.
 fn alias_leaf(words: &mut [u32], text: &[u8], records: u32, trie: u32, change: Change) -> Built
     requires { ⌜ Some (λ used. Leaf (now words) (now text) records used trie (with-kind Alias change)) ⌝ }
-    ensures { λ r. ⌜ LeafBuilt (now (words .entry)) (now (words .exit)) (now (text .entry)) records trie (with-kind Alias change) (r .link) (r .records) ⌝ }
+    ensures { λ r. ⌜ LeafBuilt (old words) (new words) (old text) records trie (with-kind Alias change) (r .link) (r .records) ⌝ }
 {
     let t = memory::trie_of(words, trie);
     let i = memory::trie_of(words, change.inc);
@@ -125,7 +126,7 @@ fn alias_leaf(words: &mut [u32], text: &[u8], records: u32, trie: u32, change: C
 // mut_leaf of a change.
 pub fn mut_leaf(words: &mut [u32], text: &[u8], records: u32, trie: u32, change: Change) -> Built
     requires { ⌜ Some (λ used. Leaf (now words) (now text) records used trie change) ⌝ }
-    ensures { λ r. ⌜ LeafBuilt (now (words .entry)) (now (words .exit)) (now (text .entry)) records trie change (r .link) (r .records) ⌝ }
+    ensures { λ r. ⌜ LeafBuilt (old words) (new words) (old text) records trie change (r .link) (r .records) ⌝ }
 {
     let kind = change.kind;
     match kind {

@@ -12,7 +12,7 @@ use Rattle.output.specs.Run.{Tally, Limits}
 use Rattle.output.proofs.Written.{written-none, written-then}
 use Rattle.lines.specs.Goes.{Result, _⊕_, Past, Goes}
 use Rattle.lines.specs.Lines.{only}
-use Rattle.lines.proofs.Counting.{past-more, not-past, tells-past}
+use Rattle.lines.proofs.Capped.{past-more, not-past, tells-past}
 
 module _ {w : Which} {ws txt : List ℕ} {lim : Limits} where
   pub goes-none : (a : Tally) (flat out : List ℕ) → Goes w ws txt lim a a flat flat out out (only [])

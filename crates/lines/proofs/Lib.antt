@@ -1,8 +1,8 @@
 pub mod Goes
 pub mod Run
-pub mod Counting
+pub mod Capped
 mod KeptLine
-mod Notes
+mod NoteAt
 mod TextAt
 mod Lines
 mod Listed

@@ -16,7 +16,7 @@ use Rattle.output.specs.Run.{Tally, Job}
 use Rattle.lines.specs.Goes.{Capped, Fit}
 use Rattle.output.specs.Parts.{Spells, JobOk, size-of, LineFits, LinePut}
 use Rattle.lines.specs.Parts.{TriedLine, PutLine}
-use Rattle.lines.proofs.Counting.{tells-is, tells-more}
+use Rattle.lines.proofs.Capped.{tells-is, tells-more}
 use Rattle.output.proofs.Put.{line-size, written-line}
 
 -- The tally after a line of some bytes.

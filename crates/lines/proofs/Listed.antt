@@ -29,7 +29,7 @@ use Rattle.output.specs.Parts.{candidate-of}
 use Rattle.lines.specs.Parts.{note-at, outermost, PutLine, KeptLine}
 use Rattle.asks.specs.declared.Filter.{Filter}
 use Rattle.asks.specs.declared.Ask.{Ask}
-use Rattle.lines.specs.declared.Found.{Found}
+use Rattle.lines.specs.declared.Labelled.{Labelled}
 use Rattle.asks.specs.declared.Ask.the-variants.{Names, Modules}
 use Rattle.output.specs.Output.{signed-word}
 use Rattle.lines.specs.Goes.{Goes}
@@ -66,7 +66,7 @@ kept-is f y m e = go (keeps f (y .1)) ∙ rw e
     go true = refl
     go false = refl
 
-module _ (ws txt : List ℕ) (f : Found) (run run′ flat flat′ out out′ : List ℕ) where
+module _ (ws txt : List ℕ) (f : Labelled) (run run′ flat flat′ out out′ : List ℕ) where
   abbrev ListedAs : Ask → Type 0
   ListedAs ask =
       (path : PathOf) (x : PathElem × Value (Item (asked ask)) bind) (q : Option Str) → OnPath ws txt (path-in run) path
@@ -92,7 +92,7 @@ module _ (ws txt : List ℕ) (f : Found) (run run′ flat flat′ out out′ : L
       (record { branch-at = b; length-is = m; item-is = i .item; candidate-is = i .candidate; annotation-is = ap mod-annotation (i .item) }))
 
 -- What line answers: of names, of modules and namespaces.
-module _ {ws txt : List ℕ} {ask : Ask} {f : Found} {run run′ flat flat′ out out′ : List ℕ}
+module _ {ws txt : List ℕ} {ask : Ask} {f : Labelled} {run run′ flat flat′ out out′ : List ℕ}
     (b : BranchAt ws txt (asked ask) bind (f .link)) (s : SameRun run run′) where
   pub listed-names : ask ≡ Names
       → PutLine ws txt (job-in (f .link) run) (note-at ws txt (outermost (path-in run) (f .label))) (tally-in run′) flat flat′ out out′

@@ -20,7 +20,7 @@ use Rattle.lines.specs.Lines.{CanList}
 use Rattle.output.specs.Parts.{TextAt, PathAt, JobOk}
 use Rattle.lines.specs.Parts.{outermost}
 use Rattle.asks.specs.declared.Ask.{Ask}
-use Rattle.lines.specs.declared.Found.{Found}
+use Rattle.lines.specs.declared.Labelled.{Labelled}
 
 module _ {ws txt : List ℕ} {n used x k : ℕ} (o : Used ws txt n used) (i : LinkOk ws (n + 1) x k) (p : 0 < x) where
   text-at : {Rule : Str → Type 0} → TextOk Rule txt used (text-start (record-at ws x)) (text-len (record-at ws x))
@@ -45,7 +45,7 @@ pub path-at : {ws txt : List ℕ} {w : Which} {p : Path} → PathOk ws txt w p �
 path-at o = record { sized = o .sized; few = o .few; each = λ j h. branch-text (o .each j h); len-is = o .len-is; short = o .short }
 
 -- What line is given is what its parts need.
-module _ {ws txt : List ℕ} {ask : Ask} {f : Found} {run : List ℕ} (o : CanList ws txt ask f run) where
+module _ {ws txt : List ℕ} {ask : Ask} {f : Labelled} {run : List ℕ} (o : CanList ws txt ask f run) where
   pub job-ok : JobOk ws txt (job-in (f .link) run)
   job-ok = record { path = path-at (o .path-ok); branch = branch-text (o .branch-at); small = o .small; fits = o .fits }
 

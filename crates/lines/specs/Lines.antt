@@ -19,14 +19,14 @@ use Rattle.lines.specs.Goes.{Result, Goes}
 use Rattle.output.specs.Run.{Small, path-in, tally-in, limits-in, matched-in}
 use Rattle.lines.specs.SameRun.{SameRun}
 use Rattle.asks.specs.declared.Ask.{Ask}
-use Rattle.lines.specs.declared.Found.{Found}
+use Rattle.lines.specs.declared.Labelled.{Labelled}
 
 -- Lines alone.
 abbrev pub only : {A : Type 0} → List (Line A) → Result A
 only ls = record { lines = ls; entered = 0 }
 
 -- The path, a found branch of bindings and its label are there, the limits are small, and the match length fits.
-pub record CanList (ws txt : List ℕ) (ask : Ask) (f : Found) (run : List ℕ) : Type 0 where
+pub record CanList (ws txt : List ℕ) (ask : Ask) (f : Labelled) (run : List ℕ) : Type 0 where
   pub path-ok : PathOk ws txt (asked ask) (path-in run)
   pub branch-at : BranchAt ws txt (asked ask) bind (f .link)
   pub label-at : LabelAt ws txt (asked ask) bind (f .label)
@@ -34,7 +34,7 @@ pub record CanList (ws txt : List ℕ) (ask : Ask) (f : Found) (run : List ℕ) 
   pub fits : matched-in run ≤ 4294967295
 
 -- The run went on by what is asked of a found element of bindings, where the branch and the label show it and it ends a path.
-pub record Listed (ws txt : List ℕ) (ask : Ask) (f : Found) (run run′ flat flat′ out out′ : List ℕ) : Type 0 where
+pub record Listed (ws txt : List ℕ) (ask : Ask) (f : Labelled) (run run′ flat flat′ out out′ : List ℕ) : Type 0 where
   pub same : SameRun run run′
   pub goes : (path : PathOf) (x : PathElem × Value (Item (asked ask)) bind) (q : Option Str) → OnPath ws txt (path-in run) path
       → outer x ≡ shown (asked ask) ws txt bind q (record { branch = f .link; label = f .label })

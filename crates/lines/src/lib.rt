@@ -14,6 +14,7 @@ use output::RUN;
 ghost use mathlib.Core.Path.{_≡_};
 ghost use Prim.Native.Nat.{ℕ, _+_, _<_, _≤_};
 ghost use lib.ListN.{length};
+ghost use Rattle.source.specs.Lent.{old, new};
 ghost use Rattle.source.specs.Limits.{longest-full-name, most-used};
 ghost use Rattle.memory.specs.Sound.{Says};
 ghost use Rattle.output.specs.Run.{path-in, tally-in, job-in};
@@ -24,7 +25,7 @@ ghost use Rattle.output.specs.Parts.{TextAt, JobOk};
 ghost use Rattle.lines.specs.Parts.{note-at, outermost, TriedLine, PutLine, KeptLine};
 
 // A branch or a tree that was found, and the collection of its outermost label, 0 for none.
-pub struct Found {
+pub struct Labelled {
     pub link: u32,
     pub label: u32,
 }
@@ -68,8 +69,8 @@ fn try_line(
 )
     requires { ⌜ JobOk (now words) (now text) (job-in branch (now run)) ⌝ }
     requires { ⌜ length (now note) ≤ longest-full-name ⌝ }
-    ensures { λ _. ⌜ TriedLine (now (words .entry)) (now (text .entry)) (job-in branch (now (run .entry))) (now (note .entry))
-        (now (flat .entry)) (now (flat .exit)) (now (out .entry)) (now (out .exit)) ⌝ }
+    ensures { λ _. ⌜ TriedLine (old words) (old text) (job-in branch (old run)) (old note)
+        (old flat) (new flat) (old out) (new out) ⌝ }
 {
     if !fits(run[LINES], 1, run[MOST_LINES], flat.len() / LINE_BYTES) {
         return;
@@ -93,9 +94,9 @@ fn put_line(
 )
     requires { ⌜ JobOk (now words) (now text) (job-in branch (now run)) ⌝ }
     requires { ⌜ length (now note) ≤ longest-full-name ⌝ }
-    ensures { λ _. ⌜ SameRun (now (run .entry)) (now (run .exit)) ⌝ }
-    ensures { λ _. ⌜ PutLine (now (words .entry)) (now (text .entry)) (job-in branch (now (run .entry))) (now (note .entry))
-        (tally-in (now (run .exit))) (now (flat .entry)) (now (flat .exit)) (now (out .entry)) (now (out .exit)) ⌝ }
+    ensures { λ _. ⌜ SameRun (old run) (new run) ⌝ }
+    ensures { λ _. ⌜ PutLine (old words) (old text) (job-in branch (old run)) (old note)
+        (tally-in (new run)) (old flat) (new flat) (old out) (new out) ⌝ }
 {
     let lines = run[LINES];
     let bytes = run[BYTES];
@@ -109,7 +110,7 @@ fn put_line(
 // The collection of the outermost label of the path and the branch below it, 0 for none.
 fn outermost(run: &[usize; RUN], label: u32) -> u32
     requires { ⌜ path-in (now run) .label ≤ most-used ⌝ }
-    ensures { λ r. ⌜ r ≡ outermost (path-in (now (run .entry))) label ⌝ }
+    ensures { λ r. ⌜ r ≡ outermost (path-in (old run)) label ⌝ }
 {
     if run[COUNT] == 0 {
         return label;
@@ -120,7 +121,7 @@ fn outermost(run: &[usize; RUN], label: u32) -> u32
 // The label of a collection, empty for none.
 fn note_of<'a>(words: &[u32], text: &'a [u8], label: u32) -> &'a [u8]
     requires { ⌜ (0 < label → TextAt (now words) (now text) label) ⌝ }
-    ensures { λ r. ⌜ now r ≡ note-at (now (words .entry)) (now (text .entry)) label ⌝ }
+    ensures { λ r. ⌜ now r ≡ note-at (old words) (old text) label ⌝ }
 {
     if label == 0 {
         return &text[0..0];
@@ -132,17 +133,17 @@ fn note_of<'a>(words: &[u32], text: &'a [u8], label: u32) -> &'a [u8]
 fn name_line(
     words: &[u32],
     text: &[u8],
-    found: Found,
+    found: Labelled,
     run: &mut [usize; RUN],
     flat: &mut [u8],
     out: &mut [u8],
 )
     requires { ⌜ JobOk (now words) (now text) (job-in (found .link) (now run)) ⌝ }
     requires { ⌜ (0 < found .label → TextAt (now words) (now text) (found .label)) ⌝ }
-    ensures { λ _. ⌜ SameRun (now (run .entry)) (now (run .exit)) ⌝ }
-    ensures { λ _. ⌜ PutLine (now (words .entry)) (now (text .entry)) (job-in (found .link) (now (run .entry)))
-        (note-at (now (words .entry)) (now (text .entry)) (found .label)) (tally-in (now (run .exit)))
-        (now (flat .entry)) (now (flat .exit)) (now (out .entry)) (now (out .exit)) ⌝ }
+    ensures { λ _. ⌜ SameRun (old run) (new run) ⌝ }
+    ensures { λ _. ⌜ PutLine (old words) (old text) (job-in (found .link) (old run))
+        (note-at (old words) (old text) (found .label)) (tally-in (new run))
+        (old flat) (new flat) (old out) (new out) ⌝ }
 {
     let note = note_of(words, text, found.label);
     put_line(words, text, found.link, note, run, flat, out);
@@ -159,9 +160,9 @@ fn module_line(
     out: &mut [u8],
 )
     requires { ⌜ JobOk (now words) (now text) (job-in branch (now run)) ⌝ }
-    ensures { λ _. ⌜ SameRun (now (run .entry)) (now (run .exit)) ⌝ }
-    ensures { λ _. ⌜ KeptLine (now (words .entry)) (now (text .entry)) f (job-in branch (now (run .entry))) (tally-in (now (run .exit)))
-        (now (flat .entry)) (now (flat .exit)) (now (out .entry)) (now (out .exit)) ⌝ }
+    ensures { λ _. ⌜ SameRun (old run) (new run) ⌝ }
+    ensures { λ _. ⌜ KeptLine (old words) (old text) f (job-in branch (old run)) (tally-in (new run))
+        (old flat) (new flat) (old out) (new out) ⌝ }
 {
     let symbol = memory::symbol_of(words, branch);
     match symbol {
@@ -193,18 +194,18 @@ pub fn line(
     words: &[u32],
     text: &[u8],
     ask: Ask,
-    found: Found,
+    found: Labelled,
     run: &mut [usize; RUN],
     flat: &mut [u8],
     out: &mut [u8],
 )
     requires { ⌜ CanList (now words) (now text) ask found (now run) ⌝ }
-    ensures { λ _. ⌜ Listed (now (words .entry)) (now (text .entry)) ask found (now (run .entry)) (now (run .exit))
-        (now (flat .entry)) (now (flat .exit)) (now (out .entry)) (now (out .exit)) ⌝ }
+    ensures { λ _. ⌜ Listed (old words) (old text) ask found (old run) (new run)
+        (old flat) (new flat) (old out) (new out) ⌝ }
 {
     match ask {
         Ask::Names => {
-            let named = Found {
+            let named = Labelled {
                 link: found.link,
                 label: outermost(run, found.label),
             };

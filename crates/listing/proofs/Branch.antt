@@ -26,7 +26,7 @@ use Rattle.lines.specs.SameRun.{SamePath}
 use Rattle.lines.proofs.Run.{path-then, path-matched, tally-matched, tally-after, limits-after}
 use Rattle.lines.specs.Lines.{CanList, Listed}
 use Rattle.asks.specs.declared.Ask.{Ask}
-use Rattle.lines.specs.declared.Found.{Found}
+use Rattle.lines.specs.declared.Labelled.{Labelled}
 use Rattle.steps.specs.Steps.{PathDown, Entered, PathSet}
 use Rattle.listing.specs.Runs.{level-of, BranchReady, BranchRuns, TrieReady, TrieRuns, BranchAsked, BranchListed, TrieAsked, TrieListed}
 use Rattle.steps.proofs.PathDown.{branch-fits, path-down, on-path-down}
@@ -58,7 +58,7 @@ module _ (ws txt : List ℕ) (w : Which) (v : Level) (o : Option Str) (branch la
   shown-prefix = ap (λ y. y .1 .0 .prefix) e
 
 -- The line of a branch of bindings.
-pub leaf-runs : {ws txt : List ℕ} {rest : Str} {ask : Ask} {leaf : Bool} {f : Found} {run run′ flat flat′ out out′ : List ℕ} → leaf ≡ true
+pub leaf-runs : {ws txt : List ℕ} {rest : Str} {ask : Ask} {leaf : Bool} {f : Labelled} {run run′ flat flat′ out out′ : List ℕ} → leaf ≡ true
     → Listed ws txt ask f run run′ flat flat′ out out′
     → BranchListed ws txt rest ask leaf run run′ flat flat′ out out′ f
 leaf-runs {ws} {txt} {rest} {ask} {leaf} {f} {run} {run′} {flat} {flat′} {out} {out′} e l = record { same = l .same; runs = go leaf e }
@@ -122,7 +122,7 @@ module _ {ws txt : List ℕ} {ask : Ask} {rest : Str} {p : Path} {lim : Limits} 
             }
 
 -- A line can be listed.
-pub line-ready : {ws txt : List ℕ} {rest : Str} {ask : Ask} {leaf : Bool} {f : Found} {run : List ℕ} → BranchAsked ws txt rest ask leaf run f
+pub line-ready : {ws txt : List ℕ} {rest : Str} {ask : Ask} {leaf : Bool} {f : Labelled} {run : List ℕ} → BranchAsked ws txt rest ask leaf run f
     → leaf ≡ true → CanList ws txt ask f run
 line-ready r e = record {
   path-ok = r .can .ready .path-ok;
@@ -133,7 +133,7 @@ line-ready r e = record {
 }
 
 -- A namespace is entered, listed and left.
-module _ {ws txt : List ℕ} {rest : Str} {ask : Ask} {f : Found} {run run₁ : List ℕ} {child : ℕ}
+module _ {ws txt : List ℕ} {rest : Str} {ask : Ask} {f : Labelled} {run run₁ : List ℕ} {child : ℕ}
     (r : BranchAsked ws txt rest ask false run f) (d : Entered ws f run run₁)
     (c : child ≡ trie-link (record-at ws (f .link))) where
   pub namespace-ready : TrieAsked ws txt rest ask run₁ child

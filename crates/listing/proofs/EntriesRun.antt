@@ -20,7 +20,7 @@ use Rattle.output.specs.Run.{Tally, Limits}
 use Rattle.lines.specs.Goes.{Goes}
 use Rattle.asks.specs.declared.Ask.{Ask}
 use Rattle.lines.proofs.Goes.{goes-none, goes-then, goes-spent}
-use Rattle.steps.specs.Steps.{Steps}
+use Rattle.steps.specs.Steps.{MatchingOn}
 use Rattle.listing.specs.Runs.{HasRoom, level-of, elements-give, BranchRuns, EntriesRun}
 
 module _ (ws txt : List ℕ) (ask : Ask) (rest : Str) (p : Path) (lim : Limits) (matched : ℕ) (leaf : Bool) where
@@ -44,7 +44,7 @@ module _ (ws txt : List ℕ) (ask : Ask) (rest : Str) (p : Path) (lim : Limits) 
     pub flat-size : length flat′ ≡ length flat
     pub out-size : length out′ ≡ length out
     pub room : leaf ≡ false → Allˡ (HasRoom ws txt ask p) es
-    pub says : (path : PathOf) (o : Option Str) (n : ℕ) (xs : List Element) → OnPath ws txt p path → Steps path o (segments rest) matched → Shown o n all xs
+    pub says : (path : PathOf) (o : Option Str) (n : ℕ) (xs : List Element) → OnPath ws txt p path → MatchingOn path o (segments rest) matched → Shown o n all xs
         → Rest a t flat flat′ out out′ es path o n xs
 
   pub left-all : {a : Tally} {flat out : List ℕ} {all : List Entry} → (leaf ≡ false → Allˡ (HasRoom ws txt ask p) all) → Left a a flat flat out out all all
@@ -84,7 +84,7 @@ module _ (ws txt : List ℕ) (ask : Ask) (rest : Str) (p : Path) (lim : Limits) 
       says = λ path o n xs on st sh. let r = l .says path o n xs on st sh in go path o n xs on st (r .ys) (r .left .shows) (r .left .deep) (r .on);
     }
       where
-        go : (path : PathOf) (o : Option Str) (n : ℕ) (xs : List Element) → OnPath ws txt p path → Steps path o (segments rest) matched
+        go : (path : PathOf) (o : Option Str) (n : ℕ) (xs : List Element) → OnPath ws txt p path → MatchingOn path o (segments rest) matched
             → (ys : List Element) → map outer ys ≡ map (shown (asked ask) ws txt (level-of leaf) o) (e ∷ es) → (leaf ≡ false → Allˡ (λ x. depth (x .1) < n) ys)
             → ((t″ : Tally) (f o′ : List ℕ) → Goes (asked ask) ws txt lim t t″ flat′ f out′ o′ (elements-give ask (level-of leaf) n path (segments rest) ys)
             → Goes (asked ask) ws txt lim a t″ flat f out o′ (elements-give ask (level-of leaf) n path (segments rest) xs))

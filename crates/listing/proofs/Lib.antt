@@ -1,6 +1,6 @@
-pub mod Gives
+pub mod TrieGives
 pub mod Runs
 pub mod EntriesRun
 pub mod Branch
-pub mod Loops
+pub mod Listed
 pub mod Trie

@@ -9,7 +9,7 @@ use Rattle.output.specs.Run.{Tally, path-in, limits-in, matched-in}
 use Rattle.lines.specs.SameRun.{SamePath, SameRun}
 use Rattle.asks.specs.declared.Ask.{Ask}
 use Rattle.lines.proofs.Run.{path-ok-at, on-path-at}
-use Rattle.listing.specs.declared.Place.{Place}
+use Rattle.listing.specs.declared.Search.{Search}
 use Rattle.listing.specs.Runs.{PlaceOk, RunReady, BranchReady, BranchRuns, ListReady, ListRuns}
 
 module _ {ws txt : List ℕ} {ask : Ask} {rest : Str} {run run′ : List ℕ} (s : SamePath run run′) where
@@ -40,5 +40,5 @@ module _ {ws txt : List ℕ} {ask : Ask} {rest : Str} {run run′ : List ℕ} (s
         b′ : ListRuns ws txt ask rest (path-in run) (limits-in run′) (matched-in run′) a t flat flat′ out out′ leaf x prefix
         b′ = record { goes = λ path term o n on. b .goes path term o n (on-path-at s on) }
 
-pub place-ok-at : {query : Str} {place : Place} {run run′ : List ℕ} → SameRun run run′ → PlaceOk query place run → PlaceOk query place run′
+pub place-ok-at : {query : Str} {place : Search} {run run′ : List ℕ} → SameRun run run′ → PlaceOk query place run → PlaceOk query place run′
 place-ok-at s p = record { len-inside = p .len-inside; next-inside = p .next-inside; fits = omega (arith, s .matched-same, p .fits) }

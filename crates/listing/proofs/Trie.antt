@@ -32,10 +32,10 @@ use Rattle.output.proofs.Written.{written-none}
 use Rattle.lines.proofs.Goes.{goes-none, goes-then, goes-past}
 use Rattle.steps.specs.Steps.{Matching, Cuts}
 use Rattle.listing.specs.Runs.{trie-gives, elements-give, RunReady, ListReady, ListRuns, TrieReady, TrieRuns, PlaceOk, ListAsked, ListListed, TrieAsked, TrieListed}
-use Rattle.listing.specs.declared.Place.{Place}
+use Rattle.listing.specs.declared.Search.{Search}
 use Rattle.steps.specs.declared.Cut.{Cut}
 use Rattle.listing.proofs.Runs.{list-ready-at, list-runs-at, place-ok-at}
-use Rattle.listing.proofs.Gives.{once, bind-entered, trie-gives-is}
+use Rattle.listing.proofs.TrieGives.{once, bind-entered, trie-gives-is}
 use Rattle.memory.proofs.At.{at-fits}
 
 -- One more trie entered.
@@ -189,7 +189,7 @@ module _ {ws txt : List ℕ} {query : Str} {ask : Ask} {run : List ℕ} {x : ℕ
   }
 
   module _ {t : Trie} (seen : ReadTrie ws x t) {c : Cut} (cut : Cuts query (getD run 17 0) (matched-in run) c) (h : getD run 19 0 < getD run 22 0) where
-    abbrev pub down : Bool → Place
+    abbrev pub down : Bool → Search
     down leaf = record { ask = ask; leaf = leaf; len = c .len; next = c .next }
 
     abbrev pub run₁ : List ℕ

@@ -27,9 +27,9 @@ use Rattle.output.specs.Run.{Tally, Limits, Small, path-in, tally-in, limits-in
 use Rattle.lines.specs.Lines.{only}
 use Rattle.lines.specs.SameRun.{SamePath, SameRun}
 use Rattle.asks.specs.declared.Ask.{Ask}
-use Rattle.lines.specs.declared.Found.{Found}
-use Rattle.steps.specs.Steps.{Matching, Steps}
-use Rattle.listing.specs.declared.Place.{Place}
+use Rattle.lines.specs.declared.Labelled.{Labelled}
+use Rattle.steps.specs.Steps.{Matching, MatchingOn}
+use Rattle.listing.specs.declared.Search.{Search}
 use Rattle.memory.specs.Sound.{At}
 
 -- ---- What is listed
@@ -101,7 +101,7 @@ module _ (ws txt : List ℕ) (ask : Ask) (rest : Str) (p : Path) (lim : Limits) 
     -- By an element that the branch and the label show.
     pub record BranchRuns (leaf : Bool) (branch label : ℕ) : Type 0 where
       pub goes : (path : PathOf) (x : PathElem × Value (Item (asked ask)) (level-of leaf)) (o : Option Str) (n : ℕ)
-          → OnPath ws txt p path → Steps path o (segments rest) matched
+          → OnPath ws txt p path → MatchingOn path o (segments rest) matched
           → outer x ≡ shown (asked ask) ws txt (level-of leaf) o (record { branch = branch; label = label })
           → (leaf ≡ false → depth (x .1) < n)
           → Went (element-gives ask (level-of leaf) n path (segments rest) x)
@@ -109,7 +109,7 @@ module _ (ws txt : List ℕ) (ask : Ask) (rest : Str) (p : Path) (lim : Limits) 
     -- By the elements that entries show.
     pub record EntriesRun (leaf : Bool) (es : List Entry) : Type 0 where
       pub goes : (path : PathOf) (xs : List (PathElem × Value (Item (asked ask)) (level-of leaf))) (o : Option Str) (n : ℕ)
-          → OnPath ws txt p path → Steps path o (segments rest) matched
+          → OnPath ws txt p path → MatchingOn path o (segments rest) matched
           → map outer xs ≡ map (shown (asked ask) ws txt (level-of leaf) o) es
           → (leaf ≡ false → Allˡ (λ x. depth (x .1) < n) xs)
           → Went (elements-give ask (level-of leaf) n path (segments rest) xs)
@@ -117,7 +117,7 @@ module _ (ws txt : List ℕ) (ask : Ask) (rest : Str) (p : Path) (lim : Limits) 
     -- By what is found in a list.
     pub record ListRuns (leaf : Bool) (x : ℕ) (prefix : Str) : Type 0 where
       pub goes : (path : PathOf) (term : SearchTerm) (o : Option Str) (n : ℕ)
-          → OnPath ws txt p path → Steps path o (segments rest) matched → Asks term prefix o
+          → OnPath ws txt p path → MatchingOn path o (segments rest) matched → Asks term prefix o
           → (leaf ≡ false → depth-names (what (asked ask) ws txt x (list (level-of leaf))) ≤ n)
           → Went (elements-give ask (level-of leaf) n path (segments rest) (found (what (asked ask) ws txt x (list (level-of leaf))) term))
 
@@ -130,23 +130,23 @@ module _ (ws txt : List ℕ) (ask : Ask) (rest : Str) (p : Path) (lim : Limits) 
 -- ---- The contracts: of a query that is cut, and the lent run
 
 module _ (ws txt : List ℕ) (rest : Str) (ask : Ask) (leaf : Bool) (run : List ℕ) where
-  pub record BranchAsked (f : Found) : Type 0 where
+  pub record BranchAsked (f : Labelled) : Type 0 where
     pub can : BranchReady ws txt ask rest (path-in run) (limits-in run) leaf (f .link) (f .label)
     pub fits : matched-in run ≤ 4294967295
 
-  pub record BranchListed (run′ flat flat′ out out′ : List ℕ) (f : Found) : Type 0 where
+  pub record BranchListed (run′ flat flat′ out out′ : List ℕ) (f : Labelled) : Type 0 where
     pub same : SameRun run run′
     pub runs : BranchRuns ws txt ask rest (path-in run) (limits-in run) (matched-in run)
         (tally-in run) (tally-in run′) flat flat′ out out′ leaf (f .link) (f .label)
 
 -- The query is cut within, and the match length fits.
-pub record PlaceOk (query : Str) (place : Place) (run : List ℕ) : Type 0 where
+pub record PlaceOk (query : Str) (place : Search) (run : List ℕ) : Type 0 where
   pub len-inside : place .len ≤ length query
   pub next-inside : place .next ≤ length query
   pub fits : matched-in run ≤ 4294967295
 
-module _ (ws txt : List ℕ) (query : Str) (place : Place) (run : List ℕ) where
-  pub record TreeAsked (f : Found) : Type 0 where
+module _ (ws txt : List ℕ) (query : Str) (place : Search) (run : List ℕ) where
+  pub record TreeAsked (f : Labelled) : Type 0 where
     pub place-ok : PlaceOk query place run
     pub can : TreeReady ws txt (place .ask) (drop (place .next) query) (path-in run) (limits-in run) (place .leaf)
         (f .link) (f .label) (take (place .len) query)
@@ -156,7 +156,7 @@ module _ (ws txt : List ℕ) (query : Str) (place : Place) (run : List ℕ) wher
     pub can : ListReady ws txt (place .ask) (drop (place .next) query) (path-in run) (limits-in run) (place .leaf) x
 
   module _ (run′ flat flat′ out out′ : List ℕ) where
-    pub record TreeListed (f : Found) : Type 0 where
+    pub record TreeListed (f : Labelled) : Type 0 where
       pub same : SameRun run run′
       pub runs : EntriesRun ws txt (place .ask) (drop (place .next) query) (path-in run) (limits-in run) (matched-in run)
           (tally-in run) (tally-in run′) flat flat′ out out′ (place .leaf)

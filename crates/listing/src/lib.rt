@@ -2,14 +2,15 @@
 // One run serves counting and writing: a line is written where it fits what is lent, and counting lends nothing.
 // The calls go no deeper than six to a trie, and tries no deeper than 17.
 use asks::Ask;
-use lines::Found;
-use merge::Turn;
+use lines::Labelled;
+use merge::Cursor;
 ghost use mathlib.Core.Bool.{true, false};
 ghost use Prim.Native.Nat.{_+_, _<_};
+ghost use Rattle.source.specs.Lent.{old, new};
 ghost use Rattle.listing.specs.Runs.{BranchAsked, BranchListed, TreeAsked, TreeListed, ListAsked, ListListed, TrieAsked, TrieListed};
 
 // Where a run stands in a trie: what is asked, whether the list is of bindings, and where the query is cut.
-struct Place {
+struct Search {
     ask: Ask,
     leaf: bool,
     len: usize,
@@ -22,14 +23,14 @@ fn list_below(
     text: &[u8],
     rest: &[u8],
     ask: Ask,
-    found: Found,
+    found: Labelled,
     run: &mut [usize; output::RUN],
     flat: &mut [u8],
     out: &mut [u8],
 )
     requires { ⌜ BranchAsked (now words) (now text) (now rest) ask false (now run) found ⌝ }
-    ensures { λ _. ⌜ BranchListed (now (words .entry)) (now (text .entry)) (now (rest .entry)) ask false
-        (now (run .entry)) (now (run .exit)) (now (flat .entry)) (now (flat .exit)) (now (out .entry)) (now (out .exit)) found ⌝ }
+    ensures { λ _. ⌜ BranchListed (old words) (old text) (old rest) ask false
+        (old run) (new run) (old flat) (new flat) (old out) (new out) found ⌝ }
 {
     let child = memory::held_of(words, found.link);
     let n = run[output::COUNT];
@@ -47,15 +48,15 @@ fn list_branch(
     words: &[u32],
     text: &[u8],
     rest: &[u8],
-    place: Place,
-    found: Found,
+    place: Search,
+    found: Labelled,
     run: &mut [usize; output::RUN],
     flat: &mut [u8],
     out: &mut [u8],
 )
     requires { ⌜ BranchAsked (now words) (now text) (now rest) (place .ask) (place .leaf) (now run) found ⌝ }
-    ensures { λ _. ⌜ BranchListed (now (words .entry)) (now (text .entry)) (now (rest .entry)) (place .ask) (place .leaf)
-        (now (run .entry)) (now (run .exit)) (now (flat .entry)) (now (flat .exit)) (now (out .entry)) (now (out .exit)) found ⌝ }
+    ensures { λ _. ⌜ BranchListed (old words) (old text) (old rest) (place .ask) (place .leaf)
+        (old run) (new run) (old flat) (new flat) (old out) (new out) found ⌝ }
 {
     let ask = place.ask;
     if place.leaf {
@@ -70,15 +71,15 @@ fn list_tree(
     words: &[u32],
     text: &[u8],
     query: &[u8],
-    place: Place,
-    found: Found,
+    place: Search,
+    found: Labelled,
     run: &mut [usize; output::RUN],
     flat: &mut [u8],
     out: &mut [u8],
 )
     requires { ⌜ TreeAsked (now words) (now text) (now query) place (now run) found ⌝ }
-    ensures { λ _. ⌜ TreeListed (now (words .entry)) (now (text .entry)) (now (query .entry)) place (now (run .entry)) (now (run .exit))
-        (now (flat .entry)) (now (flat .exit)) (now (out .entry)) (now (out .exit)) found ⌝ }
+    ensures { λ _. ⌜ TreeListed (old words) (old text) (old query) place (old run) (new run)
+        (old flat) (new flat) (old out) (new out) found ⌝ }
 {
     let budget = run[output::BUDGET];
     let len = place.len;
@@ -88,7 +89,7 @@ fn list_tree(
     let mut step = matches::first_match(words, text, root, &query[0..len], &mut notes);
     while 0 < step.link {
         let at = step.link;
-        let here = Found {
+        let here = Labelled {
             link: at,
             label: found.label,
         };
@@ -106,15 +107,15 @@ fn list_merged(
     words: &[u32],
     text: &[u8],
     query: &[u8],
-    place: Place,
+    place: Search,
     list: u32,
     run: &mut [usize; output::RUN],
     flat: &mut [u8],
     out: &mut [u8],
 )
     requires { ⌜ ListAsked (now words) (now text) (now query) place (now run) list ⌝ }
-    ensures { λ _. ⌜ ListListed (now (words .entry)) (now (text .entry)) (now (query .entry)) place (now (run .entry)) (now (run .exit))
-        (now (flat .entry)) (now (flat .exit)) (now (out .entry)) (now (out .exit)) list ⌝ }
+    ensures { λ _. ⌜ ListListed (old words) (old text) (old query) place (old run) (new run)
+        (old flat) (new flat) (old out) (new out) list ⌝ }
 {
     let budget = run[output::BUDGET];
     let len = place.len;
@@ -133,7 +134,7 @@ fn list_merged(
     );
     let n = start.n;
     if n == 1 {
-        let alone = Found {
+        let alone = Labelled {
             link: roots[0],
             label: labels[0],
         };
@@ -142,7 +143,7 @@ fn list_merged(
     }
     let mut child = start.child;
     let mut next = start.next;
-    let mut turn = Turn {
+    let mut turn = Cursor {
         n: n,
         root: start.root,
         last: 0,
@@ -163,7 +164,7 @@ fn list_merged(
             return;
         }
         let cell = t.cell;
-        let here = Found {
+        let here = Labelled {
             link: branch,
             label: labels[cell],
         };
@@ -181,19 +182,19 @@ fn list_names(
     words: &[u32],
     text: &[u8],
     query: &[u8],
-    place: Place,
+    place: Search,
     list: u32,
     run: &mut [usize; output::RUN],
     flat: &mut [u8],
     out: &mut [u8],
 )
     requires { ⌜ ListAsked (now words) (now text) (now query) place (now run) list ⌝ }
-    ensures { λ _. ⌜ ListListed (now (words .entry)) (now (text .entry)) (now (query .entry)) place (now (run .entry)) (now (run .exit))
-        (now (flat .entry)) (now (flat .exit)) (now (out .entry)) (now (out .exit)) list ⌝ }
+    ensures { λ _. ⌜ ListListed (old words) (old text) (old query) place (old run) (new run)
+        (old flat) (new flat) (old out) (new out) list ⌝ }
 {
     let root = merge::single(words, list);
     if 0 < root {
-        let tree = Found {
+        let tree = Labelled {
             link: root,
             label: 0,
         };
@@ -216,8 +217,8 @@ pub fn list_trie(
     out: &mut [u8],
 )
     requires { ⌜ TrieAsked (now words) (now text) (now query) ask (now run) trie ⌝ }
-    ensures { λ _. ⌜ TrieListed (now (words .entry)) (now (text .entry)) (now (query .entry)) ask (now (run .entry)) (now (run .exit))
-        (now (flat .entry)) (now (flat .exit)) (now (out .entry)) (now (out .exit)) trie ⌝ }
+    ensures { λ _. ⌜ TrieListed (old words) (old text) (old query) ask (old run) (new run)
+        (old flat) (new flat) (old out) (new out) trie ⌝ }
 {
     let budget = run[output::BUDGET];
     let before = run[output::ENTERED];
@@ -233,7 +234,7 @@ pub fn list_trie(
     run[output::MATCHED] = c.matched;
     let len = c.len;
     let next = c.next;
-    let namespaces = Place {
+    let namespaces = Search {
         ask: ask,
         leaf: false,
         len: len,
@@ -243,7 +244,7 @@ pub fn list_trie(
         list_names(words, text, query, namespaces, t.namespaces, run, flat, out);
         return;
     }
-    let bindings = Place {
+    let bindings = Search {
         ask: ask,
         leaf: true,
         len: len,

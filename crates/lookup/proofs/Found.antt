@@ -19,7 +19,7 @@ use Rattle.memory.specs.Read.{ReadTrie}
 use Rattle.memory.specs.declared.Trie as M
 use Rattle.memory.proofs.Seen.{link-later}
 use Rattle.names.specs.Names.{Holder}
-use Rattle.lookup.specs.Tries.{Reads, Scope, FoundIn}
+use Rattle.lookup.specs.Tries.{Reads, Scope, FindsExactIn}
 use Rattle.memory.proofs.Tries.{lists-seen, bindings-at, namespaces-at, bindings-read}
 use Rattle.lookup.proofs.Links.{scope-up}
 use Rattle.memory.specs.Sound.{At}
@@ -117,7 +117,7 @@ module _ {ws txt : List ℕ} {w : Which} {query : Str} {root link at : ℕ} {q :
 
   -- At the last segment: a holder in the bindings.
   pub found-last : {n r : ℕ} {p : M.Trie} → Segment query at n → ReadTrie ws link p → at + n + 1 ≡ length query
-      → Holder ws txt (p .bindings) (take (at + n - at) (drop at query)) r → FoundIn ws txt w root q r
+      → Holder ws txt (p .bindings) (take (at + n - at) (drop at query)) r → FindsExactIn ws txt w root q r
   unfolding trie-find-exact
   found-last {n} y z e h =
       let i = h w bind (bindings-at (g .here) z) in
@@ -127,6 +127,6 @@ module _ {ws txt : List ℕ} {w : Which} {query : Str} {root link at : ℕ} {q :
       }
 
   -- No segment: none.
-  pub found-none : length query ≤ at → FoundIn ws txt w root q 0
+  pub found-none : length query ≤ at → FindsExactIn ws txt w root q 0
   unfolding trie-find-exact
   found-none h = record { link = no-link root _; says = stands-last g h .same }

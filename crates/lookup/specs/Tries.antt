@@ -32,13 +32,13 @@ abbrev pub Included : (ws txt : List ℕ) (root : ℕ) (q : Query) (r : ℕ) →
 Included ws txt root q r = (w : Which) → At ws txt w trieˢ root → Reads ws txt w root r (included (what w ws txt root trieˢ) q)
 
 -- The link r is that of the branch that trie_find_exact ends at, 0 for none.
-pub record FoundIn (ws txt : List ℕ) (w : Which) (root : ℕ) (q : Query) (r : ℕ) : Type 0 where
+pub record FindsExactIn (ws txt : List ℕ) (w : Which) (root : ℕ) (q : Query) (r : ℕ) : Type 0 where
   pub link : LinkOk ws (root + 1) r (kind w (tree bind))
   pub says : trie-find-exact (what w ws txt root trieˢ) q ≡ pick (eqb r 0) none (some (held w ws txt bind r))
 
 -- trie_find_exact, for any table that the trie is of.
-abbrev pub Found : (ws txt : List ℕ) (root : ℕ) (q : Query) (r : ℕ) → Type 0
-Found ws txt root q r = (w : Which) → At ws txt w trieˢ root → FoundIn ws txt w root q r
+abbrev pub FindsExact : (ws txt : List ℕ) (root : ℕ) (q : Query) (r : ℕ) → Type 0
+FindsExact ws txt root q r = (w : Which) → At ws txt w trieˢ root → FindsExactIn ws txt w root q r
 
 -- Whether ins_ns inserts, where holder is the branch that has the name, 0 for none.
 pub record NsInserts (ws : List ℕ) (holder : ℕ) (loaded r : Bool) : Type 0 where

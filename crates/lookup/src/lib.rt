@@ -5,16 +5,17 @@ ghost use mathlib.Core.Path.{_≡_};
 ghost use mathlib.Core.Bool.{true};
 ghost use Prim.Native.Nat.{_*_, _<_, _≤_};
 ghost use lib.ListN.{length, drop};
+ghost use Rattle.source.specs.Lent.{old};
 ghost use Rattle.source.specs.Limits.{record-words};
 ghost use Rattle.source.specs.Text.{segments, ends-in-dot};
 ghost use Rattle.text.specs.Text.{Segment};
 ghost use Rattle.names.specs.Names.{AnyList};
-ghost use Rattle.lookup.specs.Tries.{AnyTrie, Scope, Included, Found, NsInserts};
+ghost use Rattle.lookup.specs.Tries.{AnyTrie, Scope, Included, FindsExact, NsInserts};
 
 // The length of the segment of `query` that begins at `at`.
 pub fn segment_at(query: &[u8], at: usize) -> usize
     requires { ⌜ (at < length (now query)) × (ends-in-dot (drop at (now query)) ≡ true) ⌝ }
-    ensures { λ r. ⌜ Segment (now (query .entry)) at r ⌝ }
+    ensures { λ r. ⌜ Segment (old query) at r ⌝ }
 {
     text::segment_length(&query[at..])
 }
@@ -22,7 +23,7 @@ pub fn segment_at(query: &[u8], at: usize) -> usize
 // The trie that a list of namespaces holds at `s`, 0 for none.
 fn scope_of(words: &[u32], text: &[u8], namespaces: u32, s: &[u8]) -> u32
     requires { ⌜ AnyList (now words) (now text) namespaces ⌝ }
-    ensures { λ r. ⌜ Scope (now (words .entry)) (now (text .entry)) namespaces (now (s .entry)) r ⌝ }
+    ensures { λ r. ⌜ Scope (old words) (old text) namespaces (old s) r ⌝ }
 {
     let holder = names::names_find_exact(words, text, namespaces, s);
     memory::trie_held(words, holder)
@@ -32,7 +33,7 @@ fn scope_of(words: &[u32], text: &[u8], namespaces: u32, s: &[u8]) -> u32
 pub fn trie_descend(words: &[u32], text: &[u8], root: u32, query: &[u8]) -> u32
     requires { ⌜ AnyTrie (now words) (now text) root ⌝ }
     requires { ⌜ ends-in-dot (now query) ≡ true ⌝ }
-    ensures { λ r. ⌜ Included (now (words .entry)) (now (text .entry)) root (segments (now (query .entry))) r ⌝ }
+    ensures { λ r. ⌜ Included (old words) (old text) root (segments (old query)) r ⌝ }
 {
     let mut included = root;
     let mut at = 0;
@@ -49,7 +50,7 @@ pub fn trie_descend(words: &[u32], text: &[u8], root: u32, query: &[u8]) -> u32
 pub fn trie_find_exact(words: &[u32], text: &[u8], root: u32, query: &[u8]) -> u32
     requires { ⌜ AnyTrie (now words) (now text) root ⌝ }
     requires { ⌜ ends-in-dot (now query) ≡ true ⌝ }
-    ensures { λ r. ⌜ Found (now (words .entry)) (now (text .entry)) root (segments (now (query .entry))) r ⌝ }
+    ensures { λ r. ⌜ FindsExact (old words) (old text) root (segments (old query)) r ⌝ }
 {
     let mut link = root;
     let mut at = 0;
@@ -68,7 +69,7 @@ pub fn trie_find_exact(words: &[u32], text: &[u8], root: u32, query: &[u8]) -> u
 // Whether ins_ns inserts, where `holder` is the branch that has the name, 0 for none.
 pub fn ns_inserts(words: &[u32], holder: u32, loaded: bool) -> bool
     requires { ⌜ holder * record-words ≤ length (now words) ⌝ }
-    ensures { λ r. ⌜ NsInserts (now (words .entry)) holder loaded r ⌝ }
+    ensures { λ r. ⌜ NsInserts (old words) holder loaded r ⌝ }
 {
     if holder == 0 {
         return true;

@@ -7,7 +7,7 @@ use native.Mathlib.Omega.{arith}
 use native.Mathlib.Decide.{ℕ-discrete}
 use lib.ListN.{length, getD, set, length-set}
 use lib.Seq.{getD-set-same, getD-set-other}
-use Rattle.matches.specs.Marks.{most-notes, most-near, most-far, near-start, far-start, near-count, far-count, dropped, note-words, Fits, Holds, PartOk, PutAt, Marks, Drops, Taken}
+use Rattle.matches.specs.Marks.{most-notes, most-near, most-far, near-start, far-start, near-count, far-count, dropped, note-words, Fits, Holds, PartOk, PutAt, Marks, Drops, MarkTaken}
 
 -- ---- Room
 
@@ -136,7 +136,7 @@ module _ {notes notes′ : List ℕ} {n : ℕ} (f : Fits notes n) (t : Drops not
 -- ---- A mark is taken
 
 module _ {notes notes′ : List ℕ} {r : ℕ} (f : Fits notes 0) where
-  pub taken-fits : Taken notes notes′ r → Fits notes′ 0
+  pub taken-fits : MarkTaken notes notes′ r → Fits notes′ 0
   taken-fits (inl t) = rw (t .is) (record {
     sized = length-set notes _ _ ∙ f .sized;
     few = f .few;
@@ -151,13 +151,13 @@ module _ {notes notes′ : List ℕ} {r : ℕ} (f : Fits notes 0) where
   })
   taken-fits (inr (inr t)) = rw (t .0) f
 
-  pub taken-told : Taken notes notes′ r → getD notes′ dropped 0 ≡ getD notes dropped 0
+  pub taken-told : MarkTaken notes notes′ r → getD notes′ dropped 0 ≡ getD notes dropped 0
   taken-told (inl t) = rw (t .is) (getD-set-other notes near-count dropped (getD notes near-count 0 - 1) 0 (λ e. omega arith))
   taken-told (inr (inl t)) = rw (t .is) (getD-set-other notes far-count dropped (getD notes far-count 0 - 1) 0 (λ e. omega arith))
   taken-told (inr (inr t)) = rw (t .0)
 
   module _ {N M : ℕ → Type 0} (o : Holds N M notes 0) where
-    pub taken-holds : Taken notes notes′ r → Holds N M notes′ 0
+    pub taken-holds : MarkTaken notes notes′ r → Holds N M notes′ 0
     taken-holds (inl t) = rw (t .is) (record {
       note = λ j h. absurd (omega arith);
       near = λ j h. rw (getD-set-other notes near-count (near-start + j) (getD notes near-count 0 - 1) 0 (λ e. omega (arith, getD-set-same notes near-count (getD notes near-count 0 - 1) 0 (omega (arith, f .sized)), f .few-near))) (o .near j (omega (arith, getD-set-same notes near-count (getD notes near-count 0 - 1) 0 (omega (arith, f .sized)))));
@@ -170,7 +170,7 @@ module _ {notes notes′ : List ℕ} {r : ℕ} (f : Fits notes 0) where
     })
     taken-holds (inr (inr t)) = rw (t .0) o
 
-    pub taken-mark : M 0 → Taken notes notes′ r → M r
+    pub taken-mark : M 0 → MarkTaken notes notes′ r → M r
     taken-mark z (inl t) = rw (t .mark) (o .near (getD notes near-count 0 - 1) (omega (arith, t .some)))
     taken-mark z (inr (inl t)) = rw (t .mark) (o .far (getD notes far-count 0 - 1) (omega (arith, t .some)))
     taken-mark z (inr (inr t)) = rw (t .1) z

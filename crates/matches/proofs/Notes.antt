@@ -23,7 +23,7 @@ use Rattle.tree.proofs.Links.{branches-at, all-before, all-beyond}
 use Rattle.tree.proofs.Past.{by-order, past-low, past-after, past-up, past-down, past-true, past-of-prefix, past-begun}
 use Rattle.tree.proofs.After.{after-first}
 use Rattle.tree.proofs.Matches.{matches-none, matches-increasing, matches-past}
-use Rattle.matches.specs.Marks.{most-notes, dropped, note-words, Fits, Holds, Drops, Taken, NotedAt}
+use Rattle.matches.specs.Marks.{most-notes, dropped, note-words, Fits, Holds, Drops, MarkTaken, NotedAt}
 use Rattle.matches.specs.Notes.{to-come, passing, Ahead, NoteOk, Noting, Noted, Descends, AllAfter, NotesLeft, LastNote, Matched}
 use Rattle.matches.specs.declared.Next.{Next}
 use Rattle.matches.proofs.Marks.{fits-fewer, holds-fewer, more-fits, more-holds, drops-fits, drops-told, drops-holds, taken-fits, taken-told, taken-holds, taken-mark, cleared, clear-fits, clear-holds}
@@ -376,7 +376,7 @@ module _ {ws txt : List ℕ} {p : Str} (k : Str) {l notes : List ℕ} {n : ℕ} 
   root-noting : (root : ℕ) → l ≡ passing ws txt p (past true k) root → Noting ws txt p (past true k) notes 0 (passing ws txt p (past true k) root) l
   root-noting root e = noting-none none-fits none-holds [] (e ∙ sym (append-nil (passing ws txt p (past true k) root))) (λ z. refl)
 
-  module _ {notes′ : List ℕ} {m : ℕ} (a : AnyTree ws txt 0) (t : Taken notes notes′ m) where
+  module _ {notes′ : List ℕ} {m : ℕ} (a : AnyTree ws txt 0) (t : MarkTaken notes notes′ m) where
     pub mark-ahead : Ahead ws txt p (past true k) l m
     mark-ahead = taken-mark none-fits none-holds (record { any = a; rest = l; says = rw (pass-none ws txt p (past true k)) }) t
 
@@ -385,7 +385,7 @@ module _ {ws txt : List ℕ} {p : Str} (k : Str) {l notes : List ℕ} {n : ℕ} 
 
 module _ {ws txt : List ℕ} {p : Str} (k low : Str) {l notes notes′ : List ℕ} {r : ℕ} (same : low ≡ k) where
   -- The walk down from a mark, and from the root.
-  pub next-near : {notes₀ : List ℕ} {n m : ℕ} → Noting ws txt p (past true k) notes₀ n [] l → n ≤ 0 → (getD notes₀ dropped 0 ≡ 0 → ⊥) → AnyTree ws txt 0 → Taken notes₀ notes m → Descends ws txt p low true m notes notes′ r
+  pub next-near : {notes₀ : List ℕ} {n m : ℕ} → Noting ws txt p (past true k) notes₀ n [] l → n ≤ 0 → (getD notes₀ dropped 0 ≡ 0 → ⊥) → AnyTree ws txt 0 → MarkTaken notes₀ notes m → Descends ws txt p low true m notes notes′ r
       → Noting ws txt p (past true k) notes′ r [] l
   next-near o h z a t d = (rw same at d) .notes-on l (mark-noting k o h a t z)
 

@@ -77,8 +77,8 @@ pub record TakenOf (notes notes′ : List ℕ) (start count r : ℕ) : Type 0 wh
   pub mark : r ≡ getD notes (start + (getD notes count 0 - 1)) 0
 
 -- The last mark is taken, a near one where there is one, 0 where there is none.
-abbrev pub Taken : (notes notes′ : List ℕ) → ℕ → Type 0
-Taken notes notes′ r = TakenOf notes notes′ near-start near-count r ⊎ (TakenOf notes notes′ far-start far-count r ⊎ ((notes′ ≡ notes) × (r ≡ 0)))
+abbrev pub MarkTaken : (notes notes′ : List ℕ) → ℕ → Type 0
+MarkTaken notes notes′ r = TakenOf notes notes′ near-start near-count r ⊎ (TakenOf notes notes′ far-start far-count r ⊎ ((notes′ ≡ notes) × (r ≡ 0)))
 
 -- The notes are dropped: the first of them is marked.
 pub record Drops (notes notes′ : List ℕ) : Type 0 where

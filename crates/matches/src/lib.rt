@@ -5,11 +5,12 @@ ghost use mathlib.Core.Path.{_≡_};
 ghost use mathlib.Core.Bool.{true};
 ghost use Prim.Native.Nat.{_<_};
 ghost use lib.ListN.{length};
+ghost use Rattle.source.specs.Lent.{old, new};
 ghost use Rattle.tree.specs.Tree.{AnyTree};
 ghost use Rattle.source.specs.Text.{starts-with};
 ghost use Rattle.memory.specs.Layout.{key-at};
 ghost use Rattle.tree.specs.Links.{matches, after};
-ghost use Rattle.matches.specs.Marks.{note-words, Fits, PartOk, PutAt, Marks, Taken, NotedAt};
+ghost use Rattle.matches.specs.Marks.{note-words, Fits, PartOk, PutAt, Marks, MarkTaken, NotedAt};
 ghost use Rattle.matches.specs.Notes.{Noted, Descends, AllAfter, NotesLeft, LastNote, Matched};
 
 // At most so many notes, near marks and far marks. Of a chain to the left as many branches as their product are given for each walk from the root.
@@ -43,7 +44,7 @@ pub struct Next {
 // Puts a branch after the others of a part. Where the part is full the others are dropped.
 fn put(notes: &mut [u32; NOTES], start: usize, most: u32, count: usize, branch: u32)
     requires { ⌜ PartOk (now notes) start most count ⌝ }
-    ensures { λ _. ⌜ PutAt (now (notes .entry)) (now (notes .exit)) start most count branch ⌝ }
+    ensures { λ _. ⌜ PutAt (old notes) (new notes) start most count branch ⌝ }
 {
     let k = notes[count];
     if k == most {
@@ -58,7 +59,7 @@ fn put(notes: &mut [u32; NOTES], start: usize, most: u32, count: usize, branch: 
 // Marks a branch. Where the near marks are full their first becomes a far one, and the others are dropped.
 fn mark(notes: &mut [u32; NOTES], branch: u32)
     requires { ⌜ Fits (now notes) 0 ⌝ }
-    ensures { λ _. ⌜ Marks (now (notes .entry)) (now (notes .exit)) branch ⌝ }
+    ensures { λ _. ⌜ Marks (old notes) (new notes) branch ⌝ }
 {
     if notes[NEAR_COUNT] == MOST_NEAR {
         let first = notes[NEAR_START];
@@ -72,7 +73,7 @@ fn mark(notes: &mut [u32; NOTES], branch: u32)
 // Takes the last mark, 0 for none.
 fn take_mark(notes: &mut [u32; NOTES]) -> u32
     requires { ⌜ Fits (now notes) 0 ⌝ }
-    ensures { λ r. ⌜ Taken (now (notes .entry)) (now (notes .exit)) r ⌝ }
+    ensures { λ r. ⌜ MarkTaken (old notes) (new notes) r ⌝ }
 {
     let near = notes[NEAR_COUNT];
     if 0 < near {
@@ -92,7 +93,7 @@ fn take_mark(notes: &mut [u32; NOTES]) -> u32
 // Notes a branch after the others. Where the notes are full the others are dropped, and the first of them is marked.
 fn note(notes: &mut [u32; NOTES], n: usize, branch: u32) -> usize
     requires { ⌜ Fits (now notes) n ⌝ }
-    ensures { λ r. ⌜ NotedAt (now (notes .entry)) (now (notes .exit)) n branch r ⌝ }
+    ensures { λ r. ⌜ NotedAt (old notes) (new notes) n branch r ⌝ }
 {
     if n == MOST_NOTES {
         let first = notes[0];
@@ -118,7 +119,7 @@ fn descend(
     requires { ⌜ AnyTree (now words) (now text) from ⌝ }
     requires { ⌜ starts-with (now low) (now prefix) ≡ true ⌝ }
     requires { ⌜ Fits (now notes) 0 ⌝ }
-    ensures { λ r. ⌜ Descends (now (words .entry)) (now (text .entry)) (now (prefix .entry)) (now (low .entry)) strict from (now (notes .entry)) (now (notes .exit)) r ⌝ }
+    ensures { λ r. ⌜ Descends (old words) (old text) (old prefix) (old low) strict from (old notes) (new notes) r ⌝ }
 {
     let mut at = from;
     let mut n = 0;
@@ -149,7 +150,7 @@ fn note_left(
     requires { ⌜ AnyTree (now words) (now text) from ⌝ }
     requires { ⌜ AllAfter (now words) (now text) (now prefix) from ⌝ }
     requires { ⌜ Fits (now notes) count ⌝ }
-    ensures { λ r. ⌜ NotesLeft (now (words .entry)) (now (text .entry)) (now (prefix .entry)) from (now (notes .entry)) (now (notes .exit)) count r ⌝ }
+    ensures { λ r. ⌜ NotesLeft (old words) (old text) (old prefix) from (old notes) (new notes) count r ⌝ }
 {
     let mut at = from;
     let mut n = count;
@@ -168,7 +169,7 @@ fn note_left(
 fn last_note(notes: &[u32; NOTES], n: usize) -> Next
     requires { ⌜ Fits (now notes) n ⌝ }
     requires { ⌜ 0 < n ⌝ }
-    ensures { λ r. ⌜ LastNote (now (notes .entry)) n r ⌝ }
+    ensures { λ r. ⌜ LastNote (old notes) n r ⌝ }
 {
     Next {
         link: notes[n - 1],
@@ -186,7 +187,7 @@ pub fn first_match(
 ) -> Next
     requires { ⌜ AnyTree (now words) (now text) root ⌝ }
     requires { ⌜ length (now notes) ≡ note-words ⌝ }
-    ensures { λ r. ⌜ Matched (now (words .entry)) (now (text .entry)) (now (prefix .entry)) (now (notes .exit)) (matches (now (words .entry)) (now (text .entry)) root (now (prefix .entry))) r ⌝ }
+    ensures { λ r. ⌜ Matched (old words) (old text) (old prefix) (new notes) (matches (old words) (old text) root (old prefix)) r ⌝ }
 {
     notes[NEAR_COUNT] = 0;
     notes[FAR_COUNT] = 0;
@@ -211,8 +212,10 @@ pub fn next_match(
     requires { ⌜ AnyTree (now words) (now text) root ⌝ }
     requires { ⌜ (0 < at) × AnyTree (now words) (now text) at ⌝ }
     requires { ⌜ starts-with (key-at (now words) (now text) at) (now prefix) ≡ true ⌝ }
-    requires { ⌜ Noted (now words) (now text) (now prefix) (now notes) n at (after (key-at (now words) (now text)) (key-at (now words) (now text) at) (matches (now words) (now text) root (now prefix))) ⌝ }
-    ensures { λ r. ⌜ Matched (now (words .entry)) (now (text .entry)) (now (prefix .entry)) (now (notes .exit)) (after (key-at (now (words .entry)) (now (text .entry))) (key-at (now (words .entry)) (now (text .entry)) at) (matches (now (words .entry)) (now (text .entry)) root (now (prefix .entry)))) r ⌝ }
+    requires { ⌜ Noted (now words) (now text) (now prefix) (now notes) n at
+        (after (key-at (now words) (now text)) (key-at (now words) (now text) at) (matches (now words) (now text) root (now prefix))) ⌝ }
+    ensures { λ r. ⌜ Matched (old words) (old text) (old prefix) (new notes)
+        (after (key-at (old words) (old text)) (key-at (old words) (old text) at) (matches (old words) (old text) root (old prefix))) r ⌝ }
 {
     let right = memory::right_of(words, at);
     let here = note_left(words, text, prefix, right, notes, n);

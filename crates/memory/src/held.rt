@@ -17,6 +17,7 @@ use crate::word_of;
 ghost use mathlib.Core.Path.{_≡_};
 ghost use Prim.Native.Nat.{_*_, _≤_, _<_};
 ghost use lib.ListN.{length};
+ghost use Rattle.source.specs.Lent.{old};
 ghost use Rattle.source.specs.Limits.{record-words};
 ghost use Rattle.memory.specs.Layout.{record-at, text-len, left-link, right-link, trie-link, number-word, own-link, rest-link, sort-word, note-link, note-side};
 ghost use Rattle.memory.specs.Stored.{weight-in, depth-in, trie-in, left-in, right-in};
@@ -24,7 +25,7 @@ ghost use Rattle.memory.specs.Stored.{weight-in, depth-in, trie-in, left
 // The length of the key of a branch, or of the label of a collection.
 pub fn text_len(words: &[u32], link: u32) -> u32
     requires { ⌜ (0 < link) × (link * record-words ≤ length (now words)) ⌝ }
-    ensures { λ r. ⌜ r ≡ text-len (record-at (now (words .entry)) link) ⌝ }
+    ensures { λ r. ⌜ r ≡ text-len (record-at (old words) link) ⌝ }
 {
     word_of(words, link, TEXT_LEN)
 }
@@ -32,7 +33,7 @@ pub fn text_len(words: &[u32], link: u32) -> u32
 // The left side of a branch.
 pub fn left_of(words: &[u32], link: u32) -> u32
     requires { ⌜ (0 < link) × (link * record-words ≤ length (now words)) ⌝ }
-    ensures { λ r. ⌜ r ≡ left-link (record-at (now (words .entry)) link) ⌝ }
+    ensures { λ r. ⌜ r ≡ left-link (record-at (old words) link) ⌝ }
 {
     word_of(words, link, LEFT)
 }
@@ -40,7 +41,7 @@ pub fn left_of(words: &[u32], link: u32) -> u32
 // The right side of a branch.
 pub fn right_of(words: &[u32], link: u32) -> u32
     requires { ⌜ (0 < link) × (link * record-words ≤ length (now words)) ⌝ }
-    ensures { λ r. ⌜ r ≡ right-link (record-at (now (words .entry)) link) ⌝ }
+    ensures { λ r. ⌜ r ≡ right-link (record-at (old words) link) ⌝ }
 {
     word_of(words, link, RIGHT)
 }
@@ -48,7 +49,7 @@ pub fn right_of(words: &[u32], link: u32) -> u32
 // The trie that a branch of namespaces holds.
 pub fn held_of(words: &[u32], link: u32) -> u32
     requires { ⌜ (0 < link) × (link * record-words ≤ length (now words)) ⌝ }
-    ensures { λ r. ⌜ r ≡ trie-link (record-at (now (words .entry)) link) ⌝ }
+    ensures { λ r. ⌜ r ≡ trie-link (record-at (old words) link) ⌝ }
 {
     word_of(words, link, HELD)
 }
@@ -56,7 +57,7 @@ pub fn held_of(words: &[u32], link: u32) -> u32
 // The number of a name.
 pub fn number_of(words: &[u32], link: u32) -> u32
     requires { ⌜ (0 < link) × (link * record-words ≤ length (now words)) ⌝ }
-    ensures { λ r. ⌜ r ≡ number-word (record-at (now (words .entry)) link) ⌝ }
+    ensures { λ r. ⌜ r ≡ number-word (record-at (old words) link) ⌝ }
 {
     word_of(words, link, NUMBER)
 }
@@ -64,7 +65,7 @@ pub fn number_of(words: &[u32], link: u32) -> u32
 // The tree of a collection, or its imported list.
 pub fn own_of(words: &[u32], link: u32) -> u32
     requires { ⌜ (0 < link) × (link * record-words ≤ length (now words)) ⌝ }
-    ensures { λ r. ⌜ r ≡ own-link (record-at (now (words .entry)) link) ⌝ }
+    ensures { λ r. ⌜ r ≡ own-link (record-at (old words) link) ⌝ }
 {
     word_of(words, link, OWN)
 }
@@ -72,7 +73,7 @@ pub fn own_of(words: &[u32], link: u32) -> u32
 // The list after a collection.
 pub fn rest_of(words: &[u32], link: u32) -> u32
     requires { ⌜ (0 < link) × (link * record-words ≤ length (now words)) ⌝ }
-    ensures { λ r. ⌜ r ≡ rest-link (record-at (now (words .entry)) link) ⌝ }
+    ensures { λ r. ⌜ r ≡ rest-link (record-at (old words) link) ⌝ }
 {
     word_of(words, link, REST)
 }
@@ -80,7 +81,7 @@ pub fn rest_of(words: &[u32], link: u32) -> u32
 // The sort of a collection: OF_TREE or IMPORTED.
 pub fn sort_of(words: &[u32], link: u32) -> u32
     requires { ⌜ (0 < link) × (link * record-words ≤ length (now words)) ⌝ }
-    ensures { λ r. ⌜ r ≡ sort-word (record-at (now (words .entry)) link) ⌝ }
+    ensures { λ r. ⌜ r ≡ sort-word (record-at (old words) link) ⌝ }
 {
     word_of(words, link, SORT)
 }
@@ -88,7 +89,7 @@ pub fn sort_of(words: &[u32], link: u32) -> u32
 // The link that a note has.
 pub fn note_link(words: &[u32], link: u32) -> u32
     requires { ⌜ (0 < link) × (link * record-words ≤ length (now words)) ⌝ }
-    ensures { λ r. ⌜ r ≡ note-link (record-at (now (words .entry)) link) ⌝ }
+    ensures { λ r. ⌜ r ≡ note-link (record-at (old words) link) ⌝ }
 {
     word_of(words, link, NOTE_LINK)
 }
@@ -96,7 +97,7 @@ pub fn note_link(words: &[u32], link: u32) -> u32
 // The side that a note has.
 pub fn note_side(words: &[u32], link: u32) -> u32
     requires { ⌜ (0 < link) × (link * record-words ≤ length (now words)) ⌝ }
-    ensures { λ r. ⌜ r ≡ note-side (record-at (now (words .entry)) link) ⌝ }
+    ensures { λ r. ⌜ r ≡ note-side (record-at (old words) link) ⌝ }
 {
     word_of(words, link, NOTE_SIDE)
 }
@@ -106,7 +107,7 @@ pub fn note_side(words: &[u32], link: u32) -> u32
 // The weight of a list.
 pub fn weight_of(words: &[u32], link: u32) -> u32
     requires { ⌜ link * record-words ≤ length (now words) ⌝ }
-    ensures { λ r. ⌜ r ≡ weight-in (now (words .entry)) link ⌝ }
+    ensures { λ r. ⌜ r ≡ weight-in (old words) link ⌝ }
 {
     stored(words, link, WEIGHT)
 }
@@ -114,7 +115,7 @@ pub fn weight_of(words: &[u32], link: u32) -> u32
 // The depth of a tree or a list of namespaces, or of a trie.
 pub fn depth_of(words: &[u32], link: u32) -> u32
     requires { ⌜ link * record-words ≤ length (now words) ⌝ }
-    ensures { λ r. ⌜ r ≡ depth-in (now (words .entry)) link ⌝ }
+    ensures { λ r. ⌜ r ≡ depth-in (old words) link ⌝ }
 {
     stored(words, link, DEPTH)
 }
@@ -122,7 +123,7 @@ pub fn depth_of(words: &[u32], link: u32) -> u32
 // The trie that a branch of namespaces holds.
 pub fn trie_held(words: &[u32], link: u32) -> u32
     requires { ⌜ link * record-words ≤ length (now words) ⌝ }
-    ensures { λ r. ⌜ r ≡ trie-in (now (words .entry)) link ⌝ }
+    ensures { λ r. ⌜ r ≡ trie-in (old words) link ⌝ }
 {
     stored(words, link, HELD)
 }
@@ -130,7 +131,7 @@ pub fn trie_held(words: &[u32], link: u32) -> u32
 // The left side of a branch.
 pub fn left_side(words: &[u32], link: u32) -> u32
     requires { ⌜ link * record-words ≤ length (now words) ⌝ }
-    ensures { λ r. ⌜ r ≡ left-in (now (words .entry)) link ⌝ }
+    ensures { λ r. ⌜ r ≡ left-in (old words) link ⌝ }
 {
     stored(words, link, LEFT)
 }
@@ -138,7 +139,7 @@ pub fn left_side(words: &[u32], link: u32) -> u32
 // The right side of a branch.
 pub fn right_side(words: &[u32], link: u32) -> u32
     requires { ⌜ link * record-words ≤ length (now words) ⌝ }
-    ensures { λ r. ⌜ r ≡ right-in (now (words .entry)) link ⌝ }
+    ensures { λ r. ⌜ r ≡ right-in (old words) link ⌝ }
 {
     stored(words, link, RIGHT)
 }

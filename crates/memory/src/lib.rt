@@ -2,6 +2,7 @@
 ghost use mathlib.Core.Path.{_≡_};
 ghost use Prim.Native.Nat.{_+_, _*_, _≤_, _<_};
 ghost use lib.ListN.{length};
+ghost use Rattle.source.specs.Lent.{old, new};
 ghost use Rattle.source.specs.Limits.{record-words};
 ghost use Rattle.memory.specs.Layout.{record-at, word, key-at};
 ghost use Rattle.memory.specs.Stored.{stored};
@@ -126,7 +127,7 @@ pub struct Trie {
 // Word `k` of the record that `link` names.
 pub fn word_of(words: &[u32], link: u32, k: usize) -> u32
     requires { ⌜ (0 < link) × (k < record-words) × (link * record-words ≤ length (now words)) ⌝ }
-    ensures { λ r. ⌜ r ≡ word (record-at (now (words .entry)) link) k ⌝ }
+    ensures { λ r. ⌜ r ≡ word (record-at (old words) link) k ⌝ }
 {
     let at = (link as usize - 1) * ROW + k;
     words[at]
@@ -135,7 +136,7 @@ pub fn word_of(words: &[u32], link: u32, k: usize) -> u32
 // The same, 0 of the link 0.
 pub fn stored(words: &[u32], link: u32, k: usize) -> u32
     requires { ⌜ (k < record-words) × (link * record-words ≤ length (now words)) ⌝ }
-    ensures { λ r. ⌜ r ≡ stored (now (words .entry)) link k ⌝ }
+    ensures { λ r. ⌜ r ≡ stored (old words) link k ⌝ }
 {
     if link == 0 {
         return 0;
@@ -146,7 +147,7 @@ pub fn stored(words: &[u32], link: u32, k: usize) -> u32
 // The key of a branch, or the label of a collection.
 pub fn key_of<'a>(words: &[u32], text: &'a [u8], link: u32) -> &'a [u8]
     requires { ⌜ TextIn (now words) (now text) link ⌝ }
-    ensures { λ r. ⌜ now r ≡ key-at (now (words .entry)) (now (text .entry)) link ⌝ }
+    ensures { λ r. ⌜ now r ≡ key-at (old words) (old text) link ⌝ }
 {
     let start = word_of(words, link, TEXT_START) as usize;
     let len = word_of(words, link, TEXT_LEN) as usize;
@@ -158,7 +159,7 @@ pub fn key_of<'a>(words: &[u32], text: &'a [u8], link: u32) -> &'a [u8]
 // The twelve words of the record that `link` names.
 pub fn row_of(words: &[u32], link: u32) -> [u32; ROW]
     requires { ⌜ (0 < link) × (link * record-words ≤ length (now words)) ⌝ }
-    ensures { λ r. ⌜ r ≡ record-at (now (words .entry)) link ⌝ }
+    ensures { λ r. ⌜ r ≡ record-at (old words) link ⌝ }
 {
     let mut row = [0; ROW];
     let mut i = 0;
@@ -172,7 +173,7 @@ pub fn row_of(words: &[u32], link: u32) -> [u32; ROW]
 // The mod symbol of the branch that `link` names.
 pub fn symbol_of(words: &[u32], link: u32) -> ModSymbol
     requires { ⌜ (0 < link) × (link * record-words ≤ length (now words)) ⌝ }
-    ensures { λ r. ⌜ r ≡ symbol-in (record-at (now (words .entry)) link) ⌝ }
+    ensures { λ r. ⌜ r ≡ symbol-in (record-at (old words) link) ⌝ }
 {
     let name = Span {
         start: word_of(words, link, NAME_START),
@@ -192,7 +193,7 @@ pub fn symbol_of(words: &[u32], link: u32) -> ModSymbol
 // The branch that `link` names.
 pub fn branch_of(words: &[u32], link: u32) -> Branch
     requires { ⌜ (0 < link) × (link * record-words ≤ length (now words)) ⌝ }
-    ensures { λ r. ⌜ ReadBranch (record-at (now (words .entry)) link) r ⌝ }
+    ensures { λ r. ⌜ ReadBranch (record-at (old words) link) r ⌝ }
 {
     let key = Span {
         start: word_of(words, link, TEXT_START),
@@ -210,7 +211,7 @@ pub fn branch_of(words: &[u32], link: u32) -> Branch
 // The collection that `link` names.
 pub fn collection_of(words: &[u32], link: u32) -> Collection
     requires { ⌜ (0 < link) × (link * record-words ≤ length (now words)) ⌝ }
-    ensures { λ r. ⌜ ReadCollection (record-at (now (words .entry)) link) r ⌝ }
+    ensures { λ r. ⌜ ReadCollection (record-at (old words) link) r ⌝ }
 {
     let label = Span {
         start: word_of(words, link, TEXT_START),
@@ -228,7 +229,7 @@ pub fn collection_of(words: &[u32], link: u32) -> Collection
 // The trie that `link` names, the empty one of the link 0.
 pub fn trie_of(words: &[u32], link: u32) -> Trie
     requires { ⌜ link * record-words ≤ length (now words) ⌝ }
-    ensures { λ r. ⌜ ReadTrie (now (words .entry)) link r ⌝ }
+    ensures { λ r. ⌜ ReadTrie (old words) link r ⌝ }
 {
     Trie {
         bindings: stored(words, link, BINDINGS),
@@ -242,7 +243,7 @@ pub fn trie_of(words: &[u32], link: u32) -> Trie
 // Writes the twelve words of `row` as record number `used`.
 pub fn put_row(words: &mut [u32], used: u32, row: &[u32; ROW])
     requires { ⌜ (used * record-words + record-words ≤ length (now words)) × (length (now row) ≡ record-words) ⌝ }
-    ensures { λ _. ⌜ now (words .exit) ≡ put (now (words .entry)) used (now (row .entry)) ⌝ }
+    ensures { λ _. ⌜ new words ≡ put (old words) used (old row) ⌝ }
 {
     let base = used as usize * ROW;
     let mut i = 0;
@@ -255,7 +256,7 @@ pub fn put_row(words: &mut [u32], used: u32, row: &[u32; ROW])
 // Writes the bytes of `s` into the text from `used` on.
 pub fn put_text(text: &mut [u8], used: u32, s: &[u8])
     requires { ⌜ used + length (now s) ≤ length (now text) ⌝ }
-    ensures { λ _. ⌜ now (text .exit) ≡ put-text (now (text .entry)) used (now (s .entry)) ⌝ }
+    ensures { λ _. ⌜ new text ≡ put-text (old text) used (old s) ⌝ }
 {
     let base = used as usize;
     let mut i = 0;

@@ -31,7 +31,7 @@ use Rattle.names.specs.Names.{AnyList}
 use Rattle.names.proofs.Collections.{any-imported, any-own, collection-right, sort-tree, rest-list, own-tree, names-reads, imported-list, imported-reads, list-weight, rest-lighter}
 use Rattle.names.specs.Entries.{label-at, Asks, by-prefix, by-all}
 use Rattle.names.specs.Entries.{LabelOk}
-use Rattle.merge.specs.Lists.{Part, elements, Full, SameCell, HasParts, no-more, more, match-lists-in, CollectedIn, Collected}
+use Rattle.merge.specs.Lists.{TreePart, elements, Full, SameCell, HasParts, no-more, more, match-lists-in, CollectedIn, Collected}
 use Rattle.merge.proofs.Cells.{no-match}
 use Rattle.memory.specs.Sound.{At}
 
@@ -124,7 +124,7 @@ module _ {ws txt : List ℕ} {x own rest sort : ℕ} (s : Seen ws txt x own rest
 
 -- ---- Cells that have parts
 module _ {ws txt : List ℕ} {w : Which} {v : Level} {l : ℕ} {p : Str} {roots heads labels roots′ heads′ labels′ : List ℕ} where
-  has-kept : (i r : ℕ) (cs : List (Part ws txt)) → r ≡ i + length cs → ((j : ℕ) → j < r → SameCell roots heads labels roots′ heads′ labels′ j)
+  has-kept : (i r : ℕ) (cs : List (TreePart ws txt)) → r ≡ i + length cs → ((j : ℕ) → j < r → SameCell roots heads labels roots′ heads′ labels′ j)
       → HasParts ws txt w v l p roots heads labels i cs → HasParts ws txt w v l p roots′ heads′ labels′ i cs
   has-kept i r [] e k no-more = no-more
   has-kept i r (c ∷ cs) e k (more b a) =
@@ -140,7 +140,7 @@ module _ {ws txt : List ℕ} {w : Which} {v : Level} {l : ℕ} {p : Str} {roots 
       })
       (has-kept (suc i) r cs (omega arith) k a)
 
-has-append : {ws txt : List ℕ} {w : Which} {v : Level} {l : ℕ} {p : Str} {roots heads labels : List ℕ} (i j : ℕ) (cs ds : List (Part ws txt)) → j ≡ i + length cs
+has-append : {ws txt : List ℕ} {w : Which} {v : Level} {l : ℕ} {p : Str} {roots heads labels : List ℕ} (i j : ℕ) (cs ds : List (TreePart ws txt)) → j ≡ i + length cs
     → HasParts ws txt w v l p roots heads labels i cs → HasParts ws txt w v l p roots heads labels j ds → HasParts ws txt w v l p roots heads labels i (cs ++ ds)
 has-append i j [] ds e no-more b = let f : j ≡ i = omega arith in rw f at b
 has-append i j (c ∷ cs) ds e (more h a) b = more h (has-append (suc i) j cs ds (omega arith) a b)

@@ -34,7 +34,7 @@ use Rattle.tree.specs.Links.{matches, row-at}
 use Rattle.tree.proofs.After.{after-first}
 use Rattle.tree.proofs.Matches.{matches-none, matches-of, matches-increasing}
 use Rattle.names.specs.Entries.{Entry, entry-key, label-at, shown, outer, Asks}
-use Rattle.merge.specs.Lists.{Part, elements, HasPart, HasParts, more, match-lists-in, CollectedIn, Collected}
+use Rattle.merge.specs.Lists.{TreePart, elements, HasPart, HasParts, more, match-lists-in, CollectedIn, Collected}
 use Rattle.merge.specs.Stream.{later, run-at, CellOk, Starts, state, OneTree}
 use Rattle.merge.proofs.Cells.{branch-head, stands}
 use Rattle.memory.specs.Sound.{At}
@@ -89,7 +89,7 @@ record Match (ws txt : List ℕ) : Type 0 where
   labelled : label-at ws txt label ≡ last-opt imports
 
 module _ (ws txt : List ℕ) where
-  abbrev match-of : Part ws txt → ℕ → Match ws txt
+  abbrev match-of : TreePart ws txt → ℕ → Match ws txt
   match-of c b = record { branch = b; label = c .label; imports = c .imports; labelled = c .labelled }
 
   abbrev match-key : Match ws txt → Str
@@ -98,12 +98,12 @@ module _ (ws txt : List ℕ) where
   abbrev entry-of : Match ws txt → Entry
   entry-of m = record { branch = m .branch; label = m .label }
 
-  no-part : Part ws txt
+  no-part : TreePart ws txt
   unfolding last-opt
   no-part = record { root = 0; label = 0; imports = []; labelled = refl }
 
   -- The list of the k-th part.
-  run-of : Str → List ℕ → List (Part ws txt) → ℕ → Run (Match ws txt)
+  run-of : Str → List ℕ → List (TreePart ws txt) → ℕ → Run (Match ws txt)
   run-of p heads parts k =
       run (length parts - 1 - k) (match-of (getD parts k no-part) (getD heads k 0))
       (map (match-of (getD parts k no-part)) (later ws txt p (getD parts k no-part .root) (getD heads k 0)))
@@ -116,7 +116,7 @@ module _ (ws txt : List ℕ) where
     unfolding elem-key row-at
     element-key m = refl
 
-    part-elements : (c : Part ws txt) (l : List ℕ) → with-imports (c .imports, map (row-at w ws txt v q) l) ≡ map element (map (match-of c) l)
+    part-elements : (c : TreePart ws txt) (l : List ℕ) → with-imports (c .imports, map (row-at w ws txt v q) l) ≡ map element (map (match-of c) l)
     unfolding with-imports
     part-elements c [] = refl
     part-elements c (b ∷ l) = ap (_∷_ (element (match-of c b))) (part-elements c l)
@@ -126,13 +126,13 @@ module _ (ws txt : List ℕ) where
     element-shows m = rw (m .labelled)
 
 module _ {ws txt : List ℕ} {w : Which} {v : Level} {x : ℕ} {p : Str} {roots heads labels : List ℕ} (here : At ws txt w (list v) x) where
-  part-at : (i : ℕ) (parts : List (Part ws txt)) → HasParts ws txt w v x p roots heads labels i parts → (k j : ℕ) → j ≡ i + k → k < length parts
+  part-at : (i : ℕ) (parts : List (TreePart ws txt)) → HasParts ws txt w v x p roots heads labels i parts → (k j : ℕ) → j ≡ i + k → k < length parts
       → HasPart ws txt w v x p roots heads labels j (getD parts k (no-part ws txt))
   part-at i [] a k j e h = absurd (omega arith)
   part-at i (c ∷ parts) (more b a) zero j e h = let f : i ≡ j = omega arith in rw f at b
   part-at i (c ∷ parts) (more b a) (suc k) j e h = part-at (suc i) parts a k j (omega arith) (omega arith)
 
-  module _ {j : ℕ} {c : Part ws txt} (o : HasPart ws txt w v x p roots heads labels j c) where
+  module _ {j : ℕ} {c : TreePart ws txt} (o : HasPart ws txt w v x p roots heads labels j c) where
     part-tree : At ws txt w (tree v) (c .root)
     part-tree = at-of here (tree _) (omega arith) (o .root-link)
 
@@ -160,7 +160,7 @@ module _ {ws txt : List ℕ} {w : Which} {v : Level} {x : ℕ} {p : Str} {roots 
         go zero e f = absurd (nil≢cons (sym (matches-none ws txt p) ∙ e))
         go (suc r) e f = omega arith
 
-  module _ (parts : List (Part ws txt)) (a : HasParts ws txt w v x p roots heads labels 0 parts) where
+  module _ (parts : List (TreePart ws txt)) (a : HasParts ws txt w v x p roots heads labels 0 parts) where
     -- The cells stand for what is merged.
     cells-are : (q : Option Str) → AreRuns (map (elements w ws txt v q p) parts) (λ k. map-run (element ws txt w v q) (run-of ws txt p heads parts k))
     unfolding priority first rest elements with-imports run-of
@@ -249,11 +249,11 @@ module _ {ws txt : List ℕ} {p : Str} {x n : ℕ} {roots₀ heads₀ labels₀ 
   unfolding match-lists nonempty elements with-imports outer shown row-at
   starts-one e w v t = go (collected w v t .parts) (omega (arith, collected w v t .count)) (collected w v t .has) (collected w v t .lists)
     where
-      shows : (q : Option Str) (c : Part ws txt) (l : List ℕ) → map outer (with-imports (c .imports, map (row-at w ws txt v q) l)) ≡ map (shown w ws txt v q) (map (λ b. record { branch = b; label = c .label }) l)
+      shows : (q : Option Str) (c : TreePart ws txt) (l : List ℕ) → map outer (with-imports (c .imports, map (row-at w ws txt v q) l)) ≡ map (shown w ws txt v q) (map (λ b. record { branch = b; label = c .label }) l)
       shows q c [] = refl
       shows q c (b ∷ l) = ap₂ _∷_ (rw (c .labelled)) (shows q c l)
 
-      go : (parts : List (Part ws txt)) → length parts ≡ 1 → HasParts ws txt w v x p roots heads labels 0 parts
+      go : (parts : List (TreePart ws txt)) → length parts ≡ 1 → HasParts ws txt w v x p roots heads labels 0 parts
           → ((term : SearchTerm) (q : Option Str) → Asks term p q → match-lists-in w ws txt v term [] x ≡ map (elements w ws txt v q p) parts)
           → OneTree ws txt w v x p (getD roots 0 0) (getD labels 0 0)
       go [] k a f = absurd (omega arith)

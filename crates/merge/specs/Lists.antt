@@ -19,14 +19,14 @@ use Rattle.tree.specs.Links.{matches, row-at}
 use Rattle.names.specs.Entries.{label-at, Asks, LabelOk}
 
 -- A tree, the collection of its outermost label, 0 for none, and its imports.
-pub record Part (ws txt : List ℕ) : Type 0 where
+pub record TreePart (ws txt : List ℕ) : Type 0 where
   pub root : ℕ
   pub label : ℕ
   pub imports : List Str
   pub labelled : label-at ws txt label ≡ last-opt imports
 
 -- The tree's matches with its imports.
-unfoldable pub elements : (w : Which) (ws txt : List ℕ) (v : Level) → Option Str → Str → Part ws txt → List (PathElem × Value (Item w) v)
+unfoldable pub elements : (w : Which) (ws txt : List ℕ) (v : Level) → Option Str → Str → TreePart ws txt → List (PathElem × Value (Item w) v)
 elements w ws txt v q p c = with-imports (c .imports, map (row-at w ws txt v q) (matches ws txt (c .root) p))
 
 -- There are 96 of each.
@@ -43,7 +43,7 @@ pub record SameCell (roots heads labels roots′ heads′ labels′ : List ℕ) 
 
 module _ (ws txt : List ℕ) (w : Which) (v : Level) (l : ℕ) (p : Str) (roots heads labels : List ℕ) where
   -- The cell i has the tree of c, its first match and its label. Their links are no later than l.
-  pub record HasPart (i : ℕ) (c : Part ws txt) : Type 0 where
+  pub record HasPart (i : ℕ) (c : TreePart ws txt) : Type 0 where
     pub root-is : getD roots i 0 ≡ c .root
     pub label-is : getD labels i 0 ≡ c .label
     pub others : List ℕ
@@ -52,9 +52,9 @@ module _ (ws txt : List ℕ) (w : Which) (v : Level) (l : ℕ) (p : Str) (roots 
     pub label-ok : LabelOk ws w v l (c .label)
 
   -- The cells from i on have these parts.
-  pub data HasParts : ℕ → List (Part ws txt) → Type 0 where
+  pub data HasParts : ℕ → List (TreePart ws txt) → Type 0 where
     no-more : {i : ℕ} → HasParts i []
-    more : {i : ℕ} {c : Part ws txt} {cs : List (Part ws txt)} → HasPart i c → HasParts (suc i) cs → HasParts i (c ∷ cs)
+    more : {i : ℕ} {c : TreePart ws txt} {cs : List (TreePart ws txt)} → HasPart i c → HasParts (suc i) cs → HasParts i (c ∷ cs)
 
 -- Each tree's matches below some imports, the empty ones left out.
 abbrev pub match-lists-in : (w : Which) (ws txt : List ℕ) (v : Level) → SearchTerm → List Str → ℕ → List (List (PathElem × Value (Item w) v))
@@ -64,7 +64,7 @@ match-lists-in w ws txt v term imports x =
 module _ (ws txt : List ℕ) (p : Str) (x label i r : ℕ) (roots heads labels roots′ heads′ labels′ : List ℕ) where
   -- The cells from i to r have the trees of the list x that have a match; those before i are as they were.
   pub record CollectedIn (w : Which) (v : Level) (l : ℕ) (imports : List Str) : Type 0 where
-    pub parts : List (Part ws txt)
+    pub parts : List (TreePart ws txt)
     pub count : r ≡ i + length parts
     pub has : HasParts ws txt w v l p roots′ heads′ labels′ i parts
     pub lists : (term : SearchTerm) (q : Option Str) → Asks term p q → match-lists-in w ws txt v term imports x ≡ map (elements w ws txt v q p) parts

@@ -23,7 +23,7 @@ use Rattle.names.specs.Entries.{Entry, entry-key, shown, outer, Asks}
 use Rattle.names.specs.Entries.{LabelOk}
 use Rattle.merge.specs.Lists.{Full}
 use Rattle.merge.specs.declared.Start.{Start}
-use Rattle.merge.specs.declared.Turn.{Turn}
+use Rattle.merge.specs.declared.Cursor.{Cursor}
 use Rattle.merge.specs.declared.Taken.{Taken}
 
 -- The state of a merge: the cells of the heap, each with a tree, its current branch and its label, and the last branch given.
@@ -191,12 +191,12 @@ pub record Begins (ws txt : List ℕ) (p : Str) (x : ℕ) (roots heads labels : 
   pub one : r .n ≡ 1 → (w : Which) (v : Level) → At ws txt w (list v) x → OneTree ws txt w v x p (getD roots 0 0) (getD labels 0 0)
 
 -- The cells, with some labels, still give some entries.
-pub record Stands (ws txt : List ℕ) (p : Str) (roots heads child next : List ℕ) (t : Turn) : Type 0 where
+pub record Stands (ws txt : List ℕ) (p : Str) (roots heads child next : List ℕ) (t : Cursor) : Type 0 where
   pub labels : List ℕ
   pub any : AnyRest ws txt p (state roots heads labels child next (t .n) (t .root) (t .last))
 
 -- The next entry is given, whatever the labels.
-pub record Steps (ws txt : List ℕ) (p : Str) (roots heads child next : List ℕ) (t : Turn) (roots′ heads′ child′ next′ : List ℕ) (r : Taken) : Type 0 where
+pub record Steps (ws txt : List ℕ) (p : Str) (roots heads child next : List ℕ) (t : Cursor) (roots′ heads′ child′ next′ : List ℕ) (r : Taken) : Type 0 where
   pub small : (r .branch ≡ 0 → ⊥) → r .cell < heaviest-list
   pub gives : (labels : List ℕ) → Gives ws txt p (state roots heads labels child next (t .n) (t .root) (t .last))
       (record { branch = r .branch; label = getD labels (r .cell) 0; m = state roots′ heads′ labels child′ next′ (t .n) (r .root) (r .branch) })

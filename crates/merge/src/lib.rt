@@ -5,6 +5,7 @@ use text::Order;
 ghost use mathlib.Core.Path.{_≡_};
 ghost use Prim.Native.Nat.{_+_, _<_, _≤_, _*_};
 ghost use lib.ListN.{length};
+ghost use Rattle.source.specs.Lent.{old, new};
 ghost use Rattle.source.specs.Limits.{heaviest-list, record-words};
 ghost use Rattle.source.specs.Shared.{same};
 ghost use Rattle.memory.specs.Layout.{key-at};
@@ -26,7 +27,7 @@ pub struct Start {
 }
 
 // How many cells a merge has, the root of their heap, and the last branch given, 0 for none.
-pub struct Turn {
+pub struct Cursor {
     pub n: usize,
     pub root: usize,
     pub last: u32,
@@ -48,7 +49,7 @@ struct Labelled {
 // The root of the only tree of a list, 0 where it is not one tree.
 pub fn single(words: &[u32], list: u32) -> u32
     requires { ⌜ list * record-words ≤ length (now words) ⌝ }
-    ensures { λ r. ⌜ Single (now (words .entry)) list r ⌝ }
+    ensures { λ r. ⌜ Single (old words) list r ⌝ }
 {
     if list == 0 {
         return 0;
@@ -77,8 +78,9 @@ fn collect(
     requires { ⌜ AnyList (now words) (now text) (part .list) ⌝ }
     requires { ⌜ at + weight-in (now words) (part .list) ≤ heaviest-list ⌝ }
     requires { ⌜ Full (now roots) (now heads) (now labels) ⌝ }
-    ensures { λ r. ⌜ r ≤ at + weight-in (now (words .entry)) (part .list) ⌝ }
-    ensures { λ r. ⌜ Collected (now (words .entry)) (now (text .entry)) (now (prefix .entry)) (part .list) (part .label) at r (now (roots .entry)) (now (heads .entry)) (now (labels .entry)) (now (roots .exit)) (now (heads .exit)) (now (labels .exit)) ⌝ }
+    ensures { λ r. ⌜ r ≤ at + weight-in (old words) (part .list) ⌝ }
+    ensures { λ r. ⌜ Collected (old words) (old text) (old prefix) (part .list) (part .label) at r (old roots) (old heads) (old labels) (new roots)
+        (new heads) (new labels) ⌝ }
 {
     let list = part.list;
     let label = part.label;
@@ -116,7 +118,7 @@ fn collect(
 fn same_key(words: &[u32], text: &[u8], a: u32, b: u32) -> bool
     requires { ⌜ (0 < a) × AnyTree (now words) (now text) a ⌝ }
     requires { ⌜ (0 < b) × AnyTree (now words) (now text) b ⌝ }
-    ensures { λ r. ⌜ r ≡ same (key-at (now (words .entry)) (now (text .entry)) a) (key-at (now (words .entry)) (now (text .entry)) b) ⌝ }
+    ensures { λ r. ⌜ r ≡ same (key-at (old words) (old text) a) (key-at (old words) (old text) b) ⌝ }
 {
     match tree::key_order(words, text, b, memory::key_of(words, text, a)) {
         Order::Less => false,
@@ -134,10 +136,11 @@ fn take(
     heads: &mut [u32; CELLS],
     child: &mut [u8; CELLS],
     next: &mut [u8; CELLS],
-    turn: Turn,
+    turn: Cursor,
 ) -> Taken
     requires { ⌜ CellsReady (now words) (now text) (now prefix) (turn .n) (turn .root) (now roots) (now heads) (now child) (now next) ⌝ }
-    ensures { λ r. ⌜ Takes (now (words .entry)) (now (text .entry)) (now (prefix .entry)) (turn .n) (turn .root) (now (roots .entry)) (now (heads .entry)) (now (child .entry)) (now (next .entry)) (now (roots .exit)) (now (heads .exit)) (now (child .exit)) (now (next .exit)) r ⌝ }
+    ensures { λ r. ⌜ Takes (old words) (old text) (old prefix) (turn .n) (turn .root) (old roots) (old heads) (old child) (old next) (new roots)
+        (new heads) (new child) (new next) r ⌝ }
 {
     let n = turn.n;
     match heap::heap_pop(child, next, words, text, heads, n, turn.root) {
@@ -181,7 +184,7 @@ pub fn merge_start(
 ) -> Start
     requires { ⌜ AnyList (now words) (now text) list ⌝ }
     requires { ⌜ Full (now roots) (now heads) (now labels) ⌝ }
-    ensures { λ r. ⌜ Begins (now (words .entry)) (now (text .entry)) (now (prefix .entry)) list (now (roots .exit)) (now (heads .exit)) (now (labels .exit)) r ⌝ }
+    ensures { λ r. ⌜ Begins (old words) (old text) (old prefix) list (new roots) (new heads) (new labels) r ⌝ }
 {
     let whole = Labelled {
         list: list,
@@ -208,16 +211,17 @@ pub fn merge_next(
     heads: &mut [u32; CELLS],
     child: &mut [u8; CELLS],
     next: &mut [u8; CELLS],
-    turn: Turn,
+    turn: Cursor,
 ) -> Taken
     requires { ⌜ Stands (now words) (now text) (now prefix) (now roots) (now heads) (now child) (now next) turn ⌝ }
-    ensures { λ r. ⌜ Steps (now (words .entry)) (now (text .entry)) (now (prefix .entry)) (now (roots .entry)) (now (heads .entry)) (now (child .entry)) (now (next .entry)) turn (now (roots .exit)) (now (heads .exit)) (now (child .exit)) (now (next .exit)) r ⌝ }
+    ensures { λ r. ⌜ Steps (old words) (old text) (old prefix) (old roots) (old heads) (old child) (old next) turn (new roots) (new heads) (new child)
+        (new next) r ⌝ }
 {
     let n = turn.n;
     let last = turn.last;
     let mut root = turn.root;
     loop {
-        let here = Turn {
+        let here = Cursor {
             n: n,
             root: root,
             last: last,

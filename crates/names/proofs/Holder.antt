@@ -14,7 +14,7 @@ use Rattle.memory.specs.Sound.{LinkOk, At}
 use Rattle.memory.specs.Stored.{weight-in}
 use Rattle.memory.proofs.What.{what-none}
 use Rattle.memory.proofs.Seen.{link-later}
-use Rattle.tree.specs.Tree.{held, Found}
+use Rattle.tree.specs.Tree.{held, FindsBranch}
 use Rattle.names.specs.Names.{AnyList, Holder}
 use Rattle.names.proofs.Collections.{any-list, collection-right, sort-tree, rest-list, own-tree, names-reads, imported-list, imported-reads, rest-lighter}
 use Rattle.memory.proofs.At.{no-link}
@@ -51,7 +51,7 @@ module _ {ws txt : List ℕ} {key : Str} {link own r : ℕ} (p : 0 < link) (q : 
         says = rw (imported-reads t p e, ← q, g .says);
       }
 
-  pub first-names : (sort-word (record-at ws link) ≡ 1 → ⊥) → Found ws txt own key r → First ws txt link key r
+  pub first-names : (sort-word (record-at ws link) ≡ 1 → ⊥) → FindsBranch ws txt own key r → First ws txt link key r
   unfolding names-find-exact
   first-names n h w v t =
       let e = sort-tree t p n in

@@ -12,7 +12,7 @@ use Rattle.source.specs.Terms.{weight}
 use Rattle.source.specs.Plans.{first-tree}
 use Rattle.memory.specs.Stored.{weight-in}
 use Rattle.memory.proofs.Seen.{link-later}
-use Rattle.tree.specs.Tree.{Found, Placed}
+use Rattle.tree.specs.Tree.{FindsBranch, Placed}
 use Rattle.names.specs.Names.{first-rest, AnyList, Led, Holder, NamesPlaced}
 use Rattle.names.proofs.Collections.{list-weight, list-light, any-rest}
 use Rattle.memory.proofs.At.{at-of}
@@ -35,7 +35,7 @@ module _ {A : Type 0} {l : Level} where
   unfolding weight
   names-insert-weight n k v = rw names-insert-first
 
-module _ {ws txt : List ℕ} {x first rest : ℕ} {key : Str} (d : Led ws x first rest) {link : ℕ} (f : Found ws txt first key link) where
+module _ {ws txt : List ℕ} {x first rest : ℕ} {key : Str} (d : Led ws x first rest) {link : ℕ} (f : FindsBranch ws txt first key link) where
   -- The first tree has the key.
   pub holder-first : 0 < link → Holder ws txt x key link
   unfolding or-else

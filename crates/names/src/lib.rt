@@ -6,6 +6,7 @@ use memory::Trie;
 ghost use mathlib.Core.Path.{_≡_};
 ghost use Prim.Native.Nat.{_+_, _*_, _<_, _≤_};
 ghost use lib.ListN.{length};
+ghost use Rattle.source.specs.Lent.{old, new};
 ghost use Rattle.source.specs.Limits.{heaviest-list, deepest-trie, record-words};
 ghost use Rattle.memory.specs.Stored.{weight-in, depth-in};
 ghost use Rattle.memory.specs.Grown.{put};
@@ -21,7 +22,7 @@ pub struct Lead {
 
 pub fn lead_of(words: &[u32], list: u32) -> Lead
     requires { ⌜ list * record-words ≤ length (now words) ⌝ }
-    ensures { λ r. ⌜ Led (now (words .entry)) list (r .tree) (r .rest) ⌝ }
+    ensures { λ r. ⌜ Led (old words) list (r .tree) (r .rest) ⌝ }
 {
     if list == 0 {
         return Lead { tree: 0, rest: 0 };
@@ -42,7 +43,7 @@ pub fn lead_of(words: &[u32], list: u32) -> Lead
 // The branch of the first holder of a key, 0 for none. The calls of itself go no deeper than the weight of the list.
 pub fn names_find_exact(words: &[u32], text: &[u8], list: u32, key: &[u8]) -> u32
     requires { ⌜ AnyList (now words) (now text) list ⌝ }
-    ensures { λ r. ⌜ Holder (now (words .entry)) (now (text .entry)) list (now (key .entry)) r ⌝ }
+    ensures { λ r. ⌜ Holder (old words) (old text) list (old key) r ⌝ }
 {
     let mut link = list;
     while 0 < link {
@@ -69,7 +70,7 @@ pub struct NamesPlace {
 
 pub fn names_place(words: &[u32], text: &[u8], list: u32, key: &[u8]) -> NamesPlace
     requires { ⌜ AnyList (now words) (now text) list ⌝ }
-    ensures { λ r. ⌜ NamesPlaced (now (words .entry)) (now (text .entry)) list (now (key .entry)) (r .holder) (r .count) (r .weight) ⌝ }
+    ensures { λ r. ⌜ NamesPlaced (old words) (old text) list (old key) (r .holder) (r .count) (r .weight) ⌝ }
 {
     let lead = lead_of(words, list);
     let place = tree::place_of(words, text, lead.tree, key);
@@ -89,7 +90,7 @@ fn put_collection(words: &mut [u32], records: u32, kind: u32, c: Collection) -> 
     requires { ⌜ Room (now words) records 1 ⌝ }
     requires { ⌜ (c .own ≤ records) × (c .rest ≤ records) ⌝ }
     ensures { λ r. ⌜ r ≡ records + 1 ⌝ }
-    ensures { λ r. ⌜ now (words .exit) ≡ put (now (words .entry)) records (collection-over (now (words .entry)) kind c) ⌝ }
+    ensures { λ r. ⌜ new words ≡ put (old words) records (collection-over (old words) kind c) ⌝ }
 {
     let mut depth = memory::depth_of(words, c.own);
     let other = memory::depth_of(words, c.rest);
@@ -106,7 +107,7 @@ pub fn put_names(words: &mut [u32], records: u32, kind: u32, own: u32, rest: u32
     requires { ⌜ Room (now words) records 1 ⌝ }
     requires { ⌜ (own ≤ records) × (rest ≤ records) × (weight-in (now words) rest < heaviest-list) ⌝ }
     ensures { λ r. ⌜ r ≡ records + 1 ⌝ }
-    ensures { λ r. ⌜ MadeNames (now (words .entry)) (now (words .exit)) records kind own rest r ⌝ }
+    ensures { λ r. ⌜ MadeNames (old words) (new words) records kind own rest r ⌝ }
 {
     let weight = memory::weight_of(words, rest) + 1;
     let c = Collection {
@@ -131,7 +132,7 @@ pub fn names_insert(
 ) -> u32
     requires { ⌜ AnyNamesInsertion (now words) (now text) records list count row ⌝ }
     ensures { λ r. ⌜ r ≡ records + count + 1 ⌝ }
-    ensures { λ r. ⌜ NamesInserts (now (words .entry)) (now (words .exit)) (now (text .entry)) records list count row r ⌝ }
+    ensures { λ r. ⌜ NamesInserts (old words) (new words) (old text) records list count row r ⌝ }
 {
     let lead = lead_of(words, list);
     let tree = insertion::btree_insert_replace(words, text, records, lead.tree, count, row);
@@ -156,7 +157,7 @@ pub fn imported(
     requires { ⌜ Room (now words) records 1 ⌝ }
     requires { ⌜ (inner ≤ records) × (list ≤ records) × (weight-in (now words) inner + weight-in (now words) list < heaviest-list) ⌝ }
     ensures { λ r. ⌜ r ≡ records + 1 ⌝ }
-    ensures { λ r. ⌜ MadeImported (now (words .entry)) (now (words .exit)) records kind (label .start) (label .len) inner list r ⌝ }
+    ensures { λ r. ⌜ MadeImported (old words) (new words) records kind (label .start) (label .len) inner list r ⌝ }
 {
     let weight = memory::weight_of(words, inner) + memory::weight_of(words, list) + 1;
     let c = Collection {
@@ -174,7 +175,7 @@ pub fn put_trie(words: &mut [u32], records: u32, kind: u32, bindings: u32, names
     requires { ⌜ Room (now words) records 1 ⌝ }
     requires { ⌜ (namespaces ≤ records) × (depth-in (now words) namespaces ≤ deepest-trie) ⌝ }
     ensures { λ r. ⌜ r ≡ records + 1 ⌝ }
-    ensures { λ r. ⌜ MadeTrie (now (words .entry)) (now (words .exit)) records kind bindings namespaces r ⌝ }
+    ensures { λ r. ⌜ MadeTrie (old words) (new words) records kind bindings namespaces r ⌝ }
 {
     let t = Trie {
         bindings: bindings,

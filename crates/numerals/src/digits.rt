@@ -5,6 +5,7 @@ use crate::byte_ok;
 ghost use mathlib.Core.Path.{_≡_};
 ghost use Prim.Native.Nat.{_+_, _≤_};
 ghost use lib.ListN.{length};
+ghost use Rattle.source.specs.Lent.{old, new};
 ghost use Rattle.text.specs.Laid.{Laid};
 ghost use Rattle.numerals.specs.Numerals.{ValueSays, NumberSays, decimal};
 
@@ -17,7 +18,7 @@ fn wide(b: u8) -> u64
 
 // The number that digits are, where it is at most 4,294,967,295.
 fn value(digits: &[u8]) -> Number
-    ensures { λ r. ⌜ ValueSays (now (digits .entry)) r ⌝ }
+    ensures { λ r. ⌜ ValueSays (old digits) r ⌝ }
 {
     let mut v: u64 = 0;
     let mut i = 0;
@@ -37,7 +38,7 @@ fn value(digits: &[u8]) -> Number
 
 // The number that `digits` spell without leading zeros.
 pub fn numeral(digits: &[u8]) -> Number
-    ensures { λ r. ⌜ NumberSays (now (digits .entry)) r ⌝ }
+    ensures { λ r. ⌜ NumberSays (old digits) r ⌝ }
 {
     if digits.len() == 0 {
         return Number::No;
@@ -54,7 +55,7 @@ pub fn numeral(digits: &[u8]) -> Number
 // Writes the digits of `n`, the first one first.
 fn put_digits(out: &mut [u8], at: usize, n: u32) -> usize
     requires { ⌜ at + length (decimal n) ≤ length (now out) ⌝ }
-    ensures { λ r. ⌜ Laid (now (out .entry)) (now (out .exit)) at r (decimal n) ⌝ }
+    ensures { λ r. ⌜ Laid (old out) (new out) at r (decimal n) ⌝ }
 {
     if n < 10 {
         out[at] = 48 + n as u8;
@@ -68,7 +69,7 @@ fn put_digits(out: &mut [u8], at: usize, n: u32) -> usize
 // Writes `n` in decimal.
 pub fn put_number(out: &mut [u8], at: usize, n: u32) -> usize
     requires { ⌜ at + 10 ≤ length (now out) ⌝ }
-    ensures { λ r. ⌜ Laid (now (out .entry)) (now (out .exit)) at r (decimal n) × (r ≤ at + 10) ⌝ }
+    ensures { λ r. ⌜ Laid (old out) (new out) at r (decimal n) × (r ≤ at + 10) ⌝ }
 {
     put_digits(out, at, n)
 }

@@ -2,6 +2,7 @@
 ghost use mathlib.Core.Path.{_≡_};
 ghost use Prim.Native.Nat.{_+_, _≤_};
 ghost use lib.ListN.{length, getD, drop};
+ghost use Rattle.source.specs.Lent.{old};
 ghost use Rattle.numerals.specs.Bytes.{byte-ok, LineEnd};
 ghost use Rattle.numerals.specs.Parts.{run-length, StartsSays, Stops, PieceSays, QuerySays, PairSays, LastSays, IdSays, WordSays};
 
@@ -74,7 +75,7 @@ fn byte_ok(sort: Sort, b: u8) -> bool
 // Where the bytes from `at` on that may stand in a part end.
 fn run(line: &[u8], at: usize, sort: Sort) -> usize
     requires { ⌜ at ≤ length (now line) ⌝ }
-    ensures { λ r. ⌜ r ≡ at + run-length sort (drop at (now (line .entry))) ⌝ }
+    ensures { λ r. ⌜ r ≡ at + run-length sort (drop at (old line)) ⌝ }
 {
     let mut i = at;
     while i < line.len() {
@@ -89,7 +90,7 @@ fn run(line: &[u8], at: usize, sort: Sort) -> usize
 // Whether `text` stands at `at`.
 fn starts(line: &[u8], at: usize, text: &[u8]) -> bool
     requires { ⌜ at ≤ length (now line) ⌝ }
-    ensures { λ r. ⌜ StartsSays (drop at (now (line .entry))) (now (text .entry)) r ⌝ }
+    ensures { λ r. ⌜ StartsSays (drop at (old line)) (old text) r ⌝ }
 {
     if line.len() - at < text.len() {
         return false;
@@ -107,7 +108,7 @@ fn starts(line: &[u8], at: usize, text: &[u8]) -> bool
 // The end of the part at `at`, where `close` follows it.
 pub fn piece(line: &[u8], at: usize, sort: Sort, close: &[u8]) -> Part
     requires { ⌜ (at ≤ length (now line)) × Stops sort (now close) ⌝ }
-    ensures { λ r. ⌜ PieceSays sort (now (close .entry)) (now (line .entry)) at r ⌝ }
+    ensures { λ r. ⌜ PieceSays sort (old close) (old line) at r ⌝ }
 {
     let e = run(line, at, sort);
     if starts(line, e, close) {
@@ -118,7 +119,7 @@ pub fn piece(line: &[u8], at: usize, sort: Sort, close: &[u8]) -> Part
 
 // The end of `word` at the line's start.
 pub fn word_end(line: &[u8], word: &[u8]) -> Part
-    ensures { λ r. ⌜ WordSays (now (line .entry)) (now (word .entry)) r ⌝ }
+    ensures { λ r. ⌜ WordSays (old line) (old word) r ⌝ }
 {
     if starts(line, 0, word) {
         return Part::At(word.len());
@@ -129,7 +130,7 @@ pub fn word_end(line: &[u8], word: &[u8]) -> Part
 // The end of a query that is followed by the line's last two brackets.
 pub fn query_end(line: &[u8], at: usize) -> Part
     requires { ⌜ at ≤ length (now line) ⌝ }
-    ensures { λ r. ⌜ QuerySays (now (line .entry)) at r ⌝ }
+    ensures { λ r. ⌜ QuerySays (old line) at r ⌝ }
 {
     match piece(line, at, Sort::Query, b"]]") {
         Part::At(e) => {
@@ -145,7 +146,7 @@ pub fn query_end(line: &[u8], at: usize) -> Part
 // A host and a query, up to the line's last two brackets.
 pub fn pair_end(line: &[u8], at: usize) -> Pair
     requires { ⌜ at ≤ length (now line) ⌝ }
-    ensures { λ r. ⌜ PairSays (now (line .entry)) at r ⌝ }
+    ensures { λ r. ⌜ PairSays (old line) at r ⌝ }
 {
     match piece(line, at, Sort::Query, b"] [") {
         Part::At(e) => match query_end(line, e + 3) {
@@ -167,7 +168,7 @@ pub fn pair_end(line: &[u8], at: usize) -> Pair
 
 // The place of the line's last bracket, at or after `at`.
 pub fn last_end(line: &[u8], at: usize) -> Part
-    ensures { λ r. ⌜ LastSays (now (line .entry)) at r ⌝ }
+    ensures { λ r. ⌜ LastSays (old line) at r ⌝ }
 {
     if line.len() <= at {
         return Part::No;
@@ -182,7 +183,7 @@ pub fn last_end(line: &[u8], at: usize) -> Part
 // An id and a number, up to the line's last bracket.
 pub fn id_end(line: &[u8], at: usize) -> Tail
     requires { ⌜ at ≤ length (now line) ⌝ }
-    ensures { λ r. ⌜ IdSays (now (line .entry)) at r ⌝ }
+    ensures { λ r. ⌜ IdSays (old line) at r ⌝ }
 {
     match piece(line, at, Sort::Word, b" ") {
         Part::At(e) => {
@@ -209,7 +210,7 @@ pub fn id_end(line: &[u8], at: usize) -> Tail
 
 // The byte at `i`, or 0 past the line's end.
 pub fn byte_at(line: &[u8], i: usize) -> u8
-    ensures { λ r. ⌜ r ≡ getD (now (line .entry)) i 0 ⌝ }
+    ensures { λ r. ⌜ r ≡ getD (old line) i 0 ⌝ }
 {
     if i < line.len() {
         return line[i];
@@ -219,7 +220,7 @@ pub fn byte_at(line: &[u8], i: usize) -> u8
 
 // Where the first line of `input` ends: at its line feed, or at the end of `input`.
 pub fn line_end(input: &[u8]) -> usize
-    ensures { λ r. ⌜ LineEnd (now (input .entry)) r ⌝ }
+    ensures { λ r. ⌜ LineEnd (old input) r ⌝ }
 {
     run(input, 0, Sort::Line)
 }

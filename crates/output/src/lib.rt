@@ -2,6 +2,7 @@
 ghost use mathlib.Core.Path.{_≡_};
 ghost use Prim.Native.Nat.{_+_, _*_, _<_, _≤_};
 ghost use lib.ListN.{length};
+ghost use Rattle.source.specs.Lent.{old, new};
 ghost use Rattle.source.specs.Limits.{record-words};
 ghost use Rattle.memory.specs.Layout.{record-at, key-at};
 ghost use Rattle.text.specs.Laid.{Laid};
@@ -50,7 +51,7 @@ pub const RUN: usize = 26;
 fn put_key(words: &[u32], text: &[u8], branch: u32, out: &mut [u8], at: usize) -> usize
     requires { ⌜ TextAt (now words) (now text) branch ⌝ }
     requires { ⌜ at + length (key-at (now words) (now text) branch) ≤ length (now out) ⌝ }
-    ensures { λ r. ⌜ Laid (now (out .entry)) (now (out .exit)) at r (key-at (now (words .entry)) (now (text .entry)) branch) ⌝ }
+    ensures { λ r. ⌜ Laid (old out) (new out) at r (key-at (old words) (old text) branch) ⌝ }
 {
     let key = memory::key_of(words, text, branch);
     memory::put_text(&mut out[at..], 0, key);
@@ -69,8 +70,8 @@ fn put_candidate(
     requires { ⌜ PathAt (now words) (now text) (path-in (now run)) ⌝ }
     requires { ⌜ TextAt (now words) (now text) branch ⌝ }
     requires { ⌜ at + path-in (now run) .len + length (key-at (now words) (now text) branch) ≤ length (now out) ⌝ }
-    ensures { λ r. ⌜ Laid (now (out .entry)) (now (out .exit)) at r
-        (candidate-of (now (words .entry)) (now (text .entry)) (path-in (now (run .entry))) branch) ⌝ }
+    ensures { λ r. ⌜ Laid (old out) (new out) at r
+        (candidate-of (old words) (old text) (path-in (old run)) branch) ⌝ }
 {
     let n = run[COUNT];
     let mut end = at;
@@ -95,7 +96,7 @@ fn line_row(
     note: u32,
 ) -> [u32; LINE]
     requires { ⌜ (0 < branch) × (branch * record-words ≤ length (now words)) × (start + len ≤ 4294967295) ⌝ }
-    ensures { λ r. ⌜ r ≡ line-row (record-at (now (words .entry)) branch) matched start len note ⌝ }
+    ensures { λ r. ⌜ r ≡ line-row (record-at (old words) branch) matched start len note ⌝ }
 {
     let item = memory::row_of(words, branch);
     [
@@ -126,8 +127,8 @@ pub fn write_line(
 )
     requires { ⌜ JobOk (now words) (now text) (job-in branch (now run)) ⌝ }
     requires { ⌜ LineFits (now words) (job-in branch (now run)) (now note) (now flat) (now out) ⌝ }
-    ensures { λ _. ⌜ LinePut (now (words .entry)) (now (text .entry)) (job-in branch (now (run .entry))) (now (note .entry))
-        (now (flat .entry)) (now (flat .exit)) (now (out .entry)) (now (out .exit)) ⌝ }
+    ensures { λ _. ⌜ LinePut (old words) (old text) (job-in branch (old run)) (old note)
+        (old flat) (new flat) (old out) (new out) ⌝ }
 {
     let at = run[BYTES];
     let base = run[LINES] * LINE_BYTES;

@@ -27,7 +27,7 @@ use Rattle.memory.specs.declared.Trie as M
 use Rattle.names.specs.Names.{AnyList, NamesPlaced, InsertIn}
 use Rattle.names.proofs.Collections.{list-weight}
 use Rattle.lookup.specs.Tries.{NsInserts}
-use Rattle.plan.specs.Plans.{StepIn, Stepped, Steps, Path, Inserted, Planned}
+use Rattle.plan.specs.Plans.{StepIn, Stepped, StepsDown, Path, Inserted, Planned}
 use Rattle.text.proofs.Texts.{part-is}
 use Rattle.text.specs.Text.{Segment}
 use Rattle.text.proofs.Segments.{segments-end}
@@ -69,13 +69,13 @@ stepped {ws} {txt} {w} {x} {s = s} t q z e =
     }
 
 module _ {A : Type 0} {builds weighs : Trie A → Str → Query → ℕ} {tr : Trie A} {q : Query} where
-  pub steps-first : Steps builds weighs tr q 0 0 false tr q
+  pub steps-first : StepsDown builds weighs tr q 0 0 false tr q
   steps-first = record { host = refl; number = omega arith; small = omega arith; built = λ end. omega arith; weighed = λ end. refl }
 
   module _ {steps records : ℕ} {crowded : Bool} {at : Trie A} where
-    pub steps-next : {s : Str} {rest : Query} {n : ℕ} {b : Bool} → Steps builds weighs tr q steps records crowded at (s ∷ rest)
+    pub steps-next : {s : Str} {rest : Query} {n : ℕ} {b : Bool} → StepsDown builds weighs tr q steps records crowded at (s ∷ rest)
         → n ≡ builds at s rest → n ≤ 140000 → b ≡ ltb 96 (weighs at s rest)
-        → Steps builds weighs tr q (steps + 1) (records + n) (crowded || b) (scope-of (namespaces at) s) rest
+        → StepsDown builds weighs tr q (steps + 1) (records + n) (crowded || b) (scope-of (namespaces at) s) rest
     steps-next {s} {rest} g e h f = record {
       host = g .host ∙ host-of-step at s rest;
       number = omega (arith, g .number);
@@ -84,7 +84,7 @@ module _ {A : Type 0} {builds weighs : Trie A → Str → Query → ℕ} {tr : T
       weighed = λ end. g .weighed end ∙ crowded-onto weighs end crowded at s rest ∙ rw (← f);
     }
 
-    module _ (g : Steps builds weighs tr q steps records crowded at []) where
+    module _ (g : StepsDown builds weighs tr q steps records crowded at []) where
       pub built-all : (end : Trie A → ℕ) → along _+_ builds end tr q ≡ records + end at
       built-all end = g .built end ∙ rw (along-host _+_ builds end at)
 
@@ -93,20 +93,20 @@ module _ {A : Type 0} {builds weighs : Trie A → Str → Query → ℕ} {tr : T
 
 -- A step is left to take.
 pub path-few : {ws txt : List ℕ} {w : Which} {query : Str} {root link at n steps records : ℕ} {crowded : Bool} {builds weighs : Trie (Item w) → Str → Query → ℕ} {tr : Trie (Item w)} {q : Query}
-    → Stands ws txt w query root link at (Steps builds weighs tr q steps records crowded) → Segment query at n → steps < length q
+    → Stands ws txt w query root link at (StepsDown builds weighs tr q steps records crowded) → Segment query at n → steps < length q
 path-few g y = omega (arith, g .says .number, ap length (y .splits))
 
 module _ {ws txt : List ℕ} {host : Str} {root link at steps records : ℕ} {crowded : Bool} {tr : Trie ℕ} {q : Query}
-    (g : Stands ws txt names host root link at (Steps step-records step-weight tr q steps records crowded)) where
+    (g : Stands ws txt names host root link at (StepsDown step-records step-weight tr q steps records crowded)) where
   pub path-next : {n y a : ℕ} {b : Bool} → Segment host at n → Stepped ws txt link (take (at + n - at) (drop at host)) y a b
-      → Stands ws txt names host root y (at + n + 1) (Steps step-records step-weight tr q (steps + 1) (records + a) (crowded || b))
+      → Stands ws txt names host root y (at + n + 1) (StepsDown step-records step-weight tr q (steps + 1) (records + a) (crowded || b))
   unfolding step-records step-weight
   path-next {n} y s =
       let i = rw (part-is host at n) at (s names (g .here)) in
       stands-next g _ y (i .next) (λ f. steps-next f (i .builds) (omega (arith, i .small)) (i .weighs))
 
 pub path-last : {ws txt : List ℕ} {host : Str} {root link at steps records : ℕ} {crowded : Bool} {q : Query}
-    → Stands ws txt names host root link at (Steps step-records step-weight (what names ws txt root trieˢ) q steps records crowded) → length q ≤ 17 → length host ≤ at
+    → Stands ws txt names host root link at (StepsDown step-records step-weight (what names ws txt root trieˢ) q steps records crowded) → length q ≤ 17 → length host ≤ at
     → Path ws txt root q link steps records crowded
 path-last g f h = record { few = omega (arith, g .says .number); here = g .here; gives = stands-last g h }
 
@@ -208,9 +208,9 @@ last-is query at n y d = go (eqb (at + n + 1) (length query)) refl
 
 -- One step of a module path.
 pub module-path-next : {ws txt : List ℕ} {query : Str} {root link at n y a b steps records : ℕ} {crowded c d loaded : Bool} {tr : Trie S.ModSymbol} {q : Query}
-    → Stands ws txt modules query root link at (Steps (module-step-records loaded) (module-step-weight loaded) tr q steps records crowded) → Segment query at n
+    → Stands ws txt modules query root link at (StepsDown (module-step-records loaded) (module-step-weight loaded) tr q steps records crowded) → Segment query at n
     → Stepped ws txt link (take (at + n - at) (drop at query)) y a c → Inserted ws txt link (take (at + n - at) (drop at query)) (eqb (at + n + 1) (length query)) loaded b d
-    → Stands ws txt modules query root y (at + n + 1) (Steps (module-step-records loaded) (module-step-weight loaded) tr q (steps + 1) (records + (a + b)) (crowded || (c || d)))
+    → Stands ws txt modules query root y (at + n + 1) (StepsDown (module-step-records loaded) (module-step-weight loaded) tr q (steps + 1) (records + (a + b)) (crowded || (c || d)))
 unfolding module-step-records module-step-weight
 module-path-next {query = query} {at = at} {n} g y s h =
     let i = rw (part-is query at n) at (s modules (g .here)) in
@@ -218,7 +218,7 @@ module-path-next {query = query} {at = at} {n} g y s h =
     stands-next g _ y (i .next) (λ f. steps-next f (rw (i .builds, j .builds)) (omega (arith, i .small, h .small)) (rw (ltb-max, i .weighs, j .weighs)))
 
 pub module-planned : {steps records : ℕ} {crowded loaded : Bool} {tr at : Trie S.ModSymbol} (query path : Str) (tbl : Table)
-    → Steps (module-step-records loaded) (module-step-weight loaded) tr (segments query) steps records crowded at []
+    → StepsDown (module-step-records loaded) (module-step-weight loaded) tr (segments query) steps records crowded at []
     → tbl .tbl-mods ≡ tr
     → Planned tbl (module-path loaded query path) (record { records = records; crowded = crowded; deep = ltb 16 steps })
 unfolding plan-records plan-crowded plan-weight plan-depth module-host

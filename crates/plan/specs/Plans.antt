@@ -32,7 +32,7 @@ abbrev pub Stepped : (ws txt : List ℕ) (x : ℕ) (s : Str) (link records : ℕ
 Stepped ws txt x s link records crowded = (w : Which) → At ws txt w trieˢ x → StepIn ws txt w x s link records crowded
 
 -- What the steps of a path give down to the trie at, with the segments rest left.
-pub record Steps {A : Type 0} (builds weighs : Trie A → Str → Query → ℕ) (tr : Trie A) (q : Query) (steps records : ℕ) (crowded : Bool) (at : Trie A) (rest : Query) : Type 0 where
+pub record StepsDown {A : Type 0} (builds weighs : Trie A → Str → Query → ℕ) (tr : Trie A) (q : Query) (steps records : ℕ) (crowded : Bool) (at : Trie A) (rest : Query) : Type 0 where
   pub host : host-of tr q ≡ host-of at rest
   pub number : steps + length rest ≡ length q
   pub small : records ≤ steps * 140000
@@ -43,7 +43,7 @@ pub record Steps {A : Type 0} (builds weighs : Trie A → Str → Query → ℕ)
 pub record Path (ws txt : List ℕ) (root : ℕ) (q : Query) (link steps records : ℕ) (crowded : Bool) : Type 0 where
   pub few : steps ≤ 17
   pub here : At ws txt names trieˢ link
-  pub gives : Steps step-records step-weight (what names ws txt root trieˢ) q steps records crowded (what names ws txt link trieˢ) []
+  pub gives : StepsDown step-records step-weight (what names ws txt root trieˢ) q steps records crowded (what names ws txt link trieˢ) []
 
 -- What ins makes of the bindings of a trie: the records, whether the new list weighs over 96.
 pub record InsertedAt (ws txt : List ℕ) (x : ℕ) (s : Str) (q : Query) (loaded : Bool) (records : ℕ) (crowded : Bool) : Type 0 where

@@ -6,6 +6,7 @@ ghost use mathlib.Core.Path.{_≡_};
 ghost use mathlib.Core.Bool.{true};
 ghost use Prim.Native.Nat.{_≤_};
 ghost use lib.ListN.{length};
+ghost use Rattle.source.specs.Lent.{old};
 ghost use Rattle.source.specs.Text.{segments, ends-in-dot};
 ghost use Rattle.kinds.specs.Shapes.{shape-of, call-of};
 ghost use Rattle.memory.specs.Layout.{names, modules, trieˢ, table-of};
@@ -14,19 +15,19 @@ ghost use Rattle.lookup.specs.Tries.{AnyTrie};
 ghost use Rattle.plan.specs.Plans.{Stepped, Inserted, Path, Planned, Carries, NamePlanned, IncludePlanned, OpenPlanned, AliasPlanned, ModulePlanned};
 
 // One step down the path of a host: the trie that it goes to, the records that it builds, whether its new list weighs over 96.
-struct Step {
+struct StepDown {
     link: u32,
     records: u32,
     crowded: bool,
 }
 
-fn plan_step(words: &[u32], text: &[u8], trie: u32, s: &[u8]) -> Step
+fn plan_step(words: &[u32], text: &[u8], trie: u32, s: &[u8]) -> StepDown
     requires { ⌜ AnyTrie (now words) (now text) trie ⌝ }
-    ensures { λ r. ⌜ Stepped (now (words .entry)) (now (text .entry)) trie (now (s .entry)) (r .link) (r .records) (r .crowded) ⌝ }
+    ensures { λ r. ⌜ Stepped (old words) (old text) trie (old s) (r .link) (r .records) (r .crowded) ⌝ }
 {
     let t = memory::trie_of(words, trie);
     let p = names::names_place(words, text, t.namespaces, s);
-    Step {
+    StepDown {
         link: memory::trie_held(words, p.holder),
         records: p.count + 2,
         crowded: memory::HEAVIEST < p.weight,
@@ -44,7 +45,7 @@ struct Walk {
 fn plan_path(words: &[u32], text: &[u8], root: u32, host: &[u8]) -> Walk
     requires { ⌜ At (now words) (now text) names trieˢ root ⌝ }
     requires { ⌜ (ends-in-dot (now host) ≡ true) × (length (segments (now host)) ≤ 17) ⌝ }
-    ensures { λ r. ⌜ Path (now (words .entry)) (now (text .entry)) root (segments (now (host .entry))) (r .link) (r .segments) (r .records) (r .crowded) ⌝ }
+    ensures { λ r. ⌜ Path (old words) (old text) root (segments (old host)) (r .link) (r .segments) (r .records) (r .crowded) ⌝ }
 {
     let mut link = root;
     let mut at = 0;
@@ -79,7 +80,7 @@ pub struct Plan {
 fn plan_name(words: &[u32], text: &[u8], root: u32, host: &[u8], id: &[u8]) -> Plan
     requires { ⌜ At (now words) (now text) names trieˢ root ⌝ }
     requires { ⌜ (ends-in-dot (now host) ≡ true) × (length (segments (now host)) ≤ 17) ⌝ }
-    ensures { λ r. ⌜ NamePlanned (now (words .entry)) (now (text .entry)) root (now (host .entry)) (now (id .entry)) r ⌝ }
+    ensures { λ r. ⌜ NamePlanned (old words) (old text) root (old host) (old id) r ⌝ }
 {
     let p = plan_path(words, text, root, host);
     let t = memory::trie_of(words, p.link);
@@ -95,7 +96,7 @@ fn plan_name(words: &[u32], text: &[u8], root: u32, host: &[u8], id: &[u8]) -> P
 fn plan_include(words: &[u32], text: &[u8], root: u32, host: &[u8], inc: u32) -> Plan
     requires { ⌜ At (now words) (now text) names trieˢ root × At (now words) (now text) names trieˢ inc ⌝ }
     requires { ⌜ (ends-in-dot (now host) ≡ true) × (length (segments (now host)) ≤ 17) ⌝ }
-    ensures { λ r. ⌜ IncludePlanned (now (words .entry)) (now (text .entry)) root inc (now (host .entry)) r ⌝ }
+    ensures { λ r. ⌜ IncludePlanned (old words) (old text) root inc (old host) r ⌝ }
 {
     let p = plan_path(words, text, root, host);
     let t = memory::trie_of(words, p.link);
@@ -112,7 +113,7 @@ fn plan_include(words: &[u32], text: &[u8], root: u32, host: &[u8], inc: u32) ->
 fn plan_open(words: &[u32], text: &[u8], root: u32, host: &[u8], inc: u32) -> Plan
     requires { ⌜ At (now words) (now text) names trieˢ root × At (now words) (now text) names trieˢ inc ⌝ }
     requires { ⌜ (ends-in-dot (now host) ≡ true) × (length (segments (now host)) ≤ 17) ⌝ }
-    ensures { λ r. ⌜ OpenPlanned (now (words .entry)) (now (text .entry)) root inc (now (host .entry)) r ⌝ }
+    ensures { λ r. ⌜ OpenPlanned (old words) (old text) root inc (old host) r ⌝ }
 {
     let p = plan_path(words, text, root, host);
     let t = memory::trie_of(words, p.link);
@@ -131,7 +132,7 @@ fn plan_open(words: &[u32], text: &[u8], root: u32, host: &[u8], inc: u32) -> Pl
 fn plan_alias(words: &[u32], text: &[u8], root: u32, key: &[u8], host: &[u8], inc: u32) -> Plan
     requires { ⌜ At (now words) (now text) names trieˢ root × At (now words) (now text) names trieˢ inc ⌝ }
     requires { ⌜ (ends-in-dot (now host) ≡ true) × (length (segments (now host)) ≤ 17) ⌝ }
-    ensures { λ r. ⌜ AliasPlanned (now (words .entry)) (now (text .entry)) root inc (now (key .entry)) (now (host .entry)) r ⌝ }
+    ensures { λ r. ⌜ AliasPlanned (old words) (old text) root inc (old key) (old host) r ⌝ }
 {
     let p = plan_path(words, text, root, host);
     let t = memory::trie_of(words, p.link);
@@ -153,7 +154,7 @@ struct Insertion {
 
 fn plan_ins(words: &[u32], text: &[u8], trie: u32, s: &[u8], last: bool, loaded: bool) -> Insertion
     requires { ⌜ At (now words) (now text) modules trieˢ trie ⌝ }
-    ensures { λ r. ⌜ Inserted (now (words .entry)) (now (text .entry)) trie (now (s .entry)) last loaded (r .records) (r .crowded) ⌝ }
+    ensures { λ r. ⌜ Inserted (old words) (old text) trie (old s) last loaded (r .records) (r .crowded) ⌝ }
 {
     let t = memory::trie_of(words, trie);
     let p = names::names_place(words, text, t.bindings, s);
@@ -173,7 +174,7 @@ fn plan_ins(words: &[u32], text: &[u8], trie: u32, s: &[u8], last: bool, loaded:
 fn plan_module(words: &[u32], text: &[u8], root: u32, query: &[u8], loaded: bool) -> Plan
     requires { ⌜ At (now words) (now text) modules trieˢ root ⌝ }
     requires { ⌜ (ends-in-dot (now query) ≡ true) × (length (segments (now query)) ≤ 17) ⌝ }
-    ensures { λ r. ⌜ ModulePlanned (now (words .entry)) (now (text .entry)) root loaded (now (query .entry)) r ⌝ }
+    ensures { λ r. ⌜ ModulePlanned (old words) (old text) root loaded (old query) r ⌝ }
 {
     let mut link = root;
     let mut at = 0;
@@ -212,7 +213,7 @@ pub fn plan_of(
     requires { ⌜ Sound (now words) (now text) h ⌝ }
     requires { ⌜ (ends-in-dot (now host) ≡ true) × (length (segments (now host)) ≤ 17) ⌝ }
     requires { ⌜ Carries (shape-of kind .form) (now words) (now text) (h .names) (now other) inc ⌝ }
-    ensures { λ r. ⌜ Planned (table-of (now (words .entry)) (now (text .entry)) h) (call-of kind (now (host .entry)) (now (other .entry)) (now (key .entry))) r ⌝ }
+    ensures { λ r. ⌜ Planned (table-of (old words) (old text) h) (call-of kind (old host) (old other) (old key)) r ⌝ }
 {
     match kind {
         Kind::Name(_) => plan_name(words, text, h.names, host, other),

@@ -1,4 +1,4 @@
--- The reply to a completion is that of the definition (`Shown`).
+-- The reply to a completion is that of the definition (`RowsShown`).
 use Prim.Native.Nat.{ℕ}
 use native.Mathlib.Omega.{arith}
 use mathlib.Core.Path.{_≡_, refl, sym, ap, _∙_}
@@ -25,12 +25,12 @@ use Rattle.table.specs.declared.Completed.{Completed}
 use Rattle.table.specs.declared.Completed.the-variants.{Listed, Refused}
 use Rattle.table.specs.declared.Listing.{Listing}
 use Rattle.questions.specs.Questions.{lines-text, completed-text}
-use Rattle.questions.specs.RowReplies.{Shown, shown-text}
+use Rattle.questions.specs.RowReplies.{RowsShown, shown-text}
 use Rattle.questions.proofs.RowReplies.{rows-text-is, rows-room-is}
 
 -- What is written of a completion, and that it can be.
 pub record Tells (ask : Ask) (flat′ out′ : List ℕ) (r : Completed) (v : C.Completed (Item (asked ask))) : Type 0 where
-  pub shown : Shown (asked ask) flat′ out′ r
+  pub shown : RowsShown (asked ask) flat′ out′ r
   pub text-is : shown-text (asked ask) flat′ out′ r ≡ completed-text (asked ask) v
 
 tells-refused : (ask : Ask) (flat′ out′ : List ℕ) (n : ℕ) (r : Completed) → refused-by r ≡ some n → Tells ask flat′ out′ r (C.refused n)

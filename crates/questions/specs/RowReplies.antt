@@ -56,9 +56,9 @@ abbrev pub room : (flat pane : List ℕ) → ℕ
 room flat pane = length flat / line-bytes * reply-room + length pane + reply-room
 
 -- The lines of a completion stand in flat and pane.
-abbrev pub Shown : (w : Which) (flat pane : List ℕ) → Completed → Type 0
-Shown w flat pane (Listed n entered) = RowsIn w flat pane n × (rows-room w (words-from flat 0 n) + reply-room ≤ room flat pane)
-Shown w flat pane (Refused x) = Unit {0}
+abbrev pub RowsShown : (w : Which) (flat pane : List ℕ) → Completed → Type 0
+RowsShown w flat pane (Listed n entered) = RowsIn w flat pane n × (rows-room w (words-from flat 0 n) + reply-room ≤ room flat pane)
+RowsShown w flat pane (Refused x) = Unit {0}
 
 abbrev pub shown-text : (w : Which) (flat pane : List ℕ) → Completed → Str
 shown-text w flat pane (Listed n entered) = rows-text w pane (words-from flat 0 n) · end-reply n entered

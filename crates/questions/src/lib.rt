@@ -10,6 +10,7 @@ ghost use mathlib.Core.Path.{_≡_};
 ghost use mathlib.Core.Bool.{true};
 ghost use Prim.Native.Nat.{_+_, _≤_};
 ghost use lib.ListN.{length};
+ghost use Rattle.source.specs.Lent.{old, new};
 ghost use Rattle.text.specs.Laid.{Laid};
 ghost use Rattle.replies.specs.Replies.{reply-room};
 ghost use Rattle.asks.specs.Ask.{asked};
@@ -19,12 +20,12 @@ ghost use Rattle.table.specs.Header.{IsSound, table-in};
 ghost use Rattle.table.specs.Answers.{name-found};
 ghost use Rattle.table.specs.Completions.{completion};
 ghost use Rattle.questions.specs.Questions.{found-text, completed-text, asked-text};
-ghost use Rattle.questions.specs.RowReplies.{item-shown, row-room, row-text, RowsIn, rows-room, rows-text, room, Shown, shown-text};
+ghost use Rattle.questions.specs.RowReplies.{item-shown, row-room, row-text, RowsIn, rows-room, rows-text, room, RowsShown, shown-text};
 
 // Writes the reply to a look-up.
 fn put_found(reply: &mut [u8], at: usize, f: Found) -> usize
     requires { ⌜ at + reply-room ≤ length (now reply) ⌝ }
-    ensures { λ e. ⌜ Laid (now (reply .entry)) (now (reply .exit)) at e (found-text (name-found f)) ⌝ }
+    ensures { λ e. ⌜ Laid (old reply) (new reply) at e (found-text (name-found f)) ⌝ }
 {
     match f {
         Found::Item(n) => replies::put_found(reply, at, n),
@@ -53,7 +54,7 @@ fn item_reply(item: RowItem) -> ItemReply
 fn put_row(row: Row, pane: &[u8], reply: &mut [u8], at: usize) -> usize
     requires { ⌜ TextsIn (now pane) row ⌝ }
     requires { ⌜ at + row-room row ≤ length (now reply) ⌝ }
-    ensures { λ e. ⌜ Laid (now (reply .entry)) (now (reply .exit)) at e (row-text (now (pane .entry)) row) × (e ≤ at + row-room row) ⌝ }
+    ensures { λ e. ⌜ Laid (old reply) (new reply) at e (row-text (old pane) row) × (e ≤ at + row-room row) ⌝ }
 {
     let held = row.item;
     let item = item_reply(held);
@@ -80,7 +81,8 @@ fn put_rows(
 ) -> usize
     requires { ⌜ RowsIn (asked ask) (now flat) (now pane) n ⌝ }
     requires { ⌜ at + rows-room (asked ask) (words-from (now flat) 0 n) ≤ length (now reply) ⌝ }
-    ensures { λ e. ⌜ Laid (now (reply .entry)) (now (reply .exit)) at e (rows-text (asked ask) (now (pane .entry)) (words-from (now (flat .entry)) 0 n)) × (e ≤ at + rows-room (asked ask) (words-from (now (flat .entry)) 0 n)) ⌝ }
+    ensures { λ e. ⌜ Laid (old reply) (new reply) at e (rows-text (asked ask) (old pane) (words-from (old flat) 0 n)) ×
+        (e ≤ at + rows-room (asked ask) (words-from (old flat) 0 n)) ⌝ }
 {
     let mut e = at;
     let mut i = 0;
@@ -101,9 +103,9 @@ fn put_completed(
     reply: &mut [u8],
     at: usize,
 ) -> usize
-    requires { ⌜ Shown (asked ask) (now flat) (now pane) c ⌝ }
+    requires { ⌜ RowsShown (asked ask) (now flat) (now pane) c ⌝ }
     requires { ⌜ at + room (now flat) (now pane) ≤ length (now reply) ⌝ }
-    ensures { λ e. ⌜ Laid (now (reply .entry)) (now (reply .exit)) at e (shown-text (asked ask) (now (flat .entry)) (now (pane .entry)) c) ⌝ }
+    ensures { λ e. ⌜ Laid (old reply) (new reply) at e (shown-text (asked ask) (old flat) (old pane) c) ⌝ }
 {
     match c {
         Completed::Listed(lines, entered) => {
@@ -118,14 +120,14 @@ fn put_completed(
 }
 
 // The table that is asked, and where its reply begins.
-pub struct Start {
+pub struct Asking {
     pub table: Table,
     pub at: usize,
 }
 
 // `[complete [q]]`, `[modules [q]]`
 fn complete_line(
-    start: Start,
+    start: Asking,
     words: &[u32],
     text: &[u8],
     ask: asks::Ask,
@@ -136,7 +138,9 @@ fn complete_line(
 ) -> usize
     requires { ⌜ IsSound (now words) (now text) (start .table) ⌝ }
     requires { ⌜ start .at + room (now flat) (now pane) ≤ length (now reply) ⌝ }
-    ensures { λ e. ⌜ Laid (now (reply .entry)) (now (reply .exit)) (start .at) e (completed-text (asked ask) (completion true (table-in (now (words .entry)) (now (text .entry)) (start .table)) ask 4096 (output (now (flat .entry)) (now (pane .entry))) (now (query .entry)))) ⌝ }
+    ensures { λ e. ⌜ Laid (old reply) (new reply) (start .at) e
+        (completed-text (asked ask) (completion true (table-in (old words) (old text) (start .table)) ask 4096 (output (old flat) (old pane))
+        (old query))) ⌝ }
 {
     let table = start.table;
     let l = table.complete_sound(words, text, ask, query, 4096, flat, pane);
@@ -146,7 +150,7 @@ fn complete_line(
 
 // `[find [q]]`, `[complete [q]]`, `[modules [q]]`
 pub fn ask_line(
-    start: Start,
+    start: Asking,
     words: &[u32],
     text: &[u8],
     what: script::Question,
@@ -157,7 +161,8 @@ pub fn ask_line(
 ) -> usize
     requires { ⌜ IsSound (now words) (now text) (start .table) ⌝ }
     requires { ⌜ start .at + room (now flat) (now pane) ≤ length (now reply) ⌝ }
-    ensures { λ e. ⌜ Laid (now (reply .entry)) (now (reply .exit)) (start .at) e (asked-text (output (now (flat .entry)) (now (pane .entry))) (table-in (now (words .entry)) (now (text .entry)) (start .table)) what (now (query .entry))) ⌝ }
+    ensures { λ e. ⌜ Laid (old reply) (new reply) (start .at) e
+        (asked-text (output (old flat) (old pane)) (table-in (old words) (old text) (start .table)) what (old query)) ⌝ }
 {
     match what {
         script::Question::Find => {

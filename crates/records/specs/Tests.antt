@@ -7,13 +7,13 @@ use Rattle.source.specs.Types.{Level, bind, ns}
 use Rattle.source.specs.Terms.{depth-tree}
 use Rattle.source.specs.Rules.{Ordered}
 use Rattle.memory.specs.Layout.{trie-link, depth-word, Which, tree, list, trieˢ, kind, row, what}
-use Rattle.fields.specs.Fields.{Noted}
+use Rattle.fields.specs.Fields.{WaysNoted}
 use Rattle.memory.specs.Sound.{Says, LinkOk, BranchOk, CollectionOk, WeightOk, RecordAs}
 
 -- The notes of the records before link l: the ends of their ways to the left and to the right.
 pub record Notes (ws : List ℕ) (l : ℕ) (least greatest : List ℕ) : Type 0 where
-  pub least-noted : Noted ws 3 l least
-  pub greatest-noted : Noted ws 4 l greatest
+  pub least-noted : WaysNoted ws 3 l least
+  pub greatest-noted : WaysNoted ws 4 l greatest
 
 -- What the answer b says, of each table and level that the kinds are of.
 module _ (ws txt : List ℕ) (used l : ℕ) (r : List ℕ) where

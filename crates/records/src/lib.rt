@@ -4,6 +4,7 @@ use text::Rule;
 ghost use mathlib.Core.Path.{_≡_};
 ghost use Prim.Native.Nat.{_*_, _≤_, _<_};
 ghost use lib.ListN.{length};
+ghost use Rattle.source.specs.Lent.{old};
 ghost use Rattle.source.specs.Limits.{heaviest-list, record-words};
 ghost use Rattle.memory.specs.Layout.{left-link, right-link, weight-word};
 ghost use Rattle.memory.specs.Stored.{depth-of};
@@ -26,7 +27,7 @@ pub fn branch_ok(
     requires { ⌜ TreeKind k ⌝ }
     requires { ⌜ length (now r) ≡ record-words ⌝ }
     requires { ⌜ Notes (now words) link (now least) (now greatest) ⌝ }
-    ensures { λ b. ⌜ SaysBranch (now (words .entry)) (now (text .entry)) used link (now (r .entry)) k b ⌝ }
+    ensures { λ b. ⌜ SaysBranch (old words) (old text) used link (old r) k b ⌝ }
 {
     let start = r[memory::TEXT_START];
     let len = r[memory::TEXT_LEN];
@@ -54,7 +55,7 @@ pub fn branch_ok(
 // The item of a bindings branch of the module table.
 pub fn symbol_ok(text: &[u8], used: u32, r: &[u32]) -> bool
     requires { ⌜ (used ≤ length (now text)) × (length (now r) ≡ record-words) ⌝ }
-    ensures { λ b. ⌜ Says b (SymbolOk (now (text .entry)) used (now (r .entry))) ⌝ }
+    ensures { λ b. ⌜ Says b (SymbolOk (old text) used (old r)) ⌝ }
 {
     if 1 < r[memory::SYMBOL] {
         return false;
@@ -90,7 +91,7 @@ pub fn symbol_ok(text: &[u8], used: u32, r: &[u32]) -> bool
 // The greater depth of the first two links of a record.
 pub fn deeper(words: &[u32], link: u32, r: &[u32]) -> u32
     requires { ⌜ (link * record-words ≤ length (now words)) × (length (now r) ≡ record-words) × (left-link (now r) < link) × (right-link (now r) < link) ⌝ }
-    ensures { λ d. ⌜ d ≡ depth-of (now (words .entry)) (now (r .entry)) ⌝ }
+    ensures { λ d. ⌜ d ≡ depth-of (old words) (old r) ⌝ }
 {
     let a = memory::depth_of(words, r[memory::FIRST]);
     let b = memory::depth_of(words, r[memory::SECOND]);
@@ -105,7 +106,7 @@ pub fn held_ok(words: &[u32], text: &[u8], used: u32, link: u32, r: &[u32], t: u
     requires { ⌜ Before (now words) (now text) used link ⌝ }
     requires { ⌜ length (now r) ≡ record-words ⌝ }
     requires { ⌜ (left-link (now r) < link) × (right-link (now r) < link) ⌝ }
-    ensures { λ b. ⌜ SaysHeld (now (words .entry)) (now (text .entry)) used link (now (r .entry)) t b ⌝ }
+    ensures { λ b. ⌜ SaysHeld (old words) (old text) used link (old r) t b ⌝ }
 {
     let held = r[memory::HELD];
     if !fields::link_ok(words, link, held, t) {
@@ -123,7 +124,7 @@ pub fn held_ok(words: &[u32], text: &[u8], used: u32, link: u32, r: &[u32], t: u
 // Is `weight` stored, and at most 96?
 fn weight_ok(r: &[u32], weight: u64) -> bool
     requires { ⌜ length (now r) ≡ record-words ⌝ }
-    ensures { λ b. ⌜ Says b ((weight-word (now (r .entry)) ≡ weight) × (weight ≤ heaviest-list)) ⌝ }
+    ensures { λ b. ⌜ Says b ((weight-word (old r) ≡ weight) × (weight ≤ heaviest-list)) ⌝ }
 {
     if fields::wide(memory::HEAVIEST) < weight {
         return false;
@@ -146,7 +147,7 @@ pub fn collection_ok(
 ) -> bool
     requires { ⌜ Before (now words) (now text) used link ⌝ }
     requires { ⌜ length (now r) ≡ record-words ⌝ }
-    ensures { λ b. ⌜ SaysCollection (now (words .entry)) (now (text .entry)) used link (now (r .entry)) k t b ⌝ }
+    ensures { λ b. ⌜ SaysCollection (old words) (old text) used link (old r) k t b ⌝ }
 {
     let own = r[memory::OWN];
     let rest = r[memory::REST];
@@ -179,7 +180,7 @@ pub fn collection_ok(
 pub fn trie_ok(words: &[u32], text: &[u8], used: u32, link: u32, r: &[u32], b: u32, n: u32) -> bool
     requires { ⌜ Before (now words) (now text) used link ⌝ }
     requires { ⌜ length (now r) ≡ record-words ⌝ }
-    ensures { λ o. ⌜ SaysTrie (now (words .entry)) (now (text .entry)) used link (now (r .entry)) b n o ⌝ }
+    ensures { λ o. ⌜ SaysTrie (old words) (old text) used link (old r) b n o ⌝ }
 {
     let first = r[memory::BINDINGS];
     let second = r[memory::NAMESPACES];

@@ -1,6 +1,7 @@
 // The refusals of the requirements: their numbers, and the conditions of rows 2 to 8.
 use text::Rule;
 ghost use mathlib.Core.Path.{_≡_};
+ghost use Rattle.source.specs.Lent.{old};
 ghost use Rattle.source.specs.Calls.{a-query, a-name, a-path, a-look-up, a-completion, lowest, free};
 ghost use Rattle.refusals.specs.Refusals.{number, row-of};
 ghost use Rattle.refusals.specs.Rows.{Flagged, no-flags, both-flags, flag-rows, capacity-rows};
@@ -57,7 +58,7 @@ pub struct Flags {
 
 // The flags of a host, included or module query.
 pub fn query_flags(s: &[u8]) -> Flags
-    ensures { λ r. ⌜ Flagged (a-query (now (s .entry))) r ⌝ }
+    ensures { λ r. ⌜ Flagged (a-query (old s)) r ⌝ }
 {
     let v = text::query_survey(s);
     Flags {
@@ -69,7 +70,7 @@ pub fn query_flags(s: &[u8]) -> Flags
 
 // The flags of an id or key.
 pub fn name_flags(s: &[u8]) -> Flags
-    ensures { λ r. ⌜ Flagged (a-name (now (s .entry))) r ⌝ }
+    ensures { λ r. ⌜ Flagged (a-name (old s)) r ⌝ }
 {
     Flags {
         malformed: !text::all_allowed(Rule::Name, s),
@@ -80,7 +81,7 @@ pub fn name_flags(s: &[u8]) -> Flags
 
 // The flags of a file path.
 pub fn path_flags(s: &[u8]) -> Flags
-    ensures { λ r. ⌜ Flagged (a-path (now (s .entry))) r ⌝ }
+    ensures { λ r. ⌜ Flagged (a-path (old s)) r ⌝ }
 {
     Flags {
         malformed: !text::all_allowed(Rule::Path, s),
@@ -91,7 +92,7 @@ pub fn path_flags(s: &[u8]) -> Flags
 
 // The flags of a look-up's query.
 pub fn look_up_flags(s: &[u8]) -> Flags
-    ensures { λ r. ⌜ Flagged (a-look-up (now (s .entry))) r ⌝ }
+    ensures { λ r. ⌜ Flagged (a-look-up (old s)) r ⌝ }
 {
     let v = text::query_survey(s);
     Flags {
@@ -103,7 +104,7 @@ pub fn look_up_flags(s: &[u8]) -> Flags
 
 // The flags of a completion's query.
 pub fn completion_flags(s: &[u8]) -> Flags
-    ensures { λ r. ⌜ Flagged (a-completion (now (s .entry))) r ⌝ }
+    ensures { λ r. ⌜ Flagged (a-completion (old s)) r ⌝ }
 {
     let v = text::query_survey(s);
     Flags {

@@ -27,7 +27,7 @@ use Rattle.plan.specs.Plans.{Carries}
 use Rattle.leaves.specs.Leaves.{which-by, which-of, label-in, ChangeOk}
 use Rattle.change.specs.Changes.{between, mutated, descent, Mutation}
 use Rattle.leaves.specs.declared.Change.{Change}
-use Rattle.change.proofs.Between.{place-first}
+use Rattle.change.proofs.QueryPlace.{place-first}
 use Rattle.change.proofs.Registered.{Registers, name-registers, include-registers, alias-registers, open-registers, module-registers, registers-fits}
 use Rattle.register.specs.Checks.{Ready}
 use Rattle.register.specs.Writes.{Stand, root-at, with-text}

@@ -1,4 +1,4 @@
-mod Laying
+mod TextsLaid
 pub mod Checks
 mod Changes
-mod Writing
+mod Accepts

@@ -15,6 +15,7 @@ ghost use mathlib.Core.Bool.{false, cond};
 ghost use mathlib.Core.List.{[], _∷_};
 ghost use Prim.Native.Nat.{_+_, _≤_};
 ghost use lib.ListN.{length};
+ghost use Rattle.source.specs.Lent.{old, new};
 ghost use Rattle.source.specs.Limits.{most-used};
 ghost use Rattle.source.specs.Calls.{a-name, malformed, arguments, after};
 ghost use Rattle.refusals.specs.Rows.{Flagged, AllFlagged};
@@ -34,7 +35,7 @@ pub enum Checked {
 
 // The flags of the id, the included query or the file path.
 fn other_flags(form: Form, other: &[u8]) -> Flags
-    ensures { λ r. ⌜ Flagged (argument-as form (now (other .entry))) r ⌝ }
+    ensures { λ r. ⌜ Flagged (argument-as form (old other)) r ⌝ }
 {
     match form {
         Form::Name => refusals::name_flags(other),
@@ -45,7 +46,7 @@ fn other_flags(form: Form, other: &[u8]) -> Flags
 
 // The flags of the key, where there is one.
 fn key_flags(keyed: bool, key: &[u8]) -> Flags
-    ensures { λ r. ⌜ AllFlagged (cond keyed (a-name (now (key .entry)) ∷ []) []) r ⌝ }
+    ensures { λ r. ⌜ AllFlagged (cond keyed (a-name (old key) ∷ []) []) r ⌝ }
 {
     if keyed {
         return refusals::name_flags(key);
@@ -55,7 +56,7 @@ fn key_flags(keyed: bool, key: &[u8]) -> Flags
 
 // The flags of all arguments.
 fn flags_of(kind: Kind, host: &[u8], other: &[u8], key: &[u8]) -> Flags
-    ensures { λ r. ⌜ AllFlagged (arguments (call-of kind (now (host .entry)) (now (other .entry)) (now (key .entry)))) r ⌝ }
+    ensures { λ r. ⌜ AllFlagged (arguments (call-of kind (old host) (old other) (old key))) r ⌝ }
 {
     let s = kinds::shape_of(kind);
     let form = s.form;
@@ -69,7 +70,7 @@ fn flags_of(kind: Kind, host: &[u8], other: &[u8], key: &[u8]) -> Flags
 fn included(words: &[u32], text: &[u8], root: u32, form: Form, other: &[u8]) -> u32
     requires { ⌜ At (now words) (now text) names trieˢ root ⌝ }
     requires { ⌜ malformed (argument-as form (now other)) ≡ false ⌝ }
-    ensures { λ r. ⌜ Carries form (now (words .entry)) (now (text .entry)) root (now (other .entry)) r ⌝ }
+    ensures { λ r. ⌜ Carries form (old words) (old text) root (old other) r ⌝ }
 {
     match form {
         Form::Name => 0,
@@ -90,7 +91,7 @@ pub fn check(
 ) -> Checked
     requires { ⌜ Sound (now words) (now text) h ⌝ }
     requires { ⌜ NoKey kind (now key) ⌝ }
-    ensures { λ r. ⌜ Checks (now (words .entry)) (now (text .entry)) h kind (now (host .entry)) (now (other .entry)) (now (key .entry)) r ⌝ }
+    ensures { λ r. ⌜ Checks (old words) (old text) h kind (old host) (old other) (old key) r ⌝ }
 {
     let a = refusals::admit(flags_of(kind, host, other, key));
     match a {
@@ -125,7 +126,7 @@ pub fn check(
 fn put_texts(text: &mut [u8], used: u32, host: &[u8], other: &[u8], key: &[u8])
     requires { ⌜ used + length (now host) + length (now other) + length (now key) ≤ length (now text) ⌝ }
     requires { ⌜ used + length (now host) + length (now other) + length (now key) ≤ most-used ⌝ }
-    ensures { λ _. ⌜ TextsLaid (now (text .entry)) (now (text .exit)) used (now (host .entry)) (now (other .entry)) (now (key .entry)) ⌝ }
+    ensures { λ _. ⌜ TextsLaid (old text) (new text) used (old host) (old other) (old key) ⌝ }
 {
     let start = used + host.len() as u32;
     let end = start + other.len() as u32;
@@ -179,7 +180,8 @@ pub fn write(
     key: &[u8],
 ) -> Header
     requires { ⌜ Passes (now words) (now text) h kind (now host) (now other) (now key) inc ⌝ }
-    ensures { λ r. ⌜ Accepts (now (words .entry)) (now (text .entry)) (now (words .exit)) (now (text .exit)) h r (after (state-of (now (words .entry)) (now (text .entry)) h) (call-of kind (now (host .entry)) (now (other .entry)) (now (key .entry)))) ⌝ }
+    ensures { λ r. ⌜ Accepts (old words) (old text) (new words) (new text) h r
+        (after (state-of (old words) (old text) h) (call-of kind (old host) (old other) (old key))) ⌝ }
 {
     let len = other.len() as u32;
     let size = key.len() as u32;

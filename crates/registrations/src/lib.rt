@@ -6,6 +6,7 @@ use table::Table;
 ghost use mathlib.Core.Bool.{true};
 ghost use Prim.Native.Nat.{_+_, _≤_};
 ghost use lib.ListN.{length};
+ghost use Rattle.source.specs.Lent.{old, new};
 ghost use Rattle.source.specs.Calls.{name, alias, module-path};
 ghost use Rattle.text.specs.Laid.{Laid};
 ghost use Rattle.replies.specs.Replies.{reply-room};
@@ -22,7 +23,7 @@ pub struct Done {
 // Writes the reply to a registration.
 fn put_registered(reply: &mut [u8], at: usize, records: u32, r: Registered) -> usize
     requires { ⌜ at + reply-room ≤ length (now reply) ⌝ }
-    ensures { λ e. ⌜ Laid (now (reply .entry)) (now (reply .exit)) at e (registered-text records r) ⌝ }
+    ensures { λ e. ⌜ Laid (old reply) (new reply) at e (registered-text records r) ⌝ }
 {
     match r {
         Registered::Accepted => replies::put_ok(reply, at, records),
@@ -36,7 +37,7 @@ fn put_registered(reply: &mut [u8], at: usize, records: u32, r: Registered) -> u
 // The answer to a registration, with its reply written.
 fn finish(reply: &mut [u8], at: usize, r: Registration) -> Done
     requires { ⌜ at + reply-room ≤ length (now reply) ⌝ }
-    ensures { λ a. ⌜ Finished (now (reply .entry)) (now (reply .exit)) at r a ⌝ }
+    ensures { λ a. ⌜ Finished (old reply) (new reply) at r a ⌝ }
 {
     let t = r.table;
     let a = r.answer;
@@ -54,7 +55,7 @@ fn import(
     query: &[u8],
 ) -> Registration
     requires { ⌜ IsSound (now words) (now text) table ⌝ }
-    ensures { λ r. ⌜ Answers true (now (words .entry)) (now (text .entry)) (now (words .exit)) (now (text .exit)) table (import-call how (now (host .entry)) (now (query .entry))) r ⌝ }
+    ensures { λ r. ⌜ Answers true (old words) (old text) (new words) (new text) table (import-call how (old host) (old query)) r ⌝ }
 {
     match how {
         Import::Include => table.register_include_sound(words, text, host, query),
@@ -76,7 +77,7 @@ pub fn name_line(
 ) -> Done
     requires { ⌜ IsSound (now words) (now text) table ⌝ }
     requires { ⌜ at + reply-room ≤ length (now reply) ⌝ }
-    ensures { λ r. ⌜ Registers (now (words .entry)) (now (text .entry)) (now (words .exit)) (now (text .exit)) table (name (now (host .entry)) (now (id .entry)) item) (now (reply .entry)) (now (reply .exit)) at r ⌝ }
+    ensures { λ r. ⌜ Registers (old words) (old text) (new words) (new text) table (name (old host) (old id) item) (old reply) (new reply) at r ⌝ }
 {
     let r = table.insert_sound(words, text, host, id, item);
     finish(reply, at, r)
@@ -95,7 +96,7 @@ pub fn import_line(
 ) -> Done
     requires { ⌜ IsSound (now words) (now text) table ⌝ }
     requires { ⌜ at + reply-room ≤ length (now reply) ⌝ }
-    ensures { λ r. ⌜ Registers (now (words .entry)) (now (text .entry)) (now (words .exit)) (now (text .exit)) table (import-call how (now (host .entry)) (now (query .entry))) (now (reply .entry)) (now (reply .exit)) at r ⌝ }
+    ensures { λ r. ⌜ Registers (old words) (old text) (new words) (new text) table (import-call how (old host) (old query)) (old reply) (new reply) at r ⌝ }
 {
     let r = import(table, words, text, how, host, query);
     finish(reply, at, r)
@@ -114,7 +115,7 @@ pub fn alias_line(
 ) -> Done
     requires { ⌜ IsSound (now words) (now text) table ⌝ }
     requires { ⌜ at + reply-room ≤ length (now reply) ⌝ }
-    ensures { λ r. ⌜ Registers (now (words .entry)) (now (text .entry)) (now (words .exit)) (now (text .exit)) table (alias (now (word .entry)) (now (host .entry)) (now (query .entry))) (now (reply .entry)) (now (reply .exit)) at r ⌝ }
+    ensures { λ r. ⌜ Registers (old words) (old text) (new words) (new text) table (alias (old word) (old host) (old query)) (old reply) (new reply) at r ⌝ }
 {
     let r = table.register_alias_sound(words, text, word, host, query);
     finish(reply, at, r)
@@ -133,7 +134,7 @@ pub fn module_line(
 ) -> Done
     requires { ⌜ IsSound (now words) (now text) table ⌝ }
     requires { ⌜ at + reply-room ≤ length (now reply) ⌝ }
-    ensures { λ r. ⌜ Registers (now (words .entry)) (now (text .entry)) (now (words .exit)) (now (text .exit)) table (module-path loaded (now (query .entry)) (now (path .entry))) (now (reply .entry)) (now (reply .exit)) at r ⌝ }
+    ensures { λ r. ⌜ Registers (old words) (old text) (new words) (new text) table (module-path loaded (old query) (old path)) (old reply) (new reply) at r ⌝ }
 {
     let r = table.register_module_path_sound(words, text, loaded, query, path);
     finish(reply, at, r)

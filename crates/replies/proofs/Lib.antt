@@ -1,2 +1,2 @@
-pub mod Writing
+pub mod LineReply
 pub mod Examples

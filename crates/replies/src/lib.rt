@@ -3,6 +3,7 @@
 use numerals::digits::put_number;
 ghost use Prim.Native.Nat.{_+_, _≤_};
 ghost use lib.ListN.{length};
+ghost use Rattle.source.specs.Lent.{old, new};
 ghost use Rattle.text.specs.Laid.{Laid};
 ghost use Rattle.numerals.specs.Bytes.{bytes, _·_};
 ghost use Rattle.numerals.specs.Numerals.{decimal};
@@ -18,7 +19,7 @@ pub enum ItemReply {
 // Writes `text`.
 fn put(out: &mut [u8], at: usize, text: &[u8]) -> usize
     requires { ⌜ at + length (now text) ≤ length (now out) ⌝ }
-    ensures { λ r. ⌜ Laid (now (out .entry)) (now (out .exit)) at r (now (text .entry)) ⌝ }
+    ensures { λ r. ⌜ Laid (old out) (new out) at r (old text) ⌝ }
 {
     let mut i = 0;
     while i < text.len() {
@@ -31,7 +32,7 @@ fn put(out: &mut [u8], at: usize, text: &[u8]) -> usize
 // Writes a word and a number, in brackets.
 fn put_counted(out: &mut [u8], at: usize, word: &[u8], n: u32) -> usize
     requires { ⌜ at + length (now word) + 12 ≤ length (now out) ⌝ }
-    ensures { λ r. ⌜ Laid (now (out .entry)) (now (out .exit)) at r (now (word .entry) · decimal n · bytes "]\n") ⌝ }
+    ensures { λ r. ⌜ Laid (old out) (new out) at r (old word · decimal n · bytes "]\n") ⌝ }
 {
     let a = put(out, at, word);
     let b = put_number(out, a, n);
@@ -41,7 +42,7 @@ fn put_counted(out: &mut [u8], at: usize, word: &[u8], n: u32) -> usize
 // `[ok R]`
 pub fn put_ok(out: &mut [u8], at: usize, records: u32) -> usize
     requires { ⌜ at + reply-room ≤ length (now out) ⌝ }
-    ensures { λ r. ⌜ Laid (now (out .entry)) (now (out .exit)) at r (ok-reply records) ⌝ }
+    ensures { λ r. ⌜ Laid (old out) (new out) at r (ok-reply records) ⌝ }
 {
     put_counted(out, at, b"[ok ", records)
 }
@@ -49,7 +50,7 @@ pub fn put_ok(out: &mut [u8], at: usize, records: u32) -> usize
 // `[found N]`
 pub fn put_found(out: &mut [u8], at: usize, item: u32) -> usize
     requires { ⌜ at + reply-room ≤ length (now out) ⌝ }
-    ensures { λ r. ⌜ Laid (now (out .entry)) (now (out .exit)) at r (found-reply item) ⌝ }
+    ensures { λ r. ⌜ Laid (old out) (new out) at r (found-reply item) ⌝ }
 {
     put_counted(out, at, b"[found ", item)
 }
@@ -57,7 +58,7 @@ pub fn put_found(out: &mut [u8], at: usize, item: u32) -> usize
 // `[none]`
 pub fn put_none(out: &mut [u8], at: usize) -> usize
     requires { ⌜ at + reply-room ≤ length (now out) ⌝ }
-    ensures { λ r. ⌜ Laid (now (out .entry)) (now (out .exit)) at r none-reply ⌝ }
+    ensures { λ r. ⌜ Laid (old out) (new out) at r none-reply ⌝ }
 {
     put(out, at, b"[none]\n")
 }
@@ -65,7 +66,7 @@ pub fn put_none(out: &mut [u8], at: usize) -> usize
 // `[refused C]`
 pub fn put_refused(out: &mut [u8], at: usize, code: u32) -> usize
     requires { ⌜ at + reply-room ≤ length (now out) ⌝ }
-    ensures { λ r. ⌜ Laid (now (out .entry)) (now (out .exit)) at r (refused-reply code) ⌝ }
+    ensures { λ r. ⌜ Laid (old out) (new out) at r (refused-reply code) ⌝ }
 {
     put_counted(out, at, b"[refused ", code)
 }
@@ -73,7 +74,7 @@ pub fn put_refused(out: &mut [u8], at: usize, code: u32) -> usize
 // `[bad]`
 pub fn put_bad(out: &mut [u8], at: usize) -> usize
     requires { ⌜ at + reply-room ≤ length (now out) ⌝ }
-    ensures { λ r. ⌜ Laid (now (out .entry)) (now (out .exit)) at r bad-reply ⌝ }
+    ensures { λ r. ⌜ Laid (old out) (new out) at r bad-reply ⌝ }
 {
     put(out, at, b"[bad]\n")
 }
@@ -81,7 +82,7 @@ pub fn put_bad(out: &mut [u8], at: usize) -> usize
 // Writes an item.
 fn put_item(out: &mut [u8], at: usize, item: ItemReply) -> usize
     requires { ⌜ at + 10 ≤ length (now out) ⌝ }
-    ensures { λ r. ⌜ Laid (now (out .entry)) (now (out .exit)) at r (item-text item) × (r ≤ at + 10) ⌝ }
+    ensures { λ r. ⌜ Laid (old out) (new out) at r (item-text item) × (r ≤ at + 10) ⌝ }
 {
     match item {
         ItemReply::Number(n) => put_number(out, at, n),
@@ -93,7 +94,7 @@ fn put_item(out: &mut [u8], at: usize, item: ItemReply) -> usize
 // Writes a line's texts, each with what closes it.
 fn put_texts(out: &mut [u8], at: usize, annotation: &[u8], candidate: &[u8]) -> usize
     requires { ⌜ at + length (now annotation) + length (now candidate) + 4 ≤ length (now out) ⌝ }
-    ensures { λ r. ⌜ Laid (now (out .entry)) (now (out .exit)) at r (now (annotation .entry) · bytes "] " · now (candidate .entry) · bytes "]\n") ⌝ }
+    ensures { λ r. ⌜ Laid (old out) (new out) at r (old annotation · bytes "] " · old candidate · bytes "]\n") ⌝ }
 {
     let a = put(out, at, annotation);
     let b = put(out, a, b"] ");
@@ -104,7 +105,7 @@ fn put_texts(out: &mut [u8], at: usize, annotation: &[u8], candidate: &[u8]) -> 
 // Writes a match length that is a word: 4294967295 for -1.
 fn put_word(out: &mut [u8], at: usize, word: u32) -> usize
     requires { ⌜ at + 10 ≤ length (now out) ⌝ }
-    ensures { λ r. ⌜ Laid (now (out .entry)) (now (out .exit)) at r (signed (length-in word)) × (r ≤ at + 10) ⌝ }
+    ensures { λ r. ⌜ Laid (old out) (new out) at r (signed (length-in word)) × (r ≤ at + 10) ⌝ }
 {
     if word == 4294967295 {
         return put(out, at, b"-1");
@@ -115,7 +116,7 @@ fn put_word(out: &mut [u8], at: usize, word: u32) -> usize
 // Writes a line's numbers, its length as a word.
 fn put_words(out: &mut [u8], at: usize, word: u32, item: ItemReply) -> usize
     requires { ⌜ at + 27 ≤ length (now out) ⌝ }
-    ensures { λ r. ⌜ Laid (now (out .entry)) (now (out .exit)) at r (bytes "[line " · signed (length-in word) · bytes " " · item-text item) × (r ≤ at + 27) ⌝ }
+    ensures { λ r. ⌜ Laid (old out) (new out) at r (bytes "[line " · signed (length-in word) · bytes " " · item-text item) × (r ≤ at + 27) ⌝ }
 {
     let a = put(out, at, b"[line ");
     let b = put_word(out, a, word);
@@ -133,7 +134,8 @@ pub fn put_row(
     candidate: &[u8],
 ) -> usize
     requires { ⌜ at + reply-room + length (now annotation) + length (now candidate) ≤ length (now out) ⌝ }
-    ensures { λ r. ⌜ Laid (now (out .entry)) (now (out .exit)) at r (line-reply (length-in word) item (now (annotation .entry)) (now (candidate .entry))) × (r ≤ at + reply-room + length (now (annotation .entry)) + length (now (candidate .entry))) ⌝ }
+    ensures { λ r. ⌜ Laid (old out) (new out) at r (line-reply (length-in word) item (old annotation) (old candidate)) ×
+        (r ≤ at + reply-room + length (old annotation) + length (old candidate)) ⌝ }
 {
     let a = put_words(out, at, word, item);
     let b = put(out, a, b" [");
@@ -143,7 +145,7 @@ pub fn put_row(
 // `[end lines entered]`
 pub fn put_end(out: &mut [u8], at: usize, lines: u32, entered: u32) -> usize
     requires { ⌜ at + reply-room ≤ length (now out) ⌝ }
-    ensures { λ r. ⌜ Laid (now (out .entry)) (now (out .exit)) at r (end-reply lines entered) ⌝ }
+    ensures { λ r. ⌜ Laid (old out) (new out) at r (end-reply lines entered) ⌝ }
 {
     let a = put(out, at, b"[end ");
     let b = put_number(out, a, lines);

@@ -5,6 +5,7 @@ use memory::Span;
 ghost use mathlib.Core.Path.{_≡_};
 ghost use Prim.Native.Nat.{_+_, _*_, _≤_};
 ghost use lib.ListN.{length};
+ghost use Rattle.source.specs.Lent.{old};
 ghost use Rattle.memory.specs.Layout.{record-at};
 ghost use Rattle.memory.specs.Read.{text-of};
 ghost use Rattle.asks.specs.Ask.{asked};
@@ -39,7 +40,7 @@ pub struct Row {
 // The item in the first twelve words.
 fn item_in(words: &[u32], ask: Ask) -> RowItem
     requires { ⌜ 12 ≤ length (now words) ⌝ }
-    ensures { λ r. ⌜ r ≡ item-in (asked ask) (record-at (now (words .entry)) 1) ⌝ }
+    ensures { λ r. ⌜ r ≡ item-in (asked ask) (record-at (old words) 1) ⌝ }
 {
     match ask {
         Ask::Names => RowItem::Name(memory::number_of(words, 1)),
@@ -50,7 +51,7 @@ fn item_in(words: &[u32], ask: Ask) -> RowItem
 // The row in the first twelve words.
 fn row_in(words: &[u32], ask: Ask) -> Row
     requires { ⌜ 12 ≤ length (now words) ⌝ }
-    ensures { λ r. ⌜ r ≡ row-in (asked ask) (record-at (now (words .entry)) 1) ⌝ }
+    ensures { λ r. ⌜ r ≡ row-in (asked ask) (record-at (old words) 1) ⌝ }
 {
     let item = item_in(words, ask);
     let candidate = Span {
@@ -72,7 +73,7 @@ fn row_in(words: &[u32], ask: Ask) -> Row
 // The words that the bytes of a row spell.
 fn words_of(bytes: &[u8]) -> [u32; output::LINE]
     requires { ⌜ line-bytes ≤ length (now bytes) ⌝ }
-    ensures { λ r. ⌜ r ≡ line-words (now (bytes .entry)) ⌝ }
+    ensures { λ r. ⌜ r ≡ line-words (old bytes) ⌝ }
 {
     let mut words = [0u32; output::LINE];
     let mut i = 0;
@@ -86,7 +87,7 @@ fn words_of(bytes: &[u8]) -> [u32; output::LINE]
 // Row `k` of the bytes.
 pub fn row_at(flat: &[u8], k: usize, ask: Ask) -> Row
     requires { ⌜ k * line-bytes + line-bytes ≤ length (now flat) ⌝ }
-    ensures { λ r. ⌜ r ≡ row-in (asked ask) (words-at (now (flat .entry)) k) ⌝ }
+    ensures { λ r. ⌜ r ≡ row-in (asked ask) (words-at (old flat) k) ⌝ }
 {
     let at = k * output::LINE_BYTES;
     let words = words_of(&flat[at..]);
@@ -96,7 +97,7 @@ pub fn row_at(flat: &[u8], k: usize, ask: Ask) -> Row
 // The text of a span: a row's in the output text, a mod symbol's in the table text.
 pub fn text_of<'a>(text: &'a [u8], s: Span) -> &'a [u8]
     requires { ⌜ s .start + s .len ≤ length (now text) ⌝ }
-    ensures { λ r. ⌜ now r ≡ text-of (now (text .entry)) s ⌝ }
+    ensures { λ r. ⌜ now r ≡ text-of (old text) s ⌝ }
 {
     let a = s.start as usize;
     let e = a + s.len as usize;

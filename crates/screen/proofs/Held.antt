@@ -8,7 +8,7 @@ use Rattle.memory.specs.Sound.{Says}
 use Rattle.memory.proofs.Says.{says-iff}
 use Rattle.table.specs.Header.{IsSound}
 use Rattle.table.specs.declared.Table.{Table}
-use Rattle.table.proofs.Decided.{decided}
+use Rattle.table.proofs.Says.{decided}
 use Rattle.wire.specs.Memory.{state-bytes, Spells, words-in}
 use Rattle.screen.specs.Memory.{table-at, SoundBytes}
 

@@ -17,8 +17,8 @@ use Rattle.table.specs.Header.{IsSound, state, lent}
 use Rattle.table.specs.Registrations.{refusal-of, AnswersAs, Answers}
 use Rattle.table.specs.declared.Table.{Table}
 use Rattle.table.specs.declared.Registration.{Registration}
-use Rattle.table.proofs.Decided.{decided}
-use Rattle.table.proofs.Registering.{register-unsound}
+use Rattle.table.proofs.Says.{decided}
+use Rattle.table.proofs.Answers.{register-unsound}
 use Rattle.wire.specs.Bytes.{Stored}
 use Rattle.wire.specs.Memory.{header-in, Spells, records-lent, words-in}
 use Rattle.wire.proofs.Memory.{words-in-length, words-in-fit}

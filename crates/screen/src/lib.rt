@@ -15,6 +15,7 @@ ghost use mathlib.Core.Path.{_≡_};
 ghost use mathlib.Core.Option.{none, some};
 ghost use Prim.Native.Nat.{_<_};
 ghost use lib.ListN.{length};
+ghost use Rattle.source.specs.Lent.{old, new};
 ghost use Rattle.source.specs.Calls.{name, include, opens, alias, module-path};
 ghost use Rattle.kinds.specs.Shapes.{call-of};
 ghost use Rattle.wire.specs.Memory.{state-bytes, words-in};
@@ -26,7 +27,7 @@ ghost use Rattle.screen.specs.Replies.{chosen, Replies, RepliesName, Rep
 // The table that a state spells.
 fn table_of(state: &[u8]) -> Table
     requires { ⌜ length (now state) ≡ state-bytes ⌝ }
-    ensures { λ r. ⌜ r ≡ table-at (now (state .entry)) ⌝ }
+    ensures { λ r. ⌜ r ≡ table-at (old state) ⌝ }
 {
     Table {
         header: wire::header_of(state),
@@ -48,7 +49,7 @@ fn enter(
 ) -> u32
     requires { ⌜ length (now state) ≡ state-bytes ⌝ }
     requires { ⌜ now memory ≡ words-in (now words) ⌝ }
-    ensures { λ r. ⌜ Replies (now (state .entry)) (now (words .entry)) (now (text .entry)) (now (state .exit)) (now (words .exit)) (now (text .exit)) (some (call-of kind (now (host .entry)) (now (other .entry)) (now (key .entry)))) r ⌝ }
+    ensures { λ r. ⌜ Replies (old state) (old words) (old text) (new state) (new words) (new text) (some (call-of kind (old host) (old other) (old key))) r ⌝ }
 {
     let t = table_of(state);
     if !t.is_sound_small(memory, text) {
@@ -79,7 +80,7 @@ fn register(
     other: &[u8],
     key: &[u8],
 ) -> u32
-    ensures { λ r. ⌜ Replies (now (state .entry)) (now (words .entry)) (now (text .entry)) (now (state .exit)) (now (words .exit)) (now (text .exit)) (some (call-of kind (now (host .entry)) (now (other .entry)) (now (key .entry)))) r ⌝ }
+    ensures { λ r. ⌜ Replies (old state) (old words) (old text) (new state) (new words) (new text) (some (call-of kind (old host) (old other) (old key))) r ⌝ }
 {
     if state.len() != wire::STATE_BYTES {
         return 1;
@@ -91,7 +92,7 @@ fn register(
 
 // The reply where a number stands for no choice.
 fn malformed(state: &[u8], words: &[u8], text: &[u8]) -> u32
-    ensures { λ r. ⌜ Replies (now (state .entry)) (now (words .entry)) (now (text .entry)) (now (state .entry)) (now (words .entry)) (now (text .entry)) none r ⌝ }
+    ensures { λ r. ⌜ Replies (old state) (old words) (old text) (old state) (old words) (old text) none r ⌝ }
 {
     if state.len() != wire::STATE_BYTES {
         return 1;
@@ -115,7 +116,7 @@ pub extern "C" fn name_console_insert(
     id: &[u8],
     item: u32,
 ) -> u32
-    ensures { λ r. ⌜ Replies (now (state .entry)) (now (words .entry)) (now (text .entry)) (now (state .exit)) (now (words .exit)) (now (text .exit)) (some (name (now (host .entry)) (now (id .entry)) item)) r ⌝ }
+    ensures { λ r. ⌜ Replies (old state) (old words) (old text) (new state) (new words) (new text) (some (name (old host) (old id) item)) r ⌝ }
 {
     register(state, words, text, Kind::Name(item), host, id, &host[..0])
 }
@@ -129,7 +130,7 @@ pub extern "C" fn name_console_include(
     host: &[u8],
     query: &[u8],
 ) -> u32
-    ensures { λ r. ⌜ Replies (now (state .entry)) (now (words .entry)) (now (text .entry)) (now (state .exit)) (now (words .exit)) (now (text .exit)) (some (include (now (host .entry)) (now (query .entry)))) r ⌝ }
+    ensures { λ r. ⌜ Replies (old state) (old words) (old text) (new state) (new words) (new text) (some (include (old host) (old query))) r ⌝ }
 {
     register(state, words, text, Kind::Include, host, query, &host[..0])
 }
@@ -144,7 +145,7 @@ pub extern "C" fn name_console_open(
     host: &[u8],
     query: &[u8],
 ) -> u32
-    ensures { λ r. ⌜ Replies (now (state .entry)) (now (words .entry)) (now (text .entry)) (now (state .exit)) (now (words .exit)) (now (text .exit)) (chosen (λ b. opens b (now (host .entry)) (now (query .entry))) flag) r ⌝ }
+    ensures { λ r. ⌜ Replies (old state) (old words) (old text) (new state) (new words) (new text) (chosen (λ b. opens b (old host) (old query)) flag) r ⌝ }
 {
     if flag < 2 {
         return register(
@@ -170,7 +171,7 @@ pub extern "C" fn name_console_alias(
     host: &[u8],
     query: &[u8],
 ) -> u32
-    ensures { λ r. ⌜ Replies (now (state .entry)) (now (words .entry)) (now (text .entry)) (now (state .exit)) (now (words .exit)) (now (text .exit)) (some (alias (now (key .entry)) (now (host .entry)) (now (query .entry)))) r ⌝ }
+    ensures { λ r. ⌜ Replies (old state) (old words) (old text) (new state) (new words) (new text) (some (alias (old key) (old host) (old query))) r ⌝ }
 {
     register(state, words, text, Kind::Alias, host, query, key)
 }
@@ -185,7 +186,8 @@ pub extern "C" fn name_console_module(
     query: &[u8],
     path: &[u8],
 ) -> u32
-    ensures { λ r. ⌜ Replies (now (state .entry)) (now (words .entry)) (now (text .entry)) (now (state .exit)) (now (words .exit)) (now (text .exit)) (chosen (λ b. module-path b (now (query .entry)) (now (path .entry))) loaded) r ⌝ }
+    ensures { λ r. ⌜ Replies (old state) (old words) (old text) (new state) (new words) (new text)
+        (chosen (λ b. module-path b (old query) (old path)) loaded) r ⌝ }
 {
     if loaded < 2 {
         return register(
@@ -211,7 +213,7 @@ pub extern "C" fn name_console_find(
     text: &[u8],
     query: &[u8],
 ) -> NameReply
-    ensures { λ r. ⌜ RepliesName (now (state .entry)) (now (words .entry)) (now (text .entry)) (now (query .entry)) r ⌝ }
+    ensures { λ r. ⌜ RepliesName (old state) (old words) (old text) (old query) r ⌝ }
 {
     if state.len() != wire::STATE_BYTES {
         return numbers::no_name(1);
@@ -233,7 +235,7 @@ pub extern "C" fn name_console_find_module(
     text: &[u8],
     query: &[u8],
 ) -> ModuleReply
-    ensures { λ r. ⌜ RepliesModule (now (state .entry)) (now (words .entry)) (now (text .entry)) (now (query .entry)) r ⌝ }
+    ensures { λ r. ⌜ RepliesModule (old state) (old words) (old text) (old query) r ⌝ }
 {
     if state.len() != wire::STATE_BYTES {
         return numbers::no_module(1);
@@ -277,7 +279,7 @@ fn complete(
     lines: &mut [u8],
     out: &mut [u8],
 ) -> CompleteReply
-    ensures { λ r. ⌜ RepliesLines (now (state .entry)) (now (words .entry)) (now (text .entry)) (some ask) (now (query .entry)) budget (now (lines .entry)) (now (lines .exit)) (now (out .entry)) (now (out .exit)) r ⌝ }
+    ensures { λ r. ⌜ RepliesLines (old state) (old words) (old text) (some ask) (old query) budget (old lines) (new lines) (old out) (new out) r ⌝ }
 {
     if state.len() != wire::STATE_BYTES {
         return numbers::no_lines(1);
@@ -302,7 +304,7 @@ pub extern "C" fn name_console_complete(
     lines: &mut [u8],
     out: &mut [u8],
 ) -> CompleteReply
-    ensures { λ r. ⌜ RepliesLines (now (state .entry)) (now (words .entry)) (now (text .entry)) (some Names) (now (query .entry)) budget (now (lines .entry)) (now (lines .exit)) (now (out .entry)) (now (out .exit)) r ⌝ }
+    ensures { λ r. ⌜ RepliesLines (old state) (old words) (old text) (some Names) (old query) budget (old lines) (new lines) (old out) (new out) r ⌝ }
 {
     complete(state, words, text, Ask::Names, query, budget, lines, out)
 }
@@ -319,7 +321,7 @@ pub extern "C" fn name_console_complete_modules(
     lines: &mut [u8],
     out: &mut [u8],
 ) -> CompleteReply
-    ensures { λ r. ⌜ RepliesLines (now (state .entry)) (now (words .entry)) (now (text .entry)) (modules-for filter) (now (query .entry)) budget (now (lines .entry)) (now (lines .exit)) (now (out .entry)) (now (out .exit)) r ⌝ }
+    ensures { λ r. ⌜ RepliesLines (old state) (old words) (old text) (modules-for filter) (old query) budget (old lines) (new lines) (old out) (new out) r ⌝ }
 {
     if filter < 4 {
         return complete(

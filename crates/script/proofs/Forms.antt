@@ -14,7 +14,7 @@ use Rattle.script.specs.declared.Question.the-variants.{Find, Complete, 
 use Rattle.script.specs.declared.Key.{Key}
 use Rattle.script.specs.declared.Key.the-variants.{Name as NameKey, Alias as AliasKey, Import as ImportKey, Module as ModuleKey, Ask as AskKey}
 use Rattle.numerals.specs.declared.Extent.{Extent}
-use Rattle.script.specs.declared.Form.the-variants.{Name, Import as ImportForm, Alias, Module, Ask as AskForm}
+use Rattle.script.specs.declared.LineForm.the-variants.{Name, Import as ImportForm, Alias, Module, Ask as AskForm}
 use Rattle.numerals.specs.declared.Pair.the-variants.{At as AtPair}
 use Rattle.numerals.specs.declared.Tail.the-variants.{At as AtTail}
 use Rattle.numerals.specs.Bytes.{Str, _·_, bytes}

@@ -13,8 +13,8 @@ use Rattle.script.specs.declared.Question.{Question}
 use Rattle.script.specs.declared.Question.the-variants.{Find, Complete, Modules}
 use Rattle.script.specs.declared.Key.{Key}
 use Rattle.script.specs.declared.Key.the-variants.{Name as NameKey, Alias as AliasKey, Import as ImportKey, Module as ModuleKey, Ask as AskKey}
-use Rattle.script.specs.declared.Form.{Form}
-use Rattle.script.specs.declared.Form.the-variants.{Name, Import as ImportForm, Alias, Module, Ask as AskForm, Bad}
+use Rattle.script.specs.declared.LineForm.{LineForm}
+use Rattle.script.specs.declared.LineForm.the-variants.{Name, Import as ImportForm, Alias, Module, Ask as AskForm, Bad}
 
 -- ---- The forms
 
@@ -88,7 +88,7 @@ pub record Reads (line : Str) (command : Command) : Type 0 where
 -- ---- What is answered
 
 -- The form that the line is, its parts as spans of the line; or `Bad`, and the line is no form.
-abbrev pub Parsed : Str → Form → Type 0
+abbrev pub Parsed : Str → LineForm → Type 0
 Parsed line (Name host id n) = Within line host × Within line id × Reads line (name (part-of line host) (part-of line id) n)
 Parsed line (ImportForm how host q) = Within line host × Within line q × Reads line (import how (part-of line host) (part-of line q))
 Parsed line (Alias word host q) =

@@ -12,6 +12,7 @@ use numerals::piece;
 use numerals::query_end;
 use numerals::word_end;
 ghost use mathlib.Core.Path.{_≡_};
+ghost use Rattle.source.specs.Lent.{old};
 ghost use Rattle.numerals.specs.Parts.{WordSays};
 ghost use Rattle.script.specs.Script.{key, Parsed};
 ghost use Rattle.script.specs.Keys.{key-by, key-of, Only};
@@ -31,7 +32,7 @@ pub enum Question {
 }
 
 // What a line is: its form, with its parts.
-pub enum Form {
+pub enum LineForm {
     Name {
         host: Extent,
         id: Extent,
@@ -104,14 +105,14 @@ fn key_by(b: u8, c: u8, d: u8) -> Key
 
 // The only form that the line can be.
 fn key_of(line: &[u8]) -> Key
-    ensures { λ r. ⌜ r ≡ key-of (now (line .entry)) ⌝ }
+    ensures { λ r. ⌜ r ≡ key-of (old line) ⌝ }
 {
     key_by(byte_at(line, 1), byte_at(line, 6), byte_at(line, 8))
 }
 
 // The end of the first word of `how`.
 fn import_word(line: &[u8], how: Import) -> Part
-    ensures { λ r. ⌜ WordSays (now (line .entry)) (key (Key.Import how)) r ⌝ }
+    ensures { λ r. ⌜ WordSays (old line) (key (Key.Import how)) r ⌝ }
 {
     match how {
         Import::Include => word_end(line, b"[include ["),
@@ -122,7 +123,7 @@ fn import_word(line: &[u8], how: Import) -> Part
 
 // The end of the first word of a module's line.
 fn module_word(line: &[u8], loaded: bool) -> Part
-    ensures { λ r. ⌜ WordSays (now (line .entry)) (key (Key.Module loaded)) r ⌝ }
+    ensures { λ r. ⌜ WordSays (old line) (key (Key.Module loaded)) r ⌝ }
 {
     if loaded {
         return word_end(line, b"[module l [");
@@ -132,7 +133,7 @@ fn module_word(line: &[u8], loaded: bool) -> Part
 
 // The end of the first word of `what`.
 fn ask_word(line: &[u8], what: Question) -> Part
-    ensures { λ r. ⌜ WordSays (now (line .entry)) (key (Key.Ask what)) r ⌝ }
+    ensures { λ r. ⌜ WordSays (old line) (key (Key.Ask what)) r ⌝ }
 {
     match what {
         Question::Find => word_end(line, b"[find ["),
@@ -142,14 +143,14 @@ fn ask_word(line: &[u8], what: Question) -> Part
 }
 
 // `[name [host] id N]`
-fn name_form(line: &[u8]) -> Form
+fn name_form(line: &[u8]) -> LineForm
     requires { ⌜ Only (now line) Key.Name ⌝ }
-    ensures { λ r. ⌜ Parsed (now (line .entry)) r ⌝ }
+    ensures { λ r. ⌜ Parsed (old line) r ⌝ }
 {
     match word_end(line, b"[name [") {
         Part::At(at) => match piece(line, at, Sort::Query, b"] ") {
             Part::At(e) => match id_end(line, e + 2) {
-                Tail::At { id, item } => Form::Name {
+                Tail::At { id, item } => LineForm::Name {
                     host: Extent {
                         start: at,
                         len: e - at,
@@ -157,45 +158,45 @@ fn name_form(line: &[u8]) -> Form
                     id: id,
                     item: item,
                 },
-                Tail::No => Form::Bad,
+                Tail::No => LineForm::Bad,
             },
-            Part::No => Form::Bad,
+            Part::No => LineForm::Bad,
         },
-        Part::No => Form::Bad,
+        Part::No => LineForm::Bad,
     }
 }
 
 // `[include [host] [q]]`, `[open m [host] [q]]`, `[open n [host] [q]]`
-fn import_form(line: &[u8], how: Import) -> Form
+fn import_form(line: &[u8], how: Import) -> LineForm
     requires { ⌜ Only (now line) (Key.Import how) ⌝ }
-    ensures { λ r. ⌜ Parsed (now (line .entry)) r ⌝ }
+    ensures { λ r. ⌜ Parsed (old line) r ⌝ }
 {
     match import_word(line, how) {
         Part::At(at) => match pair_end(line, at) {
-            Pair::At { host, query } => Form::Import {
+            Pair::At { host, query } => LineForm::Import {
                 how: how,
                 host: host,
                 query: query,
             },
-            Pair::No => Form::Bad,
+            Pair::No => LineForm::Bad,
         },
-        Part::No => Form::Bad,
+        Part::No => LineForm::Bad,
     }
 }
 
 // `[alias key [host] [q]]`
-fn alias_form(line: &[u8]) -> Form
+fn alias_form(line: &[u8]) -> LineForm
     requires { ⌜ Only (now line) Key.Alias ⌝ }
-    ensures { λ r. ⌜ Parsed (now (line .entry)) r ⌝ }
+    ensures { λ r. ⌜ Parsed (old line) r ⌝ }
 {
     match word_end(line, b"[alias ") {
         Part::At(at) => match piece(line, at, Sort::Word, b" [") {
             Part::At(e) => {
                 if e == at {
-                    return Form::Bad;
+                    return LineForm::Bad;
                 }
                 match pair_end(line, e + 2) {
-                    Pair::At { host, query } => Form::Alias {
+                    Pair::At { host, query } => LineForm::Alias {
                         word: Extent {
                             start: at,
                             len: e - at,
@@ -203,24 +204,24 @@ fn alias_form(line: &[u8]) -> Form
                         host: host,
                         query: query,
                     },
-                    Pair::No => Form::Bad,
+                    Pair::No => LineForm::Bad,
                 }
             }
-            Part::No => Form::Bad,
+            Part::No => LineForm::Bad,
         },
-        Part::No => Form::Bad,
+        Part::No => LineForm::Bad,
     }
 }
 
 // `[module l [q] path]`, `[module u [q] path]`
-fn module_form(line: &[u8], loaded: bool) -> Form
+fn module_form(line: &[u8], loaded: bool) -> LineForm
     requires { ⌜ Only (now line) (Key.Module loaded) ⌝ }
-    ensures { λ r. ⌜ Parsed (now (line .entry)) r ⌝ }
+    ensures { λ r. ⌜ Parsed (old line) r ⌝ }
 {
     match module_word(line, loaded) {
         Part::At(at) => match piece(line, at, Sort::Query, b"] ") {
             Part::At(e) => match last_end(line, e + 2) {
-                Part::At(f) => Form::Module {
+                Part::At(f) => LineForm::Module {
                     loaded: loaded,
                     query: Extent {
                         start: at,
@@ -231,40 +232,40 @@ fn module_form(line: &[u8], loaded: bool) -> Form
                         len: f - (e + 2),
                     },
                 },
-                Part::No => Form::Bad,
+                Part::No => LineForm::Bad,
             },
-            Part::No => Form::Bad,
+            Part::No => LineForm::Bad,
         },
-        Part::No => Form::Bad,
+        Part::No => LineForm::Bad,
     }
 }
 
 // `[find [q]]`, `[complete [q]]`, `[modules [q]]`
-fn ask_form(line: &[u8], what: Question) -> Form
+fn ask_form(line: &[u8], what: Question) -> LineForm
     requires { ⌜ Only (now line) (Key.Ask what) ⌝ }
-    ensures { λ r. ⌜ Parsed (now (line .entry)) r ⌝ }
+    ensures { λ r. ⌜ Parsed (old line) r ⌝ }
 {
     match ask_word(line, what) {
         Part::At(at) => match query_end(line, at) {
-            Part::At(e) => Form::Ask {
+            Part::At(e) => LineForm::Ask {
                 what: what,
                 query: Extent {
                     start: at,
                     len: e - at,
                 },
             },
-            Part::No => Form::Bad,
+            Part::No => LineForm::Bad,
         },
-        Part::No => Form::Bad,
+        Part::No => LineForm::Bad,
     }
 }
 
 // The form that a line is, without its line feed.
-pub fn parse(line: &[u8]) -> Form
-    ensures { λ r. ⌜ Parsed (now (line .entry)) r ⌝ }
+pub fn parse(line: &[u8]) -> LineForm
+    ensures { λ r. ⌜ Parsed (old line) r ⌝ }
 {
     if 2048 < line.len() {
-        return Form::Bad;
+        return LineForm::Bad;
     }
     match key_of(line) {
         Key::Name => name_form(line),

@@ -5,7 +5,7 @@ use mathlib.Core.List.{List}
 use lib.ListN.{length}
 use Rattle.source.specs.Limits.{record-words}
 use Rattle.memory.specs.Layout.{record-at, left-link, right-link}
-use Rattle.fields.specs.Fields.{Noted}
+use Rattle.fields.specs.Fields.{WaysNoted}
 use Rattle.records.specs.Tests.{Notes}
 
 -- The record of link l can be noted next.
@@ -20,5 +20,5 @@ pub record CanNote (ws : List ℕ) (l : ℕ) (least greatest : List ℕ) : Type 
 pub record NotesOn (ws : List ℕ) (l : ℕ) (least greatest least′ greatest′ : List ℕ) : Type 0 where
   pub least-size : length least′ ≡ length least
   pub greatest-size : length greatest′ ≡ length greatest
-  pub least-noted : Noted ws 3 l least′
-  pub greatest-noted : Noted ws 4 l greatest′
+  pub least-noted : WaysNoted ws 3 l least′
+  pub greatest-noted : WaysNoted ws 4 l greatest′

@@ -2,6 +2,7 @@
 use memory::Header;
 ghost use mathlib.Core.Path.{_≡_};
 ghost use Prim.Native.Nat.{_+_};
+ghost use Rattle.source.specs.Lent.{old, new};
 ghost use Rattle.memory.specs.Layout.{record-at};
 ghost use Rattle.memory.specs.Sound.{Says, RecordOk, Sound};
 ghost use Rattle.fields.specs.Fields.{Before};
@@ -21,7 +22,7 @@ fn record_ok(
     requires { ⌜ Before (now words) (now text) used link ⌝ }
     requires { ⌜ now r ≡ record-at (now words) link ⌝ }
     requires { ⌜ Notes (now words) link (now least) (now greatest) ⌝ }
-    ensures { λ b. ⌜ Says b (RecordOk (now (words .entry)) (now (text .entry)) used link) ⌝ }
+    ensures { λ b. ⌜ Says b (RecordOk (old words) (old text) used link) ⌝ }
 {
     let k = r[memory::KIND];
     match k {
@@ -72,7 +73,7 @@ fn record_ok(
 // Notes the record of `link`, which is right.
 fn note(words: &[u32], link: u32, least: &mut [u32], greatest: &mut [u32])
     requires { ⌜ CanNote (now words) link (now least) (now greatest) ⌝ }
-    ensures { λ _. ⌜ NotesOn (now (words .entry)) (link + 1) (now (least .entry)) (now (greatest .entry)) (now (least .exit)) (now (greatest .exit)) ⌝ }
+    ensures { λ _. ⌜ NotesOn (old words) (link + 1) (old least) (old greatest) (new least) (new greatest) ⌝ }
 {
     fields::note(words, link, memory::LEFT, least);
     fields::note(words, link, memory::RIGHT, greatest);
@@ -80,7 +81,7 @@ fn note(words: &[u32], link: u32, least: &mut [u32], greatest: &mut [u32])
 
 // One pass over the used records, with notes for as many as are lent.
 fn pass(words: &[u32], text: &[u8], header: Header, least: &mut [u32], greatest: &mut [u32]) -> bool
-    ensures { λ r. ⌜ Says r (Sound (now (words .entry)) (now (text .entry)) header) ⌝ }
+    ensures { λ r. ⌜ Says r (Sound (old words) (old text) header) ⌝ }
 {
     let records = header.records;
     let used = header.text;
@@ -131,7 +132,7 @@ const LARGE: usize = memory::CAPACITY as usize;
 
 // Is the lent memory a sound table, with this header? Its notes take 8 KB of stack.
 pub fn sound_small(words: &[u32], text: &[u8], header: Header) -> bool
-    ensures { λ r. ⌜ Says r (Sound (now (words .entry)) (now (text .entry)) header) ⌝ }
+    ensures { λ r. ⌜ Says r (Sound (old words) (old text) header) ⌝ }
 {
     let mut least = [0; SMALL + 1];
     let mut greatest = [0; SMALL + 1];
@@ -140,7 +141,7 @@ pub fn sound_small(words: &[u32], text: &[u8], header: Header) -> bool
 
 // The same: 64 KB.
 fn sound_middle(words: &[u32], text: &[u8], header: Header) -> bool
-    ensures { λ r. ⌜ Says r (Sound (now (words .entry)) (now (text .entry)) header) ⌝ }
+    ensures { λ r. ⌜ Says r (Sound (old words) (old text) header) ⌝ }
 {
     let mut least = [0; MIDDLE + 1];
     let mut greatest = [0; MIDDLE + 1];
@@ -150,7 +151,7 @@ fn sound_middle(words: &[u32], text: &[u8], header: Header) -> bool
 // The same: 512 KB, a half for each side. Given no notes for the least, it lends its own to itself.
 // A function that calls itself has a frame of its own, so that only tables of its size pay for its stack.
 fn sound_large(words: &[u32], text: &[u8], header: Header, least: &mut [u32]) -> bool
-    ensures { λ r. ⌜ Says r (Sound (now (words .entry)) (now (text .entry)) header) ⌝ }
+    ensures { λ r. ⌜ Says r (Sound (old words) (old text) header) ⌝ }
 {
     let mut notes = [0; LARGE + 1];
     if least.len() == 0 {
@@ -161,7 +162,7 @@ fn sound_large(words: &[u32], text: &[u8], header: Header, least: &mut [u32]) ->
 
 // The same, linear in the used records. It takes 66 KB of stack, and 591 KB where more than `MIDDLE` records are used.
 pub fn sound(words: &[u32], text: &[u8], header: Header) -> bool
-    ensures { λ r. ⌜ Says r (Sound (now (words .entry)) (now (text .entry)) header) ⌝ }
+    ensures { λ r. ⌜ Says r (Sound (old words) (old text) header) ⌝ }
 {
     let records = header.records as usize;
     if records <= SMALL {

@@ -1,3 +1,4 @@
+pub mod Lent
 pub mod Limits
 pub mod Text
 pub mod Shared

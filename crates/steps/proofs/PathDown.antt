@@ -26,7 +26,7 @@ use Rattle.names.specs.Entries.{label-at, shown, outer}
 use Rattle.output.specs.Path.{Path, joined, BranchAt}
 use Rattle.lines.specs.OnPath.{LabelAt, PathOk, OnPath}
 use Rattle.lines.proofs.Run.{joined-same}
-use Rattle.lines.specs.declared.Found.{Found}
+use Rattle.lines.specs.declared.Labelled.{Labelled}
 use Rattle.steps.specs.Steps.{PathDown, Entered, PathSet}
 use Rattle.memory.proofs.At.{at-fits}
 
@@ -107,7 +107,7 @@ module _ (run : List ℕ) (n len label : ℕ) where
     after = λ k h. kept k (λ z. omega arith) (λ z. omega arith) (λ z. omega arith);
   }
 
-pub entered : {ws : List ℕ} (f : Found) {run run′ : List ℕ} {len label : ℕ} → (length run ≡ 26) × (getD run 16 0 < 16) × (getD run 17 0 ≤ 544)
+pub entered : {ws : List ℕ} (f : Labelled) {run run′ : List ℕ} {len label : ℕ} → (length run ≡ 26) × (getD run 16 0 < 16) × (getD run 17 0 ≤ 544)
     → PathSet (set run (getD run 16 0) (f .link)) run′ (getD run 16 0 + 1) len label
     → len ≡ getD run 17 0 + text-len (record-at ws (f .link)) + 1 → label ≡ pick (eqb (getD run 16 0) 0) (f .label) (getD run 18 0) → Entered ws f run run′
 entered f {run} r s l b = record {

@@ -20,7 +20,7 @@ use Rattle.output.specs.Path.{Path}
 use Rattle.output.specs.Output.{signed-word}
 use Rattle.lines.specs.Goes.{Past}
 use Rattle.output.specs.Run.{path-in, limits-in}
-use Rattle.lines.specs.declared.Found.{Found}
+use Rattle.lines.specs.declared.Labelled.{Labelled}
 use Rattle.steps.specs.declared.Cut.{Cut}
 
 -- ---- The place in the source's listing
@@ -31,8 +31,8 @@ pub record Matching (path : PathOf) (q : Query) (m : ℕ) : Type 0 where
   pub all-matched : (q ≡ [] → ⊥) → Allˡ (λ el. (p : Str) × (el .segment .prefix ≡ some p)) path
 
 -- The same of each path that an element with the prefix field o makes.
-abbrev pub Steps : (path : PathOf) (o : Option Str) (q : Query) (m : ℕ) → Type 0
-Steps path o q m = (el : PathElem) → el .segment .prefix ≡ o → Matching (el ∷ path) q m
+abbrev pub MatchingOn : (path : PathOf) (o : Option Str) (q : Query) (m : ℕ) → Type 0
+MatchingOn path o q m = (el : PathElem) → el .segment .prefix ≡ o → Matching (el ∷ path) q m
 
 -- Where a query is cut: before its first dot, and after it. An empty one has no segment.
 pub record Cuts (query : Str) (len matched : ℕ) (c : Cut) : Type 0 where
@@ -44,7 +44,7 @@ pub record Cuts (query : Str) (len matched : ℕ) (c : Cut) : Type 0 where
   pub rest : segments (drop (c .next) query) ≡ tail (segments query)
   pub last-one : length query ≤ c .next → bindings-search-term (segments query) ≡ ns-search-term (segments query)
   pub more : c .next < length query → bindings-search-term (segments query) ≡ NSTNone
-  pub steps : (path : PathOf) → len ≡ length (base path) → Matching path (segments query) matched → Steps path prefix-is (tail (segments query)) (c .matched)
+  pub steps : (path : PathOf) → len ≡ length (base path) → Matching path (segments query) matched → MatchingOn path prefix-is (tail (segments query)) (c .matched)
   pub fits : matched ≤ 4294967295 → c .matched ≤ 4294967295
 
 -- Bindings are skipped only where more than one segment is left, or the tally is past the limits.
@@ -62,7 +62,7 @@ pub record PathDown (ws : List ℕ) (p : Path) (branch label : ℕ) (r : Path) :
   pub label-is : r .label ≡ pick (eqb (p .n) 0) label (p .label)
 
 -- The run's path has one more branch; what stands after the path is as it was.
-pub record Entered (ws : List ℕ) (f : Found) (run run′ : List ℕ) : Type 0 where
+pub record Entered (ws : List ℕ) (f : Labelled) (run run′ : List ℕ) : Type 0 where
   pub down : PathDown ws (path-in run) (f .link) (f .label) (path-in run′)
   pub after : (k : ℕ) → 18 < k → getD run′ k 0 ≡ getD run k 0
 

@@ -1,9 +1,10 @@
 // The steps between two lists of a run: the cut of the query, the limits, the path.
-use lines::Found;
+use lines::Labelled;
 ghost use mathlib.Core.Path.{_≡_};
 ghost use mathlib.Core.Bool.{true};
 ghost use Prim.Native.Nat.{_+_, _*_, _≤_, _<_};
 ghost use lib.ListN.{length};
+ghost use Rattle.source.specs.Lent.{old, new};
 ghost use Rattle.source.specs.Limits.{longest-query, deepest-trie, record-words};
 ghost use Rattle.source.specs.Text.{ends-in-dot};
 ghost use Rattle.output.specs.Run.{path-in};
@@ -19,7 +20,7 @@ pub struct Cut {
 // Cuts the first segment off, if there is one.
 pub fn cut_query(query: &[u8], base: usize, matched: usize) -> Cut
     requires { ⌜ (ends-in-dot (now query) ≡ true) × (length (now query) ≤ longest-query) × (base ≤ longest-query) ⌝ }
-    ensures { λ r. ⌜ Cuts (now (query .entry)) base matched r ⌝ }
+    ensures { λ r. ⌜ Cuts (old query) base matched r ⌝ }
 {
     if query.len() == 0 {
         return Cut {
@@ -38,7 +39,7 @@ pub fn cut_query(query: &[u8], base: usize, matched: usize) -> Cut
 
 // Whether a trie's bindings need no listing: more than one segment is left, or lines or bytes are past the limits already.
 pub fn skips_bindings(run: &[usize; output::RUN], size: usize, next: usize) -> bool
-    ensures { λ r. ⌜ Skips (now (run .entry)) size next r ⌝ }
+    ensures { λ r. ⌜ Skips (old run) size next r ⌝ }
 {
     if next < size {
         return true;
@@ -52,7 +53,7 @@ pub fn skips_bindings(run: &[usize; output::RUN], size: usize, next: usize) -> b
 // Gives the path as many of its links, the length and the label.
 pub fn set_path(run: &mut [usize; output::RUN], n: usize, len: usize, label: usize)
     requires { ⌜ length (now run) ≡ 26 ⌝ }
-    ensures { λ _. ⌜ PathSet (now (run .entry)) (now (run .exit)) n len label ⌝ }
+    ensures { λ _. ⌜ PathSet (old run) (new run) n len label ⌝ }
 {
     run[output::COUNT] = n;
     run[output::LENGTH] = len;
@@ -60,10 +61,10 @@ pub fn set_path(run: &mut [usize; output::RUN], n: usize, len: usize, label: usi
 }
 
 // Puts a branch of namespaces onto the path.
-pub fn enter(words: &[u32], found: Found, run: &mut [usize; output::RUN])
+pub fn enter(words: &[u32], found: Labelled, run: &mut [usize; output::RUN])
     requires { ⌜ (0 < found .link) × (found .link * record-words ≤ length (now words)) ⌝ }
     requires { ⌜ (length (now run) ≡ 26) × (path-in (now run) .n < deepest-trie) × (path-in (now run) .len ≤ longest-query) ⌝ }
-    ensures { λ _. ⌜ Entered (now (words .entry)) found (now (run .entry)) (now (run .exit)) ⌝ }
+    ensures { λ _. ⌜ Entered (old words) found (old run) (new run) ⌝ }
 {
     let n = run[output::COUNT];
     let len = run[output::LENGTH] + memory::text_len(words, found.link) as usize + 1;

@@ -3,6 +3,7 @@
 ghost use mathlib.Core.Path.{_≡_};
 ghost use mathlib.Core.Bool.{true, false};
 ghost use mathlib.Core.List.{List·Memᴰ};
+ghost use Rattle.source.specs.Lent.{old};
 ghost use Rattle.source.specs.Text.{starts-with};
 ghost use Rattle.memory.specs.Layout.{record-at, right-link, key-at};
 ghost use Rattle.tree.specs.Tree.{AnyTree};
@@ -12,7 +13,7 @@ ghost use Rattle.successor.specs.Begun.{begun};
 // The branch with the least key that is not before `low`, 0 for none.
 fn least_from(words: &[u32], text: &[u8], root: u32, low: &[u8]) -> u32
     requires { ⌜ AnyTree (now words) (now text) root ⌝ }
-    ensures { λ r. ⌜ r ≡ head0 (keep (key-at (now (words .entry)) (now (text .entry))) (past false (now (low .entry))) (branches (now (words .entry)) root)) ⌝ }
+    ensures { λ r. ⌜ r ≡ head0 (keep (key-at (old words) (old text)) (past false (old low)) (branches (old words) root)) ⌝ }
 {
     let mut at = root;
     let mut found = 0;
@@ -30,7 +31,7 @@ fn least_from(words: &[u32], text: &[u8], root: u32, low: &[u8]) -> u32
 // The branch with the least key, 0 for none.
 fn least_of(words: &[u32], text: &[u8], root: u32) -> u32
     requires { ⌜ AnyTree (now words) (now text) root ⌝ }
-    ensures { λ r. ⌜ r ≡ head0 (branches (now (words .entry)) root) ⌝ }
+    ensures { λ r. ⌜ r ≡ head0 (branches (old words) root) ⌝ }
 {
     let mut at = root;
     let mut found = 0;
@@ -46,7 +47,7 @@ fn is_left(words: &[u32], text: &[u8], link: u32, at: u32) -> bool
     requires { ⌜ AnyTree (now words) (now text) link ⌝ }
     requires { ⌜ List·Memᴰ at (branches (now words) link) ⌝ }
     requires { ⌜ (link ≡ at → ⊥) ⌝ }
-    ensures { λ r. ⌜ r ≡ past true (key-at (now (words .entry)) (now (text .entry)) at) (key-at (now (words .entry)) (now (text .entry)) link) ⌝ }
+    ensures { λ r. ⌜ r ≡ past true (key-at (old words) (old text) at) (key-at (old words) (old text) link) ⌝ }
 {
     if memory::right_of(words, link) < at {
         return true;
@@ -63,7 +64,7 @@ fn branch_above(words: &[u32], text: &[u8], root: u32, at: u32) -> u32
     requires { ⌜ AnyTree (now words) (now text) root ⌝ }
     requires { ⌜ List·Memᴰ at (branches (now words) root) ⌝ }
     requires { ⌜ right-link (record-at (now words) at) ≡ 0 ⌝ }
-    ensures { λ r. ⌜ r ≡ head0 (after (key-at (now (words .entry)) (now (text .entry))) (key-at (now (words .entry)) (now (text .entry)) at) (branches (now (words .entry)) root)) ⌝ }
+    ensures { λ r. ⌜ r ≡ head0 (after (key-at (old words) (old text)) (key-at (old words) (old text) at) (branches (old words) root)) ⌝ }
 {
     let mut link = root;
     let mut found = 0;
@@ -82,7 +83,7 @@ fn branch_above(words: &[u32], text: &[u8], root: u32, at: u32) -> u32
 fn branch_after(words: &[u32], text: &[u8], root: u32, at: u32) -> u32
     requires { ⌜ AnyTree (now words) (now text) root ⌝ }
     requires { ⌜ List·Memᴰ at (branches (now words) root) ⌝ }
-    ensures { λ r. ⌜ r ≡ head0 (after (key-at (now (words .entry)) (now (text .entry))) (key-at (now (words .entry)) (now (text .entry)) at) (branches (now (words .entry)) root)) ⌝ }
+    ensures { λ r. ⌜ r ≡ head0 (after (key-at (old words) (old text)) (key-at (old words) (old text) at) (branches (old words) root)) ⌝ }
 {
     let right = memory::right_of(words, at);
     if 0 < right {
@@ -94,7 +95,7 @@ fn branch_after(words: &[u32], text: &[u8], root: u32, at: u32) -> u32
 // The branch `link` where its key begins with `prefix`, 0 where it does not.
 fn begun(words: &[u32], text: &[u8], link: u32, prefix: &[u8]) -> u32
     requires { ⌜ AnyTree (now words) (now text) link ⌝ }
-    ensures { λ r. ⌜ r ≡ begun (key-at (now (words .entry)) (now (text .entry))) (now (prefix .entry)) link ⌝ }
+    ensures { λ r. ⌜ r ≡ begun (key-at (old words) (old text)) (old prefix) link ⌝ }
 {
     if link == 0 {
         return 0;
@@ -108,7 +109,7 @@ fn begun(words: &[u32], text: &[u8], link: u32, prefix: &[u8]) -> u32
 // The first branch whose key begins with `prefix`, 0 for none.
 pub fn tree_first(words: &[u32], text: &[u8], root: u32, prefix: &[u8]) -> u32
     requires { ⌜ AnyTree (now words) (now text) root ⌝ }
-    ensures { λ r. ⌜ r ≡ head0 (matches (now (words .entry)) (now (text .entry)) root (now (prefix .entry))) ⌝ }
+    ensures { λ r. ⌜ r ≡ head0 (matches (old words) (old text) root (old prefix)) ⌝ }
 {
     let least = least_from(words, text, root, prefix);
     begun(words, text, least, prefix)
@@ -119,7 +120,7 @@ pub fn tree_next(words: &[u32], text: &[u8], root: u32, prefix: &[u8], at: u32) 
     requires { ⌜ AnyTree (now words) (now text) root ⌝ }
     requires { ⌜ List·Memᴰ at (branches (now words) root) ⌝ }
     requires { ⌜ starts-with (key-at (now words) (now text) at) (now prefix) ≡ true ⌝ }
-    ensures { λ r. ⌜ r ≡ head0 (after (key-at (now (words .entry)) (now (text .entry))) (key-at (now (words .entry)) (now (text .entry)) at) (matches (now (words .entry)) (now (text .entry)) root (now (prefix .entry)))) ⌝ }
+    ensures { λ r. ⌜ r ≡ head0 (after (key-at (old words) (old text)) (key-at (old words) (old text) at) (matches (old words) (old text) root (old prefix))) ⌝ }
 {
     let next = branch_after(words, text, root, at);
     begun(words, text, next, prefix)

@@ -1,6 +1,6 @@
-pub mod Decided
-mod Lookups
-pub mod Registering
+pub mod Says
+mod Finds
+pub mod Answers
 pub mod Calls
-pub mod Completing
+pub mod Completes
 pub mod Agreement

@@ -11,6 +11,7 @@ use refusals::Refusal;
 use register::Checked;
 ghost use mathlib.Core.Path.{_≡_};
 ghost use mathlib.Core.Bool.{true};
+ghost use Rattle.source.specs.Lent.{old, new};
 ghost use Rattle.memory.specs.Sound.{Says};
 ghost use Rattle.kinds.specs.Shapes.{call-of};
 ghost use Rattle.table.specs.Header.{IsSound, Fresh};
@@ -103,14 +104,14 @@ impl Table {
 
     // Is the lent memory a sound table?
     pub fn is_sound(self, words: &[u32], text: &[u8]) -> bool
-        ensures { λ r. ⌜ Says r (IsSound (now (words .entry)) (now (text .entry)) self) ⌝ }
+        ensures { λ r. ⌜ Says r (IsSound (old words) (old text) self) ⌝ }
     {
         sound::sound(words, text, self.header)
     }
 
     // The same, with little stack. Linear for small tables (`SMALL` of crate sound).
     pub fn is_sound_small(self, words: &[u32], text: &[u8]) -> bool
-        ensures { λ r. ⌜ Says r (IsSound (now (words .entry)) (now (text .entry)) self) ⌝ }
+        ensures { λ r. ⌜ Says r (IsSound (old words) (old text) self) ⌝ }
     {
         sound::sound_small(words, text, self.header)
     }
@@ -137,8 +138,8 @@ impl Table {
         out: &mut [u8],
     ) -> Listing
         requires { ⌜ IsSound (now words) (now text) self ⌝ }
-        ensures { λ r. ⌜ Completes (now (words .entry)) (now (text .entry)) self ask (now (query .entry)) budget
-            (now (flat .entry)) (now (flat .exit)) (now (out .entry)) (now (out .exit)) r ⌝ }
+        ensures { λ r. ⌜ Completes (old words) (old text) self ask (old query) budget
+            (old flat) (new flat) (old out) (new out) r ⌝ }
     {
         let root = self.root_for(ask);
         let answer = roots::complete_on(words, text, ask, root, query, budget, flat, out);
@@ -159,8 +160,8 @@ impl Table {
         flat: &mut [u8],
         out: &mut [u8],
     ) -> Listing
-        ensures { λ r. ⌜ Completes (now (words .entry)) (now (text .entry)) self ask (now (query .entry)) budget
-            (now (flat .entry)) (now (flat .exit)) (now (out .entry)) (now (out .exit)) r ⌝ }
+        ensures { λ r. ⌜ Completes (old words) (old text) self ask (old query) budget
+            (old flat) (new flat) (old out) (new out) r ⌝ }
     {
         if self.is_sound(words, text) {
             return self.complete_sound(words, text, ask, query, budget, flat, out);
@@ -174,7 +175,7 @@ impl Table {
     // Look-up of a name, in a sound memory.
     pub fn find_sound(self, words: &[u32], text: &[u8], query: &[u8]) -> Finding
         requires { ⌜ IsSound (now words) (now text) self ⌝ }
-        ensures { λ r. ⌜ Finds (now (words .entry)) (now (text .entry)) self (now (query .entry)) r ⌝ }
+        ensures { λ r. ⌜ Finds (old words) (old text) self (old query) r ⌝ }
     {
         let answer = roots::find_on(words, text, self.header.names, query);
         Finding {
@@ -185,7 +186,7 @@ impl Table {
 
     // The same, in any memory.
     pub fn find(self, words: &[u32], text: &[u8], query: &[u8]) -> Finding
-        ensures { λ r. ⌜ Finds (now (words .entry)) (now (text .entry)) self (now (query .entry)) r ⌝ }
+        ensures { λ r. ⌜ Finds (old words) (old text) self (old query) r ⌝ }
     {
         if self.is_sound(words, text) {
             return self.find_sound(words, text, query);
@@ -199,7 +200,7 @@ impl Table {
     // Look-up of a module or namespace, in a sound memory.
     pub fn find_module_sound(self, words: &[u32], text: &[u8], query: &[u8]) -> ModuleFinding
         requires { ⌜ IsSound (now words) (now text) self ⌝ }
-        ensures { λ r. ⌜ FindsModule (now (words .entry)) (now (text .entry)) self (now (query .entry)) r ⌝ }
+        ensures { λ r. ⌜ FindsModule (old words) (old text) self (old query) r ⌝ }
     {
         let answer = roots::find_module_on(words, text, self.header.modules, query);
         ModuleFinding {
@@ -210,7 +211,7 @@ impl Table {
 
     // The same, in any memory.
     pub fn find_module(self, words: &[u32], text: &[u8], query: &[u8]) -> ModuleFinding
-        ensures { λ r. ⌜ FindsModule (now (words .entry)) (now (text .entry)) self (now (query .entry)) r ⌝ }
+        ensures { λ r. ⌜ FindsModule (old words) (old text) self (old query) r ⌝ }
     {
         if self.is_sound(words, text) {
             return self.find_module_sound(words, text, query);
@@ -233,8 +234,8 @@ impl Table {
         key: &[u8],
     ) -> Registration
         requires { ⌜ IsSound (now words) (now text) self ⌝ }
-        ensures { λ r. ⌜ Answers true (now (words .entry)) (now (text .entry)) (now (words .exit)) (now (text .exit)) self
-            (call-of kind (now (host .entry)) (now (other .entry)) (now (key .entry))) r ⌝ }
+        ensures { λ r. ⌜ Answers true (old words) (old text) (new words) (new text) self
+            (call-of kind (old host) (old other) (old key)) r ⌝ }
     {
         let n = kinds::key_size(kind, key.len());
         let k = register::check(words, text, self.header, kind, host, other, &key[..n]);
@@ -272,8 +273,8 @@ impl Table {
         other: &[u8],
         key: &[u8],
     ) -> Registration
-        ensures { λ r. ⌜ Total (now (words .entry)) (now (text .entry)) (now (words .exit)) (now (text .exit)) self
-            (call-of kind (now (host .entry)) (now (other .entry)) (now (key .entry))) r ⌝ }
+        ensures { λ r. ⌜ Total (old words) (old text) (new words) (new text) self
+            (call-of kind (old host) (old other) (old key)) r ⌝ }
     {
         if self.is_sound(words, text) {
             return self.register_sound(words, text, kind, host, other, key);

@@ -3,6 +3,7 @@ use crate::Registration;
 use crate::Table;
 use kinds::Kind;
 ghost use mathlib.Core.Bool.{true};
+ghost use Rattle.source.specs.Lent.{old, new};
 ghost use Rattle.source.specs.Calls.{name, include, opens, alias, module-path};
 ghost use Rattle.table.specs.Header.{IsSound};
 ghost use Rattle.table.specs.Registrations.{Answers, Total};
@@ -17,8 +18,8 @@ impl Table {
         id: &[u8],
         item: u32,
     ) -> Registration
-        ensures { λ r. ⌜ Total (now (words .entry)) (now (text .entry)) (now (words .exit)) (now (text .exit)) self
-            (name (now (host .entry)) (now (id .entry)) item) r ⌝ }
+        ensures { λ r. ⌜ Total (old words) (old text) (new words) (new text) self
+            (name (old host) (old id) item) r ⌝ }
     {
         self.register(words, text, Kind::Name(item), host, id, &host[..0])
     }
@@ -33,8 +34,8 @@ impl Table {
         item: u32,
     ) -> Registration
         requires { ⌜ IsSound (now words) (now text) self ⌝ }
-        ensures { λ r. ⌜ Answers true (now (words .entry)) (now (text .entry)) (now (words .exit)) (now (text .exit)) self
-            (name (now (host .entry)) (now (id .entry)) item) r ⌝ }
+        ensures { λ r. ⌜ Answers true (old words) (old text) (new words) (new text) self
+            (name (old host) (old id) item) r ⌝ }
     {
         self.register_sound(words, text, Kind::Name(item), host, id, &host[..0])
     }
@@ -47,8 +48,8 @@ impl Table {
         host: &[u8],
         query: &[u8],
     ) -> Registration
-        ensures { λ r. ⌜ Total (now (words .entry)) (now (text .entry)) (now (words .exit)) (now (text .exit)) self
-            (include (now (host .entry)) (now (query .entry))) r ⌝ }
+        ensures { λ r. ⌜ Total (old words) (old text) (new words) (new text) self
+            (include (old host) (old query)) r ⌝ }
     {
         self.register(words, text, Kind::Include, host, query, &host[..0])
     }
@@ -62,8 +63,8 @@ impl Table {
         query: &[u8],
     ) -> Registration
         requires { ⌜ IsSound (now words) (now text) self ⌝ }
-        ensures { λ r. ⌜ Answers true (now (words .entry)) (now (text .entry)) (now (words .exit)) (now (text .exit)) self
-            (include (now (host .entry)) (now (query .entry))) r ⌝ }
+        ensures { λ r. ⌜ Answers true (old words) (old text) (new words) (new text) self
+            (include (old host) (old query)) r ⌝ }
     {
         self.register_sound(words, text, Kind::Include, host, query, &host[..0])
     }
@@ -77,8 +78,8 @@ impl Table {
         host: &[u8],
         query: &[u8],
     ) -> Registration
-        ensures { λ r. ⌜ Total (now (words .entry)) (now (text .entry)) (now (words .exit)) (now (text .exit)) self
-            (opens flag (now (host .entry)) (now (query .entry))) r ⌝ }
+        ensures { λ r. ⌜ Total (old words) (old text) (new words) (new text) self
+            (opens flag (old host) (old query)) r ⌝ }
     {
         self.register(words, text, kinds::opened(flag), host, query, &host[..0])
     }
@@ -93,8 +94,8 @@ impl Table {
         query: &[u8],
     ) -> Registration
         requires { ⌜ IsSound (now words) (now text) self ⌝ }
-        ensures { λ r. ⌜ Answers true (now (words .entry)) (now (text .entry)) (now (words .exit)) (now (text .exit)) self
-            (opens flag (now (host .entry)) (now (query .entry))) r ⌝ }
+        ensures { λ r. ⌜ Answers true (old words) (old text) (new words) (new text) self
+            (opens flag (old host) (old query)) r ⌝ }
     {
         self.register_sound(words, text, kinds::opened(flag), host, query, &host[..0])
     }
@@ -108,8 +109,8 @@ impl Table {
         host: &[u8],
         query: &[u8],
     ) -> Registration
-        ensures { λ r. ⌜ Total (now (words .entry)) (now (text .entry)) (now (words .exit)) (now (text .exit)) self
-            (alias (now (key .entry)) (now (host .entry)) (now (query .entry))) r ⌝ }
+        ensures { λ r. ⌜ Total (old words) (old text) (new words) (new text) self
+            (alias (old key) (old host) (old query)) r ⌝ }
     {
         self.register(words, text, Kind::Alias, host, query, key)
     }
@@ -124,8 +125,8 @@ impl Table {
         query: &[u8],
     ) -> Registration
         requires { ⌜ IsSound (now words) (now text) self ⌝ }
-        ensures { λ r. ⌜ Answers true (now (words .entry)) (now (text .entry)) (now (words .exit)) (now (text .exit)) self
-            (alias (now (key .entry)) (now (host .entry)) (now (query .entry))) r ⌝ }
+        ensures { λ r. ⌜ Answers true (old words) (old text) (new words) (new text) self
+            (alias (old key) (old host) (old query)) r ⌝ }
     {
         self.register_sound(words, text, Kind::Alias, host, query, key)
     }
@@ -139,8 +140,8 @@ impl Table {
         query: &[u8],
         path: &[u8],
     ) -> Registration
-        ensures { λ r. ⌜ Total (now (words .entry)) (now (text .entry)) (now (words .exit)) (now (text .exit)) self
-            (module-path loaded (now (query .entry)) (now (path .entry))) r ⌝ }
+        ensures { λ r. ⌜ Total (old words) (old text) (new words) (new text) self
+            (module-path loaded (old query) (old path)) r ⌝ }
     {
         self.register(words, text, Kind::Module(loaded), query, path, &query[..0])
     }
@@ -155,8 +156,8 @@ impl Table {
         path: &[u8],
     ) -> Registration
         requires { ⌜ IsSound (now words) (now text) self ⌝ }
-        ensures { λ r. ⌜ Answers true (now (words .entry)) (now (text .entry)) (now (words .exit)) (now (text .exit)) self
-            (module-path loaded (now (query .entry)) (now (path .entry))) r ⌝ }
+        ensures { λ r. ⌜ Answers true (old words) (old text) (new words) (new text) self
+            (module-path loaded (old query) (old path)) r ⌝ }
     {
         self.register_sound(words, text, Kind::Module(loaded), query, path, &query[..0])
     }

@@ -9,6 +9,7 @@ use refusals::Admission;
 use refusals::Refusal;
 ghost use mathlib.Core.Path.{_≡_};
 ghost use mathlib.Core.Bool.{true};
+ghost use Rattle.source.specs.Lent.{old, new};
 ghost use Rattle.source.specs.Calls.{look-up};
 ghost use Rattle.memory.specs.Layout.{names, modules, trieˢ, what};
 ghost use Rattle.memory.specs.Sound.{At};
@@ -20,7 +21,7 @@ ghost use Rattle.table.specs.Completions.{answer-in, CompletesOn};
 // A look-up on a root.
 fn look_up(words: &[u32], text: &[u8], root: u32, query: &[u8]) -> Looked
     requires { ⌜ AnyTrie (now words) (now text) root ⌝ }
-    ensures { λ r. ⌜ LookedUp (now (words .entry)) (now (text .entry)) root (now (query .entry)) r ⌝ }
+    ensures { λ r. ⌜ LookedUp (old words) (old text) root (old query) r ⌝ }
 {
     let a = refusals::admit(refusals::look_up_flags(query));
     match a {
@@ -38,7 +39,7 @@ fn look_up(words: &[u32], text: &[u8], root: u32, query: &[u8]) -> Looked
 // Look-up of a name.
 pub fn find_on(words: &[u32], text: &[u8], root: u32, query: &[u8]) -> Found
     requires { ⌜ At (now words) (now text) names trieˢ root ⌝ }
-    ensures { λ r. ⌜ name-found r ≡ look-up true (what names (now (words .entry)) (now (text .entry)) root trieˢ) (now (query .entry)) ⌝ }
+    ensures { λ r. ⌜ name-found r ≡ look-up true (what names (old words) (old text) root trieˢ) (old query) ⌝ }
 {
     let l = look_up(words, text, root, query);
     match l {
@@ -51,7 +52,7 @@ pub fn find_on(words: &[u32], text: &[u8], root: u32, query: &[u8]) -> Found
 // Look-up of a module or namespace.
 pub fn find_module_on(words: &[u32], text: &[u8], root: u32, query: &[u8]) -> FoundModule
     requires { ⌜ At (now words) (now text) modules trieˢ root ⌝ }
-    ensures { λ r. ⌜ FindsModuleOn (now (words .entry)) (now (text .entry)) root (now (query .entry)) r ⌝ }
+    ensures { λ r. ⌜ FindsModuleOn (old words) (old text) root (old query) r ⌝ }
 {
     let l = look_up(words, text, root, query);
     match l {
@@ -88,8 +89,8 @@ pub fn complete_on(
     out: &mut [u8],
 ) -> Completed
     requires { ⌜ At (now words) (now text) (asked ask) trieˢ root ⌝ }
-    ensures { λ r. ⌜ CompletesOn (now (words .entry)) (now (text .entry)) ask root (now (query .entry)) budget
-        (now (flat .entry)) (now (flat .exit)) (now (out .entry)) (now (out .exit)) r ⌝ }
+    ensures { λ r. ⌜ CompletesOn (old words) (old text) ask root (old query) budget
+        (old flat) (new flat) (old out) (new out) r ⌝ }
 {
     let a = refusals::admit(refusals::completion_flags(query));
     match a {

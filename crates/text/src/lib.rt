@@ -1,6 +1,7 @@
 // Texts as bytes: comparison, prefix, byte rules, the segments of a query.
 ghost use mathlib.Core.Path.{_≡_};
 ghost use Prim.Native.Nat.{min};
+ghost use Rattle.source.specs.Lent.{old};
 ghost use Rattle.source.specs.Text.{string-compare, starts-with, name-byte};
 ghost use Rattle.source.specs.Rules.{all};
 ghost use Rattle.text.specs.Text.{ordering, byte-rule, before-dot};
@@ -39,7 +40,7 @@ fn shorter(a: usize, b: usize) -> usize
 
 // The source's string_compare: bytewise, a proper beginning first.
 pub fn string_compare(a: &[u8], b: &[u8]) -> Order
-    ensures { λ r. ⌜ ordering r ≡ string-compare (now (a .entry)) (now (b .entry)) ⌝ }
+    ensures { λ r. ⌜ ordering r ≡ string-compare (old a) (old b) ⌝ }
 {
     let n = shorter(a.len(), b.len());
     let mut i = 0;
@@ -66,7 +67,7 @@ pub fn string_compare(a: &[u8], b: &[u8]) -> Order
 
 // The source's starts_with: whether `s` begins with `p`.
 pub fn starts_with(s: &[u8], p: &[u8]) -> bool
-    ensures { λ r. ⌜ r ≡ starts-with (now (s .entry)) (now (p .entry)) ⌝ }
+    ensures { λ r. ⌜ r ≡ starts-with (old s) (old p) ⌝ }
 {
     if s.len() < p.len() {
         return false;
@@ -108,7 +109,7 @@ pub fn allowed(rule: Rule, b: u8) -> bool
 
 // Whether a rule lets every byte of `s` through.
 pub fn all_allowed(rule: Rule, s: &[u8]) -> bool
-    ensures { λ r. ⌜ r ≡ all (byte-rule rule) (now (s .entry)) ⌝ }
+    ensures { λ r. ⌜ r ≡ all (byte-rule rule) (old s) ⌝ }
 {
     let mut ok = true;
     let mut i = 0;
@@ -121,7 +122,7 @@ pub fn all_allowed(rule: Rule, s: &[u8]) -> bool
 
 // How many bytes stand before the first dot; all of them where there is none.
 pub fn segment_length(s: &[u8]) -> usize
-    ensures { λ r. ⌜ r ≡ before-dot (now (s .entry)) ⌝ }
+    ensures { λ r. ⌜ r ≡ before-dot (old s) ⌝ }
 {
     let mut i = 0;
     while i < s.len() {
@@ -143,7 +144,7 @@ pub struct Survey {
 
 // One pass over a query. A last segment without its dot counts too.
 pub fn query_survey(s: &[u8]) -> Survey
-    ensures { λ r. ⌜ Surveyed (now (s .entry)) r ⌝ }
+    ensures { λ r. ⌜ Surveyed (old s) r ⌝ }
 {
     let mut ok = true;
     let mut empty = false;

@@ -22,14 +22,14 @@ pub record AnyTree (ws txt : List ℕ) (x : ℕ) : Type 0 where
   pub tree : At ws txt which (tree level) x
 
 -- The link r is that of the branch that has the key, 0 for none.
-pub record FoundIn (ws txt : List ℕ) (w : Which) (v : Level) (root : ℕ) (key : Str) (r : ℕ) : Type 0 where
+pub record FindsBranchIn (ws txt : List ℕ) (w : Which) (v : Level) (root : ℕ) (key : Str) (r : ℕ) : Type 0 where
   pub link : LinkOk ws (root + 1) r (kind w (tree v))
   pub has-key : 0 < r → key-at ws txt r ≡ key
   pub says : btree-find-exact (what w ws txt root (tree v)) key ≡ pick (eqb r 0) none (some (held w ws txt v r))
 
 -- btree_find_exact, for any table and level that the tree is of.
-abbrev pub Found : (ws txt : List ℕ) (root : ℕ) (key : Str) (r : ℕ) → Type 0
-Found ws txt root key r = (w : Which) (v : Level) → At ws txt w (tree v) root → FoundIn ws txt w v root key r
+abbrev pub FindsBranch : (ws txt : List ℕ) (root : ℕ) (key : Str) (r : ℕ) → Type 0
+FindsBranch ws txt root key r = (w : Which) (v : Level) → At ws txt w (tree v) root → FindsBranchIn ws txt w v root key r
 
 -- How many branches btree_insert_replace builds, for any table and level that the tree is of.
 pub record Builds (ws txt : List ℕ) (root : ℕ) (key : Str) (r : ℕ) : Type 0 where
@@ -38,5 +38,5 @@ pub record Builds (ws txt : List ℕ) (root : ℕ) (key : Str) (r : ℕ) : Type 
 
 -- Both.
 pub record Placed (ws txt : List ℕ) (root : ℕ) (key : Str) (link count : ℕ) : Type 0 where
-  pub found : Found ws txt root key link
+  pub found : FindsBranch ws txt root key link
   pub builds : Builds ws txt root key count

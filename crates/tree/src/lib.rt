@@ -3,16 +3,17 @@
 use text::Order;
 ghost use mathlib.Core.Path.{_≡_};
 ghost use Prim.Native.Nat.{_<_};
+ghost use Rattle.source.specs.Lent.{old};
 ghost use Rattle.source.specs.Text.{string-compare, starts-with};
 ghost use Rattle.memory.specs.Layout.{key-at};
 ghost use Rattle.text.specs.Text.{ordering};
-ghost use Rattle.tree.specs.Tree.{AnyTree, Found, Placed};
+ghost use Rattle.tree.specs.Tree.{AnyTree, FindsBranch, Placed};
 ghost use Rattle.tree.specs.Links.{past};
 
 // How `key` compares with the key of a branch.
 pub fn key_order(words: &[u32], text: &[u8], link: u32, key: &[u8]) -> Order
     requires { ⌜ (0 < link) × AnyTree (now words) (now text) link ⌝ }
-    ensures { λ r. ⌜ ordering r ≡ string-compare (now (key .entry)) (key-at (now (words .entry)) (now (text .entry)) link) ⌝ }
+    ensures { λ r. ⌜ ordering r ≡ string-compare (old key) (key-at (old words) (old text) link) ⌝ }
 {
     text::string_compare(key, memory::key_of(words, text, link))
 }
@@ -20,7 +21,7 @@ pub fn key_order(words: &[u32], text: &[u8], link: u32, key: &[u8]) -> Order
 // Whether the key of a branch begins with `prefix`.
 pub fn key_begins(words: &[u32], text: &[u8], link: u32, prefix: &[u8]) -> bool
     requires { ⌜ (0 < link) × AnyTree (now words) (now text) link ⌝ }
-    ensures { λ r. ⌜ r ≡ starts-with (key-at (now (words .entry)) (now (text .entry)) link) (now (prefix .entry)) ⌝ }
+    ensures { λ r. ⌜ r ≡ starts-with (key-at (old words) (old text) link) (old prefix) ⌝ }
 {
     text::starts_with(memory::key_of(words, text, link), prefix)
 }
@@ -34,7 +35,7 @@ pub struct Place {
 // The place of a key.
 pub fn place_of(words: &[u32], text: &[u8], root: u32, key: &[u8]) -> Place
     requires { ⌜ AnyTree (now words) (now text) root ⌝ }
-    ensures { λ r. ⌜ Placed (now (words .entry)) (now (text .entry)) root (now (key .entry)) (r .link) (r .count) ⌝ }
+    ensures { λ r. ⌜ Placed (old words) (old text) root (old key) (r .link) (r .count) ⌝ }
 {
     let mut link = root;
     let mut count = 1;
@@ -65,7 +66,7 @@ pub fn place_of(words: &[u32], text: &[u8], root: u32, key: &[u8]) -> Place
 // The branch that has the key, 0 for none.
 pub fn btree_find_exact(words: &[u32], text: &[u8], root: u32, key: &[u8]) -> u32
     requires { ⌜ AnyTree (now words) (now text) root ⌝ }
-    ensures { λ r. ⌜ Found (now (words .entry)) (now (text .entry)) root (now (key .entry)) r ⌝ }
+    ensures { λ r. ⌜ FindsBranch (old words) (old text) root (old key) r ⌝ }
 {
     place_of(words, text, root, key).link
 }
@@ -73,7 +74,7 @@ pub fn btree_find_exact(words: &[u32], text: &[u8], root: u32, key: &[u8]) -> u3
 // Whether the key of a branch is after `low`, or at least as great where `strict` is false.
 pub fn key_past(words: &[u32], text: &[u8], link: u32, low: &[u8], strict: bool) -> bool
     requires { ⌜ (0 < link) × AnyTree (now words) (now text) link ⌝ }
-    ensures { λ r. ⌜ r ≡ past strict (now (low .entry)) (key-at (now (words .entry)) (now (text .entry)) link) ⌝ }
+    ensures { λ r. ⌜ r ≡ past strict (old low) (key-at (old words) (old text) link) ⌝ }
 {
     match key_order(words, text, link, low) {
         Order::Less => true,

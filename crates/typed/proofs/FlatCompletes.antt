@@ -26,7 +26,7 @@ use Rattle.table.specs.declared.Completed.{Completed}
 use Rattle.table.specs.declared.Completed.the-variants.{Listed, Refused}
 use Rattle.table.specs.declared.Request.{Request}
 use Rattle.table.specs.declared.Listing.{Listing}
-use Rattle.table.proofs.Decided.{decided}
+use Rattle.table.proofs.Says.{decided}
 use Rattle.typed.specs.Lines.{lines-in}
 use Rattle.typed.specs.Completions.{output, FlatCompletes}
 

@@ -12,6 +12,7 @@ use table::Table;
 ghost use mathlib.Core.Path.{_≡_};
 ghost use Prim.Native.Nat.{_+_, _*_, _/_, _≤_, _<_, min};
 ghost use lib.ListN.{length, set};
+ghost use Rattle.source.specs.Lent.{old, new};
 ghost use Rattle.output.specs.Output.{line-bytes};
 ghost use Rattle.typed.specs.Lines.{held-length, line-of-row, line-at, stored-lines, lines-in};
 ghost use Rattle.typed.specs.Completions.{FlatCompletes, CompletesLines};
@@ -56,7 +57,7 @@ fn line_of(r: Row) -> Line
 // Line `k` of the bytes.
 pub fn line_at(flat: &[u8], k: usize, ask: Ask) -> Line
     requires { ⌜ k * line-bytes + line-bytes ≤ length (now flat) ⌝ }
-    ensures { λ r. ⌜ r ≡ line-at ask (now (flat .entry)) k ⌝ }
+    ensures { λ r. ⌜ r ≡ line-at ask (old flat) k ⌝ }
 {
     line_of(rows::row_at(flat, k, ask))
 }
@@ -64,7 +65,7 @@ pub fn line_at(flat: &[u8], k: usize, ask: Ask) -> Line
 // Stores one line.
 pub fn store_line(lines: &mut [Line], at: usize, line: Line)
     requires { ⌜ at < length (now lines) ⌝ }
-    ensures { λ _. ⌜ now (lines .exit) ≡ set (now (lines .entry)) at line ⌝ }
+    ensures { λ _. ⌜ new lines ≡ set (old lines) at line ⌝ }
 {
     lines[at] = line;
 }
@@ -72,7 +73,7 @@ pub fn store_line(lines: &mut [Line], at: usize, line: Line)
 // Stores the first `n` lines of the bytes.
 pub fn store_lines(lines: &mut [Line], flat: &[u8], n: usize, ask: Ask)
     requires { ⌜ (n ≤ length (now lines)) × (n * line-bytes ≤ length (now flat)) ⌝ }
-    ensures { λ _. ⌜ now (lines .exit) ≡ stored-lines (line-at ask (now (flat .entry))) (now (lines .entry)) n ⌝ }
+    ensures { λ _. ⌜ new lines ≡ stored-lines (line-at ask (old flat)) (old lines) n ⌝ }
 {
     let mut i = 0;
     while i < n {
@@ -114,8 +115,8 @@ fn complete_flat(
     flat: &mut [u8],
     out: &mut [u8],
 ) -> Listing
-    ensures { λ r. ⌜ FlatCompletes (now (words .entry)) (now (text .entry)) table request (now (query .entry)) room
-        (now (flat .entry)) (now (flat .exit)) (now (out .entry)) (now (out .exit)) r ⌝ }
+    ensures { λ r. ⌜ FlatCompletes (old words) (old text) table request (old query) room
+        (old flat) (new flat) (old out) (new out) r ⌝ }
 {
     if table.is_sound(words, text) {
         let ask = request.ask;
@@ -140,8 +141,8 @@ pub fn complete(
     flat: &mut [u8],
     out: &mut [u8],
 ) -> Listing
-    ensures { λ r. ⌜ CompletesLines (now (words .entry)) (now (text .entry)) table request (now (query .entry)) (now (lines .entry)) (now (lines .exit))
-        (now (flat .entry)) (now (flat .exit)) (now (out .entry)) (now (out .exit)) r ⌝ }
+    ensures { λ r. ⌜ CompletesLines (old words) (old text) table request (old query) (old lines) (new lines)
+        (old flat) (new flat) (old out) (new out) r ⌝ }
 {
     let r = complete_flat(table, words, text, request, query, lines.len(), flat, out);
     let n = lines_in(r);

@@ -3,6 +3,7 @@ use memory::Header;
 ghost use mathlib.Core.Path.{_≡_};
 ghost use Prim.Native.Nat.{_+_, _*_, _≤_, _<_};
 ghost use lib.ListN.{length};
+ghost use Rattle.source.specs.Lent.{old, new};
 ghost use Rattle.source.specs.Limits.{record-words};
 ghost use Rattle.wire.specs.Bytes.{word-at, Put, Stored};
 ghost use Rattle.wire.specs.Memory.{state-bytes, words-lent-most, header-in, Spells, records-lent, Loaded};
@@ -35,7 +36,7 @@ fn low(x: u32) -> u8
 // Word `k` of the bytes.
 pub fn word_at(bytes: &[u8], k: usize) -> u32
     requires { ⌜ k * 4 + 4 ≤ length (now bytes) ⌝ }
-    ensures { λ r. ⌜ r ≡ word-at (now (bytes .entry)) k ⌝ }
+    ensures { λ r. ⌜ r ≡ word-at (old bytes) k ⌝ }
 {
     let at = k * 4;
     let a = wide(bytes[at]);
@@ -48,7 +49,7 @@ pub fn word_at(bytes: &[u8], k: usize) -> u32
 // Writes word `k`.
 pub fn put_word(bytes: &mut [u8], k: usize, word: u32)
     requires { ⌜ k * 4 + 4 ≤ length (now bytes) ⌝ }
-    ensures { λ _. ⌜ Put k word (now (bytes .entry)) (now (bytes .exit)) ⌝ }
+    ensures { λ _. ⌜ Put k word (old bytes) (new bytes) ⌝ }
 {
     let at = k * 4;
     bytes[at] = low(word % 256);
@@ -71,7 +72,7 @@ fn words_lent(size: usize) -> usize
 // Copies the lent words in, and says how many they are.
 pub fn load(bytes: &[u8], words: &mut [u32]) -> usize
     requires { ⌜ words-lent-most ≤ length (now words) ⌝ }
-    ensures { λ r. ⌜ Loaded (now (bytes .entry)) (now (words .exit)) r ⌝ }
+    ensures { λ r. ⌜ Loaded (old bytes) (new words) r ⌝ }
 {
     let n = words_lent(bytes.len());
     let mut i = 0;
@@ -85,7 +86,7 @@ pub fn load(bytes: &[u8], words: &mut [u32]) -> usize
 // Copies the words from `from` up to `to` out.
 pub fn store(bytes: &mut [u8], words: &[u32], from: usize, to: usize)
     requires { ⌜ (to * 4 ≤ length (now bytes)) × (to ≤ length (now words)) ⌝ }
-    ensures { λ _. ⌜ Stored (now (words .entry)) from to (now (bytes .entry)) (now (bytes .exit)) ⌝ }
+    ensures { λ _. ⌜ Stored (old words) from to (old bytes) (new bytes) ⌝ }
 {
     let mut i = from;
     while i < to {
@@ -97,7 +98,7 @@ pub fn store(bytes: &mut [u8], words: &[u32], from: usize, to: usize)
 // The header that a state spells.
 pub fn header_of(state: &[u8]) -> Header
     requires { ⌜ length (now state) ≡ state-bytes ⌝ }
-    ensures { λ r. ⌜ r ≡ header-in (now (state .entry)) ⌝ }
+    ensures { λ r. ⌜ r ≡ header-in (old state) ⌝ }
 {
     Header {
         names: word_at(state, 0),
@@ -110,7 +111,7 @@ pub fn header_of(state: &[u8]) -> Header
 // Writes the state of a header.
 pub fn put_header(state: &mut [u8], h: Header)
     requires { ⌜ length (now state) ≡ state-bytes ⌝ }
-    ensures { λ _. ⌜ Spells (now (state .exit)) h ⌝ }
+    ensures { λ _. ⌜ Spells (new state) h ⌝ }
 {
     put_word(state, 0, h.names);
     put_word(state, 1, h.modules);

@@ -7,7 +7,7 @@ use native.Mathlib.Omega.{arith}
 use Rattle.source.specs.Types.{ns}
 use Rattle.change.specs.Changes.{between}
 use Rattle.lookup.proofs.Links.{holder-fits}
-use Rattle.leaves.proofs.Building.{placed-part}
+use Rattle.leaves.proofs.Builds.{placed-part}
 use Rattle.change.proofs.Cycle.{spaces-key, spaces-list, spaces-mutation, spaces-any, spaces-built, leaf-mutation, leaf-mutated, segment-ready, mutation-spaces, mutation-node, mutation-built}
 use borrow.Fn.Kinds.{In}
 use borrow.Fn.PlainCycle.{Measures, is, falls, and}

@@ -1,5 +1,5 @@
 -- segment_in meets its contract.
-use Rattle.change.proofs.Between.{cut-part}
+use Rattle.change.proofs.QueryPlace.{cut-part}
 use native.Mathlib.Omega.{arith}
 use borrow.Author.Needs.{needs}
 use Rattle.change.proofs.segment_in.Statement.{statement}

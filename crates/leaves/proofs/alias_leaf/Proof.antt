@@ -1,7 +1,7 @@
 -- alias_leaf meets its contract.
 use Rattle.source.specs.Types.{ns}
 use Rattle.memory.specs.Layout.{names}
-use Rattle.leaves.proofs.Building.{placed-part}
+use Rattle.leaves.proofs.Builds.{placed-part}
 use Rattle.leaves.proofs.Leaves.{leaf-fits, inc-fits, alias-list, alias-ready, alias-fresh-ready, alias-insertion, alias-trie-ready, alias-built}
 use native.Mathlib.Omega.{arith}
 use borrow.Author.Needs.{needs}

@@ -1,7 +1,7 @@
 -- insert_leaf meets its contract.
 use Rattle.source.specs.Types.{bind}
 use Rattle.memory.specs.Layout.{names}
-use Rattle.leaves.proofs.Building.{placed-part}
+use Rattle.leaves.proofs.Builds.{placed-part}
 use Rattle.leaves.proofs.Leaves.{leaf-fits, name-list, name-insertion, name-trie-ready, name-built}
 use native.Mathlib.Omega.{arith}
 use borrow.Author.Needs.{needs}

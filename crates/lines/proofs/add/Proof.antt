@@ -1,5 +1,5 @@
 -- `lines::add` meets its contract.
-use Rattle.lines.proofs.Counting.{capped-more, capped-past}
+use Rattle.lines.proofs.Capped.{capped-more, capped-past}
 use Rattle.lines.proofs.add.Statement.{statement}
 use Rattle.lines.proofs.add.Tie as tie
 use borrow.Author.Needs.{needs}

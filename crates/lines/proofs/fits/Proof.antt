@@ -1,5 +1,5 @@
 -- `lines::fits` meets its contract.
-use Rattle.lines.proofs.Counting.{room-says}
+use Rattle.lines.proofs.Capped.{room-says}
 use Rattle.lines.proofs.fits.Statement.{statement}
 use Rattle.lines.proofs.fits.Tie as tie
 use borrow.Author.Needs.{needs}

@@ -1,5 +1,5 @@
 -- `lines::name_line` meets its contract.
-use Rattle.lines.proofs.Notes.{note-short}
+use Rattle.lines.proofs.NoteAt.{note-short}
 use mathlib.Core.Path.{ap}
 use lib.ListN.{length}
 use native.Mathlib.Omega.{arith}

@@ -2,7 +2,7 @@
 use mathlib.Core.Path.{_∙_, sym}
 use native.Mathlib.Omega.{arith}
 use borrow.Author.Needs.{needs}
-use Rattle.lines.proofs.Notes.{note-none, note-some}
+use Rattle.lines.proofs.NoteAt.{note-none, note-some}
 use Rattle.lines.proofs.note_of.Statement.{statement}
 use Rattle.lines.proofs.note_of.Tie as tie
 

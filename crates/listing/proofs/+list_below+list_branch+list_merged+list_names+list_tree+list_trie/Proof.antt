@@ -12,7 +12,7 @@ use Rattle.memory.proofs.At.{at-fits}
 use Rattle.lines.proofs.Run.{same-run}
 use Rattle.steps.proofs.Cuts.{front-is}
 use Rattle.listing.proofs.Branch.{leaf-runs, line-ready, branch-named, space-at, below-ready, child-earlier, namespace-ready, namespace-sized, namespace-runs}
-use Rattle.listing.proofs.Loops.{onward, along-earlier, along-tree, along-begins, Stepping, stepping-first, stepping-branch, stepping-next, stepping-less, stepping-spent, stepping-done, list-any, one-earlier, one-ready, one-runs, Merging, merging-first, merging-any, merging-done, merging-earlier, merging-less, merging-branch, merging-next, merging-spent}
+use Rattle.listing.proofs.Listed.{onward, along-earlier, along-tree, along-begins, Stepping, stepping-first, stepping-branch, stepping-next, stepping-less, stepping-spent, stepping-done, list-any, one-earlier, one-ready, one-runs, Merging, merging-first, merging-any, merging-done, merging-earlier, merging-less, merging-branch, merging-next, merging-spent}
 use Rattle.listing.proofs.Trie.{trie-spent, trie-named, cut-ready, bindings-earlier, namespaces-earlier, bindings-asked, namespaces-asked, trie-all, trie-few}
 use Prim.Native.Nat.{ℕ, _<_}
 use borrow.Fn.Kinds.{In}

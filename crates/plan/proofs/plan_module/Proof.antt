@@ -4,7 +4,7 @@ use lib.ListN.{length}
 use Rattle.source.specs.Text.{segments}
 use Rattle.source.specs.Plans.{module-step-records, module-step-weight}
 use Rattle.memory.specs.Layout.{modules, trieˢ, what}
-use Rattle.plan.specs.Plans.{Steps}
+use Rattle.plan.specs.Plans.{StepsDown}
 use Rattle.lookup.proofs.Found.{Stands, stands-first, stands-last}
 use Rattle.plan.proofs.Plans.{steps-first, path-few, module-path-next, module-planned}
 use native.Mathlib.Omega.{arith}
@@ -16,7 +16,7 @@ pub plan-module-spec : {M : Type 1} → statement M
 plan-module-spec =
     tie.close
     (tie.spec
-    (λ words text root query loaded link₀ at₀ segs₀ records₀ crowded₀ link at segs records crowded. Stands words text modules query root link at (Steps (module-step-records loaded) (module-step-weight loaded) (what modules words text root trieˢ) (segments query) segs records crowded))
+    (λ words text root query loaded link₀ at₀ segs₀ records₀ crowded₀ link at segs records crowded. Stands words text modules query root link at (StepsDown (module-step-records loaded) (module-step-weight loaded) (what modules words text root trieˢ) (segments query) segs records crowded))
     (λ words text root query loaded link₀ at₀ segs₀ records₀ crowded₀ link at segs records crowded. length query - at)
     {- loop-holds -}
     (λ c. stands-first _ (c .before .before .before .pre .1 .0) (c .before .before .before .pre .0) steps-first)

@@ -4,7 +4,7 @@ use lib.ListN.{length}
 use Rattle.source.specs.Text.{segments}
 use Rattle.source.specs.Plans.{step-records, step-weight}
 use Rattle.memory.specs.Layout.{names, trieˢ, what}
-use Rattle.plan.specs.Plans.{Steps}
+use Rattle.plan.specs.Plans.{StepsDown}
 use Rattle.lookup.proofs.Found.{Stands, stands-first}
 use Rattle.plan.proofs.Plans.{steps-first, path-next, path-few, path-last}
 use native.Mathlib.Omega.{arith}
@@ -16,7 +16,7 @@ pub plan-path-spec : {M : Type 1} → statement M
 plan-path-spec =
     tie.close
     (tie.spec
-    (λ words text root host link₀ at₀ segs₀ records₀ crowded₀ link at segs records crowded. Stands words text names host root link at (Steps step-records step-weight (what names words text root trieˢ) (segments host) segs records crowded))
+    (λ words text root host link₀ at₀ segs₀ records₀ crowded₀ link at segs records crowded. Stands words text names host root link at (StepsDown step-records step-weight (what names words text root trieˢ) (segments host) segs records crowded))
     (λ words text root host link₀ at₀ segs₀ records₀ crowded₀ link at segs records crowded. length host - at)
     {- loop-holds -}
     (λ c. stands-first _ (c .before .before .before .pre .1 .0) (c .before .before .before .pre .0) steps-first)

@@ -1,5 +1,5 @@
 -- put_texts meets its contract.
-use Rattle.register.proofs.Laying.{laid}
+use Rattle.register.proofs.TextsLaid.{laid}
 use borrow.Author.Needs.{needs}
 use Rattle.register.proofs.put_texts.Statement.{statement}
 use Rattle.register.proofs.put_texts.Tie as tie

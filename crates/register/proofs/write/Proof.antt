@@ -1,6 +1,6 @@
 -- write meets its contract.
 use native.Mathlib.Omega.{arith}
-use Rattle.register.proofs.Writing.{text-room, write-mutation, write-accepts}
+use Rattle.register.proofs.Accepts.{text-room, write-mutation, write-accepts}
 use borrow.Author.Needs.{needs}
 use Rattle.register.proofs.write.Statement.{statement}
 use Rattle.register.proofs.write.Tie as tie

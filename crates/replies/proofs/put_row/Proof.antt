@@ -5,7 +5,7 @@ use Rattle.numerals.specs.Bytes.{bytes}
 use Rattle.text.specs.Laid.{Laid}
 use Rattle.text.proofs.Laid.{laid-more}
 use Rattle.replies.specs.Replies.{length-in}
-use Rattle.replies.proofs.Writing.{line-joined, row-size}
+use Rattle.replies.proofs.LineReply.{line-joined, row-size}
 use borrow.Author.Needs.{needs}
 use Rattle.replies.proofs.put_row.Statement.{statement}
 use Rattle.replies.proofs.put_row.Tie as tie

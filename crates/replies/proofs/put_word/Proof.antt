@@ -1,6 +1,6 @@
 -- `put_word` meets its contract.
 use native.Mathlib.Omega.{arith}
-use Rattle.replies.proofs.Writing.{word-minus, word-plus}
+use Rattle.replies.proofs.LineReply.{word-minus, word-plus}
 use borrow.Author.Needs.{needs}
 use Rattle.replies.proofs.put_word.Statement.{statement}
 use Rattle.replies.proofs.put_word.Tie as tie

@@ -1,7 +1,7 @@
 -- Table::complete meets its contract.
 use borrow.Author.Needs.{needs}
 use Rattle.memory.proofs.Says.{holds, fails}
-use Rattle.table.proofs.Completing.{completes-unsound}
+use Rattle.table.proofs.Completes.{completes-unsound}
 use Rattle.table.proofs.Table.complete.Statement.{statement}
 use Rattle.table.proofs.Table.complete.Tie as tie
 

@@ -1,6 +1,6 @@
 -- Table::complete_sound meets its contract.
 use borrow.Author.Needs.{needs}
-use Rattle.table.proofs.Completing.{root-at, completes-table}
+use Rattle.table.proofs.Completes.{root-at, completes-table}
 use Rattle.table.proofs.Table.complete_sound.Statement.{statement}
 use Rattle.table.proofs.Table.complete_sound.Tie as tie
 

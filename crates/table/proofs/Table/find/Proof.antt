@@ -1,7 +1,7 @@
 -- Table::find meets its contract.
 use borrow.Author.Needs.{needs}
 use Rattle.memory.proofs.Says.{holds, fails}
-use Rattle.table.proofs.Lookups.{finds-unsound}
+use Rattle.table.proofs.Finds.{finds-unsound}
 use Rattle.table.proofs.Table.find.Statement.{statement}
 use Rattle.table.proofs.Table.find.Tie as tie
 

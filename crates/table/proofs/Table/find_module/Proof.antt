@@ -1,7 +1,7 @@
 -- Table::find_module meets its contract.
 use borrow.Author.Needs.{needs}
 use Rattle.memory.proofs.Says.{holds, fails}
-use Rattle.table.proofs.Lookups.{finds-module-unsound}
+use Rattle.table.proofs.Finds.{finds-module-unsound}
 use Rattle.table.proofs.Table.find_module.Statement.{statement}
 use Rattle.table.proofs.Table.find_module.Tie as tie
 

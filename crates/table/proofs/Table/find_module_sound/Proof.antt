@@ -1,6 +1,6 @@
 -- Table::find_module_sound meets its contract.
 use Rattle.lookup.proofs.Roots.{modules-trie}
-use Rattle.table.proofs.Lookups.{finds-module-sound}
+use Rattle.table.proofs.Finds.{finds-module-sound}
 use Rattle.table.proofs.Table.find_module_sound.Statement.{statement}
 use Rattle.table.proofs.Table.find_module_sound.Tie as tie
 

@@ -1,6 +1,6 @@
 -- Table::find_sound meets its contract.
 use Rattle.lookup.proofs.Roots.{names-trie}
-use Rattle.table.proofs.Lookups.{finds-sound}
+use Rattle.table.proofs.Finds.{finds-sound}
 use Rattle.table.proofs.Table.find_sound.Statement.{statement}
 use Rattle.table.proofs.Table.find_sound.Tie as tie
 

@@ -1,8 +1,8 @@
 -- Table::register meets its contract.
 use mathlib.Core.Path.{_∙_}
 use Rattle.memory.proofs.Says.{holds}
-use Rattle.table.proofs.Decided.{decided}
-use Rattle.table.proofs.Registering.{answers-unsound}
+use Rattle.table.proofs.Says.{decided}
+use Rattle.table.proofs.Answers.{answers-unsound}
 use borrow.Author.Needs.{needs}
 use Rattle.table.proofs.Table.register.Statement.{statement}
 use Rattle.table.proofs.Table.register.Tie as tie

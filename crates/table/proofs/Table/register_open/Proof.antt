@@ -1,5 +1,5 @@
 -- Table::register_open meets its contract.
-use Rattle.table.proofs.Registering.{answers-opened}
+use Rattle.table.proofs.Answers.{answers-opened}
 use borrow.Author.Needs.{needs}
 use Rattle.table.proofs.Table.register_open.Statement.{statement}
 use Rattle.table.proofs.Table.register_open.Tie as tie

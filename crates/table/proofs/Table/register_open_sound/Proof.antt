@@ -1,5 +1,5 @@
 -- Table::register_open_sound meets its contract.
-use Rattle.table.proofs.Registering.{answers-opened}
+use Rattle.table.proofs.Answers.{answers-opened}
 use borrow.Author.Needs.{needs}
 use Rattle.table.proofs.Table.register_open_sound.Statement.{statement}
 use Rattle.table.proofs.Table.register_open_sound.Tie as tie

@@ -1,6 +1,6 @@
 -- Table::register_sound meets its contract.
 use Rattle.kinds.proofs.Shapes.{cut-used, cut-call}
-use Rattle.table.proofs.Registering.{answers-refused, answers-accepted}
+use Rattle.table.proofs.Answers.{answers-refused, answers-accepted}
 use mathlib.Core.Path.{sym}
 use lib.Seq.{length-take-le}
 use borrow.Author.Needs.{needs}

@@ -1,7 +1,7 @@
 -- complete_on meets its contract.
 use borrow.Author.Needs.{needs}
 use Rattle.refusals.proofs.Rows.{one-flagged, passes, stops}
-use Rattle.table.proofs.Completing.{query-whole, completes-refused, completes-passed}
+use Rattle.table.proofs.Completes.{query-whole, completes-refused, completes-passed}
 use Rattle.table.proofs.roots.complete_on.Statement.{statement}
 use Rattle.table.proofs.roots.complete_on.Tie as tie
 

@@ -6,7 +6,7 @@ use Rattle.source.specs.Calls.{found}
 use Rattle.memory.specs.Layout.{record-at, modules}
 use Rattle.memory.specs.Read.{symbol-of}
 use Rattle.memory.proofs.Seen.{symbol-item}
-use Rattle.table.proofs.Lookups.{symbol-inside}
+use Rattle.table.proofs.Finds.{symbol-inside}
 use Rattle.table.proofs.roots.find_module_on.Statement.{statement}
 use Rattle.table.proofs.roots.find_module_on.Tie as tie
 

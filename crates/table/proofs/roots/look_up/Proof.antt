@@ -1,7 +1,7 @@
 -- look_up meets its contract.
 use borrow.Author.Needs.{needs}
 use Rattle.refusals.proofs.Rows.{one-flagged, passes, stops}
-use Rattle.table.proofs.Lookups.{query-whole, look-up-refused, look-up-none, look-up-found, branch-fits}
+use Rattle.table.proofs.Finds.{query-whole, look-up-refused, look-up-none, look-up-found, branch-fits}
 use Rattle.table.proofs.roots.look_up.Statement.{statement}
 use Rattle.table.proofs.roots.look_up.Tie as tie
 

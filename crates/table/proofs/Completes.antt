@@ -37,7 +37,7 @@ use Rattle.table.specs.declared.Completed.{Completed}
 use Rattle.table.specs.declared.Completed.the-variants.{Refused}
 use Rattle.lookup.proofs.Roots.{names-trie, modules-trie}
 use Rattle.memory.specs.Sound.{At}
-use Rattle.table.proofs.Decided.{decided}
+use Rattle.table.proofs.Says.{decided}
 
 -- ---- The query
 

@@ -41,10 +41,10 @@ use Rattle.output.specs.Path.{Path, BranchAt}
 use Rattle.lines.specs.OnPath.{LabelAt}
 use Rattle.lines.specs.SameRun.{SameRun}
 use Rattle.asks.specs.declared.Ask.{Ask}
-use Rattle.lines.specs.declared.Found.{Found}
+use Rattle.lines.specs.declared.Labelled.{Labelled}
 use Rattle.lines.proofs.Run.{same-run, same-then}
 use Rattle.listing.specs.Runs.{HasRoom, level-of, tree-entries, BranchReady, BranchRuns, TreeReady, EntriesRun, ListReady, ListRuns, BranchAsked, BranchListed, TreeAsked, TreeListed, ListAsked, ListListed}
-use Rattle.listing.specs.declared.Place.{Place}
+use Rattle.listing.specs.declared.Search.{Search}
 use Rattle.listing.proofs.Runs.{branch-ready-at, branch-runs-at}
 use Rattle.listing.proofs.EntriesRun.{Left, left-all, left-none, left-spent, left-next}
 use Rattle.memory.proofs.At.{no-link, at-of, at-in}
@@ -166,7 +166,7 @@ module _ {ws txt : List ℕ} {ask : Ask} {rest : Str} {p : Path} {lim : Limits} 
     along-done z = left-none ws txt ask rest p lim matched leaf (rw (eq-eqb at 0 z) at (g .left))
 
 -- The run, with notes of the branches after the one at hand.
-module _ (ws txt : List ℕ) (query : Str) (place : Place) (f : Found) (run run′ flat flat′ out out′ notes : List ℕ) (s : Next) where
+module _ (ws txt : List ℕ) (query : Str) (place : Search) (f : Labelled) (run run′ flat flat′ out out′ notes : List ℕ) (s : Next) where
   pub record Stepping : Type 0 where
     pub same : SameRun run run′
     pub along : Along ws txt (place .ask) (drop (place .next) query) (path-in run) (limits-in run) (matched-in run) (place .leaf)
@@ -178,7 +178,7 @@ noted-after : (ws txt : List ℕ) (prefix : Str) (root : ℕ) {notes : List ℕ}
 unfolding onward
 noted-after ws txt prefix root {s = s} w e n = w .noted (s .link) (later ws txt prefix root (s .link)) (sym e ∙ rw (ne-eqb (s .link) 0 n))
 
-module _ {ws txt : List ℕ} {query : Str} {place : Place} {f : Found} {run : List ℕ} where
+module _ {ws txt : List ℕ} {query : Str} {place : Search} {f : Labelled} {run : List ℕ} where
   pub stepping-first : {flat out notes : List ℕ} {s : Next} → TreeAsked ws txt query place run f → Matched ws txt (take (place .len) query) notes (matches ws txt (f .link) (take (place .len) query)) s
       → Stepping ws txt query place f run run flat flat out out notes s
   stepping-first {s = s} r w = record {
@@ -188,7 +188,7 @@ module _ {ws txt : List ℕ} {query : Str} {place : Place} {f : Found} {run : Li
   }
 
   module _ {run′ flat flat′ out out′ notes : List ℕ} {s : Next} (g : Stepping ws txt query place f run run′ flat flat′ out out′ notes s) where
-    abbrev pub at-hand : Found
+    abbrev pub at-hand : Labelled
     at-hand = record { link = s .link; label = f .label }
 
     pub stepping-done : s .link ≡ 0 → TreeListed ws txt query place run run′ flat flat′ out out′ f
@@ -269,9 +269,9 @@ entries-list {ws} {txt} {ask} {leaf = leaf} {x} says runs = record {
 
 -- ---- One tree
 
-module _ {ws txt : List ℕ} {query : Str} {place : Place} {run : List ℕ} {x root label : ℕ} (r : ListAsked ws txt query place run x)
+module _ {ws txt : List ℕ} {query : Str} {place : Search} {run : List ℕ} {x root label : ℕ} (r : ListAsked ws txt query place run x)
     (o : OneTree ws txt (asked (place .ask)) (level-of (place .leaf)) x (take (place .len) query) root label) where
-  abbrev pub alone : Found
+  abbrev pub alone : Labelled
   alone = record { link = root; label = label }
 
   pub one-earlier : root ≤ x
@@ -299,7 +299,7 @@ module _ {ws txt : List ℕ} {query : Str} {place : Place} {run : List ℕ} {x r
 
 -- ---- A merge
 
-module _ (ws txt : List ℕ) (query : Str) (place : Place) (x : ℕ) (run run′ flat flat′ out out′ : List ℕ) (m : Merge) where
+module _ (ws txt : List ℕ) (query : Str) (place : Search) (x : ℕ) (run run′ flat flat′ out out′ : List ℕ) (m : Merge) where
   -- The run over a list has come to what the state m gives.
   pub record Merging : Type 0 where
     pub same : SameRun run run′
@@ -312,7 +312,7 @@ module _ (ws txt : List ℕ) (query : Str) (place : Place) (x : ℕ) (run run′
     pub left : Left ws txt (place .ask) (drop (place .next) query) (path-in run) (limits-in run) (matched-in run) (place .leaf)
         (tally-in run) (tally-in run′) flat flat′ out out′ all entries
 
-module _ {ws txt : List ℕ} {query : Str} {place : Place} {x : ℕ} {run : List ℕ} where
+module _ {ws txt : List ℕ} {query : Str} {place : Search} {x : ℕ} {run : List ℕ} where
   pub merging-first : {flat out : List ℕ} {m : Merge} → ListAsked ws txt query place run x → Starts ws txt x (take (place .len) query) m → Merging ws txt query place x run run flat flat out out m
   merging-first r s =
       let k = s (asked (place .ask)) (level-of (place .leaf)) (r .can .list-at) in
@@ -331,7 +331,7 @@ module _ {ws txt : List ℕ} {query : Str} {place : Place} {x : ℕ} {run : List
     merging-any = rest-any (g .gives)
 
     module _ {s : Step} (f : Gives ws txt (take (place .len) query) m s) where
-      abbrev pub given : Found
+      abbrev pub given : Labelled
       given = record { link = s .branch; label = s .label }
 
       pub merging-done : s .branch ≡ 0 → ListListed ws txt query place run run′ flat flat′ out out′ x

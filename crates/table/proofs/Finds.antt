@@ -19,7 +19,7 @@ use Rattle.memory.proofs.RecordOk.{record-as}
 use Rattle.memory.proofs.Seen.{link-fits, link-later, link-ok}
 use Rattle.tree.specs.Tree.{held}
 use Rattle.lookup.specs.Tries as T
-use Rattle.lookup.specs.Tries.{AnyTrie, FoundIn}
+use Rattle.lookup.specs.Tries.{AnyTrie, FindsExactIn}
 use Rattle.refusals.specs.declared.Refusal.the-variants.{Unsound}
 use Rattle.table.specs.Header.{IsSound, names-in}
 use Rattle.table.specs.Answers.{name-found, Finds, FindsModule, FindsModuleOn}
@@ -30,7 +30,7 @@ use Rattle.table.specs.declared.Found.{Found}
 use Rattle.table.specs.declared.Found.the-variants.{Refused}
 use Rattle.table.specs.declared.FoundModule.{FoundModule}
 use Rattle.table.specs.declared.FoundModule.the-variants.{Refused as Not-found}
-use Rattle.table.proofs.Decided.{decided}
+use Rattle.table.proofs.Says.{decided}
 
 module _ (query : Str) where
   pub query-whole : lowest (argument-rows true (a-look-up query ∷ [])) ≡ none → ends-in-dot query ≡ true
@@ -44,7 +44,7 @@ module _ (query : Str) where
   unfolding look-up
   look-up-passed root e = rw (look-up, e)
 
-  module _ (e : lowest (argument-rows true (a-look-up query ∷ [])) ≡ none) {ws txt : List ℕ} {w : Which} {root r : ℕ} (h : FoundIn ws txt w root (segments query) r) where
+  module _ (e : lowest (argument-rows true (a-look-up query ∷ [])) ≡ none) {ws txt : List ℕ} {w : Which} {root r : ℕ} (h : FindsExactIn ws txt w root (segments query) r) where
     pub look-up-none : r ≡ 0 → not-found ≡ look-up true (what w ws txt root trieˢ) query
     unfolding found-of
     look-up-none z = rw (look-up-passed _ e, h .says, z)
@@ -54,7 +54,7 @@ module _ (query : Str) where
     look-up-found z = rw (look-up-passed _ e, h .says, ne-eqb r 0 z)
 
 -- The branch that is found is a record.
-pub branch-fits : {ws txt : List ℕ} {root r : ℕ} {q : Query} → AnyTrie ws txt root → T.Found ws txt root q r → (r ≡ 0 → ⊥) → (0 < r) × (r * 12 ≤ length ws)
+pub branch-fits : {ws txt : List ℕ} {root r : ℕ} {q : Query} → AnyTrie ws txt root → T.FindsExact ws txt root q r → (r ≡ 0 → ⊥) → (0 < r) × (r * 12 ≤ length ws)
 branch-fits a h z = (omega arith, link-fits (a .trie .sound) (link-later (omega (arith, a .trie .link .earlier)) (h (a .which) (a .trie) .link)))
 
 -- The texts of a found symbol lie in the lent text.

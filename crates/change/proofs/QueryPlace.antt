@@ -18,7 +18,7 @@ use Rattle.text.specs.Text.{Segment}
 use Rattle.text.proofs.Segments.{segment-at, before-inside}
 use Rattle.memory.specs.Layout.{span}
 use Rattle.memory.specs.Sound.{TextOk}
-use Rattle.change.specs.Changes.{between, passed, Place, Cut}
+use Rattle.change.specs.Changes.{between, passed, QueryPlace, SegmentCut}
 
 -- ---- Parts of the text
 pub span-join : (txt : List ℕ) (a b c : ℕ) → a ≤ b → b ≤ c → span txt a (c - a) ≡ span txt a (b - a) ++ span txt b (c - b)
@@ -52,7 +52,7 @@ part-drop txt a b h k =
 
 -- The next segment, where n is what segment_length answers.
 pub cut-in : (txt : List ℕ) (at end n : ℕ) → n ≡ before-dot (span txt at (end - at)) → ends-in-dot (span txt at (end - at)) ≡ true → at < end → end ≤ length txt
-    → Cut txt at n end
+    → SegmentCut txt at n end
 unfolding segments span ends-in-dot
 cut-in txt at end n e d h k =
     let i : at + n < end = omega (arith, before-inside (span txt at (end - at)) d (omega (arith, span-length txt at (end - at) (omega arith))), span-length txt at (end - at) (omega arith)) in
@@ -71,12 +71,12 @@ cut-in txt at end n e d h k =
     }
 
 -- The same, as the code cuts the text.
-pub cut-part : (txt : List ℕ) (at end n : ℕ) → n ≡ before-dot (take (end - at) (drop at txt)) → ends-in-dot (span txt at (end - at)) ≡ true → at < end → end ≤ length txt → Cut txt at n end
+pub cut-part : (txt : List ℕ) (at end n : ℕ) → n ≡ before-dot (take (end - at) (drop at txt)) → ends-in-dot (span txt at (end - at)) ≡ true → at < end → end ≤ length txt → SegmentCut txt at n end
 unfolding span
 cut-part = cut-in
 
 -- ---- One segment on
-module _ {txt : List ℕ} {used from at len end : ℕ} (p : Place txt used from at end) (c : Cut txt at len end) where
+module _ {txt : List ℕ} {used from at len end : ℕ} (p : QueryPlace txt used from at end) (c : SegmentCut txt at len end) where
   ends-append : (s t : Str) → ends-in-dot s ≡ true → ends-in-dot t ≡ true → ends-in-dot (s ++ t) ≡ true
   unfolding ends-in-dot
   ends-append [] t d e = e
@@ -91,7 +91,7 @@ module _ {txt : List ℕ} {used from at len end : ℕ} (p : Place txt used from 
   between-next : between txt from (at + len + 1) ≡ between txt from at ++ (span txt at len ∷ [])
   between-next = rw joins (segments-append _ _ (p .passes) ∙ rw (c .alone))
 
-  pub place-next : Place txt used from (at + len + 1) end
+  pub place-next : QueryPlace txt used from (at + len + 1) end
   place-next = record {
     early = omega (arith, p .early);
     inside = omega (arith, c .inside);
@@ -133,7 +133,7 @@ module _ {txt : List ℕ} {used from at len end : ℕ} (p : Place txt used from 
   }
 
 -- The first place of a query.
-pub place-first : {txt : List ℕ} {used at end : ℕ} → at ≤ end → end ≤ used → ends-in-dot (span txt at (end - at)) ≡ true → IsQuery (between txt at end) → Place txt used at at end
+pub place-first : {txt : List ℕ} {used at end : ℕ} → at ≤ end → end ≤ used → ends-in-dot (span txt at (end - at)) ≡ true → IsQuery (between txt at end) → QueryPlace txt used at at end
 unfolding span ends-in-dot
 place-first {at = at} h k d q =
     let z : at - at ≡ 0 = omega arith in
