@@ -9,6 +9,7 @@ use lib.Dec.{ltb}
 use lib.ListN.{length}
 use borrow.Author.Tests.{ltb-true, ltb-false, lt-ltb, le-ltb}
 use borrow.Rule.Slice.PartMut.{putMid}
+use Rattle.source.specs.Calls.{signed-word}
 use Rattle.source.specs.Text.{Str, segments, ends-in-dot}
 use Rattle.source.specs.Types.{Trie, bind}
 use Rattle.source.specs.Terms.{depth}
@@ -23,7 +24,7 @@ use Rattle.memory.proofs.Tries.{trie-shallow}
 use Rattle.asks.specs.Ask.{asked}
 use Rattle.output.specs.Path.{Path, joined}
 use Rattle.lines.specs.OnPath.{PathOk, OnPath}
-use Rattle.output.specs.Output.{line-bytes, signed-word, Written}
+use Rattle.output.specs.Output.{line-bytes, Written}
 use Rattle.output.specs.Run.{Tally, Limits, Small, path-in, tally-in, matched-in}
 use Rattle.lines.specs.Goes.{Shows, Past, Fit, Goes}
 use Rattle.asks.specs.declared.Ask.{Ask}

@@ -7,6 +7,7 @@ use mathlib.Core.Option.{Option, none, some}
 use native.Mathlib.Omega.{arith}
 use lib.ListN.{length}
 use borrow.Author.Tests.{ne-eqb}
+use Rattle.source.specs.Calls.{signed-word}
 use Rattle.source.specs.Text.{Str}
 use Rattle.source.specs.Types.{Value, bind, the-item}
 use Rattle.source.specs.Trees.{PathElem}
@@ -31,7 +32,6 @@ use Rattle.asks.specs.declared.Filter.{Filter}
 use Rattle.asks.specs.declared.Ask.{Ask}
 use Rattle.lines.specs.declared.Labelled.{Labelled}
 use Rattle.asks.specs.declared.Ask.the-variants.{Names, Modules}
-use Rattle.output.specs.Output.{signed-word}
 use Rattle.lines.specs.Goes.{Goes}
 use Rattle.output.specs.Run.{path-in, tally-in, limits-in, matched-in, job-in}
 use Rattle.lines.specs.SameRun.{SameRun}

@@ -3,6 +3,7 @@ use Prim.Native.Nat.{ℕ, _≤_}
 use mathlib.Core.Path.{_≡_}
 use mathlib.Core.List.{List, _∷_, reverse}
 use mathlib.Core.Option.{Option}
+use Rattle.source.specs.Calls.{signed-word}
 use Rattle.source.specs.Text.{Str}
 use Rattle.source.specs.Types.{Value, bind}
 use Rattle.source.specs.Trees.{PathElem}
@@ -14,7 +15,6 @@ use Rattle.names.specs.Entries.{shown, outer}
 use Rattle.asks.specs.Ask.{asked, line-for}
 use Rattle.output.specs.Path.{BranchAt}
 use Rattle.lines.specs.OnPath.{LabelAt, PathOk, OnPath}
-use Rattle.output.specs.Output.{signed-word}
 use Rattle.lines.specs.Goes.{Result, Goes}
 use Rattle.output.specs.Run.{Small, path-in, tally-in, limits-in, matched-in}
 use Rattle.lines.specs.SameRun.{SameRun}

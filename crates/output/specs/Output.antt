@@ -9,15 +9,14 @@
 use Prim.Native.Nat.{ℕ, _+_, _*_}
 use mathlib.Core.Path.{_≡_}
 use mathlib.Core.List.{List, [], _∷_, map, flatMap}
-use lib.Dec.{eqb}
-use lib.IntN.{ℤ, pos, negsuc}
 use lib.ListN.{length}
+use Rattle.source.specs.Calls.{signed-word}
 use Rattle.source.specs.Table.{Line}
 use Rattle.source.specs.Calls.{LineRecord, output-text, output-lines}
 use Rattle.source.specs.Types.{bind}
 use Rattle.source.specs.Limits.{record-words}
 use Rattle.source.specs.Shared.{Allˡ}
-use Rattle.memory.specs.Layout.{record-at, word, number-word, name-start, name-len, path-start, path-len, loaded-word, pick, Which, Item, item-of}
+use Rattle.memory.specs.Layout.{record-at, word, number-word, name-start, name-len, path-start, path-len, loaded-word, Which, Item, item-of}
 use Rattle.text.specs.Laid.{Laid}
 use Rattle.wire.specs.Bytes.{words-at}
 use Rattle.output.specs.Path.{BranchAt}
@@ -45,10 +44,6 @@ annotation-start r = word r 3
 
 abbrev pub annotation-len : List ℕ → ℕ
 annotation-len r = word r 4
-
--- The number that a word holds in two's complement, of -1 and up.
-unfoldable pub signed-word : ℕ → ℤ
-signed-word m = pick (eqb m 4294967295) (negsuc 0) (pos m)
 
 -- The line record that twelve words hold, its item's texts in the table's text.
 unfoldable pub line-of : (w : Which) → List ℕ → List ℕ → LineRecord (Item w)

@@ -3,6 +3,7 @@ use Prim.Native.Nat.{ℕ, _+_, _*_, _<_, _≤_}
 use mathlib.Core.Path.{_≡_}
 use mathlib.Core.List.{List, [], _∷_, _++_}
 use lib.ListN.{length, getD}
+use Rattle.source.specs.Calls.{signed-word}
 use Rattle.source.specs.Limits.{longest-full-name, deepest-trie, most-used, record-words}
 use Rattle.source.specs.Text.{Str}
 use Rattle.source.specs.Types.{bind}
@@ -10,7 +11,7 @@ use Rattle.source.specs.Table.{Line}
 use Rattle.memory.specs.Layout.{record-at, Which, Item, item-of, key-at, text-start, text-len, number-word, name-start, name-len, path-start, path-len, loaded-word}
 use Rattle.text.specs.Laid.{Laid}
 use Rattle.output.specs.Path.{Path, joined, BranchAt}
-use Rattle.output.specs.Output.{line-bytes, line-words, signed-word}
+use Rattle.output.specs.Output.{line-bytes, line-words}
 use Rattle.output.specs.Run.{Small, Job}
 
 -- ---- What is read

@@ -12,22 +12,14 @@ use Rattle.memory.specs.Layout.{Which, names, modules, item-of, span, symbol-wo
 use Rattle.text.specs.Laid.{Laid}
 use Rattle.text.proofs.Laid.{laid-none, laid-more}
 use Rattle.numerals.specs.Bytes.{Str, _·_}
-use Rattle.replies.specs.Replies.{length-in, reply-room}
-use Rattle.output.specs.Output.{signed-word, matched-word, candidate-start, candidate-len, annotation-start, annotation-len}
+use Rattle.replies.specs.Replies.{reply-room}
+use Rattle.output.specs.Output.{candidate-start, candidate-len, annotation-start, annotation-len}
 use Rattle.rows.specs.Rows.{words-at, words-from, item-in, row-in, line-seen, TextsIn}
 use Rattle.rows.proofs.Rows.{span-length}
 use Rattle.questions.specs.Questions.{item-reply, line-text, lines-text}
 use Rattle.questions.specs.RowReplies.{item-shown, row-text, row-room, rows-text, rows-room, RowsIn}
 
 -- ---- Against the lines
-
-same-length : (m : ℕ) → length-in m ≡ signed-word m
-unfolding length-in signed-word
-same-length m = go (eqb m 4294967295) refl
-  where
-    go : (b : Bool) → eqb m 4294967295 ≡ b → length-in m ≡ signed-word m
-    go true e = rw (e, length-in, signed-word) refl
-    go false e = rw (e, length-in, signed-word) refl
 
 same-item : (w : Which) (txt r : List ℕ) → item-shown (item-in w r) ≡ item-reply w (item-of w txt r)
 same-item names txt r = refl
@@ -40,7 +32,7 @@ same-item modules txt r = go (eqb (symbol-word r) 0) refl
 module _ (w : Which) (txt pane : List ℕ) where
   row-text-is : (r : List ℕ) → row-text pane (row-in w r) ≡ line-text w (line-seen w txt pane r)
   unfolding row-text line-text line-seen
-  row-text-is r = rw (same-length (matched-word r), same-item w txt r) refl
+  row-text-is r = rw (same-item w txt r) refl
 
   -- The replies of rows are those of the lines that they say.
   pub rows-text-is : (rs : List (List ℕ)) → rows-text w pane rs ≡ lines-text w (map (line-seen w txt pane) rs)

@@ -2,6 +2,7 @@
 use Prim.Native.Nat.{ℕ, _+_, _*_, _/_, _≤_}
 use mathlib.Core.List.{List, [], _∷_}
 use lib.ListN.{length}
+use Rattle.source.specs.Calls.{signed-word}
 use Rattle.source.specs.Shared.{Allˡ}
 use Rattle.memory.specs.Layout.{Which}
 use Rattle.memory.specs.Read.{text-of}
@@ -9,7 +10,7 @@ use Rattle.memory.specs.declared.ModSymbol.the-variants as M
 use Rattle.numerals.specs.Bytes.{Str, _·_}
 use Rattle.replies.specs.declared.ItemReply.{ItemReply}
 use Rattle.replies.specs.declared.ItemReply.the-variants.{Number, Module, Namespace}
-use Rattle.replies.specs.Replies.{length-in, refused-reply, line-reply, end-reply, reply-room}
+use Rattle.replies.specs.Replies.{refused-reply, line-reply, end-reply, reply-room}
 use Rattle.output.specs.Output.{line-bytes}
 use Rattle.rows.specs.Rows.{words-from, row-in, TextsIn}
 use Rattle.rows.specs.declared.RowItem.{RowItem}
@@ -28,7 +29,7 @@ item-shown (Symbol (M.Namespace name loaded)) = Namespace
 
 -- Its reply, its texts in the pane.
 unfoldable pub row-text : List ℕ → Row → Str
-row-text pane r = line-reply (length-in (r .matched)) (item-shown (r .item)) (text-of pane (r .annotation)) (text-of pane (r .candidate))
+row-text pane r = line-reply (signed-word (r .matched)) (item-shown (r .item)) (text-of pane (r .annotation)) (text-of pane (r .candidate))
 
 -- Room for it.
 abbrev pub row-room : Row → ℕ

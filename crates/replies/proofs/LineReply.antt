@@ -6,22 +6,23 @@ use native.Mathlib.Omega.{arith}
 use lib.IntN.{ℤ}
 use lib.ListN.{length, length-append}
 use borrow.Author.Tests.{eq-eqb, ne-eqb}
+use Rattle.source.specs.Calls.{signed-word}
 use Rattle.replies.specs.declared.ItemReply.{ItemReply}
 use Rattle.numerals.specs.Bytes.{Str, _·_, bytes}
 use Rattle.numerals.specs.Numerals.{digits, decimal}
-use Rattle.replies.specs.Replies.{signed, length-in, item-text, line-reply}
+use Rattle.replies.specs.Replies.{signed, item-text, line-reply}
 
 pub line-joined : (l : ℤ) (item : ItemReply) (annotation candidate : Str) → (bytes "[line " · signed l · bytes " " · item-text item) · bytes " [" · annotation · bytes "] " · candidate · bytes "]\n" ≡ line-reply l item annotation candidate
 unfolding bytes line-reply
 line-joined l item annotation candidate = simp append-assoc
 
 -- A length that is a word.
-pub word-minus : (m : ℕ) → m ≡ 4294967295 → signed (length-in m) ≡ 45 ∷ 49 ∷ []
-unfolding length-in signed decimal digits bytes
+pub word-minus : (m : ℕ) → m ≡ 4294967295 → signed (signed-word m) ≡ 45 ∷ 49 ∷ []
+unfolding signed-word signed decimal digits bytes
 word-minus m h = rw (eq-eqb m 4294967295 h, signed) refl
 
-pub word-plus : (m : ℕ) → (m ≡ 4294967295 → ⊥) → signed (length-in m) ≡ decimal m
-unfolding length-in signed
+pub word-plus : (m : ℕ) → (m ≡ 4294967295 → ⊥) → signed (signed-word m) ≡ decimal m
+unfolding signed-word signed
 word-plus m h = rw (ne-eqb m 4294967295 h, signed) refl
 
 pub row-size : (annotation candidate : Str) → length (annotation · bytes "] " · candidate · bytes "]\n") ≡ length annotation + length candidate + 4

@@ -1,7 +1,5 @@
 -- The replies of the program `console`, and what it is to write one into a lent text.
-use mathlib.Core.Bool.{true, false}
 use Prim.Native.Nat.{ℕ, suc}
-use lib.Dec.{eqb}
 use lib.IntN.{ℤ, pos, negsuc}
 use Rattle.replies.specs.declared.ItemReply.{ItemReply}
 use Rattle.replies.specs.declared.ItemReply.the-variants.{Number, Module, Namespace}
@@ -14,10 +12,6 @@ use Rattle.numerals.specs.Numerals.{decimal}
 unfoldable pub signed : ℤ → Str
 signed (pos n) = decimal n
 signed (negsuc n) = bytes "-" · decimal (suc n)
-
--- The match length that a word holds in two's complement, of -1 and up.
-unfoldable pub length-in : ℕ → ℤ
-length-in m = elim (eqb m 4294967295) [ true ↦ negsuc 0 | false ↦ pos m ]
 
 -- ---- Replies
 

@@ -3,11 +3,12 @@
 use numerals::digits::put_number;
 ghost use Prim.Native.Nat.{_+_, _≤_};
 ghost use lib.ListN.{length};
+ghost use Rattle.source.specs.Calls.{signed-word};
 ghost use Rattle.source.specs.Lent.{old, new};
 ghost use Rattle.text.specs.Laid.{Laid};
 ghost use Rattle.numerals.specs.Bytes.{bytes, _·_};
 ghost use Rattle.numerals.specs.Numerals.{decimal};
-ghost use Rattle.replies.specs.Replies.{signed, length-in, item-text, ok-reply, found-reply, none-reply, refused-reply, bad-reply, line-reply, end-reply, reply-room};
+ghost use Rattle.replies.specs.Replies.{signed, item-text, ok-reply, found-reply, none-reply, refused-reply, bad-reply, line-reply, end-reply, reply-room};
 
 // The item of a line: its number in `complete`, module or namespace in `modules`.
 pub enum ItemReply {
@@ -105,7 +106,7 @@ fn put_texts(out: &mut [u8], at: usize, annotation: &[u8], candidate: &[u8]) -> 
 // Writes a match length that is a word: 4294967295 for -1.
 fn put_word(out: &mut [u8], at: usize, word: u32) -> usize
     requires { ⌜ at + 10 ≤ length (now out) ⌝ }
-    ensures { λ r. ⌜ Laid (old out) (new out) at r (signed (length-in word)) × (r ≤ at + 10) ⌝ }
+    ensures { λ r. ⌜ Laid (old out) (new out) at r (signed (signed-word word)) × (r ≤ at + 10) ⌝ }
 {
     if word == 4294967295 {
         return put(out, at, b"-1");
@@ -116,7 +117,7 @@ fn put_word(out: &mut [u8], at: usize, word: u32) -> usize
 // Writes a line's numbers, its length as a word.
 fn put_words(out: &mut [u8], at: usize, word: u32, item: ItemReply) -> usize
     requires { ⌜ at + 27 ≤ length (now out) ⌝ }
-    ensures { λ r. ⌜ Laid (old out) (new out) at r (bytes "[line " · signed (length-in word) · bytes " " · item-text item) × (r ≤ at + 27) ⌝ }
+    ensures { λ r. ⌜ Laid (old out) (new out) at r (bytes "[line " · signed (signed-word word) · bytes " " · item-text item) × (r ≤ at + 27) ⌝ }
 {
     let a = put(out, at, b"[line ");
     let b = put_word(out, a, word);
@@ -134,7 +135,7 @@ pub fn put_row(
     candidate: &[u8],
 ) -> usize
     requires { ⌜ at + reply-room + length (now annotation) + length (now candidate) ≤ length (now out) ⌝ }
-    ensures { λ r. ⌜ Laid (old out) (new out) at r (line-reply (length-in word) item (old annotation) (old candidate)) ×
+    ensures { λ r. ⌜ Laid (old out) (new out) at r (line-reply (signed-word word) item (old annotation) (old candidate)) ×
         (r ≤ at + reply-room + length (old annotation) + length (old candidate)) ⌝ }
 {
     let a = put_words(out, at, word, item);

@@ -3,12 +3,13 @@ use Prim.Native.Nat.{ℕ, zero, suc, _+_, _*_, _≤_}
 use mathlib.Core.List.{List, [], _∷_, map}
 use mathlib.Core.Option.{Option, none, some}
 use lib.ListN.{length, drop}
+use Rattle.source.specs.Calls.{signed-word}
 use Rattle.source.specs.Table.{Line}
 use Rattle.memory.specs.Layout.{Which, names, modules, Item, item-of, number-word, span}
 use Rattle.memory.specs.Read.{symbol-in, symbol-of}
 use Rattle.memory.specs.declared.ModSymbol.{ModSymbol}
 use Rattle.memory.specs.declared.ModSymbol.the-variants.{Module, Namespace}
-use Rattle.output.specs.Output.{line-bytes, line-words, matched-word, candidate-start, candidate-len, annotation-start, annotation-len, signed-word}
+use Rattle.output.specs.Output.{line-bytes, line-words, matched-word, candidate-start, candidate-len, annotation-start, annotation-len}
 use Rattle.rows.specs.declared.RowItem.{RowItem}
 use Rattle.rows.specs.declared.RowItem.the-variants.{Name, Symbol}
 use Rattle.rows.specs.declared.Row.{Row}

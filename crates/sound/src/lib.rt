@@ -165,7 +165,8 @@ pub fn sound(words: &[u32], text: &[u8], header: Header) -> bool
     ensures { λ r. ⌜ Says r (Sound (old words) (old text) header) ⌝ }
 {
     let records = header.records as usize;
-    if records <= SMALL {
+    // More than may be used are no sound table, which the small test says at once.
+    if (records <= SMALL) | (LARGE < records) {
         return sound_small(words, text, header);
     }
     if records <= MIDDLE {

@@ -1,10 +1,10 @@
 -- The requirements' calls: what each is given, when it is refused, and what it hands back.
 use Prim.Native.Nat.{ℕ, _+_, _-_, _/_, min, max}
-use mathlib.Core.Bool.{Bool, true, false, not, _||_}
+use mathlib.Core.Bool.{Bool, true, false, not, _||_, cond}
 use mathlib.Core.List.{List, [], _∷_, _++_}
 use mathlib.Core.Option.{Option, none, some}
-use lib.Dec.{ltb}
-use lib.IntN.{ℤ}
+use lib.Dec.{eqb, ltb}
+use lib.IntN.{ℤ, pos, negsuc}
 use lib.ListN.{length}
 use Rattle.source.specs.Limits.{longest-name, most-segments, longest-path, heaviest-list, deepest-trie, most-used, record-words}
 use Rattle.source.specs.Text.{Str, Query, segments, ends-in-dot, name-byte, query-byte, path-byte}
@@ -208,6 +208,10 @@ look-up sound root query =
 pub record Span : Type 0 where
   pub start : ℕ
   pub len : ℕ
+
+-- The match length that a 32-bit number holds in two's complement, of -1 and up.
+unfoldable pub signed-word : ℕ → ℤ
+signed-word m = cond (eqb m 4294967295) (negsuc 0) (pos m)
 
 pub record LineRecord (A : Type 0) : Type 0 where
   pub match-length : ℤ

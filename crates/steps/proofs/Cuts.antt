@@ -10,13 +10,13 @@ use lib.IntN.{pos}
 use lib.ListN.{length, take, drop, length-drop}
 use lib.Seq.{length-take-le}
 use borrow.Author.Tests.{ne-eqb}
+use Rattle.source.specs.Calls.{signed-word}
 use Rattle.source.specs.Text.{Str, Query, segments, ends-in-dot}
 use Rattle.source.specs.Listing.{NSTNone, ns-search-term, bindings-search-term}
 use Rattle.source.proofs.Paths.{match-length-skip, match-length-some, so-far-is}
 use Rattle.text.specs.Text.{before-dot}
 use Rattle.text.proofs.Segments.{first-segment, before-inside}
 use Rattle.names.specs.Entries.{by-prefix, by-all}
-use Rattle.output.specs.Output.{signed-word}
 use Rattle.steps.specs.Steps.{Cuts}
 
 signed-small : (m : ℕ) → m < 4294967295 → signed-word m ≡ pos m

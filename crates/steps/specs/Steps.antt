@@ -7,6 +7,7 @@ use mathlib.Core.List.{List, [], _∷_, reverse, tail}
 use mathlib.Core.Option.{Option, some}
 use lib.Dec.{eqb}
 use lib.ListN.{length, getD, take, drop}
+use Rattle.source.specs.Calls.{signed-word}
 use Rattle.source.specs.Limits.{deepest-trie}
 use Rattle.source.specs.Text.{Str, Query, segments, ends-in-dot}
 use Rattle.source.specs.Trees.{PathElem}
@@ -17,7 +18,6 @@ use Rattle.source.specs.Forward.{base}
 use Rattle.memory.specs.Layout.{record-at, text-len, pick}
 use Rattle.names.specs.Entries.{Asks}
 use Rattle.output.specs.Path.{Path}
-use Rattle.output.specs.Output.{signed-word}
 use Rattle.lines.specs.Goes.{Past}
 use Rattle.output.specs.Run.{path-in, limits-in}
 use Rattle.lines.specs.declared.Labelled.{Labelled}

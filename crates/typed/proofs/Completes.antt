@@ -1,7 +1,7 @@
 -- What the typed completion says, from the flat one and from the lines that were stored.
 use mathlib.Core.Path.{_≡_, refl, sym, ap, ap₂, _∙_, subst}
 use Prim.Native.Nat.{ℕ, _+_, _*_, _≤_}
-use mathlib.Core.Bool.{Bool, true, false}
+use mathlib.Core.Bool.{Bool, true, false, cond}
 use mathlib.Core.List.{List, [], _∷_, _++_, map}
 use mathlib.Core.Option.{Option, some}
 use native.Mathlib.Omega.{arith}
@@ -10,6 +10,7 @@ use lib.IntN.{pos, negsuc}
 use lib.ListN.{length, take, drop, length-map}
 use lib.Seq.{take-at, drop-at}
 use borrow.Author.Tests.{le-ltb}
+use Rattle.source.specs.Calls.{signed-word}
 use Rattle.source.specs.Text.{Str}
 use Rattle.source.specs.Table as S
 use Rattle.source.specs.Calls as C
@@ -20,7 +21,7 @@ use Rattle.memory.specs.Layout.{Which, Item, pick}
 use Rattle.memory.specs.Sound.{Says}
 use Rattle.memory.proofs.SoundTable.{sound-table}
 use Rattle.asks.specs.Ask.{asked}
-use Rattle.output.specs.Output.{line-bytes, signed-word, line-of, Written, matched-word}
+use Rattle.output.specs.Output.{line-bytes, line-of, Written, matched-word}
 use Rattle.asks.specs.declared.Ask.{Ask}
 use Rattle.asks.specs.declared.Ask.the-variants.{Names, Modules}
 use Rattle.table.specs.Header.{IsSound, table-in}
@@ -45,7 +46,7 @@ length-seen : (m : ℕ) → Held (signed-word m) → held-length m ≡ signed-wo
 unfolding signed-word
 length-seen m h = go (eqb m 4294967295) h
   where
-    go : (b : Bool) → Held (pick b (negsuc 0) (pos m)) → pick b (negsuc 0) (held m) ≡ pick b (negsuc 0) (pos m)
+    go : (b : Bool) → Held (cond b (negsuc 0) (pos m)) → pick b (negsuc 0) (held m) ≡ cond b (negsuc 0) (pos m)
     go true h = refl
     go false h = rw (le-ltb 2147483647 m (omega (arith, h)))
 

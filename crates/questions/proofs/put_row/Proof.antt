@@ -4,10 +4,11 @@ use Prim.Native.Nat.{ℕ}
 use mathlib.Core.List.{List}
 use lib.ListN.{length}
 use native.Mathlib.Omega.{arith}
+use Rattle.source.specs.Calls.{signed-word}
 use Rattle.memory.specs.Read.{text-of}
 use Rattle.text.specs.Laid.{Laid}
 use Rattle.numerals.specs.Bytes.{Str}
-use Rattle.replies.specs.Replies.{length-in, line-reply}
+use Rattle.replies.specs.Replies.{line-reply}
 use Rattle.replies.specs.declared.ItemReply.{ItemReply}
 use Rattle.rows.specs.declared.Row.{Row}
 use Rattle.rows.specs.Rows.{TextsIn}
@@ -18,7 +19,7 @@ use Rattle.questions.proofs.put_row.Statement.{statement}
 use Rattle.questions.proofs.put_row.Tie as tie
 
 row-as : (pane : List ℕ) (r : Row) {item : ItemReply} {note candidate : Str} → item ≡ item-shown (r .item) → note ≡ text-of pane (r .annotation) → candidate ≡ text-of pane (r .candidate)
-    → line-reply (length-in (r .matched)) item note candidate ≡ row-text pane r
+    → line-reply (signed-word (r .matched)) item note candidate ≡ row-text pane r
 unfolding row-text
 row-as pane r p q s = rw (p, q, s) refl
 
