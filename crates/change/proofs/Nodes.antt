@@ -37,7 +37,8 @@ use Rattle.lookup.specs.Tries.{NsInserts}
 use Rattle.leaves.specs.Leaves.{which-of, Some, Builds}
 use Rattle.change.specs.Changes.{between, passed, Kinds, bindings-by, node-of, symbol-row, form-of, bindings-at, node-at, Bindings, Node, BindingsBuilt}
 use Rattle.lookup.proofs.Found.{some-left}
-use Rattle.change.proofs.QueryPlace.{span-length, place-next, key-in, full-name-is, full-name-in}
+use Rattle.memory.proofs.Pasted.{span-length}
+use Rattle.change.proofs.QueryPlace.{place-next, key-in, full-name-is, full-name-in}
 use Rattle.memory.proofs.Tries.{Lists, lists-in}
 use Rattle.leaves.proofs.Builds.{builds-none, builds-insert, placed-light, placed-count, bindings-ready, bindings-built}
 use Rattle.leaves.proofs.Leaves.{less-room}

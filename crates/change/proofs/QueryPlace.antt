@@ -5,7 +5,7 @@ use mathlib.Core.Bool.{Bool, true, false, cond}
 use mathlib.Core.List.{List, [], _∷_, _++_, reverseAux-eq, reverse-append, reverse-reverse}
 use native.Mathlib.Omega.{arith}
 use lib.Dec.{eqb}
-use lib.ListN.{length, take, drop, length-take, length-drop, drop-of-length-le}
+use lib.ListN.{length, take, drop, drop-of-length-le}
 use lib.Seq.{take-add, take-take, drop-drop, drop-at, length-take-le}
 use Rattle.source.specs.Text.{Str, Query, dot, segments, ends-in-dot}
 use Rattle.source.specs.Rules.{IsKey, IsFullName}
@@ -16,6 +16,7 @@ use Rattle.source.proofs.Queries.{segments-append, string-is, name-of-revq-full
 use Rattle.text.specs.Text.{before-dot}
 use Rattle.text.specs.Text.{Segment}
 use Rattle.text.proofs.Segments.{segment-at, before-inside}
+use Rattle.memory.proofs.Pasted.{span-length}
 use Rattle.memory.specs.Layout.{span}
 use Rattle.memory.specs.Sound.{TextOk}
 use Rattle.change.specs.Changes.{between, passed, QueryPlace, SegmentCut}
@@ -27,10 +28,6 @@ span-join txt a b c h k =
     let e : c - a ≡ b - a + (c - b) = omega arith in
     let f : a + (b - a) ≡ b = omega arith in
     rw e (take-add (b - a) (c - b) (drop a txt) ∙ rw (drop-drop, f))
-
-pub span-length : (txt : List ℕ) (a n : ℕ) → a + n ≤ length txt → length (span txt a n) ≡ n
-unfolding span
-span-length txt a n h = rw (length-take, length-drop) (omega arith)
 
 -- The dot after a segment is the last byte of a shorter text too.
 before-take : (s : Str) (n : ℕ) → before-dot s ≤ n → before-dot (take (suc n) s) ≡ before-dot s

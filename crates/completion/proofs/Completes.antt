@@ -9,12 +9,11 @@ use lib.Dec.{ltb}
 use lib.ListN.{length}
 use borrow.Author.Tests.{ltb-true, ltb-false, lt-ltb, le-ltb}
 use borrow.Rule.Slice.PartMut.{putMid}
-use Rattle.source.specs.Calls.{signed-word}
 use Rattle.source.specs.Text.{Str, segments, ends-in-dot}
 use Rattle.source.specs.Types.{Trie, bind}
 use Rattle.source.specs.Terms.{depth}
 use Rattle.source.specs.Table.{Line, first-import-of-path}
-use Rattle.source.specs.Calls.{lowest, output-text, tries-entered}
+use Rattle.source.specs.Calls.{lowest, output-text, tries-entered, signed-word}
 use Rattle.source.specs.Forward.{entered}
 use Rattle.source.proofs.Counted.{tries-entered-count}
 use Rattle.source.specs.Forward.{base}

@@ -1,6 +1,6 @@
 -- Spans of the lent text.
 use Prim.Native.Nat.{ℕ, _+_, _-_, _≤_}
-use mathlib.Core.Path.{_≡_, sym, ap}
+use mathlib.Core.Path.{_≡_, sym}
 use mathlib.Core.Bool.{Bool, true, false}
 use mathlib.Core.List.{List}
 use native.Mathlib.Omega.{arith}
@@ -8,11 +8,7 @@ use lib.ListN.{length, take, drop}
 use Rattle.source.specs.Rules.{all, Fits}
 use Rattle.memory.specs.Layout.{span}
 use Rattle.memory.specs.Sound.{Says, TextOk}
-use Rattle.memory.proofs.Pasted.{span-length}
-
-pub part-span : (txt : List ℕ) (s n : ℕ) → take (s + n - s) (drop s txt) ≡ span txt s n
-unfolding span
-part-span txt s n = ap (λ (m : ℕ). take m (drop s txt)) (let e : s + n - s ≡ n = omega arith in e)
+use Rattle.memory.proofs.Pasted.{part-span, span-length}
 
 pub says-text : (p : ℕ → Bool) (low high : ℕ) (b : Bool) (txt : List ℕ) (used s n : ℕ) → used ≤ length txt → s + n ≤ used → low ≤ n → n ≤ high
     → b ≡ all p (take (s + n - s) (drop s txt)) → Says b (TextOk (Fits p low high) txt used s n)

@@ -24,7 +24,8 @@ use Rattle.memory.proofs.SoundTable.{IsItem, link-fine}
 use Rattle.memory.proofs.Seen.{link-later, link-fits}
 use Rattle.tree.specs.Tree.{held, AnyTree, Builds}
 use Rattle.insertion.specs.Insert.{NewBranch, HeldOk, Insertion, Inserted, noted-link, noted-side, SideTaken, Trail, top, turn, Changed, Marked, with-sides, raised-row, RaiseOk, lowest-row, LowestOk}
-use Rattle.tree.proofs.Branches.{part-span, any-tree, branch-right, branch-reads}
+use Rattle.memory.proofs.Pasted.{part-span}
+use Rattle.tree.proofs.Branches.{any-tree, branch-right, branch-reads}
 use Rattle.tree.proofs.Placed.{same-key}
 use Rattle.insertion.proofs.Changed.{drop-more, put-changes, sound-stays, trail-stays}
 use Rattle.insertion.proofs.WithSides.{sided-length, held-fine, depth-ok, old-branch, branch-sound, branch-what, branch-link}

@@ -7,7 +7,6 @@ use mathlib.Core.Option.{Option, none, some}
 use native.Mathlib.Omega.{arith}
 use lib.ListN.{length}
 use borrow.Author.Tests.{ne-eqb}
-use Rattle.source.specs.Calls.{signed-word}
 use Rattle.source.specs.Text.{Str}
 use Rattle.source.specs.Types.{Value, bind, the-item}
 use Rattle.source.specs.Trees.{PathElem}
@@ -15,7 +14,7 @@ use Rattle.source.specs.Tries.{dflt}
 use Rattle.source.specs.Listing.{PathOf}
 use Rattle.source.specs.Table.{ModSymbol, string-of-path, first-import-of-path, match-length-of-path, completion-result-of-lid, completion-result-of-ns-or-mod, mod-annotation}
 use Rattle.source.specs.Calls as C
-use Rattle.source.specs.Calls.{keeps, filter-of}
+use Rattle.source.specs.Calls.{keeps, filter-of, signed-word}
 use Rattle.source.proofs.Paths.{candidate-is, first-import-one, first-import-more}
 use Rattle.source.specs.Forward.{line, kept-line}
 use Rattle.memory.specs.Layout.{record-at, pick, Which, names, modules, Item, item-of}

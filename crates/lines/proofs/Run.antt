@@ -9,7 +9,7 @@ use Rattle.source.specs.Listing.{PathOf}
 use Rattle.memory.specs.Layout.{Which}
 use Rattle.output.specs.Path.{joined}
 use Rattle.lines.specs.OnPath.{PathOk, OnPath}
-use Rattle.output.specs.Run.{path-in, tally-in, limits-in, matched-in}
+use Rattle.output.specs.Run.{path-in, tally-in, limits-in, matched-in, run-size}
 use Rattle.lines.specs.SameRun.{SamePath, SameRun}
 
 pub same-run : (run : List ℕ) → SameRun run run
@@ -59,7 +59,7 @@ module _ (run : List ℕ) (l b : ℕ) where
       let s = same-set run 20 l few (omega arith) (omega arith) in
       same-then s (same-set (set run 20 l) 21 b (omega (arith, s .path .count)) (omega arith) (omega arith))
 
-  pub tally-counted : length run ≡ 26 → tally-in (set (set run 20 l) 21 b) ≡ record { entered = getD run 19 0; lines = l; bytes = b }
+  pub tally-counted : length run ≡ run-size → tally-in (set (set run 20 l) 21 b) ≡ record { entered = getD run 19 0; lines = l; bytes = b }
   tally-counted e = rw (
     getD-set-other (set run 20 l) 21 19 b 0 (λ z. omega arith),
     getD-set-other run 20 19 l 0 (λ z. omega arith),
@@ -69,7 +69,7 @@ module _ (run : List ℕ) (l b : ℕ) where
   )
 
 module _ (run : List ℕ) (l : ℕ) where
-  pub tally-entered : length run ≡ 26 → tally-in (set run 19 l) ≡ record { entered = l; lines = getD run 20 0; bytes = getD run 21 0 }
+  pub tally-entered : length run ≡ run-size → tally-in (set run 19 l) ≡ record { entered = l; lines = getD run 20 0; bytes = getD run 21 0 }
   tally-entered e = rw (getD-set-same run 19 l 0 (omega arith), getD-set-other run 19 20 l 0 (λ z. omega arith), getD-set-other run 19 21 l 0 (λ z. omega arith))
 
 -- The match length is set.
@@ -92,7 +92,7 @@ module _ (run : List ℕ) (l m : ℕ) where
   pub path-inside : getD run 16 0 ≤ 16 → SamePath run run-inside
   path-inside few = let s = same-set run 19 l few (omega arith) (omega arith) .path in path-then s (path-matched (set run 19 l) m (omega (arith, s .count)))
 
-  module _ (e : length run ≡ 26) where
+  module _ (e : length run ≡ run-size) where
     pub tally-inside : tally-in run-inside ≡ record { entered = l; lines = getD run 20 0; bytes = getD run 21 0 }
     tally-inside = tally-matched (set run 19 l) m ∙ tally-entered run l e
 

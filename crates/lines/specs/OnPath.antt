@@ -3,6 +3,7 @@ use Prim.Native.Nat.{ℕ, _*_, _<_, _≤_}
 use mathlib.Core.Path.{_≡_}
 use mathlib.Core.List.{List, reverse}
 use lib.ListN.{length, getD}
+use Rattle.output.specs.Run.{run-size}
 use Rattle.source.specs.Limits.{deepest-trie}
 use Rattle.source.specs.Types.{Level, ns}
 use Rattle.source.specs.Listing.{PathOf}
@@ -20,7 +21,7 @@ pub record LabelAt (ws txt : List ℕ) (w : Which) (v : Level) (x : ℕ) : Type 
 
 -- The links are branches of namespaces, at most 16, and the length is that of their text.
 pub record PathOk (ws txt : List ℕ) (w : Which) (p : Path) : Type 0 where
-  pub sized : length (p .links) ≡ 26
+  pub sized : length (p .links) ≡ run-size
   pub few : p .n ≤ deepest-trie
   pub each : (j : ℕ) → j < p .n → BranchAt ws txt w ns (getD (p .links) j 0)
   pub len-is : p .len ≡ length (joined ws txt (p .links) (p .n))

@@ -21,7 +21,7 @@ use Rattle.names.specs.Entries.{shown, outer}
 use Rattle.asks.specs.Ask.{asked}
 use Rattle.output.specs.Path.{Path, BranchAt}
 use Rattle.lines.specs.OnPath.{LabelAt}
-use Rattle.output.specs.Run.{Tally, Limits, path-in, tally-in, limits-in, matched-in}
+use Rattle.output.specs.Run.{Tally, Limits, path-in, tally-in, limits-in, matched-in, run-size}
 use Rattle.lines.specs.SameRun.{SamePath}
 use Rattle.lines.proofs.Run.{path-then, path-matched, tally-matched, tally-after, limits-after}
 use Rattle.lines.specs.Lines.{CanList, Listed}
@@ -93,7 +93,7 @@ module _ {ws txt : List ℕ} {ask : Ask} {rest : Str} {p : Path} {lim : Limits} 
           go false e b l = (b, l)
           go true e b l = absurd (true≢false e)
 
-      pub below-ready : (length (p .links) ≡ 26) × (p .n < 16) × (p .len ≤ 544)
+      pub below-ready : (length (p .links) ≡ run-size) × (p .n < 16) × (p .len ≤ 544)
       below-ready = let ok = r .ready .path-ok in (ok .sized, omega (arith, r .room e), omega (arith, ok .short, ok .few))
 
       module _ {longer : Path} {child : ℕ} (d : PathDown ws p branch label longer) (c : child ≡ trie-link (record-at ws branch)) where
@@ -143,7 +143,7 @@ module _ {ws txt : List ℕ} {rest : Str} {ask : Ask} {f : Labelled} {run run₁
   }
 
   module _ {run₂ flat flat′ out out′ : List ℕ} (t : TrieListed ws txt rest ask run₁ run₂ flat flat′ out out′ child) where
-    pub namespace-sized : length run₂ ≡ 26
+    pub namespace-sized : length run₂ ≡ run-size
     namespace-sized = t .same .size ∙ d .down .size ∙ r .can .ready .path-ok .sized
 
     module _ {run₃ : List ℕ} (z : PathSet run₂ run₃ (getD run 16 0) (getD run 17 0) (getD run 18 0)) where

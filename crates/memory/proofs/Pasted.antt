@@ -1,5 +1,5 @@
 -- Parts of a list: where a beginning stays, the parts inside it stay; a part put into a list.
-use Prim.Native.Nat.{ℕ, zero, suc, _+_, _≤_, _<_}
+use Prim.Native.Nat.{ℕ, zero, suc, _+_, _-_, _≤_, _<_}
 use mathlib.Core.Path.{_≡_, refl, sym, ap, _∙_}
 use mathlib.Core.List.{List, [], _∷_, append-assoc}
 use native.Mathlib.Omega.{arith}
@@ -17,6 +17,11 @@ cut n (suc s) (x ∷ t) = cut n s t ∙ ap (λ (k : ℕ). drop (suc s) (take k (
 pub part-stays : (m : ℕ) (t t′ : List ℕ) → take m t′ ≡ take m t → (n s : ℕ) → s + n ≤ m → take n (drop s t′) ≡ take n (drop s t)
 part-stays m t t′ e n s h =
     cut n s t′ ∙ ap (drop s) (sym (take-take (s + n) m t′ h) ∙ ap (take (s + n)) e ∙ take-take (s + n) m t h) ∙ sym (cut n s t)
+
+-- What `&txt[s..s + n]` holds, and its length.
+pub part-span : (txt : List ℕ) (s n : ℕ) → take (s + n - s) (drop s txt) ≡ span txt s n
+unfolding span
+part-span txt s n = let e : s + n - s ≡ n = omega arith in rw e refl
 
 pub span-length : (txt : List ℕ) (s n : ℕ) → s + n ≤ length txt → length (span txt s n) ≡ n
 unfolding span

@@ -10,9 +10,8 @@ use Prim.Native.Nat.{ℕ, _+_, _*_}
 use mathlib.Core.Path.{_≡_}
 use mathlib.Core.List.{List, [], _∷_, map, flatMap}
 use lib.ListN.{length}
-use Rattle.source.specs.Calls.{signed-word}
 use Rattle.source.specs.Table.{Line}
-use Rattle.source.specs.Calls.{LineRecord, output-text, output-lines}
+use Rattle.source.specs.Calls.{LineRecord, output-text, output-lines, signed-word}
 use Rattle.source.specs.Types.{bind}
 use Rattle.source.specs.Limits.{record-words}
 use Rattle.source.specs.Shared.{Allˡ}

@@ -12,7 +12,7 @@ use Rattle.memory.specs.Layout.{record-at, Which, Item, item-of, key-at, text-s
 use Rattle.text.specs.Laid.{Laid}
 use Rattle.output.specs.Path.{Path, joined, BranchAt}
 use Rattle.output.specs.Output.{line-bytes, line-words}
-use Rattle.output.specs.Run.{Small, Job}
+use Rattle.output.specs.Run.{Small, Job, run-size}
 
 -- ---- What is read
 
@@ -27,7 +27,7 @@ pub record TextAt (ws txt : List ℕ) (x : ℕ) : Type 0 where
 
 -- The links of a path name keys, and the length is that of their text.
 pub record PathAt (ws txt : List ℕ) (p : Path) : Type 0 where
-  pub sized : length (p .links) ≡ 26
+  pub sized : length (p .links) ≡ run-size
   pub few : p .n ≤ deepest-trie
   pub each : (j : ℕ) → j < p .n → TextAt ws txt (getD (p .links) j 0)
   pub len-is : p .len ≡ length (joined ws txt (p .links) (p .n))

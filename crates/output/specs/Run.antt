@@ -13,6 +13,10 @@ use mathlib.Core.List.{List}
 use lib.ListN.{getD}
 use Rattle.output.specs.Path.{Path}
 
+-- How many numbers a run is.
+abbrev pub run-size : ℕ
+run-size = 26
+
 -- What a completion has taken.
 pub record Tally : Type 0 where
   pub entered : ℕ

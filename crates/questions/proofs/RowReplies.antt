@@ -15,7 +15,7 @@ use Rattle.numerals.specs.Bytes.{Str, _·_}
 use Rattle.replies.specs.Replies.{reply-room}
 use Rattle.output.specs.Output.{candidate-start, candidate-len, annotation-start, annotation-len}
 use Rattle.rows.specs.Rows.{words-at, words-from, item-in, row-in, line-seen, TextsIn}
-use Rattle.rows.proofs.Rows.{span-length}
+use Rattle.memory.proofs.Pasted.{span-length}
 use Rattle.questions.specs.Questions.{item-reply, line-text, lines-text}
 use Rattle.questions.specs.RowReplies.{item-shown, row-text, row-room, rows-text, rows-room, RowsIn}
 

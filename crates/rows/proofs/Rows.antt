@@ -1,5 +1,5 @@
 -- Laws of the words and the struct of a row.
-use Prim.Native.Nat.{ℕ, _+_, _-_, _*_, _≤_}
+use Prim.Native.Nat.{ℕ, _-_, _*_}
 use native.Mathlib.Omega.{arith}
 use mathlib.Core.Path.{_≡_, refl, ap}
 use mathlib.Core.Bool.{Bool, true, false}
@@ -7,8 +7,8 @@ use mathlib.Core.List.{List}
 use mathlib.Core.Option.{some}
 use lib.Dec.{eqb}
 use lib.ListN.{length, take, drop, length-drop}
-use lib.Seq.{take-all, length-take-le}
-use Rattle.memory.specs.Layout.{Which, names, modules, record-at, item-of, pick, span, symbol-word}
+use lib.Seq.{take-all}
+use Rattle.memory.specs.Layout.{Which, names, modules, record-at, item-of, pick, symbol-word}
 use Rattle.memory.specs.Read.{symbol-of}
 use Rattle.memory.specs.declared.ModSymbol.{ModSymbol}
 use Rattle.wire.proofs.Bytes.{words-length}
@@ -24,15 +24,6 @@ part-words flat k = ap line-words (take-all (length flat - k * line-bytes) (drop
 pub one-record : (bs : List ℕ) → record-at (line-words bs) 1 ≡ line-words bs
 unfolding record-at
 one-record bs = take-all 12 (line-words bs) (omega (arith, words-length bs 12))
-
--- A part from a to a + b, and its length.
-pub part-span : (text : List ℕ) (a b : ℕ) → take (a + b - a) (drop a text) ≡ span text a b
-unfolding span
-part-span text a b = let e : a + b - a ≡ b = omega arith in rw e refl
-
-pub span-length : (text : List ℕ) (a b : ℕ) → a + b ≤ length text → length (span text a b) ≡ b
-unfolding span
-span-length text a b h = length-take-le b (drop a text) (omega (arith, length-drop a text))
 
 symbol-pick : (txt : List ℕ) (b : Bool) (x y : ModSymbol) → symbol-of txt (pick b x y) ≡ pick b (symbol-of txt x) (symbol-of txt y)
 symbol-pick txt true x y = refl

@@ -11,6 +11,7 @@ use lib.Dec.{eqb}
 use lib.ListN.{length, getD, set, length-set, length-append}
 use lib.Seq.{getD-set-same, getD-set-other}
 use borrow.Author.Tests.{eq-eqb, ne-eqb}
+use Rattle.output.specs.Run.{run-size}
 use Rattle.source.specs.Text.{Str, dot}
 use Rattle.source.specs.Types.{Level, Trie, ns}
 use Rattle.source.specs.Trees.{PathElem}
@@ -97,7 +98,7 @@ module _ (run : List ℕ) (n len label : ℕ) where
   kept : (k : ℕ) → (k ≡ 16 → ⊥) → (k ≡ 17 → ⊥) → (k ≡ 18 → ⊥) → getD given k 0 ≡ getD run k 0
   kept k a b c = getD-set-other (set (set run 16 n) 17 len) 18 k label 0 c ∙ getD-set-other (set run 16 n) 17 k len 0 b ∙ getD-set-other run 16 k n 0 a
 
-  pub path-set : length run ≡ 26 → PathSet run given n len label
+  pub path-set : length run ≡ run-size → PathSet run given n len label
   path-set e = record {
     size = simp length-set;
     links = λ j h. kept j (λ z. omega arith) (λ z. omega arith) (λ z. omega arith);
@@ -107,7 +108,7 @@ module _ (run : List ℕ) (n len label : ℕ) where
     after = λ k h. kept k (λ z. omega arith) (λ z. omega arith) (λ z. omega arith);
   }
 
-pub entered : {ws : List ℕ} (f : Labelled) {run run′ : List ℕ} {len label : ℕ} → (length run ≡ 26) × (getD run 16 0 < 16) × (getD run 17 0 ≤ 544)
+pub entered : {ws : List ℕ} (f : Labelled) {run run′ : List ℕ} {len label : ℕ} → (length run ≡ run-size) × (getD run 16 0 < 16) × (getD run 17 0 ≤ 544)
     → PathSet (set run (getD run 16 0) (f .link)) run′ (getD run 16 0 + 1) len label
     → len ≡ getD run 17 0 + text-len (record-at ws (f .link)) + 1 → label ≡ pick (eqb (getD run 16 0) 0) (f .label) (getD run 18 0) → Entered ws f run run′
 entered f {run} r s l b = record {

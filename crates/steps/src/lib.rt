@@ -7,7 +7,7 @@ ghost use lib.ListN.{length};
 ghost use Rattle.source.specs.Lent.{old, new};
 ghost use Rattle.source.specs.Limits.{longest-query, deepest-trie, record-words};
 ghost use Rattle.source.specs.Text.{ends-in-dot};
-ghost use Rattle.output.specs.Run.{path-in};
+ghost use Rattle.output.specs.Run.{path-in, run-size};
 ghost use Rattle.steps.specs.Steps.{Cuts, Skips, Entered, PathSet};
 
 // Where a query is cut: the first segment's length, where the rest begins, and the match length of what the segment takes.
@@ -52,7 +52,7 @@ pub fn skips_bindings(run: &[usize; output::RUN], size: usize, next: usize) -> b
 
 // Gives the path as many of its links, the length and the label.
 pub fn set_path(run: &mut [usize; output::RUN], n: usize, len: usize, label: usize)
-    requires { ⌜ length (now run) ≡ 26 ⌝ }
+    requires { ⌜ length (now run) ≡ run-size ⌝ }
     ensures { λ _. ⌜ PathSet (old run) (new run) n len label ⌝ }
 {
     run[output::COUNT] = n;
@@ -63,7 +63,7 @@ pub fn set_path(run: &mut [usize; output::RUN], n: usize, len: usize, label: usi
 // Puts a branch of namespaces onto the path.
 pub fn enter(words: &[u32], found: Labelled, run: &mut [usize; output::RUN])
     requires { ⌜ (0 < found .link) × (found .link * record-words ≤ length (now words)) ⌝ }
-    requires { ⌜ (length (now run) ≡ 26) × (path-in (now run) .n < deepest-trie) × (path-in (now run) .len ≤ longest-query) ⌝ }
+    requires { ⌜ (length (now run) ≡ run-size) × (path-in (now run) .n < deepest-trie) × (path-in (now run) .len ≤ longest-query) ⌝ }
     ensures { λ _. ⌜ Entered (old words) found (old run) (new run) ⌝ }
 {
     let n = run[output::COUNT];

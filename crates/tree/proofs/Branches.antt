@@ -1,17 +1,16 @@
 -- A branch of a tree: what it reads as, its key, and its two sides.
-use Prim.Native.Nat.{ℕ, _+_, _-_, _*_, _≤_, _<_}
-use mathlib.Core.Path.{_≡_, _∙_}
+use Prim.Native.Nat.{ℕ, _+_, _*_, _≤_, _<_}
+use mathlib.Core.Path.{_≡_}
 use mathlib.Core.List.{List}
 use native.Mathlib.Omega.{arith}
-use lib.ListN.{length, take, drop}
+use lib.ListN.{length}
 use Rattle.source.specs.Types.{Level, StrBranch}
 use Rattle.source.specs.Rules.{Ordered}
-use Rattle.memory.specs.Layout.{record-at, span, Which, tree, what, key-at, left-link, right-link, text-len, text-start}
+use Rattle.memory.specs.Layout.{record-at, Which, tree, what, key-at, left-link, right-link, text-len, text-start}
 use Rattle.memory.specs.Read.{TextIn}
 use Rattle.memory.specs.Sound.{BranchOk, At}
 use Rattle.memory.proofs.RecordOk.{links-earlier, branch-at, ordered-at}
 use Rattle.memory.proofs.Seen.{link-fits, link-ok, link-what}
-use Rattle.text.proofs.Texts.{part-is}
 use Rattle.tree.specs.Tree.{held, AnyTree}
 use Rattle.memory.proofs.At.{no-link, at-of}
 
@@ -58,12 +57,3 @@ module _ {ws txt : List ℕ} {x : ℕ} (a : AnyTree ws txt x) where
 
     pub any-right : AnyTree ws txt (right-link (record-at ws x))
     any-right = any-tree (right-tree (a .tree) p)
-
--- What `&text[s..s + n]` holds, and of a branch its key.
-pub part-span : (txt : List ℕ) (s n : ℕ) → take (s + n - s) (drop s txt) ≡ span txt s n
-unfolding span
-part-span txt s n = part-is txt s n
-
-pub key-part : (ws txt : List ℕ) (x : ℕ) {s n : ℕ} → s ≡ text-start (record-at ws x) → n ≡ text-len (record-at ws x) → take (s + n - s) (drop s txt) ≡ key-at ws txt x
-unfolding key-at
-key-part ws txt x {s} {n} p q = part-span txt s n ∙ rw (p, q)

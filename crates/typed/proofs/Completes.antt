@@ -10,11 +10,10 @@ use lib.IntN.{pos, negsuc}
 use lib.ListN.{length, take, drop, length-map}
 use lib.Seq.{take-at, drop-at}
 use borrow.Author.Tests.{le-ltb}
-use Rattle.source.specs.Calls.{signed-word}
 use Rattle.source.specs.Text.{Str}
 use Rattle.source.specs.Table as S
 use Rattle.source.specs.Calls as C
-use Rattle.source.specs.Calls.{LineRecord, Output, output-lines, complete, complete-modules, completed, completion-rows, lowest, argument-rows}
+use Rattle.source.specs.Calls.{LineRecord, Output, output-lines, complete, complete-modules, completed, completion-rows, lowest, argument-rows, signed-word}
 use Rattle.source.specs.Shared.{Allˡ}
 use Rattle.source.proofs.Lines.{output-lines-length}
 use Rattle.memory.specs.Layout.{Which, Item, pick}

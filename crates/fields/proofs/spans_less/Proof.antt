@@ -2,7 +2,7 @@
 use borrow.Author.Needs.{needs}
 use Rattle.fields.proofs.spans_less.Statement.{statement}
 use Rattle.fields.proofs.spans_less.Tie as tie
-use Rattle.fields.proofs.TextOk.{part-span}
+use Rattle.memory.proofs.Pasted.{part-span}
 
 pub spans-less-spec : {M : Type 1} → statement M
 spans-less-spec =

@@ -12,7 +12,7 @@ use Rattle.replies.specs.Replies.{line-reply}
 use Rattle.replies.specs.declared.ItemReply.{ItemReply}
 use Rattle.rows.specs.declared.Row.{Row}
 use Rattle.rows.specs.Rows.{TextsIn}
-use Rattle.rows.proofs.Rows.{span-length}
+use Rattle.memory.proofs.Pasted.{span-length}
 use Rattle.questions.specs.RowReplies.{item-shown, row-text}
 use borrow.Author.Needs.{needs}
 use Rattle.questions.proofs.put_row.Statement.{statement}

@@ -1,5 +1,5 @@
 -- `text_of` meets its contract.
-use Rattle.rows.proofs.Rows.{part-span}
+use Rattle.memory.proofs.Pasted.{part-span}
 use borrow.Author.Needs.{needs}
 use Rattle.rows.proofs.text_of.Statement.{statement}
 use Rattle.rows.proofs.text_of.Tie as tie
