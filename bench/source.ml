@@ -17,14 +17,19 @@
 (* The source's functions for names in OCaml, in the source's order under its names, for the benchmark: FStarLang/FStar at
    d4b42c1b19, src/interactive/FStarC.Interactive.CompletionTable.fst. Changed: put into OCaml by hand as F* extracts it, each
    constructor with its one argument, a tuple where the source has one, and effectful arguments bound first; what the names table
-   does not use is left out. Integers are OCaml's own, where F* takes those of Zarith: that is faster. An item is an int. *)
+   does not use is left out. Integers are those of Prims: F*'s own (prims_zarith.ml), or OCaml's (prims_ocaml.ml), which are
+   faster. An item is a machine integer. *)
+
+open Prims
 
 (* The libraries' functions, and the interface's types. *)
 module Util = struct
+  let ( <= ) : Int.t -> Int.t -> bool = Stdlib.( <= )
+
   let starts_with (s : string) (prefix : string) : bool =
     let n = String.length prefix in
-    let rec loop i = i = n || (String.unsafe_get s i = String.unsafe_get prefix i && loop (i + 1)) in
-    String.length s >= n && loop 0
+    let rec loop i = Int.equal i n || (String.unsafe_get s i = String.unsafe_get prefix i && loop (Int.succ i)) in
+    n <= String.length s && loop 0
 end
 
 module List = struct
@@ -54,14 +59,14 @@ end
 
 type query = string list
 
-type lid_symbol = int
+type lid_symbol = Int.t
 
 type completion_result =
   { completion_match_length : int;
     completion_candidate : string;
     completion_annotation : string }
 
-let string_compare (s1 : string) (s2 : string) : int = String.compare s1 s2
+let string_compare (s1 : string) (s2 : string) : int = of_int (String.compare s1 s2)
 
 (** * (Pairing) min-heaps * **)
 
@@ -75,7 +80,7 @@ let heap_merge (cmp : 'a -> 'a -> int) (h1 : 'a heap) (h2 : 'a heap) : 'a heap =
   | (h, EmptyHeap) -> h
   | (Heap (v1, hh1), Heap (v2, hh2)) ->
     let c = cmp v1 v2 in
-    if c < 0 then Heap (v1, h2 :: hh1) else Heap (v2, h1 :: hh2)
+    if c < int_zero then Heap (v1, h2 :: hh1) else Heap (v2, h1 :: hh2)
 
 let heap_insert (cmp : 'a -> 'a -> int) (h : 'a heap) (v : 'a) : 'a heap = heap_merge cmp (Heap (v, [])) h
 
@@ -102,12 +107,12 @@ let heap_from_list (cmp : 'a -> 'a -> int) (values : 'a list) : 'a heap = List.f
 let push_nodup (key_fn : 'a -> string) (x : 'a) (l : 'a list) : 'a list =
   match l with
   | [] -> [x]
-  | h :: t -> if string_compare (key_fn x) (key_fn h) = 0 then h :: t else x :: h :: t
+  | h :: t -> if string_compare (key_fn x) (key_fn h) = int_zero then h :: t else x :: h :: t
 
 let rec add_priorities (n : int) (acc : (int * 'a) list) (l : 'a list) : (int * 'a) list =
   match l with
   | [] -> acc
-  | h :: t -> add_priorities (n + 1) ((n, h) :: acc) t
+  | h :: t -> add_priorities (n + int_one) ((n, h) :: acc) t
 
 let merge_increasing_lists_rev (key_fn : 'a -> string) (lists : 'a list list) : 'a list =
   let cmp v1 v2 =
@@ -116,7 +121,7 @@ let merge_increasing_lists_rev (key_fn : 'a -> string) (lists : 'a list list) : 
     | (_, (_, [])) -> failwith "impossible"
     | ((pr1, h1 :: _), (pr2, h2 :: _)) ->
       let cmp_h = string_compare (key_fn h1) (key_fn h2) in
-      if cmp_h <> 0 then cmp_h else pr1 - pr2 in
+      if cmp_h <> int_zero then cmp_h else pr1 - pr2 in
   let rec aux (lists : (int * 'a list) heap) (acc : 'a list) : 'a list =
     match heap_pop cmp lists with
     | None -> acc
@@ -130,7 +135,7 @@ let merge_increasing_lists_rev (key_fn : 'a -> string) (lists : 'a list list) : 
   | [] -> []
   | [l] -> List.rev l
   | _ ->
-    let lists = add_priorities 0 [] lists in
+    let lists = add_priorities int_zero [] lists in
     let heap = heap_from_list cmp lists in
     aux heap []
 
@@ -145,9 +150,9 @@ let rec btree_insert_replace (bt : 'a btree) (k : string) (v : 'a) : 'a btree =
   | StrEmpty -> StrBranch (k, v, StrEmpty, StrEmpty)
   | StrBranch (k', v', lbt, rbt) ->
     let cmp = string_compare k k' in
-    if cmp < 0 then
+    if cmp < int_zero then
       StrBranch (k', v', btree_insert_replace lbt k v, rbt)
-    else if cmp > 0 then
+    else if cmp > int_zero then
       StrBranch (k', v', lbt, btree_insert_replace rbt k v)
     else
       StrBranch (k', v, lbt, rbt)
@@ -157,9 +162,9 @@ let rec btree_find_exact (bt : 'a btree) (k : string) : 'a option =
   | StrEmpty -> None
   | StrBranch (k', v, lbt, rbt) ->
     let cmp = string_compare k k' in
-    if cmp < 0 then
+    if cmp < int_zero then
       btree_find_exact lbt k
-    else if cmp > 0 then
+    else if cmp > int_zero then
       btree_find_exact rbt k
     else
       Some v
@@ -183,8 +188,8 @@ let btree_find_prefix (bt : 'a btree) (prefix : string) : (prefix_match * 'a) li
     | StrBranch (k, v, lbt, rbt) ->
       let cmp = string_compare k prefix in
       let include_middle = Util.starts_with k prefix in
-      let explore_right = cmp <= 0 || include_middle in
-      let explore_left = cmp > 0 in
+      let explore_right = cmp <= int_zero || include_middle in
+      let explore_left = cmp > int_zero in
       let matches = if explore_right then aux rbt prefix acc else acc in
       let matches = if include_middle then ({ prefix = Some prefix; completion = k }, v) :: matches else matches in
       let matches = if explore_left then aux lbt prefix matches else matches in
@@ -356,11 +361,11 @@ let match_length_of_path (path : path) : int =
         let (acc_len, _) = acc in
         match elem.segment.prefix with
         | Some prefix ->
-          let completion_len = String.length elem.segment.completion in
-          (acc_len + 1 + completion_len, (prefix, completion_len))
+          let completion_len = of_int (String.length elem.segment.completion) in
+          (acc_len + int_one + completion_len, (prefix, completion_len))
         | None -> acc)
-      (0, ("", 0)) path in
-  length - 1 - last_completion_length + String.length last_prefix
+      (int_zero, ("", int_zero)) path in
+  length - int_one - last_completion_length + of_int (String.length last_prefix)
 
 let first_import_of_path (path : path) : string option =
   match path with

@@ -45,7 +45,7 @@ let sum_lines tbl q =
       incr count;
       text line.completion_candidate;
       text line.completion_annotation;
-      number line.completion_match_length;
+      number (Prims.to_int line.completion_match_length);
       number item)
     (autocomplete_lid tbl q) items
 

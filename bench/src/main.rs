@@ -272,7 +272,9 @@ fn run() {
     let by_call = by_call.iter().fold(measure::HEAD.to_string(), |all, row| all + &row.print());
     let work = Work::new();
     let rows = work.rows();
-    let ocaml = work.script().run(measure::TURNS).map(|times| ocaml::table(&rows, &work.alone(), &times));
+    let script = work.script();
+    let zarith = script.run(ocaml::Integers::Zarith, measure::TURNS);
+    let ocaml = script.run(ocaml::Integers::Machine, measure::TURNS).map(|times| ocaml::table(&rows, &work.alone(), &times, zarith.as_deref()));
     let mut sections = vec![
         ("machine", machine),
         ("work", measure::table(&rows)),

@@ -8,10 +8,47 @@ use std::io::{ErrorKind, Write as _};
 use std::process::{Command, Stdio};
 use std::sync::OnceLock;
 
-pub const LEFT_OUT: &str = "ocaml\n\nLeft out: there is no ocamlopt on the PATH (apt-get install --no-install-recommends ocaml-nox).\n";
+pub const LEFT_OUT: &str = "ocaml\n\nLeft out: there is no ocamlopt on the PATH, or no Zarith (apt-get install --no-install-recommends ocaml-nox libzarith-ocaml-dev).\n";
 
 /// Options of the compiler. -O3 counts where it was built with flambda.
 const OPTIONS: [&str; 4] = ["-O3", "-unsafe", "-inline", "100"];
+
+/// The integers that the source's code is built with.
+#[derive(Clone, Copy)]
+pub enum Integers {
+    /// OCaml's own.
+    Machine,
+    /// F*'s, by the library Zarith (package libzarith-ocaml-dev).
+    Zarith,
+}
+
+impl Integers {
+    fn file(self) -> &'static str {
+        match self {
+            Integers::Machine => "prims_ocaml.ml",
+            Integers::Zarith => "prims_zarith.ml",
+        }
+    }
+
+    fn library(self) -> &'static [&'static str] {
+        match self {
+            Integers::Machine => &[],
+            Integers::Zarith => &["-I", "+zarith", "zarith.cmxa"],
+        }
+    }
+
+    /// Whether OCaml's compiler and the library are there.
+    fn at_hand(self) -> bool {
+        match Command::new("ocamlopt").arg("-where").output() {
+            Err(e) if e.kind() == ErrorKind::NotFound => false,
+            Err(e) => panic!("ocamlopt -where: {e}"),
+            Ok(at) => {
+                let at = String::from_utf8(at.stdout).expect("a path");
+                matches!(self, Integers::Machine) || std::path::Path::new(at.trim()).join("zarith/zarith.cmxa").exists()
+            }
+        }
+    }
+}
 
 /// How many names were found or lines listed, and a hash of all of them.
 #[derive(Default, Debug, PartialEq)]
@@ -118,10 +155,10 @@ impl Script {
         self.queries("complete", m, queries, Sum::complete);
     }
 
-    /// Nanoseconds a call of each row, in the least of so many turns and in their mean, or none where OCaml's compiler is missing. Other results than the
-    /// product's end the program.
-    pub fn run(&self, turns: usize) -> Option<Vec<[f64; 2]>> {
-        let mut program = Command::new(built()?).arg(turns.to_string()).stdin(Stdio::piped()).stdout(Stdio::piped()).spawn().expect("the OCaml program");
+    /// Nanoseconds a call of each row, in the least of so many turns and in their mean, or none where OCaml's compiler or the integers' library is missing.
+    /// Other results than the product's end the program.
+    pub fn run(&self, integers: Integers, turns: usize) -> Option<Vec<[f64; 2]>> {
+        let mut program = Command::new(built(integers)?).arg(turns.to_string()).stdin(Stdio::piped()).stdout(Stdio::piped()).spawn().expect("the OCaml program");
         program.stdin.take().unwrap().write_all(self.lines.as_bytes()).expect("its input");
         let answer = program.wait_with_output().expect("its output");
         assert!(answer.status.success(), "the OCaml program failed");
@@ -139,28 +176,27 @@ fn parse(line: &str) -> ([f64; 2], Sum) {
     ([least, mean].map(|t| t.parse().unwrap()), Sum { count: count.parse().unwrap(), hash: hash.parse().unwrap() })
 }
 
-/// The OCaml program, built once, or none where the compiler is missing.
-fn built() -> Option<&'static str> {
-    static PROGRAM: OnceLock<Option<String>> = OnceLock::new();
-    PROGRAM.get_or_init(build).as_deref()
+/// The OCaml program, built once, or none where something is missing.
+fn built(integers: Integers) -> Option<&'static str> {
+    static PROGRAMS: [OnceLock<Option<String>>; 2] = [OnceLock::new(), OnceLock::new()];
+    PROGRAMS[integers as usize].get_or_init(|| build(integers)).as_deref()
 }
 
-fn build() -> Option<String> {
+fn build(integers: Integers) -> Option<String> {
+    if !integers.at_hand() {
+        return None;
+    }
     let here = env!("CARGO_MANIFEST_DIR");
-    let to = format!("{here}/target/ocaml");
-    std::fs::create_dir_all(&to).expect("target/ocaml");
+    let to = format!("{here}/target/{}", integers.file());
+    std::fs::create_dir_all(&to).expect(&to);
     // The compiler leaves its files beside the sources.
-    let files = ["clock.c", "source.ml", "source_main.ml"];
-    for file in files {
-        std::fs::copy(format!("{here}/{file}"), format!("{to}/{file}")).expect(file);
+    let files = [("clock.c", "clock.c"), (integers.file(), "prims.ml"), ("source.ml", "source.ml"), ("source_main.ml", "source_main.ml")];
+    for (file, name) in files {
+        std::fs::copy(format!("{here}/{file}"), format!("{to}/{name}")).expect(file);
     }
-    match Command::new("ocamlopt").current_dir(&to).args(OPTIONS).args(files).args(["-o", "source"]).status() {
-        Err(e) if e.kind() == ErrorKind::NotFound => None,
-        status => {
-            assert!(status.expect("ocamlopt").success(), "ocamlopt failed");
-            Some(format!("{to}/source"))
-        }
-    }
+    let status = Command::new("ocamlopt").current_dir(&to).args(OPTIONS).args(integers.library()).args(files.map(|f| f.1)).args(["-o", "source"]).status();
+    assert!(status.expect("ocamlopt").success(), "ocamlopt failed");
+    Some(format!("{to}/source"))
 }
 
 /// The compiler, as it says.
@@ -171,11 +207,24 @@ fn compiler() -> String {
     format!("Built by `ocamlopt {}`, version {}, flambda {}.\n", OPTIONS.join(" "), of("version:"), of("flambda:"))
 }
 
-/// The calls, with the product's times and OCaml's.
-pub fn table(rows: &[Row], alone: &[f64], ocaml: &[[f64; 2]]) -> String {
-    let mut all = String::from("| call | proved callers, ns | OCaml, least turn | OCaml, mean with collections | least / proved | mean / proved |\n|---|---|---|---|---|---|\n");
-    for ((row, proved), [least, mean]) in rows.iter().zip(alone).zip(ocaml) {
-        writeln!(all, "| {} | {proved:.0} | {least:.0} | {mean:.0} | {:.2} | {:.2} |", row.what, least / proved, mean / proved).unwrap();
+/// The calls, with the product's times and OCaml's: with its own integers and, where they are at hand, with F*'s.
+pub fn table(rows: &[Row], alone: &[f64], machine: &[[f64; 2]], zarith: Option<&[[f64; 2]]>) -> String {
+    let head = ["call", "proved callers, ns", "F*'s integers, least turn", "mean", "OCaml's integers, least turn", "mean", "F*'s mean / proved", "OCaml's mean / proved"];
+    let mut all = format!("| {} |\n|{}\n", head.join(" | "), "---|".repeat(head.len()));
+    let number = |t: Option<f64>, digits: usize| t.map_or("not measured".to_string(), |t| format!("{t:.digits$}"));
+    for (k, (row, proved)) in rows.iter().zip(alone).enumerate() {
+        let ([least, mean], exact) = (machine[k], zarith.map(|z| z[k]));
+        let [exact_least, exact_mean] = [0, 1].map(|i| exact.map(|t| t[i]));
+        writeln!(
+            all,
+            "| {} | {proved:.0} | {} | {} | {least:.0} | {mean:.0} | {} | {:.2} |",
+            row.what,
+            number(exact_least, 0),
+            number(exact_mean, 0),
+            number(exact_mean.map(|t| t / proved), 2),
+            mean / proved
+        )
+        .unwrap();
     }
     all + "\n" + &compiler()
 }
@@ -200,16 +249,20 @@ mod tests {
             script.find(&m, &slices(&names));
             let begun: Vec<Vec<u8>> = (0..30).map(|_| completion_query(&mut rng)).collect();
             script.complete(&m, &slices(&begun));
-            if script.run(1).is_none() {
-                return println!("{LEFT_OUT}");
+            for integers in [Integers::Machine, Integers::Zarith] {
+                if script.run(integers, 1).is_none() {
+                    println!("{LEFT_OUT}");
+                }
             }
         }
     }
 
     #[test]
     fn ocaml_does_the_same_on_the_modules() {
-        if crate::Work::new().script().run(1).is_none() {
-            println!("{LEFT_OUT}");
+        for integers in [Integers::Machine, Integers::Zarith] {
+            if crate::Work::new().script().run(integers, 1).is_none() {
+                println!("{LEFT_OUT}");
+            }
         }
     }
 }
