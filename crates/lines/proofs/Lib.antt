@@ -1,8 +1,8 @@
 pub mod Goes
 pub mod Run
 pub mod Capped
-mod KeptLine
 mod NoteAt
+mod Noted
 mod TextAt
 mod Lines
 mod Listed

@@ -1,7 +1,7 @@
 -- The line of a found element of bindings: what the branch, its label and its path say of it.
 use Prim.Native.Nat.{ℕ}
-use mathlib.Core.Path.{_≡_, refl, sym, ap, subst, _∙_}
-use mathlib.Core.Bool.{Bool, true, false}
+use mathlib.Core.Path.{_≡_, refl, sym, ap, _∙_}
+use mathlib.Core.Bool.{Bool, true, false, true≢false}
 use mathlib.Core.List.{List, [], _∷_, reverse}
 use mathlib.Core.Option.{Option, none, some}
 use native.Mathlib.Omega.{arith}
@@ -12,28 +12,29 @@ use Rattle.source.specs.Types.{Value, bind, the-item}
 use Rattle.source.specs.Trees.{PathElem}
 use Rattle.source.specs.Tries.{dflt}
 use Rattle.source.specs.Listing.{PathOf}
-use Rattle.source.specs.Table.{ModSymbol, string-of-path, first-import-of-path, match-length-of-path, completion-result-of-lid, completion-result-of-ns-or-mod, mod-annotation}
+use Rattle.source.specs.Table.{ModSymbol, string-of-path, first-import-of-path, completion-result-of-lid, completion-result-of-ns-or-mod, mod-annotation}
 use Rattle.source.specs.Calls as C
-use Rattle.source.specs.Calls.{keeps, filter-of, signed-word}
+use Rattle.source.specs.Calls.{keeps, filter-of}
 use Rattle.source.proofs.Paths.{candidate-is, first-import-one, first-import-more}
 use Rattle.source.specs.Forward.{line, kept-line}
 use Rattle.memory.specs.Layout.{record-at, pick, Which, names, modules, Item, item-of}
 use Rattle.tree.specs.Tree.{held}
 use Rattle.tree.specs.Links.{row-at}
 use Rattle.names.specs.Entries.{label-at, shown, outer}
-use Rattle.asks.specs.Ask.{filter-in, asked, line-for}
+use Rattle.asks.specs.Ask.{filter-in, asked}
 use Rattle.output.specs.Path.{Path, BranchAt}
 use Rattle.lines.specs.OnPath.{OnPath}
-use Rattle.lines.specs.Lines.{only, Listed}
+use Rattle.lines.specs.Lines.{Listed}
 use Rattle.output.specs.Parts.{candidate-of}
-use Rattle.lines.specs.Parts.{note-at, outermost, PutLine, KeptLine}
-use Rattle.asks.specs.declared.Filter.{Filter}
+use Rattle.lines.specs.Parts.{outermost, PutLine, symbol-at, kept}
 use Rattle.asks.specs.declared.Ask.{Ask}
 use Rattle.lines.specs.declared.Labelled.{Labelled}
 use Rattle.asks.specs.declared.Ask.the-variants.{Names, Modules}
-use Rattle.lines.specs.Goes.{Goes}
-use Rattle.output.specs.Run.{path-in, tally-in, limits-in, matched-in, job-in}
+use Rattle.output.specs.Run.{path-in, tally-in, job-in}
 use Rattle.lines.specs.SameRun.{SameRun}
+use Rattle.lines.proofs.Goes.{goes-none}
+use Rattle.lines.proofs.Run.{same-run}
+use Rattle.lines.proofs.Noted.{noted, noted-symbol}
 
 -- What a found element of bindings and its path say of its line.
 record Element (ws txt : List ℕ) (w : Which) (p : Path) (branch label : ℕ) (path : PathOf) (x : PathElem × Value (Item w) bind) : Type 0 where
@@ -65,45 +66,33 @@ kept-is f y m e = go (keeps f (y .1)) ∙ rw e
     go true = refl
     go false = refl
 
-module _ (ws txt : List ℕ) (f : Labelled) (run run′ flat flat′ out out′ : List ℕ) where
-  abbrev ListedAs : Ask → Type 0
-  ListedAs ask =
-      (path : PathOf) (x : PathElem × Value (Item (asked ask)) bind) (q : Option Str) → OnPath ws txt (path-in run) path
-      → outer x ≡ shown (asked ask) ws txt bind q (record { branch = f .link; label = f .label })
-      → match-length-of-path (reverse (x .0 ∷ path)) ≡ signed-word (matched-in run)
-      → Goes (asked ask) ws txt (limits-in run) (tally-in run) (tally-in run′) flat flat′ out out′ (only (line-for ask (line path x)))
-
-  as-names : BranchAt ws txt names bind (f .link)
-      → PutLine ws txt (job-in (f .link) run) (note-at ws txt (outermost (path-in run) (f .label))) (tally-in run′) flat flat′ out out′ → ListedAs Names
-  unfolding completion-result-of-lid
-  as-names b put path x q o e m =
-      let i = element names (f .link) (f .label) x q o e in
-      put names (completion-result-of-lid (line path x))
-      (record { branch-at = b; length-is = m; item-is = i .item; candidate-is = i .candidate; annotation-is = ap (dflt []) (i .import) })
-
-  as-modules : (filter : Filter) → BranchAt ws txt modules bind (f .link)
-      → KeptLine ws txt filter (job-in (f .link) run) (tally-in run′) flat flat′ out out′ → ListedAs (Modules filter)
-  unfolding completion-result-of-ns-or-mod
-  as-modules filter b put path x q o e m =
-      let i = element modules (f .link) (f .label) x q o e in
-      rw (kept-is (filter-in filter) (line path x) _ (i .item))
-      (put (completion-result-of-ns-or-mod (line path x))
-      (record { branch-at = b; length-is = m; item-is = i .item; candidate-is = i .candidate; annotation-is = ap mod-annotation (i .item) }))
-
--- What line answers: of names, of modules and namespaces.
-module _ {ws txt : List ℕ} {ask : Ask} {f : Labelled} {run run′ flat flat′ out out′ : List ℕ}
-    (b : BranchAt ws txt (asked ask) bind (f .link)) (s : SameRun run run′) where
-  pub listed-names : ask ≡ Names
-      → PutLine ws txt (job-in (f .link) run) (note-at ws txt (outermost (path-in run) (f .label))) (tally-in run′) flat flat′ out out′
-      → Listed ws txt ask f run run′ flat flat′ out out′
-  listed-names e put = record {
-    same = s;
-    goes = subst (ListedAs ws txt f run run′ flat flat′ out out′) (sym e) (as-names ws txt f run run′ flat flat′ out out′ (rw e at b) put);
+-- What line answers: nothing for a symbol that is not kept, else its line.
+module _ {ws txt : List ℕ} {f : Labelled} {run flat out : List ℕ} where
+  pub listed-none : (ask : Ask) → kept ask (symbol-at ws txt (f .link)) ≡ false → Listed ws txt ask f run run flat flat out out
+  listed-none Names h = absurd (true≢false h)
+  listed-none (Modules g) h = record {
+    same = same-run run;
+    goes = λ path x q o e m.
+        let i = element modules (f .link) (f .label) x q o e in
+        rw (kept-is (filter-in g) (line path x) _ (i .item), h) (goes-none (tally-in run) flat out);
   }
 
-  pub listed-modules : (filter : Filter) → ask ≡ Modules filter → KeptLine ws txt filter (job-in (f .link) run) (tally-in run′) flat flat′ out out′
+  pub listed-one : {run′ flat′ out′ : List ℕ} (ask : Ask) → BranchAt ws txt (asked ask) bind (f .link) → SameRun run run′ → kept ask (symbol-at ws txt (f .link)) ≡ true
+      → PutLine ws txt (job-in (f .link) run) (noted ask ws txt (record { link = f .link; label = outermost (path-in run) (f .label) })) (tally-in run′) flat flat′ out out′
       → Listed ws txt ask f run run′ flat flat′ out out′
-  listed-modules filter e put = record {
+  unfolding completion-result-of-lid completion-result-of-ns-or-mod
+  listed-one Names b s h put = record {
     same = s;
-    goes = subst (ListedAs ws txt f run run′ flat flat′ out out′) (sym e) (as-modules ws txt f run run′ flat flat′ out out′ filter (rw e at b) put);
+    goes = λ path x q o e m.
+        let i = element names (f .link) (f .label) x q o e in
+        put names (completion-result-of-lid (line path x))
+        (record { branch-at = b; length-is = m; item-is = i .item; candidate-is = i .candidate; annotation-is = ap (dflt []) (i .import) });
+  }
+  listed-one (Modules g) b s h put = record {
+    same = s;
+    goes = λ path x q o e m.
+        let i = element modules (f .link) (f .label) x q o e in
+        rw (kept-is (filter-in g) (line path x) _ (i .item), h)
+        (put modules (completion-result-of-ns-or-mod (line path x))
+        (record { branch-at = b; length-is = m; item-is = i .item; candidate-is = i .candidate; annotation-is = ap mod-annotation (i .item) ∙ sym (noted-symbol _) }));
   }

@@ -49,9 +49,6 @@ module _ {ws txt : List ℕ} {ask : Ask} {f : Labelled} {run : List ℕ} (o : Ca
   pub job-ok : JobOk ws txt (job-in (f .link) run)
   job-ok = record { path = path-at (o .path-ok); branch = branch-text (o .branch-at); small = o .small; fits = o .fits }
 
-  pub label-small : path-in run .label ≤ 65536
-  label-small = let l = o .path-ok .label-ok in omega (arith, l .at .link .earlier, l .at .sound .few)
-
   pub outermost-text : {x : ℕ} → x ≡ outermost (path-in run) (f .label) → 0 < x → TextAt ws txt x
   outermost-text e h = rw e (go (eqb (path-in run .n) 0) (rw e at h))
     where

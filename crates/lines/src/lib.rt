@@ -1,6 +1,5 @@
 // One line of a listing: counted, and written where it fits the lent output.
 use asks::Ask;
-use asks::Filter;
 use memory::ModSymbol;
 use output::BYTES;
 use output::COUNT;
@@ -12,17 +11,18 @@ use output::MOST_BYTES;
 use output::MOST_LINES;
 use output::RUN;
 ghost use mathlib.Core.Path.{_≡_};
-ghost use Prim.Native.Nat.{ℕ, _+_, _<_, _≤_};
+ghost use Prim.Native.Nat.{ℕ, _+_, _*_, _<_, _≤_};
+ghost use mathlib.Core.List.{List};
 ghost use lib.ListN.{length};
 ghost use Rattle.source.specs.Lent.{old, new};
-ghost use Rattle.source.specs.Limits.{longest-full-name, most-used};
+ghost use Rattle.source.specs.Limits.{record-words, longest-full-name, most-used};
 ghost use Rattle.memory.specs.Sound.{Says};
 ghost use Rattle.output.specs.Run.{path-in, tally-in, job-in};
 ghost use Rattle.lines.specs.SameRun.{SameRun};
 ghost use Rattle.lines.specs.Goes.{Capped};
 ghost use Rattle.lines.specs.Lines.{CanList, Listed};
 ghost use Rattle.output.specs.Parts.{TextAt, JobOk};
-ghost use Rattle.lines.specs.Parts.{note-at, outermost, TriedLine, PutLine, KeptLine};
+ghost use Rattle.lines.specs.Parts.{note-at, outermost, TriedLine, PutLine, symbol-at, kept, annotation};
 
 // A branch or a tree that was found, and the collection of its outermost label, 0 for none.
 pub struct Labelled {
@@ -129,62 +129,58 @@ fn note_of<'a>(words: &[u32], text: &'a [u8], label: u32) -> &'a [u8]
     memory::key_of(words, text, label)
 }
 
-// The line of a name: its annotation is the label of the collection `found.label`.
-fn name_line(
-    words: &[u32],
-    text: &[u8],
-    found: Labelled,
-    run: &mut [usize; RUN],
-    flat: &mut [u8],
-    out: &mut [u8],
-)
-    requires { ⌜ JobOk (now words) (now text) (job-in (found .link) (now run)) ⌝ }
-    requires { ⌜ (0 < found .label → TextAt (now words) (now text) (found .label)) ⌝ }
-    ensures { λ _. ⌜ SameRun (old run) (new run) ⌝ }
-    ensures { λ _. ⌜ PutLine (old words) (old text) (job-in (found .link) (old run))
-        (note-at (old words) (old text) (found .label)) (tally-in (new run))
-        (old flat) (new flat) (old out) (new out) ⌝ }
+// Whether what is asked keeps a found branch.
+fn kept(words: &[u32], ask: Ask, branch: u32) -> bool
+    requires { ⌜ (0 < branch) × (branch * record-words ≤ length (now words)) ⌝ }
+    ensures { λ r. ⌜ ((txt : List ℕ) → r ≡ kept ask (symbol-at (old words) txt branch)) ⌝ }
 {
-    let note = note_of(words, text, found.label);
-    put_line(words, text, found.link, note, run, flat, out);
+    match ask {
+        Ask::Names => true,
+        Ask::Modules(f) => {
+            let symbol = memory::symbol_of(words, branch);
+            match symbol {
+                ModSymbol::Module(_, _, loaded) => asks::keeps(f, true, loaded),
+                ModSymbol::Namespace(_, loaded) => asks::keeps(f, false, loaded),
+            }
+        }
+    }
 }
 
-// The line of a module or namespace that the filter keeps.
-fn module_line(
+// The annotation of a found branch: the label of the collection `found.label`; or of the four that of
+// its symbol, a loaded module, another, a loaded namespace, another.
+fn annotation<'a>(
     words: &[u32],
-    text: &[u8],
-    f: Filter,
-    branch: u32,
-    run: &mut [usize; RUN],
-    flat: &mut [u8],
-    out: &mut [u8],
-)
-    requires { ⌜ JobOk (now words) (now text) (job-in branch (now run)) ⌝ }
-    ensures { λ _. ⌜ SameRun (old run) (new run) ⌝ }
-    ensures { λ _. ⌜ KeptLine (old words) (old text) f (job-in branch (old run)) (tally-in (new run))
-        (old flat) (new flat) (old out) (new out) ⌝ }
+    text: &'a [u8],
+    ask: Ask,
+    found: Labelled,
+    first: &'a [u8],
+    second: &'a [u8],
+    third: &'a [u8],
+    fourth: &'a [u8],
+) -> &'a [u8]
+    requires { ⌜ (0 < found .link) × (found .link * record-words ≤ length (now words)) ⌝ }
+    requires { ⌜ (0 < found .label → TextAt (now words) (now text) (found .label)) ⌝ }
+    ensures { λ r. ⌜ now r ≡ annotation ask (old words) (old text) found
+        (old first) (old second) (old third) (old fourth) ⌝ }
 {
-    let symbol = memory::symbol_of(words, branch);
-    match symbol {
-        ModSymbol::Module(_, _, loaded) => {
-            if !asks::keeps(f, true, loaded) {
-                return;
+    match ask {
+        Ask::Names => note_of(words, text, found.label),
+        Ask::Modules(_) => {
+            let symbol = memory::symbol_of(words, found.link);
+            match symbol {
+                ModSymbol::Module(_, _, loaded) => {
+                    if loaded {
+                        return first;
+                    }
+                    second
+                }
+                ModSymbol::Namespace(_, loaded) => {
+                    if loaded {
+                        return third;
+                    }
+                    fourth
+                }
             }
-            if loaded {
-                put_line(words, text, branch, b" mod ", run, flat, out);
-                return;
-            }
-            put_line(words, text, branch, b"(mod)", run, flat, out);
-        }
-        ModSymbol::Namespace(_, loaded) => {
-            if !asks::keeps(f, false, loaded) {
-                return;
-            }
-            if loaded {
-                put_line(words, text, branch, b" ns ", run, flat, out);
-                return;
-            }
-            put_line(words, text, branch, b"(ns)", run, flat, out);
         }
     }
 }
@@ -203,14 +199,22 @@ pub fn line(
     ensures { λ _. ⌜ Listed (old words) (old text) ask found (old run) (new run)
         (old flat) (new flat) (old out) (new out) ⌝ }
 {
-    match ask {
-        Ask::Names => {
-            let named = Labelled {
-                link: found.link,
-                label: outermost(run, found.label),
-            };
-            name_line(words, text, named, run, flat, out);
-        }
-        Ask::Modules(f) => module_line(words, text, f, found.link, run, flat, out),
+    if !kept(words, ask, found.link) {
+        return;
     }
+    let named = Labelled {
+        link: found.link,
+        label: outermost(run, found.label),
+    };
+    let note = annotation(
+        words,
+        text,
+        ask,
+        named,
+        b" mod ",
+        b"(mod)",
+        b" ns ",
+        b"(ns)",
+    );
+    put_line(words, text, found.link, note, run, flat, out);
 }
