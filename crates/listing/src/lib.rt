@@ -33,14 +33,9 @@ fn list_below(
         (old run) (new run) (old flat) (new flat) (old out) (new out) found ⌝ }
 {
     let child = memory::held_of(words, found.link);
-    let n = run[output::COUNT];
-    let len = run[output::LENGTH];
-    let label = run[output::LABEL];
-    let matched = run[output::MATCHED];
-    steps::enter(words, found, run);
+    let before = steps::enter(words, found, run);
     list_trie(words, text, rest, ask, child, run, flat, out);
-    steps::set_path(run, n, len, label);
-    run[output::MATCHED] = matched;
+    steps::leave(run, before);
 }
 
 // What a found branch gives: the line of a branch of bindings, the listing of a namespace. So small that the loops take it in.

@@ -38,7 +38,7 @@ use Rattle.listing.proofs.+list_below+list_branch+list_merged+list_name
 use Rattle.lines.proofs.line.Reads as line-reads
 use Rattle.steps.proofs.cut_query.Reads as cut-query-reads
 use Rattle.steps.proofs.enter.Reads as enter-reads
-use Rattle.steps.proofs.set_path.Reads as set-path-reads
+use Rattle.steps.proofs.leave.Reads as leave-reads
 use Rattle.steps.proofs.skips_bindings.Reads as skips-bindings-reads
 use Rattle.matches.proofs.first_match.Reads as first-match-reads
 use Rattle.matches.proofs.next_match.Reads as next-match-reads
@@ -142,33 +142,23 @@ pub +list-below+list-branch+list-merged+list-names+list-tree+list-trie-spec : {M
     μ-list-names
     μ-list-tree
     μ-list-trie
-    (λ t. list-below-lts.spec (held-of-reads.Asked, held-of-reads.Learnt, enter-reads.Asked, enter-reads.Learnt, list-trie-below t, list-trie.Post, set-path-reads.Asked, set-path-reads.Learnt)
+    (λ t. list-below-lts.spec (held-of-reads.Asked, held-of-reads.Learnt, enter-reads.Asked, enter-reads.Learnt, list-trie-below t, list-trie.Post, leave-reads.Asked, leave-reads.Learnt)
     (list-below-at t)
     list-below.Post
     {- held-of-requires -}
     (λ c κs. branch-named (c .before .before .before .before .before .pre .1 .can))
-    {- element-copy-out-n -}
-    (λ c. search needs)
-    {- element-copy-out-len -}
-    (λ c. search needs)
-    {- element-copy-out-label -}
-    (λ c. search needs)
-    {- element-copy-out-matched -}
-    (λ c. search needs)
     {- enter-requires -}
-    (λ c κs. (branch-named (c .before .before .before .before .before .before .before .before .before .before .before .pre .1 .can), below-ready (c .before .before .before .before .before .before .before .before .before .before .before .pre .1 .can) refl))
+    (λ c κs. (branch-named (c .before .before .before .before .before .before .before .pre .1 .can), below-ready (c .before .before .before .before .before .before .before .pre .1 .can) refl))
     {- list-trie-requires -}
-    (λ c κs. (omega (arith, c .before .before .before .before .before .before .before .before .before .before .before .before .before .before .before .pre .0, c .before .before .before .before .before .before .before .before .before .held-of .ensures, child-earlier (space-at (c .before .before .before .before .before .before .before .before .before .before .before .before .before .before .before .pre .1 .can) refl .0)), namespace-ready (c .before .before .before .before .before .before .before .before .before .before .before .before .before .before .before .pre .1) (c .before .before .before .enter .ensures) (c .before .before .before .before .before .before .before .before .before .held-of .ensures)))
-    {- set-path-requires -}
-    (λ c κs. namespace-sized (c .before .before .before .before .before .before .before .before .before .before .before .before .before .before .before .before .before .before .before .before .before .pre .1) (c .before .before .before .before .before .before .before .before .before .enter .ensures) (c .before .before .before .before .before .before .before .before .before .before .before .before .before .before .before .held-of .ensures) (c .before .before .before .before .before .list-trie .ensures))
-    {- element-write-run -}
-    (λ c. search needs)
+    (λ c κs. (omega (arith, c .before .before .before .before .before .before .before .before .before .before .before .pre .0, c .before .before .before .before .before .held-of .ensures, child-earlier (space-at (c .before .before .before .before .before .before .before .before .before .before .before .pre .1 .can) refl .0)), namespace-ready (c .before .before .before .before .before .before .before .before .before .before .before .pre .1) (c .before .before .before .enter .ensures .1) (c .before .before .before .before .before .held-of .ensures)))
+    {- leave-requires -}
+    (λ c κs. namespace-sized (c .before .before .before .before .before .before .before .before .before .before .before .before .before .before .before .before .before .pre .1) (c .before .before .before .before .before .before .before .before .before .enter .ensures .1) (c .before .before .before .before .before .before .before .before .before .before .before .held-of .ensures) (c .before .before .before .before .before .list-trie .ensures))
     {- same-length -}
     (λ c. search needs)
     {- same-length-2 -}
     (λ c. search needs)
     {- returns -}
-    (λ c. namespace-runs (c .before .before .before .before .before .before .before .before .before .before .before .before .before .before .before .before .before .before .before .before .before .before .pre .1) (c .before .before .before .before .before .before .before .before .before .before .enter .ensures) (c .before .before .before .before .before .before .before .before .before .before .before .before .before .before .before .before .held-of .ensures) (c .before .before .before .before .before .before .list-trie .ensures) (c .set-path .ensures)))
+    (λ c. namespace-runs (c .before .before .before .before .before .before .before .before .before .before .before .before .before .before .before .before .before .before .pre .1) (c .before .before .before .before .before .before .before .before .before .before .enter .ensures .1) (c .before .before .before .before .before .before .before .before .before .before .before .before .held-of .ensures) (c .before .before .before .before .before .before .list-trie .ensures) (c .before .before .before .before .before .before .before .before .before .before .enter .ensures .0) (c .leave .ensures)))
     (λ t. list-branch-lts.spec (line-reads.Asked, line-reads.Learnt, list-below-below t, list-below.Post)
     (list-branch-at t)
     list-branch.Post
