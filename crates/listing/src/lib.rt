@@ -225,8 +225,7 @@ pub fn list_trie(
     let t = memory::trie_of(words, trie);
     let c = steps::cut_query(query, base, run[output::MATCHED]);
     let skip = steps::skips_bindings(run, query.len(), c.next);
-    run[output::ENTERED] = before + 1;
-    run[output::MATCHED] = c.matched;
+    steps::begin(run, c.matched);
     let len = c.len;
     let next = c.next;
     let namespaces = Search {

@@ -53,6 +53,10 @@ pub record Skips (run : List ℕ) (size next : ℕ) (r : Bool) : Type 0 where
   pub when : r ≡ true → (next < size) ⊎ Past (limits-in run) (getD run 20 0) (getD run 21 0)
   pub unless : r ≡ false → size ≤ next
 
+-- The run with one more trie entered, and the match length m.
+abbrev pub begun : List ℕ → ℕ → List ℕ
+begun run m = set (set run 19 (getD run 19 0 + 1)) 25 m
+
 -- What a run has before it enters a namespace.
 abbrev pub before-of : List ℕ → Before
 before-of run = record { n = getD run 16 0; len = getD run 17 0; label = getD run 18 0; matched = getD run 25 0 }

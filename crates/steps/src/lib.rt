@@ -7,8 +7,8 @@ ghost use lib.ListN.{length};
 ghost use Rattle.source.specs.Lent.{old, new};
 ghost use Rattle.source.specs.Limits.{longest-query, deepest-trie, record-words};
 ghost use Rattle.source.specs.Text.{ends-in-dot};
-ghost use Rattle.output.specs.Run.{path-in, run-size};
-ghost use Rattle.steps.specs.Steps.{Cuts, Skips, Entered, PathSet, before-of, left};
+ghost use Rattle.output.specs.Run.{path-in, tally-in, run-size};
+ghost use Rattle.steps.specs.Steps.{Cuts, Skips, Entered, PathSet, begun, before-of, left};
 
 // Where a query is cut: the first segment's length, where the rest begins, and the match length of what the segment takes.
 pub struct Cut {
@@ -48,6 +48,15 @@ pub fn skips_bindings(run: &[usize; output::RUN], size: usize, next: usize) -> b
         return true;
     }
     run[output::MOST_BYTES] < run[output::BYTES]
+}
+
+// Counts the trie at hand as entered, and gives the run the match length of its lists.
+pub fn begin(run: &mut [usize; output::RUN], matched: usize)
+    requires { ⌜ (length (now run) ≡ run-size) × (tally-in (now run) .entered ≤ 4294967295) ⌝ }
+    ensures { λ _. ⌜ new run ≡ begun (old run) matched ⌝ }
+{
+    run[output::ENTERED] = run[output::ENTERED] + 1;
+    run[output::MATCHED] = matched;
 }
 
 // What a run has again when it leaves a namespace: the numbers of its path, and its match length.
