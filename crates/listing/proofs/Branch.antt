@@ -5,7 +5,7 @@ use mathlib.Core.Bool.{Bool, true, false, true≢false}
 use mathlib.Core.List.{List, _∷_}
 use mathlib.Core.Option.{Option}
 use native.Mathlib.Omega.{arith}
-use lib.ListN.{length, getD, set}
+use lib.ListN.{length, getD}
 use lib.Seq.{getD-set-same}
 use Rattle.source.specs.Text.{Str}
 use Rattle.source.specs.Types.{Level, Value, bind, ns}
@@ -27,9 +27,10 @@ use Rattle.lines.proofs.Run.{path-then, path-matched, tally-matched, tally-afte
 use Rattle.lines.specs.Lines.{CanList, Listed}
 use Rattle.asks.specs.declared.Ask.{Ask}
 use Rattle.lines.specs.declared.Labelled.{Labelled}
-use Rattle.steps.specs.Steps.{PathDown, Entered, PathSet}
+use Rattle.steps.specs.Steps.{PathDown, Entered, PathSet, before-of, left}
+use Rattle.steps.specs.declared.Before.{Before}
 use Rattle.listing.specs.Runs.{level-of, BranchReady, BranchRuns, TrieReady, TrieRuns, BranchAsked, BranchListed, TrieAsked, TrieListed}
-use Rattle.steps.proofs.PathDown.{branch-fits, path-down, on-path-down}
+use Rattle.steps.proofs.PathDown.{branch-fits, path-down, on-path-down, given, path-set}
 use Rattle.memory.proofs.At.{at-of}
 
 -- The trie that a branch of namespaces holds.
@@ -146,24 +147,31 @@ module _ {ws txt : List ℕ} {rest : Str} {ask : Ask} {f : Labelled} {run run₁
     pub namespace-sized : length run₂ ≡ run-size
     namespace-sized = t .same .size ∙ d .down .size ∙ r .can .ready .path-ok .sized
 
-    module _ {run₃ : List ℕ} (z : PathSet run₂ run₃ (getD run 16 0) (getD run 17 0) (getD run 18 0)) where
-      path-back : SamePath run run₃
-      path-back = record {
-        size = z .size ∙ t .same .size ∙ d .down .size;
-        links = λ j h. z .links j (omega (arith, r .can .ready .path-ok .few)) ∙ t .same .links j (omega (arith, d .down .count)) ∙ d .down .before j h;
-        count = z .count;
-        len-is = z .len-is;
-        label-is = z .label-is;
-        limits-same = limits-after run₂ run₃ (z .after) ∙ t .same .limits-same ∙ limits-after run run₁ (d .after);
-      }
+    -- The run as its path is set again.
+    abbrev back : List ℕ
+    back = given run₂ (getD run 16 0) (getD run 17 0) (getD run 18 0)
 
-      pub namespace-runs : BranchListed ws txt rest ask false run (set run₃ 25 (matched-in run)) flat flat′ out out′ f
-      namespace-runs = record {
-        same = record {
-          path = path-then path-back (path-matched run₃ (matched-in run) (omega (arith, z .count, r .can .ready .path-ok .few)));
-          matched-same = getD-set-same run₃ 25 (matched-in run) 0 (omega (arith, path-back .size, r .can .ready .path-ok .sized));
-        };
-        runs =
-            let k = rw (limits-after run run₁ (d .after), d .after 25 (omega arith), tally-after run run₁ (d .after)) at (t .runs) in
-            space-runs (r .can) refl (d .down) c (rw (tally-matched run₃ (matched-in run), tally-after run₂ run₃ (z .after)) k);
-      }
+    set-back : PathSet run₂ back (getD run 16 0) (getD run 17 0) (getD run 18 0)
+    set-back = path-set run₂ (getD run 16 0) (getD run 17 0) (getD run 18 0) namespace-sized
+
+    path-back : SamePath run back
+    path-back = record {
+      size = set-back .size ∙ t .same .size ∙ d .down .size;
+      links = λ j h. set-back .links j (omega (arith, r .can .ready .path-ok .few)) ∙ t .same .links j (omega (arith, d .down .count)) ∙ d .down .before j h;
+      count = set-back .count;
+      len-is = set-back .len-is;
+      label-is = set-back .label-is;
+      limits-same = limits-after run₂ back (set-back .after) ∙ t .same .limits-same ∙ limits-after run run₁ (d .after);
+    }
+
+    pub namespace-runs : {b : Before} {run₃ : List ℕ} → b ≡ before-of run → run₃ ≡ left run₂ b → BranchListed ws txt rest ask false run run₃ flat flat′ out out′ f
+    unfolding left
+    namespace-runs e k = rw (k, e) (record {
+      same = record {
+        path = path-then path-back (path-matched back (matched-in run) (omega (arith, set-back .count, r .can .ready .path-ok .few)));
+        matched-same = getD-set-same back 25 (matched-in run) 0 (omega (arith, path-back .size, r .can .ready .path-ok .sized));
+      };
+      runs =
+          let k = rw (limits-after run run₁ (d .after), d .after 25 (omega arith), tally-after run run₁ (d .after)) at (t .runs) in
+          space-runs (r .can) refl (d .down) c (rw (tally-matched back (matched-in run), tally-after run₂ back (set-back .after)) k);
+    })

@@ -33,14 +33,9 @@ fn list_below(
         (old run) (new run) (old flat) (new flat) (old out) (new out) found ⌝ }
 {
     let child = memory::held_of(words, found.link);
-    let n = run[output::COUNT];
-    let len = run[output::LENGTH];
-    let label = run[output::LABEL];
-    let matched = run[output::MATCHED];
-    steps::enter(words, found, run);
+    let before = steps::enter(words, found, run);
     list_trie(words, text, rest, ask, child, run, flat, out);
-    steps::set_path(run, n, len, label);
-    run[output::MATCHED] = matched;
+    steps::leave(run, before);
 }
 
 // What a found branch gives: the line of a branch of bindings, the listing of a namespace. So small that the loops take it in.
@@ -230,8 +225,7 @@ pub fn list_trie(
     let t = memory::trie_of(words, trie);
     let c = steps::cut_query(query, base, run[output::MATCHED]);
     let skip = steps::skips_bindings(run, query.len(), c.next);
-    run[output::ENTERED] = before + 1;
-    run[output::MATCHED] = c.matched;
+    steps::begin(run, c.matched);
     let len = c.len;
     let next = c.next;
     let namespaces = Search {

@@ -92,7 +92,7 @@ module _ {ws txt : List ℕ} {w : Which} {p r : Path} {branch label : ℕ} (ok :
 -- ---- The path of a run
 
 module _ (run : List ℕ) (n len label : ℕ) where
-  abbrev given : List ℕ
+  abbrev pub given : List ℕ
   given = set (set (set run 16 n) 17 len) 18 label
 
   kept : (k : ℕ) → (k ≡ 16 → ⊥) → (k ≡ 17 → ⊥) → (k ≡ 18 → ⊥) → getD given k 0 ≡ getD run k 0

@@ -6,7 +6,7 @@ use mathlib.Core.Logic.{_⊎_}
 use mathlib.Core.List.{List, [], _∷_, reverse, tail}
 use mathlib.Core.Option.{Option, some}
 use lib.Dec.{eqb}
-use lib.ListN.{length, getD, take, drop}
+use lib.ListN.{length, getD, set, take, drop}
 use Rattle.source.specs.Calls.{signed-word}
 use Rattle.source.specs.Limits.{deepest-trie}
 use Rattle.source.specs.Text.{Str, Query, segments, ends-in-dot}
@@ -21,6 +21,7 @@ use Rattle.output.specs.Path.{Path}
 use Rattle.lines.specs.Goes.{Past}
 use Rattle.output.specs.Run.{path-in, limits-in}
 use Rattle.lines.specs.declared.Labelled.{Labelled}
+use Rattle.steps.specs.declared.Before.{Before}
 use Rattle.steps.specs.declared.Cut.{Cut}
 
 -- ---- The place in the source's listing
@@ -51,6 +52,18 @@ pub record Cuts (query : Str) (len matched : ℕ) (c : Cut) : Type 0 where
 pub record Skips (run : List ℕ) (size next : ℕ) (r : Bool) : Type 0 where
   pub when : r ≡ true → (next < size) ⊎ Past (limits-in run) (getD run 20 0) (getD run 21 0)
   pub unless : r ≡ false → size ≤ next
+
+-- The run with one more trie entered, and the match length m.
+abbrev pub begun : List ℕ → ℕ → List ℕ
+begun run m = set (set run 19 (getD run 19 0 + 1)) 25 m
+
+-- What a run has before it enters a namespace.
+abbrev pub before-of : List ℕ → Before
+before-of run = record { n = getD run 16 0; len = getD run 17 0; label = getD run 18 0; matched = getD run 25 0 }
+
+-- The run with that again.
+unfoldable pub left : List ℕ → Before → List ℕ
+left run b = set (set (set (set run 16 (b .n)) 17 (b .len)) 18 (b .label)) 25 (b .matched)
 
 -- The path p with one more branch.
 pub record PathDown (ws : List ℕ) (p : Path) (branch label : ℕ) (r : Path) : Type 0 where

@@ -7,8 +7,8 @@ ghost use lib.ListN.{length};
 ghost use Rattle.source.specs.Lent.{old, new};
 ghost use Rattle.source.specs.Limits.{longest-query, deepest-trie, record-words};
 ghost use Rattle.source.specs.Text.{ends-in-dot};
-ghost use Rattle.output.specs.Run.{path-in, run-size};
-ghost use Rattle.steps.specs.Steps.{Cuts, Skips, Entered, PathSet};
+ghost use Rattle.output.specs.Run.{path-in, tally-in, run-size};
+ghost use Rattle.steps.specs.Steps.{Cuts, Skips, Entered, PathSet, begun, before-of, left};
 
 // Where a query is cut: the first segment's length, where the rest begins, and the match length of what the segment takes.
 pub struct Cut {
@@ -50,8 +50,25 @@ pub fn skips_bindings(run: &[usize; output::RUN], size: usize, next: usize) -> b
     run[output::MOST_BYTES] < run[output::BYTES]
 }
 
+// Counts the trie at hand as entered, and gives the run the match length of its lists.
+pub fn begin(run: &mut [usize; output::RUN], matched: usize)
+    requires { ⌜ (length (now run) ≡ run-size) × (tally-in (now run) .entered ≤ 4294967295) ⌝ }
+    ensures { λ _. ⌜ new run ≡ begun (old run) matched ⌝ }
+{
+    run[output::ENTERED] = run[output::ENTERED] + 1;
+    run[output::MATCHED] = matched;
+}
+
+// What a run has again when it leaves a namespace: the numbers of its path, and its match length.
+pub struct Before {
+    pub n: usize,
+    pub len: usize,
+    pub label: usize,
+    pub matched: usize,
+}
+
 // Gives the path as many of its links, the length and the label.
-pub fn set_path(run: &mut [usize; output::RUN], n: usize, len: usize, label: usize)
+fn set_path(run: &mut [usize; output::RUN], n: usize, len: usize, label: usize)
     requires { ⌜ length (now run) ≡ run-size ⌝ }
     ensures { λ _. ⌜ PathSet (old run) (new run) n len label ⌝ }
 {
@@ -60,18 +77,37 @@ pub fn set_path(run: &mut [usize; output::RUN], n: usize, len: usize, label: usi
     run[output::LABEL] = label;
 }
 
-// Puts a branch of namespaces onto the path.
-pub fn enter(words: &[u32], found: Labelled, run: &mut [usize; output::RUN])
+// Puts a branch of namespaces onto the path. The answer is for `leave`.
+pub fn enter(words: &[u32], found: Labelled, run: &mut [usize; output::RUN]) -> Before
     requires { ⌜ (0 < found .link) × (found .link * record-words ≤ length (now words)) ⌝ }
     requires { ⌜ (length (now run) ≡ run-size) × (path-in (now run) .n < deepest-trie) × (path-in (now run) .len ≤ longest-query) ⌝ }
+    ensures { λ r. ⌜ r ≡ before-of (old run) ⌝ }
     ensures { λ _. ⌜ Entered (old words) found (old run) (new run) ⌝ }
 {
     let n = run[output::COUNT];
-    let len = run[output::LENGTH] + memory::text_len(words, found.link) as usize + 1;
-    let mut label = run[output::LABEL];
+    let before = Before {
+        n: n,
+        len: run[output::LENGTH],
+        label: run[output::LABEL],
+        matched: run[output::MATCHED],
+    };
+    let len = before.len + memory::text_len(words, found.link) as usize + 1;
+    let mut label = before.label;
     if n == 0 {
         label = found.label as usize;
     }
     run[n] = found.link as usize;
     set_path(run, n + 1, len, label);
+    before
+}
+
+// Takes the branch off again: the run stands as before it.
+pub fn leave(run: &mut [usize; output::RUN], before: Before)
+    requires { ⌜ length (now run) ≡ run-size ⌝ }
+    ensures { λ _. ⌜ new run ≡ left (old run) before ⌝ }
+{
+    run[output::COUNT] = before.n;
+    run[output::LENGTH] = before.len;
+    run[output::LABEL] = before.label;
+    run[output::MATCHED] = before.matched;
 }

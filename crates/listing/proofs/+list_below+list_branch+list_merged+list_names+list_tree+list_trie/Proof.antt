@@ -36,9 +36,10 @@ use Rattle.listing.proofs.list_trie.Reads as list-trie
 use Rattle.listing.proofs.list_trie.Kinds as list-trie-kinds
 use Rattle.listing.proofs.+list_below+list_branch+list_merged+list_names+list_tree+list_trie.Lts-list_trie as list-trie-lts
 use Rattle.lines.proofs.line.Reads as line-reads
+use Rattle.steps.proofs.begin.Reads as begin-reads
 use Rattle.steps.proofs.cut_query.Reads as cut-query-reads
 use Rattle.steps.proofs.enter.Reads as enter-reads
-use Rattle.steps.proofs.set_path.Reads as set-path-reads
+use Rattle.steps.proofs.leave.Reads as leave-reads
 use Rattle.steps.proofs.skips_bindings.Reads as skips-bindings-reads
 use Rattle.matches.proofs.first_match.Reads as first-match-reads
 use Rattle.matches.proofs.next_match.Reads as next-match-reads
@@ -142,33 +143,23 @@ pub +list-below+list-branch+list-merged+list-names+list-tree+list-trie-spec : {M
     μ-list-names
     μ-list-tree
     μ-list-trie
-    (λ t. list-below-lts.spec (held-of-reads.Asked, held-of-reads.Learnt, enter-reads.Asked, enter-reads.Learnt, list-trie-below t, list-trie.Post, set-path-reads.Asked, set-path-reads.Learnt)
+    (λ t. list-below-lts.spec (held-of-reads.Asked, held-of-reads.Learnt, enter-reads.Asked, enter-reads.Learnt, list-trie-below t, list-trie.Post, leave-reads.Asked, leave-reads.Learnt)
     (list-below-at t)
     list-below.Post
     {- held-of-requires -}
     (λ c κs. branch-named (c .before .before .before .before .before .pre .1 .can))
-    {- element-copy-out-n -}
-    (λ c. search needs)
-    {- element-copy-out-len -}
-    (λ c. search needs)
-    {- element-copy-out-label -}
-    (λ c. search needs)
-    {- element-copy-out-matched -}
-    (λ c. search needs)
     {- enter-requires -}
-    (λ c κs. (branch-named (c .before .before .before .before .before .before .before .before .before .before .before .pre .1 .can), below-ready (c .before .before .before .before .before .before .before .before .before .before .before .pre .1 .can) refl))
+    (λ c κs. (branch-named (c .before .before .before .before .before .before .before .pre .1 .can), below-ready (c .before .before .before .before .before .before .before .pre .1 .can) refl))
     {- list-trie-requires -}
-    (λ c κs. (omega (arith, c .before .before .before .before .before .before .before .before .before .before .before .before .before .before .before .pre .0, c .before .before .before .before .before .before .before .before .before .held-of .ensures, child-earlier (space-at (c .before .before .before .before .before .before .before .before .before .before .before .before .before .before .before .pre .1 .can) refl .0)), namespace-ready (c .before .before .before .before .before .before .before .before .before .before .before .before .before .before .before .pre .1) (c .before .before .before .enter .ensures) (c .before .before .before .before .before .before .before .before .before .held-of .ensures)))
-    {- set-path-requires -}
-    (λ c κs. namespace-sized (c .before .before .before .before .before .before .before .before .before .before .before .before .before .before .before .before .before .before .before .before .before .pre .1) (c .before .before .before .before .before .before .before .before .before .enter .ensures) (c .before .before .before .before .before .before .before .before .before .before .before .before .before .before .before .held-of .ensures) (c .before .before .before .before .before .list-trie .ensures))
-    {- element-write-run -}
-    (λ c. search needs)
+    (λ c κs. (omega (arith, c .before .before .before .before .before .before .before .before .before .before .before .pre .0, c .before .before .before .before .before .held-of .ensures, child-earlier (space-at (c .before .before .before .before .before .before .before .before .before .before .before .pre .1 .can) refl .0)), namespace-ready (c .before .before .before .before .before .before .before .before .before .before .before .pre .1) (c .before .before .before .enter .ensures .1) (c .before .before .before .before .before .held-of .ensures)))
+    {- leave-requires -}
+    (λ c κs. namespace-sized (c .before .before .before .before .before .before .before .before .before .before .before .before .before .before .before .before .before .pre .1) (c .before .before .before .before .before .before .before .before .before .enter .ensures .1) (c .before .before .before .before .before .before .before .before .before .before .before .held-of .ensures) (c .before .before .before .before .before .list-trie .ensures))
     {- same-length -}
     (λ c. search needs)
     {- same-length-2 -}
     (λ c. search needs)
     {- returns -}
-    (λ c. namespace-runs (c .before .before .before .before .before .before .before .before .before .before .before .before .before .before .before .before .before .before .before .before .before .before .pre .1) (c .before .before .before .before .before .before .before .before .before .before .enter .ensures) (c .before .before .before .before .before .before .before .before .before .before .before .before .before .before .before .before .held-of .ensures) (c .before .before .before .before .before .before .list-trie .ensures) (c .set-path .ensures)))
+    (λ c. namespace-runs (c .before .before .before .before .before .before .before .before .before .before .before .before .before .before .before .before .before .before .pre .1) (c .before .before .before .before .before .before .before .before .before .before .enter .ensures .1) (c .before .before .before .before .before .before .before .before .before .before .before .before .held-of .ensures) (c .before .before .before .before .before .before .list-trie .ensures) (c .before .before .before .before .before .before .before .before .before .before .enter .ensures .0) (c .leave .ensures)))
     (λ t. list-branch-lts.spec (line-reads.Asked, line-reads.Learnt, list-below-below t, list-below.Post)
     (list-branch-at t)
     list-branch.Post
@@ -327,7 +318,7 @@ pub +list-below+list-branch+list-merged+list-names+list-tree+list-trie-spec : {M
     (λ c. c .before .before .loop .inv .along .left .out-size)
     {- returns-2 -}
     (λ c. stepping-done (c .before .before .loop .inv) (omega (arith, c .if1 .left))))
-    λ t. list-trie-lts.spec (trie-of-reads.Asked, trie-of-reads.Learnt, cut-query-reads.Asked, cut-query-reads.Learnt, skips-bindings-reads.Asked, skips-bindings-reads.Learnt, list-names-below t, list-names.Post)
+    λ t. list-trie-lts.spec (trie-of-reads.Asked, trie-of-reads.Learnt, cut-query-reads.Asked, cut-query-reads.Learnt, skips-bindings-reads.Asked, skips-bindings-reads.Learnt, begin-reads.Asked, begin-reads.Learnt, list-names-below t, list-names.Post)
     (list-trie-at t)
     list-trie.Post
     {- element-copy-out-budget -}
@@ -350,27 +341,23 @@ pub +list-below+list-branch+list-merged+list-names+list-tree+list-trie-spec : {M
     (λ c κs. cut-ready (c .before .before .before .before .before .before .before .before .before .before .before .pre .1 .can))
     {- skips-bindings-requires -}
     (λ c κs. search needs)
-    {- add-run-2 -}
-    (λ c. omega (arith, c .before .before .before .before .before .if1 .left, c .before .before .before .before .before .before .before .before .before .before .before .before .before .before .pre .1 .can .ready .small .budget-small))
-    {- element-write-run-2 -}
-    (λ c. search needs)
-    {- element-write-run-3 -}
-    (λ c. search needs)
+    {- begin-requires -}
+    (λ c κs. (c .before .before .before .before .before .before .before .before .before .before .before .before .before .before .before .pre .1 .can .ready .path-ok .sized, omega (arith, c .before .before .before .before .before .before .if1 .left, c .before .before .before .before .before .before .before .before .before .before .before .before .before .before .before .pre .1 .can .ready .small .budget-small)))
     {- list-names-requires -}
-    (λ c κs. (omega (arith, c .before .before .before .before .before .before .before .before .before .before .before .before .before .before .before .before .before .before .pre .0, namespaces-earlier (c .before .before .before .before .before .before .before .before .before .before .before .before .before .before .before .before .before .before .pre .1 .can) (c .before .before .before .before .before .before .before .before .trie-of .ensures) (c .before .before .before .before .before .before .cut-query .ensures)), namespaces-asked (c .before .before .before .before .before .before .before .before .before .before .before .before .before .before .before .before .before .before .pre .1) (c .before .before .before .before .before .before .before .before .trie-of .ensures) (c .before .before .before .before .before .before .cut-query .ensures) (omega (arith, c .before .before .before .before .before .before .before .before .before .if1 .left)) (same-run _)))
+    (λ c κs. (omega (arith, c .before .before .before .before .before .before .before .before .before .before .before .before .before .before .before .before .before .before .before .before .pre .0, namespaces-earlier (c .before .before .before .before .before .before .before .before .before .before .before .before .before .before .before .before .before .before .before .before .pre .1 .can) (c .before .before .before .before .before .before .before .before .before .before .trie-of .ensures) (c .before .before .before .before .before .before .before .before .cut-query .ensures)), rw (c .before .before .before .before .begin .ensures) (namespaces-asked (c .before .before .before .before .before .before .before .before .before .before .before .before .before .before .before .before .before .before .before .before .pre .1) (c .before .before .before .before .before .before .before .before .before .before .trie-of .ensures) (c .before .before .before .before .before .before .before .before .cut-query .ensures) (omega (arith, c .before .before .before .before .before .before .before .before .before .before .before .if1 .left)) (same-run _))))
     {- same-length -}
     (λ c. search needs)
     {- same-length-2 -}
     (λ c. search needs)
     {- returns-2 -}
-    (λ c. trie-few (c .before .before .before .before .before .before .before .before .before .before .before .before .before .before .before .before .before .before .before .before .before .before .before .pre .1) (c .before .before .before .before .before .before .before .before .before .before .before .before .before .trie-of .ensures) (c .before .before .before .before .before .before .before .before .before .before .before .cut-query .ensures) (omega (arith, c .before .before .before .before .before .before .before .before .before .before .before .before .before .before .if1 .left)) (c .before .before .before .before .before .before .before .before .before .skips-bindings .ensures .when (c .before .before .before .before .before .before .before .before .if2 .taken)) (c .before .before .before .before .list-names .ensures))
+    (λ c. trie-few (c .before .before .before .before .before .before .before .before .before .before .before .before .before .before .before .before .before .before .before .before .before .before .before .before .before .pre .1) (c .before .before .before .before .before .before .before .before .before .before .before .before .before .before .before .trie-of .ensures) (c .before .before .before .before .before .before .before .before .before .before .before .before .before .cut-query .ensures) (omega (arith, c .before .before .before .before .before .before .before .before .before .before .before .before .before .before .before .before .if1 .left)) (c .before .before .before .before .before .before .before .before .before .before .before .skips-bindings .ensures .when (c .before .before .before .before .before .before .before .before .if2 .taken)) (rw (c .before .before .before .before .before .before .before .before .before .begin .ensures) at (c .before .before .before .before .list-names .ensures)))
     {- list-names-requires-2 -}
-    (λ c κs. (omega (arith, c .before .before .before .before .before .before .before .before .before .before .before .before .before .before .before .before .before .before .pre .0, bindings-earlier (c .before .before .before .before .before .before .before .before .before .before .before .before .before .before .before .before .before .before .pre .1 .can) (c .before .before .before .before .before .before .before .before .trie-of .ensures) (c .before .before .before .before .before .before .cut-query .ensures)), bindings-asked (c .before .before .before .before .before .before .before .before .before .before .before .before .before .before .before .before .before .before .pre .1) (c .before .before .before .before .before .before .before .before .trie-of .ensures) (c .before .before .before .before .before .before .cut-query .ensures) (omega (arith, c .before .before .before .before .before .before .before .before .before .if1 .left))))
+    (λ c κs. (omega (arith, c .before .before .before .before .before .before .before .before .before .before .before .before .before .before .before .before .before .before .before .before .pre .0, bindings-earlier (c .before .before .before .before .before .before .before .before .before .before .before .before .before .before .before .before .before .before .before .before .pre .1 .can) (c .before .before .before .before .before .before .before .before .before .before .trie-of .ensures) (c .before .before .before .before .before .before .before .before .cut-query .ensures)), rw (c .before .before .before .before .begin .ensures) (bindings-asked (c .before .before .before .before .before .before .before .before .before .before .before .before .before .before .before .before .before .before .before .before .pre .1) (c .before .before .before .before .before .before .before .before .before .before .trie-of .ensures) (c .before .before .before .before .before .before .before .before .cut-query .ensures) (omega (arith, c .before .before .before .before .before .before .before .before .before .before .before .if1 .left)))))
     {- list-names-requires-3 -}
-    (λ c κs. (omega (arith, c .before .before .before .before .before .before .before .before .before .before .before .before .before .before .before .before .before .before .before .before .before .before .before .before .before .before .pre .0, namespaces-earlier (c .before .before .before .before .before .before .before .before .before .before .before .before .before .before .before .before .before .before .before .before .before .before .before .before .before .before .pre .1 .can) (c .before .before .before .before .before .before .before .before .before .before .before .before .before .before .before .before .trie-of .ensures) (c .before .before .before .before .before .before .before .before .before .before .before .before .before .before .cut-query .ensures)), namespaces-asked (c .before .before .before .before .before .before .before .before .before .before .before .before .before .before .before .before .before .before .before .before .before .before .before .before .before .before .pre .1) (c .before .before .before .before .before .before .before .before .before .before .before .before .before .before .before .before .trie-of .ensures) (c .before .before .before .before .before .before .before .before .before .before .before .before .before .before .cut-query .ensures) (omega (arith, c .before .before .before .before .before .before .before .before .before .before .before .before .before .before .before .before .before .if1 .left)) (c .before .before .before .before .before .before .before .list-names2 .ensures .same)))
+    (λ c κs. (omega (arith, c .before .before .before .before .before .before .before .before .before .before .before .before .before .before .before .before .before .before .before .before .before .before .before .before .before .before .before .before .pre .0, namespaces-earlier (c .before .before .before .before .before .before .before .before .before .before .before .before .before .before .before .before .before .before .before .before .before .before .before .before .before .before .before .before .pre .1 .can) (c .before .before .before .before .before .before .before .before .before .before .before .before .before .before .before .before .before .before .trie-of .ensures) (c .before .before .before .before .before .before .before .before .before .before .before .before .before .before .before .before .cut-query .ensures)), namespaces-asked (c .before .before .before .before .before .before .before .before .before .before .before .before .before .before .before .before .before .before .before .before .before .before .before .before .before .before .before .before .pre .1) (c .before .before .before .before .before .before .before .before .before .before .before .before .before .before .before .before .before .before .trie-of .ensures) (c .before .before .before .before .before .before .before .before .before .before .before .before .before .before .before .before .cut-query .ensures) (omega (arith, c .before .before .before .before .before .before .before .before .before .before .before .before .before .before .before .before .before .before .before .if1 .left)) (rw (c .before .before .before .before .before .before .before .before .before .before .before .before .begin .ensures) at (c .before .before .before .before .before .before .before .list-names2 .ensures .same))))
     {- same-length-3 -}
     (λ c. search needs)
     {- same-length-4 -}
     (λ c. search needs)
     {- returns-3 -}
-    (λ c. trie-all (c .before .before .before .before .before .before .before .before .before .before .before .before .before .before .before .before .before .before .before .before .before .before .before .before .before .before .before .before .before .before .before .pre .1) (c .before .before .before .before .before .before .before .before .before .before .before .before .before .before .before .before .before .before .before .before .before .trie-of .ensures) (c .before .before .before .before .before .before .before .before .before .before .before .before .before .before .before .before .before .before .before .cut-query .ensures) (omega (arith, c .before .before .before .before .before .before .before .before .before .before .before .before .before .before .before .before .before .before .before .before .before .before .if1 .left)) (c .before .before .before .before .before .before .before .before .before .before .before .before .before .before .before .before .before .skips-bindings .ensures .unless (c .before .before .before .before .before .before .before .before .before .before .before .before .before .before .before .before .if2 .left)) (c .before .before .before .before .before .before .before .before .before .before .before .before .list-names2 .ensures) (c .before .before .before .before .list-names3 .ensures))
+    (λ c. trie-all (c .before .before .before .before .before .before .before .before .before .before .before .before .before .before .before .before .before .before .before .before .before .before .before .before .before .before .before .before .before .before .before .before .before .pre .1) (c .before .before .before .before .before .before .before .before .before .before .before .before .before .before .before .before .before .before .before .before .before .before .before .trie-of .ensures) (c .before .before .before .before .before .before .before .before .before .before .before .before .before .before .before .before .before .before .before .before .before .cut-query .ensures) (omega (arith, c .before .before .before .before .before .before .before .before .before .before .before .before .before .before .before .before .before .before .before .before .before .before .before .before .if1 .left)) (c .before .before .before .before .before .before .before .before .before .before .before .before .before .before .before .before .before .before .before .skips-bindings .ensures .unless (c .before .before .before .before .before .before .before .before .before .before .before .before .before .before .before .before .if2 .left)) (rw (c .before .before .before .before .before .before .before .before .before .before .before .before .before .before .before .before .before .begin .ensures) at (c .before .before .before .before .before .before .before .before .before .before .before .before .list-names2 .ensures)) (c .before .before .before .before .list-names3 .ensures))

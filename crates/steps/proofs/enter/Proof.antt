@@ -1,10 +1,9 @@
 -- `enter` puts a branch onto the path.
-use mathlib.Core.Path.{_∙_}
+use mathlib.Core.Path.{refl, _∙_}
 use mathlib.Core.Logic.{⊎-elim}
 use native.Mathlib.Omega.{arith}
 use borrow.Author.Needs.{needs}
 use borrow.Author.Tests.{eq-eqb, ne-eqb}
-use lib.ListN.{length-set}
 use Rattle.steps.proofs.PathDown.{entered}
 use Rattle.steps.proofs.enter.Statement.{statement}
 use Rattle.steps.proofs.enter.Tie as tie
@@ -17,6 +16,10 @@ enter-spec =
     (λ c. search needs)
     {- element-copy-out-len -}
     (λ c. search needs)
+    {- element-copy-out-run -}
+    (λ c. search needs)
+    {- element-copy-out-len-2 -}
+    (λ c. search needs)
     {- text-len-requires -}
     (λ c κs. search needs)
     {- cast-len -}
@@ -24,8 +27,6 @@ enter-spec =
     {- add-len -}
     (λ c. search needs)
     {- add-len-2 -}
-    (λ c. search needs)
-    {- element-copy-out-label -}
     (λ c. search needs)
     {- cast-label -}
     (λ c. search needs)
@@ -38,6 +39,6 @@ enter-spec =
     {- add-set-path -}
     (λ c. search needs)
     {- set-path-requires -}
-    (λ c κs. simp length-set (c .before .before .before .before .before .before .before .before .pre .1 .0))
+    (λ c κs. search needs)
     {- returns -}
-    (λ c. entered (c .before .before .before .before .before .before .before .before .before .args .found) (c .before .before .before .before .before .before .before .before .before .pre .1) (c .set-path .ensures) (omega (arith, c .before .before .before .before .before .text-len .ensures)) (⊎-elim (λ z. z .2 ∙ rw (eq-eqb _ 0 (z .0 .taken))) (λ z. z .1 ∙ rw (ne-eqb _ 0 (z .0 .left))) (c .before .before .before .if1 .came))))
+    (λ c. (refl, entered (c .before .before .before .before .before .before .before .before .before .before .before .args .found) (c .before .before .before .before .before .before .before .before .before .before .before .pre .1) (c .set-path .ensures) (omega (arith, c .before .before .before .before .before .text-len .ensures)) (⊎-elim (λ z. z .2 ∙ rw (eq-eqb _ 0 (z .0 .taken))) (λ z. z .1 ∙ rw (ne-eqb _ 0 (z .0 .left))) (c .before .before .before .if1 .came)))))
