@@ -3,16 +3,9 @@ use Prim.Native.Nat.{ℕ, _≤_}
 use mathlib.Core.Path.{_≡_}
 use mathlib.Core.Bool.{true}
 use mathlib.Core.List.{List}
-use lib.ListN.{length, take}
 use Rattle.table.specs.Header.{IsSound}
 use Rattle.feed.specs.Feed.{Inside}
 use Rattle.console.specs.declared.AfterRead.{AfterRead}
-
--- A read leaves the bytes that were there, and what is read stands after them (a read of feed's `Run`).
-pub record Filled (input input′ : List ℕ) (have n : ℕ) : Type 0 where
-  pub kept : take have input′ ≡ take have input
-  pub more : have ≤ n
-  pub inside : n ≤ length input′
 
 -- The table is sound, and what is left lies in the input; after all replies, at its start, and leaves room for a read.
 pub record Rests (ws txt input : List ℕ) (r : AfterRead) : Type 0 where

@@ -1,74 +1,21 @@
 // The program `console`: it reads a script from standard input to its end and replies line by line. What is read and written no
 // contract can say: crate feed says what the replies are, and here its steps are fed. Replies are written out before each read, so
 // that whoever types a line sees its reply. A read or a write that fails ends the program, and nothing of a partial line is executed.
-mod help;
-
 ghost use Prim.Native.Nat.{_≤_};
 ghost use lib.ListN.{length};
-ghost use Rattle.source.specs.Lent.{old, new};
+ghost use Rattle.source.specs.Lent.{new};
 ghost use Rattle.table.specs.Header.{IsSound};
 ghost use Rattle.questions.specs.RowReplies.{room};
 ghost use Rattle.feed.specs.Feed.{Inside};
-ghost use Rattle.console.specs.Fed.{Filled, Rests};
+ghost use Rattle.console.specs.Fed.{Rests};
 use feed::Feed;
-use libc::STDIN_FILENO;
 use libc::STDOUT_FILENO;
 use table::Table;
-
-// How many bytes there are after a read, whether it failed, and whether it was only interrupted.
-struct Got {
-    n: usize,
-    failed: bool,
-    again: bool,
-}
 
 // What is left after a read was answered, and whether every reply was written.
 struct AfterRead {
     feed: Feed,
     written: bool,
-}
-
-// Reads more into `input`, after the first `have` bytes.
-fn fill(input: &mut [u8], have: usize) -> Got
-    requires { ⌜ have ≤ length (now input) ⌝ }
-    ensures { λ r. ⌜ Filled (old input) (new input) have (r .n) ⌝ }
-{
-    let got = libc::read(STDIN_FILENO, &mut input[have..]);
-    if got < 0 {
-        return Got {
-            n: have,
-            failed: true,
-            again: os::errno() == libc::EINTR,
-        };
-    }
-    Got {
-        n: have + io::count(got, &input[have..]),
-        failed: false,
-        again: false,
-    }
-}
-
-// Writes all of `text`, and says whether it did. A write that is interrupted is tried again.
-fn put(fd: i32, text: &[u8]) -> bool {
-    let mut done = 0;
-    let mut left: u64 = 18446744073709551615;
-    while done < text.len() {
-        if left == 0 {
-            return false;
-        }
-        left -= 1;
-        let got = libc::write(fd, &text[done..]);
-        if got < 0 {
-            if os::errno() != libc::EINTR {
-                return false;
-            }
-        }
-        if got == 0 {
-            return false;
-        }
-        done += io::count(got, &text[done..]);
-    }
-    true
 }
 
 // Answers the whole lines of what was read, and writes the replies.
@@ -91,7 +38,7 @@ fn reply_all(
         let r = feed::step(g, words, text, input, flat, pane, reply);
         let e = r.end;
         g = r.feed;
-        if !put(STDOUT_FILENO, &reply[..e]) {
+        if !streams::put(STDOUT_FILENO, &reply[..e]) {
             return AfterRead {
                 feed: g,
                 written: false,
@@ -122,7 +69,7 @@ fn reply_last(
 {
     let d = feed::last(f, words, text, input, flat, pane, reply);
     let e = d.end;
-    put(STDOUT_FILENO, &reply[..e])
+    streams::put(STDOUT_FILENO, &reply[..e])
 }
 
 // Reads and replies to the end of the input, or to the first fault.
@@ -138,7 +85,7 @@ fn talk() {
     let mut left: u64 = 18446744073709551615;
     while 0 < left {
         left -= 1;
-        let got = fill(&mut input, have);
+        let got = streams::fill(&mut input, have);
         if got.failed {
             if !got.again {
                 os::fail(b"console: standard input");
@@ -191,11 +138,11 @@ fn main() {
         return;
     }
     let n = os::arg(1, &mut arg);
-    if help::asked(&arg[..n]) {
-        help::print();
+    if streams::help::asked(&arg[..n]) {
+        streams::help::print();
         return;
     }
-    put(
+    streams::put(
         libc::STDERR_FILENO,
         b"console: unknown argument; --help says what it reads\n",
     );

@@ -3,8 +3,8 @@ use Prim.Native.Nat.{_≤_}
 use lib.ListN.{length}
 use native.Mathlib.Omega.{arith}
 use borrow.Author.Needs.{needs}
-use Rattle.console.proofs.put.Statement.{statement}
-use Rattle.console.proofs.put.Tie as tie
+use Rattle.streams.proofs.put.Statement.{statement}
+use Rattle.streams.proofs.put.Tie as tie
 
 abbrev Inv-loop : tie.InvT-loop
 Inv-loop fd text done₀ left₀ done left = done ≤ length text

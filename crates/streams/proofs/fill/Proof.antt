@@ -2,8 +2,8 @@
 use native.Mathlib.Omega.{arith}
 use lib.Seq.{take-at, length-take-le}
 use borrow.Author.Needs.{needs}
-use Rattle.console.proofs.fill.Statement.{statement}
-use Rattle.console.proofs.fill.Tie as tie
+use Rattle.streams.proofs.fill.Statement.{statement}
+use Rattle.streams.proofs.fill.Tie as tie
 
 pub fill-spec : {M : Type 1} → statement M
 fill-spec =
