@@ -3,12 +3,13 @@ use Prim.Native.Nat.{ℕ, _≤_, _<_, Ordering}
 use mathlib.Core.Path.{_≡_, refl, sym, ap, _∙_, subst}
 use mathlib.Core.List.{List}
 use mathlib.Core.Option.{some}
+use native.Mathlib.Decide.{ℕ-discrete}
 use native.Mathlib.Omega.{arith}
 use lib.ListN.{getD}
 use borrow.Author.Tests.{eq-eqb, ne-eqb}
 use Rattle.source.specs.Heap.{Heap, Forest, EmptyHeap, HeapOf, []ᶠ, _∷ᶠ_, heap-pop}
 use Rattle.source.specs.Forward.{sumᶠ}
-use Rattle.source.proofs.Heap.{sum-pop, All, Allᶠ}
+use Rattle.source.proofs.Heap.{sum-pop, All, Allᶠ, counted}
 use Rattle.heap.specs.Cells.{Root, Holds, Holdsᶠ, is, count, Sized, Rep, Repᶠ, Apart, Same, Makes}
 
 pub is-self : (v : ℕ) → is v v ≡ 1
@@ -107,6 +108,13 @@ mutual
   pub all-countedᶠ : (P : ℕ → Type 0) (hh : Forest ℕ) → ((j : ℕ) → 0 < sumᶠ (is j) hh → P j) → Allᶠ P hh
   all-countedᶠ P []ᶠ f = tt
   all-countedᶠ P (h ∷ᶠ hh) f = (all-counted P h (λ j l. f j (omega arith)), all-countedᶠ P hh (λ j l. f j (omega arith)))
+
+is-cell : (j v : ℕ) → 0 < is j v → j ≡ v
+is-cell j v l = elim (ℕ-discrete j v) [ yes e ↦ e | no n ↦ absurd (omega (arith, is-other j v n)) ]
+
+-- What holds of all holds of a cell that is counted.
+pub counted-all : (P : ℕ → Type 0) (j : ℕ) (h : Heap ℕ) → All P h → 0 < count j h → P j
+counted-all P j h p l = let k = counted P (is j) h l p in subst P (sym (is-cell j (k .0) (k .1))) (k .2)
 
 -- The popped cell is not in the rest.
 pub pop-free : (cmp : ℕ → ℕ → Ordering) (n : ℕ) (child next : List ℕ) {i : ℕ} {h : Heap ℕ} → Rep n child next i h

@@ -2,12 +2,12 @@
 use Prim.Native.Nat.{ℕ, zero, suc, _+_, _-_, _^_, _<_, compare, Ordering, Ordering·lt, Ordering·eq, Ordering·gt, zero-le}
 use mathlib.Core.Path.{_≡_, refl, sym, ap, ap₂, _∙_}
 use mathlib.Core.Bool.{Bool, true, false, cond}
-use mathlib.Core.List.{List}
+use mathlib.Core.List.{List, [], _∷_}
 use native.Mathlib.Omega.{arith}
 use lib.Dec.{ltb}
 use lib.IntN.{ℤ, pos, negsuc, _-ℤ_}
-use lib.ListN.{getD, set}
-use lib.Seq.{getD-set-other}
+use lib.ListN.{getD, take, drop}
+use lib.Seq.{getD-drop}
 use lib.Signed.{mag, ltZ}
 use mir.Syntax.{w32}
 use mir.Val.{SFits, toZ, ofZ, hbits}
@@ -20,8 +20,9 @@ use Rattle.source.specs.Lists.{Run, run-cmp}
 use Rattle.source.proofs.Order.{Viewℕ, compare-view}
 use Rattle.text.specs.Text.{ordering}
 use Rattle.text.specs.declared.Order.{Order}
-use Rattle.memory.specs.Layout.{key-at}
-use Rattle.heap.specs.Compare.{cell-cmp, sign, Stands}
+use Rattle.text.proofs.Beginnings.{Bytes, Before, beginning-says}
+use Rattle.memory.specs.Layout.{record-at, text-start, text-len, span, key-at}
+use Rattle.heap.specs.Compare.{Heads, cell-cmp, sign, Stands}
 
 -- ---- Signed differences of small numbers
 small : (n : ℕ) → n < 96 → toZ w32 n ≡ pos n
@@ -68,6 +69,30 @@ pub is-lt-test : (z : ℤ) {o : Ordering} {t : Bool} → mag z < 2 ^ hbits w32 �
 is-lt-test z f e g = ap is-lt (sym e) ∙ sym (is-lt-sign z) ∙ ap (λ (x : ℤ). ltZ x (pos 0)) (sym (toZ-ofZ w32 z (sfits-of f))) ∙ g
 
 -- ---- The comparator
+
+-- A part of bytes is of bytes.
+take-bytes : (n : ℕ) (s : Str) → Bytes s → Bytes (take n s)
+take-bytes zero s b j = omega arith
+take-bytes (suc n) [] b j = omega arith
+take-bytes (suc n) (x ∷ s) b zero = b 0
+take-bytes (suc n) (x ∷ s) b (suc j) = take-bytes n s (λ i. b (suc i)) j
+
+key-bytes : (ws txt : List ℕ) (x : ℕ) → Bytes txt → Bytes (key-at ws txt x)
+unfolding key-at span
+key-bytes ws txt x b =
+    let at = text-start (record-at ws x) in
+    take-bytes (text-len (record-at ws x)) (drop at txt) (λ j. rw (getD-drop at txt j 0) (b (at + j)))
+
+-- The cell with the smaller beginning comes first.
+pub by-beginning : {ws txt heads : List ℕ} {n a b : ℕ} → Bytes txt → Heads ws txt heads n → a < n → b < n → getD heads (96 + a) 0 < getD heads (96 + b) 0
+    → (Ordering·lt ≡ cell-cmp ws txt heads n a b) × (Ordering·gt ≡ cell-cmp ws txt heads n b a)
+unfolding cell-cmp then
+by-beginning {ws} {txt} {heads} {n} {a} {b} f o h k l =
+    let x = key-at ws txt (getD heads a 0) in
+    let y = key-at ws txt (getD heads b 0) in
+    let r : Before x y = beginning-says x y (key-bytes ws txt (getD heads a 0) f) (key-bytes ws txt (getD heads b 0) f) (omega (arith, o .begun a h, o .begun b k)) in
+    (rw (r .is-less), rw (r .is-more))
+
 module _ (ws txt heads : List ℕ) (n a b : ℕ) {o : Order} (e : ordering o ≡ string-compare (key-at ws txt (getD heads a 0)) (key-at ws txt (getD heads b 0))) where
   pub by-key : (s : Order) → o ≡ s → then (ordering s) (compare (n - 1 - a) (n - 1 - b)) ≡ cell-cmp ws txt heads n a b
   unfolding cell-cmp
@@ -82,8 +107,3 @@ pub cell-cmp-run : {A : Type 0} (key : A → Str) (ws txt heads : List ℕ) (n a
     → Stands key ws txt heads n a r → Stands key ws txt heads n b s → run-cmp key r s ≡ cell-cmp ws txt heads n a b
 unfolding cell-cmp run-cmp
 cell-cmp-run key ws txt heads n a b p q = rw (p .key-is, q .key-is, p .priority-is, q .priority-is)
-
--- A head counts for its own cell alone.
-pub cell-cmp-set : (ws txt heads : List ℕ) (n j l a b : ℕ) → (a ≡ j → ⊥) → (b ≡ j → ⊥) → cell-cmp ws txt (set heads j l) n a b ≡ cell-cmp ws txt heads n a b
-unfolding cell-cmp
-cell-cmp-set ws txt heads n j l a b p q = rw (getD-set-other heads j a l 0 p, getD-set-other heads j b l 0 q)

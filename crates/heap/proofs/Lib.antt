@@ -1,4 +1,5 @@
 pub mod Compare
+pub mod Heads
 pub mod CellCounts
 pub mod HeapMerge
 pub mod HeapMergePairs

@@ -14,7 +14,7 @@ use Rattle.source.specs.Shared.{Allˡ}
 use Rattle.heap.specs.Compare.{cell-cmp, Stands}
 use Rattle.heap.specs.Cells.{count, first-cells}
 use Rattle.heap.proofs.Compare.{cell-cmp-run}
-use Rattle.heap.proofs.CellCounts.{all-counted}
+use Rattle.heap.proofs.CellCounts.{all-counted, counted-all}
 use Rattle.heap.proofs.HeapMap.{map-insert, map-pairs, map-pop, map-from-list, map-same}
 
 Allˡ-append : {A : Type 0} (P : A → Type 0) (l : List A) (a : A) → Allˡ P l → P a → Allˡ P (l ++ (a ∷ []))
@@ -53,12 +53,13 @@ module _ {A : Type 0} (key : A → Str) (ws txt heads : List ℕ) (n : ℕ) (val
   stands-pop h p = map-pop val (cell-cmp ws txt heads n) (run-cmp key) (λ v. v < n) agree h p
 
   -- The cell v, which is not in the heap, stood for another list before.
-  pub stands-insert : (old : ℕ → Run A) (v : ℕ) → v < n → ((j : ℕ) → (j ≡ v → ⊥) → old j ≡ val j)
+  pub stands-insert : (old : ℕ → Run A) (v : ℕ) → v < n → ((j : ℕ) → j < n → (j ≡ v → ⊥) → old j ≡ val j)
       → (h : Heap ℕ) → All (λ v. v < n) h → count v h ≡ 0
       → heap-insert (run-cmp key) (heap-map old h) (val v) ≡ heap-map val (heap-insert (cell-cmp ws txt heads n) h v)
   stands-insert old v l same h p z =
       ap (λ (g : Heap (Run A)). heap-insert (run-cmp key) g (val v))
-      (map-same old val (λ j. j ≡ v → ⊥) same h (all-counted (λ j. j ≡ v → ⊥) h (λ j k e. omega (arith, ap (λ (x : ℕ). count x h) e))))
+      (map-same old val (λ j. (j < n) × (j ≡ v → ⊥)) (λ j q. same j (q .0) (q .1)) h
+      (all-counted (λ j. (j < n) × (j ≡ v → ⊥)) h (λ j k. (counted-all (λ v. v < n) j h p k, λ e. omega (arith, ap (λ (x : ℕ). count x h) e)))))
       ∙ map-insert val (cell-cmp ws txt heads n) (run-cmp key) (λ v. v < n) agree h v p l
 
   pub stands-from-list : (ls : List (List A)) → length ls ≡ n → Fits val 0 ls

@@ -12,11 +12,14 @@ ghost use Rattle.source.specs.Heap.{Heap, Forest, heap-from-list};
 ghost use Rattle.text.specs.Text.{ordering};
 ghost use Rattle.memory.specs.Layout.{key-at};
 ghost use Rattle.memory.specs.Read.{TextIn};
-ghost use Rattle.heap.specs.Compare.{Heads, cell-cmp, sign};
+ghost use Rattle.heap.specs.Compare.{Heads, with-head, cell-cmp, sign};
 ghost use Rattle.heap.specs.Cells.{Root, Rep, Repᶠ, Merges, Inserts, Pairs, Pops, first-cells};
 
 // How many lists a merge takes, and so how many cells there are. As a cell it is none.
 pub const CELLS: usize = memory::HEAVIEST as usize;
+
+// The heads of the cells: the branch of each, then the beginning of each one's key.
+pub const HEADS: usize = 2 * CELLS;
 
 const NO_CELL: u8 = memory::HEAVIEST as u8;
 
@@ -31,6 +34,16 @@ pub struct Cells {
     pub child: [u8; CELLS],
     pub next: [u8; CELLS],
     pub root: usize,
+}
+
+// Gives a cell the head `branch`, with the beginning of its key.
+pub fn set_head(words: &[u32], text: &[u8], heads: &mut [u64; HEADS], cell: usize, branch: u32)
+    requires { ⌜ TextIn (now words) (now text) branch ⌝ }
+    requires { ⌜ cell < heaviest-list ⌝ }
+    ensures { λ _. ⌜ new heads ≡ with-head (old words) (old text) (old heads) cell branch ⌝ }
+{
+    heads[cell] = branch as u64;
+    heads[CELLS + cell] = text::beginning(memory::key_of(words, text, branch));
 }
 
 // How the keys of two branches compare.
@@ -54,13 +67,22 @@ fn priority_difference(n: usize, a: usize, b: usize) -> i32
 }
 
 // The comparator of merge_increasing_lists_rev: by the keys of the heads, then by priority. Its sign is the answer.
-fn cell_cmp(words: &[u32], text: &[u8], heads: &[u32; CELLS], n: usize, a: usize, b: usize) -> i32
+// The keys are read only where their beginnings are the same.
+fn cell_cmp(words: &[u32], text: &[u8], heads: &[u64; HEADS], n: usize, a: usize, b: usize) -> i32
     requires { ⌜ Heads (now words) (now text) (now heads) n ⌝ }
     requires { ⌜ (a < n) × (b < n) ⌝ }
     ensures { λ r. ⌜ sign r ≡ cell-cmp (old words) (old text) (old heads) n a b ⌝ }
 {
-    let x = heads[a];
-    let y = heads[b];
+    let p = heads[CELLS + a];
+    let q = heads[CELLS + b];
+    if p < q {
+        return -1;
+    }
+    if q < p {
+        return 1;
+    }
+    let x = heads[a] as u32;
+    let y = heads[b] as u32;
     match compare_keys(words, text, x, y) {
         Order::Less => -1,
         Order::Same => priority_difference(n, a, b),
@@ -84,7 +106,7 @@ pub fn heap_merge(
     next: &mut [u8; CELLS],
     words: &[u32],
     text: &[u8],
-    heads: &[u32; CELLS],
+    heads: &[u64; HEADS],
     n: usize,
     a: usize,
     b: usize,
@@ -112,7 +134,7 @@ pub fn heap_insert(
     next: &mut [u8; CELLS],
     words: &[u32],
     text: &[u8],
-    heads: &[u32; CELLS],
+    heads: &[u64; HEADS],
     n: usize,
     i: usize,
     v: usize,
@@ -132,7 +154,7 @@ pub fn heap_merge_pairs(
     next: &mut [u8; CELLS],
     words: &[u32],
     text: &[u8],
-    heads: &[u32; CELLS],
+    heads: &[u64; HEADS],
     n: usize,
     i: usize,
 ) -> usize
@@ -171,7 +193,7 @@ pub fn heap_pop(
     next: &mut [u8; CELLS],
     words: &[u32],
     text: &[u8],
-    heads: &[u32; CELLS],
+    heads: &[u64; HEADS],
     n: usize,
     i: usize,
 ) -> Popped
@@ -188,7 +210,7 @@ pub fn heap_pop(
 }
 
 // heap_from_list, of the cells below `n`, the first one first.
-pub fn heap_from_list(words: &[u32], text: &[u8], heads: &[u32; CELLS], n: usize) -> Cells
+pub fn heap_from_list(words: &[u32], text: &[u8], heads: &[u64; HEADS], n: usize) -> Cells
     requires { ⌜ Heads (now words) (now text) (now heads) n ⌝ }
     ensures { λ r. ⌜ Rep n (r .child) (r .next) (r .root) (heap-from-list (cell-cmp (old words) (old text) (old heads) n) (first-cells n)) ⌝ }
 {

@@ -116,7 +116,7 @@ fn list_merged(
     let len = place.len;
     let rest = place.next;
     let mut roots = [0; merge::CELLS];
-    let mut heads = [0; merge::CELLS];
+    let mut heads = [0u64; merge::HEADS];
     let mut labels = [0; merge::CELLS];
     let start = merge::merge_start(
         words,

@@ -22,10 +22,14 @@ use Rattle.source.specs.Forward.{flat-in}
 use Rattle.source.proofs.Flat.{last-import}
 use Rattle.memory.specs.Layout.{record-at, span, Which, Item, tree, list, what, key-at, own-link, rest-link, sort-word, text-len, text-start}
 use Rattle.memory.specs.Stored.{weight-in}
+use Rattle.memory.specs.Read.{TextIn}
 use Rattle.memory.proofs.What.{what-none}
 use Rattle.memory.proofs.Seen.{link-later}
+use Rattle.heap.specs.Compare.{with-head}
+use Rattle.heap.proofs.Heads.{head-length, own-head, other-head, other-beginning, head-begun}
 use Rattle.tree.specs.Tree.{AnyTree}
 use Rattle.tree.specs.Links.{matches, head0, row-at}
+use Rattle.tree.proofs.Branches.{text-in}
 use Rattle.tree.proofs.Matches.{matches-of, prefix-rows, all-rows}
 use Rattle.names.specs.Names.{AnyList}
 use Rattle.names.proofs.Collections.{any-imported, any-own, collection-right, sort-tree, rest-list, own-tree, names-reads, imported-list, imported-reads, list-weight, rest-lighter}
@@ -34,6 +38,7 @@ use Rattle.names.specs.Entries.{LabelOk}
 use Rattle.merge.specs.Lists.{TreePart, elements, Full, SameCell, HasParts, no-more, more, match-lists-in, CollectedIn, Collected}
 use Rattle.merge.proofs.Cells.{no-match}
 use Rattle.memory.specs.Sound.{At}
+use Rattle.memory.proofs.At.{at-of}
 
 -- ---- What a tree's matches are
 module _ {ws txt : List ℕ} {w : Which} {v : Level} {root : ℕ} (t : At ws txt w (tree v) root) where
@@ -107,6 +112,13 @@ module _ {ws txt : List ℕ} {x own rest sort : ℕ} (s : Seen ws txt x own rest
   pub seen-tree : (sort ≡ 1 → ⊥) → AnyTree ws txt own
   seen-tree n = any-own (s .any) (s .some) (s .own-is) (λ e. n (s .sort-is ∙ e))
 
+  -- The first match of the tree has its key in the text.
+  pub first-in : (sort ≡ 1 → ⊥) → (p : Str) {first : ℕ} → first ≡ head0 (matches ws txt own p) → (first ≡ 0 → ⊥) → TextIn ws txt first
+  first-in n p {first} e z =
+      let a = seen-tree n in
+      let b = (rw (head-tail (matches ws txt own p) first e z .1) at (matches-of (a .tree) p)) .0 .branch in
+      text-in (record { which = a .which; level = a .level; tree = at-of (a .tree) (tree _) (omega arith) (b .link) }) (b .some)
+
   -- Of any table and level that the list is of.
   module _ {w : Which} {v : Level} (t : At ws txt w (list v) x) where
     rest-at : At ws txt w (list v) rest
@@ -135,6 +147,7 @@ module _ {ws txt : List ℕ} {w : Which} {v : Level} {l : ℕ} {p : Str} {roots 
         label-is = s .label ∙ b .label-is;
         others = b .others;
         first-is = rw (s .head) (b .first-is);
+        begun = rw (s .beginning, s .head) (b .begun);
         root-link = b .root-link;
         label-ok = b .label-ok;
       })
@@ -145,9 +158,9 @@ has-append : {ws txt : List ℕ} {w : Which} {v : Level} {l : ℕ} {p : Str} {ro
 has-append i j [] ds e no-more b = let f : j ≡ i = omega arith in rw f at b
 has-append i j (c ∷ cs) ds e (more h a) b = more h (has-append (suc i) j cs ds (omega arith) a b)
 
-pub full-set : {roots heads labels : List ℕ} (i a b c : ℕ) → Full roots heads labels → Full (set roots i a) (set heads i b) (set labels i c)
-full-set {roots} {heads} {labels} i a b c f =
-    record { of-roots = length-set roots i a ∙ f .of-roots; of-heads = length-set heads i b ∙ f .of-heads; of-labels = length-set labels i c ∙ f .of-labels }
+pub full-set : (ws txt : List ℕ) {roots heads labels : List ℕ} (i a b c : ℕ) → Full roots heads labels → Full (set roots i a) (with-head ws txt heads i b) (set labels i c)
+full-set ws txt {roots} {heads} {labels} i a b c f =
+    record { of-roots = length-set roots i a ∙ f .of-roots; of-heads = head-length ws txt heads i b ∙ f .of-heads; of-labels = length-set labels i c ∙ f .of-labels }
 
 -- ---- One collection
 pub collected-none : {ws txt : List ℕ} {p : Str} {x label i : ℕ} {roots heads labels : List ℕ} → x ≡ 0 → Full roots heads labels
@@ -156,7 +169,7 @@ unfolding flat-in nonempty
 collected-none {ws} {txt} e f = record {
   from = omega arith;
   full = f;
-  kept = λ j l. record { root = refl; head = refl; label = refl };
+  kept = λ j l. record { root = refl; head = refl; beginning = refl; label = refl };
   says = λ w v l imports t h o q. record { parts = []; count = omega arith; has = no-more; lists = λ term q a. rw (e, what-none w ws txt) };
 }
 
@@ -203,7 +216,7 @@ module _ {ws txt : List ℕ} {p : Str} {x own rest sort label i r : ℕ} {roots 
       kept = λ j l.
           let k = a .kept j l in
           let t = b .kept j (omega (arith, a .from)) in
-          record { root = t .root ∙ k .root; head = t .head ∙ k .head; label = t .label ∙ k .label };
+          record { root = t .root ∙ k .root; head = t .head ∙ k .head; beginning = t .beginning ∙ k .beginning; label = t .label ∙ k .label };
       says = λ w v l imports t h o q.
           imported-in t (b .kept)
           (a .says w v l (_ ∷ imports) (rw (s .own-is) (imported-list t (s .some) (of-list s e))) (omega (arith, s .own-is, collection-right t (s .some) .imported (of-list s e) .earlier))
@@ -234,21 +247,22 @@ module _ {ws txt : List ℕ} {p : Str} {x own rest sort label i r : ℕ} {roots 
     -- A tree with one.
     module _ (z : first ≡ 0 → ⊥) (f : Full roots heads labels) (small : i < 96) where
       cell-in : {w : Which} {v : Level} {l : ℕ} {imports : List Str} → At ws txt w (list v) x → x ≤ l → LabelOk ws w v l label → label-at ws txt label ≡ last-opt imports
-          → SameCell (set roots i own) (set heads i first) (set labels i label) roots′ heads′ labels′ i
-          → CollectedIn ws txt p rest label (i + 1) r (set roots i own) (set heads i first) (set labels i label) roots′ heads′ labels′ w v l imports
+          → SameCell (set roots i own) (with-head ws txt heads i first) (set labels i label) roots′ heads′ labels′ i
+          → CollectedIn ws txt p rest label (i + 1) r (set roots i own) (with-head ws txt heads i first) (set labels i label) roots′ heads′ labels′ w v l imports
           → CollectedIn ws txt p x label i r roots heads labels roots′ heads′ labels′ w v l imports
       unfolding elements
-      cell-in {w} {v} {l} {imports} t h o labelled k b =
+      cell-in {w} {v} {l} {imports} t h o labelled y b =
           let m = head-tail (matches ws txt own p) first e z in
           record {
             parts = record { root = own; label = label; imports = imports; labelled = labelled } ∷ b .parts;
             count = omega (arith, b .count);
             has = more
                 (record {
-                  root-is = k .root ∙ getD-set-same roots i own 0 (omega (arith, f .of-roots));
-                  label-is = k .label ∙ getD-set-same labels i label 0 (omega (arith, f .of-labels));
+                  root-is = y .root ∙ getD-set-same roots i own 0 (omega (arith, f .of-roots));
+                  label-is = y .label ∙ getD-set-same labels i label 0 (omega (arith, f .of-labels));
                   others = m .0;
-                  first-is = m .1 ∙ rw (k .head, getD-set-same heads i first 0 (omega (arith, f .of-heads)));
+                  first-is = m .1 ∙ rw (y .head, own-head ws txt heads i first small (f .of-heads));
+                  begun = rw (y .beginning, y .head) (head-begun ws txt heads i first small (f .of-heads) i small (λ n. absurd (n refl)));
                   root-link = rw (s .own-is) (link-later (omega arith) (collection-right t (s .some) .own (of-tree s t n)));
                   label-ok = o;
                 })
@@ -258,17 +272,18 @@ module _ {ws txt : List ℕ} {p : Str} {x own rest sort label i r : ℕ} {roots 
                 ∙ ap (λ (ls : List (List (PathElem × Value (Item w) v))). with-imports (imports, map (row-at w ws txt v q) (matches ws txt own p)) ∷ ls) (b .lists term q asks);
           }
 
-      pub collected-cell : Collected ws txt p rest label (i + 1) r (set roots i own) (set heads i first) (set labels i label) roots′ heads′ labels′
+      pub collected-cell : Collected ws txt p rest label (i + 1) r (set roots i own) (with-head ws txt heads i first) (set labels i label) roots′ heads′ labels′
           → Collected ws txt p x label i r roots heads labels roots′ heads′ labels′
       collected-cell b = record {
         from = omega (arith, b .from);
         full = b .full;
         kept = λ j l.
-            let k = b .kept j (omega arith) in
+            let y = b .kept j (omega arith) in
             record {
-              root = k .root ∙ getD-set-other roots i j own 0 (λ q. omega arith);
-              head = k .head ∙ getD-set-other heads i j first 0 (λ q. omega arith);
-              label = k .label ∙ getD-set-other labels i j label 0 (λ q. omega arith);
+              root = y .root ∙ getD-set-other roots i j own 0 (λ q. omega arith);
+              head = y .head ∙ other-head ws txt heads i first small j (omega arith) (λ q. omega arith);
+              beginning = y .beginning ∙ other-beginning ws txt heads i first small j (λ q. omega arith);
+              label = y .label ∙ getD-set-other labels i j label 0 (λ q. omega arith);
             };
         says = λ w v l imports t h o q.
             cell-in t h o q (b .kept i (omega arith)) (b .says w v l imports (rest-at s t) (omega (arith, rest-before s t)) o q);

@@ -3,7 +3,6 @@ use Prim.Native.Nat.{ℕ, zero, suc, _+_, _-_, _<_, _≤_}
 use mathlib.Core.Path.{_≡_, refl, sym, ap, ap₂, _∙_}
 use mathlib.Core.List.{List, [], _∷_, map, map-map, nil≢cons}
 use mathlib.Core.Option.{Option, none, some}
-use native.Mathlib.Decide.{ℕ-discrete}
 use native.Mathlib.Omega.{arith}
 use lib.ListN.{length, getD, length-map}
 use Rattle.source.specs.Text.{Str}
@@ -15,7 +14,7 @@ use Rattle.source.specs.Lists.{Run, run, first, priority, run-cmp, nonempty}
 use Rattle.source.specs.Listing.{SearchTerm, elem-key, with-imports}
 use Rattle.source.specs.Table.{last-opt}
 use Rattle.source.specs.Forward.{heap-map}
-use Rattle.source.proofs.Heap.{insert-all-more, All, All-merge, counted}
+use Rattle.source.proofs.Heap.{insert-all-more, All, All-merge}
 use Rattle.source.specs.Forward.{rest}
 use Rattle.source.proofs.Names.{OrderedN}
 use Rattle.source.proofs.Listed.{formed-orderedN}
@@ -26,9 +25,9 @@ use Rattle.memory.specs.Layout.{Which, Item, list, what, key-at, tree}
 use Rattle.memory.proofs.Seen.{link-later}
 use Rattle.memory.proofs.SoundTable.{IsItem, link-fine}
 use Rattle.heap.specs.Compare.{Heads, cell-cmp}
-use Rattle.heap.specs.Cells.{is, count, Rep, first-cells}
+use Rattle.heap.specs.Cells.{count, Rep, first-cells}
 use Rattle.heap.proofs.Compare.{cell-cmp-run}
-use Rattle.heap.proofs.CellCounts.{rep-below, is-other}
+use Rattle.heap.proofs.CellCounts.{rep-below, counted-all}
 use Rattle.heap.proofs.HeapMap.{map-insert}
 use Rattle.tree.specs.Links.{matches, row-at}
 use Rattle.tree.proofs.After.{after-first}
@@ -36,7 +35,7 @@ use Rattle.tree.proofs.Matches.{matches-none, matches-of, matches-increasing}
 use Rattle.names.specs.Entries.{Entry, entry-key, label-at, shown, outer, Asks}
 use Rattle.merge.specs.Lists.{TreePart, elements, HasPart, HasParts, more, match-lists-in, CollectedIn, Collected}
 use Rattle.merge.specs.Stream.{later, run-at, CellOk, Starts, state, OneTree}
-use Rattle.merge.proofs.Cells.{branch-head, stands}
+use Rattle.merge.proofs.Cells.{branch-head, branch-few, stands}
 use Rattle.memory.specs.Sound.{At}
 use Rattle.memory.proofs.At.{no-link, at-of}
 
@@ -184,9 +183,6 @@ module _ {ws txt : List ℕ} {w : Which} {v : Level} {x : ℕ} {p : Str} {roots 
 ordered : {ws txt : List ℕ} {w : Which} {v : Level} {x : ℕ} (t : At ws txt w (list v) x) → OrderedN (what w ws txt x (list v))
 ordered {ws} {txt} {w} {v} {x} t = formed-orderedN IsKey IsLabel (IsItem w) {l = v} (what w ws txt x (list v)) (link-fine (t .sound) w (list v) (omega arith) (t .link) .0)
 
-is-cell : (j k : ℕ) → 0 < is j k → j ≡ k
-is-cell j k l = elim (ℕ-discrete j k) [ yes e ↦ e | no n ↦ absurd (omega (arith, is-other j k n)) ]
-
 module _ {ws txt : List ℕ} {p : Str} {x n : ℕ} {roots₀ heads₀ labels₀ roots heads labels : List ℕ} (d : Collected ws txt p x 0 0 n roots₀ heads₀ labels₀ roots heads labels) where
   collected : (w : Which) (v : Level) → At ws txt w (list v) x → CollectedIn ws txt p x 0 0 n roots₀ heads₀ labels₀ roots heads labels w v x []
   unfolding last-opt
@@ -197,7 +193,12 @@ module _ {ws txt : List ℕ} {p : Str} {x n : ℕ} {roots₀ heads₀ labels₀ 
     has-cell j l = part-at t 0 (collected w v t .parts) (collected w v t .has) j j (omega arith) (omega (arith, collected w v t .count))
 
     pub start-heads : n ≤ 96 → Heads ws txt heads n
-    start-heads few = record { few = few; each = λ j l. branch-head t (part-cell t (has-cell j l) .branch) }
+    start-heads few = record {
+      few = few;
+      each = λ j l. branch-head t (part-cell t (has-cell j l) .branch);
+      small = λ j l. branch-few t (part-cell t (has-cell j l) .branch);
+      begun = λ j l. has-cell j l .begun;
+    }
 
   pub starts : {child next : List ℕ} {root : ℕ} → n ≤ 96 → Rep n child next root (heap-from-list (cell-cmp ws txt heads n) (first-cells n))
       → Starts ws txt x p (state roots heads labels child next n root 0)
@@ -220,10 +221,9 @@ module _ {ws txt : List ℕ} {p : Str} {x n : ℕ} {roots₀ heads₀ labels₀ 
             few = few;
             full = d .full;
             cells = λ j l. part-cell t (has-cell t j l);
+            begun = λ j l. has-cell t j l .begun;
             rep = rep;
-            live = λ j l.
-                let k = counted (λ i. i < n) (is j) h l (rep-below n child next few rep) in
-                part-live t (has-cell t j (omega (arith, is-cell j (k .0) (k .1), k .2)));
+            live = λ j l. part-live t (has-cell t j (counted-all (λ i. i < n) j h (rep-below n child next few rep) l));
           };
           given = none;
           last = refl;

@@ -111,7 +111,7 @@ module _ {ws txt : List ℕ} {p : Str} {n root last : ℕ} {roots heads labels c
         where
           relast : {h : Heap ℕ} {l : ℕ} → Holding ws txt w v x p (state roots′ heads′ labels child′ next′ n (t .root) last) h
               → Holding ws txt w v x p (state roots′ heads′ labels child′ next′ n (t .root) l) h
-          relast o = record { here = o .here; few = o .few; full = o .full; cells = o .cells; rep = o .rep; live = o .live }
+          relast o = record { here = o .here; few = o .few; full = o .full; cells = o .cells; begun = o .begun; rep = o .rep; live = o .live }
 
 -- ---- merge_next
 

@@ -1,5 +1,5 @@
 -- One cell taken from the heap: its list is at its end, or is put back from its next match on.
-use Prim.Native.Nat.{ℕ, _<_}
+use Prim.Native.Nat.{ℕ, _≤_, _<_}
 use mathlib.Core.Path.{_≡_, refl, sym, ap, _∙_}
 use mathlib.Core.Bool.{true}
 use mathlib.Core.List.{List, [], List·Memᴰ}
@@ -16,18 +16,20 @@ use Rattle.source.specs.Forward.{heap-map, forest-map}
 use Rattle.source.proofs.Heap.{sum-merge, sum-pairs}
 use Rattle.source.specs.Forward.{popped}
 use Rattle.memory.specs.Layout.{Which, key-at}
-use Rattle.heap.specs.Compare.{Heads, cell-cmp}
+use Rattle.memory.specs.Read.{TextIn}
+use Rattle.heap.specs.Compare.{Heads, with-head, cell-cmp}
 use Rattle.heap.specs.Cells.{Root, is, count, Rep, Makes, Inserts, Pops}
 use Rattle.heap.specs.declared.Popped.the-variants.{Nothing, Least}
 use Rattle.heap.proofs.CellCounts.{root-in, rep-below, all-counted, is-self, is-other}
+use Rattle.heap.proofs.Heads.{head-length, own-head, other-head, head-begun}
 use Rattle.heap.proofs.HeapMap.{map-same}
 use Rattle.heap.proofs.Rep.{stands-pairs, stands-insert}
 use Rattle.tree.specs.Tree.{AnyTree}
-use Rattle.tree.specs.Links.{branches, head0}
+use Rattle.tree.specs.Links.{branches, head0, BranchOf}
 use Rattle.names.specs.Entries.{Entry, entry-key}
 use Rattle.merge.specs.Stream.{later, run-at, left, Holding, state, TookCell, TookIn, Takes, CellsReady}
 use Rattle.merge.specs.declared.Taken.{Taken}
-use Rattle.merge.proofs.Cells.{Next, later-end, later-next, branch-head, cell-tree, next-branch, stands, remaining-less}
+use Rattle.merge.proofs.Cells.{Next, later-end, later-next, branch-head, branch-few, cell-tree, next-branch, stands, remaining-less}
 use Rattle.memory.proofs.At.{no-link}
 
 -- A cell's lists before and after a change of another cell.
@@ -96,6 +98,7 @@ module _ {ws txt : List ℕ} {w : Which} {v : Level} {x : ℕ} {p : Str} {n root
               begins = k .begins;
               label-ok = k .label-ok;
             };
+        begun = g .begun;
         rep = made .rep;
         live = λ j l. rw (getD-set-other roots c j 0 0 (not-c j l)) (live-still j l);
       };
@@ -103,25 +106,31 @@ module _ {ws txt : List ℕ} {w : Which} {v : Level} {x : ℕ} {p : Str} {n root
           ∙ map-same val (run-at ws txt p (set roots c 0) heads labels n) (λ j. j ≡ c → ⊥)
           (λ j ne. run-same ws txt p roots heads (set roots c 0) heads labels n j (sym (getD-set-other roots c j 0 0 ne)) refl)
           others (all-counted (λ j. j ≡ c → ⊥) others not-c));
-      fewer = remaining-less ws txt p roots heads (set roots c 0) heads c (λ j ne. (getD-set-other roots c j 0 0 ne, refl)) n below
+      fewer = remaining-less ws txt p roots heads (set roots c 0) heads c (λ j l ne. (getD-set-other roots c j 0 0 ne, refl)) n (g .few) below
           (rw (getD-set-same roots c 0 0 (omega (arith, below, g .few, g .full .of-roots)), ne-eqb (getD roots c 0) 0 (λ z. omega (arith, g .live c (omega (arith, is-self c)))))
           (omega arith));
     }
 
   -- It goes on with the branch r.
   module _ (r : ℕ) (next-match : Next (cell-tree g c below) p (getD heads c 0) r) (rest top : ℕ) (child′ next′ child″ next″ : List ℕ) (made : Makes n child next child′ next′ rest others)
-      (inserted : Inserts (cell-cmp ws txt (set heads c r) n) n child′ next′ child″ next″ top rest c) where
+      (inserted : Inserts (cell-cmp ws txt (with-head ws txt heads c r) n) n child′ next′ child″ next″ top rest c) where
     abbrev val′ : ℕ → Run Entry
-    val′ = run-at ws txt p roots (set heads c r) labels n
+    val′ = run-at ws txt p roots (with-head ws txt heads c r) labels n
 
-    head-set : getD (set heads c r) c 0 ≡ r
-    head-set = getD-set-same heads c r 0 (omega (arith, below, g .few, g .full .of-heads))
+    small : c < 96
+    small = omega (arith, below, g .few)
+
+    head-set : getD (with-head ws txt heads c r) c 0 ≡ r
+    head-set = own-head ws txt heads c r small (g .full .of-heads)
+
+    head-other : (j : ℕ) → j < n → (j ≡ c → ⊥) → getD (with-head ws txt heads c r) j 0 ≡ getD heads j 0
+    head-other j l ne = other-head ws txt heads c r small j (omega (arith, g .few)) ne
 
     val-next : put-back (entry-key ws txt) (val c) (heap-map val others) ≡ heap-insert (run-cmp (entry-key ws txt)) (heap-map val others) (val′ c)
     unfolding run-at put-back
     val-next = rw (next-match .is-next, head-set)
 
-    took-next : TookCell ws txt w v x p (state roots heads labels child next n root last) (state roots (set heads c r) labels child″ next″ n top last)
+    took-next : TookCell ws txt w v x p (state roots heads labels child next n root last) (state roots (with-head ws txt heads c r) labels child″ next″ n top last)
         (record { cell = c; branch = getD heads c 0; root = top }) c hh
     unfolding left heap-insert
     took-next =
@@ -130,40 +139,41 @@ module _ {ws txt : List ℕ} {w : Which} {v : Level} {x : ℕ} {p : Str} {n root
           cell-is = refl;
           below = below;
           branch-is = refl;
-          heap = heap-insert (cell-cmp ws txt (set heads c r) n) others c;
+          heap = heap-insert (cell-cmp ws txt (with-head ws txt heads c r) n) others c;
           holding = record {
             here = g .here;
             few = g .few;
-            full = record { of-roots = g .full .of-roots; of-heads = length-set heads c r ∙ g .full .of-heads; of-labels = g .full .of-labels };
+            full = record { of-roots = g .full .of-roots; of-heads = head-length ws txt heads c r ∙ g .full .of-heads; of-labels = g .full .of-labels };
             cells = λ j l.
                 let k = g .cells j l in
                 record {
                   root-link = k .root-link;
                   branch = elim (ℕ-discrete j c) [
                     | yes q ↦ rw (q, head-set) (next-branch g below next-match)
-                    | no ne ↦ rw (getD-set-other heads c j r 0 ne) (k .branch)
+                    | no ne ↦ rw (head-other j l ne) (k .branch)
                   ];
                   among = elim (ℕ-discrete j c) [
                     | yes q ↦ rw (q, head-set) (λ z. next-match .match .among)
-                    | no ne ↦ rw (getD-set-other heads c j r 0 ne) (k .among)
+                    | no ne ↦ rw (head-other j l ne) (k .among)
                   ];
                   begins = elim (ℕ-discrete j c) [
                     | yes q ↦ rw (q, head-set) (next-match .match .begins)
-                    | no ne ↦ rw (getD-set-other heads c j r 0 ne) (k .begins)
+                    | no ne ↦ rw (head-other j l ne) (k .begins)
                   ];
                   label-ok = k .label-ok;
                 };
+            begun = λ j l. head-begun ws txt heads c r small (g .full .of-heads) j (omega (arith, g .few)) (λ ne. g .begun j l);
             rep = m .rep;
             live = λ j l. elim (ℕ-discrete j c) [
               | yes q ↦ rw q (g .live c (omega (arith, is-self c)))
-              | no ne ↦ live-still j (omega (arith, sum-merge (cell-cmp ws txt (set heads c r) n) (is j) (HeapOf c []ᶠ) others, is-other j c ne))
+              | no ne ↦ live-still j (omega (arith, sum-merge (cell-cmp ws txt (with-head ws txt heads c r) n) (is j) (HeapOf c []ᶠ) others, is-other j c ne))
             ];
           };
           heap-is = sym (popped-is ∙ val-next
-              ∙ stands-insert (entry-key ws txt) ws txt (set heads c r) n val′ (stands ws txt p roots (set heads c r) labels n) val c below
-              (λ j ne. run-same ws txt p roots heads roots (set heads c r) labels n j refl (sym (getD-set-other heads c j r 0 ne)))
+              ∙ stands-insert (entry-key ws txt) ws txt (with-head ws txt heads c r) n val′ (stands ws txt p roots (with-head ws txt heads c r) labels n) val c below
+              (λ j l ne. run-same ws txt p roots heads roots (with-head ws txt heads c r) labels n j refl (sym (head-other j l ne)))
               others (rep-below n child′ next′ (g .few) (made .rep)) free);
-          fewer = remaining-less ws txt p roots heads roots (set heads c r) c (λ j ne. (refl, getD-set-other heads c j r 0 ne)) n below
+          fewer = remaining-less ws txt p roots heads roots (with-head ws txt heads c r) c (λ j l ne. (refl, other-head ws txt heads c r small j l ne)) n (g .few) below
               (rw (head-set, ne-eqb (getD roots c 0) 0 (λ z. omega (arith, g .live c (omega (arith, is-self c))))) (omega (arith, ap length (next-match .is-next))));
         }
 
@@ -216,6 +226,9 @@ module _ {ws txt : List ℕ} {p : Str} {n root cell rest : ℕ} {roots heads chi
   pub cell-small : cell < 96
   cell-small = omega (arith, popped-cell .0, g .few)
 
+  pub branch-fits : getD heads cell 0 ≤ 65536
+  branch-fits = branch-few (g .here) (g .cells cell (popped-cell .0) .branch)
+
   pub next-asks : AnyTree ws txt (getD roots cell 0) × (List·Memᴰ (getD heads cell 0) (branches ws (getD roots cell 0)) × (starts-with (key-at ws txt (getD heads cell 0)) p ≡ true))
   next-asks =
       let j = g .cells cell (popped-cell .0) in
@@ -228,22 +241,29 @@ module _ {ws txt : List ℕ} {p : Str} {n root cell rest : ℕ} {roots heads chi
         (λ labels last w v x c hh g q made. rw q (took-last g rest child′ next′ made (later-end (cell-tree g c (below g)) p (getD heads c 0) (sym (rw q at e) ∙ z))))
 
     module _ (ne : r ≡ 0 → ⊥) where
-      pub insert-asks : Heads ws txt (set heads cell r) n × (Root n rest × (cell < n))
+      pub next-in : TextIn ws txt r × (cell < 96)
+      next-in = let l = popped-cell .0 in (branch-head (g .here) (next-branch g l (later-next (cell-tree g cell l) p (getD heads cell 0) r e ne)), cell-small)
+
+      pub insert-asks : Heads ws txt (with-head ws txt heads cell r) n × (Root n rest × (cell < n))
       insert-asks =
           let l = popped-cell .0 in
-          let m = later-next (cell-tree g cell l) p (getD heads cell 0) r e ne in (
+          let m = later-next (cell-tree g cell l) p (getD heads cell 0) r e ne in
+          let branch : (j : ℕ) → j < n → BranchOf ws (y .which) (y .level) (y .link) (getD (with-head ws txt heads cell r) j 0) =
+          λ j i. elim (ℕ-discrete j cell) [
+            | yes q ↦ rw (q, own-head ws txt heads cell r cell-small (g .full .of-heads)) (next-branch g l m)
+            | no q ↦ rw (other-head ws txt heads cell r cell-small j (omega (arith, g .few)) q) (g .cells j i .branch)
+          ] in (
             record {
               few = g .few;
-              each = λ j i. elim (ℕ-discrete j cell) [
-                | yes q ↦ rw (q, getD-set-same heads cell r 0 (omega (arith, cell-small, g .full .of-heads))) (branch-head (g .here) (next-branch g l m))
-                | no q ↦ rw (getD-set-other heads cell j r 0 q) (branch-head (g .here) (g .cells j i .branch))
-              ];
+              each = λ j i. branch-head (g .here) (branch j i);
+              small = λ j i. branch-few (g .here) (branch j i);
+              begun = λ j i. head-begun ws txt heads cell r cell-small (g .full .of-heads) j (omega (arith, g .few)) (λ n. g .begun j i);
             },
             (popped-cell .1, l),
           )
 
-      pub takes-next : {top : ℕ} {child″ next″ : List ℕ} → Inserts (cell-cmp ws txt (set heads cell r) n) n child′ next′ child″ next″ top rest cell
-          → Takes ws txt p n root roots heads child next roots (set heads cell r) child″ next″ (record { cell = cell; branch = getD heads cell 0; root = top })
+      pub takes-next : {top : ℕ} {child″ next″ : List ℕ} → Inserts (cell-cmp ws txt (with-head ws txt heads cell r) n) n child′ next′ child″ next″ top rest cell
+          → Takes ws txt p n root roots heads child next roots (with-head ws txt heads cell r) child″ next″ (record { cell = cell; branch = getD heads cell 0; root = top })
       takes-next {top} {child″} {next″} inserted =
           takes-some (k .pops)
           (λ labels last w v x c hh g q made.

@@ -1,5 +1,5 @@
 -- The trees of a list of collections that have a match, in flattened order, one to a cell.
-use Prim.Native.Nat.{ℕ, suc, _+_, _<_, _≤_}
+use Prim.Native.Nat.{ℕ, suc, _+_, _*_, _<_, _≤_}
 use mathlib.Core.Path.{_≡_}
 use mathlib.Core.List.{List, [], _∷_, map}
 use mathlib.Core.Option.{Option}
@@ -15,6 +15,7 @@ use Rattle.source.specs.Forward.{tree-matches}
 use Rattle.source.specs.Forward.{flat-in}
 use Rattle.memory.specs.Layout.{Which, Item, tree, list, kind, what}
 use Rattle.memory.specs.Sound.{LinkOk, At}
+use Rattle.heap.specs.Compare.{Begun}
 use Rattle.tree.specs.Links.{matches, row-at}
 use Rattle.names.specs.Entries.{label-at, Asks, LabelOk}
 
@@ -29,25 +30,27 @@ pub record TreePart (ws txt : List ℕ) : Type 0 where
 unfoldable pub elements : (w : Which) (ws txt : List ℕ) (v : Level) → Option Str → Str → TreePart ws txt → List (PathElem × Value (Item w) v)
 elements w ws txt v q p c = with-imports (c .imports, map (row-at w ws txt v q) (matches ws txt (c .root) p))
 
--- There are 96 of each.
+-- There are 96 of each, with a beginning for each head.
 pub record Full (roots heads labels : List ℕ) : Type 0 where
   pub of-roots : length roots ≡ heaviest-list
-  pub of-heads : length heads ≡ heaviest-list
+  pub of-heads : length heads ≡ 2 * heaviest-list
   pub of-labels : length labels ≡ heaviest-list
 
 -- The cell i is as it was.
 pub record SameCell (roots heads labels roots′ heads′ labels′ : List ℕ) (i : ℕ) : Type 0 where
   pub root : getD roots′ i 0 ≡ getD roots i 0
   pub head : getD heads′ i 0 ≡ getD heads i 0
+  pub beginning : getD heads′ (heaviest-list + i) 0 ≡ getD heads (heaviest-list + i) 0
   pub label : getD labels′ i 0 ≡ getD labels i 0
 
 module _ (ws txt : List ℕ) (w : Which) (v : Level) (l : ℕ) (p : Str) (roots heads labels : List ℕ) where
-  -- The cell i has the tree of c, its first match and its label. Their links are no later than l.
+  -- The cell i has the tree of c, its first match with the beginning of its key, and its label. Their links are no later than l.
   pub record HasPart (i : ℕ) (c : TreePart ws txt) : Type 0 where
     pub root-is : getD roots i 0 ≡ c .root
     pub label-is : getD labels i 0 ≡ c .label
     pub others : List ℕ
     pub first-is : matches ws txt (c .root) p ≡ getD heads i 0 ∷ others
+    pub begun : Begun ws txt heads i
     pub root-link : LinkOk ws (l + 1) (c .root) (kind w (tree v))
     pub label-ok : LabelOk ws w v l (c .label)
 

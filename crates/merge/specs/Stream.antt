@@ -17,6 +17,7 @@ use Rattle.source.specs.Forward.{held, popped, forward}
 use Rattle.source.specs.Forward.{found}
 use Rattle.memory.specs.Layout.{Which, tree, list, kind, what, key-at}
 use Rattle.memory.specs.Sound.{LinkOk, At}
+use Rattle.heap.specs.Compare.{Begun}
 use Rattle.heap.specs.Cells.{count, Rep}
 use Rattle.tree.specs.Links.{branches, matches, after, BranchOf}
 use Rattle.names.specs.Entries.{Entry, entry-key, shown, outer, Asks}
@@ -81,6 +82,7 @@ pub record Holding (ws txt : List ℕ) (w : Which) (v : Level) (x : ℕ) (p : St
   pub few : m .n ≤ heaviest-list
   pub full : Full (m .roots) (m .heads) (m .labels)
   pub cells : (j : ℕ) → j < m .n → CellOk ws txt w v x p (getD (m .roots) j 0) (getD (m .heads) j 0) (getD (m .labels) j 0)
+  pub begun : (j : ℕ) → j < m .n → Begun ws txt (m .heads) j
   pub rep : Rep (m .n) (m .child) (m .next) (m .root) h
   pub live : (j : ℕ) → 0 < count j h → 0 < getD (m .roots) j 0
 

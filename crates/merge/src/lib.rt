@@ -15,8 +15,10 @@ ghost use Rattle.names.specs.Names.{AnyList};
 ghost use Rattle.merge.specs.Lists.{Full, Collected, Single};
 ghost use Rattle.merge.specs.Stream.{CellsReady, Takes, Begins, Stands, Steps};
 
-// The most trees of a list: its weight is at most 96.
+// The most trees of a list, whose weight is at most 96, and the size of their heads.
 pub const CELLS: usize = heap::CELLS;
+
+pub const HEADS: usize = heap::HEADS;
 
 // The heap at the start of a merge: its cells, each with a tree, its current branch and its label in lent arrays, how many they are, and its root.
 pub struct Start {
@@ -71,7 +73,7 @@ fn collect(
     prefix: &[u8],
     part: Labelled,
     roots: &mut [u32; CELLS],
-    heads: &mut [u32; CELLS],
+    heads: &mut [u64; HEADS],
     labels: &mut [u32; CELLS],
     at: usize,
 ) -> usize
@@ -109,7 +111,7 @@ fn collect(
         return collect(words, text, prefix, rest, roots, heads, labels, at);
     }
     roots[at] = own;
-    heads[at] = first;
+    heap::set_head(words, text, heads, at, first);
     labels[at] = label;
     collect(words, text, prefix, rest, roots, heads, labels, at + 1)
 }
@@ -133,7 +135,7 @@ fn take(
     text: &[u8],
     prefix: &[u8],
     roots: &mut [u32; CELLS],
-    heads: &mut [u32; CELLS],
+    heads: &mut [u64; HEADS],
     child: &mut [u8; CELLS],
     next: &mut [u8; CELLS],
     turn: Cursor,
@@ -150,7 +152,7 @@ fn take(
             root: CELLS,
         },
         Popped::Least(cell, rest) => {
-            let branch = heads[cell];
+            let branch = heads[cell] as u32;
             let own = roots[cell];
             let after = successor::tree_next(words, text, own, prefix, branch);
             if after == 0 {
@@ -161,7 +163,7 @@ fn take(
                     root: rest,
                 };
             }
-            heads[cell] = after;
+            heap::set_head(words, text, heads, cell, after);
             let top = heap::heap_insert(child, next, words, text, heads, n, rest, cell);
             Taken {
                 cell: cell,
@@ -179,7 +181,7 @@ pub fn merge_start(
     prefix: &[u8],
     list: u32,
     roots: &mut [u32; CELLS],
-    heads: &mut [u32; CELLS],
+    heads: &mut [u64; HEADS],
     labels: &mut [u32; CELLS],
 ) -> Start
     requires { ⌜ AnyList (now words) (now text) list ⌝ }
@@ -208,7 +210,7 @@ pub fn merge_next(
     text: &[u8],
     prefix: &[u8],
     roots: &mut [u32; CELLS],
-    heads: &mut [u32; CELLS],
+    heads: &mut [u64; HEADS],
     child: &mut [u8; CELLS],
     next: &mut [u8; CELLS],
     turn: Cursor,

@@ -1,4 +1,5 @@
 pub mod Texts
+pub mod Beginnings
 pub mod Segments
 pub mod Surveys
 pub mod Laid

@@ -26,7 +26,7 @@ part-is s i n = let e : i + n - i ≡ n = omega arith in rw e
 
 -- ---- Comparison
 
-compare-is : (a b : ℕ) (o : Ordering) → Viewℕ a b o → compare a b ≡ o
+pub compare-is : (a b : ℕ) (o : Ordering) → Viewℕ a b o → compare a b ≡ o
 compare-is a b o v = go (compare a b) o (compare-view a b) v
   where
     go : (p o : Ordering) → Viewℕ a b p → Viewℕ a b o → p ≡ o

@@ -1,10 +1,10 @@
 -- What the functions on bytes are proved against, beside the source's definitions.
-use Prim.Native.Nat.{ℕ, suc, _+_, _<_, Ordering, Ordering·lt, Ordering·eq, Ordering·gt}
+use Prim.Native.Nat.{ℕ, zero, suc, _+_, _*_, _<_, Ordering, Ordering·lt, Ordering·eq, Ordering·gt}
 use mathlib.Core.Path.{_≡_}
 use mathlib.Core.Bool.{Bool, cond}
 use mathlib.Core.List.{[], _∷_}
 use lib.Dec.{eqb}
-use lib.ListN.{length, take, drop}
+use lib.ListN.{length, getD, take, drop}
 use Rattle.source.specs.Text.{Str, dot, segments, ends-in-dot, name-byte, query-byte, path-byte}
 use Rattle.text.specs.declared.Order.{Order}
 use Rattle.text.specs.declared.Order.the-variants.{Less, Same, More}
@@ -16,6 +16,15 @@ abbrev pub ordering : Order → Ordering
 ordering Less = Ordering·lt
 ordering Same = Ordering·eq
 ordering More = Ordering·gt
+
+-- The number of the first k bytes, the first one the highest, with 0 past the end.
+unfoldable pub leading : ℕ → Str → ℕ
+leading zero s = 0
+leading (suc k) s = leading k s * 256 + getD s k 0
+
+-- That of the first eight.
+abbrev pub beginning : Str → ℕ
+beginning s = leading 8 s
 
 -- The source's test that a rule stands for.
 abbrev pub byte-rule : Rule → ℕ → Bool

@@ -4,7 +4,7 @@ ghost use Prim.Native.Nat.{min};
 ghost use Rattle.source.specs.Lent.{old};
 ghost use Rattle.source.specs.Text.{string-compare, starts-with, name-byte};
 ghost use Rattle.source.specs.Rules.{all};
-ghost use Rattle.text.specs.Text.{ordering, byte-rule, before-dot};
+ghost use Rattle.text.specs.Text.{ordering, beginning, byte-rule, before-dot};
 ghost use Rattle.text.specs.Calls.{Surveyed};
 
 // Bytes of a name, segments of a query, bytes of a query, of a full name or label (a query without its last dot), of a file path, at most.
@@ -20,6 +20,9 @@ pub const PATH_MOST: usize = 120;
 
 // The dot that ends a segment.
 pub const DOT: u8 = 46;
+
+// Bytes in the number of a beginning.
+const BEGINNING: usize = 8;
 
 // How one text compares with another.
 pub enum Order {
@@ -63,6 +66,22 @@ pub fn string_compare(a: &[u8], b: &[u8]) -> Order
     } else {
         Order::Same
     }
+}
+
+// The number of the first eight bytes, the first one the highest, with 0 past the end.
+pub fn beginning(s: &[u8]) -> u64
+    ensures { λ r. ⌜ r ≡ beginning (old s) ⌝ }
+{
+    let mut n: u64 = 0;
+    let mut i = 0;
+    while i < BEGINNING {
+        n = n * 256;
+        if i < s.len() {
+            n = n + s[i] as u64;
+        }
+        i += 1;
+    }
+    n
 }
 
 // The source's starts_with: whether `s` begins with `p`.

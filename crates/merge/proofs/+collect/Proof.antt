@@ -7,7 +7,7 @@ use borrow.Author.Needs.{needs}
 use borrow.Fn.Kinds.{In}
 use borrow.Fn.PlainCycle.{Measures, is, falls, and}
 use Rattle.memory.specs.Stored.{weight-in}
-use Rattle.merge.proofs.Collected.{outermost-none, outermost-some, Seen, seen-rest, rest-less, seen-list, both-less, seen-tree, collected-none, full-set, collected-imported, collected-skip, collected-cell}
+use Rattle.merge.proofs.Collected.{outermost-none, outermost-some, Seen, seen-rest, rest-less, seen-list, both-less, seen-tree, first-in, collected-none, full-set, collected-imported, collected-skip, collected-cell}
 use Rattle.merge.proofs.collect.Reads as collect
 use Rattle.merge.proofs.collect.Kinds as kinds
 use Rattle.merge.proofs.+collect.Lts-collect as lts
@@ -15,6 +15,7 @@ use Rattle.memory.proofs.own_of.Reads as own-of-reads
 use Rattle.memory.proofs.rest_of.Reads as rest-of-reads
 use Rattle.memory.proofs.sort_of.Reads as sort-of-reads
 use Rattle.successor.proofs.tree_first.Reads as tree-first-reads
+use Rattle.heap.proofs.set_head.Reads as set-head-reads
 use Rattle.merge.proofs.+collect.{statement}
 use Rattle.merge.proofs.+collect.Tie.{close}
 use Rattle.memory.proofs.At.{at-fits}
@@ -29,7 +30,7 @@ abbrev below : ℕ → In 6 kinds.ps
 below t = and 6 kinds.ps (falls 6 kinds.ps _<_ μ-collect t) collect.Pre
 
 -- The words read of the first collection.
-seen : (t : ℕ) (c : lts.After-sort-of (own-of-reads.Asked, own-of-reads.Learnt, rest-of-reads.Asked, rest-of-reads.Learnt, sort-of-reads.Asked, sort-of-reads.Learnt, below t, collect.Post, tree-first-reads.Asked, tree-first-reads.Learnt) (at t) collect.Post)
+seen : (t : ℕ) (c : lts.After-sort-of (own-of-reads.Asked, own-of-reads.Learnt, rest-of-reads.Asked, rest-of-reads.Learnt, sort-of-reads.Asked, sort-of-reads.Learnt, below t, collect.Post, tree-first-reads.Asked, tree-first-reads.Learnt, set-head-reads.Asked, set-head-reads.Learnt) (at t) collect.Post)
     → (let a = c .before .before .before .before .before .before .before .args in
     Seen (a .words .now) (a .text .now) (a .part .list) (c .before .before .own-of .result) (c .before .rest-of .result) (c .sort-of .result))
 seen t c = record {
@@ -43,7 +44,7 @@ seen t c = record {
 pub +collect-spec : {M : Type 1} → statement M
 +collect-spec =
     close μ-collect λ t. lts.spec
-    (own-of-reads.Asked, own-of-reads.Learnt, rest-of-reads.Asked, rest-of-reads.Learnt, sort-of-reads.Asked, sort-of-reads.Learnt, below t, collect.Post, tree-first-reads.Asked, tree-first-reads.Learnt)
+    (own-of-reads.Asked, own-of-reads.Learnt, rest-of-reads.Asked, rest-of-reads.Learnt, sort-of-reads.Asked, sort-of-reads.Learnt, below t, collect.Post, tree-first-reads.Asked, tree-first-reads.Learnt, set-head-reads.Asked, set-head-reads.Learnt)
     (at t)
     collect.Post
     {- returns -}
@@ -92,27 +93,27 @@ pub +collect-spec : {M : Type 1} → statement M
     (λ c. omega (arith, rest-less (seen t (c .before .before .before)), c .before .before .before .before .before .before .before .before .before .before .pre .1 .1 .0))
     {- element-write-roots -}
     (λ c. omega (arith, rest-less (seen t (c .before .before .before)), c .before .before .before .before .before .before .before .before .before .before .pre .1 .1 .0))
-    {- mul-heads -}
-    (λ c. omega (arith, rest-less (seen t (c .before .before .before)), c .before .before .before .before .before .before .before .before .before .before .pre .1 .1 .0))
-    {- element-write-heads -}
-    (λ c. omega (arith, rest-less (seen t (c .before .before .before)), c .before .before .before .before .before .before .before .before .before .before .pre .1 .1 .0))
+    {- set-head-requires -}
+    (λ c κs.
+    let s = seen t (c .before .before .before .before) in
+    (first-in s (c .before .before .before .if2 .left) _ (c .before .before .tree-first .ensures) (c .before .if4 .left), omega (arith, rest-less s, c .before .before .before .before .before .before .before .before .before .before .before .pre .1 .1 .0)))
     {- mul-labels -}
-    (λ c. omega (arith, rest-less (seen t (c .before .before .before)), c .before .before .before .before .before .before .before .before .before .before .pre .1 .1 .0))
+    (λ c. omega (arith, rest-less (seen t (c .before .before .before .before .before)), c .before .before .before .before .before .before .before .before .before .before .before .before .pre .1 .1 .0))
     {- element-write-labels -}
-    (λ c. omega (arith, rest-less (seen t (c .before .before .before)), c .before .before .before .before .before .before .before .before .before .before .pre .1 .1 .0))
+    (λ c. omega (arith, rest-less (seen t (c .before .before .before .before .before)), c .before .before .before .before .before .before .before .before .before .before .before .before .pre .1 .1 .0))
     {- add-collect -}
-    (λ c. omega (arith, c .before .before .before .before .before .before .before .before .before .before .before .before .before .pre .1 .1 .0))
+    (λ c. omega (arith, c .before .before .before .before .before .before .before .before .before .before .before .before .before .before .before .pre .1 .1 .0))
     {- collect-requires-4 -}
     (λ c κs.
-    let s = seen t (c .before .before .before .before .before .before) in
-    let p = c .before .before .before .before .before .before .before .before .before .before .before .before .before .pre in (
+    let s = seen t (c .before .before .before .before .before .before .before .before) in
+    let p = c .before .before .before .before .before .before .before .before .before .before .before .before .before .before .before .pre in (
       omega (arith, rest-less s, p .0),
-      (seen-rest s, (omega (arith, rest-less s, p .1 .1 .0), full-set (c .before .before .before .before .before .before .before .before .before .before .before .before .before .args .at) (c .before .before .before .before .before .before .before .before .own-of .result) (c .before .before .before .before .tree-first .result) (c .before .before .before .before .before .before .before .before .before .before .before .before .before .args .part .label) (p .1 .1 .1))),
+      (seen-rest s, (omega (arith, rest-less s, p .1 .1 .0), rw (c .before .before .before .set-head .ensures) (full-set _ _ (c .before .before .before .before .before .before .before .before .before .before .before .before .before .before .before .args .at) (c .before .before .before .before .before .before .before .before .before .before .own-of .result) (c .before .before .before .before .before .before .tree-first .result) (c .before .before .before .before .before .before .before .before .before .before .before .before .before .before .before .args .part .label) (p .1 .1 .1)))),
     ))
     {- returns-4 -}
     (λ c.
-    let s = seen t (c .before .before .before .before .before .before .before) in
-    let p = c .before .before .before .before .before .before .before .before .before .before .before .before .before .before .pre in (
+    let s = seen t (c .before .before .before .before .before .before .before .before .before) in
+    let p = c .before .before .before .before .before .before .before .before .before .before .before .before .before .before .before .before .pre in (
       omega (arith, rest-less s, c .collect4 .ensures .0),
-      collected-cell s (c .before .before .before .before .before .before .if2 .left) (c .before .before .before .before .before .tree-first .ensures) (c .before .before .before .before .if4 .left) (p .1 .1 .1) (omega (arith, rest-less s, p .1 .1 .0)) (c .collect4 .ensures .1),
+      collected-cell s (c .before .before .before .before .before .before .before .before .if2 .left) (c .before .before .before .before .before .before .before .tree-first .ensures) (c .before .before .before .before .before .before .if4 .left) (p .1 .1 .1) (omega (arith, rest-less s, p .1 .1 .0)) (rw (c .before .before .before .before .set-head .ensures) at (c .collect4 .ensures .1)),
     ))

@@ -2,17 +2,18 @@
 use native.Mathlib.Omega.{arith}
 use borrow.Author.Needs.{needs}
 use Rattle.merge.proofs.Cells.{heads-of}
-use Rattle.merge.proofs.Takes.{takes-none, Least-cell, cell-small, next-asks, takes-last, insert-asks, takes-next}
+use Rattle.merge.proofs.Takes.{takes-none, Least-cell, cell-small, branch-fits, next-asks, takes-last, next-in, insert-asks, takes-next}
 use Rattle.heap.proofs.heap_pop.Reads as heap-pop-reads
 use Rattle.heap.proofs.heap_insert.Reads as heap-insert-reads
 use Rattle.successor.proofs.tree_next.Reads as tree-next-reads
+use Rattle.heap.proofs.set_head.Reads as set-head-reads
 use Rattle.merge.proofs.take.Reads as reads
 use Rattle.merge.proofs.take.Lts as lts
 use Rattle.merge.proofs.take.Statement.{statement}
 use Rattle.merge.proofs.take.Tie as tie
 
 -- What heap_pop gave.
-least : (c : lts.After-known-told (heap-pop-reads.Asked, heap-pop-reads.Learnt, tree-next-reads.Asked, tree-next-reads.Learnt, heap-insert-reads.Asked, heap-insert-reads.Learnt) reads.Pre reads.Post)
+least : (c : lts.After-known-told (heap-pop-reads.Asked, heap-pop-reads.Learnt, tree-next-reads.Asked, tree-next-reads.Learnt, set-head-reads.Asked, set-head-reads.Learnt, heap-insert-reads.Asked, heap-insert-reads.Learnt) reads.Pre reads.Post)
     → (let s = c .before .before .before .before .before .before .before .before .before .before .args in
     let q = c .before .cell .given .0 in
     let l = c .before .before .before .heap-pop .last in
@@ -32,7 +33,9 @@ take-spec =
     {- mul-branch -}
     (λ c. omega (arith, cell-small (least c)))
     {- element-copy-out-branch -}
-    (λ c. cell-small (least c))
+    (λ c. omega (arith, cell-small (least c)))
+    {- cast-branch -}
+    (λ c. omega (arith, branch-fits (least (c .before))))
     {- mul-own -}
     (λ c. omega (arith, cell-small (least (c .before))))
     {- element-copy-out-own -}
@@ -45,13 +48,11 @@ take-spec =
     (λ c. cell-small (least (c .before .before .before .before)))
     {- returns -}
     (λ c. takes-last (least (c .before .before .before .before)) (c .before .tree-next .ensures) (c .if1 .taken))
-    {- mul-heads -}
-    (λ c. omega (arith, cell-small (least (c .before .before .before .before))))
-    {- element-write-heads -}
-    (λ c. cell-small (least (c .before .before .before .before)))
+    {- set-head-requires -}
+    (λ c κs. next-in (least (c .before .before .before .before .before)) (c .before .before .tree-next .ensures) (c .before .if1 .left))
     {- heap-insert-requires -}
-    (λ c κs. insert-asks (least (c .before .before .before .before .before .before .before)) (c .before .before .before .before .tree-next .ensures) (c .before .before .before .if1 .left))
+    (λ c κs. rw (c .before .before .before .set-head .ensures) (insert-asks (least (c .before .before .before .before .before .before .before .before .before)) (c .before .before .before .before .before .before .tree-next .ensures) (c .before .before .before .before .before .if1 .left)))
     {- returns-2 -}
     (λ c. takes-none (rw (c .enum-told .given .1) at (c .before .before .heap-pop .ensures)))
     {- returns-3 -}
-    (λ c. takes-next (least (c .before .before .before .before .before .before .before .before)) (c .before .before .before .before .before .tree-next .ensures) (c .before .before .before .before .if1 .left) (c .heap-insert .ensures)))
+    (λ c. rw (c .before .before .before .before .set-head .ensures) (takes-next (least (c .before .before .before .before .before .before .before .before .before .before)) (c .before .before .before .before .before .before .before .tree-next .ensures) (c .before .before .before .before .before .before .if1 .left) (rw (c .before .before .before .before .set-head .ensures) at (c .heap-insert .ensures)))))
