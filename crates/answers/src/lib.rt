@@ -1,6 +1,6 @@
 // What the program `console` answers to a line: it is read, its call is made on a table whose memory is sound by proof, and the
 // reply is written. A line that is no form is `[bad]`, and changes nothing.
-use numerals::Extent;
+use parts::Extent;
 use questions::Asking;
 use registrations::Done;
 use script::LineForm;
@@ -9,7 +9,7 @@ ghost use mathlib.Core.Path.{_≡_};
 ghost use Prim.Native.Nat.{_+_, _≤_};
 ghost use lib.ListN.{length};
 ghost use Rattle.source.specs.Lent.{old, new};
-ghost use Rattle.numerals.specs.Parts.{Within, part-of};
+ghost use Rattle.parts.specs.Parts.{Within, part-of};
 ghost use Rattle.completion.specs.Completes.{output};
 ghost use Rattle.table.specs.Header.{IsSound};
 ghost use Rattle.questions.specs.RowReplies.{room};
@@ -145,7 +145,7 @@ pub fn answer_lines(
     let mut at = 0;
     let mut i = from;
     while size <= reply.len() - at {
-        let e = i + numerals::line_end(&input[i..]);
+        let e = i + parts::line_end(&input[i..]);
         if e == input.len() {
             break;
         }

@@ -1,4 +1,3 @@
-pub mod Runs
+mod Bytes
 pub mod Numerals
 pub mod Decimal
-pub mod Parts

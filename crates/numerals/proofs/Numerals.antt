@@ -14,7 +14,7 @@ use Rattle.numerals.specs.declared.Number.{Number}
 use Rattle.numerals.specs.declared.Number.the-variants.{At, No}
 use Rattle.numerals.specs.Bytes.{Str, byte-ok, All}
 use Rattle.numerals.specs.Numerals.{value-from, Valued, ValueSays, NumberSays}
-use Rattle.numerals.proofs.Runs.{true-false, all-at, all-more}
+use Rattle.numerals.proofs.Bytes.{true-false, all-at, all-more}
 
 and-both : (a b : Bool) → a && b ≡ true → (a ≡ true) × (b ≡ true)
 and-both true b e = (refl, e)

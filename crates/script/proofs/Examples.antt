@@ -5,8 +5,8 @@ use native.Mathlib.Omega.{arith}
 use Rattle.numerals.specs.declared.Sort.the-variants.{Query, Word}
 use Rattle.numerals.specs.Bytes.{bytes, byte-ok}
 use Rattle.numerals.specs.Numerals.{value-from}
-use Rattle.numerals.specs.Parts.{run-length}
-use Rattle.numerals.proofs.Runs.{run-all}
+use Rattle.parts.specs.Parts.{run-length}
+use Rattle.parts.proofs.Runs.{run-all}
 use Rattle.script.specs.declared.Import.the-variants.{Include}
 use Rattle.script.specs.declared.Question.the-variants.{Complete}
 use Rattle.script.specs.Script.{key, name, import, module-path, ask, Reads}

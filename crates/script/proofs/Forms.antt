@@ -13,15 +13,15 @@ use Rattle.script.specs.declared.Question.{Question}
 use Rattle.script.specs.declared.Question.the-variants.{Find, Complete, Modules}
 use Rattle.script.specs.declared.Key.{Key}
 use Rattle.script.specs.declared.Key.the-variants.{Name as NameKey, Alias as AliasKey, Import as ImportKey, Module as ModuleKey, Ask as AskKey}
-use Rattle.numerals.specs.declared.Extent.{Extent}
+use Rattle.parts.specs.declared.Extent.{Extent}
 use Rattle.script.specs.declared.LineForm.the-variants.{Name, Import as ImportForm, Alias, Module, Ask as AskForm}
-use Rattle.numerals.specs.declared.Pair.the-variants.{At as AtPair}
-use Rattle.numerals.specs.declared.Tail.the-variants.{At as AtTail}
+use Rattle.parts.specs.declared.Pair.the-variants.{At as AtPair}
+use Rattle.parts.specs.declared.Tail.the-variants.{At as AtTail}
 use Rattle.numerals.specs.Bytes.{Str, _·_, bytes}
 use Rattle.script.specs.Script.{key, Command, name, import, alias, module-path, ask, NameLine, ImportLine, AliasLine, ModuleLine, AskLine, Spelled, Reads, Parsed}
-use Rattle.numerals.specs.Parts.{cut, WordAt, Piece, PieceAt, IdEnd, IdSays, PairEnd, PairSays, LastAt, QueryEnd, QueryAt}
+use Rattle.parts.specs.Parts.{cut, WordAt, Piece, PieceAt, IdEnd, IdSays, PairEnd, PairSays, LastAt, QueryEnd, QueryAt}
 use Rattle.script.specs.Keys.{key-of, Only}
-use Rattle.numerals.proofs.Parts.{part-found, rest-found, cut-length, stops-query, stops-word}
+use Rattle.parts.proofs.Parts.{part-found, rest-found, cut-length, stops-query, stops-word}
 
 -- The command's form.
 abbrev command-key : Command → Key

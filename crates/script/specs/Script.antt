@@ -6,7 +6,7 @@ use lib.ListN.{length}
 use Rattle.numerals.specs.declared.Sort.the-variants.{Query, Word}
 use Rattle.numerals.specs.Bytes.{Str, bytes, _·_, All}
 use Rattle.numerals.specs.Numerals.{Numeral}
-use Rattle.numerals.specs.Parts.{Within, part-of}
+use Rattle.parts.specs.Parts.{Within, part-of}
 use Rattle.script.specs.declared.Import.{Import}
 use Rattle.script.specs.declared.Import.the-variants.{Include, OpenModule, OpenNamespace}
 use Rattle.script.specs.declared.Question.{Question}

@@ -1,19 +1,19 @@
 // The forms of a line of the program `console`. `parse` answers the form that spells a line, or that none does. Nothing is assumed.
-use numerals::Extent;
-use numerals::Pair;
-use numerals::Part;
 use numerals::Sort;
-use numerals::Tail;
-use numerals::byte_at;
-use numerals::id_end;
-use numerals::last_end;
-use numerals::pair_end;
-use numerals::piece;
-use numerals::query_end;
-use numerals::word_end;
+use parts::Extent;
+use parts::Pair;
+use parts::Part;
+use parts::Tail;
+use parts::byte_at;
+use parts::id_end;
+use parts::last_end;
+use parts::pair_end;
+use parts::piece;
+use parts::query_end;
+use parts::word_end;
 ghost use mathlib.Core.Path.{_≡_};
 ghost use Rattle.source.specs.Lent.{old};
-ghost use Rattle.numerals.specs.Parts.{WordSays};
+ghost use Rattle.parts.specs.Parts.{WordSays};
 ghost use Rattle.script.specs.Script.{key, Parsed};
 ghost use Rattle.script.specs.Keys.{key-by, key-of, Only};
 

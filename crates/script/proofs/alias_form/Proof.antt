@@ -3,8 +3,8 @@ use mathlib.Core.Path.{subst}
 use native.Mathlib.Omega.{arith}
 use Rattle.script.specs.Script.{key}
 use Rattle.numerals.specs.Bytes.{bytes}
-use Rattle.numerals.specs.Parts.{WordSays, PieceSays, PairSays}
-use Rattle.numerals.proofs.Parts.{stops-word}
+use Rattle.parts.specs.Parts.{WordSays, PieceSays, PairSays}
+use Rattle.parts.proofs.Parts.{stops-word}
 use Rattle.script.proofs.Forms.{word-none, alias-none, alias-empty, alias-no, alias-yes}
 use borrow.Author.Needs.{needs}
 use Rattle.script.proofs.alias_form.Statement.{statement}

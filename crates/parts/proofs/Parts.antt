@@ -7,12 +7,12 @@ use native.Mathlib.Omega.{arith}
 use lib.ListN.{length, getD, take, drop, length-append, length-drop, drop-of-length-le}
 use lib.Seq.{take-at, drop-drop, length-take-le}
 use borrow.Author.Tests.{eqb-true, not-false}
 use Rattle.numerals.specs.declared.Sort.{Sort}
 use Rattle.numerals.specs.declared.Sort.the-variants.{Query, Word, Line}
 use Rattle.numerals.specs.Bytes.{Str, _·_, bytes, byte-ok, LineEnd}
 use Rattle.numerals.specs.Numerals.{Numeral}
-use Rattle.numerals.specs.Parts.{cut, run-length, StartsSays, Stops, Piece, PieceAt, QueryEnd, QueryAt, PairEnd, LastAt, IdEnd}
-use Rattle.numerals.proofs.Runs.{run-all, run-le, run-after, piece-cut, piece-once, cut-all}
+use Rattle.parts.specs.Parts.{cut, run-length, StartsSays, Stops, Piece, PieceAt, QueryEnd, QueryAt, PairEnd, LastAt, IdEnd}
+use Rattle.parts.proofs.Runs.{run-all, run-le, run-after, piece-cut, piece-once, cut-all}
 
 -- ---- `piece`
 

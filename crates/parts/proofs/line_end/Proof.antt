@@ -1,8 +1,8 @@
 -- `line_end` answers by its definition.
-use Rattle.numerals.proofs.Parts.{line-ends}
+use Rattle.parts.proofs.Parts.{line-ends}
 use borrow.Author.Needs.{needs}
-use Rattle.numerals.proofs.line_end.Statement.{statement}
-use Rattle.numerals.proofs.line_end.Tie as tie
+use Rattle.parts.proofs.line_end.Statement.{statement}
+use Rattle.parts.proofs.line_end.Tie as tie
 
 returns : tie.Need-returns
 returns c = line-ends (c .before .before .args .input .now) (c .run .result) (c .run .ensures)

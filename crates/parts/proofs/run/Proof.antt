@@ -4,11 +4,11 @@ use Prim.Native.Nat.{_+_, _-_, _≤_}
 use native.Mathlib.Omega.{arith}
 use lib.ListN.{length, drop}
 use borrow.Author.Tests.{not-true, not-false}
-use Rattle.numerals.specs.Parts.{run-length}
-use Rattle.numerals.proofs.Runs.{run-step, run-stop, run-end}
+use Rattle.parts.specs.Parts.{run-length}
+use Rattle.parts.proofs.Runs.{run-step, run-stop, run-end}
 use borrow.Author.Needs.{needs}
-use Rattle.numerals.proofs.run.Statement.{statement}
-use Rattle.numerals.proofs.run.Tie as tie
+use Rattle.parts.proofs.run.Statement.{statement}
+use Rattle.parts.proofs.run.Tie as tie
 
 abbrev Inv-loop : tie.InvT-loop
 Inv-loop line at sort i₀ i = (i ≤ length line) × (at + run-length sort (drop at line) ≡ i + run-length sort (drop i line))

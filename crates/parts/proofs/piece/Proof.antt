@@ -1,10 +1,10 @@
 -- `piece` answers by its definition.
 use mathlib.Core.Path.{subst}
-use Rattle.numerals.specs.Parts.{StartsSays}
-use Rattle.numerals.proofs.Parts.{run-within, piece-yes, piece-no}
+use Rattle.parts.specs.Parts.{StartsSays}
+use Rattle.parts.proofs.Parts.{run-within, piece-yes, piece-no}
 use borrow.Author.Needs.{needs}
-use Rattle.numerals.proofs.piece.Statement.{statement}
-use Rattle.numerals.proofs.piece.Tie as tie
+use Rattle.parts.proofs.piece.Statement.{statement}
+use Rattle.parts.proofs.piece.Tie as tie
 
 starts-requires : tie.Need-starts-requires
 starts-requires c κs = run-within (c .before .before .before .args .sort) (c .before .before .before .args .close .now) (c .before .before .before .args .line .now) (c .before .before .before .args .at) (c .run .result) (c .run .ensures) (c .before .before .before .pre .0)

@@ -1,11 +1,11 @@
 -- `query_end` answers by its definition.
 use mathlib.Core.Path.{subst}
 use native.Mathlib.Omega.{arith}
-use Rattle.numerals.specs.Parts.{PieceSays}
-use Rattle.numerals.proofs.Parts.{stops-query, query-piece, query-yes, query-no}
+use Rattle.parts.specs.Parts.{PieceSays}
+use Rattle.parts.proofs.Parts.{stops-query, query-piece, query-yes, query-no}
 use borrow.Author.Needs.{needs}
-use Rattle.numerals.proofs.query_end.Statement.{statement}
-use Rattle.numerals.proofs.query_end.Tie as tie
+use Rattle.parts.proofs.query_end.Statement.{statement}
+use Rattle.parts.proofs.query_end.Tie as tie
 
 piece-requires : tie.Need-piece-requires
 piece-requires c κs = (c .before .before .pre, stops-query)

@@ -4,17 +4,17 @@ use mathlib.Core.Bool.{Bool, true, false}
 use mathlib.Core.List.{[], _∷_}
 use Prim.Native.Nat.{ℕ, zero, suc, _+_, _-_, _<_, _≤_}
 use lib.ListN.{length, take, drop}
 use Rattle.numerals.specs.declared.Sort.{Sort}
 use Rattle.numerals.specs.declared.Sort.the-variants.{Query, Word}
-use Rattle.numerals.specs.declared.Extent.{Extent}
-use Rattle.numerals.specs.declared.Part.{Part}
-use Rattle.numerals.specs.declared.Part.the-variants.{At, No}
-use Rattle.numerals.specs.declared.Pair.{Pair}
-use Rattle.numerals.specs.declared.Pair.the-variants.{At as AtPair, No as NoPair}
-use Rattle.numerals.specs.declared.Tail.{Tail}
-use Rattle.numerals.specs.declared.Tail.the-variants.{At as AtTail, No as NoTail}
+use Rattle.parts.specs.declared.Extent.{Extent}
+use Rattle.parts.specs.declared.Part.{Part}
+use Rattle.parts.specs.declared.Part.the-variants.{At, No}
+use Rattle.parts.specs.declared.Pair.{Pair}
+use Rattle.parts.specs.declared.Pair.the-variants.{At as AtPair, No as NoPair}
+use Rattle.parts.specs.declared.Tail.{Tail}
+use Rattle.parts.specs.declared.Tail.the-variants.{At as AtTail, No as NoTail}
 use Rattle.numerals.specs.Bytes.{Str, bytes, _·_, byte-ok, All}
 use Rattle.numerals.specs.Numerals.{Numeral}
 
 -- The span lies in the line.
 abbrev pub Within : Str → Extent → Type 0

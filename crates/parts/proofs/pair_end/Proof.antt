@@ -1,11 +1,11 @@
 -- `pair_end` answers by its definition.
 use mathlib.Core.Path.{subst}
 use native.Mathlib.Omega.{arith}
-use Rattle.numerals.specs.Parts.{PieceSays, QuerySays}
-use Rattle.numerals.proofs.Parts.{stops-query, pair-piece, pair-yes, pair-no}
+use Rattle.parts.specs.Parts.{PieceSays, QuerySays}
+use Rattle.parts.proofs.Parts.{stops-query, pair-piece, pair-yes, pair-no}
 use borrow.Author.Needs.{needs}
-use Rattle.numerals.proofs.pair_end.Statement.{statement}
-use Rattle.numerals.proofs.pair_end.Tie as tie
+use Rattle.parts.proofs.pair_end.Statement.{statement}
+use Rattle.parts.proofs.pair_end.Tie as tie
 
 piece-requires : tie.Need-piece-requires
 piece-requires c κs = (c .before .before .pre, stops-query)

@@ -1,9 +1,9 @@
 -- `last_end` answers by its definition.
 use native.Mathlib.Omega.{arith}
-use Rattle.numerals.proofs.Runs.{last-is, last-none, last-other}
+use Rattle.parts.proofs.Runs.{last-is, last-none, last-other}
 use borrow.Author.Needs.{needs}
-use Rattle.numerals.proofs.last_end.Statement.{statement}
-use Rattle.numerals.proofs.last_end.Tie as tie
+use Rattle.parts.proofs.last_end.Statement.{statement}
+use Rattle.parts.proofs.last_end.Tie as tie
 
 returns : tie.Need-returns
 returns c = last-none (c .before .args .line .now) (c .before .args .at) (c .if1 .taken)

@@ -1,9 +1,9 @@
 -- `word_end` answers by its definition.
 use mathlib.Core.Path.{refl, subst}
-use Rattle.numerals.specs.Parts.{StartsSays}
+use Rattle.parts.specs.Parts.{StartsSays}
 use borrow.Author.Needs.{needs}
-use Rattle.numerals.proofs.word_end.Statement.{statement}
-use Rattle.numerals.proofs.word_end.Tie as tie
+use Rattle.parts.proofs.word_end.Statement.{statement}
+use Rattle.parts.proofs.word_end.Tie as tie
 
 returns : tie.Need-returns
 returns c = let s = (subst (StartsSays _ _) (c .if1 .taken) (c .before .starts .ensures)) in record { end = s .0; long = refl; spelled = s .1 }

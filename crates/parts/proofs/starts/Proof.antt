@@ -3,10 +3,10 @@ use mathlib.Core.Path.{_≡_, refl}
 use Prim.Native.Nat.{_-_, _≤_}
 use native.Mathlib.Omega.{arith}
 use lib.ListN.{length, take, drop}
-use Rattle.numerals.proofs.Runs.{starts-short, starts-differ, starts-step, starts-done}
+use Rattle.parts.proofs.Runs.{starts-short, starts-differ, starts-step, starts-done}
 use borrow.Author.Needs.{needs}
-use Rattle.numerals.proofs.starts.Statement.{statement}
-use Rattle.numerals.proofs.starts.Tie as tie
+use Rattle.parts.proofs.starts.Statement.{statement}
+use Rattle.parts.proofs.starts.Tie as tie
 
 abbrev Inv-loop : tie.InvT-loop
 Inv-loop line at text i₀ i = (i ≤ length text) × (length text ≤ length line - at) × (take i (drop at line) ≡ take i text)

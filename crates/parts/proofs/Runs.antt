@@ -2,17 +2,14 @@
 use mathlib.Core.Path.{_≡_, refl, sym, ap, _∙_}
 use mathlib.Core.Bool.{Bool, true, false}
 use mathlib.Core.List.{[], _∷_, _++_}
-use Prim.Native.Nat.{ℕ, zero, suc, _+_, _-_, _<_, _≤_, zero-le}
+use Prim.Native.Nat.{ℕ, suc, _+_, _-_, _<_, _≤_, zero-le}
 use native.Mathlib.Omega.{arith}
 use native.Mathlib.Numerals.{add-one}
 use lib.ListN.{length, getD, take, drop, length-append, length-drop, take-append-drop, List·getD-append, drop-of-length-le}
 use lib.Seq.{drop-cons, drop-length, take-at, drop-at, drop-drop, take-suc, take-length, getD-drop, getD-at}
 use Rattle.numerals.specs.declared.Sort.{Sort}
 use Rattle.numerals.specs.Bytes.{Str, _·_, bytes, byte-ok, All}
-use Rattle.numerals.specs.Parts.{cut, counted, run-length, Stops, Piece, LastAt}
-
-pub true-false : {b : Bool} → b ≡ true → b ≡ false → ⊥
-true-false t f = let z : _≡_ {A = ℕ} 0 1 = cc in omega arith
+use Rattle.parts.specs.Parts.{cut, counted, run-length, Stops, Piece, LastAt}
 
 -- ---- A loop over a run, turn by turn
 
@@ -90,16 +87,6 @@ cut-all line at e h =
     ∙ ap (λ (t : Str). take (e - at) (drop at line) ++ t) (drop-drop (e - at) at line ∙ ap (λ (n : ℕ). drop n line) (let q : at + (e - at) ≡ e = omega arith in q))
 
 -- ---- Every byte of a text
-
-pub all-at : (sort : Sort) (s : Str) (i : ℕ) → All sort s → i < length s → byte-ok sort (getD s i 0) ≡ true
-all-at sort [] i a l = absurd (omega arith)
-all-at sort (b ∷ s) zero a l = a .0
-all-at sort (b ∷ s) (suc i) a l = all-at sort s i (a .1) (omega arith)
-
-pub all-more : (sort : Sort) (s : Str) (i : ℕ) → i < length s → All sort (take i s) → byte-ok sort (getD s i 0) ≡ true → All sort (take (suc i) s)
-all-more sort [] i l a e = absurd (omega arith)
-all-more sort (b ∷ s) zero l a e = (e, tt)
-all-more sort (b ∷ s) (suc i) l a e = (a .0, all-more sort s i (omega arith) (a .1) e)
 
 -- ---- `starts`
 

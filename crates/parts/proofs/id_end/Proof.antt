@@ -1,12 +1,12 @@
 -- `id_end` answers by its definition.
 use mathlib.Core.Path.{subst}
 use native.Mathlib.Omega.{arith}
-use Rattle.numerals.specs.Parts.{PieceSays, LastSays}
+use Rattle.parts.specs.Parts.{PieceSays, LastSays}
 use Rattle.numerals.specs.Numerals.{NumberSays}
-use Rattle.numerals.proofs.Parts.{stops-word, id-piece, id-yes, id-empty, id-open, id-number}
+use Rattle.parts.proofs.Parts.{stops-word, id-piece, id-yes, id-empty, id-open, id-number}
 use borrow.Author.Needs.{needs}
-use Rattle.numerals.proofs.id_end.Statement.{statement}
-use Rattle.numerals.proofs.id_end.Tie as tie
+use Rattle.parts.proofs.id_end.Statement.{statement}
+use Rattle.parts.proofs.id_end.Tie as tie
 
 piece-requires : tie.Need-piece-requires
 piece-requires c κs = (c .before .before .pre, stops-word)
