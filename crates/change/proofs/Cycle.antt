@@ -4,7 +4,7 @@ use mathlib.Core.Path.{_≡_}
 use mathlib.Core.Bool.{true}
 use mathlib.Core.List.{List, [], _∷_}
 use native.Mathlib.Omega.{arith}
-use lib.ListN.{length}
+use lib.ListN.{length, getD}
 use Rattle.source.specs.Text.{segments, ends-in-dot}
 use Rattle.source.specs.Types.{Trie, NameList, ns, namespaces}
 use Rattle.source.specs.Tries.{scope-of}
@@ -13,12 +13,10 @@ use Rattle.source.specs.Rules.{IsKey}
 use Rattle.source.specs.Counted.{Counted, one, _>>=_, names-insertᶜ, trie-mutateᶜ}
 use Rattle.source.proofs.Counted.{names-insert-value}
 use Rattle.memory.specs.Layout.{span, Which, Item, Sort, tree, list, trieˢ, Of, kind, what}
-use Rattle.memory.specs.Sound.{TextOk, At}
-use Rattle.memory.specs.Stored.{trie-in}
+use Rattle.memory.specs.Sound.{TextOk}
 use Rattle.memory.specs.Read.{ReadTrie}
 use Rattle.memory.specs.declared.Trie as M
 use Rattle.memory.proofs.Seen.{link-later}
-use Rattle.names.specs.Names.{NamesPlaced}
 use Rattle.names.specs.Made.{Made}
 use Rattle.names.specs.Insert.{NamesInsertion, AnyNamesInsertion, NamesInserts}
 use Rattle.names.proofs.Made.{made-then, made-what, made-link, made-room}
@@ -27,62 +25,54 @@ use Rattle.kinds.specs.declared.Form.{Form}
 use Rattle.kinds.specs.declared.Form.the-variants as form
 use Rattle.leaves.specs.declared.Change.{Change}
 use Rattle.change.specs.declared.Descent.{Descent}
-use Rattle.lookup.specs.Tries.{Reads}
-use Rattle.leaves.specs.Leaves.{which-of, leaf-of, Included, ChangeOk, Leaf, Builds, LeafBuilt}
-use Rattle.change.specs.Changes.{between, passed, Kinds, node-of, mutated, namespaces-mutated, SegmentCut, Node, NamespacesMutation, Mutation, NodeBuilt, NamespacesMutated, Mutated}
+use Rattle.leaves.specs.Leaves.{which-of, leaf-of, Included, ChangeOk, Leaf, LeafBuilds, Builds, LeafBuilt}
+use Rattle.change.specs.Changes.{between, passed, Kinds, node-of, mutated, namespaces-mutated, SegmentCut, Node, NamespacesMutation, Mutation, TrieWay, NamespacesWay, NodeBuilt, NamespacesMutated, Mutated}
 use Rattle.memory.proofs.Tries.{Lists, lists-in}
-use Rattle.lookup.proofs.Links.{holder-scope}
 use Rattle.change.proofs.QueryPlace.{place-next, passed-next, key-in}
 use Rattle.leaves.proofs.Builds.{inserted-within, scope-insertion, scope-built}
 use Rattle.leaves.proofs.Leaves.{less-room}
 
 -- ---- namespaces_mutate
 module _ {ws txt : List ℕ} {n used x at len : ℕ} {d : Descent} (g : NamespacesMutation ws txt n used x at len d) where
-  pub spaces-key : TextOk IsKey txt used at len
+  spaces-key : TextOk IsKey txt used at len
   spaces-key = key-in (g .place) (g .cut)
 
-  pub spaces-list : At ws txt (which-of (d .change)) (list ns) x
-  spaces-list = record { records = n; used = used; sound = g .change .sound; link = g .link }
-
-  module _ {holder count wt scope : ℕ} (z : NamesPlaced ws txt x (span txt at len) holder count wt) (e : scope ≡ trie-in ws holder) where
-    spaces-scope : Reads ws txt (which-of (d .change)) x scope (scope-of (what (which-of (d .change)) ws txt x (list ns)) (span txt at len))
-    spaces-scope = holder-scope spaces-list (z .found (which-of (d .change)) ns spaces-list) e
-
+  module _ {way : List ℕ} (z : NamespacesWay ws txt n x at len d way) where
     abbrev value : Trie (Item (which-of (d .change)))
     value = mutated ws txt (d .change) (scope-of (what (which-of (d .change)) ws txt x (list ns)) (span txt at len)) (d .from) (at + len + 1) (d .end) .value
 
     -- What is asked of the scope.
-    pub spaces-mutation : Mutation ws txt n used scope (at + len + 1) d
+    pub spaces-mutation : Mutation ws txt n used (getD way 0 0) (at + len + 1) d
     unfolding _>>=_
     spaces-mutation =
         let w = inserted-within (what (which-of (d .change)) ws txt x (list ns)) (span txt at len) value in
         record {
           change = g .change;
-          link = link-later (omega (arith, g .link .earlier)) (spaces-scope .link);
+          link = z .first .next .link;
           place = place-next (g .place) (g .cut);
-          fits = rw (spaces-scope .says) (record {
+          fits = rw (z .first .next .says) (record {
             room = less-room (g .fits .room) (omega arith);
             light = omega (arith, w .heavy, rw names-insert-value at (g .fits .light));
             shallow = omega (arith, w .high, rw names-insert-value at (g .fits .shallow));
           });
         }
 
-    module _ {ws₁ : List ℕ} {s n₁ k : ℕ} (S : Mutated ws ws₁ txt n scope (at + len + 1) d s n₁) (h : Kinds (d .change) k) where
+    module _ {ws₁ : List ℕ} {s n₁ k : ℕ} (S : Mutated ws ws₁ txt n (getD way 0 0) (at + len + 1) d s n₁) (h : Kinds (d .change) k) where
       scope-builds : Builds ws ws₁ txt n used (which-of (d .change)) trieˢ (mutated ws txt (d .change) (scope-of (what (which-of (d .change)) ws txt x (list ns)) (span txt at len)) (d .from) (at + len + 1) (d .end)) s n₁
-      scope-builds = rw (spaces-scope .says) at (S used spaces-mutation)
+      scope-builds = rw (z .first .next .says) at (S used spaces-mutation)
 
       kind-is : k + 2 ≡ kind (which-of (d .change)) (tree ns)
       kind-is = omega (arith, h .1 (tree ns))
 
-      pub spaces-insertion : NamesInsertion ws₁ txt (which-of (d .change)) ns n₁ used x count ((k + 2) ∷ at ∷ len ∷ 0 ∷ 0 ∷ s ∷ 0 ∷ 0 ∷ 0 ∷ 0 ∷ 0 ∷ 0 ∷ [])
-      spaces-insertion = scope-insertion scope-builds (g .change .sound) (g .link) kind-is spaces-key z (g .fits .room) (g .fits .light)
+      pub spaces-insertion : NamesInsertion ws₁ txt (which-of (d .change)) ns n₁ used x (getD way 1 0) ((k + 2) ∷ at ∷ len ∷ 0 ∷ 0 ∷ s ∷ 0 ∷ 0 ∷ 0 ∷ 0 ∷ 0 ∷ 0 ∷ [])
+      spaces-insertion = scope-insertion scope-builds (g .change .sound) (g .link) kind-is spaces-key (z .first .builds) (g .fits .room) (g .fits .light)
 
-      pub spaces-any : AnyNamesInsertion ws₁ txt n₁ x count ((k + 2) ∷ at ∷ len ∷ 0 ∷ 0 ∷ s ∷ 0 ∷ 0 ∷ 0 ∷ 0 ∷ 0 ∷ 0 ∷ [])
+      pub spaces-any : AnyNamesInsertion ws₁ txt n₁ x (getD way 1 0) ((k + 2) ∷ at ∷ len ∷ 0 ∷ 0 ∷ s ∷ 0 ∷ 0 ∷ 0 ∷ 0 ∷ 0 ∷ 0 ∷ [])
       spaces-any = record { which = which-of (d .change); level = ns; used = used; insertion = spaces-insertion }
 
-      pub spaces-built : {ws₂ : List ℕ} {y : ℕ} → y ≡ n₁ + count + 1 → NamesInserts ws₁ ws₂ txt n₁ x count ((k + 2) ∷ at ∷ len ∷ 0 ∷ 0 ∷ s ∷ 0 ∷ 0 ∷ 0 ∷ 0 ∷ 0 ∷ 0 ∷ []) y
+      pub spaces-built : {ws₂ : List ℕ} {y : ℕ} → y ≡ n₁ + getD way 1 0 + 1 → NamesInserts ws₁ ws₂ txt n₁ x (getD way 1 0) ((k + 2) ∷ at ∷ len ∷ 0 ∷ 0 ∷ s ∷ 0 ∷ 0 ∷ 0 ∷ 0 ∷ 0 ∷ 0 ∷ []) y
           → Builds ws ws₂ txt n used (which-of (d .change)) (list ns) (namespaces-mutated ws txt (d .change) (what (which-of (d .change)) ws txt x (list ns)) (d .from) at len (d .end)) y y
-      spaces-built f m = scope-built scope-builds (g .change .sound) (g .link) kind-is spaces-key z spaces-insertion f m
+      spaces-built f m = scope-built scope-builds (g .change .sound) (g .link) kind-is spaces-key (z .first .builds) spaces-insertion f m
 
 -- ---- trie_mutate at the host
 module _ (ws txt : List ℕ) (at : ℕ) (d : Descent) (e : at ≡ d .end) where
@@ -92,6 +82,10 @@ module _ (ws txt : List ℕ) (at : ℕ) (d : Descent) (e : at ≡ d .end) where
 
   pub leaf-mutation : {n used x : ℕ} → Mutation ws txt n used x at d → Leaf ws txt n used x (d .change)
   leaf-mutation m = record { change = m .change; link = m .link; fits = rw mutated-leaf at (m .fits) }
+
+  pub leaf-way : {x : ℕ} {way : List ℕ} → TrieWay ws txt x at d way → (2 ≤ length way) × LeafBuilds ws txt x (d .change) (getD way 1 0)
+  unfolding span segments
+  leaf-way y = let z : d .end - at ≡ 0 = omega arith in rw z at (y .leads)
 
   pub leaf-mutated : {ws′ : List ℕ} {n x link n′ : ℕ} → LeafBuilt ws ws′ txt n x (d .change) link n′ → Mutated ws ws′ txt n x at d link n′
   leaf-mutated b used m = rw mutated-leaf (b used (leaf-mutation m))
@@ -157,6 +151,18 @@ module _ {ws txt : List ℕ} {n used x at len : ℕ} {d : Descent} {p : M.Trie} 
       shallow = rw step-value at (m .fits .shallow);
     });
   }
+
+  pub spaces-way : {way : List ℕ} → TrieWay ws txt x at d way → NamespacesWay ws txt n (p .namespaces) at len d way
+  spaces-way y =
+      let z = rw (c .splits) at (y .leads) in
+      record {
+        first = rw (mutation-lists .n-reads) (record {
+          long = z .0 .long;
+          next = record { link = link-later (omega (arith, m .link .earlier)) (z .0 .next .link); says = z .0 .next .says };
+          builds = z .0 .builds;
+        });
+        rest = record { leads = z .1 };
+      }
 
   module _ {ws₁ : List ℕ} {y n₁ : ℕ} (N : NamespacesMutated ws ws₁ txt n (p .namespaces) at len d y n₁) where
     spaces-builds : Builds ws ws₁ txt n used (which-of (d .change)) (list ns) spaces y n₁

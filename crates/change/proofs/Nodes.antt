@@ -5,7 +5,7 @@ use mathlib.Core.Bool.{Bool, true, false, cond, _||_}
 use mathlib.Core.List.{List, [], _∷_}
 use native.Mathlib.Omega.{arith}
 use lib.Dec.{eqb}
-use lib.ListN.{length}
+use lib.ListN.{length, take, drop}
 use borrow.Author.Tests.{eqb-true, eqb-false}
 use Rattle.source.specs.Text.{Str, Query, segments, ends-in-dot}
 use Rattle.source.specs.Types.{Value, NameList, bind, item}
@@ -17,6 +17,7 @@ use Rattle.source.specs.Terms.{heaviest, depth}
 use Rattle.source.specs.Counted.{Counted, pure, one, _>>=_, names-insertᶜ, ins-nsᶜ, ins-modᶜ, insᶜ}
 use Rattle.source.specs.Calls.{is-empty}
 use Rattle.source.proofs.Counted.{names-insert-value}
+use Rattle.text.proofs.Texts.{part-is}
 use Rattle.memory.specs.Layout.{span, modules, item-of, list, trieˢ, kind, what}
 use Rattle.memory.specs.Stored.{depth-in}
 use Rattle.memory.specs.Read.{ReadTrie}
@@ -40,7 +41,7 @@ use Rattle.lookup.proofs.Found.{some-left}
 use Rattle.memory.proofs.Pasted.{span-length}
 use Rattle.change.proofs.QueryPlace.{place-next, key-in, full-name-is, full-name-in}
 use Rattle.memory.proofs.Tries.{Lists, lists-in}
-use Rattle.leaves.proofs.Builds.{builds-none, builds-insert, placed-light, placed-count, bindings-ready, bindings-built}
+use Rattle.leaves.proofs.Builds.{builds-none, builds-insert, insert-light, insert-count, bindings-ready, bindings-built}
 use Rattle.leaves.proofs.Leaves.{less-room}
 
 -- ---- kinds
@@ -55,6 +56,10 @@ module _ (ch : Change) where
   kinds-module e = rw e (omega arith, λ s. refl)
 
 -- ---- ins
+pub placed-part : {ws txt : List ℕ} {x holder count wt : ℕ} (s l : ℕ) → NamesPlaced ws txt x (take (s + l - s) (drop s txt)) holder count wt → NamesPlaced ws txt x (span txt s l) holder count wt
+unfolding span
+placed-part {txt = txt} s l z = rw (part-is txt s l) at z
+
 last-in : (s : Str) → ends-in-dot s ≡ true → (last : Bool) → (last ≡ true → length s ≡ 0) → (last ≡ false → 0 < length s) → last ≡ is-empty (segments s)
 unfolding is-empty segments
 last-in [] e true h g = refl
@@ -137,9 +142,10 @@ module _ {ws txt : List ℕ} {n used x at len : ℕ} {d : Descent} {loaded : Boo
       ins-insertion : NamesInsertion ws txt modules bind n used x count (symbol-row ins-last at len (d .from) loaded (d .change .text))
       ins-insertion =
           let v : Value S.ModSymbol bind = item (item-of modules txt (symbol-row ins-last at len (d .from) loaded (d .change .text))) in
-          insertion-after (made-none (list bind) (i .sound) (i .link)) ins-list (omega (arith, i .link .earlier)) (symbol-row ins-last at len (d .from) loaded (d .change .text)) z
-          (placed-light ins-list z v (rw (← names-insert-value) (rw (ins-of, g) at (i .light))))
-          (rw (ins-of, g, placed-count ins-list z v) at (i .room))
+          insertion-after (made-none (list bind) (i .sound) (i .link)) ins-list (omega (arith, i .link .earlier)) (symbol-row ins-last at len (d .from) loaded (d .change .text))
+          (z .inserts modules bind ins-list .builds)
+          v (insert-light (what modules ws txt x (list bind)) (span txt at len) v (rw (← names-insert-value) (rw (ins-of, g) at (i .light))))
+          (rw (ins-of, g, insert-count (what modules ws txt x (list bind)) (span txt at len) v (z .inserts modules bind ins-list .builds)) at (i .room))
           (record {
             known = refl;
             key = ins-key;

@@ -3,6 +3,7 @@ use Prim.Native.Nat.{ℕ, _+_, _-_, _≤_, _<_}
 use mathlib.Core.Path.{_≡_}
 use mathlib.Core.Bool.{Bool, true, cond}
 use mathlib.Core.List.{List, [], _∷_, reverse}
+use lib.ListN.{getD, drop}
 use Rattle.source.specs.Limits.{heaviest-list, deepest-trie}
 use Rattle.source.specs.Text.{Str, Query, segments, ends-in-dot}
 use Rattle.source.specs.Types.{Trie, NameList, bind, ns, trie, bindings}
@@ -15,12 +16,13 @@ use Rattle.memory.specs.Sound.{LinkOk, Used}
 use Rattle.memory.specs.Read.{text-of}
 use Rattle.memory.specs.declared.Span.{Span}
 use Rattle.names.specs.Made.{Room}
+use Rattle.plan.specs.Way.{which-by, StepNoted, Way}
 use Rattle.kinds.specs.Shapes.{shape-of}
 use Rattle.kinds.specs.declared.Form.{Form}
 use Rattle.kinds.specs.declared.Form.the-variants as form
 use Rattle.leaves.specs.declared.Change.{Change}
 use Rattle.change.specs.declared.Descent.{Descent}
-use Rattle.leaves.specs.Leaves.{which-by, which-of, leaf-of, TextFor, ChangeOk, Fits, Builds}
+use Rattle.leaves.specs.Leaves.{which-of, leaf-of, TextFor, ChangeOk, Fits, Builds}
 
 -- ---- Queries in the text
 
@@ -137,6 +139,15 @@ pub record Mutation (ws txt : List ℕ) (n used x at : ℕ) (d : Descent) : Type
   pub link : LinkOk ws (n + 1) x (kind (which-of (d .change)) trieˢ)
   pub place : QueryPlace txt used (d .from) at (d .end)
   pub fits : Fits ws n (mutated ws txt (d .change) (what (which-of (d .change)) ws txt x trieˢ) (d .from) at (d .end))
+
+-- The way from the trie x down what is left of the query, to what the change inserts.
+pub record TrieWay (ws txt : List ℕ) (x at : ℕ) (d : Descent) (way : List ℕ) : Type 0 where
+  pub leads : Way ws txt (which-of (d .change)) (d .change .kind) (text-of txt (d .change .text)) (text-of txt (d .change .key)) way x (between txt at (d .end))
+
+-- The way from the list x of namespaces down the segment of len bytes from at on, and what is left after it; n records are used.
+pub record NamespacesWay (ws txt : List ℕ) (n x at len : ℕ) (d : Descent) (way : List ℕ) : Type 0 where
+  pub first : StepNoted ws txt (which-of (d .change)) n (what (which-of (d .change)) ws txt x (list ns)) (span txt at len) way
+  pub rest : TrieWay ws txt (getD way 0 0) (at + len + 1) d (drop 2 way)
 
 -- ---- What a change makes
 

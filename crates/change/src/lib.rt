@@ -15,7 +15,7 @@ ghost use Rattle.source.specs.Text.{ends-in-dot};
 ghost use Rattle.memory.specs.Layout.{span};
 ghost use Rattle.kinds.specs.declared.Form.the-variants as form;
 ghost use Rattle.leaves.specs.Leaves.{Some};
-ghost use Rattle.change.specs.Changes.{form-of, Kinds, symbol-row, SegmentCut, Bindings, Node, NamespacesMutation, Mutation, BindingsBuilt, NodeBuilt, NamespacesMutated, Mutated};
+ghost use Rattle.change.specs.Changes.{form-of, Kinds, symbol-row, SegmentCut, Bindings, Node, NamespacesMutation, Mutation, NamespacesWay, TrieWay, BindingsBuilt, NodeBuilt, NamespacesMutated, Mutated};
 
 // What stays the same on the way down a query: where the query begins and ends in the text, and the change at its end.
 pub struct Descent {
@@ -162,6 +162,7 @@ fn mut_node(
 }
 
 // The source's namespaces_mutate. rev_acc is what stands before `at`; the next segment has `len` bytes.
+// The way has the trie below it and how many branches its insertion builds, then the same of the segments after it.
 fn namespaces_mutate(
     words: &mut [u32],
     text: &[u8],
@@ -170,29 +171,27 @@ fn namespaces_mutate(
     at: u32,
     len: u32,
     d: Descent,
+    way: &[u32],
 ) -> Built
     requires { ⌜ Some (λ used. NamespacesMutation (now words) (now text) records used namespaces at len d) ⌝ }
+    requires { ⌜ NamespacesWay (now words) (now text) records namespaces at len d (now way) ⌝ }
     ensures { λ r. ⌜ NamespacesMutated (old words) (new words) (old text) records namespaces at len d (r .link) (r .records) ⌝ }
 {
-    let first = at as usize;
-    let size = len as usize;
-    let p = names::names_place(words, text, namespaces, &text[first..first + size]);
-    let scope = memory::trie_held(words, p.holder);
     let kinds = kinds_of(d.change);
-    let m = trie_mutate(words, text, records, scope, at + len + 1, d);
+    let m = trie_mutate(words, text, records, way[0], at + len + 1, d, &way[2..]);
     let key = Span {
         start: at,
         len: len,
     };
     let row = memory::make::namespace_row(kinds, key, m.link);
-    let link = names::names_insert(words, text, m.records, namespaces, p.count, row);
+    let link = names::names_insert(words, text, m.records, namespaces, way[1], row);
     Built {
         link: link,
         records: link,
     }
 }
 
-// The source's trie_mutate: the trie of `trie` changed below the segments from `at` on.
+// The source's trie_mutate: the trie of `trie` changed below the segments from `at` on, which the way leads down.
 pub fn trie_mutate(
     words: &mut [u32],
     text: &[u8],
@@ -200,15 +199,17 @@ pub fn trie_mutate(
     trie: u32,
     at: u32,
     d: Descent,
+    way: &[u32],
 ) -> Built
     requires { ⌜ Some (λ used. Mutation (now words) (now text) records used trie at d) ⌝ }
+    requires { ⌜ TrieWay (now words) (now text) trie at d (now way) ⌝ }
     ensures { λ r. ⌜ Mutated (old words) (new words) (old text) records trie at d (r .link) (r .records) ⌝ }
 {
     if at == d.end {
-        return mut_leaf(words, text, records, trie, d.change);
+        return mut_leaf(words, text, records, trie, d.change, way[1]);
     }
     let len = segment_in(text, at, d.end);
     let t = memory::trie_of(words, trie);
-    let n = namespaces_mutate(words, text, records, t.namespaces, at, len, d);
+    let n = namespaces_mutate(words, text, records, t.namespaces, at, len, d, way);
     mut_node(words, text, n.records, trie, n.link, at, len, d)
 }

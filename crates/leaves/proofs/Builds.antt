@@ -1,22 +1,20 @@
 -- Records of counted values, built one after another.
-use Prim.Native.Nat.{ℕ, suc, _+_, _-_, _≤_, Ordering, Ordering·lt, Ordering·eq, Ordering·gt}
+use Prim.Native.Nat.{ℕ, suc, _+_, _≤_, Ordering, Ordering·lt, Ordering·eq, Ordering·gt}
 use mathlib.Core.Path.{_≡_}
 use mathlib.Core.List.{List, [], _∷_}
 use native.Mathlib.Omega.{arith}
-use lib.ListN.{take, drop}
 use Rattle.source.specs.Text.{Str, string-compare}
 use Rattle.source.specs.Types.{Level, Value, Trie, Tree, NameList, bind, ns, trie, StrEmpty, StrBranch, []ᴺ, Names, ImportedNames}
 use Rattle.source.specs.Trees.{btree-insert-replace}
 use Rattle.source.specs.Tries.{names-insert}
 use Rattle.source.specs.Terms.{weight, heaviest, heaviest-tree, heaviest-names, depth, depth-tree, depth-names}
 use Rattle.source.specs.Counted.{Counted, pure, one, _>>=_, names-insertᶜ}
+use Rattle.source.specs.Plans.{insert-branches, first-tree}
 use Rattle.source.proofs.Counted.{names-insert-value, names-insert-count}
 use Rattle.source.specs.Rules.{IsKey}
-use Rattle.text.proofs.Texts.{part-is}
 use Rattle.memory.specs.Layout.{span, Which, Item, Sort, tree, list, trieˢ, Of, kind, value, what, text-len, text-start}
 use Rattle.memory.specs.Stored.{depth-in}
-use Rattle.memory.specs.Sound.{LinkOk, TextOk, Used, At}
-use Rattle.names.specs.Names.{NamesPlaced}
+use Rattle.memory.specs.Sound.{LinkOk, TextOk, Used}
 use Rattle.names.specs.Made.{Room, Made, MadeTrie}
 use Rattle.names.specs.Insert.{NamesInsertion, NamesInserts}
 use Rattle.names.proofs.Made.{made-none, made-as, made-then, made-room, made-link, made-what, trie-shallow}
@@ -85,6 +83,9 @@ module _ {A : Type 0} where
   inserted-within (Names bt tl) k v = let t = tree-within bt k v in record { weighs = omega arith; heavy = omega (arith, t .heavy); high = omega (arith, t .high) }
   inserted-within (ImportedNames label inner tl) k v = let t = tree-within StrEmpty k v in record { weighs = omega arith; heavy = omega (arith, t .heavy); high = omega (arith, t .high) }
 
+pub insert-light : {A : Type 0} {l : Level} (n : NameList A l) (k : Str) (v : Value A l) → heaviest-names (names-insert n k v) ≤ 96 → weight (names-insert n k v) ≤ 96
+insert-light n k v h = omega (arith, inserted-within n k v .weighs)
+
 -- ---- A trie of a new list
 module _ {ws ws₁ txt : List ℕ} {n n₁ used : ℕ} {w : Which} where
   -- The bindings are new, and the namespaces stood.
@@ -126,38 +127,27 @@ module _ {ws ws₁ txt : List ℕ} {n n₁ used : ℕ} {w : Which} where
         (rw (C .made .reads, made-what (C .made) w {x = b} (omega (arith, j .earlier))))) e)
 
 -- ---- Insertions
-pub placed-part : {ws txt : List ℕ} {x holder count wt : ℕ} (s l : ℕ) → NamesPlaced ws txt x (take (s + l - s) (drop s txt)) holder count wt → NamesPlaced ws txt x (span txt s l) holder count wt
-unfolding span
-placed-part {txt = txt} s l z = rw (part-is txt s l) at z
-
--- The place of a key weighs what the list with it does.
-module _ {ws txt : List ℕ} {w : Which} {v : Level} {x holder count wt : ℕ} {key : Str} (a : At ws txt w (list v) x) (z : NamesPlaced ws txt x key holder count wt) (t : Value (Item w) v) where
-  pub placed-light : heaviest-names (names-insert (what w ws txt x (list v)) key t) ≤ 96 → wt ≤ 96
-  placed-light h = omega (arith, z .inserts w v a .weighs t, inserted-within (what w ws txt x (list v)) key t .weighs)
-
-  pub placed-count : names-insertᶜ (what w ws txt x (list v)) key t .count ≡ count + 1
-  placed-count = rw names-insert-count (omega (arith, z .inserts w v a .builds))
+-- An insertion of so many branches.
+pub insert-count : {A : Type 0} {v : Level} (n : NameList A v) (key : Str) (t : Value A v) {count : ℕ} → count ≡ insert-branches (first-tree n) key → names-insertᶜ n key t .count ≡ count + 1
+insert-count n key t e = rw names-insert-count (omega (arith, e))
 
 -- A trie, built before, goes into a list of namespaces that stood.
 module _ {ws ws₁ txt : List ℕ} {n n₁ used : ℕ} {w : Which} {c : Counted (Trie (Item w))} {s : ℕ} (S : Builds ws ws₁ txt n used w trieˢ c s n₁)
-    (o : Used ws txt n used) {x kd start len holder count wt : ℕ} (j : LinkOk ws (n + 1) x (kind w (list ns))) (k : kd ≡ kind w (tree ns))
-    (i : TextOk IsKey txt used start len) (z : NamesPlaced ws txt x (span txt start len) holder count wt) where
-  at-list : At ws txt w (list ns) x
-  at-list = record { records = n; used = used; sound = o; link = j }
-
+    (o : Used ws txt n used) {x kd start len count : ℕ} (j : LinkOk ws (n + 1) x (kind w (list ns))) (k : kd ≡ kind w (tree ns))
+    (i : TextOk IsKey txt used start len) (e : count ≡ insert-branches (first-tree (what w ws txt x (list ns))) (span txt start len)) where
   pub scope-insertion : Room ws n ((c >>= λ scope. names-insertᶜ (what w ws txt x (list ns)) (span txt start len) scope) .count)
       → heaviest-names ((c >>= λ scope. names-insertᶜ (what w ws txt x (list ns)) (span txt start len) scope) .value) ≤ 96
       → NamesInsertion ws₁ txt w ns n₁ used x count (kd ∷ start ∷ len ∷ 0 ∷ 0 ∷ s ∷ 0 ∷ 0 ∷ 0 ∷ 0 ∷ 0 ∷ 0 ∷ [])
   unfolding _>>=_
   scope-insertion room light =
-      insertion-after (S .made) at-list (omega (arith, j .earlier)) (kd ∷ start ∷ len ∷ 0 ∷ 0 ∷ s ∷ 0 ∷ 0 ∷ 0 ∷ 0 ∷ 0 ∷ 0 ∷ []) z
-      (placed-light at-list z (c .value) (rw names-insert-value at light))
-      (made-room (S .made) (c .count) (S .number) (rw (placed-count at-list z (c .value)) at room))
+      insertion-after (S .made) (record { records = n; used = used; sound = o; link = j }) (omega (arith, j .earlier)) (kd ∷ start ∷ len ∷ 0 ∷ 0 ∷ s ∷ 0 ∷ 0 ∷ 0 ∷ 0 ∷ 0 ∷ 0 ∷ []) e
+      (c .value) (insert-light (what w ws txt x (list ns)) (span txt start len) (c .value) (rw names-insert-value at light))
+      (made-room (S .made) (c .count) (S .number) (rw (insert-count (what w ws txt x (list ns)) (span txt start len) (c .value) e) at room))
       (record { known = k; key = i; holds = S .made .link })
 
   pub scope-built : {ws₂ : List ℕ} {y : ℕ} → NamesInsertion ws₁ txt w ns n₁ used x count (kd ∷ start ∷ len ∷ 0 ∷ 0 ∷ s ∷ 0 ∷ 0 ∷ 0 ∷ 0 ∷ 0 ∷ 0 ∷ []) → y ≡ n₁ + count + 1
       → NamesInserts ws₁ ws₂ txt n₁ x count (kd ∷ start ∷ len ∷ 0 ∷ 0 ∷ s ∷ 0 ∷ 0 ∷ 0 ∷ 0 ∷ 0 ∷ 0 ∷ []) y
       → Builds ws ws₂ txt n used w (list ns) (c >>= λ scope. names-insertᶜ (what w ws txt x (list ns)) (span txt start len) scope) y y
-  scope-built g e m =
+  scope-built g f m =
       builds-then S (λ scope. names-insertᶜ (what w ws txt x (list ns)) (span txt start len) scope)
-      (rw (S .made .reads, made-what (S .made) w {x = x} (omega (arith, j .earlier))) at (builds-insert g m e))
+      (rw (S .made .reads, made-what (S .made) w {x = x} (omega (arith, j .earlier))) at (builds-insert g m f))

@@ -16,7 +16,6 @@ use Rattle.memory.specs.Read.{ReadTrie}
 use Rattle.memory.specs.declared.Trie as M
 use Rattle.memory.specs.declared.Span.{Span}
 use Rattle.memory.proofs.What.{what-none}
-use Rattle.names.specs.Names.{NamesPlaced}
 use Rattle.names.specs.Made.{Room, MadeTrie, MadeImported}
 use Rattle.names.specs.Insert.{NamesInsertion, NamesInserts}
 use Rattle.names.proofs.Made.{made-none, made-as, imported-light}
@@ -24,10 +23,10 @@ use Rattle.names.proofs.NamesInsertion.{insertion-after}
 use Rattle.kinds.specs.declared.Kind.{Kind}
 use Rattle.kinds.specs.declared.Kind.the-variants.{Name, Include, Open, Alias, Module}
 use Rattle.leaves.specs.declared.Change.{Change}
-use Rattle.leaves.specs.Leaves.{change-of, with-kind, leaf-by, leaf-of, Some, Leaf, Builds, LeafBuilt}
+use Rattle.leaves.specs.Leaves.{change-of, with-kind, leaf-by, leaf-of, Some, Leaf, LeafBuilds, Builds, LeafBuilt}
 use Rattle.memory.proofs.Tries.{Lists, lists-in}
-use Rattle.leaves.proofs.Builds.{inserted-within, builds-one, builds-none, builds-insert, bindings-ready, bindings-built, namespaces-ready, namespaces-built, placed-light, placed-count, scope-insertion, scope-built}
-use Rattle.memory.specs.Sound.{LinkOk, Used, At}
+use Rattle.leaves.proofs.Builds.{inserted-within, builds-one, builds-none, builds-insert, bindings-ready, bindings-built, namespaces-ready, namespaces-built, insert-light, insert-count, scope-insertion, scope-built}
+use Rattle.memory.specs.Sound.{LinkOk, Used}
 use Rattle.memory.proofs.At.{no-link}
 
 pub less-room : {ws : List ℕ} {n m k : ℕ} → Room ws n m → k ≤ m → Room ws n k
@@ -116,10 +115,7 @@ module _ {ws txt : List ℕ} {n used x number : ℕ} {text key : Span} {inc : �
   name-lists : Lists ws txt n names x p
   name-lists = lists-in (l .change .sound) (l .link) q
 
-  pub name-list : At ws txt names (list bind) (p .bindings)
-  name-list = record { records = n; used = used; sound = l .change .sound; link = name-lists .b-link }
-
-  module _ {holder count wt : ℕ} (z : NamesPlaced ws txt (p .bindings) (span txt (text .start) (text .len)) holder count wt) where
+  module _ {count : ℕ} (z : LeafBuilds ws txt x (change-of (Name number) text key inc) count) where
     abbrev name-row : List ℕ
     name-row = 1 ∷ text .start ∷ text .len ∷ 0 ∷ 0 ∷ number ∷ 0 ∷ 0 ∷ 0 ∷ 0 ∷ 0 ∷ 0 ∷ []
 
@@ -129,12 +125,13 @@ module _ {ws txt : List ℕ} {n used x number : ℕ} {text key : Span} {inc : �
 
     name-room : Room ws n (count + 1 + 1)
     unfolding leaf-by _>>=_ one
-    name-room = rw (← name-lists .b-reads, placed-count name-list z (item number)) at (l .fits .room)
+    name-room = rw (insert-count (bindings (what names ws txt x trieˢ)) (span txt (text .start) (text .len)) (item number) z) at (l .fits .room)
 
     pub name-insertion : NamesInsertion ws txt names bind n used (p .bindings) count name-row
     name-insertion =
-        insertion-after (made-none (list bind) (l .change .sound) (name-lists .b-link)) name-list (omega (arith, name-lists .b-link .earlier)) name-row z
-        (placed-light name-list z (item number) name-light)
+        insertion-after (made-none (list bind) (l .change .sound) (name-lists .b-link)) (record { records = n; used = used; sound = l .change .sound; link = name-lists .b-link })
+        (omega (arith, name-lists .b-link .earlier)) name-row (rw (name-lists .b-reads) z)
+        (item number) (insert-light (what names ws txt (p .bindings) (list bind)) (span txt (text .start) (text .len)) (item number) name-light)
         (less-room name-room (omega arith))
         (record { known = refl; key = l .change .text; holds = tt })
 
@@ -158,14 +155,14 @@ module _ {ws txt : List ℕ} {n used x : ℕ} {text key : Span} {inc : ℕ} {p p
   aliased-lists : Lists ws txt n names inc p′
   aliased-lists = lists-in (l .change .sound) (l .change .inc) q′
 
-  pub alias-list : At ws txt names (list ns) (p .namespaces)
-  alias-list = record { records = n; used = used; sound = l .change .sound; link = alias-lists .n-link }
-
   -- The fresh trie.
   abbrev fresh : Counted (Trie ℕ)
   fresh = one (ImportedNames (span txt (text .start) (text .len - 1)) (bindings (what names ws txt inc trieˢ)) []ᴺ) >>= λ b. one (trie b []ᴺ)
 
-  module _ {holder count wt : ℕ} (z : NamesPlaced ws txt (p .namespaces) (span txt (key .start) (key .len)) holder count wt) where
+  module _ {count : ℕ} (z : LeafBuilds ws txt x (change-of Alias text key inc) count) where
+    alias-count : names-insertᶜ (namespaces (what names ws txt x trieˢ)) (span txt (key .start) (key .len)) (fresh .value) .count ≡ count + 1
+    alias-count = insert-count (namespaces (what names ws txt x trieˢ)) (span txt (key .start) (key .len)) (fresh .value) z
+
     alias-light : heaviest-names (names-insert (what names ws txt (p .namespaces) (list ns)) (span txt (key .start) (key .len)) (fresh .value)) ≤ 96
     unfolding heaviest leaf-by _>>=_ one
     alias-light = rw (alias-lists .n-reads, ← names-insert-value) (omega (arith, l .fits .light))
@@ -176,7 +173,7 @@ module _ {ws txt : List ℕ} {n used x : ℕ} {text key : Span} {inc : ℕ} {p p
 
     alias-room : Room ws n (2 + (count + 1 + 1))
     unfolding leaf-by _>>=_ one
-    alias-room = rw (← alias-lists .n-reads, placed-count alias-list z (fresh .value)) at (l .fits .room)
+    alias-room = rw alias-count at (l .fits .room)
 
     pub alias-ready : Room ws n 1 × ((p′ .bindings ≤ n) × (0 ≤ n) × (weight-in ws (p′ .bindings) + weight-in ws 0 < 96))
     unfolding heaviest heaviest-names _>>=_ one
@@ -209,19 +206,19 @@ module _ {ws txt : List ℕ} {n used x : ℕ} {text key : Span} {inc : ℕ} {p p
         pub alias-insertion : NamesInsertion ws₂ txt names ns s used (p .namespaces) count alias-row
         unfolding _>>=_ one
         alias-insertion =
-            scope-insertion fresh-builds (l .change .sound) (alias-lists .n-link) refl (l .change .key) z
-            (rw (placed-count alias-list z (fresh .value)) (less-room alias-room (omega arith)))
+            scope-insertion fresh-builds (l .change .sound) (alias-lists .n-link) refl (l .change .key) (rw (alias-lists .n-reads) z)
+            (rw (alias-lists .n-reads, alias-count) (less-room alias-room (omega arith)))
             (rw names-insert-value alias-light)
 
         module _ {ws₃ : List ℕ} {y : ℕ} (h : y ≡ s + count + 1) (i : NamesInserts ws₂ ws₃ txt s (p .namespaces) count alias-row y) where
           alias-spaces : Builds ws ws₃ txt n used names (list ns) (fresh >>= λ scope. names-insertᶜ (namespaces (what names ws txt x trieˢ)) (span txt (key .start) (key .len)) scope) y y
-          alias-spaces = rw (alias-lists .n-reads) at (scope-built fresh-builds (l .change .sound) (alias-lists .n-link) refl (l .change .key) z alias-insertion h i)
+          alias-spaces = rw (alias-lists .n-reads) at (scope-built fresh-builds (l .change .sound) (alias-lists .n-link) refl (l .change .key) (rw (alias-lists .n-reads) z) alias-insertion h i)
 
           pub alias-trie-ready : Room ws₃ y 1 × ((y ≤ y) × (depth-in ws₃ y ≤ 16))
           unfolding _>>=_ one
           alias-trie-ready =
               namespaces-ready alias-spaces (alias-lists .b-link)
-              (rw (← alias-lists .n-reads, placed-count alias-list z (fresh .value)) (less-room alias-room (omega arith)))
+              (rw alias-count (less-room alias-room (omega arith)))
               (rw names-insert-value alias-shallow)
 
           pub alias-built : {ws₄ : List ℕ} {r : ℕ} → r ≡ y + 1 → MadeTrie ws₃ ws₄ y 5 (p .bindings) y r
@@ -235,6 +232,10 @@ module _ {ws txt : List ℕ} {n used x : ℕ} {text key : Span} {inc : ℕ} {p p
 module _ {ws txt : List ℕ} {n x : ℕ} {k : Kind} (ch : Change) (e : ch .kind ≡ k) where
   pub leaf-as : Some (λ used. Leaf ws txt n used x ch) → Some (λ used. Leaf ws txt n used x (with-kind k ch))
   leaf-as l = subst (λ (k : Kind). Some (λ used. Leaf ws txt n used x (with-kind k ch))) e l
+
+  pub inserting-as : (count : ℕ) → Some (λ used. Leaf ws txt n used x ch) × LeafBuilds ws txt x ch count
+      → Some (λ used. Leaf ws txt n used x (with-kind k ch)) × LeafBuilds ws txt x (with-kind k ch) count
+  inserting-as count l = subst (λ (k : Kind). Some (λ used. Leaf ws txt n used x (with-kind k ch)) × LeafBuilds ws txt x (with-kind k ch) count) e l
 
   pub leaf-built : {ws′ : List ℕ} {link n′ : ℕ} → LeafBuilt ws ws′ txt n x (with-kind k ch) link n′ → LeafBuilt ws ws′ txt n x ch link n′
   leaf-built {ws′} {link} {n′} b = subst (λ (k : Kind). LeafBuilt ws ws′ txt n x (with-kind k ch) link n′) (sym e) b

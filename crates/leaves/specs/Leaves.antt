@@ -8,11 +8,12 @@ use Rattle.source.specs.Types.{Trie, item, trie, []ᴺ, ImportedNames, bindings
 use Rattle.source.specs.Terms.{heaviest, depth}
 use Rattle.source.specs.Rules.{IsKey, IsLabel, IsPath}
 use Rattle.source.specs.Counted.{Counted, pure, one, _>>=_, names-insertᶜ}
-use Rattle.memory.specs.Layout.{Which, names, modules, Item, Sort, trieˢ, Of, kind, what}
+use Rattle.memory.specs.Layout.{Which, names, Item, Sort, trieˢ, Of, kind, what}
 use Rattle.memory.specs.Sound.{LinkOk, TextOk, Used}
 use Rattle.memory.specs.Read.{text-of}
 use Rattle.memory.specs.declared.Span.{Span}
 use Rattle.names.specs.Made.{Room, Made}
+use Rattle.plan.specs.Way.{which-by, HostBuilds}
 use Rattle.kinds.specs.Shapes.{shape-of}
 use Rattle.kinds.specs.declared.Kind.{Kind}
 use Rattle.kinds.specs.declared.Kind.the-variants.{Name, Include, Open, Alias, Module}
@@ -21,12 +22,6 @@ use Rattle.kinds.specs.declared.Form.the-variants as form
 use Rattle.leaves.specs.declared.Change.{Change}
 
 -- ---- Changes
-
--- The table that a form changes.
-abbrev pub which-by : Form → Which
-which-by form.Name = names
-which-by form.Import = names
-which-by (form.Module loaded) = modules
 
 -- The table that a change is of.
 abbrev pub which-of : Change → Which
@@ -103,6 +98,10 @@ pub record Leaf (ws txt : List ℕ) (n used x : ℕ) (ch : Change) : Type 0 wher
   pub change : ChangeOk ws txt n used ch
   pub link : LinkOk ws (n + 1) x (kind (which-of ch) trieˢ)
   pub fits : Fits ws n (leaf-of ws txt ch (what (which-of ch) ws txt x trieˢ))
+
+-- The branches that mut_leaf's insertion builds.
+abbrev pub LeafBuilds : (ws txt : List ℕ) (x : ℕ) (ch : Change) (count : ℕ) → Type 0
+LeafBuilds ws txt x ch count = HostBuilds (ch .kind) (text-of txt (ch .text)) (text-of txt (ch .key)) (what (which-of ch) ws txt x trieˢ) count
 
 -- Of some text used.
 pub record Some (P : ℕ → Type 0) : Type 0 where

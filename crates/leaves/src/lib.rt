@@ -5,7 +5,7 @@ ghost use mathlib.Core.Path.{_≡_};
 ghost use Prim.Native.Nat.{_-_};
 ghost use Rattle.source.specs.Lent.{old, new};
 ghost use Rattle.kinds.specs.declared.Kind.the-variants.{Name, Include, Open, Alias};
-ghost use Rattle.leaves.specs.Leaves.{with-kind, label-in, Some, Leaf, LeafBuilt};
+ghost use Rattle.leaves.specs.Leaves.{with-kind, label-in, Some, Leaf, LeafBuilds, LeafBuilt};
 
 // A change of a trie: its kind, its second text and key as spans of the table's text, and the included trie.
 // What the kind does not use is of no account.
@@ -50,17 +50,15 @@ fn insert_leaf(
     trie: u32,
     change: Change,
     number: u32,
+    count: u32,
 ) -> Built
     requires { ⌜ Some (λ used. Leaf (now words) (now text) records used trie (with-kind (Name number) change)) ⌝ }
+    requires { ⌜ LeafBuilds (now words) (now text) trie (with-kind (Name number) change) count ⌝ }
     ensures { λ r. ⌜ LeafBuilt (old words) (new words) (old text) records trie (with-kind (Name number) change) (r .link) (r .records) ⌝ }
 {
     let t = memory::trie_of(words, trie);
-    let id = change.text;
-    let start = id.start as usize;
-    let len = id.len as usize;
-    let p = names::names_place(words, text, t.bindings, &text[start..start + len]);
-    let row = memory::make::binding_row(id, number);
-    let b = names::names_insert(words, text, records, t.bindings, p.count, row);
+    let row = memory::make::binding_row(change.text, number);
+    let b = names::names_insert(words, text, records, t.bindings, count, row);
     let link = names::put_trie(words, b, 5, b, t.namespaces);
     Built {
         link: link,
@@ -101,21 +99,25 @@ fn open_leaf(words: &mut [u32], text: &[u8], records: u32, trie: u32, change: Ch
 }
 
 // trie_add_alias's: at the key a fresh trie of the included bindings alone.
-fn alias_leaf(words: &mut [u32], text: &[u8], records: u32, trie: u32, change: Change) -> Built
+fn alias_leaf(
+    words: &mut [u32],
+    text: &[u8],
+    records: u32,
+    trie: u32,
+    change: Change,
+    count: u32,
+) -> Built
     requires { ⌜ Some (λ used. Leaf (now words) (now text) records used trie (with-kind Alias change)) ⌝ }
+    requires { ⌜ LeafBuilds (now words) (now text) trie (with-kind Alias change) count ⌝ }
     ensures { λ r. ⌜ LeafBuilt (old words) (new words) (old text) records trie (with-kind Alias change) (r .link) (r .records) ⌝ }
 {
     let t = memory::trie_of(words, trie);
     let i = memory::trie_of(words, change.inc);
     let label = label_of(change.text);
-    let key = change.key;
-    let start = key.start as usize;
-    let len = key.len as usize;
-    let p = names::names_place(words, text, t.namespaces, &text[start..start + len]);
     let b = names::imported(words, records, 3, label, i.bindings, 0);
     let scope = names::put_trie(words, b, 5, b, 0);
-    let row = memory::make::namespace_row(0, key, scope);
-    let n = names::names_insert(words, text, scope, t.namespaces, p.count, row);
+    let row = memory::make::namespace_row(0, change.key, scope);
+    let n = names::names_insert(words, text, scope, t.namespaces, count, row);
     let link = names::put_trie(words, n, 5, t.bindings, n);
     Built {
         link: link,
@@ -123,17 +125,25 @@ fn alias_leaf(words: &mut [u32], text: &[u8], records: u32, trie: u32, change: C
     }
 }
 
-// mut_leaf of a change.
-pub fn mut_leaf(words: &mut [u32], text: &[u8], records: u32, trie: u32, change: Change) -> Built
+// mut_leaf of a change; `count` is that of the branches that its insertion builds, where it inserts.
+pub fn mut_leaf(
+    words: &mut [u32],
+    text: &[u8],
+    records: u32,
+    trie: u32,
+    change: Change,
+    count: u32,
+) -> Built
     requires { ⌜ Some (λ used. Leaf (now words) (now text) records used trie change) ⌝ }
+    requires { ⌜ LeafBuilds (now words) (now text) trie change count ⌝ }
     ensures { λ r. ⌜ LeafBuilt (old words) (new words) (old text) records trie change (r .link) (r .records) ⌝ }
 {
     let kind = change.kind;
     match kind {
-        Kind::Name(number) => insert_leaf(words, text, records, trie, change, number),
+        Kind::Name(number) => insert_leaf(words, text, records, trie, change, number, count),
         Kind::Include => include_leaf(words, text, records, trie, change),
         Kind::Open => open_leaf(words, text, records, trie, change),
-        Kind::Alias => alias_leaf(words, text, records, trie, change),
+        Kind::Alias => alias_leaf(words, text, records, trie, change, count),
         Kind::Module(_) => Built {
             link: trie,
             records: records,

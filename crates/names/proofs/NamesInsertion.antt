@@ -4,10 +4,11 @@ use mathlib.Core.Path.{_≡_, refl, sym, ap, _∙_}
 use mathlib.Core.List.{List}
 use native.Mathlib.Omega.{arith}
 use Rattle.source.specs.Text.{Str}
-use Rattle.source.specs.Types.{Level, bind, ns}
+use Rattle.source.specs.Types.{Level, Value, bind, ns}
 use Rattle.source.specs.Trees.{btree-insert-replace}
+use Rattle.source.specs.Tries.{names-insert}
 use Rattle.source.specs.Terms.{weight}
-use Rattle.source.specs.Plans.{insert-branches}
+use Rattle.source.specs.Plans.{insert-branches, first-tree}
 use Rattle.memory.specs.Layout.{span, Which, names, modules, Item, Sort, tree, list, trieˢ, Of, kind, value, what, key-at, kind-word, text-len, text-start}
 use Rattle.memory.specs.Stored.{weight-in}
 use Rattle.memory.proofs.What.{what-none}
@@ -18,7 +19,7 @@ use Rattle.insertion.specs.Insert.{NewBranch, Insertion, Inserted}
 use Rattle.tree.proofs.Branches.{branch-right, branch-reads}
 use Rattle.tree.proofs.Links.{by-sides}
 use Rattle.tree.proofs.Past.{by-order}
-use Rattle.names.specs.Names.{LedIn, Led, NamesPlaced}
+use Rattle.names.specs.Names.{LedIn, Led}
 use Rattle.names.specs.Made.{Room, Made, MadeNames}
 use Rattle.names.specs.Insert.{inserted, NamesInsertion}
 use Rattle.names.proofs.Collections.{list-weight}
@@ -63,20 +64,19 @@ module _ {ws txt : List ℕ} (key : Str) where
   pub builds-of : {w : Which} {v : Level} {x count : ℕ} → At ws txt w (tree v) x → count ≡ insert-branches (what w ws txt x (tree v)) key → Builds ws txt x key count
   builds-of {x = x} t e = record { small = omega (arith, e, few-branches x t); says = λ w′ v′ t′. e ∙ one-count x t t′ }
 
--- The place of a key, found before other writes, serves an insertion after them.
+-- The branches of an insertion, counted before other writes, are those after them. Any value serves: the weight is the same.
 pub insertion-after : {ws ws′ txt : List ℕ} {n n′ used : ℕ} {w : Which} {s : Sort} {y : ℕ} {t : Of (Item w) s} → Made ws ws′ txt n n′ used w s y t
-    → {v : Level} {x holder count wt : ℕ} → At ws txt w (list v) x → x ≤ n → (r : List ℕ) → NamesPlaced ws txt x (span txt (text-start r) (text-len r)) holder count wt → wt ≤ 96
+    → {v : Level} {x count : ℕ} → At ws txt w (list v) x → x ≤ n → (r : List ℕ) → count ≡ insert-branches (first-tree (what w ws txt x (list v))) (span txt (text-start r) (text-len r))
+    → (a : Value (Item w) v) → weight (names-insert (what w ws txt x (list v)) (span txt (text-start r) (text-len r)) a) ≤ 96
     → Room ws′ n′ (count + 1) → NewBranch ws′ txt used (n′ + 1) w r v → NamesInsertion ws′ txt w v n′ used x count r
-insertion-after {ws′ = ws′} {txt = txt} {w = w} m {v} {x} l h r p g o b =
-    let q = p .inserts w v l in
-    record {
-      sound = m .sound;
-      link = made-link m {l = x + 1} (omega arith) (record { earlier = omega arith; of-kind = l .link .of-kind });
-      new = b;
-      counted = q .builds ∙ rw (made-what m w h);
-      light = rw (made-what m w h) (omega (arith, q .weighs (value w txt r (what w ws′ txt) v), g));
-      room = o;
-    }
+insertion-after {ws} {txt = txt} {w = w} m {v} {x} l h r e a g o b = record {
+  sound = m .sound;
+  link = made-link m {l = x + 1} (omega arith) (record { earlier = omega arith; of-kind = l .link .of-kind });
+  new = b;
+  counted = e ∙ rw (made-what m w h);
+  light = rw (made-what m w h, names-insert-weight) (omega (arith, g, names-insert-weight (what w ws txt x (list v)) (span txt (text-start r) (text-len r)) a));
+  room = o;
+}
 
 -- ---- The writers
 

@@ -1,1 +1,2 @@
-pub mod Plans
+mod Plans
+pub mod Way

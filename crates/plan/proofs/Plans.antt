@@ -1,12 +1,13 @@
 -- Planning: what each step of a path adds, and the plan of each call from the path to its host.
-use Prim.Native.Nat.{ℕ, suc, _+_, _-_, _≤_, _<_, max}
+use Prim.Native.Nat.{ℕ, suc, _+_, _*_, _-_, _≤_, _<_, max}
 use mathlib.Core.Path.{_≡_, refl, sym, ap, _∙_}
 use mathlib.Core.Bool.{Bool, true, false, _||_, or-false}
 use mathlib.Core.List.{List, [], _∷_}
 use native.Mathlib.Omega.{arith}
 use lib.Dec.{eqb, ltb}
 use borrow.Author.Tests.{eqb-true, eqb-false}
-use lib.ListN.{length, take, drop, length-drop}
+use lib.ListN.{length, take, drop, set, length-drop, length-set}
+use lib.Seq.{getD-set-same, getD-set-other}
 use Rattle.source.specs.Text.{Str, Query, segments, ends-in-dot}
 use Rattle.source.specs.Types.{Level, Value, Trie, NameList, bind, ns, item, []ᴺ, Names, ImportedNames, bindings, namespaces}
 use Rattle.source.specs.Tries.{names-insert, scope-of, included}
@@ -16,7 +17,7 @@ use Rattle.source.specs.Table as S
 use Rattle.source.specs.Calls.{name, include, opens, alias, module-path, is-empty}
 use Rattle.source.proofs.Hosts.{host-of-step}
 use Rattle.source.proofs.Measures.{ltb-max}
-use Rattle.source.specs.Plans.{along, inserted-records, inserted-weight, ins-inserts, step-records, step-weight, name-records, name-weight, import-records, include-weight, open-weight, alias-records, alias-weight, module-step-records, module-step-weight, module-host, plan-depth, plan-weight, plan-crowded, plan-records}
+use Rattle.source.specs.Plans.{along, inserted-records, inserted-weight, ins-inserts, step-records, step-weight, name-records, name-weight, import-records, include-weight, open-weight, alias-records, alias-weight, module-step-records, module-step-weight, module-host, plan-depth, plan-weight, plan-crowded, plan-records, insert-branches, first-tree}
 use Rattle.source.proofs.Planning.{along-host}
 use Rattle.source.proofs.PlannedRecords.{records-onto}
 use Rattle.source.proofs.PlannedWeight.{crowded-onto}
@@ -27,6 +28,7 @@ use Rattle.memory.specs.declared.Trie as M
 use Rattle.names.specs.Names.{AnyList, NamesPlaced, InsertIn}
 use Rattle.names.proofs.Collections.{list-weight}
 use Rattle.lookup.specs.Tries.{NsInserts}
+use Rattle.plan.proofs.Way.{keeps-then, keeps-set}
 use Rattle.plan.specs.Plans.{StepIn, Stepped, StepsDown, Path, Inserted, Planned}
 use Rattle.text.proofs.Texts.{part-is}
 use Rattle.text.specs.Text.{Segment}
@@ -55,17 +57,32 @@ module _ {ws txt : List ℕ} {w : Which} {v : Level} {x : ℕ} {key : Str} {coun
 pub placed-small : {ws txt : List ℕ} {x : ℕ} {key : Str} {holder count wt : ℕ} → AnyList ws txt x → NamesPlaced ws txt x key holder count wt → count ≤ 65537
 placed-small a z = omega (arith, z .small, a .list .link .earlier, a .list .sound .few)
 
+-- The count of a place in a list of a trie, by the trie.
+module _ {ws txt : List ℕ} {w : Which} {x : ℕ} {p : M.Trie} {key : Str} {holder count wt : ℕ} (t : At ws txt w trieˢ x) (q : ReadTrie ws x p) where
+  pub bindings-builds : NamesPlaced ws txt (p .bindings) key holder count wt → count ≡ insert-branches (first-tree (bindings (what w ws txt x trieˢ))) key
+  bindings-builds z = rw (← bindings-read t q) (z .inserts w bind (bindings-at t q) .builds)
+
+  pub namespaces-builds : NamesPlaced ws txt (p .namespaces) key holder count wt → count ≡ insert-branches (first-tree (namespaces (what w ws txt x trieˢ))) key
+  namespaces-builds z = rw (← namespaces-read t q) (z .inserts w ns (namespaces-at t q) .builds)
+
 -- ---- a path
-pub stepped : {ws txt : List ℕ} {w : Which} {x : ℕ} {p : M.Trie} {s : Str} {holder count wt y : ℕ} → At ws txt w trieˢ x → ReadTrie ws x p
-    → NamesPlaced ws txt (p .namespaces) s holder count wt → y ≡ trie-in ws holder → StepIn ws txt w x s y (count + 2) (ltb 96 wt)
-stepped {ws} {txt} {w} {x} {s = s} t q z e =
+pub stepped : {ws txt : List ℕ} {w : Which} {x : ℕ} {p : M.Trie} {s : Str} {way : List ℕ} {steps holder count wt y : ℕ} → At ws txt w trieˢ x → ReadTrie ws x p
+    → NamesPlaced ws txt (p .namespaces) s holder count wt → y ≡ trie-in ws holder → 2 * steps + 3 ≤ length way
+    → StepIn ws txt w x s way (set (set way (2 * steps + 1) y) (2 * steps + 1 + 1) count) steps y (count + 2) (ltb 96 wt)
+stepped {ws} {txt} {w} {x} {s = s} {way} {steps} {count = count} {y = y} t q z e h =
     let a = namespaces-at t q in
     let i = z .inserts w ns a in
+    let j : 2 * steps + 1 + 1 ≡ 2 * steps + 2 = omega arith in
+    let one = set way (2 * steps + 1) y in
     record {
       next = scope-up t q s (holder-scope a (z .found w ns a) e);
       builds = rw (← namespaces-read t q) (omega (arith, placed-records i));
       small = omega (arith, z .small, lists-seen t q .namespaces .earlier, t .link .earlier, t .sound .few);
       weighs = rw (← namespaces-read t q, placed-weight i (what w ws txt x trieˢ));
+      kept = keeps-then (omega arith) (keeps-set way y (omega arith)) (keeps-set one {n = 2 * steps + 1 + 1} count (omega arith));
+      room = omega (arith, length-set way (2 * steps + 1) y, length-set one (2 * steps + 1 + 1) count);
+      link-noted = getD-set-other one (2 * steps + 1 + 1) (2 * steps + 1) count 0 (λ g. omega arith) ∙ getD-set-same way (2 * steps + 1) y 0 (omega arith);
+      count-noted = rw j (getD-set-same one (2 * steps + 2) count 0 (omega (arith, length-set way (2 * steps + 1) y))) ∙ namespaces-builds t q z;
     }
 
 module _ {A : Type 0} {builds weighs : Trie A → Str → Query → ℕ} {tr : Trie A} {q : Query} where
@@ -98,10 +115,10 @@ path-few g y = omega (arith, g .says .number, ap length (y .splits))
 
 module _ {ws txt : List ℕ} {host : Str} {root link at steps records : ℕ} {crowded : Bool} {tr : Trie ℕ} {q : Query}
     (g : Stands ws txt names host root link at (StepsDown step-records step-weight tr q steps records crowded)) where
-  pub path-next : {n y a : ℕ} {b : Bool} → Segment host at n → Stepped ws txt link (take (at + n - at) (drop at host)) y a b
+  pub path-next : {way way′ : List ℕ} {n y a : ℕ} {b : Bool} → Segment host at n → Stepped ws txt link (take (at + n - at) (drop at host)) way way′ steps y a b
       → Stands ws txt names host root y (at + n + 1) (StepsDown step-records step-weight tr q (steps + 1) (records + a) (crowded || b))
   unfolding step-records step-weight
-  path-next {n} y s =
+  path-next {n = n} y s =
       let i = rw (part-is host at n) at (s names (g .here)) in
       stands-next g _ y (i .next) (λ f. steps-next f (i .builds) (omega (arith, i .small)) (i .weighs))
 
@@ -207,9 +224,9 @@ last-is query at n y d = go (eqb (at + n + 1) (length query)) refl
     go false e = some-is (segments (drop (at + n + 1) query)) (some-left (drop (at + n + 1) query) (y .ends ∙ d) (omega (arith, y .inside, length-drop (at + n + 1) query, eqb-false (at + n + 1) (length query) e)))
 
 -- One step of a module path.
-pub module-path-next : {ws txt : List ℕ} {query : Str} {root link at n y a b steps records : ℕ} {crowded c d loaded : Bool} {tr : Trie S.ModSymbol} {q : Query}
+pub module-path-next : {ws txt way way′ : List ℕ} {query : Str} {root link at n y a b steps records : ℕ} {crowded c d loaded : Bool} {tr : Trie S.ModSymbol} {q : Query}
     → Stands ws txt modules query root link at (StepsDown (module-step-records loaded) (module-step-weight loaded) tr q steps records crowded) → Segment query at n
-    → Stepped ws txt link (take (at + n - at) (drop at query)) y a c → Inserted ws txt link (take (at + n - at) (drop at query)) (eqb (at + n + 1) (length query)) loaded b d
+    → Stepped ws txt link (take (at + n - at) (drop at query)) way way′ steps y a c → Inserted ws txt link (take (at + n - at) (drop at query)) (eqb (at + n + 1) (length query)) loaded b d
     → Stands ws txt modules query root y (at + n + 1) (StepsDown (module-step-records loaded) (module-step-weight loaded) tr q (steps + 1) (records + (a + b)) (crowded || (c || d)))
 unfolding module-step-records module-step-weight
 module-path-next {query = query} {at = at} {n} g y s h =

@@ -1,18 +1,26 @@
 // Planning: the records that a registration would build, and whether a list would be too heavy or a root too deep.
-// It goes down the host's path and reads what stands there; nothing is written.
+// It goes down the host's path and reads what stands there; what the change will need of it is noted in an array, the way.
 use kinds::Kind;
 use memory::Header;
 ghost use mathlib.Core.Path.{_≡_};
 ghost use mathlib.Core.Bool.{true};
-ghost use Prim.Native.Nat.{_≤_};
-ghost use lib.ListN.{length};
-ghost use Rattle.source.specs.Lent.{old};
+ghost use mathlib.Core.List.{[]};
+ghost use Prim.Native.Nat.{_≤_, _<_};
+ghost use lib.ListN.{length, getD};
+ghost use Rattle.source.specs.Lent.{old, new};
 ghost use Rattle.source.specs.Text.{segments, ends-in-dot};
 ghost use Rattle.kinds.specs.Shapes.{shape-of, call-of};
+ghost use Rattle.kinds.specs.declared.Kind.the-variants.{Include, Open, Module};
 ghost use Rattle.memory.specs.Layout.{names, modules, trieˢ, table-of};
 ghost use Rattle.memory.specs.Sound.{Sound, At};
 ghost use Rattle.lookup.specs.Tries.{AnyTrie};
 ghost use Rattle.plan.specs.Plans.{Stepped, Inserted, Path, Planned, Carries, NamePlanned, IncludePlanned, OpenPlanned, AliasPlanned, ModulePlanned};
+ghost use Rattle.plan.specs.Way.{way-size, Leads, NameNoted, AliasNoted, PathNoted, WayNoted};
+
+// The size of a way: first the included trie, 0 for none; then for each segment of the host, of 17 at most, the trie below it
+// and how many branches the insertion of the segment builds; last a number of no account and how many branches the insertion
+// at the host itself builds (the id of a name into its bindings, the key of an alias into its namespaces; of no account for the others).
+pub const WAY: usize = 37;
 
 // One step down the path of a host: the trie that it goes to, the records that it builds, whether its new list weighs over 96.
 struct StepDown {
@@ -21,14 +29,26 @@ struct StepDown {
     crowded: bool,
 }
 
-fn plan_step(words: &[u32], text: &[u8], trie: u32, s: &[u8]) -> StepDown
-    requires { ⌜ AnyTrie (now words) (now text) trie ⌝ }
-    ensures { λ r. ⌜ Stepped (old words) (old text) trie (old s) (r .link) (r .records) (r .crowded) ⌝ }
+// The step after `steps` others, which it notes.
+fn plan_step(
+    words: &[u32],
+    text: &[u8],
+    trie: u32,
+    s: &[u8],
+    way: &mut [u32; WAY],
+    steps: u32,
+) -> StepDown
+    requires { ⌜ AnyTrie (now words) (now text) trie × (steps < 17) × (length (now way) ≡ way-size) ⌝ }
+    ensures { λ r. ⌜ Stepped (old words) (old text) trie (old s) (old way) (new way) steps (r .link) (r .records) (r .crowded) ⌝ }
 {
     let t = memory::trie_of(words, trie);
     let p = names::names_place(words, text, t.namespaces, s);
+    let link = memory::trie_held(words, p.holder);
+    let at = 2 * steps as usize + 1;
+    way[at] = link;
+    way[at + 1] = p.count;
     StepDown {
-        link: memory::trie_held(words, p.holder),
+        link: link,
         records: p.count + 2,
         crowded: memory::HEAVIEST < p.weight,
     }
@@ -42,10 +62,11 @@ struct Walk {
     crowded: bool,
 }
 
-fn plan_path(words: &[u32], text: &[u8], root: u32, host: &[u8]) -> Walk
+fn plan_path(words: &[u32], text: &[u8], root: u32, host: &[u8], way: &mut [u32; WAY]) -> Walk
     requires { ⌜ At (now words) (now text) names trieˢ root ⌝ }
-    requires { ⌜ (ends-in-dot (now host) ≡ true) × (length (segments (now host)) ≤ 17) ⌝ }
+    requires { ⌜ (ends-in-dot (now host) ≡ true) × (length (segments (now host)) ≤ 17) × (length (now way) ≡ way-size) ⌝ }
     ensures { λ r. ⌜ Path (old words) (old text) root (segments (old host)) (r .link) (r .segments) (r .records) (r .crowded) ⌝ }
+    ensures { λ r. ⌜ Leads (old words) (old text) names root (segments (old host)) (old way) (new way) (r .segments) (r .link) [] ⌝ }
 {
     let mut link = root;
     let mut at = 0;
@@ -54,7 +75,7 @@ fn plan_path(words: &[u32], text: &[u8], root: u32, host: &[u8]) -> Walk
     let mut crowded = false;
     while at < host.len() {
         let n = lookup::segment_at(host, at);
-        let s = plan_step(words, text, link, &host[at..at + n]);
+        let s = plan_step(words, text, link, &host[at..at + n], way, segments);
         link = s.link;
         at = at + n + 1;
         segments = segments + 1;
@@ -77,14 +98,23 @@ pub struct Plan {
 }
 
 // The plan of a name.
-fn plan_name(words: &[u32], text: &[u8], root: u32, host: &[u8], id: &[u8]) -> Plan
+fn plan_name(
+    words: &[u32],
+    text: &[u8],
+    root: u32,
+    host: &[u8],
+    id: &[u8],
+    way: &mut [u32; WAY],
+) -> Plan
     requires { ⌜ At (now words) (now text) names trieˢ root ⌝ }
-    requires { ⌜ (ends-in-dot (now host) ≡ true) × (length (segments (now host)) ≤ 17) ⌝ }
+    requires { ⌜ (ends-in-dot (now host) ≡ true) × (length (segments (now host)) ≤ 17) × (length (now way) ≡ way-size) ⌝ }
     ensures { λ r. ⌜ NamePlanned (old words) (old text) root (old host) (old id) r ⌝ }
+    ensures { λ _. ⌜ NameNoted (old words) (old text) root (old host) (old id) (old way) (new way) ⌝ }
 {
-    let p = plan_path(words, text, root, host);
+    let p = plan_path(words, text, root, host, way);
     let t = memory::trie_of(words, p.link);
     let b = names::names_place(words, text, t.bindings, id);
+    way[2 * p.segments as usize + 2] = b.count;
     Plan {
         records: p.records + (b.count + 2),
         crowded: p.crowded | (memory::HEAVIEST < b.weight),
@@ -93,12 +123,20 @@ fn plan_name(words: &[u32], text: &[u8], root: u32, host: &[u8], id: &[u8]) -> P
 }
 
 // The plan of an include. The included trie is `inc`.
-fn plan_include(words: &[u32], text: &[u8], root: u32, host: &[u8], inc: u32) -> Plan
+fn plan_include(
+    words: &[u32],
+    text: &[u8],
+    root: u32,
+    host: &[u8],
+    inc: u32,
+    way: &mut [u32; WAY],
+) -> Plan
     requires { ⌜ At (now words) (now text) names trieˢ root × At (now words) (now text) names trieˢ inc ⌝ }
-    requires { ⌜ (ends-in-dot (now host) ≡ true) × (length (segments (now host)) ≤ 17) ⌝ }
+    requires { ⌜ (ends-in-dot (now host) ≡ true) × (length (segments (now host)) ≤ 17) × (length (now way) ≡ way-size) ⌝ }
     ensures { λ r. ⌜ IncludePlanned (old words) (old text) root inc (old host) r ⌝ }
+    ensures { λ _. ⌜ PathNoted Include (old words) (old text) names root (old host) (old way) (new way) ⌝ }
 {
-    let p = plan_path(words, text, root, host);
+    let p = plan_path(words, text, root, host, way);
     let t = memory::trie_of(words, p.link);
     let i = memory::trie_of(words, inc);
     let weight = memory::weight_of(words, i.bindings) + memory::weight_of(words, t.bindings) + 1;
@@ -110,12 +148,20 @@ fn plan_include(words: &[u32], text: &[u8], root: u32, host: &[u8], inc: u32) ->
 }
 
 // The plan of an open of a namespace. The included trie is `inc`.
-fn plan_open(words: &[u32], text: &[u8], root: u32, host: &[u8], inc: u32) -> Plan
+fn plan_open(
+    words: &[u32],
+    text: &[u8],
+    root: u32,
+    host: &[u8],
+    inc: u32,
+    way: &mut [u32; WAY],
+) -> Plan
     requires { ⌜ At (now words) (now text) names trieˢ root × At (now words) (now text) names trieˢ inc ⌝ }
-    requires { ⌜ (ends-in-dot (now host) ≡ true) × (length (segments (now host)) ≤ 17) ⌝ }
+    requires { ⌜ (ends-in-dot (now host) ≡ true) × (length (segments (now host)) ≤ 17) × (length (now way) ≡ way-size) ⌝ }
     ensures { λ r. ⌜ OpenPlanned (old words) (old text) root inc (old host) r ⌝ }
+    ensures { λ _. ⌜ PathNoted Open (old words) (old text) names root (old host) (old way) (new way) ⌝ }
 {
-    let p = plan_path(words, text, root, host);
+    let p = plan_path(words, text, root, host, way);
     let t = memory::trie_of(words, p.link);
     let i = memory::trie_of(words, inc);
     let weight = memory::weight_of(words, i.namespaces)
@@ -129,15 +175,25 @@ fn plan_open(words: &[u32], text: &[u8], root: u32, host: &[u8], inc: u32) -> Pl
 }
 
 // The plan of an alias. The included trie is `inc`.
-fn plan_alias(words: &[u32], text: &[u8], root: u32, key: &[u8], host: &[u8], inc: u32) -> Plan
+fn plan_alias(
+    words: &[u32],
+    text: &[u8],
+    root: u32,
+    key: &[u8],
+    host: &[u8],
+    inc: u32,
+    way: &mut [u32; WAY],
+) -> Plan
     requires { ⌜ At (now words) (now text) names trieˢ root × At (now words) (now text) names trieˢ inc ⌝ }
-    requires { ⌜ (ends-in-dot (now host) ≡ true) × (length (segments (now host)) ≤ 17) ⌝ }
+    requires { ⌜ (ends-in-dot (now host) ≡ true) × (length (segments (now host)) ≤ 17) × (length (now way) ≡ way-size) ⌝ }
     ensures { λ r. ⌜ AliasPlanned (old words) (old text) root inc (old key) (old host) r ⌝ }
+    ensures { λ _. ⌜ AliasNoted (old words) (old text) root (old key) (old host) (old way) (new way) ⌝ }
 {
-    let p = plan_path(words, text, root, host);
+    let p = plan_path(words, text, root, host, way);
     let t = memory::trie_of(words, p.link);
     let i = memory::trie_of(words, inc);
     let a = names::names_place(words, text, t.namespaces, key);
+    way[2 * p.segments as usize + 2] = a.count;
     let weight = memory::weight_of(words, i.bindings) + 1;
     Plan {
         records: p.records + (a.count + 4),
@@ -171,10 +227,18 @@ fn plan_ins(words: &[u32], text: &[u8], trie: u32, s: &[u8], last: bool, loaded:
 }
 
 // The plan of a module path.
-fn plan_module(words: &[u32], text: &[u8], root: u32, query: &[u8], loaded: bool) -> Plan
+fn plan_module(
+    words: &[u32],
+    text: &[u8],
+    root: u32,
+    query: &[u8],
+    loaded: bool,
+    way: &mut [u32; WAY],
+) -> Plan
     requires { ⌜ At (now words) (now text) modules trieˢ root ⌝ }
-    requires { ⌜ (ends-in-dot (now query) ≡ true) × (length (segments (now query)) ≤ 17) ⌝ }
+    requires { ⌜ (ends-in-dot (now query) ≡ true) × (length (segments (now query)) ≤ 17) × (length (now way) ≡ way-size) ⌝ }
     ensures { λ r. ⌜ ModulePlanned (old words) (old text) root loaded (old query) r ⌝ }
+    ensures { λ _. ⌜ PathNoted (Module loaded) (old words) (old text) modules root (old query) (old way) (new way) ⌝ }
 {
     let mut link = root;
     let mut at = 0;
@@ -184,7 +248,7 @@ fn plan_module(words: &[u32], text: &[u8], root: u32, query: &[u8], loaded: bool
     while at < query.len() {
         let n = lookup::segment_at(query, at);
         let last = at + n + 1 == query.len();
-        let s = plan_step(words, text, link, &query[at..at + n]);
+        let s = plan_step(words, text, link, &query[at..at + n], way, segments);
         let b = plan_ins(words, text, link, &query[at..at + n], last, loaded);
         link = s.link;
         at = at + n + 1;
@@ -199,27 +263,29 @@ fn plan_module(words: &[u32], text: &[u8], root: u32, query: &[u8], loaded: bool
     }
 }
 
-// The plan of a registration, where the trie that it includes is `inc`.
+// The plan of a registration, where the trie that it includes is noted first in the way, and what it notes after it.
 pub fn plan_of(
     words: &[u32],
     text: &[u8],
     h: Header,
     kind: Kind,
-    inc: u32,
     host: &[u8],
     other: &[u8],
     key: &[u8],
+    way: &mut [u32; WAY],
 ) -> Plan
     requires { ⌜ Sound (now words) (now text) h ⌝ }
-    requires { ⌜ (ends-in-dot (now host) ≡ true) × (length (segments (now host)) ≤ 17) ⌝ }
-    requires { ⌜ Carries (shape-of kind .form) (now words) (now text) (h .names) (now other) inc ⌝ }
+    requires { ⌜ (ends-in-dot (now host) ≡ true) × (length (segments (now host)) ≤ 17) × (length (now way) ≡ way-size) ⌝ }
+    requires { ⌜ Carries (shape-of kind .form) (now words) (now text) (h .names) (now other) (getD (now way) 0 0) ⌝ }
     ensures { λ r. ⌜ Planned (table-of (old words) (old text) h) (call-of kind (old host) (old other) (old key)) r ⌝ }
+    ensures { λ _. ⌜ WayNoted kind (old words) (old text) h (old host) (old other) (old key) (old way) (new way) ⌝ }
 {
+    let inc = way[0];
     match kind {
-        Kind::Name(_) => plan_name(words, text, h.names, host, other),
-        Kind::Include => plan_include(words, text, h.names, host, inc),
-        Kind::Open => plan_open(words, text, h.names, host, inc),
-        Kind::Alias => plan_alias(words, text, h.names, key, host, inc),
-        Kind::Module(loaded) => plan_module(words, text, h.modules, host, loaded),
+        Kind::Name(_) => plan_name(words, text, h.names, host, other, way),
+        Kind::Include => plan_include(words, text, h.names, host, inc, way),
+        Kind::Open => plan_open(words, text, h.names, host, inc, way),
+        Kind::Alias => plan_alias(words, text, h.names, key, host, inc, way),
+        Kind::Module(loaded) => plan_module(words, text, h.modules, host, loaded, way),
     }
 }

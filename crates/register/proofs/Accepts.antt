@@ -2,19 +2,20 @@
 use Prim.Native.Nat.{ℕ, _+_, _*_, _≤_}
 use mathlib.Core.Path.{_≡_, refl, sym, ap, _∙_}
 use mathlib.Core.Bool.{true}
-use mathlib.Core.List.{List}
+use mathlib.Core.List.{List, [], _∷_}
 use native.Mathlib.Omega.{arith}
-use lib.ListN.{length}
+use lib.ListN.{length, getD, drop}
 use borrow.Author.Tests.{ltb-false}
-use Rattle.source.specs.Text.{Str}
+use Rattle.source.specs.Text.{Str, Query, segments}
 use Rattle.source.specs.Types.{Trie}
 use Rattle.source.specs.Table as S
 use Rattle.source.specs.Table.{ModSymbol}
 use Rattle.source.specs.Counted.{Counted}
 use Rattle.source.specs.Calls.{State, whole-records, free, Call, registered, records, arguments, text-taken, after}
 use Rattle.source.proofs.Refusals.{Acceptable, registration-rows-none}
-use Rattle.memory.specs.Layout.{Which, names, modules, Item, trieˢ, Reading, what, table-of, state-of}
-use Rattle.memory.specs.Sound.{Sound}
+use Rattle.memory.specs.Layout.{Which, names, modules, Item, trieˢ, Reading, kind, what, table-of, state-of}
+use Rattle.memory.specs.Sound.{LinkOk, Used, Sound}
+use Rattle.memory.proofs.Seen.{link-later}
 use Rattle.memory.specs.Grown.{Keeps, Outside}
 use Rattle.memory.specs.declared.Header.{Header}
 use Rattle.memory.proofs.Keeps.{what-keeps, table-keeps, used-text}
@@ -25,14 +26,15 @@ use Rattle.kinds.specs.declared.Kind.{Kind}
 use Rattle.kinds.specs.declared.Form.{Form}
 use Rattle.kinds.specs.declared.Form.the-variants as form
 use Rattle.plan.specs.Plans.{Carries}
-use Rattle.leaves.specs.Leaves.{which-by, which-of, Builds}
-use Rattle.change.specs.Changes.{mutated, descent, Mutation, Mutated}
+use Rattle.plan.specs.Way.{which-by, root-at, Way}
+use Rattle.leaves.specs.Leaves.{which-of, Builds}
+use Rattle.change.specs.Changes.{mutated, descent, Mutation, TrieWay, Mutated}
 use Rattle.leaves.specs.declared.Change.{Change}
 use Rattle.change.proofs.Registered.{Registers}
 use Rattle.register.specs.Checks.{lent, Ready, Passes}
-use Rattle.register.specs.Writes.{TextsLaid, root-at, with-root, with-text, Accepts}
+use Rattle.register.specs.Writes.{TextsLaid, with-root, with-text, Accepts}
 use Rattle.register.proofs.Checks.{ready, taken-all}
-use Rattle.register.proofs.Changes.{change-at, Stays, Right, change-right, right-mutation}
+use Rattle.register.proofs.Changes.{change-at, Stays, Right, host-is, change-right, right-mutation}
 
 -- The text used after a call.
 abbrev pub text-after : Header → (host other key : Str) → ℕ
@@ -84,8 +86,23 @@ carries-keeps {txt = txt} {txt′} o y form.Import inc s r = record {
 }
 carries-keeps o y (form.Module loaded) inc s r = r
 
+-- And so does the way.
+way-keeps : {ws txt txt′ : List ℕ} {n used : ℕ} → Used ws txt n used → Keeps used txt txt′ → (w : Which) (k : Kind) (other key : Str) (way : List ℕ) (x : ℕ) (q : Query)
+    → LinkOk ws (n + 1) x (kind w trieˢ) → Way ws txt w k other key way x q → Way ws txt′ w k other key way x q
+way-keeps o y w k other key way x [] i z = rw (what-keeps o y w trieˢ (omega arith) i) z
+way-keeps {ws} {n = n} o y w k other key way x (s ∷ q) i z =
+    let j : LinkOk ws (n + 1) (getD way 0 0) (kind w trieˢ) = link-later (omega (arith, i .earlier)) (z .0 .next .link) in
+    let e = what-keeps o y w trieˢ (omega arith) i in (
+      record {
+        long = z .0 .long;
+        next = record { link = z .0 .next .link; says = what-keeps o y w trieˢ (omega arith) j ∙ z .0 .next .says ∙ rw e };
+        builds = z .0 .builds ∙ rw e;
+      },
+      way-keeps o y w k other key (drop 2 way) (getD way 0 0) q j (z .1),
+    )
+
 -- ---- Whole
-module _ {ws txt : List ℕ} {h : Header} {k : Kind} {host other key : Str} {inc : ℕ} (p : Passes ws txt h k host other key inc) where
+module _ {ws txt : List ℕ} {h : Header} {k : Kind} {host other key : Str} {way : List ℕ} (p : Passes ws txt h k host other key way) where
   passed : Acceptable true (lent ws txt) (state-of ws txt h) (call-of k host other key)
   passed = registration-rows-none true _ _ _ (p .rows)
 
@@ -113,15 +130,22 @@ module _ {ws txt : List ℕ} {h : Header} {k : Kind} {host other key : Str} {inc
     sound-after = record { right = used-text (p .sound .right) (l .keeps) (omega arith) (text-room .1) (omega (arith, text-room, l .keeps .size)); names-link = p .sound .names-link; modules-link = p .sound .modules-link }
 
     abbrev change : Change
-    change = change-at k inc (h .text) host other key
+    change = change-at k (getD way 0 0) (h .text) host other key
 
     right : Right h sound-after (h .text) (h .text + length host) (call-of k host other key) change (root-at (which-of change) h)
-    right = change-right h sound-after (h .text) host other key (l .stand) (omega arith) k inc is-ready (carries-keeps (p .sound) (l .keeps) (shape-of k .form) inc other (p .carries))
+    right = change-right h sound-after (h .text) host other key (l .stand) (omega arith) k (getD way 0 0) is-ready (carries-keeps (p .sound) (l .keeps) (shape-of k .form) (getD way 0 0) other (p .carries))
 
-    pub write-mutation : Mutation ws txt′ (h .records) (text-after h host other key) (root-at (which-by (shape-of k .form)) h) (h .text) (descent (h .text) (h .text + length host) (change-at k inc (h .text) host other key))
+    pub write-mutation : Mutation ws txt′ (h .records) (text-after h host other key) (root-at (which-by (shape-of k .form)) h) (h .text) (descent (h .text) (h .text + length host) (change-at k (getD way 0 0) (h .text) host other key))
     write-mutation =
         right-mutation h sound-after (h .text) host other key (l .stand) (omega arith) right (is-ready .host-ends) (is-ready .host-keeps)
         (rw (table-keeps (p .sound) (l .keeps)) (passed .light)) (rw (table-keeps (p .sound) (l .keeps)) (passed .shallow)) (rw (table-keeps (p .sound) (l .keeps)) records-room)
+
+    pub write-way : TrieWay ws txt′ (root-at (which-by (shape-of k .form)) h) (h .text) (descent (h .text) (h .text + length host) (change-at k (getD way 0 0) (h .text) host other key)) (drop 1 way)
+    write-way = record {
+      leads =
+          rw (host-is h sound-after (h .text) host other key (l .stand) (omega arith), l .stand .other-at, l .stand .key-at)
+          (way-keeps (p .sound .right) (l .keeps) (which-of change) k other key (drop 1 way) _ (segments host) (right .link) (p .leads));
+    }
 
     built-accepts : {ws′ : List ℕ} {link m : ℕ}
         → Builds ws ws′ txt′ (h .records) (text-after h host other key) (which-of change) trieˢ
@@ -139,7 +163,7 @@ module _ {ws txt : List ℕ} {h : Header} {k : Kind} {host other key : Str} {inc
         }
 
     pub write-accepts : {ws′ : List ℕ} {x link m : ℕ} {r : Header} → x ≡ root-at (which-by (shape-of k .form)) h
-        → Mutated ws ws′ txt′ (h .records) x (h .text) (descent (h .text) (h .text + length host) (change-at k inc (h .text) host other key)) link m
+        → Mutated ws ws′ txt′ (h .records) x (h .text) (descent (h .text) (h .text + length host) (change-at k (getD way 0 0) (h .text) host other key)) link m
         → r ≡ with-root (which-by (shape-of k .form)) h link m (text-after h host other key)
         → Accepts ws txt ws′ txt′ h r (after (state-of ws txt h) (call-of k host other key))
     write-accepts e g f = rw f (built-accepts ((rw e at g) _ write-mutation))

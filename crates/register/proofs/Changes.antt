@@ -24,13 +24,14 @@ use Rattle.kinds.specs.Shapes.{shape-of, call-of}
 use Rattle.kinds.specs.declared.Kind.{Kind}
 use Rattle.kinds.specs.declared.Kind.the-variants.{Name, Include, Open, Alias, Module}
 use Rattle.plan.specs.Plans.{Carries}
-use Rattle.leaves.specs.Leaves.{which-by, which-of, label-in, ChangeOk}
+use Rattle.plan.specs.Way.{which-by, root-at}
+use Rattle.leaves.specs.Leaves.{which-of, label-in, ChangeOk}
 use Rattle.change.specs.Changes.{between, mutated, descent, Mutation}
 use Rattle.leaves.specs.declared.Change.{Change}
 use Rattle.change.proofs.QueryPlace.{place-first}
 use Rattle.change.proofs.Registered.{Registers, name-registers, include-registers, alias-registers, open-registers, module-registers, registers-fits}
 use Rattle.register.specs.Checks.{Ready}
-use Rattle.register.specs.Writes.{Stand, root-at, with-text}
+use Rattle.register.specs.Writes.{Stand, with-text}
 
 -- The change that a registration makes, where its texts stand from a place on.
 abbrev pub change-at : Kind → (inc at : ℕ) (host other key : Str) → Change
@@ -64,7 +65,7 @@ module _ {ws txt : List ℕ} (h : Header) {used : ℕ} (o : Sound ws txt (with-t
     pub stays : Stays (which-of ch) (table-of ws txt h) c
 
   module _ (at : ℕ) (host other key : Str) (p : Stand txt at host other key) (room : at + length host + length other + length key ≤ used) where
-    host-is : between txt at (at + length host) ≡ segments host
+    pub host-is : between txt at (at + length host) ≡ segments host
     host-is = let z : at + length host - at ≡ length host = omega arith in rw (z, p .host-at)
 
     pub change-right : (k : Kind) (inc : ℕ) → Ready k host other key → Carries (shape-of k .form) ws txt (h .names) other inc

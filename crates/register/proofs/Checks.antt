@@ -2,10 +2,11 @@
 use Prim.Native.Nat.{ℕ, _+_, _≤_}
 use mathlib.Core.Path.{_≡_, _∙_}
 use mathlib.Core.Bool.{Bool, true, false, cond, _||_}
-use mathlib.Core.List.{[], _∷_}
+use mathlib.Core.List.{List, [], _∷_}
 use mathlib.Core.Option.{none, some}
 use native.Mathlib.Omega.{arith}
-use lib.ListN.{length}
+use lib.ListN.{length, getD, set, length-set}
+use lib.Seq.{getD-set-same}
 use Rattle.source.specs.Text.{Str}
 use Rattle.source.specs.Rules.{SoundTable}
 use Rattle.source.specs.Calls.{a-query, a-name, any, malformed, lowest, argument-rows, State, Lent, Call, arguments, text-taken, registration-rows}
@@ -24,7 +25,9 @@ use Rattle.kinds.specs.declared.Kind.{Kind}
 use Rattle.kinds.specs.declared.Form.{Form}
 use Rattle.kinds.specs.declared.Form.the-variants as form
 use Rattle.kinds.proofs.Shapes.{arguments-of, taken-is}
+use Rattle.memory.specs.Grown as Grown
 use Rattle.plan.specs.Plans.{Planned}
+use Rattle.plan.proofs.Way.{keeps-at}
 use Rattle.plan.specs.declared.Plan.{Plan}
 use Rattle.register.specs.Checks.{NoKey, Ready}
 
@@ -67,6 +70,15 @@ ready-short k host other key r n = record {
 -- The text that a call takes.
 pub taken-all : (k : Kind) (host other key : Str) → NoKey k key → text-taken (arguments (call-of k host other key)) ≡ length host + length other + length key
 taken-all k host other key n = taken-is k host other key ∙ rw n
+
+-- ---- The way
+-- The included trie is written first, and stays.
+module _ (way : List ℕ) (inc : ℕ) (e : length way ≡ 37) where
+  pub first-written : (getD (set way 0 inc) 0 0 ≡ inc) × (length (set way 0 inc) ≡ 37)
+  first-written = (getD-set-same way 0 inc 0 (omega arith), length-set way 0 inc ∙ e)
+
+  pub first-stays : {way′ : List ℕ} → Grown.Keeps 1 (set way 0 inc) way′ → (getD way′ 0 0 ≡ inc) × (length way′ ≡ 37)
+  first-stays k = (keeps-at k 0 (omega arith) ∙ first-written .0, k .size ∙ first-written .1)
 
 -- ---- Rows
 module _ (lent : Lent) (s : State) (c : Call) where

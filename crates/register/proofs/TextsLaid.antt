@@ -3,18 +3,13 @@ use Prim.Native.Nat.{ℕ, _+_, _≤_}
 use mathlib.Core.Path.{_≡_, sym, ap, _∙_}
 use mathlib.Core.List.{List}
 use native.Mathlib.Omega.{arith}
-use lib.ListN.{length, take, drop}
-use lib.Seq.{take-take, drop-drop, drop-paste}
+use lib.ListN.{length, drop}
+use lib.Seq.{drop-drop, drop-paste}
 use Rattle.source.specs.Text.{Str}
-use Rattle.memory.specs.Grown.{Keeps, put-text}
+use Rattle.memory.specs.Grown.{put-text}
 use Rattle.memory.proofs.Keeps.{put-text-keeps, put-text-span, span-keeps}
+use Rattle.plan.proofs.Way.{keeps-then}
 use Rattle.register.specs.Writes.{TextsLaid}
-
-keeps-then : {m n : ℕ} {t t′ t″ : List ℕ} → m ≤ n → Keeps m t t′ → Keeps n t′ t″ → Keeps m t t″
-keeps-then {m} {n} {t′ = t′} {t″} h a b = record {
-  same = sym (take-take m n t″ h) ∙ ap (λ (l : List ℕ). take m l) (b .same) ∙ take-take m n t′ h ∙ a .same;
-  size = b .size ∙ a .size;
-}
 
 put-text-beyond : (t : List ℕ) (at : ℕ) (s : Str) (m : ℕ) → at + length s ≤ length t → drop (at + length s + m) (put-text t at s) ≡ drop (at + length s + m) t
 unfolding put-text

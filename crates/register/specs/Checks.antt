@@ -4,7 +4,7 @@ use mathlib.Core.Path.{_≡_}
 use mathlib.Core.Bool.{true, false}
 use mathlib.Core.List.{List}
 use mathlib.Core.Option.{none, some}
-use lib.ListN.{length}
+use lib.ListN.{length, getD, drop}
 use Rattle.source.specs.Text.{Str, segments, ends-in-dot}
 use Rattle.source.specs.Calls.{Lent, malformed, lowest, registration-rows}
 use Rattle.source.specs.Shared.{Allˡ}
@@ -16,6 +16,7 @@ use Rattle.memory.specs.declared.Header.{Header}
 use Rattle.kinds.specs.Shapes.{shape-of, used-key, call-of, other-argument, key-argument}
 use Rattle.kinds.specs.declared.Kind.{Kind}
 use Rattle.plan.specs.Plans.{Carries}
+use Rattle.plan.specs.Way.{which-by, root-at, way-size, Way}
 use Rattle.register.specs.declared.Checked.{Checked}
 use Rattle.register.specs.declared.Checked.the-variants.{Passed, Refused}
 
@@ -35,14 +36,16 @@ pub record Ready (k : Kind) (host other key : Str) : Type 0 where
   pub other-keeps : Keeps (other-argument k other)
   pub key-keeps : Allˡ Keeps (key-argument k key)
 
--- A registration that passes every row of a sound memory, where inc is the included trie.
-pub record Passes (ws txt : List ℕ) (h : Header) (k : Kind) (host other key : Str) (inc : ℕ) : Type 0 where
+-- A registration that passes every row of a sound memory, where the included trie and then the way to the host are noted.
+pub record Passes (ws txt : List ℕ) (h : Header) (k : Kind) (host other key : Str) (way : List ℕ) : Type 0 where
   pub sound : Sound ws txt h
   pub no-key : NoKey k key
   pub rows : lowest (registration-rows true (lent ws txt) (state-of ws txt h) (call-of k host other key)) ≡ none
-  pub carries : Carries (shape-of k .form) ws txt (h .names) other inc
+  pub size : length way ≡ way-size
+  pub carries : Carries (shape-of k .form) ws txt (h .names) other (getD way 0 0)
+  pub leads : Way ws txt (which-by (shape-of k .form)) k other key (drop 1 way) (root-at (which-by (shape-of k .form)) h) (segments host)
 
 -- The answer of a check: that it passes, or the first row that it meets.
-abbrev pub Checks : (ws txt : List ℕ) (h : Header) (k : Kind) (host other key : Str) → Checked → Type 0
-Checks ws txt h k host other key (Passed inc) = Passes ws txt h k host other key inc
-Checks ws txt h k host other key (Refused x) = lowest (registration-rows true (lent ws txt) (state-of ws txt h) (call-of k host other key)) ≡ some (number x)
+abbrev pub Checks : (ws txt : List ℕ) (h : Header) (k : Kind) (host other key : Str) (way : List ℕ) → Checked → Type 0
+Checks ws txt h k host other key way Passed = Passes ws txt h k host other key way
+Checks ws txt h k host other key way (Refused x) = lowest (registration-rows true (lent ws txt) (state-of ws txt h) (call-of k host other key)) ≡ some (number x)

@@ -23,11 +23,6 @@ pub record TextsLaid (txt txt′ : List ℕ) (at : ℕ) (host other key : Str) :
   pub beyond : drop (at + length host + length other + length key) txt′ ≡ drop (at + length host + length other + length key) txt
   pub stand : Stand txt′ at host other key
 
--- A root of the header.
-abbrev pub root-at : Which → Header → ℕ
-root-at names h = h .names
-root-at modules h = h .modules
-
 -- The header with so much text used.
 abbrev pub with-text : Header → ℕ → Header
 with-text h used = record { names = h .names; modules = h .modules; records = h .records; text = used }

@@ -23,13 +23,16 @@ ghost use Rattle.memory.specs.Layout.{names, trieˢ, state-of};
 ghost use Rattle.memory.specs.Sound.{Sound, At};
 ghost use Rattle.kinds.specs.Shapes.{call-of, argument-as};
 ghost use Rattle.plan.specs.Plans.{Carries};
-ghost use Rattle.leaves.specs.Leaves.{which-by};
+ghost use Rattle.plan.specs.Way.{which-by, root-at, way-size};
 ghost use Rattle.register.specs.Checks.{NoKey, Passes, Checks};
-ghost use Rattle.register.specs.Writes.{TextsLaid, root-at, with-root, Accepts};
+ghost use Rattle.register.specs.Writes.{TextsLaid, with-root, Accepts};
 
-// Whether a registration passes every row, with the link of the included trie.
+// The size of the array that a check notes the way of a registration in, for its writing.
+pub const WAY: usize = plan::WAY;
+
+// Whether a registration passes every row.
 pub enum Checked {
-    Passed(u32),
+    Passed,
     Refused(Refusal),
 }
 
@@ -79,7 +82,7 @@ fn included(words: &[u32], text: &[u8], root: u32, form: Form, other: &[u8]) -> 
     }
 }
 
-// Rows 2 to 8.
+// Rows 2 to 8. Of a registration that passes them, the included trie and the way to its host are noted.
 pub fn check(
     words: &[u32],
     text: &[u8],
@@ -88,10 +91,11 @@ pub fn check(
     host: &[u8],
     other: &[u8],
     key: &[u8],
+    way: &mut [u32; WAY],
 ) -> Checked
     requires { ⌜ Sound (now words) (now text) h ⌝ }
-    requires { ⌜ NoKey kind (now key) ⌝ }
-    ensures { λ r. ⌜ Checks (old words) (old text) h kind (old host) (old other) (old key) r ⌝ }
+    requires { ⌜ NoKey kind (now key) × (length (now way) ≡ way-size) ⌝ }
+    ensures { λ r. ⌜ Checks (old words) (old text) h kind (old host) (old other) (old key) (new way) r ⌝ }
 {
     let a = refusals::admit(flags_of(kind, host, other, key));
     match a {
@@ -99,8 +103,8 @@ pub fn check(
         Admission::Admitted => {
             let s = kinds::shape_of(kind);
             let form = s.form;
-            let inc = included(words, text, h.names, form, other);
-            let p = plan::plan_of(words, text, h, kind, inc, host, other, key);
+            way[0] = included(words, text, h.names, form, other);
+            let p = plan::plan_of(words, text, h, kind, host, other, key, way);
             let demand = Demand {
                 crowded: p.crowded,
                 deep: p.deep,
@@ -116,7 +120,7 @@ pub fn check(
             let b = refusals::afford(demand, capacity);
             match b {
                 Admission::Refused(x) => Checked::Refused(x),
-                Admission::Admitted => Checked::Passed(inc),
+                Admission::Admitted => Checked::Passed,
             }
         }
     }
@@ -168,18 +172,18 @@ fn changed(h: Header, form: Form, link: u32, records: u32, text: u32) -> Header
     }
 }
 
-// Writes a registration that passes every row.
+// Writes a registration that passes every row, by the way that its check has noted.
 pub fn write(
     words: &mut [u32],
     text: &mut [u8],
     h: Header,
     kind: Kind,
-    inc: u32,
     host: &[u8],
     other: &[u8],
     key: &[u8],
+    way: &[u32],
 ) -> Header
-    requires { ⌜ Passes (now words) (now text) h kind (now host) (now other) (now key) inc ⌝ }
+    requires { ⌜ Passes (now words) (now text) h kind (now host) (now other) (now key) (now way) ⌝ }
     ensures { λ r. ⌜ Accepts (old words) (old text) (new words) (new text) h r
         (after (state-of (old words) (old text) h) (call-of kind (old host) (old other) (old key))) ⌝ }
 {
@@ -198,7 +202,7 @@ pub fn write(
             start: end,
             len: size,
         },
-        inc: inc,
+        inc: way[0],
     };
     let s = kinds::shape_of(kind);
     let form = s.form;
@@ -208,6 +212,6 @@ pub fn write(
         end: start,
         change: change,
     };
-    let b = change::trie_mutate(words, text, h.records, root, h.text, d);
+    let b = change::trie_mutate(words, text, h.records, root, h.text, d, &way[1..]);
     changed(h, form, b.link, b.records, end + size)
 }

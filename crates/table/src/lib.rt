@@ -238,22 +238,32 @@ impl Table {
             (call-of kind (old host) (old other) (old key)) r ⌝ }
     {
         let n = kinds::key_size(kind, key.len());
-        let k = register::check(words, text, self.header, kind, host, other, &key[..n]);
+        let mut way = [0; register::WAY];
+        let k = register::check(
+            words,
+            text,
+            self.header,
+            kind,
+            host,
+            other,
+            &key[..n],
+            &mut way,
+        );
         match k {
             Checked::Refused(x) => Registration {
                 table: self,
                 answer: Registered::Refused(x),
             },
-            Checked::Passed(inc) => {
+            Checked::Passed => {
                 let h = register::write(
                     words,
                     text,
                     self.header,
                     kind,
-                    inc,
                     host,
                     other,
                     &key[..n],
+                    &way,
                 );
                 Registration {
                     table: Table { header: h },

@@ -2,8 +2,7 @@
 use Rattle.source.specs.Types.{bind}
 use Rattle.memory.specs.Layout.{modules}
 use Rattle.lookup.proofs.Links.{holder-fits}
-use Rattle.leaves.proofs.Builds.{placed-part}
-use Rattle.change.proofs.Nodes.{ins-key, ins-list, ins-any, ins-made, ins-none}
+use Rattle.change.proofs.Nodes.{placed-part, ins-key, ins-list, ins-any, ins-made, ins-none}
 use native.Mathlib.Omega.{arith}
 use borrow.Author.Needs.{needs}
 use Rattle.change.proofs.ins.Statement.{statement}

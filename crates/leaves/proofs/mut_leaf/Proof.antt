@@ -1,5 +1,5 @@
 -- mut_leaf meets its contract: each kind has its own leaf.
-use Rattle.leaves.proofs.Leaves.{leaf-as, leaf-built, leaf-module}
+use Rattle.leaves.proofs.Leaves.{leaf-as, inserting-as, leaf-built, leaf-module}
 use borrow.Author.Needs.{needs}
 use Rattle.leaves.proofs.mut_leaf.Statement.{statement}
 use Rattle.leaves.proofs.mut_leaf.Tie as tie
@@ -11,19 +11,19 @@ mut-leaf-spec =
     {- enum-known-kind -}
     (λ c. search needs)
     {- insert-leaf-requires -}
-    (λ c κs. leaf-as (c .before .before .before .before .before .before .args .change) (c .before .before .kind .given .1) (c .before .before .before .before .before .before .pre))
+    (λ c κs. inserting-as (c .before .before .before .before .before .before .args .change) (c .before .before .kind .given .1) (c .before .before .before .before .before .before .args .count) (c .before .before .before .before .before .before .pre))
     {- enum-told -}
     (λ c. search needs)
     {- include-leaf-requires -}
-    (λ c κs. leaf-as (c .before .before .before .before .before .args .change) (c .before .enum-told .given .1) (c .before .before .before .before .before .pre))
+    (λ c κs. leaf-as (c .before .before .before .before .before .args .change) (c .before .enum-told .given .1) (c .before .before .before .before .before .pre .0))
     {- enum-told-2 -}
     (λ c. search needs)
     {- open-leaf-requires -}
-    (λ c κs. leaf-as (c .before .before .before .before .before .args .change) (c .before .enum-told2 .given .1) (c .before .before .before .before .before .pre))
+    (λ c κs. leaf-as (c .before .before .before .before .before .args .change) (c .before .enum-told2 .given .1) (c .before .before .before .before .before .pre .0))
     {- enum-told-3 -}
     (λ c. search needs)
     {- alias-leaf-requires -}
-    (λ c κs. leaf-as (c .before .before .before .before .before .args .change) (c .before .enum-told3 .given .1) (c .before .before .before .before .before .pre))
+    (λ c κs. inserting-as (c .before .before .before .before .before .args .change) (c .before .enum-told3 .given .1) (c .before .before .before .before .before .args .count) (c .before .before .before .before .before .pre))
     {- enum-told-4 -}
     (λ c. search needs)
     {- same-length -}

@@ -2,7 +2,9 @@
 use Rattle.names.proofs.Collections.{list-light}
 use Rattle.memory.proofs.Tries.{bindings-at}
 use Rattle.lookup.proofs.Links.{any-namespaces}
-use Rattle.plan.proofs.Plans.{placed-small, alias-planned}
+use Rattle.plan.proofs.Plans.{placed-small, namespaces-builds, alias-planned}
+use Rattle.plan.proofs.Way.{noted-count}
+use Rattle.kinds.specs.declared.Kind.the-variants.{Alias}
 use native.Mathlib.Omega.{arith}
 use borrow.Author.Needs.{needs}
 use Rattle.plan.proofs.plan_alias.Statement.{statement}
@@ -16,20 +18,30 @@ plan-alias-spec =
     {- plan-path-requires -}
     (λ c κs. search needs)
     {- trie-of-requires -}
-    (λ c κs. at-fits (c .plan-path .ensures .here))
+    (λ c κs. at-fits (c .plan-path .ensures .0 .here))
     {- trie-of-requires-2 -}
-    (λ c κs. at-fits (c .before .before .before .before .before .before .pre .0 .1))
+    (λ c κs. at-fits (c .before .before .before .before .before .before .before .pre .0 .1))
     {- names-place-requires -}
-    (λ c κs. any-namespaces (c .before .before .plan-path .ensures .here) (c .before .trie-of .ensures))
+    (λ c κs. any-namespaces (c .before .before .plan-path .ensures .0 .here) (c .before .trie-of .ensures))
+    {- cast-way -}
+    (λ c. search needs)
+    {- mul-way -}
+    (λ c. omega (arith, c .before .before .before .before .plan-path .ensures .0 .few))
+    {- add-way -}
+    (λ c. omega (arith, c .before .before .before .before .plan-path .ensures .0 .few))
+    {- mul-way-2 -}
+    (λ c. omega (arith, c .before .before .before .before .plan-path .ensures .0 .few))
+    {- element-write-way -}
+    (λ c. omega (arith, c .before .before .before .before .plan-path .ensures .0 .few))
     {- weight-of-requires -}
-    (λ c κs. omega (arith, at-fits (bindings-at (c .before .before .before .before .before .before .before .before .pre .0 .1) (c .before .trie-of2 .ensures))))
+    (λ c κs. omega (arith, at-fits (bindings-at (c .before .before .before .before .before .before .before .before .before .before .pre .0 .1) (c .before .before .trie-of2 .ensures))))
     {- add-weight -}
-    (λ c. omega (arith, list-light (bindings-at (c .before .before .before .before .before .before .before .before .before .pre .0 .1) (c .before .before .trie-of2 .ensures)), c .weight-of .ensures))
-    {- add-t12 -}
-    (λ c. omega (arith, placed-small (any-namespaces (c .before .before .before .before .before .plan-path .ensures .here) (c .before .before .before .before .trie-of .ensures)) (c .before .before .names-place .ensures)))
-    {- add-t13 -}
-    (λ c. omega (arith, placed-small (any-namespaces (c .before .before .before .before .before .before .plan-path .ensures .here) (c .before .before .before .before .before .trie-of .ensures)) (c .before .before .before .names-place .ensures), c .before .before .before .before .before .before .plan-path .ensures .few, c .before .before .before .before .before .before .plan-path .ensures .gives .small))
-    {- add-t18 -}
-    (λ c. omega (arith, c .before .before .before .before .before .before .before .before .before .plan-path .ensures .few))
+    (λ c. omega (arith, list-light (bindings-at (c .before .before .before .before .before .before .before .before .before .before .before .pre .0 .1) (c .before .before .before .trie-of2 .ensures)), c .weight-of .ensures))
+    {- add-t20 -}
+    (λ c. omega (arith, placed-small (any-namespaces (c .before .before .before .before .before .before .plan-path .ensures .0 .here) (c .before .before .before .before .before .trie-of .ensures)) (c .before .before .before .names-place .ensures)))
+    {- add-t21 -}
+    (λ c. omega (arith, placed-small (any-namespaces (c .before .before .before .before .before .before .before .plan-path .ensures .0 .here) (c .before .before .before .before .before .before .trie-of .ensures)) (c .before .before .before .before .names-place .ensures), c .before .before .before .before .before .before .before .plan-path .ensures .0 .few, c .before .before .before .before .before .before .before .plan-path .ensures .0 .gives .small))
+    {- add-t26 -}
+    (λ c. omega (arith, c .before .before .before .before .before .before .before .before .before .before .plan-path .ensures .0 .few))
     {- returns -}
-    (λ c tbl q e f. alias-planned _ (c .before .before .before .before .before .before .before .before .before .plan-path .ensures) (c .before .before .before .before .before .before .before .before .trie-of .ensures) tbl e (c .before .before .before .before .before .before .before .before .before .before .before .before .before .before .pre .0 .1) (c .before .before .before .before .before .before .before .trie-of2 .ensures) q f (c .before .before .before .before .before .before .names-place .ensures) (c .before .before .before .before .before .weight-of .ensures)))
+    (λ c. (λ tbl q e f. alias-planned _ (c .before .before .before .before .before .before .before .before .before .before .plan-path .ensures .0) (c .before .before .before .before .before .before .before .before .before .trie-of .ensures) tbl e (c .before .before .before .before .before .before .before .before .before .before .before .before .before .before .before .before .pre .0 .1) (c .before .before .before .before .before .before .before .before .trie-of2 .ensures) q f (c .before .before .before .before .before .before .before .names-place .ensures) (c .before .before .before .before .before .weight-of .ensures), λ other. noted-count (c .before .before .before .before .before .before .before .before .before .before .plan-path .ensures .1) (omega (arith, c .before .before .before .before .before .before .before .before .before .before .plan-path .ensures .0 .few, c .before .before .before .before .before .before .before .before .before .before .plan-path .ensures .1 .kept .size, c .before .before .before .before .before .before .before .before .before .before .before .before .before .before .before .before .pre .1 .2)) Alias other (c .before .before .before .before .before .before .before .before .before .before .before .before .before .before .before .before .args .key .now) _ (namespaces-builds (c .before .before .before .before .before .before .before .before .before .before .plan-path .ensures .0 .here) (c .before .before .before .before .before .before .before .before .before .trie-of .ensures) (c .before .before .before .before .before .before .before .names-place .ensures)))))

@@ -1,6 +1,7 @@
 -- write meets its contract.
 use native.Mathlib.Omega.{arith}
-use Rattle.register.proofs.Accepts.{text-room, write-mutation, write-accepts}
+use Rattle.register.proofs.Accepts.{text-room, write-mutation, write-way, write-accepts}
+use Rattle.text.proofs.Texts.{tail-is}
 use borrow.Author.Needs.{needs}
 use Rattle.register.proofs.write.Statement.{statement}
 use Rattle.register.proofs.write.Tie as tie
@@ -10,25 +11,33 @@ write-spec =
     tie.close
     (tie.spec
     {- cast-len -}
-    (λ c. omega (arith, text-room (c .before .before .before .before .before .pre)))
+    (λ c. omega (arith, text-room (c .before .before .before .before .before .before .pre)))
     {- cast-size -}
-    (λ c. omega (arith, text-room (c .before .before .before .before .before .pre)))
+    (λ c. omega (arith, text-room (c .before .before .before .before .before .before .pre)))
     {- cast-start -}
-    (λ c. omega (arith, text-room (c .before .before .before .before .before .pre)))
+    (λ c. omega (arith, text-room (c .before .before .before .before .before .before .pre)))
     {- add-start -}
-    (λ c. omega (arith, text-room (c .before .before .before .before .before .before .pre)))
+    (λ c. omega (arith, text-room (c .before .before .before .before .before .before .before .pre)))
     {- add-end -}
-    (λ c. omega (arith, text-room (c .before .before .before .before .before .before .pre)))
+    (λ c. omega (arith, text-room (c .before .before .before .before .before .before .before .pre)))
     {- put-texts-requires -}
-    (λ c κs. text-room (c .before .before .before .before .before .before .before .pre))
+    (λ c κs. text-room (c .before .before .before .before .before .before .before .before .pre))
+    {- shared-slice-read-changed -}
+    (λ c. omega (arith, c .before .before .before .before .before .before .before .before .before .before .before .before .pre .size))
     {- shape-of-requires -}
     (λ c κs. search needs)
     {- root-of-requires -}
     (λ c κs. search needs)
+    {- sub-trie-mutate -}
+    (λ c. omega (arith, c .before .before .before .before .before .before .before .before .before .before .before .before .before .before .before .before .pre .size))
+    {- part-trie-mutate-start -}
+    (λ c. omega (arith, c .before .before .before .before .before .before .before .before .before .before .before .before .before .before .before .before .pre .size))
+    {- part-trie-mutate-end -}
+    (λ c. omega (arith, c .before .before .before .before .before .before .before .before .before .before .before .before .before .before .before .before .pre .size))
     {- trie-mutate-requires -}
-    (λ c κs. rw (c .before .before .root-of .ensures, c .before .before .before .shape-of .ensures) (record { used = _; holds = write-mutation (c .before .before .before .before .before .before .before .before .before .before .before .before .before .before .pre) (c .before .before .before .before .before .before .put-texts .ensures) }))
+    (λ c κs. rw (c .before .before .before .root-of .ensures, c .before .before .before .before .shape-of .ensures, tail-is (c .before .before .before .before .before .before .before .before .before .before .before .before .before .before .before .before .before .args .way .now) 1) (record { used = _; holds = write-mutation (c .before .before .before .before .before .before .before .before .before .before .before .before .before .before .before .before .before .pre) (c .before .before .before .before .before .before .before .before .put-texts .ensures) }, write-way (c .before .before .before .before .before .before .before .before .before .before .before .before .before .before .before .before .before .pre) (c .before .before .before .before .before .before .before .before .put-texts .ensures)))
     {- add-changed -}
-    (λ c. omega (arith, text-room (c .before .before .before .before .before .before .before .before .before .before .before .before .before .before .before .before .before .pre)))
+    (λ c. omega (arith, text-room (c .before .before .before .before .before .before .before .before .before .before .before .before .before .before .before .before .before .before .before .before .pre)))
     {- changed-requires -}
     (λ c κs. search needs)
     {- same-length -}
@@ -36,4 +45,4 @@ write-spec =
     {- same-length-2 -}
     (λ c. search needs)
     {- returns -}
-    (λ c. write-accepts (c .before .before .before .before .before .before .before .before .before .before .before .before .before .before .before .before .before .before .pre) (c .before .before .before .before .before .before .before .before .before .before .put-texts .ensures) (rw (c .before .before .before .before .before .before .before .shape-of .ensures) at (c .before .before .before .before .before .before .root-of .ensures)) (c .before .before .before .trie-mutate .ensures) (rw (c .before .before .before .before .before .before .before .shape-of .ensures) at (c .changed .ensures))))
+    (λ c. write-accepts (c .before .before .before .before .before .before .before .before .before .before .before .before .before .before .before .before .before .before .before .before .before .pre) (c .before .before .before .before .before .before .before .before .before .before .before .before .put-texts .ensures) (rw (c .before .before .before .before .before .before .before .before .shape-of .ensures) at (c .before .before .before .before .before .before .before .root-of .ensures)) (c .before .before .before .trie-mutate .ensures) (rw (c .before .before .before .before .before .before .before .before .shape-of .ensures) at (c .changed .ensures))))

@@ -1,7 +1,7 @@
 -- Table::register_sound meets its contract.
 use Rattle.kinds.proofs.Shapes.{cut-used, cut-call}
 use Rattle.table.proofs.Answers.{answers-refused, answers-accepted}
-use mathlib.Core.Path.{sym}
+use mathlib.Core.Path.{refl, sym}
 use lib.Seq.{length-take-le}
 use borrow.Author.Needs.{needs}
 use Rattle.table.proofs.Table.register_sound.Statement.{statement}
@@ -16,24 +16,26 @@ register-sound-spec =
     {- slice-aggregate-check -}
     (λ c. sym (length-take-le _ _ (c .before .before .before .key-size .ensures .1)))
     {- check-requires -}
-    (λ c κs. (c .before .before .before .before .before .before .before .before .before .pre, cut-used (c .before .before .before .before .before .before .before .before .before .args .kind) (c .before .before .before .before .before .before .before .before .before .args .key .now) (c .before .before .before .key-size .ensures .0)))
+    (λ c κs. (c .before .before .before .before .before .before .before .before .before .before .pre, (cut-used (c .before .before .before .before .before .before .before .before .before .before .args .kind) (c .before .before .before .before .before .before .before .before .before .before .args .key .now) (c .before .before .before .before .key-size .ensures .0), refl)))
     {- enum-known-k -}
     (λ c. search needs)
-    {- enum-known-k-2 -}
+    {- enum-told -}
     (λ c. search needs)
     {- slice-aggregate-write -}
     (λ c. sym (length-take-le _ _ (c .before .before .before .before .before .before .before .before .before .before .key-size .ensures .1)))
+    {- slice-aggregate-write-2 -}
+    (λ c. sym ((rw (c .before .before .before .before .enum-told .given .1) at (c .before .before .before .before .before .before .check .ensures)) .size))
     {- write-requires -}
-    (λ c κs. rw (c .before .before .before .before .k2 .given .1) at (c .before .before .before .before .before .before .check .ensures))
+    (λ c κs. rw (c .before .before .before .before .enum-told .given .1) at (c .before .before .before .before .before .before .check .ensures))
     {- same-length -}
     (λ c. search needs)
     {- same-length-2 -}
     (λ c. search needs)
     {- returns -}
-    (λ c. answers-refused (rw (cut-call (c .before .before .before .before .before .before .before .before .before .before .before .before .before .args .kind) (c .before .before .before .before .before .before .before .before .before .before .before .before .before .args .key .now) (c .before .before .before .before .before .before .before .key-size .ensures .0) (c .before .before .before .before .before .before .before .before .before .before .before .before .before .args .host .now) (c .before .before .before .before .before .before .before .before .before .before .before .before .before .args .other .now)) at (rw (c .before .k .given .1) at (c .before .before .before .check .ensures))))
+    (λ c. answers-refused (rw (cut-call (c .before .before .before .before .before .before .before .before .before .before .before .before .before .before .args .kind) (c .before .before .before .before .before .before .before .before .before .before .before .before .before .before .args .key .now) (c .before .before .before .before .before .before .before .before .key-size .ensures .0) (c .before .before .before .before .before .before .before .before .before .before .before .before .before .before .args .host .now) (c .before .before .before .before .before .before .before .before .before .before .before .before .before .before .args .other .now)) at (rw (c .before .k .given .1) at (c .before .before .before .check .ensures))))
     {- same-length-3 -}
     (λ c. search needs)
     {- same-length-4 -}
     (λ c. search needs)
     {- returns-2 -}
-    (λ c. answers-accepted (rw (cut-call (c .before .before .before .before .before .before .before .before .before .before .before .before .before .before .before .before .before .before .before .before .before .args .kind) (c .before .before .before .before .before .before .before .before .before .before .before .before .before .before .before .before .before .before .before .before .before .args .key .now) (c .before .before .before .before .before .before .before .before .before .before .before .before .before .before .before .key-size .ensures .0) (c .before .before .before .before .before .before .before .before .before .before .before .before .before .before .before .before .before .before .before .before .before .args .host .now) (c .before .before .before .before .before .before .before .before .before .before .before .before .before .before .before .before .before .before .before .before .before .args .other .now)) at ((rw (c .before .before .before .before .before .before .before .before .before .k2 .given .1) at (c .before .before .before .before .before .before .before .before .before .before .before .check .ensures)) .rows)) (rw (cut-call (c .before .before .before .before .before .before .before .before .before .before .before .before .before .before .before .before .before .before .before .before .before .args .kind) (c .before .before .before .before .before .before .before .before .before .before .before .before .before .before .before .before .before .before .before .before .before .args .key .now) (c .before .before .before .before .before .before .before .before .before .before .before .before .before .before .before .key-size .ensures .0) (c .before .before .before .before .before .before .before .before .before .before .before .before .before .before .before .before .before .before .before .before .before .args .host .now) (c .before .before .before .before .before .before .before .before .before .before .before .before .before .before .before .before .before .before .before .before .before .args .other .now)) at (c .before .before .before .before .write .ensures))))
+    (λ c. answers-accepted (rw (cut-call (c .before .before .before .before .before .before .before .before .before .before .before .before .before .before .before .before .before .before .before .before .before .before .args .kind) (c .before .before .before .before .before .before .before .before .before .before .before .before .before .before .before .before .before .before .before .before .before .before .args .key .now) (c .before .before .before .before .before .before .before .before .before .before .before .before .before .before .before .before .key-size .ensures .0) (c .before .before .before .before .before .before .before .before .before .before .before .before .before .before .before .before .before .before .before .before .before .before .args .host .now) (c .before .before .before .before .before .before .before .before .before .before .before .before .before .before .before .before .before .before .before .before .before .before .args .other .now)) at ((rw (c .before .before .before .before .before .before .before .before .before .enum-told .given .1) at (c .before .before .before .before .before .before .before .before .before .before .before .check .ensures)) .rows)) (rw (cut-call (c .before .before .before .before .before .before .before .before .before .before .before .before .before .before .before .before .before .before .before .before .before .before .args .kind) (c .before .before .before .before .before .before .before .before .before .before .before .before .before .before .before .before .before .before .before .before .before .before .args .key .now) (c .before .before .before .before .before .before .before .before .before .before .before .before .before .before .before .before .key-size .ensures .0) (c .before .before .before .before .before .before .before .before .before .before .before .before .before .before .before .before .before .before .before .before .before .before .args .host .now) (c .before .before .before .before .before .before .before .before .before .before .before .before .before .before .before .before .before .before .before .before .before .before .args .other .now)) at (c .before .before .before .before .write .ensures))))
