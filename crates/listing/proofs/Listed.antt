@@ -10,10 +10,11 @@ use lib.Dec.{eqb}
 use lib.ListN.{length, getD, take, drop}
 use borrow.Author.Tests.{eq-eqb, ne-eqb}
 use Rattle.source.specs.Text.{Str, starts-with}
-use Rattle.source.specs.Types.{Level, Value, NameList, ns}
+use Rattle.source.specs.Types.{Level, Value, NameList, ns, []ᴺ}
 use Rattle.source.specs.Trees.{PathElem}
 use Rattle.source.specs.Terms.{depth, depth-names}
-use Rattle.source.specs.Listing.{SearchTerm, NSTPrefix, names-find-rev}
+use Rattle.source.specs.Listing.{SearchTerm, NSTAll, NSTNone, NSTPrefix, revmap-onto, names-revmap, matching-values, names-find-rev}
+use Rattle.source.specs.Lists.{nonempty, merge-nonempty, merge-increasing-lists-rev}
 use Rattle.source.specs.Shared.{Allˡ}
 use Rattle.source.proofs.Lookup.{Allˡ-map, Increasing}
 use Rattle.source.proofs.Rows.{names-find-rev-depth}
@@ -43,11 +44,13 @@ use Rattle.lines.specs.SameRun.{SameRun}
 use Rattle.asks.specs.declared.Ask.{Ask}
 use Rattle.lines.specs.declared.Labelled.{Labelled}
 use Rattle.lines.proofs.Run.{same-run, same-then}
-use Rattle.listing.specs.Runs.{HasRoom, level-of, tree-entries, BranchReady, BranchRuns, TreeReady, EntriesRun, ListReady, ListRuns, BranchAsked, BranchListed, TreeAsked, TreeListed, ListAsked, ListListed}
+use Rattle.listing.specs.Runs.{HasRoom, level-of, elements-give, tree-entries, BranchReady, BranchRuns, TreeReady, EntriesRun, ListReady, ListRuns, BranchAsked, BranchListed, TreeAsked, TreeListed, ListAsked, ListListed}
 use Rattle.listing.specs.declared.Search.{Search}
 use Rattle.listing.proofs.Runs.{branch-ready-at, branch-runs-at}
 use Rattle.listing.proofs.EntriesRun.{Left, left-all, left-none, left-spent, left-next}
 use Rattle.memory.proofs.At.{no-link, at-of, at-in}
+use Rattle.memory.proofs.What.{what-none}
+use Rattle.lines.proofs.Goes.{goes-none}
 
 all-reverse : {A : Type 0} (P : A → Type 0) (l : List A) → Allˡ P l → Allˡ P (reverse l)
 all-reverse P [] a = tt
@@ -265,6 +268,22 @@ entries-list {ws} {txt} {ask} {leaf = leaf} {x} says runs = record {
       let l : NameList (Item (asked ask)) (level-of leaf) = what (asked ask) ws txt x (list (level-of leaf)) in
       runs .goes path (found l term) o n on st (says term o asks)
       (λ z. Allˡ-map {P = λ y. depth (y .1) < depth-names l} {Q = λ y. depth (y .1) < n} (found l term) (λ y h. omega (arith, dp z)) (found-deep l term));
+}
+
+-- ---- No list
+
+found-empty : {A : Type 0} {v : Level} (n : NameList A v) → n ≡ []ᴺ → (term : SearchTerm) → found n term ≡ []
+unfolding found names-find-rev matching-values names-revmap revmap-onto merge-increasing-lists-rev merge-nonempty nonempty
+found-empty n e NSTAll = rw e
+found-empty n e NSTNone = refl
+found-empty n e (NSTPrefix []) = rw e
+found-empty n e (NSTPrefix (b ∷ id)) = rw e
+
+pub none-runs : {ws txt : List ℕ} {query : Str} {place : Search} {run flat out : List ℕ} {x : ℕ} → x ≡ 0 → ListListed ws txt query place run run flat flat out out x
+unfolding elements-give
+none-runs {ws} {txt} {place = place} {run = run} {flat} {out} {x} e = record {
+  same = same-run run;
+  runs = record { goes = λ path term o n on st asks dp. rw (found-empty (what (asked (place .ask)) ws txt x (list (level-of (place .leaf)))) (rw (e, what-none (asked (place .ask)) ws txt)) term) (goes-none (tally-in run) flat out) };
 }
 
 -- ---- One tree

@@ -172,7 +172,7 @@ fn list_merged(
     }
 }
 
-// The same: a list of one tree needs no merge.
+// The same: no list gives nothing, and a list of one tree needs no merge.
 fn list_names(
     words: &[u32],
     text: &[u8],
@@ -187,6 +187,9 @@ fn list_names(
     ensures { λ _. ⌜ ListListed (old words) (old text) (old query) place (old run) (new run)
         (old flat) (new flat) (old out) (new out) list ⌝ }
 {
+    if list == 0 {
+        return;
+    }
     let root = merge::single(words, list);
     if 0 < root {
         let tree = Labelled {

@@ -12,7 +12,7 @@ use Rattle.memory.proofs.At.{at-fits}
 use Rattle.lines.proofs.Run.{same-run}
 use Rattle.steps.proofs.Cuts.{front-is}
 use Rattle.listing.proofs.Branch.{leaf-runs, line-ready, branch-named, space-at, below-ready, child-earlier, namespace-ready, namespace-sized, namespace-runs}
-use Rattle.listing.proofs.Listed.{onward, along-earlier, along-tree, along-begins, Stepping, stepping-first, stepping-branch, stepping-next, stepping-less, stepping-spent, stepping-done, list-any, one-earlier, one-ready, one-runs, Merging, merging-first, merging-any, merging-done, merging-earlier, merging-less, merging-branch, merging-next, merging-spent}
+use Rattle.listing.proofs.Listed.{none-runs, onward, along-earlier, along-tree, along-begins, Stepping, stepping-first, stepping-branch, stepping-next, stepping-less, stepping-spent, stepping-done, list-any, one-earlier, one-ready, one-runs, Merging, merging-first, merging-any, merging-done, merging-earlier, merging-less, merging-branch, merging-next, merging-spent}
 use Rattle.listing.proofs.Trie.{trie-spent, trie-named, cut-ready, bindings-earlier, namespaces-earlier, bindings-asked, namespaces-asked, trie-all, trie-few}
 use Prim.Native.Nat.{ℕ, _<_}
 use borrow.Fn.Kinds.{In}
@@ -249,23 +249,25 @@ pub +list-below+list-branch+list-merged+list-names+list-tree+list-trie-spec : {M
     (λ t. list-names-lts.spec (single-reads.Asked, single-reads.Learnt, list-tree-below t, list-tree.Post, list-merged-below t, list-merged.Post)
     (list-names-at t)
     list-names.Post
+    {- returns -}
+    (λ c. none-runs (c .if1 .taken))
     {- single-requires -}
-    (λ c κs. at-fits (c .before .before .before .before .before .pre .1 .can .list-at))
+    (λ c κs. at-fits (c .before .before .before .before .before .before .pre .1 .can .list-at))
     {- list-tree-requires -}
-    (λ c κs. (omega (arith, c .before .before .before .before .before .before .before .before .before .before .pre .0, one-earlier (c .before .before .before .before .before .before .before .before .before .before .pre .1) (single-one _ (c .before .before .before .before .before .before .before .before .before .before .pre .1 .can .list-at) (c .before .before .before .before .single .ensures) (c .before .before .before .if1 .taken))), one-ready (c .before .before .before .before .before .before .before .before .before .before .pre .1) (single-one _ (c .before .before .before .before .before .before .before .before .before .before .pre .1 .can .list-at) (c .before .before .before .before .single .ensures) (c .before .before .before .if1 .taken))))
+    (λ c κs. (omega (arith, c .before .before .before .before .before .before .before .before .before .before .before .pre .0, one-earlier (c .before .before .before .before .before .before .before .before .before .before .before .pre .1) (single-one _ (c .before .before .before .before .before .before .before .before .before .before .before .pre .1 .can .list-at) (c .before .before .before .before .single .ensures) (c .before .before .before .if2 .taken))), one-ready (c .before .before .before .before .before .before .before .before .before .before .before .pre .1) (single-one _ (c .before .before .before .before .before .before .before .before .before .before .before .pre .1 .can .list-at) (c .before .before .before .before .single .ensures) (c .before .before .before .if2 .taken))))
     {- same-length -}
     (λ c. search needs)
     {- same-length-2 -}
     (λ c. search needs)
-    {- returns -}
-    (λ c. one-runs (c .before .before .before .before .before .before .before .before .before .before .before .before .before .before .before .pre .1) (single-one _ (c .before .before .before .before .before .before .before .before .before .before .before .before .before .before .before .pre .1 .can .list-at) (c .before .before .before .before .before .before .before .before .before .single .ensures) (c .before .before .before .before .before .before .before .before .if1 .taken)) (c .before .before .before .before .list-tree .ensures))
+    {- returns-2 -}
+    (λ c. one-runs (c .before .before .before .before .before .before .before .before .before .before .before .before .before .before .before .before .pre .1) (single-one _ (c .before .before .before .before .before .before .before .before .before .before .before .before .before .before .before .before .pre .1 .can .list-at) (c .before .before .before .before .before .before .before .before .before .single .ensures) (c .before .before .before .before .before .before .before .before .if2 .taken)) (c .before .before .before .before .list-tree .ensures))
     {- list-merged-requires -}
-    (λ c κs. (omega (arith, c .before .before .before .before .before .before .before .before .before .before .pre .0), c .before .before .before .before .before .before .before .before .before .before .pre .1))
+    (λ c κs. (omega (arith, c .before .before .before .before .before .before .before .before .before .before .before .pre .0), c .before .before .before .before .before .before .before .before .before .before .before .pre .1))
     {- same-length-3 -}
     (λ c. search needs)
     {- same-length-4 -}
     (λ c. search needs)
-    {- returns-2 -}
+    {- returns-3 -}
     (λ c. c .before .before .before .before .list-merged .ensures))
     (λ t. list-tree-lts.spec (first-match-reads.Asked, first-match-reads.Learnt, list-branch-below t, list-branch.Post, next-match-reads.Asked, next-match-reads.Learnt)
     (list-tree-at t)
