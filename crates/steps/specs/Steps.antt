@@ -19,7 +19,7 @@ use Rattle.memory.specs.Layout.{record-at, text-len, pick}
 use Rattle.names.specs.Entries.{Asks}
 use Rattle.output.specs.Path.{Path}
 use Rattle.lines.specs.Goes.{Past}
-use Rattle.output.specs.Run.{path-in, limits-in}
+use Rattle.output.specs.Run.{path-in, limits-in, matched-in}
 use Rattle.lines.specs.declared.Labelled.{Labelled}
 use Rattle.steps.specs.declared.Before.{Before}
 use Rattle.steps.specs.declared.Cut.{Cut}
@@ -59,7 +59,7 @@ begun run m = set (set run 19 (getD run 19 0 + 1)) 25 m
 
 -- What a run has before it enters a namespace.
 abbrev pub before-of : List ℕ → Before
-before-of run = record { n = getD run 16 0; len = getD run 17 0; label = getD run 18 0; matched = getD run 25 0 }
+before-of run = record { n = path-in run .n; len = path-in run .len; label = path-in run .label; matched = matched-in run }
 
 -- The run with that again.
 unfoldable pub left : List ℕ → Before → List ℕ
