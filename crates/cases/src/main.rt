@@ -1,8 +1,8 @@
 // Cases 1 to 13 of docs/REQUIREMENTS.md, and a damaged table through the total calls. Cases 1 to 11 are scripts, each on a fresh table as the
 // program `console` has it; what is written is held to the file `stdout`, which is written from the requirements.
 use libc::STDOUT_FILENO;
-use table::Completed;
-use table::Found;
+use roots::Completed;
+use roots::Found;
 use table::Registered;
 use table::Registration;
 use table::Table;

@@ -7,7 +7,8 @@ use Rattle.source.specs.Text.{Str}
 use Rattle.source.specs.Calls.{Call}
 use Rattle.asks.specs.declared.Ask.{Ask}
 use Rattle.table.specs.Header.{IsSound}
-use Rattle.table.specs.Answers.{name-found, Finds}
+use Rattle.roots.specs.Answers.{name-found}
+use Rattle.table.specs.Answers.{Finds}
 use Rattle.table.specs.Completions.{Completes}
 use Rattle.table.specs.Registrations.{Answers, Total}
 use Rattle.table.specs.declared.Table.{Table}

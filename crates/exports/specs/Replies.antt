@@ -16,7 +16,8 @@ use Rattle.table.specs.declared.Registered.the-variants.{Accepted, Refused}
 use Rattle.table.specs.declared.Registration.{Registration}
 use Rattle.table.specs.declared.Finding.{Finding}
 use Rattle.table.specs.declared.Listing.{Listing}
-use Rattle.table.specs.Answers.{name-found, Finds}
+use Rattle.roots.specs.Answers.{name-found}
+use Rattle.table.specs.Answers.{Finds}
 use Rattle.table.specs.Completions.{Completes}
 use Rattle.table.specs.Registrations.{Total}
 use Rattle.numbers.specs.Replies.{name-reply, lines-reply}

@@ -8,9 +8,9 @@ use Rattle.source.specs.Table.{ModSymbol}
 use Rattle.source.specs.Calls as C
 use Rattle.source.specs.Agreement.{NotRefused}
 use Rattle.refusals.specs.Refusals.{number}
-use Rattle.table.specs.Answers.{module-found}
-use Rattle.table.specs.declared.FoundModule.{FoundModule}
-use Rattle.table.specs.declared.FoundModule.the-variants.{Symbol, Nothing, Refused}
+use Rattle.roots.specs.Answers.{module-found}
+use Rattle.roots.specs.declared.FoundModule.{FoundModule}
+use Rattle.roots.specs.declared.FoundModule.the-variants.{Symbol, Nothing, Refused}
 use Rattle.numbers.specs.Replies.{Answered, name-reply, module-reply}
 use Rattle.numbers.specs.declared.NameReply.{NameReply}
 use Rattle.numbers.specs.declared.ModuleReply.{ModuleReply}

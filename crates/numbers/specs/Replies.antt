@@ -7,10 +7,10 @@ use Rattle.source.specs.Calls as C
 use Rattle.refusals.specs.Refusals.{number}
 use Rattle.memory.specs.declared.ModSymbol.{ModSymbol}
 use Rattle.memory.specs.declared.ModSymbol.the-variants.{Module, Namespace}
-use Rattle.table.specs.declared.FoundModule.{FoundModule}
-use Rattle.table.specs.declared.FoundModule.the-variants.{Symbol, Nothing, Refused}
-use Rattle.table.specs.declared.Completed.{Completed}
-use Rattle.table.specs.declared.Completed.the-variants.{Listed, Refused as Not-listed}
+use Rattle.roots.specs.declared.FoundModule.{FoundModule}
+use Rattle.roots.specs.declared.FoundModule.the-variants.{Symbol, Nothing, Refused}
+use Rattle.roots.specs.declared.Completed.{Completed}
+use Rattle.roots.specs.declared.Completed.the-variants.{Listed, Refused as Not-listed}
 use Rattle.numbers.specs.declared.NameReply.{NameReply}
 use Rattle.numbers.specs.declared.ModuleReply.{ModuleReply}
 use Rattle.numbers.specs.declared.CompleteReply.{CompleteReply}

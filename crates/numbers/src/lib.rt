@@ -1,14 +1,14 @@
 // Replies as numbers, by what crate table hands back.
 use memory::ModSymbol;
-use table::Completed;
+use roots::Completed;
+use roots::Found;
+use roots::FoundModule;
 use table::Finding;
-use table::Found;
-use table::FoundModule;
 use table::Listing;
 use table::ModuleFinding;
 ghost use mathlib.Core.Path.{_≡_};
 ghost use Rattle.source.specs.Calls.{refused};
-ghost use Rattle.table.specs.Answers.{name-found};
+ghost use Rattle.roots.specs.Answers.{name-found};
 ghost use Rattle.numbers.specs.Replies.{name-reply, flag, no-module, symbol-reply, module-reply, no-lines, lines-reply};
 
 // The answer of a look-up that finds nothing: no refusal has this number.

@@ -19,10 +19,11 @@ use Rattle.rows.proofs.Written.{written-lines, written-texts}
 use Rattle.completion.specs.Completes.{output}
 use Rattle.table.specs.Header.{IsSound, table-in}
 use Rattle.refusals.specs.Refusals.{number}
-use Rattle.table.specs.Completions.{completion, refused-by, CompletesAs, Completes}
+use Rattle.roots.specs.Completions.{refused-by, CompletesAs}
+use Rattle.table.specs.Completions.{completion, Completes}
 use Rattle.table.specs.declared.Table.{Table}
-use Rattle.table.specs.declared.Completed.{Completed}
-use Rattle.table.specs.declared.Completed.the-variants.{Listed, Refused}
+use Rattle.roots.specs.declared.Completed.{Completed}
+use Rattle.roots.specs.declared.Completed.the-variants.{Listed, Refused}
 use Rattle.table.specs.declared.Listing.{Listing}
 use Rattle.questions.specs.Questions.{lines-text, completed-text}
 use Rattle.questions.specs.RowReplies.{RowsShown, shown-text}

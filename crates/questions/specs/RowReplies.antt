@@ -17,8 +17,8 @@ use Rattle.rows.specs.declared.RowItem.{RowItem}
 use Rattle.rows.specs.declared.RowItem.the-variants.{Name, Symbol}
 use Rattle.rows.specs.declared.Row.{Row}
 use Rattle.refusals.specs.Refusals.{number}
-use Rattle.table.specs.declared.Completed.{Completed}
-use Rattle.table.specs.declared.Completed.the-variants.{Listed, Refused}
+use Rattle.roots.specs.declared.Completed.{Completed}
+use Rattle.roots.specs.declared.Completed.the-variants.{Listed, Refused}
 
 -- ---- One row
 

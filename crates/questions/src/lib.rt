@@ -1,10 +1,10 @@
 // The line of a question answered: a look-up or a completion of a table whose memory is sound by proof, and its reply.
 use memory::ModSymbol;
 use replies::ItemReply;
+use roots::Completed;
+use roots::Found;
 use rows::Row;
 use rows::RowItem;
-use table::Completed;
-use table::Found;
 use table::Table;
 ghost use mathlib.Core.Path.{_≡_};
 ghost use mathlib.Core.Bool.{true};
@@ -17,7 +17,7 @@ ghost use Rattle.asks.specs.Ask.{asked};
 ghost use Rattle.rows.specs.Rows.{TextsIn, words-from};
 ghost use Rattle.completion.specs.Completes.{output};
 ghost use Rattle.table.specs.Header.{IsSound, table-in};
-ghost use Rattle.table.specs.Answers.{name-found};
+ghost use Rattle.roots.specs.Answers.{name-found};
 ghost use Rattle.table.specs.Completions.{completion};
 ghost use Rattle.questions.specs.Questions.{found-text, completed-text, asked-text};
 ghost use Rattle.questions.specs.RowReplies.{item-shown, row-room, row-text, RowsIn, rows-room, rows-text, room, RowsShown, shown-text};

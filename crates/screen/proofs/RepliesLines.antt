@@ -16,10 +16,11 @@ use Rattle.asks.specs.declared.Ask.the-variants.{Names, Modules}
 use Rattle.asks.specs.declared.Filter.the-variants.{NamespacesOnly}
 use Rattle.completion.specs.Completes.{output}
 use Rattle.table.specs.Header.{table-in}
-use Rattle.table.specs.Completions.{completion, CompletesAs, Completes}
+use Rattle.roots.specs.Completions.{CompletesAs}
+use Rattle.table.specs.Completions.{completion, Completes}
 use Rattle.table.specs.declared.Table.{Table}
-use Rattle.table.specs.declared.Completed.{Completed}
-use Rattle.table.specs.declared.Completed.the-variants.{Listed, Refused}
+use Rattle.roots.specs.declared.Completed.{Completed}
+use Rattle.roots.specs.declared.Completed.the-variants.{Listed, Refused}
 use Rattle.table.specs.declared.Listing.{Listing}
 use Rattle.numbers.specs.Replies.{no-lines, lines-reply}
 use Rattle.numbers.specs.declared.CompleteReply.{CompleteReply}

@@ -11,10 +11,10 @@ use Rattle.source.specs.Calls as C
 use Rattle.source.specs.Calls.{State, Lent, Call, register, look-up}
 use Rattle.memory.specs.Sound.{Says}
 use Rattle.table.specs.Header.{state, lent, names-in, modules-in}
-use Rattle.table.specs.Answers.{module-found, FoundInside}
+use Rattle.roots.specs.Answers.{module-found, FoundInside}
 use Rattle.memory.specs.Grown.{Outside}
 use Rattle.table.specs.Registrations.{Accepts}
-use Rattle.table.specs.declared.FoundModule.{FoundModule}
+use Rattle.roots.specs.declared.FoundModule.{FoundModule}
 use Rattle.numbers.specs.Replies.{name-reply, module-reply}
 use Rattle.numbers.specs.declared.NameReply.{NameReply}
 use Rattle.numbers.specs.declared.ModuleReply.{ModuleReply}

@@ -22,12 +22,12 @@ use Rattle.rows.specs.Rows.{lines-seen}
 use Rattle.rows.proofs.Written.{written-seen}
 use Rattle.completion.specs.Completes.{output}
 use Rattle.table.specs.Header.{IsSound, table-in, names-in, modules-in}
-use Rattle.table.specs.Answers.{name-found, module-found}
-use Rattle.table.specs.Completions.{CompletesAs}
+use Rattle.roots.specs.Answers.{name-found, module-found}
+use Rattle.roots.specs.Completions.{CompletesAs}
 use Rattle.table.specs.Agreement.{CallsAgree}
 use Rattle.table.specs.declared.Table.{Table}
-use Rattle.table.specs.declared.Completed.{Completed}
-use Rattle.table.specs.declared.Completed.the-variants.{Listed}
+use Rattle.roots.specs.declared.Completed.{Completed}
+use Rattle.roots.specs.declared.Completed.the-variants.{Listed}
 
 -- A listing that was not refused.
 listed-lines : (ask : Ask) (ws txt flat flat′ out out′ : List ℕ) (n entered : ℕ) (o : C.Completed (Item (asked ask))) → CompletesAs ask ws txt flat flat′ out out′ (Listed n entered) o

@@ -12,13 +12,14 @@ use Rattle.asks.specs.declared.Ask.the-variants.{Names, Modules}
 use Rattle.asks.specs.declared.Filter.the-variants.{All}
 use Rattle.rows.specs.Rows.{lines-seen}
 use Rattle.table.specs.Header.{IsSound, names-in, modules-in}
-use Rattle.table.specs.Answers.{name-found, module-found, Finds, FindsModule}
+use Rattle.roots.specs.Answers.{name-found, module-found}
+use Rattle.table.specs.Answers.{Finds, FindsModule}
 use Rattle.table.specs.Completions.{Completes}
 use Rattle.table.specs.declared.Table.{Table}
 use Rattle.table.specs.declared.Finding.{Finding}
 use Rattle.table.specs.declared.ModuleFinding.{ModuleFinding}
 use Rattle.table.specs.declared.Listing.{Listing}
-use Rattle.table.specs.declared.Completed.the-variants.{Listed}
+use Rattle.roots.specs.declared.Completed.the-variants.{Listed}
 
 -- On either root, whatever memory is lent (b says whether it is sound): where look-up of a full name is not refused, and a completion that covers the name
 -- is not refused, the lines that it left in the lent output agree with look-up's answer as demand 3 says.

@@ -1,41 +1,27 @@
 // The calls on a table: a header by value, with the lent words and text. Each hands the table back with its answer.
 // Each call has a form for callers that have proved the memory sound, and a total one that tests it first.
 mod registers;
-mod roots;
 
 use asks::Ask;
 use kinds::Kind;
 use memory::Header;
-use memory::ModSymbol;
 use refusals::Refusal;
 use register::Checked;
-ghost use mathlib.Core.Path.{_≡_};
+use roots::Completed;
+use roots::Found;
+use roots::FoundModule;
 ghost use mathlib.Core.Bool.{true};
 ghost use Rattle.source.specs.Lent.{old, new};
 ghost use Rattle.memory.specs.Sound.{Says};
 ghost use Rattle.kinds.specs.Shapes.{call-of};
 ghost use Rattle.table.specs.Header.{IsSound, Fresh};
 ghost use Rattle.table.specs.Answers.{Finds, FindsModule};
-ghost use Rattle.table.specs.Completions.{root-for, Completes};
+ghost use Rattle.table.specs.Completions.{Completes};
 ghost use Rattle.table.specs.Registrations.{Answers, Total};
 
 // A table: its header by value.
 pub struct Table {
     pub header: Header,
-}
-
-// What a look-up ends at: a branch of bindings, or none.
-enum Looked {
-    Branch(u32),
-    Nothing,
-    Refused(Refusal),
-}
-
-// The answer of a look-up of a name.
-pub enum Found {
-    Item(u32),
-    Nothing,
-    Refused(Refusal),
 }
 
 // The table that a look-up of a name hands back, with its answer.
@@ -44,14 +30,7 @@ pub struct Finding {
     pub answer: Found,
 }
 
-// The answer of a look-up of a module or namespace. Its texts are in the lent text.
-pub enum FoundModule {
-    Symbol(ModSymbol),
-    Nothing,
-    Refused(Refusal),
-}
-
-// The table that it hands back, with its answer.
+// The table that a look-up of a module or namespace hands back, with its answer.
 pub struct ModuleFinding {
     pub table: Table,
     pub answer: FoundModule,
@@ -61,12 +40,6 @@ pub struct ModuleFinding {
 pub struct Request {
     pub ask: Ask,
     pub budget: u32,
-}
-
-// The answer of a completion: how many lines and tries entered, or a refusal.
-pub enum Completed {
-    Listed(u32, u32),
-    Refused(Refusal),
 }
 
 // The table that a completion hands back, with its answer.
@@ -116,16 +89,6 @@ impl Table {
         sound::sound_small(words, text, self.header)
     }
 
-    // The root that is asked.
-    fn root_for(self, ask: Ask) -> u32
-        ensures { λ r. ⌜ r ≡ root-for self ask ⌝ }
-    {
-        match ask {
-            Ask::Names => self.header.names,
-            Ask::Modules(f) => self.header.modules,
-        }
-    }
-
     // Completion of names, or of modules and namespaces, in a sound memory. Lines go into `flat`, 48 bytes to a line, their texts into `out`.
     pub fn complete_sound(
         self,
@@ -141,8 +104,7 @@ impl Table {
         ensures { λ r. ⌜ Completes (old words) (old text) self ask (old query) budget
             (old flat) (new flat) (old out) (new out) r ⌝ }
     {
-        let root = self.root_for(ask);
-        let answer = roots::complete_on(words, text, ask, root, query, budget, flat, out);
+        let answer = roots::complete(words, text, self.header, ask, query, budget, flat, out);
         Listing {
             table: self,
             answer: answer,
@@ -177,7 +139,7 @@ impl Table {
         requires { ⌜ IsSound (now words) (now text) self ⌝ }
         ensures { λ r. ⌜ Finds (old words) (old text) self (old query) r ⌝ }
     {
-        let answer = roots::find_on(words, text, self.header.names, query);
+        let answer = roots::find(words, text, self.header, query);
         Finding {
             table: self,
             answer: answer,
@@ -202,7 +164,7 @@ impl Table {
         requires { ⌜ IsSound (now words) (now text) self ⌝ }
         ensures { λ r. ⌜ FindsModule (old words) (old text) self (old query) r ⌝ }
     {
-        let answer = roots::find_module_on(words, text, self.header.modules, query);
+        let answer = roots::find_module(words, text, self.header, query);
         ModuleFinding {
             table: self,
             answer: answer,

@@ -21,10 +21,10 @@ use Rattle.asks.specs.declared.Ask.{Ask}
 use Rattle.asks.specs.declared.Ask.the-variants.{Names, Modules}
 use Rattle.asks.specs.declared.Filter.the-variants.{All}
 use Rattle.table.specs.Header.{IsSound, table-in, names-in, modules-in}
-use Rattle.table.specs.Answers.{name-found, module-found}
-use Rattle.table.specs.Completions.{CompletesAs}
+use Rattle.roots.specs.Answers.{name-found, module-found}
+use Rattle.roots.specs.Completions.{CompletesAs}
 use Rattle.table.specs.declared.Table.{Table}
-use Rattle.table.specs.declared.Completed.the-variants.{Listed}
+use Rattle.roots.specs.declared.Completed.the-variants.{Listed}
 use Rattle.typed.specs.Completions.{output, ShownAs}
 use Rattle.typed.specs.Agreement.{LinesStand, TypedAgree}
 use Rattle.typed.specs.declared.Line.{Line}

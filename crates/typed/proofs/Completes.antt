@@ -24,9 +24,10 @@ use Rattle.output.specs.Output.{line-bytes, line-of, Written, matched-word}
 use Rattle.asks.specs.declared.Ask.{Ask}
 use Rattle.asks.specs.declared.Ask.the-variants.{Names, Modules}
 use Rattle.table.specs.Header.{IsSound, table-in}
-use Rattle.table.specs.Completions.{CompletesAs, completion}
+use Rattle.roots.specs.Completions.{CompletesAs}
+use Rattle.table.specs.Completions.{completion}
 use Rattle.table.specs.declared.Table.{Table}
-use Rattle.table.specs.declared.Completed.{Completed}
+use Rattle.roots.specs.declared.Completed.{Completed}
 use Rattle.table.specs.declared.Request.{Request}
 use Rattle.table.specs.declared.Listing.{Listing}
 use Rattle.rows.specs.Rows.{words-from, item-in, row-in, ItemInside}

@@ -19,11 +19,12 @@ use Rattle.asks.specs.declared.Ask.the-variants.{Names, Modules}
 use Rattle.completion.specs.Completes as F
 use Rattle.table.specs.Header.{IsSound, table-in}
 use Rattle.table.specs.Completions as T
-use Rattle.table.specs.Completions.{CompletesAs, completion, refused-by}
+use Rattle.roots.specs.Completions.{CompletesAs, refused-by}
+use Rattle.table.specs.Completions.{completion}
 use Rattle.table.specs.declared.Table.{Table}
 use Rattle.refusals.specs.declared.Refusal.the-variants.{Unsound}
-use Rattle.table.specs.declared.Completed.{Completed}
-use Rattle.table.specs.declared.Completed.the-variants.{Listed, Refused}
+use Rattle.roots.specs.declared.Completed.{Completed}
+use Rattle.roots.specs.declared.Completed.the-variants.{Listed, Refused}
 use Rattle.table.specs.declared.Request.{Request}
 use Rattle.table.specs.declared.Listing.{Listing}
 use Rattle.table.proofs.Says.{decided}

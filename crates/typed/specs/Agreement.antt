@@ -16,12 +16,13 @@ use Rattle.text.specs.Laid.{Laid}
 use Rattle.asks.specs.declared.Ask.the-variants.{Names, Modules}
 use Rattle.asks.specs.declared.Filter.the-variants.{All}
 use Rattle.table.specs.Header.{IsSound, names-in, modules-in}
-use Rattle.table.specs.Answers.{name-found, module-found, Finds, FindsModule}
+use Rattle.roots.specs.Answers.{name-found, module-found}
+use Rattle.table.specs.Answers.{Finds, FindsModule}
 use Rattle.table.specs.declared.Table.{Table}
 use Rattle.table.specs.declared.Finding.{Finding}
 use Rattle.table.specs.declared.ModuleFinding.{ModuleFinding}
 use Rattle.table.specs.declared.Listing.{Listing}
-use Rattle.table.specs.declared.Completed.the-variants.{Listed}
+use Rattle.roots.specs.declared.Completed.the-variants.{Listed}
 use Rattle.typed.specs.Completions.{Shown, CompletesLines}
 use Rattle.typed.specs.declared.Line.{Line}
 

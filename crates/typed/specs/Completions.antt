@@ -17,7 +17,7 @@ use Rattle.output.specs.Output.{line-bytes}
 use Rattle.asks.specs.declared.Ask.{Ask}
 use Rattle.rows.specs.Rows.{ItemInside}
 use Rattle.table.specs.Header.{IsSound, table-in}
-use Rattle.table.specs.Completions as T
+use Rattle.roots.specs.Completions.{CompletesAs}
 use Rattle.table.specs.Completions.{completion}
 use Rattle.table.specs.declared.Table.{Table}
 use Rattle.table.specs.declared.Request.{Request}
@@ -48,12 +48,12 @@ module _ (ws txt : List ℕ) (t : Table) (q : Request) (query : Str) where
   -- The completion into bytes, lent for at most so many lines; the table comes back as it was.
   pub record FlatCompletes (room : ℕ) (flat flat′ out out′ : List ℕ) (r : Listing) : Type 0 where
     pub table : r .table ≡ t
-    pub says : (b : Bool) → Says b (IsSound ws txt t) → T.CompletesAs (q .ask) ws txt flat flat′ out out′ (r .answer) (answer b (output room flat out))
+    pub says : (b : Bool) → Says b (IsSound ws txt t) → CompletesAs (q .ask) ws txt flat flat′ out out′ (r .answer) (answer b (output room flat out))
     pub fit : lines-in (r .answer) ≤ room
     pub lent : lines-in (r .answer) * line-bytes ≤ length flat
 
-  -- The completion into line structs: as into bytes (table's CompletesAs), and the lines are shown.
+  -- The completion into line structs: as into bytes (roots' CompletesAs), and the lines are shown.
   pub record CompletesLines (ls ls′ : List Line) (flat flat′ out out′ : List ℕ) (r : Listing) : Type 0 where
     pub table : r .table ≡ t
-    pub says : (b : Bool) → Says b (IsSound ws txt t) → T.CompletesAs (q .ask) ws txt flat flat′ out out′ (r .answer) (answer b (output (length ls) flat out))
+    pub says : (b : Bool) → Says b (IsSound ws txt t) → CompletesAs (q .ask) ws txt flat flat′ out out′ (r .answer) (answer b (output (length ls) flat out))
     pub shows : (b : Bool) → Says b (IsSound ws txt t) → ShownAs (q .ask) txt ls ls′ (answer b (output (length ls) flat out))

@@ -11,8 +11,8 @@ use Rattle.asks.specs.Ask.{asked}
 use Rattle.asks.specs.declared.Ask.{Ask}
 use Rattle.rows.specs.Rows.{words-at, row-in, item-seen}
 use Rattle.rows.specs.declared.Row.{Row}
-use Rattle.table.specs.declared.Completed.{Completed}
-use Rattle.table.specs.declared.Completed.the-variants.{Listed, Refused}
+use Rattle.roots.specs.declared.Completed.{Completed}
+use Rattle.roots.specs.declared.Completed.the-variants.{Listed, Refused}
 use Rattle.typed.specs.declared.Line.{Line}
 
 -- ---- From rows

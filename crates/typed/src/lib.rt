@@ -3,9 +3,9 @@
 use asks::Ask;
 use memory::Span;
 use refusals::Refusal;
+use roots::Completed;
 use rows::Row;
 use rows::RowItem;
-use table::Completed;
 use table::Listing;
 use table::Request;
 use table::Table;

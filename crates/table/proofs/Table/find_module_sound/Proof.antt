@@ -1,5 +1,4 @@
 -- Table::find_module_sound meets its contract.
-use Rattle.lookup.proofs.Roots.{modules-trie}
 use Rattle.table.proofs.Finds.{finds-module-sound}
 use Rattle.table.proofs.Table.find_module_sound.Statement.{statement}
 use Rattle.table.proofs.Table.find_module_sound.Tie as tie
@@ -8,7 +7,7 @@ pub find-module-sound-spec : {M : Type 1} → statement M
 find-module-sound-spec =
     tie.close
     (tie.spec
-    {- find-module-on-requires -}
-    (λ c κs. modules-trie (c .before .before .before .pre))
+    {- find-module-requires -}
+    (λ c κs. c .before .before .before .pre)
     {- returns -}
-    (λ c. finds-module-sound (c .before .before .before .before .pre) (c .find-module-on .ensures)))
+    (λ c. finds-module-sound (c .before .before .before .before .pre) (c .find-module .ensures)))

@@ -1,7 +1,7 @@
 -- answer_of hands on by its definition.
 use borrow.Author.Needs.{needs}
-use Rattle.table.proofs.roots.answer_of.Statement.{statement}
-use Rattle.table.proofs.roots.answer_of.Tie as tie
+use Rattle.roots.proofs.answer_of.Statement.{statement}
+use Rattle.roots.proofs.answer_of.Tie as tie
 
 pub answer-of-spec : {M : Type 1} → statement M
 answer-of-spec =

@@ -1,0 +1,2 @@
+mod Finds
+mod Completes
