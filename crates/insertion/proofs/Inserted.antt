@@ -23,7 +23,8 @@ use Rattle.memory.proofs.RecordAt.{record-length}
 use Rattle.memory.proofs.SoundTable.{IsItem, link-fine}
 use Rattle.memory.proofs.Seen.{link-later, link-fits}
 use Rattle.tree.specs.Tree.{held, AnyTree, Builds}
-use Rattle.insertion.specs.Insert.{NewBranch, HeldOk, Insertion, Inserted, noted-link, noted-side, SideTaken, Trail, top, turn, Changed, Marked, with-sides, raised-row, RaiseOk, lowest-row, LowestOk}
+use Rattle.copies.specs.Copies.{noted-link, noted-side, with-sides, raised-row, RaiseOk, lowest-row, LowestOk}
+use Rattle.insertion.specs.Insert.{NewBranch, HeldOk, Insertion, Inserted, SideTaken, Trail, top, turn, Changed, Marked}
 use Rattle.memory.proofs.Pasted.{part-span}
 use Rattle.tree.proofs.Branches.{any-tree, branch-right, branch-reads}
 use Rattle.tree.proofs.Placed.{same-key}

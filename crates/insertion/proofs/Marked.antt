@@ -12,7 +12,8 @@ use Rattle.memory.specs.Layout.{record-at, tree, what, key-at, left-link, right
 use Rattle.memory.specs.Grown.{Stays}
 use Rattle.memory.proofs.Stays.{record-stays, stays-same, stays-on}
 use Rattle.tree.specs.Tree.{AnyTree, Builds}
-use Rattle.insertion.specs.Insert.{noted-link, SideTaken, Trail, top, turn, NotePut, Marked}
+use Rattle.copies.specs.Copies.{noted-link}
+use Rattle.insertion.specs.Insert.{SideTaken, Trail, top, turn, NotePut, Marked}
 use Rattle.tree.proofs.Placed.{Search, search-all, search-left, search-right, search-here, search-none}
 use Rattle.tree.proofs.Past.{by-order}
 use Rattle.insertion.proofs.Changed.{drop-more, key-stays, any-stays, trail-stays}

@@ -19,7 +19,8 @@ use Rattle.memory.proofs.StoredSizes.{stored-trie, depth-branch}
 use Rattle.memory.proofs.Put.{put-used, put-what, put-link}
 use Rattle.memory.proofs.SoundTable.{IsItem, item-fine, link-fine, link-shallow}
 use Rattle.memory.proofs.Seen.{link-fits, link-ok, link-later}
-use Rattle.insertion.specs.Insert.{HeldOk, NewBranch, of-namespaces, branch-depth, DepthOk, with-sides}
+use Rattle.copies.specs.Copies.{of-namespaces, branch-depth, DepthOk, with-sides}
+use Rattle.insertion.specs.Insert.{HeldOk, NewBranch}
 
 -- ---- Words
 

@@ -1,10 +1,10 @@
 -- raised_row meets its contract, by the side that is noted.
 use mathlib.Core.Path.{sym, _∙_}
 use borrow.Author.Tests.{eq-eqb, ne-eqb}
-use Rattle.insertion.specs.Insert.{noted-side, raised-row}
+use Rattle.copies.specs.Copies.{noted-side, raised-row}
 use borrow.Author.Needs.{needs}
-use Rattle.insertion.proofs.raised_row.Statement.{statement}
-use Rattle.insertion.proofs.raised_row.Tie as tie
+use Rattle.copies.proofs.raised_row.Statement.{statement}
+use Rattle.copies.proofs.raised_row.Tie as tie
 
 pub raised-row-spec : {M : Type 1} → statement M
 unfolding raised-row

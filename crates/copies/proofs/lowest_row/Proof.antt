@@ -1,9 +1,9 @@
 -- lowest_row meets its contract.
 use mathlib.Core.Path.{_∙_}
-use Rattle.insertion.specs.Insert.{lowest-row}
+use Rattle.copies.specs.Copies.{lowest-row}
 use borrow.Author.Needs.{needs}
-use Rattle.insertion.proofs.lowest_row.Statement.{statement}
-use Rattle.insertion.proofs.lowest_row.Tie as tie
+use Rattle.copies.proofs.lowest_row.Statement.{statement}
+use Rattle.copies.proofs.lowest_row.Tie as tie
 
 pub lowest-row-spec : {M : Type 1} → statement M
 unfolding lowest-row

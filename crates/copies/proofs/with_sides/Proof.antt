@@ -1,9 +1,9 @@
 -- with_sides meets its contract.
 use mathlib.Core.Path.{_∙_}
-use Rattle.insertion.specs.Insert.{with-sides}
+use Rattle.copies.specs.Copies.{with-sides}
 use borrow.Author.Needs.{needs}
-use Rattle.insertion.proofs.with_sides.Statement.{statement}
-use Rattle.insertion.proofs.with_sides.Tie as tie
+use Rattle.copies.proofs.with_sides.Statement.{statement}
+use Rattle.copies.proofs.with_sides.Tie as tie
 
 pub with-sides-spec : {M : Type 1} → statement M
 unfolding with-sides

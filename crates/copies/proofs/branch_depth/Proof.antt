@@ -1,11 +1,11 @@
 -- branch_depth meets its contract.
 use mathlib.Core.Path.{sym, _∙_}
 use native.Mathlib.Numerals.{add-one}
-use Rattle.insertion.specs.Insert.{branch-depth}
+use Rattle.copies.specs.Copies.{branch-depth}
 use borrow.Author.Needs.{needs}
 use native.Mathlib.Omega.{arith}
-use Rattle.insertion.proofs.branch_depth.Statement.{statement}
-use Rattle.insertion.proofs.branch_depth.Tie as tie
+use Rattle.copies.proofs.branch_depth.Statement.{statement}
+use Rattle.copies.proofs.branch_depth.Tie as tie
 
 pub branch-depth-spec : {M : Type 1} → statement M
 unfolding branch-depth
