@@ -1,1 +1,1 @@
-pub mod Tests
+mod RecordOk

@@ -1,198 +1,68 @@
-// Is a record right, given that those before it are? A test for each sort of record, by what the records before it store.
-use memory::Span;
-use text::Rule;
+// Is a record right, given that those before it are? A test for each kind.
 ghost use mathlib.Core.Path.{_≡_};
-ghost use Prim.Native.Nat.{_*_, _≤_, _<_};
-ghost use lib.ListN.{length};
 ghost use Rattle.source.specs.Lent.{old};
-ghost use Rattle.source.specs.Limits.{heaviest-list, record-words};
-ghost use Rattle.memory.specs.Layout.{left-link, right-link, weight-word};
-ghost use Rattle.memory.specs.Stored.{depth-of};
-ghost use Rattle.memory.specs.Sound.{Says, SymbolOk};
-ghost use Rattle.fields.specs.Fields.{Before, TreeKind};
-ghost use Rattle.records.specs.Tests.{Notes, SaysBranch, SaysHeld, SaysCollection, SaysTrie};
+ghost use Rattle.memory.specs.Layout.{record-at};
+ghost use Rattle.memory.specs.Sound.{Says, RecordOk};
+ghost use Rattle.fields.specs.Fields.{Before};
+ghost use Rattle.branches.specs.Branches.{Notes};
 
-// A branch of the kind `k`, whose keys ascend. The notes have the branch with the least and the greatest key of each tree before it.
-pub fn branch_ok(
+// Is the record `r` of `link` right, given that those before it are?
+pub fn record_ok(
     words: &[u32],
     text: &[u8],
     used: u32,
     link: u32,
     r: &[u32],
-    k: u32,
     least: &[u32],
     greatest: &[u32],
 ) -> bool
     requires { ⌜ Before (now words) (now text) used link ⌝ }
-    requires { ⌜ TreeKind k ⌝ }
-    requires { ⌜ length (now r) ≡ record-words ⌝ }
+    requires { ⌜ now r ≡ record-at (now words) link ⌝ }
     requires { ⌜ Notes (now words) link (now least) (now greatest) ⌝ }
-    ensures { λ b. ⌜ SaysBranch (old words) (old text) used link (old r) k b ⌝ }
+    ensures { λ b. ⌜ Says b (RecordOk (old words) (old text) used link) ⌝ }
 {
-    let start = r[memory::TEXT_START];
-    let len = r[memory::TEXT_LEN];
-    let first = r[memory::LEFT];
-    let second = r[memory::RIGHT];
-    if !fields::link_ok(words, link, first, k) {
-        return false;
-    }
-    if !fields::link_ok(words, link, second, k) {
-        return false;
-    }
-    if !fields::text_ok(text, used, start, len, 1, text::NAME_MOST, Rule::Name) {
-        return false;
-    }
-    let key = Span {
-        start: start,
-        len: len,
-    };
-    if !fields::left_ok(words, text, used, link, k, first, key, greatest) {
-        return false;
-    }
-    fields::right_ok(words, text, used, link, k, second, key, least)
-}
-
-// The item of a bindings branch of the module table.
-pub fn symbol_ok(text: &[u8], used: u32, r: &[u32]) -> bool
-    requires { ⌜ (used ≤ length (now text)) × (length (now r) ≡ record-words) ⌝ }
-    ensures { λ b. ⌜ Says b (SymbolOk (old text) used (old r)) ⌝ }
-{
-    if 1 < r[memory::SYMBOL] {
-        return false;
-    }
-    if 1 < r[memory::LOADED] {
-        return false;
-    }
-    if !fields::text_ok(
-        text,
-        used,
-        r[memory::NAME_START],
-        r[memory::NAME_LEN],
-        1,
-        text::FULL_NAME_MOST,
-        Rule::Query,
-    ) {
-        return false;
-    }
-    if r[memory::SYMBOL] == 1 {
-        return true;
-    }
-    fields::text_ok(
-        text,
-        used,
-        r[memory::PATH_START],
-        r[memory::PATH_LEN],
-        0,
-        text::PATH_MOST,
-        Rule::Path,
-    )
-}
-
-// The greater depth of the first two links of a record.
-pub fn deeper(words: &[u32], link: u32, r: &[u32]) -> u32
-    requires { ⌜ (link * record-words ≤ length (now words)) × (length (now r) ≡ record-words) × (left-link (now r) < link) × (right-link (now r) < link) ⌝ }
-    ensures { λ d. ⌜ d ≡ depth-of (old words) (old r) ⌝ }
-{
-    let a = memory::depth_of(words, r[memory::FIRST]);
-    let b = memory::depth_of(words, r[memory::SECOND]);
-    if a < b {
-        return b;
-    }
-    a
-}
-
-// The trie, of the kind `t`, that a branch of namespaces holds, and the stored depth.
-pub fn held_ok(words: &[u32], text: &[u8], used: u32, link: u32, r: &[u32], t: u32) -> bool
-    requires { ⌜ Before (now words) (now text) used link ⌝ }
-    requires { ⌜ length (now r) ≡ record-words ⌝ }
-    requires { ⌜ (left-link (now r) < link) × (right-link (now r) < link) ⌝ }
-    ensures { λ b. ⌜ SaysHeld (old words) (old text) used link (old r) t b ⌝ }
-{
-    let held = r[memory::HELD];
-    if !fields::link_ok(words, link, held, t) {
-        return false;
-    }
-    let d = 1 + fields::wide(memory::depth_of(words, held));
-    let e = fields::wide(deeper(words, link, r));
-    let s = fields::wide(r[memory::DEPTH]);
-    if d < e {
-        return fields::same(s, e);
-    }
-    fields::same(s, d)
-}
-
-// Is `weight` stored, and at most 96?
-fn weight_ok(r: &[u32], weight: u64) -> bool
-    requires { ⌜ length (now r) ≡ record-words ⌝ }
-    ensures { λ b. ⌜ Says b ((weight-word (old r) ≡ weight) × (weight ≤ heaviest-list)) ⌝ }
-{
-    if fields::wide(memory::HEAVIEST) < weight {
-        return false;
-    }
-    if fields::wide(r[memory::WEIGHT]) == weight {
-        return true;
-    }
-    false
-}
-
-// A collection of the kind `k`, where its trees are of the kind `t`, and the weight of its list.
-pub fn collection_ok(
-    words: &[u32],
-    text: &[u8],
-    used: u32,
-    link: u32,
-    r: &[u32],
-    k: u32,
-    t: u32,
-) -> bool
-    requires { ⌜ Before (now words) (now text) used link ⌝ }
-    requires { ⌜ length (now r) ≡ record-words ⌝ }
-    ensures { λ b. ⌜ SaysCollection (old words) (old text) used link (old r) k t b ⌝ }
-{
-    let own = r[memory::OWN];
-    let rest = r[memory::REST];
-    if !fields::link_ok(words, link, rest, k) {
-        return false;
-    }
-    let after = fields::wide(memory::weight_of(words, rest));
-    if r[memory::SORT] == memory::OF_TREE {
-        if !fields::link_ok(words, link, own, t) {
-            return false;
+    let k = r[memory::KIND];
+    match k {
+        memory::BINDING_KIND => branches::branch_ok(words, text, used, link, r, k, least, greatest),
+        memory::MODULE_BINDING_KIND => {
+            if !branches::branch_ok(words, text, used, link, r, k, least, greatest) {
+                return false;
+            }
+            branches::symbol_ok(text, used, r)
         }
-        return weight_ok(r, 1 + after);
-    }
-    if r[memory::SORT] == memory::IMPORTED {
-        if !fields::link_ok(words, link, own, k) {
-            return false;
+        memory::NAMESPACE_KIND | memory::MODULE_NAMESPACE_KIND => {
+            if !branches::branch_ok(words, text, used, link, r, k, least, greatest) {
+                return false;
+            }
+            branches::held_ok(words, text, used, link, r, k + memory::TRIE_IN)
         }
-        let start = r[memory::TEXT_START];
-        let len = r[memory::TEXT_LEN];
-        if !fields::text_ok(text, used, start, len, 0, text::FULL_NAME_MOST, Rule::Query) {
-            return false;
+        memory::BINDINGS_KIND | memory::MODULE_BINDINGS_KIND => lists::collection_ok(
+            words,
+            text,
+            used,
+            link,
+            r,
+            k,
+            k - memory::LIST_OF,
+        ),
+        memory::NAMESPACES_KIND | memory::MODULE_NAMESPACES_KIND => {
+            if !lists::collection_ok(words, text, used, link, r, k, k - memory::LIST_OF) {
+                return false;
+            }
+            fields::same(
+                fields::wide(r[memory::DEPTH]),
+                fields::wide(branches::deeper(words, link, r)),
+            )
         }
-        let inner = fields::wide(memory::weight_of(words, own));
-        return weight_ok(r, 1 + inner + after);
+        memory::TRIE_KIND | memory::MODULE_TRIE_KIND => lists::trie_ok(
+            words,
+            text,
+            used,
+            link,
+            r,
+            k - memory::BINDINGS_OF,
+            k - memory::NAMESPACES_OF,
+        ),
+        _ => false,
     }
-    false
-}
-
-// A trie, where `b` and `n` are the kinds of its lists.
-pub fn trie_ok(words: &[u32], text: &[u8], used: u32, link: u32, r: &[u32], b: u32, n: u32) -> bool
-    requires { ⌜ Before (now words) (now text) used link ⌝ }
-    requires { ⌜ length (now r) ≡ record-words ⌝ }
-    ensures { λ o. ⌜ SaysTrie (old words) (old text) used link (old r) b n o ⌝ }
-{
-    let first = r[memory::BINDINGS];
-    let second = r[memory::NAMESPACES];
-    if !fields::link_ok(words, link, first, b) {
-        return false;
-    }
-    if !fields::link_ok(words, link, second, n) {
-        return false;
-    }
-    let d = memory::depth_of(words, second);
-    if memory::DEEPEST < d {
-        return false;
-    }
-    fields::same(fields::wide(r[memory::DEPTH]), fields::wide(d))
 }

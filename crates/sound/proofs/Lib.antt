@@ -1,2 +1,2 @@
-mod RecordOk
+mod Rows
 mod Notes

@@ -1,74 +1,9 @@
 // Is the lent memory a sound table? One pass over the used records, each tested by what the records before it store.
 use memory::Header;
-ghost use mathlib.Core.Path.{_≡_};
 ghost use Prim.Native.Nat.{_+_};
 ghost use Rattle.source.specs.Lent.{old, new};
-ghost use Rattle.memory.specs.Layout.{record-at};
-ghost use Rattle.memory.specs.Sound.{Says, RecordOk, Sound};
-ghost use Rattle.fields.specs.Fields.{Before};
-ghost use Rattle.records.specs.Tests.{Notes};
+ghost use Rattle.memory.specs.Sound.{Says, Sound};
 ghost use Rattle.sound.specs.Notes.{CanNote, NotesOn};
-
-// Is the record `r` of `link` right, given that those before it are?
-fn record_ok(
-    words: &[u32],
-    text: &[u8],
-    used: u32,
-    link: u32,
-    r: &[u32],
-    least: &[u32],
-    greatest: &[u32],
-) -> bool
-    requires { ⌜ Before (now words) (now text) used link ⌝ }
-    requires { ⌜ now r ≡ record-at (now words) link ⌝ }
-    requires { ⌜ Notes (now words) link (now least) (now greatest) ⌝ }
-    ensures { λ b. ⌜ Says b (RecordOk (old words) (old text) used link) ⌝ }
-{
-    let k = r[memory::KIND];
-    match k {
-        memory::BINDING_KIND => records::branch_ok(words, text, used, link, r, k, least, greatest),
-        memory::MODULE_BINDING_KIND => {
-            if !records::branch_ok(words, text, used, link, r, k, least, greatest) {
-                return false;
-            }
-            records::symbol_ok(text, used, r)
-        }
-        memory::NAMESPACE_KIND | memory::MODULE_NAMESPACE_KIND => {
-            if !records::branch_ok(words, text, used, link, r, k, least, greatest) {
-                return false;
-            }
-            records::held_ok(words, text, used, link, r, k + memory::TRIE_IN)
-        }
-        memory::BINDINGS_KIND | memory::MODULE_BINDINGS_KIND => records::collection_ok(
-            words,
-            text,
-            used,
-            link,
-            r,
-            k,
-            k - memory::LIST_OF,
-        ),
-        memory::NAMESPACES_KIND | memory::MODULE_NAMESPACES_KIND => {
-            if !records::collection_ok(words, text, used, link, r, k, k - memory::LIST_OF) {
-                return false;
-            }
-            fields::same(
-                fields::wide(r[memory::DEPTH]),
-                fields::wide(records::deeper(words, link, r)),
-            )
-        }
-        memory::TRIE_KIND | memory::MODULE_TRIE_KIND => records::trie_ok(
-            words,
-            text,
-            used,
-            link,
-            r,
-            k - memory::BINDINGS_OF,
-            k - memory::NAMESPACES_OF,
-        ),
-        _ => false,
-    }
-}
 
 // Notes the record of `link`, which is right.
 fn note(words: &[u32], link: u32, least: &mut [u32], greatest: &mut [u32])
@@ -106,7 +41,7 @@ fn pass(words: &[u32], text: &[u8], header: Header, least: &mut [u32], greatest:
     let mut link = 1;
     while link <= records {
         let at = (link as usize - 1) * memory::ROW;
-        if !record_ok(
+        if !records::record_ok(
             words,
             text,
             used,

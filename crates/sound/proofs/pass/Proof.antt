@@ -6,7 +6,7 @@ use native.Mathlib.Omega.{arith}
 use Rattle.memory.proofs.Says.{passes, refuses}
 use Rattle.sound.specs.Notes.{NotesOn}
 use Rattle.sound.proofs.Notes.{notes-start, notes-at, notes-next, can-note}
-use Rattle.sound.proofs.RecordOk.{part-record, Rows, rows-more}
+use Rattle.sound.proofs.Rows.{part-record, Rows, rows-more}
 
 abbrev Inv-loop : tie.InvT-loop
 Inv-loop words text least₀ greatest₀ records used link₀ least greatest link =

@@ -1,12 +1,12 @@
 -- `sound::trie_ok` meets its contract.
 use borrow.Author.Needs.{needs}
-use Rattle.records.proofs.trie_ok.Statement.{statement}
-use Rattle.records.proofs.trie_ok.Tie as tie
+use Rattle.lists.proofs.trie_ok.Statement.{statement}
+use Rattle.lists.proofs.trie_ok.Tie as tie
 use mathlib.Core.Path.{_∙_}
 use native.Mathlib.Omega.{arith}
 use Rattle.memory.proofs.Says.{passes, refuses}
 use Rattle.memory.proofs.StoredSizes.{depth-trie}
-use Rattle.records.proofs.Tests.{says-trie}
+use Rattle.lists.proofs.Lists.{says-trie}
 
 pub trie-ok-spec : {M : Type 1} → statement M
 trie-ok-spec =

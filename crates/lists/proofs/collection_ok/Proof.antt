@@ -1,11 +1,11 @@
 -- `sound::collection_ok` meets its contract.
 use borrow.Author.Needs.{needs}
-use Rattle.records.proofs.collection_ok.Statement.{statement}
-use Rattle.records.proofs.collection_ok.Tie as tie
+use Rattle.lists.proofs.collection_ok.Statement.{statement}
+use Rattle.lists.proofs.collection_ok.Tie as tie
 use mathlib.Core.Path.{_∙_}
 use native.Mathlib.Omega.{arith}
 use Rattle.memory.proofs.Says.{passes, refuses}
-use Rattle.records.proofs.Tests.{weight-tree, weight-imported, says-collection}
+use Rattle.lists.proofs.Lists.{weight-tree, weight-imported, says-collection}
 
 pub collection-ok-spec : {M : Type 1} → statement M
 collection-ok-spec =

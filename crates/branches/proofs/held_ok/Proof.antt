@@ -1,11 +1,11 @@
 -- `sound::held_ok` meets its contract.
 use borrow.Author.Needs.{needs}
-use Rattle.records.proofs.held_ok.Statement.{statement}
-use Rattle.records.proofs.held_ok.Tie as tie
+use Rattle.branches.proofs.held_ok.Statement.{statement}
+use Rattle.branches.proofs.held_ok.Tie as tie
 use mathlib.Core.Path.{_∙_}
 use native.Mathlib.Omega.{arith}
 use Rattle.memory.proofs.Says.{passes, refuses, says-iff}
-use Rattle.records.proofs.Tests.{says-equal, depth-links, depth-held}
+use Rattle.branches.proofs.Branches.{says-equal, depth-links, depth-held}
 
 pub held-ok-spec : {M : Type 1} → statement M
 held-ok-spec =

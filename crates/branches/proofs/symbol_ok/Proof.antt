@@ -1,7 +1,7 @@
 -- `sound::symbol_ok` meets its contract.
 use borrow.Author.Needs.{needs}
-use Rattle.records.proofs.symbol_ok.Statement.{statement}
-use Rattle.records.proofs.symbol_ok.Tie as tie
+use Rattle.branches.proofs.symbol_ok.Statement.{statement}
+use Rattle.branches.proofs.symbol_ok.Tie as tie
 use native.Mathlib.Omega.{arith}
 use Rattle.memory.proofs.Says.{passes, refuses, says-iff}
 

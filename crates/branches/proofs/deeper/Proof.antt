@@ -1,7 +1,7 @@
 -- `sound::deeper` meets its contract.
 use borrow.Author.Needs.{needs}
-use Rattle.records.proofs.deeper.Statement.{statement}
-use Rattle.records.proofs.deeper.Tie as tie
+use Rattle.branches.proofs.deeper.Statement.{statement}
+use Rattle.branches.proofs.deeper.Tie as tie
 use mathlib.Core.Path.{sym}
 use native.Mathlib.Omega.{arith}
 use native.Mathlib.Nat.{max-eq-left, max-eq-right}

@@ -1,7 +1,7 @@
--- `sound::record_ok` meets its contract.
+-- `record_ok` meets its contract.
 use borrow.Author.Needs.{needs}
-use Rattle.sound.proofs.record_ok.Statement.{statement}
-use Rattle.sound.proofs.record_ok.Tie as tie
+use Rattle.records.proofs.record_ok.Statement.{statement}
+use Rattle.records.proofs.record_ok.Tie as tie
 use Prim.Native.Nat.{ℕ}
 use mathlib.Core.Path.{ap, _∙_}
 use mathlib.Core.List.{List}
@@ -13,8 +13,8 @@ use Rattle.memory.specs.Layout.{names, modules, tree, list, trieˢ}
 use Rattle.memory.proofs.Says.{passes, refuses, says-iff}
 use Rattle.memory.proofs.RecordOk.{own-earlier}
 use Rattle.memory.proofs.StoredSizes.{depth-collection}
-use Rattle.sound.proofs.RecordOk.{known-as, beside, no-kind, right-as, says-record, twelve}
-use Rattle.records.proofs.Tests.{says-equal}
+use Rattle.records.proofs.RecordOk.{known-as, beside, no-kind, right-as, says-record, twelve}
+use Rattle.branches.proofs.Branches.{says-equal}
 
 pub record-ok-spec : {M : Type 1} → statement M
 record-ok-spec =

@@ -1,7 +1,7 @@
 -- `sound::branch_ok` meets its contract.
 use borrow.Author.Needs.{needs}
-use Rattle.records.proofs.branch_ok.Statement.{statement}
-use Rattle.records.proofs.branch_ok.Tie as tie
+use Rattle.branches.proofs.branch_ok.Statement.{statement}
+use Rattle.branches.proofs.branch_ok.Tie as tie
 use Rattle.memory.specs.Sound.{BranchOk}
 use Rattle.memory.proofs.Says.{passes, refuses, says-iff}
 use Rattle.memory.proofs.RecordAs.{branch-ordered}
