@@ -13,7 +13,7 @@ use Rattle.source.specs.Shared.{Allˡ}
 use Rattle.memory.specs.Layout.{Which, tree, key-at, list}
 use Rattle.memory.specs.Read.{TextIn}
 use Rattle.memory.proofs.Seen.{link-later}
-use Rattle.heap.specs.Compare.{Heads, Stands}
+use Rattle.heads.specs.Compare.{Heads, Stands}
 use Rattle.tree.specs.Tree.{AnyTree}
 use Rattle.tree.specs.Links.{matches, head0}
 use Rattle.tree.proofs.Branches.{text-in}

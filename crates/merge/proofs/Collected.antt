@@ -25,8 +25,8 @@ use Rattle.memory.specs.Stored.{weight-in}
 use Rattle.memory.specs.Read.{TextIn}
 use Rattle.memory.proofs.What.{what-none}
 use Rattle.memory.proofs.Seen.{link-later}
-use Rattle.heap.specs.Compare.{with-head}
-use Rattle.heap.proofs.Heads.{head-length, own-head, other-head, other-beginning, head-begun}
+use Rattle.heads.specs.Compare.{with-head}
+use Rattle.heads.proofs.Heads.{head-length, own-head, other-head, other-beginning, head-begun}
 use Rattle.tree.specs.Tree.{AnyTree}
 use Rattle.tree.specs.Links.{matches, head0, row-at}
 use Rattle.tree.proofs.Branches.{text-in}

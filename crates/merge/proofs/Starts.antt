@@ -24,9 +24,9 @@ use Rattle.source.proofs.Found.{match-lists, found-one, found-read}
 use Rattle.memory.specs.Layout.{Which, Item, list, what, key-at, tree}
 use Rattle.memory.proofs.Seen.{link-later}
 use Rattle.memory.proofs.SoundTable.{IsItem, link-fine}
-use Rattle.heap.specs.Compare.{Heads, cell-cmp}
+use Rattle.heads.specs.Compare.{Heads, cell-cmp}
 use Rattle.heap.specs.Cells.{count, Rep, first-cells}
-use Rattle.heap.proofs.Compare.{cell-cmp-run}
+use Rattle.heads.proofs.Compare.{cell-cmp-run}
 use Rattle.heap.proofs.CellCounts.{rep-below, counted-all}
 use Rattle.heap.proofs.HeapMap.{map-insert}
 use Rattle.tree.specs.Links.{matches, row-at}

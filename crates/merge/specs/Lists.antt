@@ -15,7 +15,7 @@ use Rattle.source.specs.Forward.{tree-matches}
 use Rattle.source.specs.Forward.{flat-in}
 use Rattle.memory.specs.Layout.{Which, Item, tree, list, kind, what}
 use Rattle.memory.specs.Sound.{LinkOk, At}
-use Rattle.heap.specs.Compare.{Begun}
+use Rattle.heads.specs.Compare.{Begun}
 use Rattle.tree.specs.Links.{matches, row-at}
 use Rattle.names.specs.Entries.{label-at, Asks, LabelOk}
 

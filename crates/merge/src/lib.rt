@@ -16,9 +16,9 @@ ghost use Rattle.merge.specs.Lists.{Full, Collected, Single};
 ghost use Rattle.merge.specs.Stream.{CellsReady, Takes, Begins, Stands, Steps};
 
 // The most trees of a list, whose weight is at most 96, and the size of their heads.
-pub const CELLS: usize = heap::CELLS;
+pub const CELLS: usize = heads::CELLS;
 
-pub const HEADS: usize = heap::HEADS;
+pub const HEADS: usize = heads::HEADS;
 
 // The heap at the start of a merge: its cells, each with a tree, its current branch and its label in lent arrays, how many they are, and its root.
 pub struct Start {
@@ -111,7 +111,7 @@ fn collect(
         return collect(words, text, prefix, rest, roots, heads, labels, at);
     }
     roots[at] = own;
-    heap::set_head(words, text, heads, at, first);
+    heads::set_head(words, text, heads, at, first);
     labels[at] = label;
     collect(words, text, prefix, rest, roots, heads, labels, at + 1)
 }
@@ -163,7 +163,7 @@ fn take(
                     root: rest,
                 };
             }
-            heap::set_head(words, text, heads, cell, after);
+            heads::set_head(words, text, heads, cell, after);
             let top = heap::heap_insert(child, next, words, text, heads, n, rest, cell);
             Taken {
                 cell: cell,

@@ -15,7 +15,7 @@ use Rattle.memory.proofs.own_of.Reads as own-of-reads
 use Rattle.memory.proofs.rest_of.Reads as rest-of-reads
 use Rattle.memory.proofs.sort_of.Reads as sort-of-reads
 use Rattle.successor.proofs.tree_first.Reads as tree-first-reads
-use Rattle.heap.proofs.set_head.Reads as set-head-reads
+use Rattle.heads.proofs.set_head.Reads as set-head-reads
 use Rattle.merge.proofs.+collect.{statement}
 use Rattle.merge.proofs.+collect.Tie.{close}
 use Rattle.memory.proofs.At.{at-fits}
