@@ -33,7 +33,7 @@ use Rattle.tree.specs.Links.{matches, row-at}
 use Rattle.tree.proofs.After.{after-first}
 use Rattle.tree.proofs.Matches.{matches-none, matches-of, matches-increasing}
 use Rattle.names.specs.Entries.{Entry, entry-key, label-at, shown, outer, Asks}
-use Rattle.merge.specs.Lists.{TreePart, elements, HasPart, HasParts, more, match-lists-in, CollectedIn, Collected}
+use Rattle.collect.specs.Lists.{TreePart, elements, HasPart, HasParts, more, match-lists-in, CollectedIn, Collected}
 use Rattle.merge.specs.Stream.{later, run-at, CellOk, Starts, state, OneTree}
 use Rattle.merge.proofs.Cells.{branch-head, branch-few, stands}
 use Rattle.memory.specs.Sound.{At}

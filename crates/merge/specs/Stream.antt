@@ -22,7 +22,7 @@ use Rattle.heap.specs.Cells.{count, Rep}
 use Rattle.tree.specs.Links.{branches, matches, after, BranchOf}
 use Rattle.names.specs.Entries.{Entry, entry-key, shown, outer, Asks}
 use Rattle.names.specs.Entries.{LabelOk}
-use Rattle.merge.specs.Lists.{Full}
+use Rattle.collect.specs.Lists.{Full}
 use Rattle.merge.specs.declared.Start.{Start}
 use Rattle.merge.specs.declared.Cursor.{Cursor}
 use Rattle.merge.specs.declared.Taken.{Taken}
