@@ -1,5 +1,3 @@
-pub mod Compare
-pub mod Heads
 pub mod CellCounts
 pub mod HeapMerge
 pub mod HeapMergePairs

@@ -11,9 +11,9 @@ use Rattle.source.specs.Lists.{Run, run, add-priorities, run-cmp}
 use Rattle.source.specs.Forward.{heap-map, forest-map}
 use Rattle.source.proofs.Heap.{All, Allᶠ}
 use Rattle.source.specs.Shared.{Allˡ}
-use Rattle.heap.specs.Compare.{cell-cmp, Stands}
+use Rattle.heads.specs.Compare.{cell-cmp, Stands}
 use Rattle.heap.specs.Cells.{count, first-cells}
-use Rattle.heap.proofs.Compare.{cell-cmp-run}
+use Rattle.heads.proofs.Compare.{cell-cmp-run}
 use Rattle.heap.proofs.CellCounts.{all-counted, counted-all}
 use Rattle.heap.proofs.HeapMap.{map-insert, map-pairs, map-pop, map-from-list, map-same}
 

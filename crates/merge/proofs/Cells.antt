@@ -13,7 +13,7 @@ use Rattle.source.specs.Shared.{Allˡ}
 use Rattle.memory.specs.Layout.{Which, tree, key-at, list}
 use Rattle.memory.specs.Read.{TextIn}
 use Rattle.memory.proofs.Seen.{link-later}
-use Rattle.heap.specs.Compare.{Heads, Stands}
+use Rattle.heads.specs.Compare.{Heads, Stands}
 use Rattle.tree.specs.Tree.{AnyTree}
 use Rattle.tree.specs.Links.{matches, head0}
 use Rattle.tree.proofs.Branches.{text-in}
@@ -21,17 +21,12 @@ use Rattle.tree.specs.Links.{BranchOf}
 use Rattle.tree.proofs.After.{all-after, after-next}
 use Rattle.tree.proofs.Matches.{MatchOf, matches-of, matches-increasing}
 use Rattle.names.specs.Entries.{entry-key}
+use Rattle.collect.proofs.Collected.{no-match}
 use Rattle.merge.specs.Stream.{Merge, later, run-at, left, remaining, Holding}
 use Rattle.memory.specs.Sound.{At}
 use Rattle.memory.proofs.At.{at-of}
 
 -- ---- The next match
-
-module _ {ws txt : List ℕ} {w : Which} {v : Level} {root : ℕ} (t : At ws txt w (tree v) root) (p : Str) where
-  -- Where the first of some matches is none, there are none.
-  pub no-match : (l : List ℕ) → Allˡ (MatchOf ws txt w v root p) l → head0 l ≡ 0 → l ≡ []
-  no-match [] a e = refl
-  no-match (y ∷ l) a e = absurd (omega (arith, a .0 .branch .some))
 
 module _ {ws txt : List ℕ} {w : Which} {v : Level} {root : ℕ} (t : At ws txt w (tree v) root) (p : Str) (head : ℕ) where
   later-of : Allˡ (MatchOf ws txt w v root p) (later ws txt p root head)

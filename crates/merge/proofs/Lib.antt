@@ -1,7 +1,6 @@
 pub mod Cells
 pub mod Takes
 pub mod Steps
-pub mod Collected
 pub mod Starts
 pub mod OneTree
 pub mod Rest

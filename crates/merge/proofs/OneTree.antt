@@ -19,9 +19,9 @@ use Rattle.memory.proofs.Seen.{link-later}
 use Rattle.tree.specs.Links.{matches, row-at}
 use Rattle.names.proofs.Collections.{collection-right, sort-tree, names-reads}
 use Rattle.names.specs.Entries.{shown, outer, Asks}
-use Rattle.merge.specs.Lists.{SingleIn, Single}
+use Rattle.merge.specs.Single.{SingleIn, Single}
 use Rattle.merge.specs.Stream.{OneTree}
-use Rattle.merge.proofs.Collected.{term-rows}
+use Rattle.collect.proofs.Collected.{term-rows}
 use Rattle.memory.specs.Sound.{At}
 use Rattle.memory.proofs.At.{no-link, at-of}
 

@@ -17,11 +17,11 @@ use Rattle.source.proofs.Heap.{sum-merge, sum-pairs}
 use Rattle.source.specs.Forward.{popped}
 use Rattle.memory.specs.Layout.{Which, key-at}
 use Rattle.memory.specs.Read.{TextIn}
-use Rattle.heap.specs.Compare.{Heads, with-head, cell-cmp}
+use Rattle.heads.specs.Compare.{Heads, with-head, cell-cmp}
 use Rattle.heap.specs.Cells.{Root, is, count, Rep, Makes, Inserts, Pops}
 use Rattle.heap.specs.declared.Popped.the-variants.{Nothing, Least}
 use Rattle.heap.proofs.CellCounts.{root-in, rep-below, all-counted, is-self, is-other}
-use Rattle.heap.proofs.Heads.{head-length, own-head, other-head, head-begun}
+use Rattle.heads.proofs.Heads.{head-length, own-head, other-head, head-begun}
 use Rattle.heap.proofs.HeapMap.{map-same}
 use Rattle.heap.proofs.Rep.{stands-pairs, stands-insert}
 use Rattle.tree.specs.Tree.{AnyTree}

@@ -1,24 +1,25 @@
 // The branches of a list of collections that begin with a prefix, ascending, one of each key, the last holder's.
 // Each comes with the collection that has its outermost label, 0 for none.
+use collect::Labelled;
 use heap::Popped;
 use text::Order;
 ghost use mathlib.Core.Path.{_≡_};
-ghost use Prim.Native.Nat.{_+_, _<_, _≤_, _*_};
+ghost use Prim.Native.Nat.{_<_, _≤_, _*_};
 ghost use lib.ListN.{length};
 ghost use Rattle.source.specs.Lent.{old, new};
-ghost use Rattle.source.specs.Limits.{heaviest-list, record-words};
+ghost use Rattle.source.specs.Limits.{record-words};
 ghost use Rattle.source.specs.Shared.{same};
 ghost use Rattle.memory.specs.Layout.{key-at};
-ghost use Rattle.memory.specs.Stored.{weight-in};
 ghost use Rattle.tree.specs.Tree.{AnyTree};
 ghost use Rattle.names.specs.Names.{AnyList};
-ghost use Rattle.merge.specs.Lists.{Full, Collected, Single};
+ghost use Rattle.collect.specs.Lists.{Full};
+ghost use Rattle.merge.specs.Single.{Single};
 ghost use Rattle.merge.specs.Stream.{CellsReady, Takes, Begins, Stands, Steps};
 
 // The most trees of a list, whose weight is at most 96, and the size of their heads.
-pub const CELLS: usize = heap::CELLS;
+pub const CELLS: usize = heads::CELLS;
 
-pub const HEADS: usize = heap::HEADS;
+pub const HEADS: usize = heads::HEADS;
 
 // The heap at the start of a merge: its cells, each with a tree, its current branch and its label in lent arrays, how many they are, and its root.
 pub struct Start {
@@ -42,12 +43,6 @@ pub struct Taken {
     pub root: usize,
 }
 
-// A list, and the collection of the outermost label above it, 0 for none.
-struct Labelled {
-    list: u32,
-    label: u32,
-}
-
 // The root of the only tree of a list, 0 where it is not one tree.
 pub fn single(words: &[u32], list: u32) -> u32
     requires { ⌜ list * record-words ≤ length (now words) ⌝ }
@@ -63,57 +58,6 @@ pub fn single(words: &[u32], list: u32) -> u32
         return 0;
     }
     memory::own_of(words, list)
-}
-
-// The trees of a list that have a match, in flattened order, each with its first match and its outermost label, from the cell `at` on.
-// The answer is the cell after them. The calls go no deeper than the weight of the list.
-fn collect(
-    words: &[u32],
-    text: &[u8],
-    prefix: &[u8],
-    part: Labelled,
-    roots: &mut [u32; CELLS],
-    heads: &mut [u64; HEADS],
-    labels: &mut [u32; CELLS],
-    at: usize,
-) -> usize
-    requires { ⌜ AnyList (now words) (now text) (part .list) ⌝ }
-    requires { ⌜ at + weight-in (now words) (part .list) ≤ heaviest-list ⌝ }
-    requires { ⌜ Full (now roots) (now heads) (now labels) ⌝ }
-    ensures { λ r. ⌜ r ≤ at + weight-in (old words) (part .list) ⌝ }
-    ensures { λ r. ⌜ Collected (old words) (old text) (old prefix) (part .list) (part .label) at r (old roots) (old heads) (old labels) (new roots)
-        (new heads) (new labels) ⌝ }
-{
-    let list = part.list;
-    let label = part.label;
-    if list == 0 {
-        return at;
-    }
-    let own = memory::own_of(words, list);
-    let rest = Labelled {
-        list: memory::rest_of(words, list),
-        label: label,
-    };
-    if memory::sort_of(words, list) == memory::IMPORTED {
-        let mut outer = label;
-        if label == 0 {
-            outer = list;
-        }
-        let imported = Labelled {
-            list: own,
-            label: outer,
-        };
-        let mid = collect(words, text, prefix, imported, roots, heads, labels, at);
-        return collect(words, text, prefix, rest, roots, heads, labels, mid);
-    }
-    let first = successor::tree_first(words, text, own, prefix);
-    if first == 0 {
-        return collect(words, text, prefix, rest, roots, heads, labels, at);
-    }
-    roots[at] = own;
-    heap::set_head(words, text, heads, at, first);
-    labels[at] = label;
-    collect(words, text, prefix, rest, roots, heads, labels, at + 1)
 }
 
 // Whether two branches have the same key.
@@ -163,7 +107,7 @@ fn take(
                     root: rest,
                 };
             }
-            heap::set_head(words, text, heads, cell, after);
+            heads::set_head(words, text, heads, cell, after);
             let top = heap::heap_insert(child, next, words, text, heads, n, rest, cell);
             Taken {
                 cell: cell,
@@ -192,7 +136,7 @@ pub fn merge_start(
         list: list,
         label: 0,
     };
-    let n = collect(words, text, prefix, whole, roots, heads, labels, 0);
+    let n = collect::collect(words, text, prefix, whole, roots, heads, labels, 0);
     let cells = heap::heap_from_list(words, text, heads, n);
     let child = cells.child;
     let next = cells.next;

@@ -2,7 +2,7 @@
 use Prim.Native.Nat.{_-_}
 use native.Mathlib.Omega.{arith}
 use borrow.Author.Needs.{needs}
-use Rattle.heap.specs.Compare.{cell-cmp}
+use Rattle.heads.specs.Compare.{cell-cmp}
 use Rattle.heap.proofs.CellCounts.{root-in}
 use Rattle.heap.proofs.HeapPop.{Built, built-none, built-more, built-all}
 use Rattle.heap.proofs.heap_from_list.Statement.{statement}

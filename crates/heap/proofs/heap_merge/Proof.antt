@@ -1,6 +1,6 @@
 -- `heap::heap_merge` meets its contract.
 use native.Mathlib.Omega.{arith}
-use Rattle.heap.proofs.Compare.{is-lt-test}
+use Rattle.heads.proofs.Compare.{is-lt-test}
 use Rattle.heap.proofs.HeapMerge.{merge-none, merge-only, merge-first, merge-second}
 use Rattle.heap.proofs.heap_merge.Statement.{statement}
 use Rattle.heap.proofs.heap_merge.Tie as tie

@@ -3,7 +3,7 @@ use Prim.Native.Nat.{ℕ}
 use mathlib.Core.List.{List}
 use native.Mathlib.Omega.{arith}
 use Rattle.source.specs.Heap.{Heap, Forest, heap-merge-pairs}
-use Rattle.heap.specs.Compare.{cell-cmp}
+use Rattle.heads.specs.Compare.{cell-cmp}
 use Rattle.heap.specs.Cells.{Repᶠ}
 use Rattle.heap.proofs.CellCounts.{root-in}
 use Rattle.heap.proofs.HeapMergePairs.{siblings, some-siblings, Pairing, Merging, small, inside, after, none-paired, odd-one, pair-up, all-paired, merge-on, all-merged}

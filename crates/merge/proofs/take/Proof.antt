@@ -6,7 +6,7 @@ use Rattle.merge.proofs.Takes.{takes-none, Least-cell, cell-small, bran
 use Rattle.heap.proofs.heap_pop.Reads as heap-pop-reads
 use Rattle.heap.proofs.heap_insert.Reads as heap-insert-reads
 use Rattle.successor.proofs.tree_next.Reads as tree-next-reads
-use Rattle.heap.proofs.set_head.Reads as set-head-reads
+use Rattle.heads.proofs.set_head.Reads as set-head-reads
 use Rattle.merge.proofs.take.Reads as reads
 use Rattle.merge.proofs.take.Lts as lts
 use Rattle.merge.proofs.take.Statement.{statement}

@@ -1,13 +1,13 @@
--- `heap::priority_difference` meets its contract.
+-- `heads::priority_difference` meets its contract.
 use Prim.Native.Nat.{_-_}
 use mathlib.Core.Path.{_∙_}
 use native.Mathlib.Omega.{arith}
 use mir.Syntax.{w32}
 use mir.ValLaws.{toZ-ofZ}
-use Rattle.heap.proofs.Compare.{read-difference, difference-fits}
+use Rattle.heads.proofs.Compare.{read-difference, difference-fits}
 use borrow.Author.Needs.{needs}
-use Rattle.heap.proofs.priority_difference.Statement.{statement}
-use Rattle.heap.proofs.priority_difference.Tie as tie
+use Rattle.heads.proofs.priority_difference.Statement.{statement}
+use Rattle.heads.proofs.priority_difference.Tie as tie
 
 sub-result : tie.Need-sub-result
 sub-result c = search needs

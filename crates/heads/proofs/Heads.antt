@@ -8,7 +8,7 @@ use lib.ListN.{length, getD, set, length-set}
 use lib.Seq.{getD-set-same, getD-set-other}
 use Rattle.text.specs.Text.{beginning}
 use Rattle.memory.specs.Layout.{key-at}
-use Rattle.heap.specs.Compare.{Begun, with-head}
+use Rattle.heads.specs.Compare.{Begun, with-head}
 
 module _ (ws txt heads : List ℕ) (c x : ℕ) where
   abbrev b : ℕ

@@ -1,4 +1,4 @@
--- `merge::collect` meets its contract. Its calls of itself are measured by the stored weight of the list, which is at most 96.
+-- `collect::collect` meets its contract. Its calls of itself are measured by the stored weight of the list, which is at most 96.
 use Prim.Native.Nat.{ℕ, _<_}
 use mathlib.Core.Path.{_∙_}
 use mathlib.Core.Logic.{⊎-elim}
@@ -7,17 +7,17 @@ use borrow.Author.Needs.{needs}
 use borrow.Fn.Kinds.{In}
 use borrow.Fn.PlainCycle.{Measures, is, falls, and}
 use Rattle.memory.specs.Stored.{weight-in}
-use Rattle.merge.proofs.Collected.{outermost-none, outermost-some, Seen, seen-rest, rest-less, seen-list, both-less, seen-tree, first-in, collected-none, full-set, collected-imported, collected-skip, collected-cell}
-use Rattle.merge.proofs.collect.Reads as collect
-use Rattle.merge.proofs.collect.Kinds as kinds
-use Rattle.merge.proofs.+collect.Lts-collect as lts
+use Rattle.collect.proofs.Collected.{outermost-none, outermost-some, Seen, seen-rest, rest-less, seen-list, both-less, seen-tree, first-in, collected-none, full-set, collected-imported, collected-skip, collected-cell}
+use Rattle.collect.proofs.collect.Reads as collect
+use Rattle.collect.proofs.collect.Kinds as kinds
+use Rattle.collect.proofs.+collect.Lts-collect as lts
 use Rattle.memory.proofs.own_of.Reads as own-of-reads
 use Rattle.memory.proofs.rest_of.Reads as rest-of-reads
 use Rattle.memory.proofs.sort_of.Reads as sort-of-reads
 use Rattle.successor.proofs.tree_first.Reads as tree-first-reads
-use Rattle.heap.proofs.set_head.Reads as set-head-reads
-use Rattle.merge.proofs.+collect.{statement}
-use Rattle.merge.proofs.+collect.Tie.{close}
+use Rattle.heads.proofs.set_head.Reads as set-head-reads
+use Rattle.collect.proofs.+collect.{statement}
+use Rattle.collect.proofs.+collect.Tie.{close}
 use Rattle.memory.proofs.At.{at-fits}
 
 abbrev μ-collect : Measures 6 kinds.ps ℕ

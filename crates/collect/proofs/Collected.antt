@@ -16,6 +16,7 @@ use Rattle.source.specs.Terms.{weight}
 use Rattle.source.specs.Lists.{nonempty}
 use Rattle.source.specs.Listing.{SearchTerm, NSTPrefix, with-imports}
 use Rattle.source.specs.Table.{last-opt}
+use Rattle.source.specs.Shared.{Allˡ}
 use Rattle.source.specs.Forward.{tree-matches}
 use Rattle.source.proofs.Forward.{nonempty-append}
 use Rattle.source.specs.Forward.{flat-in}
@@ -25,18 +26,17 @@ use Rattle.memory.specs.Stored.{weight-in}
 use Rattle.memory.specs.Read.{TextIn}
 use Rattle.memory.proofs.What.{what-none}
 use Rattle.memory.proofs.Seen.{link-later}
-use Rattle.heap.specs.Compare.{with-head}
-use Rattle.heap.proofs.Heads.{head-length, own-head, other-head, other-beginning, head-begun}
+use Rattle.heads.specs.Compare.{with-head}
+use Rattle.heads.proofs.Heads.{head-length, own-head, other-head, other-beginning, head-begun}
 use Rattle.tree.specs.Tree.{AnyTree}
 use Rattle.tree.specs.Links.{matches, head0, row-at}
 use Rattle.tree.proofs.Branches.{text-in}
-use Rattle.tree.proofs.Matches.{matches-of, prefix-rows, all-rows}
+use Rattle.tree.proofs.Matches.{MatchOf, matches-of, prefix-rows, all-rows}
 use Rattle.names.specs.Names.{AnyList}
 use Rattle.names.proofs.Collections.{any-imported, any-own, collection-right, sort-tree, rest-list, own-tree, names-reads, imported-list, imported-reads, list-weight, rest-lighter}
 use Rattle.names.specs.Entries.{label-at, Asks, by-prefix, by-all}
 use Rattle.names.specs.Entries.{LabelOk}
-use Rattle.merge.specs.Lists.{TreePart, elements, Full, SameCell, HasParts, no-more, more, match-lists-in, CollectedIn, Collected}
-use Rattle.merge.proofs.Cells.{no-match}
+use Rattle.collect.specs.Lists.{TreePart, elements, Full, SameCell, HasParts, no-more, more, match-lists-in, CollectedIn, Collected}
 use Rattle.memory.specs.Sound.{At}
 use Rattle.memory.proofs.At.{at-of}
 
@@ -52,6 +52,12 @@ module _ {ws txt : List ℕ} {w : Which} {v : Level} {root : ℕ} (t : At ws txt
   unfolding tree-matches
   term-rows (by-prefix {p}) = rows-prefix p
   term-rows by-all = sym (all-rows t none)
+
+module _ {ws txt : List ℕ} {w : Which} {v : Level} {root : ℕ} (t : At ws txt w (tree v) root) (p : Str) where
+  -- Where the first of some matches is none, there are none.
+  pub no-match : (l : List ℕ) → Allˡ (MatchOf ws txt w v root p) l → head0 l ≡ 0 → l ≡ []
+  no-match [] a e = refl
+  no-match (y ∷ l) a e = absurd (omega (arith, a .0 .branch .some))
 
 head-tail : (l : List ℕ) (r : ℕ) → r ≡ head0 l → (r ≡ 0 → ⊥) → (tl : List ℕ) × (l ≡ r ∷ tl)
 head-tail [] r e n = absurd (n e)

@@ -22,7 +22,7 @@ use Rattle.text.specs.Text.{ordering}
 use Rattle.text.specs.declared.Order.{Order}
 use Rattle.text.proofs.Beginnings.{Bytes, Before, beginning-says}
 use Rattle.memory.specs.Layout.{record-at, text-start, text-len, span, key-at}
-use Rattle.heap.specs.Compare.{Heads, cell-cmp, sign, Stands}
+use Rattle.heads.specs.Compare.{Heads, cell-cmp, sign, Stands}
 
 -- ---- Signed differences of small numbers
 small : (n : ℕ) → n < 96 → toZ w32 n ≡ pos n

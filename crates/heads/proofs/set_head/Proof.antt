@@ -1,8 +1,8 @@
--- `heap::set_head` meets its contract.
+-- `heads::set_head` meets its contract.
 use borrow.Author.Needs.{needs}
-use Rattle.heap.specs.Compare.{with-head}
-use Rattle.heap.proofs.set_head.Statement.{statement}
-use Rattle.heap.proofs.set_head.Tie as tie
+use Rattle.heads.specs.Compare.{with-head}
+use Rattle.heads.proofs.set_head.Statement.{statement}
+use Rattle.heads.proofs.set_head.Tie as tie
 
 pub set-head-spec : {M : Type 1} → statement M
 unfolding with-head

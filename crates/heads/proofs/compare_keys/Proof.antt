@@ -1,9 +1,9 @@
--- `heap::compare_keys` meets its contract.
+-- `heads::compare_keys` meets its contract.
 use mathlib.Core.Path.{ap₂, _∙_}
 use Rattle.source.specs.Text as S
 use borrow.Author.Needs.{needs}
-use Rattle.heap.proofs.compare_keys.Statement.{statement}
-use Rattle.heap.proofs.compare_keys.Tie as tie
+use Rattle.heads.proofs.compare_keys.Statement.{statement}
+use Rattle.heads.proofs.compare_keys.Tie as tie
 
 pub compare-keys-spec : {M : Type 1} → statement M
 compare-keys-spec =

@@ -1,12 +1,12 @@
--- `heap::cell_cmp` meets its contract.
+-- `heads::cell_cmp` meets its contract.
 use mathlib.Core.Path.{_∙_}
 use native.Mathlib.Omega.{arith}
 use Rattle.source.specs.Text.{then}
 use Rattle.text.specs.declared.Order.the-variants.{Less, Same, More}
-use Rattle.heap.proofs.Compare.{by-beginning, by-key, by-priority}
+use Rattle.heads.proofs.Compare.{by-beginning, by-key, by-priority}
 use borrow.Author.Needs.{needs}
-use Rattle.heap.proofs.cell_cmp.Statement.{statement}
-use Rattle.heap.proofs.cell_cmp.Tie as tie
+use Rattle.heads.proofs.cell_cmp.Statement.{statement}
+use Rattle.heads.proofs.cell_cmp.Tie as tie
 
 add-p : tie.Need-add-p
 add-p c = search needs

@@ -6,7 +6,7 @@ use mathlib.Core.Option.{Option}
 use lib.ListN.{length, getD}
 use Rattle.source.specs.Limits.{heaviest-list}
 use Rattle.source.specs.Text.{Str}
-use Rattle.source.specs.Types.{Level, Value, []ᴺ, Names}
+use Rattle.source.specs.Types.{Level, Value}
 use Rattle.source.specs.Trees.{PathElem}
 use Rattle.source.specs.Lists.{nonempty}
 use Rattle.source.specs.Listing.{SearchTerm, with-imports}
@@ -15,7 +15,7 @@ use Rattle.source.specs.Forward.{tree-matches}
 use Rattle.source.specs.Forward.{flat-in}
 use Rattle.memory.specs.Layout.{Which, Item, tree, list, kind, what}
 use Rattle.memory.specs.Sound.{LinkOk, At}
-use Rattle.heap.specs.Compare.{Begun}
+use Rattle.heads.specs.Compare.{Begun}
 use Rattle.tree.specs.Links.{matches, row-at}
 use Rattle.names.specs.Entries.{label-at, Asks, LabelOk}
 
@@ -79,12 +79,3 @@ module _ (ws txt : List ℕ) (p : Str) (x label i r : ℕ) (roots heads labels r
     pub kept : (j : ℕ) → j < i → SameCell roots heads labels roots′ heads′ labels′ j
     pub says : (w : Which) (v : Level) (l : ℕ) (imports : List Str) → At ws txt w (list v) x → x ≤ l → LabelOk ws w v l label
         → label-at ws txt label ≡ last-opt imports → CollectedIn w v l imports
-
--- The tree of root r is all that the list x has.
-pub record SingleIn (ws txt : List ℕ) (w : Which) (v : Level) (x r : ℕ) : Type 0 where
-  pub link : LinkOk ws (x + 1) r (kind w (tree v))
-  pub reads : what w ws txt x (list v) ≡ Names (what w ws txt r (tree v)) []ᴺ
-
--- The same, where r is not 0, for any text, table and level that the list is of.
-abbrev pub Single : (ws : List ℕ) (x r : ℕ) → Type 0
-Single ws x r = (txt : List ℕ) (w : Which) (v : Level) → At ws txt w (list v) x → 0 < r → SingleIn ws txt w v x r
