@@ -1,8 +1,6 @@
 pub mod Goes
 pub mod Run
 pub mod Capped
-mod NoteAt
-mod Noted
 mod TextAt
 mod Lines
 mod Listed

@@ -26,15 +26,16 @@ use Rattle.output.specs.Path.{Path, BranchAt}
 use Rattle.lines.specs.OnPath.{OnPath}
 use Rattle.lines.specs.Lines.{Listed}
 use Rattle.output.specs.Parts.{candidate-of}
-use Rattle.lines.specs.Parts.{outermost, PutLine, symbol-at, kept}
+use Rattle.annotations.specs.Annotations.{outermost, symbol-at, kept}
+use Rattle.lines.specs.Parts.{PutLine}
 use Rattle.asks.specs.declared.Ask.{Ask}
-use Rattle.lines.specs.declared.Labelled.{Labelled}
+use Rattle.annotations.specs.declared.Labelled.{Labelled}
 use Rattle.asks.specs.declared.Ask.the-variants.{Names, Modules}
 use Rattle.output.specs.Run.{path-in, tally-in, job-in}
 use Rattle.lines.specs.SameRun.{SameRun}
 use Rattle.lines.proofs.Goes.{goes-none}
 use Rattle.lines.proofs.Run.{same-run}
-use Rattle.lines.proofs.Noted.{noted, noted-symbol}
+use Rattle.annotations.proofs.Noted.{noted, noted-symbol}
 
 -- What a found element of bindings and its path say of its line.
 record Element (ws txt : List ℕ) (w : Which) (p : Path) (branch label : ℕ) (path : PathOf) (x : PathElem × Value (Item w) bind) : Type 0 where

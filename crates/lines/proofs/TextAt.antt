@@ -18,9 +18,9 @@ use Rattle.lines.specs.OnPath.{LabelAt, PathOk}
 use Rattle.output.specs.Run.{path-in, job-in}
 use Rattle.lines.specs.Lines.{CanList}
 use Rattle.output.specs.Parts.{TextAt, PathAt, JobOk}
-use Rattle.lines.specs.Parts.{outermost}
+use Rattle.annotations.specs.Annotations.{outermost}
 use Rattle.asks.specs.declared.Ask.{Ask}
-use Rattle.lines.specs.declared.Labelled.{Labelled}
+use Rattle.annotations.specs.declared.Labelled.{Labelled}
 
 module _ {ws txt : List ℕ} {n used x k : ℕ} (o : Used ws txt n used) (i : LinkOk ws (n + 1) x k) (p : 0 < x) where
   text-at : {Rule : Str → Type 0} → TextOk Rule txt used (text-start (record-at ws x)) (text-len (record-at ws x))

@@ -19,7 +19,7 @@ use Rattle.lines.specs.Goes.{Result, Goes}
 use Rattle.output.specs.Run.{Small, path-in, tally-in, limits-in, matched-in}
 use Rattle.lines.specs.SameRun.{SameRun}
 use Rattle.asks.specs.declared.Ask.{Ask}
-use Rattle.lines.specs.declared.Labelled.{Labelled}
+use Rattle.annotations.specs.declared.Labelled.{Labelled}
 
 -- Lines alone.
 abbrev pub only : {A : Type 0} → List (Line A) → Result A

@@ -26,7 +26,7 @@ use Rattle.lines.specs.SameRun.{SamePath}
 use Rattle.lines.proofs.Run.{path-then, path-matched, tally-matched, tally-after, limits-after}
 use Rattle.lines.specs.Lines.{CanList, Listed}
 use Rattle.asks.specs.declared.Ask.{Ask}
-use Rattle.lines.specs.declared.Labelled.{Labelled}
+use Rattle.annotations.specs.declared.Labelled.{Labelled}
 use Rattle.steps.specs.Steps.{PathDown, Entered, PathSet, before-of, left}
 use Rattle.steps.specs.declared.Before.{Before}
 use Rattle.listing.specs.Runs.{level-of, BranchReady, BranchRuns, TrieReady, TrieRuns, BranchAsked, BranchListed, TrieAsked, TrieListed}

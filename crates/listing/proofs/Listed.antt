@@ -42,7 +42,7 @@ use Rattle.output.specs.Path.{Path, BranchAt}
 use Rattle.lines.specs.OnPath.{LabelAt}
 use Rattle.lines.specs.SameRun.{SameRun}
 use Rattle.asks.specs.declared.Ask.{Ask}
-use Rattle.lines.specs.declared.Labelled.{Labelled}
+use Rattle.annotations.specs.declared.Labelled.{Labelled}
 use Rattle.lines.proofs.Run.{same-run, same-then}
 use Rattle.listing.specs.Runs.{HasRoom, level-of, elements-give, tree-entries, BranchReady, BranchRuns, TreeReady, EntriesRun, ListReady, ListRuns, BranchAsked, BranchListed, TreeAsked, TreeListed, ListAsked, ListListed}
 use Rattle.listing.specs.declared.Search.{Search}

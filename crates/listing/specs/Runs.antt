@@ -27,7 +27,7 @@ use Rattle.output.specs.Run.{Tally, Limits, Small, path-in, tally-in, limits-in
 use Rattle.lines.specs.Lines.{only}
 use Rattle.lines.specs.SameRun.{SamePath, SameRun}
 use Rattle.asks.specs.declared.Ask.{Ask}
-use Rattle.lines.specs.declared.Labelled.{Labelled}
+use Rattle.annotations.specs.declared.Labelled.{Labelled}
 use Rattle.steps.specs.Steps.{Matching, MatchingOn}
 use Rattle.listing.specs.declared.Search.{Search}
 use Rattle.memory.specs.Sound.{At}

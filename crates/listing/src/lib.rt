@@ -1,8 +1,8 @@
 // The listing of a trie: bindings ascending, then each namespace ascending with its own listing.
 // One run serves counting and writing: a line is written where it fits what is lent, and counting lends nothing.
 // The calls go no deeper than six to a trie, and tries no deeper than 17.
+use annotations::Labelled;
 use asks::Ask;
-use lines::Labelled;
 use merge::Cursor;
 ghost use mathlib.Core.Bool.{true, false};
 ghost use Prim.Native.Nat.{_+_, _<_};

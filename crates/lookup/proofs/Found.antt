@@ -19,10 +19,10 @@ use Rattle.memory.specs.Read.{ReadTrie}
 use Rattle.memory.specs.declared.Trie as M
 use Rattle.memory.proofs.Seen.{link-later}
 use Rattle.names.specs.Names.{Holder}
-use Rattle.lookup.specs.Tries.{Reads, Scope, FindsExactIn}
+use Rattle.lookup.specs.Tries.{Scope, FindsExactIn}
 use Rattle.memory.proofs.Tries.{lists-seen, bindings-at, namespaces-at, bindings-read}
 use Rattle.lookup.proofs.Links.{scope-up}
-use Rattle.memory.specs.Sound.{At}
+use Rattle.memory.specs.Sound.{At, Reads}
 use Rattle.memory.proofs.At.{no-link, at-of}
 
 -- The walk stands at the trie of link, with the segments from at on before it, of which C holds.

@@ -10,7 +10,7 @@ use Rattle.source.specs.Types.{bind, ns, bindings, namespaces, trie-empty}
 use Rattle.source.specs.Tries.{dflt, scope-of}
 use Rattle.memory.specs.Layout.{record-at, Which, tree, list, trieˢ, kind, what, trie-link}
 use Rattle.memory.specs.Stored.{trie-in}
-use Rattle.memory.specs.Sound.{LinkOk, At}
+use Rattle.memory.specs.Sound.{LinkOk, At, Reads}
 use Rattle.memory.specs.Read.{ReadTrie}
 use Rattle.memory.specs.declared.Trie.{Trie}
 use Rattle.memory.proofs.What.{what-none}
@@ -19,7 +19,6 @@ use Rattle.memory.proofs.StoredSizes.{stored-none, stored-some}
 use Rattle.memory.proofs.Seen.{link-fits, link-ok, link-later}
 use Rattle.tree.specs.Tree.{held}
 use Rattle.names.specs.Names.{AnyList, HolderIn, Holder}
-use Rattle.lookup.specs.Tries.{Reads}
 use Rattle.memory.proofs.At.{no-link}
 use Rattle.memory.proofs.Tries.{lists-seen, bindings-at, namespaces-at, namespaces-read}
 

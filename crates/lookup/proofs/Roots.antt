@@ -4,9 +4,9 @@ use mathlib.Core.List.{List}
 use native.Mathlib.Omega.{arith}
 use Rattle.source.specs.Types.{Trie}
 use Rattle.memory.specs.Layout.{names, modules, trieˢ}
-use Rattle.lookup.specs.Tries.{AnyTrie, Reads}
+use Rattle.lookup.specs.Tries.{AnyTrie}
 use Rattle.memory.specs.declared.Header.{Header}
-use Rattle.memory.specs.Sound.{Sound, At}
+use Rattle.memory.specs.Sound.{Sound, At, Reads}
 use Rattle.memory.proofs.At.{at-of}
 
 module _ {ws txt : List ℕ} {h : Header} (o : Sound ws txt h) where

@@ -6,22 +6,17 @@ use mathlib.Core.List.{List}
 use mathlib.Core.Option.{none, some}
 use lib.Dec.{eqb}
 use Rattle.source.specs.Text.{Str, Query}
-use Rattle.source.specs.Types.{Trie, bind, ns}
+use Rattle.source.specs.Types.{bind, ns}
 use Rattle.source.specs.Tries.{trie-find-exact, scope-of, included}
 use Rattle.source.specs.Table.{ns-inserts}
-use Rattle.memory.specs.Layout.{pick, Which, modules, Item, tree, list, trieˢ, kind, what}
-use Rattle.memory.specs.Sound.{LinkOk, At}
+use Rattle.memory.specs.Layout.{pick, Which, modules, tree, list, trieˢ, kind, what}
+use Rattle.memory.specs.Sound.{LinkOk, At, Reads}
 use Rattle.tree.specs.Tree.{held}
 
 -- The same, of some table.
 pub record AnyTrie (ws txt : List ℕ) (x : ℕ) : Type 0 where
   pub which : Which
   pub trie : At ws txt which trieˢ x
-
--- The link r, no later than x, reads as the trie t.
-pub record Reads (ws txt : List ℕ) (w : Which) (x r : ℕ) (t : Trie (Item w)) : Type 0 where
-  pub link : LinkOk ws (x + 1) r (kind w trieˢ)
-  pub says : what w ws txt r trieˢ ≡ t
 
 -- The trie that namespaces_mutate goes on with.
 abbrev pub Scope : (ws txt : List ℕ) (x : ℕ) (s : Str) (r : ℕ) → Type 0

@@ -1,10 +1,10 @@
 -- What the links of a sound memory read as stays where only free text changes, and so does Sound.
-use Prim.Native.Nat.{ℕ, _+_, _≤_}
-use mathlib.Core.Path.{_≡_, refl, sym, _∙_}
+use Prim.Native.Nat.{ℕ, _+_, _≤_, _<_}
+use mathlib.Core.Path.{_≡_, refl, sym, ap, _∙_}
 use mathlib.Core.List.{List}
 use native.Mathlib.Omega.{arith}
-use lib.ListN.{length}
-use lib.Seq.{length-paste, take-length}
+use lib.ListN.{length, getD, take, set, length-set}
+use lib.Seq.{length-paste, take-length, take-take, take-set-le, getD-take}
 use Rattle.source.specs.Types.{Level, bind, ns}
 use Rattle.source.specs.Text.{Str}
 use Rattle.memory.specs.Layout.{record-at, word, span, Which, names, modules, item-of, Sort, tree, list, trieˢ, kind, row, what, table-of}
@@ -14,6 +14,19 @@ use Rattle.memory.proofs.Pasted.{part-stays, paste-front, paste-part}
 use Rattle.memory.proofs.What.{what-none, what-row}
 use Rattle.memory.proofs.RecordOk.{zero-one, as-earlier, as-map, by-links}
 use Rattle.memory.specs.declared.Header.{Header}
+
+-- Lists that keep a beginning.
+pub keeps-then : {m n : ℕ} {t t′ t″ : List ℕ} → m ≤ n → Keeps m t t′ → Keeps n t′ t″ → Keeps m t t″
+keeps-then {m} {n} {t′ = t′} {t″} h a b = record {
+  same = sym (take-take m n t″ h) ∙ ap (λ (l : List ℕ). take m l) (b .same) ∙ take-take m n t′ h ∙ a .same;
+  size = b .size ∙ a .size;
+}
+
+pub keeps-at : {n : ℕ} {t t′ : List ℕ} → Keeps n t t′ → (i : ℕ) → i < n → getD t′ i 0 ≡ getD t i 0
+keeps-at {n} {t} {t′} k i h = sym (getD-take n t′ i 0 h) ∙ ap (λ (l : List ℕ). getD l i 0) (k .same) ∙ getD-take n t i 0 h
+
+pub keeps-set : (t : List ℕ) {n i : ℕ} (a : ℕ) → n ≤ i → Keeps n t (set t i a)
+keeps-set t {n} {i} a h = record { same = take-set-le n t i a h; size = length-set t i a }
 
 -- A text put after the used ones.
 module _ (txt : List ℕ) (used : ℕ) (s : List ℕ) (room : used + length s ≤ length txt) where

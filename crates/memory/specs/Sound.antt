@@ -5,7 +5,7 @@ use mathlib.Core.Bool.{Bool, true, false}
 use mathlib.Core.List.{List}
 use lib.ListN.{length}
 use Rattle.source.specs.Text.{Str}
-use Rattle.source.specs.Types.{Level, NameList, bind, ns}
+use Rattle.source.specs.Types.{Level, Trie, NameList, bind, ns}
 use Rattle.source.specs.Terms.{weight, depth, depth-tree, depth-names}
 use Rattle.source.specs.Limits.{heaviest-list, deepest-trie, most-used, record-words}
 use Rattle.source.specs.Rules.{IsKey, IsLabel, IsFullName, IsPath, Ordered}
@@ -100,3 +100,8 @@ pub record At (ws txt : List ℕ) (w : Which) (s : Sort) (x : ℕ) : Type 0 wher
   pub used : ℕ
   pub sound : Used ws txt records used
   pub link : LinkOk ws (records + 1) x (kind w s)
+
+-- The link r, no later than x, reads as the trie t.
+pub record Reads (ws txt : List ℕ) (w : Which) (x r : ℕ) (t : Trie (Item w)) : Type 0 where
+  pub link : LinkOk ws (x + 1) r (kind w trieˢ)
+  pub says : what w ws txt r trieˢ ≡ t

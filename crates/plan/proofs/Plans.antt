@@ -1,13 +1,12 @@
 -- Planning: what each step of a path adds, and the plan of each call from the path to its host.
-use Prim.Native.Nat.{ℕ, suc, _+_, _*_, _-_, _≤_, _<_, max}
+use Prim.Native.Nat.{ℕ, suc, _+_, _-_, _≤_, _<_, max}
 use mathlib.Core.Path.{_≡_, refl, sym, ap, _∙_}
 use mathlib.Core.Bool.{Bool, true, false, _||_, or-false}
 use mathlib.Core.List.{List, [], _∷_}
 use native.Mathlib.Omega.{arith}
 use lib.Dec.{eqb, ltb}
 use borrow.Author.Tests.{eqb-true, eqb-false}
-use lib.ListN.{length, take, drop, set, length-drop, length-set}
-use lib.Seq.{getD-set-same, getD-set-other}
+use lib.ListN.{length, take, drop, length-drop}
 use Rattle.source.specs.Text.{Str, Query, segments, ends-in-dot}
 use Rattle.source.specs.Types.{Level, Value, Trie, NameList, bind, ns, item, []ᴺ, Names, ImportedNames, bindings, namespaces}
 use Rattle.source.specs.Tries.{names-insert, scope-of, included}
@@ -28,7 +27,8 @@ use Rattle.memory.specs.declared.Trie as M
 use Rattle.names.specs.Names.{AnyList, NamesPlaced, InsertIn}
 use Rattle.names.proofs.Collections.{list-weight}
 use Rattle.lookup.specs.Tries.{NsInserts}
-use Rattle.plan.proofs.Way.{keeps-then, keeps-set}
+use Rattle.way.specs.Way.{NotesStep, Leads}
+use Rattle.way.proofs.Way.{leads-step}
 use Rattle.plan.specs.Plans.{StepIn, Stepped, StepsDown, Path, Inserted, Planned}
 use Rattle.text.proofs.Texts.{part-is}
 use Rattle.text.specs.Text.{Segment}
@@ -66,24 +66,29 @@ module _ {ws txt : List ℕ} {w : Which} {x : ℕ} {p : M.Trie} {key : Str} {hol
   namespaces-builds z = rw (← namespaces-read t q) (z .inserts w ns (namespaces-at t q) .builds)
 
 -- ---- a path
-pub stepped : {ws txt : List ℕ} {w : Which} {x : ℕ} {p : M.Trie} {s : Str} {way : List ℕ} {steps holder count wt y : ℕ} → At ws txt w trieˢ x → ReadTrie ws x p
-    → NamesPlaced ws txt (p .namespaces) s holder count wt → y ≡ trie-in ws holder → 2 * steps + 3 ≤ length way
-    → StepIn ws txt w x s way (set (set way (2 * steps + 1) y) (2 * steps + 1 + 1) count) steps y (count + 2) (ltb 96 wt)
-stepped {ws} {txt} {w} {x} {s = s} {way} {steps} {count = count} {y = y} t q z e h =
+pub stepped : {ws txt : List ℕ} {w : Which} {x : ℕ} {p : M.Trie} {s : Str} {way way′ : List ℕ} {steps holder count wt y : ℕ} → At ws txt w trieˢ x → ReadTrie ws x p
+    → NamesPlaced ws txt (p .namespaces) s holder count wt → y ≡ trie-in ws holder → NotesStep way way′ steps y count → StepIn ws txt w x s way way′ steps y (count + 2) (ltb 96 wt)
+stepped {ws} {txt} {w} {x} {s = s} t q z e n =
     let a = namespaces-at t q in
     let i = z .inserts w ns a in
-    let j : 2 * steps + 1 + 1 ≡ 2 * steps + 2 = omega arith in
-    let one = set way (2 * steps + 1) y in
     record {
       next = scope-up t q s (holder-scope a (z .found w ns a) e);
       builds = rw (← namespaces-read t q) (omega (arith, placed-records i));
       small = omega (arith, z .small, lists-seen t q .namespaces .earlier, t .link .earlier, t .sound .few);
       weighs = rw (← namespaces-read t q, placed-weight i (what w ws txt x trieˢ));
-      kept = keeps-then (omega arith) (keeps-set way y (omega arith)) (keeps-set one {n = 2 * steps + 1 + 1} count (omega arith));
-      room = omega (arith, length-set way (2 * steps + 1) y, length-set one (2 * steps + 1 + 1) count);
-      link-noted = getD-set-other one (2 * steps + 1 + 1) (2 * steps + 1) count 0 (λ g. omega arith) ∙ getD-set-same way (2 * steps + 1) y 0 (omega arith);
-      count-noted = rw j (getD-set-same one (2 * steps + 2) count 0 (omega (arith, length-set way (2 * steps + 1) y))) ∙ namespaces-builds t q z;
+      noted = rw (namespaces-builds t q z) at n;
     }
+
+-- The way, as the loops cut a segment.
+module _ {ws txt : List ℕ} {w : Which} {root : ℕ} {q : Query} where
+  pub leads-next : {way way′ way″ : List ℕ} {steps x y at n a : ℕ} {b : Bool} {host : Str} → At ws txt w trieˢ x → Leads ws txt w root q way way′ steps x (segments (drop at host))
+      → Segment host at n → Stepped ws txt x (take (at + n - at) (drop at host)) way′ way″ steps y a b → Leads ws txt w root q way way″ (steps + 1) y (segments (drop (at + n + 1) host))
+  leads-next {at = at} {n} {host = host} t l c s =
+      let i = rw (part-is host at n) at (s w t) in
+      leads-step (rw (c .splits) at l) (i .next) (i .noted)
+
+  pub leads-end : {way way′ : List ℕ} {steps x at : ℕ} (host : Str) → Leads ws txt w root q way way′ steps x (segments (drop at host)) → length host ≤ at → Leads ws txt w root q way way′ steps x []
+  leads-end {at = at} host l h = rw (segments-end host at h) at l
 
 module _ {A : Type 0} {builds weighs : Trie A → Str → Query → ℕ} {tr : Trie A} {q : Query} where
   pub steps-first : StepsDown builds weighs tr q 0 0 false tr q

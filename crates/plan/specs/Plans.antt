@@ -4,7 +4,7 @@ use mathlib.Core.Path.{_≡_}
 use mathlib.Core.Bool.{Bool, cond, _||_}
 use mathlib.Core.List.{List, []}
 use lib.Dec.{ltb}
-use lib.ListN.{length, getD}
+use lib.ListN.{length}
 use Rattle.source.specs.Limits.{heaviest-list, deepest-trie}
 use Rattle.source.specs.Text.{Str, Query, segments}
 use Rattle.source.specs.Types.{Trie, bindings, namespaces}
@@ -14,12 +14,11 @@ use Rattle.source.specs.Calls.{Call, name, include, opens, alias, module-path, 
 use Rattle.source.specs.Plans.{host-of}
 use Rattle.source.specs.Plans.{along, inserted-records, inserted-weight, ins-inserts, step-records, step-weight, plan-depth, plan-crowded, plan-records, insert-branches, first-tree}
 use Rattle.memory.specs.Layout.{Which, names, modules, trieˢ, what}
-use Rattle.lookup.specs.Tries.{Reads}
 use Rattle.kinds.specs.declared.Form.{Form}
 use Rattle.kinds.specs.declared.Form.the-variants as form
 use Rattle.plan.specs.declared.Plan.{Plan}
-use Rattle.memory.specs.Sound.{At}
-use Rattle.memory.specs.Grown.{Keeps}
+use Rattle.memory.specs.Sound.{At, Reads}
+use Rattle.way.specs.Way.{NotesStep}
 
 -- One step: the trie that it goes to, the records, whether the new list weighs over 96, and what is noted of it after steps others.
 pub record StepIn (ws txt : List ℕ) (w : Which) (x : ℕ) (s : Str) (way way′ : List ℕ) (steps link records : ℕ) (crowded : Bool) : Type 0 where
@@ -27,10 +26,7 @@ pub record StepIn (ws txt : List ℕ) (w : Which) (x : ℕ) (s : Str) (way way�
   pub builds : records ≡ suc (inserted-records (namespaces (what w ws txt x trieˢ)) s)
   pub small : records ≤ 70000
   pub weighs : crowded ≡ ltb heaviest-list (inserted-weight (namespaces (what w ws txt x trieˢ)))
-  pub kept : Keeps (2 * steps + 1) way way′
-  pub room : 2 * steps + 3 ≤ length way′
-  pub link-noted : getD way′ (2 * steps + 1) 0 ≡ link
-  pub count-noted : getD way′ (2 * steps + 2) 0 ≡ insert-branches (first-tree (namespaces (what w ws txt x trieˢ))) s
+  pub noted : NotesStep way way′ steps link (insert-branches (first-tree (namespaces (what w ws txt x trieˢ))) s)
 
 -- The same, for any table that the trie is of.
 abbrev pub Stepped : (ws txt : List ℕ) (x : ℕ) (s : Str) (way way′ : List ℕ) (steps link records : ℕ) (crowded : Bool) → Type 0

@@ -2,6 +2,7 @@
 // It goes down the host's path and reads what stands there; what the change will need of it is noted in an array, the way.
 use kinds::Kind;
 use memory::Header;
+use way::WAY;
 ghost use mathlib.Core.Path.{_≡_};
 ghost use mathlib.Core.Bool.{true};
 ghost use mathlib.Core.List.{[]};
@@ -15,12 +16,7 @@ ghost use Rattle.memory.specs.Layout.{names, modules, trieˢ, table-of};
 ghost use Rattle.memory.specs.Sound.{Sound, At};
 ghost use Rattle.lookup.specs.Tries.{AnyTrie};
 ghost use Rattle.plan.specs.Plans.{Stepped, Inserted, Path, Planned, Carries, NamePlanned, IncludePlanned, OpenPlanned, AliasPlanned, ModulePlanned};
-ghost use Rattle.plan.specs.Way.{way-size, Leads, NameNoted, AliasNoted, PathNoted, WayNoted};
-
-// The size of a way: first the included trie, 0 for none; then for each segment of the host, of 17 at most, the trie below it
-// and how many branches the insertion of the segment builds; last a number of no account and how many branches the insertion
-// at the host itself builds (the id of a name into its bindings, the key of an alias into its namespaces; of no account for the others).
-pub const WAY: usize = 37;
+ghost use Rattle.way.specs.Way.{way-size, Leads, NameNoted, AliasNoted, PathNoted, WayNoted};
 
 // One step down the path of a host: the trie that it goes to, the records that it builds, whether its new list weighs over 96.
 struct StepDown {
@@ -44,9 +40,7 @@ fn plan_step(
     let t = memory::trie_of(words, trie);
     let p = names::names_place(words, text, t.namespaces, s);
     let link = memory::trie_held(words, p.holder);
-    let at = 2 * steps as usize + 1;
-    way[at] = link;
-    way[at + 1] = p.count;
+    way::note_step(way, steps, link, p.count);
     StepDown {
         link: link,
         records: p.count + 2,
@@ -114,7 +108,7 @@ fn plan_name(
     let p = plan_path(words, text, root, host, way);
     let t = memory::trie_of(words, p.link);
     let b = names::names_place(words, text, t.bindings, id);
-    way[2 * p.segments as usize + 2] = b.count;
+    way::note_host(way, p.segments, b.count);
     Plan {
         records: p.records + (b.count + 2),
         crowded: p.crowded | (memory::HEAVIEST < b.weight),
@@ -193,7 +187,7 @@ fn plan_alias(
     let t = memory::trie_of(words, p.link);
     let i = memory::trie_of(words, inc);
     let a = names::names_place(words, text, t.namespaces, key);
-    way[2 * p.segments as usize + 2] = a.count;
+    way::note_host(way, p.segments, a.count);
     let weight = memory::weight_of(words, i.bindings) + 1;
     Plan {
         records: p.records + (a.count + 4),

@@ -26,7 +26,7 @@ use Rattle.kinds.specs.declared.Kind.{Kind}
 use Rattle.kinds.specs.declared.Form.{Form}
 use Rattle.kinds.specs.declared.Form.the-variants as form
 use Rattle.plan.specs.Plans.{Carries}
-use Rattle.plan.specs.Way.{which-by, root-at, Way}
+use Rattle.way.specs.Way.{which-by, root-at, Way}
 use Rattle.leaves.specs.Leaves.{which-of, Builds}
 use Rattle.change.specs.Changes.{mutated, descent, Mutation, TrieWay, Mutated}
 use Rattle.leaves.specs.declared.Change.{Change}

@@ -24,7 +24,7 @@ use Rattle.kinds.specs.Shapes.{shape-of, call-of}
 use Rattle.kinds.specs.declared.Kind.{Kind}
 use Rattle.kinds.specs.declared.Kind.the-variants.{Name, Include, Open, Alias, Module}
 use Rattle.plan.specs.Plans.{Carries}
-use Rattle.plan.specs.Way.{which-by, root-at}
+use Rattle.way.specs.Way.{which-by, root-at}
 use Rattle.leaves.specs.Leaves.{which-of, label-in, ChangeOk}
 use Rattle.change.specs.Changes.{between, mutated, descent, Mutation}
 use Rattle.leaves.specs.declared.Change.{Change}

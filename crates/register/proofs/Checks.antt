@@ -27,7 +27,7 @@ use Rattle.kinds.specs.declared.Form.the-variants as form
 use Rattle.kinds.proofs.Shapes.{arguments-of, taken-is}
 use Rattle.memory.specs.Grown as Grown
 use Rattle.plan.specs.Plans.{Planned}
-use Rattle.plan.proofs.Way.{keeps-at}
+use Rattle.memory.proofs.Keeps.{keeps-at}
 use Rattle.plan.specs.declared.Plan.{Plan}
 use Rattle.register.specs.Checks.{NoKey, Ready}
 

@@ -8,7 +8,7 @@ use lib.Seq.{drop-drop, drop-paste}
 use Rattle.source.specs.Text.{Str}
 use Rattle.memory.specs.Grown.{put-text}
 use Rattle.memory.proofs.Keeps.{put-text-keeps, put-text-span, span-keeps}
-use Rattle.plan.proofs.Way.{keeps-then}
+use Rattle.memory.proofs.Keeps.{keeps-then}
 use Rattle.register.specs.Writes.{TextsLaid}
 
 put-text-beyond : (t : List ℕ) (at : ℕ) (s : Str) (m : ℕ) → at + length s ≤ length t → drop (at + length s + m) (put-text t at s) ≡ drop (at + length s + m) t

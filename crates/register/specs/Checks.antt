@@ -16,7 +16,7 @@ use Rattle.memory.specs.declared.Header.{Header}
 use Rattle.kinds.specs.Shapes.{shape-of, used-key, call-of, other-argument, key-argument}
 use Rattle.kinds.specs.declared.Kind.{Kind}
 use Rattle.plan.specs.Plans.{Carries}
-use Rattle.plan.specs.Way.{which-by, root-at, way-size, Way}
+use Rattle.way.specs.Way.{which-by, root-at, way-size, Way}
 use Rattle.register.specs.declared.Checked.{Checked}
 use Rattle.register.specs.declared.Checked.the-variants.{Passed, Refused}
 

@@ -23,12 +23,12 @@ ghost use Rattle.memory.specs.Layout.{names, trieˢ, state-of};
 ghost use Rattle.memory.specs.Sound.{Sound, At};
 ghost use Rattle.kinds.specs.Shapes.{call-of, argument-as};
 ghost use Rattle.plan.specs.Plans.{Carries};
-ghost use Rattle.plan.specs.Way.{which-by, root-at, way-size};
+ghost use Rattle.way.specs.Way.{which-by, root-at, way-size};
 ghost use Rattle.register.specs.Checks.{NoKey, Passes, Checks};
 ghost use Rattle.register.specs.Writes.{TextsLaid, with-root, Accepts};
 
 // The size of the array that a check notes the way of a registration in, for its writing.
-pub const WAY: usize = plan::WAY;
+pub const WAY: usize = way::WAY;
 
 // Whether a registration passes every row.
 pub enum Checked {

@@ -27,7 +27,7 @@ use Rattle.names.specs.Entries.{label-at, shown, outer}
 use Rattle.output.specs.Path.{Path, joined, BranchAt}
 use Rattle.lines.specs.OnPath.{LabelAt, PathOk, OnPath}
 use Rattle.lines.proofs.Run.{joined-same}
-use Rattle.lines.specs.declared.Labelled.{Labelled}
+use Rattle.annotations.specs.declared.Labelled.{Labelled}
 use Rattle.steps.specs.Steps.{PathDown, Entered, PathSet}
 use Rattle.memory.proofs.At.{at-fits}
 

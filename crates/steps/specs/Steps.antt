@@ -20,7 +20,7 @@ use Rattle.names.specs.Entries.{Asks}
 use Rattle.output.specs.Path.{Path}
 use Rattle.lines.specs.Goes.{Past}
 use Rattle.output.specs.Run.{path-in, limits-in, matched-in}
-use Rattle.lines.specs.declared.Labelled.{Labelled}
+use Rattle.annotations.specs.declared.Labelled.{Labelled}
 use Rattle.steps.specs.declared.Before.{Before}
 use Rattle.steps.specs.declared.Cut.{Cut}
 

@@ -1,5 +1,5 @@
 // The steps between two lists of a run: the cut of the query, the limits, the path.
-use lines::Labelled;
+use annotations::Labelled;
 ghost use mathlib.Core.Path.{_≡_};
 ghost use mathlib.Core.Bool.{true};
 ghost use Prim.Native.Nat.{_+_, _*_, _≤_, _<_};

@@ -3,7 +3,7 @@ use mathlib.Core.Path.{sym, _∙_}
 use borrow.Author.Tests.{not-true, not-false}
 use Rattle.source.specs.Table.{mod-annotation}
 use Rattle.lines.proofs.TextAt.{job-ok, outermost-text}
-use Rattle.lines.proofs.Noted.{noted-short}
+use Rattle.annotations.proofs.Noted.{noted-short}
 use Rattle.lines.proofs.Listed.{listed-none, listed-one}
 use Rattle.lines.proofs.line.Statement.{statement}
 use Rattle.lines.proofs.line.Tie as tie

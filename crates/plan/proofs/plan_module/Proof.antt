@@ -5,11 +5,11 @@ use Rattle.source.specs.Text.{segments}
 use Rattle.source.specs.Plans.{module-step-records, module-step-weight}
 use Rattle.memory.specs.Layout.{modules, trieˢ, what}
 use Rattle.plan.specs.Plans.{StepsDown}
-use Rattle.plan.specs.Way.{Leads}
-use Rattle.plan.proofs.Way.{leads-first, leads-next, leads-end, noted-path}
+use Rattle.way.specs.Way.{Leads}
+use Rattle.way.proofs.Way.{leads-first, noted-path}
 use Rattle.kinds.specs.declared.Kind.the-variants.{Module}
 use Rattle.lookup.proofs.Found.{Stands, stands-first, stands-last}
-use Rattle.plan.proofs.Plans.{steps-first, path-few, module-path-next, module-planned}
+use Rattle.plan.proofs.Plans.{steps-first, leads-next, leads-end, path-few, module-path-next, module-planned}
 use native.Mathlib.Omega.{arith}
 use borrow.Author.Needs.{needs}
 use Rattle.plan.proofs.plan_module.Statement.{statement}

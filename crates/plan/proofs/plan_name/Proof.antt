@@ -1,7 +1,7 @@
 -- plan_name meets its contract.
 use Rattle.lookup.proofs.Links.{any-bindings}
 use Rattle.plan.proofs.Plans.{placed-small, bindings-builds, name-planned}
-use Rattle.plan.proofs.Way.{noted-count}
+use Rattle.way.proofs.Way.{noted-count}
 use Rattle.kinds.specs.declared.Kind.the-variants.{Name}
 use native.Mathlib.Omega.{arith}
 use borrow.Author.Needs.{needs}
@@ -19,19 +19,11 @@ plan-name-spec =
     (λ c κs. at-fits (c .plan-path .ensures .0 .here))
     {- names-place-requires -}
     (λ c κs. any-bindings (c .before .plan-path .ensures .0 .here) (c .trie-of .ensures))
-    {- cast-way -}
-    (λ c. search needs)
-    {- mul-way -}
-    (λ c. omega (arith, c .before .before .before .plan-path .ensures .0 .few))
-    {- add-way -}
-    (λ c. omega (arith, c .before .before .before .plan-path .ensures .0 .few))
-    {- mul-way-2 -}
-    (λ c. omega (arith, c .before .before .before .plan-path .ensures .0 .few))
-    {- element-write-way -}
-    (λ c. omega (arith, c .before .before .before .plan-path .ensures .0 .few))
-    {- add-t17 -}
-    (λ c. omega (arith, placed-small (any-bindings (c .before .before .before .before .plan-path .ensures .0 .here) (c .before .before .before .trie-of .ensures)) (c .before .before .names-place .ensures)))
-    {- add-t18 -}
-    (λ c. omega (arith, placed-small (any-bindings (c .before .before .before .before .before .plan-path .ensures .0 .here) (c .before .before .before .before .trie-of .ensures)) (c .before .before .before .names-place .ensures), c .before .before .before .before .before .plan-path .ensures .0 .few, c .before .before .before .before .before .plan-path .ensures .0 .gives .small))
+    {- note-host-requires -}
+    (λ c κs. (c .before .before .before .plan-path .ensures .0 .few, omega (arith, c .before .before .before .plan-path .ensures .1 .kept .size, c .before .before .before .before .before .before .before .before .before .pre .1 .2)))
+    {- add-t13 -}
+    (λ c. omega (arith, placed-small (any-bindings (c .before .before .before .before .before .plan-path .ensures .0 .here) (c .before .before .before .before .trie-of .ensures)) (c .before .before .before .names-place .ensures)))
+    {- add-t14 -}
+    (λ c. omega (arith, placed-small (any-bindings (c .before .before .before .before .before .before .plan-path .ensures .0 .here) (c .before .before .before .before .before .trie-of .ensures)) (c .before .before .before .before .names-place .ensures), c .before .before .before .before .before .before .plan-path .ensures .0 .few, c .before .before .before .before .before .before .plan-path .ensures .0 .gives .small))
     {- returns -}
-    (λ c. (λ tbl number e. name-planned _ (c .before .before .before .before .before .before .before .before .plan-path .ensures .0) (c .before .before .before .before .before .before .before .trie-of .ensures) tbl e number (c .before .before .before .before .before .before .names-place .ensures), λ number key. noted-count (c .before .before .before .before .before .before .before .before .plan-path .ensures .1) (omega (arith, c .before .before .before .before .before .before .before .before .plan-path .ensures .0 .few, c .before .before .before .before .before .before .before .before .plan-path .ensures .1 .kept .size, c .before .before .before .before .before .before .before .before .before .before .before .before .before .before .pre .1 .2)) (Name number) (c .before .before .before .before .before .before .before .before .before .before .before .before .before .before .args .id .now) key _ (bindings-builds (c .before .before .before .before .before .before .before .before .plan-path .ensures .0 .here) (c .before .before .before .before .before .before .before .trie-of .ensures) (c .before .before .before .before .before .before .names-place .ensures)))))
+    (λ c. (λ tbl number e. name-planned _ (c .before .before .before .before .before .before .before .before .before .plan-path .ensures .0) (c .before .before .before .before .before .before .before .before .trie-of .ensures) tbl e number (c .before .before .before .before .before .before .before .names-place .ensures), λ number key. noted-count (c .before .before .before .before .before .before .before .before .before .plan-path .ensures .1) (omega (arith, c .before .before .before .before .before .before .before .before .before .plan-path .ensures .0 .few, c .before .before .before .before .before .before .before .before .before .plan-path .ensures .1 .kept .size, c .before .before .before .before .before .before .before .before .before .before .before .before .before .before .before .pre .1 .2)) (Name number) (c .before .before .before .before .before .before .before .before .before .before .before .before .before .before .before .args .id .now) key (c .before .before .before .before .before .note-host .ensures) (bindings-builds (c .before .before .before .before .before .before .before .before .before .plan-path .ensures .0 .here) (c .before .before .before .before .before .before .before .before .trie-of .ensures) (c .before .before .before .before .before .before .before .names-place .ensures)))))

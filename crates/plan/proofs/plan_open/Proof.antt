@@ -2,7 +2,7 @@
 use Rattle.names.proofs.Collections.{list-light}
 use Rattle.memory.proofs.Tries.{namespaces-at, lists-seen, trie-shallow}
 use Rattle.plan.proofs.Plans.{open-planned}
-use Rattle.plan.proofs.Way.{noted-path}
+use Rattle.way.proofs.Way.{noted-path}
 use Rattle.kinds.specs.declared.Kind.the-variants.{Open}
 use native.Mathlib.Omega.{arith}
 use borrow.Author.Needs.{needs}

@@ -5,10 +5,10 @@ use Rattle.source.specs.Text.{segments}
 use Rattle.source.specs.Plans.{step-records, step-weight}
 use Rattle.memory.specs.Layout.{names, trieˢ, what}
 use Rattle.plan.specs.Plans.{StepsDown}
-use Rattle.plan.specs.Way.{Leads}
-use Rattle.plan.proofs.Way.{leads-first, leads-next, leads-end}
+use Rattle.way.specs.Way.{Leads}
+use Rattle.way.proofs.Way.{leads-first}
 use Rattle.lookup.proofs.Found.{Stands, stands-first}
-use Rattle.plan.proofs.Plans.{steps-first, path-next, path-few, path-last}
+use Rattle.plan.proofs.Plans.{steps-first, leads-next, leads-end, path-next, path-few, path-last}
 use native.Mathlib.Omega.{arith}
 use borrow.Author.Needs.{needs}
 use Rattle.plan.proofs.plan_path.Statement.{statement}

@@ -16,21 +16,9 @@ plan-step-spec =
     (λ c κs. any-namespaces (c .before .before .before .before .pre .0 .trie) (c .trie-of .ensures))
     {- trie-held-requires -}
     (λ c κs. omega (arith, holder-fits (any-namespaces (c .before .before .before .before .before .pre .0 .trie) (c .before .trie-of .ensures)) (c .names-place .ensures .found)))
-    {- mul-at -}
-    (λ c. omega (arith, c .before .before .before .before .before .before .pre .1))
-    {- add-at -}
-    (λ c. omega (arith, c .before .before .before .before .before .before .pre .1))
-    {- mul-way -}
-    (λ c. omega (arith, c .before .before .before .before .before .before .pre .1))
-    {- element-write-way -}
-    (λ c. omega (arith, c .before .before .before .before .before .before .pre .1))
-    {- add-way -}
-    (λ c. omega (arith, c .before .before .before .before .before .before .pre .1))
-    {- mul-way-2 -}
-    (λ c. omega (arith, c .before .before .before .before .before .before .pre .1))
-    {- element-write-way-2 -}
-    (λ c. omega (arith, c .before .before .before .before .before .before .pre .1))
-    {- add-t17 -}
-    (λ c. omega (arith, placed-small (any-namespaces (c .before .before .before .before .before .before .before .pre .0 .trie) (c .before .before .before .trie-of .ensures)) (c .before .before .names-place .ensures)))
+    {- note-step-requires -}
+    (λ c κs. (c .before .before .before .before .before .before .before .pre .1, c .before .before .before .before .before .before .before .pre .2))
+    {- add-t12 -}
+    (λ c. omega (arith, placed-small (any-namespaces (c .before .before .before .before .before .before .before .before .before .pre .0 .trie) (c .before .before .before .before .before .trie-of .ensures)) (c .before .before .before .before .names-place .ensures)))
     {- returns -}
-    (λ c w t. stepped t (c .before .before .before .before .trie-of .ensures) (c .before .before .before .names-place .ensures) (c .before .before .trie-held .ensures) (omega (arith, c .before .before .before .before .before .before .before .before .pre .1))))
+    (λ c w t. stepped t (c .before .before .before .before .before .before .trie-of .ensures) (c .before .before .before .before .before .names-place .ensures) (c .before .before .before .before .trie-held .ensures) (c .before .before .note-step .ensures)))

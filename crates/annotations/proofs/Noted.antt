@@ -16,9 +16,9 @@ use Rattle.memory.proofs.Seen.{symbol-item}
 use Rattle.asks.specs.declared.Ask.{Ask}
 use Rattle.asks.specs.declared.Ask.the-variants.{Names, Modules}
 use Rattle.output.specs.Parts.{TextAt}
-use Rattle.lines.specs.Parts.{symbol-at, by-symbol, annotation}
-use Rattle.lines.specs.declared.Labelled.{Labelled}
-use Rattle.lines.proofs.NoteAt.{note-short}
+use Rattle.annotations.specs.Annotations.{symbol-at, by-symbol, annotation}
+use Rattle.annotations.specs.declared.Labelled.{Labelled}
+use Rattle.annotations.proofs.NoteAt.{note-short}
 
 pub module-at : (ws txt : List ℕ) (branch : ℕ) {x : Read} {name path : Span} {loaded : Bool} → x ≡ symbol-in (record-at ws branch) → x ≡ ReadModule name path loaded
     → symbol-at ws txt branch ≡ Module (text-of txt name) (text-of txt path) loaded

@@ -9,7 +9,7 @@ use borrow.Author.Tests.{ne-eqb}
 use Rattle.source.specs.Tries.{dflt}
 use Rattle.memory.specs.Layout.{key-at}
 use Rattle.output.specs.Parts.{TextAt}
-use Rattle.lines.specs.Parts.{note-at}
+use Rattle.annotations.specs.Annotations.{note-at}
 
 module _ (ws txt : List ℕ) (label : ℕ) where
   pub note-none : label ≡ 0 → note-at ws txt label ≡ []

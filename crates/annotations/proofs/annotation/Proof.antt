@@ -1,7 +1,7 @@
--- `lines::annotation` meets its contract.
-use Rattle.lines.proofs.Noted.{module-at, namespace-at}
-use Rattle.lines.proofs.annotation.Statement.{statement}
-use Rattle.lines.proofs.annotation.Tie as tie
+-- `annotations::annotation` meets its contract.
+use Rattle.annotations.proofs.Noted.{module-at, namespace-at}
+use Rattle.annotations.proofs.annotation.Statement.{statement}
+use Rattle.annotations.proofs.annotation.Tie as tie
 use borrow.Author.Needs.{needs}
 
 pub annotation-spec : {M : Type 1} → statement M

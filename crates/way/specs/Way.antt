@@ -15,7 +15,7 @@ use Rattle.kinds.specs.declared.Form.{Form}
 use Rattle.kinds.specs.declared.Form.the-variants as form
 use Rattle.kinds.specs.declared.Kind.{Kind}
 use Rattle.kinds.specs.declared.Kind.the-variants.{Name, Include, Open, Alias, Module}
-use Rattle.lookup.specs.Tries.{Reads}
+use Rattle.memory.specs.Sound.{Reads}
 
 -- The table that a form changes.
 abbrev pub which-by : Form → Which
@@ -55,6 +55,18 @@ module _ (ws txt : List ℕ) (w : Which) (k : Kind) (other key : Str) where
   Way way x (s ∷ q) = StepNoted ws txt w x (namespaces (what w ws txt x trieˢ)) s way × Way (drop 2 way) (getD way 0 0) q
 
 -- ---- What planning notes
+
+-- A step after steps others is noted, the trie link and count after it; what stands before is kept.
+pub record NotesStep (way way′ : List ℕ) (steps link count : ℕ) : Type 0 where
+  pub kept : Keeps (2 * steps + 1) way way′
+  pub room : 2 * steps + 3 ≤ length way′
+  pub link-noted : getD way′ (2 * steps + 1) 0 ≡ link
+  pub count-noted : getD way′ (2 * steps + 2) 0 ≡ count
+
+-- The count at the host, after its steps.
+pub record NotesHost (way way′ : List ℕ) (steps count : ℕ) : Type 0 where
+  pub kept : Keeps (2 * steps + 1) way way′
+  pub count-noted : getD way′ (2 * steps + 2) 0 ≡ count
 
 -- After some steps of the query q from the root, down to the trie x with the segments rest left: the included trie is noted as it was,
 -- and whatever is noted from here on, a way from here is a way from the root.

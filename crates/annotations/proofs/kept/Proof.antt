@@ -1,8 +1,8 @@
--- `lines::kept` meets its contract.
+-- `annotations::kept` meets its contract.
 use mathlib.Core.List.{[]}
-use Rattle.lines.proofs.Noted.{module-at, namespace-at}
-use Rattle.lines.proofs.kept.Statement.{statement}
-use Rattle.lines.proofs.kept.Tie as tie
+use Rattle.annotations.proofs.Noted.{module-at, namespace-at}
+use Rattle.annotations.proofs.kept.Statement.{statement}
+use Rattle.annotations.proofs.kept.Tie as tie
 use borrow.Author.Needs.{needs}
 
 pub kept-spec : {M : Type 1} → statement M

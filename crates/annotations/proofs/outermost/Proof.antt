@@ -1,8 +1,8 @@
--- `lines::outermost` meets its contract.
+-- `annotations::outermost` meets its contract.
 use borrow.Author.Needs.{needs}
 use borrow.Author.Tests.{ne-eqb}
-use Rattle.lines.proofs.outermost.Statement.{statement}
-use Rattle.lines.proofs.outermost.Tie as tie
+use Rattle.annotations.proofs.outermost.Statement.{statement}
+use Rattle.annotations.proofs.outermost.Tie as tie
 
 pub outermost-spec : {M : Type 1} → statement M
 outermost-spec =

@@ -1,10 +1,10 @@
--- `lines::note_of` meets its contract.
+-- `annotations::note_of` meets its contract.
 use mathlib.Core.Path.{_∙_, sym}
 use native.Mathlib.Omega.{arith}
 use borrow.Author.Needs.{needs}
-use Rattle.lines.proofs.NoteAt.{note-none, note-some}
-use Rattle.lines.proofs.note_of.Statement.{statement}
-use Rattle.lines.proofs.note_of.Tie as tie
+use Rattle.annotations.proofs.NoteAt.{note-none, note-some}
+use Rattle.annotations.proofs.note_of.Statement.{statement}
+use Rattle.annotations.proofs.note_of.Tie as tie
 
 pub note-of-spec : {M : Type 1} → statement M
 note-of-spec =

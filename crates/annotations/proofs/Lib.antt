@@ -1,0 +1,2 @@
+mod NoteAt
+pub mod Noted
