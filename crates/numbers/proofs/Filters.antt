@@ -8,9 +8,9 @@ use lib.Dec.{ltb}
 use borrow.Author.Tests.{le-ltb}
 use Rattle.asks.specs.declared.Ask.the-variants.{Modules}
 use Rattle.asks.specs.declared.Filter.the-variants.{NamespacesOnly}
-use Rattle.numbers.specs.Filters.{modules-for, asks}
+use Rattle.numbers.specs.Filters.{modules-for, is-asked}
 
-pub filter-test : (n : ℕ) → ltb n 4 ≡ asks (modules-for n)
+pub filter-test : (n : ℕ) → ltb n 4 ≡ is-asked (modules-for n)
 unfolding modules-for
 filter-test zero = refl
 filter-test (suc zero) = refl
@@ -19,7 +19,7 @@ filter-test (suc (suc (suc zero))) = refl
 filter-test (suc (suc (suc (suc n)))) = le-ltb (suc (suc (suc (suc n)))) 4 (omega arith)
 
 -- A filter's number.
-pub filter-below : (n : ℕ) → asks (modules-for n) ≡ true → n < 4
+pub filter-below : (n : ℕ) → is-asked (modules-for n) ≡ true → n < 4
 unfolding modules-for
 filter-below zero e = omega arith
 filter-below (suc zero) e = omega arith
@@ -28,7 +28,7 @@ filter-below (suc (suc (suc zero))) e = omega arith
 filter-below (suc (suc (suc (suc n)))) e = absurd (true≢false (sym e))
 
 -- A number that is no filter's.
-pub filter-none : (n : ℕ) → asks (modules-for n) ≡ false → modules-for n ≡ none
+pub filter-none : (n : ℕ) → is-asked (modules-for n) ≡ false → modules-for n ≡ none
 unfolding modules-for
 filter-none zero e = absurd (true≢false e)
 filter-none (suc zero) e = absurd (true≢false e)

@@ -15,6 +15,6 @@ modules-for (suc (suc (suc zero))) = some (Modules NamespacesOnly)
 modules-for (suc (suc (suc (suc n)))) = none
 
 -- Whether anything is asked.
-abbrev pub asks : Option Ask → Bool
-asks (some ask) = true
-asks none = false
+abbrev pub is-asked : Option Ask → Bool
+is-asked (some ask) = true
+is-asked none = false

@@ -13,7 +13,7 @@ ghost use mathlib.Core.Path.{_≡_};
 ghost use mathlib.Core.Option.{some};
 ghost use Rattle.source.specs.Calls.{refused};
 ghost use Rattle.table.specs.Answers.{name-found};
-ghost use Rattle.numbers.specs.Filters.{modules-for, asks};
+ghost use Rattle.numbers.specs.Filters.{modules-for, is-asked};
 ghost use Rattle.numbers.specs.Replies.{name-reply, flag, no-module, symbol-reply, module-reply, no-lines, lines-reply};
 
 // The answer of a look-up that finds nothing: no refusal has this number.
@@ -160,7 +160,7 @@ pub fn lines_reply(x: Listing) -> CompleteReply
 
 // Whether a number is a filter's.
 pub fn is_filter(n: u32) -> bool
-    ensures { λ r. ⌜ r ≡ asks (modules-for n) ⌝ }
+    ensures { λ r. ⌜ r ≡ is-asked (modules-for n) ⌝ }
 {
     n < 4
 }

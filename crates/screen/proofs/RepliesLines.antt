@@ -19,7 +19,7 @@ use Rattle.table.specs.declared.Table.{Table}
 use Rattle.table.specs.declared.Completed.{Completed}
 use Rattle.table.specs.declared.Completed.the-variants.{Listed, Refused}
 use Rattle.table.specs.declared.Listing.{Listing}
-use Rattle.numbers.specs.Filters.{modules-for, asks}
+use Rattle.numbers.specs.Filters.{modules-for, is-asked}
 use Rattle.numbers.proofs.Filters.{filter-none}
 use Rattle.numbers.specs.Replies.{no-lines, lines-reply}
 use Rattle.numbers.specs.declared.CompleteReply.{CompleteReply}
@@ -68,5 +68,5 @@ module _ {st bs txt : List ℕ} {query : Str} {budget : ℕ} {ls out : List ℕ}
       → RepliesLines st bs txt (modules-for f) query budget ls ls′ out out′ r
   lines-asked f e p = rw e p
 
-  pub lines-unasked : (f : ℕ) {k : ℕ} {r : CompleteReply} → asks (modules-for f) ≡ false → Replies st bs txt st bs txt none k → r ≡ no-lines k → RepliesLines st bs txt (modules-for f) query budget ls ls out out r
+  pub lines-unasked : (f : ℕ) {k : ℕ} {r : CompleteReply} → is-asked (modules-for f) ≡ false → Replies st bs txt st bs txt none k → r ≡ no-lines k → RepliesLines st bs txt (modules-for f) query budget ls ls out out r
   lines-unasked f h p q = rw (filter-none f h) (record { says = λ b i. unasked-as b st bs txt ls out (p .says b i) q })
