@@ -13,11 +13,7 @@ pub last-some : (s : Str) → 0 < length s → last-line s ≡ s ∷ []
 last-some [] h = absurd (omega arith)
 last-some (b ∷ s) h = refl
 
-pub last-none : (s : Str) → length s ≡ 0 → last-line s ≡ []
-last-none [] h = refl
-last-none (b ∷ s) h = absurd (omega arith)
-
--- They are a line if there are any.
+-- The bytes left are a line if there are any.
 pub is-line : (s : Str) → LastLine (ltb 0 (length s)) s
 is-line [] = refl
 is-line (b ∷ s) = rw (lt-ltb 0 (length (b ∷ s)) (omega arith)) refl

@@ -6,10 +6,10 @@ ghost use Rattle.source.specs.Lent.{old, new};
 ghost use Rattle.kept.specs.Moves.{bytes-kept, Moves};
 ghost use Rattle.kept.specs.LastLine.{LastLine};
 
-// A line has at most 2,048 bytes, so that as many tell that it is too long.
+// Bytes kept of a line: it has at most 2,048, and one more tells that it is too long.
 const BYTES_KEPT: usize = 2049;
 
-// At most as many.
+// At most as many as are kept.
 fn short(n: usize) -> usize
     ensures { λ r. ⌜ r ≡ min n bytes-kept ⌝ }
 {
