@@ -1,3 +1,2 @@
-pub mod Moves
 pub mod Steps
 pub mod Run

@@ -17,9 +17,12 @@ use Rattle.table.specs.Header.{state, lent, Fresh}
 use Rattle.table.specs.declared.Table.{Table}
 use Rattle.registrations.specs.Registers.{Outcome}
 use Rattle.answers.specs.Outcomes.{Replied, Session, none, then, unlines}
-use Rattle.feed.specs.Feed.{pending, Inside, Kept, whole, start, last-line}
+use Rattle.kept.specs.Moves.{bytes-kept}
+use Rattle.kept.specs.LastLine.{last-line}
+use Rattle.kept.proofs.LastLine.{last-some}
+use Rattle.feed.specs.Feed.{pending, Inside, Kept, whole, start}
 use Rattle.feed.specs.Run.{lines-after, lines-of, Program, fed, Run, read, step, end, joined}
-use Rattle.feed.proofs.Steps.{all-take, last-some}
+use Rattle.feed.proofs.Steps.{all-take}
 
 -- ---- The lines of an input
 
@@ -72,14 +75,14 @@ module _ {k : Lent} {out : Output} where
   -- What is kept serves as what it was kept of.
   session-kept : {s s′ : State} {w rest kept : Str} (c : Str) → Kept rest kept → Session k out s (lines-of (kept · c)) w s′ → Session k out s (lines-of (rest · c)) w s′
   session-kept c whole x = x
-  session-kept {s} {s′} {w} {rest} c (start a) x = rw (on-line rest [] c a) (go (ltb 2049 (length rest)) refl)
+  session-kept {s} {s′} {w} {rest} c (start a) x = rw (on-line rest [] c a) (go (ltb bytes-kept (length rest)) refl)
     where
-      y : Session k out s (lines-after (take 2049 rest) c) w s′
-      y = rw (on-line (take 2049 rest) [] c (all-take 2049 rest a)) at x
+      y : Session k out s (lines-after (take bytes-kept rest) c) w s′
+      y = rw (on-line (take bytes-kept rest) [] c (all-take bytes-kept rest a)) at x
 
-      go : (z : Bool) → ltb 2049 (length rest) ≡ z → Session k out s (lines-after rest c) w s′
-      go true e = session-long c (take 2049 rest) rest (omega (arith, ltb-true 2049 (length rest) e, length-take-le 2049 rest (omega (arith, ltb-true 2049 (length rest) e)))) (omega (arith, ltb-true 2049 (length rest) e)) y
-      go false e = rw (take-all 2049 rest (omega (arith, ltb-false 2049 (length rest) e))) at y
+      go : (z : Bool) → ltb bytes-kept (length rest) ≡ z → Session k out s (lines-after rest c) w s′
+      go true e = session-long c (take bytes-kept rest) rest (omega (arith, ltb-true bytes-kept (length rest) e, length-take-le bytes-kept rest (omega (arith, ltb-true bytes-kept (length rest) e)))) (omega (arith, ltb-true bytes-kept (length rest) e)) y
+      go false e = rw (take-all bytes-kept rest (omega (arith, ltb-false bytes-kept (length rest) e))) at y
 
   session-join : {s m s′ : State} {ls ms : List Str} {t w : Str} → Session k out s ls t m → Session k out m ms w s′ → Session k out s (ls ++ ms) (t · w) s′
   session-join none y = y

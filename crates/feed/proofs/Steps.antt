@@ -16,7 +16,9 @@ use Rattle.memory.proofs.Outside.{outside-none}
 use Rattle.answers.specs.Outcomes.{Session, none, then, unlines}
 use Rattle.answers.specs.Answers.{Answered, Talked}
 use Rattle.answers.specs.declared.AfterLines.{AfterLines}
-use Rattle.feed.specs.Feed.{pending, Inside, Moves, Kept, whole, start, Feeds, last-line, Ends}
+use Rattle.kept.specs.Moves.{bytes-kept, Moves}
+use Rattle.kept.specs.LastLine.{LastLine}
+use Rattle.feed.specs.Feed.{pending, Inside, Kept, whole, start, Feeds, Ends}
 use Rattle.feed.specs.declared.Feed.{Feed}
 
 -- ---- Parts of lists
@@ -41,10 +43,10 @@ part-length : (input : List ℕ) (from have : ℕ) → have ≤ length input →
 part-length input from have h = omega (arith, length-drop from (take have input), length-take-le have input h)
 
 -- What is moved is the start of what followed.
-moved-is : {input input′ : List ℕ} {from have n : ℕ} → have ≤ length input → Moves input input′ from have n → take 2049 (drop from (take have input)) ≡ take n input′
+moved-is : {input input′ : List ℕ} {from have n : ℕ} → have ≤ length input → Moves input input′ from have n → take bytes-kept (drop from (take have input)) ≡ take n input′
 moved-is {input} {input′} {from} {have} {n} h m =
-    let e : min (length (drop from (take have input))) 2049 ≡ n = omega (arith, part-length input from have h, m .size) in
-    sym (take-least 2049 (drop from (take have input)))
+    let e : min (length (drop from (take have input))) bytes-kept ≡ n = omega (arith, part-length input from have h, m .size) in
+    sym (take-least bytes-kept (drop from (take have input)))
     ∙ ap (λ (k : ℕ). take k (drop from (take have input))) e
     ∙ ap (take n) (drop-take from have input)
     ∙ take-take n (have - from) (drop from input) (omega (arith, m .size))
@@ -89,7 +91,7 @@ module _ {ws txt ws′ txt′ input reply reply′ : List ℕ} {out : Output} {f
   steps-out {input′} {n} l size m =
       let e : r .next ≡ f .from = omega (arith, x .next-fits .0) in
       let a : All Line rest = rw e (x .goes-on e .1) in
-      let k : take 2049 rest ≡ take n input′ = rw e (moved-is (i .ended) m) in
+      let k : take bytes-kept rest ≡ take n input′ = rw e (moved-is (i .ended) m) in
       record {
         lines = x .lines;
         each = x .each;
@@ -104,41 +106,32 @@ module _ {ws txt ws′ txt′ input reply reply′ : List ℕ} {out : Output} {f
         texts = x .texts;
         inside = record { started = omega arith; ended = omega (arith, m .size, i .ended, size) };
         goes-on = λ z. absurd (true≢false (sym z));
-        stops = λ _. (refl, omega (arith, m .size), subst (All Line) k (all-take 2049 rest a));
+        stops = λ _. (refl, omega (arith, m .size), subst (All Line) k (all-take bytes-kept rest a));
       }
 
 -- ---- The end
 
-pub last-some : (s : Str) → 0 < length s → last-line s ≡ s ∷ []
-last-some [] h = absurd (omega arith)
-last-some (b ∷ s) h = refl
-
-last-none : (s : Str) → length s ≡ 0 → last-line s ≡ []
-last-none [] h = refl
-last-none (b ∷ s) h = absurd (omega arith)
-
-module _ {ws txt ws′ txt′ input reply reply′ : List ℕ} {out : Output} {f : Feed} (i : Inside f input) where
-  pub ends-some : {r : Done} → f .from < f .have → Answered ws txt ws′ txt′ (f .table) (take (f .have - f .from) (drop (f .from) input)) out reply reply′ 0 r
+module _ {ws txt ws′ txt′ input reply reply′ : List ℕ} {out : Output} {f : Feed} where
+  pub ends-some : {r : Done} → LastLine true (take (f .have - f .from) (drop (f .from) input)) → Answered ws txt ws′ txt′ (f .table) (take (f .have - f .from) (drop (f .from) input)) out reply reply′ 0 r
       → Ends ws txt ws′ txt′ f input out reply reply′ r
-  ends-some {r} l x =
+  ends-some {r} e x =
       let p : pending f input ≡ take (f .have - f .from) (drop (f .from) input) = drop-take (f .from) (f .have) input in
-      let e : last-line (pending f input) ≡ pending f input ∷ [] = last-some (pending f input) (omega (arith, part-length input (f .from) (f .have) (i .ended))) in
       record {
         text = x .text;
-        session = rw (e, p) (subst (λ (t : Str). Session (lent ws txt) out (state ws txt (f .table)) _ t (state ws′ txt′ (r .table))) (append-nil (x .text)) (then (record { text = x .text; after = _ }) (x .replied) none));
+        session = rw (p, e) (subst (λ (t : Str). Session (lent ws txt) out (state ws txt (f .table)) _ t (state ws′ txt′ (r .table))) (append-nil (x .text)) (then (record { text = x .text; after = _ }) (x .replied) none));
         laid = x .laid;
         sound = x .sound;
         words = x .words;
         texts = x .texts;
       }
 
-pub ends-none : {ws txt input reply : List ℕ} {out : Output} {f : Feed} → Inside f input → f .have ≤ f .from → IsSound ws txt (f .table)
+pub ends-none : {ws txt input reply : List ℕ} {out : Output} {f : Feed} → LastLine false (take (f .have - f .from) (drop (f .from) input)) → IsSound ws txt (f .table)
     → Ends ws txt ws txt f input out reply reply (record { table = f .table; end = 0 })
-ends-none {ws} {txt} {input} {reply} {out} {f} i l sound =
-    let e : last-line (pending f input) ≡ [] = last-none (pending f input) (omega (arith, part-length input (f .from) (f .have) (i .ended))) in
+ends-none {ws} {txt} {input} {reply} {out} {f} e sound =
+    let p : pending f input ≡ take (f .have - f .from) (drop (f .from) input) = drop-take (f .from) (f .have) input in
     record {
       text = [];
-      session = rw e none;
+      session = rw (p, e) none;
       laid = laid-none reply 0 0 refl (omega arith);
       sound = sound;
       words = outside-none ws;

@@ -1,8 +1,8 @@
 -- What the program holds between reads, and what a step and the end of the input do.
-use Prim.Native.Nat.{ℕ, _-_, _*_, _<_, _≤_, min}
+use Prim.Native.Nat.{ℕ, _*_, _<_, _≤_}
 use mathlib.Core.Path.{_≡_}
 use mathlib.Core.Bool.{true, false}
-use mathlib.Core.List.{List, [], _∷_}
+use mathlib.Core.List.{List}
 use lib.ListN.{length, take, drop}
 use Rattle.source.specs.Limits.{record-words}
 use Rattle.source.specs.Calls.{Output}
@@ -13,6 +13,8 @@ use Rattle.numerals.specs.declared.Sort.the-variants.{Line}
 use Rattle.table.specs.Header.{IsSound, state, lent}
 use Rattle.memory.specs.Grown.{Outside}
 use Rattle.registrations.specs.declared.Done.{Done}
+use Rattle.kept.specs.Moves.{bytes-kept}
+use Rattle.kept.specs.LastLine.{last-line}
 use Rattle.answers.specs.Outcomes.{Session, unlines}
 use Rattle.feed.specs.declared.Feed.{Feed}
 use Rattle.feed.specs.declared.Progress.{Progress}
@@ -26,15 +28,10 @@ pub record Inside (f : Feed) (input : List ℕ) : Type 0 where
   pub started : f .from ≤ f .have
   pub ended : f .have ≤ length input
 
--- The first r bytes are those that followed from, 2,049 of them at most.
-pub record Moves (input input′ : List ℕ) (from have r : ℕ) : Type 0 where
-  pub size : r ≡ min (have - from) 2049
-  pub is : take r input′ ≡ take r (drop from input)
-
 -- What is kept of bytes: all, or of a line's start as many as make it too long.
 pub data Kept : Str → Str → Type 0 where
   whole : {s : Str} → Kept s s
-  start : {s : Str} → All Line s → Kept s (take 2049 s)
+  start : {s : Str} → All Line s → Kept s (take bytes-kept s)
 
 -- A step: the session of some whole lines, its replies at the start of the reply text, and what follows them kept.
 pub record Feeds (ws txt ws′ txt′ : List ℕ) (f : Feed) (input input′ : List ℕ) (out : Output) (reply reply′ : List ℕ) (r : Progress) : Type 0 where
@@ -51,12 +48,7 @@ pub record Feeds (ws txt ws′ txt′ : List ℕ) (f : Feed) (input input′ : L
   pub texts : Outside (f .table .header .text) (r .feed .table .header .text) txt txt′
   pub inside : Inside (r .feed) input′
   pub goes-on : r .more ≡ true → (f .from < r .feed .from) × (r .feed .have ≡ f .have)
-  pub stops : r .more ≡ false → (r .feed .from ≡ 0) × (r .feed .have ≤ 2049) × All Line (pending (r .feed) input′)
-
--- The last line of an input, where it has no line feed.
-abbrev pub last-line : Str → List Str
-last-line [] = []
-last-line (b ∷ s) = (b ∷ s) ∷ []
+  pub stops : r .more ≡ false → (r .feed .from ≡ 0) × (r .feed .have ≤ bytes-kept) × All Line (pending (r .feed) input′)
 
 -- The end of the input: the session of what is left, as a line.
 pub record Ends (ws txt ws′ txt′ : List ℕ) (f : Feed) (input : List ℕ) (out : Output) (reply reply′ : List ℕ) (r : Done) : Type 0 where

@@ -3,14 +3,13 @@
 // replies are the session of the input's lines.
 use registrations::Done;
 use table::Table;
-ghost use mathlib.Core.Path.{_≡_};
-ghost use Prim.Native.Nat.{_≤_, min};
+ghost use Prim.Native.Nat.{_≤_};
 ghost use lib.ListN.{length};
 ghost use Rattle.source.specs.Lent.{old, new};
 ghost use Rattle.completion.specs.Completes.{output};
 ghost use Rattle.table.specs.Header.{IsSound};
 ghost use Rattle.questions.specs.RowReplies.{room};
-ghost use Rattle.feed.specs.Feed.{Inside, Moves, Feeds, Ends};
+ghost use Rattle.feed.specs.Feed.{Inside, Feeds, Ends};
 
 // The table, and which bytes of the input text are not answered yet: those from `from` up to `have`.
 pub struct Feed {
@@ -24,31 +23,6 @@ pub struct Progress {
     pub feed: Feed,
     pub end: usize,
     pub more: bool,
-}
-
-// At most 2,049.
-fn short(n: usize) -> usize
-    ensures { λ r. ⌜ r ≡ min n 2049 ⌝ }
-{
-    if n < 2049 {
-        return n;
-    }
-    2049
-}
-
-// Moves what follows `from`, of the first `have` bytes, to the start, and says how many bytes it is. Of a line that is too long
-// whatever follows, 2,049 bytes are kept.
-fn keep(input: &mut [u8], from: usize, have: usize) -> usize
-    requires { ⌜ (from ≤ have) × (have ≤ length (now input)) ⌝ }
-    ensures { λ r. ⌜ Moves (old input) (new input) from have r ⌝ }
-{
-    let n = short(have - from);
-    let mut i = 0;
-    while i < n {
-        input[i] = input[from + i];
-        i += 1;
-    }
-    n
 }
 
 // Answers whole lines while there is room for a reply. Where there is none left, what follows them is moved to the start of `input`.
@@ -84,7 +58,7 @@ pub fn step(
             more: true,
         };
     }
-    let n = keep(input, from, have);
+    let n = kept::keep(input, from, have);
     let rest = Feed {
         table: after,
         from: 0,
@@ -115,7 +89,7 @@ pub fn last(
     let t = f.table;
     let from = f.from;
     let have = f.have;
-    if from < have {
+    if kept::is_line(&input[from..have]) {
         return answers::answer(t, words, text, &input[from..have], flat, pane, reply, 0);
     }
     Done { table: t, end: 0 }

@@ -1,4 +1,6 @@
-// Replies as numbers, by what crate table hands back.
+// Replies as numbers, by what crate table hands back, and what is asked by number.
+use asks::Ask;
+use asks::Filter;
 use memory::ModSymbol;
 use roots::Completed;
 use roots::Found;
@@ -6,9 +8,12 @@ use roots::FoundModule;
 use table::Finding;
 use table::Listing;
 use table::ModuleFinding;
+ghost use Prim.Native.Nat.{_<_};
 ghost use mathlib.Core.Path.{_≡_};
+ghost use mathlib.Core.Option.{some};
 ghost use Rattle.source.specs.Calls.{refused};
 ghost use Rattle.roots.specs.Answers.{name-found};
+ghost use Rattle.numbers.specs.Filters.{modules-for, is-asked};
 ghost use Rattle.numbers.specs.Replies.{name-reply, flag, no-module, symbol-reply, module-reply, no-lines, lines-reply};
 
 // The answer of a look-up that finds nothing: no refusal has this number.
@@ -151,4 +156,28 @@ pub fn lines_reply(x: Listing) -> CompleteReply
         },
         Completed::Refused(x) => no_lines(refusals::number(x)),
     }
+}
+
+// Whether a number is a filter's.
+pub fn is_filter(n: u32) -> bool
+    ensures { λ r. ⌜ r ≡ is-asked (modules-for n) ⌝ }
+{
+    n < 4
+}
+
+// What a filter's number asks.
+pub fn ask_of(filter: u32) -> Ask
+    requires { ⌜ filter < 4 ⌝ }
+    ensures { λ r. ⌜ modules-for filter ≡ some r ⌝ }
+{
+    if filter == 0 {
+        return Ask::Modules(Filter::All);
+    }
+    if filter == 1 {
+        return Ask::Modules(Filter::Loaded);
+    }
+    if filter == 2 {
+        return Ask::Modules(Filter::ModulesOnly);
+    }
+    Ask::Modules(Filter::NamespacesOnly)
 }

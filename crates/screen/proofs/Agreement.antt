@@ -23,6 +23,7 @@ use Rattle.rows.specs.Rows.{lines-seen}
 use Rattle.rows.proofs.Written.{written-seen}
 use Rattle.completion.specs.Completes.{output}
 use Rattle.table.specs.Header.{table-in, names-in, modules-in}
+use Rattle.numbers.specs.Filters.{modules-for}
 use Rattle.numbers.specs.Replies.{name-reply, Answered}
 use Rattle.numbers.specs.declared.NameReply.{NameReply}
 use Rattle.numbers.specs.declared.ModuleReply.{ModuleReply}
@@ -31,7 +32,7 @@ use Rattle.numbers.proofs.Answered.{name-answered, module-answered}
 use Rattle.wire.specs.Memory.{words-in}
 use Rattle.screen.specs.Memory.{table-at, SoundBytes}
 use Rattle.screen.specs.Replies.{SaysModule}
-use Rattle.screen.specs.Completions.{modules-for, ListsAs}
+use Rattle.screen.specs.Completions.{ListsAs}
 use Rattle.screen.specs.Agreement.{BytesAgree}
 
 module _ (b : Bool) (tbl : S.Table) (budget : ℕ) (o : Output) (q : Str) {n : ℕ} where

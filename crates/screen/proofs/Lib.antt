@@ -4,4 +4,3 @@ pub mod RepliesModule
 pub mod RepliesLines
 pub mod SoundBytes
 pub mod Agreement
-mod Examples

@@ -20,7 +20,7 @@ use Rattle.table.specs.declared.Registration.{Registration}
 use Rattle.table.proofs.Says.{decided}
 use Rattle.table.proofs.Answers.{register-unsound}
 use Rattle.wire.specs.Bytes.{Stored}
-use Rattle.wire.specs.Memory.{header-in, Spells, records-lent, words-in}
+use Rattle.wire.specs.Memory.{header-in, records-lent, words-in, Saved}
 use Rattle.wire.proofs.Memory.{words-in-length, words-in-fit}
 use Rattle.screen.specs.Memory.{table-at, SoundBytes}
 use Rattle.kinds.specs.Shapes.{call-of, opened}
@@ -94,10 +94,9 @@ module _ {st bs txt m ws txt′ : List ℕ} {t : Table} {c : Call} {r : Registra
   answers b i = rw (decided _ b true (says-memory txt h b i) sound, ← h .lent, h .spelt .header) (a .says)
 
   -- It is accepted, and the new words and the new header are stored.
-  module _ {st′ bs′ : List ℕ} (taken : refusal-of (r .answer) ≡ none) (stored : Stored ws (t .header .records * 12) (r .table .header .records * 12) bs bs′)
-      (new : Spells st′ (r .table .header)) where
+  module _ {st′ bs′ : List ℕ} (taken : refusal-of (r .answer) ≡ none) (saved : Saved ws (t .header .records) (r .table .header) bs bs′ st′) where
     kept : Stored ws (header-in st .records * 12) (r .table .header .records * 12) bs bs′
-    kept = rw (h .spelt .header) stored
+    kept = rw (h .spelt .header) (saved .stored)
 
     words-back : Outside (header-in st .records * 12) (r .table .header .records * 12) (words-in bs) ws → words-in bs′ ≡ ws
     unfolding words-in
@@ -109,9 +108,9 @@ module _ {st bs txt m ws txt′ : List ℕ} {t : Table} {c : Call} {r : Registra
     accepted-as (C.accepted s) a = (
       refl,
       record {
-        size = new .size;
-        table = rw (new .header, words-back (a .1 .words)) (a .1);
-        bytes = rw (new .header) (rw (by-bytes (header-in st .records), by-bytes (r .table .header .records)) at (kept .rest));
+        size = saved .spelt .size;
+        table = rw (saved .spelt .header, words-back (a .1 .words)) (a .1);
+        bytes = rw (saved .spelt .header) (rw (by-bytes (header-in st .records), by-bytes (r .table .header .records)) at (kept .rest));
       },
     )
     accepted-as (C.refused n) a = absurd (Option·none-ne-some n (sym taken ∙ a .0))

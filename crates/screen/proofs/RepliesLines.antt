@@ -1,10 +1,9 @@
 -- What a completion replies, by what crate table answers.
-use Prim.Native.Nat.{ℕ, zero, suc, _≤_, _<_}
+use Prim.Native.Nat.{ℕ}
 use mathlib.Core.Path.{_≡_, refl, ap, _∙_}
 use mathlib.Core.Bool.{Bool, true, false}
 use mathlib.Core.List.{List}
 use mathlib.Core.Option.{none, some, Option·none-ne-some}
-use native.Mathlib.Omega.{arith}
 use Rattle.source.specs.Text.{Str}
 use Rattle.source.specs.Table as S
 use Rattle.source.specs.Calls as C
@@ -13,7 +12,6 @@ use Rattle.memory.specs.Layout.{Item}
 use Rattle.asks.specs.Ask.{asked}
 use Rattle.asks.specs.declared.Ask.{Ask}
 use Rattle.asks.specs.declared.Ask.the-variants.{Names, Modules}
-use Rattle.asks.specs.declared.Filter.the-variants.{NamespacesOnly}
 use Rattle.completion.specs.Completes.{output}
 use Rattle.table.specs.Header.{table-in}
 use Rattle.roots.specs.Completions.{CompletesAs}
@@ -22,11 +20,13 @@ use Rattle.table.specs.declared.Table.{Table}
 use Rattle.roots.specs.declared.Completed.{Completed}
 use Rattle.roots.specs.declared.Completed.the-variants.{Listed, Refused}
 use Rattle.table.specs.declared.Listing.{Listing}
+use Rattle.numbers.specs.Filters.{modules-for, is-asked}
+use Rattle.numbers.proofs.Filters.{filter-none}
 use Rattle.numbers.specs.Replies.{no-lines, lines-reply}
 use Rattle.numbers.specs.declared.CompleteReply.{CompleteReply}
 use Rattle.screen.specs.Memory.{SoundBytes}
 use Rattle.screen.specs.Replies.{RepliesAs, unchosen, Replies}
-use Rattle.screen.specs.Completions.{modules-for, ListsAs, unasked, Refuses, RepliesLines}
+use Rattle.screen.specs.Completions.{ListsAs, unasked, Refuses, RepliesLines}
 use Rattle.screen.proofs.Held.{Held, says-memory, says-unsound}
 
 -- ---- By crate table's answer
@@ -46,15 +46,6 @@ completion-unsound : (tbl : S.Table) (ask : Ask) (budget : ℕ) (o : Output) (q 
 unfolding complete complete-modules completed completion-rows lowest argument-rows
 completion-unsound tbl Names budget o q = refl
 completion-unsound tbl (Modules f) budget o q = refl
-
--- A number that is no filter's.
-modules-none : (f : ℕ) → 4 ≤ f → modules-for f ≡ none
-unfolding modules-for
-modules-none zero h = absurd (omega arith)
-modules-none (suc zero) h = absurd (omega arith)
-modules-none (suc (suc zero)) h = absurd (omega arith)
-modules-none (suc (suc (suc zero))) h = absurd (omega arith)
-modules-none (suc (suc (suc (suc n)))) h = refl
 
 unasked-as : (b : Bool) (st bs txt ls out : List ℕ) {k : ℕ} {r : CompleteReply} → RepliesAs (unchosen b) st bs txt st bs txt k → r ≡ no-lines k → Refuses (unasked b) ls ls out out r
 unasked-as true st bs txt ls out a p = record { reply = p ∙ ap no-lines (a .0); lines = refl; text = refl }
@@ -78,13 +69,5 @@ module _ {st bs txt : List ℕ} {query : Str} {budget : ℕ} {ls out : List ℕ}
       → RepliesLines st bs txt (modules-for f) query budget ls ls′ out out′ r
   lines-asked f e p = rw e p
 
-  pub lines-unasked : (f : ℕ) {k : ℕ} {r : CompleteReply} → 4 ≤ f → Replies st bs txt st bs txt none k → r ≡ no-lines k → RepliesLines st bs txt (modules-for f) query budget ls ls out out r
-  lines-unasked f h p q = rw (modules-none f h) (record { says = λ b i. unasked-as b st bs txt ls out (p .says b i) q })
-
-pub modules-three : (f : ℕ) → f < 4 → (f ≡ 0 → ⊥) → (f ≡ 1 → ⊥) → (f ≡ 2 → ⊥) → modules-for f ≡ some (Modules NamespacesOnly)
-unfolding modules-for
-modules-three zero h a b c = absurd (a refl)
-modules-three (suc zero) h a b c = absurd (b refl)
-modules-three (suc (suc zero)) h a b c = absurd (c refl)
-modules-three (suc (suc (suc zero))) h a b c = refl
-modules-three (suc (suc (suc (suc n)))) h a b c = absurd (omega arith)
+  pub lines-unasked : (f : ℕ) {k : ℕ} {r : CompleteReply} → is-asked (modules-for f) ≡ false → Replies st bs txt st bs txt none k → r ≡ no-lines k → RepliesLines st bs txt (modules-for f) query budget ls ls out out r
+  lines-unasked f h p q = rw (filter-none f h) (record { says = λ b i. unasked-as b st bs txt ls out (p .says b i) q })

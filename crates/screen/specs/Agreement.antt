@@ -12,6 +12,7 @@ use Rattle.memory.specs.Sound.{Says}
 use Rattle.asks.specs.declared.Ask.the-variants.{Names}
 use Rattle.rows.specs.Rows.{lines-seen}
 use Rattle.table.specs.Header.{names-in, modules-in}
+use Rattle.numbers.specs.Filters.{modules-for}
 use Rattle.numbers.specs.Replies.{name-reply, Answered}
 use Rattle.numbers.specs.declared.NameReply.{NameReply}
 use Rattle.numbers.specs.declared.ModuleReply.{ModuleReply}
@@ -19,7 +20,7 @@ use Rattle.numbers.specs.declared.CompleteReply.{CompleteReply}
 use Rattle.wire.specs.Memory.{words-in}
 use Rattle.screen.specs.Memory.{table-at, SoundBytes}
 use Rattle.screen.specs.Replies.{RepliesName, SaysModule, RepliesModule}
-use Rattle.screen.specs.Completions.{modules-for, RepliesLines}
+use Rattle.screen.specs.Completions.{RepliesLines}
 
 -- On either root, whatever bytes are lent (b says whether they are a sound table): where look-up of a full name is not refused, and a completion that
 -- covers the name is not refused, the lines that it left in the lent bytes agree with look-up's reply as demand 3 says.

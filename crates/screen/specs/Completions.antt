@@ -1,5 +1,5 @@
 -- What the exported completions reply, and what they write.
-use Prim.Native.Nat.{ℕ, zero, suc}
+use Prim.Native.Nat.{ℕ}
 use mathlib.Core.Path.{_≡_}
 use mathlib.Core.Bool.{Bool, true, false}
 use mathlib.Core.List.{List}
@@ -14,8 +14,6 @@ use Rattle.memory.specs.Sound.{Says}
 use Rattle.asks.specs.Ask.{asked}
 use Rattle.output.specs.Output.{Written}
 use Rattle.asks.specs.declared.Ask.{Ask}
-use Rattle.asks.specs.declared.Ask.the-variants.{Modules}
-use Rattle.asks.specs.declared.Filter.the-variants.{All, Loaded, ModulesOnly, NamespacesOnly}
 use Rattle.table.specs.Header.{table-in}
 use Rattle.completion.specs.Completes.{output}
 use Rattle.table.specs.Completions.{completion}
@@ -23,14 +21,6 @@ use Rattle.numbers.specs.Replies.{no-lines}
 use Rattle.numbers.specs.declared.CompleteReply.{CompleteReply}
 use Rattle.wire.specs.Memory.{words-in}
 use Rattle.screen.specs.Memory.{table-at, SoundBytes}
-
--- What is asked of the modules, by the number of a filter. Another number asks nothing.
-unfoldable pub modules-for : ℕ → Option Ask
-modules-for zero = some (Modules All)
-modules-for (suc zero) = some (Modules Loaded)
-modules-for (suc (suc zero)) = some (Modules ModulesOnly)
-modules-for (suc (suc (suc zero))) = some (Modules NamespacesOnly)
-modules-for (suc (suc (suc (suc n)))) = none
 
 -- Listed: the lines are written from the start of the lent bytes, their texts from the start of the output text, and every other byte is as it was.
 pub record Lists (ask : Ask) (ws txt ls ls′ out out′ : List ℕ) (lines : List (Line (Item (asked ask)))) (entered : ℕ) (r : CompleteReply) : Type 0 where

@@ -4,7 +4,6 @@
 // Lines are written in place.
 // Every exported call answers for whatever bytes are lent.
 use asks::Ask;
-use asks::Filter;
 use kinds::Kind;
 use numbers::CompleteReply;
 use numbers::ModuleReply;
@@ -13,7 +12,6 @@ use table::Registered;
 use table::Table;
 ghost use mathlib.Core.Path.{_≡_};
 ghost use mathlib.Core.Option.{none, some};
-ghost use Prim.Native.Nat.{_<_};
 ghost use lib.ListN.{length};
 ghost use Rattle.source.specs.Lent.{old, new};
 ghost use Rattle.source.specs.Calls.{name, include, opens, alias, module-path};
@@ -21,7 +19,8 @@ ghost use Rattle.kinds.specs.Shapes.{call-of};
 ghost use Rattle.wire.specs.Memory.{state-bytes, words-in};
 ghost use Rattle.screen.specs.Memory.{table-at};
 ghost use Rattle.asks.specs.declared.Ask.the-variants.{Names};
-ghost use Rattle.screen.specs.Completions.{modules-for, RepliesLines};
+ghost use Rattle.numbers.specs.Filters.{modules-for};
+ghost use Rattle.screen.specs.Completions.{RepliesLines};
 ghost use Rattle.screen.specs.Replies.{chosen, Replies, RepliesName, RepliesModule};
 
 // The table that a state spells.
@@ -60,10 +59,7 @@ fn enter(
     let a = r.answer;
     match a {
         Registered::Accepted => {
-            let from = t.header.records as usize * memory::ROW;
-            let to = h.header.records as usize * memory::ROW;
-            wire::store(words, memory, from, to);
-            wire::put_header(state, h.header);
+            wire::save(state, words, memory, t.header.records, h.header);
             0
         }
         Registered::Refused(x) => refusals::number(x),
@@ -251,23 +247,6 @@ pub extern "C" fn name_console_find_module(
 
 // ---- Completions
 
-// What a filter's number asks.
-fn ask_of(filter: u32) -> Ask
-    requires { ⌜ filter < 4 ⌝ }
-    ensures { λ r. ⌜ modules-for filter ≡ some r ⌝ }
-{
-    if filter == 0 {
-        return Ask::Modules(Filter::All);
-    }
-    if filter == 1 {
-        return Ask::Modules(Filter::Loaded);
-    }
-    if filter == 2 {
-        return Ask::Modules(Filter::ModulesOnly);
-    }
-    Ask::Modules(Filter::NamespacesOnly)
-}
-
 // A completion.
 fn complete(
     state: &[u8],
@@ -323,12 +302,12 @@ pub extern "C" fn name_console_complete_modules(
 ) -> CompleteReply
     ensures { λ r. ⌜ RepliesLines (old state) (old words) (old text) (modules-for filter) (old query) budget (old lines) (new lines) (old out) (new out) r ⌝ }
 {
-    if filter < 4 {
+    if numbers::is_filter(filter) {
         return complete(
             state,
             words,
             text,
-            ask_of(filter),
+            numbers::ask_of(filter),
             query,
             budget,
             lines,

@@ -2,28 +2,17 @@
 use Prim.Native.Nat.{ℕ, zero, suc}
 use mathlib.Core.List.{List}
 use mathlib.Core.Option.{Option, none, some}
-use lib.Dec.{eqb, ltb}
-use lib.IntN.{ℤ, pos, negsuc}
 use lib.ListN.{set}
 use Rattle.source.specs.Calls.{LineRecord}
-use Rattle.memory.specs.Layout.{Which, Item, pick}
+use Rattle.memory.specs.Layout.{Which, Item}
 use Rattle.asks.specs.Ask.{asked}
 use Rattle.asks.specs.declared.Ask.{Ask}
 use Rattle.rows.specs.Rows.{words-at, row-in, item-seen}
 use Rattle.rows.specs.declared.Row.{Row}
-use Rattle.roots.specs.declared.Completed.{Completed}
-use Rattle.roots.specs.declared.Completed.the-variants.{Listed, Refused}
+use Rattle.line.specs.MatchLength.{held-length}
 use Rattle.typed.specs.declared.Line.{Line}
 
 -- ---- From rows
-
--- A length that 32 bits with a sign hold. A longer one is never met: a sound table's lines have at most 543 (proofs/MatchLength.antt).
-abbrev pub held : ℕ → ℤ
-held m = pick (ltb 2147483647 m) (pos 2147483647) (pos m)
-
--- The match length that a word holds.
-abbrev pub held-length : ℕ → ℤ
-held-length m = pick (eqb m 4294967295) (negsuc 0) (held m)
 
 -- The line that a row is.
 abbrev pub line-of-row : Row → Line
@@ -37,11 +26,6 @@ line-at ask flat k = line-of-row (row-in (asked ask) (words-at flat k))
 abbrev pub stored-lines : (ℕ → Line) → List Line → ℕ → List Line
 stored-lines f ls zero = ls
 stored-lines f ls (suc n) = set (stored-lines f ls n) n (f n)
-
--- How many lines an answer lists.
-abbrev pub lines-in : Completed → ℕ
-lines-in (Listed lines entered) = lines
-lines-in (Refused r) = 0
 
 -- ---- To line records
 

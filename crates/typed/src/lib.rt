@@ -10,11 +10,11 @@ use table::Listing;
 use table::Request;
 use table::Table;
 ghost use mathlib.Core.Path.{_≡_};
-ghost use Prim.Native.Nat.{_+_, _*_, _/_, _≤_, _<_, min};
+ghost use Prim.Native.Nat.{_+_, _*_, _≤_, _<_};
 ghost use lib.ListN.{length, set};
 ghost use Rattle.source.specs.Lent.{old, new};
 ghost use Rattle.output.specs.Output.{line-bytes};
-ghost use Rattle.typed.specs.Lines.{held-length, line-of-row, line-at, stored-lines, lines-in};
+ghost use Rattle.typed.specs.Lines.{line-of-row, line-at, stored-lines};
 ghost use Rattle.typed.specs.Completions.{FlatCompletes, CompletesLines};
 
 // A line record. Its spans are in the output text.
@@ -25,24 +25,11 @@ pub struct Line {
     pub annotation: Span,
 }
 
-// The match length that word 0 of a line holds. A completion never writes one over 2147483647.
-fn match_length(w: u32) -> i32
-    ensures { λ r. ⌜ r ≡ held-length w ⌝ }
-{
-    if w == 4294967295 {
-        return -1;
-    }
-    if 2147483647 < w {
-        return 2147483647;
-    }
-    w as i32
-}
-
 // The line that a row is.
 fn line_of(r: Row) -> Line
     ensures { λ l. ⌜ l ≡ line-of-row r ⌝ }
 {
-    let long = match_length(r.matched);
+    let long = line::match_length(r.matched);
     let item = r.item;
     let candidate = r.candidate;
     let annotation = r.annotation;
@@ -83,27 +70,6 @@ pub fn store_lines(lines: &mut [Line], flat: &[u8], n: usize, ask: Ask)
     }
 }
 
-// How many lines a completion lists, none if it is refused.
-fn lines_in(r: Listing) -> usize
-    ensures { λ n. ⌜ n ≡ lines-in (r .answer) ⌝ }
-{
-    let answer = r.answer;
-    match answer {
-        Completed::Listed(lines, entered) => lines as usize,
-        Completed::Refused(x) => 0,
-    }
-}
-
-// How many of `flat` bytes are lent for at most `room` lines.
-fn bytes_for(flat: usize, room: usize) -> usize
-    ensures { λ r. ⌜ r ≡ min (flat / line-bytes) room * line-bytes ⌝ }
-{
-    if flat / output::LINE_BYTES <= room {
-        return flat / output::LINE_BYTES * output::LINE_BYTES;
-    }
-    room * output::LINE_BYTES
-}
-
 // Completion into bytes, lent for at most `room` lines.
 fn complete_flat(
     table: Table,
@@ -121,7 +87,7 @@ fn complete_flat(
     if table.is_sound(words, text) {
         let ask = request.ask;
         let budget = request.budget;
-        let lent = bytes_for(flat.len(), room);
+        let lent = line::bytes_for(flat.len(), room);
         return table.complete_sound(words, text, ask, query, budget, &mut flat[..lent], out);
     }
     Listing {
@@ -145,7 +111,7 @@ pub fn complete(
         (old flat) (new flat) (old out) (new out) r ⌝ }
 {
     let r = complete_flat(table, words, text, request, query, lines.len(), flat, out);
-    let n = lines_in(r);
+    let n = line::lines_in(r);
     store_lines(lines, flat, n, request.ask);
     r
 }

@@ -5,7 +5,7 @@ use mathlib.Core.List.{List}
 use lib.ListN.{length, take}
 use Rattle.source.specs.Limits.{record-words}
 use Rattle.memory.specs.declared.Header.{Header}
-use Rattle.wire.specs.Bytes.{word-at, words-at}
+use Rattle.wire.specs.Bytes.{word-at, words-at, Stored}
 
 -- Bytes of a state, and of a record.
 abbrev pub state-bytes : ℕ
@@ -42,3 +42,8 @@ words-in bs = words-at bs (records-lent (length bs) * record-words)
 pub record Loaded (bs ws : List ℕ) (r : ℕ) : Type 0 where
   pub count : r ≡ records-lent (length bs) * record-words
   pub words : take r ws ≡ words-in bs
+
+-- The words of the records past those used, up to those that h says, have become those of ws, no other byte has changed, and the state spells h.
+pub record Saved (ws : List ℕ) (used : ℕ) (h : Header) (bs bs′ st′ : List ℕ) : Type 0 where
+  pub stored : Stored ws (used * record-words) (h .records * record-words) bs bs′
+  pub spelt : Spells st′ h

@@ -6,7 +6,7 @@ ghost use lib.ListN.{length};
 ghost use Rattle.source.specs.Lent.{old, new};
 ghost use Rattle.source.specs.Limits.{record-words};
 ghost use Rattle.wire.specs.Bytes.{word-at, Put, Stored};
-ghost use Rattle.wire.specs.Memory.{state-bytes, words-lent-most, header-in, Spells, records-lent, Loaded};
+ghost use Rattle.wire.specs.Memory.{state-bytes, words-lent-most, header-in, Spells, records-lent, Loaded, Saved};
 
 // Bytes of a state: four words. Bytes of a record: twelve words.
 pub const STATE_BYTES: usize = 16;
@@ -117,4 +117,16 @@ pub fn put_header(state: &mut [u8], h: Header)
     put_word(state, 1, h.modules);
     put_word(state, 2, h.records);
     put_word(state, 3, h.text);
+}
+
+// Stores what an accepted call has taken: the words of the records past `records`, as many as the header says, and the header.
+pub fn save(state: &mut [u8], bytes: &mut [u8], words: &[u32], records: u32, h: Header)
+    requires { ⌜ length (now state) ≡ state-bytes ⌝ }
+    requires { ⌜ (h .records * record-words * 4 ≤ length (now bytes)) × (h .records * record-words ≤ length (now words)) ⌝ }
+    ensures { λ _. ⌜ Saved (old words) records h (old bytes) (new bytes) (new state) ⌝ }
+{
+    let from = records as usize * memory::ROW;
+    let to = h.records as usize * memory::ROW;
+    store(bytes, words, from, to);
+    put_header(state, h);
 }

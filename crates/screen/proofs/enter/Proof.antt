@@ -28,18 +28,8 @@ enter-spec =
     (λ c κs. passes (c .before .before .before .is-sound-small .result) (c .before .before .before .is-sound-small .ensures) (c .before .before .if1 .left))
     {- enum-told -}
     (λ c. search needs)
-    {- cast-from -}
-    (λ c. search needs)
-    {- mul-from -}
-    (λ c. search needs)
-    {- cast-to -}
-    (λ c. search needs)
-    {- mul-to -}
-    (λ c. search needs)
-    {- store-requires -}
-    (λ c κs. store-fits (held (c .before .before .before .before .before .before .before .before .before .before .before .before .before .before .before .before .before .before .before .before .before .before .before .before .before .before .before .pre .0) (c .before .before .before .before .before .before .before .before .before .before .before .before .before .before .before .before .before .before .table-of .ensures) (c .before .before .before .before .before .before .before .before .before .before .before .before .before .before .before .before .before .before .before .before .before .before .before .before .before .before .before .pre .1)) (passes (c .before .before .before .before .before .before .before .before .before .before .before .before .before .before .before .is-sound-small .result) (c .before .before .before .before .before .before .before .before .before .before .before .before .before .before .before .is-sound-small .ensures) (c .before .before .before .before .before .before .before .before .before .before .before .before .before .before .if1 .left)) (c .before .before .before .before .before .before .before .before .before .before .before .register-sound .ensures) (ap refusal-of (c .before .before .before .before .enum-told .given .1)) (c .before .before .before .before .before .before .before .before .before .before .before .register-sound .kept .1 .0))
-    {- put-header-requires -}
-    (λ c κs. c .before .before .before .before .before .before .before .before .before .before .before .before .before .before .before .before .before .before .before .before .before .before .before .before .before .before .before .before .before .before .before .pre .0)
+    {- save-requires -}
+    (λ c κs. (c .before .before .before .before .before .before .before .before .before .before .before .before .before .before .before .before .before .before .before .before .before .before .before .before .before .before .pre .0, store-fits (held (c .before .before .before .before .before .before .before .before .before .before .before .before .before .before .before .before .before .before .before .before .before .before .before .before .before .before .pre .0) (c .before .before .before .before .before .before .before .before .before .before .before .before .before .before .before .before .before .table-of .ensures) (c .before .before .before .before .before .before .before .before .before .before .before .before .before .before .before .before .before .before .before .before .before .before .before .before .before .before .pre .1)) (passes (c .before .before .before .before .before .before .before .before .before .before .before .before .before .before .is-sound-small .result) (c .before .before .before .before .before .before .before .before .before .before .before .before .before .before .is-sound-small .ensures) (c .before .before .before .before .before .before .before .before .before .before .before .before .before .if1 .left)) (c .before .before .before .before .before .before .before .before .before .before .register-sound .ensures) (ap refusal-of (c .before .before .before .enum-told .given .1)) (c .before .before .before .before .before .before .before .before .before .before .register-sound .kept .1 .0)))
     {- enum-known-a -}
     (λ c. search needs)
     {- number-requires -}
@@ -53,7 +43,7 @@ enter-spec =
     {- same-length-7 -}
     (λ c. search needs)
     {- returns-2 -}
-    (λ c. reply-accepted (held (c .before .before .before .before .before .before .before .before .before .before .before .before .before .before .before .before .before .before .before .before .before .before .before .before .before .before .before .before .before .before .before .before .before .before .pre .0) (c .before .before .before .before .before .before .before .before .before .before .before .before .before .before .before .before .before .before .before .before .before .before .before .before .before .table-of .ensures) (c .before .before .before .before .before .before .before .before .before .before .before .before .before .before .before .before .before .before .before .before .before .before .before .before .before .before .before .before .before .before .before .before .before .before .pre .1)) (passes (c .before .before .before .before .before .before .before .before .before .before .before .before .before .before .before .before .before .before .before .before .before .before .is-sound-small .result) (c .before .before .before .before .before .before .before .before .before .before .before .before .before .before .before .before .before .before .before .before .before .before .is-sound-small .ensures) (c .before .before .before .before .before .before .before .before .before .before .before .before .before .before .before .before .before .before .before .before .before .if1 .left)) (c .before .before .before .before .before .before .before .before .before .before .before .before .before .before .before .before .before .before .register-sound .ensures) (ap refusal-of (c .before .before .before .before .before .before .before .before .before .before .before .enum-told .given .1)) (c .before .before .before .before .before .before .store .ensures) (c .before .before .put-header .ensures))
+    (λ c. reply-accepted (held (c .before .before .before .before .before .before .before .before .before .before .before .before .before .before .before .before .before .before .before .before .before .before .before .before .before .before .before .before .before .before .before .pre .0) (c .before .before .before .before .before .before .before .before .before .before .before .before .before .before .before .before .before .before .before .before .before .before .table-of .ensures) (c .before .before .before .before .before .before .before .before .before .before .before .before .before .before .before .before .before .before .before .before .before .before .before .before .before .before .before .before .before .before .before .pre .1)) (passes (c .before .before .before .before .before .before .before .before .before .before .before .before .before .before .before .before .before .before .before .is-sound-small .result) (c .before .before .before .before .before .before .before .before .before .before .before .before .before .before .before .before .before .before .before .is-sound-small .ensures) (c .before .before .before .before .before .before .before .before .before .before .before .before .before .before .before .before .before .before .if1 .left)) (c .before .before .before .before .before .before .before .before .before .before .before .before .before .before .before .register-sound .ensures) (ap refusal-of (c .before .before .before .before .before .before .before .before .enum-told .given .1)) (c .before .before .before .before .save .ensures))
     {- same-length-8 -}
     (λ c. search needs)
     {- same-length-9 -}

@@ -1,5 +1,7 @@
 -- name_console_complete_modules meets its contract.
+use mathlib.Core.Path.{sym, _∙_}
 use borrow.Author.Needs.{needs}
+use Rattle.numbers.proofs.Filters.{filter-below}
 use Rattle.screen.proofs.RepliesLines.{lines-asked, lines-unasked}
 use Rattle.screen.proofs.name_console_complete_modules.Statement.{statement}
 use Rattle.screen.proofs.name_console_complete_modules.Tie as tie
@@ -8,8 +10,10 @@ pub name-console-complete-modules-spec : {M : Type 1} → statement M
 name-console-complete-modules-spec =
     tie.close
     (tie.spec
-    {- ask-of-requires -}
+    {- is-filter-requires -}
     (λ c κs. search needs)
+    {- ask-of-requires -}
+    (λ c κs. filter-below _ (sym (c .before .is-filter .ensures) ∙ c .if1 .taken))
     {- complete-requires -}
     (λ c κs. search needs)
     {- same-length -}
@@ -23,4 +27,4 @@ name-console-complete-modules-spec =
     {- no-lines-requires -}
     (λ c κs. search needs)
     {- returns-2 -}
-    (λ c. lines-unasked _ (c .before .before .if1 .left) (c .before .malformed .ensures) (c .no-lines .ensures)))
+    (λ c. lines-unasked _ (sym (c .before .before .before .is-filter .ensures) ∙ c .before .before .if1 .left) (c .before .malformed .ensures) (c .no-lines .ensures)))

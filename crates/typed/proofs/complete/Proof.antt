@@ -52,7 +52,8 @@ use Rattle.table.proofs.Request as Rq
 use Rattle.table.proofs.Request.Laws as Rq′
 use Rattle.table.proofs.Listing as R
 use Rattle.table.proofs.Listing.Laws as R′
-use Rattle.typed.specs.Lines.{line-at, stored-lines, lines-in as linesIn}
+use Rattle.line.specs.LinesIn.{lines-in as linesIn}
+use Rattle.typed.specs.Lines.{line-at, stored-lines}
 use Rattle.typed.specs.Completions.{FlatCompletes, CompletesLines}
 use Rattle.typed.specs.declared.Line.{Line}
 use Rattle.typed.proofs.Line as T
@@ -67,10 +68,10 @@ use Rattle.typed.proofs.complete_flat as complete-flat
 use Rattle.typed.proofs.complete_flat.Symbol as complete-flat-def
 use Rattle.typed.proofs.complete_flat.Symbol.{name as #typed·complete-flat}
 use Rattle.typed.proofs.complete_flat.Met as complete-flat-thm
-use Rattle.typed.proofs.lines_in as lines-in
-use Rattle.typed.proofs.lines_in.Symbol as lines-in-def
-use Rattle.typed.proofs.lines_in.Symbol.{name as #typed·lines-in}
-use Rattle.typed.proofs.lines_in.Met as lines-in-thm
+use Rattle.line.proofs.lines_in as lines-in
+use Rattle.line.proofs.lines_in.Symbol as lines-in-def
+use Rattle.line.proofs.lines_in.Symbol.{name as #line·lines-in}
+use Rattle.line.proofs.lines_in.Met as lines-in-thm
 use Rattle.typed.proofs.complete.Key.{name as #typed·complete}
 use Rattle.typed.proofs.complete as complete
 use Rattle.typed.proofs.complete.Statement as stated
@@ -220,7 +221,7 @@ module _ {M : Type 1} (𝓤 : URA M) (H : Heap 𝓤) (A : Atoms 𝓤) (W : Given
       nothing ! $ owned ! Q.the-row (Is Q.the-row) (LE.makes Q.the-type Q′.the-plain 𝓤 H A) ak _ ak-is $ fjoin ! $ owned ! usize (Is usize) (uint-makes 𝓤 H A W w64) n _ (refl, n-fits) $ fjoin ! $ move ! (2 ∷ 0 ∷ []) $ fjoin ! $ move ! (1 ∷ 0 ∷ []) $ fjoin ! $
       done !
 
-  module _ (C : Calls 𝓤 H) (Λ : Loops 𝓤 H) (fm : FmC 𝓤 H (W .laws) C) (known-flat : Triple 𝓤 (C #typed·complete-flat) (Flat 𝓤 H A mem run)) (known-lines-in : Triple 𝓤 (C #typed·lines-in) (LinesIn 𝓤 H A mem run)) (known-store : Triple 𝓤 (C #typed·store-lines) (StoreLines 𝓤 H A mem run)) where
+  module _ (C : Calls 𝓤 H) (Λ : Loops 𝓤 H) (fm : FmC 𝓤 H (W .laws) C) (known-flat : Triple 𝓤 (C #typed·complete-flat) (Flat 𝓤 H A mem run)) (known-lines-in : Triple 𝓤 (C #line·lines-in) (LinesIn 𝓤 H A mem run)) (known-store : Triple 𝓤 (C #typed·store-lines) (StoreLines 𝓤 H A mem run)) where
     walk : Is (ShrSlice (named 0) κ0 u32) w (v₂ ∷ []) → Is (ShrSlice (named 1) κ1 u8) x (v₃ ∷ []) → Is (ShrSlice (named 2) κ2 u8) y (v₄ ∷ []) → Room T.the-row m → Room u8 (length fs) → Room u8 (length (ou .now))
         → ent 𝓤 (onEntry 𝓤 H A complete.signature (κ0, (κ1, (κ2, (κ3, (κ4, (κ5, tt)))))) (q0, (q1, (q2, (q3, (q4, (q5, tt)))))) a vals) (WpFn 𝓤 H C Λ code.function (v₁ ∷ v₂ ∷ v₃ ∷ vq ∷ v₄ ∷ v₈ ∷ v₆ ∷ v₇ ∷ []) Post)
     walk p₂ p₃ p₄ room₈ room room₇ =
@@ -277,7 +278,7 @@ module _ {M : Type 1} (𝓤 : URA M) (H : Heap 𝓤) (A : Atoms 𝓤) (W : Given
         by ! (exits r u (gs .1 .1 .1 .1 .1 .1 .0) (gs .1 .1 .1 .1 .1 .1 .1 .0) (zs .0) r-is (told-at said en e) lf lo lz)))))))))))))))))))))))))))))))))))))))))))
 
 module _ {M : Type 1} (𝓤 : URA M) (H : Heap 𝓤) (A : Atoms 𝓤) (W : Given 𝓤 H A) (mem : Memory → SProp 𝓤) (run : Routine → Fun 𝓤) where
-  complete-walks : (C : Calls 𝓤 H) (Λ : Loops 𝓤 H) → FmC 𝓤 H (W .laws) C → Triple 𝓤 (C #typed·complete-flat) (Flat 𝓤 H A mem run) → Triple 𝓤 (C #typed·lines-in) (LinesIn 𝓤 H A mem run) → Triple 𝓤 (C #typed·store-lines) (StoreLines 𝓤 H A mem run)
+  complete-walks : (C : Calls 𝓤 H) (Λ : Loops 𝓤 H) → FmC 𝓤 H (W .laws) C → Triple 𝓤 (C #typed·complete-flat) (Flat 𝓤 H A mem run) → Triple 𝓤 (C #line·lines-in) (LinesIn 𝓤 H A mem run) → Triple 𝓤 (C #typed·store-lines) (StoreLines 𝓤 H A mem run)
       → Walks 𝓤 H A complete.ended stayed (WpFn 𝓤 H C Λ code.function) (complete.clauses 𝓤 H A mem run)
   complete-walks C Λ fm known-flat known-lines-in known-store = walked 𝓤 H A complete.ended stayed (complete.clauses 𝓤 H A mem run) (WpFn 𝓤 H C Λ code.function)
       (λ κs. (LL.vals Tb.the-type Tb′.the-laws, (slice-vals, (slice-vals, (LL.vals Rq.the-type Rq′.the-laws, (slice-vals, (slice-vals, (slice-vals, (slice-vals, tt)))))))))
@@ -321,7 +322,7 @@ module _ {M : Type 1} (𝓤 : URA M) (H : Heap 𝓤) (A : Atoms 𝓤) (W : Given
   )
 
 complete-meets : {M : Type 1} (𝓤 : URA M) (H : Heap 𝓤) (A : Atoms 𝓤) → Given 𝓤 H A → (mem : Memory → SProp 𝓤) (run : Routine → Fun 𝓤) (𝓣 : Tables 𝓤 H)
-    → Triple 𝓤 (𝓣 .C #typed·complete-flat) (Flat 𝓤 H A mem run) → Triple 𝓤 (𝓣 .C #typed·lines-in) (LinesIn 𝓤 H A mem run) → Triple 𝓤 (𝓣 .C #typed·store-lines) (StoreLines 𝓤 H A mem run)
+    → Triple 𝓤 (𝓣 .C #typed·complete-flat) (Flat 𝓤 H A mem run) → Triple 𝓤 (𝓣 .C #line·lines-in) (LinesIn 𝓤 H A mem run) → Triple 𝓤 (𝓣 .C #typed·store-lines) (StoreLines 𝓤 H A mem run)
     → Meets 𝓤 H A complete.signature (WpFn 𝓤 H (𝓣 .C) (𝓣 .Λ) code.function) (complete.spec 𝓤 H A mem run)
 complete-meets 𝓤 H A W mem run 𝓣 known-flat known-lines-in known-store =
     walk-meets 𝓤 H A complete.ended stayed W (goes 𝓤 H A W mem run) (complete.clauses 𝓤 H A mem run)
@@ -334,5 +335,5 @@ complete-spec 𝓤 H 𝓜 𝓖 𝓡 =
     (tables 𝓤 H 𝓜 𝓡 code.env .C) (tables 𝓤 H 𝓜 𝓡 code.env .Λ) #typed·complete code.function (code.unfolded 𝓤 H 𝓜 𝓡)
     (complete-meets 𝓤 H (𝓖 .A) (givenOf 𝓤 H 𝓜 𝓖) (𝓜 .mem) (𝓡 .run) (tablesOf 𝓤 H 𝓜 (tables 𝓤 H 𝓜 𝓡 code.env))
     (cited 𝓤 H (Flat 𝓤 H (𝓖 .A) (𝓜 .mem) (𝓡 .run)) 𝓜 𝓡 code.env #typed·complete-flat complete-flat-def.routine code.calls-typed·complete-flat (complete-flat-thm.met 𝓤 H 𝓜 𝓖 𝓡))
-    (cited 𝓤 H (LinesIn 𝓤 H (𝓖 .A) (𝓜 .mem) (𝓡 .run)) 𝓜 𝓡 code.env #typed·lines-in lines-in-def.routine code.calls-typed·lines-in (lines-in-thm.met 𝓤 H 𝓜 𝓖 𝓡))
+    (cited 𝓤 H (LinesIn 𝓤 H (𝓖 .A) (𝓜 .mem) (𝓡 .run)) 𝓜 𝓡 code.env #line·lines-in lines-in-def.routine code.calls-line·lines-in (lines-in-thm.met 𝓤 H 𝓜 𝓖 𝓡))
     (cited 𝓤 H (StoreLines 𝓤 H (𝓖 .A) (𝓜 .mem) (𝓡 .run)) 𝓜 𝓡 code.env #typed·store-lines store-lines-def.routine code.calls-typed·store-lines (store-lines-thm.met 𝓤 H 𝓜 𝓖 𝓡)))

@@ -1,8 +1,8 @@
 -- ask_of meets its contract.
-use Rattle.screen.specs.Completions.{modules-for}
-use Rattle.screen.proofs.RepliesLines.{modules-three}
-use Rattle.screen.proofs.ask_of.Statement.{statement}
-use Rattle.screen.proofs.ask_of.Tie as tie
+use Rattle.numbers.specs.Filters.{modules-for}
+use Rattle.numbers.proofs.Filters.{modules-three}
+use Rattle.numbers.proofs.ask_of.Statement.{statement}
+use Rattle.numbers.proofs.ask_of.Tie as tie
 
 pub ask-of-spec : {M : Type 1} → statement M
 unfolding modules-for

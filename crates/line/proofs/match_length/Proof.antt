@@ -1,4 +1,4 @@
--- `typed::match_length` meets its contract.
+-- `match_length` meets its contract.
 use mathlib.Core.Path.{_≡_, _∙_}
 use Prim.Native.Nat.{ℕ, _<_, _≤_}
 use native.Mathlib.Omega.{arith}
@@ -8,9 +8,9 @@ use mir.Val.{toZ}
 use mir.ValLaws.{toZ-ofZ}
 use borrow.Author.Needs.{needs}
 use borrow.Author.Tests.{ne-eqb, le-ltb, lt-ltb}
-use Rattle.typed.specs.Lines.{held-length}
-use Rattle.typed.proofs.match_length.Statement.{statement}
-use Rattle.typed.proofs.match_length.Tie as tie
+use Rattle.line.specs.MatchLength.{held-length}
+use Rattle.line.proofs.match_length.Statement.{statement}
+use Rattle.line.proofs.match_length.Tie as tie
 
 none-matched : (m : ℕ) → m ≡ 4294967295 → negsuc 0 ≡ held-length m
 none-matched m e = rw e

@@ -1,14 +1,15 @@
 -- `keep` meets its contract.
-use Rattle.feed.proofs.Moves.{Moved, moved-start, moved-on}
+use Rattle.kept.proofs.Moves.{Moved, moved-start, moved-on}
+use Rattle.kept.specs.Moves.{bytes-kept}
 use mathlib.Core.Path.{_≡_}
 use Prim.Native.Nat.{_≤_, _-_, min}
 use native.Mathlib.Omega.{arith}
 use borrow.Author.Needs.{needs}
-use Rattle.feed.proofs.keep.Statement.{statement}
-use Rattle.feed.proofs.keep.Tie as tie
+use Rattle.kept.proofs.keep.Statement.{statement}
+use Rattle.kept.proofs.keep.Tie as tie
 
 abbrev Inv-loop : tie.InvT-loop
-Inv-loop input₀ from have n i₀ input i = (n ≡ min (have - from) 2049) × (i ≤ n) × Moved input₀ input from i
+Inv-loop input₀ from have n i₀ input i = (n ≡ min (have - from) bytes-kept) × (i ≤ n) × Moved input₀ input from i
 
 abbrev μ-loop : tie.MeasureT-loop
 μ-loop input₀ from have n i₀ input i = n - i

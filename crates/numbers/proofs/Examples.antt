@@ -3,7 +3,7 @@ use mathlib.Core.Path.{_≡_, refl}
 use mathlib.Core.Option.{none, some}
 use Rattle.asks.specs.declared.Ask.the-variants.{Modules}
 use Rattle.asks.specs.declared.Filter.the-variants.{NamespacesOnly}
-use Rattle.screen.specs.Completions.{modules-for}
+use Rattle.numbers.specs.Filters.{modules-for}
 
 last-filter : modules-for 3 ≡ some (Modules NamespacesOnly)
 unfolding modules-for

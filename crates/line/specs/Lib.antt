@@ -1,0 +1,2 @@
+pub mod MatchLength
+pub mod LinesIn

@@ -1,0 +1,20 @@
+-- The numbers of the filters.
+use Prim.Native.Nat.{ℕ, zero, suc}
+use mathlib.Core.Bool.{Bool, true, false}
+use mathlib.Core.Option.{Option, none, some}
+use Rattle.asks.specs.declared.Ask.{Ask}
+use Rattle.asks.specs.declared.Ask.the-variants.{Modules}
+use Rattle.asks.specs.declared.Filter.the-variants.{All, Loaded, ModulesOnly, NamespacesOnly}
+
+-- What is asked of the modules, by the number of a filter. Another number asks nothing.
+unfoldable pub modules-for : ℕ → Option Ask
+modules-for zero = some (Modules All)
+modules-for (suc zero) = some (Modules Loaded)
+modules-for (suc (suc zero)) = some (Modules ModulesOnly)
+modules-for (suc (suc (suc zero))) = some (Modules NamespacesOnly)
+modules-for (suc (suc (suc (suc n)))) = none
+
+-- Whether anything is asked.
+abbrev pub is-asked : Option Ask → Bool
+is-asked (some ask) = true
+is-asked none = false
