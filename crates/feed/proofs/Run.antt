@@ -17,9 +17,9 @@ use Rattle.table.specs.Header.{state, lent, Fresh}
 use Rattle.table.specs.declared.Table.{Table}
 use Rattle.registrations.specs.Registers.{Outcome}
 use Rattle.answers.specs.Outcomes.{Replied, Session, none, then, unlines}
-use Rattle.kept.specs.Moves.{bytes-kept}
-use Rattle.kept.specs.LastLine.{last-line}
-use Rattle.kept.proofs.LastLine.{last-some}
+use Rattle.backlog.specs.Moves.{bytes-kept}
+use Rattle.backlog.specs.LastLine.{last-line}
+use Rattle.backlog.proofs.LastLine.{last-some}
 use Rattle.feed.specs.Feed.{pending, Inside, Kept, whole, start}
 use Rattle.feed.specs.Run.{lines-after, lines-of, Program, fed, Run, read, step, end, joined}
 use Rattle.feed.proofs.Steps.{all-take}

@@ -16,8 +16,8 @@ use Rattle.memory.proofs.Outside.{outside-none}
 use Rattle.answers.specs.Outcomes.{Session, none, then, unlines}
 use Rattle.answers.specs.Answers.{Answered, Talked}
 use Rattle.answers.specs.declared.AfterLines.{AfterLines}
-use Rattle.kept.specs.Moves.{bytes-kept, Moves}
-use Rattle.kept.specs.LastLine.{LastLine}
+use Rattle.backlog.specs.Moves.{bytes-kept, Moves}
+use Rattle.backlog.specs.LastLine.{LastLine}
 use Rattle.feed.specs.Feed.{pending, Inside, Kept, whole, start, Feeds, Ends}
 use Rattle.feed.specs.declared.Feed.{Feed}
 

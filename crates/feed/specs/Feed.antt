@@ -13,8 +13,8 @@ use Rattle.numerals.specs.declared.Sort.the-variants.{Line}
 use Rattle.table.specs.Header.{IsSound, state, lent}
 use Rattle.memory.specs.Grown.{Outside}
 use Rattle.registrations.specs.declared.Done.{Done}
-use Rattle.kept.specs.Moves.{bytes-kept}
-use Rattle.kept.specs.LastLine.{last-line}
+use Rattle.backlog.specs.Moves.{bytes-kept}
+use Rattle.backlog.specs.LastLine.{last-line}
 use Rattle.answers.specs.Outcomes.{Session, unlines}
 use Rattle.feed.specs.declared.Feed.{Feed}
 use Rattle.feed.specs.declared.Progress.{Progress}

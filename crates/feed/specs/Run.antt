@@ -10,7 +10,7 @@ use Rattle.numerals.specs.Bytes.{Str, _·_, All}
 use Rattle.numerals.specs.declared.Sort.the-variants.{Line}
 use Rattle.table.specs.Header.{state}
 use Rattle.registrations.specs.declared.Done.{Done}
-use Rattle.kept.specs.LastLine.{last-line}
+use Rattle.backlog.specs.LastLine.{last-line}
 use Rattle.feed.specs.Feed.{pending, Inside, Feeds, Ends}
 use Rattle.feed.specs.declared.Feed.{Feed}
 use Rattle.feed.specs.declared.Progress.{Progress}

@@ -58,7 +58,7 @@ pub fn step(
             more: true,
         };
     }
-    let n = kept::keep(input, from, have);
+    let n = backlog::keep(input, from, have);
     let rest = Feed {
         table: after,
         from: 0,
@@ -89,7 +89,7 @@ pub fn last(
     let t = f.table;
     let from = f.from;
     let have = f.have;
-    if kept::is_line(&input[from..have]) {
+    if backlog::is_line(&input[from..have]) {
         return answers::answer(t, words, text, &input[from..have], flat, pane, reply, 0);
     }
     Done { table: t, end: 0 }

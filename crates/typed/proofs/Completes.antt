@@ -33,8 +33,8 @@ use Rattle.table.specs.declared.Listing.{Listing}
 use Rattle.rows.specs.Rows.{words-from, item-in, row-in, ItemInside}
 use Rattle.rows.proofs.Rows.{item-seen-is}
 use Rattle.rows.proofs.Written.{written-records, written-items}
-use Rattle.line.specs.MatchLength.{held, held-length}
-use Rattle.line.specs.LinesIn.{lines-in}
+use Rattle.counts.specs.MatchLength.{held, held-length}
+use Rattle.counts.specs.LinesIn.{lines-in}
 use Rattle.typed.specs.Lines.{line-of-row, line-at, stored-lines, record-seen}
 use Rattle.typed.specs.Completions.{output, Shown, ShownAs, FlatCompletes, CompletesLines}
 use Rattle.typed.specs.declared.Line.{Line}

@@ -28,7 +28,7 @@ use Rattle.roots.specs.declared.Completed.the-variants.{Listed, Refused}
 use Rattle.table.specs.declared.Request.{Request}
 use Rattle.table.specs.declared.Listing.{Listing}
 use Rattle.table.proofs.Says.{decided}
-use Rattle.line.specs.LinesIn.{lines-in}
+use Rattle.counts.specs.LinesIn.{lines-in}
 use Rattle.typed.specs.Completions.{output, FlatCompletes}
 
 -- What is written at the start of the part stands at the start of the whole.

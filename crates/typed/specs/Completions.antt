@@ -23,7 +23,7 @@ use Rattle.table.specs.declared.Table.{Table}
 use Rattle.table.specs.declared.Request.{Request}
 use Rattle.table.specs.declared.Listing.{Listing}
 use Rattle.typed.specs.declared.Line.{Line}
-use Rattle.line.specs.LinesIn.{lines-in}
+use Rattle.counts.specs.LinesIn.{lines-in}
 use Rattle.typed.specs.Lines.{record-seen}
 
 -- The output lent: a line takes a line struct and 48 bytes; lines and bytes past those that 32 bits count are not lent.

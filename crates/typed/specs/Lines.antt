@@ -9,7 +9,7 @@ use Rattle.asks.specs.Ask.{asked}
 use Rattle.asks.specs.declared.Ask.{Ask}
 use Rattle.rows.specs.Rows.{words-at, row-in, item-seen}
 use Rattle.rows.specs.declared.Row.{Row}
-use Rattle.line.specs.MatchLength.{held-length}
+use Rattle.counts.specs.MatchLength.{held-length}
 use Rattle.typed.specs.declared.Line.{Line}
 
 -- ---- From rows

@@ -29,7 +29,7 @@ pub struct Line {
 fn line_of(r: Row) -> Line
     ensures { λ l. ⌜ l ≡ line-of-row r ⌝ }
 {
-    let long = line::match_length(r.matched);
+    let long = counts::match_length(r.matched);
     let item = r.item;
     let candidate = r.candidate;
     let annotation = r.annotation;
@@ -87,7 +87,7 @@ fn complete_flat(
     if table.is_sound(words, text) {
         let ask = request.ask;
         let budget = request.budget;
-        let lent = line::bytes_for(flat.len(), room);
+        let lent = counts::bytes_for(flat.len(), room);
         return table.complete_sound(words, text, ask, query, budget, &mut flat[..lent], out);
     }
     Listing {
@@ -111,7 +111,7 @@ pub fn complete(
         (old flat) (new flat) (old out) (new out) r ⌝ }
 {
     let r = complete_flat(table, words, text, request, query, lines.len(), flat, out);
-    let n = line::lines_in(r);
+    let n = counts::lines_in(r);
     store_lines(lines, flat, n, request.ask);
     r
 }

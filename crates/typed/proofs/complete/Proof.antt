@@ -52,7 +52,7 @@ use Rattle.table.proofs.Request as Rq
 use Rattle.table.proofs.Request.Laws as Rq′
 use Rattle.table.proofs.Listing as R
 use Rattle.table.proofs.Listing.Laws as R′
-use Rattle.line.specs.LinesIn.{lines-in as linesIn}
+use Rattle.counts.specs.LinesIn.{lines-in as linesIn}
 use Rattle.typed.specs.Lines.{line-at, stored-lines}
 use Rattle.typed.specs.Completions.{FlatCompletes, CompletesLines}
 use Rattle.typed.specs.declared.Line.{Line}
@@ -68,10 +68,10 @@ use Rattle.typed.proofs.complete_flat as complete-flat
 use Rattle.typed.proofs.complete_flat.Symbol as complete-flat-def
 use Rattle.typed.proofs.complete_flat.Symbol.{name as #typed·complete-flat}
 use Rattle.typed.proofs.complete_flat.Met as complete-flat-thm
-use Rattle.line.proofs.lines_in as lines-in
-use Rattle.line.proofs.lines_in.Symbol as lines-in-def
-use Rattle.line.proofs.lines_in.Symbol.{name as #line·lines-in}
-use Rattle.line.proofs.lines_in.Met as lines-in-thm
+use Rattle.counts.proofs.lines_in as lines-in
+use Rattle.counts.proofs.lines_in.Symbol as lines-in-def
+use Rattle.counts.proofs.lines_in.Symbol.{name as #line·lines-in}
+use Rattle.counts.proofs.lines_in.Met as lines-in-thm
 use Rattle.typed.proofs.complete.Key.{name as #typed·complete}
 use Rattle.typed.proofs.complete as complete
 use Rattle.typed.proofs.complete.Statement as stated

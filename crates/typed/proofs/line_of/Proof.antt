@@ -11,7 +11,7 @@ use mir.ValLaws.{toZ-ofZ}
 use borrow.Author.Tests.{ltb-false}
 use Rattle.memory.specs.Layout.{pick}
 use Rattle.rows.specs.declared.Row.{Row}
-use Rattle.line.specs.MatchLength.{held, held-length}
+use Rattle.counts.specs.MatchLength.{held, held-length}
 use Rattle.typed.specs.Lines.{line-of-row}
 use Rattle.typed.specs.declared.Line.{Line}
 use borrow.Author.Needs.{needs}

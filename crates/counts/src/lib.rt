@@ -4,8 +4,8 @@ use table::Listing;
 ghost use Prim.Native.Nat.{_*_, _/_, min};
 ghost use mathlib.Core.Path.{_≡_};
 ghost use Rattle.output.specs.Output.{line-bytes};
-ghost use Rattle.line.specs.MatchLength.{held-length};
-ghost use Rattle.line.specs.LinesIn.{lines-in};
+ghost use Rattle.counts.specs.MatchLength.{held-length};
+ghost use Rattle.counts.specs.LinesIn.{lines-in};
 
 // The match length that word 0 of a line holds. A completion never writes one over 2147483647.
 pub fn match_length(w: u32) -> i32

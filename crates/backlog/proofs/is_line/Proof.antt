@@ -1,7 +1,7 @@
 -- `is_line` meets its contract.
-use Rattle.kept.proofs.LastLine.{is-line}
-use Rattle.kept.proofs.is_line.Statement.{statement}
-use Rattle.kept.proofs.is_line.Tie as tie
+use Rattle.backlog.proofs.LastLine.{is-line}
+use Rattle.backlog.proofs.is_line.Statement.{statement}
+use Rattle.backlog.proofs.is_line.Tie as tie
 
 pub is-line-spec : {M : Type 1} → statement M
 is-line-spec =

@@ -8,9 +8,9 @@ use mir.Val.{toZ}
 use mir.ValLaws.{toZ-ofZ}
 use borrow.Author.Needs.{needs}
 use borrow.Author.Tests.{ne-eqb, le-ltb, lt-ltb}
-use Rattle.line.specs.MatchLength.{held-length}
-use Rattle.line.proofs.match_length.Statement.{statement}
-use Rattle.line.proofs.match_length.Tie as tie
+use Rattle.counts.specs.MatchLength.{held-length}
+use Rattle.counts.proofs.match_length.Statement.{statement}
+use Rattle.counts.proofs.match_length.Tie as tie
 
 none-matched : (m : ℕ) → m ≡ 4294967295 → negsuc 0 ≡ held-length m
 none-matched m e = rw e

@@ -1,12 +1,12 @@
 -- `keep` meets its contract.
-use Rattle.kept.proofs.Moves.{Moved, moved-start, moved-on}
-use Rattle.kept.specs.Moves.{bytes-kept}
+use Rattle.backlog.proofs.Moves.{Moved, moved-start, moved-on}
+use Rattle.backlog.specs.Moves.{bytes-kept}
 use mathlib.Core.Path.{_≡_}
 use Prim.Native.Nat.{_≤_, _-_, min}
 use native.Mathlib.Omega.{arith}
 use borrow.Author.Needs.{needs}
-use Rattle.kept.proofs.keep.Statement.{statement}
-use Rattle.kept.proofs.keep.Tie as tie
+use Rattle.backlog.proofs.keep.Statement.{statement}
+use Rattle.backlog.proofs.keep.Tie as tie
 
 abbrev Inv-loop : tie.InvT-loop
 Inv-loop input₀ from have n i₀ input i = (n ≡ min (have - from) bytes-kept) × (i ≤ n) × Moved input₀ input from i

@@ -7,7 +7,7 @@ use lib.Dec.{ltb}
 use lib.ListN.{length}
 use borrow.Author.Tests.{lt-ltb}
 use Rattle.source.specs.Text.{Str}
-use Rattle.kept.specs.LastLine.{last-line, LastLine}
+use Rattle.backlog.specs.LastLine.{last-line, LastLine}
 
 pub last-some : (s : Str) → 0 < length s → last-line s ≡ s ∷ []
 last-some [] h = absurd (omega arith)

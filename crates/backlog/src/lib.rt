@@ -3,8 +3,8 @@ ghost use Prim.Native.Nat.{_≤_, min};
 ghost use mathlib.Core.Path.{_≡_};
 ghost use lib.ListN.{length};
 ghost use Rattle.source.specs.Lent.{old, new};
-ghost use Rattle.kept.specs.Moves.{bytes-kept, Moves};
-ghost use Rattle.kept.specs.LastLine.{LastLine};
+ghost use Rattle.backlog.specs.Moves.{bytes-kept, Moves};
+ghost use Rattle.backlog.specs.LastLine.{LastLine};
 
 // Bytes kept of a line: it has at most 2,048, and one more tells that it is too long.
 const BYTES_KEPT: usize = 2049;
