@@ -127,12 +127,12 @@ fn descend(
         if tree::key_past(words, text, at, low, strict) {
             if tree::key_begins(words, text, at, prefix) {
                 n = note(notes, n, at);
-                at = memory::left_of(words, at);
+                at = access::left_of(words, at);
             } else {
-                at = memory::left_of(words, at);
+                at = access::left_of(words, at);
             }
         } else {
-            at = memory::right_of(words, at);
+            at = access::right_of(words, at);
         }
     }
     n
@@ -157,9 +157,9 @@ fn note_left(
     while 0 < at {
         if tree::key_begins(words, text, at, prefix) {
             n = note(notes, n, at);
-            at = memory::left_of(words, at);
+            at = access::left_of(words, at);
         } else {
-            at = memory::left_of(words, at);
+            at = access::left_of(words, at);
         }
     }
     n
@@ -217,7 +217,7 @@ pub fn next_match(
     ensures { λ r. ⌜ Matched (old words) (old text) (old prefix) (new notes)
         (after (key-at (old words) (old text)) (key-at (old words) (old text) at) (matches (old words) (old text) root (old prefix))) r ⌝ }
 {
-    let right = memory::right_of(words, at);
+    let right = access::right_of(words, at);
     let here = note_left(words, text, prefix, right, notes, n);
     if 0 < here {
         return last_note(notes, here);
@@ -225,7 +225,7 @@ pub fn next_match(
     if notes[DROPPED] == 0 {
         return Next { link: 0, n: 0 };
     }
-    let low = memory::key_of(words, text, at);
+    let low = access::key_of(words, text, at);
     let marked = take_mark(notes);
     let near = descend(words, text, prefix, low, true, marked, notes);
     if 0 < near {

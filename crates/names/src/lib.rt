@@ -27,7 +27,7 @@ pub fn lead_of(words: &[u32], list: u32) -> Lead
     if list == 0 {
         return Lead { tree: 0, rest: 0 };
     }
-    let c = memory::collection_of(words, list);
+    let c = access::collection_of(words, list);
     if c.imported {
         return Lead {
             tree: 0,
@@ -47,8 +47,8 @@ pub fn names_find_exact(words: &[u32], text: &[u8], list: u32, key: &[u8]) -> u3
 {
     let mut link = list;
     while 0 < link {
-        let own = memory::own_of(words, link);
-        let found = if memory::sort_of(words, link) == memory::IMPORTED {
+        let own = access::own_of(words, link);
+        let found = if access::sort_of(words, link) == memory::IMPORTED {
             names_find_exact(words, text, own, key)
         } else {
             tree::btree_find_exact(words, text, own, key)
@@ -56,7 +56,7 @@ pub fn names_find_exact(words: &[u32], text: &[u8], list: u32, key: &[u8]) -> u3
         if 0 < found {
             return found;
         }
-        link = memory::rest_of(words, link);
+        link = access::rest_of(words, link);
     }
     0
 }
@@ -81,7 +81,7 @@ pub fn names_place(words: &[u32], text: &[u8], list: u32, key: &[u8]) -> NamesPl
     NamesPlace {
         holder: holder,
         count: place.count,
-        weight: memory::weight_of(words, lead.rest) + 1,
+        weight: access::weight_of(words, lead.rest) + 1,
     }
 }
 
@@ -92,13 +92,13 @@ fn put_collection(words: &mut [u32], records: u32, kind: u32, c: Collection) -> 
     ensures { λ r. ⌜ r ≡ records + 1 ⌝ }
     ensures { λ r. ⌜ new words ≡ put (old words) records (collection-over (old words) kind c) ⌝ }
 {
-    let mut depth = memory::depth_of(words, c.own);
-    let other = memory::depth_of(words, c.rest);
+    let mut depth = access::depth_of(words, c.own);
+    let other = access::depth_of(words, c.rest);
     if depth < other {
         depth = other;
     }
-    let row = memory::make::collection_row(kind, c, depth);
-    memory::put_row(words, records, &row);
+    let row = access::make::collection_row(kind, c, depth);
+    access::put_row(words, records, &row);
     records + 1
 }
 
@@ -109,7 +109,7 @@ pub fn put_names(words: &mut [u32], records: u32, kind: u32, own: u32, rest: u32
     ensures { λ r. ⌜ r ≡ records + 1 ⌝ }
     ensures { λ r. ⌜ MadeNames (old words) (new words) records kind own rest r ⌝ }
 {
-    let weight = memory::weight_of(words, rest) + 1;
+    let weight = access::weight_of(words, rest) + 1;
     let c = Collection {
         imported: false,
         label: Span { start: 0, len: 0 },
@@ -159,7 +159,7 @@ pub fn imported(
     ensures { λ r. ⌜ r ≡ records + 1 ⌝ }
     ensures { λ r. ⌜ MadeImported (old words) (new words) records kind (label .start) (label .len) inner list r ⌝ }
 {
-    let weight = memory::weight_of(words, inner) + memory::weight_of(words, list) + 1;
+    let weight = access::weight_of(words, inner) + access::weight_of(words, list) + 1;
     let c = Collection {
         imported: true,
         label: label,
@@ -180,9 +180,9 @@ pub fn put_trie(words: &mut [u32], records: u32, kind: u32, bindings: u32, names
     let t = Trie {
         bindings: bindings,
         namespaces: namespaces,
-        depth: memory::depth_of(words, namespaces),
+        depth: access::depth_of(words, namespaces),
     };
-    let row = memory::make::trie_row(kind, t);
-    memory::put_row(words, records, &row);
+    let row = access::make::trie_row(kind, t);
+    access::put_row(words, records, &row);
     records + 1
 }
