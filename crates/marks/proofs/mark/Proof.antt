@@ -3,9 +3,9 @@ use mathlib.Core.Path.{refl}
 use mathlib.Core.Logic.{inl, inr}
 use native.Mathlib.Omega.{arith}
 use borrow.Author.Needs.{needs}
-use Rattle.matches.proofs.Marks.{near-part, far-fits}
-use Rattle.matches.proofs.mark.Statement.{statement}
-use Rattle.matches.proofs.mark.Tie as tie
+use Rattle.marks.proofs.Marks.{near-part, far-fits}
+use Rattle.marks.proofs.mark.Statement.{statement}
+use Rattle.marks.proofs.mark.Tie as tie
 
 pub mark-spec : {M : Type 1} → statement M
 mark-spec =

@@ -4,6 +4,7 @@ use mathlib.Core.Path.{_≡_}
 use mathlib.Core.List.{List}
 use mathlib.Core.Logic.{_⊎_}
 use lib.ListN.{length, getD, set}
+use Rattle.marks.specs.declared.Next.{Next}
 
 -- At most so many notes, near marks and far marks.
 abbrev pub most-notes : ℕ
@@ -94,3 +95,8 @@ pub record NotedAt (notes notes′ : List ℕ) (n branch r : ℕ) : Type 0 where
   pub below : k < most-notes
   pub is : notes′ ≡ set between k branch
   pub count : r ≡ k + 1
+
+-- The last of n notes, and how many there are before it.
+pub record LastNote (notes : List ℕ) (n : ℕ) (r : Next) : Type 0 where
+  pub link : r .link ≡ getD notes (n - 1) 0
+  pub before : r .n ≡ n - 1

@@ -2,9 +2,9 @@
 use mathlib.Core.Path.{sym, _∙_}
 use native.Mathlib.Omega.{arith}
 use Rattle.tree.proofs.Branches.{tree-fits, sides-earlier}
-use Rattle.matches.proofs.Notes.{Descending, descending-all, descending-note, descending-left, descending-right, descending-done}
-use Rattle.matches.proofs.descend.Statement.{statement}
-use Rattle.matches.proofs.descend.Tie as tie
+use Rattle.noting.proofs.Noting.{Descending, descending-all, descending-note, descending-left, descending-right, descending-done}
+use Rattle.noting.proofs.descend.Statement.{statement}
+use Rattle.noting.proofs.descend.Tie as tie
 
 pub descend-spec : {M : Type 1} → statement M
 descend-spec =

@@ -7,7 +7,7 @@ use native.Mathlib.Omega.{arith}
 use native.Mathlib.Decide.{ℕ-discrete}
 use lib.ListN.{length, getD, set, length-set}
 use lib.Seq.{getD-set-same, getD-set-other}
-use Rattle.matches.specs.Marks.{most-notes, most-near, most-far, near-start, far-start, near-count, far-count, dropped, note-words, Fits, Holds, PartOk, PutAt, Marks, Drops, MarkTaken}
+use Rattle.marks.specs.Marks.{most-notes, most-near, most-far, near-start, far-start, near-count, far-count, dropped, note-words, Fits, Holds, PartOk, PutAt, Marks, Drops, MarkTaken}
 
 -- ---- Room
 

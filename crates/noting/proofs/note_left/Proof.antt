@@ -2,9 +2,9 @@
 use mathlib.Core.Path.{sym, _∙_}
 use native.Mathlib.Omega.{arith}
 use Rattle.tree.proofs.Branches.{tree-fits, sides-earlier}
-use Rattle.matches.proofs.Notes.{Lefting, lefting-all, lefting-note, lefting-left, lefting-done}
-use Rattle.matches.proofs.note_left.Statement.{statement}
-use Rattle.matches.proofs.note_left.Tie as tie
+use Rattle.noting.proofs.Noting.{Lefting, lefting-all, lefting-note, lefting-left, lefting-done}
+use Rattle.noting.proofs.note_left.Statement.{statement}
+use Rattle.noting.proofs.note_left.Tie as tie
 
 pub note-left-spec : {M : Type 1} → statement M
 note-left-spec =

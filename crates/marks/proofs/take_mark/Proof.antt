@@ -2,8 +2,8 @@
 use mathlib.Core.Path.{refl}
 use mathlib.Core.Logic.{inl, inr}
 use borrow.Author.Needs.{needs}
-use Rattle.matches.proofs.take_mark.Statement.{statement}
-use Rattle.matches.proofs.take_mark.Tie as tie
+use Rattle.marks.proofs.take_mark.Statement.{statement}
+use Rattle.marks.proofs.take_mark.Tie as tie
 
 pub take-mark-spec : {M : Type 1} → statement M
 take-mark-spec =

@@ -3,8 +3,8 @@ use mathlib.Core.Path.{refl}
 use mathlib.Core.Logic.{inl, inr}
 use native.Mathlib.Omega.{arith}
 use borrow.Author.Needs.{needs}
-use Rattle.matches.proofs.note.Statement.{statement}
-use Rattle.matches.proofs.note.Tie as tie
+use Rattle.marks.proofs.note.Statement.{statement}
+use Rattle.marks.proofs.note.Tie as tie
 
 pub note-spec : {M : Type 1} → statement M
 note-spec =

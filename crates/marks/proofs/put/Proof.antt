@@ -3,8 +3,8 @@ use mathlib.Core.Path.{refl}
 use native.Mathlib.Omega.{arith}
 use borrow.Author.Needs.{needs}
 use native.Mathlib.Nat.{add-zero}
-use Rattle.matches.proofs.put.Statement.{statement}
-use Rattle.matches.proofs.put.Tie as tie
+use Rattle.marks.proofs.put.Statement.{statement}
+use Rattle.marks.proofs.put.Tie as tie
 
 pub put-spec : {M : Type 1} → statement M
 put-spec =

@@ -1,17 +1,16 @@
 -- Notes of branches still to come, and what they say of the matches of a tree.
-use Prim.Native.Nat.{ℕ, zero, suc, _-_, _<_}
+use Prim.Native.Nat.{ℕ, zero, suc, _<_}
 use mathlib.Core.Path.{_≡_}
 use mathlib.Core.Bool.{Bool, true}
 use mathlib.Core.List.{List, [], _∷_, _++_}
-use lib.ListN.{length, getD}
+use lib.ListN.{getD}
 use Rattle.source.specs.Text.{Str, starts-with}
 use Rattle.source.specs.Rules.{_<ˢ_}
 use Rattle.source.specs.Shared.{Allˡ}
 use Rattle.memory.specs.Layout.{record-at, right-link, key-at}
 use Rattle.tree.specs.Tree.{AnyTree}
-use Rattle.tree.specs.Links.{branches, matches, keep, past, head0}
-use Rattle.matches.specs.Marks.{dropped, note-words, Fits, Holds}
-use Rattle.matches.specs.declared.Next.{Next}
+use Rattle.tree.specs.Links.{branches, matches, keep, past}
+use Rattle.marks.specs.Marks.{dropped, Fits, Holds}
 
 -- What the first n notes say is to come: the last one, the matches to its right, then what the others say.
 unfoldable pub to-come : (ws txt : List ℕ) (prefix : Str) (notes : List ℕ) → ℕ → List ℕ
@@ -43,10 +42,6 @@ pub record Noting (ws txt : List ℕ) (prefix : Str) (b : Str → Bool) (notes :
   pub says : l ≡ h ++ (to-come ws txt prefix notes n ++ rest)
   pub whole : getD notes dropped 0 ≡ 0 → rest ≡ []
 
--- The list l, all after the branch at, begins with the matches to its right and what the first n notes say.
-abbrev pub Noted : (ws txt : List ℕ) (prefix : Str) (notes : List ℕ) (n at : ℕ) (l : List ℕ) → Type 0
-Noted ws txt prefix notes n at l = Noting ws txt prefix (past true (key-at ws txt at)) notes n (matches ws txt (right-link (record-at ws at)) prefix) l
-
 -- The matches of the tree from that are past low are noted. With none noted there are none.
 pub record Descends (ws txt : List ℕ) (prefix low : Str) (strict : Bool) (from : ℕ) (notes notes′ : List ℕ) (r : ℕ) : Type 0 where
   pub fits : Fits notes′ r
@@ -61,14 +56,3 @@ AllAfter ws txt prefix from = Allˡ (λ x. prefix <ˢ key-at ws txt x) (branches
 pub record NotesLeft (ws txt : List ℕ) (prefix : Str) (from : ℕ) (notes notes′ : List ℕ) (n r : ℕ) : Type 0 where
   pub fits : Fits notes′ r
   pub notes-on : (b : Str → Bool) (l : List ℕ) → Allˡ (λ x. b (key-at ws txt x) ≡ true) (branches ws from) → Noting ws txt prefix b notes n (matches ws txt from prefix) l → Noting ws txt prefix b notes′ r [] l
-
--- The last of n notes, and how many there are before it.
-pub record LastNote (notes : List ℕ) (n : ℕ) (r : Next) : Type 0 where
-  pub link : r .link ≡ getD notes (n - 1) 0
-  pub before : r .n ≡ n - 1
-
--- The first of the list l, 0 where it is empty, and notes of the rest.
-pub record Matched (ws txt : List ℕ) (prefix : Str) (notes : List ℕ) (l : List ℕ) (r : Next) : Type 0 where
-  pub head : r .link ≡ head0 l
-  pub sized : length notes ≡ note-words
-  pub noted : (x : ℕ) (after : List ℕ) → l ≡ x ∷ after → Noted ws txt prefix notes (r .n) x after
