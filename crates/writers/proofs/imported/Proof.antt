@@ -1,8 +1,8 @@
--- `names::imported` meets its contract.
+-- `writers::imported` meets its contract.
 use borrow.Author.Needs.{needs}
-use Rattle.names.proofs.Made.{made-imported}
-use Rattle.names.proofs.imported.Statement.{statement}
-use Rattle.names.proofs.imported.Tie as tie
+use Rattle.writers.proofs.Made.{made-imported}
+use Rattle.writers.proofs.imported.Statement.{statement}
+use Rattle.writers.proofs.imported.Tie as tie
 
 pub imported-spec : {M : Type 1} → statement M
 imported-spec =

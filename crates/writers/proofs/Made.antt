@@ -20,7 +20,7 @@ use Rattle.memory.proofs.Stays.{stays-same, stays-on, what-stays, stored-stays,
 use Rattle.memory.proofs.StoredSizes.{stored-weight, stored-list, weight-row, depth-collection, depth-trie}
 use Rattle.memory.proofs.Put.{put-stays, put-what, put-used, put-link}
 use Rattle.insertion.proofs.Changed.{drop-more}
-use Rattle.names.specs.Made.{Room, Made, collection-over, MadeNames, MadeImported, MadeTrie}
+use Rattle.writers.specs.Made.{Room, Made, collection-over, MadeNames, MadeImported, MadeTrie}
 use Rattle.memory.proofs.At.{rows-before}
 
 module _ {ws txt : List ℕ} {n used : ℕ} {w : Which} where

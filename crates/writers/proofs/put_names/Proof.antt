@@ -1,8 +1,8 @@
--- `names::put_names` meets its contract.
+-- `writers::put_names` meets its contract.
 use borrow.Author.Needs.{needs}
-use Rattle.names.proofs.Made.{made-names}
-use Rattle.names.proofs.put_names.Statement.{statement}
-use Rattle.names.proofs.put_names.Tie as tie
+use Rattle.writers.proofs.Made.{made-names}
+use Rattle.writers.proofs.put_names.Statement.{statement}
+use Rattle.writers.proofs.put_names.Tie as tie
 
 pub put-names-spec : {M : Type 1} → statement M
 put-names-spec =

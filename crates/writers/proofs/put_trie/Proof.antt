@@ -1,10 +1,10 @@
--- `names::put_trie` meets its contract.
+-- `writers::put_trie` meets its contract.
 use borrow.Author.Needs.{needs}
 use mathlib.Core.Path.{refl}
 use native.Mathlib.Omega.{arith}
-use Rattle.names.proofs.Made.{made-trie}
-use Rattle.names.proofs.put_trie.Statement.{statement}
-use Rattle.names.proofs.put_trie.Tie as tie
+use Rattle.writers.proofs.Made.{made-trie}
+use Rattle.writers.proofs.put_trie.Statement.{statement}
+use Rattle.writers.proofs.put_trie.Tie as tie
 
 pub put-trie-spec : {M : Type 1} → statement M
 put-trie-spec =

@@ -1,11 +1,11 @@
--- `names::put_collection` meets its contract.
+-- `writers::put_collection` meets its contract.
 use borrow.Author.Needs.{needs}
 use native.Mathlib.Omega.{arith}
 use Prim.Native.Nat.{max}
 use mathlib.Core.Path.{_≡_, refl, _∙_}
 use mathlib.Core.Logic.{⊎-elim}
-use Rattle.names.proofs.put_collection.Statement.{statement}
-use Rattle.names.proofs.put_collection.Tie as tie
+use Rattle.writers.proofs.put_collection.Statement.{statement}
+use Rattle.writers.proofs.put_collection.Tie as tie
 
 pub put-collection-spec : {M : Type 1} → statement M
 put-collection-spec =
