@@ -39,7 +39,7 @@ fn note_of<'a>(words: &[u32], text: &'a [u8], label: u32) -> &'a [u8]
     if label == 0 {
         return &text[0..0];
     }
-    memory::key_of(words, text, label)
+    access::key_of(words, text, label)
 }
 
 // Whether what is asked keeps a found branch.
@@ -50,7 +50,7 @@ pub fn kept(words: &[u32], ask: Ask, branch: u32) -> bool
     match ask {
         Ask::Names => true,
         Ask::Modules(f) => {
-            let symbol = memory::symbol_of(words, branch);
+            let symbol = access::symbol_of(words, branch);
             match symbol {
                 ModSymbol::Module(_, _, loaded) => asks::keeps(f, true, loaded),
                 ModSymbol::Namespace(_, loaded) => asks::keeps(f, false, loaded),
@@ -79,7 +79,7 @@ pub fn annotation<'a>(
     match ask {
         Ask::Names => note_of(words, text, found.label),
         Ask::Modules(_) => {
-            let symbol = memory::symbol_of(words, found.link);
+            let symbol = access::symbol_of(words, found.link);
             match symbol {
                 ModSymbol::Module(_, _, loaded) => {
                     if loaded {

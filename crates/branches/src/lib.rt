@@ -1,6 +1,6 @@
 // Is a branch right, given that the records before it are? By what these store.
 use memory::Span;
-use text::Rule;
+use queries::Rule;
 ghost use mathlib.Core.Path.{_≡_};
 ghost use Prim.Native.Nat.{_*_, _≤_, _<_};
 ghost use lib.ListN.{length};
@@ -39,7 +39,7 @@ pub fn branch_ok(
     if !fields::link_ok(words, link, second, k) {
         return false;
     }
-    if !fields::text_ok(text, used, start, len, 1, text::NAME_MOST, Rule::Name) {
+    if !fields::text_ok(text, used, start, len, 1, queries::NAME_MOST, Rule::Name) {
         return false;
     }
     let key = Span {
@@ -69,7 +69,7 @@ pub fn symbol_ok(text: &[u8], used: u32, r: &[u32]) -> bool
         r[memory::NAME_START],
         r[memory::NAME_LEN],
         1,
-        text::FULL_NAME_MOST,
+        queries::FULL_NAME_MOST,
         Rule::Query,
     ) {
         return false;
@@ -83,7 +83,7 @@ pub fn symbol_ok(text: &[u8], used: u32, r: &[u32]) -> bool
         r[memory::PATH_START],
         r[memory::PATH_LEN],
         0,
-        text::PATH_MOST,
+        queries::PATH_MOST,
         Rule::Path,
     )
 }
@@ -93,8 +93,8 @@ pub fn deeper(words: &[u32], link: u32, r: &[u32]) -> u32
     requires { ⌜ (link * record-words ≤ length (now words)) × (length (now r) ≡ record-words) × (left-link (now r) < link) × (right-link (now r) < link) ⌝ }
     ensures { λ d. ⌜ d ≡ depth-of (old words) (old r) ⌝ }
 {
-    let a = memory::depth_of(words, r[memory::FIRST]);
-    let b = memory::depth_of(words, r[memory::SECOND]);
+    let a = access::depth_of(words, r[memory::FIRST]);
+    let b = access::depth_of(words, r[memory::SECOND]);
     if a < b {
         return b;
     }
@@ -112,7 +112,7 @@ pub fn held_ok(words: &[u32], text: &[u8], used: u32, link: u32, r: &[u32], t: u
     if !fields::link_ok(words, link, held, t) {
         return false;
     }
-    let d = 1 + fields::wide(memory::depth_of(words, held));
+    let d = 1 + fields::wide(access::depth_of(words, held));
     let e = fields::wide(deeper(words, link, r));
     let s = fields::wide(r[memory::DEPTH]);
     if d < e {

@@ -13,9 +13,9 @@ use Rattle.source.specs.Table.{name-of-revq}
 use Rattle.source.specs.Shared.{Allˡ}
 use Rattle.source.specs.Queries.{IsQuery}
 use Rattle.source.proofs.Queries.{segments-append, string-is, name-of-revq-full-name}
-use Rattle.text.specs.Text.{before-dot}
-use Rattle.text.specs.Text.{Segment}
-use Rattle.text.proofs.Segments.{segment-at, before-inside}
+use Rattle.queries.specs.Queries.{before-dot}
+use Rattle.queries.specs.Queries.{Segment}
+use Rattle.queries.proofs.Segments.{segment-at, before-inside}
 use Rattle.memory.proofs.Pasted.{span-length}
 use Rattle.memory.specs.Layout.{span}
 use Rattle.memory.specs.Sound.{TextOk}

@@ -31,7 +31,7 @@ fn segment_in(text: &[u8], at: u32, end: u32) -> u32
 {
     let first = at as usize;
     let last = end as usize;
-    text::segment_length(&text[first..last]) as u32
+    queries::segment_length(&text[first..last]) as u32
 }
 
 // What is added to the kinds of the names table in the table of a change.
@@ -69,9 +69,9 @@ fn symbol_row(
         len: at + len - from,
     };
     if last {
-        return memory::make::symbol_row(key, ModSymbol::Module(name, path, loaded));
+        return access::make::symbol_row(key, ModSymbol::Module(name, path, loaded));
     }
-    memory::make::symbol_row(key, ModSymbol::Namespace(name, loaded))
+    access::make::symbol_row(key, ModSymbol::Namespace(name, loaded))
 }
 
 // ins of register_module_path: a Module at the last segment, a Namespace before it where ins_ns inserts.
@@ -151,7 +151,7 @@ fn mut_node(
     requires { ⌜ Some (λ used. Node (now words) (now text) records used trie namespaces at len d) ⌝ }
     ensures { λ r. ⌜ NodeBuilt (old words) (new words) (old text) records trie namespaces at len d (r .link) (r .records) ⌝ }
 {
-    let t = memory::trie_of(words, trie);
+    let t = access::trie_of(words, trie);
     let b = mut_bindings(words, text, records, t.bindings, at, len, d);
     let kinds = kinds_of(d.change);
     let link = writers::put_trie(words, b.records, kinds + 5, b.link, namespaces);
@@ -183,7 +183,7 @@ fn namespaces_mutate(
         start: at,
         len: len,
     };
-    let row = memory::make::namespace_row(kinds, key, m.link);
+    let row = access::make::namespace_row(kinds, key, m.link);
     let link = names::names_insert(words, text, m.records, namespaces, way[1], row);
     Built {
         link: link,
@@ -209,7 +209,7 @@ pub fn trie_mutate(
         return mut_leaf(words, text, records, trie, d.change, way[1]);
     }
     let len = segment_in(text, at, d.end);
-    let t = memory::trie_of(words, trie);
+    let t = access::trie_of(words, trie);
     let n = namespaces_mutate(words, text, records, t.namespaces, at, len, d, way);
     mut_node(words, text, n.records, trie, n.link, at, len, d)
 }

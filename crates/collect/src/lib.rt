@@ -38,12 +38,12 @@ pub fn collect(
     if list == 0 {
         return at;
     }
-    let own = memory::own_of(words, list);
+    let own = access::own_of(words, list);
     let rest = Labelled {
-        list: memory::rest_of(words, list),
+        list: access::rest_of(words, list),
         label: label,
     };
-    if memory::sort_of(words, list) == memory::IMPORTED {
+    if access::sort_of(words, list) == memory::IMPORTED {
         let mut outer = label;
         if label == 0 {
             outer = list;

@@ -30,10 +30,10 @@ fn branch_depth(words: &[u32], kind: u32, held: u32, left: u32, right: u32) -> u
 {
     if of_namespaces(kind) {
         let sides = larger(
-            memory::depth_of(words, left),
-            memory::depth_of(words, right),
+            access::depth_of(words, left),
+            access::depth_of(words, right),
         );
-        return larger(memory::depth_of(words, held) + 1, sides);
+        return larger(access::depth_of(words, held) + 1, sides);
     }
     0
 }
@@ -44,7 +44,7 @@ fn with_sides(words: &[u32], row: [u32; memory::ROW], left: u32, right: u32) -> 
     ensures { λ r. ⌜ r ≡ with-sides (old words) row left right ⌝ }
 {
     let depth = branch_depth(words, row[memory::KIND], row[memory::HELD], left, right);
-    memory::make::with_sides(row, left, right, depth)
+    access::make::with_sides(row, left, right, depth)
 }
 
 // The copy of the branch that record number `at` notes, with the link `at` on the side taken.
@@ -52,8 +52,8 @@ pub fn raised_row(words: &[u32], at: u32) -> [u32; memory::ROW]
     requires { ⌜ RaiseOk (now words) at ⌝ }
     ensures { λ r. ⌜ r ≡ raised-row (old words) at ⌝ }
 {
-    let old = memory::row_of(words, memory::note_link(words, at + 1));
-    if memory::note_side(words, at + 1) == 0 {
+    let old = access::row_of(words, access::note_link(words, at + 1));
+    if access::note_side(words, at + 1) == 0 {
         return with_sides(words, old, at, old[memory::RIGHT]);
     }
     with_sides(words, old, old[memory::LEFT], at)
@@ -64,11 +64,11 @@ pub fn lowest_row(words: &[u32], at: u32, row: [u32; memory::ROW]) -> [u32; memo
     requires { ⌜ LowestOk (now words) at row ⌝ }
     ensures { λ r. ⌜ r ≡ lowest-row (old words) at row ⌝ }
 {
-    let link = memory::note_link(words, at + 1);
+    let link = access::note_link(words, at + 1);
     with_sides(
         words,
         row,
-        memory::left_side(words, link),
-        memory::right_side(words, link),
+        access::left_side(words, link),
+        access::right_side(words, link),
     )
 }

@@ -1,7 +1,7 @@
 // The parts of the soundness test that look at one field of a record: a text, a link, the keys of a side.
 use memory::Span;
+use queries::Rule;
 use text::Order;
-use text::Rule;
 ghost use mathlib.Core.Path.{_≡_};
 ghost use Prim.Native.Nat.{_+_, _*_, _≤_, _<_};
 ghost use lib.ListN.{length};
@@ -10,7 +10,7 @@ ghost use Rattle.source.specs.Limits.{record-words};
 ghost use Rattle.source.specs.Rules.{Fits, _<ˢ_};
 ghost use Rattle.memory.specs.Layout.{span};
 ghost use Rattle.memory.specs.Sound.{Says, LinkOk, TextOk};
-ghost use Rattle.text.specs.Text.{byte-rule};
+ghost use Rattle.queries.specs.Queries.{byte-rule};
 ghost use Rattle.fields.specs.Fields.{Subtree, Far, WaysNoted, CanNoteWay, Ending, SaysLeft, SaysRight};
 
 // Is the span in the used part, `low` to `high` bytes long, and does each byte keep the rule?
@@ -37,7 +37,7 @@ pub fn text_ok(
     if high < n {
         return false;
     }
-    text::all_allowed(rule, &text[s..s + n])
+    queries::all_allowed(rule, &text[s..s + n])
 }
 
 // The same number, in 64 bits.
@@ -68,7 +68,7 @@ pub fn link_ok(words: &[u32], link: u32, x: u32, k: u32) -> bool
     if link <= x {
         return false;
     }
-    if memory::word_of(words, x, memory::KIND) == k {
+    if access::word_of(words, x, memory::KIND) == k {
         return true;
     }
     false
@@ -105,7 +105,7 @@ pub fn note(words: &[u32], link: u32, k: usize, notes: &mut [u32])
     if notes.len() <= at {
         return;
     }
-    let next = memory::word_of(words, link, k);
+    let next = access::word_of(words, link, k);
     let mut end = link;
     if 0 < next {
         end = notes[next as usize];
@@ -121,7 +121,7 @@ fn end_of(words: &[u32], from: u32, k: usize, notes: &[u32]) -> u32
     let noted = notes.len();
     let mut x = from;
     while noted <= x as usize {
-        let next = memory::word_of(words, x, k);
+        let next = access::word_of(words, x, k);
         if next == 0 {
             return x;
         }
@@ -149,8 +149,8 @@ pub fn left_ok(
         return true;
     }
     let x = end_of(words, top, memory::RIGHT, notes);
-    let s = memory::word_of(words, x, memory::TEXT_START);
-    let n = memory::word_of(words, x, memory::TEXT_LEN);
+    let s = access::word_of(words, x, memory::TEXT_START);
+    let n = access::word_of(words, x, memory::TEXT_LEN);
     spans_less(text, s, n, key.start, key.len)
 }
 
@@ -173,7 +173,7 @@ pub fn right_ok(
         return true;
     }
     let x = end_of(words, top, memory::LEFT, notes);
-    let s = memory::word_of(words, x, memory::TEXT_START);
-    let n = memory::word_of(words, x, memory::TEXT_LEN);
+    let s = access::word_of(words, x, memory::TEXT_START);
+    let n = access::word_of(words, x, memory::TEXT_LEN);
     spans_less(text, key.start, key.len, s, n)
 }

@@ -24,7 +24,7 @@ pub fn set_head(words: &[u32], text: &[u8], heads: &mut [u64; HEADS], cell: usiz
     ensures { λ _. ⌜ new heads ≡ with-head (old words) (old text) (old heads) cell branch ⌝ }
 {
     heads[cell] = branch as u64;
-    heads[CELLS + cell] = text::beginning(memory::key_of(words, text, branch));
+    heads[CELLS + cell] = text::beginning(access::key_of(words, text, branch));
 }
 
 // How the keys of two branches compare.
@@ -34,8 +34,8 @@ fn compare_keys(words: &[u32], text: &[u8], x: u32, y: u32) -> Order
     ensures { λ r. ⌜ ordering r ≡ string-compare (key-at (old words) (old text) x) (key-at (old words) (old text) y) ⌝ }
 {
     text::string_compare(
-        memory::key_of(words, text, x),
-        memory::key_of(words, text, y),
+        access::key_of(words, text, x),
+        access::key_of(words, text, y),
     )
 }
 

@@ -30,7 +30,7 @@ fn note_path(words: &mut [u32], text: &[u8], records: u32, root: u32, count: u32
     while 0 < link {
         match tree::key_order(words, text, link, key) {
             Order::Less => {
-                let next = memory::left_of(words, link);
+                let next = access::left_of(words, link);
                 put_note(words, at, link, 0);
                 link = next;
                 at -= 1;
@@ -40,7 +40,7 @@ fn note_path(words: &mut [u32], text: &[u8], records: u32, root: u32, count: u32
                 return;
             }
             Order::More => {
-                let next = memory::right_of(words, link);
+                let next = access::right_of(words, link);
                 put_note(words, at, link, 1);
                 link = next;
                 at -= 1;
@@ -67,12 +67,12 @@ pub fn btree_insert_replace(
     let len = row[memory::TEXT_LEN] as usize;
     note_path(words, text, records, root, count, &text[start..start + len]);
     let low = copies::lowest_row(words, records, row);
-    memory::put_row(words, records, &low);
+    access::put_row(words, records, &low);
     let total = records + count;
     let mut at = records + 1;
     while at < total {
         let next = copies::raised_row(words, at);
-        memory::put_row(words, at, &next);
+        access::put_row(words, at, &next);
         at += 1;
     }
     total

@@ -56,8 +56,8 @@ fn insert_leaf(
     requires { ⌜ LeafBuilds (now words) (now text) trie (with-kind (Name number) change) count ⌝ }
     ensures { λ r. ⌜ LeafBuilt (old words) (new words) (old text) records trie (with-kind (Name number) change) (r .link) (r .records) ⌝ }
 {
-    let t = memory::trie_of(words, trie);
-    let row = memory::make::binding_row(change.text, number);
+    let t = access::trie_of(words, trie);
+    let row = access::make::binding_row(change.text, number);
     let b = names::names_insert(words, text, records, t.bindings, count, row);
     let link = writers::put_trie(words, b, 5, b, t.namespaces);
     Built {
@@ -71,8 +71,8 @@ fn include_leaf(words: &mut [u32], text: &[u8], records: u32, trie: u32, change:
     requires { ⌜ Some (λ used. Leaf (now words) (now text) records used trie (with-kind Include change)) ⌝ }
     ensures { λ r. ⌜ LeafBuilt (old words) (new words) (old text) records trie (with-kind Include change) (r .link) (r .records) ⌝ }
 {
-    let t = memory::trie_of(words, trie);
-    let i = memory::trie_of(words, change.inc);
+    let t = access::trie_of(words, trie);
+    let i = access::trie_of(words, change.inc);
     let label = label_of(change.text);
     let b = writers::imported(words, records, 3, label, i.bindings, t.bindings);
     let link = writers::put_trie(words, b, 5, b, t.namespaces);
@@ -87,8 +87,8 @@ fn open_leaf(words: &mut [u32], text: &[u8], records: u32, trie: u32, change: Ch
     requires { ⌜ Some (λ used. Leaf (now words) (now text) records used trie (with-kind Open change)) ⌝ }
     ensures { λ r. ⌜ LeafBuilt (old words) (new words) (old text) records trie (with-kind Open change) (r .link) (r .records) ⌝ }
 {
-    let t = memory::trie_of(words, trie);
-    let i = memory::trie_of(words, change.inc);
+    let t = access::trie_of(words, trie);
+    let i = access::trie_of(words, change.inc);
     let label = label_of(change.text);
     let n = writers::imported(words, records, 4, label, i.namespaces, t.namespaces);
     let link = writers::put_trie(words, n, 5, t.bindings, n);
@@ -111,12 +111,12 @@ fn alias_leaf(
     requires { ⌜ LeafBuilds (now words) (now text) trie (with-kind Alias change) count ⌝ }
     ensures { λ r. ⌜ LeafBuilt (old words) (new words) (old text) records trie (with-kind Alias change) (r .link) (r .records) ⌝ }
 {
-    let t = memory::trie_of(words, trie);
-    let i = memory::trie_of(words, change.inc);
+    let t = access::trie_of(words, trie);
+    let i = access::trie_of(words, change.inc);
     let label = label_of(change.text);
     let b = writers::imported(words, records, 3, label, i.bindings, 0);
     let scope = writers::put_trie(words, b, 5, b, 0);
-    let row = memory::make::namespace_row(0, change.key, scope);
+    let row = access::make::namespace_row(0, change.key, scope);
     let n = names::names_insert(words, text, scope, t.namespaces, count, row);
     let link = writers::put_trie(words, n, 5, t.bindings, n);
     Built {

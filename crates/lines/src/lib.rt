@@ -65,7 +65,7 @@ fn try_line(
     if !fits(run[LINES], 1, run[MOST_LINES], flat.len() / LINE_BYTES) {
         return;
     }
-    let size = run[LENGTH] + memory::text_len(words, branch) as usize + note.len();
+    let size = run[LENGTH] + access::text_len(words, branch) as usize + note.len();
     if !fits(run[BYTES], size, run[MOST_BYTES], out.len()) {
         return;
     }
@@ -90,7 +90,7 @@ fn put_line(
 {
     let lines = run[LINES];
     let bytes = run[BYTES];
-    let size = run[LENGTH] + memory::text_len(words, branch) as usize + note.len();
+    let size = run[LENGTH] + access::text_len(words, branch) as usize + note.len();
     try_line(words, text, branch, note, run, flat, out);
     let most = run[MOST_BYTES];
     run[LINES] = add(lines, 1, run[MOST_LINES]);

@@ -32,7 +32,7 @@ fn list_below(
     ensures { λ _. ⌜ BranchListed (old words) (old text) (old rest) ask false
         (old run) (new run) (old flat) (new flat) (old out) (new out) found ⌝ }
 {
-    let child = memory::held_of(words, found.link);
+    let child = access::held_of(words, found.link);
     let before = steps::enter(words, found, run);
     list_trie(words, text, rest, ask, child, run, flat, out);
     steps::leave(run, before);
@@ -225,7 +225,7 @@ pub fn list_trie(
         run[output::ENTERED] = budget + 1;
         return;
     }
-    let t = memory::trie_of(words, trie);
+    let t = access::trie_of(words, trie);
     let c = steps::cut_query(query, base, run[output::MATCHED]);
     let skip = steps::skips_bindings(run, query.len(), c.next);
     steps::begin(run, c.matched);

@@ -1,5 +1,5 @@
 // Is a collection, or a trie, right, given that the records before it are? By what these store.
-use text::Rule;
+use queries::Rule;
 ghost use mathlib.Core.Path.{_≡_};
 ghost use Prim.Native.Nat.{_≤_, _<_};
 ghost use lib.ListN.{length};
@@ -43,7 +43,7 @@ pub fn collection_ok(
     if !fields::link_ok(words, link, rest, k) {
         return false;
     }
-    let after = fields::wide(memory::weight_of(words, rest));
+    let after = fields::wide(access::weight_of(words, rest));
     if r[memory::SORT] == memory::OF_TREE {
         if !fields::link_ok(words, link, own, t) {
             return false;
@@ -56,10 +56,18 @@ pub fn collection_ok(
         }
         let start = r[memory::TEXT_START];
         let len = r[memory::TEXT_LEN];
-        if !fields::text_ok(text, used, start, len, 0, text::FULL_NAME_MOST, Rule::Query) {
+        if !fields::text_ok(
+            text,
+            used,
+            start,
+            len,
+            0,
+            queries::FULL_NAME_MOST,
+            Rule::Query,
+        ) {
             return false;
         }
-        let inner = fields::wide(memory::weight_of(words, own));
+        let inner = fields::wide(access::weight_of(words, own));
         return weight_ok(r, 1 + inner + after);
     }
     false
@@ -79,7 +87,7 @@ pub fn trie_ok(words: &[u32], text: &[u8], used: u32, link: u32, r: &[u32], b: u
     if !fields::link_ok(words, link, second, n) {
         return false;
     }
-    let d = memory::depth_of(words, second);
+    let d = access::depth_of(words, second);
     if memory::DEEPEST < d {
         return false;
     }

@@ -12,8 +12,8 @@ use Rattle.source.specs.Tries.{dflt, bind-option, names-find-exact, trie-find-e
 use Rattle.source.specs.Plans.{host-of}
 use Rattle.source.proofs.Hosts.{host-of-step, included-host}
 use Rattle.text.proofs.Texts.{part-is}
-use Rattle.text.specs.Text.{Segment}
-use Rattle.text.proofs.Segments.{first-segment, before-inside, segments-end}
+use Rattle.queries.specs.Queries.{Segment}
+use Rattle.queries.proofs.Segments.{first-segment, before-inside, segments-end}
 use Rattle.memory.specs.Layout.{Which, Item, trieˢ, what}
 use Rattle.memory.specs.Read.{ReadTrie}
 use Rattle.memory.specs.declared.Trie as M

@@ -8,7 +8,7 @@ ghost use lib.ListN.{length, drop};
 ghost use Rattle.source.specs.Lent.{old};
 ghost use Rattle.source.specs.Limits.{record-words};
 ghost use Rattle.source.specs.Text.{segments, ends-in-dot};
-ghost use Rattle.text.specs.Text.{Segment};
+ghost use Rattle.queries.specs.Queries.{Segment};
 ghost use Rattle.names.specs.Names.{AnyList};
 ghost use Rattle.lookup.specs.Tries.{AnyTrie, Scope, Included, FindsExact, NsInserts};
 
@@ -17,7 +17,7 @@ pub fn segment_at(query: &[u8], at: usize) -> usize
     requires { ⌜ (at < length (now query)) × (ends-in-dot (drop at (now query)) ≡ true) ⌝ }
     ensures { λ r. ⌜ Segment (old query) at r ⌝ }
 {
-    text::segment_length(&query[at..])
+    queries::segment_length(&query[at..])
 }
 
 // The trie that a list of namespaces holds at `s`, 0 for none.
@@ -26,7 +26,7 @@ fn scope_of(words: &[u32], text: &[u8], namespaces: u32, s: &[u8]) -> u32
     ensures { λ r. ⌜ Scope (old words) (old text) namespaces (old s) r ⌝ }
 {
     let holder = names::names_find_exact(words, text, namespaces, s);
-    memory::trie_held(words, holder)
+    access::trie_held(words, holder)
 }
 
 // The source's trie_descend_exact, 0 for the empty trie where there is none.
@@ -39,7 +39,7 @@ pub fn trie_descend(words: &[u32], text: &[u8], root: u32, query: &[u8]) -> u32
     let mut at = 0;
     while at < query.len() {
         let n = segment_at(query, at);
-        let t = memory::trie_of(words, included);
+        let t = access::trie_of(words, included);
         included = scope_of(words, text, t.namespaces, &query[at..at + n]);
         at = at + n + 1;
     }
@@ -56,7 +56,7 @@ pub fn trie_find_exact(words: &[u32], text: &[u8], root: u32, query: &[u8]) -> u
     let mut at = 0;
     while at < query.len() {
         let n = segment_at(query, at);
-        let t = memory::trie_of(words, link);
+        let t = access::trie_of(words, link);
         if at + n + 1 == query.len() {
             return names::names_find_exact(words, text, t.bindings, &query[at..at + n]);
         }
@@ -74,7 +74,7 @@ pub fn ns_inserts(words: &[u32], holder: u32, loaded: bool) -> bool
     if holder == 0 {
         return true;
     }
-    match memory::symbol_of(words, holder) {
+    match access::symbol_of(words, holder) {
         ModSymbol::Module(_, _, _) => false,
         ModSymbol::Namespace(_, seen) => !seen & loaded,
     }

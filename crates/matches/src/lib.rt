@@ -54,7 +54,7 @@ pub fn next_match(
     ensures { λ r. ⌜ Matched (old words) (old text) (old prefix) (new notes)
         (after (key-at (old words) (old text)) (key-at (old words) (old text) at) (matches (old words) (old text) root (old prefix))) r ⌝ }
 {
-    let right = memory::right_of(words, at);
+    let right = access::right_of(words, at);
     let here = noting::note_left(words, text, prefix, right, notes, n);
     if 0 < here {
         return marks::last_note(notes, here);
@@ -62,7 +62,7 @@ pub fn next_match(
     if notes[marks::DROPPED] == 0 {
         return Next { link: 0, n: 0 };
     }
-    let low = memory::key_of(words, text, at);
+    let low = access::key_of(words, text, at);
     let marked = marks::take_mark(notes);
     let near = noting::descend(words, text, prefix, low, true, marked, notes);
     if 0 < near {

@@ -51,13 +51,13 @@ pub fn single(words: &[u32], list: u32) -> u32
     if list == 0 {
         return 0;
     }
-    if memory::sort_of(words, list) == memory::IMPORTED {
+    if access::sort_of(words, list) == memory::IMPORTED {
         return 0;
     }
-    if 0 < memory::rest_of(words, list) {
+    if 0 < access::rest_of(words, list) {
         return 0;
     }
-    memory::own_of(words, list)
+    access::own_of(words, list)
 }
 
 // Whether two branches have the same key.
@@ -66,7 +66,7 @@ fn same_key(words: &[u32], text: &[u8], a: u32, b: u32) -> bool
     requires { ⌜ (0 < b) × AnyTree (now words) (now text) b ⌝ }
     ensures { λ r. ⌜ r ≡ same (key-at (old words) (old text) a) (key-at (old words) (old text) b) ⌝ }
 {
-    match tree::key_order(words, text, b, memory::key_of(words, text, a)) {
+    match tree::key_order(words, text, b, access::key_of(words, text, a)) {
         Order::Less => false,
         Order::Same => true,
         Order::More => false,

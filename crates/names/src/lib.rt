@@ -21,7 +21,7 @@ pub fn lead_of(words: &[u32], list: u32) -> Lead
     if list == 0 {
         return Lead { tree: 0, rest: 0 };
     }
-    let c = memory::collection_of(words, list);
+    let c = access::collection_of(words, list);
     if c.imported {
         return Lead {
             tree: 0,
@@ -41,8 +41,8 @@ pub fn names_find_exact(words: &[u32], text: &[u8], list: u32, key: &[u8]) -> u3
 {
     let mut link = list;
     while 0 < link {
-        let own = memory::own_of(words, link);
-        let found = if memory::sort_of(words, link) == memory::IMPORTED {
+        let own = access::own_of(words, link);
+        let found = if access::sort_of(words, link) == memory::IMPORTED {
             names_find_exact(words, text, own, key)
         } else {
             tree::btree_find_exact(words, text, own, key)
@@ -50,7 +50,7 @@ pub fn names_find_exact(words: &[u32], text: &[u8], list: u32, key: &[u8]) -> u3
         if 0 < found {
             return found;
         }
-        link = memory::rest_of(words, link);
+        link = access::rest_of(words, link);
     }
     0
 }
@@ -75,7 +75,7 @@ pub fn names_place(words: &[u32], text: &[u8], list: u32, key: &[u8]) -> NamesPl
     NamesPlace {
         holder: holder,
         count: place.count,
-        weight: memory::weight_of(words, lead.rest) + 1,
+        weight: access::weight_of(words, lead.rest) + 1,
     }
 }
 

@@ -28,12 +28,12 @@ pub fn descend(
         if tree::key_past(words, text, at, low, strict) {
             if tree::key_begins(words, text, at, prefix) {
                 n = marks::note(notes, n, at);
-                at = memory::left_of(words, at);
+                at = access::left_of(words, at);
             } else {
-                at = memory::left_of(words, at);
+                at = access::left_of(words, at);
             }
         } else {
-            at = memory::right_of(words, at);
+            at = access::right_of(words, at);
         }
     }
     n
@@ -58,9 +58,9 @@ pub fn note_left(
     while 0 < at {
         if tree::key_begins(words, text, at, prefix) {
             n = marks::note(notes, n, at);
-            at = memory::left_of(words, at);
+            at = access::left_of(words, at);
         } else {
-            at = memory::left_of(words, at);
+            at = access::left_of(words, at);
         }
     }
     n

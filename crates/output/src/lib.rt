@@ -53,8 +53,8 @@ fn put_key(words: &[u32], text: &[u8], branch: u32, out: &mut [u8], at: usize) -
     requires { ⌜ at + length (key-at (now words) (now text) branch) ≤ length (now out) ⌝ }
     ensures { λ r. ⌜ Laid (old out) (new out) at r (key-at (old words) (old text) branch) ⌝ }
 {
-    let key = memory::key_of(words, text, branch);
-    memory::put_text(&mut out[at..], 0, key);
+    let key = access::key_of(words, text, branch);
+    access::put_text(&mut out[at..], 0, key);
     at + key.len()
 }
 
@@ -98,7 +98,7 @@ fn line_row(
     requires { ⌜ (0 < branch) × (branch * record-words ≤ length (now words)) × (start + len ≤ 4294967295) ⌝ }
     ensures { λ r. ⌜ r ≡ line-row (record-at (old words) branch) matched start len note ⌝ }
 {
-    let item = memory::row_of(words, branch);
+    let item = access::row_of(words, branch);
     [
         matched,
         start,
@@ -133,7 +133,7 @@ pub fn write_line(
     let at = run[BYTES];
     let base = run[LINES] * LINE_BYTES;
     let end = put_candidate(words, text, run, branch, out, at);
-    memory::put_text(&mut out[end..], 0, note);
+    access::put_text(&mut out[end..], 0, note);
     let row = line_row(
         words,
         branch,

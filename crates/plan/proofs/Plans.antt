@@ -31,8 +31,8 @@ use Rattle.way.specs.Way.{NotesStep, Leads}
 use Rattle.way.proofs.Way.{leads-step}
 use Rattle.plan.specs.Plans.{StepIn, Stepped, StepsDown, Path, Inserted, Planned}
 use Rattle.text.proofs.Texts.{part-is}
-use Rattle.text.specs.Text.{Segment}
-use Rattle.text.proofs.Segments.{segments-end}
+use Rattle.queries.specs.Queries.{Segment}
+use Rattle.queries.proofs.Segments.{segments-end}
 use Rattle.lookup.proofs.Found.{Stands, stands-next, stands-last, some-left}
 use Rattle.memory.proofs.Tries.{bindings-at, namespaces-at, bindings-read, namespaces-read, lists-seen}
 use Rattle.lookup.proofs.Links.{scope-up, holder-scope}

@@ -37,9 +37,9 @@ fn plan_step(
     requires { ⌜ AnyTrie (now words) (now text) trie × (steps < 17) × (length (now way) ≡ way-size) ⌝ }
     ensures { λ r. ⌜ Stepped (old words) (old text) trie (old s) (old way) (new way) steps (r .link) (r .records) (r .crowded) ⌝ }
 {
-    let t = memory::trie_of(words, trie);
+    let t = access::trie_of(words, trie);
     let p = names::names_place(words, text, t.namespaces, s);
-    let link = memory::trie_held(words, p.holder);
+    let link = access::trie_held(words, p.holder);
     way::note_step(way, steps, link, p.count);
     StepDown {
         link: link,
@@ -106,7 +106,7 @@ fn plan_name(
     ensures { λ _. ⌜ NameNoted (old words) (old text) root (old host) (old id) (old way) (new way) ⌝ }
 {
     let p = plan_path(words, text, root, host, way);
-    let t = memory::trie_of(words, p.link);
+    let t = access::trie_of(words, p.link);
     let b = names::names_place(words, text, t.bindings, id);
     way::note_host(way, p.segments, b.count);
     Plan {
@@ -131,9 +131,9 @@ fn plan_include(
     ensures { λ _. ⌜ PathNoted Include (old words) (old text) names root (old host) (old way) (new way) ⌝ }
 {
     let p = plan_path(words, text, root, host, way);
-    let t = memory::trie_of(words, p.link);
-    let i = memory::trie_of(words, inc);
-    let weight = memory::weight_of(words, i.bindings) + memory::weight_of(words, t.bindings) + 1;
+    let t = access::trie_of(words, p.link);
+    let i = access::trie_of(words, inc);
+    let weight = access::weight_of(words, i.bindings) + access::weight_of(words, t.bindings) + 1;
     Plan {
         records: p.records + 2,
         crowded: p.crowded | (memory::HEAVIEST < weight),
@@ -156,10 +156,10 @@ fn plan_open(
     ensures { λ _. ⌜ PathNoted Open (old words) (old text) names root (old host) (old way) (new way) ⌝ }
 {
     let p = plan_path(words, text, root, host, way);
-    let t = memory::trie_of(words, p.link);
-    let i = memory::trie_of(words, inc);
-    let weight = memory::weight_of(words, i.namespaces)
-        + memory::weight_of(words, t.namespaces)
+    let t = access::trie_of(words, p.link);
+    let i = access::trie_of(words, inc);
+    let weight = access::weight_of(words, i.namespaces)
+        + access::weight_of(words, t.namespaces)
         + 1;
     Plan {
         records: p.records + 2,
@@ -184,11 +184,11 @@ fn plan_alias(
     ensures { λ _. ⌜ AliasNoted (old words) (old text) root (old key) (old host) (old way) (new way) ⌝ }
 {
     let p = plan_path(words, text, root, host, way);
-    let t = memory::trie_of(words, p.link);
-    let i = memory::trie_of(words, inc);
+    let t = access::trie_of(words, p.link);
+    let i = access::trie_of(words, inc);
     let a = names::names_place(words, text, t.namespaces, key);
     way::note_host(way, p.segments, a.count);
-    let weight = memory::weight_of(words, i.bindings) + 1;
+    let weight = access::weight_of(words, i.bindings) + 1;
     Plan {
         records: p.records + (a.count + 4),
         crowded: p.crowded | ((memory::HEAVIEST < a.weight) | (memory::HEAVIEST < weight)),
@@ -206,7 +206,7 @@ fn plan_ins(words: &[u32], text: &[u8], trie: u32, s: &[u8], last: bool, loaded:
     requires { ⌜ At (now words) (now text) modules trieˢ trie ⌝ }
     ensures { λ r. ⌜ Inserted (old words) (old text) trie (old s) last loaded (r .records) (r .crowded) ⌝ }
 {
-    let t = memory::trie_of(words, trie);
+    let t = access::trie_of(words, trie);
     let p = names::names_place(words, text, t.bindings, s);
     if last | lookup::ns_inserts(words, p.holder, loaded) {
         return Insertion {

@@ -1,5 +1,5 @@
 // The refusals of the requirements: their numbers, and the conditions of rows 2 to 8.
-use text::Rule;
+use queries::Rule;
 ghost use mathlib.Core.Path.{_≡_};
 ghost use Rattle.source.specs.Lent.{old};
 ghost use Rattle.source.specs.Calls.{a-query, a-name, a-path, a-look-up, a-completion, lowest, free};
@@ -60,7 +60,7 @@ pub struct Flags {
 pub fn query_flags(s: &[u8]) -> Flags
     ensures { λ r. ⌜ Flagged (a-query (old s)) r ⌝ }
 {
-    let v = text::query_survey(s);
+    let v = queries::query_survey(s);
     Flags {
         malformed: v.malformed,
         empty: v.empty,
@@ -73,9 +73,9 @@ pub fn name_flags(s: &[u8]) -> Flags
     ensures { λ r. ⌜ Flagged (a-name (old s)) r ⌝ }
 {
     Flags {
-        malformed: !text::all_allowed(Rule::Name, s),
+        malformed: !queries::all_allowed(Rule::Name, s),
         empty: s.len() == 0,
-        long: text::NAME_MOST < s.len(),
+        long: queries::NAME_MOST < s.len(),
     }
 }
 
@@ -84,9 +84,9 @@ pub fn path_flags(s: &[u8]) -> Flags
     ensures { λ r. ⌜ Flagged (a-path (old s)) r ⌝ }
 {
     Flags {
-        malformed: !text::all_allowed(Rule::Path, s),
+        malformed: !queries::all_allowed(Rule::Path, s),
         empty: false,
-        long: text::PATH_MOST < s.len(),
+        long: queries::PATH_MOST < s.len(),
     }
 }
 
@@ -94,7 +94,7 @@ pub fn path_flags(s: &[u8]) -> Flags
 pub fn look_up_flags(s: &[u8]) -> Flags
     ensures { λ r. ⌜ Flagged (a-look-up (old s)) r ⌝ }
 {
-    let v = text::query_survey(s);
+    let v = queries::query_survey(s);
     Flags {
         malformed: v.malformed,
         empty: v.empty | (v.segments == 0),
@@ -106,7 +106,7 @@ pub fn look_up_flags(s: &[u8]) -> Flags
 pub fn completion_flags(s: &[u8]) -> Flags
     ensures { λ r. ⌜ Flagged (a-completion (old s)) r ⌝ }
 {
-    let v = text::query_survey(s);
+    let v = queries::query_survey(s);
     Flags {
         malformed: v.malformed,
         empty: false,

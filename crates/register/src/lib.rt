@@ -134,9 +134,9 @@ fn put_texts(text: &mut [u8], used: u32, host: &[u8], other: &[u8], key: &[u8])
 {
     let start = used + host.len() as u32;
     let end = start + other.len() as u32;
-    memory::put_text(text, used, host);
-    memory::put_text(text, start, other);
-    memory::put_text(text, end, key);
+    access::put_text(text, used, host);
+    access::put_text(text, start, other);
+    access::put_text(text, end, key);
 }
 
 // The root that a form changes.

@@ -16,8 +16,8 @@ use Rattle.source.specs.Calls as C
 use Rattle.source.specs.Calls.{a-completion, any, bad-query, long-query, malformed, too-long, lowest, argument-rows, completion-rows, completed, tries-entered}
 use Rattle.source.proofs.Queries.{or-parts}
 use Rattle.source.proofs.Refusals.{lowest-stops, lowest-past, Admitted, argument-rows-none}
-use Rattle.text.specs.Text.{before-dot}
-use Rattle.text.proofs.Segments.{First, first-segment, before-inside}
+use Rattle.queries.specs.Queries.{before-dot}
+use Rattle.queries.proofs.Segments.{First, first-segment, before-inside}
 use Rattle.memory.specs.Layout.{Item, trieˢ, what}
 use Rattle.asks.specs.Ask.{asked}
 use Rattle.asks.specs.declared.Ask.{Ask}

@@ -67,7 +67,7 @@ pub fn find(words: &[u32], text: &[u8], header: Header, query: &[u8]) -> Found
 {
     let l = look_up(words, text, header.names, query);
     match l {
-        Looked::Branch(link) => Found::Item(memory::number_of(words, link)),
+        Looked::Branch(link) => Found::Item(access::number_of(words, link)),
         Looked::Nothing => Found::Nothing,
         Looked::Refused(x) => Found::Refused(x),
     }
@@ -81,7 +81,7 @@ pub fn find_module(words: &[u32], text: &[u8], header: Header, query: &[u8]) -> 
     let l = look_up(words, text, header.modules, query);
     match l {
         Looked::Branch(link) => {
-            let b = memory::branch_of(words, link);
+            let b = access::branch_of(words, link);
             let symbol = b.symbol;
             FoundModule::Symbol(symbol)
         }

@@ -43,8 +43,8 @@ fn item_in(words: &[u32], ask: Ask) -> RowItem
     ensures { λ r. ⌜ r ≡ item-in (asked ask) (record-at (old words) 1) ⌝ }
 {
     match ask {
-        Ask::Names => RowItem::Name(memory::number_of(words, 1)),
-        Ask::Modules(f) => RowItem::Symbol(memory::symbol_of(words, 1)),
+        Ask::Names => RowItem::Name(access::number_of(words, 1)),
+        Ask::Modules(f) => RowItem::Symbol(access::symbol_of(words, 1)),
     }
 }
 
@@ -55,15 +55,15 @@ fn row_in(words: &[u32], ask: Ask) -> Row
 {
     let item = item_in(words, ask);
     let candidate = Span {
-        start: memory::word_of(words, 1, CANDIDATE_START),
-        len: memory::word_of(words, 1, CANDIDATE_LEN),
+        start: access::word_of(words, 1, CANDIDATE_START),
+        len: access::word_of(words, 1, CANDIDATE_LEN),
     };
     let annotation = Span {
-        start: memory::word_of(words, 1, ANNOTATION_START),
-        len: memory::word_of(words, 1, ANNOTATION_LEN),
+        start: access::word_of(words, 1, ANNOTATION_START),
+        len: access::word_of(words, 1, ANNOTATION_LEN),
     };
     Row {
-        matched: memory::word_of(words, 1, MATCHED),
+        matched: access::word_of(words, 1, MATCHED),
         item: item,
         candidate: candidate,
         annotation: annotation,

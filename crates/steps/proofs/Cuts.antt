@@ -14,8 +14,8 @@ use Rattle.source.specs.Calls.{signed-word}
 use Rattle.source.specs.Text.{Str, Query, segments, ends-in-dot}
 use Rattle.source.specs.Listing.{NSTNone, ns-search-term, bindings-search-term}
 use Rattle.source.proofs.Paths.{match-length-skip, match-length-some, so-far-is}
-use Rattle.text.specs.Text.{before-dot}
-use Rattle.text.proofs.Segments.{first-segment, before-inside}
+use Rattle.queries.specs.Queries.{before-dot}
+use Rattle.queries.proofs.Segments.{first-segment, before-inside}
 use Rattle.names.specs.Entries.{by-prefix, by-all}
 use Rattle.steps.specs.Steps.{Cuts}
 

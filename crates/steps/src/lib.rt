@@ -29,7 +29,7 @@ pub fn cut_query(query: &[u8], base: usize, matched: usize) -> Cut
             matched: matched,
         };
     }
-    let len = text::segment_length(query);
+    let len = queries::segment_length(query);
     Cut {
         len: len,
         next: len + 1,
@@ -91,7 +91,7 @@ pub fn enter(words: &[u32], found: Labelled, run: &mut [usize; output::RUN]) -> 
         label: run[output::LABEL],
         matched: run[output::MATCHED],
     };
-    let len = before.len + memory::text_len(words, found.link) as usize + 1;
+    let len = before.len + access::text_len(words, found.link) as usize + 1;
     let mut label = before.label;
     if n == 0 {
         label = found.label as usize;

@@ -20,9 +20,9 @@ fn least_from(words: &[u32], text: &[u8], root: u32, low: &[u8]) -> u32
     while 0 < at {
         if tree::key_past(words, text, at, low, false) {
             found = at;
-            at = memory::left_of(words, at);
+            at = access::left_of(words, at);
         } else {
-            at = memory::right_of(words, at);
+            at = access::right_of(words, at);
         }
     }
     found
@@ -37,7 +37,7 @@ fn least_of(words: &[u32], text: &[u8], root: u32) -> u32
     let mut found = 0;
     while 0 < at {
         found = at;
-        at = memory::left_of(words, at);
+        at = access::left_of(words, at);
     }
     found
 }
@@ -49,13 +49,13 @@ fn is_left(words: &[u32], text: &[u8], link: u32, at: u32) -> bool
     requires { ⌜ (link ≡ at → ⊥) ⌝ }
     ensures { λ r. ⌜ r ≡ past true (key-at (old words) (old text) at) (key-at (old words) (old text) link) ⌝ }
 {
-    if memory::right_of(words, link) < at {
+    if access::right_of(words, link) < at {
         return true;
     }
-    if memory::left_of(words, link) < at {
+    if access::left_of(words, link) < at {
         return false;
     }
-    let key = memory::key_of(words, text, at);
+    let key = access::key_of(words, text, at);
     tree::key_past(words, text, link, key, true)
 }
 
@@ -71,9 +71,9 @@ fn branch_above(words: &[u32], text: &[u8], root: u32, at: u32) -> u32
     while link != at {
         if is_left(words, text, link, at) {
             found = link;
-            link = memory::left_of(words, link);
+            link = access::left_of(words, link);
         } else {
-            link = memory::right_of(words, link);
+            link = access::right_of(words, link);
         }
     }
     found
@@ -85,7 +85,7 @@ fn branch_after(words: &[u32], text: &[u8], root: u32, at: u32) -> u32
     requires { ⌜ List·Memᴰ at (branches (now words) root) ⌝ }
     ensures { λ r. ⌜ r ≡ head0 (after (key-at (old words) (old text)) (key-at (old words) (old text) at) (branches (old words) root)) ⌝ }
 {
-    let right = memory::right_of(words, at);
+    let right = access::right_of(words, at);
     if 0 < right {
         return least_of(words, text, right);
     }

@@ -15,7 +15,7 @@ pub fn key_order(words: &[u32], text: &[u8], link: u32, key: &[u8]) -> Order
     requires { ⌜ (0 < link) × AnyTree (now words) (now text) link ⌝ }
     ensures { λ r. ⌜ ordering r ≡ string-compare (old key) (key-at (old words) (old text) link) ⌝ }
 {
-    text::string_compare(key, memory::key_of(words, text, link))
+    text::string_compare(key, access::key_of(words, text, link))
 }
 
 // Whether the key of a branch begins with `prefix`.
@@ -23,7 +23,7 @@ pub fn key_begins(words: &[u32], text: &[u8], link: u32, prefix: &[u8]) -> bool
     requires { ⌜ (0 < link) × AnyTree (now words) (now text) link ⌝ }
     ensures { λ r. ⌜ r ≡ starts-with (key-at (old words) (old text) link) (old prefix) ⌝ }
 {
-    text::starts_with(memory::key_of(words, text, link), prefix)
+    text::starts_with(access::key_of(words, text, link), prefix)
 }
 
 // Where a key stands in a tree: its branch, 0 for none, and how many branches an insertion builds.
@@ -42,7 +42,7 @@ pub fn place_of(words: &[u32], text: &[u8], root: u32, key: &[u8]) -> Place
     while 0 < link {
         match key_order(words, text, link, key) {
             Order::Less => {
-                link = memory::left_of(words, link);
+                link = access::left_of(words, link);
                 count += 1;
             }
             Order::Same => {
@@ -52,7 +52,7 @@ pub fn place_of(words: &[u32], text: &[u8], root: u32, key: &[u8]) -> Place
                 };
             }
             Order::More => {
-                link = memory::right_of(words, link);
+                link = access::right_of(words, link);
                 count += 1;
             }
         }

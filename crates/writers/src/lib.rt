@@ -17,13 +17,13 @@ fn put_collection(words: &mut [u32], records: u32, kind: u32, c: Collection) -> 
     ensures { λ r. ⌜ r ≡ records + 1 ⌝ }
     ensures { λ r. ⌜ new words ≡ put (old words) records (collection-over (old words) kind c) ⌝ }
 {
-    let mut depth = memory::depth_of(words, c.own);
-    let other = memory::depth_of(words, c.rest);
+    let mut depth = access::depth_of(words, c.own);
+    let other = access::depth_of(words, c.rest);
     if depth < other {
         depth = other;
     }
-    let row = memory::make::collection_row(kind, c, depth);
-    memory::put_row(words, records, &row);
+    let row = access::make::collection_row(kind, c, depth);
+    access::put_row(words, records, &row);
     records + 1
 }
 
@@ -34,7 +34,7 @@ pub fn put_names(words: &mut [u32], records: u32, kind: u32, own: u32, rest: u32
     ensures { λ r. ⌜ r ≡ records + 1 ⌝ }
     ensures { λ r. ⌜ MadeNames (old words) (new words) records kind own rest r ⌝ }
 {
-    let weight = memory::weight_of(words, rest) + 1;
+    let weight = access::weight_of(words, rest) + 1;
     let c = Collection {
         imported: false,
         label: Span { start: 0, len: 0 },
@@ -59,7 +59,7 @@ pub fn imported(
     ensures { λ r. ⌜ r ≡ records + 1 ⌝ }
     ensures { λ r. ⌜ MadeImported (old words) (new words) records kind (label .start) (label .len) inner list r ⌝ }
 {
-    let weight = memory::weight_of(words, inner) + memory::weight_of(words, list) + 1;
+    let weight = access::weight_of(words, inner) + access::weight_of(words, list) + 1;
     let c = Collection {
         imported: true,
         label: label,
@@ -80,9 +80,9 @@ pub fn put_trie(words: &mut [u32], records: u32, kind: u32, bindings: u32, names
     let t = Trie {
         bindings: bindings,
         namespaces: namespaces,
-        depth: memory::depth_of(words, namespaces),
+        depth: access::depth_of(words, namespaces),
     };
-    let row = memory::make::trie_row(kind, t);
-    memory::put_row(words, records, &row);
+    let row = access::make::trie_row(kind, t);
+    access::put_row(words, records, &row);
     records + 1
 }

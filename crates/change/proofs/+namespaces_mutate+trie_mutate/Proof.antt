@@ -15,8 +15,8 @@ use Rattle.change.proofs.+namespaces_mutate+trie_mutate.Lts-namespaces_
 use Rattle.change.proofs.trie_mutate.Reads as trie-mutate
 use Rattle.change.proofs.trie_mutate.Kinds as trie-mutate-kinds
 use Rattle.change.proofs.+namespaces_mutate+trie_mutate.Lts-trie_mutate as trie-mutate-lts
-use Rattle.memory.proofs.trie_of.Reads as trie-of-reads
-use Rattle.memory.proofs.make.namespace_row.Reads as namespace-row-reads
+use Rattle.access.proofs.trie_of.Reads as trie-of-reads
+use Rattle.access.proofs.make.namespace_row.Reads as namespace-row-reads
 use Rattle.names.proofs.names_insert.Reads as names-insert-reads
 use Rattle.change.proofs.kinds_of.Reads as kinds-of-reads
 use Rattle.leaves.proofs.mut_leaf.Reads as mut-leaf-reads

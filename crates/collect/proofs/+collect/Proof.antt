@@ -11,9 +11,9 @@ use Rattle.collect.proofs.Collected.{outermost-none, outermost-some, Se
 use Rattle.collect.proofs.collect.Reads as collect
 use Rattle.collect.proofs.collect.Kinds as kinds
 use Rattle.collect.proofs.+collect.Lts-collect as lts
-use Rattle.memory.proofs.own_of.Reads as own-of-reads
-use Rattle.memory.proofs.rest_of.Reads as rest-of-reads
-use Rattle.memory.proofs.sort_of.Reads as sort-of-reads
+use Rattle.access.proofs.own_of.Reads as own-of-reads
+use Rattle.access.proofs.rest_of.Reads as rest-of-reads
+use Rattle.access.proofs.sort_of.Reads as sort-of-reads
 use Rattle.successor.proofs.tree_first.Reads as tree-first-reads
 use Rattle.heads.proofs.set_head.Reads as set-head-reads
 use Rattle.collect.proofs.+collect.{statement}

@@ -3,7 +3,7 @@ use borrow.Author.Needs.{needs}
 use Rattle.fields.proofs.text_ok.Statement.{statement}
 use Rattle.fields.proofs.text_ok.Tie as tie
 use native.Mathlib.Omega.{arith}
-use Rattle.text.specs.Text.{byte-rule}
+use Rattle.queries.specs.Queries.{byte-rule}
 use Rattle.fields.proofs.TextOk.{says-text, text-long}
 
 pub text-ok-spec : {M : Type 1} → statement M

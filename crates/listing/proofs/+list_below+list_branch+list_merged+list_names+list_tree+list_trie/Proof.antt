@@ -43,8 +43,8 @@ use Rattle.steps.proofs.leave.Reads as leave-reads
 use Rattle.steps.proofs.skips_bindings.Reads as skips-bindings-reads
 use Rattle.matches.proofs.first_match.Reads as first-match-reads
 use Rattle.matches.proofs.next_match.Reads as next-match-reads
-use Rattle.memory.proofs.held_of.Reads as held-of-reads
-use Rattle.memory.proofs.trie_of.Reads as trie-of-reads
+use Rattle.access.proofs.held_of.Reads as held-of-reads
+use Rattle.access.proofs.trie_of.Reads as trie-of-reads
 use Rattle.merge.proofs.merge_next.Reads as merge-next-reads
 use Rattle.merge.proofs.merge_start.Reads as merge-start-reads
 use Rattle.merge.proofs.single.Reads as single-reads

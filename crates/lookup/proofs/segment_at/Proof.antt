@@ -1,5 +1,5 @@
 -- segment_at meets its contract.
-use Rattle.text.proofs.Segments.{next-segment}
+use Rattle.queries.proofs.Segments.{next-segment}
 use borrow.Author.Needs.{needs}
 use Rattle.lookup.proofs.segment_at.Statement.{statement}
 use Rattle.lookup.proofs.segment_at.Tie as tie

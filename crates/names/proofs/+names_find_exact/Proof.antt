@@ -11,9 +11,9 @@ use Rattle.names.proofs.Holder.{Find, First, find-all, first-imported, 
 use Rattle.names.proofs.names_find_exact.Reads as names-find-exact
 use Rattle.names.proofs.names_find_exact.Kinds as kinds
 use Rattle.names.proofs.+names_find_exact.Lts-names_find_exact as lts
-use Rattle.memory.proofs.own_of.Reads as own-of
-use Rattle.memory.proofs.sort_of.Reads as sort-of
-use Rattle.memory.proofs.rest_of.Reads as rest-of
+use Rattle.access.proofs.own_of.Reads as own-of
+use Rattle.access.proofs.sort_of.Reads as sort-of
+use Rattle.access.proofs.rest_of.Reads as rest-of
 use Rattle.tree.proofs.btree_find_exact.Reads as btree-find-exact
 use Rattle.names.proofs.+names_find_exact.{statement}
 use Rattle.names.proofs.+names_find_exact.Tie.{close}

@@ -1,7 +1,7 @@
 -- `cut_query` cuts before the first dot and after it.
 use mathlib.Core.Path.{refl}
 use native.Mathlib.Omega.{arith}
-use Rattle.text.proofs.Segments.{before-inside}
+use Rattle.queries.proofs.Segments.{before-inside}
 use Rattle.steps.proofs.Cuts.{cuts-none, cuts-some}
 use borrow.Author.Needs.{needs}
 use Rattle.steps.proofs.cut_query.Statement.{statement}
