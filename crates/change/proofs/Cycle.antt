@@ -17,9 +17,9 @@ use Rattle.memory.specs.Sound.{TextOk}
 use Rattle.memory.specs.Read.{ReadTrie}
 use Rattle.memory.specs.declared.Trie as M
 use Rattle.memory.proofs.Seen.{link-later}
-use Rattle.names.specs.Made.{Made}
+use Rattle.writers.specs.Made.{Made}
 use Rattle.names.specs.Insert.{NamesInsertion, AnyNamesInsertion, NamesInserts}
-use Rattle.names.proofs.Made.{made-then, made-what, made-link, made-room}
+use Rattle.writers.proofs.Made.{made-then, made-what, made-link, made-room}
 use Rattle.kinds.specs.Shapes.{shape-of}
 use Rattle.kinds.specs.declared.Form.{Form}
 use Rattle.kinds.specs.declared.Form.the-variants as form

@@ -30,9 +30,9 @@ use Rattle.kinds.specs.declared.Form.the-variants as form
 use Rattle.leaves.specs.declared.Change.{Change}
 use Rattle.change.specs.declared.Descent.{Descent}
 use Rattle.names.specs.Names.{NamesPlaced}
-use Rattle.names.specs.Made.{Room, MadeTrie}
+use Rattle.writers.specs.Made.{Room, MadeTrie}
 use Rattle.names.specs.Insert.{NamesInsertion, AnyNamesInsertion, NamesInserts}
-use Rattle.names.proofs.Made.{made-none}
+use Rattle.writers.proofs.Made.{made-none}
 use Rattle.names.proofs.NamesInsertion.{insertion-after}
 use Rattle.lookup.specs.Tries.{NsInserts}
 use Rattle.leaves.specs.Leaves.{which-of, Some, Builds}

@@ -15,7 +15,7 @@ use Rattle.source.specs.Calls.{Call, name, include, opens, alias, module-path, 
 use Rattle.source.proofs.Counted.{trie-insert-value, trie-include-value, trie-open-namespace-value, trie-add-alias-value, register-module-path-value}
 use Rattle.memory.specs.Layout.{span, Which, names, modules, Item, trieˢ, what}
 use Rattle.memory.specs.Read.{text-of}
-use Rattle.names.specs.Made.{Room}
+use Rattle.writers.specs.Made.{Room}
 use Rattle.kinds.specs.declared.Kind.the-variants.{Name, Include, Open, Alias, Module}
 use Rattle.leaves.specs.declared.Change.{Change}
 use Rattle.leaves.specs.Leaves.{with-kind, label-in, leaf-by, Fits}

@@ -15,7 +15,7 @@ use Rattle.memory.specs.Layout.{span, Item, Sort, list, trieˢ, kind-in, kind, 
 use Rattle.memory.specs.Sound.{LinkOk, Used}
 use Rattle.memory.specs.Read.{text-of}
 use Rattle.memory.specs.declared.Span.{Span}
-use Rattle.names.specs.Made.{Room}
+use Rattle.writers.specs.Made.{Room}
 use Rattle.way.specs.Way.{which-by, StepNoted, Way}
 use Rattle.kinds.specs.Shapes.{shape-of}
 use Rattle.kinds.specs.declared.Form.{Form}

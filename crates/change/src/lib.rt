@@ -154,7 +154,7 @@ fn mut_node(
     let t = access::trie_of(words, trie);
     let b = mut_bindings(words, text, records, t.bindings, at, len, d);
     let kinds = kinds_of(d.change);
-    let link = names::put_trie(words, b.records, kinds + 5, b.link, namespaces);
+    let link = writers::put_trie(words, b.records, kinds + 5, b.link, namespaces);
     Built {
         link: link,
         records: link,

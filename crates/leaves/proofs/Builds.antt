@@ -15,9 +15,9 @@ use Rattle.source.specs.Rules.{IsKey}
 use Rattle.memory.specs.Layout.{span, Which, Item, Sort, tree, list, trieˢ, Of, kind, value, what, text-len, text-start}
 use Rattle.memory.specs.Stored.{depth-in}
 use Rattle.memory.specs.Sound.{LinkOk, TextOk, Used}
-use Rattle.names.specs.Made.{Room, Made, MadeTrie}
+use Rattle.writers.specs.Made.{Room, Made, MadeTrie}
 use Rattle.names.specs.Insert.{NamesInsertion, NamesInserts}
-use Rattle.names.proofs.Made.{made-none, made-as, made-then, made-room, made-link, made-what, trie-shallow}
+use Rattle.writers.proofs.Made.{made-none, made-as, made-then, made-room, made-link, made-what, trie-shallow}
 use Rattle.names.proofs.NamesInsertion.{insertion-after}
 use Rattle.leaves.specs.Leaves.{Builds}
 

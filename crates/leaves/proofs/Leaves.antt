@@ -16,9 +16,9 @@ use Rattle.memory.specs.Read.{ReadTrie}
 use Rattle.memory.specs.declared.Trie as M
 use Rattle.memory.specs.declared.Span.{Span}
 use Rattle.memory.proofs.What.{what-none}
-use Rattle.names.specs.Made.{Room, MadeTrie, MadeImported}
+use Rattle.writers.specs.Made.{Room, MadeTrie, MadeImported}
 use Rattle.names.specs.Insert.{NamesInsertion, NamesInserts}
-use Rattle.names.proofs.Made.{made-none, made-as, imported-light}
+use Rattle.writers.proofs.Made.{made-none, made-as, imported-light}
 use Rattle.names.proofs.NamesInsertion.{insertion-after}
 use Rattle.kinds.specs.declared.Kind.{Kind}
 use Rattle.kinds.specs.declared.Kind.the-variants.{Name, Include, Open, Alias, Module}

@@ -12,7 +12,7 @@ use Rattle.memory.specs.Layout.{Which, names, Item, Sort, trieˢ, Of, kind, wha
 use Rattle.memory.specs.Sound.{LinkOk, TextOk, Used}
 use Rattle.memory.specs.Read.{text-of}
 use Rattle.memory.specs.declared.Span.{Span}
-use Rattle.names.specs.Made.{Room, Made}
+use Rattle.writers.specs.Made.{Room, Made}
 use Rattle.way.specs.Way.{which-by, HostBuilds}
 use Rattle.kinds.specs.Shapes.{shape-of}
 use Rattle.kinds.specs.declared.Kind.{Kind}

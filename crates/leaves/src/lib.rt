@@ -59,7 +59,7 @@ fn insert_leaf(
     let t = access::trie_of(words, trie);
     let row = access::make::binding_row(change.text, number);
     let b = names::names_insert(words, text, records, t.bindings, count, row);
-    let link = names::put_trie(words, b, 5, b, t.namespaces);
+    let link = writers::put_trie(words, b, 5, b, t.namespaces);
     Built {
         link: link,
         records: link,
@@ -74,8 +74,8 @@ fn include_leaf(words: &mut [u32], text: &[u8], records: u32, trie: u32, change:
     let t = access::trie_of(words, trie);
     let i = access::trie_of(words, change.inc);
     let label = label_of(change.text);
-    let b = names::imported(words, records, 3, label, i.bindings, t.bindings);
-    let link = names::put_trie(words, b, 5, b, t.namespaces);
+    let b = writers::imported(words, records, 3, label, i.bindings, t.bindings);
+    let link = writers::put_trie(words, b, 5, b, t.namespaces);
     Built {
         link: link,
         records: link,
@@ -90,8 +90,8 @@ fn open_leaf(words: &mut [u32], text: &[u8], records: u32, trie: u32, change: Ch
     let t = access::trie_of(words, trie);
     let i = access::trie_of(words, change.inc);
     let label = label_of(change.text);
-    let n = names::imported(words, records, 4, label, i.namespaces, t.namespaces);
-    let link = names::put_trie(words, n, 5, t.bindings, n);
+    let n = writers::imported(words, records, 4, label, i.namespaces, t.namespaces);
+    let link = writers::put_trie(words, n, 5, t.bindings, n);
     Built {
         link: link,
         records: link,
@@ -114,11 +114,11 @@ fn alias_leaf(
     let t = access::trie_of(words, trie);
     let i = access::trie_of(words, change.inc);
     let label = label_of(change.text);
-    let b = names::imported(words, records, 3, label, i.bindings, 0);
-    let scope = names::put_trie(words, b, 5, b, 0);
+    let b = writers::imported(words, records, 3, label, i.bindings, 0);
+    let scope = writers::put_trie(words, b, 5, b, 0);
     let row = access::make::namespace_row(0, change.key, scope);
     let n = names::names_insert(words, text, scope, t.namespaces, count, row);
-    let link = names::put_trie(words, n, 5, t.bindings, n);
+    let link = writers::put_trie(words, n, 5, t.bindings, n);
     Built {
         link: link,
         records: link,

@@ -27,8 +27,8 @@ use Rattle.tree.proofs.Branches.{any-tree}
 use Rattle.tree.proofs.After.{after-first}
 use Rattle.tree.proofs.Matches.{MatchOf, matches-of, matches-increasing}
 use Rattle.tree.proofs.Keep.{all-append}
-use Rattle.matches.specs.Notes.{Noted, Matched}
-use Rattle.matches.specs.declared.Next.{Next}
+use Rattle.matches.specs.Matched.{Noted, Matched}
+use Rattle.marks.specs.declared.Next.{Next}
 use Rattle.names.specs.Names.{AnyList}
 use Rattle.names.specs.Entries.{Entry, shown, outer, Asks, by-prefix}
 use Rattle.names.specs.Entries.{LabelOk}

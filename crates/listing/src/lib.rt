@@ -80,7 +80,7 @@ fn list_tree(
     let len = place.len;
     let rest = place.next;
     let root = found.link;
-    let mut notes = [0; matches::NOTES];
+    let mut notes = [0; marks::NOTES];
     let mut step = matches::first_match(words, text, root, &query[0..len], &mut notes);
     while 0 < step.link {
         let at = step.link;

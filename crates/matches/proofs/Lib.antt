@@ -1,2 +1,1 @@
-mod Marks
-pub mod Notes
+pub mod Matched

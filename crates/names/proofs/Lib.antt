@@ -1,5 +1,4 @@
 pub mod Collections
 pub mod Holder
 pub mod NamesPlaced
-pub mod Made
 pub mod NamesInsertion

@@ -20,11 +20,11 @@ use Rattle.tree.proofs.Branches.{branch-right, branch-reads}
 use Rattle.tree.proofs.Links.{by-sides}
 use Rattle.tree.proofs.Past.{by-order}
 use Rattle.names.specs.Names.{LedIn, Led}
-use Rattle.names.specs.Made.{Room, Made, MadeNames}
+use Rattle.writers.specs.Made.{Room, Made, MadeNames}
 use Rattle.names.specs.Insert.{inserted, NamesInsertion}
 use Rattle.names.proofs.Collections.{list-weight}
 use Rattle.names.proofs.NamesPlaced.{names-insert-first, names-insert-weight}
-use Rattle.names.proofs.Made.{made-as, made-what, made-stored, made-link, made-room, made-then}
+use Rattle.writers.proofs.Made.{made-as, made-what, made-stored, made-link, made-room, made-then}
 use Rattle.memory.specs.Sound.{At}
 use Rattle.memory.proofs.At.{at-of}
 

@@ -10,7 +10,7 @@ use Rattle.source.specs.Plans.{insert-branches, first-tree}
 use Rattle.memory.specs.Layout.{span, Which, Item, list, kind, value, what, text-len, text-start}
 use Rattle.memory.specs.Sound.{LinkOk, Used}
 use Rattle.insertion.specs.Insert.{NewBranch}
-use Rattle.names.specs.Made.{Room, Made}
+use Rattle.writers.specs.Made.{Room, Made}
 
 -- names_insert of the key and the value of a new branch r into the list of link x.
 abbrev pub inserted : (w : Which) (ws txt : List ℕ) (v : Level) (x : ℕ) (r : List ℕ) → NameList (Item w) v

@@ -1,4 +1,3 @@
 pub mod Names
-pub mod Made
 pub mod Insert
 pub mod Entries

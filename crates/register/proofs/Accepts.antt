@@ -19,8 +19,8 @@ use Rattle.memory.proofs.Seen.{link-later}
 use Rattle.memory.specs.Grown.{Keeps, Outside}
 use Rattle.memory.specs.declared.Header.{Header}
 use Rattle.memory.proofs.Keeps.{what-keeps, table-keeps, used-text}
-use Rattle.names.specs.Made.{Room}
-use Rattle.names.proofs.Made.{made-what, made-link}
+use Rattle.writers.specs.Made.{Room}
+use Rattle.writers.proofs.Made.{made-what, made-link}
 use Rattle.kinds.specs.Shapes.{shape-of, call-of}
 use Rattle.kinds.specs.declared.Kind.{Kind}
 use Rattle.kinds.specs.declared.Form.{Form}

@@ -19,7 +19,7 @@ use Rattle.memory.specs.Sound.{LinkOk, TextOk, Sound}
 use Rattle.memory.specs.Read.{text-of}
 use Rattle.memory.specs.declared.Header.{Header}
 use Rattle.memory.proofs.Seen.{link-later}
-use Rattle.names.specs.Made.{Room}
+use Rattle.writers.specs.Made.{Room}
 use Rattle.kinds.specs.Shapes.{shape-of, call-of}
 use Rattle.kinds.specs.declared.Kind.{Kind}
 use Rattle.kinds.specs.declared.Kind.the-variants.{Name, Include, Open, Alias, Module}

@@ -2,8 +2,8 @@
 use mathlib.Core.Bool.{false}
 use borrow.Author.Needs.{needs}
 use Rattle.tree.proofs.Past.{starts-self}
-use Rattle.matches.proofs.Marks.{clear-fits}
-use Rattle.matches.proofs.Notes.{first-noting, first-pass, first-none, matched-top}
+use Rattle.marks.proofs.Marks.{clear-fits}
+use Rattle.matches.proofs.Matched.{first-noting, first-pass, first-none, matched-top}
 use Rattle.matches.proofs.first_match.Statement.{statement}
 use Rattle.matches.proofs.first_match.Tie as tie
 

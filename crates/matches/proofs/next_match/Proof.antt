@@ -6,8 +6,8 @@ use Rattle.memory.specs.Layout.{key-at}
 use Rattle.tree.specs.Links.{matches, past}
 use Rattle.tree.proofs.Branches.{no-tree, text-in, any-right}
 use Rattle.tree.proofs.Keep.{kept-pass}
-use Rattle.matches.proofs.Marks.{taken-fits}
-use Rattle.matches.proofs.Notes.{matched-top, right-after, none-fits, mark-ahead, next-here, next-end, next-near, next-all, next-none}
+use Rattle.marks.proofs.Marks.{taken-fits}
+use Rattle.matches.proofs.Matched.{matched-top, right-after, none-fits, mark-ahead, next-here, next-end, next-near, next-all, next-none}
 use Rattle.matches.proofs.next_match.Statement.{statement}
 use Rattle.matches.proofs.next_match.Tie as tie
 
