@@ -34,10 +34,6 @@ row-met (Listed lines entered) = none
 row-met Spent = some 9
 row-met Lines = some 10
 
--- A run at the root: an empty path, nothing taken, what may be taken, and no element matched.
-abbrev pub start-run : (budget lines bytes : ℕ) → List ℕ
-start-run budget lines bytes = replicate 22 0 ++ (budget ∷ lines ∷ bytes ∷ 4294967295 ∷ [])
-
 -- The lines that a completion lists.
 abbrev pub lines-of : (a : Ask) → Trie (Item (asked a)) → Query → List (Line (Item (asked a)))
 lines-of a tr q = made (line-for a) (suc (depth tr)) tr [] q
