@@ -13,24 +13,24 @@ use Rattle.source.specs.Text.{Str, segments, ends-in-dot}
 use Rattle.source.specs.Types.{Trie, bind}
 use Rattle.source.specs.Terms.{depth}
 use Rattle.source.specs.Table.{Line, first-import-of-path}
-use Rattle.source.specs.Calls.{lowest, output-text, tries-entered, signed-word}
+use Rattle.source.specs.Calls.{lowest, output-text, tries-entered}
 use Rattle.source.specs.Forward.{entered}
 use Rattle.source.proofs.Counted.{tries-entered-count}
 use Rattle.source.specs.Forward.{base}
-use Rattle.source.proofs.Paths.{match-length-none}
 use Rattle.memory.specs.Layout.{Item, trieˢ, what}
 use Rattle.memory.proofs.Tries.{trie-shallow}
 use Rattle.asks.specs.Ask.{asked}
 use Rattle.output.specs.Path.{Path, joined}
 use Rattle.lines.specs.OnPath.{PathOk, OnPath}
 use Rattle.output.specs.Output.{line-bytes, Written}
-use Rattle.output.specs.Run.{Tally, Limits, Small, path-in, tally-in, matched-in}
+use Rattle.output.specs.Run.{Tally, Limits, Small, path-in, tally-in}
 use Rattle.lines.specs.Goes.{Shows, Past, Fit, Goes}
 use Rattle.asks.specs.declared.Ask.{Ask}
 use Rattle.lines.proofs.Capped.{tally-is, tells-past}
-use Rattle.steps.specs.Steps.{Matching}
 use Rattle.listing.specs.Runs.{trie-gives, TrieReady, TrieRuns, TrieListed}
-use Rattle.completion.specs.Completes.{output, output-rows, start-run, lines-of, CompletesAs, CompletesTrie}
+use Rattle.outset.specs.Outset.{start-run}
+use Rattle.outset.proofs.Outset.{unmatched, root-matching}
+use Rattle.completion.specs.Completes.{output, output-rows, lines-of, CompletesAs, CompletesTrie}
 use Rattle.completion.specs.declared.Completion.the-variants.{Listed, Spent, Lines}
 use Rattle.listing.proofs.Listed.{no-label}
 use Rattle.memory.specs.Sound.{At}
@@ -41,9 +41,6 @@ root-path lim = path-in (start-run (lim .budget) (lim .lines) (lim .bytes))
 
 abbrev nothing-yet : Tally
 nothing-yet = tally-in (start-run 0 0 0)
-
-abbrev unmatched : ℕ
-unmatched = matched-in (start-run 0 0 0)
 
 -- A lent part of no element leaves all.
 lent-nothing : (d part : List ℕ) → length part ≡ 0 → putMid 0 0 d part ≡ d
@@ -91,14 +88,10 @@ module _ (ws txt : List ℕ) (ask : Ask) (root : ℕ) (query : Str) where
   unfolding joined base first-import-of-path
   on-root lim = record { count = refl; text = refl; label-is = refl }
 
-  root-matching : Matching [] (segments query) unmatched
-  unfolding signed-word
-  root-matching = record { length-is = match-length-none [] tt; all-matched = λ n. tt }
-
   module _ {lim : Limits} {a : Tally} {flat flat′ out out′ : List ℕ}
       (r : TrieRuns ws txt ask query (root-path lim) lim unmatched nothing-yet a flat flat′ out out′ root) where
     run-goes : Goes (asked ask) ws txt lim nothing-yet a flat flat′ out out′ (trie-gives ask (suc (depth tr)) tr [] (segments query))
-    run-goes = r .goes [] (suc (depth tr)) (on-root lim) root-matching (omega arith)
+    run-goes = r .goes [] (suc (depth tr)) (on-root lim) (root-matching (segments query)) (omega arith)
 
     none-shown : Shows lim 0 0 0 nothing-yet
     none-shown = record { spent = λ h. h; entered-is = λ h. refl; counted = λ h. inl (refl, refl) }

@@ -2,10 +2,10 @@
 use Prim.Native.Nat.{ℕ, suc, _/_, min}
 use mathlib.Core.Path.{_≡_}
 use mathlib.Core.Bool.{_||_}
-use mathlib.Core.List.{List, [], _∷_, _++_}
+use mathlib.Core.List.{List, [], _∷_}
 use mathlib.Core.Option.{Option, none, some}
 use lib.Dec.{ltb}
-use lib.ListN.{length, replicate}
+use lib.ListN.{length}
 use Rattle.source.specs.Text.{Str, Query, segments}
 use Rattle.source.specs.Types.{Trie}
 use Rattle.source.specs.Terms.{depth}
@@ -33,10 +33,6 @@ abbrev pub row-met : Completion → Option ℕ
 row-met (Listed lines entered) = none
 row-met Spent = some 9
 row-met Lines = some 10
-
--- A run at the root: an empty path, nothing taken, what may be taken, and no element matched.
-abbrev pub start-run : (budget lines bytes : ℕ) → List ℕ
-start-run budget lines bytes = replicate 22 0 ++ (budget ∷ lines ∷ bytes ∷ 4294967295 ∷ [])
 
 -- The lines that a completion lists.
 abbrev pub lines-of : (a : Ask) → Trie (Item (asked a)) → Query → List (Line (Item (asked a)))

@@ -2,7 +2,7 @@
 use asks::Ask;
 ghost use mathlib.Core.Path.{_≡_};
 ghost use mathlib.Core.Bool.{true};
-ghost use Prim.Native.Nat.{_≤_, min};
+ghost use Prim.Native.Nat.{_≤_};
 ghost use lib.ListN.{length};
 ghost use Rattle.source.specs.Lent.{old, new};
 ghost use Rattle.source.specs.Limits.{longest-query};
@@ -10,35 +10,13 @@ ghost use Rattle.source.specs.Text.{ends-in-dot};
 ghost use Rattle.memory.specs.Layout.{trieˢ};
 ghost use Rattle.memory.specs.Sound.{At};
 ghost use Rattle.asks.specs.Ask.{asked};
-ghost use Rattle.completion.specs.Completes.{start-run, CompletesTrie};
+ghost use Rattle.completion.specs.Completes.{CompletesTrie};
 
 // What a completion of well-formed arguments hands back: the lines and the tries entered, or rows 9 and 10.
 pub enum Completion {
     Listed(u32, u32),
     Spent,
     Lines,
-}
-
-// What can be lent of `n` lines or bytes: as many as 32 bits count.
-fn lent(n: usize) -> usize
-    ensures { λ r. ⌜ r ≡ min n 4294967295 ⌝ }
-{
-    if n < 4294967295 {
-        return n;
-    }
-    4294967295
-}
-
-// A run at the root: nothing is taken, so much may be, and -1 is the match length, since no element was matched.
-fn start(budget: usize, lines: usize, bytes: usize) -> [usize; output::RUN]
-    ensures { λ r. ⌜ r ≡ start-run budget lines bytes ⌝ }
-{
-    let mut run = [0; output::RUN];
-    run[output::BUDGET] = budget;
-    run[output::MOST_LINES] = lines;
-    run[output::MOST_BYTES] = bytes;
-    run[output::MATCHED] = 4294967295;
-    run
 }
 
 // Completion on a root: counted first, so that a refusal writes nothing, then written.
@@ -57,10 +35,10 @@ pub fn complete(
     ensures { λ r. ⌜ CompletesTrie (old words) (old text) ask root (old query) budget
         (old flat) (new flat) (old out) (new out) r ⌝ }
 {
-    let lines = lent(flat.len() / output::LINE_BYTES);
-    let bytes = lent(out.len());
+    let lines = outset::lines_lent(flat.len());
+    let bytes = outset::lent(out.len());
     let most = budget as usize;
-    let mut run = start(most, lines, bytes);
+    let mut run = outset::start(most, lines, bytes);
     listing::list_trie(
         words,
         text,
@@ -83,7 +61,7 @@ pub fn complete(
     if bytes < size {
         return Completion::Lines;
     }
-    let mut again = start(most, lines, bytes);
+    let mut again = outset::start(most, lines, bytes);
     listing::list_trie(words, text, query, ask, root, &mut again, flat, out);
     Completion::Listed(count as u32, entered as u32)
 }

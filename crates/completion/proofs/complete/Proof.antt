@@ -11,9 +11,9 @@ pub complete-spec : {M : Type 1} → statement M
 complete-spec =
     tie.close
     (tie.spec
-    {- lent-requires -}
+    {- lines-lent-requires -}
     (λ c κs. search needs)
-    {- lent-requires-2 -}
+    {- lent-requires -}
     (λ c κs. search needs)
     {- start-requires -}
     (λ c κs. search needs)
@@ -30,7 +30,7 @@ complete-spec =
     {- part-list-trie-end-2 -}
     (λ c. search needs)
     {- list-trie-requires -}
-    (λ c κs. rw (c .before .before .before .start .ensures) (record { can = root-ready _ _ _ _ _ (c .before .before .before .before .before .before .before .before .before .before .before .pre .0) (c .before .before .before .before .before .before .before .before .before .before .before .pre .1) (set-small {flat = c .before .before .before .before .before .before .before .before .before .before .before .args .flat .now} {out = c .before .before .before .before .before .before .before .before .before .before .before .args .out .now} (record { budget-is = refl; budget-fits = omega (arith, c .before .before .before .before .before .before .before .before .before .before .before .fits .budget .fits); lines-are = c .before .before .before .before .before .lent .ensures; bytes-are = c .before .before .before .before .lent2 .ensures })); fits = omega arith }))
+    (λ c κs. rw (c .before .before .before .start .ensures) (record { can = root-ready _ _ _ _ _ (c .before .before .before .before .before .before .before .before .before .before .before .pre .0) (c .before .before .before .before .before .before .before .before .before .before .before .pre .1) (set-small {flat = c .before .before .before .before .before .before .before .before .before .before .before .args .flat .now} {out = c .before .before .before .before .before .before .before .before .before .before .before .args .out .now} (record { budget-is = refl; budget-fits = omega (arith, c .before .before .before .before .before .before .before .before .before .before .before .fits .budget .fits); lines-are = c .before .before .before .before .before .lines-lent .ensures; bytes-are = c .before .before .before .before .lent .ensures })); fits = omega arith }))
     {- array-read-entered -}
     (λ c. search needs)
     {- same-length -}
@@ -38,7 +38,7 @@ complete-spec =
     {- same-length-2 -}
     (λ c. search needs)
     {- returns -}
-    (λ c. completes-spent (record { budget-is = refl; budget-fits = omega (arith, c .before .before .before .before .before .before .before .before .before .before .before .before .before .before .before .before .before .fits .budget .fits); lines-are = c .before .before .before .before .before .before .before .before .before .before .before .lent .ensures; bytes-are = c .before .before .before .before .before .before .before .before .before .before .lent2 .ensures }) (root-shows _ _ _ _ _ (root-runs _ _ _ _ _ (c .before .before .before .before .before .before .before .before .before .start .ensures) (c .before .before .before .before .before .list-trie .ensures))) (c .if1 .taken) (flat-kept _ _ _ _ _ (root-runs _ _ _ _ _ (c .before .before .before .before .before .before .before .before .before .start .ensures) (c .before .before .before .before .before .list-trie .ensures)) (c .before .before .before .before .before .before .before .before .before .before .before .before .before .before .before .before .before .args .flat .now) refl) (out-kept _ _ _ _ _ (root-runs _ _ _ _ _ (c .before .before .before .before .before .before .before .before .before .start .ensures) (c .before .before .before .before .before .list-trie .ensures)) (c .before .before .before .before .before .before .before .before .before .before .before .before .before .before .before .before .before .args .out .now) refl))
+    (λ c. completes-spent (record { budget-is = refl; budget-fits = omega (arith, c .before .before .before .before .before .before .before .before .before .before .before .before .before .before .before .before .before .fits .budget .fits); lines-are = c .before .before .before .before .before .before .before .before .before .before .before .lines-lent .ensures; bytes-are = c .before .before .before .before .before .before .before .before .before .before .lent .ensures }) (root-shows _ _ _ _ _ (root-runs _ _ _ _ _ (c .before .before .before .before .before .before .before .before .before .start .ensures) (c .before .before .before .before .before .list-trie .ensures))) (c .if1 .taken) (flat-kept _ _ _ _ _ (root-runs _ _ _ _ _ (c .before .before .before .before .before .before .before .before .before .start .ensures) (c .before .before .before .before .before .list-trie .ensures)) (c .before .before .before .before .before .before .before .before .before .before .before .before .before .before .before .before .before .args .flat .now) refl) (out-kept _ _ _ _ _ (root-runs _ _ _ _ _ (c .before .before .before .before .before .before .before .before .before .start .ensures) (c .before .before .before .before .before .list-trie .ensures)) (c .before .before .before .before .before .before .before .before .before .before .before .before .before .before .before .before .before .args .out .now) refl))
     {- array-read-count -}
     (λ c. search needs)
     {- array-read-size -}
@@ -48,19 +48,19 @@ complete-spec =
     {- same-length-4 -}
     (λ c. search needs)
     {- returns-2 -}
-    (λ c. completes-past (record { budget-is = refl; budget-fits = omega (arith, c .before .before .before .before .before .before .before .before .before .before .before .before .before .before .before .before .before .before .fits .budget .fits); lines-are = c .before .before .before .before .before .before .before .before .before .before .before .before .lent .ensures; bytes-are = c .before .before .before .before .before .before .before .before .before .before .before .lent2 .ensures }) (root-shows _ _ _ _ _ (root-runs _ _ _ _ _ (c .before .before .before .before .before .before .before .before .before .before .start .ensures) (c .before .before .before .before .before .before .list-trie .ensures))) (c .before .if1 .left) (inl (c .if2 .taken)) (flat-kept _ _ _ _ _ (root-runs _ _ _ _ _ (c .before .before .before .before .before .before .before .before .before .before .start .ensures) (c .before .before .before .before .before .before .list-trie .ensures)) (c .before .before .before .before .before .before .before .before .before .before .before .before .before .before .before .before .before .before .args .flat .now) refl) (out-kept _ _ _ _ _ (root-runs _ _ _ _ _ (c .before .before .before .before .before .before .before .before .before .before .start .ensures) (c .before .before .before .before .before .before .list-trie .ensures)) (c .before .before .before .before .before .before .before .before .before .before .before .before .before .before .before .before .before .before .args .out .now) refl))
+    (λ c. completes-past (record { budget-is = refl; budget-fits = omega (arith, c .before .before .before .before .before .before .before .before .before .before .before .before .before .before .before .before .before .before .fits .budget .fits); lines-are = c .before .before .before .before .before .before .before .before .before .before .before .before .lines-lent .ensures; bytes-are = c .before .before .before .before .before .before .before .before .before .before .before .lent .ensures }) (root-shows _ _ _ _ _ (root-runs _ _ _ _ _ (c .before .before .before .before .before .before .before .before .before .before .start .ensures) (c .before .before .before .before .before .before .list-trie .ensures))) (c .before .if1 .left) (inl (c .if2 .taken)) (flat-kept _ _ _ _ _ (root-runs _ _ _ _ _ (c .before .before .before .before .before .before .before .before .before .before .start .ensures) (c .before .before .before .before .before .before .list-trie .ensures)) (c .before .before .before .before .before .before .before .before .before .before .before .before .before .before .before .before .before .before .args .flat .now) refl) (out-kept _ _ _ _ _ (root-runs _ _ _ _ _ (c .before .before .before .before .before .before .before .before .before .before .start .ensures) (c .before .before .before .before .before .before .list-trie .ensures)) (c .before .before .before .before .before .before .before .before .before .before .before .before .before .before .before .before .before .before .args .out .now) refl))
     {- same-length-5 -}
     (λ c. search needs)
     {- same-length-6 -}
     (λ c. search needs)
     {- returns-3 -}
-    (λ c. completes-past (record { budget-is = refl; budget-fits = omega (arith, c .before .before .before .before .before .before .before .before .before .before .before .before .before .before .before .before .before .before .before .fits .budget .fits); lines-are = c .before .before .before .before .before .before .before .before .before .before .before .before .before .lent .ensures; bytes-are = c .before .before .before .before .before .before .before .before .before .before .before .before .lent2 .ensures }) (root-shows _ _ _ _ _ (root-runs _ _ _ _ _ (c .before .before .before .before .before .before .before .before .before .before .before .start .ensures) (c .before .before .before .before .before .before .before .list-trie .ensures))) (c .before .before .if1 .left) (inr (c .if3 .taken)) (flat-kept _ _ _ _ _ (root-runs _ _ _ _ _ (c .before .before .before .before .before .before .before .before .before .before .before .start .ensures) (c .before .before .before .before .before .before .before .list-trie .ensures)) (c .before .before .before .before .before .before .before .before .before .before .before .before .before .before .before .before .before .before .before .args .flat .now) refl) (out-kept _ _ _ _ _ (root-runs _ _ _ _ _ (c .before .before .before .before .before .before .before .before .before .before .before .start .ensures) (c .before .before .before .before .before .before .before .list-trie .ensures)) (c .before .before .before .before .before .before .before .before .before .before .before .before .before .before .before .before .before .before .before .args .out .now) refl))
+    (λ c. completes-past (record { budget-is = refl; budget-fits = omega (arith, c .before .before .before .before .before .before .before .before .before .before .before .before .before .before .before .before .before .before .before .fits .budget .fits); lines-are = c .before .before .before .before .before .before .before .before .before .before .before .before .before .lines-lent .ensures; bytes-are = c .before .before .before .before .before .before .before .before .before .before .before .before .lent .ensures }) (root-shows _ _ _ _ _ (root-runs _ _ _ _ _ (c .before .before .before .before .before .before .before .before .before .before .before .start .ensures) (c .before .before .before .before .before .before .before .list-trie .ensures))) (c .before .before .if1 .left) (inr (c .if3 .taken)) (flat-kept _ _ _ _ _ (root-runs _ _ _ _ _ (c .before .before .before .before .before .before .before .before .before .before .before .start .ensures) (c .before .before .before .before .before .before .before .list-trie .ensures)) (c .before .before .before .before .before .before .before .before .before .before .before .before .before .before .before .before .before .before .before .args .flat .now) refl) (out-kept _ _ _ _ _ (root-runs _ _ _ _ _ (c .before .before .before .before .before .before .before .before .before .before .before .start .ensures) (c .before .before .before .before .before .before .before .list-trie .ensures)) (c .before .before .before .before .before .before .before .before .before .before .before .before .before .before .before .before .before .before .before .args .out .now) refl))
     {- start-requires-2 -}
     (λ c κs. search needs)
     {- list-trie-requires-2 -}
-    (λ c κs. rw (c .before .before .before .start2 .ensures) (record { can = root-ready _ _ _ _ _ (c .before .before .before .before .before .before .before .before .before .before .before .before .before .before .before .before .before .before .before .before .before .before .before .pre .0) (c .before .before .before .before .before .before .before .before .before .before .before .before .before .before .before .before .before .before .before .before .before .before .before .pre .1) (set-small {flat = c .before .before .before .before .before .before .before .before .before .before .before .before .before .before .before .before .before .before .before .before .before .before .before .args .flat .now} {out = c .before .before .before .before .before .before .before .before .before .before .before .before .before .before .before .before .before .before .before .before .before .before .before .args .out .now} (record { budget-is = refl; budget-fits = omega (arith, c .before .before .before .before .before .before .before .before .before .before .before .before .before .before .before .before .before .before .before .before .before .before .before .fits .budget .fits); lines-are = c .before .before .before .before .before .before .before .before .before .before .before .before .before .before .before .before .before .lent .ensures; bytes-are = c .before .before .before .before .before .before .before .before .before .before .before .before .before .before .before .before .lent2 .ensures })); fits = omega arith }))
+    (λ c κs. rw (c .before .before .before .start2 .ensures) (record { can = root-ready _ _ _ _ _ (c .before .before .before .before .before .before .before .before .before .before .before .before .before .before .before .before .before .before .before .before .before .before .before .pre .0) (c .before .before .before .before .before .before .before .before .before .before .before .before .before .before .before .before .before .before .before .before .before .before .before .pre .1) (set-small {flat = c .before .before .before .before .before .before .before .before .before .before .before .before .before .before .before .before .before .before .before .before .before .before .before .args .flat .now} {out = c .before .before .before .before .before .before .before .before .before .before .before .before .before .before .before .before .before .before .before .before .before .before .before .args .out .now} (record { budget-is = refl; budget-fits = omega (arith, c .before .before .before .before .before .before .before .before .before .before .before .before .before .before .before .before .before .before .before .before .before .before .before .fits .budget .fits); lines-are = c .before .before .before .before .before .before .before .before .before .before .before .before .before .before .before .before .before .lines-lent .ensures; bytes-are = c .before .before .before .before .before .before .before .before .before .before .before .before .before .before .before .before .lent .ensures })); fits = omega arith }))
     {- cast-t40 -}
-    (λ c. omega (arith, c .before .before .before .before .before .before .before .before .before .before .if2 .left, c .before .before .before .before .before .before .before .before .before .before .before .before .before .before .before .before .before .before .before .before .before .before .lent .ensures))
+    (λ c. omega (arith, c .before .before .before .before .before .before .before .before .before .before .if2 .left, c .before .before .before .before .before .before .before .before .before .before .before .before .before .before .before .before .before .before .before .before .before .before .lines-lent .ensures))
     {- cast-t41 -}
     (λ c. omega (arith, c .before .before .before .before .before .before .before .before .before .before .before .if1 .left, c .before .before .before .before .before .before .before .before .before .before .before .before .before .before .before .before .before .before .before .before .before .before .before .before .before .before .before .before .fits .budget .fits))
     {- same-length-7 -}
@@ -68,4 +68,4 @@ complete-spec =
     {- same-length-8 -}
     (λ c. search needs)
     {- returns-4 -}
-    (λ c. completes-listed (record { budget-is = refl; budget-fits = omega (arith, c .before .before .before .before .before .before .before .before .before .before .before .before .before .before .before .before .before .before .before .before .before .before .before .before .before .before .before .before .fits .budget .fits); lines-are = c .before .before .before .before .before .before .before .before .before .before .before .before .before .before .before .before .before .before .before .before .before .before .lent .ensures; bytes-are = c .before .before .before .before .before .before .before .before .before .before .before .before .before .before .before .before .before .before .before .before .before .lent2 .ensures }) (root-shows _ _ _ _ _ (root-runs _ _ _ _ _ (c .before .before .before .before .before .before .before .before .before .before .before .before .before .before .before .before .before .before .before .before .start .ensures) (c .before .before .before .before .before .before .before .before .before .before .before .before .before .before .before .before .list-trie .ensures))) (c .before .before .before .before .before .before .before .before .before .before .before .if1 .left) (c .before .before .before .before .before .before .before .before .before .before .if2 .left) (c .before .before .before .before .before .before .before .before .before .if3 .left) (writes-then _ _ _ _ _ (flat-kept _ _ _ _ _ (root-runs _ _ _ _ _ (c .before .before .before .before .before .before .before .before .before .before .before .before .before .before .before .before .before .before .before .before .start .ensures) (c .before .before .before .before .before .before .before .before .before .before .before .before .before .before .before .before .list-trie .ensures)) (c .before .before .before .before .before .before .before .before .before .before .before .before .before .before .before .before .before .before .before .before .before .before .before .before .before .before .before .before .args .flat .now) refl) (out-kept _ _ _ _ _ (root-runs _ _ _ _ _ (c .before .before .before .before .before .before .before .before .before .before .before .before .before .before .before .before .before .before .before .before .start .ensures) (c .before .before .before .before .before .before .before .before .before .before .before .before .before .before .before .before .list-trie .ensures)) (c .before .before .before .before .before .before .before .before .before .before .before .before .before .before .before .before .before .before .before .before .before .before .before .before .before .before .before .before .args .out .now) refl) (root-runs _ _ _ _ _ (c .before .before .before .before .before .before .before .before .start2 .ensures) (c .before .before .before .before .list-trie2 .ensures)) (all-fit (root-shows _ _ _ _ _ (root-runs _ _ _ _ _ (c .before .before .before .before .before .before .before .before .before .before .before .before .before .before .before .before .before .before .before .before .start .ensures) (c .before .before .before .before .before .before .before .before .before .before .before .before .before .before .before .before .list-trie .ensures))) (c .before .before .before .before .before .before .before .before .before .before .before .if1 .left) (c .before .before .before .before .before .before .before .before .before .before .if2 .left) (c .before .before .before .before .before .before .before .before .before .if3 .left) (record { budget-is = refl; budget-fits = omega (arith, c .before .before .before .before .before .before .before .before .before .before .before .before .before .before .before .before .before .before .before .before .before .before .before .before .before .before .before .before .fits .budget .fits); lines-are = c .before .before .before .before .before .before .before .before .before .before .before .before .before .before .before .before .before .before .before .before .before .before .lent .ensures; bytes-are = c .before .before .before .before .before .before .before .before .before .before .before .before .before .before .before .before .before .before .before .before .before .lent2 .ensures })))))
+    (λ c. completes-listed (record { budget-is = refl; budget-fits = omega (arith, c .before .before .before .before .before .before .before .before .before .before .before .before .before .before .before .before .before .before .before .before .before .before .before .before .before .before .before .before .fits .budget .fits); lines-are = c .before .before .before .before .before .before .before .before .before .before .before .before .before .before .before .before .before .before .before .before .before .before .lines-lent .ensures; bytes-are = c .before .before .before .before .before .before .before .before .before .before .before .before .before .before .before .before .before .before .before .before .before .lent .ensures }) (root-shows _ _ _ _ _ (root-runs _ _ _ _ _ (c .before .before .before .before .before .before .before .before .before .before .before .before .before .before .before .before .before .before .before .before .start .ensures) (c .before .before .before .before .before .before .before .before .before .before .before .before .before .before .before .before .list-trie .ensures))) (c .before .before .before .before .before .before .before .before .before .before .before .if1 .left) (c .before .before .before .before .before .before .before .before .before .before .if2 .left) (c .before .before .before .before .before .before .before .before .before .if3 .left) (writes-then _ _ _ _ _ (flat-kept _ _ _ _ _ (root-runs _ _ _ _ _ (c .before .before .before .before .before .before .before .before .before .before .before .before .before .before .before .before .before .before .before .before .start .ensures) (c .before .before .before .before .before .before .before .before .before .before .before .before .before .before .before .before .list-trie .ensures)) (c .before .before .before .before .before .before .before .before .before .before .before .before .before .before .before .before .before .before .before .before .before .before .before .before .before .before .before .before .args .flat .now) refl) (out-kept _ _ _ _ _ (root-runs _ _ _ _ _ (c .before .before .before .before .before .before .before .before .before .before .before .before .before .before .before .before .before .before .before .before .start .ensures) (c .before .before .before .before .before .before .before .before .before .before .before .before .before .before .before .before .list-trie .ensures)) (c .before .before .before .before .before .before .before .before .before .before .before .before .before .before .before .before .before .before .before .before .before .before .before .before .before .before .before .before .args .out .now) refl) (root-runs _ _ _ _ _ (c .before .before .before .before .before .before .before .before .start2 .ensures) (c .before .before .before .before .list-trie2 .ensures)) (all-fit (root-shows _ _ _ _ _ (root-runs _ _ _ _ _ (c .before .before .before .before .before .before .before .before .before .before .before .before .before .before .before .before .before .before .before .before .start .ensures) (c .before .before .before .before .before .before .before .before .before .before .before .before .before .before .before .before .list-trie .ensures))) (c .before .before .before .before .before .before .before .before .before .before .before .if1 .left) (c .before .before .before .before .before .before .before .before .before .before .if2 .left) (c .before .before .before .before .before .before .before .before .before .if3 .left) (record { budget-is = refl; budget-fits = omega (arith, c .before .before .before .before .before .before .before .before .before .before .before .before .before .before .before .before .before .before .before .before .before .before .before .before .before .before .before .before .fits .budget .fits); lines-are = c .before .before .before .before .before .before .before .before .before .before .before .before .before .before .before .before .before .before .before .before .before .before .lines-lent .ensures; bytes-are = c .before .before .before .before .before .before .before .before .before .before .before .before .before .before .before .before .before .before .before .before .before .lent .ensures })))))
