@@ -335,5 +335,5 @@ complete-spec 𝓤 H 𝓜 𝓖 𝓡 =
     (tables 𝓤 H 𝓜 𝓡 code.env .C) (tables 𝓤 H 𝓜 𝓡 code.env .Λ) #typed·complete code.function (code.unfolded 𝓤 H 𝓜 𝓡)
     (complete-meets 𝓤 H (𝓖 .A) (givenOf 𝓤 H 𝓜 𝓖) (𝓜 .mem) (𝓡 .run) (tablesOf 𝓤 H 𝓜 (tables 𝓤 H 𝓜 𝓡 code.env))
     (cited 𝓤 H (Flat 𝓤 H (𝓖 .A) (𝓜 .mem) (𝓡 .run)) 𝓜 𝓡 code.env #typed·complete-flat complete-flat-def.routine code.calls-typed·complete-flat (complete-flat-thm.met 𝓤 H 𝓜 𝓖 𝓡))
-    (cited 𝓤 H (LinesIn 𝓤 H (𝓖 .A) (𝓜 .mem) (𝓡 .run)) 𝓜 𝓡 code.env #line·lines-in lines-in-def.routine code.calls-line·lines-in (lines-in-thm.met 𝓤 H 𝓜 𝓖 𝓡))
+    (cited 𝓤 H (LinesIn 𝓤 H (𝓖 .A) (𝓜 .mem) (𝓡 .run)) 𝓜 𝓡 code.env #line·lines-in lines-in-def.routine code.calls-counts·lines-in (lines-in-thm.met 𝓤 H 𝓜 𝓖 𝓡))
     (cited 𝓤 H (StoreLines 𝓤 H (𝓖 .A) (𝓜 .mem) (𝓡 .run)) 𝓜 𝓡 code.env #typed·store-lines store-lines-def.routine code.calls-typed·store-lines (store-lines-thm.met 𝓤 H 𝓜 𝓖 𝓡)))
