@@ -1,16 +1,22 @@
 -- The answer to a line is that of its command (`Answered`).
 use Prim.Native.Nat.{ℕ}
 use native.Mathlib.Omega.{arith}
-use mathlib.Core.Path.{_≡_, refl, ap, _∙_}
-use mathlib.Core.Bool.{Bool, true}
+use mathlib.Core.Path.{_≡_, refl, sym, ap, _∙_}
+use mathlib.Core.Bool.{true, false}
 use mathlib.Core.List.{List}
 use mathlib.Core.Option.{some}
 use Rattle.source.specs.Calls as C
-use Rattle.source.specs.Calls.{State, Output, Call, register}
+use Rattle.source.specs.Calls.{State, Lent, Output, Call, register}
 use Rattle.text.specs.Laid.{Laid}
 use Rattle.numerals.specs.Bytes.{Str}
-use Rattle.script.specs.Script.{Command, name, import, alias, module-path, ask, Reads}
+use Rattle.script.specs.Script.{Command, name, import, alias, module-path, ask, Reads, import-kind, OfKind, RegistrationLine}
 use Rattle.script.specs.declared.Import.{Import}
+use Rattle.script.specs.declared.Import.the-variants.{Include, OpenModule, OpenNamespace}
+use Rattle.parts.specs.Parts.{part-of}
+use Rattle.parts.specs.declared.Extent.{Extent}
+use Rattle.kinds.specs.declared.Kind.{Kind}
+use Rattle.kinds.specs.Shapes.{call-of}
+use Rattle.kinds.proofs.Shapes.{opened-is}
 use Rattle.script.specs.declared.Question.{Question}
 use Rattle.script.proofs.ReadsOnce.{reads-once}
 use Rattle.replies.specs.Replies.{bad-reply}
@@ -21,24 +27,30 @@ use Rattle.registrations.specs.Registers.{Outcome, registration, Leaves, Regist
 use Rattle.registrations.specs.declared.Done.{Done}
 use Rattle.memory.proofs.Outside.{outside-none}
 use Rattle.questions.specs.Questions.{asked-text}
-use Rattle.answers.specs.Outcomes.{outcome, call-of, Accepted}
+use Rattle.answers.specs.Outcomes.{import-call, outcome, command-call, Accepted}
 use Rattle.answers.specs.Answers.{Answered}
 
-module _ {line : Str} where
-  pub name-reads : {h i h′ i′ : Str} {n : ℕ} → h ≡ h′ → i ≡ i′ → Reads line (name h′ i′ n) → Reads line (name h i n)
-  name-reads p q r = rw (p, q) r
+pub ask-reads : {line : Str} {what : Question} {q q′ : Str} → q ≡ q′ → Reads line (ask what q′) → Reads line (ask what q)
+ask-reads p r = rw p r
 
-  pub import-reads : {how : Import} {h q h′ q′ : Str} → h ≡ h′ → q ≡ q′ → Reads line (import how h′ q′) → Reads line (import how h q)
-  import-reads p q r = rw (p, q) r
+-- The call that a command asks for is registered as that of the kind and the texts.
+record IsCall (c : Command) (k : Kind) (h o y : Str) : Type 0 where
+  call : Call
+  is : command-call c ≡ some call
+  outcome-is : (l : Lent) (out : Output) (s : State) → outcome l out s c ≡ registration s (register true l s call)
+  same : (l : Lent) (s : State) → register true l s (call-of k h o y) ≡ register true l s call
 
-  pub alias-reads : {k h q k′ h′ q′ : Str} → k ≡ k′ → h ≡ h′ → q ≡ q′ → Reads line (alias k′ h′ q′) → Reads line (alias k h q)
-  alias-reads o p q r = rw (o, p, q) r
+import-same : (how : Import) (l : Lent) (s : State) (host q key : Str) → register true l s (call-of (import-kind how) host q key) ≡ register true l s (import-call how host q)
+import-same Include l s host q key = refl
+import-same OpenModule l s host q key = opened-is true true l s host q key
+import-same OpenNamespace l s host q key = opened-is false true l s host q key
 
-  pub module-reads : {loaded : Bool} {q path q′ path′ : Str} → q ≡ q′ → path ≡ path′ → Reads line (module-path loaded q′ path′) → Reads line (module-path loaded q path)
-  module-reads p q r = rw (p, q) r
-
-  pub ask-reads : {what : Question} {q q′ : Str} → q ≡ q′ → Reads line (ask what q′) → Reads line (ask what q)
-  ask-reads p r = rw p r
+is-call : (c : Command) {k : Kind} {h o y : Str} → OfKind c k h o y → IsCall c k h o y
+is-call (name host id n) e = record { call = C.name host id n; is = refl; outcome-is = λ l out s. refl; same = λ l s. rw (e .0, e .1, e .2) refl }
+is-call (import how host q) {y = y} e = record { call = import-call how host q; is = refl; outcome-is = λ l out s. refl; same = λ l s. rw (e .0, e .1, e .2) (import-same how l s host q y) }
+is-call (alias word host q) e = record { call = C.alias word host q; is = refl; outcome-is = λ l out s. refl; same = λ l s. rw (e .0, e .1, e .2, e .3) refl }
+is-call (module-path loaded q path) e = record { call = C.module-path loaded q path; is = refl; outcome-is = λ l out s. refl; same = λ l s. rw (e .0, e .1, e .2) refl }
+is-call (ask what q) e = absurd e
 
 -- What an outcome is, by its parts.
 same-outcome : {text : Str} {after : State} (o : Outcome) → text ≡ o .text → after ≡ o .after → record { text = text; after = after } ≡ o
@@ -61,15 +73,21 @@ module _ {ws txt ws′ txt′ reply reply′ : List ℕ} {t : Table} {line : Str
     still = λ n. k (n c h);
   }
 
-  -- A command whose outcome is that of a registration.
-  pub answered-call : {c : Command} {call : Call} → Reads line c → call-of c ≡ some call
-      → outcome (lent ws txt) out (state ws txt t) c ≡ registration (state ws txt t) (register true (lent ws txt) (state ws txt t) call)
-      → Registers ws txt ws′ txt′ t call reply reply′ at r → Answered ws txt ws′ txt′ t line out reply reply′ at r
-  answered-call {c} {call} h e o x = answered-by h (rw o (x .leaves)) (go (register true (lent ws txt) (state ws txt t) call) refl)
+  -- A line that says a registration.
+  pub answered-call : {k : Kind} {host other key : Extent} {h o y : Str} → RegistrationLine line k host other key
+      → h ≡ part-of line host → o ≡ part-of line other → y ≡ part-of line key
+      → Registers ws txt ws′ txt′ t (call-of k h o y) reply reply′ at r → Answered ws txt ws′ txt′ t line out reply reply′ at r
+  answered-call {k} {host} {other} {key} {h} {o} {y} l p q z x = answered-by (l .reads) leaves (go (register true (lent ws txt) (state ws txt t) (i .call)) refl)
     where
-      go : (v : C.Registered) → register true (lent ws txt) (state ws txt t) call ≡ v → (Accepted (lent ws txt) (state ws txt t) c → ⊥) → Unchanged ws txt ws′ txt′ t (r .table)
-      go (C.accepted s) p n = absurd (n (record { call = call; is = e; after = s; accepted = p }))
-      go (C.refused m) p n = x .still m p
+      i : IsCall (l .command) k h o y
+      i = rw (p, q, z) (is-call (l .command) (l .of-kind))
+
+      leaves : Leaves ws txt ws′ txt′ t reply reply′ at (outcome (lent ws txt) out (state ws txt t) (l .command)) r
+      leaves = rw (i .outcome-is (lent ws txt) out (state ws txt t), sym (i .same (lent ws txt) (state ws txt t))) (x .leaves)
+
+      go : (v : C.Registered) → register true (lent ws txt) (state ws txt t) (i .call) ≡ v → (Accepted (lent ws txt) (state ws txt t) (l .command) → ⊥) → Unchanged ws txt ws′ txt′ t (r .table)
+      go (C.accepted s) e n = absurd (n (record { call = i .call; is = i .is; after = s; accepted = e }))
+      go (C.refused m) e n = x .still m (i .same (lent ws txt) (state ws txt t) ∙ e)
 
 -- Nothing has changed but the reply.
 leaves-same : {ws txt reply reply′ : List ℕ} {t : Table} {at e : ℕ} (s : Str) → IsSound ws txt t → Laid reply reply′ at e s

@@ -1,15 +1,23 @@
 -- What the program `console` replies to a line and what table it leaves, from the source's functions and the requirements' replies.
 use mathlib.Core.Path.{_≡_}
-use mathlib.Core.Bool.{true}
+use mathlib.Core.Bool.{true, false}
 use mathlib.Core.List.{List, [], _∷_}
 use mathlib.Core.Option.{Option, some, none as no-call}
 use Rattle.source.specs.Calls as C
 use Rattle.source.specs.Calls.{State, Lent, Output, Call, register}
 use Rattle.numerals.specs.Bytes.{Str, _·_}
 use Rattle.script.specs.Script.{Command, name, import, alias, module-path, ask, Reads}
+use Rattle.script.specs.declared.Import.{Import}
+use Rattle.script.specs.declared.Import.the-variants.{Include, OpenModule, OpenNamespace}
 use Rattle.replies.specs.Replies.{bad-reply}
-use Rattle.registrations.specs.Registers.{Outcome, registration, import-call}
+use Rattle.registrations.specs.Registers.{Outcome, registration}
 use Rattle.questions.specs.Questions.{asked-text}
+
+-- An open of a module, of a namespace, or an include.
+abbrev pub import-call : Import → (host q : Str) → Call
+import-call Include host q = C.include host q
+import-call OpenModule host q = C.opens true host q
+import-call OpenNamespace host q = C.opens false host q
 
 -- What a line that says a command does, where so much memory and so much output is lent.
 abbrev pub outcome : Lent → Output → State → Command → Outcome
@@ -20,17 +28,17 @@ outcome lent out s (module-path loaded q path) = registration s (register true l
 outcome lent out s (ask what q) = record { text = asked-text out (s .table) what q; after = s }
 
 -- The registration that a command asks for, none of a question.
-abbrev pub call-of : Command → Option Call
-call-of (name host id n) = some (C.name host id n)
-call-of (import how host q) = some (import-call how host q)
-call-of (alias word host q) = some (C.alias word host q)
-call-of (module-path loaded q path) = some (C.module-path loaded q path)
-call-of (ask what q) = no-call
+abbrev pub command-call : Command → Option Call
+command-call (name host id n) = some (C.name host id n)
+command-call (import how host q) = some (import-call how host q)
+command-call (alias word host q) = some (C.alias word host q)
+command-call (module-path loaded q path) = some (C.module-path loaded q path)
+command-call (ask what q) = no-call
 
 -- The command registers: its call is accepted.
 pub record Accepted (lent : Lent) (s : State) (c : Command) : Type 0 where
   pub call : Call
-  pub is : call-of c ≡ some call
+  pub is : command-call c ≡ some call
   pub after : State
   pub accepted : register true lent s call ≡ C.accepted after
 

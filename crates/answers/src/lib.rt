@@ -3,6 +3,7 @@
 use parts::Extent;
 use questions::Asking;
 use registrations::Done;
+use registrations::Registering;
 use script::LineForm;
 use table::Table;
 ghost use mathlib.Core.Path.{_≡_};
@@ -49,50 +50,27 @@ pub fn answer(
 {
     let form = script::parse(line);
     match form {
-        LineForm::Name { host, id, item } => registrations::name_line(
-            table,
-            words,
-            text,
-            part(line, host),
-            part(line, id),
-            item,
-            reply,
-            at,
-        ),
-        LineForm::Import { how, host, query } => registrations::import_line(
-            table,
-            words,
-            text,
-            how,
-            part(line, host),
-            part(line, query),
-            reply,
-            at,
-        ),
-        LineForm::Alias { word, host, query } => registrations::alias_line(
-            table,
-            words,
-            text,
-            part(line, word),
-            part(line, host),
-            part(line, query),
-            reply,
-            at,
-        ),
-        LineForm::Module {
-            loaded,
-            query,
-            path,
-        } => registrations::module_line(
-            table,
-            words,
-            text,
-            loaded,
-            part(line, query),
-            part(line, path),
-            reply,
-            at,
-        ),
+        LineForm::Register {
+            kind,
+            host,
+            other,
+            key,
+        } => {
+            let start = Registering {
+                table: table,
+                at: at,
+            };
+            registrations::register_line(
+                start,
+                words,
+                text,
+                kind,
+                part(line, host),
+                part(line, other),
+                part(line, key),
+                reply,
+            )
+        }
         LineForm::Ask { what, query } => {
             let start = Asking {
                 table: table,

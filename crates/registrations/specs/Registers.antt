@@ -1,15 +1,13 @@
 -- The line of a registration: what it replies and what it leaves.
 use Prim.Native.Nat.{ℕ, _*_, _≤_}
 use mathlib.Core.Path.{_≡_}
-use mathlib.Core.Bool.{true, false}
+use mathlib.Core.Bool.{true}
 use mathlib.Core.List.{List}
 use Rattle.source.specs.Limits.{record-words}
 use Rattle.source.specs.Calls as C
 use Rattle.source.specs.Calls.{State, Call, register}
 use Rattle.text.specs.Laid.{Laid}
 use Rattle.numerals.specs.Bytes.{Str}
-use Rattle.script.specs.declared.Import.{Import}
-use Rattle.script.specs.declared.Import.the-variants.{Include, OpenModule, OpenNamespace}
 use Rattle.replies.specs.Replies.{ok-reply, refused-reply}
 use Rattle.table.specs.Header.{IsSound, state, lent}
 use Rattle.refusals.specs.Refusals.{number}
@@ -30,12 +28,6 @@ pub record Outcome : Type 0 where
 abbrev pub registration : State → C.Registered → Outcome
 registration s (C.accepted s′) = record { text = ok-reply (s′ .records-used); after = s′ }
 registration s (C.refused n) = record { text = refused-reply n; after = s }
-
--- An open of a module, of a namespace, or an include.
-abbrev pub import-call : Import → (host q : Str) → Call
-import-call Include host q = C.include host q
-import-call OpenModule host q = C.opens true host q
-import-call OpenNamespace host q = C.opens false host q
 
 -- The table has become one that reads as the outcome's and is sound, only the free part that was taken has changed, and the
 -- outcome's reply stands in the reply text from at on.

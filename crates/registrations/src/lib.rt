@@ -1,23 +1,27 @@
 // The line of a registration answered: its call is made on a table whose memory is sound by proof, and its reply is written.
-use script::Import;
+use kinds::Kind;
 use table::Registered;
 use table::Registration;
 use table::Table;
-ghost use mathlib.Core.Bool.{true};
 ghost use Prim.Native.Nat.{_+_, _≤_};
 ghost use lib.ListN.{length};
 ghost use Rattle.source.specs.Lent.{old, new};
-ghost use Rattle.source.specs.Calls.{name, alias, module-path};
 ghost use Rattle.text.specs.Laid.{Laid};
+ghost use Rattle.kinds.specs.Shapes.{call-of};
 ghost use Rattle.replies.specs.Replies.{reply-room};
 ghost use Rattle.table.specs.Header.{IsSound};
-ghost use Rattle.table.specs.Registrations.{Answers};
-ghost use Rattle.registrations.specs.Registers.{import-call, registered-text, Finished, Registers};
+ghost use Rattle.registrations.specs.Registers.{registered-text, Finished, Registers};
 
 // The table after a line, and where its reply ends.
 pub struct Done {
     pub table: Table,
     pub end: usize,
+}
+
+// The table before a line, and where its reply goes.
+pub struct Registering {
+    pub table: Table,
+    pub at: usize,
 }
 
 // Writes the reply to a registration.
@@ -45,97 +49,23 @@ fn finish(reply: &mut [u8], at: usize, r: Registration) -> Done
     Done { table: t, end: e }
 }
 
-// An include or an open.
-fn import(
-    table: Table,
+// `[name ..]`, `[include ..]`, `[open ..]`, `[alias ..]`, `[module ..]`: the kind and its texts.
+pub fn register_line(
+    start: Registering,
     words: &mut [u32],
     text: &mut [u8],
-    how: Import,
+    kind: Kind,
     host: &[u8],
-    query: &[u8],
-) -> Registration
-    requires { ⌜ IsSound (now words) (now text) table ⌝ }
-    ensures { λ r. ⌜ Answers true (old words) (old text) (new words) (new text) table (import-call how (old host) (old query)) r ⌝ }
-{
-    match how {
-        Import::Include => table.register_include_sound(words, text, host, query),
-        Import::OpenModule => table.register_open_sound(words, text, true, host, query),
-        Import::OpenNamespace => table.register_open_sound(words, text, false, host, query),
-    }
-}
-
-// `[name [host] id N]`
-pub fn name_line(
-    table: Table,
-    words: &mut [u32],
-    text: &mut [u8],
-    host: &[u8],
-    id: &[u8],
-    item: u32,
+    other: &[u8],
+    key: &[u8],
     reply: &mut [u8],
-    at: usize,
 ) -> Done
-    requires { ⌜ IsSound (now words) (now text) table ⌝ }
-    requires { ⌜ at + reply-room ≤ length (now reply) ⌝ }
-    ensures { λ r. ⌜ Registers (old words) (old text) (new words) (new text) table (name (old host) (old id) item) (old reply) (new reply) at r ⌝ }
+    requires { ⌜ IsSound (now words) (now text) (start .table) ⌝ }
+    requires { ⌜ start .at + reply-room ≤ length (now reply) ⌝ }
+    ensures { λ r. ⌜ Registers (old words) (old text) (new words) (new text) (start .table)
+        (call-of kind (old host) (old other) (old key)) (old reply) (new reply) (start .at) r ⌝ }
 {
-    let r = table.insert_sound(words, text, host, id, item);
-    finish(reply, at, r)
-}
-
-// `[include [host] [q]]`, `[open m [host] [q]]`, `[open n [host] [q]]`
-pub fn import_line(
-    table: Table,
-    words: &mut [u32],
-    text: &mut [u8],
-    how: Import,
-    host: &[u8],
-    query: &[u8],
-    reply: &mut [u8],
-    at: usize,
-) -> Done
-    requires { ⌜ IsSound (now words) (now text) table ⌝ }
-    requires { ⌜ at + reply-room ≤ length (now reply) ⌝ }
-    ensures { λ r. ⌜ Registers (old words) (old text) (new words) (new text) table (import-call how (old host) (old query)) (old reply) (new reply) at r ⌝ }
-{
-    let r = import(table, words, text, how, host, query);
-    finish(reply, at, r)
-}
-
-// `[alias key [host] [q]]`
-pub fn alias_line(
-    table: Table,
-    words: &mut [u32],
-    text: &mut [u8],
-    word: &[u8],
-    host: &[u8],
-    query: &[u8],
-    reply: &mut [u8],
-    at: usize,
-) -> Done
-    requires { ⌜ IsSound (now words) (now text) table ⌝ }
-    requires { ⌜ at + reply-room ≤ length (now reply) ⌝ }
-    ensures { λ r. ⌜ Registers (old words) (old text) (new words) (new text) table (alias (old word) (old host) (old query)) (old reply) (new reply) at r ⌝ }
-{
-    let r = table.register_alias_sound(words, text, word, host, query);
-    finish(reply, at, r)
-}
-
-// `[module l [q] path]`, `[module u [q] path]`
-pub fn module_line(
-    table: Table,
-    words: &mut [u32],
-    text: &mut [u8],
-    loaded: bool,
-    query: &[u8],
-    path: &[u8],
-    reply: &mut [u8],
-    at: usize,
-) -> Done
-    requires { ⌜ IsSound (now words) (now text) table ⌝ }
-    requires { ⌜ at + reply-room ≤ length (now reply) ⌝ }
-    ensures { λ r. ⌜ Registers (old words) (old text) (new words) (new text) table (module-path loaded (old query) (old path)) (old reply) (new reply) at r ⌝ }
-{
-    let r = table.register_module_path_sound(words, text, loaded, query, path);
-    finish(reply, at, r)
+    let table = start.table;
+    let r = table.register_sound(words, text, kind, host, other, key);
+    finish(reply, start.at, r)
 }

@@ -14,12 +14,13 @@ use Rattle.script.specs.declared.Question.the-variants.{Find, Complete, 
 use Rattle.script.specs.declared.Key.{Key}
 use Rattle.script.specs.declared.Key.the-variants.{Name as NameKey, Alias as AliasKey, Import as ImportKey, Module as ModuleKey, Ask as AskKey}
 use Rattle.parts.specs.declared.Extent.{Extent}
-use Rattle.script.specs.declared.LineForm.the-variants.{Name, Import as ImportForm, Alias, Module, Ask as AskForm}
+use Rattle.kinds.specs.declared.Kind.the-variants as kind
+use Rattle.script.specs.declared.LineForm.the-variants.{Register, Ask as AskForm}
 use Rattle.parts.specs.declared.Pair.the-variants.{At as AtPair}
 use Rattle.parts.specs.declared.Tail.the-variants.{At as AtTail}
 use Rattle.numerals.specs.Bytes.{Str, _·_, bytes}
-use Rattle.script.specs.Script.{key, Command, name, import, alias, module-path, ask, NameLine, ImportLine, AliasLine, ModuleLine, AskLine, Spelled, Reads, Parsed}
-use Rattle.parts.specs.Parts.{cut, WordAt, Piece, PieceAt, IdEnd, IdSays, PairEnd, PairSays, LastAt, QueryEnd, QueryAt}
+use Rattle.script.specs.Script.{key, Command, name, import, alias, module-path, ask, NameLine, ImportLine, AliasLine, ModuleLine, AskLine, Spelled, Reads, import-kind, Parsed}
+use Rattle.parts.specs.Parts.{part-of, cut, WordAt, Piece, PieceAt, IdEnd, IdSays, PairEnd, PairSays, LastAt, QueryEnd, QueryAt}
 use Rattle.script.specs.Keys.{key-of, Only}
 use Rattle.parts.proofs.Parts.{part-found, rest-found, cut-length, stops-query, stops-word}
 
@@ -110,6 +111,10 @@ ask-query r e = record { query-ok = r .query-ok; spelled = e }
 
 -- ---- Each form, found or refused
 
+-- A text that the kind has not.
+abbrev none : Extent
+none = record { start = 0; len = 0 }
+
 module _ {line : Str} {at : ℕ} (o : Only line NameKey) (w : WordAt line (key NameKey) at) where
   pub name-none : ((part rest : Str) → Piece Query (93 ∷ 32 ∷ []) (drop at line) part rest → ⊥) → (c : Command) → Reads line c → ⊥
   name-none n = refused o (λ c k. n _ _ (name-piece (k .4) (after-word w (k .4 .spelled))))
@@ -118,12 +123,14 @@ module _ {line : Str} {at : ℕ} (o : Only line NameKey) (w : WordAt line (key N
     pub name-no : ((id : Str) (n : ℕ) → IdEnd (drop (e + 2) line) id n → ⊥) → (c : Command) → Reads line c → ⊥
     name-no n = refused o (λ c k. n (k .1) (k .2) (name-id (k .4) (sym (rest-found p stops-query (name-piece (k .4) (after-word w (k .4 .spelled)))))))
 
-    pub name-yes : (id : Extent) (n : ℕ) → IdSays line (e + 2) (AtTail id n) → Parsed line (Name (record { start = at; len = e - at }) id n)
+    pub name-yes : (id : Extent) (n : ℕ) → IdSays line (e + 2) (AtTail id n) → Parsed line (Register (kind.Name n) (record { start = at; len = e - at }) id none)
     unfolding bytes
-    name-yes id n r = (
-      omega (arith, p .start, p .end),
-      r .0,
-      record {
+    name-yes id n r = record {
+      host-in = omega (arith, p .start, p .end);
+      other-in = r .0;
+      key-in = omega arith;
+      command = name (cut at e line) (part-of line id) n;
+      reads = record {
         short = o .short;
         spelled = record {
           host-ok = p .piece .ok;
@@ -133,26 +140,30 @@ module _ {line : Str} {at : ℕ} (o : Only line NameKey) (w : WordAt line (key N
           number = r .1 .number;
           spelled = w .spelled ∙ ap (λ (t : Str). key NameKey · t) (p .piece .spelled ∙ ap (λ (t : Str). cut at e line · 93 ∷ 32 ∷ t) (r .1 .spelled));
         };
-      },
-    )
+      };
+      of-kind = (refl, refl, refl);
+    }
 
 module _ {how : Import} {line : Str} {at : ℕ} (o : Only line (ImportKey how)) (w : WordAt line (key (ImportKey how)) at) where
   pub import-no : ((host q : Str) → PairEnd (drop at line) host q → ⊥) → (c : Command) → Reads line c → ⊥
   import-no n = refused o (λ c k. n (k .0) (k .1) (import-pair (k .3) (after-word w (k .3 .spelled))))
 
-  pub import-yes : (host q : Extent) → PairSays line at (AtPair host q) → Parsed line (ImportForm how host q)
-  import-yes host q r = (
-    r .0,
-    r .1,
-    record {
+  pub import-yes : (host q : Extent) → PairSays line at (AtPair host q) → Parsed line (Register (import-kind how) host q none)
+  import-yes host q r = record {
+    host-in = r .0;
+    other-in = r .1;
+    key-in = omega arith;
+    command = import how (part-of line host) (part-of line q);
+    reads = record {
       short = o .short;
       spelled = record {
         host-ok = r .2 .host-ok;
         query-ok = r .2 .query-ok;
         spelled = w .spelled ∙ ap (λ (t : Str). key (ImportKey how) · t) (r .2 .spelled);
       };
-    },
-  )
+    };
+    of-kind = (refl, refl, refl);
+  }
 
 module _ {line : Str} {at : ℕ} (o : Only line AliasKey) (w : WordAt line (key AliasKey) at) where
   pub alias-none : ((part rest : Str) → Piece Word (32 ∷ 91 ∷ []) (drop at line) part rest → ⊥) → (c : Command) → Reads line c → ⊥
@@ -165,13 +176,14 @@ module _ {line : Str} {at : ℕ} (o : Only line AliasKey) (w : WordAt line (key 
     pub alias-no : ((host q : Str) → PairEnd (drop (e + 2) line) host q → ⊥) → (c : Command) → Reads line c → ⊥
     alias-no n = refused o (λ c k. n (k .1) (k .2) (alias-pair (k .4) (sym (rest-found p stops-word (alias-piece (k .4) (after-word w (k .4 .spelled)))))))
 
-    pub alias-yes : (e ≡ at → ⊥) → (host q : Extent) → PairSays line (e + 2) (AtPair host q) → Parsed line (Alias (record { start = at; len = e - at }) host q)
+    pub alias-yes : (e ≡ at → ⊥) → (host q : Extent) → PairSays line (e + 2) (AtPair host q) → Parsed line (Register kind.Alias host q (record { start = at; len = e - at }))
     unfolding bytes
-    alias-yes some host q r = (
-      omega (arith, p .start, p .end),
-      r .0,
-      r .1,
-      record {
+    alias-yes some host q r = record {
+      host-in = r .0;
+      other-in = r .1;
+      key-in = omega (arith, p .start, p .end);
+      command = alias (cut at e line) (part-of line host) (part-of line q);
+      reads = record {
         short = o .short;
         spelled = record {
           word-ok = p .piece .ok;
@@ -180,8 +192,9 @@ module _ {line : Str} {at : ℕ} (o : Only line AliasKey) (w : WordAt line (key 
           query-ok = r .2 .query-ok;
           spelled = w .spelled ∙ ap (λ (t : Str). key AliasKey · t) (p .piece .spelled ∙ ap (λ (t : Str). cut at e line · 32 ∷ 91 ∷ t) (r .2 .spelled));
         };
-      },
-    )
+      };
+      of-kind = (refl, refl, refl, refl);
+    }
 
 module _ {loaded : Bool} {line : Str} {at : ℕ} (o : Only line (ModuleKey loaded)) (w : WordAt line (key (ModuleKey loaded)) at) where
   pub module-none : ((part rest : Str) → Piece Query (93 ∷ 32 ∷ []) (drop at line) part rest → ⊥) → (c : Command) → Reads line c → ⊥
@@ -191,19 +204,22 @@ module _ {loaded : Bool} {line : Str} {at : ℕ} (o : Only line (ModuleKey loade
     pub module-no : ((path : Str) → drop (e + 2) line ≡ path · bytes "]" → ⊥) → (c : Command) → Reads line c → ⊥
     module-no n = refused o (λ c k. n (k .1) (sym (rest-found p stops-query (module-piece (k .3) (after-word w (k .3 .spelled))))))
 
-    pub module-yes : {f : ℕ} → LastAt line (e + 2) f → Parsed line (Module loaded (record { start = at; len = e - at }) (record { start = e + 2; len = f - (e + 2) }))
+    pub module-yes : {f : ℕ} → LastAt line (e + 2) f → Parsed line (Register (kind.Module loaded) (record { start = at; len = e - at }) (record { start = e + 2; len = f - (e + 2) }) none)
     unfolding bytes
-    module-yes l = (
-      omega (arith, p .start, p .end),
-      omega (arith, l .start, l .end),
-      record {
+    module-yes {f} l = record {
+      host-in = omega (arith, p .start, p .end);
+      other-in = omega (arith, l .start, l .end);
+      key-in = omega arith;
+      command = module-path loaded (cut at e line) (cut (e + 2) f line);
+      reads = record {
         short = o .short;
         spelled = record {
           query-ok = p .piece .ok;
           spelled = w .spelled ∙ ap (λ (t : Str). key (ModuleKey loaded) · t) (p .piece .spelled ∙ ap (λ (t : Str). cut at e line · 93 ∷ 32 ∷ t) (l .spelled));
         };
-      },
-    )
+      };
+      of-kind = (refl, refl, refl);
+    }
 
 module _ {what : Question} {line : Str} {at : ℕ} (o : Only line (AskKey what)) (w : WordAt line (key (AskKey what)) at) where
   pub ask-no : ((q : Str) → QueryEnd (drop at line) q → ⊥) → (c : Command) → Reads line c → ⊥

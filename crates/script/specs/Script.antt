@@ -7,6 +7,10 @@ use Rattle.numerals.specs.declared.Sort.the-variants.{Query, Word}
 use Rattle.numerals.specs.Bytes.{Str, bytes, _·_, All}
 use Rattle.numerals.specs.Numerals.{Numeral}
 use Rattle.parts.specs.Parts.{Within, part-of}
+use Rattle.parts.specs.declared.Extent.{Extent}
+use Rattle.kinds.specs.declared.Kind.{Kind}
+use Rattle.kinds.specs.declared.Kind.the-variants as kind
+use Rattle.kinds.specs.Shapes.{opened}
 use Rattle.script.specs.declared.Import.{Import}
 use Rattle.script.specs.declared.Import.the-variants.{Include, OpenModule, OpenNamespace}
 use Rattle.script.specs.declared.Question.{Question}
@@ -14,7 +18,7 @@ use Rattle.script.specs.declared.Question.the-variants.{Find, Complete, 
 use Rattle.script.specs.declared.Key.{Key}
 use Rattle.script.specs.declared.Key.the-variants.{Name as NameKey, Alias as AliasKey, Import as ImportKey, Module as ModuleKey, Ask as AskKey}
 use Rattle.script.specs.declared.LineForm.{LineForm}
-use Rattle.script.specs.declared.LineForm.the-variants.{Name, Import as ImportForm, Alias, Module, Ask as AskForm, Bad}
+use Rattle.script.specs.declared.LineForm.the-variants.{Register, Ask as AskForm, Bad}
 
 -- ---- The forms
 
@@ -87,13 +91,31 @@ pub record Reads (line : Str) (command : Command) : Type 0 where
 
 -- ---- What is answered
 
+-- The kind of an import: an open of a module is an include.
+abbrev pub import-kind : Import → Kind
+import-kind Include = kind.Include
+import-kind OpenModule = opened true
+import-kind OpenNamespace = opened false
+
+-- The command is a registration of this kind, of these texts, as `call-of` of crate kinds orders them.
+abbrev pub OfKind : Command → Kind → (host other key : Str) → Type 0
+OfKind (name host id n) k h o y = (k ≡ kind.Name n) × (h ≡ host) × (o ≡ id)
+OfKind (import how host q) k h o y = (k ≡ import-kind how) × (h ≡ host) × (o ≡ q)
+OfKind (alias word host q) k h o y = (k ≡ kind.Alias) × (h ≡ host) × (o ≡ q) × (y ≡ word)
+OfKind (module-path loaded q path) k h o y = (k ≡ kind.Module loaded) × (h ≡ q) × (o ≡ path)
+OfKind (ask what q) k h o y = ⊥
+
+-- The line says a registration of this kind, its texts spans of the line.
+pub record RegistrationLine (line : Str) (k : Kind) (host other key : Extent) : Type 0 where
+  pub host-in : Within line host
+  pub other-in : Within line other
+  pub key-in : Within line key
+  pub command : Command
+  pub reads : Reads line command
+  pub of-kind : OfKind command k (part-of line host) (part-of line other) (part-of line key)
+
 -- The form that the line is, its parts as spans of the line; or `Bad`, and the line is no form.
 abbrev pub Parsed : Str → LineForm → Type 0
-Parsed line (Name host id n) = Within line host × Within line id × Reads line (name (part-of line host) (part-of line id) n)
-Parsed line (ImportForm how host q) = Within line host × Within line q × Reads line (import how (part-of line host) (part-of line q))
-Parsed line (Alias word host q) =
-    Within line word × Within line host × Within line q
-    × Reads line (alias (part-of line word) (part-of line host) (part-of line q))
-Parsed line (Module loaded q path) = Within line q × Within line path × Reads line (module-path loaded (part-of line q) (part-of line path))
+Parsed line (Register k host other key) = RegistrationLine line k host other key
 Parsed line (AskForm what q) = Within line q × Reads line (ask what (part-of line q))
 Parsed line Bad = (command : Command) → Reads line command → ⊥

@@ -1,4 +1,5 @@
 // The forms of a line of the program `console`. `parse` answers the form that spells a line, or that none does. Nothing is assumed.
+use kinds::Kind;
 use numerals::Sort;
 use parts::Extent;
 use parts::Pair;
@@ -14,7 +15,7 @@ use parts::word_end;
 ghost use mathlib.Core.Path.{_≡_};
 ghost use Rattle.source.specs.Lent.{old};
 ghost use Rattle.parts.specs.Parts.{WordSays};
-ghost use Rattle.script.specs.Script.{key, Parsed};
+ghost use Rattle.script.specs.Script.{key, import-kind, Parsed};
 ghost use Rattle.script.specs.Keys.{key-by, key-of, Only};
 
 // The forms of a host and a query: `include`, `open m`, `open n`.
@@ -31,27 +32,14 @@ pub enum Question {
     Modules,
 }
 
-// What a line is: its form, with its parts.
+// What a line is: a registration, its kind and its texts (host or module query; id, included query or file path; key, empty where the
+// kind has none); a question; or neither.
 pub enum LineForm {
-    Name {
+    Register {
+        kind: Kind,
         host: Extent,
-        id: Extent,
-        item: u32,
-    },
-    Import {
-        how: Import,
-        host: Extent,
-        query: Extent,
-    },
-    Alias {
-        word: Extent,
-        host: Extent,
-        query: Extent,
-    },
-    Module {
-        loaded: bool,
-        query: Extent,
-        path: Extent,
+        other: Extent,
+        key: Extent,
     },
     Ask {
         what: Question,
@@ -142,6 +130,17 @@ fn ask_word(line: &[u8], what: Question) -> Part
     }
 }
 
+// The kind of an import: an open of a module is an include.
+fn import_kind(how: Import) -> Kind
+    ensures { λ r. ⌜ r ≡ import-kind how ⌝ }
+{
+    match how {
+        Import::Include => Kind::Include,
+        Import::OpenModule => kinds::opened(true),
+        Import::OpenNamespace => kinds::opened(false),
+    }
+}
+
 // `[name [host] id N]`
 fn name_form(line: &[u8]) -> LineForm
     requires { ⌜ Only (now line) Key.Name ⌝ }
@@ -150,13 +149,14 @@ fn name_form(line: &[u8]) -> LineForm
     match word_end(line, b"[name [") {
         Part::At(at) => match piece(line, at, Sort::Query, b"] ") {
             Part::At(e) => match id_end(line, e + 2) {
-                Tail::At { id, item } => LineForm::Name {
+                Tail::At { id, item } => LineForm::Register {
+                    kind: Kind::Name(item),
                     host: Extent {
                         start: at,
                         len: e - at,
                     },
-                    id: id,
-                    item: item,
+                    other: id,
+                    key: Extent { start: 0, len: 0 },
                 },
                 Tail::No => LineForm::Bad,
             },
@@ -173,10 +173,11 @@ fn import_form(line: &[u8], how: Import) -> LineForm
 {
     match import_word(line, how) {
         Part::At(at) => match pair_end(line, at) {
-            Pair::At { host, query } => LineForm::Import {
-                how: how,
+            Pair::At { host, query } => LineForm::Register {
+                kind: import_kind(how),
                 host: host,
-                query: query,
+                other: query,
+                key: Extent { start: 0, len: 0 },
             },
             Pair::No => LineForm::Bad,
         },
@@ -196,13 +197,14 @@ fn alias_form(line: &[u8]) -> LineForm
                     return LineForm::Bad;
                 }
                 match pair_end(line, e + 2) {
-                    Pair::At { host, query } => LineForm::Alias {
-                        word: Extent {
+                    Pair::At { host, query } => LineForm::Register {
+                        kind: Kind::Alias,
+                        host: host,
+                        other: query,
+                        key: Extent {
                             start: at,
                             len: e - at,
                         },
-                        host: host,
-                        query: query,
                     },
                     Pair::No => LineForm::Bad,
                 }
@@ -221,16 +223,17 @@ fn module_form(line: &[u8], loaded: bool) -> LineForm
     match module_word(line, loaded) {
         Part::At(at) => match piece(line, at, Sort::Query, b"] ") {
             Part::At(e) => match last_end(line, e + 2) {
-                Part::At(f) => LineForm::Module {
-                    loaded: loaded,
-                    query: Extent {
+                Part::At(f) => LineForm::Register {
+                    kind: Kind::Module(loaded),
+                    host: Extent {
                         start: at,
                         len: e - at,
                     },
-                    path: Extent {
+                    other: Extent {
                         start: e + 2,
                         len: f - (e + 2),
                     },
+                    key: Extent { start: 0, len: 0 },
                 },
                 Part::No => LineForm::Bad,
             },

@@ -23,8 +23,8 @@ add-pair-end c = omega (arith, (subst (PieceSays _ _ _ _) (c .before .before .e 
 pair-end-requires : tie.Need-pair-end-requires
 pair-end-requires c κs = (subst (PieceSays _ _ _ _) (c .before .before .e .given .1) (c .before .before .before .before .piece .ensures)) .end
 
-sub-t21 : tie.Need-sub-t21
-sub-t21 c = (subst (PieceSays _ _ _ _) (c .before .before .before .before .before .before .e .given .1) (c .before .before .before .before .before .before .before .before .piece .ensures)) .start
+sub-t22 : tie.Need-sub-t22
+sub-t22 c = (subst (PieceSays _ _ _ _) (c .before .before .before .before .before .before .e .given .1) (c .before .before .before .before .before .before .before .before .piece .ensures)) .start
 
 returns-2 : tie.Need-returns-2
 unfolding key bytes
@@ -43,4 +43,4 @@ unfolding key bytes
 returns-5 c = word-none (c .before .before .before .before .before .pre) (subst (WordSays _ _) (c .enum-told3 .given .1) (c .before .before .word-end .ensures))
 
 pub alias-form-spec : {M : Type 1} → statement M
-alias-form-spec = tie.close (tie.spec (λ c. search needs) (λ c κs. search needs) (λ c. search needs) (λ c. search needs) piece-requires (λ c. search needs) returns add-pair-end pair-end-requires (λ c. search needs) sub-t21 (λ c. search needs) (λ c. search needs) (λ c. search needs) returns-2 returns-3 returns-4 returns-5)
+alias-form-spec = tie.close (tie.spec (λ c. search needs) (λ c κs. search needs) (λ c. search needs) (λ c. search needs) piece-requires (λ c. search needs) returns add-pair-end pair-end-requires (λ c. search needs) sub-t22 (λ c. search needs) (λ c. search needs) (λ c. search needs) returns-2 returns-3 returns-4 returns-5)

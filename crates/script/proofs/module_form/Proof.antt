@@ -14,17 +14,17 @@ piece-requires c κs = ((subst (WordSays _ _) (c .before .before .at .given .1) 
 add-last-end : tie.Need-add-last-end
 add-last-end c = omega (arith, (subst (PieceSays _ _ _ _) (c .before .e .given .1) (c .before .before .before .piece .ensures)) .end)
 
-sub-t17 : tie.Need-sub-t17
-sub-t17 c = (subst (PieceSays _ _ _ _) (c .before .before .before .before .before .e .given .1) (c .before .before .before .before .before .before .before .piece .ensures)) .start
-
-add-t19 : tie.Need-add-t19
-add-t19 c = omega (arith, (subst (PieceSays _ _ _ _) (c .before .before .before .before .before .e .given .1) (c .before .before .before .before .before .before .before .piece .ensures)) .end)
+sub-t18 : tie.Need-sub-t18
+sub-t18 c = (subst (PieceSays _ _ _ _) (c .before .before .before .before .before .e .given .1) (c .before .before .before .before .before .before .before .piece .ensures)) .start
 
 add-t20 : tie.Need-add-t20
 add-t20 c = omega (arith, (subst (PieceSays _ _ _ _) (c .before .before .before .before .before .e .given .1) (c .before .before .before .before .before .before .before .piece .ensures)) .end)
 
-sub-t21 : tie.Need-sub-t21
-sub-t21 c = (subst (LastSays _ _) (c .before .f .given .1) (c .before .before .before .last-end .ensures)) .start
+add-t21 : tie.Need-add-t21
+add-t21 c = omega (arith, (subst (PieceSays _ _ _ _) (c .before .before .before .before .before .e .given .1) (c .before .before .before .before .before .before .before .piece .ensures)) .end)
+
+sub-t22 : tie.Need-sub-t22
+sub-t22 c = (subst (LastSays _ _) (c .before .f .given .1) (c .before .before .before .last-end .ensures)) .start
 
 returns : tie.Need-returns
 returns c = module-yes (c .before .before .before .before .before .before .before .before .before .before .before .before .before .before .pre) (subst (WordSays _ _) (c .before .before .before .before .before .before .before .before .before .before .at .given .1) (c .before .before .before .before .before .before .before .before .before .before .before .before .module-word .ensures)) (subst (PieceSays _ _ _ _) (c .before .before .before .before .before .e .given .1) (c .before .before .before .before .before .before .before .piece .ensures)) (subst (LastSays _ _) (c .before .f .given .1) (c .before .before .before .last-end .ensures))
@@ -39,4 +39,4 @@ returns-4 : tie.Need-returns-4
 returns-4 c = word-none (c .before .before .before .before .pre) (subst (WordSays _ _) (c .enum-told3 .given .1) (c .before .before .module-word .ensures))
 
 pub module-form-spec : {M : Type 1} → statement M
-module-form-spec = tie.close (tie.spec (λ c κs. search needs) (λ c. search needs) (λ c. search needs) piece-requires (λ c. search needs) add-last-end (λ c κs. search needs) (λ c. search needs) sub-t17 add-t19 add-t20 sub-t21 (λ c. search needs) (λ c. search needs) (λ c. search needs) returns returns-2 returns-3 returns-4)
+module-form-spec = tie.close (tie.spec (λ c κs. search needs) (λ c. search needs) (λ c. search needs) piece-requires (λ c. search needs) add-last-end (λ c κs. search needs) (λ c. search needs) sub-t18 add-t20 add-t21 sub-t22 (λ c. search needs) (λ c. search needs) (λ c. search needs) returns returns-2 returns-3 returns-4)
