@@ -3,7 +3,6 @@
 use parts::Extent;
 use questions::Asking;
 use registrations::Done;
-use registrations::Registering;
 use script::LineForm;
 use table::Table;
 ghost use mathlib.Core.Path.{_≡_};
@@ -56,9 +55,9 @@ pub fn answer(
             other,
             key,
         } => {
-            let start = Registering {
+            let start = Done {
                 table: table,
-                at: at,
+                end: at,
             };
             registrations::register_line(
                 start,

@@ -9,7 +9,7 @@ ghost use Rattle.names.specs.Names.{AnyList};
 ghost use Rattle.collect.specs.Lists.{Full, Collected};
 
 // A list, and the collection of the outermost label above it, 0 for none.
-pub struct Labelled {
+pub struct LabelledList {
     pub list: u32,
     pub label: u32,
 }
@@ -20,7 +20,7 @@ pub fn collect(
     words: &[u32],
     text: &[u8],
     prefix: &[u8],
-    part: Labelled,
+    part: LabelledList,
     roots: &mut [u32; CELLS],
     heads: &mut [u64; HEADS],
     labels: &mut [u32; CELLS],
@@ -39,7 +39,7 @@ pub fn collect(
         return at;
     }
     let own = access::own_of(words, list);
-    let rest = Labelled {
+    let rest = LabelledList {
         list: access::rest_of(words, list),
         label: label,
     };
@@ -48,7 +48,7 @@ pub fn collect(
         if label == 0 {
             outer = list;
         }
-        let imported = Labelled {
+        let imported = LabelledList {
             list: own,
             label: outer,
         };

@@ -1,6 +1,6 @@
 // The branches of a list of collections that begin with a prefix, ascending, one of each key, the last holder's.
 // Each comes with the collection that has its outermost label, 0 for none.
-use collect::Labelled;
+use collect::LabelledList;
 use heap::Popped;
 use text::Order;
 ghost use mathlib.Core.Path.{_≡_};
@@ -132,7 +132,7 @@ pub fn merge_start(
     requires { ⌜ Full (now roots) (now heads) (now labels) ⌝ }
     ensures { λ r. ⌜ Begins (old words) (old text) (old prefix) list (new roots) (new heads) (new labels) r ⌝ }
 {
-    let whole = Labelled {
+    let whole = LabelledList {
         list: list,
         label: 0,
     };

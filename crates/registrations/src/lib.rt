@@ -12,16 +12,10 @@ ghost use Rattle.replies.specs.Replies.{reply-room};
 ghost use Rattle.table.specs.Header.{IsSound};
 ghost use Rattle.registrations.specs.Registers.{registered-text, Finished, Registers};
 
-// The table after a line, and where its reply ends.
+// The table after the lines so far, and where their replies end.
 pub struct Done {
     pub table: Table,
     pub end: usize,
-}
-
-// The table before a line, and where its reply goes.
-pub struct Registering {
-    pub table: Table,
-    pub at: usize,
 }
 
 // Writes the reply to a registration.
@@ -51,7 +45,7 @@ fn finish(reply: &mut [u8], at: usize, r: Registration) -> Done
 
 // `[name ..]`, `[include ..]`, `[open ..]`, `[alias ..]`, `[module ..]`: the kind and its texts.
 pub fn register_line(
-    start: Registering,
+    start: Done,
     words: &mut [u32],
     text: &mut [u8],
     kind: Kind,
@@ -61,11 +55,11 @@ pub fn register_line(
     reply: &mut [u8],
 ) -> Done
     requires { ⌜ IsSound (now words) (now text) (start .table) ⌝ }
-    requires { ⌜ start .at + reply-room ≤ length (now reply) ⌝ }
+    requires { ⌜ start .end + reply-room ≤ length (now reply) ⌝ }
     ensures { λ r. ⌜ Registers (old words) (old text) (new words) (new text) (start .table)
-        (call-of kind (old host) (old other) (old key)) (old reply) (new reply) (start .at) r ⌝ }
+        (call-of kind (old host) (old other) (old key)) (old reply) (new reply) (start .end) r ⌝ }
 {
     let table = start.table;
     let r = table.register_sound(words, text, kind, host, other, key);
-    finish(reply, start.at, r)
+    finish(reply, start.end, r)
 }
