@@ -1,8 +1,9 @@
 // The refusals of the requirements: their numbers, and the conditions of rows 2 to 8.
 use queries::Rule;
 ghost use mathlib.Core.Path.{_≡_};
+ghost use lib.Dec.{ltb};
 ghost use Rattle.source.specs.Lent.{old};
-ghost use Rattle.source.specs.Calls.{a-query, a-name, a-path, a-look-up, a-completion, lowest, free};
+ghost use Rattle.source.specs.Calls.{a-query, a-name, a-path, a-look-up, a-completion, lowest, whole-records, free};
 ghost use Rattle.refusals.specs.Refusals.{number, row-of};
 ghost use Rattle.refusals.specs.Rows.{Flagged, no-flags, both-flags, flag-rows, capacity-rows};
 
@@ -187,6 +188,14 @@ fn free(lent: usize, used: u32) -> usize
     MOST - taken
 }
 
+// Row 7, by multiplication: records fit where twelve words are lent for each. A call that needs none passes.
+fn full(words: usize, used: u32, needed: u32) -> bool
+    ensures { λ r. ⌜ r ≡ ltb (free (whole-records words) used) needed ⌝ }
+{
+    let records = used as usize + needed as usize;
+    (0 < needed) & ((MOST < records) | (words < records * memory::ROW))
+}
+
 // Rows 5 to 8.
 pub fn afford(demand: Demand, c: Capacity) -> Admission
     ensures { λ r. ⌜ row-of r ≡ lowest (capacity-rows demand c) ⌝ }
@@ -197,7 +206,7 @@ pub fn afford(demand: Demand, c: Capacity) -> Admission
     if demand.deep {
         return Admission::Refused(Refusal::Deep);
     }
-    if free(c.words / memory::ROW, c.records) < demand.records as usize {
+    if full(c.words, c.records, demand.records) {
         return Admission::Refused(Refusal::Full);
     }
     if free(c.text, c.used) < demand.text {

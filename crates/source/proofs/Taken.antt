@@ -1,9 +1,12 @@
 -- What is free, and what a call takes of the text.
-use Prim.Native.Nat.{ℕ, _+_, _-_, _*_, _≤_, _<_}
-use mathlib.Core.Path.{_≡_}
-use mathlib.Core.Bool.{Bool}
+use Prim.Native.Nat.{ℕ, _+_, _-_, _*_, _/_, _≤_, _<_, min}
+use mathlib.Core.Path.{_≡_, refl}
+use mathlib.Core.Bool.{Bool, true, false, _&&_, _||_}
 use native.Mathlib.Omega.{arith}
+use lib.Dec.{ltb}
 use lib.ListN.{length}
+use borrow.Author.Tests.{ltb-true, ltb-false, lt-ltb, le-ltb}
+use Rattle.source.specs.Limits.{record-words, most-used}
 use Rattle.source.specs.Text.{Str}
 use Rattle.source.specs.Calls.{text-of, name, include, opens, alias, module-path, arguments, whole-records, free, text-taken}
 
@@ -20,6 +23,19 @@ free-below lent used h = omega arith
 pub free-above : (lent used : ℕ) → 65536 ≤ lent → free lent used ≡ 65536 - used
 unfolding free
 free-above lent used h = omega arith
+
+-- Row 7 by multiplication: some records are needed, and with those used they are over 65,536, or more than the words lent.
+pub full-by-product : (words used needed : ℕ)
+    → ltb (free (whole-records words) used) needed ≡ ltb 0 needed && (ltb most-used (used + needed) || ltb words ((used + needed) * record-words))
+unfolding whole-records free
+full-by-product words used needed = go (ltb 0 needed) (ltb most-used (used + needed)) (ltb words ((used + needed) * record-words)) refl refl refl
+  where
+    go : (a b c : Bool) → ltb 0 needed ≡ a → ltb most-used (used + needed) ≡ b → ltb words ((used + needed) * record-words) ≡ c
+        → ltb (min (words / record-words) most-used - used) needed ≡ a && (b || c)
+    go false b c p q r = le-ltb (min (words / record-words) most-used - used) needed (omega (arith, ltb-false 0 needed p))
+    go true true c p q r = lt-ltb (min (words / record-words) most-used - used) needed (omega (arith, ltb-true 0 needed p, ltb-true most-used (used + needed) q))
+    go true false true p q r = lt-ltb (min (words / record-words) most-used - used) needed (omega (arith, ltb-true 0 needed p, ltb-true words ((used + needed) * record-words) r))
+    go true false false p q r = le-ltb (min (words / record-words) most-used - used) needed (omega (arith, ltb-false most-used (used + needed) q, ltb-false words ((used + needed) * record-words) r))
 
 -- A call takes the bytes of its texts, each once and whole.
 pub record Taken : Type 0 where

@@ -1,12 +1,12 @@
 -- The state put word by word, and the lent words in memory of one's own.
-use Prim.Native.Nat.{ℕ, _*_, _≤_}
+use Prim.Native.Nat.{ℕ, _*_, _/_, _≤_, min}
 use mathlib.Core.Path.{_≡_, sym, _∙_}
 use mathlib.Core.List.{List}
 use native.Mathlib.Omega.{arith}
 use lib.ListN.{length, take, length-take}
-use Rattle.source.specs.Limits.{record-words}
+use Rattle.source.specs.Calls.{whole-records}
 use Rattle.wire.specs.Bytes.{Put}
-use Rattle.wire.specs.Memory.{state-bytes, header-in, Spells, records-lent, words-in, Loaded}
+use Rattle.wire.specs.Memory.{state-bytes, record-bytes, records-lent-most, header-in, Spells, words-lent, words-in, Loaded}
 use Rattle.wire.proofs.Bytes.{word-before, words-length}
 
 -- A header put word by word.
@@ -23,14 +23,19 @@ header-put h p q r t = record {
   };
 }
 
-pub words-in-length : (bs : List ℕ) → length (words-in bs) ≡ records-lent (length bs) * record-words
+pub words-in-length : (bs : List ℕ) → length (words-in bs) ≡ words-lent (length bs)
 unfolding words-in
 words-in-length bs = words-length bs _
 
 -- The words lent are among the bytes.
 pub words-in-fit : (bs : List ℕ) → length (words-in bs) * 4 ≤ length bs
-unfolding records-lent
+unfolding words-lent
 words-in-fit bs = omega (arith, words-in-length bs)
+
+-- The records lent: whole ones of 48 bytes, up to 1,024.
+pub records-lent : (bs : List ℕ) → whole-records (length (words-in bs)) ≡ min (length bs / record-bytes) records-lent-most
+unfolding words-lent whole-records
+records-lent bs = omega (arith, words-in-length bs)
 
 module _ {bs ws : List ℕ} {n : ℕ} (l : Loaded bs ws n) where
   loaded-length : length (take n ws) ≡ n

@@ -7,7 +7,10 @@ use Rattle.source.specs.Limits.{record-words}
 use Rattle.memory.specs.declared.Header.{Header}
 use Rattle.wire.specs.Bytes.{word-at, words-at, Stored}
 
--- Bytes of a state, and of a record.
+-- Bytes of a word, of a state, and of a record.
+abbrev pub word-bytes : ℕ
+word-bytes = 4
+
 abbrev pub state-bytes : ℕ
 state-bytes = 16
 
@@ -30,17 +33,16 @@ pub record Spells (st : List ℕ) (h : Header) : Type 0 where
   pub size : length st ≡ state-bytes
   pub header : header-in st ≡ h
 
--- Records lent: whole ones, up to those.
-unfoldable pub records-lent : ℕ → ℕ
-records-lent size = min (size / record-bytes) records-lent-most
+-- Words lent: whole ones, up to those.
+unfoldable pub words-lent : ℕ → ℕ
+words-lent size = min (size / word-bytes) words-lent-most
 
--- The words of the records lent.
 unfoldable pub words-in : List ℕ → List ℕ
-words-in bs = words-at bs (records-lent (length bs) * record-words)
+words-in bs = words-at bs (words-lent (length bs))
 
 -- The words lent have been laid in ws, and r is their number.
 pub record Loaded (bs ws : List ℕ) (r : ℕ) : Type 0 where
-  pub count : r ≡ records-lent (length bs) * record-words
+  pub count : r ≡ words-lent (length bs)
   pub words : take r ws ≡ words-in bs
 
 -- The words of the records past those used, up to those that h says, have become those of ws, no other byte has changed, and the state spells h.

@@ -6,12 +6,10 @@ ghost use lib.ListN.{length};
 ghost use Rattle.source.specs.Lent.{old, new};
 ghost use Rattle.source.specs.Limits.{record-words};
 ghost use Rattle.wire.specs.Bytes.{word-at, Put, Stored};
-ghost use Rattle.wire.specs.Memory.{state-bytes, words-lent-most, header-in, Spells, records-lent, Loaded, Saved};
+ghost use Rattle.wire.specs.Memory.{state-bytes, words-lent-most, header-in, Spells, words-lent, Loaded, Saved};
 
-// Bytes of a state: four words. Bytes of a record: twelve words.
+// Bytes of a state: four words.
 pub const STATE_BYTES: usize = 16;
-
-const RECORD_BYTES: usize = memory::ROW * 4;
 
 // Records past these count as not lent, and their words.
 const RECORDS: usize = 1024;
@@ -58,13 +56,13 @@ pub fn put_word(bytes: &mut [u8], k: usize, word: u32)
     bytes[at + 3] = low(word / 16777216);
 }
 
-// How many words count as lent, of so many bytes.
+// How many words count as lent, of so many bytes. The whole words: how many whole records they are is asked where records are counted.
 fn words_lent(size: usize) -> usize
-    ensures { λ r. ⌜ r ≡ records-lent size * record-words ⌝ }
+    ensures { λ r. ⌜ r ≡ words-lent size ⌝ }
 {
-    let n = size / RECORD_BYTES;
-    if n < RECORDS {
-        return n * memory::ROW;
+    let n = size >> 2;
+    if n < WORDS {
+        return n;
     }
     WORDS
 }

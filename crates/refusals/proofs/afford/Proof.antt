@@ -1,12 +1,12 @@
 -- afford meets its contract.
-use Rattle.source.specs.Calls.{lowest, whole-records}
+use Rattle.source.specs.Calls.{lowest}
 use borrow.Author.Tests.{lt-ltb, le-ltb}
 use borrow.Author.Needs.{needs}
 use Rattle.refusals.proofs.afford.Statement.{statement}
 use Rattle.refusals.proofs.afford.Tie as tie
 
 pub afford-spec : {M : Type 1} → statement M
-unfolding lowest whole-records
+unfolding lowest
 afford-spec =
     tie.close
     (tie.spec
@@ -14,15 +14,13 @@ afford-spec =
     (λ c. rw (c .if1 .taken))
     {- returns-2 -}
     (λ c. rw (c .before .if1 .left, c .if2 .taken))
+    {- full-requires -}
+    (λ c κs. search needs)
+    {- returns-3 -}
+    (λ c. rw (c .before .before .before .if1 .left, c .before .before .if2 .left, ← c .before .full .ensures, c .if3 .taken))
     {- free-requires -}
     (λ c κs. search needs)
-    {- cast-if3 -}
-    (λ c. search needs)
-    {- returns-3 -}
-    (λ c. rw (c .before .before .before .before .before .if1 .left, c .before .before .before .before .if2 .left, ← c .before .before .free .ensures, lt-ltb _ _ (c .if3 .taken)))
-    {- free-requires-2 -}
-    (λ c κs. search needs)
     {- returns-4 -}
-    (λ c. rw (c .before .before .before .before .before .before .before .before .if1 .left, c .before .before .before .before .before .before .before .if2 .left, ← c .before .before .before .before .before .free .ensures, le-ltb _ _ (c .before .before .before .if3 .left), ← c .before .before .free2 .ensures, lt-ltb _ _ (c .if4 .taken)))
+    (λ c. rw (c .before .before .before .before .before .before .if1 .left, c .before .before .before .before .before .if2 .left, ← c .before .before .before .before .full .ensures, c .before .before .before .if3 .left, ← c .before .before .free .ensures, lt-ltb _ _ (c .if4 .taken)))
     {- returns-5 -}
-    (λ c. rw (c .before .before .before .before .before .before .before .before .if1 .left, c .before .before .before .before .before .before .before .if2 .left, ← c .before .before .before .before .before .free .ensures, le-ltb _ _ (c .before .before .before .if3 .left), ← c .before .before .free2 .ensures, le-ltb _ _ (c .if4 .left))))
+    (λ c. rw (c .before .before .before .before .before .before .if1 .left, c .before .before .before .before .before .if2 .left, ← c .before .before .before .before .full .ensures, c .before .before .before .if3 .left, ← c .before .before .free .ensures, le-ltb _ _ (c .if4 .left))))

@@ -4,7 +4,7 @@ use mathlib.Core.Path.{ap, _∙_}
 use native.Mathlib.Omega.{arith}
 use borrow.Author.Needs.{needs}
 use Rattle.wire.specs.Bytes.{words-at}
-use Rattle.wire.specs.Memory.{records-lent, words-in}
+use Rattle.wire.specs.Memory.{words-lent, words-in}
 use Rattle.wire.proofs.Bytes.{Loading, loading-none, loading-more, loading-done}
 use Rattle.wire.proofs.load.Statement.{statement}
 use Rattle.wire.proofs.load.Tie as tie
@@ -16,7 +16,7 @@ abbrev μ-loop : tie.MeasureT-loop
 μ-loop bytes words₀ n i₀ words i = n - i
 
 pub load-spec : {M : Type 1} → statement M
-unfolding records-lent words-in
+unfolding words-lent words-in
 load-spec =
     tie.close
     (tie.spec

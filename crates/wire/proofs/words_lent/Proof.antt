@@ -1,17 +1,14 @@
 -- words_lent meets its contract.
 use native.Mathlib.Omega.{arith}
-use borrow.Author.Needs.{needs}
-use Rattle.wire.specs.Memory.{records-lent}
+use Rattle.wire.specs.Memory.{words-lent}
 use Rattle.wire.proofs.words_lent.Statement.{statement}
 use Rattle.wire.proofs.words_lent.Tie as tie
 
 pub words-lent-spec : {M : Type 1} → statement M
-unfolding records-lent
+unfolding words-lent
 words-lent-spec =
     tie.close
     (tie.spec
-    {- mul-result -}
-    (λ c. search needs)
     {- returns -}
     (λ c. omega arith)
     {- returns-2 -}
