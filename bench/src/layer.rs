@@ -7,7 +7,7 @@ use product::{Ask, Output};
 use std::cell::RefCell;
 
 /// 1,024 records, of which one more name takes the last ones; that name.
-fn table(names: &[Name]) -> (Memory, Name) {
+pub fn table(names: &[Name]) -> (Memory, Name) {
     let n = (0..names.len()).find(|&n| 1024 < made(&names[..n + 2]).header.records).expect("names enough");
     let mut m = made(&names[..n]);
     m.words.truncate(1024 * 12);

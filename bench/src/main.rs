@@ -1,6 +1,8 @@
 //! Compares the product with baselines on the same input, turn by turn in one run. Each figure is the least of many turns.
 //! `cargo run --release --offline` prints the tables; with the word `write` after `--` it puts them and the plot into docs/.
 mod baseline;
+#[cfg(feature = "before")]
+mod before;
 mod calls;
 mod layer;
 mod measure;
@@ -262,6 +264,8 @@ fn run() {
     let write = match std::env::args().nth(1).as_deref() {
         None => false,
         Some("write") => true,
+        #[cfg(feature = "before")]
+        Some("before") => return before::run(&SIZES, names),
         Some(other) => panic!("{other:?}: the only word is 'write'"),
     };
     let machine = machine();

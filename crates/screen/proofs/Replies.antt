@@ -20,7 +20,7 @@ use Rattle.table.specs.declared.Registration.{Registration}
 use Rattle.table.proofs.Says.{decided}
 use Rattle.table.proofs.Answers.{register-unsound}
 use Rattle.wire.specs.Bytes.{Stored}
-use Rattle.wire.specs.Memory.{header-in, records-lent, words-in, Saved}
+use Rattle.wire.specs.Memory.{header-in, words-lent, words-in, Saved}
 use Rattle.wire.proofs.Memory.{words-in-length, words-in-fit}
 use Rattle.screen.specs.Memory.{table-at, SoundBytes}
 use Rattle.kinds.specs.Shapes.{call-of, opened}
@@ -102,7 +102,7 @@ module _ {st bs txt m ws txt′ : List ℕ} {t : Table} {c : Call} {r : Registra
     unfolding words-in
     words-back o =
         rw (kept .rest .size)
-        (read-back (records-lent (length bs) * 12) o (take-all (records-lent (length bs) * 12) ws (omega (arith, o .size, words-in-length bs))) kept)
+        (read-back (words-lent (length bs)) o (take-all (words-lent (length bs)) ws (omega (arith, o .size, words-in-length bs))) kept)
 
     accepted-as : (x : C.Registered) → AnswersAs x (words-in bs) txt ws txt′ (table-at st) r → RepliesAs x st bs txt st′ bs′ txt′ 0
     accepted-as (C.accepted s) a = (

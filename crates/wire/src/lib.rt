@@ -1,7 +1,7 @@
 // Words spelled by bytes, four to a word, lowest first: the state and the records of a table as a caller in C lends them.
 use memory::Header;
 ghost use mathlib.Core.Path.{_≡_};
-ghost use Prim.Native.Nat.{_+_, _*_, _≤_, _<_};
+ghost use Prim.Native.Nat.{_+_, _*_, _%_, _≤_, _<_};
 ghost use lib.ListN.{length};
 ghost use Rattle.source.specs.Lent.{old, new};
 ghost use Rattle.source.specs.Limits.{record-words};
@@ -23,12 +23,11 @@ fn wide(x: u8) -> u32
     x as u32
 }
 
-// A word as a byte.
+// The lowest byte of a word.
 fn low(x: u32) -> u8
-    requires { ⌜ x < 256 ⌝ }
-    ensures { λ r. ⌜ r ≡ x ⌝ }
+    ensures { λ r. ⌜ r ≡ x % 256 ⌝ }
 {
-    x as u8
+    (x & 255) as u8
 }
 
 // Word `k` of the bytes.
@@ -50,10 +49,10 @@ pub fn put_word(bytes: &mut [u8], k: usize, word: u32)
     ensures { λ _. ⌜ Put k word (old bytes) (new bytes) ⌝ }
 {
     let at = k * 4;
-    bytes[at] = low(word % 256);
-    bytes[at + 1] = low(word / 256 % 256);
-    bytes[at + 2] = low(word / 65536 % 256);
-    bytes[at + 3] = low(word / 16777216);
+    bytes[at] = low(word);
+    bytes[at + 1] = low(word >> 8);
+    bytes[at + 2] = low(word >> 16);
+    bytes[at + 3] = low(word >> 24);
 }
 
 // How many words count as lent, of so many bytes. The whole words: how many whole records they are is asked where records are counted.
