@@ -25,17 +25,22 @@ unfolding free
 free-above lent used h = omega arith
 
 -- Row 7 by multiplication: some records are needed, and with those used they are over 65,536, or more than the words lent.
-pub full-by-product : (words used needed : ℕ)
-    → ltb (free (whole-records words) used) needed ≡ ltb 0 needed && (ltb most-used (used + needed) || ltb words ((used + needed) * record-words))
-unfolding whole-records free
-full-by-product words used needed = go (ltb 0 needed) (ltb most-used (used + needed)) (ltb words ((used + needed) * record-words)) refl refl refl
-  where
-    go : (a b c : Bool) → ltb 0 needed ≡ a → ltb most-used (used + needed) ≡ b → ltb words ((used + needed) * record-words) ≡ c
-        → ltb (min (words / record-words) most-used - used) needed ≡ a && (b || c)
-    go false b c p q r = le-ltb (min (words / record-words) most-used - used) needed (omega (arith, ltb-false 0 needed p))
-    go true true c p q r = lt-ltb (min (words / record-words) most-used - used) needed (omega (arith, ltb-true 0 needed p, ltb-true most-used (used + needed) q))
-    go true false true p q r = lt-ltb (min (words / record-words) most-used - used) needed (omega (arith, ltb-true 0 needed p, ltb-true words ((used + needed) * record-words) r))
-    go true false false p q r = le-ltb (min (words / record-words) most-used - used) needed (omega (arith, ltb-false most-used (used + needed) q, ltb-false words ((used + needed) * record-words) r))
+module _ (words used needed : ℕ) where
+  abbrev records : ℕ
+  records = used + needed
+
+  abbrev room : ℕ
+  room = min (words / record-words) most-used - used
+
+  by-product : (a b c : Bool) → ltb 0 needed ≡ a → ltb most-used records ≡ b → ltb words (records * record-words) ≡ c → ltb room needed ≡ a && (b || c)
+  by-product false b c p q r = le-ltb room needed (omega (arith, ltb-false 0 needed p))
+  by-product true true c p q r = lt-ltb room needed (omega (arith, ltb-true 0 needed p, ltb-true most-used records q))
+  by-product true false true p q r = lt-ltb room needed (omega (arith, ltb-true 0 needed p, ltb-true words (records * record-words) r))
+  by-product true false false p q r = le-ltb room needed (omega (arith, ltb-false most-used records q, ltb-false words (records * record-words) r))
+
+  pub full-by-product : ltb (free (whole-records words) used) needed ≡ ltb 0 needed && (ltb most-used (used + needed) || ltb words ((used + needed) * record-words))
+  unfolding whole-records free
+  full-by-product = by-product _ _ _ refl refl refl
 
 -- A call takes the bytes of its texts, each once and whole.
 pub record Taken : Type 0 where

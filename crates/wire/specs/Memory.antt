@@ -37,6 +37,7 @@ pub record Spells (st : List ℕ) (h : Header) : Type 0 where
 unfoldable pub words-lent : ℕ → ℕ
 words-lent size = min (size / word-bytes) words-lent-most
 
+-- The words lent.
 unfoldable pub words-in : List ℕ → List ℕ
 words-in bs = words-at bs (words-lent (length bs))
 

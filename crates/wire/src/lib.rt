@@ -55,7 +55,7 @@ pub fn put_word(bytes: &mut [u8], k: usize, word: u32)
     bytes[at + 3] = low(word >> 24);
 }
 
-// How many words count as lent, of so many bytes. The whole words: how many whole records they are is asked where records are counted.
+// How many words count as lent, of so many bytes, four to a word. How many whole records they are is asked where records are counted.
 fn words_lent(size: usize) -> usize
     ensures { λ r. ⌜ r ≡ words-lent size ⌝ }
 {
