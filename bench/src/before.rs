@@ -3,28 +3,9 @@ use crate::calls::{fresh, made, Name};
 use crate::layer::table;
 use crate::measure::compare;
 use layer::Bytes;
-use model::layout::{Header, Memory};
-use product::Output;
+use model::layout::Memory;
+use product::{Listing, Looked, Output, Reply};
 use std::cell::RefCell;
-
-#[repr(C)]
-struct Reply {
-    refusal: u32,
-    header: [u32; 4],
-}
-
-#[repr(C)]
-struct Looked {
-    answer: u32,
-    item: u32,
-}
-
-#[repr(C)]
-struct Listing {
-    answer: u32,
-    _lines: u32,
-    _entered: u32,
-}
 
 /// A library's calls for proved callers, and the C layer's registration.
 struct Library {
@@ -62,8 +43,7 @@ impl Library {
         let h = m.header;
         let r = unsafe { (self.insert)(m.words.as_mut_ptr(), m.words.len(), m.text.as_mut_ptr(), m.text.len(), h.names, h.modules, h.records, h.text,
             n.host.as_ptr(), n.host.len(), n.id.as_ptr(), n.id.len(), n.item) };
-        let [names, modules, records, text] = r.header;
-        m.header = Header { names, modules, records, text };
+        m.header = r.header();
         r.refusal == 0
     }
 
@@ -71,14 +51,14 @@ impl Library {
         let h = m.header;
         let r = unsafe { (self.find)(m.words.as_ptr(), m.words.len(), m.text.as_ptr(), m.text.len(), h.names, h.modules, h.records, h.text,
             n.query.as_ptr(), n.query.len()) };
-        r.answer == 0 && r.item == n.item
+        r.result() == Ok(Some(n.item))
     }
 
-    fn complete(&self, m: &Memory, query: &[u8], out: &mut Output) -> u32 {
+    fn complete(&self, m: &Memory, query: &[u8], out: &mut Output) -> bool {
         let h = m.header;
         let r = unsafe { (self.complete)(m.words.as_ptr(), m.words.len(), m.text.as_ptr(), m.text.len(), h.names, h.modules, h.records, h.text,
             0, query.as_ptr(), query.len(), u32::MAX, out.lines.as_mut_ptr(), out.lines.len(), out.text.as_mut_ptr(), out.text.len()) };
-        r.answer
+        r.result().is_ok()
     }
 
     fn console_insert(&self, t: &mut Bytes, n: &Name) -> u32 {
@@ -121,7 +101,7 @@ pub fn run(sizes: &[usize], names: impl Fn(usize) -> Vec<Name>) {
         let m = made(&names[..count]);
         registrations(&format!("register a name, {count} names"), &m, &names[count..]);
         row(&format!("look a name up, {count} names"), count, |library| names[..count].iter().all(|n| library.find(&m, n)));
-        let listing = |library: &Library, out: &mut Output| library.complete(&m, b"", out) == 0;
+        let listing = |library: &Library, out: &mut Output| library.complete(&m, b"", out);
         let what = format!("list all names, {count} names");
         let out = Output::with_room(32768, 1 << 20);
         same(&what, &out, listing);

@@ -5,12 +5,18 @@ use model::model::{CompletionResult, Filter, ModSymbol, Registration, Str};
 
 /// A registration's reply: 0 or the number of the refusal, and the header.
 #[repr(C)]
-struct Reply {
-    refusal: u32,
+pub struct Reply {
+    pub refusal: u32,
     names: u32,
     modules: u32,
     records: u32,
     text: u32,
+}
+
+impl Reply {
+    pub fn header(&self) -> Header {
+        Header { names: self.names, modules: self.modules, records: self.records, text: self.text }
+    }
 }
 
 /// The answer none.
@@ -18,14 +24,14 @@ const NONE: u32 = u32::MAX;
 
 /// A look-up's reply: 0 for an item, NONE for none, else the number of the refusal.
 #[repr(C)]
-struct Looked {
+pub struct Looked {
     answer: u32,
     item: u32,
 }
 
 /// A completion's reply: 0 or the number of the refusal, lines and tries entered.
 #[repr(C)]
-struct Listing {
+pub struct Listing {
     answer: u32,
     lines: u32,
     entered: u32,
@@ -84,7 +90,7 @@ pub fn register(m: &mut Memory, call: &Registration) -> u32 {
                 *loaded, query.as_ptr(), query.len(), path.as_ptr(), path.len()),
         }
     };
-    m.header = Header { names: r.names, modules: r.modules, records: r.records, text: r.text };
+    m.header = r.header();
     r.refusal
 }
 
@@ -100,7 +106,7 @@ pub fn find(m: &Memory, query: &[u8]) -> Result<Option<u32>, u32> {
 }
 
 impl Looked {
-    fn result(&self) -> Result<Option<u32>, u32> {
+    pub fn result(&self) -> Result<Option<u32>, u32> {
         match self.answer {
             0 => Ok(Some(self.item)),
             NONE => Ok(None),
@@ -118,7 +124,7 @@ pub unsafe fn insert_sound(m: &mut Memory, host: &[u8], id: &[u8], item: u32) ->
     #[rustfmt::skip]
     let r = name_table_insert_sound(m.words.as_mut_ptr(), m.words.len(), m.text.as_mut_ptr(), m.text.len(), h.names, h.modules, h.records, h.text,
         host.as_ptr(), host.len(), id.as_ptr(), id.len(), item);
-    m.header = Header { names: r.names, modules: r.modules, records: r.records, text: r.text };
+    m.header = r.header();
     r.refusal
 }
 
@@ -161,7 +167,7 @@ pub struct Output {
 }
 
 impl Listing {
-    fn result(&self) -> Result<(u32, u32), u32> {
+    pub fn result(&self) -> Result<(u32, u32), u32> {
         match self.answer {
             0 => Ok((self.lines, self.entered)),
             n => Err(n),
