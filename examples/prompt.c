@@ -84,9 +84,12 @@ static bool run_include(char **part) {
 
 static bool run_open(char **part) {
   Query host = query_of(part[1]), q = query_of(part[2]);
-  bool module = strcmp(part[0], "m") == 0;
-  if (!module && strcmp(part[0], "n") != 0) return false;
-  say_registered(name_console_open(TABLE, module, QUERY(host), QUERY(q)));
+  if (strcmp(part[0], "n") == 0)
+    say_registered(name_console_open_namespace(TABLE, QUERY(host), QUERY(q)));
+  else if (strcmp(part[0], "m") == 0)
+    say_registered(name_console_open_module(TABLE, QUERY(host), QUERY(q)));
+  else
+    return false;
   return true;
 }
 

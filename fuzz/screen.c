@@ -78,8 +78,9 @@ static void registration(uint32_t kind) {
   switch (kind) {
   case 0: answer = name_console_insert(state.bytes, state.len, words.bytes, words.len, table_text.bytes, table_text.len, a, an, b, bn, n); break;
   case 1: answer = name_console_include(state.bytes, state.len, words.bytes, words.len, table_text.bytes, table_text.len, a, an, b, bn); break;
-  case 2: answer = name_console_open(state.bytes, state.len, words.bytes, words.len, table_text.bytes, table_text.len, n % 3, a, an, b, bn); break;
-  case 3: answer = name_console_alias(state.bytes, state.len, words.bytes, words.len, table_text.bytes, table_text.len, c, cn, a, an, b, bn); break;
+  case 2: answer = name_console_open_namespace(state.bytes, state.len, words.bytes, words.len, table_text.bytes, table_text.len, a, an, b, bn); break;
+  case 3: answer = name_console_open_module(state.bytes, state.len, words.bytes, words.len, table_text.bytes, table_text.len, a, an, b, bn); break;
+  case 4: answer = name_console_alias(state.bytes, state.len, words.bytes, words.len, table_text.bytes, table_text.len, c, cn, a, an, b, bn); break;
   default: answer = name_console_module(state.bytes, state.len, words.bytes, words.len, table_text.bytes, table_text.len, n % 3, a, an, b, bn); break;
   }
   must(answer <= NAME_CONSOLE_TEXT_FULL);
@@ -146,11 +147,11 @@ int LLVMFuzzerTestOneInput(const uint8_t *bytes, size_t size) {
   lines = lend(byte() % 20 * (size_t)NAME_CONSOLE_LINE + byte() % 3);
   out = lend(byte() * (size_t)2);
   while (left) {
-    uint32_t op = byte() % 12;
-    if (op < 5) registration(op);
-    else if (op < 7) look_up();
-    else if (op < 9) completion(0);
-    else if (op < 11) completion(1);
+    uint32_t op = byte() % 13;
+    if (op < 6) registration(op);
+    else if (op < 8) look_up();
+    else if (op < 10) completion(0);
+    else if (op < 12) completion(1);
     else {
       struct lent *b = byte() % 2 ? &words : &state;
       if (b->len) b->bytes[(byte() | byte() << 8) % b->len] = (uint8_t)byte();

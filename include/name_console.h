@@ -68,9 +68,13 @@ uint32_t name_console_insert(uint8_t *state, size_t state_len, uint8_t *words, s
 uint32_t name_console_include(uint8_t *state, size_t state_len, uint8_t *words, size_t words_len, uint8_t *text, size_t text_len,
                               const uint8_t *host, size_t host_len, const uint8_t *query, size_t query_len);
 
-/* Opens the query in the host: as a module if flag is 1, as a namespace if it is 0. Another number is Malformed. */
-uint32_t name_console_open(uint8_t *state, size_t state_len, uint8_t *words, size_t words_len, uint8_t *text, size_t text_len,
-                           uint32_t flag, const uint8_t *host, size_t host_len, const uint8_t *query, size_t query_len);
+/* Opens a namespace in the host: the query's namespaces are carried over, and no bindings. */
+uint32_t name_console_open_namespace(uint8_t *state, size_t state_len, uint8_t *words, size_t words_len, uint8_t *text, size_t text_len,
+                                     const uint8_t *host, size_t host_len, const uint8_t *query, size_t query_len);
+
+/* Opens a module in the host: what name_console_include does. */
+uint32_t name_console_open_module(uint8_t *state, size_t state_len, uint8_t *words, size_t words_len, uint8_t *text, size_t text_len,
+                                  const uint8_t *host, size_t host_len, const uint8_t *query, size_t query_len);
 
 /* Puts an alias of the query at the key, in the host. */
 uint32_t name_console_alias(uint8_t *state, size_t state_len, uint8_t *words, size_t words_len, uint8_t *text, size_t text_len,

@@ -219,9 +219,9 @@ static void registrations(void) {
   check("its namespace", finds_symbol("IO.", 1, "IO", "", 1));
   fresh();
   check("names to open", name("m.", "x", 1) == 0 && name("m.s.", "y", 2) == 0);
-  check("open of a module", name_console_open(TABLE, 1, S("o."), S("m.")) == 0);
+  check("open of a module", name_console_open_module(TABLE, S("o."), S("m.")) == 0);
   check("carries bindings", finds("o.x.", NAME_CONSOLE_OK, 1) && finds("o.s.y.", NAME_CONSOLE_NONE, 0));
-  check("open of a namespace", name_console_open(TABLE, 0, S("n."), S("m.")) == 0);
+  check("open of a namespace", name_console_open_namespace(TABLE, S("n."), S("m.")) == 0);
   check("carries namespaces", finds("n.x.", NAME_CONSOLE_NONE, 0) && finds("n.s.y.", NAME_CONSOLE_OK, 2));
   check("include", name_console_include(TABLE, S("i."), S("m.")) == 0 && finds("i.x.", NAME_CONSOLE_OK, 1) && finds("i.s.y.", NAME_CONSOLE_NONE, 0));
 }
@@ -234,11 +234,14 @@ static void refusals(void) {
   fresh();
   REFUSES("Malformed, name", name("", "a.b", 1), NAME_CONSOLE_MALFORMED);
   REFUSES("Malformed, include", name_console_include(TABLE, S("a"), S("")), NAME_CONSOLE_MALFORMED);
-  REFUSES("Malformed, open", name_console_open(TABLE, 2, S(""), S("")), NAME_CONSOLE_MALFORMED);
+  REFUSES("Malformed, open of a namespace", name_console_open_namespace(TABLE, S("a"), S("")), NAME_CONSOLE_MALFORMED);
+  REFUSES("Malformed, open of a module", name_console_open_module(TABLE, S(""), S("a")), NAME_CONSOLE_MALFORMED);
   REFUSES("Malformed, alias", name_console_alias(TABLE, S("k"), S(""), S("[.")), NAME_CONSOLE_MALFORMED);
   REFUSES("Malformed, module", name_console_module(TABLE, 0, S("A."), S("\n")), NAME_CONSOLE_MALFORMED);
   REFUSES("Empty, name", name("", "", 1), NAME_CONSOLE_EMPTY);
-  REFUSES("Empty, open", name_console_open(TABLE, 1, S("."), S("")), NAME_CONSOLE_EMPTY);
+  REFUSES("Malformed, no choice", name_console_module(TABLE, 2, S("A."), S("")), NAME_CONSOLE_MALFORMED);
+  REFUSES("Empty, open of a namespace", name_console_open_namespace(TABLE, S(""), S(".")), NAME_CONSOLE_EMPTY);
+  REFUSES("Empty, open of a module", name_console_open_module(TABLE, S("."), S("")), NAME_CONSOLE_EMPTY);
   check("Empty, find", finds("", NAME_CONSOLE_EMPTY, 0) && finds_no_symbol("a..", NAME_CONSOLE_EMPTY));
   REFUSES("TooLong, alias", name_console_alias(TABLE, S(n32), S(""), S("")), NAME_CONSOLE_TOO_LONG);
   check("a name of 31 bytes", name("", n32 + 1, 1) == 0 && finds("s.s.s.s.s.s.s.s.s.s.s.s.s.s.s.s.s.s.", NAME_CONSOLE_TOO_LONG, 0));
@@ -262,9 +265,11 @@ static void unsound(void) {
   check("unsound before no filter", refused(modules(4, ""), NAME_CONSOLE_UNSOUND));
   REFUSES("Unsound, name", name("", "tick", 5), NAME_CONSOLE_UNSOUND);
   REFUSES("Unsound, include", name_console_include(TABLE, S(""), S("")), NAME_CONSOLE_UNSOUND);
-  REFUSES("Unsound, open", name_console_open(TABLE, 2, S(""), S("")), NAME_CONSOLE_UNSOUND);
+  REFUSES("Unsound, open of a namespace", name_console_open_namespace(TABLE, S(""), S("")), NAME_CONSOLE_UNSOUND);
+  REFUSES("Unsound, open of a module", name_console_open_module(TABLE, S(""), S("")), NAME_CONSOLE_UNSOUND);
   REFUSES("Unsound, alias", name_console_alias(TABLE, S("k"), S(""), S("")), NAME_CONSOLE_UNSOUND);
   REFUSES("Unsound, module", name_console_module(TABLE, 0, S(""), S("")), NAME_CONSOLE_UNSOUND);
+  REFUSES("Unsound before no choice", name_console_module(TABLE, 2, S(""), S("")), NAME_CONSOLE_UNSOUND);
   check("Unsound, look-ups", finds("Saved.late.", NAME_CONSOLE_UNSOUND, 0) && finds_no_symbol("IO.", NAME_CONSOLE_UNSOUND));
   words[0] ^= 64;
   fill();

@@ -110,9 +110,8 @@ impl Script {
             match call {
                 Registration::Name { host, id, item } => writeln!(self.lines, "name {} {} {item}", text(host), text(id)),
                 Registration::Include { host, included } => writeln!(self.lines, "include {} {}", text(host), text(included)),
-                Registration::Open { module, host, included } => {
-                    writeln!(self.lines, "open {} {} {}", if *module { "m" } else { "n" }, text(host), text(included))
-                }
+                Registration::OpenNamespace { host, included } => writeln!(self.lines, "open n {} {}", text(host), text(included)),
+                Registration::OpenModule { host, included } => writeln!(self.lines, "open m {} {}", text(host), text(included)),
                 Registration::Alias { key, host, included } => writeln!(self.lines, "alias {} {} {}", text(key), text(host), text(included)),
                 Registration::Module { .. } => panic!("no name: {call:?}"),
             }

@@ -25,12 +25,21 @@ pub fn include(state: &mut [u8], words: &mut [u8], text: &mut [u8], host: &[u8],
     }
 }
 
-/// Opens the query in the host, as a module (`flag` 1) or as a namespace (0); another flag is refused with 2.
+/// Opens a namespace in the host, the query's namespaces and no bindings: 0 or the refusal's number.
 #[rustfmt::skip]
-pub fn open(state: &mut [u8], words: &mut [u8], text: &mut [u8], flag: u32, host: &[u8], query: &[u8]) -> u32 {
+pub fn open_namespace(state: &mut [u8], words: &mut [u8], text: &mut [u8], host: &[u8], query: &[u8]) -> u32 {
     unsafe {
-        sys::name_console_open(state.as_mut_ptr(), state.len(), words.as_mut_ptr(), words.len(), text.as_mut_ptr(), text.len(),
-            flag, host.as_ptr(), host.len(), query.as_ptr(), query.len())
+        sys::name_console_open_namespace(state.as_mut_ptr(), state.len(), words.as_mut_ptr(), words.len(), text.as_mut_ptr(), text.len(),
+            host.as_ptr(), host.len(), query.as_ptr(), query.len())
+    }
+}
+
+/// Opens a module in the host, what `include` does: 0 or the refusal's number.
+#[rustfmt::skip]
+pub fn open_module(state: &mut [u8], words: &mut [u8], text: &mut [u8], host: &[u8], query: &[u8]) -> u32 {
+    unsafe {
+        sys::name_console_open_module(state.as_mut_ptr(), state.len(), words.as_mut_ptr(), words.len(), text.as_mut_ptr(), text.len(),
+            host.as_ptr(), host.len(), query.as_ptr(), query.len())
     }
 }
 

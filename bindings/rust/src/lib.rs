@@ -33,4 +33,4 @@ mod table;
 
 pub use lines::{Line, Listing, Output, Symbol};
 pub use refusal::Refusal;
-pub use table::{Filter, Opened, Table};
+pub use table::{Filter, Table};

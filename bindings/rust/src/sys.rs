@@ -73,9 +73,13 @@ extern "C" {
     pub fn name_console_include(state: *mut u8, state_len: usize, words: *mut u8, words_len: usize, text: *mut u8, text_len: usize,
         host: *const u8, host_len: usize, query: *const u8, query_len: usize) -> u32;
 
-    /// Opens the query in the host: as a module if `flag` is 1, as a namespace if it is 0.
-    pub fn name_console_open(state: *mut u8, state_len: usize, words: *mut u8, words_len: usize, text: *mut u8, text_len: usize,
-        flag: u32, host: *const u8, host_len: usize, query: *const u8, query_len: usize) -> u32;
+    /// Opens a namespace in the host: the query's namespaces are carried over, and no bindings.
+    pub fn name_console_open_namespace(state: *mut u8, state_len: usize, words: *mut u8, words_len: usize, text: *mut u8, text_len: usize,
+        host: *const u8, host_len: usize, query: *const u8, query_len: usize) -> u32;
+
+    /// Opens a module in the host: what `name_console_include` does.
+    pub fn name_console_open_module(state: *mut u8, state_len: usize, words: *mut u8, words_len: usize, text: *mut u8, text_len: usize,
+        host: *const u8, host_len: usize, query: *const u8, query_len: usize) -> u32;
 
     /// Puts an alias of the query at the key, in the host.
     pub fn name_console_alias(state: *mut u8, state_len: usize, words: *mut u8, words_len: usize, text: *mut u8, text_len: usize,

@@ -1,15 +1,6 @@
 use crate::lines::{number, symbol, Listing, Output, Symbol};
 use crate::{bytes, sys, Refusal};
 
-/// How a query is opened in a host.
-#[derive(Clone, Copy, Debug, PartialEq, Eq)]
-pub enum Opened {
-    /// Its namespaces are carried over.
-    Namespace = 0,
-    /// Its bindings are carried over, as an include does.
-    Module = 1,
-}
-
 /// Which lines a completion of modules keeps.
 #[derive(Clone, Copy, Debug, PartialEq, Eq)]
 pub enum Filter {
@@ -72,9 +63,14 @@ impl Table {
         Refusal::check(bytes::include(&mut self.state, &mut self.words, &mut self.text, host.as_ref(), query.as_ref()))
     }
 
-    /// Opens the query in the host.
-    pub fn register_open(&mut self, opened: Opened, host: impl AsRef<[u8]>, query: impl AsRef<[u8]>) -> Result<(), Refusal> {
-        Refusal::check(bytes::open(&mut self.state, &mut self.words, &mut self.text, opened as u32, host.as_ref(), query.as_ref()))
+    /// Opens a namespace in the host: the query's namespaces, as they are now, and no bindings.
+    pub fn register_open_namespace(&mut self, host: impl AsRef<[u8]>, query: impl AsRef<[u8]>) -> Result<(), Refusal> {
+        Refusal::check(bytes::open_namespace(&mut self.state, &mut self.words, &mut self.text, host.as_ref(), query.as_ref()))
+    }
+
+    /// Opens a module in the host: what [`register_include`](Table::register_include) does.
+    pub fn register_open_module(&mut self, host: impl AsRef<[u8]>, query: impl AsRef<[u8]>) -> Result<(), Refusal> {
+        Refusal::check(bytes::open_module(&mut self.state, &mut self.words, &mut self.text, host.as_ref(), query.as_ref()))
     }
 
     /// Puts an alias of the query at the key, in the host: its bindings, and no namespaces.

@@ -1,5 +1,5 @@
 //! The cases and refusals of docs/REQUIREMENTS.md through the safe calls. Every expected number and text stands there.
-use name_console::{Filter, Opened, Output, Refusal, Symbol, Table};
+use name_console::{Filter, Output, Refusal, Symbol, Table};
 
 /// Table T.
 fn t() -> Table {
@@ -82,8 +82,8 @@ fn opens() {
     let mut t = Table::new(200, 1000);
     t.insert("m.", "x", 1).unwrap();
     t.insert("m.s.", "y", 2).unwrap();
-    t.register_open(Opened::Module, "o.", "m.").unwrap();
-    t.register_open(Opened::Namespace, "n.", "m.").unwrap();
+    t.register_open_module("o.", "m.").unwrap();
+    t.register_open_namespace("n.", "m.").unwrap();
     assert_eq!((t.find("o.x."), t.find("o.s.y.")), (Ok(Some(1)), Ok(None)));
     assert_eq!((t.find("n.x."), t.find("n.s.y.")), (Ok(None), Ok(Some(2))));
 }
@@ -115,7 +115,8 @@ fn refusals() {
     let mut unsound = Table::from_parts(state, words, text);
     assert_eq!(unsound.find("Saved.late."), Err(Refusal::Unsound));
     assert_eq!(unsound.find_module("IO."), Err(Refusal::Unsound));
-    assert_eq!(unsound.register_open(Opened::Module, "", ""), Err(Refusal::Unsound));
+    assert_eq!(unsound.register_open_module("", ""), Err(Refusal::Unsound));
+    assert_eq!(unsound.register_open_namespace("", ""), Err(Refusal::Unsound));
     assert_eq!(unsound.complete("", 3, &mut output).err(), Some(Refusal::Unsound));
 }
 

@@ -16,7 +16,7 @@ use Rattle.parts.specs.Parts.{part-of}
 use Rattle.parts.specs.declared.Extent.{Extent}
 use Rattle.kinds.specs.declared.Kind.{Kind}
 use Rattle.kinds.specs.Shapes.{call-of}
-use Rattle.kinds.proofs.Shapes.{opened-is}
+use Rattle.kinds.proofs.Shapes.{open-module-is-include}
 use Rattle.script.specs.declared.Question.{Question}
 use Rattle.script.proofs.ReadsOnce.{reads-once}
 use Rattle.replies.specs.Replies.{bad-reply}
@@ -42,8 +42,8 @@ record IsCall (c : Command) (k : Kind) (h o y : Str) : Type 0 where
 
 import-same : (how : Import) (l : Lent) (s : State) (host q key : Str) → register true l s (call-of (import-kind how) host q key) ≡ register true l s (import-call how host q)
 import-same Include l s host q key = refl
-import-same OpenModule l s host q key = opened-is true true l s host q key
-import-same OpenNamespace l s host q key = opened-is false true l s host q key
+import-same OpenModule l s host q key = sym (open-module-is-include true l s host q)
+import-same OpenNamespace l s host q key = refl
 
 is-call : (c : Command) {k : Kind} {h o y : Str} → OfKind c k h o y → IsCall c k h o y
 is-call (name host id n) e = record { call = C.name host id n; is = refl; outcome-is = λ l out s. refl; same = λ l s. rw (e .0, e .1, e .2) refl }

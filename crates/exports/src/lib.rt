@@ -9,6 +9,7 @@ use table::Registered;
 use table::Registration;
 use table::Table;
 ghost use mathlib.Core.Path.{_≡_};
+ghost use mathlib.Core.Bool.{true, false};
 ghost use Rattle.source.specs.Lent.{old, new};
 ghost use Rattle.source.specs.Calls.{name, include, opens, alias, module-path};
 ghost use Rattle.memory.specs.Sound.{Says};
@@ -134,22 +135,39 @@ pub extern "C" fn name_table_include(
 }
 
 #[no_mangle]
-pub extern "C" fn name_table_open(
+pub extern "C" fn name_table_open_namespace(
     words: &mut [u32],
     text: &mut [u8],
     names: u32,
     modules: u32,
     records: u32,
     used: u32,
-    modular: bool,
     host: &[u8],
     query: &[u8],
 ) -> Reply
     ensures { λ r. ⌜ RegisterReplies (old words) (old text) (new words) (new text) (table-of names modules records used)
-        (opens modular (old host) (old query)) r ⌝ }
+        (opens false (old host) (old query)) r ⌝ }
 {
     let t = table_of(names, modules, records, used);
-    reply_of(t.register_open(words, text, modular, host, query))
+    reply_of(t.register_open_namespace(words, text, host, query))
+}
+
+#[no_mangle]
+pub extern "C" fn name_table_open_module(
+    words: &mut [u32],
+    text: &mut [u8],
+    names: u32,
+    modules: u32,
+    records: u32,
+    used: u32,
+    host: &[u8],
+    query: &[u8],
+) -> Reply
+    ensures { λ r. ⌜ RegisterReplies (old words) (old text) (new words) (new text) (table-of names modules records used)
+        (opens true (old host) (old query)) r ⌝ }
+{
+    let t = table_of(names, modules, records, used);
+    reply_of(t.register_open_module(words, text, host, query))
 }
 
 #[no_mangle]

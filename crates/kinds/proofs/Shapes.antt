@@ -9,8 +9,8 @@ use lib.Seq.{take-length}
 use Rattle.source.specs.Text.{Str}
 use Rattle.source.specs.Table.{register-open}
 use Rattle.source.specs.Counted.{register-openᶜ}
-use Rattle.source.specs.Calls.{Lent, State, a-query, a-name, arguments, text-of, text-taken, registered, records, registration-rows, after, register, opens}
-use Rattle.kinds.specs.Shapes.{shape-of, used-key, key-size, call-of, argument-as, other-argument, key-argument, opened}
+use Rattle.source.specs.Calls.{Lent, State, a-query, a-name, arguments, text-of, text-taken, registered, records, registration-rows, after, register, include, opens}
+use Rattle.kinds.specs.Shapes.{shape-of, used-key, key-size, call-of, argument-as, other-argument, key-argument}
 use Rattle.kinds.specs.declared.Kind.{Kind}
 use Rattle.kinds.specs.declared.Kind.the-variants.{Name, Include, Open, Alias, Module}
 use Rattle.kinds.specs.declared.Form.{Form}
@@ -60,8 +60,7 @@ module _ (k : Kind) (key : Str) {n : ℕ} (e : n ≡ key-size k (length key)) wh
   pub cut-call : (host other : Str) → call-of k host other (take n key) ≡ call-of k host other key
   cut-call host other = rw (e, used-taken, used-twice)
 
--- An open of a module is an include.
-pub opened-is : (flag sound : Bool) (l : Lent) (s : State) (host query key : Str) → register sound l s (call-of (opened flag) host query key) ≡ register sound l s (opens flag host query)
+-- An open of a module is an include: the same answer and the same state after it, whatever is lent.
+pub open-module-is-include : (sound : Bool) (l : Lent) (s : State) (host query : Str) → register sound l s (opens true host query) ≡ register sound l s (include host query)
 unfolding register registration-rows after arguments registered register-open records register-openᶜ
-opened-is true sound l s host query key = refl
-opened-is false sound l s host query key = refl
+open-module-is-include sound l s host query = refl

@@ -49,8 +49,3 @@ other-argument k s = argument-as (shape-of k .form) s
 -- The key as an argument.
 abbrev pub key-argument : Kind → Str → List Argument
 key-argument k s = cond (shape-of k .keyed) (a-name s ∷ []) []
-
--- The kind of an open: of a module it is an include.
-abbrev pub opened : (is-module : Bool) → Kind
-opened true = Include
-opened false = Open

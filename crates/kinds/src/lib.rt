@@ -1,15 +1,15 @@
 // The kinds of registration, and what each is made of.
 ghost use mathlib.Core.Path.{_≡_};
 ghost use Prim.Native.Nat.{_≤_};
-ghost use Rattle.kinds.specs.Shapes.{shape-of, key-size, opened};
+ghost use Rattle.kinds.specs.Shapes.{shape-of, key-size};
 
 // A registration apart from its texts.
 pub enum Kind {
     // The source's insert: a name with its number.
     Name(u32),
-    // register_include: the included bindings, under their label.
+    // register_include, register_open_module: the included bindings, under their label.
     Include,
-    // register_open of a namespace: the included namespaces, under their label.
+    // register_open_namespace: the included namespaces, under their label.
     Open,
     // register_alias: at the key a trie of the included bindings.
     Alias,
@@ -68,14 +68,4 @@ pub fn key_size(kind: Kind, key: usize) -> usize
         return key;
     }
     0
-}
-
-// The kind of an open: of a module it is an include.
-pub fn opened(flag: bool) -> Kind
-    ensures { λ r. ⌜ r ≡ opened flag ⌝ }
-{
-    if flag {
-        return Kind::Include;
-    }
-    Kind::Open
 }

@@ -1,6 +1,7 @@
 -- What a registration replies, by what crate table answers.
 use Prim.Native.Nat.{ℕ, zero, suc, _*_, _≤_, _<_}
 use mathlib.Core.Path.{_≡_, refl, sym, ap, _∙_}
+use mathlib.Core.Logic.{_↔_}
 use mathlib.Core.Bool.{Bool, true, false}
 use mathlib.Core.List.{List}
 use mathlib.Core.Option.{Option, none, some, Option·none-ne-some}
@@ -10,7 +11,7 @@ use lib.ListN.{length}
 use lib.Seq.{take-all}
 use Rattle.source.specs.Calls as C
 use Rattle.source.specs.Text.{Str}
-use Rattle.source.specs.Calls.{State, Lent, Call, opens, register}
+use Rattle.source.specs.Calls.{State, Lent, Call, include, opens, register}
 use Rattle.memory.specs.Sound.{Says}
 use Rattle.memory.specs.Grown.{Outside}
 use Rattle.table.specs.Header.{IsSound, state, lent}
@@ -23,9 +24,7 @@ use Rattle.wire.specs.Bytes.{Stored}
 use Rattle.wire.specs.Memory.{header-in, words-lent, words-in, Saved}
 use Rattle.wire.proofs.Memory.{words-in-length, words-in-fit}
 use Rattle.screen.specs.Memory.{table-at, SoundBytes}
-use Rattle.kinds.specs.Shapes.{call-of, opened}
-use Rattle.kinds.specs.declared.Kind.{Kind}
-use Rattle.kinds.proofs.Shapes.{opened-is}
+use Rattle.kinds.proofs.Shapes.{open-module-is-include}
 use Rattle.screen.specs.Replies.{chosen, unchosen, answer-to, RepliesAs, Replies}
 use Rattle.wire.proofs.Bytes.{read-back}
 use Rattle.screen.proofs.Held.{Held, says-memory, says-unsound}
@@ -46,11 +45,13 @@ reply-none {txt = txt} r h p e = record {
   says = λ b i. rw (decided _ b r (says-memory txt h b i) p, ← e) (refl, record { state = refl; words = refl; text = refl });
 }
 
--- An open by its kind.
-pub reply-opened : {st bs txt st′ bs′ txt′ : List ℕ} {flag : Bool} {k : Kind} {r : ℕ} (host query key : Str) → k ≡ opened flag
-    → Replies st bs txt st′ bs′ txt′ (some (call-of k host query key)) r → Replies st bs txt st′ bs′ txt′ (some (opens flag host query)) r
-reply-opened {st} {bs} {txt} {flag = flag} host query key e a =
-    record { says = λ b h. rw (← opened-is flag b (lent (words-in bs) txt) (state (words-in bs) txt (table-at st)) host query key, ← e) (a .says b h) }
+-- name_console_open_module promises what name_console_include does.
+pub open-module-replies : {st bs txt st′ bs′ txt′ : List ℕ} {host query : Str} {r : ℕ}
+    → Replies st bs txt st′ bs′ txt′ (some (opens true host query)) r ↔ Replies st bs txt st′ bs′ txt′ (some (include host query)) r
+open-module-replies {st} {bs} {txt} {host = host} {query} = (
+  λ a. record { says = λ b h. rw (← open-module-is-include b (lent (words-in bs) txt) (state (words-in bs) txt (table-at st)) host query) (a .says b h) },
+  λ a. record { says = λ b h. rw (open-module-is-include b (lent (words-in bs) txt) (state (words-in bs) txt (table-at st)) host query) (a .says b h) },
+)
 
 chosen-some : (f : Bool → Call) (n : ℕ) → n < 2 → chosen f n ≡ some (f (eqb n 1))
 unfolding chosen

@@ -11,6 +11,7 @@ use numbers::NameReply;
 use table::Registered;
 use table::Table;
 ghost use mathlib.Core.Path.{_≡_};
+ghost use mathlib.Core.Bool.{true, false};
 ghost use mathlib.Core.Option.{none, some};
 ghost use lib.ListN.{length};
 ghost use Rattle.source.specs.Lent.{old, new};
@@ -131,30 +132,32 @@ pub extern "C" fn name_console_include(
     register(state, words, text, Kind::Include, host, query, &host[..0])
 }
 
-// Registers an open: of a module if `flag` is 1, of a namespace if it is 0.
+// Registers an open of a namespace.
 #[no_mangle]
-pub extern "C" fn name_console_open(
+pub extern "C" fn name_console_open_namespace(
     state: &mut [u8],
     words: &mut [u8],
     text: &mut [u8],
-    flag: u32,
     host: &[u8],
     query: &[u8],
 ) -> u32
-    ensures { λ r. ⌜ Replies (old state) (old words) (old text) (new state) (new words) (new text) (chosen (λ b. opens b (old host) (old query)) flag) r ⌝ }
+    ensures { λ r. ⌜ Replies (old state) (old words) (old text) (new state) (new words) (new text) (some (opens false (old host) (old query))) r ⌝ }
 {
-    if flag < 2 {
-        return register(
-            state,
-            words,
-            text,
-            kinds::opened(flag == 1),
-            host,
-            query,
-            &host[..0],
-        );
-    }
-    malformed(state, words, text)
+    register(state, words, text, Kind::Open, host, query, &host[..0])
+}
+
+// Registers an open of a module, which is an include.
+#[no_mangle]
+pub extern "C" fn name_console_open_module(
+    state: &mut [u8],
+    words: &mut [u8],
+    text: &mut [u8],
+    host: &[u8],
+    query: &[u8],
+) -> u32
+    ensures { λ r. ⌜ Replies (old state) (old words) (old text) (new state) (new words) (new text) (some (opens true (old host) (old query))) r ⌝ }
+{
+    register(state, words, text, Kind::Include, host, query, &host[..0])
 }
 
 // Registers an alias.

@@ -10,7 +10,6 @@ use Rattle.parts.specs.Parts.{Within, part-of}
 use Rattle.parts.specs.declared.Extent.{Extent}
 use Rattle.kinds.specs.declared.Kind.{Kind}
 use Rattle.kinds.specs.declared.Kind.the-variants as kind
-use Rattle.kinds.specs.Shapes.{opened}
 use Rattle.script.specs.declared.Import.{Import}
 use Rattle.script.specs.declared.Import.the-variants.{Include, OpenModule, OpenNamespace}
 use Rattle.script.specs.declared.Question.{Question}
@@ -94,8 +93,8 @@ pub record Reads (line : Str) (command : Command) : Type 0 where
 -- The kind of an import: an open of a module is an include.
 abbrev pub import-kind : Import → Kind
 import-kind Include = kind.Include
-import-kind OpenModule = opened true
-import-kind OpenNamespace = opened false
+import-kind OpenModule = kind.Include
+import-kind OpenNamespace = kind.Open
 
 -- The command is a registration of this kind, of these texts, as `call-of` of crate kinds orders them.
 abbrev pub OfKind : Command → Kind → (host other key : Str) → Type 0

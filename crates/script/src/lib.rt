@@ -136,8 +136,8 @@ fn import_kind(how: Import) -> Kind
 {
     match how {
         Import::Include => Kind::Include,
-        Import::OpenModule => kinds::opened(true),
-        Import::OpenNamespace => kinds::opened(false),
+        Import::OpenModule => Kind::Include,
+        Import::OpenNamespace => Kind::Open,
     }
 }
 

@@ -1,15 +1,14 @@
 -- What a registration hands back, by its rows.
 use Prim.Native.Nat.{ℕ}
 use mathlib.Core.Path.{_≡_, refl}
+use mathlib.Core.Logic.{_↔_}
 use mathlib.Core.Bool.{Bool, true, false}
 use mathlib.Core.List.{List}
 use mathlib.Core.Option.{none, some}
 use Rattle.source.specs.Text.{Str}
-use Rattle.source.specs.Calls.{lowest, argument-rows, State, Lent, Call, registration-rows, after, accepted, refused, register, opens}
+use Rattle.source.specs.Calls.{lowest, argument-rows, State, Lent, Call, registration-rows, after, accepted, refused, register, include, opens}
 use Rattle.table.specs.Header.{state, lent}
-use Rattle.kinds.specs.Shapes.{call-of, opened}
-use Rattle.kinds.specs.declared.Kind.{Kind}
-use Rattle.kinds.proofs.Shapes.{opened-is}
+use Rattle.kinds.proofs.Shapes.{open-module-is-include}
 use Rattle.refusals.specs.Refusals.{number}
 use Rattle.table.specs.Registrations.{Accepts, Answers}
 use Rattle.table.specs.declared.Table.{Table}
@@ -43,7 +42,10 @@ module _ {ws txt : List ℕ} {t : Table} {c : Call} where
   pub answers-unsound : Answers false ws txt ws txt t c (record { table = t; answer = Refused Unsound })
   answers-unsound = record { says = rw register-unsound (refl, record { table = refl; words = refl; text = refl }) }
 
--- An open by its kind.
-pub answers-opened : {b flag : Bool} {ws txt ws′ txt′ : List ℕ} {t : Table} (host query key : Str) {k : Kind} {r : Registration} → k ≡ opened flag
-    → Answers b ws txt ws′ txt′ t (call-of k host query key) r → Answers b ws txt ws′ txt′ t (opens flag host query) r
-answers-opened {b} {flag} {ws} {txt} {t = t} host query key e a = record { says = rw (← opened-is flag b (lent ws txt) (state ws txt t) host query key, ← e) (a .says) }
+-- register_open_module promises what register_include does, at either door.
+pub open-module-answers : {b : Bool} {ws txt ws′ txt′ : List ℕ} {t : Table} {host query : Str} {r : Registration}
+    → Answers b ws txt ws′ txt′ t (opens true host query) r ↔ Answers b ws txt ws′ txt′ t (include host query) r
+open-module-answers {b} {ws} {txt} {t = t} {host} {query} = (
+  λ a. record { says = rw (← open-module-is-include b (lent ws txt) (state ws txt t) host query) (a .says) },
+  λ a. record { says = rw (open-module-is-include b (lent ws txt) (state ws txt t) host query) (a .says) },
+)

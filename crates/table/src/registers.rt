@@ -2,7 +2,7 @@
 use crate::Registration;
 use crate::Table;
 use kinds::Kind;
-ghost use mathlib.Core.Bool.{true};
+ghost use mathlib.Core.Bool.{true, false};
 ghost use Rattle.source.specs.Lent.{old, new};
 ghost use Rattle.source.specs.Calls.{name, include, opens, alias, module-path};
 ghost use Rattle.table.specs.Header.{IsSound};
@@ -69,35 +69,58 @@ impl Table {
         self.register_sound(words, text, Kind::Include, host, query, &host[..0])
     }
 
-    // The source's register_open: of a module if `flag` is set, else of a namespace.
-    pub fn register_open(
+    // The source's register_open of a namespace.
+    pub fn register_open_namespace(
         self,
         words: &mut [u32],
         text: &mut [u8],
-        flag: bool,
         host: &[u8],
         query: &[u8],
     ) -> Registration
-        ensures { λ r. ⌜ Total (old words) (old text) (new words) (new text) self
-            (opens flag (old host) (old query)) r ⌝ }
+        ensures { λ r. ⌜ Total (old words) (old text) (new words) (new text) self (opens false (old host) (old query)) r ⌝ }
     {
-        self.register(words, text, kinds::opened(flag), host, query, &host[..0])
+        self.register(words, text, Kind::Open, host, query, &host[..0])
     }
 
     // The same, in a sound memory.
-    pub fn register_open_sound(
+    pub fn register_open_namespace_sound(
         self,
         words: &mut [u32],
         text: &mut [u8],
-        flag: bool,
         host: &[u8],
         query: &[u8],
     ) -> Registration
         requires { ⌜ IsSound (now words) (now text) self ⌝ }
-        ensures { λ r. ⌜ Answers true (old words) (old text) (new words) (new text) self
-            (opens flag (old host) (old query)) r ⌝ }
+        ensures { λ r. ⌜ Answers true (old words) (old text) (new words) (new text) self (opens false (old host) (old query)) r ⌝ }
     {
-        self.register_sound(words, text, kinds::opened(flag), host, query, &host[..0])
+        self.register_sound(words, text, Kind::Open, host, query, &host[..0])
+    }
+
+    // The source's register_open of a module: register_include under its own name.
+    pub fn register_open_module(
+        self,
+        words: &mut [u32],
+        text: &mut [u8],
+        host: &[u8],
+        query: &[u8],
+    ) -> Registration
+        ensures { λ r. ⌜ Total (old words) (old text) (new words) (new text) self (opens true (old host) (old query)) r ⌝ }
+    {
+        self.register(words, text, Kind::Include, host, query, &host[..0])
+    }
+
+    // The same, in a sound memory.
+    pub fn register_open_module_sound(
+        self,
+        words: &mut [u32],
+        text: &mut [u8],
+        host: &[u8],
+        query: &[u8],
+    ) -> Registration
+        requires { ⌜ IsSound (now words) (now text) self ⌝ }
+        ensures { λ r. ⌜ Answers true (old words) (old text) (new words) (new text) self (opens true (old host) (old query)) r ⌝ }
+    {
+        self.register_sound(words, text, Kind::Include, host, query, &host[..0])
     }
 
     // The source's register_alias.

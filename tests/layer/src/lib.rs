@@ -53,7 +53,8 @@ pub fn register(t: &mut Bytes, call: &Registration, odd: Option<u32>) -> u32 {
     match call {
         Registration::Name { host, id, item } => calls::insert(s, w, x, host, id, *item),
         Registration::Include { host, included } => calls::include(s, w, x, host, included),
-        Registration::Open { module, host, included } => calls::open(s, w, x, flag(*module, odd), host, included),
+        Registration::OpenNamespace { host, included } => calls::open_namespace(s, w, x, host, included),
+        Registration::OpenModule { host, included } => calls::open_module(s, w, x, host, included),
         Registration::Alias { key, host, included } => calls::alias(s, w, x, key, host, included),
         Registration::Module { loaded, query, path } => calls::module(s, w, x, flag(*loaded, odd), query, path),
     }

@@ -14,7 +14,7 @@ fn table(t: &Bytes) -> Result<Table, Refusal> {
 /// What a registration must answer and leave. Counts answers by number.
 fn hold(t: &mut Bytes, call: &Registration, odd: Option<u32>, answers: &mut [u64; 9]) {
     let before = t.clone();
-    let flagged = matches!(call, Registration::Open { .. } | Registration::Module { .. });
+    let flagged = matches!(call, Registration::Module { .. });
     let expected = table(&before).and_then(|old| match odd {
         Some(_) if flagged => Err(Refusal::Malformed),
         _ => independent::register(&old, before.memory().unwrap().lent(), call),

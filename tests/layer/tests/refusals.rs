@@ -61,12 +61,9 @@ fn a_state_is_sixteen_bytes() {
 #[test]
 fn a_number_that_is_no_choice_is_malformed() {
     for (flag, answer) in [(0, 0), (1, 0), (2, MALFORMED), (256, MALFORMED), (u32::MAX, MALFORMED)] {
-        let open = Registration::Open { module: true, host: vec![], included: vec![] };
-        assert_eq!(register(&mut fresh(16), &open, Some(flag)), answer);
         let module = Registration::Module { loaded: true, query: vec![], path: vec![] };
         assert_eq!(register(&mut fresh(16), &module, Some(flag)), answer);
         // Unsound comes first.
-        assert_eq!(register(&mut fresh(15), &open, Some(flag)), UNSOUND);
         assert_eq!(register(&mut fresh(15), &module, Some(flag)), UNSOUND);
     }
     for (filter, answer) in [(3, 0), (4, MALFORMED), (259, MALFORMED), (u32::MAX, MALFORMED)] {

@@ -113,8 +113,8 @@ fn registrations(q: &[u8]) -> Vec<Registration> {
     for (host, included) in [(q.to_vec(), s.clone()), (s, q.to_vec()), (q.to_vec(), q.to_vec())] {
         all.push(Registration::Name { host: host.clone(), id: k.clone(), item: 1 });
         all.push(Registration::Include { host: host.clone(), included: included.clone() });
-        all.push(Registration::Open { module: true, host: host.clone(), included: included.clone() });
-        all.push(Registration::Open { module: false, host: host.clone(), included: included.clone() });
+        all.push(Registration::OpenNamespace { host: host.clone(), included: included.clone() });
+        all.push(Registration::OpenModule { host: host.clone(), included: included.clone() });
         all.push(Registration::Alias { key: k.clone(), host: host.clone(), included });
         all.push(Registration::Module { loaded: true, query: host.clone(), path: vec![b'p'; 120] });
         all.push(Registration::Module { loaded: false, query: host, path: vec![] });
@@ -127,7 +127,8 @@ fn shown(call: &Registration) -> String {
     match call {
         Registration::Name { host, .. } => format!("name {}", host.escape_ascii()),
         Registration::Include { host, .. } => format!("include {}", host.escape_ascii()),
-        Registration::Open { host, .. } => format!("open {}", host.escape_ascii()),
+        Registration::OpenNamespace { host, .. } => format!("open n {}", host.escape_ascii()),
+        Registration::OpenModule { host, .. } => format!("open m {}", host.escape_ascii()),
         Registration::Alias { host, .. } => format!("alias {}", host.escape_ascii()),
         Registration::Module { query, .. } => format!("module {}", query.escape_ascii()),
     }

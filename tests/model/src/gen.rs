@@ -237,11 +237,14 @@ pub fn registration(rng: &mut Rng, mix: &Mix) -> Registration {
     match kind {
         0 => Registration::Name { host: query(rng), id: name(rng), item: item(rng) },
         1 => Registration::Include { host: near_query(rng), included: near_query(rng) },
-        2 => Registration::Open {
-            module: rng.one_in(4),
-            host: near_query(rng),
-            included: near_query(rng),
-        },
+        2 => {
+            let module = rng.one_in(4);
+            let (host, included) = (near_query(rng), near_query(rng));
+            match module {
+                true => Registration::OpenModule { host, included },
+                false => Registration::OpenNamespace { host, included },
+            }
+        }
         3 => Registration::Alias { key: name(rng), host: query(rng), included: query(rng) },
         _ => Registration::Module { loaded: rng.one_in(2), query: query(rng), path: path(rng) },
     }
@@ -265,7 +268,8 @@ pub fn damaged_registration(rng: &mut Rng, mix: &Mix) -> Registration {
                 _ => *id = damaged_name(rng),
             },
             Registration::Include { host, included }
-            | Registration::Open { host, included, .. } => match rng.below(2) {
+            | Registration::OpenNamespace { host, included }
+            | Registration::OpenModule { host, included } => match rng.below(2) {
                 0 => *host = damaged_query(rng),
                 _ => *included = damaged_query(rng),
             },

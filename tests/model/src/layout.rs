@@ -757,13 +757,13 @@ impl Memory {
                 (self.lay(host), Change::Name { id: self.lay(id), item: *item })
             }
             Registration::Include { host, included }
-            | Registration::Open { module: true, host, included } => {
+            | Registration::OpenModule { host, included } => {
                 let (host, included) = (self.lay(host), self.lay(included));
                 let found = self.descend(root, &self.segments(included));
                 let list = self.word_of(found, 3);
                 (host, Change::Include { label: label_of(included), list })
             }
-            Registration::Open { module: false, host, included } => {
+            Registration::OpenNamespace { host, included } => {
                 let (host, included) = (self.lay(host), self.lay(included));
                 let found = self.descend(root, &self.segments(included));
                 let list = self.word_of(found, 4);

@@ -79,8 +79,12 @@ fn include(host: &[u8], included: &[u8]) -> Registration {
     Registration::Include { host: host.into(), included: included.into() }
 }
 
-fn open(module: bool, host: &[u8], included: &[u8]) -> Registration {
-    Registration::Open { module, host: host.into(), included: included.into() }
+fn open_namespace(host: &[u8], included: &[u8]) -> Registration {
+    Registration::OpenNamespace { host: host.into(), included: included.into() }
+}
+
+fn open_module(host: &[u8], included: &[u8]) -> Registration {
+    Registration::OpenModule { host: host.into(), included: included.into() }
 }
 
 fn alias(key: &[u8], host: &[u8], included: &[u8]) -> Registration {
@@ -98,7 +102,7 @@ fn names(n: &[u8]) -> Vec<Call> {
 
 /// The calls with this host, but for the alias, which goes one deeper.
 fn hosts(q: &[u8]) -> Vec<Call> {
-    let opens = [open(true, q, b""), open(false, q, b"")];
+    let opens = [open_module(q, b""), open_namespace(q, b"")];
     let others = [name(q, b"i", 1), include(q, b""), module(true, q, b"p")];
     opens.into_iter().chain(others).map(Call::Register).collect()
 }
@@ -109,7 +113,7 @@ fn alias_host(q: &[u8]) -> Vec<Call> {
 
 /// The calls with this included query.
 fn included(q: &[u8]) -> Vec<Call> {
-    let opens = [open(true, b"", q), open(false, b"", q)];
+    let opens = [open_module(b"", q), open_namespace(b"", q)];
     let others = [include(b"", q), alias(b"k", b"", q)];
     opens.into_iter().chain(others).map(Call::Register).collect()
 }
@@ -325,8 +329,8 @@ pub fn unsound<C: Calls>() {
         let calls = [
             Call::Register(name(b"", b"i", 1)),
             Call::Register(include(b"", b"")),
-            Call::Register(open(true, b"", b"")),
-            Call::Register(open(false, b"", b"")),
+            Call::Register(open_module(b"", b"")),
+            Call::Register(open_namespace(b"", b"")),
             Call::Register(alias(b"k", b"", b"")),
             Call::Register(module(true, b"", b"")),
             Call::Register(module(false, b"A.", b"p")),
@@ -440,20 +444,20 @@ pub fn crowded<C: Calls>() {
         // One more collection; a label with the whole list; a tree in front.
         let calls = [
             include(b"", b"x."),
-            open(true, b"", b"x."),
+            open_module(b"", b"x."),
             include(b"h.", b""),
             alias(b"k", b"", b""),
             name(b"", b"i", 1),
         ];
         each::<C>(&memory, calls.map(Call::Register).into(), expected);
         // Namespaces are another list.
-        each::<C>(&memory, vec![Call::Register(open(false, b"", b"x."))], 0);
+        each::<C>(&memory, vec![Call::Register(open_namespace(b"", b"x."))], 0);
     }
     for (weight, expected) in [(95, 0), (96, CROWDED)] {
-        let memory = made::<C>(250, 2000, &vec![open(false, b"", b"x."); weight]);
+        let memory = made::<C>(250, 2000, &vec![open_namespace(b"", b"x."); weight]);
         let calls = [
-            open(false, b"", b"x."),
-            open(false, b"h.", b""),
+            open_namespace(b"", b"x."),
+            open_namespace(b"h.", b""),
             name(b"h.", b"i", 1),
             alias(b"k", b"", b""),
         ];
@@ -479,7 +483,7 @@ pub fn deep<C: Calls>() {
     // Opening the root below t makes it one deeper.
     for (segments, expected) in [(15, 0), (16, DEEP)] {
         let memory = made::<C>(200, 4000, &[name(&s(segments), b"i", 1)]);
-        let below = Call::Register(open(false, b"t.", b""));
+        let below = Call::Register(open_namespace(b"t.", b""));
         each::<C>(&memory, vec![below], expected);
         // Bindings have no depth.
         each::<C>(&memory, vec![Call::Register(include(b"t.", b""))], 0);
@@ -504,7 +508,7 @@ fn sizes() -> Vec<(Vec<Registration>, usize, usize)> {
         (after(alias(b"K", b"Live.", b"Saved.")), 35, 56),
         (vec![module(false, b"IO.Bus.", b"io/bus")], 10, 13),
         (after(include(b"", b"Saved.")), 28, 50),
-        (after(open(false, b"", b"Saved.")), 28, 50),
+        (after(open_namespace(b"", b"Saved.")), 28, 50),
     ]
 }
 
@@ -611,7 +615,7 @@ pub fn lines<C: Calls>() {
 
 /// Calls that every refusal applies to, mended row by row.
 pub fn lowest_first<C: Calls>() {
-    let mut crowded = made::<C>(192, 192, &vec![open(false, b"", b"x."); 96]);
+    let mut crowded = made::<C>(192, 192, &vec![open_namespace(b"", b"x."); 96]);
     assert_eq!((crowded.header.records, crowded.header.text), (192, 192));
     let long = [b'n'; 32];
     let deep = b"s.".repeat(17);

@@ -894,7 +894,8 @@ fn check_arguments(arguments: &[Argument]) -> Result<(), Refusal> {
 pub enum Registration {
     Name { host: Vec<u8>, id: Vec<u8>, item: u32 },
     Include { host: Vec<u8>, included: Vec<u8> },
-    Open { module: bool, host: Vec<u8>, included: Vec<u8> },
+    OpenNamespace { host: Vec<u8>, included: Vec<u8> },
+    OpenModule { host: Vec<u8>, included: Vec<u8> },
     Alias { key: Vec<u8>, host: Vec<u8>, included: Vec<u8> },
     Module { loaded: bool, query: Vec<u8>, path: Vec<u8> },
 }
@@ -904,7 +905,9 @@ impl Registration {
         use Registration::*;
         match self {
             Name { host, id, .. } => vec![Argument::Query(host), Argument::Name(id)],
-            Include { host, included } | Open { host, included, .. } => {
+            Include { host, included }
+            | OpenNamespace { host, included }
+            | OpenModule { host, included } => {
                 vec![Argument::Query(host), Argument::Query(included)]
             }
             Alias { key, host, included } => {
@@ -956,10 +959,10 @@ pub fn build(table: &Table, call: &Registration) -> (Trie<u32>, Trie<ModSymbol>,
         Name { host, id, item } => {
             names = trie_insert(b, &names, &segments(host), &id.as_slice().into(), *item);
         }
-        Include { host, included } | Open { module: true, host, included } => {
+        Include { host, included } | OpenModule { host, included } => {
             names = trie_include(b, &names, &segments(host), &segments(included));
         }
-        Open { module: false, host, included } => {
+        OpenNamespace { host, included } => {
             names = trie_open_namespace(b, &names, &segments(host), &segments(included));
         }
         Alias { key, host, included } => {

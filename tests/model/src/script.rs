@@ -131,7 +131,10 @@ pub fn parse_line(line: &[u8]) -> Option<Form> {
             let host = rest.query()?;
             rest.exactly(b" ")?;
             let included = rest.query()?;
-            Form::Register(Registration::Open { module, host, included })
+            Form::Register(match module {
+                true => Registration::OpenModule { host, included },
+                false => Registration::OpenNamespace { host, included },
+            })
         }
         b"alias" => {
             rest.exactly(b" ")?;
@@ -183,9 +186,11 @@ pub fn spell(form: &Form) -> Vec<u8> {
         Form::Register(Registration::Include { host, included }) => {
             parts(&[b"[include [", host, b"] [", included, b"]]"])
         }
-        Form::Register(Registration::Open { module, host, included }) => {
-            let letter: &[u8] = if *module { b"m" } else { b"n" };
-            parts(&[b"[open ", letter, b" [", host, b"] [", included, b"]]"])
+        Form::Register(Registration::OpenNamespace { host, included }) => {
+            parts(&[b"[open n [", host, b"] [", included, b"]]"])
+        }
+        Form::Register(Registration::OpenModule { host, included }) => {
+            parts(&[b"[open m [", host, b"] [", included, b"]]"])
         }
         Form::Register(Registration::Alias { key, host, included }) => {
             parts(&[b"[alias ", key, b" [", host, b"] [", included, b"]]"])

@@ -27,8 +27,8 @@ fn rows_2_to_4_of_registrations() {
         (name("a.", "i j", 1), Some(2)),
         (include("a", ""), Some(2)),
         (include("", "a"), Some(2)),
-        (open(true, "", "\t."), Some(2)),
-        (open(false, "]", ""), Some(2)),
+        (open_module("", "\t."), Some(2)),
+        (open_namespace("]", ""), Some(2)),
         (alias("k.", "", ""), Some(2)),
         (alias("k", "é.", ""), Some(2)),
         (alias("k", "", "a..b"), Some(2)),
@@ -42,7 +42,7 @@ fn rows_2_to_4_of_registrations() {
         (name("a..b.", "i", 1), Some(3)),
         (include(".", ""), Some(3)),
         (include("", "a.."), Some(3)),
-        (open(false, "", ".a."), Some(3)),
+        (open_namespace("", ".a."), Some(3)),
         (alias("", "", ""), Some(3)),
         (alias("k", ".", ""), Some(3)),
         (module(true, ".", ""), Some(3)),
@@ -54,7 +54,7 @@ fn rows_2_to_4_of_registrations() {
         (name(&s18, "i", 1), Some(4)),
         (include("", &format!("a.{n32}.")), Some(4)),
         (include("", &s18), Some(4)),
-        (open(false, &s18, ""), Some(4)),
+        (open_namespace(&s18, ""), Some(4)),
         (alias(&n32, "", ""), Some(4)),
         (alias("k", "", &s18), Some(4)),
         (module(false, &format!("{n32}."), ""), Some(4)),
@@ -104,7 +104,7 @@ fn row_5_crowded() {
 fn row_5_before_6_before_7_before_8() {
     let mut both = Both::fresh(2000, 9000);
     for _ in 0..96 {
-        both.register(&open(false, "", "x.")).unwrap();
+        both.register(&open_namespace("", "x.")).unwrap();
     }
     let deep = "s.".repeat(17);
     assert_eq!(both.register(&name(&deep, "i", 1)), Err(Refusal::Crowded));
@@ -122,15 +122,15 @@ fn row_6_deep() {
     both.register(&name(&host(16), "i", 1)).unwrap();
     assert_eq!(both.register(&alias("k", &host(16), "")), Err(Refusal::Deep));
     both.register(&alias("k", &host(15), "")).unwrap();
-    assert_eq!(both.register(&open(false, "t.", "")), Err(Refusal::Deep));
-    both.register(&open(false, "t.", "s.")).unwrap();
+    assert_eq!(both.register(&open_namespace("t.", "")), Err(Refusal::Deep));
+    both.register(&open_namespace("t.", "s.")).unwrap();
     assert_eq!(both.register(&module(true, &host(17), "")), Err(Refusal::Deep));
     both.register(&module(true, &host(16), "")).unwrap();
     // A trie behind an earlier holder counts: s is held by the imported list
     // too, with all its depth.
     let mut both = Both::fresh(2000, 9000);
     both.register(&name(&host(15), "i", 1)).unwrap();
-    both.register(&open(false, "", "")).unwrap();
+    both.register(&open_namespace("", "")).unwrap();
     both.register(&alias("s", "", "none.")).unwrap();
     assert_eq!(both.find(&format!("{}i.", host(15))), Ok(None));
     assert_eq!(trie_depth(&both.table.names), 15);
@@ -299,13 +299,13 @@ fn includes_opens_and_aliases() {
         both.register(&call).unwrap();
     }
     // Include carries bindings only; an open of a module is the same.
-    for (host, call) in [("i", include("i.", "m.")), ("o", open(true, "o.", "m."))] {
+    for (host, call) in [("i", include("i.", "m.")), ("o", open_module("o.", "m."))] {
         both.register(&call).unwrap();
         assert_eq!(both.find(&format!("{host}.x.")), Ok(Some(1)));
         assert_eq!(both.find(&format!("{host}.s.y.")), Ok(None));
     }
     // An open of a namespace carries namespaces only.
-    both.register(&open(false, "n.", "m.")).unwrap();
+    both.register(&open_namespace("n.", "m.")).unwrap();
     assert_eq!(both.find("n.x."), Ok(None));
     assert_eq!(both.find("n.s.y."), Ok(Some(2)));
     // The included query starts at the root, also below a host that has the
@@ -337,7 +337,7 @@ fn annotations() {
     both.register(&name("m.s.", "x", 1)).unwrap();
     both.register(&include("k.", "m.s.")).unwrap();
     both.register(&include("", "k.")).unwrap();
-    both.register(&open(false, "", "m.")).unwrap();
+    both.register(&open_namespace("", "m.")).unwrap();
     let (lines, _) = both.complete("").unwrap();
     let texts: Vec<(&str, &str)> = lines.iter().map(|l| (&l.0[..], &l.3[..])).collect();
     // The outermost label, of the first element only.

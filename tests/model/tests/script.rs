@@ -21,8 +21,8 @@ fn every_form() {
     registers("[name [] id 0]", name("", "id", 0));
     registers("[include [a.] [b.]]", include("a.", "b."));
     registers("[include [] []]", include("", ""));
-    registers("[open m [a.] [b.]]", open(true, "a.", "b."));
-    registers("[open n [a.] [b.]]", open(false, "a.", "b."));
+    registers("[open m [a.] [b.]]", open_module("a.", "b."));
+    registers("[open n [a.] [b.]]", open_namespace("a.", "b."));
     registers("[alias k [a.] [b.]]", alias("k", "a.", "b."));
     registers("[module l [a.] p/q]", module(true, "a.", "p/q"));
     registers("[module u [] p]", module(false, "", "p"));
@@ -201,7 +201,8 @@ fn spelled_forms_are_read_again() {
                 query_fits(host) && word_fits(id)
             }
             Form::Register(Registration::Include { host, included })
-            | Form::Register(Registration::Open { host, included, .. }) => {
+            | Form::Register(Registration::OpenNamespace { host, included })
+            | Form::Register(Registration::OpenModule { host, included }) => {
                 query_fits(host) && query_fits(included)
             }
             Form::Register(Registration::Alias { key, host, included }) => {

@@ -15,7 +15,7 @@ fn all_kinds() -> Memory {
         name("m.", "a", 2),
         name("m.", "c", 3),
         include("h.", "m."),
-        open(false, "h.", ""),
+        open_namespace("h.", ""),
         alias("k", "h.", "m."),
         module(true, "A.B.", "p q"),
         module(false, "A.C.", ""),

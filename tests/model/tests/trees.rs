@@ -113,7 +113,7 @@ fn records_worked_out_by_hand() {
     // Replaced: the branches b and a are built anew.
     takes(&mut both, name("", "a", 3), 4);
     // Leaf: trie, collection. Root: trie, collection, branch.
-    takes(&mut both, open(false, "x.", "nowhere."), 5);
+    takes(&mut both, open_namespace("x.", "nowhere."), 5);
     // Below x the list does not begin with a tree. Leaf: trie, collection,
     // branch. x: trie, collection, branch. Root: trie, collection, branch.
     takes(&mut both, name("x.y.", "i", 4), 9);

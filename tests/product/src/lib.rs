@@ -47,8 +47,10 @@ extern "C" {
         host: Bytes, nhost: usize, id: Bytes, nid: usize, item: u32) -> Reply;
     fn name_table_include(words: Words, nwords: usize, text: *mut u8, ntext: usize, names: u32, modules: u32, records: u32, used: u32,
         host: Bytes, nhost: usize, query: Bytes, nquery: usize) -> Reply;
-    fn name_table_open(words: Words, nwords: usize, text: *mut u8, ntext: usize, names: u32, modules: u32, records: u32, used: u32,
-        modular: bool, host: Bytes, nhost: usize, query: Bytes, nquery: usize) -> Reply;
+    fn name_table_open_namespace(words: Words, nwords: usize, text: *mut u8, ntext: usize, names: u32, modules: u32, records: u32, used: u32,
+        host: Bytes, nhost: usize, query: Bytes, nquery: usize) -> Reply;
+    fn name_table_open_module(words: Words, nwords: usize, text: *mut u8, ntext: usize, names: u32, modules: u32, records: u32, used: u32,
+        host: Bytes, nhost: usize, query: Bytes, nquery: usize) -> Reply;
     fn name_table_alias(words: Words, nwords: usize, text: *mut u8, ntext: usize, names: u32, modules: u32, records: u32, used: u32,
         key: Bytes, nkey: usize, host: Bytes, nhost: usize, query: Bytes, nquery: usize) -> Reply;
     fn name_table_module(words: Words, nwords: usize, text: *mut u8, ntext: usize, names: u32, modules: u32, records: u32, used: u32,
@@ -82,8 +84,10 @@ pub fn register(m: &mut Memory, call: &Registration) -> u32 {
                 host.as_ptr(), host.len(), id.as_ptr(), id.len(), *item),
             Registration::Include { host, included } => name_table_include(w, nw, t, nt, h.names, h.modules, h.records, h.text,
                 host.as_ptr(), host.len(), included.as_ptr(), included.len()),
-            Registration::Open { module, host, included } => name_table_open(w, nw, t, nt, h.names, h.modules, h.records, h.text,
-                *module, host.as_ptr(), host.len(), included.as_ptr(), included.len()),
+            Registration::OpenNamespace { host, included } => name_table_open_namespace(w, nw, t, nt, h.names, h.modules, h.records, h.text,
+                host.as_ptr(), host.len(), included.as_ptr(), included.len()),
+            Registration::OpenModule { host, included } => name_table_open_module(w, nw, t, nt, h.names, h.modules, h.records, h.text,
+                host.as_ptr(), host.len(), included.as_ptr(), included.len()),
             Registration::Alias { key, host, included } => name_table_alias(w, nw, t, nt, h.names, h.modules, h.records, h.text,
                 key.as_ptr(), key.len(), host.as_ptr(), host.len(), included.as_ptr(), included.len()),
             Registration::Module { loaded, query, path } => name_table_module(w, nw, t, nt, h.names, h.modules, h.records, h.text,

@@ -12,8 +12,12 @@ pub fn include(host: &str, included: &str) -> Registration {
     Registration::Include { host: host.into(), included: included.into() }
 }
 
-pub fn open(module: bool, host: &str, included: &str) -> Registration {
-    Registration::Open { module, host: host.into(), included: included.into() }
+pub fn open_namespace(host: &str, included: &str) -> Registration {
+    Registration::OpenNamespace { host: host.into(), included: included.into() }
+}
+
+pub fn open_module(host: &str, included: &str) -> Registration {
+    Registration::OpenModule { host: host.into(), included: included.into() }
 }
 
 pub fn alias(key: &str, host: &str, included: &str) -> Registration {
