@@ -1,6 +1,6 @@
 -- The kinds of registration: what each is made of, and its call.
 use Prim.Native.Nat.{ℕ}
-use mathlib.Core.Bool.{Bool, true, false, cond}
+use mathlib.Core.Bool.{true, false, cond}
 use mathlib.Core.List.{List, [], _∷_}
 use Rattle.source.specs.Text.{Str}
 use Rattle.source.specs.Calls.{Argument, a-query, a-name, a-path, Call, name, include, opens, alias, module-path}
