@@ -1,26 +1,42 @@
--- Of the calls: an accepted name changes no look-up but that of its own full name.
+-- Of the calls: an accepted registration gives the source's table, and an accepted name changes no look-up but that of its own full name.
 use Prim.Native.Nat.{ℕ}
 use mathlib.Core.Path.{_≡_, refl, sym, ap, _∙_}
-use mathlib.Core.Bool.{true}
+use mathlib.Core.Bool.{Bool, true}
 use mathlib.Core.List.{List, [], _∷_, _++_}
 use mathlib.Core.Option.{none, Option·none-ne-some}
 use Rattle.source.specs.Text.{Str, segments}
+use Rattle.source.specs.Table.{register-open}
 use Rattle.source.specs.Calls as C
-use Rattle.source.specs.Calls.{State, name, register, look-up}
+use Rattle.source.specs.Calls.{State, Call, name, opens, registered, after, register, look-up}
+use Rattle.source.proofs.Refusals.{accepted-is}
 use Rattle.source.proofs.Unchanged.{name-unchanged}
 use Rattle.table.specs.declared.Table.{Table}
 use Rattle.table.specs.declared.Registration.{Registration}
-use Rattle.table.specs.Header.{state, lent, names-in}
+use Rattle.table.specs.Header.{table-in, state, lent, names-in}
 use Rattle.table.specs.Registrations.{refusal-of, AnswersAs, Answers}
+
+module _ {ws txt ws′ txt′ : List ℕ} {t : Table} {c : Call} {r : Registration} (a : Answers true ws txt ws′ txt′ t c r) (e : refusal-of (r .answer) ≡ none) where
+  -- The definition accepts, with the state that the new header reads as.
+  accepts : register true (lent ws txt) (state ws txt t) c ≡ C.accepted (state ws′ txt′ (r .table))
+  accepts = go (register true (lent ws txt) (state ws txt t) c) (a .says)
+    where
+      go : (o : C.Registered) → AnswersAs o ws txt ws′ txt′ t r → o ≡ C.accepted (state ws′ txt′ (r .table))
+      go (C.accepted s) h = ap C.accepted (sym (h .1 .reads))
+      go (C.refused n) h = absurd (Option·none-ne-some n (sym e ∙ h .0))
+
+  -- The new table is what the source's function makes of the old one.
+  pub accepted-table : table-in ws′ txt′ (r .table) ≡ registered (table-in ws txt t) c
+  unfolding after
+  accepted-table = ap (λ (x : State). x .table) (accepted-is true (lent ws txt) (state ws txt t) _ c accepts)
+
+-- The two calls that open, by the source's register_open at the flag of each.
+pub opened-table : {ws txt ws′ txt′ : List ℕ} {t : Table} {r : Registration} (is-module : Bool) (host query : Str)
+    → Answers true ws txt ws′ txt′ t (opens is-module host query) r → refusal-of (r .answer) ≡ none
+    → table-in ws′ txt′ (r .table) ≡ register-open (table-in ws txt t) is-module (segments host) (segments query)
+unfolding registered
+opened-table is-module host query a e = accepted-table a e
 
 pub insert-unchanged : (ws txt ws′ txt′ : List ℕ) (t : Table) (host id : Str) (item : ℕ) (r : Registration) (query : Str)
     → Answers true ws txt ws′ txt′ t (name host id item) r → refusal-of (r .answer) ≡ none → (segments query ≡ segments host ++ (id ∷ []) → ⊥)
     → look-up true (names-in ws′ txt′ (r .table)) query ≡ look-up true (names-in ws txt t) query
-insert-unchanged ws txt ws′ txt′ t host id item r query a e d = go (register true (lent ws txt) (state ws txt t) (name host id item)) refl (a .says)
-  where
-    go : (o : C.Registered) → register true (lent ws txt) (state ws txt t) (name host id item) ≡ o → AnswersAs o ws txt ws′ txt′ t r
-        → look-up true (names-in ws′ txt′ (r .table)) query ≡ look-up true (names-in ws txt t) query
-    go (C.accepted s) f h =
-        ap (λ (x : State). look-up true (x .table .tbl-lids) query) (h .1 .reads)
-        ∙ name-unchanged true (lent ws txt) (state ws txt t) s host id item query f d
-    go (C.refused n) f h = absurd (Option·none-ne-some n (sym e ∙ h .0))
+insert-unchanged ws txt ws′ txt′ t host id item r query a e d = name-unchanged true (lent ws txt) (state ws txt t) _ host id item query (accepts a e) d
