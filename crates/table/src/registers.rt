@@ -18,8 +18,7 @@ impl Table {
         id: &[u8],
         item: u32,
     ) -> Registration
-        ensures { λ r. ⌜ Total (old words) (old text) (new words) (new text) self
-            (name (old host) (old id) item) r ⌝ }
+        ensures { λ r. ⌜ Total (old words) (old text) (new words) (new text) self (name (old host) (old id) item) r ⌝ }
     {
         self.register(words, text, Kind::Name(item), host, id, &host[..0])
     }
@@ -34,8 +33,7 @@ impl Table {
         item: u32,
     ) -> Registration
         requires { ⌜ IsSound (now words) (now text) self ⌝ }
-        ensures { λ r. ⌜ Answers true (old words) (old text) (new words) (new text) self
-            (name (old host) (old id) item) r ⌝ }
+        ensures { λ r. ⌜ Answers true (old words) (old text) (new words) (new text) self (name (old host) (old id) item) r ⌝ }
     {
         self.register_sound(words, text, Kind::Name(item), host, id, &host[..0])
     }
@@ -48,8 +46,7 @@ impl Table {
         host: &[u8],
         query: &[u8],
     ) -> Registration
-        ensures { λ r. ⌜ Total (old words) (old text) (new words) (new text) self
-            (include (old host) (old query)) r ⌝ }
+        ensures { λ r. ⌜ Total (old words) (old text) (new words) (new text) self (include (old host) (old query)) r ⌝ }
     {
         self.register(words, text, Kind::Include, host, query, &host[..0])
     }
@@ -63,8 +60,7 @@ impl Table {
         query: &[u8],
     ) -> Registration
         requires { ⌜ IsSound (now words) (now text) self ⌝ }
-        ensures { λ r. ⌜ Answers true (old words) (old text) (new words) (new text) self
-            (include (old host) (old query)) r ⌝ }
+        ensures { λ r. ⌜ Answers true (old words) (old text) (new words) (new text) self (include (old host) (old query)) r ⌝ }
     {
         self.register_sound(words, text, Kind::Include, host, query, &host[..0])
     }
@@ -96,7 +92,7 @@ impl Table {
         self.register_sound(words, text, Kind::Open, host, query, &host[..0])
     }
 
-    // The source's register_open of a module: register_include under its own name.
+    // The source's register_open of a module: what register_include does.
     pub fn register_open_module(
         self,
         words: &mut [u32],
@@ -132,8 +128,7 @@ impl Table {
         host: &[u8],
         query: &[u8],
     ) -> Registration
-        ensures { λ r. ⌜ Total (old words) (old text) (new words) (new text) self
-            (alias (old key) (old host) (old query)) r ⌝ }
+        ensures { λ r. ⌜ Total (old words) (old text) (new words) (new text) self (alias (old key) (old host) (old query)) r ⌝ }
     {
         self.register(words, text, Kind::Alias, host, query, key)
     }
@@ -148,8 +143,7 @@ impl Table {
         query: &[u8],
     ) -> Registration
         requires { ⌜ IsSound (now words) (now text) self ⌝ }
-        ensures { λ r. ⌜ Answers true (old words) (old text) (new words) (new text) self
-            (alias (old key) (old host) (old query)) r ⌝ }
+        ensures { λ r. ⌜ Answers true (old words) (old text) (new words) (new text) self (alias (old key) (old host) (old query)) r ⌝ }
     {
         self.register_sound(words, text, Kind::Alias, host, query, key)
     }
@@ -163,8 +157,7 @@ impl Table {
         query: &[u8],
         path: &[u8],
     ) -> Registration
-        ensures { λ r. ⌜ Total (old words) (old text) (new words) (new text) self
-            (module-path loaded (old query) (old path)) r ⌝ }
+        ensures { λ r. ⌜ Total (old words) (old text) (new words) (new text) self (module-path loaded (old query) (old path)) r ⌝ }
     {
         self.register(words, text, Kind::Module(loaded), query, path, &query[..0])
     }
@@ -179,8 +172,7 @@ impl Table {
         path: &[u8],
     ) -> Registration
         requires { ⌜ IsSound (now words) (now text) self ⌝ }
-        ensures { λ r. ⌜ Answers true (old words) (old text) (new words) (new text) self
-            (module-path loaded (old query) (old path)) r ⌝ }
+        ensures { λ r. ⌜ Answers true (old words) (old text) (new words) (new text) self (module-path loaded (old query) (old path)) r ⌝ }
     {
         self.register_sound(words, text, Kind::Module(loaded), query, path, &query[..0])
     }
