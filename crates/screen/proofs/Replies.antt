@@ -48,9 +48,9 @@ reply-none {txt = txt} r h p e = record {
 -- name_console_open_module promises what name_console_include does.
 pub open-module-replies : {st bs txt st′ bs′ txt′ : List ℕ} {host query : Str} {r : ℕ}
     → Replies st bs txt st′ bs′ txt′ (some (opens true host query)) r ↔ Replies st bs txt st′ bs′ txt′ (some (include host query)) r
-open-module-replies {st} {bs} {txt} {host = host} {query} = (
-  λ a. record { says = λ b h. rw (← open-module-is-include b (lent (words-in bs) txt) (state (words-in bs) txt (table-at st)) host query) (a .says b h) },
-  λ a. record { says = λ b h. rw (open-module-is-include b (lent (words-in bs) txt) (state (words-in bs) txt (table-at st)) host query) (a .says b h) },
+open-module-replies = (
+  λ a. record { says = λ b h. rw (← open-module-is-include) (a .says b h) },
+  λ a. record { says = λ b h. rw open-module-is-include (a .says b h) },
 )
 
 chosen-some : (f : Bool → Call) (n : ℕ) → n < 2 → chosen f n ≡ some (f (eqb n 1))

@@ -45,7 +45,4 @@ module _ {ws txt : List ℕ} {t : Table} {c : Call} where
 -- register_open_module promises what register_include does, at either door.
 pub open-module-answers : {b : Bool} {ws txt ws′ txt′ : List ℕ} {t : Table} {host query : Str} {r : Registration}
     → Answers b ws txt ws′ txt′ t (opens true host query) r ↔ Answers b ws txt ws′ txt′ t (include host query) r
-open-module-answers {b} {ws} {txt} {t = t} {host} {query} = (
-  λ a. record { says = rw (← open-module-is-include b (lent ws txt) (state ws txt t) host query) (a .says) },
-  λ a. record { says = rw (open-module-is-include b (lent ws txt) (state ws txt t) host query) (a .says) },
-)
+open-module-answers = (λ a. record { says = rw (← open-module-is-include) (a .says) }, λ a. record { says = rw open-module-is-include (a .says) })
