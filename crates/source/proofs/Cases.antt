@@ -14,7 +14,7 @@ use Rattle.source.specs.Trees.{btree-insert-replace, btree-find-exact, f
 use Rattle.source.specs.Tries.{or-else, dflt, bind-option, names-find-exact, trie-descend-exact, trie-find-exact, names-insert, scope-of, trie-mutate, trie-mutate-leaf, trie-insert, included, trie-import, trie-include, trie-open-namespace, trie-add-alias}
 use Rattle.source.specs.Terms.{weight, heaviest, heaviest-tree, heaviest-names, depth, depth-tree, depth-names}
 use Rattle.source.specs.Listing.{fold-left, rev-map-onto, ns-search-term, bindings-search-term, revmap-onto, names-revmap, matching-values, with-imports, elem-key, names-find-rev, find-prefix-fuel, trie-find-prefix′, trie-find-prefix}
-use Rattle.source.specs.Table.{Line, ModSymbol, Module, Namespace, empty, insert, register-alias, register-include, register-open, ns-inserts, ins-ns, ins-mod, name-of-revq, ins, register-module-path, string-of-path, match-elem, match-length-of-path, last-opt, first-import-of-path, completion-result-of-lid, mod-annotation, completion-result-of-ns-or-mod, autocomplete-lid, filter-map, autocomplete-mod-or-ns}
+use Rattle.source.specs.Table.{Line, ModSymbol, Module, Namespace, empty, insert, register-alias, register-include, register-open, ns-inserts, ins-ns, ins-mod, name-of-revq, loaded-module, ins-stays-loaded, register-module-stays-loaded, string-of-path, match-elem, match-length-of-path, last-opt, first-import-of-path, completion-result-of-lid, mod-annotation, completion-result-of-ns-or-mod, autocomplete-lid, filter-map, autocomplete-mod-or-ns}
 use Rattle.source.specs.Counted.{pure, one, _>>=_, btree-insert-replaceᶜ, names-insertᶜ, trie-mutateᶜ, trie-mutate-leafᶜ, trie-insertᶜ, trie-importᶜ, trie-includeᶜ, trie-open-namespaceᶜ, trie-add-aliasᶜ, lids, insertᶜ, register-aliasᶜ, register-includeᶜ, register-openᶜ, ins-nsᶜ, ins-modᶜ, insᶜ, register-module-pathᶜ, fold-leftᶜ, find-prefix-fuelᶜ, trie-find-prefixᶜ}
 use Rattle.source.specs.Calls.{Lent, Output, State, Call, name, include, opens, alias, module-path, Registered, accepted, refused, Found, found, not-found, Completed, listed, All, text-of, is-empty, any, bad-query, malformed, empty-name, long-query, too-long, lowest, argument-rows, fresh, whole-records, free, arguments, registered, records, text-taken, crowded, deep, registration-rows, after, register, found-of, look-up, output-text, completion-rows, completed, tries-entered, keeps, filter-of, complete, complete-modules}
 use Rattle.source.specs.Rules.{all}
@@ -109,7 +109,7 @@ unfolding bytes console pane then-call ask records-of find names modules line th
     or-else dflt bind-option names-find-exact trie-descend-exact trie-find-exact names-insert scope-of trie-mutate trie-mutate-leaf trie-insert included trie-import trie-include trie-open-namespace trie-add-alias
     weight heaviest heaviest-tree heaviest-names depth depth-tree depth-names
     fold-left rev-map-onto ns-search-term bindings-search-term revmap-onto names-revmap matching-values with-imports elem-key names-find-rev find-prefix-fuel trie-find-prefix′ trie-find-prefix
-    empty insert register-alias register-include register-open ns-inserts ins-ns ins-mod name-of-revq ins register-module-path string-of-path match-elem match-length-of-path last-opt first-import-of-path completion-result-of-lid mod-annotation completion-result-of-ns-or-mod autocomplete-lid filter-map autocomplete-mod-or-ns
+    empty insert register-alias register-include register-open ns-inserts ins-ns ins-mod name-of-revq loaded-module ins-stays-loaded register-module-stays-loaded string-of-path match-elem match-length-of-path last-opt first-import-of-path completion-result-of-lid mod-annotation completion-result-of-ns-or-mod autocomplete-lid filter-map autocomplete-mod-or-ns
     pure one _>>=_ btree-insert-replaceᶜ names-insertᶜ trie-mutateᶜ trie-mutate-leafᶜ trie-insertᶜ trie-importᶜ trie-includeᶜ trie-open-namespaceᶜ trie-add-aliasᶜ lids insertᶜ register-aliasᶜ register-includeᶜ register-openᶜ ins-nsᶜ ins-modᶜ insᶜ register-module-pathᶜ fold-leftᶜ find-prefix-fuelᶜ trie-find-prefixᶜ
     text-of is-empty any bad-query malformed empty-name long-query too-long lowest argument-rows fresh whole-records free arguments registered records text-taken crowded deep registration-rows after register found-of look-up output-text completion-rows completed tries-entered keeps filter-of complete complete-modules
     all

@@ -1,6 +1,6 @@
 -- The counted forms of specs/Counted.antt: the value of each is the plain function's; how each counts.
 use Prim.Native.Nat.{ℕ, zero, suc, _+_, Ordering, Ordering·lt, Ordering·eq, Ordering·gt}
-use mathlib.Core.Path.{_≡_, refl, ap}
+use mathlib.Core.Path.{_≡_, refl, sym, ap, _∙_}
 use mathlib.Core.Bool.{Bool, true, false, cond}
 use mathlib.Core.List.{List, [], _∷_, reverse, tail}
 use native.Mathlib.Omega.{arith}
@@ -10,8 +10,8 @@ use Rattle.source.specs.Trees.{btree-insert-replace}
 use Rattle.source.specs.Tries.{MutNode, MutLeaf, names-find-exact, names-insert, scope-of, trie-mutate, trie-mutate-leaf, trie-insert, trie-import, trie-include, trie-open-namespace, trie-add-alias}
 use Rattle.source.specs.Terms.{depth}
 use Rattle.source.specs.Listing.{PathOf, fold-left, rev-map-onto, ns-search-term, bindings-search-term, names-find-rev, find-prefix-fuel, trie-find-prefix′, trie-find-prefix}
-use Rattle.source.specs.Table.{Table, ModSymbol, Module, Namespace, insert, register-alias, register-include, register-open, ns-inserts, ins-ns, ins-mod, ins, name-of-revq, register-module-path}
-use Rattle.source.specs.Counted.{Counted, pure, one, _>>=_, MutNodeᶜ, MutLeafᶜ, btree-insert-replaceᶜ, names-insertᶜ, trie-mutateᶜ, trie-mutate-leafᶜ, trie-insertᶜ, trie-importᶜ, trie-includeᶜ, trie-open-namespaceᶜ, trie-add-aliasᶜ, lids, insertᶜ, register-aliasᶜ, register-includeᶜ, register-openᶜ, ins-nsᶜ, ins-modᶜ, insᶜ, register-module-pathᶜ, fold-leftᶜ, find-prefix-fuelᶜ, trie-find-prefixᶜ}
+use Rattle.source.specs.Table.{Table, ModSymbol, Module, Namespace, insert, register-alias, register-include, register-open, ns-inserts, ins-ns, ins-mod, ins, name-of-revq, register-module-path, ins-stays-loaded, register-module-stays-loaded}
+use Rattle.source.specs.Counted.{Counted, pure, one, _>>=_, MutNodeᶜ, MutLeafᶜ, btree-insert-replaceᶜ, names-insertᶜ, trie-mutateᶜ, trie-mutate-leafᶜ, trie-insertᶜ, trie-importᶜ, trie-includeᶜ, trie-open-namespaceᶜ, trie-add-aliasᶜ, lids, insertᶜ, register-aliasᶜ, register-includeᶜ, register-openᶜ, ins-nsᶜ, ins-modᶜ, insᶜ, register-module-pathᶜ, ins-stays-loadedᶜ, register-module-stays-loadedᶜ, fold-leftᶜ, find-prefix-fuelᶜ, trie-find-prefixᶜ}
 use Rattle.source.specs.Calls.{Call, name, include, opens, alias, module-path, registered, records, tries-entered}
 use Rattle.source.specs.Shared.{sumˡ}
 use Rattle.source.specs.Plans.{insert-branches, first-tree}
@@ -72,6 +72,22 @@ module _ {A : Type 0} where
     unfolding trie-mutateᶜ _>>=_
     trie-mutate-count tr id q rev-acc =
         rw (trie-mutate-value (scope-of (namespaces tr) id) q (id ∷ rev-acc), names-insert-value, names-insert-count) (omega arith)
+
+  -- Nodes that count alike, whatever list they are given.
+  trie-mutate-same-count : (node node′ : MutNodeᶜ A) (leaf : MutLeafᶜ A)
+      → ((tr : Trie A) (id : Str) (q rev-acc : Query) (n n′ : NameList A ns) → node tr id q rev-acc n .count ≡ node′ tr id q rev-acc n′ .count)
+      → (tr : Trie A) (q rev-acc : Query) → trie-mutateᶜ tr q rev-acc node leaf .count ≡ trie-mutateᶜ tr q rev-acc node′ leaf .count
+  unfolding trie-mutateᶜ _>>=_
+  trie-mutate-same-count node node′ leaf h tr [] rev-acc = refl
+  trie-mutate-same-count node node′ leaf h tr (id ∷ q) rev-acc =
+      let scope = trie-mutateᶜ (scope-of (namespaces tr) id) q (id ∷ rev-acc) node leaf in
+      let scope′ = trie-mutateᶜ (scope-of (namespaces tr) id) q (id ∷ rev-acc) node′ leaf in
+      omega (
+        arith,
+        trie-mutate-same-count node node′ leaf h (scope-of (namespaces tr) id) q (id ∷ rev-acc),
+        names-insert-count (namespaces tr) id (scope .value), names-insert-count (namespaces tr) id (scope′ .value),
+        h tr id q rev-acc (names-insertᶜ (namespaces tr) id (scope .value) .value) (names-insertᶜ (namespaces tr) id (scope′ .value) .value),
+      )
 
   pub trie-mutate-leaf-value : (leafᶜ : MutLeafᶜ A) (leaf : MutLeaf A) → ((tr : Trie A) (rev-acc : Query) → leafᶜ tr rev-acc .value ≡ leaf tr rev-acc)
       → (tr : Trie A) (q : Query) → trie-mutate-leafᶜ tr q leafᶜ .value ≡ trie-mutate-leaf tr q leaf
@@ -150,6 +166,32 @@ register-module-path-value tbl loaded path q =
     ap (λ tr. record { tbl-lids = tbl .tbl-lids; tbl-mods = tr })
     (trie-mutate-value _ _ _ _ (λ tr id q revq n. ap (λ b. trie b n) (ins-value path id q revq (bindings tr) loaded)) (λ _ _. refl) (tbl .tbl-mods) q [])
 
+pub ins-stays-loaded-value : (path id : Str) (q revq : Query) (b : NameList ModSymbol bind) (loaded : Bool)
+    → ins-stays-loadedᶜ path id q revq b loaded .value ≡ ins-stays-loaded path id q revq b loaded
+unfolding ins-stays-loadedᶜ ins-stays-loaded
+ins-stays-loaded-value path id [] revq b loaded = ins-mod-value path id b (name-of-revq (id ∷ revq)) _
+ins-stays-loaded-value path id (s ∷ q) revq b loaded = ins-ns-value id b (name-of-revq (id ∷ revq)) loaded
+
+pub register-module-stays-loaded-value : (tbl : Table) (loaded : Bool) (path : Str) (q : Query)
+    → register-module-stays-loadedᶜ tbl loaded path q .value ≡ register-module-stays-loaded tbl loaded path q
+unfolding register-module-stays-loadedᶜ register-module-stays-loaded _>>=_ one pure
+register-module-stays-loaded-value tbl loaded path q =
+    ap (λ tr. record { tbl-lids = tbl .tbl-lids; tbl-mods = tr })
+    (trie-mutate-value _ _ _ _ (λ tr id q revq n. ap (λ b. trie b n) (ins-stays-loaded-value path id q revq (bindings tr) loaded)) (λ _ _. refl) (tbl .tbl-mods) q [])
+
+ins-stays-loaded-count : (path id : Str) (q revq : Query) (b : NameList ModSymbol bind) (loaded : Bool)
+    → ins-stays-loadedᶜ path id q revq b loaded .count ≡ insᶜ path id q revq b loaded .count
+unfolding ins-stays-loadedᶜ insᶜ ins-modᶜ
+ins-stays-loaded-count path id [] revq b loaded = names-insert-count b id _ ∙ sym (names-insert-count b id _)
+ins-stays-loaded-count path id (s ∷ q) revq b loaded = refl
+
+-- Records are the same number as the source's.
+pub register-module-stays-loaded-count : (tbl : Table) (loaded : Bool) (path : Str) (q : Query)
+    → register-module-stays-loadedᶜ tbl loaded path q .count ≡ register-module-pathᶜ tbl loaded path q .count
+unfolding register-module-stays-loadedᶜ register-module-pathᶜ _>>=_ one pure
+register-module-stays-loaded-count tbl loaded path q =
+    ap (λ c. c + 0) (trie-mutate-same-count _ _ _ (λ tr id q revq n n′. ap (λ c. c + 1) (ins-stays-loaded-count path id q revq (bindings tr) loaded)) (tbl .tbl-mods) q [])
+
 -- ---- Calls
 
 -- The counted form of registered.
@@ -158,7 +200,7 @@ registeredᶜ tbl (name host id number) = insertᶜ tbl (segments host) id numbe
 registeredᶜ tbl (include host included) = register-includeᶜ tbl (segments host) (segments included)
 registeredᶜ tbl (opens is-module host included) = register-openᶜ tbl is-module (segments host) (segments included)
 registeredᶜ tbl (alias key host included) = register-aliasᶜ tbl key (segments host) (segments included)
-registeredᶜ tbl (module-path loaded query path) = register-module-pathᶜ tbl loaded path (segments query)
+registeredᶜ tbl (module-path loaded query path) = register-module-stays-loadedᶜ tbl loaded path (segments query)
 
 pub registered-value : (tbl : Table) (c : Call) → registeredᶜ tbl c .value ≡ registered tbl c
 unfolding registeredᶜ registered
@@ -166,7 +208,7 @@ registered-value tbl (name host id number) = insert-value tbl (segments host) id
 registered-value tbl (include host included) = register-include-value tbl (segments host) (segments included)
 registered-value tbl (opens is-module host included) = register-open-value tbl is-module (segments host) (segments included)
 registered-value tbl (alias key host included) = register-alias-value tbl key (segments host) (segments included)
-registered-value tbl (module-path loaded query path) = register-module-path-value tbl loaded path (segments query)
+registered-value tbl (module-path loaded query path) = register-module-stays-loaded-value tbl loaded path (segments query)
 
 pub registered-count : (tbl : Table) (c : Call) → registeredᶜ tbl c .count ≡ records tbl c
 unfolding registeredᶜ records
@@ -174,7 +216,7 @@ registered-count tbl (name host id number) = refl
 registered-count tbl (include host included) = refl
 registered-count tbl (opens is-module host included) = refl
 registered-count tbl (alias key host included) = refl
-registered-count tbl (module-path loaded query path) = refl
+registered-count tbl (module-path loaded query path) = register-module-stays-loaded-count tbl loaded path (segments query)
 
 -- ---- The listing
 module _ {A B : Type 0} (fᶜ : B → A → Counted B) where

@@ -11,7 +11,7 @@ use Rattle.source.specs.Types.{Level, Value, Trie, Tree, NameList, bind,
 use Rattle.source.specs.Trees.{btree-insert-replace, btree-find-exact}
 use Rattle.source.specs.Tries.{or-else, dflt, bind-option, MutNode, MutLeaf, names-find-exact, trie-descend-exact, names-insert, scope-of, trie-mutate, trie-mutate-leaf, trie-insert, included, trie-import, trie-include, trie-open-namespace, trie-add-alias}
 use Rattle.source.specs.Terms.{heaviest, heaviest-names, depth, depth-names}
-use Rattle.source.specs.Table.{ModSymbol, Namespace, Table, empty, insert, register-alias, register-include, register-open, ns-inserts, ins-ns, ins-mod, name-of-revq, ins, register-module-path}
+use Rattle.source.specs.Table.{ModSymbol, Namespace, Table, empty, insert, register-alias, register-include, register-open, ns-inserts, ins-ns, ins-mod, name-of-revq, ins-stays-loaded, register-module-stays-loaded}
 use Rattle.source.specs.Rules.{all, IsKey, IsLabel, IsFullName, IsPath, NameItem, ModItem, _<ˢ_, AllKeys, Formed, FormedTree, FormedNames, SoundTable}
 use Rattle.source.specs.Calls.{Argument, a-query, a-name, a-path, a-look-up, a-completion, is-empty, any, malformed, empty-name, too-long, State, fresh, Lent, Call, name, include, opens, alias, module-path, arguments, registered, crowded, deep, after, accepted, register}
 use Rattle.source.proofs.Order.{View, compare-strings}
@@ -186,8 +186,8 @@ module _ {A : Type 0} (Key Label : Str → Type 0) (Item : A → Type 0) where
 -- ---- the module table
 module _ (path : Str) (loaded : Bool) (p : IsPath path) where
   ins-formed : (id : Str) (q revq : Query) (b : NameList ModSymbol bind) → IsKey id → IsFullName (name-of-revq (id ∷ revq))
-      → FormedNames IsKey IsLabel ModItem b → FormedNames IsKey IsLabel ModItem (ins path id q revq b loaded)
-  unfolding ins ins-mod ins-ns
+      → FormedNames IsKey IsLabel ModItem b → FormedNames IsKey IsLabel ModItem (ins-stays-loaded path id q revq b loaded)
+  unfolding ins-stays-loaded ins-mod ins-ns
   ins-formed id [] revq b k n g = names-insert-formed IsKey IsLabel ModItem b id _ k (n, p) g
   ins-formed id (s ∷ q) revq b k n g = go (ns-inserts (names-find-exact b id) loaded)
     where
@@ -195,10 +195,10 @@ module _ (path : Str) (loaded : Bool) (p : IsPath path) where
       go true = names-insert-formed IsKey IsLabel ModItem b id _ k n g
       go false = g
 
-  pub register-module-path-formed : (tbl : Table) (q : Query) → IsQuery q
-      → Formed IsKey IsLabel ModItem (tbl .tbl-mods) → Formed IsKey IsLabel ModItem (register-module-path tbl loaded path q .tbl-mods)
-  unfolding register-module-path
-  register-module-path-formed tbl q i g =
+  pub register-module-stays-loaded-formed : (tbl : Table) (q : Query) → IsQuery q
+      → Formed IsKey IsLabel ModItem (tbl .tbl-mods) → Formed IsKey IsLabel ModItem (register-module-stays-loaded tbl loaded path q .tbl-mods)
+  unfolding register-module-stays-loaded
+  register-module-stays-loaded-formed tbl q i g =
       trie-mutate-formed IsKey IsLabel ModItem IsQuery (tbl .tbl-mods) q [] _ _
       (λ tr id q r n w k t h. (ins-formed id q r (bindings tr) k (name-of-revq-full-name id r q w) (bindings-formed IsKey IsLabel ModItem tr t), h))
       (λ tr r t. t) i (i .keys) g
@@ -238,7 +238,7 @@ register-include-formed tbl host q h i f = record {
 }
 
 pub registered-formed : (tbl : Table) (c : Call) → Allˡ Keeps (arguments c) → FormedTable tbl → FormedTable (registered tbl c)
-unfolding registered arguments insert register-open register-alias register-module-path
+unfolding registered arguments insert register-open register-alias register-module-stays-loaded
 registered-formed tbl (name host id number) k f = record {
   lids = trie-insert-formed IsKey IsLabel NameItem (tbl .tbl-lids) (segments host) id number (k .0 .keys) (k .1 .0) tt (f .lids);
   mods = f .mods;
@@ -257,7 +257,7 @@ registered-formed tbl (alias key host included) k f = record {
 }
 registered-formed tbl (module-path loaded query path) k f = record {
   lids = f .lids;
-  mods = register-module-path-formed path loaded (k .1 .0) tbl (segments query) (k .0) (f .mods);
+  mods = register-module-stays-loaded-formed path loaded (k .1 .0) tbl (segments query) (k .0) (f .mods);
 }
 
 -- Formed, and rows 5 and 6 passed.

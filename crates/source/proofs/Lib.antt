@@ -23,6 +23,9 @@ pub mod Elsewhere
 pub mod Keeps
 pub mod Modules
 pub mod Hosts
+pub mod ModuleRules
+pub mod StaysLoaded
+pub mod EverLoaded
 pub mod Planning
 pub mod Measures
 pub mod PlannedDepth
@@ -34,7 +37,6 @@ pub mod Unchanged
 pub mod Quoted
 pub mod Bytes
 pub mod Filters
-pub mod ModuleRules
 pub mod Taken
 pub mod Spans
 pub mod Cases

@@ -1,13 +1,13 @@
--- The module rules, by what look-up finds in the module table: a Module always replaces; a Namespace replaces only an unloaded Namespace, and only when loaded; nothing else changes.
+-- The module rules, by what look-up finds in the module table: a Module always replaces, and stays loaded in place of a loaded one; a Namespace replaces only an unloaded Namespace, and only when loaded; nothing else changes.
 use mathlib.Core.Path.{_≡_, refl, sym, ap, _∙_}
 use mathlib.Core.Logic.{_⊎_, inl, inr}
-use mathlib.Core.Bool.{Bool, true, false, cond}
+use mathlib.Core.Bool.{Bool, true, false, cond, _||_}
 use mathlib.Core.List.{[], _∷_, _++_, reverse, reverseAux, reverse-cons, reverse-reverse}
 use mathlib.Core.Option.{Option, none, some}
 use Rattle.source.specs.Text.{Str, Query, query-to-string}
 use Rattle.source.specs.Types.{Trie, NameList, bind, item, trie, bindings, namespaces, trie-empty}
 use Rattle.source.specs.Tries.{dflt, bind-option, MutNode, MutLeaf, names-find-exact, names-insert, scope-of, trie-find-exact, trie-mutate}
-use Rattle.source.specs.Table.{ModSymbol, Module, Namespace, Table, ns-inserts, ins-ns, ins-mod, name-of-revq, ins, register-module-path, mod-annotation, find-module-or-ns}
+use Rattle.source.specs.Table.{ModSymbol, Module, Namespace, Table, ns-inserts, ins-ns, ins-mod, name-of-revq, loaded-module, ins-stays-loaded, register-module-stays-loaded, mod-annotation, find-module-or-ns}
 use Rattle.source.specs.Plans.{host-of}
 use Rattle.source.proofs.Quoted.{bytes}
 use Rattle.source.proofs.Imports.{names-find-inserted}
@@ -21,7 +21,7 @@ module _ {A : Type 0} where
   find-step tr h [] s = refl
   find-step tr h (k ∷ p) s = refl
 
-  find-in : (tr : Trie A) (h : Str) (q : Query)
+  pub find-in : (tr : Trie A) (h : Str) (q : Query)
       → trie-find-exact (scope-of (namespaces tr) h) q ≡ bind-option (names-find-exact (namespaces tr) h) (λ scope. trie-find-exact scope q)
   unfolding scope-of dflt bind-option trie-find-exact trie-empty bindings namespaces names-find-exact
   find-in tr h q = go (names-find-exact (namespaces tr) h) q
@@ -42,14 +42,14 @@ module _ {A : Type 0} where
 module _ (path : Str) (loaded : Bool) where
   -- register_module_path's mut_node and mut_leaf
   abbrev node : MutNode ModSymbol
-  node = λ tr id q revq n. trie (ins path id q revq (bindings tr) loaded) n
+  node = λ tr id q revq n. trie (ins-stays-loaded path id q revq (bindings tr) loaded) n
 
   abbrev leaf : MutLeaf ModSymbol
   leaf = λ tr _. tr
 
   changed-at : (tr : Trie ModSymbol) (p : Query) (s : Str) (rest rev : Query)
       → trie-find-exact (trie-mutate tr (p ++ (s ∷ rest)) rev node leaf) (p ++ (s ∷ []))
-      ≡ names-find-exact (ins path s rest (reverseAux p rev) (bindings (host-of tr p)) loaded) s
+      ≡ names-find-exact (ins-stays-loaded path s rest (reverseAux p rev) (bindings (host-of tr p)) loaded) s
   unfolding trie-mutate trie-find-exact bindings namespaces host-of bind-option
   changed-at tr [] s rest rev = refl
   changed-at tr (h ∷ p) s rest rev =
@@ -57,8 +57,8 @@ module _ (path : Str) (loaded : Bool) where
       ∙ rw (names-find-inserted, bind-option) (changed-at (scope-of (namespaces tr) h) p s rest (h ∷ rev))
 
   ins-other : (id : Str) (q revq : Query) (b : NameList ModSymbol bind) (k : Str) → (k ≡ id → ⊥)
-      → names-find-exact (ins path id q revq b loaded) k ≡ names-find-exact b k
-  unfolding ins ins-mod ins-ns
+      → names-find-exact (ins-stays-loaded path id q revq b loaded) k ≡ names-find-exact b k
+  unfolding ins-stays-loaded ins-mod ins-ns
   ins-other id [] revq b k d = names-find-other b id k _ d
   ins-other id (s ∷ q) revq b k d = go (ns-inserts (names-find-exact b id) loaded)
     where
@@ -121,49 +121,49 @@ module _ (tbl : Table) (loaded : Bool) (path : Str) where
   unfolding find-module-or-ns
   before p s = find-at-host (tbl .tbl-mods) p s
 
-  after : (p : Query) (s : Str) (rest : Query) → find-module-or-ns (register-module-path tbl loaded path (p ++ (s ∷ rest))) (p ++ (s ∷ []))
-      ≡ names-find-exact (ins path s rest (reverse p) (bindings (host-of (tbl .tbl-mods) p)) loaded) s
-  unfolding find-module-or-ns register-module-path
+  after : (p : Query) (s : Str) (rest : Query) → find-module-or-ns (register-module-stays-loaded tbl loaded path (p ++ (s ∷ rest))) (p ++ (s ∷ []))
+      ≡ names-find-exact (ins-stays-loaded path s rest (reverse p) (bindings (host-of (tbl .tbl-mods) p)) loaded) s
+  unfolding find-module-or-ns register-module-stays-loaded
   after p s rest = changed-at path loaded (tbl .tbl-mods) p s rest []
 
-  -- A Module always replaces.
-  pub module-replaces : (p : Query) (s : Str)
-      → find-module-or-ns (register-module-path tbl loaded path (p ++ (s ∷ []))) (p ++ (s ∷ [])) ≡ some (item (Module (query-to-string (p ++ (s ∷ []))) path loaded))
-  unfolding ins ins-mod
-  module-replaces p s = after p s [] ∙ names-find-inserted _ s _ ∙ rw full-name
+  -- A Module always replaces; it is loaded where the call says so, or where a loaded Module was there.
+  pub module-replaces : (p : Query) (s : Str) → find-module-or-ns (register-module-stays-loaded tbl loaded path (p ++ (s ∷ []))) (p ++ (s ∷ []))
+      ≡ some (item (Module (query-to-string (p ++ (s ∷ []))) path (loaded || loaded-module (find-module-or-ns tbl (p ++ (s ∷ []))))))
+  unfolding ins-stays-loaded ins-mod
+  module-replaces p s = after p s [] ∙ names-find-inserted _ s _ ∙ rw (full-name, before p s)
 
   -- A Namespace is put where nothing was.
   pub namespace-first : (p : Query) (s t : Str) (q : Query) → find-module-or-ns tbl (p ++ (s ∷ [])) ≡ none
-      → find-module-or-ns (register-module-path tbl loaded path (p ++ (s ∷ (t ∷ q)))) (p ++ (s ∷ [])) ≡ some (item (Namespace (query-to-string (p ++ (s ∷ []))) loaded))
-  unfolding ins ins-ns ns-inserts
+      → find-module-or-ns (register-module-stays-loaded tbl loaded path (p ++ (s ∷ (t ∷ q)))) (p ++ (s ∷ [])) ≡ some (item (Namespace (query-to-string (p ++ (s ∷ []))) loaded))
+  unfolding ins-stays-loaded ins-ns ns-inserts
   namespace-first p s t q e = after p s (t ∷ q) ∙ rw (sym (before p s) ∙ e) (names-find-inserted _ s _ ∙ rw full-name)
 
   stays : (p : Query) (s t : Str) (q : Query) (m : ModSymbol) → find-module-or-ns tbl (p ++ (s ∷ [])) ≡ some (item m) → ns-inserts (some (item m)) loaded ≡ false
-      → find-module-or-ns (register-module-path tbl loaded path (p ++ (s ∷ (t ∷ q)))) (p ++ (s ∷ [])) ≡ some (item m)
-  unfolding ins ins-ns
+      → find-module-or-ns (register-module-stays-loaded tbl loaded path (p ++ (s ∷ (t ∷ q)))) (p ++ (s ∷ [])) ≡ some (item m)
+  unfolding ins-stays-loaded ins-ns
   stays p s t q m e f = after p s (t ∷ q) ∙ rw (sym (before p s) ∙ e, f) (sym (before p s) ∙ e)
 
   -- It replaces neither a Module nor a loaded Namespace.
   pub namespace-keeps : (p : Query) (s t : Str) (q : Query) (m : ModSymbol) → find-module-or-ns tbl (p ++ (s ∷ [])) ≡ some (item m) → Final m
-      → find-module-or-ns (register-module-path tbl loaded path (p ++ (s ∷ (t ∷ q)))) (p ++ (s ∷ [])) ≡ some (item m)
+      → find-module-or-ns (register-module-stays-loaded tbl loaded path (p ++ (s ∷ (t ∷ q)))) (p ++ (s ∷ [])) ≡ some (item m)
   namespace-keeps p s t q m e f = stays p s t q m e (final-stays m loaded f)
 
   -- Nothing else changes: what is found for a query that is no beginning of the module query.
   pub module-elsewhere : (q o : Query) → ((rest : Query) → q ≡ o ++ rest → ⊥)
-      → find-module-or-ns (register-module-path tbl loaded path q) o ≡ find-module-or-ns tbl o
-  unfolding find-module-or-ns register-module-path
+      → find-module-or-ns (register-module-stays-loaded tbl loaded path q) o ≡ find-module-or-ns tbl o
+  unfolding find-module-or-ns register-module-stays-loaded
   module-elsewhere q o d = changed-elsewhere path loaded (tbl .tbl-mods) q [] o d
 
 module _ (tbl : Table) (path : Str) (p : Query) (s t : Str) (q : Query) where
   -- Unloaded it replaces nothing.
   pub unloaded-keeps : (m : ModSymbol) → find-module-or-ns tbl (p ++ (s ∷ [])) ≡ some (item m)
-      → find-module-or-ns (register-module-path tbl false path (p ++ (s ∷ (t ∷ q)))) (p ++ (s ∷ [])) ≡ some (item m)
+      → find-module-or-ns (register-module-stays-loaded tbl false path (p ++ (s ∷ (t ∷ q)))) (p ++ (s ∷ [])) ≡ some (item m)
   unloaded-keeps m e = stays tbl false path p s t q m e (unloaded-stays m)
 
   -- Loaded it replaces an unloaded Namespace.
   pub namespace-replaces : (name : Str) → find-module-or-ns tbl (p ++ (s ∷ [])) ≡ some (item (Namespace name false))
-      → find-module-or-ns (register-module-path tbl true path (p ++ (s ∷ (t ∷ q)))) (p ++ (s ∷ [])) ≡ some (item (Namespace (query-to-string (p ++ (s ∷ []))) true))
-  unfolding ins ins-ns ns-inserts
+      → find-module-or-ns (register-module-stays-loaded tbl true path (p ++ (s ∷ (t ∷ q)))) (p ++ (s ∷ [])) ≡ some (item (Namespace (query-to-string (p ++ (s ∷ []))) true))
+  unfolding ins-stays-loaded ins-ns ns-inserts
   namespace-replaces name e = after tbl true path p s (t ∷ q) ∙ rw (sym (before tbl true path p s) ∙ e) (names-find-inserted _ s _ ∙ rw full-name)
 
 -- Annotations: with spaces when loaded, else in brackets.

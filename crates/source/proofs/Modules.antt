@@ -4,7 +4,7 @@ use mathlib.Core.List.{[], _∷_}
 use Rattle.source.specs.Text.{Str, Query, segments}
 use Rattle.source.specs.Types.{Level, Value, Trie, Tree, NameList, bind, item, trie, StrEmpty, StrBranch, []ᴺ, Names, ImportedNames, bindings, trie-empty}
 use Rattle.source.specs.Tries.{names-find-exact, names-insert}
-use Rattle.source.specs.Table.{ModSymbol, Namespace, Table, empty, insert, register-alias, register-include, register-open, ns-inserts, ins-ns, ins-mod, name-of-revq, ins, register-module-path}
+use Rattle.source.specs.Table.{ModSymbol, Namespace, Table, empty, insert, register-alias, register-include, register-open, ns-inserts, ins-ns, ins-mod, name-of-revq, ins-stays-loaded, register-module-stays-loaded}
 use Rattle.source.specs.Shared.{Allˡ}
 use Rattle.source.specs.Rules.{Formed, FormedTree, FormedNames}
 use Rattle.source.specs.Calls.{State, Call, name, include, opens, alias, module-path, fresh, registered, after}
@@ -57,13 +57,13 @@ any-keys : (q : Query) → Allˡ Any q
 any-keys [] = tt
 any-keys (s ∷ q) = (tt, any-keys q)
 
-module-plain : (tbl : Table) (loaded : Bool) (path : Str) (q : Query) → Plain (tbl .tbl-mods) → Plain (register-module-path tbl loaded path q .tbl-mods)
-unfolding register-module-path ins ins-mod ins-ns
+module-plain : (tbl : Table) (loaded : Bool) (path : Str) (q : Query) → Plain (tbl .tbl-mods) → Plain (register-module-stays-loaded tbl loaded path q .tbl-mods)
+unfolding register-module-stays-loaded ins-stays-loaded ins-mod ins-ns
 module-plain tbl loaded path q g =
     trie-mutate-formed Any No Any Any (tbl .tbl-mods) q [] _ _
     (λ tr id q r n w k t h. (ins-plain id q r (bindings tr) (bindings-formed Any No Any tr t), h)) (λ tr r t. t) tt (any-keys q) g
   where
-    ins-plain : (id : Str) (q revq : Query) (b : NameList ModSymbol bind) → FormedNames Any No Any b → FormedNames Any No Any (ins path id q revq b loaded)
+    ins-plain : (id : Str) (q revq : Query) (b : NameList ModSymbol bind) → FormedNames Any No Any b → FormedNames Any No Any (ins-stays-loaded path id q revq b loaded)
     ins-plain id [] revq b g = names-insert-formed Any No Any b id _ tt tt g
     ins-plain id (s ∷ q) revq b g = go (ns-inserts (names-find-exact b id) loaded)
       where

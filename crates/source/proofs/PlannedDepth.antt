@@ -10,11 +10,12 @@ use Rattle.source.specs.Text.{Str, Query, segments}
 use Rattle.source.specs.Types.{Trie, NameList, ns, namespaces}
 use Rattle.source.specs.Tries.{MutNode, scope-of, trie-mutate, trie-mutate-leaf, trie-insert, included, trie-import, trie-include, trie-open-namespace, trie-add-alias}
 use Rattle.source.specs.Terms.{depth, depth-names}
-use Rattle.source.specs.Table.{Table, insert, register-alias, register-include, register-open, register-module-path}
+use Rattle.source.specs.Table.{Table, insert, register-alias, register-include, register-open, register-module-path, register-module-stays-loaded}
 use Rattle.source.specs.Rules.{SoundTable}
 use Rattle.source.specs.Calls.{Call, name, include, opens, alias, module-path, registered, deep}
 use Rattle.source.specs.Plans.{host-of}
 use Rattle.source.specs.Plans.{plan-depth}
+use Rattle.source.proofs.StaysLoaded.{stays-loaded-depth}
 use Rattle.source.proofs.Measures.{depth-namespaces, scope-of-depth, host-of-depth, names-insert-depth, over-left, over-right, over-ltb}
 
 -- One step down: the depth x after an insertion of depth y, where l + d is planned for y.
@@ -76,7 +77,7 @@ register-module-path-depth m tbl loaded path q h =
 -- ---- Calls
 registered-depth : (tbl : Table) (c : Call) → SoundTable tbl
     → max 16 (max (depth (registered tbl c .tbl-lids)) (depth (registered tbl c .tbl-mods))) ≡ max 16 (plan-depth tbl c)
-unfolding registered plan-depth insert register-include register-open register-alias register-module-path
+unfolding registered plan-depth insert register-include register-open register-alias register-module-stays-loaded
 registered-depth tbl (name host id number) t =
     over-left 16 _ _ (t .mods .shallow) ∙ trie-insert-depth 16 (tbl .tbl-lids) (t .lids .shallow) (segments host) id number
 registered-depth tbl (include host inc) t =
@@ -88,7 +89,7 @@ registered-depth tbl (opens false host inc) t =
 registered-depth tbl (alias key host inc) t =
     over-left 16 _ _ (t .mods .shallow) ∙ trie-add-alias-depth 16 (tbl .tbl-lids) (t .lids .shallow) key (segments host) (segments inc)
 registered-depth tbl (module-path loaded query path) t =
-    over-right 16 _ _ (t .lids .shallow) ∙ register-module-path-depth 16 tbl loaded path (segments query) (t .mods .shallow)
+    over-right 16 _ _ (t .lids .shallow) ∙ rw stays-loaded-depth (register-module-path-depth 16 tbl loaded path (segments query) (t .mods .shallow))
 
 pub deep-planned : (tbl : Table) (c : Call) → SoundTable tbl → deep (registered tbl c) ≡ ltb 16 (plan-depth tbl c)
 unfolding deep

@@ -9,10 +9,11 @@ use Rattle.source.specs.Text.{Str, Query, query-to-string, segments}
 use Rattle.source.specs.Types.{Level, Trie, NameList, bind, ns, item, trie, []ᴺ, ImportedNames, bindings, namespaces}
 use Rattle.source.specs.Tries.{MutNode, names-find-exact, names-insert, scope-of, trie-mutate, trie-mutate-leaf, trie-insert, included, trie-import, trie-include, trie-open-namespace, trie-add-alias}
 use Rattle.source.specs.Terms.{weight, heaviest, heaviest-names}
-use Rattle.source.specs.Table.{Table, ModSymbol, Namespace, insert, register-alias, register-include, register-open, ns-inserts, name-of-revq, ins-ns, ins-mod, ins, register-module-path}
+use Rattle.source.specs.Table.{Table, ModSymbol, Namespace, insert, register-alias, register-include, register-open, ns-inserts, name-of-revq, ins-ns, ins-mod, ins, register-module-path, register-module-stays-loaded}
 use Rattle.source.specs.Rules.{SoundTable}
 use Rattle.source.specs.Calls.{Call, name, include, opens, alias, module-path, registered, crowded}
 use Rattle.source.proofs.Hosts.{included-host}
+use Rattle.source.proofs.StaysLoaded.{stays-loaded-heaviest}
 use Rattle.source.specs.Plans.{along, inserted-weight, ins-inserts, step-weight, name-weight, include-weight, open-weight, alias-weight, module-step-weight, module-host, plan-weight, plan-crowded}
 use Rattle.source.proofs.Measures.{over-left, over-right, over-both, over-ltb, ltb-max, heaviest-lists, scope-of-heaviest, host-of-heaviest, names-insert-heaviest}
 
@@ -135,7 +136,7 @@ module _ (m : ℕ) (path : Str) (loaded : Bool) where
 -- ---- Calls
 registered-weight : (tbl : Table) (c : Call) → SoundTable tbl
     → max 96 (max (heaviest (registered tbl c .tbl-lids)) (heaviest (registered tbl c .tbl-mods))) ≡ max 96 (plan-weight tbl c)
-unfolding registered plan-weight insert register-include register-open register-alias register-module-path
+unfolding registered plan-weight insert register-include register-open register-alias register-module-stays-loaded
 registered-weight tbl (name host id number) t =
     over-left 96 _ _ (t .mods .light) ∙ trie-insert-weight 96 (tbl .tbl-lids) (t .lids .light) (segments host) id number
 registered-weight tbl (include host inc) t =
@@ -147,7 +148,7 @@ registered-weight tbl (opens false host inc) t =
 registered-weight tbl (alias key host inc) t =
     over-left 96 _ _ (t .mods .light) ∙ trie-add-alias-weight 96 (tbl .tbl-lids) (t .lids .light) key (segments host) (segments inc)
 registered-weight tbl (module-path loaded query path) t =
-    over-right 96 _ _ (t .lids .light) ∙ register-module-path-weight 96 path loaded tbl (segments query) (t .mods .light)
+    over-right 96 _ _ (t .lids .light) ∙ rw stays-loaded-heaviest (register-module-path-weight 96 path loaded tbl (segments query) (t .mods .light))
 
 pub crowded-planned : (tbl : Table) (c : Call) → SoundTable tbl → crowded (registered tbl c) ≡ plan-crowded tbl c
 unfolding crowded plan-crowded

@@ -9,7 +9,7 @@ use Rattle.source.specs.Text.{Str, Query, query-to-string, segments}
 use Rattle.source.specs.Types.{Trie, bind, item, trie, []ᴺ, ImportedNames, bindings, namespaces}
 use Rattle.source.specs.Tries.{names-insert, trie-find-exact, trie-insert, included, trie-import, trie-include, trie-open-namespace, trie-add-alias}
 use Rattle.source.specs.Terms.{walk-last}
-use Rattle.source.specs.Table.{Table, Line, insert, register-alias, register-include, register-open, register-module-path}
+use Rattle.source.specs.Table.{Table, Line, insert, register-alias, register-include, register-open, register-module-stays-loaded}
 use Rattle.source.specs.Rules.{SoundTable}
 use Rattle.source.specs.Calls.{State, Lent, Call, name, include, opens, alias, module-path, accepted, register, registered, after, look-up, lowest, argument-rows, a-look-up, Found, found-of, refused, Output, listed, complete}
 use Rattle.source.specs.Agreement.{Covers, without-last, NotRefused, lines-of-text, Shows}
@@ -73,7 +73,7 @@ module _ {A : Type 0} (pick : Pick A) (laws : Picks pick) where
 
 module _ (pick : Pick ℕ) (laws : Picks pick) where
   registered-walk : (tbl : Table) (c : Call) (n : Query) → (Touches c n → ⊥) → walk pick (registered tbl c .tbl-lids) n ≡ walk pick (tbl .tbl-lids) n
-  unfolding registered insert register-include register-open register-alias register-module-path
+  unfolding registered insert register-include register-open register-alias register-module-stays-loaded
   registered-walk tbl (name host id number) n d = name-walk pick laws (tbl .tbl-lids) (segments host) id number n d
   registered-walk tbl (include host q) n d = include-walk pick laws (tbl .tbl-lids) (segments host) (segments q) n (λ x e. d (x, e))
   registered-walk tbl (opens true host q) n d = include-walk pick laws (tbl .tbl-lids) (segments host) (segments q) n (λ x e. d (x, e))

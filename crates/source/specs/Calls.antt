@@ -12,7 +12,7 @@ use Rattle.source.specs.Types.{Value, Trie, bind, the-item}
 use Rattle.source.specs.Tries.{trie-find-exact}
 use Rattle.source.specs.Terms.{heaviest, depth}
 use Rattle.source.specs.Listing.{PathOf}
-use Rattle.source.specs.Table.{Table, ModSymbol, Module, Namespace, Line, empty, insert, register-alias, register-include, register-open, register-module-path, autocomplete-lid, autocomplete-mod-or-ns}
+use Rattle.source.specs.Table.{Table, ModSymbol, Module, Namespace, Line, empty, insert, register-alias, register-include, register-open, register-module-stays-loaded, autocomplete-lid, autocomplete-mod-or-ns}
 use Rattle.source.specs.Counted.{insertᶜ, register-aliasᶜ, register-includeᶜ, register-openᶜ, register-module-pathᶜ, trie-find-prefixᶜ}
 use Rattle.source.specs.Rules.{all}
 
@@ -130,13 +130,13 @@ arguments (opens is-module host included) = a-query host ∷ a-query included �
 arguments (alias key host included) = a-name key ∷ a-query host ∷ a-query included ∷ []
 arguments (module-path loaded query path) = a-query query ∷ a-path path ∷ []
 
--- The source's function for a registration.
+-- The source's function for a registration; of a module path the one that departs from it.
 unfoldable pub registered : Table → Call → Table
 registered tbl (name host id number) = insert tbl (segments host) id number
 registered tbl (include host included) = register-include tbl (segments host) (segments included)
 registered tbl (opens is-module host included) = register-open tbl is-module (segments host) (segments included)
 registered tbl (alias key host included) = register-alias tbl key (segments host) (segments included)
-registered tbl (module-path loaded query path) = register-module-path tbl loaded path (segments query)
+registered tbl (module-path loaded query path) = register-module-stays-loaded tbl loaded path (segments query)
 
 -- Records: those that the source's expressions build in the call.
 unfoldable pub records : Table → Call → ℕ

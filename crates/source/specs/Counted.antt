@@ -1,14 +1,14 @@
 -- What the requirements count, over the source's own expressions: a counted form of each function that builds records, and of the listing.
 -- proofs/Counted.antt: the value of each counted form is the plain function's.
 use Prim.Native.Nat.{ℕ, zero, suc, _+_, Ordering·lt, Ordering·eq, Ordering·gt}
-use mathlib.Core.Bool.{Bool, true, false}
+use mathlib.Core.Bool.{Bool, true, false, _||_}
 use mathlib.Core.List.{List, [], _∷_, reverse, tail}
 use Rattle.source.specs.Text.{Str, Query, string-compare, query-to-string}
 use Rattle.source.specs.Types.{Level, Value, Trie, Tree, NameList, bind, ns, item, trie, StrEmpty, StrBranch, []ᴺ, Names, ImportedNames, the-item, bindings, namespaces}
 use Rattle.source.specs.Tries.{names-find-exact, scope-of, included}
 use Rattle.source.specs.Terms.{depth}
 use Rattle.source.specs.Listing.{PathOf, rev-map-onto, ns-search-term, bindings-search-term, names-find-rev}
-use Rattle.source.specs.Table.{Table, ModSymbol, Module, Namespace, ns-inserts, name-of-revq}
+use Rattle.source.specs.Table.{Table, ModSymbol, Module, Namespace, ns-inserts, name-of-revq, loaded-module}
 
 -- A value, and how many were counted on the way to it.
 pub record Counted (A : Type 0) : Type 0 where
@@ -134,6 +134,21 @@ register-module-pathᶜ tbl loaded path mod-query = do
   tr ← trie-mutateᶜ (tbl .tbl-mods) mod-query []
       (λ tr id q revq n. do
         b ← insᶜ path id q revq (bindings tr) loaded
+        one (trie b n))
+      (λ tr _. pure tr)
+  pure (record { tbl-lids = tbl .tbl-lids; tbl-mods = tr })
+
+-- What the departing functions build: as many, by register-module-stays-loaded-count of proofs/Counted.antt.
+unfoldable pub ins-stays-loadedᶜ : Str → Str → Query → Query → NameList ModSymbol bind → Bool → Counted (NameList ModSymbol bind)
+ins-stays-loadedᶜ path id [] revq bindings loaded =
+    ins-modᶜ path id bindings (name-of-revq (id ∷ revq)) (loaded || loaded-module (names-find-exact bindings id))
+ins-stays-loadedᶜ path id (s ∷ q) revq bindings loaded = ins-nsᶜ id bindings (name-of-revq (id ∷ revq)) loaded
+
+unfoldable pub register-module-stays-loadedᶜ : Table → Bool → Str → Query → Counted Table
+register-module-stays-loadedᶜ tbl loaded path mod-query = do
+  tr ← trie-mutateᶜ (tbl .tbl-mods) mod-query []
+      (λ tr id q revq n. do
+        b ← ins-stays-loadedᶜ path id q revq (bindings tr) loaded
         one (trie b n))
       (λ tr _. pure tr)
   pure (record { tbl-lids = tbl .tbl-lids; tbl-mods = tr })

@@ -1,6 +1,6 @@
 -- The high level interface, as in the source: the table, registrations, completion results.
 use Prim.Native.Nat.{ℕ, _+_}
-use mathlib.Core.Bool.{Bool, true, false, cond}
+use mathlib.Core.Bool.{Bool, true, false, cond, _||_}
 use mathlib.Core.List.{List, [], _∷_, map, reverse}
 use mathlib.Core.Option.{Option, none, some}
 use lib.IntN.{ℤ, pos, _+ℤ_, _-ℤ_}
@@ -61,6 +61,26 @@ register-module-path tbl loaded path mod-query = record {
   tbl-lids = tbl .tbl-lids;
   tbl-mods = trie-mutate (tbl .tbl-mods) mod-query []
       (λ tr id q revq n. trie (ins path id q revq (bindings tr) loaded) n)
+      (λ tr _. tr);
+}
+
+-- Whether what the first holder gives is a loaded Module.
+unfoldable pub loaded-module : Option (Value ModSymbol bind) → Bool
+loaded-module none = false
+loaded-module (some (item (Module name path loaded))) = loaded
+loaded-module (some (item (Namespace name loaded))) = false
+
+-- Not the source's: ins and register_module_path, but a Module put in place of a loaded one stays loaded.
+unfoldable pub ins-stays-loaded : Str → Str → Query → Query → NameList ModSymbol bind → Bool → NameList ModSymbol bind
+ins-stays-loaded path id [] revq bindings loaded =
+    ins-mod path id bindings (name-of-revq (id ∷ revq)) (loaded || loaded-module (names-find-exact bindings id))
+ins-stays-loaded path id (s ∷ q) revq bindings loaded = ins-ns id bindings (name-of-revq (id ∷ revq)) loaded
+
+unfoldable pub register-module-stays-loaded : Table → Bool → Str → Query → Table
+register-module-stays-loaded tbl loaded path mod-query = record {
+  tbl-lids = tbl .tbl-lids;
+  tbl-mods = trie-mutate (tbl .tbl-mods) mod-query []
+      (λ tr id q revq n. trie (ins-stays-loaded path id q revq (bindings tr) loaded) n)
       (λ tr _. tr);
 }
 
