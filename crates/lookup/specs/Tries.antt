@@ -8,7 +8,7 @@ use lib.Dec.{eqb}
 use Rattle.source.specs.Text.{Str, Query}
 use Rattle.source.specs.Types.{bind, ns}
 use Rattle.source.specs.Tries.{trie-find-exact, scope-of, included}
-use Rattle.source.specs.Table.{ns-inserts}
+use Rattle.source.specs.Table.{ns-inserts, loaded-module}
 use Rattle.memory.specs.Layout.{pick, Which, modules, tree, list, trieˢ, kind, what}
 use Rattle.memory.specs.Sound.{LinkOk, At, Reads}
 use Rattle.tree.specs.Tree.{held}
@@ -38,3 +38,7 @@ FindsExact ws txt root q r = (w : Which) → At ws txt w trieˢ root → FindsEx
 -- Whether ins_ns inserts, where holder is the branch that has the name, 0 for none.
 pub record NsInserts (ws : List ℕ) (holder : ℕ) (loaded r : Bool) : Type 0 where
   pub says : (txt : List ℕ) → r ≡ ns-inserts (pick (eqb holder 0) none (some (held modules ws txt bind holder))) loaded
+
+-- Whether holder, 0 for none, is the branch of a loaded Module.
+pub record LoadedModule (ws : List ℕ) (holder : ℕ) (r : Bool) : Type 0 where
+  pub says : (txt : List ℕ) → r ≡ loaded-module (pick (eqb holder 0) none (some (held modules ws txt bind holder)))

@@ -10,7 +10,7 @@ ghost use Rattle.source.specs.Limits.{record-words};
 ghost use Rattle.source.specs.Text.{segments, ends-in-dot};
 ghost use Rattle.queries.specs.Queries.{Segment};
 ghost use Rattle.names.specs.Names.{AnyList};
-ghost use Rattle.lookup.specs.Tries.{AnyTrie, Scope, Included, FindsExact, NsInserts};
+ghost use Rattle.lookup.specs.Tries.{AnyTrie, Scope, Included, FindsExact, NsInserts, LoadedModule};
 
 // The length of the segment of `query` that begins at `at`.
 pub fn segment_at(query: &[u8], at: usize) -> usize
@@ -77,5 +77,19 @@ pub fn ns_inserts(words: &[u32], holder: u32, loaded: bool) -> bool
     match access::symbol_of(words, holder) {
         ModSymbol::Module(_, _, _) => false,
         ModSymbol::Namespace(_, seen) => !seen & loaded,
+    }
+}
+
+// Whether `holder`, 0 for none, is the branch of a loaded Module.
+pub fn loaded_module(words: &[u32], holder: u32) -> bool
+    requires { ⌜ holder * record-words ≤ length (now words) ⌝ }
+    ensures { λ r. ⌜ LoadedModule (old words) holder r ⌝ }
+{
+    if holder == 0 {
+        return false;
+    }
+    match access::symbol_of(words, holder) {
+        ModSymbol::Module(_, _, loaded) => loaded,
+        ModSymbol::Namespace(_, _) => false,
     }
 }
