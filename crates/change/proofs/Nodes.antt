@@ -1,7 +1,7 @@
 -- mut_node of each change: what its writers ask, and what they build.
 use Prim.Native.Nat.{ℕ, _+_, _-_, _≤_, _<_}
 use mathlib.Core.Path.{_≡_, refl, _∙_}
-use mathlib.Core.Bool.{Bool, true, false, cond, _||_}
+use mathlib.Core.Bool.{Bool, true, false, cond, _&&_, _||_}
 use mathlib.Core.List.{List, [], _∷_}
 use native.Mathlib.Omega.{arith}
 use lib.Dec.{eqb}
@@ -11,10 +11,10 @@ use Rattle.source.specs.Text.{Str, Query, segments, ends-in-dot}
 use Rattle.source.specs.Types.{Value, NameList, bind, item}
 use Rattle.source.specs.Tries.{names-find-exact}
 use Rattle.source.specs.Rules.{IsKey, IsFullName, IsPath}
-use Rattle.source.specs.Table.{name-of-revq, ns-inserts}
+use Rattle.source.specs.Table.{name-of-revq, ns-inserts, loaded-module}
 use Rattle.source.specs.Table as S
 use Rattle.source.specs.Terms.{heaviest, depth}
-use Rattle.source.specs.Counted.{Counted, pure, one, _>>=_, names-insertᶜ, ins-nsᶜ, ins-modᶜ, insᶜ}
+use Rattle.source.specs.Counted.{Counted, pure, one, _>>=_, names-insertᶜ, ins-nsᶜ, ins-modᶜ, ins-stays-loadedᶜ}
 use Rattle.source.specs.Calls.{is-empty}
 use Rattle.source.proofs.Counted.{names-insert-value}
 use Rattle.text.proofs.Texts.{part-is}
@@ -34,7 +34,7 @@ use Rattle.writers.specs.Made.{Room, MadeTrie}
 use Rattle.names.specs.Insert.{NamesInsertion, AnyNamesInsertion, NamesInserts}
 use Rattle.writers.proofs.Made.{made-none}
 use Rattle.names.proofs.NamesInsertion.{insertion-after}
-use Rattle.lookup.specs.Tries.{NsInserts}
+use Rattle.lookup.specs.Tries.{NsInserts, LoadedModule}
 use Rattle.leaves.specs.Leaves.{which-of, Some, Builds}
 use Rattle.change.specs.Changes.{between, passed, Kinds, bindings-by, node-of, symbol-row, form-of, bindings-at, node-at, Bindings, Node, BindingsBuilt}
 use Rattle.lookup.proofs.Found.{some-left}
@@ -71,13 +71,13 @@ last-in (b ∷ s) e false h g = some-is (segments (b ∷ s)) (some-left (b ∷ s
     some-is [] h = absurd (omega arith)
     some-is (g ∷ q) h = refl
 
--- ins, by whether it inserts.
-ins-is : (p id : Str) (q revq : Query) (b : NameList S.ModSymbol bind) (last loaded inserts : Bool) → last ≡ is-empty q → inserts ≡ ns-inserts (names-find-exact b id) loaded
-    → insᶜ p id q revq b loaded
-    ≡ cond (last || inserts) (names-insertᶜ b id (item (cond last (S.Module (name-of-revq (id ∷ revq)) p loaded) (S.Namespace (name-of-revq (id ∷ revq)) loaded)))) (pure b)
-unfolding is-empty insᶜ ins-modᶜ ins-nsᶜ
-ins-is p id [] revq b last loaded inserts e f = rw e
-ins-is p id (s ∷ q) revq b last loaded inserts e f = rw (e, f) (go (ns-inserts (names-find-exact b id) loaded))
+-- ins-stays-loaded, by whether it inserts.
+ins-is : (p id : Str) (q revq : Query) (b : NameList S.ModSymbol bind) (last loaded inserts m : Bool) → last ≡ is-empty q → inserts ≡ ns-inserts (names-find-exact b id) loaded → m ≡ loaded-module (names-find-exact b id)
+    → ins-stays-loadedᶜ p id q revq b loaded
+    ≡ cond (last || inserts) (names-insertᶜ b id (item (cond last (S.Module (name-of-revq (id ∷ revq)) p (last && m || loaded)) (S.Namespace (name-of-revq (id ∷ revq)) (last && m || loaded))))) (pure b)
+unfolding is-empty ins-stays-loadedᶜ ins-modᶜ ins-nsᶜ
+ins-is p id [] revq b last loaded inserts m e f g = rw (e, g)
+ins-is p id (s ∷ q) revq b last loaded inserts m e f g = rw (e, f) (go (ns-inserts (names-find-exact b id) loaded))
   where
     new : Counted (NameList S.ModSymbol bind)
     new = names-insertᶜ b id (item (S.Namespace (name-of-revq (id ∷ revq)) loaded))
@@ -128,45 +128,54 @@ module _ {ws txt : List ℕ} {n used x at len : ℕ} {d : Descent} {loaded : Boo
         let h = span-length txt (at + len + 1) (d .end - (at + len + 1)) (omega (arith, pl .inside, pl .within, i .sound .text-fits)) in
         last-in (span txt (at + len + 1) (d .end - (at + len + 1))) (pl .ends) ins-last (λ e. omega (arith, h, eqb-true (at + len + 1) (d .end) e)) (λ e. omega (arith, h, pl .inside, eqb-false (at + len + 1) (d .end) e))
 
-    ins-of : bindings-at txt at len d (form.Module loaded) (what modules ws txt x (list bind))
+    -- The row that is put, where m says whether the holder is a loaded Module.
+    abbrev ins-row : Bool → List ℕ
+    ins-row m = symbol-row ins-last at len (d .from) (ins-last && m || loaded) (d .change .text)
+
+    ins-of : (m : Bool) → m ≡ loaded-module (names-find-exact (what modules ws txt x (list bind)) (span txt at len))
+        → bindings-at txt at len d (form.Module loaded) (what modules ws txt x (list bind))
         ≡ cond (ins-last || b)
-        (names-insertᶜ (what modules ws txt x (list bind)) (span txt at len) (item (item-of modules txt (symbol-row ins-last at len (d .from) loaded (d .change .text)))))
+        (names-insertᶜ (what modules ws txt x (list bind)) (span txt at len) (item (item-of modules txt (ins-row m))))
         (pure (what modules ws txt x (list bind)))
     unfolding bindings-by
-    ins-of =
-        ins-is (span txt (d .change .text .start) (d .change .text .len)) (span txt at len) (between txt (at + len + 1) (d .end)) (passed txt (d .from) at) (what modules ws txt x (list bind)) ins-last loaded b ins-last-is
-        (rw (z .found modules bind ins-list .says) (f .says txt))
-        ∙ rw (symbol-reads txt at len (d .from) (d .change .text) ins-last loaded, full-name-is (i .place) (i .cut) (i .sound .text-fits))
+    ins-of m k =
+        ins-is (span txt (d .change .text .start) (d .change .text .len)) (span txt at len) (between txt (at + len + 1) (d .end)) (passed txt (d .from) at) (what modules ws txt x (list bind)) ins-last loaded b m ins-last-is
+        (rw (z .found modules bind ins-list .says) (f .says txt)) k
+        ∙ rw (symbol-reads txt at len (d .from) (d .change .text) ins-last (ins-last && m || loaded), full-name-is (i .place) (i .cut) (i .sound .text-fits))
 
-    module _ (g : ins-last || b ≡ true) where
-      ins-insertion : NamesInsertion ws txt modules bind n used x count (symbol-row ins-last at len (d .from) loaded (d .change .text))
+    module _ (g : ins-last || b ≡ true) {m : Bool} (l : LoadedModule ws holder m) where
+      ins-is-row : bindings-at txt at len d (form.Module loaded) (what modules ws txt x (list bind))
+          ≡ names-insertᶜ (what modules ws txt x (list bind)) (span txt at len) (item (item-of modules txt (ins-row m)))
+      ins-is-row = ins-of m (rw (z .found modules bind ins-list .says) (l .says txt)) ∙ rw g
+
+      ins-insertion : NamesInsertion ws txt modules bind n used x count (ins-row m)
       ins-insertion =
-          let v : Value S.ModSymbol bind = item (item-of modules txt (symbol-row ins-last at len (d .from) loaded (d .change .text))) in
-          insertion-after (made-none (list bind) (i .sound) (i .link)) ins-list (omega (arith, i .link .earlier)) (symbol-row ins-last at len (d .from) loaded (d .change .text))
+          let v : Value S.ModSymbol bind = item (item-of modules txt (ins-row m)) in
+          insertion-after (made-none (list bind) (i .sound) (i .link)) ins-list (omega (arith, i .link .earlier)) (ins-row m)
           (z .inserts modules bind ins-list .builds)
-          v (insert-light (what modules ws txt x (list bind)) (span txt at len) v (rw (← names-insert-value) (rw (ins-of, g) at (i .light))))
-          (rw (ins-of, g, insert-count (what modules ws txt x (list bind)) (span txt at len) v (z .inserts modules bind ins-list .builds)) at (i .room))
+          v (insert-light (what modules ws txt x (list bind)) (span txt at len) v (rw (← names-insert-value) (rw ins-is-row at (i .light))))
+          (rw (ins-is-row, insert-count (what modules ws txt x (list bind)) (span txt at len) v (z .inserts modules bind ins-list .builds)) at (i .room))
           (record {
             known = refl;
             key = ins-key;
-            holds = symbol-ok (full-name-in (i .place) (i .cut) (i .sound .text-fits)) (i .text-ok) ins-last loaded;
+            holds = symbol-ok (full-name-in (i .place) (i .cut) (i .sound .text-fits)) (i .text-ok) ins-last (ins-last && m || loaded);
           })
 
-      ins-built : {ws′ : List ℕ} {y : ℕ} → y ≡ n + count + 1 → NamesInserts ws ws′ txt n x count (symbol-row ins-last at len (d .from) loaded (d .change .text)) y
+      ins-built : {ws′ : List ℕ} {y : ℕ} → y ≡ n + count + 1 → NamesInserts ws ws′ txt n x count (ins-row m) y
           → Builds ws ws′ txt n used modules (list bind) (bindings-at txt at len d (form.Module loaded) (what modules ws txt x (list bind))) y y
-      ins-built e m = rw (ins-of, g) (builds-insert ins-insertion m e)
+      ins-built e m = rw ins-is-row (builds-insert ins-insertion m e)
 
       -- As the code has the row.
-      pub ins-any : {r : List ℕ} → r ≡ symbol-row ins-last at len (d .from) loaded (d .change .text) → AnyNamesInsertion ws txt n x count r
+      pub ins-any : {r : List ℕ} → r ≡ ins-row m → AnyNamesInsertion ws txt n x count r
       ins-any e = rw e (record { which = modules; level = bind; used = used; insertion = ins-insertion })
 
-      pub ins-made : {ws′ : List ℕ} {y : ℕ} {r : List ℕ} → r ≡ symbol-row ins-last at len (d .from) loaded (d .change .text) → y ≡ n + count + 1 → NamesInserts ws ws′ txt n x count r y
+      pub ins-made : {ws′ : List ℕ} {y : ℕ} {r : List ℕ} → r ≡ ins-row m → y ≡ n + count + 1 → NamesInserts ws ws′ txt n x count r y
           → Builds ws ws′ txt n used modules (list bind) (bindings-at txt at len d (form.Module loaded) (what modules ws txt x (list bind))) y y
       ins-made e f m = ins-built f (rw e at m)
 
     pub ins-none : ins-last || b ≡ false
         → Builds ws ws txt n used modules (list bind) (bindings-at txt at len d (form.Module loaded) (what modules ws txt x (list bind))) x n
-    ins-none g = rw (ins-of, g) (builds-none (list bind) (i .sound) (i .link))
+    ins-none g = rw (ins-of _ refl, g) (builds-none (list bind) (i .sound) (i .link))
 
 -- ---- the bindings of each form
 module _ {ws txt : List ℕ} {n x at len : ℕ} {d : Descent} {f : Form} where

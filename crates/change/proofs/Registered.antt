@@ -10,9 +10,9 @@ use Rattle.source.specs.Types.{Trie, trie, bindings}
 use Rattle.source.specs.Tries.{included}
 use Rattle.source.specs.Terms.{heaviest, depth}
 use Rattle.source.specs.Table.{Table, ModSymbol, insert, register-alias, register-include, register-open}
-use Rattle.source.specs.Counted.{Counted, pure, one, _>>=_, trie-mutateᶜ, trie-mutate-leafᶜ, trie-insertᶜ, trie-importᶜ, trie-includeᶜ, trie-open-namespaceᶜ, trie-add-aliasᶜ, insᶜ, lids, insertᶜ, register-aliasᶜ, register-includeᶜ, register-openᶜ, register-module-pathᶜ}
+use Rattle.source.specs.Counted.{Counted, pure, one, _>>=_, trie-mutateᶜ, trie-mutate-leafᶜ, trie-insertᶜ, trie-importᶜ, trie-includeᶜ, trie-open-namespaceᶜ, trie-add-aliasᶜ, ins-stays-loadedᶜ, lids, insertᶜ, register-aliasᶜ, register-includeᶜ, register-openᶜ, register-module-pathᶜ, register-module-stays-loadedᶜ}
 use Rattle.source.specs.Calls.{Call, name, include, opens, alias, module-path, registered, records, crowded, deep}
-use Rattle.source.proofs.Counted.{trie-insert-value, trie-include-value, trie-open-namespace-value, trie-add-alias-value, register-module-path-value}
+use Rattle.source.proofs.Counted.{trie-insert-value, trie-include-value, trie-open-namespace-value, trie-add-alias-value, register-module-stays-loaded-value, register-module-stays-loaded-count}
 use Rattle.memory.specs.Layout.{span, Which, names, modules, Item, trieˢ, what}
 use Rattle.memory.specs.Read.{text-of}
 use Rattle.writers.specs.Made.{Room}
@@ -46,7 +46,7 @@ module _ (ws txt : List ℕ) (at end : ℕ) where
       alias-change = rw nothing-passed (simp (e, f))
 
     pub module-change : (tr : Trie ModSymbol) (loaded : Bool) → mutated ws txt (with-kind (Module loaded) ch) tr at at end
-        ≡ trie-mutateᶜ tr (between txt at end) [] (λ tr id q revq n. insᶜ (text-of txt (ch .text)) id q revq (bindings tr) loaded >>= λ b. one (trie b n)) (λ tr _. pure tr)
+        ≡ trie-mutateᶜ tr (between txt at end) [] (λ tr id q revq n. ins-stays-loadedᶜ (text-of txt (ch .text)) id q revq (bindings tr) loaded >>= λ b. one (trie b n)) (λ tr _. pure tr)
     unfolding node-of leaf-by bindings-by
     module-change tr loaded = rw nothing-passed
 
@@ -86,10 +86,13 @@ module _ (ws txt : List ℕ) (at end : ℕ) (tbl : Table) (host : Str) (h : betw
 
   pub module-registers : (loaded : Bool) (file : Str) → text-of txt (ch .text) ≡ file
       → Registers tbl (module-path loaded host file) modules (mutated ws txt (with-kind (Module loaded) ch) (tbl .tbl-mods) at at end)
-  unfolding registered records register-module-pathᶜ pure _>>=_
+  unfolding registered records register-module-stays-loadedᶜ pure _>>=_
   module-registers loaded file e =
       rw (module-change ws txt at end, h, e)
-      (record { root = ap (λ (t : Table). t .tbl-mods) (register-module-path-value tbl loaded file (segments host)); number = omega arith })
+      (record {
+        root = ap (λ (t : Table). t .tbl-mods) (register-module-stays-loaded-value tbl loaded file (segments host));
+        number = omega (arith, register-module-stays-loaded-count tbl loaded file (segments host));
+      })
 
 -- What the change asks, of a call that rows 5 to 7 let through.
 pub registers-fits : {ws : List ℕ} {n : ℕ} {tbl : Table} {c : Call} (w : Which) {m : Counted (Trie (Item w))} → Registers tbl c w m

@@ -9,7 +9,7 @@ use Rattle.source.specs.Text.{Str, Query, segments, ends-in-dot}
 use Rattle.source.specs.Types.{Trie, NameList, bind, ns, trie, bindings}
 use Rattle.source.specs.Tries.{scope-of}
 use Rattle.source.specs.Terms.{heaviest-names, depth-names}
-use Rattle.source.specs.Counted.{Counted, pure, one, _>>=_, MutNodeᶜ, names-insertᶜ, trie-mutateᶜ, insᶜ}
+use Rattle.source.specs.Counted.{Counted, pure, one, _>>=_, MutNodeᶜ, names-insertᶜ, trie-mutateᶜ, ins-stays-loadedᶜ}
 use Rattle.source.specs.Queries.{IsQuery}
 use Rattle.memory.specs.Layout.{span, Item, Sort, list, trieˢ, kind-in, kind, what}
 use Rattle.memory.specs.Sound.{LinkOk, Used}
@@ -61,7 +61,7 @@ Kinds ch r = (r ≤ 5) × ((s : Sort) → kind (which-of ch) s ≡ kind-in s + r
 unfoldable pub bindings-by : List ℕ → (f : Form) → Span → NameList (Item (which-by f)) bind → Str → Query → Query → Counted (NameList (Item (which-by f)) bind)
 bindings-by txt form.Name text b s q revq = pure b
 bindings-by txt form.Import text b s q revq = pure b
-bindings-by txt (form.Module loaded) text b s q revq = insᶜ (text-of txt text) s q revq b loaded
+bindings-by txt (form.Module loaded) text b s q revq = ins-stays-loadedᶜ (text-of txt text) s q revq b loaded
 
 -- mut_node.
 unfoldable pub node-of : List ℕ → (ch : Change) → MutNodeᶜ (Item (which-of ch))

@@ -74,7 +74,7 @@ fn symbol_row(
     access::make::symbol_row(key, ModSymbol::Namespace(name, loaded))
 }
 
-// ins of register_module_path: a Module at the last segment, a Namespace before it where ins_ns inserts.
+// ins-stays-loaded: a Module at the last segment, loaded also in place of a loaded one; a Namespace before it where ins_ns inserts.
 fn ins(
     words: &mut [u32],
     text: &[u8],
@@ -94,7 +94,8 @@ fn ins(
     let last = at + len + 1 == d.end;
     if last | lookup::ns_inserts(words, p.holder, loaded) {
         let change = d.change;
-        let row = symbol_row(last, at, len, d.from, loaded, change.text);
+        let now = (last & lookup::loaded_module(words, p.holder)) | loaded;
+        let row = symbol_row(last, at, len, d.from, now, change.text);
         let b = names::names_insert(words, text, records, bindings, p.count, row);
         return Built {
             link: b,

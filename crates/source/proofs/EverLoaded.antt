@@ -75,7 +75,7 @@ module _ (p : Query) (s : Str) where
         go (inl r) = longer (r .0) (r .1 ∙ append-assoc p (s ∷ []) (r .0))
         go (inr n) = inr (ap loaded-module (module-elsewhere tbl loaded path q (p ++ (s ∷ [])) n))
 
-    same-loaded : is-loaded (new (p ++ (s ∷ []))) ≡ loaded || is-loaded tbl
+    same-loaded : is-loaded (new (p ++ (s ∷ []))) ≡ is-loaded tbl || loaded
     unfolding loaded-module
     same-loaded = rw (module-replaces tbl loaded path p s)
 
@@ -92,8 +92,8 @@ module _ (p : Query) (s : Str) where
 
         go : (q ≡ p ++ (s ∷ [])) ⊎ (is-loaded (new q) ≡ is-loaded tbl)
             → (is-loaded (new q) ≡ true) ↔ (((loaded ≡ true) × (q ≡ p ++ (s ∷ []))) ⊎ (is-loaded tbl ≡ true))
-        go (inl e) = rw e (λ h. ⊎-elim (λ l. inl (l, refl)) inr (or-parts loaded _ (sym same-loaded ∙ h)), ⊎-elim (λ l. same-loaded ∙ rw (l .0)) (λ h. same-loaded ∙ or-right loaded _ h))
-        go (inr e) = (λ h. inr (sym e ∙ h), ⊎-elim (λ l. rw (l .1) (same-loaded ∙ rw (l .0))) (λ h. e ∙ h))
+        go (inl e) = rw e (λ h. ⊎-elim inr (λ l. inl (l, refl)) (or-parts (is-loaded tbl) loaded (sym same-loaded ∙ h)), ⊎-elim (λ l. same-loaded ∙ or-right (is-loaded tbl) loaded (l .0)) (λ h. same-loaded ∙ rw h))
+        go (inr e) = (λ h. inr (sym e ∙ h), ⊎-elim (λ l. rw (l .1) (same-loaded ∙ or-right (is-loaded tbl) loaded (l .0))) (λ h. e ∙ h))
 
   -- Of one call, for every table.
   step : (tbl : Table) (c : Call) → (is-loaded (registered tbl c) ≡ true) ↔ (Loads (p ++ (s ∷ [])) c ⊎ (is-loaded tbl ≡ true))

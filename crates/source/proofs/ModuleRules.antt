@@ -128,7 +128,7 @@ module _ (tbl : Table) (loaded : Bool) (path : Str) where
 
   -- A Module always replaces; it is loaded where the call says so, or where a loaded Module was there.
   pub module-replaces : (p : Query) (s : Str) → find-module-or-ns (register-module-stays-loaded tbl loaded path (p ++ (s ∷ []))) (p ++ (s ∷ []))
-      ≡ some (item (Module (query-to-string (p ++ (s ∷ []))) path (loaded || loaded-module (find-module-or-ns tbl (p ++ (s ∷ []))))))
+      ≡ some (item (Module (query-to-string (p ++ (s ∷ []))) path (loaded-module (find-module-or-ns tbl (p ++ (s ∷ []))) || loaded)))
   unfolding ins-stays-loaded ins-mod
   module-replaces p s = after p s [] ∙ names-find-inserted _ s _ ∙ rw (full-name, before p s)
 

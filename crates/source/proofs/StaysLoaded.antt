@@ -81,11 +81,10 @@ module _ (path : Str) (loaded : Bool) where
       put : Bool → Trie ModSymbol
       put l = trie (names-insert (bindings tr) s (item (Module (name-of-revq (s ∷ rev)) path l))) (names-insert (namespaces tr) s (scope-of (namespaces tr) s))
 
-      go : (m l : Bool) → Departs (name-of-revq (s ∷ rev)) path (m && not l) (put l) (put (l || m))
+      go : (m l : Bool) → Departs (name-of-revq (s ∷ rev)) path (m && not l) (put l) (put (m || l))
       go true true = same _
       go true false = one-flag (in-bindings _ (insert-names _ path bind (bindings tr) s (here refl refl)))
-      go false true = same _
-      go false false = same _
+      go false l = same _
   departs tr (s ∷ (t ∷ q)) rev = rw (← find-in tr s (t ∷ q)) (go (departs (scope-of (namespaces tr) s) (t ∷ q) (s ∷ rev)))
     where
       beside : Trie ModSymbol → Trie ModSymbol

@@ -141,7 +141,7 @@ register-module-pathᶜ tbl loaded path mod-query = do
 -- What the departing functions build: as many, by register-module-stays-loaded-count of proofs/Counted.antt.
 unfoldable pub ins-stays-loadedᶜ : Str → Str → Query → Query → NameList ModSymbol bind → Bool → Counted (NameList ModSymbol bind)
 ins-stays-loadedᶜ path id [] revq bindings loaded =
-    ins-modᶜ path id bindings (name-of-revq (id ∷ revq)) (loaded || loaded-module (names-find-exact bindings id))
+    ins-modᶜ path id bindings (name-of-revq (id ∷ revq)) (loaded-module (names-find-exact bindings id) || loaded)
 ins-stays-loadedᶜ path id (s ∷ q) revq bindings loaded = ins-nsᶜ id bindings (name-of-revq (id ∷ revq)) loaded
 
 unfoldable pub register-module-stays-loadedᶜ : Table → Bool → Str → Query → Counted Table

@@ -73,7 +73,7 @@ loaded-module (some (item (Namespace name loaded))) = false
 -- Not the source's: ins and register_module_path, but a Module put in place of a loaded one stays loaded.
 unfoldable pub ins-stays-loaded : Str → Str → Query → Query → NameList ModSymbol bind → Bool → NameList ModSymbol bind
 ins-stays-loaded path id [] revq bindings loaded =
-    ins-mod path id bindings (name-of-revq (id ∷ revq)) (loaded || loaded-module (names-find-exact bindings id))
+    ins-mod path id bindings (name-of-revq (id ∷ revq)) (loaded-module (names-find-exact bindings id) || loaded)
 ins-stays-loaded path id (s ∷ q) revq bindings loaded = ins-ns id bindings (name-of-revq (id ∷ revq)) loaded
 
 unfoldable pub register-module-stays-loaded : Table → Bool → Str → Query → Table

@@ -28,14 +28,16 @@ ins-spec =
     (λ c. omega (arith, ins-key (c .before .before .before .before .before .pre .holds) .inside, c .before .before .before .before .before .pre .holds .sound .text-fits, c .before .before .before .before .before .pre .holds .sound .short))
     {- ns-inserts-requires -}
     (λ c κs. holder-fits (record { which = modules; level = bind; list = ins-list (c .before .before .before .before .before .before .before .pre .holds) }) (c .before .before .names-place .ensures .found))
+    {- loaded-module-requires -}
+    (λ c κs. holder-fits (record { which = modules; level = bind; list = ins-list (c .before .before .before .before .before .before .before .before .before .before .before .pre .holds) }) (c .before .before .before .before .before .before .names-place .ensures .found))
     {- symbol-row-requires -}
-    (λ c κs. (c .before .before .before .before .before .before .before .before .before .before .pre .holds .place .early, omega (arith, ins-key (c .before .before .before .before .before .before .before .before .before .before .pre .holds) .inside, c .before .before .before .before .before .before .before .before .before .before .pre .holds .sound .text-fits, c .before .before .before .before .before .before .before .before .before .before .pre .holds .sound .short)))
+    (λ c κs. (c .before .before .before .before .before .before .before .before .before .before .before .before .pre .holds .place .early, omega (arith, ins-key (c .before .before .before .before .before .before .before .before .before .before .before .before .pre .holds) .inside, c .before .before .before .before .before .before .before .before .before .before .before .before .pre .holds .sound .text-fits, c .before .before .before .before .before .before .before .before .before .before .before .before .pre .holds .sound .short)))
     {- names-insert-requires -}
-    (λ c κs. ins-any (c .before .before .before .before .before .before .before .before .before .before .before .before .pre .holds) (placed-part _ _ (c .before .before .before .before .before .before .before .names-place .ensures)) (c .before .before .before .before .ns-inserts .ensures) (c .before .before .before .if1 .taken) (c .before .symbol-row .ensures))
+    (λ c κs. ins-any (c .before .before .before .before .before .before .before .before .before .before .before .before .before .before .pre .holds) (placed-part _ _ (c .before .before .before .before .before .before .before .before .before .names-place .ensures)) (c .before .before .before .before .before .before .ns-inserts .ensures) (c .before .before .before .before .before .if1 .taken) (c .before .before .loaded-module .ensures) (c .before .symbol-row .ensures))
     {- same-length -}
     (λ c. search needs)
     {- returns -}
-    (λ c used i. ins-made i (placed-part _ _ (c .before .before .before .before .before .before .before .before .before .before .names-place .ensures)) (c .before .before .before .before .before .before .before .ns-inserts .ensures) (c .before .before .before .before .before .before .if1 .taken) (c .before .before .before .before .symbol-row .ensures) (c .before .before .names-insert .ensures .0) (c .before .before .names-insert .ensures .1))
+    (λ c used i. ins-made i (placed-part _ _ (c .before .before .before .before .before .before .before .before .before .before .before .before .names-place .ensures)) (c .before .before .before .before .before .before .before .before .before .ns-inserts .ensures) (c .before .before .before .before .before .before .before .before .if1 .taken) (c .before .before .before .before .before .loaded-module .ensures) (c .before .before .before .before .symbol-row .ensures) (c .before .before .names-insert .ensures .0) (c .before .before .names-insert .ensures .1))
     {- same-length-2 -}
     (λ c. search needs)
     {- returns-2 -}
