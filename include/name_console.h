@@ -80,7 +80,8 @@ uint32_t name_console_open_module(uint8_t *state, size_t state_len, uint8_t *wor
 uint32_t name_console_alias(uint8_t *state, size_t state_len, uint8_t *words, size_t words_len, uint8_t *text, size_t text_len,
                             const uint8_t *key, size_t key_len, const uint8_t *host, size_t host_len, const uint8_t *query, size_t query_len);
 
-/* Registers a module with its file path: loaded if loaded is 1, not loaded if it is 0. Another number is Malformed. */
+/* Registers a module with its file path: loaded if loaded is 1, not loaded if it is 0. Another number is Malformed.
+   A module that is loaded stays loaded when it is registered again with 0, and takes the new path. */
 uint32_t name_console_module(uint8_t *state, size_t state_len, uint8_t *words, size_t words_len, uint8_t *text, size_t text_len,
                              uint32_t loaded, const uint8_t *query, size_t query_len, const uint8_t *path, size_t path_len);
 

@@ -53,6 +53,7 @@ pub fn alias(state: &mut [u8], words: &mut [u8], text: &mut [u8], key: &[u8], ho
 }
 
 /// Registers a module with its file path, loaded (1) or not (0); another number is refused with 2.
+/// A loaded one that is registered again with 0 stays loaded and takes the new path.
 #[rustfmt::skip]
 pub fn module(state: &mut [u8], words: &mut [u8], text: &mut [u8], loaded: u32, query: &[u8], path: &[u8]) -> u32 {
     unsafe {

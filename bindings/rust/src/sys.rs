@@ -85,7 +85,7 @@ extern "C" {
     pub fn name_console_alias(state: *mut u8, state_len: usize, words: *mut u8, words_len: usize, text: *mut u8, text_len: usize,
         key: *const u8, key_len: usize, host: *const u8, host_len: usize, query: *const u8, query_len: usize) -> u32;
 
-    /// Registers a module with its file path: loaded if `loaded` is 1, not loaded if it is 0.
+    /// Registers a module with its file path: loaded if `loaded` is 1, not loaded if it is 0; a loaded one stays loaded.
     pub fn name_console_module(state: *mut u8, state_len: usize, words: *mut u8, words_len: usize, text: *mut u8, text_len: usize,
         loaded: u32, query: *const u8, query_len: usize, path: *const u8, path_len: usize) -> u32;
 

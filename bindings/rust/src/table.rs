@@ -78,7 +78,7 @@ impl Table {
         Refusal::check(bytes::alias(&mut self.state, &mut self.words, &mut self.text, key.as_ref(), host.as_ref(), query.as_ref()))
     }
 
-    /// Registers a module with its file path, loaded or not.
+    /// Registers a module with its file path, loaded or not. One that is loaded stays loaded when it is registered again, and takes the new path.
     pub fn register_module(&mut self, loaded: bool, query: impl AsRef<[u8]>, path: impl AsRef<[u8]>) -> Result<(), Refusal> {
         Refusal::check(bytes::module(&mut self.state, &mut self.words, &mut self.text, loaded as u32, query.as_ref(), path.as_ref()))
     }

@@ -1,4 +1,4 @@
--- A change from the first segment on is the source's function for its call, with its records.
+-- A change from the first segment on is the function for its call, with the records of the source's.
 use Prim.Native.Nat.{ℕ, _-_, _≤_, max}
 use mathlib.Core.Path.{_≡_, ap}
 use mathlib.Core.Bool.{Bool, false}

@@ -1,4 +1,4 @@
--- The change that a registration makes is the source's function for its call.
+-- The change that a registration makes is the function for its call.
 use Prim.Native.Nat.{ℕ, _+_, _-_, _≤_}
 use mathlib.Core.Path.{_≡_, refl, sym, ap, _∙_}
 use mathlib.Core.Bool.{true, false}
@@ -9,7 +9,7 @@ use lib.Seq.{take-take}
 use Rattle.source.specs.Text.{Str, query-to-string, segments, ends-in-dot}
 use Rattle.source.specs.Rules.{IsLabel}
 use Rattle.source.specs.Table as S
-use Rattle.source.specs.Table.{insert, register-alias, register-include, register-open, register-module-path}
+use Rattle.source.specs.Table.{insert, register-alias, register-include, register-open, register-module-stays-loaded}
 use Rattle.source.specs.Calls.{Call, registered, records, crowded, deep}
 use Rattle.source.specs.Queries.{IsQuery}
 use Rattle.source.proofs.Queries.{query-to-string-label, string-is}
@@ -70,7 +70,7 @@ module _ {ws txt : List ℕ} (h : Header) {used : ℕ} (o : Sound ws txt (with-t
 
     pub change-right : (k : Kind) (inc : ℕ) → Ready k host other key → Carries (shape-of k .form) ws txt (h .names) other inc
         → Right at (at + length host) (call-of k host other key) (change-at k inc at host other key) (root-at (which-by (shape-of k .form)) h)
-    unfolding registered insert register-alias register-include register-open register-module-path
+    unfolding registered insert register-alias register-include register-open register-module-stays-loaded
     change-right (Name number) inc r i = record {
       change = record { sound = o .right; text = record { inside = omega arith; keeps = rw (p .other-at) (r .other-keeps) }; key = tt; inc = tt };
       link = o .names-link;

@@ -175,7 +175,7 @@ pub extern "C" fn name_console_alias(
     register(state, words, text, Kind::Alias, host, query, key)
 }
 
-// Registers a module path: loaded if `loaded` is 1, not loaded if it is 0.
+// Registers a module path: loaded if `loaded` is 1, not loaded if it is 0; a loaded Module stays loaded.
 #[no_mangle]
 pub extern "C" fn name_console_module(
     state: &mut [u8],

@@ -1,4 +1,4 @@
--- Of the calls: an accepted registration gives the source's table, and an accepted name changes no look-up but that of its own full name.
+-- Of the calls: an accepted registration gives the definition's table, and an accepted name changes no look-up but that of its own full name.
 use Prim.Native.Nat.{ℕ}
 use mathlib.Core.Path.{_≡_, sym, ap, _∙_}
 use mathlib.Core.Bool.{Bool, true}
@@ -24,7 +24,7 @@ module _ {ws txt ws′ txt′ : List ℕ} {t : Table} {c : Call} {r : Registrati
       go (C.accepted s) h = ap C.accepted (sym (h .1 .reads))
       go (C.refused n) h = absurd (Option·none-ne-some n (sym e ∙ h .0))
 
-  -- The new table is what the source's function makes of the old one.
+  -- The new table is what the definition's function makes of the old one: the source's, but of a module path.
   pub accepted-table : table-in ws′ txt′ (r .table) ≡ registered (table-in ws txt t) c
   unfolding after
   accepted-table = ap (λ (x : State). x .table) (accepted-is true (lent ws txt) (state ws txt t) _ c accepts)

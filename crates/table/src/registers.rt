@@ -148,7 +148,7 @@ impl Table {
         self.register_sound(words, text, Kind::Alias, host, query, key)
     }
 
-    // The source's register_module_path.
+    // The source's register_module_path, but a loaded Module stays loaded.
     pub fn register_module_path(
         self,
         words: &mut [u32],

@@ -732,14 +732,12 @@ impl Memory {
         let id = query[passed];
         let start = query[0].start;
         let length = id.start + id.length - start;
+        let held = self.names_find(bindings, id);
         let value = if passed + 1 == query.len() {
-            [0, start, length, path.start, path.length, loaded.into()]
+            let kept = held.is_some_and(|r| r[5] == 0 && r[10] == 1);
+            [0, start, length, path.start, path.length, (loaded || kept).into()]
         } else {
-            let keep = match self.names_find(bindings, id) {
-                None => false,
-                Some(r) => !(r[5] == 1 && r[10] == 0 && loaded),
-            };
-            if keep {
+            if held.is_some_and(|r| !(r[5] == 1 && r[10] == 0 && loaded)) {
                 return bindings;
             }
             [1, start, length, 0, 0, loaded.into()]

@@ -752,7 +752,8 @@ pub struct Table {
     pub text: u32,
 }
 
-/// The source's `tbl_mods` after `register_module_path`.
+/// The source's `tbl_mods` after `register_module_path`, but a Module put in
+/// place of a loaded Module stays loaded.
 pub fn register_module_path(
     built: &mut Built,
     tbl_mods: &Trie<ModSymbol>,
@@ -772,7 +773,9 @@ pub fn register_module_path(
         (Some(_), _) => bindings,
     };
     let ins_mod = |built: &mut Built, id: &Str, bindings: Names<ModSymbol>, full_name: Str| {
-        let symbol = Module { mod_name: full_name, mod_path: path.clone(), mod_loaded: loaded };
+        let kept = matches!(names_find_exact(&bindings, id), Some(Module { mod_loaded: true, .. }));
+        let symbol =
+            Module { mod_name: full_name, mod_path: path.clone(), mod_loaded: loaded || kept };
         names_insert(built, &bindings, id, symbol)
     };
     let name_of_revq = |revq: &List<Str>| {

@@ -51,6 +51,14 @@ impl Written {
         self.put(&[&sides[..], &[(5, 1), (6, key.0), (7, key.1)]].concat())
     }
 
+    /// The branch of a Module without sides; its full name is its key.
+    pub fn module(&mut self, key: Key, path: Key, loaded: bool) -> u32 {
+        let link = self.leaf(key, 0, 0);
+        let r = &mut self.records[link as usize - 1];
+        (r[5], r[8], r[9], r[10]) = (0, path.0, path.1, loaded.into());
+        link
+    }
+
     /// A namespaces branch.
     pub fn space(&mut self, key: Key, left: u32, right: u32, trie: u32) -> u32 {
         let below = 1 + self.word(trie, 11);

@@ -6,6 +6,7 @@ use model::gen::{self, Rng};
 use model::layout::*;
 use model::model::*;
 use model::naive::*;
+use std::collections::BTreeMap;
 
 fn refused(call: Registration) -> Option<u32> {
     Both::fresh(400, 4000).register(&call).err().map(Refusal::number)
@@ -287,9 +288,40 @@ fn modules_and_namespaces_replace_by_the_rules() {
     steps(module(false, "A.", "4"), "A.", module_of("A", "4", false));
     steps(module(true, "A.E.", "5"), "A.", module_of("A", "4", false));
     steps(module(true, "A.B.", "6"), "A.B.", module_of("A.B", "6", true));
-    steps(module(false, "A.B.", "7"), "A.B.", module_of("A.B", "7", false));
+    steps(module(false, "A.B.", "7"), "A.B.", module_of("A.B", "7", true));
     steps(module(false, "A.B.F.", "8"), "A.B.F.", module_of("A.B.F", "8", false));
-    steps(module(false, "A.", "9"), "A.B.", module_of("A.B", "7", false));
+    steps(module(false, "A.", "9"), "A.B.", module_of("A.B", "7", true));
+}
+
+#[test]
+fn a_module_is_loaded_where_it_ever_was_registered_so() {
+    let mut rng = Rng::new(Rng::seed_or(21));
+    // Modules that are loaded, of them registered unloaded last, and not.
+    let mut counts = [0; 3];
+    for _ in 0..60 {
+        let mut both = Both::fresh(400, 1500);
+        // Of each query registered: whether ever loaded, and the last flag.
+        let mut history: BTreeMap<Vec<u8>, (bool, bool)> = BTreeMap::new();
+        let mix = *rng.pick(&gen::MIXES);
+        for _ in 0..60 {
+            let call = gen::registration(&mut rng, &mix);
+            let accepted = both.register(&call).is_ok();
+            if let (true, Registration::Module { loaded, query, .. }) = (accepted, call) {
+                let ever = history.get(&query).is_some_and(|h| h.0);
+                history.insert(query, (ever || loaded, loaded));
+            }
+        }
+        for (query, (ever, last)) in history.iter().filter(|(q, _)| !q.is_empty()) {
+            let found = find(&both.table.modules, query).unwrap();
+            let Some(ModSymbol::Module { mod_loaded, .. }) = found else {
+                panic!("no Module: {query:?}")
+            };
+            assert_eq!(mod_loaded, *ever, "{query:?}");
+            counts[if *ever { usize::from(!*last) } else { 2 }] += 1;
+        }
+    }
+    println!("Modules loaded, of them kept so, and not loaded: {counts:?}");
+    assert!(counts.iter().all(|&n| 0 < n), "{counts:?}");
 }
 
 #[test]
