@@ -10,7 +10,7 @@ use Rattle.source.specs.Types.{Trie, trie, bindings}
 use Rattle.source.specs.Tries.{included}
 use Rattle.source.specs.Terms.{heaviest, depth}
 use Rattle.source.specs.Table.{Table, ModSymbol, insert, register-alias, register-include, register-open}
-use Rattle.source.specs.Counted.{Counted, pure, one, _>>=_, trie-mutateᶜ, trie-mutate-leafᶜ, trie-insertᶜ, trie-importᶜ, trie-includeᶜ, trie-open-namespaceᶜ, trie-add-aliasᶜ, ins-stays-loadedᶜ, lids, insertᶜ, register-aliasᶜ, register-includeᶜ, register-openᶜ, register-module-pathᶜ, register-module-stays-loadedᶜ}
+use Rattle.source.specs.Counted.{Counted, pure, one, _>>=_, trie-mutateᶜ, trie-mutate-leafᶜ, trie-insertᶜ, trie-importᶜ, trie-includeᶜ, trie-open-namespaceᶜ, trie-add-aliasᶜ, ins-stays-loadedᶜ, lids, insertᶜ, register-aliasᶜ, register-includeᶜ, register-openᶜ, register-module-stays-loadedᶜ}
 use Rattle.source.specs.Calls.{Call, name, include, opens, alias, module-path, registered, records, crowded, deep}
 use Rattle.source.proofs.Counted.{trie-insert-value, trie-include-value, trie-open-namespace-value, trie-add-alias-value, register-module-stays-loaded-value, register-module-stays-loaded-count}
 use Rattle.memory.specs.Layout.{span, Which, names, modules, Item, trieˢ, what}

@@ -85,7 +85,8 @@ module _ {A : Type 0} where
       omega (
         arith,
         trie-mutate-same-count node node′ leaf h (scope-of (namespaces tr) id) q (id ∷ rev-acc),
-        names-insert-count (namespaces tr) id (scope .value), names-insert-count (namespaces tr) id (scope′ .value),
+        names-insert-count (namespaces tr) id (scope .value),
+        names-insert-count (namespaces tr) id (scope′ .value),
         h tr id q rev-acc (names-insertᶜ (namespaces tr) id (scope .value) .value) (names-insertᶜ (namespaces tr) id (scope′ .value) .value),
       )
 
@@ -169,7 +170,7 @@ register-module-path-value tbl loaded path q =
 pub ins-stays-loaded-value : (path id : Str) (q revq : Query) (b : NameList ModSymbol bind) (loaded : Bool)
     → ins-stays-loadedᶜ path id q revq b loaded .value ≡ ins-stays-loaded path id q revq b loaded
 unfolding ins-stays-loadedᶜ ins-stays-loaded
-ins-stays-loaded-value path id [] revq b loaded = ins-mod-value path id b (name-of-revq (id ∷ revq)) _
+ins-stays-loaded-value path id [] revq b loaded = ins-mod-value _ id b (name-of-revq (id ∷ revq)) _
 ins-stays-loaded-value path id (s ∷ q) revq b loaded = ins-ns-value id b (name-of-revq (id ∷ revq)) loaded
 
 pub register-module-stays-loaded-value : (tbl : Table) (loaded : Bool) (path : Str) (q : Query)

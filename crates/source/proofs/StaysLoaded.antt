@@ -1,8 +1,8 @@
 -- Where the registration of a module departs from the source (departure), and what that leaves as it was.
 use Prim.Native.Nat.{ℕ, Ordering, Ordering·lt, Ordering·eq, Ordering·gt}
-use mathlib.Core.Path.{_≡_, refl, sym, ap}
+use mathlib.Core.Path.{_≡_, refl}
 use mathlib.Core.Bool.{Bool, true, false, not, _&&_, _||_}
-use mathlib.Core.List.{[], _∷_, reverse, reverseAux}
+use mathlib.Core.List.{[], _∷_, reverseAux}
 use Rattle.source.specs.Text.{Str, Query, string-compare, query-to-string}
 use Rattle.source.specs.Types.{Level, Value, Trie, Tree, NameList, bind, ns, item, trie, StrEmpty, StrBranch, []ᴺ, Names, ImportedNames, bindings, namespaces}
 use Rattle.source.specs.Trees.{btree-insert-replace}
@@ -106,6 +106,7 @@ departure tbl loaded path q = (refl, departs path loaded (tbl .tbl-mods) q [])
 module _ {name path : Str} where
   mutual
     unfolding heaviest weight
+
     one-heaviest : {l : Level} {v v′ : Value ModSymbol l} → OneFlag name path l v v′ → heaviest v′ ≡ heaviest v
     one-heaviest (here e f) = refl
     one-heaviest (in-bindings n f) = rw (one-heaviest-names f)
@@ -121,6 +122,7 @@ module _ {name path : Str} where
 
   mutual
     unfolding depth
+
     one-depth : {l : Level} {v v′ : Value ModSymbol l} → OneFlag name path l v v′ → depth v′ ≡ depth v
     one-depth (here e f) = refl
     one-depth (in-bindings n f) = refl

@@ -1,7 +1,8 @@
 //! Registrations and look-ups of the product against the independent implementation: answers, tables, and what a call may change.
-use model::gen::{damaged_query, damaged_registration, damages, full_name, near_query, registered_memory, registration, Rng, MIXES};
+use model::gen::{damaged_query, damaged_registration, damages, full_name, near_query, registered_memory, registration, sound_memory, Rng, MIXES};
 use model::layout::{decode, same_table, Memory};
-use model::model::{find, Registration, Table};
+use model::model::{bindings, btree_find_exact, find, segments, trie_descend_exact, Collection, ModSymbol, Registration, Table, Trie, Value};
+use model::written::with_free;
 
 /// The product's answer to a registration, and everything that it leaves, as the model has it.
 fn hold(memory: &mut Memory, table: &mut Option<Table>, call: &Registration, answers: &mut [u64; 9]) {
@@ -59,6 +60,48 @@ fn registrations_and_look_ups() {
     println!("registrations by answer (0 accepted): {answers:?}; look-ups found, none, refused: {found:?}; 0 disagreements");
     assert!([0, 2, 3, 4, 7, 8].iter().all(|&n| 0 < answers[n]), "{answers:?}");
     assert!(found.iter().all(|&n| 0 < n), "{found:?}");
+}
+
+/// Whether the tree in front of its list holds what a full name ends at.
+fn in_front<A: Value>(root: &Trie<A>, query: &[u8]) -> bool {
+    let all = segments(query);
+    let (last, host) = all.split_last().unwrap();
+    let list = bindings(&trie_descend_exact(root, host).unwrap());
+    match &list.unwrap().first {
+        Collection::Names(tree) => btree_find_exact(tree, last).is_some(),
+        Collection::ImportedNames(..) => false,
+    }
+}
+
+#[test]
+fn registrations_on_hand_made_sound_tables() {
+    let mut rng = Rng::new(Rng::seed_or(22));
+    let mut answers = [0; 9];
+    // Accepted unloaded modules whose first holder is a loaded Module: in the tree in front, or behind it.
+    let mut kept = [0; 2];
+    for _ in 0..3000 {
+        let memory = sound_memory(&mut rng, 60);
+        let (table, text) = (decode(&memory), memory.text.len());
+        let memory = with_free(memory, 160, text + 400);
+        let mix = *rng.pick(&MIXES);
+        for _ in 0..12 {
+            let call = match registration(&mut rng, &mix) {
+                Registration::Module { path, .. } => Registration::Module { loaded: false, query: full_name(&mut rng), path },
+                other => other,
+            };
+            let (mut m, mut new) = (memory.clone(), Some(table.clone()));
+            hold(&mut m, &mut new, &call, &mut answers);
+            if let (Registration::Module { query, .. }, false) = (&call, m == memory) {
+                if matches!(find(&table.modules, query), Ok(Some(ModSymbol::Module { mod_loaded: true, .. }))) {
+                    let now = find(&new.unwrap().modules, query).unwrap().unwrap();
+                    assert!(now.is_module() && now.loaded(), "{call:?}");
+                    kept[usize::from(!in_front(&table.modules, query))] += 1;
+                }
+            }
+        }
+    }
+    println!("registrations on hand-made tables by answer (0 accepted): {answers:?}; kept loaded, in front and behind: {kept:?}; 0 disagreements");
+    assert!(0 < answers[0] && kept.iter().all(|&n| 0 < n), "{answers:?} {kept:?}");
 }
 
 #[test]
