@@ -7,17 +7,18 @@ use model::layout::Memory;
 use product::{Listing, Looked, Output, Reply};
 use std::cell::RefCell;
 
-/// A library's calls for proved callers, and the C layer's registration.
+/// A library's calls for proved callers, and the C layer's registrations of a name and of a module.
 struct Library {
     insert: unsafe extern "C" fn(*mut u32, usize, *mut u8, usize, u32, u32, u32, u32, *const u8, usize, *const u8, usize, u32) -> Reply,
     find: unsafe extern "C" fn(*const u32, usize, *const u8, usize, u32, u32, u32, u32, *const u8, usize) -> Looked,
     complete: unsafe extern "C" fn(*const u32, usize, *const u8, usize, u32, u32, u32, u32, u32, *const u8, usize, u32, *mut u8, usize, *mut u8, usize) -> Listing,
     console_insert: unsafe extern "C" fn(*mut u8, usize, *mut u8, usize, *mut u8, usize, *const u8, usize, *const u8, usize, u32) -> u32,
+    console_module: unsafe extern "C" fn(*mut u8, usize, *mut u8, usize, *mut u8, usize, u32, *const u8, usize, *const u8, usize) -> u32,
 }
 
 /// The library whose calls have these names. Nothing checks them against crates exports and screen, of either commit.
 macro_rules! library {
-    ($library:ident: $insert:ident, $find:ident, $complete:ident, $console_insert:ident) => {
+    ($library:ident: $insert:ident, $find:ident, $complete:ident, $console_insert:ident, $console_module:ident) => {
         #[rustfmt::skip]
         extern "C" {
             fn $insert(words: *mut u32, nwords: usize, text: *mut u8, ntext: usize, names: u32, modules: u32, records: u32, used: u32,
@@ -28,13 +29,17 @@ macro_rules! library {
                 ask: u32, query: *const u8, nquery: usize, budget: u32, lines: *mut u8, nlines: usize, out: *mut u8, nout: usize) -> Listing;
             fn $console_insert(state: *mut u8, nstate: usize, words: *mut u8, nwords: usize, text: *mut u8, ntext: usize,
                 host: *const u8, nhost: usize, id: *const u8, nid: usize, item: u32) -> u32;
+            fn $console_module(state: *mut u8, nstate: usize, words: *mut u8, nwords: usize, text: *mut u8, ntext: usize,
+                loaded: u32, query: *const u8, nquery: usize, path: *const u8, npath: usize) -> u32;
         }
-        const $library: Library = Library { insert: $insert, find: $find, complete: $complete, console_insert: $console_insert };
+        const $library: Library =
+            Library { insert: $insert, find: $find, complete: $complete, console_insert: $console_insert, console_module: $console_module };
     };
 }
 
-library!(NOW: name_table_insert_sound, name_table_find_sound, name_table_complete_sound, name_console_insert);
-library!(BEFORE: before_name_table_insert_sound, before_name_table_find_sound, before_name_table_complete_sound, before_name_console_insert);
+library!(NOW: name_table_insert_sound, name_table_find_sound, name_table_complete_sound, name_console_insert, name_console_module);
+library!(BEFORE: before_name_table_insert_sound, before_name_table_find_sound, before_name_table_complete_sound,
+    before_name_console_insert, before_name_console_module);
 
 #[rustfmt::skip]
 impl Library {
@@ -64,6 +69,11 @@ impl Library {
     fn console_insert(&self, t: &mut Bytes, n: &Name) -> u32 {
         unsafe { (self.console_insert)(t.state.as_mut_ptr(), t.state.len(), t.words.as_mut_ptr(), t.words.len(), t.text.as_mut_ptr(), t.text.len(),
             n.host.as_ptr(), n.host.len(), n.id.as_ptr(), n.id.len(), n.item) }
+    }
+
+    fn console_module(&self, t: &mut Bytes, query: &[u8], path: &[u8]) -> u32 {
+        unsafe { (self.console_module)(t.state.as_mut_ptr(), t.state.len(), t.words.as_mut_ptr(), t.words.len(), t.text.as_mut_ptr(), t.text.len(),
+            0, query.as_ptr(), query.len(), path.as_ptr(), path.len()) }
     }
 }
 
@@ -109,13 +119,20 @@ pub fn run(sizes: &[usize], names: impl Fn(usize) -> Vec<Name>) {
         row(&what, 1, |library| listing(library, &mut out.borrow_mut()));
     }
     let (memory, more) = table(&names(1000));
-    let start = Bytes::of(&memory);
-    let insert = |library: &Library, t: &mut Bytes| {
+    console("register a name, C layer, 1,024 records", &Bytes::of(&memory), |library, t| library.console_insert(t, &more));
+    let mut start = Bytes::of(&Memory::with_room(40, 100));
+    let module = |library: &Library, t: &mut Bytes| library.console_module(t, b"IO.Bus.", b"io/bus");
+    assert_eq!(module(&NOW, &mut start), 0);
+    console("register a module again, C layer, 10 records", &start, module);
+}
+
+/// A registration by the C layer, on the same bytes each time.
+fn console(what: &str, start: &Bytes, call: impl Fn(&Library, &mut Bytes) -> u32) {
+    let one = |library: &Library, t: &mut Bytes| {
         t.state.copy_from_slice(&start.state);
-        library.console_insert(t, &more) == 0
+        call(library, t) == 0
     };
-    let what = "register a name, C layer, 1,024 records";
-    same(what, &start, insert);
+    same(what, start, one);
     let changed = RefCell::new(start.clone());
-    row(what, 1, |library| insert(library, &mut changed.borrow_mut()));
+    row(what, 1, |library| one(library, &mut changed.borrow_mut()));
 }
