@@ -33,7 +33,7 @@ module _ {A : Type 0} where
       go (some scope) q = refl
 
   -- look-up of a full name is a find in the bindings of its host
-  find-at-host : (tr : Trie A) (p : Query) (s : Str) → trie-find-exact tr (p ++ (s ∷ [])) ≡ names-find-exact (bindings (host-of tr p)) s
+  pub find-at-host : (tr : Trie A) (p : Query) (s : Str) → trie-find-exact tr (p ++ (s ∷ [])) ≡ names-find-exact (bindings (host-of tr p)) s
   unfolding trie-find-exact host-of
   find-at-host tr [] s = refl
   find-at-host tr (h ∷ p) s = find-step tr h p s ∙ sym (find-in tr h (p ++ (s ∷ []))) ∙ find-at-host (scope-of (namespaces tr) h) p s
