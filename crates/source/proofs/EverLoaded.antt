@@ -95,15 +95,15 @@ module _ (p : Query) (s : Str) where
         go (inl e) = rw e (λ h. ⊎-elim inr (λ l. inl (l, refl)) (or-parts (is-loaded tbl) loaded (sym same-loaded ∙ h)), ⊎-elim (λ l. same-loaded ∙ or-right (is-loaded tbl) loaded (l .0)) (λ h. same-loaded ∙ rw h))
         go (inr e) = (λ h. inr (sym e ∙ h), ⊎-elim (λ l. rw (l .1) (same-loaded ∙ or-right (is-loaded tbl) loaded (l .0))) (λ h. e ∙ h))
 
-  -- Of one call, for every table.
-  step : (tbl : Table) (c : Call) → (is-loaded (registered tbl c) ≡ true) ↔ (Loads (p ++ (s ∷ [])) c ⊎ (is-loaded tbl ≡ true))
+  -- Of one call, for every table: loaded is what the call registers so, and what was loaded.
+  pub loaded-after : (tbl : Table) (c : Call) → (is-loaded (registered tbl c) ≡ true) ↔ (Loads (p ++ (s ∷ [])) c ⊎ (is-loaded tbl ≡ true))
   unfolding registered insert register-include register-open register-alias find-module-or-ns
-  step tbl (name host id number) = (inr, ⊎-elim absurd (λ e. e))
-  step tbl (include host q) = (inr, ⊎-elim absurd (λ e. e))
-  step tbl (opens true host q) = (inr, ⊎-elim absurd (λ e. e))
-  step tbl (opens false host q) = (inr, ⊎-elim absurd (λ e. e))
-  step tbl (alias key host q) = (inr, ⊎-elim absurd (λ e. e))
-  step tbl (module-path loaded query path) = module-step tbl loaded path (segments query)
+  loaded-after tbl (name host id number) = (inr, ⊎-elim absurd (λ e. e))
+  loaded-after tbl (include host q) = (inr, ⊎-elim absurd (λ e. e))
+  loaded-after tbl (opens true host q) = (inr, ⊎-elim absurd (λ e. e))
+  loaded-after tbl (opens false host q) = (inr, ⊎-elim absurd (λ e. e))
+  loaded-after tbl (alias key host q) = (inr, ⊎-elim absurd (λ e. e))
+  loaded-after tbl (module-path loaded query path) = module-step tbl loaded path (segments query)
 
   fresh-none : (p : Query) → find-module-or-ns (fresh .table) (p ++ (s ∷ [])) ≡ none
   unfolding fresh empty trie-empty find-module-or-ns trie-find-exact names-find-exact bindings namespaces bind-option
@@ -115,6 +115,6 @@ module _ (p : Query) (s : Str) where
   unfolding loaded-module after
   ever-loaded made-fresh = (λ h. false≢true (rw (fresh-none p) at h), absurd)
   ever-loaded (made-by sound lent c m e) =
-      let f = step _ c in
+      let f = loaded-after _ c in
       let g = ever-loaded m in
       rw (accepted-is sound lent _ _ c e) (λ h. ⊎-elim inl (λ l. inr (g .0 l)) (f .0 h), λ h. f .1 (⊎-elim inl (λ l. inr (g .1 l)) h))
