@@ -94,8 +94,8 @@ fn ins(
     let last = at + len + 1 == d.end;
     if last | lookup::ns_inserts(words, p.holder, loaded) {
         let change = d.change;
-        let now = (last & lookup::loaded_module(words, p.holder)) | loaded;
-        let row = symbol_row(last, at, len, d.from, now, change.text);
+        let flag = (last & lookup::loaded_module(words, p.holder)) | loaded;
+        let row = symbol_row(last, at, len, d.from, flag, change.text);
         let b = names::names_insert(words, text, records, bindings, p.count, row);
         return Built {
             link: b,
