@@ -55,7 +55,7 @@ fn loaded_then_unloaded() {
     let all = lines(&[("IO", " ns "), ("IO.Bus", " mod ")]);
     assert_eq!(listed(&t, Filter::All), all);
     assert_eq!(listed(&t, Filter::Loaded), all);
-    // At IO a branch, its list and the trie; at Bus two of each list; the Namespace is not put again.
+    // In the root a branch and a list of the namespaces, and the trie: the Namespace is not put again. In IO the same, and a branch and a list of the bindings.
     assert_eq!(records(&t) - before, 3 + 5);
     // And again, with another flag and path.
     assert_eq!(register(&mut t, &module(true, "IO.Bus.", ""), None), 0);
