@@ -143,6 +143,30 @@ struct name_console_listing name_console_complete_modules(const uint8_t *state, 
                                                           size_t query_len, uint32_t budget, uint8_t *lines, size_t lines_len, uint8_t *out,
                                                           size_t out_len);
 
+/* ---- Completions that say what is certain
+
+   Each takes, writes and replies what the completion above does, and says besides how many bytes the longest beginning has
+   that all candidates share: what Tab may fill in. With one line it is its whole candidate, with none it is 0. The
+   beginning itself stands at the candidate of line 0. */
+
+struct name_console_shared {
+  uint32_t answer;  /* 0 listed, else the refusal, as that of the completion */
+  uint32_t lines;   /* 0 if refused */
+  uint32_t entered; /* 0 if refused */
+  uint32_t shared;  /* bytes that all candidates begin with; 0 with no line, or if refused */
+};
+
+/* Completes a name. */
+struct name_console_shared name_console_complete_shared(const uint8_t *state, size_t state_len, const uint8_t *words, size_t words_len,
+                                                        const uint8_t *text, size_t text_len, const uint8_t *query, size_t query_len,
+                                                        uint32_t budget, uint8_t *lines, size_t lines_len, uint8_t *out, size_t out_len);
+
+/* Completes a module or namespace. A filter that is no enum name_console_filter is Malformed. */
+struct name_console_shared name_console_complete_modules_shared(const uint8_t *state, size_t state_len, const uint8_t *words, size_t words_len,
+                                                                const uint8_t *text, size_t text_len, uint32_t filter, const uint8_t *query,
+                                                                size_t query_len, uint32_t budget, uint8_t *lines, size_t lines_len,
+                                                                uint8_t *out, size_t out_len);
+
 /* ---- Reading lines */
 
 struct name_console_line {

@@ -20,9 +20,12 @@ use Rattle.roots.specs.Answers.{name-found}
 use Rattle.table.specs.Answers.{Finds}
 use Rattle.table.specs.Completions.{Completes}
 use Rattle.table.specs.Registrations.{Total}
-use Rattle.numbers.specs.Replies.{name-reply, lines-reply}
+use Rattle.numbers.specs.Replies.{name-reply, lines-reply, shared-reply}
 use Rattle.numbers.specs.declared.NameReply.{NameReply}
 use Rattle.numbers.specs.declared.CompleteReply.{CompleteReply}
+use Rattle.numbers.specs.declared.SharedReply.{SharedReply}
+use Rattle.sharing.specs.Sharing.{CompletesShared}
+use Rattle.sharing.specs.declared.Sharing.{Sharing}
 use Rattle.exports.specs.declared.Reply.{Reply}
 
 -- The table of four numbers.
@@ -70,3 +73,12 @@ pub record ListReplies (ws txt : List ℕ) (t : Table) (ask : ℕ) (query : Str)
   pub answer : Listing
   pub completes : Completes ws txt t (ask-of ask) query budget flat flat′ out out′ answer
   pub reply : r ≡ lines-reply (answer .answer)
+
+abbrev pub shared-of : Sharing → SharedReply
+shared-of x = shared-reply (lines-reply (x .listing .answer)) (x .shared)
+
+-- The reply to a completion with its shared length: that of what sharing's contract says.
+pub record SharedReplies (ws txt : List ℕ) (t : Table) (ask : ℕ) (query : Str) (budget : ℕ) (flat flat′ out out′ : List ℕ) (r : SharedReply) : Type 0 where
+  pub answer : Sharing
+  pub completes : CompletesShared ws txt t (ask-of ask) query budget flat flat′ out out′ answer
+  pub reply : r ≡ shared-of answer

@@ -5,6 +5,8 @@ use asks::Filter;
 use memory::Header;
 use numbers::CompleteReply;
 use numbers::NameReply;
+use numbers::SharedReply;
+use sharing::Sharing;
 use table::Registered;
 use table::Registration;
 use table::Table;
@@ -14,7 +16,7 @@ ghost use Rattle.source.specs.Lent.{old, new};
 ghost use Rattle.source.specs.Calls.{name, include, opens, alias, module-path};
 ghost use Rattle.memory.specs.Sound.{Says};
 ghost use Rattle.table.specs.Header.{IsSound};
-ghost use Rattle.exports.specs.Replies.{table-of, ask-of, refusal-of, reply-of, RegisterReplies, FindReplies, ListReplies};
+ghost use Rattle.exports.specs.Replies.{table-of, ask-of, refusal-of, reply-of, shared-of, RegisterReplies, FindReplies, ListReplies, SharedReplies};
 
 // A registration's reply: 0 or the number of the refusal, and the table.
 #[repr(C)]
@@ -66,6 +68,13 @@ fn reply_of(x: Registration) -> Reply
         records: t.header.records,
         text: t.header.text,
     }
+}
+
+fn shared_of(x: Sharing) -> SharedReply
+    ensures { λ r. ⌜ r ≡ shared-of x ⌝ }
+{
+    let listing = x.listing;
+    numbers::shared_reply(numbers::lines_reply(listing), x.shared)
 }
 
 fn table_of(names: u32, modules: u32, records: u32, used: u32) -> Table
@@ -245,6 +254,28 @@ pub extern "C" fn name_table_complete(
     numbers::lines_reply(t.complete(words, text, ask_of(ask), query, budget, flat, out))
 }
 
+// The same, with the length of the beginning that the lines share.
+#[no_mangle]
+pub extern "C" fn name_table_complete_shared(
+    words: &[u32],
+    text: &[u8],
+    names: u32,
+    modules: u32,
+    records: u32,
+    used: u32,
+    ask: u32,
+    query: &[u8],
+    budget: u32,
+    flat: &mut [u8],
+    out: &mut [u8],
+) -> SharedReply
+    ensures { λ r. ⌜ SharedReplies (old words) (old text) (table-of names modules records used) ask (old query) budget
+        (old flat) (new flat) (old out) (new out) r ⌝ }
+{
+    let t = table_of(names, modules, records, used);
+    shared_of(sharing::complete(t, words, text, ask_of(ask), query, budget, flat, out))
+}
+
 // For callers whose memory is sound: no test.
 #[no_mangle]
 pub extern "C" fn name_table_insert_sound(
@@ -303,4 +334,26 @@ pub extern "C" fn name_table_complete_sound(
 {
     let t = table_of(names, modules, records, used);
     numbers::lines_reply(t.complete_sound(words, text, ask_of(ask), query, budget, flat, out))
+}
+
+#[no_mangle]
+pub extern "C" fn name_table_complete_shared_sound(
+    words: &[u32],
+    text: &[u8],
+    names: u32,
+    modules: u32,
+    records: u32,
+    used: u32,
+    ask: u32,
+    query: &[u8],
+    budget: u32,
+    flat: &mut [u8],
+    out: &mut [u8],
+) -> SharedReply
+    requires { ⌜ IsSound (now words) (now text) (table-of names modules records used) ⌝ }
+    ensures { λ r. ⌜ SharedReplies (old words) (old text) (table-of names modules records used) ask (old query) budget
+        (old flat) (new flat) (old out) (new out) r ⌝ }
+{
+    let t = table_of(names, modules, records, used);
+    shared_of(sharing::complete_sound(t, words, text, ask_of(ask), query, budget, flat, out))
 }

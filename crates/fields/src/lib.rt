@@ -78,7 +78,8 @@ pub fn link_ok(words: &[u32], link: u32, x: u32, k: u32) -> bool
 fn less(a: &[u8], b: &[u8]) -> bool
     ensures { λ r. ⌜ Says r (old a <ˢ old b) ⌝ }
 {
-    match text::string_compare(a, b) {
+    let c = text::string_compare(a, b);
+    match c.order {
         Order::Less => true,
         Order::Same => false,
         Order::More => false,

@@ -33,10 +33,11 @@ fn compare_keys(words: &[u32], text: &[u8], x: u32, y: u32) -> Order
     requires { ⌜ TextIn (now words) (now text) y ⌝ }
     ensures { λ r. ⌜ ordering r ≡ string-compare (key-at (old words) (old text) x) (key-at (old words) (old text) y) ⌝ }
 {
-    text::string_compare(
+    let c = text::string_compare(
         access::key_of(words, text, x),
         access::key_of(words, text, y),
-    )
+    );
+    c.order
 }
 
 // The difference of the priorities of two of `n` cells: a later cell has a smaller priority.

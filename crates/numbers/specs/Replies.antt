@@ -14,6 +14,7 @@ use Rattle.roots.specs.declared.Completed.the-variants.{Listed, Refused as Not-
 use Rattle.numbers.specs.declared.NameReply.{NameReply}
 use Rattle.numbers.specs.declared.ModuleReply.{ModuleReply}
 use Rattle.numbers.specs.declared.CompleteReply.{CompleteReply}
+use Rattle.numbers.specs.declared.SharedReply.{SharedReply}
 
 -- ---- Look-ups
 
@@ -63,3 +64,11 @@ no-lines n = record { answer = n; lines = 0; entered = 0 }
 abbrev pub lines-reply : Completed → CompleteReply
 lines-reply (Listed lines entered) = record { answer = 0; lines = lines; entered = entered }
 lines-reply (Not-listed x) = no-lines (number x)
+
+-- The reply to a completion, and a length besides.
+abbrev pub shared-reply : CompleteReply → ℕ → SharedReply
+shared-reply r n = record { answer = r .answer; lines = r .lines; entered = r .entered; shared = n }
+
+-- What of it is the completion's.
+abbrev pub lines-part : SharedReply → CompleteReply
+lines-part r = record { answer = r .answer; lines = r .lines; entered = r .entered }

@@ -14,7 +14,7 @@ ghost use mathlib.Core.Option.{some};
 ghost use Rattle.source.specs.Calls.{refused};
 ghost use Rattle.roots.specs.Answers.{name-found};
 ghost use Rattle.numbers.specs.Filters.{modules-for, is-asked};
-ghost use Rattle.numbers.specs.Replies.{name-reply, flag, no-module, symbol-reply, module-reply, no-lines, lines-reply};
+ghost use Rattle.numbers.specs.Replies.{name-reply, flag, no-module, symbol-reply, module-reply, no-lines, lines-reply, shared-reply};
 
 // The answer of a look-up that finds nothing: no refusal has this number.
 pub const NONE: u32 = 4294967295;
@@ -45,6 +45,15 @@ pub struct CompleteReply {
     pub answer: u32,
     pub lines: u32,
     pub entered: u32,
+}
+
+// The reply to a completion with its shared length: that of a completion, and the length of the beginning that its lines share.
+#[repr(C)]
+pub struct SharedReply {
+    pub answer: u32,
+    pub lines: u32,
+    pub entered: u32,
+    pub shared: u32,
 }
 
 // The reply of a number alone.
@@ -155,6 +164,18 @@ pub fn lines_reply(x: Listing) -> CompleteReply
             entered: entered,
         },
         Completed::Refused(x) => no_lines(refusals::number(x)),
+    }
+}
+
+// The reply to a completion, and a length besides.
+pub fn shared_reply(r: CompleteReply, shared: u32) -> SharedReply
+    ensures { λ s. ⌜ s ≡ shared-reply r shared ⌝ }
+{
+    SharedReply {
+        answer: r.answer,
+        lines: r.lines,
+        entered: r.entered,
+        shared: shared,
     }
 }
 

@@ -7,6 +7,7 @@ use Rattle.source.specs.Calls.{signed-word}
 use Rattle.source.specs.Table.{Line}
 use Rattle.memory.specs.Layout.{Which, names, modules, Item, item-of, number-word, span}
 use Rattle.memory.specs.Read.{symbol-in, symbol-of}
+use Rattle.memory.specs.declared.Span.{Span}
 use Rattle.memory.specs.declared.ModSymbol.{ModSymbol}
 use Rattle.memory.specs.declared.ModSymbol.the-variants.{Module, Namespace}
 use Rattle.output.specs.Output.{line-bytes, line-words, matched-word, candidate-start, candidate-len, annotation-start, annotation-len}
@@ -29,11 +30,14 @@ abbrev pub item-in : Which → List ℕ → RowItem
 item-in names r = Name (number-word r)
 item-in modules r = Symbol (symbol-in r)
 
+abbrev pub candidate-in : List ℕ → Span
+candidate-in r = record { start = candidate-start r; len = candidate-len r }
+
 abbrev pub row-in : Which → List ℕ → Row
 row-in w r = record {
   matched = matched-word r;
   item = item-in w r;
-  candidate = record { start = candidate-start r; len = candidate-len r };
+  candidate = candidate-in r;
   annotation = record { start = annotation-start r; len = annotation-len r };
 }
 

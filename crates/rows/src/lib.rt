@@ -10,7 +10,7 @@ ghost use Rattle.memory.specs.Layout.{record-at};
 ghost use Rattle.memory.specs.Read.{text-of};
 ghost use Rattle.asks.specs.Ask.{asked};
 ghost use Rattle.output.specs.Output.{line-bytes, line-words};
-ghost use Rattle.rows.specs.Rows.{item-in, row-in, words-at};
+ghost use Rattle.rows.specs.Rows.{item-in, candidate-in, row-in, words-at};
 
 // The words of a row, by what they hold (lines' specs/Output.antt). Those of its item are a branch's, by memory's names.
 const MATCHED: usize = 0;
@@ -92,6 +92,18 @@ pub fn row_at(flat: &[u8], k: usize, ask: Ask) -> Row
     let at = k * output::LINE_BYTES;
     let words = words_of(&flat[at..]);
     row_in(&words, ask)
+}
+
+// The span of the candidate of row `k`: two of its words, the others not read.
+pub fn candidate_at(flat: &[u8], k: usize) -> Span
+    requires { ⌜ k * line-bytes + line-bytes ≤ length (now flat) ⌝ }
+    ensures { λ r. ⌜ r ≡ candidate-in (words-at (old flat) k) ⌝ }
+{
+    let at = k * output::LINE;
+    Span {
+        start: wire::word_at(flat, at + CANDIDATE_START),
+        len: wire::word_at(flat, at + CANDIDATE_LEN),
+    }
 }
 
 // The text of a span: a row's in the output text, a mod symbol's in the table text.

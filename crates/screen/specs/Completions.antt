@@ -17,8 +17,9 @@ use Rattle.asks.specs.declared.Ask.{Ask}
 use Rattle.table.specs.Header.{table-in}
 use Rattle.completion.specs.Completes.{output}
 use Rattle.table.specs.Completions.{completion}
-use Rattle.numbers.specs.Replies.{no-lines}
+use Rattle.numbers.specs.Replies.{no-lines, lines-part}
 use Rattle.numbers.specs.declared.CompleteReply.{CompleteReply}
+use Rattle.numbers.specs.declared.SharedReply.{SharedReply}
 use Rattle.wire.specs.Memory.{words-in}
 use Rattle.screen.specs.Memory.{table-at, SoundBytes}
 
@@ -52,3 +53,13 @@ module _ (ws txt : List ℕ) (query : Str) (budget : ℕ) (ls ls′ out out′ :
 -- The reply r to a completion; b says whether the bytes are a sound table.
 pub record RepliesLines (st bs txt : List ℕ) (ask : Option Ask) (query : Str) (budget : ℕ) (ls ls′ out out′ : List ℕ) (r : CompleteReply) : Type 0 where
   pub says : (b : Bool) → Says b (SoundBytes st bs txt) → ListsFor (words-in bs) txt query budget ls ls′ out out′ r b (table-in (words-in bs) txt (table-at st)) ask
+
+-- The shared length of what is asked of the table; 0 where nothing is asked.
+abbrev pub shared-for : (sound : Bool) → S.Table → Option Ask → (budget : ℕ) → C.Output → Str → ℕ
+shared-for sound tbl (some ask) budget out query = C.shared-length (completion sound tbl ask budget out query)
+shared-for sound tbl none budget out query = 0
+
+-- The reply r to a completion with its shared length: all that a completion replies and writes, and that length; b says whether the bytes are a sound table.
+pub record RepliesShared (st bs txt : List ℕ) (ask : Option Ask) (query : Str) (budget : ℕ) (ls ls′ out out′ : List ℕ) (r : SharedReply) : Type 0 where
+  pub lines : RepliesLines st bs txt ask query budget ls ls′ out out′ (lines-part r)
+  pub shared : (b : Bool) → Says b (SoundBytes st bs txt) → r .shared ≡ shared-for b (table-in (words-in bs) txt (table-at st)) ask budget (output ls out) query

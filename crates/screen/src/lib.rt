@@ -8,6 +8,7 @@ use kinds::Kind;
 use numbers::CompleteReply;
 use numbers::ModuleReply;
 use numbers::NameReply;
+use numbers::SharedReply;
 use table::Registered;
 use table::Table;
 ghost use mathlib.Core.Path.{_≡_};
@@ -20,8 +21,10 @@ ghost use Rattle.kinds.specs.Shapes.{call-of};
 ghost use Rattle.wire.specs.Memory.{state-bytes, words-in};
 ghost use Rattle.screen.specs.Memory.{table-at};
 ghost use Rattle.asks.specs.declared.Ask.the-variants.{Names};
+ghost use Rattle.beginnings.specs.Shared.{CandidatesIn, shared-seen};
 ghost use Rattle.numbers.specs.Filters.{modules-for};
-ghost use Rattle.screen.specs.Completions.{RepliesLines};
+ghost use Rattle.numbers.specs.Replies.{shared-reply};
+ghost use Rattle.screen.specs.Completions.{RepliesLines, RepliesShared};
 ghost use Rattle.screen.specs.Replies.{chosen, Replies, RepliesName, RepliesModule};
 
 // The table that a state spells.
@@ -318,4 +321,50 @@ pub extern "C" fn name_console_complete_modules(
         );
     }
     numbers::no_lines(malformed(state, words, text))
+}
+
+// ---- Completions with what their lines share
+
+// The reply to a completion, with the length of the beginning that its lines share.
+fn with_shared(r: CompleteReply, lines: &[u8], out: &[u8]) -> SharedReply
+    requires { ⌜ CandidatesIn (now lines) (now out) (r .lines) ⌝ }
+    ensures { λ s. ⌜ s ≡ shared-reply r (shared-seen (old lines) (old out) (r .lines)) ⌝ }
+{
+    let shared = beginnings::shared_length(lines, out, r.lines as usize);
+    numbers::shared_reply(r, shared)
+}
+
+// Completes a name, and says how many bytes the beginning has that all lines share.
+#[no_mangle]
+pub extern "C" fn name_console_complete_shared(
+    state: &[u8],
+    words: &[u8],
+    text: &[u8],
+    query: &[u8],
+    budget: u32,
+    lines: &mut [u8],
+    out: &mut [u8],
+) -> SharedReply
+    ensures { λ r. ⌜ RepliesShared (old state) (old words) (old text) (some Names) (old query) budget (old lines) (new lines) (old out) (new out) r ⌝ }
+{
+    let r = name_console_complete(state, words, text, query, budget, lines, out);
+    with_shared(r, lines, out)
+}
+
+// The same of a module or namespace, by the number of a filter.
+#[no_mangle]
+pub extern "C" fn name_console_complete_modules_shared(
+    state: &[u8],
+    words: &[u8],
+    text: &[u8],
+    filter: u32,
+    query: &[u8],
+    budget: u32,
+    lines: &mut [u8],
+    out: &mut [u8],
+) -> SharedReply
+    ensures { λ r. ⌜ RepliesShared (old state) (old words) (old text) (modules-for filter) (old query) budget (old lines) (new lines) (old out) (new out) r ⌝ }
+{
+    let r = name_console_complete_modules(state, words, text, filter, query, budget, lines, out);
+    with_shared(r, lines, out)
 }

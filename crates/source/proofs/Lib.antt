@@ -40,3 +40,4 @@ pub mod Filters
 pub mod Taken
 pub mod Spans
 pub mod Cases
+pub mod SharedBeginning

@@ -1,17 +1,17 @@
 -- The requirements' calls: what each is given, when it is refused, and what it hands back.
 use Prim.Native.Nat.{ℕ, _+_, _-_, _/_, min, max}
 use mathlib.Core.Bool.{Bool, true, false, not, _||_, cond}
-use mathlib.Core.List.{List, [], _∷_, _++_}
+use mathlib.Core.List.{List, [], _∷_, _++_, map}
 use mathlib.Core.Option.{Option, none, some}
 use lib.Dec.{eqb, ltb}
 use lib.IntN.{ℤ, pos, negsuc}
 use lib.ListN.{length}
 use Rattle.source.specs.Limits.{longest-name, most-segments, longest-path, heaviest-list, deepest-trie, most-used, record-words}
-use Rattle.source.specs.Text.{Str, Query, segments, ends-in-dot, name-byte, query-byte, path-byte}
+use Rattle.source.specs.Text.{Str, Query, common-prefix, string-length, segments, ends-in-dot, name-byte, query-byte, path-byte}
 use Rattle.source.specs.Types.{Value, Trie, bind, the-item}
 use Rattle.source.specs.Tries.{trie-find-exact}
 use Rattle.source.specs.Terms.{heaviest, depth}
-use Rattle.source.specs.Listing.{PathOf}
+use Rattle.source.specs.Listing.{PathOf, fold-left}
 use Rattle.source.specs.Table.{Table, ModSymbol, Module, Namespace, Line, empty, insert, register-alias, register-include, register-open, register-module-stays-loaded, autocomplete-lid, autocomplete-mod-or-ns}
 use Rattle.source.specs.Counted.{insertᶜ, register-aliasᶜ, register-includeᶜ, register-openᶜ, register-module-pathᶜ, trie-find-prefixᶜ}
 use Rattle.source.specs.Rules.{all}
@@ -286,3 +286,15 @@ complete sound tbl budget out query =
 unfoldable pub complete-modules : (sound : Bool) → Table → Filter → (budget : ℕ) → Output → Str → Completed ModSymbol
 complete-modules sound tbl f budget out query =
     completed sound budget out query (autocomplete-mod-or-ns tbl (segments query) (filter-of f)) (tries-entered (tbl .tbl-mods) (segments query))
+
+-- ---- What all lines agree on
+
+-- The longest beginning that the texts share; of no text it is empty.
+unfoldable pub shared-beginning : List Str → Str
+shared-beginning [] = []
+shared-beginning (s ∷ ss) = fold-left common-prefix s ss
+
+-- That of the candidates of a listing, its length; 0 where it is refused.
+unfoldable pub shared-length : {A : Type 0} → Completed A → ℕ
+shared-length (listed lines entered) = string-length (shared-beginning (map (λ l. l .candidate) lines))
+shared-length (refused n) = 0

@@ -32,6 +32,12 @@ starts-with s [] = true
 starts-with [] (b ∷ p) = false
 starts-with (a ∷ s) (b ∷ p) = eqb a b && starts-with s p
 
+-- The longest beginning that both texts have.
+unfoldable pub common-prefix : Str → Str → Str
+common-prefix [] t = []
+common-prefix (a ∷ s) [] = []
+common-prefix (a ∷ s) (b ∷ t) = elim (eqb a b) [ true ↦ a ∷ common-prefix s t | false ↦ [] ]
+
 -- String.length: counts bytes.
 unfoldable pub string-length : Str → ℕ
 string-length s = length s

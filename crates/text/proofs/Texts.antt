@@ -1,17 +1,22 @@
 -- Laws of string-compare, starts-with and all, by what is left from a position on.
-use Prim.Native.Nat.{ℕ, _+_, _-_, _≤_, _<_, compare, Ordering, Ordering·lt, Ordering·eq, Ordering·gt}
-use mathlib.Core.Path.{_≡_, refl, sym, _∙_}
+use Prim.Native.Nat.{ℕ, _+_, _-_, _≤_, _<_, min, compare, Ordering, Ordering·lt, Ordering·eq, Ordering·gt}
+use mathlib.Core.Path.{_≡_, refl, sym, ap, _∙_}
 use mathlib.Core.Bool.{Bool, true, false, _&&_, and-true, and-false, and-assoc, or-false}
 use mathlib.Core.List.{[], _∷_}
+use native.Mathlib.Decide.{ℕ-discrete}
 use native.Mathlib.Omega.{arith}
 use native.Mathlib.Numerals.{add-one}
-use lib.Dec.{eqb}
+use lib.Dec.{eqb, leb, leb·zero, leb·suc-zero, leb·suc-suc}
 use borrow.Author.Tests.{eq-eqb, ne-eqb}
 use lib.ListN.{length, getD, take, drop, length-drop, drop-of-length-le}
 use lib.Seq.{drop-cons, take-all}
-use Rattle.source.specs.Text.{Str, dot, then, string-compare, starts-with, name-byte, query-byte}
+use Rattle.source.specs.Text.{Str, dot, then, string-compare, starts-with, common-prefix, name-byte, query-byte}
 use Rattle.source.specs.Rules.{all}
 use Rattle.source.proofs.Order.{Viewℕ, compare-view}
+use Rattle.source.proofs.SharedBeginning.{common-same, common-differ}
+use Rattle.text.specs.Text.{ordering, Compares}
+use Rattle.text.specs.declared.Order.{Order}
+use Rattle.text.specs.declared.Order.the-variants.{Less, Same, More}
 
 -- The byte at a position, and what comes after it.
 pub drop-at : (s : Str) (i : ℕ) → i < length s → drop i s ≡ getD s i 0 ∷ drop (i + 1) s
@@ -40,62 +45,90 @@ compare-is a b o v = go (compare a b) o (compare-view a b) v
     go Ordering·gt Ordering·eq u v = absurd (omega arith)
     go Ordering·gt Ordering·gt u v = refl
 
--- What is left from i on says how the whole compares.
+-- What is left from i on says how the whole compares, and how many leading bytes are equal.
 pub record Comparing (a b : Str) (i : ℕ) : Type 0 where
   pub a-has : i ≤ length a
   pub b-has : i ≤ length b
   pub says : string-compare (drop i a) (drop i b) ≡ string-compare a b
+  pub counts : i + length (common-prefix (drop i a) (drop i b)) ≡ length (common-prefix a b)
+
+-- The first answer stands, where it does not say equal.
+then-stands : (x y : ℕ) (o : Ordering) → (x ≡ y → ⊥) → then (compare x y) o ≡ compare x y
+unfolding then
+then-stands x y o n = go (compare x y) (compare-view x y)
+  where
+    go : (p : Ordering) → Viewℕ x y p → then p o ≡ p
+    go Ordering·lt v = refl
+    go Ordering·eq v = absurd (n v)
+    go Ordering·gt v = refl
+
+-- Of texts of which one is empty, the order is that of their lengths, and they share nothing.
+pub record Ended (s t : Str) : Type 0 where
+  pub says : string-compare s t ≡ compare (length s) (length t)
+  pub none : common-prefix s t ≡ []
+
+either-ends : (s t : Str) → min (length s) (length t) ≡ 0 → Ended s t
+unfolding string-compare common-prefix
+either-ends [] [] e = record { says = sym (compare-is 0 0 Ordering·eq refl); none = refl }
+either-ends [] (b ∷ t) e = record { says = sym (compare-is 0 (length (b ∷ t)) Ordering·lt (omega arith)); none = refl }
+either-ends (a ∷ s) [] e = record { says = sym (compare-is (length (a ∷ s)) 0 Ordering·gt (omega arith)); none = refl }
+either-ends (a ∷ s) (b ∷ t) e = absurd (omega arith)
 
 module _ {a b : Str} {i : ℕ} (f : Comparing a b i) where
-  bytes-say : i < length a → i < length b → (o : Ordering) → Viewℕ (getD a i 0) (getD b i 0) o
-      → then o (string-compare (drop (i + 1) a) (drop (i + 1) b)) ≡ string-compare a b
-  unfolding string-compare
-  bytes-say h k o v = rw (← f .says, drop-at a i, drop-at b i, compare-is (getD a i 0) (getD b i 0) o v)
+  module _ (h : i < length a) (k : i < length b) where
+    bytes-say : string-compare a b ≡ then (compare (getD a i 0) (getD b i 0)) (string-compare (drop (i + 1) a) (drop (i + 1) b))
+    unfolding string-compare
+    bytes-say = rw (← f .says, drop-at a i, drop-at b i)
 
-  pub bytes-same : i < length a → i < length b → getD a i 0 ≡ getD b i 0 → Comparing a b (i + 1)
-  unfolding then
-  bytes-same h k e = record { a-has = omega arith; b-has = omega arith; says = bytes-say h k Ordering·eq e }
+    pub bytes-same : getD a i 0 ≡ getD b i 0 → Comparing a b (i + 1)
+    unfolding then
+    bytes-same e =
+        let same : common-prefix (drop i a) (drop i b) ≡ getD a i 0 ∷ common-prefix (drop (i + 1) a) (drop (i + 1) b) = rw (drop-at a i, drop-at b i) (common-same _ _ _ _ e) in
+        record {
+          a-has = omega arith;
+          b-has = omega arith;
+          says = rw (compare-is (getD a i 0) (getD b i 0) Ordering·eq e) at (sym bytes-say);
+          counts = omega (arith, f .counts, ap length same);
+        }
 
-  pub bytes-less : i < length a → i < length b → getD a i 0 < getD b i 0 → Ordering·lt ≡ string-compare a b
-  unfolding then
-  bytes-less h k l = bytes-say h k Ordering·lt l
+    pub bytes-differ : (getD a i 0 ≡ getD b i 0 → ⊥) → (o : Order) → ordering o ≡ compare (getD a i 0) (getD b i 0) → Compares a b (record { order = o; agree = i })
+    bytes-differ n o e =
+        let none : common-prefix (drop i a) (drop i b) ≡ [] = rw (drop-at a i, drop-at b i) (common-differ _ _ _ _ n) in
+        record { order = e ∙ sym (bytes-say ∙ then-stands _ _ _ n); agree = omega (arith, f .counts, ap length none) }
 
-  pub bytes-more : i < length a → i < length b → getD b i 0 < getD a i 0 → Ordering·gt ≡ string-compare a b
-  unfolding then
-  bytes-more h k l = bytes-say h k Ordering·gt l
+  -- One of them ends at i.
+  pub ended : (n : ℕ) → n ≡ min (length a) (length b) → n ≤ i → (o : Order) → ordering o ≡ compare (length a) (length b) → Compares a b (record { order = o; agree = n })
+  ended n e h o p = record { order = p ∙ same-order ∙ sym (x .says) ∙ f .says; agree = omega (arith, f .counts, f .a-has, f .b-has, ap length (x .none)) }
+    where
+      x : Ended (drop i a) (drop i b)
+      x = either-ends (drop i a) (drop i b) (omega (arith, length-drop i a, length-drop i b, f .a-has, f .b-has))
 
-  pub a-ends : length a ≤ i → i < length b → Ordering·lt ≡ string-compare a b
-  unfolding string-compare
-  a-ends h k = rw (← f .says, drop-of-length-le a h, drop-at b i)
+      view : (q : Ordering) → Viewℕ (length (drop i a)) (length (drop i b)) q → Viewℕ (length a) (length b) q
+      view Ordering·lt v = omega (arith, length-drop i a, length-drop i b, f .a-has, f .b-has)
+      view Ordering·eq v = omega (arith, length-drop i a, length-drop i b, f .a-has, f .b-has)
+      view Ordering·gt v = omega (arith, length-drop i a, length-drop i b, f .a-has, f .b-has)
 
-  pub b-ends : i < length a → length b ≤ i → Ordering·gt ≡ string-compare a b
-  unfolding string-compare
-  b-ends h k = rw (← f .says, drop-at a i, drop-of-length-le b k)
-
-  pub both-end : length a ≤ i → length b ≤ i → Ordering·eq ≡ string-compare a b
-  unfolding string-compare
-  both-end h k = rw (← f .says, drop-of-length-le a h, drop-of-length-le b k)
+      same-order : compare (length a) (length b) ≡ compare (length (drop i a)) (length (drop i b))
+      same-order = compare-is (length a) (length b) (compare (length (drop i a)) (length (drop i b))) (view (compare (length (drop i a)) (length (drop i b))) (compare-view (length (drop i a)) (length (drop i b))))
 
 -- ---- Prefix
+
+-- A text begins with another if as many leading bytes are equal as the other has.
+pub starts-counted : (s p : Str) → leb (length p) (length (common-prefix s p)) ≡ starts-with s p
+unfolding starts-with common-prefix
+starts-counted s [] = leb·zero (length (common-prefix s []))
+starts-counted [] (b ∷ p) = leb·suc-zero (length p)
+starts-counted (a ∷ s) (b ∷ p) =
+    elim (ℕ-discrete a b) [
+      | yes e ↦ rw (common-same a b s p e, eq-eqb a b e) (leb·suc-suc (length p) (length (common-prefix s p)) ∙ starts-counted s p)
+      | no n ↦ rw (common-differ a b s p n, ne-eqb a b n) (leb·suc-zero (length p))
+    ]
 
 pub starts-short : (s p : Str) → length s < length p → false ≡ starts-with s p
 unfolding starts-with
 starts-short s [] h = absurd (omega arith)
 starts-short [] (b ∷ p) h = refl
 starts-short (a ∷ s) (b ∷ p) h = rw (← starts-short s p (omega arith)) (sym (and-false (eqb a b)))
-
-module _ (s p : Str) (i : ℕ) (h : i < length s) (k : i < length p) where
-  pub starts-differ : (getD s i 0 ≡ getD p i 0 → ⊥) → starts-with (drop i s) (drop i p) ≡ false
-  unfolding starts-with
-  starts-differ n = rw (drop-at s i, drop-at p i, ne-eqb (getD s i 0) (getD p i 0) n)
-
-  pub starts-same : getD s i 0 ≡ getD p i 0 → starts-with (drop i s) (drop i p) ≡ starts-with (drop (i + 1) s) (drop (i + 1) p)
-  unfolding starts-with
-  starts-same e = rw (drop-at s i, drop-at p i, eq-eqb (getD s i 0) (getD p i 0) e)
-
-pub starts-end : (s p : Str) (i : ℕ) → length p ≤ i → starts-with (drop i s) (drop i p) ≡ true
-unfolding starts-with
-starts-end s p i h = rw (drop-of-length-le p h)
 
 -- ---- Byte rules
 

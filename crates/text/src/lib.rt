@@ -1,18 +1,24 @@
 // Texts as bytes: comparison, prefix, beginnings.
 ghost use mathlib.Core.Path.{_≡_};
-ghost use Prim.Native.Nat.{min};
+ghost use Prim.Native.Nat.{min, compare};
 ghost use Rattle.source.specs.Lent.{old};
-ghost use Rattle.source.specs.Text.{string-compare, starts-with};
-ghost use Rattle.text.specs.Text.{ordering, beginning};
+ghost use Rattle.source.specs.Text.{starts-with};
+ghost use Rattle.text.specs.Text.{ordering, Compares, beginning};
 
 // Bytes in the number of a beginning.
 const BEGINNING: usize = 8;
 
-// How one text compares with another.
+// How one text stands to another.
 pub enum Order {
     Less,
     Same,
     More,
+}
+
+// How one text compares with another: the order, and how many leading bytes are equal.
+pub struct Comparison {
+    pub order: Order,
+    pub agree: usize,
 }
 
 // The shorter of two lengths.
@@ -25,9 +31,22 @@ fn shorter(a: usize, b: usize) -> usize
     b
 }
 
-// The source's string_compare: bytewise, a proper beginning first.
-pub fn string_compare(a: &[u8], b: &[u8]) -> Order
-    ensures { λ r. ⌜ ordering r ≡ string-compare (old a) (old b) ⌝ }
+// How one number stands to another.
+fn order_of(x: usize, y: usize) -> Order
+    ensures { λ r. ⌜ ordering r ≡ compare x y ⌝ }
+{
+    if x < y {
+        return Order::Less;
+    }
+    if x == y {
+        return Order::Same;
+    }
+    Order::More
+}
+
+// The source's string_compare: bytewise, a proper beginning first; with the count of equal leading bytes.
+pub fn string_compare(a: &[u8], b: &[u8]) -> Comparison
+    ensures { λ r. ⌜ Compares (old a) (old b) r ⌝ }
 {
     let n = shorter(a.len(), b.len());
     let mut i = 0;
@@ -35,20 +54,16 @@ pub fn string_compare(a: &[u8], b: &[u8]) -> Order
         let x = a[i];
         let y = b[i];
         if x != y {
-            if x < y {
-                return Order::Less;
-            }
-            return Order::More;
+            return Comparison {
+                order: order_of(x as usize, y as usize),
+                agree: i,
+            };
         }
         i += 1;
     }
-    if i < a.len() {
-        return Order::More;
-    }
-    if i < b.len() {
-        Order::Less
-    } else {
-        Order::Same
+    Comparison {
+        order: order_of(a.len(), b.len()),
+        agree: n,
     }
 }
 
@@ -68,19 +83,10 @@ pub fn beginning(s: &[u8]) -> u64
     n
 }
 
-// The source's starts_with: whether `s` begins with `p`.
+// The source's starts_with: whether `s` begins with `p`, by how many leading bytes are equal.
 pub fn starts_with(s: &[u8], p: &[u8]) -> bool
     ensures { λ r. ⌜ r ≡ starts-with (old s) (old p) ⌝ }
 {
-    if s.len() < p.len() {
-        return false;
-    }
-    let mut i = 0;
-    while i < p.len() {
-        if s[i] != p[i] {
-            return false;
-        }
-        i += 1;
-    }
-    true
+    let c = string_compare(s, p);
+    p.len() <= c.agree
 }

@@ -15,7 +15,8 @@ pub fn key_order(words: &[u32], text: &[u8], link: u32, key: &[u8]) -> Order
     requires { ⌜ (0 < link) × AnyTree (now words) (now text) link ⌝ }
     ensures { λ r. ⌜ ordering r ≡ string-compare (old key) (key-at (old words) (old text) link) ⌝ }
 {
-    text::string_compare(key, access::key_of(words, text, link))
+    let c = text::string_compare(key, access::key_of(words, text, link));
+    c.order
 }
 
 // Whether the key of a branch begins with `prefix`.

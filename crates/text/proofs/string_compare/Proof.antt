@@ -1,9 +1,9 @@
 -- string_compare meets its contract: what is left from i on says how the whole compares.
-use Prim.Native.Nat.{_-_}
-use mathlib.Core.Path.{refl}
+use Prim.Native.Nat.{_-_, compare}
+use mathlib.Core.Path.{_≡_, refl}
 use native.Mathlib.Omega.{arith}
 use borrow.Author.Needs.{needs}
-use Rattle.text.proofs.Texts.{Comparing, bytes-same, bytes-less, bytes-more, a-ends, b-ends, both-end}
+use Rattle.text.proofs.Texts.{Comparing, bytes-same, bytes-differ, ended}
 use Rattle.text.proofs.string_compare.Statement.{statement}
 use Rattle.text.proofs.string_compare.Tie as tie
 
@@ -16,24 +16,26 @@ string-compare-spec =
     {- shorter-requires -}
     (λ c κs. search needs)
     {- loop-holds -}
-    (λ c. record { a-has = omega arith; b-has = omega arith; says = refl })
+    (λ c. record { a-has = omega arith; b-has = omega arith; says = refl; counts = omega arith })
     {- shared-slice-read-x -}
     (λ c. omega arith)
     {- shared-slice-read-y -}
     (λ c. omega arith)
+    {- cast-order-of -}
+    (λ c. omega (arith, c .before .before .shared-slice-known3 .given (c .before .before .before .before .loop .i)))
+    {- cast-order-of-2 -}
+    (λ c. omega (arith, c .before .shared-slice-known4 .given (c .before .before .before .before .loop .i)))
+    {- order-of-requires -}
+    (λ c κs. search needs)
     {- returns -}
-    (λ c. bytes-less (c .before .before .before .before .before .loop .inv) (omega arith) (omega arith) (omega arith))
-    {- returns-2 -}
-    (λ c. bytes-more (c .before .before .before .before .before .loop .inv) (omega arith) (omega arith) (omega arith))
+    (λ c. bytes-differ (c .before .before .before .before .before .loop .inv) (omega arith) (omega arith) (c .before .if1 .taken) _ (c .order-of .ensures))
     {- add-i -}
     (λ c. omega arith)
     {- loop-less -}
     (λ c. omega arith)
     {- loop-again -}
     (λ c. bytes-same (c .before .before .before .before .loop .inv) (omega arith) (omega arith) (omega arith))
-    {- returns-3 -}
-    (λ c. b-ends (c .before .before .loop .inv) (omega arith) (omega arith))
-    {- returns-4 -}
-    (λ c. a-ends (c .before .before .before .loop .inv) (omega arith) (omega arith))
-    {- returns-5 -}
-    (λ c. both-end (c .before .before .before .loop .inv) (omega arith) (omega arith)))
+    {- order-of-requires-2 -}
+    (λ c κs. search needs)
+    {- returns-2 -}
+    (λ c. ended (c .before .before .loop .inv) _ (c .before .before .before .shorter .ensures) (omega arith) _ (c .order-of2 .ensures)))

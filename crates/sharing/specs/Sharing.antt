@@ -1,0 +1,27 @@
+-- What a completion with its shared length hands back, and what it leaves of the lent output.
+use Prim.Native.Nat.{ℕ}
+use mathlib.Core.Path.{_≡_}
+use mathlib.Core.Bool.{Bool}
+use mathlib.Core.List.{List}
+use Rattle.source.specs.Text.{Str}
+use Rattle.source.specs.Calls.{shared-length}
+use Rattle.memory.specs.Sound.{Says}
+use Rattle.asks.specs.declared.Ask.{Ask}
+use Rattle.beginnings.specs.Shared.{shared-seen}
+use Rattle.completion.specs.Completes.{output}
+use Rattle.counts.specs.LinesIn.{lines-in}
+use Rattle.table.specs.Header.{IsSound, table-in}
+use Rattle.table.specs.Completions.{completion, Completes}
+use Rattle.table.specs.declared.Table.{Table}
+use Rattle.table.specs.declared.Listing.{Listing}
+use Rattle.sharing.specs.declared.Sharing.{Sharing}
+
+-- A listing, with what the lines that stand in flat and out share.
+pub record Reads (flat out : List ℕ) (l : Listing) (r : Sharing) : Type 0 where
+  pub listing : r .listing ≡ l
+  pub shared : r .shared ≡ shared-seen flat out (lines-in (l .answer))
+
+-- In any memory: all that a completion hands back and leaves, and the shared length of the definition's answer; b says whether the memory is sound.
+pub record CompletesShared (ws txt : List ℕ) (t : Table) (ask : Ask) (query : Str) (budget : ℕ) (flat flat′ out out′ : List ℕ) (r : Sharing) : Type 0 where
+  pub listing : Completes ws txt t ask query budget flat flat′ out out′ (r .listing)
+  pub shared : (b : Bool) → Says b (IsSound ws txt t) → r .shared ≡ shared-length (completion b (table-in ws txt t) ask budget (output flat out) query)
