@@ -1,4 +1,5 @@
-/* prompt: a prompt over the name console's C calls. Tab completes a command or the dotted name under the cursor. */
+/* prompt: a prompt over the name console's C calls. Tab fills in what is certain of a command or of the dotted name under
+   the cursor, a second Tab lists. */
 #include <ctype.h>
 #include <errno.h>
 #include <stdbool.h>
@@ -181,7 +182,7 @@ static bool run_quit(char **part) {
 static bool run_help(char **part) {
   (void)part;
   for (int i = 0; i < COMMANDS; i++) printf("  %-8s %-10s  %s\n", commands[i].name, commands[i].form, commands[i].says);
-  puts("host and q are dotted names, such as Live.offset; - is the root. Tab completes a name.");
+  puts("host and q are dotted names, such as Live.offset; - is the root. Tab fills in what is certain, a second Tab lists.");
   return true;
 }
 
@@ -214,7 +215,7 @@ static void run(char *line) {
 
 /* ---- Tab */
 
-/* The annotations of the names on offer, in their order. */
+/* The annotations of what is on offer, in its order; a command's is empty. */
 static char *notes[LINES];
 static int noted;
 
@@ -236,31 +237,31 @@ static char *next_command(const char *typed, int again) {
   if (!again) at = 0;
   while (at < COMMANDS) {
     const char *name = commands[at++].name;
-    if (strncmp(name, typed, strlen(typed)) == 0) return copy_of((const uint8_t *)name, strlen(name));
+    if (strncmp(name, typed, strlen(typed)) == 0) {
+      notes[noted++] = copy_of(BYTES(""));
+      return copy_of(BYTES(name));
+    }
   }
   return NULL;
 }
 
-/* What readline puts in the typed text's place, then the candidates. The names need not begin with what was typed
-   (L.o gives Live.offset), so their common beginning is put there only if it is no shorter. */
-static char **offer(const char *typed, uint32_t count) {
-  char **offered = calloc(count + 2, sizeof *offered);
+static size_t dots_in(const uint8_t *bytes, size_t len) {
+  size_t dots = 0;
+  while (len) dots += bytes[--len] == '.';
+  return dots;
+}
+
+/* What readline puts in the typed text's place, then the candidates. The names need not begin with what was typed (L.o
+   gives Live.offset): the beginning that they share is put there if it has as many dots, so that no typed segment is lost. */
+static char **offer(const char *typed, struct name_console_shared r) {
+  char **offered = calloc(r.lines + 2, sizeof *offered);
   if (!offered) abort();
-  size_t common = 0;
-  for (uint32_t i = 0; i < count; i++) {
+  const uint8_t *shared = out + name_console_line_at(lines, 0).candidate;
+  offered[0] = dots_in(shared, r.shared) >= dots_in(BYTES(typed)) ? copy_of(shared, r.shared) : copy_of(BYTES(typed));
+  for (uint32_t i = 0; i < r.lines; i++) {
     struct name_console_line l = name_console_line_at(lines, i);
-    char *name = offered[i + 1] = copy_of(out + l.candidate, l.candidate_len);
+    if (r.lines > 1) offered[i + 1] = copy_of(out + l.candidate, l.candidate_len);
     notes[noted++] = copy_of(out + l.annotation, l.annotation_len);
-    if (i == 0) common = strlen(name);
-    size_t same = 0;
-    while (same < common && name[same] == offered[1][same]) same++;
-    common = same;
-  }
-  bool enough = common >= strlen(typed);
-  offered[0] = enough ? copy_of((uint8_t *)offered[1], common) : copy_of((const uint8_t *)typed, strlen(typed));
-  if (count == 1) {
-    free(offered[1]);
-    offered[1] = NULL;
   }
   return offered;
 }
@@ -279,24 +280,28 @@ static char **on_tab(const char *typed, int start, int end) {
   q.at[q.size - 1] = '.';
   const struct command *c = command_of(rl_line_buffer + first, len);
   bool modules = c && (c->run == run_module || c->run == run_modules);
-  struct name_console_listing r =
-      modules ? name_console_complete_modules(TABLE, NAME_CONSOLE_ALL, QUERY(q), OUTPUT) : name_console_complete(TABLE, QUERY(q), OUTPUT);
+  struct name_console_shared r = modules ? name_console_complete_modules_shared(TABLE, NAME_CONSOLE_ALL, QUERY(q), OUTPUT)
+                                         : name_console_complete_shared(TABLE, QUERY(q), OUTPUT);
   if (r.answer) {
     putchar('\n');
     say_refused(r.answer);
     rl_on_new_line();
     return NULL;
   }
-  return r.lines ? offer(typed, r.lines) : NULL;
+  return r.lines ? offer(typed, r) : NULL;
+}
+
+/* The key: a second Tab lists, if the first had more than one to offer. (Readline's own waits for a Tab that changed nothing.) */
+static int fill_or_list(int count, int key) {
+  return rl_last_func == fill_or_list && noted > 1 ? rl_possible_completions(count, key) : rl_complete(count, key);
 }
 
 /* Readline asks to list what is on offer: the pane, each name with its annotation. */
 static void on_list(char **offered, int count, int longest) {
   putchar('\n');
   for (int i = 1; i <= count; i++) {
-    const char *note = i <= noted ? notes[i - 1] : "";
-    if (*note)
-      printf("  %-*s  %s\n", longest, offered[i], note);
+    if (*notes[i - 1])
+      printf("  %-*s  %s\n", longest, offered[i], notes[i - 1]);
     else
       printf("  %s\n", offered[i]);
   }
@@ -311,8 +316,9 @@ int main(void) {
   rl_completer_quote_characters = "";
   rl_sort_completion_matches = 0;
   rl_ignore_completion_duplicates = 0;
-  rl_variable_bind("show-all-if-ambiguous", "on");
   rl_variable_bind("enable-bracketed-paste", "off");
+  rl_bind_key_in_map('\t', fill_or_list, emacs_standard_keymap);
+  rl_bind_key_in_map('\t', fill_or_list, vi_insertion_keymap);
   char *line;
   while (!done && (line = readline("> "))) {
     if (*line) add_history(line);

@@ -1,5 +1,6 @@
 /* Fuzzes the C layer: any bytes as table, texts and output. Each call must answer a number that it may answer, leave
-   every byte equal where it refuses, never write outside what is lent, and leave a sound table where it accepts. */
+   every byte equal where it refuses, never write outside what is lent, and leave a sound table where it accepts. A
+   completion that says what is certain must reply and write what the completion does. */
 #include "name_console.h"
 #include <stdlib.h>
 #include <string.h>
@@ -45,6 +46,15 @@ static void guards(const struct lent *b) {
 
 static void same(const struct lent *b, size_t from) { must(from > b->len || !memcmp(b->bytes + from, b->before + from, b->len - from)); }
 
+/* What it held before the call stands in it again, and what it holds now counts as before. */
+static void exchange(struct lent *b) {
+  for (size_t i = 0; i < b->len; i++) {
+    uint8_t now = b->bytes[i];
+    b->bytes[i] = b->before[i];
+    b->before[i] = now;
+  }
+}
+
 static void done(struct lent *b) {
   guards(b);
   free(b->all);
@@ -69,6 +79,9 @@ static size_t text_of(uint8_t *out) {
 
 static struct lent state, words, table_text, lines, out;
 
+#define TABLE state.bytes, state.len, words.bytes, words.len, table_text.bytes, table_text.len
+#define OUTPUT lines.bytes, lines.len, out.bytes, out.len
+
 static void registration(uint32_t kind) {
   uint8_t a[MOST], b[MOST], c[MOST];
   size_t an = text_of(a), bn = text_of(b), cn = text_of(c);
@@ -76,38 +89,56 @@ static void registration(uint32_t kind) {
   keep(&state), keep(&words), keep(&table_text);
   uint32_t answer = 0;
   switch (kind) {
-  case 0: answer = name_console_insert(state.bytes, state.len, words.bytes, words.len, table_text.bytes, table_text.len, a, an, b, bn, n); break;
-  case 1: answer = name_console_include(state.bytes, state.len, words.bytes, words.len, table_text.bytes, table_text.len, a, an, b, bn); break;
-  case 2: answer = name_console_open_namespace(state.bytes, state.len, words.bytes, words.len, table_text.bytes, table_text.len, a, an, b, bn); break;
-  case 3: answer = name_console_open_module(state.bytes, state.len, words.bytes, words.len, table_text.bytes, table_text.len, a, an, b, bn); break;
-  case 4: answer = name_console_alias(state.bytes, state.len, words.bytes, words.len, table_text.bytes, table_text.len, c, cn, a, an, b, bn); break;
-  default: answer = name_console_module(state.bytes, state.len, words.bytes, words.len, table_text.bytes, table_text.len, n % 3, a, an, b, bn); break;
+  case 0: answer = name_console_insert(TABLE, a, an, b, bn, n); break;
+  case 1: answer = name_console_include(TABLE, a, an, b, bn); break;
+  case 2: answer = name_console_open_namespace(TABLE, a, an, b, bn); break;
+  case 3: answer = name_console_open_module(TABLE, a, an, b, bn); break;
+  case 4: answer = name_console_alias(TABLE, c, cn, a, an, b, bn); break;
+  default: answer = name_console_module(TABLE, n % 3, a, an, b, bn); break;
   }
   must(answer <= NAME_CONSOLE_TEXT_FULL);
   if (answer) {
     same(&state, 0), same(&words, 0), same(&table_text, 0);
   } else {
-    must(name_console_find(state.bytes, state.len, words.bytes, words.len, table_text.bytes, table_text.len, a, 0).answer == NAME_CONSOLE_EMPTY);
+    must(name_console_find(TABLE, a, 0).answer == NAME_CONSOLE_EMPTY);
   }
 }
 
 static void look_up(void) {
   uint8_t a[MOST];
   size_t an = text_of(a);
-  struct name_console_name f = name_console_find(state.bytes, state.len, words.bytes, words.len, table_text.bytes, table_text.len, a, an);
+  struct name_console_name f = name_console_find(TABLE, a, an);
   must(f.answer <= NAME_CONSOLE_TOO_LONG || f.answer == NAME_CONSOLE_NONE);
-  struct name_console_symbol m = name_console_find_module(state.bytes, state.len, words.bytes, words.len, table_text.bytes, table_text.len, a, an);
+  struct name_console_symbol m = name_console_find_module(TABLE, a, an);
   must(m.answer <= NAME_CONSOLE_TOO_LONG || m.answer == NAME_CONSOLE_NONE);
   if (!m.answer) must((uint64_t)m.name_start + m.name_len <= table_text.len && (uint64_t)m.path_start + m.path_len <= table_text.len);
 }
 
+/* Bytes that the candidates of the first n lines begin with alike. */
+static uint32_t beginning(uint32_t n) {
+  if (!n) return 0;
+  struct name_console_line first = name_console_line_at(lines.bytes, 0);
+  for (uint32_t k = 0; k < first.candidate_len; k++)
+    for (uint32_t i = 1; i < n; i++) {
+      struct name_console_line l = name_console_line_at(lines.bytes, i);
+      if (l.candidate_len <= k || out.bytes[l.candidate + k] != out.bytes[first.candidate + k]) return k;
+    }
+  return first.candidate_len;
+}
+
+/* The same by the call that says what is shared, on the same output. */
+static void complete_shared(int modules, uint32_t filter, const uint8_t *q, size_t qn, uint32_t budget, struct name_console_listing r) {
+  exchange(&lines), exchange(&out);
+  struct name_console_shared s = modules ? name_console_complete_modules_shared(TABLE, filter, q, qn, budget, OUTPUT)
+                                         : name_console_complete_shared(TABLE, q, qn, budget, OUTPUT);
+  must(s.answer == r.answer && s.lines == r.lines && s.entered == r.entered && s.shared == beginning(s.lines));
+  same(&lines, 0), same(&out, 0);
+}
+
 static struct name_console_listing complete(int modules, uint32_t filter, const uint8_t *q, size_t qn, uint32_t budget) {
   keep(&lines), keep(&out);
-  struct name_console_listing r =
-      modules ? name_console_complete_modules(state.bytes, state.len, words.bytes, words.len, table_text.bytes, table_text.len, filter, q, qn, budget,
-                                              lines.bytes, lines.len, out.bytes, out.len)
-              : name_console_complete(state.bytes, state.len, words.bytes, words.len, table_text.bytes, table_text.len, q, qn, budget, lines.bytes,
-                                      lines.len, out.bytes, out.len);
+  struct name_console_listing r = modules ? name_console_complete_modules(TABLE, filter, q, qn, budget, OUTPUT)
+                                          : name_console_complete(TABLE, q, qn, budget, OUTPUT);
   must(r.answer <= NAME_CONSOLE_NO_ROOM);
   if (r.answer) {
     must(!r.lines && !r.entered);

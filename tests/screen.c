@@ -10,12 +10,14 @@
 static uint8_t state[NAME_CONSOLE_STATE], words[NAME_CONSOLE_RECORDS * NAME_CONSOLE_RECORD], text[32768];
 static uint8_t lines[600 * NAME_CONSOLE_LINE], out[65536];
 static uint8_t lines_before[sizeof lines], out_before[sizeof out];
+static uint8_t lines_left[sizeof lines], out_left[sizeof out];
 static uint8_t state_before[sizeof state], words_before[sizeof words], text_before[sizeof text];
-static size_t lines_len = sizeof lines, out_len = sizeof out;
+static size_t state_len = sizeof state, lines_len = sizeof lines, out_len = sizeof out;
 static uint32_t budget = 4096;
 static int failures;
 
-#define TABLE state, sizeof state, words, sizeof words, text, sizeof text
+#define TABLE state, state_len, words, sizeof words, text, sizeof text
+#define OUTPUT lines, lines_len, out, out_len
 #define S(s) (const uint8_t *)(s), strlen(s)
 
 static void check(const char *what, int good) {
@@ -44,6 +46,11 @@ static void structs(void) {
   PLACE(listing, answer, 0);
   PLACE(listing, lines, 4);
   PLACE(listing, entered, 8);
+  SIZE(shared, 16);
+  PLACE(shared, answer, 0);
+  PLACE(shared, lines, 4);
+  PLACE(shared, entered, 8);
+  PLACE(shared, shared, 12);
   SIZE(line, 44);
   PLACE(line, match_length, 0);
   PLACE(line, candidate, 4);
@@ -83,25 +90,48 @@ static void fill(void) {
   memcpy(out_before, out, sizeof out);
 }
 
+/* Keeps what a completion has left, and lends the same output anew. */
+static void again(void) {
+  memcpy(lines_left, lines, sizeof lines);
+  memcpy(out_left, out, sizeof out);
+  fill();
+}
+
+/* The bytes that the candidates of the last completion share, and whether the call that says so replied and left what the completion did. */
+static uint32_t shared;
+static int alike;
+
+static struct name_console_listing both(struct name_console_listing r, struct name_console_shared s) {
+  shared = s.shared;
+  alike = s.answer == r.answer && s.lines == r.lines && s.entered == r.entered && memcmp(lines, lines_left, sizeof lines) == 0 &&
+          memcmp(out, out_left, sizeof out) == 0;
+  return r;
+}
+
 static struct name_console_listing complete(const char *q) {
   fill();
-  return name_console_complete(TABLE, S(q), budget, lines, lines_len, out, out_len);
+  struct name_console_listing r = name_console_complete(TABLE, S(q), budget, OUTPUT);
+  again();
+  return both(r, name_console_complete_shared(TABLE, S(q), budget, OUTPUT));
 }
 
 static struct name_console_listing modules(uint32_t filter, const char *q) {
   fill();
-  return name_console_complete_modules(TABLE, filter, S(q), budget, lines, lines_len, out, out_len);
+  struct name_console_listing r = name_console_complete_modules(TABLE, filter, S(q), budget, OUTPUT);
+  again();
+  return both(r, name_console_complete_modules_shared(TABLE, filter, S(q), budget, OUTPUT));
 }
 
-/* Refused with n, and no byte has changed. */
+/* Both are refused with n, and no byte has changed. */
 static int refused(struct name_console_listing r, uint32_t n) {
-  return r.answer == n && r.lines == 0 && r.entered == 0 && memcmp(lines, lines_before, sizeof lines) == 0 && memcmp(out, out_before, sizeof out) == 0;
+  return r.answer == n && r.lines == 0 && r.entered == 0 && alike && shared == 0 && memcmp(lines, lines_before, sizeof lines) == 0 &&
+         memcmp(out, out_before, sizeof out) == 0;
 }
 
-/* Listed, and nothing past the lines and their texts has changed. */
+/* Both have listed, and nothing past the lines and their texts has changed. */
 static int listed(struct name_console_listing r, uint32_t count, uint32_t entered) {
   size_t end = (size_t)count * NAME_CONSOLE_LINE, used = 0;
-  if (r.answer != 0 || r.lines != count || r.entered != entered) return 0;
+  if (r.answer != 0 || r.lines != count || r.entered != entered || !alike) return 0;
   for (uint32_t i = 0; i < count; i++) {
     struct name_console_line l = name_console_line_at(lines, i);
     if (l.candidate != used || l.annotation != used + l.candidate_len) return 0;
@@ -166,6 +196,21 @@ static void filters(void) {
   check("modules only", listed(modules(NAME_CONSOLE_MODULES_ONLY, "I."), 1, 3) && line(0, "IO.Bus", "(mod)", 0, 1));
   check("namespaces only", listed(modules(NAME_CONSOLE_NAMESPACES_ONLY, "I."), 1, 3) && line(0, "IO", "(ns)", 1, 1));
   check("no filter", refused(modules(4, "I."), NAME_CONSOLE_MALFORMED) && refused(modules(UINT32_MAX, "I."), NAME_CONSOLE_MALFORMED));
+}
+
+static void beginnings(void) {
+  table_t();
+  check("no name", listed(complete("None."), 0, 1) && shared == 0);
+  check("one name", listed(complete("Live.off."), 1, 2) && shared == strlen("Live.offset"));
+  check("names that part at once", listed(complete(""), 3, 3) && shared == 0);
+  check("names that part later", listed(complete("S."), 2, 2) && line(0, "Saved.late", "", 2, 1) && shared == strlen("Saved."));
+  check("an include at the root", name("b.", "a", 4) == 0 && name("b.", "ab", 5) == 0 && name_console_include(TABLE, S(""), S("b.")) == 0);
+  check("an annotation is no part", listed(complete("a."), 2, 1) && line(0, "a", "b", 4, 1) && line(1, "ab", "b", 5, 1) && shared == 1);
+  check("modules", name_console_module(TABLE, 0, S("IO.Bus."), S("io/bus")) == 0 && name_console_module(TABLE, 1, S("IO.Bit."), S("")) == 0);
+  check("one begins the others", listed(modules(NAME_CONSOLE_ALL, "I."), 3, 3) && shared == strlen("IO"));
+  check("what is loaded", listed(modules(NAME_CONSOLE_LOADED, "I."), 2, 3) && shared == strlen("IO"));
+  check("what is a module", listed(modules(NAME_CONSOLE_MODULES_ONLY, "I."), 2, 3) && shared == strlen("IO.B"));
+  check("what is a namespace", listed(modules(NAME_CONSOLE_NAMESPACES_ONLY, "I."), 1, 3) && shared == strlen("IO"));
 }
 
 /* ---- Registrations and look-ups */
@@ -272,8 +317,9 @@ static void unsound(void) {
   REFUSES("Unsound before no choice", name_console_module(TABLE, 2, S(""), S("")), NAME_CONSOLE_UNSOUND);
   check("Unsound, look-ups", finds("Saved.late.", NAME_CONSOLE_UNSOUND, 0) && finds_no_symbol("IO.", NAME_CONSOLE_UNSOUND));
   words[0] ^= 64;
-  fill();
-  check("a short state", refused(name_console_complete(state, 15, words, sizeof words, text, sizeof text, S(""), 9, lines, lines_len, out, out_len), NAME_CONSOLE_UNSOUND));
+  state_len = 15;
+  check("a short state", refused(complete(""), NAME_CONSOLE_UNSOUND) && refused(modules(0, ""), NAME_CONSOLE_UNSOUND));
+  state_len = sizeof state;
   check("sound again", listed(complete(""), 3, 3));
 }
 
@@ -314,6 +360,7 @@ int main(void) {
   refusals();
   cases();
   filters();
+  beginnings();
   unsound();
   many();
   return failures != 0;

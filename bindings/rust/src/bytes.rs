@@ -2,7 +2,7 @@
 //!
 //! `state` is 16 bytes (zeros are the fresh table; another length is refused with 1), `words` are records of 48 bytes, `text` is the
 //! names' text. [`crate::Table`] owns such buffers; these are for callers that keep them elsewhere.
-use crate::sys::{self, CompleteReply, ModuleReply, NameReply};
+use crate::sys::{self, CompleteReply, ModuleReply, NameReply, SharedReply};
 
 // SAFETY, of every call here: pointer and length come from one slice, so no pointer is null and the bytes are there; what is written
 // is borrowed mutably, so it overlaps nothing else; the layer keeps no pointer.
@@ -96,6 +96,27 @@ pub fn complete_modules(
 ) -> CompleteReply {
     unsafe {
         sys::name_console_complete_modules(state.as_ptr(), state.len(), words.as_ptr(), words.len(), text.as_ptr(), text.len(),
+            filter, query.as_ptr(), query.len(), budget, lines.as_mut_ptr(), lines.len(), out.as_mut_ptr(), out.len())
+    }
+}
+
+/// Completes a name as `complete` does, and says how many bytes all candidates begin with: what Tab may fill in.
+#[rustfmt::skip]
+pub fn complete_shared(state: &[u8], words: &[u8], text: &[u8], query: &[u8], budget: u32, lines: &mut [u8], out: &mut [u8]) -> SharedReply {
+    unsafe {
+        sys::name_console_complete_shared(state.as_ptr(), state.len(), words.as_ptr(), words.len(), text.as_ptr(), text.len(),
+            query.as_ptr(), query.len(), budget, lines.as_mut_ptr(), lines.len(), out.as_mut_ptr(), out.len())
+    }
+}
+
+/// Completes a module or namespace as `complete_modules` does, and says how many bytes all candidates begin with.
+#[rustfmt::skip]
+#[allow(clippy::too_many_arguments)]
+pub fn complete_modules_shared(
+    state: &[u8], words: &[u8], text: &[u8], filter: u32, query: &[u8], budget: u32, lines: &mut [u8], out: &mut [u8],
+) -> SharedReply {
+    unsafe {
+        sys::name_console_complete_modules_shared(state.as_ptr(), state.len(), words.as_ptr(), words.len(), text.as_ptr(), text.len(),
             filter, query.as_ptr(), query.len(), budget, lines.as_mut_ptr(), lines.len(), out.as_mut_ptr(), out.len())
     }
 }

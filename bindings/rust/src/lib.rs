@@ -17,6 +17,10 @@
 //! let line = listing.line(0).unwrap();
 //! assert_eq!((line.candidate, line.item, line.match_length), (&b"Live.offset"[..], 1, 8));
 //!
+//! table.insert("Saved.", "late", 2)?;
+//! let shared = table.complete_shared("S.", 4096, &mut output)?;
+//! assert_eq!((shared.listing.len(), shared.beginning), (2, &b"Saved."[..]));
+//!
 //! assert_eq!(table.insert("Live", "offset", 3), Err(Refusal::Malformed));
 //! # Ok::<(), Refusal>(())
 //! ```
@@ -31,6 +35,6 @@ mod refusal;
 pub mod sys;
 mod table;
 
-pub use lines::{Line, Listing, Output, Symbol};
+pub use lines::{Line, Listing, Output, Shared, Symbol};
 pub use refusal::Refusal;
 pub use table::{Filter, Table};

@@ -118,3 +118,21 @@ impl<'a, Item> Listing<'a, Item> {
         (0..self.len()).filter_map(|k| self.line(k))
     }
 }
+
+/// What a completion listed, and what is certain of it.
+#[derive(Clone, Copy, Debug)]
+pub struct Shared<'a, Item> {
+    /// The lines.
+    pub listing: Listing<'a, Item>,
+    /// The longest beginning that all candidates share: with one line its whole candidate, with none it is empty. It borrows the output.
+    pub beginning: &'a [u8],
+}
+
+impl<'a, Item> Shared<'a, Item> {
+    pub(crate) fn new(reply: sys::SharedReply, output: &'a Output, text: &'a [u8], item: fn(&'a [u8], &[u32; 12]) -> Item) -> Self {
+        let sys::SharedReply { answer, lines, entered, shared } = reply;
+        let listing = Listing::new(sys::CompleteReply { answer, lines, entered }, output, text, item);
+        let beginning = listing.line(0).map_or(&[][..], |first| part(first.candidate, 0, shared));
+        Shared { listing, beginning }
+    }
+}

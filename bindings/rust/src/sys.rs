@@ -63,6 +63,20 @@ pub struct CompleteReply {
     pub entered: u32,
 }
 
+/// The reply to a completion that says what is certain.
+#[repr(C)]
+#[derive(Clone, Copy, Debug, Default, PartialEq, Eq)]
+pub struct SharedReply {
+    /// 0 listed, else the refusal, as that of the completion.
+    pub answer: u32,
+    /// Lines written; 0 if refused.
+    pub lines: u32,
+    /// Tries entered; 0 if refused.
+    pub entered: u32,
+    /// Bytes that all candidates begin with; 0 with no line, or if refused.
+    pub shared: u32,
+}
+
 #[rustfmt::skip]
 extern "C" {
     /// Registers a name with its item, in the host.
@@ -104,4 +118,12 @@ extern "C" {
     /// Completes a module or namespace, under the number of a filter, 0 to 3.
     pub fn name_console_complete_modules(state: *const u8, state_len: usize, words: *const u8, words_len: usize, text: *const u8, text_len: usize,
         filter: u32, query: *const u8, query_len: usize, budget: u32, lines: *mut u8, lines_len: usize, out: *mut u8, out_len: usize) -> CompleteReply;
+
+    /// Completes a name, and says how many bytes all candidates begin with.
+    pub fn name_console_complete_shared(state: *const u8, state_len: usize, words: *const u8, words_len: usize, text: *const u8, text_len: usize,
+        query: *const u8, query_len: usize, budget: u32, lines: *mut u8, lines_len: usize, out: *mut u8, out_len: usize) -> SharedReply;
+
+    /// The same of a module or namespace, under the number of a filter, 0 to 3.
+    pub fn name_console_complete_modules_shared(state: *const u8, state_len: usize, words: *const u8, words_len: usize, text: *const u8, text_len: usize,
+        filter: u32, query: *const u8, query_len: usize, budget: u32, lines: *mut u8, lines_len: usize, out: *mut u8, out_len: usize) -> SharedReply;
 }

@@ -1,4 +1,4 @@
-use crate::lines::{number, symbol, Listing, Output, Symbol};
+use crate::lines::{number, symbol, Listing, Output, Shared, Symbol};
 use crate::{bytes, sys, Refusal};
 
 /// Which lines a completion of modules keeps.
@@ -120,5 +120,25 @@ impl Table {
         let (lines, out) = (&mut output.lines, &mut output.text);
         let reply = bytes::complete_modules(&self.state, &self.words, &self.text, filter as u32, query.as_ref(), budget, lines, out);
         Refusal::check(reply.answer).map(|()| Listing::new(reply, output, &self.text, symbol))
+    }
+
+    /// Lists what [`complete`](Table::complete) lists, and gives the beginning that all candidates share: what Tab may fill in.
+    pub fn complete_shared<'a>(&'a self, query: impl AsRef<[u8]>, budget: u32, output: &'a mut Output) -> Result<Shared<'a, u32>, Refusal> {
+        let (lines, out) = (&mut output.lines, &mut output.text);
+        let reply = bytes::complete_shared(&self.state, &self.words, &self.text, query.as_ref(), budget, lines, out);
+        Refusal::check(reply.answer).map(|()| Shared::new(reply, output, &self.text, number))
+    }
+
+    /// Lists what [`complete_modules`](Table::complete_modules) lists, and gives the beginning that the candidates kept share.
+    pub fn complete_modules_shared<'a>(
+        &'a self,
+        filter: Filter,
+        query: impl AsRef<[u8]>,
+        budget: u32,
+        output: &'a mut Output,
+    ) -> Result<Shared<'a, Symbol<'a>>, Refusal> {
+        let (lines, out) = (&mut output.lines, &mut output.text);
+        let reply = bytes::complete_modules_shared(&self.state, &self.words, &self.text, filter as u32, query.as_ref(), budget, lines, out);
+        Refusal::check(reply.answer).map(|()| Shared::new(reply, output, &self.text, symbol))
     }
 }

@@ -1,5 +1,5 @@
 //! The cases and refusals of docs/REQUIREMENTS.md through the safe calls. Every expected number and text stands there.
-use name_console::{Filter, Output, Refusal, Symbol, Table};
+use name_console::{Filter, Listing, Output, Refusal, Shared, Symbol, Table};
 
 /// Table T.
 fn t() -> Table {
@@ -77,6 +77,42 @@ fn modules() {
     assert_eq!(t.find_module("IO."), Ok(Some(Symbol::Namespace { name: b"IO", loaded: true })));
 }
 
+/// The beginning that the candidates share; lines and tries entered are those of the completion.
+fn beginning<'a, Item: PartialEq>(shared: Shared<'a, Item>, listing: Listing<'a, Item>) -> String {
+    assert!(shared.listing.iter().eq(listing.iter()));
+    assert_eq!(shared.listing.entered, listing.entered);
+    String::from_utf8(shared.beginning.to_vec()).unwrap()
+}
+
+#[test]
+fn shared_beginnings() {
+    let mut t = t();
+    t.register_module(false, "IO.Bus.", "io/bus").unwrap();
+    let output = || (Output::new(10, 200), Output::new(10, 200));
+    let names = |t: &Table, query: &str| {
+        let (mut a, mut b) = output();
+        beginning(t.complete_shared(query, 4096, &mut a).unwrap(), t.complete(query, 4096, &mut b).unwrap())
+    };
+    assert_eq!(names(&t, ""), "");
+    assert_eq!(names(&t, "S."), "Saved.");
+    assert_eq!(names(&t, "Live.off."), "Live.offset");
+    assert_eq!(names(&t, "None."), "");
+    let modules = |filter: Filter| {
+        let (mut a, mut b) = output();
+        beginning(t.complete_modules_shared(filter, "I.", 3, &mut a).unwrap(), t.complete_modules(filter, "I.", 3, &mut b).unwrap())
+    };
+    assert_eq!(modules(Filter::All), "IO");
+    assert_eq!(modules(Filter::Loaded), "");
+    assert_eq!(modules(Filter::ModulesOnly), "IO.Bus");
+    assert_eq!(modules(Filter::NamespacesOnly), "IO");
+    // An annotation is no part of it: a [b] and ab [b].
+    t.insert("b.", "a", 1).unwrap();
+    t.insert("b.", "ab", 2).unwrap();
+    t.register_include("", "b.").unwrap();
+    assert_eq!(listed(&t, "a.").0, vec![line(1, 1, "b", "a"), line(1, 2, "b", "ab")]);
+    assert_eq!(names(&t, "a."), "a");
+}
+
 #[test]
 fn opens() {
     let mut t = Table::new(200, 1000);
@@ -104,6 +140,9 @@ fn refusals() {
     assert_eq!(t.complete("", 2, &mut output).err(), Some(Refusal::Spent));
     assert_eq!(t.complete("", 3, &mut output).err(), Some(Refusal::Lines));
     assert_eq!(t.complete_modules(Filter::All, "", 0, &mut output).err(), Some(Refusal::Spent));
+    assert_eq!(t.complete_shared("", 2, &mut output).err(), Some(Refusal::Spent));
+    assert_eq!(t.complete_shared("", 3, &mut output).err(), Some(Refusal::Lines));
+    assert_eq!(t.complete_modules_shared(Filter::All, "", 0, &mut output).err(), Some(Refusal::Spent));
     assert!(t == before);
     assert_eq!(Table::new(2, 100).insert("", "tick", 5), Err(Refusal::Full));
     assert_eq!(Table::new(100, 3).insert("", "tick", 5), Err(Refusal::TextFull));
@@ -118,6 +157,8 @@ fn refusals() {
     assert_eq!(unsound.register_open_module("", ""), Err(Refusal::Unsound));
     assert_eq!(unsound.register_open_namespace("", ""), Err(Refusal::Unsound));
     assert_eq!(unsound.complete("", 3, &mut output).err(), Some(Refusal::Unsound));
+    assert_eq!(unsound.complete_shared("", 3, &mut output).err(), Some(Refusal::Unsound));
+    assert_eq!(unsound.complete_modules_shared(Filter::All, "", 3, &mut output).err(), Some(Refusal::Unsound));
 }
 
 #[test]

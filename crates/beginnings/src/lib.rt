@@ -11,8 +11,9 @@ pub fn shared_length(flat: &[u8], out: &[u8], n: usize) -> u32
     if n == 0 {
         return 0;
     }
-    let first = rows::text_of(out, rows::candidate_at(flat, 0));
-    let mut shared = first.len();
+    let candidate = rows::candidate_at(flat, 0);
+    let first = rows::text_of(out, candidate);
+    let mut shared = candidate.len as usize;
     let mut i = 1;
     while i < n {
         if shared == 0 {

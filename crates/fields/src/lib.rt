@@ -79,7 +79,8 @@ fn less(a: &[u8], b: &[u8]) -> bool
     ensures { λ r. ⌜ Says r (old a <ˢ old b) ⌝ }
 {
     let c = text::string_compare(a, b);
-    match c.order {
+    let order = c.order;
+    match order {
         Order::Less => true,
         Order::Same => false,
         Order::More => false,

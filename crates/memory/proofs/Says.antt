@@ -26,3 +26,7 @@ passes false h e = absurd (true≢false e)
 pub refuses : (b : Bool) {P : Type 0} → Says b P → not b ≡ true → P → ⊥
 refuses true h e p = false≢true e
 refuses false h e p = h p
+
+-- What follows whichever way a test answers follows without the test, if it cannot fail to be false.
+pub either-way : {P Q : Type 0} → (((Q → ⊥) → ⊥) → Q) → ((b : Bool) → Says b P → Q) → Q
+either-way stable h = stable (λ n. n (h false (λ p. n (h true p))))

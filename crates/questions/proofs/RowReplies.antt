@@ -1,5 +1,5 @@
 -- Laws of the replies of rows: they are those of the lines that a reader sees, and they are written row by row.
-use Prim.Native.Nat.{ℕ, suc, _+_, _-_, _*_, _<_, _≤_}
+use Prim.Native.Nat.{ℕ, _+_, _-_, _*_, _<_, _≤_}
 use native.Mathlib.Omega.{arith}
 use mathlib.Core.Path.{_≡_, refl, sym, ap, ap₂, _∙_, subst}
 use mathlib.Core.Bool.{Bool, true, false}
@@ -15,6 +15,7 @@ use Rattle.numerals.specs.Bytes.{Str, _·_}
 use Rattle.replies.specs.Replies.{reply-room}
 use Rattle.output.specs.Output.{candidate-start, candidate-len, annotation-start, annotation-len}
 use Rattle.rows.specs.Rows.{words-at, words-from, item-in, row-in, line-seen, TextsIn}
+use Rattle.rows.proofs.Rows.{rows-left}
 use Rattle.memory.proofs.Pasted.{span-length}
 use Rattle.questions.specs.Questions.{item-reply, line-text, lines-text}
 use Rattle.questions.specs.RowReplies.{item-shown, row-text, row-room, rows-text, rows-room, RowsIn}
@@ -81,23 +82,16 @@ module _ {w : Which} {flat pane reply₀ : List ℕ} {at n : ℕ} where
       }
 
   module _ {reply : List ℕ} {e i : ℕ} (g : Going w flat pane reply₀ reply at e i n) (l : i < n) where
-    left : words-from flat i (n - i) ≡ words-at flat i ∷ words-from flat (i + 1) (n - (i + 1))
-    unfolding words-from
-    left =
-        let p : n - i ≡ suc (n - (i + 1)) = omega arith in
-        let q : suc i ≡ i + 1 = omega arith in
-        rw (p, q) refl
-
     pub going-texts : TextsIn pane (row-in w (words-at flat i)) × Allˡ (λ r. TextsIn pane (row-in w r)) (words-from flat (i + 1) (n - (i + 1)))
-    going-texts = rw left at (g .texts)
+    going-texts = rw (rows-left flat i n l) at (g .texts)
 
     going-room : rows-room w (words-from flat i (n - i)) ≡ row-room (row-in w (words-at flat i)) + rows-room w (words-from flat (i + 1) (n - (i + 1)))
     unfolding rows-room
-    going-room = rw left refl
+    going-room = rw (rows-left flat i n l) refl
 
     going-text : rows-text w pane (words-from flat i (n - i)) ≡ row-text pane (row-in w (words-at flat i)) · rows-text w pane (words-from flat (i + 1) (n - (i + 1)))
     unfolding rows-text
-    going-text = rw left refl
+    going-text = rw (rows-left flat i n l) refl
 
     pub going-space : e + row-room (row-in w (words-at flat i)) ≤ at + rows-room w (words-from flat 0 n)
     going-space = omega (arith, g .space, going-room)

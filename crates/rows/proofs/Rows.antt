@@ -1,24 +1,44 @@
 -- Laws of the words and the struct of a row.
-use Prim.Native.Nat.{ℕ, _-_, _*_}
+use Prim.Native.Nat.{ℕ, suc, _+_, _-_, _*_, _<_}
 use native.Mathlib.Omega.{arith}
-use mathlib.Core.Path.{_≡_, refl, ap}
+use mathlib.Core.Path.{_≡_, refl, sym, ap, _∙_}
 use mathlib.Core.Bool.{Bool, true, false}
-use mathlib.Core.List.{List}
+use mathlib.Core.List.{List, _∷_}
 use mathlib.Core.Option.{some}
 use lib.Dec.{eqb}
-use lib.ListN.{length, take, drop, length-drop}
-use lib.Seq.{take-all}
-use Rattle.memory.specs.Layout.{Which, names, modules, record-at, item-of, pick, symbol-word}
+use lib.ListN.{length, getD, take, drop, length-drop}
+use lib.Seq.{take-all, getD-drop}
+use Rattle.memory.specs.Layout.{word, Which, names, modules, record-at, item-of, pick, symbol-word}
 use Rattle.memory.specs.Read.{symbol-of}
 use Rattle.memory.specs.declared.ModSymbol.{ModSymbol}
-use Rattle.wire.proofs.Bytes.{words-length}
+use Rattle.wire.specs.Bytes.{word-at}
+use Rattle.wire.proofs.Bytes.{words-length, words-getD}
 use Rattle.output.specs.Output.{line-bytes, line-words}
-use Rattle.rows.specs.Rows.{words-at, item-in, item-seen}
+use Rattle.rows.specs.Rows.{words-at, words-from, item-in, item-seen}
 
 -- The words of the part from a row on.
 pub part-words : (flat : List ℕ) (k : ℕ) → line-words (take (length flat - k * line-bytes) (drop (k * line-bytes) flat)) ≡ words-at flat k
 unfolding words-at
 part-words flat k = ap line-words (take-all (length flat - k * line-bytes) (drop (k * line-bytes) flat) (omega (arith, length-drop (k * line-bytes) flat)))
+
+-- A word of row k, among all the words.
+pub word-in-row : (flat : List ℕ) (k j : ℕ) → j < 12 → word-at flat (k * 12 + j) ≡ word (words-at flat k) j
+unfolding words-at word-at
+word-in-row flat k j h = sym (words-getD (drop (k * line-bytes) flat) 12 j h ∙ at)
+  where
+    byte : (x : ℕ) → getD (drop (k * line-bytes) flat) (j * 4 + x) 0 ≡ getD flat ((k * 12 + j) * 4 + x) 0
+    byte x = let e : k * line-bytes + (j * 4 + x) ≡ (k * 12 + j) * 4 + x = omega arith in getD-drop (k * line-bytes) flat (j * 4 + x) 0 ∙ rw e
+
+    at : word-at (drop (k * line-bytes) flat) j ≡ word-at flat (k * 12 + j)
+    at = let z : j * 4 + 0 ≡ j * 4 = omega arith in let y : (k * 12 + j) * 4 + 0 ≡ (k * 12 + j) * 4 = omega arith in omega (arith, rw (z, y) at (byte 0), byte 1, byte 2, byte 3)
+
+-- The rows that are left from i on, the first of them.
+pub rows-left : (flat : List ℕ) (i n : ℕ) → i < n → words-from flat i (n - i) ≡ words-at flat i ∷ words-from flat (i + 1) (n - (i + 1))
+unfolding words-from
+rows-left flat i n l =
+    let p : n - i ≡ suc (n - (i + 1)) = omega arith in
+    let q : suc i ≡ i + 1 = omega arith in
+    rw (p, q) refl
 
 -- Twelve words are a record.
 pub one-record : (bs : List ℕ) → record-at (line-words bs) 1 ≡ line-words bs

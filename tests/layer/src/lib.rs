@@ -1,5 +1,6 @@
 //! The C layer's calls (bindings/rust) on the independent implementation's terms.
 use model::layout::{Header, Memory};
+use model::listings::{both, Shared};
 use model::model::{CompletionResult, Filter, ModSymbol, Registration, Str};
 use name_console::{bytes as calls, sys};
 
@@ -110,6 +111,28 @@ pub fn complete(t: &Bytes, modules: Option<u32>, q: &[u8], budget: u32, out: &mu
             Err(n)
         }
     }
+}
+
+/// The same with its shared length.
+pub fn complete_shared(t: &Bytes, modules: Option<u32>, q: &[u8], budget: u32, out: &mut Output) -> Shared {
+    let (lines, text) = (&mut out.lines, &mut out.text);
+    let r = match modules {
+        None => calls::complete_shared(&t.state, &t.words, &t.text, q, budget, lines, text),
+        Some(f) => calls::complete_modules_shared(&t.state, &t.words, &t.text, f, q, budget, lines, text),
+    };
+    match r.answer {
+        0 => Ok((r.lines, r.entered, r.shared)),
+        n => {
+            assert_eq!((r.lines, r.entered, r.shared), (0, 0, 0));
+            Err(n)
+        }
+    }
+}
+
+/// Both, held to each other.
+pub fn complete_both(t: &Bytes, modules: Option<u32>, q: &[u8], budget: u32, out: &mut Output) -> Shared {
+    let plain = |o: &mut Output| complete(t, modules, q, budget, o);
+    both(&(modules, q, budget), out, plain, |o| complete_shared(t, modules, q, budget, o))
 }
 
 impl Output {

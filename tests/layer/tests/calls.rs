@@ -1,8 +1,9 @@
 //! The C layer against the independent implementation: answers, tables, lines, and every byte that a call may not change.
-use layer::{complete, find, find_module, number, register, Bytes, Output};
+use layer::{complete_both, find, find_module, number, register, Bytes, Output};
 use model::gen::{completion_query, damaged_query, damaged_registration, damages, full_name, registered_memory, registration, Rng, MIXES};
 use model::layout::{decode, same_table};
-use model::model::{self as independent, autocomplete_lid, autocomplete_mod_or_ns, CompletionResult, Filter, Refusal, Registration, Table};
+use model::listings::Tally;
+use model::model::{self as independent, autocomplete_lid, autocomplete_mod_or_ns, shared_length, CompletionResult, Filter, Refusal, Registration, Table};
 
 const FILTERS: [Filter; 4] = [Filter::All, Filter::Loaded, Filter::ModulesOnly, Filter::NamespacesOnly];
 
@@ -64,7 +65,7 @@ fn registrations_and_look_ups() {
     assert!([0, 2, 3, 4, 7, 8].iter().all(|&n| 0 < answers[n]), "{answers:?}");
 }
 
-/// What a completion must answer and leave.
+/// What a completion must answer and leave, with and without its shared length.
 fn listed<A: PartialEq + std::fmt::Debug>(
     t: &Bytes,
     filter: Option<u32>,
@@ -73,23 +74,22 @@ fn listed<A: PartialEq + std::fmt::Debug>(
     room: (usize, usize),
     expected: Result<(Vec<CompletionResult<A>>, u32), Refusal>,
     line: impl Fn(&Output, usize) -> CompletionResult<A>,
-    answers: &mut [u64; 11],
+    tally: &mut Tally,
 ) {
     let mut out = Output::with_room(room.0, room.1);
     let before = out.clone();
-    let answer = complete(t, filter, query, budget, &mut out);
+    let answer = complete_both(t, filter, query, budget, &mut out);
     let size = |l: &[CompletionResult<A>]| l.iter().map(|r| r.candidate.len() + r.annotation.len()).sum::<usize>();
     let fits = |l: &[CompletionResult<A>]| l.len() <= room.0 && size(l) <= room.1;
     let expected = expected.and_then(|(l, e)| if fits(&l) { Ok((l, e)) } else { Err(Refusal::Lines) });
     match expected {
         Err(r) => {
-            answers[r.number() as usize] += 1;
+            tally.refused(r.number());
             assert_eq!(answer, Err(r.number()), "{filter:?} {query:?}");
-            assert!(out == before);
         }
         Ok((lines, entered)) => {
-            answers[0] += 1;
-            assert_eq!(answer, Ok((lines.len() as u32, entered)), "{filter:?} {query:?}");
+            tally.listed(&lines);
+            assert_eq!(answer, Ok((lines.len() as u32, entered, shared_length(&lines))), "{filter:?} {query:?}");
             for (k, l) in lines.iter().enumerate() {
                 assert_eq!(&line(&out, k), l, "{filter:?} {query:?}");
             }
@@ -100,39 +100,39 @@ fn listed<A: PartialEq + std::fmt::Debug>(
     }
 }
 
-fn complete_all(rng: &mut Rng, t: &Bytes, query: &[u8], answers: &mut [u64; 11]) {
+fn complete_all(rng: &mut Rng, t: &Bytes, query: &[u8], tally: &mut Tally) {
     let now = table(t);
     let budget = if rng.one_in(3) { rng.below(12) as u32 } else { rng.word() };
     let room = (rng.below(30) * rng.below(30), rng.below(60) * rng.below(60));
     let names = now.as_ref().map_err(|&r| r).and_then(|n| autocomplete_lid(n, query, budget));
-    listed(t, None, query, budget, room, names, |o, k| o.name(k), answers);
+    listed(t, None, query, budget, room, names, |o, k| o.name(k), tally);
     for f in FILTERS {
         let modules = now.as_ref().map_err(|&r| r).and_then(|n| autocomplete_mod_or_ns(n, query, f, budget));
-        listed(t, Some(number(f)), query, budget, room, modules, |o, k| o.module(&t.text, k), answers);
+        listed(t, Some(number(f)), query, budget, room, modules, |o, k| o.module(&t.text, k), tally);
     }
     let odd = Err(now.map_or(Refusal::Unsound, |_| Refusal::Malformed));
-    listed(t, Some(4 + rng.word() % 0xFFFF_FFFC), query, budget, room, odd, |o, k| o.name(k), answers);
+    listed(t, Some(4 + rng.word() % 0xFFFF_FFFC), query, budget, room, odd, |o, k| o.name(k), tally);
 }
 
 #[test]
 fn completions() {
     let mut rng = Rng::new(Rng::seed_or(9));
-    let mut answers = [0; 11];
+    let mut tally = Tally::default();
     for round in 0..30 {
         let t = Bytes::of(&registered_memory(&mut rng, [10, 40, 100][round % 3], 1000, 8000));
         for _ in 0..20 {
             let query = if rng.one_in(8) { damaged_query(&mut rng) } else { completion_query(&mut rng) };
-            complete_all(&mut rng, &t, &query, &mut answers);
+            complete_all(&mut rng, &t, &query, &mut tally);
         }
     }
-    println!("completions by answer (0 listed): {answers:?}; 0 disagreements");
-    assert!([0, 2, 4, 9, 10].iter().all(|&n| 0 < answers[n]), "{answers:?}");
+    println!("completions: {tally:?}; 0 disagreements");
+    assert!(tally.has(&[0, 2, 4, 9, 10]), "{tally:?}");
 }
 
 #[test]
 fn damaged_bytes() {
     let mut rng = Rng::new(Rng::seed_or(10));
-    let (mut registered, mut listed) = ([0; 9], [0; 11]);
+    let (mut registered, mut tally) = ([0; 9], Tally::default());
     for _ in 0..3 {
         let memory = registered_memory(&mut rng, 8, 120, 400);
         let mix = *rng.pick(&MIXES);
@@ -145,11 +145,11 @@ fn damaged_bytes() {
                     t.state.resize(rng.below(40), 0);
                 }
                 let query = completion_query(&mut rng);
-                complete_all(&mut rng, &t, &query, &mut listed);
+                complete_all(&mut rng, &t, &query, &mut tally);
                 hold(&mut t, &registration(&mut rng, &mix), None, &mut registered);
             }
         }
     }
-    println!("on damaged bytes, by answer (1 Unsound): registrations {registered:?}, completions {listed:?}; 0 disagreements");
-    assert!(0 < registered[0] && 0 < registered[1] && 0 < listed[0] && 0 < listed[1]);
+    println!("on damaged bytes, by answer (1 Unsound): registrations {registered:?}, completions {tally:?}; 0 disagreements");
+    assert!(0 < registered[0] && 0 < registered[1] && tally.has(&[0, 1]), "{registered:?} {tally:?}");
 }

@@ -1,5 +1,5 @@
 //! Every call on a thread with exactly the stack that include/name_console.h states and a guard page below it, on the tables that need most.
-use layer::{complete, find, find_module, register, Bytes, Output};
+use layer::{complete, complete_shared, find, find_module, register, Bytes, Output};
 use model::layout::{BINDINGS_LIST, MODULES, NAMESPACES_LIST};
 use model::model::Registration;
 use model::written::{with_free, Key, Written};
@@ -190,7 +190,7 @@ fn registrations_and_look_ups() {
 #[test]
 fn completions() {
     let stack = stated("NAME_CONSOLE_STACK_COMPLETE");
-    let mut listed = Most::new();
+    let (mut listed, mut shared) = (Most::new(), Most::new());
     for (what, table) in tables() {
         for q in queries() {
             for ask in [None, Some(0), Some(1), Some(2), Some(3)] {
@@ -199,12 +199,16 @@ fn completions() {
                     let mut answer = 0;
                     let used = used_by(stack, || answer = complete(&table, ask, &q, budget, &mut out).err().unwrap_or(0));
                     listed.take(used, answer, || format!("{what}, {ask:?} {}", q.escape_ascii()));
+                    let used = used_by(stack, || answer = complete_shared(&table, ask, &q, budget, &mut out).err().unwrap_or(0));
+                    shared.take(used, answer, || format!("{what}, {ask:?} {}", q.escape_ascii()));
                 }
             }
         }
     }
     listed.report("completions", stack);
+    shared.report("completions with their shared length", stack);
     assert!([0, 2, 9, 10].iter().all(|&n| 0 < listed.answers[n]), "{:?}", listed.answers);
+    assert_eq!(shared.answers, listed.answers);
 }
 
 /// So many frames of over 1,024 bytes.

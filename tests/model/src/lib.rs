@@ -4,6 +4,7 @@
 pub mod gen;
 pub mod layout;
 pub mod limits;
+pub mod listings;
 pub mod model;
 pub mod naive;
 pub mod script;

@@ -1120,6 +1120,14 @@ pub fn autocomplete_mod_or_ns(
     Ok((results, entered.tries as u32))
 }
 
+/// The length of the longest beginning that all candidates share: the most
+/// bytes of the first that every one begins with; 0 for no line.
+pub fn shared_length<A>(results: &[CompletionResult<A>]) -> u32 {
+    let Some(CompletionResult { candidate: first, .. }) = results.first() else { return 0 };
+    let shared = |n: &usize| results.iter().all(|r| starts_with(&r.candidate, &first[..*n]));
+    (1..=first.len()).rev().find(shared).unwrap_or(0) as u32
+}
+
 /// Lays the texts one after another from the start of the output text,
 /// candidate then annotation. Row 10 comes before any write.
 fn lay<A: Clone>(

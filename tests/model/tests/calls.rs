@@ -244,6 +244,64 @@ fn lines_fit_exactly() {
 }
 
 #[test]
+fn shared_lengths() {
+    // After every candidate an annotation that would go on alike.
+    let shared = |candidates: &[&str]| {
+        let line = |c: &&str| CompletionResult {
+            match_length: 0,
+            item: (),
+            candidate: c.as_bytes().into(),
+            annotation: b".Bus"[..].into(),
+        };
+        shared_length(&candidates.iter().map(line).collect::<Vec<_>>())
+    };
+    for (candidates, length) in [
+        (&[][..], 0),
+        (&["Live.offset"], 11),
+        // One is a beginning of another.
+        (&["IO", "IO.Bus"], 2),
+        (&["IO.Bus", "IO"], 2),
+        (&["IO.B", "IO.Bus", "IO"], 2),
+        // They part in the first byte, in a later one, at the last.
+        (&["late", "offset"], 0),
+        (&["Saved.late", "Saved.offset"], 6),
+        (&["ab", "ac"], 1),
+        // Equal bytes after that do not count.
+        (&["axb", "ayb"], 1),
+        // The third shortens it; the second does, and the third leaves it so.
+        (&["Live.offset", "Live.on", "Lost.on"], 1),
+        (&["Live.offset", "Live.on", "x"], 0),
+        (&["Live.offset", "Lost.on", "Live.on"], 1),
+    ] {
+        assert_eq!(shared(candidates), length, "{candidates:?}");
+    }
+}
+
+#[test]
+fn shared_lengths_of_listings() {
+    let mut both = Both::t();
+    let names = |both: &Both, query: &str| {
+        let (lines, _) = autocomplete_lid(&both.table, query.as_bytes(), 9).unwrap();
+        (lines.len(), shared_length(&lines))
+    };
+    assert_eq!(names(&both, ""), (3, 0));
+    assert_eq!(names(&both, "S."), (2, 6));
+    assert_eq!(names(&both, "Live.off."), (1, 11));
+    assert_eq!(names(&both, "None."), (0, 0));
+    // What the filter drops does not count.
+    both.register(&module(true, "IO.Bus.", "io/bus")).unwrap();
+    both.register(&module(false, "IO.Bit.", "")).unwrap();
+    let modules = |filter| {
+        let (lines, _) = autocomplete_mod_or_ns(&both.table, b"I.", filter, 9).unwrap();
+        (lines.len(), shared_length(&lines))
+    };
+    assert_eq!(modules(Filter::All), (3, 2));
+    assert_eq!(modules(Filter::Loaded), (2, 2));
+    assert_eq!(modules(Filter::ModulesOnly), (2, 4));
+    assert_eq!(modules(Filter::NamespacesOnly), (1, 2));
+}
+
+#[test]
 fn filters() {
     let mut both = Both::fresh(100, 300);
     both.register(&module(true, "A.B.", "ab")).unwrap();

@@ -1,6 +1,7 @@
 //! The product's calls, from the static library that `rt staticlib exports` writes.
 //! Nothing checks these declarations against crates/exports: keep them few.
 use model::layout::{Header, Memory};
+use model::listings::{both, Shared};
 use model::model::{CompletionResult, Filter, ModSymbol, Registration, Str};
 
 /// A registration's reply: 0 or the number of the refusal, and the header.
@@ -37,6 +38,15 @@ pub struct Listing {
     entered: u32,
 }
 
+/// The same with the length that the candidates share.
+#[repr(C)]
+pub struct SharedListing {
+    answer: u32,
+    lines: u32,
+    entered: u32,
+    shared: u32,
+}
+
 type Words = *mut u32;
 type Bytes = *const u8;
 
@@ -65,6 +75,10 @@ extern "C" {
         ask: u32, query: Bytes, nquery: usize, budget: u32, lines: *mut u8, nlines: usize, out: *mut u8, nout: usize) -> Listing;
     fn name_table_complete_sound(words: *const u32, nwords: usize, text: Bytes, ntext: usize, names: u32, modules: u32, records: u32, used: u32,
         ask: u32, query: Bytes, nquery: usize, budget: u32, lines: *mut u8, nlines: usize, out: *mut u8, nout: usize) -> Listing;
+    fn name_table_complete_shared(words: *const u32, nwords: usize, text: Bytes, ntext: usize, names: u32, modules: u32, records: u32, used: u32,
+        ask: u32, query: Bytes, nquery: usize, budget: u32, lines: *mut u8, nlines: usize, out: *mut u8, nout: usize) -> SharedListing;
+    fn name_table_complete_shared_sound(words: *const u32, nwords: usize, text: Bytes, ntext: usize, names: u32, modules: u32, records: u32, used: u32,
+        ask: u32, query: Bytes, nquery: usize, budget: u32, lines: *mut u8, nlines: usize, out: *mut u8, nout: usize) -> SharedListing;
 }
 
 /// The soundness test.
@@ -179,6 +193,18 @@ impl Listing {
     }
 }
 
+impl SharedListing {
+    pub fn result(&self) -> Shared {
+        match self.answer {
+            0 => Ok((self.lines, self.entered, self.shared)),
+            n => {
+                assert_eq!((self.lines, self.entered, self.shared), (0, 0, 0));
+                Err(n)
+            }
+        }
+    }
+}
+
 /// A completion for whatever is lent: lines and tries entered, or the number of the refusal.
 pub fn complete(m: &Memory, ask: Ask, query: &[u8], budget: u32, out: &mut Output) -> Result<(u32, u32), u32> {
     let h = m.header;
@@ -200,6 +226,44 @@ pub unsafe fn complete_sound(m: &Memory, ask: Ask, query: &[u8], budget: u32, ou
     let r = name_table_complete_sound(m.words.as_ptr(), m.words.len(), m.text.as_ptr(), m.text.len(), h.names, h.modules, h.records, h.text,
         ask.number(), query.as_ptr(), query.len(), budget, out.lines.as_mut_ptr(), out.lines.len(), out.text.as_mut_ptr(), out.text.len());
     r.result()
+}
+
+/// A completion with its shared length, for whatever is lent.
+pub fn complete_shared(m: &Memory, ask: Ask, query: &[u8], budget: u32, out: &mut Output) -> Shared {
+    let h = m.header;
+    #[rustfmt::skip]
+    let r = unsafe {
+        name_table_complete_shared(m.words.as_ptr(), m.words.len(), m.text.as_ptr(), m.text.len(), h.names, h.modules, h.records, h.text,
+            ask.number(), query.as_ptr(), query.len(), budget, out.lines.as_mut_ptr(), out.lines.len(), out.text.as_mut_ptr(), out.text.len())
+    };
+    r.result()
+}
+
+/// A completion with its shared length in a memory that is sound, without the test.
+///
+/// # Safety
+/// The memory is sound.
+pub unsafe fn complete_shared_sound(m: &Memory, ask: Ask, query: &[u8], budget: u32, out: &mut Output) -> Shared {
+    let h = m.header;
+    #[rustfmt::skip]
+    let r = name_table_complete_shared_sound(m.words.as_ptr(), m.words.len(), m.text.as_ptr(), m.text.len(), h.names, h.modules, h.records, h.text,
+        ask.number(), query.as_ptr(), query.len(), budget, out.lines.as_mut_ptr(), out.lines.len(), out.text.as_mut_ptr(), out.text.len());
+    r.result()
+}
+
+/// Both completions for whatever is lent, held to each other.
+pub fn complete_both(m: &Memory, ask: Ask, query: &[u8], budget: u32, out: &mut Output) -> Shared {
+    let plain = |o: &mut Output| complete(m, ask, query, budget, o);
+    both(&(ask, query, budget), out, plain, |o| complete_shared(m, ask, query, budget, o))
+}
+
+/// The same in a memory that is sound, without the test.
+///
+/// # Safety
+/// The memory is sound.
+pub unsafe fn complete_both_sound(m: &Memory, ask: Ask, query: &[u8], budget: u32, out: &mut Output) -> Shared {
+    let plain = |o: &mut Output| complete_sound(m, ask, query, budget, o);
+    both(&(ask, query, budget), out, plain, |o| complete_shared_sound(m, ask, query, budget, o))
 }
 
 impl Output {

@@ -1,8 +1,9 @@
 //! Completions of the product against the independent implementation: answers, lines, and what a call may change.
 use model::gen::{completion_query, damaged_query, damages, registered_memory, sound_memory, Rng};
 use model::layout::{decode, Memory};
-use model::model::{autocomplete_lid, autocomplete_mod_or_ns, CompletionResult, Filter, Table};
-use product::{complete, symbol, Ask, Output};
+use model::listings::Tally;
+use model::model::{autocomplete_lid, autocomplete_mod_or_ns, shared_length, CompletionResult, Filter, Table};
+use product::{complete_both, complete_both_sound, symbol, Ask, Output};
 use std::fmt::Debug;
 
 const ASKS: [Ask; 5] = [
@@ -13,28 +14,32 @@ const ASKS: [Ask; 5] = [
     Ask::Modules(Filter::NamespacesOnly),
 ];
 
-/// A completion held to what the model says, at the limits and one below them. Counts answers by number, 0 for listed.
+/// A completion, with and without its shared length, held to what the model says, at the limits and one below them.
 fn hold<A: PartialEq + Debug>(
     memory: &Memory,
     ask: Ask,
     query: &[u8],
     expected: &dyn Fn(u32) -> Result<(Vec<CompletionResult<A>>, u32), u32>,
     item: &dyn Fn(&[u32]) -> A,
-    answers: &mut [u64; 11],
+    tally: &mut Tally,
 ) {
     let mut run = |budget: u32, lines: usize, bytes: usize, expected: Result<(&[CompletionResult<A>], u32), u32>| {
         let mut out = Output::with_room(lines, bytes);
-        let before = out.clone();
-        let answer = complete(memory, ask, query, budget, &mut out);
+        let answer = complete_both(memory, ask, query, budget, &mut out);
+        // Where the model does not say Unsound, also without the test.
+        if expected != Err(1) {
+            let mut other = Output::with_room(lines, bytes);
+            assert_eq!(unsafe { complete_both_sound(memory, ask, query, budget, &mut other) }, answer, "{ask:?} {query:?}");
+            assert!(other == out, "another output: {ask:?} {query:?}");
+        }
         match expected {
             Err(n) => {
-                answers[n as usize] += 1;
+                tally.refused(n);
                 assert_eq!(answer, Err(n), "{ask:?} {query:?} budget {budget} lines {lines} bytes {bytes}");
-                assert!(out == before, "a refused completion changed something: {ask:?} {query:?}");
             }
             Ok((results, entered)) => {
-                answers[0] += 1;
-                assert_eq!(answer, Ok((results.len() as u32, entered)), "{ask:?} {query:?}");
+                tally.listed(results);
+                assert_eq!(answer, Ok((results.len() as u32, entered, shared_length(results))), "{ask:?} {query:?}");
                 let mut used = 0;
                 for (k, r) in results.iter().enumerate() {
                     assert_eq!(&out.line(k, item), r, "line {k} of {ask:?} {query:?}");
@@ -66,16 +71,16 @@ fn hold<A: PartialEq + Debug>(
     }
 }
 
-fn hold_all(memory: &Memory, table: &Result<Table, u32>, query: &[u8], answers: &mut [u64; 11]) {
+fn hold_all(memory: &Memory, table: &Result<Table, u32>, query: &[u8], tally: &mut Tally) {
     for ask in ASKS {
         match ask {
             Ask::Names => {
                 let expected = |budget| table.as_ref().map_err(|&n| n).and_then(|t| autocomplete_lid(t, query, budget).map_err(|r| r.number()));
-                hold(memory, ask, query, &expected, &|w| w[5], answers);
+                hold(memory, ask, query, &expected, &|w| w[5], tally);
             }
             Ask::Modules(f) => {
                 let expected = |budget| table.as_ref().map_err(|&n| n).and_then(|t| autocomplete_mod_or_ns(t, query, f, budget).map_err(|r| r.number()));
-                hold(memory, ask, query, &expected, &|w| symbol(&memory.text, w), answers);
+                hold(memory, ask, query, &expected, &|w| symbol(&memory.text, w), tally);
             }
         }
     }
@@ -84,38 +89,38 @@ fn hold_all(memory: &Memory, table: &Result<Table, u32>, query: &[u8], answers: 
 #[test]
 fn completions_of_registered_tables() {
     let mut rng = Rng::new(Rng::seed_or(5));
-    let mut answers = [0; 11];
+    let mut tally = Tally::default();
     for round in 0..40 {
         let memory = registered_memory(&mut rng, [10, 40, 120][round % 3], 1000, 8000);
         let table = Ok(decode(&memory));
         for _ in 0..12 {
             let query = if rng.one_in(8) { damaged_query(&mut rng) } else { completion_query(&mut rng) };
-            hold_all(&memory, &table, &query, &mut answers);
+            hold_all(&memory, &table, &query, &mut tally);
         }
     }
-    println!("completions by answer (0 listed): {answers:?}; 0 disagreements");
-    assert!([0, 2, 4, 9, 10].iter().all(|&n| 0 < answers[n]), "{answers:?}");
+    println!("completions: {tally:?}; 0 disagreements");
+    assert!(tally.has(&[0, 2, 4, 9, 10]), "{tally:?}");
 }
 
 #[test]
 fn completions_of_hand_made_sound_tables() {
     let mut rng = Rng::new(Rng::seed_or(6));
-    let mut answers = [0; 11];
+    let mut tally = Tally::default();
     for _ in 0..60 {
         let memory = sound_memory(&mut rng, 60);
         let table = Ok(decode(&memory));
         for _ in 0..6 {
-            hold_all(&memory, &table, &completion_query(&mut rng), &mut answers);
+            hold_all(&memory, &table, &completion_query(&mut rng), &mut tally);
         }
     }
-    println!("completions of hand-made tables by answer (0 listed): {answers:?}; 0 disagreements");
-    assert!([0, 9, 10].iter().all(|&n| 0 < answers[n]), "{answers:?}");
+    println!("completions of hand-made tables: {tally:?}; 0 disagreements");
+    assert!(tally.has(&[0, 9, 10]), "{tally:?}");
 }
 
 #[test]
 fn completions_on_damaged_memory() {
     let mut rng = Rng::new(Rng::seed_or(7));
-    let mut answers = [0; 11];
+    let mut tally = Tally::default();
     for _ in 0..4 {
         let memory = registered_memory(&mut rng, 8, 120, 400);
         for damage in damages(&mut rng, &memory) {
@@ -123,10 +128,10 @@ fn completions_on_damaged_memory() {
                 let mut m = memory.clone();
                 damage.apply(&mut m);
                 let table = m.table().map_err(|r| r.number());
-                hold_all(&m, &table, &completion_query(&mut rng), &mut answers);
+                hold_all(&m, &table, &completion_query(&mut rng), &mut tally);
             }
         }
     }
-    println!("completions on damaged memory by answer (0 listed, 1 Unsound): {answers:?}; 0 disagreements");
-    assert!(0 < answers[0] && 0 < answers[1]);
+    println!("completions on damaged memory: {tally:?}; 0 disagreements");
+    assert!(tally.has(&[0, 1]), "{tally:?}");
 }

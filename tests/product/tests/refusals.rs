@@ -17,12 +17,11 @@ impl Calls for Exports {
         product::find(memory, query)
     }
 
+    /// Both completions are refused alike.
     fn complete(memory: &Memory, modules: Option<Filter>, query: &[u8], budget: u32, room: (usize, usize)) -> Result<(u32, u32), u32> {
-        let mut out = Output::with_room(room.0, room.1);
-        let before = out.clone();
-        let answer = product::complete(memory, modules.map_or(Ask::Names, Ask::Modules), query, budget, &mut out);
-        assert!(answer.is_ok() || out == before, "a refused completion changed something: {query:?}");
-        answer
+        let ask = modules.map_or(Ask::Names, Ask::Modules);
+        let answer = product::complete_both(memory, ask, query, budget, &mut Output::with_room(room.0, room.1));
+        answer.map(|(lines, entered, _)| (lines, entered))
     }
 }
 

@@ -30,8 +30,8 @@ less-spec =
     {- enum-told-3 -}
     (λ c. search needs)
     {- returns -}
-    (λ c. told _ _ Ordering·lt (rw (c .enum-told .given .1) at (c .before .before .string-compare .ensures)))
+    (λ c. told _ _ Ordering·lt (rw (c .enum-told .given .1) at (c .before .before .string-compare .ensures .order)))
     {- returns-2 -}
-    (λ c. same _ _ (rw (c .enum-told2 .given .1) at (c .before .before .string-compare .ensures)))
+    (λ c. same _ _ (rw (c .enum-told2 .given .1) at (c .before .before .string-compare .ensures .order)))
     {- returns-3 -}
-    (λ c. more _ _ (rw (c .enum-told3 .given .1) at (c .before .before .string-compare .ensures))))
+    (λ c. more _ _ (rw (c .enum-told3 .given .1) at (c .before .before .string-compare .ensures .order))))

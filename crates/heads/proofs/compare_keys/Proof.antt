@@ -16,4 +16,4 @@ compare-keys-spec =
     {- string-compare-requires -}
     (λ c κs. search needs)
     {- returns -}
-    (λ c. c .string-compare .ensures ∙ ap₂ S.string-compare (c .before .before .key-of .ensures) (c .before .key-of2 .ensures)))
+    (λ c. c .string-compare .ensures .order ∙ ap₂ S.string-compare (c .before .before .key-of .ensures) (c .before .key-of2 .ensures)))

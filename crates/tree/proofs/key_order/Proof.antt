@@ -15,4 +15,4 @@ key-order-spec =
     {- string-compare-requires -}
     (λ c κs. search needs)
     {- returns -}
-    (λ c. c .string-compare .ensures ∙ ap (λ k. string-compare (c .before .before .before .before .before .args .key .now) k) (c .before .key-of .ensures)))
+    (λ c. c .string-compare .ensures .order ∙ ap (λ k. string-compare (c .before .before .before .before .before .args .key .now) k) (c .before .key-of .ensures)))

@@ -1,0 +1,65 @@
+//! What a suite holds the completions of any implementation to, and which of
+//! them it has met.
+
+use crate::model::{shared_length, CompletionResult};
+use std::fmt::Debug;
+
+/// Lines, tries entered and shared length, or the number of the refusal.
+pub type Shared = Result<(u32, u32, u32), u32>;
+
+/// A completion and the one with its shared length, each on such an output:
+/// they answer alike and leave the same, and all as it was where they refuse.
+pub fn both<O: Clone + PartialEq>(
+    what: &dyn Debug,
+    out: &mut O,
+    complete: impl FnOnce(&mut O) -> Result<(u32, u32), u32>,
+    complete_shared: impl FnOnce(&mut O) -> Shared,
+) -> Shared {
+    let before = out.clone();
+    let mut other = out.clone();
+    let answer = complete(out);
+    let shared = complete_shared(&mut other);
+    assert_eq!(shared.map(|(lines, entered, _)| (lines, entered)), answer, "{what:?}");
+    assert!(other == *out, "another output: {what:?}");
+    assert!(answer.is_ok() || *out == before, "a refused completion changed something: {what:?}");
+    shared
+}
+
+/// Completions by answer, 0 for listed, and listings by what they share.
+#[derive(Debug, Default)]
+pub struct Tally {
+    pub answers: [u64; 11],
+    pub no_line: u64,
+    pub one_line: u64,
+    /// Several lines that share nothing.
+    pub nothing: u64,
+    /// Several that share a part of the first candidate.
+    pub part: u64,
+    /// Several that share the whole of it.
+    pub whole: u64,
+}
+
+impl Tally {
+    pub fn refused(&mut self, number: u32) {
+        self.answers[number as usize] += 1;
+    }
+
+    pub fn listed<A>(&mut self, results: &[CompletionResult<A>]) {
+        self.answers[0] += 1;
+        let shared = shared_length(results) as usize;
+        let sort = match results {
+            [] => &mut self.no_line,
+            [_] => &mut self.one_line,
+            [..] if shared == 0 => &mut self.nothing,
+            [first, ..] if shared < first.candidate.len() => &mut self.part,
+            [..] => &mut self.whole,
+        };
+        *sort += 1;
+    }
+
+    /// Each of these answers came up, and each sort of listing.
+    pub fn has(&self, answers: &[usize]) -> bool {
+        let sorts = [self.no_line, self.one_line, self.nothing, self.part, self.whole];
+        answers.iter().map(|&n| self.answers[n]).chain(sorts).all(|count| 0 < count)
+    }
+}
