@@ -126,24 +126,13 @@ static uint32_t beginning(uint32_t n) {
   return first.candidate_len;
 }
 
-/* The same by the call that says what is shared, on the same output. */
-static void complete_shared(int modules, uint32_t filter, const uint8_t *q, size_t qn, uint32_t budget, struct name_console_listing r) {
-  exchange(&lines), exchange(&out);
-  struct name_console_shared s = modules ? name_console_complete_modules_shared(TABLE, filter, q, qn, budget, OUTPUT)
-                                         : name_console_complete_shared(TABLE, q, qn, budget, OUTPUT);
-  must(s.answer == r.answer && s.lines == r.lines && s.entered == r.entered && s.shared == beginning(s.lines));
-  same(&lines, 0), same(&out, 0);
-}
-
-static struct name_console_listing complete(int modules, uint32_t filter, const uint8_t *q, size_t qn, uint32_t budget) {
-  keep(&lines), keep(&out);
-  struct name_console_listing r = modules ? name_console_complete_modules(TABLE, filter, q, qn, budget, OUTPUT)
-                                          : name_console_complete(TABLE, q, qn, budget, OUTPUT);
+/* What a completion may reply and leave. */
+static void holds(struct name_console_listing r, uint32_t budget) {
   must(r.answer <= NAME_CONSOLE_NO_ROOM);
   if (r.answer) {
     must(!r.lines && !r.entered);
     same(&lines, 0), same(&out, 0);
-    return r;
+    return;
   }
   must((uint64_t)r.lines * NAME_CONSOLE_LINE <= lines.len && 0 < r.entered && r.entered <= budget);
   same(&lines, (size_t)r.lines * NAME_CONSOLE_LINE);
@@ -155,6 +144,19 @@ static struct name_console_listing complete(int modules, uint32_t filter, const 
   }
   must(at <= out.len);
   same(&out, at);
+}
+
+/* A completion, and on the same output the one that says what is shared. */
+static struct name_console_listing complete(int modules, uint32_t filter, const uint8_t *q, size_t qn, uint32_t budget) {
+  keep(&lines), keep(&out);
+  struct name_console_listing r = modules ? name_console_complete_modules(TABLE, filter, q, qn, budget, OUTPUT)
+                                          : name_console_complete(TABLE, q, qn, budget, OUTPUT);
+  holds(r, budget);
+  exchange(&lines), exchange(&out);
+  struct name_console_shared s = modules ? name_console_complete_modules_shared(TABLE, filter, q, qn, budget, OUTPUT)
+                                         : name_console_complete_shared(TABLE, q, qn, budget, OUTPUT);
+  same(&lines, 0), same(&out, 0);
+  must(s.answer == r.answer && s.lines == r.lines && s.entered == r.entered && s.shared == beginning(r.lines));
   return r;
 }
 

@@ -204,13 +204,15 @@ static void beginnings(void) {
   check("one name", listed(complete("Live.off."), 1, 2) && shared == strlen("Live.offset"));
   check("names that part at once", listed(complete(""), 3, 3) && shared == 0);
   check("names that part later", listed(complete("S."), 2, 2) && line(0, "Saved.late", "", 2, 1) && shared == strlen("Saved."));
-  check("an include at the root", name("b.", "a", 4) == 0 && name("b.", "ab", 5) == 0 && name_console_include(TABLE, S(""), S("b.")) == 0);
-  check("an annotation is no part", listed(complete("a."), 2, 1) && line(0, "a", "b", 4, 1) && line(1, "ab", "b", 5, 1) && shared == 1);
+  check("names in and below the root", name("", "ab", 4) == 0 && name("", "abc", 5) == 0 && name("", "ac", 6) == 0 && name("ab.", "x", 7) == 0);
+  check("the third shortens it", listed(complete("a."), 4, 2) && line(2, "ac", "", 6, 1) && line(3, "ab.x", "", 7, 1) && shared == 1);
+  check("names with an annotation", name("g.", "t", 8) == 0 && name("g.", "tg", 9) == 0 && name_console_include(TABLE, S(""), S("g.")) == 0);
+  check("it is no part", listed(complete("t."), 2, 1) && line(0, "t", "g", 8, 1) && line(1, "tg", "g", 9, 1) && shared == 1);
   check("modules", name_console_module(TABLE, 0, S("IO.Bus."), S("io/bus")) == 0 && name_console_module(TABLE, 1, S("IO.Bit."), S("")) == 0);
-  check("one begins the others", listed(modules(NAME_CONSOLE_ALL, "I."), 3, 3) && shared == strlen("IO"));
-  check("what is loaded", listed(modules(NAME_CONSOLE_LOADED, "I."), 2, 3) && shared == strlen("IO"));
-  check("what is a module", listed(modules(NAME_CONSOLE_MODULES_ONLY, "I."), 2, 3) && shared == strlen("IO.B"));
-  check("what is a namespace", listed(modules(NAME_CONSOLE_NAMESPACES_ONLY, "I."), 1, 3) && shared == strlen("IO"));
+  check("one begins the others", listed(modules(NAME_CONSOLE_ALL, "I."), 3, 4) && shared == strlen("IO"));
+  check("what is loaded", listed(modules(NAME_CONSOLE_LOADED, "I."), 2, 4) && shared == strlen("IO"));
+  check("what is a module", listed(modules(NAME_CONSOLE_MODULES_ONLY, "I."), 2, 4) && shared == strlen("IO.B"));
+  check("what is a namespace", listed(modules(NAME_CONSOLE_NAMESPACES_ONLY, "I."), 1, 4) && shared == strlen("IO"));
 }
 
 /* ---- Registrations and look-ups */

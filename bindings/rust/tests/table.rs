@@ -89,14 +89,14 @@ fn shared_beginnings() {
     let mut t = t();
     t.register_module(false, "IO.Bus.", "io/bus").unwrap();
     let output = || (Output::new(10, 200), Output::new(10, 200));
-    let names = |t: &Table, query: &str| {
+    let names = |query: &str| {
         let (mut a, mut b) = output();
         beginning(t.complete_shared(query, 4096, &mut a).unwrap(), t.complete(query, 4096, &mut b).unwrap())
     };
-    assert_eq!(names(&t, ""), "");
-    assert_eq!(names(&t, "S."), "Saved.");
-    assert_eq!(names(&t, "Live.off."), "Live.offset");
-    assert_eq!(names(&t, "None."), "");
+    assert_eq!(names(""), "");
+    assert_eq!(names("S."), "Saved.");
+    assert_eq!(names("Live.off."), "Live.offset");
+    assert_eq!(names("None."), "");
     let modules = |filter: Filter| {
         let (mut a, mut b) = output();
         beginning(t.complete_modules_shared(filter, "I.", 3, &mut a).unwrap(), t.complete_modules(filter, "I.", 3, &mut b).unwrap())
@@ -105,12 +105,6 @@ fn shared_beginnings() {
     assert_eq!(modules(Filter::Loaded), "");
     assert_eq!(modules(Filter::ModulesOnly), "IO.Bus");
     assert_eq!(modules(Filter::NamespacesOnly), "IO");
-    // An annotation is no part of it: a [b] and ab [b].
-    t.insert("b.", "a", 1).unwrap();
-    t.insert("b.", "ab", 2).unwrap();
-    t.register_include("", "b.").unwrap();
-    assert_eq!(listed(&t, "a.").0, vec![line(1, 1, "b", "a"), line(1, 2, "b", "ab")]);
-    assert_eq!(names(&t, "a."), "a");
 }
 
 #[test]

@@ -12,11 +12,14 @@ use borrow.Author.Tests.{leb-true, leb-false}
 use Rattle.source.specs.Text.{Str, string-length, common-prefix}
 use Rattle.source.specs.Table.{Line}
 use Rattle.source.specs.Listing.{fold-left}
-use Rattle.source.specs.Calls.{shared-beginning}
+use Rattle.source.specs.Calls as C
+use Rattle.source.specs.Calls.{shared-beginning, shared-length}
 use Rattle.source.specs.Shared.{Allˡ}
 use Rattle.source.proofs.SharedBeginning.{common-same, common-differ}
 use Rattle.memory.specs.Layout.{Which, Item}
 use Rattle.text.proofs.Laid.{laid-length}
+use Rattle.memory.specs.Sound.{Says}
+use Rattle.memory.proofs.Says.{either-way}
 use Rattle.memory.proofs.Pasted.{span-length}
 use Rattle.output.specs.Output.{line-bytes, candidate-start, candidate-len, Written}
 use Rattle.rows.specs.Rows.{words-at, words-from, row-in, line-seen, TextsIn}
@@ -115,21 +118,21 @@ pub none-seen : (flat out : List ℕ) → shared-seen flat out 0 ≡ 0
 unfolding shared-seen string-length shared-beginning words-from
 none-seen flat out = refl
 
-pub none-in : (flat out : List ℕ) → CandidatesIn flat out 0
+none-in : (flat out : List ℕ) → CandidatesIn flat out 0
 unfolding words-from
 none-in flat out = record { whole = omega arith; texts = tt }
 
 -- ---- The lines that a completion wrote
 
 module _ {w : Which} {ws txt flat flat′ out out′ : List ℕ} {lines : List (Line (Item w))} (x : Written w ws txt flat flat′ out out′ 0 0 lines) where
-  pub written-candidates : CandidatesIn flat′ out′ (length lines)
+  written-candidates : CandidatesIn flat′ out′ (length lines)
   written-candidates = record { whole = omega (arith, x .flat-laid .fits, laid-length (x .flat-laid)); texts = go (words-from flat′ 0 (length lines)) (written-texts x) }
     where
       go : (rows : List (List ℕ)) → Allˡ (λ r. TextsIn out′ (row-in w r)) rows → Allˡ (CandidateIn out′) rows
       go [] a = tt
       go (r ∷ rows) a = (a .0 .candidate, go rows (a .1))
 
-  pub written-shared : shared-seen flat′ out′ (length lines) ≡ string-length (shared-beginning (map (λ l. l .candidate) lines))
+  written-shared : shared-seen flat′ out′ (length lines) ≡ string-length (shared-beginning (map (λ l. l .candidate) lines))
   unfolding shared-seen line-seen
   written-shared = ap (λ (ss : List Str). string-length (shared-beginning ss)) (go (words-from flat′ 0 (length lines)) ∙ ap (map (λ (l : Line (Item w)). l .candidate)) (written-lines x))
     where
@@ -137,7 +140,24 @@ module _ {w : Which} {ws txt flat flat′ out out′ : List ℕ} {lines : List (
       go [] = refl
       go (r ∷ rows) = ap (λ (ss : List Str). candidate-seen out′ r ∷ ss) (go rows)
 
--- ---- Whether candidates lie in the output can be seen, so that it holds if it cannot fail to
+module _ (w : Which) (ws txt flat flat′ out out′ : List ℕ) (k : ℕ) where
+  -- A completion hands back k lines, 0 if it is refused, and has written them.
+  abbrev pub Leaves : C.Completed (Item w) → Type 0
+  Leaves (C.listed lines entered) = (k ≡ length lines) × Written w ws txt flat flat′ out out′ 0 0 lines
+  Leaves (C.refused n) = k ≡ 0
+
+  leaves-candidates : (v : C.Completed (Item w)) → Leaves v → CandidatesIn flat′ out′ k
+  leaves-candidates (C.listed lines entered) a = rw (a .0) (written-candidates (a .1))
+  leaves-candidates (C.refused n) a = rw a (none-in flat′ out′)
+
+  pub leaves-shared : (v : C.Completed (Item w)) → Leaves v → shared-seen flat′ out′ k ≡ shared-length v
+  unfolding shared-length
+  leaves-shared (C.listed lines entered) a = rw (a .0) (written-shared (a .1))
+  leaves-shared (C.refused n) a = rw a (none-seen flat′ out′)
+
+-- ---- In any memory
+
+-- Whether candidates lie in the output can be seen, so that they do if they cannot fail to.
 
 le-stable : (a b : ℕ) → ((a ≤ b → ⊥) → ⊥) → a ≤ b
 le-stable a b h = go (leb a b) refl
@@ -150,5 +170,10 @@ all-stable : (out : List ℕ) (rows : List (List ℕ)) → ((Allˡ (CandidateIn 
 all-stable out [] h = tt
 all-stable out (r ∷ rows) h = (le-stable _ _ (λ n. h (λ a. n (a .0))), all-stable out rows (λ n. h (λ a. n (a .1))))
 
-pub candidates-stable : (flat out : List ℕ) (n : ℕ) → ((CandidatesIn flat out n → ⊥) → ⊥) → CandidatesIn flat out n
+candidates-stable : (flat out : List ℕ) (n : ℕ) → ((CandidatesIn flat out n → ⊥) → ⊥) → CandidatesIn flat out n
 candidates-stable flat out n h = record { whole = le-stable _ _ (λ k. h (λ c. k (c .whole))); texts = all-stable out (words-from flat 0 n) (λ k. h (λ c. k (c .texts))) }
+
+-- So it need not be known whether the memory was sound, to read what a completion left.
+pub left-candidates : {P : Type 0} (w : Which) (ws txt flat flat′ out out′ : List ℕ) (k : ℕ) (v : Bool → C.Completed (Item w))
+    → ((b : Bool) → Says b P → Leaves w ws txt flat flat′ out out′ k (v b)) → CandidatesIn flat′ out′ k
+left-candidates w ws txt flat flat′ out out′ k v h = either-way (candidates-stable flat′ out′ k) (λ b s. leaves-candidates w ws txt flat flat′ out out′ k (v b) (h b s))

@@ -1,0 +1,59 @@
+-- What a completion replies and writes is enough to read its lines and say what they share: RepliesShared, from RepliesLines.
+use Prim.Native.Nat.{ℕ}
+use mathlib.Core.Path.{_≡_, refl, ap, _∙_}
+use mathlib.Core.Bool.{Bool}
+use mathlib.Core.List.{List}
+use mathlib.Core.Option.{Option, none, some}
+use Rattle.source.specs.Text.{Str}
+use Rattle.source.specs.Calls as C
+use Rattle.memory.specs.Layout.{Which, names, Item}
+use Rattle.memory.specs.Sound.{Says}
+use Rattle.asks.specs.Ask.{asked}
+use Rattle.asks.specs.declared.Ask.{Ask}
+use Rattle.beginnings.specs.Shared.{CandidatesIn, shared-seen}
+use Rattle.beginnings.proofs.Shared.{Leaves, leaves-shared, left-candidates}
+use Rattle.completion.specs.Completes.{output}
+use Rattle.table.specs.Header.{table-in}
+use Rattle.table.specs.Completions.{completion}
+use Rattle.numbers.specs.Replies.{shared-reply}
+use Rattle.numbers.specs.declared.CompleteReply.{CompleteReply}
+use Rattle.numbers.specs.declared.SharedReply.{SharedReply}
+use Rattle.wire.specs.Memory.{words-in}
+use Rattle.screen.specs.Memory.{table-at, SoundBytes}
+use Rattle.screen.specs.Completions.{ListsAs, unasked, RepliesLines, shared-for, RepliesShared}
+
+module _ (ask : Ask) (ws txt ls ls′ out out′ : List ℕ) (r : CompleteReply) where
+  leaves : (v : C.Completed (Item (asked ask))) → ListsAs ask ws txt ls ls′ out out′ r v → Leaves (asked ask) ws txt ls ls′ out out′ (r .lines) v
+  leaves (C.listed lines entered) a = (ap (λ (c : CompleteReply). c .lines) (a .reply), a .written)
+  leaves (C.refused n) a = ap (λ (c : CompleteReply). c .lines) (a .reply)
+
+-- The table that is asked; names where nothing is.
+abbrev which : Option Ask → Which
+which (some ask) = asked ask
+which none = names
+
+module _ (st bs txt : List ℕ) (query : Str) (budget : ℕ) (ls ls′ out out′ : List ℕ) (r : CompleteReply) where
+  abbrev answer : (ask : Option Ask) → Bool → C.Completed (Item (which ask))
+  answer (some ask) b = completion b (table-in (words-in bs) txt (table-at st)) ask budget (output ls out) query
+  answer none b = C.refused (unasked b)
+
+  left : (ask : Option Ask) → RepliesLines st bs txt ask query budget ls ls′ out out′ r → (b : Bool) → Says b (SoundBytes st bs txt)
+      → Leaves (which ask) (words-in bs) txt ls ls′ out out′ (r .lines) (answer ask b)
+  left (some ask) x b h = leaves ask (words-in bs) txt ls ls′ out out′ r (answer (some ask) b) (x .says b h)
+  left none x b h = ap (λ (c : CompleteReply). c .lines) (x .says b h .reply)
+
+  answer-shared : (ask : Option Ask) (b : Bool) → C.shared-length (answer ask b) ≡ shared-for b (table-in (words-in bs) txt (table-at st)) ask budget (output ls out) query
+  unfolding C.shared-length
+  answer-shared (some ask) b = refl
+  answer-shared none b = refl
+
+module _ {st bs txt : List ℕ} {ask : Option Ask} {query : Str} {budget : ℕ} {ls ls′ out out′ : List ℕ} {r : CompleteReply} (x : RepliesLines st bs txt ask query budget ls ls′ out out′ r) where
+  pub replies-candidates : CandidatesIn ls′ out′ (r .lines)
+  replies-candidates = left-candidates (which ask) (words-in bs) txt ls ls′ out out′ (r .lines) (answer st bs txt query budget ls ls′ out out′ r ask) (left st bs txt query budget ls ls′ out out′ r ask x)
+
+  pub replies-shared : {s : SharedReply} → s ≡ shared-reply r (shared-seen ls′ out′ (r .lines)) → RepliesShared st bs txt ask query budget ls ls′ out out′ s
+  replies-shared e = rw e (record {
+    lines = x;
+    shared = λ b h. leaves-shared (which ask) (words-in bs) txt ls ls′ out out′ (r .lines) (answer st bs txt query budget ls ls′ out out′ r ask b) (left st bs txt query budget ls ls′ out out′ r ask x b h)
+        ∙ answer-shared st bs txt query budget ls ls′ out out′ r ask b;
+  })
