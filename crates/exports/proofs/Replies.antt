@@ -19,7 +19,10 @@ use Rattle.table.proofs.Says.{decided}
 use Rattle.numbers.specs.Replies.{name-reply, lines-reply}
 use Rattle.numbers.specs.declared.NameReply.{NameReply}
 use Rattle.numbers.specs.declared.CompleteReply.{CompleteReply}
-use Rattle.exports.specs.Replies.{ask-of, reply-of, RegisterReplies, FindReplies, ListReplies}
+use Rattle.numbers.specs.declared.SharedReply.{SharedReply}
+use Rattle.sharing.specs.Sharing.{CompletesShared}
+use Rattle.sharing.specs.declared.Sharing.{Sharing}
+use Rattle.exports.specs.Replies.{ask-of, reply-of, shared-of, RegisterReplies, FindReplies, ListReplies, SharedReplies}
 use Rattle.exports.specs.declared.Reply.{Reply}
 
 module _ {ws txt ws′ txt′ : List ℕ} {t t′ : Table} {c : Call} {x : Registration} {r : Reply} where
@@ -33,10 +36,13 @@ module _ {ws txt ws′ txt′ : List ℕ} {t t′ : Table} {c : Call} {x : Regis
 pub finds-replies : {ws txt : List ℕ} {t t′ : Table} {query : Str} {x : Finding} {r : NameReply} → t ≡ t′ → Finds ws txt t query x → r ≡ name-reply (name-found (x .answer)) → FindReplies ws txt t′ query r
 finds-replies {ws} {txt} {query = query} {x} e a f = record { answer = x; finds = subst (λ u. Finds ws txt u query x) e a; reply = f }
 
-pub lists-replies : {ws txt : List ℕ} {t t′ : Table} {ask : Ask} {n : ℕ} {query : Str} {budget : ℕ} {flat flat′ out out′ : List ℕ} {x : Listing} {r : CompleteReply} → t ≡ t′ → ask ≡ ask-of n
-    → Completes ws txt t ask query budget flat flat′ out out′ x → r ≡ lines-reply (x .answer) → ListReplies ws txt t′ n query budget flat flat′ out out′ r
-lists-replies {ws} {txt} {t′ = t′} {ask} {query = query} {budget} {flat} {flat′} {out} {out′} {x} e g a f = record {
-  answer = x;
-  completes = subst (λ (k : Ask). Completes ws txt t′ k query budget flat flat′ out out′ x) g (subst (λ (u : Table). Completes ws txt u ask query budget flat flat′ out out′ x) e a);
-  reply = f;
-}
+-- What is said of a table and of what is asked is said of equal ones.
+same-asked : (P : Table → Ask → Type 0) {t t′ : Table} {ask ask′ : Ask} → t ≡ t′ → ask ≡ ask′ → P t ask → P t′ ask′
+same-asked P {t′ = t′} {ask} e g x = subst (P t′) g (subst (λ (u : Table). P u ask) e x)
+
+module _ {ws txt : List ℕ} {t t′ : Table} {ask : Ask} {n : ℕ} {query : Str} {budget : ℕ} {flat flat′ out out′ : List ℕ} (e : t ≡ t′) (g : ask ≡ ask-of n) where
+  pub lists-replies : {x : Listing} {r : CompleteReply} → Completes ws txt t ask query budget flat flat′ out out′ x → r ≡ lines-reply (x .answer) → ListReplies ws txt t′ n query budget flat flat′ out out′ r
+  lists-replies {x} a f = record { answer = x; completes = same-asked (λ u k. Completes ws txt u k query budget flat flat′ out out′ x) e g a; reply = f }
+
+  pub shares-replies : {x : Sharing} {r : SharedReply} → CompletesShared ws txt t ask query budget flat flat′ out out′ x → r ≡ shared-of x → SharedReplies ws txt t′ n query budget flat flat′ out out′ r
+  shares-replies {x} a f = record { answer = x; completes = same-asked (λ u k. CompletesShared ws txt u k query budget flat flat′ out out′ x) e g a; reply = f }
