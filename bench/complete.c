@@ -155,3 +155,18 @@ int64_t c_complete(const uint32_t *words, const uint8_t *text, uint32_t root, co
     list(&r, root, query, nquery, 0, 4294967295u, 0);
     return (int64_t)r.count;
 }
+
+// The bytes that the candidates of n lines all begin with, read back from what was written.
+uint32_t c_shared(const uint8_t *lines, size_t n, const uint8_t *out) {
+    uint32_t span[2], shared = 0;
+    const uint8_t *first = out;
+    for (size_t i = 0; i < n; i++) {
+        memcpy(span, lines + i * 48 + 4, sizeof span);
+        const uint8_t *at = out + span[0];
+        if (i == 0) first = at, shared = span[1];
+        uint32_t most = shared < span[1] ? shared : span[1];
+        for (shared = 0; shared < most && at[shared] == first[shared]; shared++) {}
+        if (!shared) break;
+    }
+    return shared;
+}

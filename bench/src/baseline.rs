@@ -10,6 +10,7 @@ extern "C" {
     fn c_sound(words: *const u32, nwords: usize, text: *const u8, ntext: usize, names: u32, modules: u32, records: u32, used: u32) -> bool;
     fn c_complete(words: *const u32, text: *const u8, root: u32, query: *const u8, nquery: usize, budget: u32,
         lines: *mut u8, nlines: usize, out: *mut u8, nout: usize) -> i64;
+    fn c_shared(lines: *const u8, n: usize, out: *const u8) -> u32;
     fn c_insert(words: *mut u32, nwords: usize, text: *mut u8, ntext: usize, header: *mut [u32; 4],
         host: *const u8, nhost: usize, id: *const u8, nid: usize, item: u32) -> u32;
     fn c_find(words: *const u32, text: *const u8, root: u32, query: *const u8, nquery: usize, item: *mut u32) -> u32;
@@ -30,6 +31,11 @@ pub fn complete(m: &Memory, query: &[u8], budget: u32, out: &mut Output) -> Resu
             lines.as_mut_ptr(), lines.len(), text.as_mut_ptr(), text.len())
     };
     u32::try_from(answer).map_err(|_| -answer as u32)
+}
+
+/// The same with the bytes that all candidates begin with, read back from the lines.
+pub fn complete_shared(m: &Memory, query: &[u8], budget: u32, out: &mut Output) -> Result<(u32, u32), u32> {
+    complete(m, query, budget, out).map(|n| (n, unsafe { c_shared(out.lines.as_ptr(), n as usize, out.text.as_ptr()) }))
 }
 
 /// Registration of a name by hand in C, in a memory that is sound: 0 or the refusal.

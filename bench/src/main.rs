@@ -14,8 +14,8 @@ mod source;
 use calls::{completions, fresh, look_ups, made, registrations, Name};
 use measure::{compare, least, Row};
 use model::gen::Rng;
-use model::layout::Memory;
-use model::model::Registration;
+use model::layout::{decode, Memory};
+use model::model::{autocomplete_lid, shared_length, Registration};
 use product::{Ask, Output};
 use std::cell::RefCell;
 
@@ -192,6 +192,40 @@ fn refused(keys: &shapes::Keys) -> String {
     all
 }
 
+/// Listings with and without the beginning that their lines share, turn by turn on one memory.
+fn shared() -> String {
+    let all_names = names(1000);
+    let tree = |count: u32| (0..count).map(|i| Name::new(b"saved.bus.".to_vec(), format!("n{}", i * 7919 % count).into_bytes(), i)).collect::<Vec<_>>();
+    let mut all = String::from(
+        "| listing | lines | bytes shared | without, ns | with, ns | with / without | C without, ns | C with, ns | with / C with |\n|---|---|---|---|---|---|---|---|---|\n",
+    );
+    for (what, names, query) in [
+        ("one line of 1000 names", &all_names, &all_names[500].query[..]),
+        ("all names, 1000 names", &all_names, b""),
+        ("one tree", &tree(500), b"saved.bus.n."),
+        ("one tree", &tree(3000), b"saved.bus.n."),
+    ] {
+        let m = made(names);
+        let (expected, entered) = autocomplete_lid(&decode(&m), query, u32::MAX).expect("listed");
+        let (lines, bytes) = (expected.len() as u32, shared_length(&expected));
+        let [out, out_shared, by_c, by_c_shared] = [(); 4].map(|()| RefCell::new(Output::with_room(32768, 1 << 20)));
+        let [without, with, c, c_with] = compare([
+            // SAFETY, of both: the memory is sound.
+            &mut || unsafe { product::complete_sound(&m, Ask::Names, query, u32::MAX, &mut out.borrow_mut()) } == Ok((lines, entered)),
+            &mut || unsafe { product::complete_shared_sound(&m, Ask::Names, query, u32::MAX, &mut out_shared.borrow_mut()) } == Ok((lines, entered, bytes)),
+            &mut || baseline::complete(&m, query, u32::MAX, &mut by_c.borrow_mut()) == Ok(lines),
+            &mut || baseline::complete_shared(&m, query, u32::MAX, &mut by_c_shared.borrow_mut()) == Ok((lines, bytes)),
+        ]);
+        assert!([&out_shared, &by_c, &by_c_shared].iter().all(|o| *o.borrow() == *out.borrow()), "other lines: {what}");
+        all += &format!(
+            "| {what} | {lines} | {bytes} | {without:.0} | {with:.0} | {:.3} | {c:.0} | {c_with:.0} | {:.2} |\n",
+            with / without,
+            with / c_with
+        );
+    }
+    all
+}
+
 /// Names in random order below a few hosts until so many records are used.
 fn named_table(records: u32) -> Memory {
     let mut rng = Rng::new(7);
@@ -286,6 +320,7 @@ fn run() {
         ("merges", measure::table(&merges())),
         ("trees", measure::table(&trees(&keys))),
         ("refused", refused(&keys)),
+        ("shared", shared()),
         ("sound", sound(&keys)),
         ("layer", layer::parts(&names(200))),
     ];
