@@ -1,5 +1,5 @@
 -- What the candidates of rows share, row by row, and of the lines that a completion wrote.
-use Prim.Native.Nat.{ℕ, _+_, _-_, _*_, _≤_, _<_}
+use Prim.Native.Nat.{ℕ, _+_, _-_, _≤_, _<_}
 use mathlib.Core.Path.{_≡_, refl, sym, ap, _∙_}
 use mathlib.Core.Bool.{Bool, true, false}
 use mathlib.Core.List.{List, [], _∷_, map}
@@ -21,7 +21,7 @@ use Rattle.text.proofs.Laid.{laid-length}
 use Rattle.memory.specs.Sound.{Says}
 use Rattle.memory.proofs.Says.{either-way}
 use Rattle.memory.proofs.Pasted.{span-length}
-use Rattle.output.specs.Output.{line-bytes, candidate-start, candidate-len, Written}
+use Rattle.output.specs.Output.{candidate-start, candidate-len, Written}
 use Rattle.rows.specs.Rows.{words-at, words-from, row-in, line-seen, TextsIn}
 use Rattle.rows.proofs.Rows.{rows-left}
 use Rattle.rows.proofs.Written.{written-lines, written-texts}
@@ -157,7 +157,7 @@ module _ (w : Which) (ws txt flat flat′ out out′ : List ℕ) (k : ℕ) where
 
 -- ---- In any memory
 
--- Whether candidates lie in the output can be seen, so that they do if they cannot fail to.
+-- That candidates lie in the output may be shown by contradiction.
 
 le-stable : (a b : ℕ) → ((a ≤ b → ⊥) → ⊥) → a ≤ b
 le-stable a b h = go (leb a b) refl

@@ -27,6 +27,6 @@ pub refuses : (b : Bool) {P : Type 0} → Says b P → not b ≡ true → P → 
 refuses true h e p = false≢true e
 refuses false h e p = h p
 
--- What follows whichever way a test answers follows without the test, if it cannot fail to be false.
+-- What follows from either answer of a test follows without the test, where it may be shown by contradiction.
 pub either-way : {P Q : Type 0} → (((Q → ⊥) → ⊥) → Q) → ((b : Bool) → Says b P → Q) → Q
 either-way stable h = stable (λ n. n (h false (λ p. n (h true p))))

@@ -1,6 +1,6 @@
 -- What a completion hands back and leaves is enough to read its lines and say what they share: CompletesShared, from Completes.
 use Prim.Native.Nat.{ℕ}
-use mathlib.Core.Path.{_≡_, refl, _∙_}
+use mathlib.Core.Path.{_≡_, refl}
 use mathlib.Core.Bool.{Bool}
 use mathlib.Core.List.{List}
 use mathlib.Core.Option.{Option·none-ne-some}
@@ -21,7 +21,7 @@ use Rattle.table.specs.Header.{IsSound, table-in}
 use Rattle.table.specs.Completions.{completion, Completes}
 use Rattle.table.specs.declared.Table.{Table}
 use Rattle.table.specs.declared.Listing.{Listing}
-use Rattle.sharing.specs.Sharing.{Reads, CompletesShared}
+use Rattle.sharing.specs.Sharing.{sharing-seen, CompletesShared}
 use Rattle.sharing.specs.declared.Sharing.{Sharing}
 
 module _ (ask : Ask) (ws txt flat flat′ out out′ : List ℕ) where
@@ -40,8 +40,8 @@ module _ {ws txt : List ℕ} {t : Table} {ask : Ask} {query : Str} {budget : ℕ
   pub completes-candidates : CandidatesIn flat′ out′ (lines-in (l .answer))
   completes-candidates = left-candidates (asked ask) ws txt flat flat′ out out′ (lines-in (l .answer)) answer left
 
-  pub completes-shared : {r : Sharing} → Reads flat′ out′ l r → CompletesShared ws txt t ask query budget flat flat′ out out′ r
-  completes-shared g = record {
-    listing = rw (g .listing) x;
-    shared = λ b h. g .shared ∙ leaves-shared (asked ask) ws txt flat flat′ out out′ (lines-in (l .answer)) (answer b) (left b h);
-  }
+  pub completes-shared : {r : Sharing} → r ≡ sharing-seen flat′ out′ l → CompletesShared ws txt t ask query budget flat flat′ out out′ r
+  completes-shared e = rw e (record {
+    listing = x;
+    shared = λ b h. leaves-shared (asked ask) ws txt flat flat′ out out′ (lines-in (l .answer)) (answer b) (left b h);
+  })

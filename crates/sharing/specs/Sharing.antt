@@ -16,10 +16,9 @@ use Rattle.table.specs.declared.Table.{Table}
 use Rattle.table.specs.declared.Listing.{Listing}
 use Rattle.sharing.specs.declared.Sharing.{Sharing}
 
--- A listing, with what the lines that stand in flat and out share.
-pub record Reads (flat out : List ℕ) (l : Listing) (r : Sharing) : Type 0 where
-  pub listing : r .listing ≡ l
-  pub shared : r .shared ≡ shared-seen flat out (lines-in (l .answer))
+-- A listing, with what its lines share where they stand in flat and out.
+abbrev pub sharing-seen : (flat out : List ℕ) → Listing → Sharing
+sharing-seen flat out l = record { listing = l; shared = shared-seen flat out (lines-in (l .answer)) }
 
 -- In any memory: all that a completion hands back and leaves, and the shared length of the definition's answer; b says whether the memory is sound.
 pub record CompletesShared (ws txt : List ℕ) (t : Table) (ask : Ask) (query : Str) (budget : ℕ) (flat flat′ out out′ : List ℕ) (r : Sharing) : Type 0 where

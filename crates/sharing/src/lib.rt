@@ -3,11 +3,12 @@
 use asks::Ask;
 use table::Listing;
 use table::Table;
+ghost use mathlib.Core.Path.{_≡_};
 ghost use Rattle.source.specs.Lent.{old, new};
 ghost use Rattle.beginnings.specs.Shared.{CandidatesIn};
 ghost use Rattle.counts.specs.LinesIn.{lines-in};
 ghost use Rattle.table.specs.Header.{IsSound};
-ghost use Rattle.sharing.specs.Sharing.{Reads, CompletesShared};
+ghost use Rattle.sharing.specs.Sharing.{sharing-seen, CompletesShared};
 
 // What a completion hands back, and the length of the beginning that its lines share: 0 if it lists none or is refused.
 pub struct Sharing {
@@ -15,10 +16,10 @@ pub struct Sharing {
     pub shared: u32,
 }
 
-// The same of a completion whose lines stand in `flat` and `out`.
+// The same of a listing whose lines stand in `flat` and `out`.
 fn sharing_of(listing: Listing, flat: &[u8], out: &[u8]) -> Sharing
     requires { ⌜ CandidatesIn (now flat) (now out) (lines-in (listing .answer)) ⌝ }
-    ensures { λ r. ⌜ Reads (old flat) (old out) listing r ⌝ }
+    ensures { λ r. ⌜ r ≡ sharing-seen (old flat) (old out) listing ⌝ }
 {
     let n = counts::lines_in(listing);
     Sharing {

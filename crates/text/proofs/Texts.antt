@@ -1,7 +1,7 @@
 -- Laws of string-compare, starts-with and all, by what is left from a position on.
 use Prim.Native.Nat.{ℕ, _+_, _-_, _≤_, _<_, min, compare, Ordering, Ordering·lt, Ordering·eq, Ordering·gt}
 use mathlib.Core.Path.{_≡_, refl, sym, ap, _∙_}
-use mathlib.Core.Bool.{Bool, true, false, _&&_, and-true, and-false, and-assoc, or-false}
+use mathlib.Core.Bool.{Bool, false, _&&_, and-true, and-false, and-assoc, or-false}
 use mathlib.Core.List.{[], _∷_}
 use native.Mathlib.Decide.{ℕ-discrete}
 use native.Mathlib.Omega.{arith}
@@ -16,7 +16,6 @@ use Rattle.source.proofs.Order.{Viewℕ, compare-view}
 use Rattle.source.proofs.SharedBeginning.{common-same, common-differ}
 use Rattle.text.specs.Text.{ordering, Compares}
 use Rattle.text.specs.declared.Order.{Order}
-use Rattle.text.specs.declared.Order.the-variants.{Less, Same, More}
 
 -- The byte at a position, and what comes after it.
 pub drop-at : (s : Str) (i : ℕ) → i < length s → drop i s ≡ getD s i 0 ∷ drop (i + 1) s

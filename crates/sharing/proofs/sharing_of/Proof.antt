@@ -1,5 +1,5 @@
 -- `sharing_of` meets its contract.
-use mathlib.Core.Path.{refl, _∙_}
+use mathlib.Core.Path.{refl}
 use borrow.Author.Needs.{needs}
 use Rattle.sharing.proofs.sharing_of.Statement.{statement}
 use Rattle.sharing.proofs.sharing_of.Tie as tie
@@ -13,4 +13,4 @@ sharing-of-spec =
     {- shared-length-requires -}
     (λ c κs. rw (c .lines-in .ensures) (c .before .before .before .pre))
     {- returns -}
-    (λ c. record { listing = refl; shared = c .shared-length .ensures ∙ rw (c .before .lines-in .ensures) refl }))
+    (λ c. rw (c .shared-length .ensures, c .before .lines-in .ensures) refl))

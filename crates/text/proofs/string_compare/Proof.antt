@@ -1,6 +1,6 @@
 -- string_compare meets its contract: what is left from i on says how the whole compares.
-use Prim.Native.Nat.{_-_, compare}
-use mathlib.Core.Path.{_≡_, refl}
+use Prim.Native.Nat.{_-_}
+use mathlib.Core.Path.{refl}
 use native.Mathlib.Omega.{arith}
 use borrow.Author.Needs.{needs}
 use Rattle.text.proofs.Texts.{Comparing, bytes-same, bytes-differ, ended}
