@@ -1,31 +1,29 @@
 -- What the candidates of rows share, row by row, and of the lines that a completion wrote.
 use Prim.Native.Nat.{ℕ, _+_, _-_, _≤_, _<_}
 use mathlib.Core.Path.{_≡_, refl, sym, ap, _∙_}
-use mathlib.Core.Bool.{Bool, true, false}
+use mathlib.Core.Bool.{Bool}
 use mathlib.Core.List.{List, [], _∷_, map}
-use native.Mathlib.Decide.{ℕ-discrete}
+use native.Mathlib.Decide.{decLe, ℕ-discrete}
 use native.Mathlib.Omega.{arith}
-use lib.Dec.{leb}
 use lib.ListN.{length, take}
 use lib.Seq.{take-all, take-take, length-take-le}
-use borrow.Author.Tests.{leb-true, leb-false}
 use Rattle.source.specs.Text.{Str, string-length, common-prefix}
 use Rattle.source.specs.Table.{Line}
 use Rattle.source.specs.Listing.{fold-left}
 use Rattle.source.specs.Calls as C
 use Rattle.source.specs.Calls.{shared-beginning, shared-length}
 use Rattle.source.specs.Shared.{Allˡ}
-use Rattle.source.proofs.SharedBeginning.{common-same, common-differ}
+use Rattle.source.proofs.SharedBeginning.{begins-length, common-same, common-differ, common-begins}
 use Rattle.memory.specs.Layout.{Which, Item}
 use Rattle.text.proofs.Laid.{laid-length}
 use Rattle.memory.specs.Sound.{Says}
 use Rattle.memory.proofs.Says.{either-way}
 use Rattle.memory.proofs.Pasted.{span-length}
 use Rattle.output.specs.Output.{candidate-start, candidate-len, Written}
-use Rattle.rows.specs.Rows.{words-at, words-from, row-in, line-seen, TextsIn}
+use Rattle.rows.specs.Rows.{words-at, words-from, row-in, candidate-seen, line-seen, TextsIn}
 use Rattle.rows.proofs.Rows.{rows-left}
 use Rattle.rows.proofs.Written.{written-lines, written-texts}
-use Rattle.beginnings.specs.Shared.{CandidateIn, CandidatesIn, candidate-seen, shared-seen}
+use Rattle.beginnings.specs.Shared.{CandidateIn, CandidatesIn, shared-seen}
 
 -- ---- Two texts
 
@@ -41,14 +39,7 @@ common-take (a ∷ s) (b ∷ t) =
     ]
 
 common-short : (s t : Str) → length (common-prefix s t) ≤ length s
-unfolding common-prefix
-common-short [] t = omega arith
-common-short (a ∷ s) [] = omega arith
-common-short (a ∷ s) (b ∷ t) =
-    elim (ℕ-discrete a b) [
-      | yes e ↦ rw (common-same a b s t e) (omega (arith, common-short s t))
-      | no n ↦ rw (common-differ a b s t n) (omega arith)
-    ]
+common-short s t = begins-length (common-prefix s t) s (common-begins s t .0)
 
 none-shared : (l : List Str) → fold-left common-prefix [] l ≡ []
 unfolding fold-left common-prefix
@@ -158,13 +149,8 @@ module _ (w : Which) (ws txt flat flat′ out out′ : List ℕ) (k : ℕ) where
 -- ---- In any memory
 
 -- That candidates lie in the output may be shown by contradiction.
-
 le-stable : (a b : ℕ) → ((a ≤ b → ⊥) → ⊥) → a ≤ b
-le-stable a b h = go (leb a b) refl
-  where
-    go : (x : Bool) → leb a b ≡ x → a ≤ b
-    go true e = leb-true a b e
-    go false e = absurd (h (λ q. omega (arith, leb-false a b e)))
+le-stable a b h = elim (decLe a b) [ yes q ↦ q | no n ↦ absurd (h n) ]
 
 all-stable : (out : List ℕ) (rows : List (List ℕ)) → ((Allˡ (CandidateIn out) rows → ⊥) → ⊥) → Allˡ (CandidateIn out) rows
 all-stable out [] h = tt

@@ -2,12 +2,11 @@
 use Prim.Native.Nat.{ℕ, _+_, _*_, _≤_}
 use mathlib.Core.List.{List, map}
 use lib.ListN.{length}
-use Rattle.source.specs.Text.{Str, string-length}
+use Rattle.source.specs.Text.{string-length}
 use Rattle.source.specs.Calls.{shared-beginning}
 use Rattle.source.specs.Shared.{Allˡ}
-use Rattle.memory.specs.Layout.{span}
 use Rattle.output.specs.Output.{line-bytes, candidate-start, candidate-len}
-use Rattle.rows.specs.Rows.{words-from}
+use Rattle.rows.specs.Rows.{words-from, candidate-seen}
 
 -- The candidate of a row lies in the output text.
 abbrev pub CandidateIn : List ℕ → List ℕ → Type 0
@@ -18,10 +17,6 @@ pub record CandidatesIn (flat out : List ℕ) (n : ℕ) : Type 0 where
   pub whole : n * line-bytes ≤ length flat
   pub texts : Allˡ (CandidateIn out) (words-from flat 0 n)
 
--- The candidate that a reader sees in a row.
-abbrev pub candidate-seen : List ℕ → List ℕ → Str
-candidate-seen out r = span out (candidate-start r) (candidate-len r)
-
--- The length of what those of n rows share.
+-- The length of what the candidates of n rows share, as a reader sees them.
 unfoldable pub shared-seen : (flat out : List ℕ) → ℕ → ℕ
 shared-seen flat out n = string-length (shared-beginning (map (candidate-seen out) (words-from flat 0 n)))

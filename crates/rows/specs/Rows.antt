@@ -3,6 +3,7 @@ use Prim.Native.Nat.{ℕ, zero, suc, _+_, _*_, _≤_}
 use mathlib.Core.List.{List, [], _∷_, map}
 use mathlib.Core.Option.{Option, none, some}
 use lib.ListN.{length, drop}
+use Rattle.source.specs.Text.{Str}
 use Rattle.source.specs.Calls.{signed-word}
 use Rattle.source.specs.Table.{Line}
 use Rattle.memory.specs.Layout.{Which, names, modules, Item, item-of, number-word, span}
@@ -60,12 +61,16 @@ ItemInside size (Symbol s) = SymbolInside size s
 
 -- ---- What a reader sees
 
+-- The candidate that twelve words say.
+abbrev pub candidate-seen : List ℕ → List ℕ → Str
+candidate-seen out r = span out (candidate-start r) (candidate-len r)
+
 -- The line that twelve words say, with the texts of its spans.
 unfoldable pub line-seen : (w : Which) (txt out : List ℕ) → List ℕ → Line (Item w)
 line-seen w txt out r = record {
   match-length = signed-word (matched-word r);
   item-of = item-of w txt r;
-  candidate = span out (candidate-start r) (candidate-len r);
+  candidate = candidate-seen out r;
   annotation = span out (annotation-start r) (annotation-len r);
 }
 

@@ -32,28 +32,28 @@ abbrev which : Option Ask → Which
 which (some ask) = asked ask
 which none = names
 
-module _ (st bs txt : List ℕ) (query : Str) (budget : ℕ) (ls ls′ out out′ : List ℕ) (r : CompleteReply) where
+module _ (st bs txt : List ℕ) (query : Str) (budget : ℕ) (ls out : List ℕ) where
   abbrev answer : (ask : Option Ask) → Bool → C.Completed (Item (which ask))
   answer (some ask) b = completion b (table-in (words-in bs) txt (table-at st)) ask budget (output ls out) query
   answer none b = C.refused (unasked b)
-
-  left : (ask : Option Ask) → RepliesLines st bs txt ask query budget ls ls′ out out′ r → (b : Bool) → Says b (SoundBytes st bs txt)
-      → Leaves (which ask) (words-in bs) txt ls ls′ out out′ (r .lines) (answer ask b)
-  left (some ask) x b h = leaves ask (words-in bs) txt ls ls′ out out′ r (answer (some ask) b) (x .says b h)
-  left none x b h = ap (λ (c : CompleteReply). c .lines) (x .says b h .reply)
 
   answer-shared : (ask : Option Ask) (b : Bool) → C.shared-length (answer ask b) ≡ shared-for b (table-in (words-in bs) txt (table-at st)) ask budget (output ls out) query
   unfolding C.shared-length
   answer-shared (some ask) b = refl
   answer-shared none b = refl
 
+  left : (ls′ out′ : List ℕ) (r : CompleteReply) (ask : Option Ask) → RepliesLines st bs txt ask query budget ls ls′ out out′ r → (b : Bool) → Says b (SoundBytes st bs txt)
+      → Leaves (which ask) (words-in bs) txt ls ls′ out out′ (r .lines) (answer ask b)
+  left ls′ out′ r (some ask) x b h = leaves ask (words-in bs) txt ls ls′ out out′ r (answer (some ask) b) (x .says b h)
+  left ls′ out′ r none x b h = ap (λ (c : CompleteReply). c .lines) (x .says b h .reply)
+
 module _ {st bs txt : List ℕ} {ask : Option Ask} {query : Str} {budget : ℕ} {ls ls′ out out′ : List ℕ} {r : CompleteReply} (x : RepliesLines st bs txt ask query budget ls ls′ out out′ r) where
   pub replies-candidates : CandidatesIn ls′ out′ (r .lines)
-  replies-candidates = left-candidates (which ask) (words-in bs) txt ls ls′ out out′ (r .lines) (answer st bs txt query budget ls ls′ out out′ r ask) (left st bs txt query budget ls ls′ out out′ r ask x)
+  replies-candidates = left-candidates (which ask) (words-in bs) txt ls ls′ out out′ (r .lines) (answer st bs txt query budget ls out ask) (left st bs txt query budget ls out ls′ out′ r ask x)
 
   pub replies-shared : {s : SharedReply} → s ≡ shared-reply r (shared-seen ls′ out′ (r .lines)) → RepliesShared st bs txt ask query budget ls ls′ out out′ s
   replies-shared e = rw e (record {
     lines = x;
-    shared = λ b h. leaves-shared (which ask) (words-in bs) txt ls ls′ out out′ (r .lines) (answer st bs txt query budget ls ls′ out out′ r ask b) (left st bs txt query budget ls ls′ out out′ r ask x b h)
-        ∙ answer-shared st bs txt query budget ls ls′ out out′ r ask b;
+    shared = λ b h. leaves-shared (which ask) (words-in bs) txt ls ls′ out out′ (r .lines) (answer st bs txt query budget ls out ask b) (left st bs txt query budget ls out ls′ out′ r ask x b h)
+        ∙ answer-shared st bs txt query budget ls out ask b;
   })

@@ -46,7 +46,7 @@ begins-whole (a ∷ p) (b ∷ q) (c ∷ s) h k =
     let v = begins-parts c b q s k in
     begins-next c a p s (v .0 ∙ u .0) (begins-whole p q s (u .1) (v .1))
 
-begins-length : (p s : Str) → Begins p s → length p ≤ length s
+pub begins-length : (p s : Str) → Begins p s → length p ≤ length s
 unfolding starts-with
 begins-length [] s h = omega arith
 begins-length (b ∷ p) [] h = absurd (true≢false (sym h))
@@ -62,14 +62,14 @@ pub common-differ : (a b : ℕ) (s t : Str) → (a ≡ b → ⊥) → common-pre
 unfolding common-prefix
 common-differ a b s t n = rw (common-prefix, ne-eqb a b n)
 
-common-begins : (s t : Str) → Begins (common-prefix s t) s × Begins (common-prefix s t) t
+pub common-begins : (s t : Str) → Begins (common-prefix s t) s × Begins (common-prefix s t) t
 unfolding common-prefix starts-with
 common-begins [] t = (refl, refl)
 common-begins (a ∷ s) [] = (refl, refl)
 common-begins (a ∷ s) (b ∷ t) =
     elim (ℕ-discrete a b) [
-      | yes e ↦ let r = common-begins s t in rw (common-same a b s t e) (begins-next a a (common-prefix s t) s refl (r .0), begins-next b a (common-prefix s t) t (sym e) (r .1))
-      | no n ↦ rw (common-differ a b s t n) (refl, refl)
+      | yes e ↦ let r = common-begins s t in rw (common-prefix, eq-eqb a b e) (begins-next a a (common-prefix s t) s refl (r .0), begins-next b a (common-prefix s t) t (sym e) (r .1))
+      | no n ↦ rw (common-prefix, ne-eqb a b n) (refl, refl)
     ]
 
 common-longest : (p s t : Str) → Begins p s → Begins p t → Begins p (common-prefix s t)
