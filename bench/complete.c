@@ -21,6 +21,7 @@ struct run {
     uint8_t *lines_at;
     uint8_t *out;
     size_t lines, bytes;     // lent
+    uint32_t kind;           // of the items kept, 0 for all
     size_t budget, entered;  // tries
     size_t count, used;      // lines and bytes so far
     bool write;
@@ -116,6 +117,7 @@ static void list(struct run *r, uint32_t trie, const uint8_t *q, size_t qn, size
         struct list l = search(r, t[3], q, n);
         for (size_t i = 0; i < l.n; i++) {
             const uint32_t *b = record(r, l.at[i].branch);
+            if (r->kind && b[6] != r->kind) continue;
             uint32_t outer = base ? label : l.at[i].label;
             const uint32_t *c = outer ? record(r, outer) : NULL;
             size_t candidate = base + b[2], note = c ? c[2] : 0;
@@ -145,9 +147,9 @@ static void list(struct run *r, uint32_t trie, const uint8_t *q, size_t qn, size
 }
 
 // The number of lines, or -9 or -10.
-int64_t c_complete(const uint32_t *words, const uint8_t *text, uint32_t root, const uint8_t *query, size_t nquery, uint32_t budget, uint8_t *lines,
-                   size_t nlines, uint8_t *out, size_t nout) {
-    struct run r = {words, text, lines, out, nlines / 48, nout, budget, 0, 0, 0, false, {0}};
+int64_t c_complete(const uint32_t *words, const uint8_t *text, uint32_t root, uint32_t kind, const uint8_t *query, size_t nquery, uint32_t budget,
+                   uint8_t *lines, size_t nlines, uint8_t *out, size_t nout) {
+    struct run r = {words, text, lines, out, nlines / 48, nout, kind, budget, 0, 0, 0, false, {0}};
     list(&r, root, query, nquery, 0, 4294967295u, 0);
     if (r.entered > budget) return -9;
     if (r.count > r.lines || r.used > r.bytes) return -10;

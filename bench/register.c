@@ -81,8 +81,13 @@ static uint32_t names_find(const struct table *t, uint32_t list, const uint8_t *
     return 0;
 }
 
+// What words 5 and 6 of a branch hold: an item's number and kind, or a trie and 0.
+struct value {
+    uint32_t held, kind;
+};
+
 // 0 and the item, 11 for none, else the refusal.
-uint32_t c_find(const uint32_t *words, const uint8_t *text, uint32_t root, const uint8_t *query, size_t nquery, uint32_t *item) {
+uint32_t c_find(const uint32_t *words, const uint8_t *text, uint32_t root, const uint8_t *query, size_t nquery, struct value *item) {
     struct table t = {(uint32_t *)words, (uint8_t *)text, 0};
     struct span s[SEGMENTS];
     size_t n;
@@ -95,7 +100,7 @@ uint32_t c_find(const uint32_t *words, const uint8_t *text, uint32_t root, const
     }
     uint32_t b = names_find(&t, word(&t, root, 3), query + s[n - 1].start, s[n - 1].len);
     if (!b) return NONE;
-    *item = record(&t, b)[5];
+    memcpy(item, record(&t, b) + 5, sizeof *item);
     return 0;
 }
 
@@ -128,19 +133,19 @@ static uint32_t put(struct table *t, const uint32_t r[12]) {
 }
 
 // Kind 1 is a bindings branch, 2 a namespaces branch.
-static uint32_t tree_insert(struct table *t, uint32_t kind, uint32_t tree, struct span key, uint32_t value) {
-    uint32_t r[12] = {kind, key.start, key.len, 0, 0, value};
+static uint32_t tree_insert(struct table *t, uint32_t kind, uint32_t tree, struct span key, struct value value) {
+    uint32_t r[12] = {kind, key.start, key.len, 0, 0, value.held, value.kind};
     if (tree) {
         memcpy(r, record(t, tree), sizeof r);
         int c = compare(t->text + key.start, key.len, t->text + r[1], r[2]);
-        if (!c) r[5] = value;
+        if (!c) memcpy(r + 5, &value, sizeof value);
         else r[c < 0 ? 3 : 4] = tree_insert(t, kind, r[c < 0 ? 3 : 4], key, value);
     }
     if (kind == 2) r[11] = max(1 + word(t, r[5], 11), max(word(t, r[3], 11), word(t, r[4], 11)));
     return put(t, r);
 }
 
-static uint32_t names_insert(struct table *t, uint32_t kind, uint32_t list, struct span key, uint32_t value) {
+static uint32_t names_insert(struct table *t, uint32_t kind, uint32_t list, struct span key, struct value value) {
     uint32_t lead = leading(t, list), rest = list && !record(t, list)[5] ? record(t, list)[4] : list, heavy = weight(t, list);
     uint32_t tree = tree_insert(t, kind, lead, key, value);
     uint32_t r[12] = {kind + 2, 0, 0, tree, rest, 0, 0, 0, 0, 0, heavy, kind == 2 ? max(word(t, tree, 11), word(t, rest, 11)) : 0};
@@ -153,7 +158,7 @@ static uint32_t put_trie(struct table *t, uint32_t bindings, uint32_t namespaces
 
 // 0 with the header of the new table, or the refusal.
 uint32_t c_insert(uint32_t *words, size_t nwords, uint8_t *text, size_t ntext, struct header *h, const uint8_t *host, size_t nhost, const uint8_t *id,
-                  size_t nid, uint32_t item) {
+                  size_t nid, uint32_t kind, uint32_t number) {
     struct table t = {words, text, h->records};
     struct span s[SEGMENTS];
     size_t n;
@@ -176,11 +181,11 @@ uint32_t c_insert(uint32_t *words, size_t nwords, uint8_t *text, size_t ntext, s
     memcpy(text + h->text, host, nhost);
     memcpy(text + h->text + nhost, id, nid);
     struct span key = {h->text + (uint32_t)nhost, (uint32_t)nid};
-    uint32_t below = names_insert(&t, 1, word(&t, tries[n], 3), key, item);
+    uint32_t below = names_insert(&t, 1, word(&t, tries[n], 3), key, (struct value){number, kind});
     uint32_t trie = put_trie(&t, below, word(&t, tries[n], 4));
     for (size_t i = n; i--;) {
         key = (struct span){h->text + s[i].start, s[i].len};
-        below = names_insert(&t, 2, word(&t, tries[i], 4), key, trie);
+        below = names_insert(&t, 2, word(&t, tries[i], 4), key, (struct value){trie, 0});
         trie = put_trie(&t, word(&t, tries[i], 3), below);
     }
     *h = (struct header){trie, h->modules, t.records, h->text + (uint32_t)(nhost + nid)};

@@ -84,7 +84,7 @@ static bool records_ok(const Mem *m, uint32_t records) {
     uint32_t k = at(m, l, 0);
     bool ok;
     switch (k) {
-      case 1: ok = branch_ok(m, l, k); break;
+      case 1: ok = branch_ok(m, l, k) && at(m, l, 6) >= 1 && at(m, l, 6) <= 3; break;
       case 6: ok = branch_ok(m, l, k) && symbol_ok(m, l); break;
       case 2:
       case 7:

@@ -21,7 +21,7 @@ static inline __attribute__((always_inline)) void *take(size_t n) {
 // A new block of a type, whose first word is the header, written where it stands.
 #define NEW(type, ...) ({ type *p_ = take(sizeof(type)); *p_ = (type){sizeof(type), __VA_ARGS__}; (const type *)p_; })
 
-typedef uintptr_t value;  // an item, or a block
+typedef uintptr_t value;  // an item, its kind above its number, or a block
 
 struct str {
     value header;
@@ -405,7 +405,7 @@ const void *s_load(const uint32_t *words, const uint8_t *text, uint32_t records,
         const uint32_t *r = words + (size_t)(l - 1) * 12;
         if (r[0] < 3) {
             const void *below = r[0] == 2 ? (r[5] ? read[r[5]] : &trie_empty) : NULL;
-            read[l] = NEW(struct tree, string(text + r[1], r[2]), r[0] == 2 ? (value)below : r[5], read[r[3]], read[r[4]]);
+            read[l] = NEW(struct tree, string(text + r[1], r[2]), r[0] == 2 ? (value)below : (value)r[6] << 32 | r[5], read[r[3]], read[r[4]]);
         } else if (r[0] < 5) {
             read[l] = cons(NEW(struct collection, r[5] ? string(text + r[1], r[2]) : NULL, read[r[3]]), read[r[4]]);
         } else if (r[0] == 5) {
@@ -417,13 +417,13 @@ const void *s_load(const uint32_t *words, const uint8_t *text, uint32_t records,
     return tr;
 }
 
-const void *s_insert(const void *tr, const uint8_t *host, size_t nhost, const uint8_t *id, size_t nid, uint32_t item) {
+const void *s_insert(const void *tr, const uint8_t *host, size_t nhost, const uint8_t *id, size_t nid, uint64_t item) {
     return trie_insert(tr, query(host, nhost), string(id, nid), item);
 }
 
-bool s_find(const void *tr, const uint8_t *q, size_t n, uint32_t *item) {
+bool s_find(const void *tr, const uint8_t *q, size_t n, uint64_t *item) {
     const struct some *v = trie_find_exact(tr, query(q, n));
-    if (v) *item = (uint32_t)v->it;
+    if (v) *item = v->it;
     return v;
 }
 

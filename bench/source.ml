@@ -18,7 +18,7 @@
    d4b42c1b19, src/interactive/FStarC.Interactive.CompletionTable.fst. Changed: put into OCaml by hand as F* extracts it, each
    constructor with its one argument, a tuple where the source has one, and effectful arguments bound first; what the names table
    does not use is left out. Integers are those of Prims: F*'s own (prims_zarith.ml), or OCaml's (prims_ocaml.ml), which are
-   faster. An item is a machine integer. *)
+   faster. An item is a machine integer, its kind above the 32 bits of its number. *)
 
 open Prims
 

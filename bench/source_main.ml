@@ -38,6 +38,8 @@ let hash = ref 0
 let number n = hash := (!hash * 31 + n) land 0xffffffff
 let text s = number (String.length s); String.iter (fun c -> number (Char.code c)) s
 
+let sum_item item = number (item lsr 32); number (item land 0xffffffff)
+
 (* The source's result has no item: it is what trie_find_prefix has with the path. *)
 let sum_lines tbl q =
   let items = List.map snd (trie_find_prefix tbl.tbl_lids q) in
@@ -46,12 +48,12 @@ let sum_lines tbl q =
       text line.completion_candidate;
       text line.completion_annotation;
       number (Prims.to_int line.completion_match_length);
-      number item)
+      sum_item item)
     (autocomplete_lid tbl q) items
 
-let sum_item = function
+let sum_found = function
   | None -> number 0
-  | Some item -> incr count; number 1; number item
+  | Some item -> incr count; number 1; sum_item item
 
 external clock : unit -> int = "bench_clock" [@@noalloc]
 
@@ -89,7 +91,7 @@ let row (tbl : table) (calls : call list) : table =
       (all (), timed (fun () -> ignore (all ())))
     | Find _ :: _ ->
       let queries = List.map found calls in
-      List.iter (fun q -> sum_item (find tbl q)) queries;
+      List.iter (fun q -> sum_found (find tbl q)) queries;
       (tbl, timed (fun () -> List.iter (fun q -> ignore (find tbl q)) queries))
     | Complete _ :: _ ->
       let queries = List.map completed calls in

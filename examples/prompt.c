@@ -27,6 +27,9 @@ static uint8_t out[OUT];
 
 static const char *const refusals[] = {"", "Unsound", "Malformed", "Empty", "TooLong", "Crowded", "Deep", "Full", "TextFull", "Spent", "Lines"};
 
+/* The kinds by number. The first letter of one stands before the number of an item. */
+static const char *const kinds[] = {"", "timer", "port", "register"};
+
 static void say_refused(uint32_t n) { printf("refused: %u %s\n", n, refusals[n]); }
 
 static void say_registered(uint32_t answer) {
@@ -58,22 +61,30 @@ static Query query_of(const char *name) {
   return q;
 }
 
-/* A decimal number of 32 bits. */
+/* A decimal number of 32 bits without leading zeros. */
 static bool number_of(const char *s, uint32_t *n) {
   char *end;
   errno = 0;
   unsigned long long v = strtoull(s, &end, 10);
   *n = (uint32_t)v;
-  return isdigit((unsigned char)*s) && *end == 0 && errno == 0 && v <= UINT32_MAX;
+  return isdigit((unsigned char)*s) && (*s != '0' || end == s + 1) && *end == 0 && errno == 0 && v <= UINT32_MAX;
+}
+
+/* An item: the letter of its kind and its number. Without a letter it is a register. */
+static bool item_of(const char *s, uint32_t *kind, uint32_t *number) {
+  for (*kind = NAME_CONSOLE_TIMER; *kind <= NAME_CONSOLE_REGISTER; ++*kind)
+    if (*s == *kinds[*kind]) return number_of(s + 1, number);
+  *kind = NAME_CONSOLE_REGISTER;
+  return number_of(s, number);
 }
 
 /* ---- Commands: each says whether its arguments have its form */
 
 static bool run_name(char **part) {
   Query host = query_of(part[0]);
-  uint32_t item;
-  if (!number_of(part[2], &item)) return false;
-  say_registered(name_console_insert(TABLE, QUERY(host), BYTES(part[1]), item));
+  uint32_t kind, number;
+  if (!item_of(part[2], &kind, &number)) return false;
+  say_registered(name_console_insert_item(TABLE, QUERY(host), BYTES(part[1]), kind, number));
   return true;
 }
 
@@ -110,9 +121,9 @@ static bool run_module(char **part) {
 
 static bool run_find(char **part) {
   Query q = query_of(part[0]);
-  struct name_console_name r = name_console_find(TABLE, QUERY(q));
+  struct name_console_item r = name_console_find_item(TABLE, QUERY(q));
   if (r.answer == NAME_CONSOLE_OK)
-    printf("found %u\n", r.item);
+    printf("found %c%u\n", *kinds[r.kind], r.number);
   else if (r.answer == NAME_CONSOLE_NONE)
     puts("none");
   else
@@ -120,34 +131,28 @@ static bool run_find(char **part) {
   return true;
 }
 
-/* Prints what a completion listed. */
-static void say_listing(struct name_console_listing r, bool modules) {
+/* What may be listed: names of all kinds or of one, or modules. */
+enum { NAMES = NAME_CONSOLE_ALL_KINDS, TIMERS = NAME_CONSOLE_TIMER, PORTS = NAME_CONSOLE_PORT, REGISTERS = NAME_CONSOLE_REGISTER, MODULES };
+
+static bool list(uint32_t what, char **part) {
+  Query q = query_of(part[0]);
+  struct name_console_listing r = what == MODULES ? name_console_complete_modules(TABLE, NAME_CONSOLE_ALL, QUERY(q), OUTPUT)
+                                                  : name_console_complete_names(TABLE, what, QUERY(q), OUTPUT);
   if (r.answer) {
     say_refused(r.answer);
-    return;
+    return true;
   }
   for (uint32_t i = 0; i < r.lines; i++) {
     struct name_console_line l = name_console_line_at(lines, i);
     printf("%.*s", (int)l.candidate_len, (char *)out + l.candidate);
     if (l.annotation_len) printf("  [%.*s]", (int)l.annotation_len, (char *)out + l.annotation);
-    if (!modules)
-      printf("  item %u", l.item);
-    else if (l.item == 0 && l.path <= sizeof text && l.path_len <= sizeof text - l.path)
+    if (what != MODULES)
+      printf("  %s %u", kinds[l.kind], l.number);
+    else if (l.sort == 0 && l.path <= sizeof text && l.path_len <= sizeof text - l.path)
       printf("  path %.*s", (int)l.path_len, (char *)text + l.path);
     printf("  match %d\n", l.match_length);
   }
   printf("%u %s, %u entered\n", r.lines, r.lines == 1 ? "line" : "lines", r.entered);
-}
-
-static bool run_complete(char **part) {
-  Query q = query_of(part[0]);
-  say_listing(name_console_complete(TABLE, QUERY(q), OUTPUT), false);
-  return true;
-}
-
-static bool run_modules(char **part) {
-  Query q = query_of(part[0]);
-  say_listing(name_console_complete_modules(TABLE, NAME_CONSOLE_ALL, QUERY(q), OUTPUT), true);
   return true;
 }
 
@@ -156,19 +161,23 @@ static bool run_quit(char **part);
 
 static const struct command {
   const char *name, *form, *says;
-  int parts; /* parts that must be there; the last one runs to the end of the line */
-  bool (*run)(char **part);
+  int parts;                /* parts that must be there; the last one runs to the end of the line */
+  uint32_t what;            /* what Tab offers in it */
+  bool (*run)(char **part); /* none: it lists what Tab offers */
 } commands[] = {
-    {"name", "host id N", "register a name with its item", 3, run_name},
-    {"include", "host q", "include the bindings of q", 2, run_include},
-    {"open", "m|n host q", "open q, a module or a namespace", 3, run_open},
-    {"alias", "key host q", "put an alias of q at the key", 3, run_alias},
-    {"module", "l|u q path", "register a module, loaded or unloaded", 3, run_module},
-    {"find", "q", "look a name up", 1, run_find},
-    {"complete", "q", "list the names that begin so", 1, run_complete},
-    {"modules", "q", "list the modules and namespaces that begin so", 1, run_modules},
-    {"help", "", "say this", 0, run_help},
-    {"quit", "", "leave", 0, run_quit},
+    {"name", "host id N", "register a name with its item", 3, NAMES, run_name},
+    {"include", "host q", "include the bindings of q", 2, NAMES, run_include},
+    {"open", "m|n host q", "open q, a module or a namespace", 3, NAMES, run_open},
+    {"alias", "key host q", "put an alias of q at the key", 3, NAMES, run_alias},
+    {"module", "l|u q path", "register a module, loaded or unloaded", 3, MODULES, run_module},
+    {"find", "q", "look a name up", 1, NAMES, run_find},
+    {"complete", "q", "list the names that begin so", 1, NAMES, NULL},
+    {"timers", "q", "list the timers that begin so", 1, TIMERS, NULL},
+    {"ports", "q", "list the ports that begin so", 1, PORTS, NULL},
+    {"registers", "q", "list the registers that begin so", 1, REGISTERS, NULL},
+    {"modules", "q", "list the modules and namespaces that begin so", 1, MODULES, NULL},
+    {"help", "", "say this", 0, NAMES, run_help},
+    {"quit", "", "leave", 0, NAMES, run_quit},
 };
 enum { COMMANDS = sizeof commands / sizeof *commands };
 
@@ -181,8 +190,9 @@ static bool run_quit(char **part) {
 
 static bool run_help(char **part) {
   (void)part;
-  for (int i = 0; i < COMMANDS; i++) printf("  %-8s %-10s  %s\n", commands[i].name, commands[i].form, commands[i].says);
+  for (int i = 0; i < COMMANDS; i++) printf("  %-9s %-10s  %s\n", commands[i].name, commands[i].form, commands[i].says);
   puts("host and q are dotted names, such as Live.offset; - is the root. Tab fills in what is certain, a second Tab lists.");
+  puts("N is t5 for timer 5, p5 for port 5, r5 or 5 for register 5.");
   return true;
 }
 
@@ -210,12 +220,12 @@ static void run(char *line) {
     part[n] = rest;
     rest += n + 1 < c->parts ? strcspn(rest, " ") : strlen(rest);
   }
-  if (n < c->parts || *rest || !c->run(part)) printf("%s %s\n", c->name, c->form);
+  if (n < c->parts || *rest || !(c->run ? c->run(part) : list(c->what, part))) printf("%s %s\n", c->name, c->form);
 }
 
 /* ---- Tab */
 
-/* The annotations of what is on offer, in its order; a command's is empty. */
+/* What is shown beside each one on offer, in their order: annotations, a name's after its kind; beside a command nothing. */
 static char *notes[LINES];
 static int noted;
 
@@ -245,6 +255,14 @@ static char *next_command(const char *typed, int again) {
   return NULL;
 }
 
+/* Ten columns have the longest word of a kind and two spaces. */
+static char *note_of(struct name_console_line l, uint32_t what) {
+  if (what == MODULES) return copy_of(out + l.annotation, l.annotation_len);
+  char note[LONGEST];
+  snprintf(note, sizeof note, "%-*s%.*s", l.annotation_len ? 10 : 0, kinds[l.kind], (int)l.annotation_len, (char *)out + l.annotation);
+  return copy_of(BYTES(note));
+}
+
 static size_t dots_in(const uint8_t *bytes, size_t len) {
   size_t dots = 0;
   while (len) dots += bytes[--len] == '.';
@@ -253,7 +271,7 @@ static size_t dots_in(const uint8_t *bytes, size_t len) {
 
 /* What readline puts in the typed text's place, then the candidates. The names need not begin with what was typed (L.o
    gives Live.offset): the beginning that they share is put there if it has as many dots, so that no typed segment is lost. */
-static char **offer(const char *typed, struct name_console_shared r) {
+static char **offer(const char *typed, struct name_console_shared r, uint32_t what) {
   char **offered = calloc(r.lines + 2, sizeof *offered);
   if (!offered) abort();
   const uint8_t *shared = out + name_console_line_at(lines, 0).candidate;
@@ -261,7 +279,7 @@ static char **offer(const char *typed, struct name_console_shared r) {
   for (uint32_t i = 0; i < r.lines; i++) {
     struct name_console_line l = name_console_line_at(lines, i);
     if (r.lines > 1) offered[i + 1] = copy_of(out + l.candidate, l.candidate_len);
-    notes[noted++] = copy_of(out + l.annotation, l.annotation_len);
+    notes[noted++] = note_of(l, what);
   }
   return offered;
 }
@@ -279,16 +297,16 @@ static char **on_tab(const char *typed, int start, int end) {
   memcpy(q.at, typed, q.size - 1);
   q.at[q.size - 1] = '.';
   const struct command *c = command_of(rl_line_buffer + first, len);
-  bool modules = c && (c->run == run_module || c->run == run_modules);
-  struct name_console_shared r = modules ? name_console_complete_modules_shared(TABLE, NAME_CONSOLE_ALL, QUERY(q), OUTPUT)
-                                         : name_console_complete_shared(TABLE, QUERY(q), OUTPUT);
+  uint32_t what = c ? c->what : NAMES;
+  struct name_console_shared r = what == MODULES ? name_console_complete_modules_shared(TABLE, NAME_CONSOLE_ALL, QUERY(q), OUTPUT)
+                                                 : name_console_complete_names_shared(TABLE, what, QUERY(q), OUTPUT);
   if (r.answer) {
     putchar('\n');
     say_refused(r.answer);
     rl_on_new_line();
     return NULL;
   }
-  return r.lines ? offer(typed, r) : NULL;
+  return r.lines ? offer(typed, r, what) : NULL;
 }
 
 /* The key: a second Tab lists, if the first had more than one to offer. (Readline's own waits for a Tab that changed nothing.) */
@@ -296,7 +314,7 @@ static int fill_or_list(int count, int key) {
   return rl_last_func == fill_or_list && noted > 1 ? rl_possible_completions(count, key) : rl_complete(count, key);
 }
 
-/* Readline asks to list what is on offer: the pane, each name with its annotation. */
+/* Readline asks to list what is on offer: the pane, each name with its kind and annotation. */
 static void on_list(char **offered, int count, int longest) {
   putchar('\n');
   for (int i = 1; i <= count; i++) {

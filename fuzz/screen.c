@@ -1,6 +1,7 @@
 /* Fuzzes the C layer: any bytes as table, texts and output. Each call must answer a number that it may answer, leave
    every byte equal where it refuses, never write outside what is lent, and leave a sound table where it accepts. A
-   completion that says what is certain must reply and write what the completion does. */
+   completion that says what is certain must reply and write what the completion does; one of a kind must keep the lines
+   of that kind. */
 #include "name_console.h"
 #include <stdlib.h>
 #include <string.h>
@@ -82,14 +83,19 @@ static struct lent state, words, table_text, lines, out;
 #define TABLE state.bytes, state.len, words.bytes, words.len, table_text.bytes, table_text.len
 #define OUTPUT lines.bytes, lines.len, out.bytes, out.len
 
-static void registration(uint32_t kind) {
+static int is_kind(uint32_t n) { return NAME_CONSOLE_TIMER <= n && n <= NAME_CONSOLE_REGISTER; }
+
+static void registration(uint32_t call) {
   uint8_t a[MOST], b[MOST], c[MOST];
   size_t an = text_of(a), bn = text_of(b), cn = text_of(c);
   uint32_t n = word();
   keep(&state), keep(&words), keep(&table_text);
-  uint32_t answer = 0;
-  switch (kind) {
-  case 0: answer = name_console_insert(TABLE, a, an, b, bn, n); break;
+  uint32_t answer = 0, kind = n % 5;
+  switch (call) {
+  case 0:
+    answer = name_console_insert_item(TABLE, a, an, b, bn, kind, n);
+    must(answer || is_kind(kind));
+    break;
   case 1: answer = name_console_include(TABLE, a, an, b, bn); break;
   case 2: answer = name_console_open_namespace(TABLE, a, an, b, bn); break;
   case 3: answer = name_console_open_module(TABLE, a, an, b, bn); break;
@@ -100,15 +106,16 @@ static void registration(uint32_t kind) {
   if (answer) {
     same(&state, 0), same(&words, 0), same(&table_text, 0);
   } else {
-    must(name_console_find(TABLE, a, 0).answer == NAME_CONSOLE_EMPTY);
+    must(name_console_find_item(TABLE, a, 0).answer == NAME_CONSOLE_EMPTY);
   }
 }
 
 static void look_up(void) {
   uint8_t a[MOST];
   size_t an = text_of(a);
-  struct name_console_name f = name_console_find(TABLE, a, an);
+  struct name_console_item f = name_console_find_item(TABLE, a, an);
   must(f.answer <= NAME_CONSOLE_TOO_LONG || f.answer == NAME_CONSOLE_NONE);
+  must(f.answer ? !f.kind && !f.number : is_kind(f.kind));
   struct name_console_symbol m = name_console_find_module(TABLE, a, an);
   must(m.answer <= NAME_CONSOLE_TOO_LONG || m.answer == NAME_CONSOLE_NONE);
   if (!m.answer) must((uint64_t)m.name_start + m.name_len <= table_text.len && (uint64_t)m.path_start + m.path_len <= table_text.len);
@@ -146,28 +153,47 @@ static void holds(struct name_console_listing r, uint32_t budget) {
   same(&out, at);
 }
 
-/* A completion, and on the same output the one that says what is shared. */
-static struct name_console_listing complete(int modules, uint32_t filter, const uint8_t *q, size_t qn, uint32_t budget) {
+/* A completion of modules under a filter or of names of a kind, and on the same output the one that says what is shared. */
+static struct name_console_listing complete(int modules, uint32_t choice, const uint8_t *q, size_t qn, uint32_t budget) {
   keep(&lines), keep(&out);
-  struct name_console_listing r = modules ? name_console_complete_modules(TABLE, filter, q, qn, budget, OUTPUT)
-                                          : name_console_complete(TABLE, q, qn, budget, OUTPUT);
+  struct name_console_listing r = modules ? name_console_complete_modules(TABLE, choice, q, qn, budget, OUTPUT)
+                                          : name_console_complete_names(TABLE, choice, q, qn, budget, OUTPUT);
   holds(r, budget);
+  must(r.answer || choice < 4);
   exchange(&lines), exchange(&out);
-  struct name_console_shared s = modules ? name_console_complete_modules_shared(TABLE, filter, q, qn, budget, OUTPUT)
-                                         : name_console_complete_shared(TABLE, q, qn, budget, OUTPUT);
+  struct name_console_shared s = modules ? name_console_complete_modules_shared(TABLE, choice, q, qn, budget, OUTPUT)
+                                         : name_console_complete_names_shared(TABLE, choice, q, qn, budget, OUTPUT);
   same(&lines, 0), same(&out, 0);
   must(s.answer == r.answer && s.lines == r.lines && s.entered == r.entered && s.shared == beginning(r.lines));
   return r;
 }
 
+/* How many of the first n lines are of a kind. */
+static uint32_t of_kind(uint32_t n, uint32_t kind) {
+  uint32_t all = 0;
+  for (uint32_t i = 0; i < n; i++) all += name_console_line_at(lines.bytes, i).kind == kind;
+  return all;
+}
+
+/* After a listing of names: every line has a kind, and of one kind are those that all kinds have of it. */
+static void of_kinds(struct name_console_listing r, uint32_t kind, const uint8_t *q, size_t qn, uint32_t budget) {
+  if (kind) must(of_kind(r.lines, kind) == r.lines);
+  struct name_console_listing all = complete(0, NAME_CONSOLE_ALL_KINDS, q, qn, budget);
+  must(all.answer == NAME_CONSOLE_OK || (all.answer == NAME_CONSOLE_NO_ROOM && kind));
+  if (all.answer) return;
+  must(all.entered == r.entered && (kind ? of_kind(all.lines, kind) : all.lines) == r.lines);
+  must(of_kind(all.lines, NAME_CONSOLE_TIMER) + of_kind(all.lines, NAME_CONSOLE_PORT) + of_kind(all.lines, NAME_CONSOLE_REGISTER) == all.lines);
+}
+
 static void completion(int modules) {
   uint8_t q[MOST];
   size_t qn = text_of(q);
-  uint32_t filter = byte() % 5, budget = byte() < 128 ? word() : byte();
-  struct name_console_listing r = complete(modules, filter, q, qn, budget);
+  uint32_t choice = byte() % 5, budget = byte() < 128 ? word() : byte();
+  struct name_console_listing r = complete(modules, choice, q, qn, budget);
   if (!r.answer) {
-    must(complete(modules, filter, q, qn, r.entered).answer == NAME_CONSOLE_OK);
-    must(complete(modules, filter, q, qn, r.entered - 1).answer == NAME_CONSOLE_SPENT);
+    if (!modules) of_kinds(r, choice, q, qn, budget);
+    must(complete(modules, choice, q, qn, r.entered).answer == NAME_CONSOLE_OK);
+    must(complete(modules, choice, q, qn, r.entered - 1).answer == NAME_CONSOLE_SPENT);
   }
 }
 

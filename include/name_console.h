@@ -47,6 +47,16 @@ enum name_console_answer {
 /* The answer of a look-up that finds nothing: no refusal has this number. */
 #define NAME_CONSOLE_NONE UINT32_MAX
 
+/* What an item of a name is. */
+enum name_console_kind {
+  NAME_CONSOLE_TIMER = 1,
+  NAME_CONSOLE_PORT = 2,
+  NAME_CONSOLE_REGISTER = 3
+};
+
+/* Which lines a completion of names keeps: all, or with an enum name_console_kind those of that kind. */
+#define NAME_CONSOLE_ALL_KINDS 0
+
 /* Which lines a completion of modules keeps. */
 enum name_console_filter {
   NAME_CONSOLE_ALL = 0,
@@ -60,9 +70,9 @@ enum name_console_filter {
    Each answers 0 or a refusal. Accepted, the state is the new table's, and of words and text only the free part that the
    call takes has changed: records are taken in order, and texts are copied whole. */
 
-/* Registers a name with its item, in the host: `name [host] id item`. */
-uint32_t name_console_insert(uint8_t *state, size_t state_len, uint8_t *words, size_t words_len, uint8_t *text, size_t text_len,
-                             const uint8_t *host, size_t host_len, const uint8_t *id, size_t id_len, uint32_t item);
+/* Registers a name with its item, a kind and a number, in the host. A kind that is no enum name_console_kind is Malformed. */
+uint32_t name_console_insert_item(uint8_t *state, size_t state_len, uint8_t *words, size_t words_len, uint8_t *text, size_t text_len,
+                                  const uint8_t *host, size_t host_len, const uint8_t *id, size_t id_len, uint32_t kind, uint32_t number);
 
 /* Includes the query's bindings in the host. */
 uint32_t name_console_include(uint8_t *state, size_t state_len, uint8_t *words, size_t words_len, uint8_t *text, size_t text_len,
@@ -87,9 +97,10 @@ uint32_t name_console_module(uint8_t *state, size_t state_len, uint8_t *words, s
 
 /* ---- Look-ups, which change nothing */
 
-struct name_console_name {
+struct name_console_item {
   uint32_t answer; /* 0 found, NAME_CONSOLE_NONE, else the refusal */
-  uint32_t item;   /* 0 unless found */
+  uint32_t kind;   /* an enum name_console_kind; 0 unless found */
+  uint32_t number; /* 0 unless found */
 };
 
 struct name_console_symbol {
@@ -101,8 +112,8 @@ struct name_console_symbol {
 };
 
 /* Looks a name up. */
-struct name_console_name name_console_find(const uint8_t *state, size_t state_len, const uint8_t *words, size_t words_len, const uint8_t *text,
-                                           size_t text_len, const uint8_t *query, size_t query_len);
+struct name_console_item name_console_find_item(const uint8_t *state, size_t state_len, const uint8_t *words, size_t words_len,
+                                                const uint8_t *text, size_t text_len, const uint8_t *query, size_t query_len);
 
 /* Looks a module or namespace up. */
 struct name_console_symbol name_console_find_module(const uint8_t *state, size_t state_len, const uint8_t *words, size_t words_len,
@@ -118,7 +129,8 @@ struct name_console_symbol name_console_find_module(const uint8_t *state, size_t
     0                match length: 4294967295 for -1
     4,  8            candidate: start, length in out
    12, 16            annotation: start, length in out
-   20                item of a name; or 0 for a module, 1 for a namespace
+   20                number of a name's item; or 0 for a module, 1 for a namespace
+   24                kind of a name's item, an enum name_console_kind
    24, 28            module or namespace: full name: start, length in the table's text
    32, 36            module: file path: start, length in the table's text
    40                module or namespace: 1 if loaded, else 0
@@ -132,10 +144,12 @@ struct name_console_listing {
   uint32_t entered; /* 0 if refused */
 };
 
-/* Completes a name. */
-struct name_console_listing name_console_complete(const uint8_t *state, size_t state_len, const uint8_t *words, size_t words_len,
-                                                  const uint8_t *text, size_t text_len, const uint8_t *query, size_t query_len, uint32_t budget,
-                                                  uint8_t *lines, size_t lines_len, uint8_t *out, size_t out_len);
+/* Completes a name: of all kinds (NAME_CONSOLE_ALL_KINDS), or of one. Another number is Malformed. The lines of other kinds are
+   left out and take no output; all else is as of all kinds, `entered` too. */
+struct name_console_listing name_console_complete_names(const uint8_t *state, size_t state_len, const uint8_t *words, size_t words_len,
+                                                        const uint8_t *text, size_t text_len, uint32_t kind, const uint8_t *query,
+                                                        size_t query_len, uint32_t budget, uint8_t *lines, size_t lines_len, uint8_t *out,
+                                                        size_t out_len);
 
 /* Completes a module or namespace. A filter that is no enum name_console_filter is Malformed. */
 struct name_console_listing name_console_complete_modules(const uint8_t *state, size_t state_len, const uint8_t *words, size_t words_len,
@@ -156,10 +170,11 @@ struct name_console_shared {
   uint32_t shared;  /* bytes that all candidates begin with; 0 with no line, or if refused */
 };
 
-/* Completes a name. */
-struct name_console_shared name_console_complete_shared(const uint8_t *state, size_t state_len, const uint8_t *words, size_t words_len,
-                                                        const uint8_t *text, size_t text_len, const uint8_t *query, size_t query_len,
-                                                        uint32_t budget, uint8_t *lines, size_t lines_len, uint8_t *out, size_t out_len);
+/* Completes a name, of all kinds or of one. */
+struct name_console_shared name_console_complete_names_shared(const uint8_t *state, size_t state_len, const uint8_t *words, size_t words_len,
+                                                              const uint8_t *text, size_t text_len, uint32_t kind, const uint8_t *query,
+                                                              size_t query_len, uint32_t budget, uint8_t *lines, size_t lines_len, uint8_t *out,
+                                                              size_t out_len);
 
 /* Completes a module or namespace. A filter that is no enum name_console_filter is Malformed. */
 struct name_console_shared name_console_complete_modules_shared(const uint8_t *state, size_t state_len, const uint8_t *words, size_t words_len,
@@ -173,7 +188,8 @@ struct name_console_line {
   int32_t match_length;
   uint32_t candidate, candidate_len;
   uint32_t annotation, annotation_len;
-  uint32_t item; /* of a name; or 0 for a module, 1 for a namespace */
+  uint32_t kind, number; /* of a name's item */
+  uint32_t sort;         /* 0 for a module, 1 for a namespace */
   uint32_t name, name_len;
   uint32_t path, path_len;
   uint32_t loaded; /* 1 if loaded, else 0 */
@@ -195,7 +211,9 @@ static inline struct name_console_line name_console_line_at(const uint8_t *lines
   l.candidate_len = name_console_word(b, 2);
   l.annotation = name_console_word(b, 3);
   l.annotation_len = name_console_word(b, 4);
-  l.item = name_console_word(b, 5);
+  l.number = name_console_word(b, 5);
+  l.kind = name_console_word(b, 6);
+  l.sort = name_console_word(b, 5);
   l.name = name_console_word(b, 6);
   l.name_len = name_console_word(b, 7);
   l.path = name_console_word(b, 8);

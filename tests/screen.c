@@ -31,9 +31,10 @@ static void check(const char *what, int good) {
 #define PLACE(s, f, n) check("place of " #s "." #f, offsetof(struct name_console_##s, f) == (n) && sizeof(((struct name_console_##s *)0)->f) == 4)
 
 static void structs(void) {
-  SIZE(name, 8);
-  PLACE(name, answer, 0);
-  PLACE(name, item, 4);
+  SIZE(item, 12);
+  PLACE(item, answer, 0);
+  PLACE(item, kind, 4);
+  PLACE(item, number, 8);
   SIZE(symbol, 28);
   PLACE(symbol, answer, 0);
   PLACE(symbol, sort, 4);
@@ -51,19 +52,22 @@ static void structs(void) {
   PLACE(shared, lines, 4);
   PLACE(shared, entered, 8);
   PLACE(shared, shared, 12);
-  SIZE(line, 44);
+  SIZE(line, 52);
   PLACE(line, match_length, 0);
   PLACE(line, candidate, 4);
   PLACE(line, candidate_len, 8);
   PLACE(line, annotation, 12);
   PLACE(line, annotation_len, 16);
-  PLACE(line, item, 20);
-  PLACE(line, name, 24);
-  PLACE(line, name_len, 28);
-  PLACE(line, path, 32);
-  PLACE(line, path_len, 36);
-  PLACE(line, loaded, 40);
+  PLACE(line, kind, 20);
+  PLACE(line, number, 24);
+  PLACE(line, sort, 28);
+  PLACE(line, name, 32);
+  PLACE(line, name_len, 36);
+  PLACE(line, path, 40);
+  PLACE(line, path_len, 44);
+  PLACE(line, loaded, 48);
   check("sizes", NAME_CONSOLE_STATE == 16 && NAME_CONSOLE_RECORD == 48 && NAME_CONSOLE_RECORDS == 1024 && NAME_CONSOLE_LINE == 48);
+  check("kinds", NAME_CONSOLE_ALL_KINDS == 0 && NAME_CONSOLE_TIMER == 1 && NAME_CONSOLE_PORT == 2 && NAME_CONSOLE_REGISTER == 3);
   check("filters", NAME_CONSOLE_ALL == 0 && NAME_CONSOLE_LOADED == 1 && NAME_CONSOLE_MODULES_ONLY == 2 && NAME_CONSOLE_NAMESPACES_ONLY == 3);
 }
 
@@ -75,8 +79,8 @@ static void words_of_a_line(void) {
   const uint32_t high = 0x30201000u + 100;
   struct name_console_line l = name_console_line_at(record, 1);
   check("a line's words", (uint32_t)l.match_length == high + 12 && l.candidate == high + 13 && l.candidate_len == high + 14 && l.annotation == high + 15 &&
-                              l.annotation_len == high + 16 && l.item == high + 17 && l.name == high + 18 && l.name_len == high + 19 &&
-                              l.path == high + 20 && l.path_len == high + 21 && l.loaded == high + 22);
+                              l.annotation_len == high + 16 && l.number == high + 17 && l.kind == high + 18 && l.sort == high + 17 && l.name == high + 18 &&
+                              l.name_len == high + 19 && l.path == high + 20 && l.path_len == high + 21 && l.loaded == high + 22);
   memset(record, 0xFF, 4);
   check("a match length of -1", name_console_line_at(record, 0).match_length == -1);
 }
@@ -108,12 +112,14 @@ static struct name_console_listing both(struct name_console_listing r, struct na
   return r;
 }
 
-static struct name_console_listing complete(const char *q) {
+static struct name_console_listing names(uint32_t kind, const char *q) {
   fill();
-  struct name_console_listing r = name_console_complete(TABLE, S(q), budget, OUTPUT);
+  struct name_console_listing r = name_console_complete_names(TABLE, kind, S(q), budget, OUTPUT);
   again();
-  return both(r, name_console_complete_shared(TABLE, S(q), budget, OUTPUT));
+  return both(r, name_console_complete_names_shared(TABLE, kind, S(q), budget, OUTPUT));
 }
+
+static struct name_console_listing complete(const char *q) { return names(NAME_CONSOLE_ALL_KINDS, q); }
 
 static struct name_console_listing modules(uint32_t filter, const char *q) {
   fill();
@@ -140,14 +146,33 @@ static int listed(struct name_console_listing r, uint32_t count, uint32_t entere
   return memcmp(lines + end, lines_before + end, sizeof lines - end) == 0 && memcmp(out + used, out_before + used, sizeof out - used) == 0;
 }
 
-static int line(uint32_t i, const char *candidate, const char *annotation, uint32_t item, int32_t match) {
-  struct name_console_line l = name_console_line_at(lines, i);
+static int texts(struct name_console_line l, const char *candidate, const char *annotation, int32_t match) {
   return l.candidate_len == strlen(candidate) && memcmp(out + l.candidate, candidate, l.candidate_len) == 0 &&
-         l.annotation_len == strlen(annotation) && memcmp(out + l.annotation, annotation, l.annotation_len) == 0 && l.item == item &&
-         l.match_length == match;
+         l.annotation_len == strlen(annotation) && memcmp(out + l.annotation, annotation, l.annotation_len) == 0 && l.match_length == match;
 }
 
-static uint32_t name(const char *host, const char *id, uint32_t item) { return name_console_insert(TABLE, S(host), S(id), item); }
+static int item_line(uint32_t i, const char *candidate, const char *annotation, uint32_t kind, uint32_t number, int32_t match) {
+  struct name_console_line l = name_console_line_at(lines, i);
+  return texts(l, candidate, annotation, match) && l.kind == kind && l.number == number;
+}
+
+/* The line of a register. */
+static int line(uint32_t i, const char *candidate, const char *annotation, uint32_t number, int32_t match) {
+  return item_line(i, candidate, annotation, NAME_CONSOLE_REGISTER, number, match);
+}
+
+/* The line of a module or namespace. */
+static int symbol(uint32_t i, const char *candidate, const char *annotation, uint32_t sort, int32_t match) {
+  struct name_console_line l = name_console_line_at(lines, i);
+  return texts(l, candidate, annotation, match) && l.sort == sort;
+}
+
+static uint32_t item(const char *host, const char *id, uint32_t kind, uint32_t number) {
+  return name_console_insert_item(TABLE, S(host), S(id), kind, number);
+}
+
+/* A name with a register. */
+static uint32_t name(const char *host, const char *id, uint32_t number) { return item(host, id, NAME_CONSOLE_REGISTER, number); }
 
 static void fresh(void) { memset(state, 0, sizeof state); }
 
@@ -189,12 +214,12 @@ static void cases(void) {
 static void filters(void) {
   fresh();
   check("a module", name_console_module(TABLE, 0, S("IO.Bus."), S("io/bus")) == 0);
-  check("case 10", listed(modules(NAME_CONSOLE_ALL, "I."), 2, 3) && line(0, "IO", "(ns)", 1, 1) && line(1, "IO.Bus", "(mod)", 0, 1));
+  check("case 10", listed(modules(NAME_CONSOLE_ALL, "I."), 2, 3) && symbol(0, "IO", "(ns)", 1, 1) && symbol(1, "IO.Bus", "(mod)", 0, 1));
   struct name_console_line l = name_console_line_at(lines, 1);
   check("its path", l.path_len == 6 && memcmp(text + l.path, "io/bus", 6) == 0 && l.loaded == 0);
   check("none loaded", listed(modules(NAME_CONSOLE_LOADED, "I."), 0, 3));
-  check("modules only", listed(modules(NAME_CONSOLE_MODULES_ONLY, "I."), 1, 3) && line(0, "IO.Bus", "(mod)", 0, 1));
-  check("namespaces only", listed(modules(NAME_CONSOLE_NAMESPACES_ONLY, "I."), 1, 3) && line(0, "IO", "(ns)", 1, 1));
+  check("modules only", listed(modules(NAME_CONSOLE_MODULES_ONLY, "I."), 1, 3) && symbol(0, "IO.Bus", "(mod)", 0, 1));
+  check("namespaces only", listed(modules(NAME_CONSOLE_NAMESPACES_ONLY, "I."), 1, 3) && symbol(0, "IO", "(ns)", 1, 1));
   check("no filter", refused(modules(4, "I."), NAME_CONSOLE_MALFORMED) && refused(modules(UINT32_MAX, "I."), NAME_CONSOLE_MALFORMED));
 }
 
@@ -232,9 +257,14 @@ static int kept(void) {
 /* The call is accepted, and so many records and bytes are used then. */
 #define ACCEPTS(what, call, records, bytes) check(what, (call) == NAME_CONSOLE_OK && name_console_word(state, 2) == (records) && name_console_word(state, 3) == (bytes))
 
-static int finds(const char *q, uint32_t answer, uint32_t item) {
-  struct name_console_name r = name_console_find(TABLE, S(q));
-  return r.answer == answer && r.item == item;
+static int finds_item(const char *q, uint32_t answer, uint32_t kind, uint32_t number) {
+  struct name_console_item r = name_console_find_item(TABLE, S(q));
+  return r.answer == answer && r.kind == kind && r.number == number;
+}
+
+/* A register, or with a number of 0 another answer. */
+static int finds(const char *q, uint32_t answer, uint32_t number) {
+  return finds_item(q, answer, answer == NAME_CONSOLE_OK ? NAME_CONSOLE_REGISTER : 0, number);
 }
 
 static int span(uint32_t start, uint32_t len, const char *s) { return len == strlen(s) && start + len <= sizeof text && memcmp(text + start, s, len) == 0; }
@@ -273,6 +303,44 @@ static void registrations(void) {
   check("include", name_console_include(TABLE, S("i."), S("m.")) == 0 && finds("i.x.", NAME_CONSOLE_OK, 1) && finds("i.s.y.", NAME_CONSOLE_NONE, 0));
 }
 
+/* Case 1 with so much lent. */
+static uint32_t tick(size_t words_len, size_t text_len) {
+  return name_console_insert_item(state, sizeof state, words, words_len, text, text_len, S(""), S("tick"), NAME_CONSOLE_REGISTER, 5);
+}
+
+/* Items of each kind: found, listed with all and alone, and numbers that are no kind. */
+static void kinds(void) {
+  fresh();
+  check("a timer", item("", "a", NAME_CONSOLE_TIMER, 5) == 0 && finds_item("a.", NAME_CONSOLE_OK, NAME_CONSOLE_TIMER, 5));
+  check("a port", item("io.", "bb", NAME_CONSOLE_PORT, 5) == 0 && finds_item("io.bb.", NAME_CONSOLE_OK, NAME_CONSOLE_PORT, 5));
+  check("a register", item("io.", "ccc", NAME_CONSOLE_REGISTER, UINT32_MAX) == 0 && finds_item("io.ccc.", NAME_CONSOLE_OK, NAME_CONSOLE_REGISTER, UINT32_MAX));
+  check("no item", finds_item("io.", NAME_CONSOLE_NONE, 0, 0) && finds_item("io", NAME_CONSOLE_MALFORMED, 0, 0));
+  check("all kinds", listed(complete(""), 3, 2) && item_line(0, "a", "", NAME_CONSOLE_TIMER, 5, -1) && item_line(1, "io.bb", "", NAME_CONSOLE_PORT, 5, -1) &&
+                         item_line(2, "io.ccc", "", NAME_CONSOLE_REGISTER, UINT32_MAX, -1) && shared == 0);
+  check("timers", listed(names(NAME_CONSOLE_TIMER, ""), 1, 2) && item_line(0, "a", "", NAME_CONSOLE_TIMER, 5, -1) && shared == 1);
+  check("ports", listed(names(NAME_CONSOLE_PORT, ""), 1, 2) && item_line(0, "io.bb", "", NAME_CONSOLE_PORT, 5, -1) && shared == strlen("io.bb"));
+  check("registers", listed(names(NAME_CONSOLE_REGISTER, "i."), 1, 2) && item_line(0, "io.ccc", "", NAME_CONSOLE_REGISTER, UINT32_MAX, 1));
+  check("none of a kind", listed(names(NAME_CONSOLE_TIMER, "i."), 0, 2) && shared == 0);
+  /* What is left out takes no output. */
+  lines_len = NAME_CONSOLE_LINE, out_len = strlen("io.bb");
+  check("room for a port", listed(names(NAME_CONSOLE_PORT, ""), 1, 2) && refused(complete(""), NAME_CONSOLE_NO_ROOM));
+  check("and for no more", refused(names(NAME_CONSOLE_REGISTER, ""), NAME_CONSOLE_NO_ROOM));
+  out_len--;
+  check("a byte too few for a port", refused(names(NAME_CONSOLE_PORT, ""), NAME_CONSOLE_NO_ROOM));
+  lines_len = sizeof lines, out_len = sizeof out;
+  budget = 1;
+  check("tries of all kinds", refused(names(NAME_CONSOLE_TIMER, ""), NAME_CONSOLE_SPENT));
+  budget = 4096;
+  const uint32_t none[] = {0, 4, 257, UINT32_MAX};
+  for (size_t i = 0; i < sizeof none / sizeof *none; i++) {
+    REFUSES("Malformed, no kind to register", item("", "z", none[i], 1), NAME_CONSOLE_MALFORMED);
+    REFUSES("Malformed, no kind and no id", item("", "", none[i], 1), NAME_CONSOLE_MALFORMED);
+    if (none[i]) check("Malformed, no kind to list", refused(names(none[i], ""), NAME_CONSOLE_MALFORMED));
+  }
+  check("another kind, the same number", item("", "a", NAME_CONSOLE_PORT, 5) == 0 && finds_item("a.", NAME_CONSOLE_OK, NAME_CONSOLE_PORT, 5));
+  check("no timer any more", listed(names(NAME_CONSOLE_TIMER, ""), 0, 2) && listed(names(NAME_CONSOLE_PORT, ""), 2, 2));
+}
+
 static void refusals(void) {
   const char *n32 = "nnnnnnnnnnnnnnnnnnnnnnnnnnnnnnnn", *s17 = "s.s.s.s.s.s.s.s.s.s.s.s.s.s.s.s.s.";
   check("numbers", NAME_CONSOLE_OK == 0 && NAME_CONSOLE_UNSOUND == 1 && NAME_CONSOLE_MALFORMED == 2 && NAME_CONSOLE_EMPTY == 3 && NAME_CONSOLE_TOO_LONG == 4 &&
@@ -300,9 +368,9 @@ static void refusals(void) {
   check("a list of 96", good);
   REFUSES("Crowded", name_console_include(TABLE, S(""), S("x.")), NAME_CONSOLE_CROWDED);
   fresh();
-  REFUSES("Full", name_console_insert(state, sizeof state, words, 3 * NAME_CONSOLE_RECORD - 1, text, sizeof text, S(""), S("tick"), 5), NAME_CONSOLE_FULL);
-  REFUSES("TextFull", name_console_insert(state, sizeof state, words, 3 * NAME_CONSOLE_RECORD, text, 3, S(""), S("tick"), 5), NAME_CONSOLE_TEXT_FULL);
-  check("room enough", name_console_insert(state, sizeof state, words, 3 * NAME_CONSOLE_RECORD, text, 4, S(""), S("tick"), 5) == 0);
+  REFUSES("Full", tick(3 * NAME_CONSOLE_RECORD - 1, sizeof text), NAME_CONSOLE_FULL);
+  REFUSES("TextFull", tick(3 * NAME_CONSOLE_RECORD, 3), NAME_CONSOLE_TEXT_FULL);
+  check("room enough", tick(3 * NAME_CONSOLE_RECORD, 4) == 0);
 }
 
 static void unsound(void) {
@@ -310,6 +378,8 @@ static void unsound(void) {
   words[0] ^= 64;
   check("unsound", refused(complete(""), NAME_CONSOLE_UNSOUND) && refused(modules(0, ""), NAME_CONSOLE_UNSOUND));
   check("unsound before no filter", refused(modules(4, ""), NAME_CONSOLE_UNSOUND));
+  check("unsound before no kind", refused(names(4, ""), NAME_CONSOLE_UNSOUND) && refused(names(UINT32_MAX, ""), NAME_CONSOLE_UNSOUND));
+  REFUSES("Unsound before no kind to register", item("", "z", 0, 1), NAME_CONSOLE_UNSOUND);
   REFUSES("Unsound, name", name("", "tick", 5), NAME_CONSOLE_UNSOUND);
   REFUSES("Unsound, include", name_console_include(TABLE, S(""), S("")), NAME_CONSOLE_UNSOUND);
   REFUSES("Unsound, open of a namespace", name_console_open_namespace(TABLE, S(""), S("")), NAME_CONSOLE_UNSOUND);
@@ -319,6 +389,21 @@ static void unsound(void) {
   REFUSES("Unsound before no choice", name_console_module(TABLE, 2, S(""), S("")), NAME_CONSOLE_UNSOUND);
   check("Unsound, look-ups", finds("Saved.late.", NAME_CONSOLE_UNSOUND, 0) && finds_no_symbol("IO.", NAME_CONSOLE_UNSOUND));
   words[0] ^= 64;
+  /* The kind of an item, word 6 of its branch. */
+  uint8_t *kind = NULL;
+  for (uint32_t k = 0; k < name_console_word(state, 2) && !kind; k++)
+    if (name_console_word(words + k * NAME_CONSOLE_RECORD, 0) == 1) kind = words + k * NAME_CONSOLE_RECORD + 24;
+  check("an item stands in the words", kind && *kind == NAME_CONSOLE_REGISTER);
+  for (uint32_t k = 0; kind && k <= 257; k += k < 5 ? 1 : 252) {
+    kind[0] = (uint8_t)k, kind[1] = (uint8_t)(k >> 8);
+    if (1 <= k && k <= 3) {
+      check("sound with a kind", listed(complete(""), 3, 3));
+      continue;
+    }
+    check("unsound without", refused(complete(""), NAME_CONSOLE_UNSOUND) && finds("Saved.late.", NAME_CONSOLE_UNSOUND, 0));
+    REFUSES("Unsound, name", name("", "tick", 5), NAME_CONSOLE_UNSOUND);
+  }
+  if (kind) kind[0] = NAME_CONSOLE_REGISTER, kind[1] = 0;
   state_len = 15;
   check("a short state", refused(complete(""), NAME_CONSOLE_UNSOUND) && refused(modules(0, ""), NAME_CONSOLE_UNSOUND));
   state_len = sizeof state;
@@ -362,6 +447,7 @@ int main(void) {
   refusals();
   cases();
   filters();
+  kinds();
   beginnings();
   unsound();
   many();

@@ -3,8 +3,8 @@ use crate::baseline;
 use crate::measure::{compare, least, Row};
 use crate::source::Source;
 use model::layout::{decode, same_table, Memory};
-use model::model::{autocomplete_lid, find, register, Registration};
-use product::{Ask, Output};
+use model::model::{autocomplete_lid, find, register, Ask, Item, Registration};
+use product::{item, Output};
 use std::cell::RefCell;
 use std::hint::black_box;
 
@@ -13,12 +13,12 @@ use std::hint::black_box;
 pub struct Name {
     pub host: Vec<u8>,
     pub id: Vec<u8>,
-    pub item: u32,
+    pub item: Item,
     pub query: Vec<u8>,
 }
 
 impl Name {
-    pub fn new(host: Vec<u8>, id: Vec<u8>, item: u32) -> Name {
+    pub fn new(host: Vec<u8>, id: Vec<u8>, item: Item) -> Name {
         let query = [&host[..], &id[..], b"."].concat();
         Name { host, id, item, query }
     }
@@ -69,16 +69,16 @@ pub fn registrations(what: &str, memory: &Memory, names: &[Name]) -> Row {
     for m in [&proved, &any, &c] {
         assert!(same_table(&decode(&m.borrow()), &expected), "another table: {what}");
     }
-    assert!(by_source().lines(b"") == autocomplete_lid(&expected, b"", u32::MAX).expect("listed").0, "another table: {what}");
+    assert!(by_source().lines(b"") == autocomplete_lid(&expected, b"", None, u32::MAX).expect("listed").0, "another table: {what}");
     let now = proved.borrow().header;
     let bytes = (now.records - header.records) as usize * 48 + (now.text - header.text) as usize;
     row(what, None, any_ns, times, names.len(), bytes)
 }
 
 /// Look-ups, each with its result; nanoseconds for each.
-pub fn look_ups(what: &str, memory: &Memory, asked: &[(&[u8], Option<u32>)]) -> Row {
+pub fn look_ups(what: &str, memory: &Memory, asked: &[(&[u8], Option<Item>)]) -> Row {
     let root = decode(memory).names;
-    let all = |f: &dyn Fn(&[u8]) -> Result<Option<u32>, u32>| asked.iter().all(|(q, item)| f(q) == Ok(*item));
+    let all = |f: &dyn Fn(&[u8]) -> Result<Option<Item>, u32>| asked.iter().all(|(q, item)| f(q) == Ok(*item));
     assert!(all(&|q| find(&root, q).map_err(|r| r.number())), "{what}");
     let any = least(|| all(&|q| product::find(memory, q)));
     let source = Source::new(memory);
@@ -103,27 +103,27 @@ pub fn completions(what: &str, memory: &Memory, queries: &[&[u8]]) -> Row {
     let source = Source::new(memory);
     let mut written = (0, 0);
     for q in queries {
-        let (expected, entered) = autocomplete_lid(&table, q, u32::MAX).expect("listed");
+        let (expected, entered) = autocomplete_lid(&table, q, None, u32::MAX).expect("listed");
         for o in [&proved, &any, &c] {
             *o.borrow_mut() = Output::with_room(room, bytes);
         }
         let out = &mut proved.borrow_mut();
         // SAFETY: the memory is sound.
-        assert_eq!(unsafe { product::complete_sound(memory, Ask::Names, q, u32::MAX, out) }, Ok((expected.len() as u32, entered)), "{what}");
-        assert_eq!(product::complete(memory, Ask::Names, q, u32::MAX, &mut any.borrow_mut()), Ok((expected.len() as u32, entered)), "{what}");
-        assert_eq!(baseline::complete(memory, q, u32::MAX, &mut c.borrow_mut()), Ok(expected.len() as u32), "{what}");
+        assert_eq!(unsafe { product::complete_sound(memory, Ask::Names(None), q, u32::MAX, out) }, Ok((expected.len() as u32, entered)), "{what}");
+        assert_eq!(product::complete(memory, Ask::Names(None), q, u32::MAX, &mut any.borrow_mut()), Ok((expected.len() as u32, entered)), "{what}");
+        assert_eq!(baseline::complete(memory, None, q, u32::MAX, &mut c.borrow_mut()), Ok(expected.len() as u32), "{what}");
         assert!(**out == *any.borrow() && **out == *c.borrow(), "other lines: {what}");
         assert!(source.begin().lines(q) == expected, "other lines: {what}");
         for (k, line) in expected.iter().enumerate() {
-            assert_eq!(&out.line(k, |w| w[5]), line, "{what}");
+            assert_eq!(&out.line(k, item), line, "{what}");
             written = (written.0 + 1, written.1 + line.candidate.len() + line.annotation.len());
         }
     }
-    let any = least(|| queries.iter().all(|q| product::complete(memory, Ask::Names, q, u32::MAX, &mut any.borrow_mut()).is_ok()));
+    let any = least(|| queries.iter().all(|q| product::complete(memory, Ask::Names(None), q, u32::MAX, &mut any.borrow_mut()).is_ok()));
     let times = compare([
         // SAFETY: the memory is sound.
-        &mut || queries.iter().all(|q| unsafe { product::complete_sound(memory, Ask::Names, q, u32::MAX, &mut proved.borrow_mut()) }.is_ok()),
-        &mut || queries.iter().all(|q| baseline::complete(memory, q, u32::MAX, &mut c.borrow_mut()).is_ok()),
+        &mut || queries.iter().all(|q| unsafe { product::complete_sound(memory, Ask::Names(None), q, u32::MAX, &mut proved.borrow_mut()) }.is_ok()),
+        &mut || queries.iter().all(|q| baseline::complete(memory, None, q, u32::MAX, &mut c.borrow_mut()).is_ok()),
         &mut || queries.iter().all(|q| source.begin().complete(q)),
     ]);
     row(what, Some(written.0 / queries.len()), any, times, queries.len(), written.0 * 48 + written.1)

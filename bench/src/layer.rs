@@ -3,7 +3,8 @@ use crate::calls::{made, Name};
 use crate::measure::{compare, copy, zero};
 use layer::Bytes;
 use model::layout::Memory;
-use product::{Ask, Output};
+use model::model::Ask;
+use product::Output;
 use std::cell::RefCell;
 
 /// 1,024 records, of which one more name takes the last ones; that name.
@@ -26,21 +27,21 @@ pub fn parts(names: &[Name]) -> String {
     let mut copy_in = || layer::find(&unsound, there) == Err(1);
     let mut test = || product::sound(&memory);
 
-    let mut find = || layer::find(&t, there) == Ok(Some(1));
+    let mut find = || layer::find(&t, there) == Ok(Some(names[0].item));
     let mut insert = || {
         let now = &mut changed_bytes.borrow_mut();
         now.state.copy_from_slice(&t.state);
         layer::register(now, &call, None) == 0
     };
-    let mut complete = || layer::complete(&t, None, b"", u32::MAX, &mut output_bytes.borrow_mut()).is_ok();
+    let mut complete = || layer::complete(&t, Ask::Names(None), b"", u32::MAX, &mut output_bytes.borrow_mut()).is_ok();
     // SAFETY, of all three: the memory is sound.
-    let mut find_work = || unsafe { product::find_sound(&memory, there) } == Ok(Some(1));
+    let mut find_work = || unsafe { product::find_sound(&memory, there) } == Ok(Some(names[0].item));
     let mut insert_work = || {
         let m = &mut changed.borrow_mut();
         m.header = memory.header;
-        (unsafe { product::insert_sound(m, &more.host, &more.id, 1) }) == 0
+        (unsafe { product::insert_sound(m, &more.host, &more.id, more.item) }) == 0
     };
-    let mut complete_work = || unsafe { product::complete_sound(&memory, Ask::Names, b"", u32::MAX, &mut output.borrow_mut()) }.is_ok();
+    let mut complete_work = || unsafe { product::complete_sound(&memory, Ask::Names(None), b"", u32::MAX, &mut output.borrow_mut()) }.is_ok();
 
     let mut all = String::from("| call | whole, ns | copy in | test | work | the rest: copy out |\n|---|---|---|---|---|---|\n");
     let calls: [(&str, &mut dyn FnMut() -> bool, &mut dyn FnMut() -> bool); 3] = [

@@ -15,8 +15,8 @@ use calls::{completions, fresh, look_ups, made, registrations, Name};
 use measure::{compare, least, Row};
 use model::gen::Rng;
 use model::layout::{decode, Memory};
-use model::model::{autocomplete_lid, shared_length, Registration};
-use product::{Ask, Output};
+use model::model::{autocomplete_lid, shared_length, Ask, Item, Kind, Registration};
+use product::Output;
 use std::cell::RefCell;
 
 const SIZES: [usize; 4] = [100, 300, 1_000, 3_000];
@@ -44,7 +44,7 @@ impl Work {
         for k in (1..numbers.len()).rev() {
             numbers.swap(k, rng.below(k + 1));
         }
-        let names: Vec<Name> = numbers.iter().enumerate().map(|(k, n)| Name::new(module(k % 20), format!("id{n}").into_bytes(), *n)).collect();
+        let names: Vec<Name> = numbers.iter().enumerate().map(|(k, n)| Name::new(module(k % 20), format!("id{n}").into_bytes(), Item::register(*n))).collect();
         let includes: Vec<Registration> = (0..10).map(|k| Registration::Include { host: module(k + 1), included: module(k) }).collect();
         let named = made(&names);
         let mut memory = named.clone();
@@ -58,8 +58,8 @@ impl Work {
 
     fn rows(&self) -> Vec<Row> {
         // No id stands in two modules, so that an include hides none.
-        let there: Vec<(&[u8], Option<u32>)> = self.names.iter().map(|n| (&n.query[..], Some(n.item))).collect();
-        let missing: Vec<(&[u8], Option<u32>)> = self.missing.iter().map(|q| (&q[..], None)).collect();
+        let there: Vec<(&[u8], Option<Item>)> = self.names.iter().map(|n| (&n.query[..], Some(n.item))).collect();
+        let missing: Vec<(&[u8], Option<Item>)> = self.missing.iter().map(|q| (&q[..], None)).collect();
         vec![
             registrations("register 1,000 names", &fresh(), &self.names),
             look_ups("look full names up", &self.memory, &there),
@@ -80,7 +80,7 @@ impl Work {
         };
         let there = || self.names.iter().all(|n| unsafe { product::find_sound(&self.memory, &n.query) } == Ok(Some(n.item)));
         let missing = || self.missing.iter().all(|q| unsafe { product::find_sound(&self.memory, q) } == Ok(None));
-        let mut complete = |q: &[u8]| unsafe { product::complete_sound(&self.memory, Ask::Names, q, u32::MAX, &mut out) }.is_ok();
+        let mut complete = |q: &[u8]| unsafe { product::complete_sound(&self.memory, Ask::Names(None), q, u32::MAX, &mut out) }.is_ok();
         [
             least(&mut register) / self.names.len() as f64,
             least(there) / self.names.len() as f64,
@@ -111,7 +111,7 @@ fn slices(texts: &[Vec<u8>]) -> Vec<&[u8]> {
 fn names(count: usize) -> Vec<Name> {
     let mut rng = Rng::new(11);
     let hosts: [&[u8]; 4] = [b"", b"io.", b"live.", b"saved.bus."];
-    (0..count).map(|_| Name::new(hosts[rng.below(hosts.len())].to_vec(), format!("{:x}", rng.below(1 << 16)).into_bytes(), 1)).collect()
+    (0..count).map(|_| Name::new(hosts[rng.below(hosts.len())].to_vec(), format!("{:x}", rng.below(1 << 16)).into_bytes(), Item::register(1))).collect()
 }
 
 /// The calls at tables of several sizes: ten more names, a hundred look-ups, ten completions of one line, the listing of all.
@@ -121,7 +121,7 @@ fn sizes() -> Vec<[Row; 4]> {
             let names = names(count + 10);
             let m = made(&names[..count]);
             let asked: Vec<&[u8]> = (0..100).map(|k| &names[k * count / 100].query[..]).collect();
-            let found: Vec<(&[u8], Option<u32>)> = asked.iter().map(|q| (*q, Some(1))).collect();
+            let found: Vec<(&[u8], Option<Item>)> = asked.iter().map(|q| (*q, Some(names[0].item))).collect();
             let few: Vec<&[u8]> = asked.iter().step_by(10).copied().collect();
             let what = |call: &str| format!("{call}, {count} names");
             [
@@ -141,22 +141,26 @@ fn merged_table(lists: usize, own: usize, shared: usize) -> Memory {
     for k in 0..lists {
         let host = format!("part{k}.").into_bytes();
         for i in 0..own {
-            put(Registration::Name { host: host.clone(), id: format!("n{i}of{k}").into_bytes(), item: 1 });
+            put(Registration::Name { host: host.clone(), id: format!("n{i}of{k}").into_bytes(), item: Item::register(1) });
         }
         for i in 0..shared {
-            put(Registration::Name { host: host.clone(), id: format!("s{i}").into_bytes(), item: 1 });
+            put(Registration::Name { host: host.clone(), id: format!("s{i}").into_bytes(), item: Item::register(1) });
         }
         put(Registration::Include { host: vec![], included: host });
     }
     m
 }
 
+/// So many names of one host, in an order that keeps its tree low, of the three kinds in turn.
+fn one_tree(count: u32) -> Vec<Name> {
+    (0..count).map(|i| Name::new(b"saved.bus.".to_vec(), format!("n{}", i * 7919 % count).into_bytes(), Item { kind: Kind::ALL[i as usize % 3], number: i })).collect()
+}
+
 fn merges() -> Vec<Row> {
     let names = names(1000);
-    let one_tree: Vec<Name> = (0..500).map(|i| Name::new(b"saved.bus.".to_vec(), format!("n{}", i * 7919 % 500).into_bytes(), i)).collect();
     vec![
         completions("one line of 1000 names", &made(&names), &[&names[500].query]),
-        completions("500 lines of one tree", &made(&one_tree), &[b"saved.bus.n."]),
+        completions("500 lines of one tree", &made(&one_tree(500)), &[b"saved.bus.n."]),
         completions("500 lines, one merged list", &merged_table(1, 500, 0), &[b"."]),
         completions("500 lines of 10 lists", &merged_table(10, 50, 0), &[b"."]),
         completions("10 lists, 250 names in each", &merged_table(10, 0, 250), &[b"."]),
@@ -183,8 +187,8 @@ fn refused(keys: &shapes::Keys) -> String {
         let (out, by_c) = (RefCell::new(Output::with_room(512, 32768)), RefCell::new(Output::with_room(512, 32768)));
         let [proved, c] = compare([
             // SAFETY: the memory is sound.
-            &mut || unsafe { product::complete_sound(&m, Ask::Names, b"", 4096, &mut out.borrow_mut()) } == answer,
-            &mut || baseline::complete(&m, b"", 4096, &mut by_c.borrow_mut()) == answer.map(|(lines, _)| lines),
+            &mut || unsafe { product::complete_sound(&m, Ask::Names(None), b"", 4096, &mut out.borrow_mut()) } == answer,
+            &mut || baseline::complete(&m, None, b"", 4096, &mut by_c.borrow_mut()) == answer.map(|(lines, _)| lines),
         ]);
         let answer = answer.map_or("refused with 10", |_| "listed");
         all += &format!("| 3,000 namespaces of one list of {names} names | {answer} | {proved:.0} | {c:.0} | {:.2} | {:.0} |\n", proved / c, proved / 3001.0);
@@ -192,28 +196,34 @@ fn refused(keys: &shapes::Keys) -> String {
     all
 }
 
+/// Names of the three kinds in turn, and queries that list one of them, all, and those of one tree.
+fn listings() -> [(&'static str, Vec<Name>, Vec<u8>); 4] {
+    let mut all_names = names(1000);
+    all_names.iter_mut().zip(Kind::ALL.into_iter().cycle()).for_each(|(n, kind)| n.item.kind = kind);
+    let one = all_names[500].query.clone();
+    [
+        ("one line of 1000 names", all_names.clone(), one),
+        ("all names, 1000 names", all_names, vec![]),
+        ("one tree", one_tree(500), b"saved.bus.n.".to_vec()),
+        ("one tree", one_tree(3000), b"saved.bus.n.".to_vec()),
+    ]
+}
+
 /// Listings with and without the beginning that their lines share, turn by turn on one memory.
 fn shared() -> String {
-    let all_names = names(1000);
-    let tree = |count: u32| (0..count).map(|i| Name::new(b"saved.bus.".to_vec(), format!("n{}", i * 7919 % count).into_bytes(), i)).collect::<Vec<_>>();
     let mut all = String::from(
         "| listing | lines | bytes shared | without, ns | with, ns | with / without | C without, ns | C with, ns | with / C with |\n|---|---|---|---|---|---|---|---|---|\n",
     );
-    for (what, names, query) in [
-        ("one line of 1000 names", &all_names, &all_names[500].query[..]),
-        ("all names, 1000 names", &all_names, b""),
-        ("one tree", &tree(500), b"saved.bus.n."),
-        ("one tree", &tree(3000), b"saved.bus.n."),
-    ] {
+    for (what, names, query) in &listings() {
         let m = made(names);
-        let (expected, entered) = autocomplete_lid(&decode(&m), query, u32::MAX).expect("listed");
+        let (expected, entered) = autocomplete_lid(&decode(&m), query, None, u32::MAX).expect("listed");
         let (lines, bytes) = (expected.len() as u32, shared_length(&expected));
         let [out, out_shared, by_c, by_c_shared] = [(); 4].map(|()| RefCell::new(Output::with_room(32768, 1 << 20)));
         let [without, with, c, c_with] = compare([
             // SAFETY, of both: the memory is sound.
-            &mut || unsafe { product::complete_sound(&m, Ask::Names, query, u32::MAX, &mut out.borrow_mut()) } == Ok((lines, entered)),
-            &mut || unsafe { product::complete_shared_sound(&m, Ask::Names, query, u32::MAX, &mut out_shared.borrow_mut()) } == Ok((lines, entered, bytes)),
-            &mut || baseline::complete(&m, query, u32::MAX, &mut by_c.borrow_mut()) == Ok(lines),
+            &mut || unsafe { product::complete_sound(&m, Ask::Names(None), query, u32::MAX, &mut out.borrow_mut()) } == Ok((lines, entered)),
+            &mut || unsafe { product::complete_shared_sound(&m, Ask::Names(None), query, u32::MAX, &mut out_shared.borrow_mut()) } == Ok((lines, entered, bytes)),
+            &mut || baseline::complete(&m, None, query, u32::MAX, &mut by_c.borrow_mut()) == Ok(lines),
             &mut || baseline::complete_shared(&m, query, u32::MAX, &mut by_c_shared.borrow_mut()) == Ok((lines, bytes)),
         ]);
         assert!([&out_shared, &by_c, &by_c_shared].iter().all(|o| *o.borrow() == *out.borrow()), "other lines: {what}");
@@ -222,6 +232,33 @@ fn shared() -> String {
             with / without,
             with / c_with
         );
+    }
+    all
+}
+
+/// Listings of all kinds and of one of the three, turn by turn on one memory.
+fn kinds() -> String {
+    let mut all = String::from(
+        "| listing | lines, all kinds | one kind | all kinds, ns | one kind, ns | one / all | C all kinds, ns | C one kind, ns | one / C one |\n|---|---|---|---|---|---|---|---|---|\n",
+    );
+    for (what, names, query) in &listings()[1..] {
+        let m = made(names);
+        let one = Some(Kind::Register);
+        let listed = |kind| autocomplete_lid(&decode(&m), query, kind, u32::MAX).map(|(lines, entered)| (lines.len() as u32, entered)).expect("listed");
+        let outs = [(); 4].map(|()| RefCell::new(Output::with_room(32768, 1 << 20)));
+        let [every, few, c_every, c_few] = &outs;
+        // SAFETY: the memory is sound.
+        let product = |kind, out: &RefCell<Output>| unsafe { product::complete_sound(&m, Ask::Names(kind), query, u32::MAX, &mut out.borrow_mut()) };
+        let by_c = |kind, out: &RefCell<Output>| baseline::complete(&m, kind, query, u32::MAX, &mut out.borrow_mut());
+        let (lines, kept) = (listed(None), listed(one));
+        let [t, t_one, c, c_one] = compare([
+            &mut || product(None, every) == Ok(lines),
+            &mut || product(one, few) == Ok(kept),
+            &mut || by_c(None, c_every) == Ok(lines.0),
+            &mut || by_c(one, c_few) == Ok(kept.0),
+        ]);
+        assert!(*every.borrow() == *c_every.borrow() && *few.borrow() == *c_few.borrow(), "other lines: {what}");
+        all += &format!("| {what} | {} | {} | {t:.0} | {t_one:.0} | {:.3} | {c:.0} | {c_one:.0} | {:.2} |\n", lines.0, kept.0, t_one / t, t_one / c_one);
     }
     all
 }
@@ -235,7 +272,7 @@ fn named_table(records: u32) -> Memory {
         let host = hosts[rng.below(hosts.len())];
         let id = format!("{:x}", rng.below(4096)).into_bytes();
         // SAFETY: the memory is sound.
-        assert_eq!(unsafe { product::insert_sound(&mut m, host, &id, rng.word()) }, 0);
+        assert_eq!(unsafe { product::insert_sound(&mut m, host, &id, Item::register(rng.word())) }, 0);
     }
     m
 }
@@ -321,6 +358,7 @@ fn run() {
         ("trees", measure::table(&trees(&keys))),
         ("refused", refused(&keys)),
         ("shared", shared()),
+        ("kinds", kinds()),
         ("sound", sound(&keys)),
         ("layer", layer::parts(&names(200))),
     ];

@@ -1,8 +1,9 @@
 //! The source's own code in OCaml (source.ml), built by OCaml's compiler and timed by source_main.ml, on the product's work.
 use crate::measure::Row;
+use crate::source::word_of;
 use model::layout::Memory;
-use model::model::Registration;
-use product::{Ask, Output};
+use model::model::{Ask, Item, Registration};
+use product::{item, Output};
 use std::fmt::Write as _;
 use std::io::{ErrorKind, Write as _};
 use std::process::{Command, Stdio};
@@ -67,6 +68,11 @@ impl Sum {
         text.iter().for_each(|b| self.number(*b as u32));
     }
 
+    fn item(&mut self, item: Item) {
+        self.number(item.kind.number());
+        self.number(item.number);
+    }
+
     /// The product's look-up.
     fn find(&mut self, m: &Memory, query: &[u8]) {
         // SAFETY: the memory is sound.
@@ -75,7 +81,7 @@ impl Sum {
             Some(item) => {
                 self.count += 1;
                 self.number(1);
-                self.number(item);
+                self.item(item);
             }
         }
     }
@@ -84,14 +90,14 @@ impl Sum {
     fn complete(&mut self, m: &Memory, query: &[u8]) {
         let mut out = Output::with_room(32768, 1 << 20);
         // SAFETY: the memory is sound.
-        let (lines, _) = unsafe { product::complete_sound(m, Ask::Names, query, u32::MAX, &mut out) }.expect("listed");
+        let (lines, _) = unsafe { product::complete_sound(m, Ask::Names(None), query, u32::MAX, &mut out) }.expect("listed");
         for k in 0..lines as usize {
-            let line = out.line(k, |w| w[5]);
+            let line = out.line(k, item);
             self.count += 1;
             self.text(&line.candidate);
             self.text(&line.annotation);
             self.number(line.match_length as u32);
-            self.number(line.item);
+            self.item(line.item);
         }
     }
 }
@@ -108,7 +114,7 @@ impl Script {
         let text = String::from_utf8_lossy;
         for call in calls {
             match call {
-                Registration::Name { host, id, item } => writeln!(self.lines, "name {} {} {item}", text(host), text(id)),
+                Registration::Name { host, id, item } => writeln!(self.lines, "name {} {} {}", text(host), text(id), word_of(*item)),
                 Registration::Include { host, included } => writeln!(self.lines, "include {} {}", text(host), text(included)),
                 Registration::OpenNamespace { host, included } => writeln!(self.lines, "open n {} {}", text(host), text(included)),
                 Registration::OpenModule { host, included } => writeln!(self.lines, "open m {} {}", text(host), text(included)),

@@ -1,6 +1,6 @@
 //! The source's functions compiled natively (source.c), on the trees that a memory reads as.
 use model::layout::Memory;
-use model::model::{CompletionResult, Str};
+use model::model::{CompletionResult, Item, Kind, Str};
 use std::ffi::c_void;
 
 /// Blocks of source.c: a string, a list cell and a line.
@@ -32,9 +32,18 @@ extern "C" {
     fn s_mark() -> *mut c_void;
     fn s_forget(mark: *mut c_void);
     fn s_load(words: *const u32, text: *const u8, records: u32, root: u32) -> *const c_void;
-    fn s_insert(trie: *const c_void, host: *const u8, nhost: usize, id: *const u8, nid: usize, item: u32) -> *const c_void;
-    fn s_find(trie: *const c_void, query: *const u8, n: usize, item: *mut u32) -> bool;
+    fn s_insert(trie: *const c_void, host: *const u8, nhost: usize, id: *const u8, nid: usize, item: u64) -> *const c_void;
+    fn s_find(trie: *const c_void, query: *const u8, n: usize, item: *mut u64) -> bool;
     fn s_complete(trie: *const c_void, query: *const u8, n: usize) -> *const List;
+}
+
+/// An item as one word: its kind above its number.
+pub fn word_of(item: Item) -> u64 {
+    u64::from(item.kind.number()) << 32 | u64::from(item.number)
+}
+
+fn item_of(word: u64) -> Item {
+    Item { kind: Kind::from_number((word >> 32) as u32).expect("a kind"), number: word as u32 }
 }
 
 /// A names root. All of them share an arena, so the last one made goes first.
@@ -73,13 +82,13 @@ impl Source {
 pub struct Root(*const c_void);
 
 impl Root {
-    pub fn insert(self, host: &[u8], id: &[u8], item: u32) -> Root {
-        Root(unsafe { s_insert(self.0, host.as_ptr(), host.len(), id.as_ptr(), id.len(), item) })
+    pub fn insert(self, host: &[u8], id: &[u8], item: Item) -> Root {
+        Root(unsafe { s_insert(self.0, host.as_ptr(), host.len(), id.as_ptr(), id.len(), word_of(item)) })
     }
 
-    pub fn find(self, query: &[u8]) -> Option<u32> {
+    pub fn find(self, query: &[u8]) -> Option<Item> {
         let mut item = 0;
-        unsafe { s_find(self.0, query.as_ptr(), query.len(), &mut item) }.then_some(item)
+        unsafe { s_find(self.0, query.as_ptr(), query.len(), &mut item) }.then(|| item_of(item))
     }
 
     /// Whether a completion has a line.
@@ -88,18 +97,18 @@ impl Root {
     }
 
     /// Its lines.
-    pub fn lines(self, query: &[u8]) -> Vec<CompletionResult<u32>> {
+    pub fn lines(self, query: &[u8]) -> Vec<CompletionResult<Item>> {
         unsafe { lines(s_complete(self.0, query.as_ptr(), query.len())) }
     }
 }
 
-unsafe fn lines(mut at: *const List) -> Vec<CompletionResult<u32>> {
+unsafe fn lines(mut at: *const List) -> Vec<CompletionResult<Item>> {
     let text = |t: *const Text| Str::from(unsafe { std::slice::from_raw_parts((*t).at.as_ptr(), (*t).len) });
     let mut all = Vec::new();
     while let Some(cell) = unsafe { at.as_ref() } {
         let f = unsafe { &*cell.head };
         let (candidate, annotation) = (text(f.candidate), text(f.annotation));
-        all.push(CompletionResult { match_length: f.match_length as i32, item: f.item as u32, candidate, annotation });
+        all.push(CompletionResult { match_length: f.match_length as i32, item: item_of(f.item as u64), candidate, annotation });
         at = cell.tail;
     }
     all

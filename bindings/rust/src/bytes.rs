@@ -7,12 +7,12 @@ use crate::sys::{self, CompleteReply, ModuleReply, NameReply, SharedReply};
 // SAFETY, of every call here: pointer and length come from one slice, so no pointer is null and the bytes are there; what is written
 // is borrowed mutably, so it overlaps nothing else; the layer keeps no pointer.
 
-/// Registers a name with its item, in the host: 0 or the refusal's number.
+/// Registers a name with its item, a kind (1 to 3; another is refused with 2) and a number, in the host: 0 or the refusal's number.
 #[rustfmt::skip]
-pub fn insert(state: &mut [u8], words: &mut [u8], text: &mut [u8], host: &[u8], id: &[u8], item: u32) -> u32 {
+pub fn insert_item(state: &mut [u8], words: &mut [u8], text: &mut [u8], host: &[u8], id: &[u8], kind: u32, number: u32) -> u32 {
     unsafe {
-        sys::name_console_insert(state.as_mut_ptr(), state.len(), words.as_mut_ptr(), words.len(), text.as_mut_ptr(), text.len(),
-            host.as_ptr(), host.len(), id.as_ptr(), id.len(), item)
+        sys::name_console_insert_item(state.as_mut_ptr(), state.len(), words.as_mut_ptr(), words.len(), text.as_mut_ptr(), text.len(),
+            host.as_ptr(), host.len(), id.as_ptr(), id.len(), kind, number)
     }
 }
 
@@ -64,9 +64,10 @@ pub fn module(state: &mut [u8], words: &mut [u8], text: &mut [u8], loaded: u32, 
 
 /// Looks a name up.
 #[rustfmt::skip]
-pub fn find(state: &[u8], words: &[u8], text: &[u8], query: &[u8]) -> NameReply {
+pub fn find_item(state: &[u8], words: &[u8], text: &[u8], query: &[u8]) -> NameReply {
     unsafe {
-        sys::name_console_find(state.as_ptr(), state.len(), words.as_ptr(), words.len(), text.as_ptr(), text.len(), query.as_ptr(), query.len())
+        sys::name_console_find_item(state.as_ptr(), state.len(), words.as_ptr(), words.len(), text.as_ptr(), text.len(),
+            query.as_ptr(), query.len())
     }
 }
 
@@ -79,12 +80,15 @@ pub fn find_module(state: &[u8], words: &[u8], text: &[u8], query: &[u8]) -> Mod
     }
 }
 
-/// Completes a name: line records of 48 bytes into `lines`, their texts into `out`.
+/// Completes a name, of all kinds (0) or of one (1 to 3; another is refused with 2): line records of 48 bytes into `lines`, their texts into `out`.
 #[rustfmt::skip]
-pub fn complete(state: &[u8], words: &[u8], text: &[u8], query: &[u8], budget: u32, lines: &mut [u8], out: &mut [u8]) -> CompleteReply {
+#[allow(clippy::too_many_arguments)]
+pub fn complete_names(
+    state: &[u8], words: &[u8], text: &[u8], kind: u32, query: &[u8], budget: u32, lines: &mut [u8], out: &mut [u8],
+) -> CompleteReply {
     unsafe {
-        sys::name_console_complete(state.as_ptr(), state.len(), words.as_ptr(), words.len(), text.as_ptr(), text.len(),
-            query.as_ptr(), query.len(), budget, lines.as_mut_ptr(), lines.len(), out.as_mut_ptr(), out.len())
+        sys::name_console_complete_names(state.as_ptr(), state.len(), words.as_ptr(), words.len(), text.as_ptr(), text.len(),
+            kind, query.as_ptr(), query.len(), budget, lines.as_mut_ptr(), lines.len(), out.as_mut_ptr(), out.len())
     }
 }
 
@@ -100,12 +104,15 @@ pub fn complete_modules(
     }
 }
 
-/// Completes a name as `complete` does, and says how many bytes all candidates begin with: what Tab may fill in.
+/// Completes a name as `complete_names` does, and says how many bytes all candidates begin with: what Tab may fill in.
 #[rustfmt::skip]
-pub fn complete_shared(state: &[u8], words: &[u8], text: &[u8], query: &[u8], budget: u32, lines: &mut [u8], out: &mut [u8]) -> SharedReply {
+#[allow(clippy::too_many_arguments)]
+pub fn complete_names_shared(
+    state: &[u8], words: &[u8], text: &[u8], kind: u32, query: &[u8], budget: u32, lines: &mut [u8], out: &mut [u8],
+) -> SharedReply {
     unsafe {
-        sys::name_console_complete_shared(state.as_ptr(), state.len(), words.as_ptr(), words.len(), text.as_ptr(), text.len(),
-            query.as_ptr(), query.len(), budget, lines.as_mut_ptr(), lines.len(), out.as_mut_ptr(), out.len())
+        sys::name_console_complete_names_shared(state.as_ptr(), state.len(), words.as_ptr(), words.len(), text.as_ptr(), text.len(),
+            kind, query.as_ptr(), query.len(), budget, lines.as_mut_ptr(), lines.len(), out.as_mut_ptr(), out.len())
     }
 }
 

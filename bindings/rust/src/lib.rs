@@ -4,24 +4,26 @@
 //! A query is a text in which each segment ends with a dot, `Live.offset.`; the empty text is the query of no segment.
 //!
 //! ```
-//! use name_console::{Output, Refusal, Table};
+//! use name_console::{Item, Kind, Output, Refusal, Table};
 //!
 //! let mut table = Table::new(100, 1000);
-//! table.insert("Saved.", "offset", 1)?;
+//! table.insert("Saved.", "offset", Item::register(1))?;
 //! table.register_include("Live.", "Saved.")?;
-//! table.insert("Live.", "offset", 3)?;
-//! assert_eq!(table.find("Live.offset.")?, Some(3));
+//! table.insert("Live.", "offset", Item::register(3))?;
+//! assert_eq!(table.find("Live.offset.")?, Some(Item { kind: Kind::Register, number: 3 }));
 //!
 //! let mut output = Output::new(10, 100);
-//! let listing = table.complete("Live.off.", 4096, &mut output)?;
+//! let listing = table.complete(None, "Live.off.", 4096, &mut output)?;
 //! let line = listing.line(0).unwrap();
-//! assert_eq!((line.candidate, line.item, line.match_length), (&b"Live.offset"[..], 1, 8));
+//! assert_eq!((line.candidate, line.item.to_string(), line.match_length), (&b"Live.offset"[..], "r1".into(), 8));
 //!
-//! table.insert("Saved.", "late", 2)?;
-//! let shared = table.complete_shared("S.", 4096, &mut output)?;
+//! table.insert("Saved.", "late", Item::timer(2))?;
+//! let shared = table.complete_shared(None, "S.", 4096, &mut output)?;
 //! assert_eq!((shared.listing.len(), shared.beginning), (2, &b"Saved."[..]));
+//! let timers = table.complete_shared(Some(Kind::Timer), "S.", 4096, &mut output)?;
+//! assert_eq!((timers.listing.len(), timers.beginning), (1, &b"Saved.late"[..]));
 //!
-//! assert_eq!(table.insert("Live", "offset", 3), Err(Refusal::Malformed));
+//! assert_eq!(table.insert("Live", "offset", Item::port(3)), Err(Refusal::Malformed));
 //! # Ok::<(), Refusal>(())
 //! ```
 //!
@@ -30,11 +32,13 @@
 #![warn(unsafe_op_in_unsafe_fn)]
 
 pub mod bytes;
+mod item;
 mod lines;
 mod refusal;
 pub mod sys;
 mod table;
 
+pub use item::{Item, Kind};
 pub use lines::{Line, Listing, Output, Shared, Symbol};
 pub use refusal::Refusal;
 pub use table::{Filter, Table};

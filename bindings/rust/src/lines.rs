@@ -1,4 +1,4 @@
-use crate::sys;
+use crate::{sys, Item};
 
 /// The part of a text that a span names, as far as the text goes.
 pub(crate) fn part(text: &[u8], start: u32, length: u32) -> &[u8] {
@@ -53,11 +53,11 @@ impl Output {
 
 /// A line of a completion. Its texts borrow the output, the item's texts the table.
 #[derive(Clone, Copy, Debug, PartialEq, Eq)]
-pub struct Line<'a, Item> {
+pub struct Line<'a, T> {
     /// How much of the candidate was matched: -1 where no element was matched by a segment.
     pub match_length: i32,
-    /// The item: a name's number, or a module or namespace.
-    pub item: Item,
+    /// The item: a name's [`Item`], or a module or namespace, a [`Symbol`].
+    pub item: T,
     /// The full name, without a last dot.
     pub candidate: &'a [u8],
     /// The label of the list that the name came from, or the sort of a module; it may be empty.
@@ -66,18 +66,18 @@ pub struct Line<'a, Item> {
 
 /// What a completion listed.
 #[derive(Clone, Copy, Debug)]
-pub struct Listing<'a, Item> {
+pub struct Listing<'a, T> {
     /// Tries entered.
     pub entered: u32,
     records: &'a [u8],
     out: &'a [u8],
     text: &'a [u8],
-    item: fn(&'a [u8], &[u32; 12]) -> Item,
+    item: fn(&'a [u8], &[u32; 12]) -> T,
 }
 
 /// The item of a line of names.
-pub(crate) fn number(_: &[u8], words: &[u32; 12]) -> u32 {
-    words[5]
+pub(crate) fn item(_: &[u8], words: &[u32; 12]) -> Item {
+    Item::read(words[6], words[5])
 }
 
 /// The item of a line of modules.
@@ -85,8 +85,8 @@ pub(crate) fn symbol<'a>(text: &'a [u8], words: &[u32; 12]) -> Symbol<'a> {
     Symbol::new(text, words[5], [words[6], words[7]], [words[8], words[9]], words[10])
 }
 
-impl<'a, Item> Listing<'a, Item> {
-    pub(crate) fn new(reply: sys::CompleteReply, output: &'a Output, text: &'a [u8], item: fn(&'a [u8], &[u32; 12]) -> Item) -> Self {
+impl<'a, T> Listing<'a, T> {
+    pub(crate) fn new(reply: sys::CompleteReply, output: &'a Output, text: &'a [u8], item: fn(&'a [u8], &[u32; 12]) -> T) -> Self {
         let records = &output.lines[..reply.lines as usize * sys::LINE];
         Listing { entered: reply.entered, records, out: &output.text, text, item }
     }
@@ -102,7 +102,7 @@ impl<'a, Item> Listing<'a, Item> {
     }
 
     /// Line `k`, from 0 on.
-    pub fn line(&self, k: usize) -> Option<Line<'a, Item>> {
+    pub fn line(&self, k: usize) -> Option<Line<'a, T>> {
         let record = self.records.chunks_exact(sys::LINE).nth(k)?;
         let words: [u32; 12] = std::array::from_fn(|i| u32::from_le_bytes(std::array::from_fn(|b| record[i * 4 + b])));
         Some(Line {
@@ -114,22 +114,22 @@ impl<'a, Item> Listing<'a, Item> {
     }
 
     /// The lines in order.
-    pub fn iter(&self) -> impl Iterator<Item = Line<'a, Item>> + '_ {
+    pub fn iter(&self) -> impl Iterator<Item = Line<'a, T>> + '_ {
         (0..self.len()).filter_map(|k| self.line(k))
     }
 }
 
 /// What a completion listed, and what is certain of it.
 #[derive(Clone, Copy, Debug)]
-pub struct Shared<'a, Item> {
+pub struct Shared<'a, T> {
     /// The lines.
-    pub listing: Listing<'a, Item>,
+    pub listing: Listing<'a, T>,
     /// The longest beginning that all candidates share: with one line its whole candidate, with none it is empty. It borrows the output.
     pub beginning: &'a [u8],
 }
 
-impl<'a, Item> Shared<'a, Item> {
-    pub(crate) fn new(reply: sys::SharedReply, output: &'a Output, text: &'a [u8], item: fn(&'a [u8], &[u32; 12]) -> Item) -> Self {
+impl<'a, T> Shared<'a, T> {
+    pub(crate) fn new(reply: sys::SharedReply, output: &'a Output, text: &'a [u8], item: fn(&'a [u8], &[u32; 12]) -> T) -> Self {
         let sys::SharedReply { answer, lines, entered, shared } = reply;
         let listing = Listing::new(sys::CompleteReply { answer, lines, entered }, output, text, item);
         let beginning = listing.line(0).map_or(&[][..], |first| part(first.candidate, 0, shared));

@@ -21,14 +21,25 @@ pub const OK: u32 = 0;
 /// The answer of a look-up that finds nothing. Numbers 1 to 10 are refusals.
 pub const NONE: u32 = u32::MAX;
 
+/// The kind of an item that is a timer.
+pub const TIMER: u32 = 1;
+/// The kind of an item that is a port.
+pub const PORT: u32 = 2;
+/// The kind of an item that is a register.
+pub const REGISTER: u32 = 3;
+/// What a completion of names asks for in the place of a kind, to list all.
+pub const ALL_KINDS: u32 = 0;
+
 /// The reply to a look-up of a name.
 #[repr(C)]
 #[derive(Clone, Copy, Debug, Default, PartialEq, Eq)]
 pub struct NameReply {
     /// 0 found, [`NONE`], else the refusal.
     pub answer: u32,
-    /// 0 unless found.
-    pub item: u32,
+    /// The item's kind, [`TIMER`], [`PORT`] or [`REGISTER`]; 0 unless found.
+    pub kind: u32,
+    /// The item's number; 0 unless found.
+    pub number: u32,
 }
 
 /// The reply to a look-up of a module or namespace. What does not apply is 0.
@@ -79,9 +90,9 @@ pub struct SharedReply {
 
 #[rustfmt::skip]
 extern "C" {
-    /// Registers a name with its item, in the host.
-    pub fn name_console_insert(state: *mut u8, state_len: usize, words: *mut u8, words_len: usize, text: *mut u8, text_len: usize,
-        host: *const u8, host_len: usize, id: *const u8, id_len: usize, item: u32) -> u32;
+    /// Registers a name with its item, a kind and a number, in the host.
+    pub fn name_console_insert_item(state: *mut u8, state_len: usize, words: *mut u8, words_len: usize, text: *mut u8, text_len: usize,
+        host: *const u8, host_len: usize, id: *const u8, id_len: usize, kind: u32, number: u32) -> u32;
 
     /// Includes the query's bindings in the host.
     pub fn name_console_include(state: *mut u8, state_len: usize, words: *mut u8, words_len: usize, text: *mut u8, text_len: usize,
@@ -104,24 +115,24 @@ extern "C" {
         loaded: u32, query: *const u8, query_len: usize, path: *const u8, path_len: usize) -> u32;
 
     /// Looks a name up.
-    pub fn name_console_find(state: *const u8, state_len: usize, words: *const u8, words_len: usize, text: *const u8, text_len: usize,
+    pub fn name_console_find_item(state: *const u8, state_len: usize, words: *const u8, words_len: usize, text: *const u8, text_len: usize,
         query: *const u8, query_len: usize) -> NameReply;
 
     /// Looks a module or namespace up.
     pub fn name_console_find_module(state: *const u8, state_len: usize, words: *const u8, words_len: usize, text: *const u8, text_len: usize,
         query: *const u8, query_len: usize) -> ModuleReply;
 
-    /// Completes a name.
-    pub fn name_console_complete(state: *const u8, state_len: usize, words: *const u8, words_len: usize, text: *const u8, text_len: usize,
-        query: *const u8, query_len: usize, budget: u32, lines: *mut u8, lines_len: usize, out: *mut u8, out_len: usize) -> CompleteReply;
+    /// Completes a name, of all kinds (0) or of one.
+    pub fn name_console_complete_names(state: *const u8, state_len: usize, words: *const u8, words_len: usize, text: *const u8, text_len: usize,
+        kind: u32, query: *const u8, query_len: usize, budget: u32, lines: *mut u8, lines_len: usize, out: *mut u8, out_len: usize) -> CompleteReply;
 
     /// Completes a module or namespace, under the number of a filter, 0 to 3.
     pub fn name_console_complete_modules(state: *const u8, state_len: usize, words: *const u8, words_len: usize, text: *const u8, text_len: usize,
         filter: u32, query: *const u8, query_len: usize, budget: u32, lines: *mut u8, lines_len: usize, out: *mut u8, out_len: usize) -> CompleteReply;
 
-    /// Completes a name, and says how many bytes all candidates begin with.
-    pub fn name_console_complete_shared(state: *const u8, state_len: usize, words: *const u8, words_len: usize, text: *const u8, text_len: usize,
-        query: *const u8, query_len: usize, budget: u32, lines: *mut u8, lines_len: usize, out: *mut u8, out_len: usize) -> SharedReply;
+    /// Completes a name, of all kinds (0) or of one, and says how many bytes all candidates begin with.
+    pub fn name_console_complete_names_shared(state: *const u8, state_len: usize, words: *const u8, words_len: usize, text: *const u8, text_len: usize,
+        kind: u32, query: *const u8, query_len: usize, budget: u32, lines: *mut u8, lines_len: usize, out: *mut u8, out_len: usize) -> SharedReply;
 
     /// The same of a module or namespace, under the number of a filter, 0 to 3.
     pub fn name_console_complete_modules_shared(state: *const u8, state_len: usize, words: *const u8, words_len: usize, text: *const u8, text_len: usize,

@@ -1,5 +1,5 @@
-use crate::lines::{number, symbol, Listing, Output, Shared, Symbol};
-use crate::{bytes, sys, Refusal};
+use crate::lines::{item, symbol, Listing, Output, Shared, Symbol};
+use crate::{bytes, sys, Item, Kind, Refusal};
 
 /// Which lines a completion of modules keeps.
 #[derive(Clone, Copy, Debug, PartialEq, Eq)]
@@ -12,6 +12,11 @@ pub enum Filter {
     ModulesOnly = 2,
     /// Namespaces.
     NamespacesOnly = 3,
+}
+
+/// The number of a kind asked for, or of all.
+fn asked(kind: Option<Kind>) -> u32 {
+    kind.map_or(sys::ALL_KINDS, Kind::number)
 }
 
 /// A table with its memory. Every call answers for whatever texts it is given; a refused call leaves the table as it was.
@@ -54,8 +59,9 @@ impl Table {
     }
 
     /// Registers a name with its item, in the host.
-    pub fn insert(&mut self, host: impl AsRef<[u8]>, id: impl AsRef<[u8]>, item: u32) -> Result<(), Refusal> {
-        Refusal::check(bytes::insert(&mut self.state, &mut self.words, &mut self.text, host.as_ref(), id.as_ref(), item))
+    pub fn insert(&mut self, host: impl AsRef<[u8]>, id: impl AsRef<[u8]>, item: Item) -> Result<(), Refusal> {
+        let (host, id, kind) = (host.as_ref(), id.as_ref(), item.kind.number());
+        Refusal::check(bytes::insert_item(&mut self.state, &mut self.words, &mut self.text, host, id, kind, item.number))
     }
 
     /// Includes the query's bindings in the host, as they are now.
@@ -84,12 +90,12 @@ impl Table {
     }
 
     /// Looks a name up: its item, or none.
-    pub fn find(&self, query: impl AsRef<[u8]>) -> Result<Option<u32>, Refusal> {
-        let reply = bytes::find(&self.state, &self.words, &self.text, query.as_ref());
+    pub fn find(&self, query: impl AsRef<[u8]>) -> Result<Option<Item>, Refusal> {
+        let reply = bytes::find_item(&self.state, &self.words, &self.text, query.as_ref());
         if reply.answer == sys::NONE {
             return Ok(None);
         }
-        Refusal::check(reply.answer).map(|()| Some(reply.item))
+        Refusal::check(reply.answer).map(|()| Some(Item::read(reply.kind, reply.number)))
     }
 
     /// Looks a module or namespace up.
@@ -102,11 +108,18 @@ impl Table {
         Ok(Some(Symbol::new(&self.text, r.sort, [r.name_start, r.name_len], [r.path_start, r.path_len], r.loaded)))
     }
 
-    /// Lists the names that the query covers, entering no more tries than the budget.
-    pub fn complete<'a>(&'a self, query: impl AsRef<[u8]>, budget: u32, output: &'a mut Output) -> Result<Listing<'a, u32>, Refusal> {
+    /// Lists the names that the query covers, of one kind or of all (`None`), entering no more tries than the budget. Names of other
+    /// kinds take no output; the tries entered are those of all kinds.
+    pub fn complete<'a>(
+        &'a self,
+        kind: Option<Kind>,
+        query: impl AsRef<[u8]>,
+        budget: u32,
+        output: &'a mut Output,
+    ) -> Result<Listing<'a, Item>, Refusal> {
         let (lines, out) = (&mut output.lines, &mut output.text);
-        let reply = bytes::complete(&self.state, &self.words, &self.text, query.as_ref(), budget, lines, out);
-        Refusal::check(reply.answer).map(|()| Listing::new(reply, output, &self.text, number))
+        let reply = bytes::complete_names(&self.state, &self.words, &self.text, asked(kind), query.as_ref(), budget, lines, out);
+        Refusal::check(reply.answer).map(|()| Listing::new(reply, output, &self.text, item))
     }
 
     /// Lists the modules and namespaces that the query covers and the filter keeps.
@@ -123,10 +136,16 @@ impl Table {
     }
 
     /// Lists what [`complete`](Table::complete) lists, and gives the beginning that all candidates share: what Tab may fill in.
-    pub fn complete_shared<'a>(&'a self, query: impl AsRef<[u8]>, budget: u32, output: &'a mut Output) -> Result<Shared<'a, u32>, Refusal> {
+    pub fn complete_shared<'a>(
+        &'a self,
+        kind: Option<Kind>,
+        query: impl AsRef<[u8]>,
+        budget: u32,
+        output: &'a mut Output,
+    ) -> Result<Shared<'a, Item>, Refusal> {
         let (lines, out) = (&mut output.lines, &mut output.text);
-        let reply = bytes::complete_shared(&self.state, &self.words, &self.text, query.as_ref(), budget, lines, out);
-        Refusal::check(reply.answer).map(|()| Shared::new(reply, output, &self.text, number))
+        let reply = bytes::complete_names_shared(&self.state, &self.words, &self.text, asked(kind), query.as_ref(), budget, lines, out);
+        Refusal::check(reply.answer).map(|()| Shared::new(reply, output, &self.text, item))
     }
 
     /// Lists what [`complete_modules`](Table::complete_modules) lists, and gives the beginning that the candidates kept share.

@@ -7,13 +7,17 @@ fn the_example() {
     let mut written = Vec::new();
     example::session(&mut written).unwrap();
     let expected = "\
-36 records, 57 bytes of text
-Live.offset. is 3
+39 records, 61 bytes of text
+Live.offset. is r3
 Live.late. is not there
 Live.offset is refused: 2 Malformed: a query does not end in a dot, or a byte is not allowed at its place
-Live.offset 1 []
-Saved.late 2 []
-Saved.offset 1 []
+all kinds:
+tick t5 []
+Live.offset r1 []
+Saved.late r2 []
+Saved.offset r1 []
+timers:
+tick t5 []
 IO (ns)
 IO.Bus (mod) io/bus
 ";

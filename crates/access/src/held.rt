@@ -6,7 +6,6 @@ use memory::HELD;
 use memory::LEFT;
 use memory::NOTE_LINK;
 use memory::NOTE_SIDE;
-use memory::NUMBER;
 use memory::OF_TREE;
 use memory::OWN;
 use memory::REST;
@@ -19,7 +18,7 @@ ghost use Prim.Native.Nat.{_*_, _≤_, _<_};
 ghost use lib.ListN.{length};
 ghost use Rattle.source.specs.Lent.{old};
 ghost use Rattle.source.specs.Limits.{record-words};
-ghost use Rattle.memory.specs.Layout.{record-at, text-len, left-link, right-link, trie-link, number-word, own-link, rest-link, sort-word, note-link, note-side};
+ghost use Rattle.memory.specs.Layout.{record-at, text-len, left-link, right-link, trie-link, own-link, rest-link, sort-word, note-link, note-side};
 ghost use Rattle.memory.specs.Stored.{weight-in, depth-in, trie-in, left-in, right-in};
 
 // The length of the key of a branch, or of the label of a collection.
@@ -52,14 +51,6 @@ pub fn held_of(words: &[u32], link: u32) -> u32
     ensures { λ r. ⌜ r ≡ trie-link (record-at (old words) link) ⌝ }
 {
     word_of(words, link, HELD)
-}
-
-// The number of a name.
-pub fn number_of(words: &[u32], link: u32) -> u32
-    requires { ⌜ (0 < link) × (link * record-words ≤ length (now words)) ⌝ }
-    ensures { λ r. ⌜ r ≡ number-word (record-at (old words) link) ⌝ }
-{
-    word_of(words, link, NUMBER)
 }
 
 // The tree of a collection, or its imported list.

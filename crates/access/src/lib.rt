@@ -5,12 +5,14 @@ use memory::Collection;
 use memory::DEPTH;
 use memory::HELD;
 use memory::IMPORTED;
+use memory::ITEM_KIND;
 use memory::LEFT;
 use memory::LOADED;
 use memory::ModSymbol;
 use memory::NAME_LEN;
 use memory::NAME_START;
 use memory::NAMESPACES;
+use memory::NUMBER;
 use memory::OWN;
 use memory::PATH_LEN;
 use memory::PATH_START;
@@ -24,12 +26,13 @@ use memory::TEXT_LEN;
 use memory::TEXT_START;
 use memory::Trie;
 use memory::WEIGHT;
+use source::LidSymbol;
 ghost use mathlib.Core.Path.{_≡_};
 ghost use Prim.Native.Nat.{_+_, _*_, _≤_, _<_};
 ghost use lib.ListN.{length};
 ghost use Rattle.source.specs.Lent.{old, new};
 ghost use Rattle.source.specs.Limits.{record-words};
-ghost use Rattle.memory.specs.Layout.{record-at, word, key-at};
+ghost use Rattle.memory.specs.Layout.{record-at, word, lid-in, key-at};
 ghost use Rattle.memory.specs.Stored.{stored};
 ghost use Rattle.memory.specs.Grown.{put, put-text};
 ghost use Rattle.memory.specs.Read.{TextIn, symbol-in, ReadBranch, ReadCollection, ReadTrie};
@@ -46,7 +49,6 @@ pub use held::left_of;
 pub use held::left_side;
 pub use held::note_link;
 pub use held::note_side;
-pub use held::number_of;
 pub use held::own_of;
 pub use held::rest_of;
 pub use held::right_of;
@@ -120,6 +122,17 @@ pub fn symbol_of(words: &[u32], link: u32) -> ModSymbol
         return ModSymbol::Module(name, path, loaded);
     }
     ModSymbol::Namespace(name, loaded)
+}
+
+// The item of the name that `link` names.
+pub fn lid_of(words: &[u32], link: u32) -> LidSymbol
+    requires { ⌜ (0 < link) × (link * record-words ≤ length (now words)) ⌝ }
+    ensures { λ r. ⌜ r ≡ lid-in (record-at (old words) link) ⌝ }
+{
+    LidSymbol {
+        kind: items::kind_of(word_of(words, link, ITEM_KIND)),
+        number: word_of(words, link, NUMBER),
+    }
 }
 
 // The branch that `link` names.

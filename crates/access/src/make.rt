@@ -10,6 +10,7 @@ use memory::RIGHT;
 use memory::ROW;
 use memory::Span;
 use memory::Trie;
+use source::LidSymbol;
 ghost use mathlib.Core.Path.{_≡_};
 ghost use mathlib.Core.Bool.{cond};
 ghost use Prim.Native.Nat.{_≤_};
@@ -17,18 +18,19 @@ ghost use lib.ListN.{length};
 ghost use Rattle.source.specs.Limits.{record-words};
 ghost use Rattle.memory.specs.Made.{binding-row, symbol-row, namespace-row, sided-row, collection-row, trie-row};
 
-// A branch of names: its key and its number. Its sides are none.
-pub fn binding_row(key: Span, number: u32) -> [u32; ROW]
-    ensures { λ r. ⌜ r ≡ binding-row key number ⌝ }
+// A branch of names: its key and its item. Its sides are none.
+pub fn binding_row(key: Span, item: LidSymbol) -> [u32; ROW]
+    ensures { λ r. ⌜ r ≡ binding-row key item ⌝ }
 {
+    let kind = item.kind;
     [
         BINDING_KIND,
         key.start,
         key.len,
         0,
         0,
-        number,
-        0,
+        item.number,
+        items::number_of(kind),
         0,
         0,
         0,

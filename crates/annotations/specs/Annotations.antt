@@ -1,15 +1,12 @@
--- The annotation of a found branch, and whether what is asked keeps it.
+-- The annotation of a found branch.
 use Prim.Native.Nat.{ℕ}
-use mathlib.Core.Bool.{Bool, true}
 use mathlib.Core.List.{List, []}
 use lib.Dec.{eqb}
 use Rattle.source.specs.Text.{Str}
 use Rattle.source.specs.Tries.{dflt}
 use Rattle.source.specs.Table.{ModSymbol, Module, Namespace}
-use Rattle.source.specs.Calls.{keeps}
 use Rattle.memory.specs.Layout.{record-at, pick, modules, item-of}
 use Rattle.names.specs.Entries.{label-at}
-use Rattle.asks.specs.Ask.{filter-in}
 use Rattle.asks.specs.declared.Ask.{Ask}
 use Rattle.asks.specs.declared.Ask.the-variants.{Names, Modules}
 use Rattle.output.specs.Path.{Path}
@@ -27,11 +24,6 @@ note-at ws txt label = dflt [] (label-at ws txt label)
 abbrev pub symbol-at : (ws txt : List ℕ) → ℕ → ModSymbol
 symbol-at ws txt branch = item-of modules txt (record-at ws branch)
 
--- Whether what is asked keeps a symbol: of names all.
-abbrev pub kept : Ask → ModSymbol → Bool
-kept Names m = true
-kept (Modules f) m = keeps (filter-in f) m
-
 -- One of four: of a loaded module, of another, of a loaded namespace, of another.
 abbrev pub by-symbol : ModSymbol → (a b c d : Str) → Str
 by-symbol (Module name path loaded) a b c d = pick loaded a b
@@ -39,5 +31,5 @@ by-symbol (Namespace name loaded) a b c d = pick loaded c d
 
 -- The annotation of a found branch: the label of its collection, or one of the four.
 abbrev pub annotation : Ask → (ws txt : List ℕ) → Labelled → (a b c d : Str) → Str
-annotation Names ws txt found a b c d = note-at ws txt (found .label)
+annotation (Names f) ws txt found a b c d = note-at ws txt (found .label)
 annotation (Modules f) ws txt found a b c d = by-symbol (symbol-at ws txt (found .link)) a b c d

@@ -4,15 +4,18 @@ use memory::ModSymbol;
 use output::COUNT;
 use output::LABEL;
 use output::RUN;
+use source::KindFilter;
 ghost use mathlib.Core.Path.{_≡_};
 ghost use Prim.Native.Nat.{ℕ, _*_, _<_, _≤_};
 ghost use mathlib.Core.List.{List};
 ghost use lib.ListN.{length};
 ghost use Rattle.source.specs.Lent.{old};
 ghost use Rattle.source.specs.Limits.{record-words, most-used};
+ghost use Rattle.memory.specs.Layout.{record-at, item-of};
+ghost use Rattle.asks.specs.Ask.{asked, passes};
 ghost use Rattle.output.specs.Run.{path-in};
 ghost use Rattle.output.specs.Parts.{TextAt};
-ghost use Rattle.annotations.specs.Annotations.{note-at, outermost, symbol-at, kept, annotation};
+ghost use Rattle.annotations.specs.Annotations.{note-at, outermost, annotation};
 
 // A branch or a tree that was found, and the collection of its outermost label, 0 for none.
 pub struct Labelled {
@@ -45,10 +48,17 @@ fn note_of<'a>(words: &[u32], text: &'a [u8], label: u32) -> &'a [u8]
 // Whether what is asked keeps a found branch.
 pub fn kept(words: &[u32], ask: Ask, branch: u32) -> bool
     requires { ⌜ (0 < branch) × (branch * record-words ≤ length (now words)) ⌝ }
-    ensures { λ r. ⌜ ((txt : List ℕ) → r ≡ kept ask (symbol-at (old words) txt branch)) ⌝ }
+    ensures { λ r. ⌜ ((txt : List ℕ) → r ≡ passes ask (item-of (asked ask) txt (record-at (old words) branch))) ⌝ }
 {
     match ask {
-        Ask::Names => true,
+        Ask::Names(f) => match f {
+            KindFilter::Every => true,
+            KindFilter::Only(k) => {
+                let item = access::lid_of(words, branch);
+                let kind = item.kind;
+                items::same_kind(k, kind)
+            }
+        },
         Ask::Modules(f) => {
             let symbol = access::symbol_of(words, branch);
             match symbol {
@@ -77,7 +87,7 @@ pub fn annotation<'a>(
         (old first) (old second) (old third) (old fourth) ⌝ }
 {
     match ask {
-        Ask::Names => note_of(words, text, found.label),
+        Ask::Names(_) => note_of(words, text, found.label),
         Ask::Modules(_) => {
             let symbol = access::symbol_of(words, found.link);
             match symbol {

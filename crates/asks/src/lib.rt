@@ -1,4 +1,5 @@
-// What a completion asks: names, or modules and namespaces with a filter, and what the filter keeps.
+// What a completion asks: names, or modules and namespaces, with a filter; and what the filter of modules keeps.
+use source::KindFilter;
 ghost use mathlib.Core.Path.{_≡_};
 ghost use Rattle.source.specs.Text.{Str};
 ghost use Rattle.source.specs.Table.{Module, Namespace};
@@ -6,7 +7,7 @@ ghost use Rattle.source.specs.Calls as C;
 ghost use Rattle.memory.specs.Layout.{pick};
 ghost use Rattle.asks.specs.Ask.{filter-in};
 
-// The filter argument: Loaded is of either sort.
+// The filter of modules: Loaded is of either sort. That of names is source's KindFilter.
 pub enum Filter {
     All,
     Loaded,
@@ -14,9 +15,9 @@ pub enum Filter {
     NamespacesOnly,
 }
 
-// What a completion asks: names, or modules and namespaces with a filter.
+// What a completion asks: names, or modules and namespaces, with a filter.
 pub enum Ask {
-    Names,
+    Names(KindFilter),
     Modules(Filter),
 }
 

@@ -3,6 +3,9 @@
 use libc::STDOUT_FILENO;
 use roots::Completed;
 use roots::Found;
+use source::ItemKind;
+use source::KindFilter;
+use source::LidSymbol;
 use table::Registered;
 use table::Registration;
 use table::Table;
@@ -66,15 +69,23 @@ fn code(r: Registration) -> u32 {
     }
 }
 
+// The Register of a number.
+fn register(number: u32) -> LidSymbol {
+    LidSymbol {
+        kind: ItemKind::Register,
+        number: number,
+    }
+}
+
 // Case 12: case 1 with so many words and bytes.
 fn tick(words: &mut [u32], text: &mut [u8]) {
-    let r = Table::fresh().insert(words, text, b"", b"tick", 5);
+    let r = Table::fresh().insert(words, text, b"", b"tick", register(5));
     say_number(code(r));
 }
 
 // The first two calls of table T.
 fn half(words: &mut [u32], text: &mut [u8]) -> Table {
-    let a = Table::fresh().insert(words, text, b"Saved.", b"offset", 1);
+    let a = Table::fresh().insert(words, text, b"Saved.", b"offset", register(1));
     let t = a.table;
     let b = t.register_include(words, text, b"Live.", b"Saved.");
     b.table
@@ -82,9 +93,9 @@ fn half(words: &mut [u32], text: &mut [u8]) -> Table {
 
 // The other two calls of T.
 fn rest(t: Table, words: &mut [u32], text: &mut [u8]) -> Table {
-    let a = t.insert(words, text, b"Saved.", b"late", 2);
+    let a = t.insert(words, text, b"Saved.", b"late", register(2));
     let u = a.table;
-    let b = u.insert(words, text, b"Live.", b"offset", 3);
+    let b = u.insert(words, text, b"Live.", b"offset", register(3));
     b.table
 }
 
@@ -106,7 +117,7 @@ fn listed(
     let l = t.complete(
         words,
         text,
-        asks::Ask::Names,
+        asks::Ask::Names(KindFilter::Every),
         b"Live.off.",
         budget,
         flat,
@@ -155,6 +166,15 @@ fn more_scripts() {
     );
     say(b"case 10\n");
     play(b"", b"[module u [IO.Bus.] io/bus]\n[modules [I.]]\n");
+}
+
+// A Timer, a Port and a Register of one number, and what is no item.
+fn kinds() {
+    say(b"kinds\n");
+    play(
+        b"[name [] tick t5]\n[name [] tock p5]\n[name [] took 5]\n",
+        b"[find [tick.]]\n[complete [t.]]\n[name [] x t]\n[name [] x x5]\n[name [] x t05]\n",
+    );
 }
 
 // Case 2: records and text bytes used by T.
@@ -217,10 +237,12 @@ fn damaged() {
     let t = build(&mut words, &mut text);
     say(b"a damaged table\n");
     say_number(looked(t, &words, &text));
+    words[6] = 4;
+    say_number(looked(t, &words, &text));
     words[0] = 99;
     say_number(looked(t, &words, &text));
     say_number(listed(t, &words, &text, 2, &mut flat, &mut pane));
-    let r = t.insert(&mut words, &mut text, b"", b"tick", 5);
+    let r = t.insert(&mut words, &mut text, b"", b"tick", register(5));
     say_number(code(r));
 }
 
@@ -232,5 +254,6 @@ fn main() {
     rooms();
     texts();
     outputs();
+    kinds();
     damaged();
 }

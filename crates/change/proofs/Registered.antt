@@ -13,6 +13,7 @@ use Rattle.source.specs.Table.{Table, ModSymbol, insert, register-alias, regist
 use Rattle.source.specs.Counted.{Counted, pure, one, _>>=_, trie-mutateᶜ, trie-mutate-leafᶜ, trie-insertᶜ, trie-importᶜ, trie-includeᶜ, trie-open-namespaceᶜ, trie-add-aliasᶜ, ins-stays-loadedᶜ, lids, insertᶜ, register-aliasᶜ, register-includeᶜ, register-openᶜ, register-module-stays-loadedᶜ}
 use Rattle.source.specs.Calls.{Call, name, include, opens, alias, module-path, registered, records, crowded, deep}
 use Rattle.source.proofs.Counted.{trie-insert-value, trie-include-value, trie-open-namespace-value, trie-add-alias-value, register-module-stays-loaded-value, register-module-stays-loaded-count}
+use Rattle.source.specs.declared.LidSymbol.{LidSymbol}
 use Rattle.memory.specs.Layout.{span, Which, names, modules, Item, trieˢ, what}
 use Rattle.memory.specs.Read.{text-of}
 use Rattle.writers.specs.Made.{Room}
@@ -27,12 +28,12 @@ module _ (ws txt : List ℕ) (at end : ℕ) where
   nothing-passed = let z : at - at ≡ 0 = omega arith in rw z
 
   module _ (ch : Change) where
-    pub name-change : (tr : Trie ℕ) (x : ℕ) → mutated ws txt (with-kind (Name x) ch) tr at at end ≡ trie-insertᶜ tr (between txt at end) (text-of txt (ch .text)) x
+    pub name-change : (tr : Trie LidSymbol) (x : LidSymbol) → mutated ws txt (with-kind (Name x) ch) tr at at end ≡ trie-insertᶜ tr (between txt at end) (text-of txt (ch .text)) x
     unfolding trie-insertᶜ trie-mutate-leafᶜ node-of leaf-by bindings-by pure one _>>=_
     name-change tr x = rw nothing-passed
 
     -- The label, and the included trie.
-    module _ (tr : Trie ℕ) (q : Query) (e : text-of txt (label-in (ch .text)) ≡ query-to-string q) (f : what names ws txt (ch .inc) trieˢ ≡ included tr q) where
+    module _ (tr : Trie LidSymbol) (q : Query) (e : text-of txt (label-in (ch .text)) ≡ query-to-string q) (f : what names ws txt (ch .inc) trieˢ ≡ included tr q) where
       pub include-change : mutated ws txt (with-kind Include ch) tr at at end ≡ trie-includeᶜ tr (between txt at end) q
       unfolding trie-includeᶜ trie-importᶜ trie-mutate-leafᶜ node-of leaf-by bindings-by pure one _>>=_
       include-change = rw nothing-passed (simp (e, f))
@@ -61,7 +62,7 @@ pub record Registers (tbl : Table) (c : Call) (w : Which) (m : Counted (Trie (It
   pub number : m .count ≡ records tbl c
 
 module _ (ws txt : List ℕ) (at end : ℕ) (tbl : Table) (host : Str) (h : between txt at end ≡ segments host) (ch : Change) where
-  pub name-registers : (id : Str) (x : ℕ) → text-of txt (ch .text) ≡ id → Registers tbl (name host id x) names (mutated ws txt (with-kind (Name x) ch) (tbl .tbl-lids) at at end)
+  pub name-registers : (id : Str) (x : LidSymbol) → text-of txt (ch .text) ≡ id → Registers tbl (name host id x) names (mutated ws txt (with-kind (Name x) ch) (tbl .tbl-lids) at at end)
   unfolding registered insert records insertᶜ lids pure _>>=_
   name-registers id x e = rw (name-change ws txt at end, h, e) (record { root = trie-insert-value (tbl .tbl-lids) (segments host) id x; number = omega arith })
 

@@ -1,15 +1,18 @@
 -- What the calls for tests reply: what crate table hands back, as numbers.
-use Prim.Native.Nat.{ℕ}
+use Prim.Native.Nat.{ℕ, _-_}
 use mathlib.Core.Path.{_≡_}
 use mathlib.Core.List.{List}
-use lib.Dec.{eqb}
+use lib.Dec.{ltb}
 use Rattle.source.specs.Text.{Str}
+use Rattle.source.specs.Tries.{dflt}
+use Rattle.source.specs.Items.{read-kind}
 use Rattle.source.specs.Calls.{Call}
+use Rattle.source.specs.declared.LidSymbol.{LidSymbol}
 use Rattle.memory.specs.Layout.{pick}
 use Rattle.refusals.specs.Refusals.{number}
 use Rattle.asks.specs.declared.Ask.{Ask}
-use Rattle.asks.specs.declared.Ask.the-variants.{Names, Modules}
-use Rattle.asks.specs.declared.Filter.the-variants.{All, Loaded, ModulesOnly, NamespacesOnly}
+use Rattle.asks.specs.declared.Ask.the-variants.{Modules}
+use Rattle.asks.specs.declared.Filter.the-variants.{NamespacesOnly}
 use Rattle.table.specs.declared.Table.{Table}
 use Rattle.table.specs.declared.Registered.{Registered}
 use Rattle.table.specs.declared.Registered.the-variants.{Accepted, Refused}
@@ -20,6 +23,7 @@ use Rattle.roots.specs.Answers.{name-found}
 use Rattle.table.specs.Answers.{Finds}
 use Rattle.table.specs.Completions.{Completes}
 use Rattle.table.specs.Registrations.{Total}
+use Rattle.numbers.specs.Filters.{names-for, modules-for}
 use Rattle.numbers.specs.Replies.{name-reply, lines-reply, shared-reply}
 use Rattle.numbers.specs.declared.NameReply.{NameReply}
 use Rattle.numbers.specs.declared.CompleteReply.{CompleteReply}
@@ -32,9 +36,13 @@ use Rattle.exports.specs.declared.Reply.{Reply}
 abbrev pub table-of : (names modules records used : ℕ) → Table
 table-of names modules records used = record { header = record { names = names; modules = modules; records = records; text = used } }
 
--- What a number asks: 0 names, else modules with a filter.
+-- What a number asks: below four names, by the number of a filter; below eight modules; else NamespacesOnly.
 abbrev pub ask-of : ℕ → Ask
-ask-of n = pick (eqb n 0) Names (Modules (pick (eqb n 1) All (pick (eqb n 2) Loaded (pick (eqb n 3) ModulesOnly NamespacesOnly))))
+ask-of n = dflt (Modules NamespacesOnly) (pick (ltb n 4) (names-for n) (modules-for (n - 4)))
+
+-- The item of two numbers.
+abbrev pub item-of : (kind number : ℕ) → LidSymbol
+item-of kind number = record { kind = read-kind kind; number = number }
 
 -- ---- Registrations
 

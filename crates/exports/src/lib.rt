@@ -7,6 +7,7 @@ use numbers::CompleteReply;
 use numbers::NameReply;
 use numbers::SharedReply;
 use sharing::Sharing;
+use source::LidSymbol;
 use table::Registered;
 use table::Registration;
 use table::Table;
@@ -16,7 +17,7 @@ ghost use Rattle.source.specs.Lent.{old, new};
 ghost use Rattle.source.specs.Calls.{name, include, opens, alias, module-path};
 ghost use Rattle.memory.specs.Sound.{Says};
 ghost use Rattle.table.specs.Header.{IsSound};
-ghost use Rattle.exports.specs.Replies.{table-of, ask-of, refusal-of, reply-of, shared-of, RegisterReplies, FindReplies, ListReplies, SharedReplies};
+ghost use Rattle.exports.specs.Replies.{table-of, ask-of, item-of, refusal-of, reply-of, shared-of, RegisterReplies, FindReplies, ListReplies, SharedReplies};
 
 // A registration's reply: 0 or the number of the refusal, and the table.
 #[repr(C)]
@@ -28,23 +29,27 @@ pub struct Reply {
     pub text: u32,
 }
 
-// What is asked: 0 for names, else modules with a filter: 1 All, 2 Loaded, 3 ModulesOnly, any other NamespacesOnly.
+// What is asked: 0 to 3 names by the number of a filter, 4 to 7 modules by that and four, any other NamespacesOnly.
 fn ask_of(n: u32) -> Ask
     ensures { λ r. ⌜ r ≡ ask-of n ⌝ }
 {
-    if n == 0 {
-        return Ask::Names;
+    if n < 4 {
+        return numbers::names_asked(n);
     }
-    if n == 1 {
-        return Ask::Modules(Filter::All);
-    }
-    if n == 2 {
-        return Ask::Modules(Filter::Loaded);
-    }
-    if n == 3 {
-        return Ask::Modules(Filter::ModulesOnly);
+    if n < 8 {
+        return numbers::modules_asked(n - 4);
     }
     Ask::Modules(Filter::NamespacesOnly)
+}
+
+// The item of two numbers: any number is read as a kind.
+fn item_of(kind: u32, number: u32) -> LidSymbol
+    ensures { λ r. ⌜ r ≡ item-of kind number ⌝ }
+{
+    LidSymbol {
+        kind: items::kind_of(kind),
+        number: number,
+    }
 }
 
 fn refusal_of(a: Registered) -> u32
@@ -116,13 +121,14 @@ pub extern "C" fn name_table_insert(
     used: u32,
     host: &[u8],
     id: &[u8],
-    item: u32,
+    kind: u32,
+    number: u32,
 ) -> Reply
     ensures { λ r. ⌜ RegisterReplies (old words) (old text) (new words) (new text) (table-of names modules records used)
-        (name (old host) (old id) item) r ⌝ }
+        (name (old host) (old id) (item-of kind number)) r ⌝ }
 {
     let t = table_of(names, modules, records, used);
-    reply_of(t.insert(words, text, host, id, item))
+    reply_of(t.insert(words, text, host, id, item_of(kind, number)))
 }
 
 #[no_mangle]
@@ -287,14 +293,15 @@ pub extern "C" fn name_table_insert_sound(
     used: u32,
     host: &[u8],
     id: &[u8],
-    item: u32,
+    kind: u32,
+    number: u32,
 ) -> Reply
     requires { ⌜ IsSound (now words) (now text) (table-of names modules records used) ⌝ }
     ensures { λ r. ⌜ RegisterReplies (old words) (old text) (new words) (new text) (table-of names modules records used)
-        (name (old host) (old id) item) r ⌝ }
+        (name (old host) (old id) (item-of kind number)) r ⌝ }
 {
     let t = table_of(names, modules, records, used);
-    reply_of(t.insert_sound(words, text, host, id, item))
+    reply_of(t.insert_sound(words, text, host, id, item_of(kind, number)))
 }
 
 #[no_mangle]

@@ -53,13 +53,13 @@ module _ (ws r : List ℕ) (a b : ℕ) (twelve : length r ≡ 12) where
   sided-depth = getD-set-same (set (set r 3 a) 4 b) 11 _ 0 (omega (arith, length-set (set r 3 a) 4 b, length-set r 3 a))
 
   sided-value : (w : Which) (txt : List ℕ) (f : ℕ → Reading w) (v : Level) → value w txt s f v ≡ value w txt r f v
-  sided-value names txt f bind = rw (sided-word 5 refl)
+  sided-value names txt f bind = rw (sided-word 5 refl, sided-word 6 refl)
   sided-value names txt f ns = rw (sided-word 5 refl)
   sided-value modules txt f bind = rw (sided-word 5 refl, sided-word 6 refl, sided-word 7 refl, sided-word 8 refl, sided-word 9 refl, sided-word 10 refl)
   sided-value modules txt f ns = rw (sided-word 5 refl)
 
   sided-item : (w : Which) (txt : List ℕ) (used : ℕ) → ItemOk txt used w r → ItemOk txt used w s
-  sided-item names txt used o = tt
+  sided-item names txt used o = rw (sided-word 6 refl) o
   sided-item modules txt used o = record {
     sort = rw (sided-word 5 refl) (o .sort);
     name = rw (sided-word 6 refl, sided-word 7 refl) (o .name);

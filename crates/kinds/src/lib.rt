@@ -1,12 +1,13 @@
 // The kinds of registration, and what each is made of.
+use source::LidSymbol;
 ghost use mathlib.Core.Path.{_≡_};
 ghost use Prim.Native.Nat.{_≤_};
 ghost use Rattle.kinds.specs.Shapes.{shape-of, key-size};
 
 // A registration apart from its texts.
 pub enum Kind {
-    // The source's insert: a name with its number.
-    Name(u32),
+    // The source's insert: a name with its item.
+    Name(LidSymbol),
     // register_include, register_open_module: the included bindings, under their label.
     Include,
     // register_open_namespace: the included namespaces, under their label.

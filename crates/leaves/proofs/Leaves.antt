@@ -10,6 +10,9 @@ use Rattle.source.specs.Tries.{names-insert}
 use Rattle.source.specs.Terms.{weight, heaviest, heaviest-names, depth, depth-names}
 use Rattle.source.specs.Counted.{Counted, one, _>>=_, names-insertᶜ}
 use Rattle.source.proofs.Counted.{names-insert-value}
+use Rattle.source.specs.Items.{kind-number}
+use Rattle.source.proofs.Items.{number-is-kind, number-in}
+use Rattle.source.specs.declared.LidSymbol.{LidSymbol}
 use Rattle.memory.specs.Layout.{span, names, list, trieˢ, what}
 use Rattle.memory.specs.Stored.{weight-in, depth-in}
 use Rattle.memory.specs.Read.{ReadTrie}
@@ -111,39 +114,39 @@ module _ {ws txt : List ℕ} {n used x : ℕ} {text key : Span} {inc : ℕ} {p p
     open-built f g = rw (open-lists .b-reads) at (namespaces-built open-builds (open-lists .b-link) refl f g)
 
 -- ---- a name
-module _ {ws txt : List ℕ} {n used x number : ℕ} {text key : Span} {inc : ℕ} {p : M.Trie} (l : Leaf ws txt n used x (change-of (Name number) text key inc)) (q : ReadTrie ws x p) where
+module _ {ws txt : List ℕ} {n used x : ℕ} {c : LidSymbol} {text key : Span} {inc : ℕ} {p : M.Trie} (l : Leaf ws txt n used x (change-of (Name c) text key inc)) (q : ReadTrie ws x p) where
   name-lists : Lists ws txt n names x p
   name-lists = lists-in (l .change .sound) (l .link) q
 
-  module _ {count : ℕ} (z : LeafBuilds ws txt x (change-of (Name number) text key inc) count) where
+  module _ {count : ℕ} (z : LeafBuilds ws txt x (change-of (Name c) text key inc) count) where
     abbrev name-row : List ℕ
-    name-row = 1 ∷ text .start ∷ text .len ∷ 0 ∷ 0 ∷ number ∷ 0 ∷ 0 ∷ 0 ∷ 0 ∷ 0 ∷ 0 ∷ []
+    name-row = 1 ∷ text .start ∷ text .len ∷ 0 ∷ 0 ∷ c .number ∷ kind-number (c .kind) ∷ 0 ∷ 0 ∷ 0 ∷ 0 ∷ 0 ∷ []
 
-    name-light : heaviest-names (names-insert (what names ws txt (p .bindings) (list bind)) (span txt (text .start) (text .len)) (item number)) ≤ 96
+    name-light : heaviest-names (names-insert (what names ws txt (p .bindings) (list bind)) (span txt (text .start) (text .len)) (item c)) ≤ 96
     unfolding heaviest leaf-by _>>=_ one
     name-light = rw (name-lists .b-reads, ← names-insert-value) (omega (arith, l .fits .light))
 
     name-room : Room ws n (count + 1 + 1)
     unfolding leaf-by _>>=_ one
-    name-room = rw (insert-count (bindings (what names ws txt x trieˢ)) (span txt (text .start) (text .len)) (item number) z) at (l .fits .room)
+    name-room = rw (insert-count (bindings (what names ws txt x trieˢ)) (span txt (text .start) (text .len)) (item c) z) at (l .fits .room)
 
     pub name-insertion : NamesInsertion ws txt names bind n used (p .bindings) count name-row
     name-insertion =
         insertion-after (made-none (list bind) (l .change .sound) (name-lists .b-link)) (record { records = n; used = used; sound = l .change .sound; link = name-lists .b-link })
         (omega (arith, name-lists .b-link .earlier)) name-row (rw (name-lists .b-reads) z)
-        (item number) (insert-light (what names ws txt (p .bindings) (list bind)) (span txt (text .start) (text .len)) (item number) name-light)
+        (item c) (insert-light (what names ws txt (p .bindings) (list bind)) (span txt (text .start) (text .len)) (item c) name-light)
         (less-room name-room (omega arith))
-        (record { known = refl; key = l .change .text; holds = tt })
+        (record { known = refl; key = l .change .text; holds = number-is-kind (c .kind) })
 
     module _ {ws₁ : List ℕ} {b : ℕ} (e : b ≡ n + count + 1) (m : NamesInserts ws ws₁ txt n (p .bindings) count name-row b) where
-      name-builds : Builds ws ws₁ txt n used names (list bind) (names-insertᶜ (bindings (what names ws txt x trieˢ)) (span txt (text .start) (text .len)) (item number)) b b
-      name-builds = rw (name-lists .b-reads) at (builds-insert name-insertion m e)
+      name-builds : Builds ws ws₁ txt n used names (list bind) (names-insertᶜ (bindings (what names ws txt x trieˢ)) (span txt (text .start) (text .len)) (item c)) b b
+      name-builds = rw (name-lists .b-reads, number-in (c .kind)) at (builds-insert name-insertion m e)
 
       pub name-trie-ready : Room ws₁ b 1 × ((p .namespaces ≤ b) × (depth-in ws₁ (p .namespaces) ≤ 16))
       unfolding leaf-by _>>=_ one depth
       name-trie-ready = bindings-ready name-builds (name-lists .n-link) (l .fits .room) (rw (name-lists .n-reads) (l .fits .shallow))
 
-      pub name-built : {ws₂ : List ℕ} {r : ℕ} → r ≡ b + 1 → MadeTrie ws₁ ws₂ b 5 b (p .namespaces) r → Builds ws ws₂ txt n used names trieˢ (leaf-of ws txt (change-of (Name number) text key inc) (what names ws txt x trieˢ)) r r
+      pub name-built : {ws₂ : List ℕ} {r : ℕ} → r ≡ b + 1 → MadeTrie ws₁ ws₂ b 5 b (p .namespaces) r → Builds ws ws₂ txt n used names trieˢ (leaf-of ws txt (change-of (Name c) text key inc) (what names ws txt x trieˢ)) r r
       unfolding leaf-by
       name-built f g = rw (name-lists .n-reads) at (bindings-built name-builds (name-lists .n-link) refl f g)
 
@@ -156,7 +159,7 @@ module _ {ws txt : List ℕ} {n used x : ℕ} {text key : Span} {inc : ℕ} {p p
   aliased-lists = lists-in (l .change .sound) (l .change .inc) q′
 
   -- The fresh trie.
-  abbrev fresh : Counted (Trie ℕ)
+  abbrev fresh : Counted (Trie LidSymbol)
   fresh = one (ImportedNames (span txt (text .start) (text .len - 1)) (bindings (what names ws txt inc trieˢ)) []ᴺ) >>= λ b. one (trie b []ᴺ)
 
   module _ {count : ℕ} (z : LeafBuilds ws txt x (change-of Alias text key inc) count) where

@@ -1,6 +1,7 @@
 // mut_leaf of each kind of registration: what is put into the trie at the end of a query, building records after the used ones.
 use kinds::Kind;
 use memory::Span;
+use source::LidSymbol;
 ghost use mathlib.Core.Path.{_≡_};
 ghost use Prim.Native.Nat.{_-_};
 ghost use Rattle.source.specs.Lent.{old, new};
@@ -49,15 +50,15 @@ fn insert_leaf(
     records: u32,
     trie: u32,
     change: Change,
-    number: u32,
+    item: LidSymbol,
     count: u32,
 ) -> Built
-    requires { ⌜ Some (λ used. Leaf (now words) (now text) records used trie (with-kind (Name number) change)) ⌝ }
-    requires { ⌜ LeafBuilds (now words) (now text) trie (with-kind (Name number) change) count ⌝ }
-    ensures { λ r. ⌜ LeafBuilt (old words) (new words) (old text) records trie (with-kind (Name number) change) (r .link) (r .records) ⌝ }
+    requires { ⌜ Some (λ used. Leaf (now words) (now text) records used trie (with-kind (Name item) change)) ⌝ }
+    requires { ⌜ LeafBuilds (now words) (now text) trie (with-kind (Name item) change) count ⌝ }
+    ensures { λ r. ⌜ LeafBuilt (old words) (new words) (old text) records trie (with-kind (Name item) change) (r .link) (r .records) ⌝ }
 {
     let t = access::trie_of(words, trie);
-    let row = access::make::binding_row(change.text, number);
+    let row = access::make::binding_row(change.text, item);
     let b = names::names_insert(words, text, records, t.bindings, count, row);
     let link = writers::put_trie(words, b, 5, b, t.namespaces);
     Built {
@@ -140,7 +141,7 @@ pub fn mut_leaf(
 {
     let kind = change.kind;
     match kind {
-        Kind::Name(number) => insert_leaf(words, text, records, trie, change, number, count),
+        Kind::Name(item) => insert_leaf(words, text, records, trie, change, item, count),
         Kind::Include => include_leaf(words, text, records, trie, change),
         Kind::Open => open_leaf(words, text, records, trie, change),
         Kind::Alias => alias_leaf(words, text, records, trie, change, count),

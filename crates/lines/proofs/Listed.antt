@@ -1,9 +1,9 @@
 -- The line of a found element of bindings: what the branch, its label and its path say of it.
 use Prim.Native.Nat.{ℕ}
-use mathlib.Core.Path.{_≡_, refl, sym, ap, _∙_}
-use mathlib.Core.Bool.{Bool, true, false, true≢false}
+use mathlib.Core.Path.{_≡_, sym, ap, _∙_}
+use mathlib.Core.Bool.{Bool, true, false, cond}
 use mathlib.Core.List.{List, [], _∷_, reverse}
-use mathlib.Core.Option.{Option, none, some}
+use mathlib.Core.Option.{Option}
 use native.Mathlib.Omega.{arith}
 use lib.ListN.{length}
 use borrow.Author.Tests.{ne-eqb}
@@ -12,21 +12,20 @@ use Rattle.source.specs.Types.{Value, bind, the-item}
 use Rattle.source.specs.Trees.{PathElem}
 use Rattle.source.specs.Tries.{dflt}
 use Rattle.source.specs.Listing.{PathOf}
-use Rattle.source.specs.Table.{ModSymbol, string-of-path, first-import-of-path, completion-result-of-lid, completion-result-of-ns-or-mod, mod-annotation}
-use Rattle.source.specs.Calls as C
-use Rattle.source.specs.Calls.{keeps, filter-of}
+use Rattle.source.specs.Table.{Line, string-of-path, first-import-of-path, completion-result-of-lid, completion-result-of-ns-or-mod, mod-annotation}
+use Rattle.source.specs.Calls.{keeps-kind, keeps}
 use Rattle.source.proofs.Paths.{candidate-is, first-import-one, first-import-more}
 use Rattle.source.specs.Forward.{line, kept-line}
-use Rattle.memory.specs.Layout.{record-at, pick, Which, names, modules, Item, item-of}
+use Rattle.memory.specs.Layout.{record-at, Which, names, modules, Item, item-of}
 use Rattle.tree.specs.Tree.{held}
 use Rattle.tree.specs.Links.{row-at}
 use Rattle.names.specs.Entries.{label-at, shown, outer}
-use Rattle.asks.specs.Ask.{filter-in, asked}
+use Rattle.asks.specs.Ask.{filter-in, asked, passes, result-of}
 use Rattle.output.specs.Path.{Path, BranchAt}
 use Rattle.lines.specs.OnPath.{OnPath}
 use Rattle.lines.specs.Lines.{Listed}
 use Rattle.output.specs.Parts.{candidate-of}
-use Rattle.annotations.specs.Annotations.{outermost, symbol-at, kept}
+use Rattle.annotations.specs.Annotations.{outermost}
 use Rattle.lines.specs.Parts.{PutLine}
 use Rattle.asks.specs.declared.Ask.{Ask}
 use Rattle.annotations.specs.declared.Labelled.{Labelled}
@@ -57,43 +56,38 @@ element {ws} {txt} {p} {path} w branch label x q o e = record {
     go [] n i = rw n (first-import-one (x .0) ∙ ap (λ y. y .0) e)
     go (el ∷ path) n i = rw (ne-eqb (p .n) 0 (λ z. omega arith)) (first-import-more (x .0) el path ∙ sym i)
 
--- The line of a symbol m that the filter keeps.
-kept-is : (f : C.Filter) (y : PathOf × ModSymbol) (m : ModSymbol) → y .1 ≡ m → kept-line (filter-of f) y ≡ pick (keeps f m) (completion-result-of-ns-or-mod y ∷ []) []
-unfolding kept-line filter-of
-kept-is f y m e = go (keeps f (y .1)) ∙ rw e
-  where
-    go : (b : Bool) → elim (elim b as (λ _. Option (PathOf × ModSymbol)) [ true ↦ some y | false ↦ none ]) [ none ↦ [] | some z ↦ completion-result-of-ns-or-mod z ∷ [] ]
-        ≡ pick b (completion-result-of-ns-or-mod y ∷ []) []
-    go true = refl
-    go false = refl
+-- The line of an item a, where it passes.
+kept-is : {A : Type 0} (result : PathOf × A → Line A) (keep : A → Bool) (y : PathOf × A) (a : A) → y .1 ≡ a → kept-line result keep y ≡ cond (keep a) (result y ∷ []) []
+unfolding kept-line
+kept-is result keep y a e = ap (λ a. cond (keep a) (result y ∷ []) []) e
 
--- What line answers: nothing for a symbol that is not kept, else its line.
+-- What line answers: nothing for an item that does not pass, else its line.
 module _ {ws txt : List ℕ} {f : Labelled} {run flat out : List ℕ} where
-  pub listed-none : (ask : Ask) → kept ask (symbol-at ws txt (f .link)) ≡ false → Listed ws txt ask f run run flat flat out out
-  listed-none Names h = absurd (true≢false h)
-  listed-none (Modules g) h = record {
+  pub listed-none : (ask : Ask) → passes ask (item-of (asked ask) txt (record-at ws (f .link))) ≡ false → Listed ws txt ask f run run flat flat out out
+  listed-none ask h = record {
     same = same-run run;
     goes = λ path x q o e m.
-        let i = element modules (f .link) (f .label) x q o e in
-        rw (kept-is (filter-in g) (line path x) _ (i .item), h) (goes-none (tally-in run) flat out);
+        let i = element (asked ask) (f .link) (f .label) x q o e in
+        rw (kept-is (result-of ask) (passes ask) (line path x) _ (i .item), h) (goes-none (tally-in run) flat out);
   }
 
-  pub listed-one : {run′ flat′ out′ : List ℕ} (ask : Ask) → BranchAt ws txt (asked ask) bind (f .link) → SameRun run run′ → kept ask (symbol-at ws txt (f .link)) ≡ true
+  pub listed-one : {run′ flat′ out′ : List ℕ} (ask : Ask) → BranchAt ws txt (asked ask) bind (f .link) → SameRun run run′ → passes ask (item-of (asked ask) txt (record-at ws (f .link))) ≡ true
       → PutLine ws txt (job-in (f .link) run) (noted ask ws txt (record { link = f .link; label = outermost (path-in run) (f .label) })) (tally-in run′) flat flat′ out out′
       → Listed ws txt ask f run run′ flat flat′ out out′
   unfolding completion-result-of-lid completion-result-of-ns-or-mod
-  listed-one Names b s h put = record {
+  listed-one (Names g) b s h put = record {
     same = s;
     goes = λ path x q o e m.
         let i = element names (f .link) (f .label) x q o e in
-        put names (completion-result-of-lid (line path x))
-        (record { branch-at = b; length-is = m; item-is = i .item; candidate-is = i .candidate; annotation-is = ap (dflt []) (i .import) });
+        rw (kept-is completion-result-of-lid (keeps-kind g) (line path x) _ (i .item), h)
+        (put names (completion-result-of-lid (line path x))
+        (record { branch-at = b; length-is = m; item-is = i .item; candidate-is = i .candidate; annotation-is = ap (dflt []) (i .import) }));
   }
   listed-one (Modules g) b s h put = record {
     same = s;
     goes = λ path x q o e m.
         let i = element modules (f .link) (f .label) x q o e in
-        rw (kept-is (filter-in g) (line path x) _ (i .item), h)
+        rw (kept-is completion-result-of-ns-or-mod (keeps (filter-in g)) (line path x) _ (i .item), h)
         (put modules (completion-result-of-ns-or-mod (line path x))
         (record { branch-at = b; length-is = m; item-is = i .item; candidate-is = i .candidate; annotation-is = ap mod-annotation (i .item) ∙ sym (noted-symbol _) }));
   }

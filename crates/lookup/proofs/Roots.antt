@@ -3,6 +3,7 @@ use Prim.Native.Nat.{ℕ}
 use mathlib.Core.List.{List}
 use native.Mathlib.Omega.{arith}
 use Rattle.source.specs.Types.{Trie}
+use Rattle.source.specs.declared.LidSymbol.{LidSymbol}
 use Rattle.memory.specs.Layout.{names, modules, trieˢ}
 use Rattle.lookup.specs.Tries.{AnyTrie}
 use Rattle.memory.specs.declared.Header.{Header}
@@ -23,5 +24,5 @@ module _ {ws txt : List ℕ} {h : Header} (o : Sound ws txt h) where
   any-modules = record { which = modules; trie = modules-trie }
 
   -- The trie that a query includes.
-  pub included-trie : {inc : ℕ} {x : Trie ℕ} → Reads ws txt names (h .names) inc x → At ws txt names trieˢ inc
+  pub included-trie : {inc : ℕ} {x : Trie LidSymbol} → Reads ws txt names (h .names) inc x → At ws txt names trieˢ inc
   included-trie r = at-of names-trie trieˢ (omega arith) (r .link)

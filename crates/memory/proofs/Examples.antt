@@ -8,21 +8,23 @@ use Rattle.source.specs.Types.{bindings, namespaces, trie-empty}
 use Rattle.source.specs.Trees.{btree-insert-replace, btree-find-exact}
 use Rattle.source.specs.Tries.{or-else, dflt, names-find-exact, names-insert, scope-of, trie-mutate, trie-mutate-leaf, trie-insert}
 use Rattle.source.specs.Table.{empty, insert, ns-inserts, name-of-revq, ins-ns, ins-mod, ins, register-module-path}
+use Rattle.source.specs.Items.{kind-for, read-kind}
+use Rattle.source.specs.declared.ItemKind.the-variants.{Register}
 use Rattle.memory.specs.Layout.{record-at, span, names, modules, trieˢ, among, what}
 
 -- tick
 tick : Str
 tick = 116 ∷ 105 ∷ 99 ∷ 107 ∷ []
 
--- name [] tick 5
+-- name [] tick r5
 tick-words : List ℕ
 tick-words =
-    (1 ∷ 0 ∷ 4 ∷ 0 ∷ 0 ∷ 5 ∷ 0 ∷ 0 ∷ 0 ∷ 0 ∷ 0 ∷ 0 ∷ [])
+    (1 ∷ 0 ∷ 4 ∷ 0 ∷ 0 ∷ 5 ∷ 3 ∷ 0 ∷ 0 ∷ 0 ∷ 0 ∷ 0 ∷ [])
     ++ (3 ∷ 0 ∷ 0 ∷ 1 ∷ 0 ∷ 0 ∷ 0 ∷ 0 ∷ 0 ∷ 0 ∷ 1 ∷ 0 ∷ [])
     ++ (5 ∷ 0 ∷ 0 ∷ 2 ∷ 0 ∷ 0 ∷ 0 ∷ 0 ∷ 0 ∷ 0 ∷ 0 ∷ 0 ∷ [])
 
-case-1 : what names tick-words tick 3 trieˢ ≡ insert empty [] tick 5 .tbl-lids
-unfolding tick tick-words what among record-at span then string-compare bindings namespaces trie-empty btree-insert-replace btree-find-exact or-else dflt names-find-exact names-insert trie-mutate trie-mutate-leaf trie-insert empty insert
+case-1 : what names tick-words tick 3 trieˢ ≡ insert empty [] tick (record { kind = Register; number = 5 }) .tbl-lids
+unfolding kind-for read-kind tick tick-words what among record-at span then string-compare bindings namespaces trie-empty btree-insert-replace btree-find-exact or-else dflt names-find-exact names-insert trie-mutate trie-mutate-leaf trie-insert empty insert
 case-1 = refl
 
 -- IO.Bus.

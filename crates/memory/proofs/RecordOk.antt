@@ -102,7 +102,7 @@ module _ {ws ws′ txt txt′ : List ℕ} {used used′ l l′ : ℕ} (link : (x
   }
 
   item-map : (w : Which) (r : List ℕ) → ItemOk txt used w r → ItemOk txt′ used′ w r
-  item-map names r o = tt
+  item-map names r o = o
   item-map modules r o = record { sort = o .sort; name = text _ _ _ (o .name); path = λ e. text _ _ _ (o .path e); loaded = o .loaded }
 
   pub as-map : (w : Which) (s : Sort) (r : List ℕ) (t : Of (Item w) s) → RecordAs ws txt used l w s r t → RecordAs ws′ txt′ used′ l′ w s r t

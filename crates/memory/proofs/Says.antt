@@ -1,6 +1,6 @@
 -- What follows from a test's answer.
 use Prim.Native.Nat.{ℕ}
-use mathlib.Core.Path.{_≡_}
+use mathlib.Core.Path.{_≡_, sym, _∙_}
 use mathlib.Core.Bool.{Bool, true, false, not, true≢false, false≢true}
 use native.Mathlib.Omega.{arith}
 use Rattle.memory.specs.Sound.{Says}
@@ -30,3 +30,8 @@ refuses false h e p = h p
 -- What follows from either answer of a test follows without the test, where it may be shown by contradiction.
 pub either-way : {P Q : Type 0} → (((Q → ⊥) → ⊥) → Q) → ((b : Bool) → Says b P → Q) → Q
 either-way stable h = stable (λ n. n (h false (λ p. n (h true p))))
+
+-- A test's answer says that the test holds.
+pub says-true : (b t : Bool) → b ≡ t → Says b (t ≡ true)
+says-true true t e = sym e
+says-true false t e = λ h. true≢false (sym h ∙ sym e)

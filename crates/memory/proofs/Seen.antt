@@ -6,18 +6,17 @@ use mathlib.Core.List.{List}
 use native.Mathlib.Omega.{arith}
 use lib.ListN.{length}
 use borrow.Author.Tests.{ne-eqb, eqb-true, eqb-false}
-use Rattle.source.specs.Types.{Level, bind, ns, Value, item, trie, StrBranch, Names, ImportedNames}
+use Rattle.source.specs.Types.{Level, bind, ns, trie, Names, ImportedNames}
 use Rattle.source.specs.Terms.{weight, depth}
-use Rattle.source.specs.Rules.{IsKey, IsLabel, Ordered}
-use Rattle.memory.specs.Layout.{record-at, word, pick, Which, names, modules, Item, item-of, Sort, tree, list, trieˢ, kind, Reading, value, row, what}
+use Rattle.source.specs.Rules.{IsLabel}
+use Rattle.memory.specs.Layout.{record-at, word, pick, Which, modules, item-of, Sort, tree, list, trieˢ, kind, row, what}
 use Rattle.memory.specs.Stored.{stored}
 use Rattle.memory.specs.Sound.{LinkOk, TextOk, RecordOk, Used}
-use Rattle.memory.specs.Read.{text-of, symbol-in, symbol-of, ReadBranch, ReadCollection, ReadTrie}
-use Rattle.memory.specs.declared.Branch.{Branch}
+use Rattle.memory.specs.Read.{text-of, symbol-in, symbol-of, ReadCollection, ReadTrie}
 use Rattle.memory.specs.declared.Collection.{Collection}
 use Rattle.memory.specs.declared.Trie.{Trie}
 use Rattle.memory.proofs.What.{what-none}
-use Rattle.memory.proofs.RecordOk.{zero-one, zero-some, record-as, record-what, branch-at, ordered-at, collection-at, weight-at}
+use Rattle.memory.proofs.RecordOk.{zero-one, zero-some, record-as, record-what, collection-at, weight-at}
 use Rattle.memory.proofs.StoredSizes.{stored-none, stored-some, stored-trie}
 
 pub symbol-item : (txt r : List ℕ) → symbol-of txt (symbol-in r) ≡ item-of modules txt r
@@ -26,26 +25,6 @@ symbol-item txt r = zero-some (word r 5) (λ e. rw e) (λ p. rw (ne-eqb (word r 
 -- A link of an earlier record is a link of a later one.
 pub link-later : {ws : List ℕ} {l l′ x k : ℕ} → l ≤ l′ → LinkOk ws l x k → LinkOk ws l′ x k
 link-later h o = record { earlier = omega (arith, o .earlier); of-kind = o .of-kind }
-
--- What the key of a branch stands for.
-abbrev pub value-of : (w : Which) → List ℕ → Branch → (ℕ → Reading w) → (v : Level) → Value (Item w) v
-value-of names txt b f bind = item (b .value)
-value-of names txt b f ns = f (b .value) trieˢ
-value-of modules txt b f bind = item (symbol-of txt (b .symbol))
-value-of modules txt b f ns = f (b .value) trieˢ
-
-value-read : (w : Which) (txt : List ℕ) (f : ℕ → Reading w) (v : Level) {r : List ℕ} {b : Branch} → ReadBranch r b → value w txt r f v ≡ value-of w txt b f v
-value-read names txt f bind q = rw (← q .value)
-value-read names txt f ns q = rw (← q .value)
-value-read modules txt f bind {r} q = rw (q .symbol, symbol-item txt r)
-value-read modules txt f ns q = rw (← q .value)
-
-pub record SeenBranch (ws txt : List ℕ) (used x : ℕ) (w : Which) (v : Level) (b : Branch) : Type 0 where
-  pub reads : what w ws txt x (tree v) ≡ StrBranch (text-of txt (b .key)) (value-of w txt b (what w ws txt) v) (what w ws txt (b .left) (tree v)) (what w ws txt (b .right) (tree v))
-  pub ordered : Ordered (what w ws txt x (tree v))
-  pub key : TextOk IsKey txt used (b .key .start) (b .key .len)
-  pub left : LinkOk ws x (b .left) (kind w (tree v))
-  pub right : LinkOk ws x (b .right) (kind w (tree v))
 
 pub record SeenCollection (ws txt : List ℕ) (used x : ℕ) (w : Which) (v : Level) (c : Collection) : Type 0 where
   pub reads : what w ws txt x (list v)
@@ -76,22 +55,6 @@ module _ {ws txt : List ℕ} {n used : ℕ} (o : Used ws txt n used) where
   link-what w s i p = record-what (link-ok i p) w s (i .of-kind (λ e. omega arith)) p
 
   module _ (w : Which) {x : ℕ} (p : 0 < x) where
-    pub branch-seen : {v : Level} {b : Branch} → LinkOk ws (n + 1) x (kind w (tree v)) → ReadBranch (record-at ws x) b → SeenBranch ws txt used x w v b
-    branch-seen {v} i q =
-        let k = i .of-kind (λ e. omega arith) in
-        let y = branch-at (link-ok i p) w v k in
-        record {
-          reads = link-what w (tree v) i p ∙ rw (value-read w txt (what w ws txt) v q, q .key-start, q .key-len, q .left, q .right);
-          ordered = ordered-at (link-ok i p) w v k;
-          key = rw (q .key-start, q .key-len) (y .key);
-          left = rw (q .left) (y .left);
-          right = rw (q .right) (y .right);
-        }
-
-    -- The trie that a branch of namespaces holds.
-    pub held-seen : {b : Branch} → LinkOk ws (n + 1) x (kind w (tree ns)) → ReadBranch (record-at ws x) b → LinkOk ws x (b .value) (kind w trieˢ)
-    held-seen i q = rw (q .value) (record-as (link-ok i p) w (tree ns) (i .of-kind (λ e. omega arith)) .2)
-
     pub collection-seen : {v : Level} {c : Collection} → LinkOk ws (n + 1) x (kind w (list v)) → ReadCollection (record-at ws x) c → SeenCollection ws txt used x w v c
     collection-seen {v} i q =
         let k = i .of-kind (λ e. omega arith) in

@@ -4,8 +4,9 @@
 --   0      kind 1, of modules 6         kind 2, 7           kind 3, 8 (bindings), 4, 9      kind 5, 10
 --   1, 2   key: start, length           key                 label, of an imported list
 --   3, 4   left, right                  left, right         tree or imported list, rest     bindings, namespaces
---   5      item; of modules 0 for a     trie                0 for a tree, 1 for an
+--   5      number; of modules 0 for a   trie                0 for a tree, 1 for an
 --          Module, 1 for a Namespace                        imported list
+--   6      kind of the item: 1 to 3
 --   6, 7   of modules: full name
 --   8, 9   of modules: a Module's path
 --   10     of modules: 1 if loaded                          weight
@@ -20,6 +21,8 @@ use Rattle.source.specs.Text.{Str}
 use Rattle.source.specs.Types.{Level, Value, Tree, NameList, bind, ns, item, trie, StrEmpty, StrBranch, []ᴺ, Names, ImportedNames}
 use Rattle.source.specs.Table.{ModSymbol, Module, Namespace, Table}
 use Rattle.source.specs.Calls.{State}
+use Rattle.source.specs.Items.{read-kind}
+use Rattle.source.specs.declared.LidSymbol.{LidSymbol}
 use Rattle.memory.specs.declared.Header.{Header}
 
 -- The twelve words of the record that link l names.
@@ -42,7 +45,7 @@ text-start r = word r 1
 abbrev pub text-len : List ℕ → ℕ
 text-len r = word r 2
 
--- Of a branch: its sides; its trie, of namespaces; its number, of names.
+-- Of a branch: its sides; its trie, of namespaces; the number and the kind of its item, of names.
 abbrev pub left-link : List ℕ → ℕ
 left-link r = word r 3
 
@@ -54,6 +57,9 @@ trie-link r = word r 5
 
 abbrev pub number-word : List ℕ → ℕ
 number-word r = word r 5
+
+abbrev pub item-kind-word : List ℕ → ℕ
+item-kind-word r = word r 6
 
 -- Of a bindings branch of modules: 0 for a Module, 1 for a Namespace; full name; path; 1 if loaded.
 abbrev pub symbol-word : List ℕ → ℕ
@@ -122,12 +128,16 @@ pub data Which : Type 0 where
 
 -- The items of each table.
 abbrev pub Item : Which → Type 0
-Item names = ℕ
+Item names = LidSymbol
 Item modules = ModSymbol
+
+-- The item of a name, by the words of its branch.
+abbrev pub lid-in : List ℕ → LidSymbol
+lid-in r = record { kind = read-kind (item-kind-word r); number = number-word r }
 
 -- The item of a bindings branch.
 abbrev pub item-of : (w : Which) → List ℕ → List ℕ → Item w
-item-of names txt r = word r 5
+item-of names txt r = lid-in r
 item-of modules txt r =
     pick (eqb (word r 5) 0)
     (Module (span txt (word r 6) (word r 7)) (span txt (word r 8) (word r 9)) (eqb (word r 10) 1))

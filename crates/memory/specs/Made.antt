@@ -3,6 +3,8 @@ use Prim.Native.Nat.{ℕ, _+_}
 use mathlib.Core.Bool.{cond}
 use mathlib.Core.List.{List, [], _∷_}
 use lib.ListN.{set}
+use Rattle.source.specs.Items.{kind-number}
+use Rattle.source.specs.declared.LidSymbol.{LidSymbol}
 use Rattle.memory.specs.declared.Span.{Span}
 use Rattle.memory.specs.declared.ModSymbol.{ModSymbol}
 use Rattle.memory.specs.declared.ModSymbol.the-variants.{Module, Namespace}
@@ -10,8 +12,8 @@ use Rattle.memory.specs.declared.Collection.{Collection}
 use Rattle.memory.specs.declared.Trie.{Trie}
 
 -- A branch of names.
-abbrev pub binding-row : Span → ℕ → List ℕ
-binding-row key number = 1 ∷ key .start ∷ key .len ∷ 0 ∷ 0 ∷ number ∷ 0 ∷ 0 ∷ 0 ∷ 0 ∷ 0 ∷ 0 ∷ []
+abbrev pub binding-row : Span → LidSymbol → List ℕ
+binding-row key c = 1 ∷ key .start ∷ key .len ∷ 0 ∷ 0 ∷ c .number ∷ kind-number (c .kind) ∷ 0 ∷ 0 ∷ 0 ∷ 0 ∷ 0 ∷ []
 
 -- A branch of modules.
 abbrev pub symbol-row : Span → ModSymbol → List ℕ

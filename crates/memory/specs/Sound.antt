@@ -8,6 +8,7 @@ use Rattle.source.specs.Text.{Str}
 use Rattle.source.specs.Types.{Level, Trie, NameList, bind, ns}
 use Rattle.source.specs.Terms.{weight, depth, depth-tree, depth-names}
 use Rattle.source.specs.Limits.{heaviest-list, deepest-trie, most-used, record-words}
+use Rattle.source.specs.Items.{is-kind}
 use Rattle.source.specs.Rules.{IsKey, IsLabel, IsFullName, IsPath, Ordered}
 use Rattle.memory.specs.Layout.{record-at, word, span, Which, names, modules, Item, Sort, tree, list, trieˢ, Of, kind, what}
 use Rattle.memory.specs.declared.Header.{Header}
@@ -55,9 +56,9 @@ pub record SymbolOk (txt : List ℕ) (used : ℕ) (r : List ℕ) : Type 0 where
   pub path : word r 5 ≡ 0 → TextOk IsPath txt used (word r 8) (word r 9)
   pub loaded : word r 10 ≤ 1
 
--- The item of a bindings branch: of names, any number.
+-- The item of a bindings branch: of names, one of the three kinds and any number.
 abbrev pub ItemOk : List ℕ → ℕ → Which → List ℕ → Type 0
-ItemOk txt used names r = Unit {0}
+ItemOk txt used names r = is-kind (word r 6) ≡ true
 ItemOk txt used modules r = SymbolOk txt used r
 
 -- The weight of a list: as stored, and no more than a list may weigh.

@@ -14,6 +14,8 @@ pub const HELD: usize = 5;
 
 pub const NUMBER: usize = 5;
 
+pub const ITEM_KIND: usize = 6;
+
 pub const SYMBOL: usize = 5;
 
 pub const NAME_START: usize = 6;

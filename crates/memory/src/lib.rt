@@ -15,6 +15,7 @@ pub use layout::FIRST;
 pub use layout::HEAVIEST;
 pub use layout::HELD;
 pub use layout::IMPORTED;
+pub use layout::ITEM_KIND;
 pub use layout::KIND;
 pub use layout::LEFT;
 pub use layout::LIST_OF;

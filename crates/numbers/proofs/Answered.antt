@@ -6,6 +6,7 @@ use mathlib.Core.List.{List}
 use native.Mathlib.Omega.{arith}
 use Rattle.source.specs.Table.{ModSymbol}
 use Rattle.source.specs.Calls as C
+use Rattle.source.specs.declared.LidSymbol.{LidSymbol}
 use Rattle.source.specs.Agreement.{NotRefused}
 use Rattle.refusals.specs.Refusals.{number}
 use Rattle.roots.specs.Answers.{module-found}
@@ -19,7 +20,7 @@ use Rattle.numbers.specs.declared.ModuleReply.{ModuleReply}
 not-answered : {n a : ℕ} → (0 < n) × (n ≤ 10) → a ≡ n → Answered a → ⊥
 not-answered p e h = ⊎-elim (λ z. omega (arith, p .0)) (λ z. omega (arith, p .1)) h
 
-pub name-answered : (a : C.Found ℕ) {f : NameReply} → f ≡ name-reply a → Answered (f .answer) → ((n : ℕ) → a ≡ C.refused n → (0 < n) × (n ≤ 10)) → NotRefused a
+pub name-answered : (a : C.Found LidSymbol) {f : NameReply} → f ≡ name-reply a → Answered (f .answer) → ((n : ℕ) → a ≡ C.refused n → (0 < n) × (n ≤ 10)) → NotRefused a
 name-answered (C.found v) e h k = tt
 name-answered C.not-found e h k = tt
 name-answered (C.refused n) e h k = not-answered (k n refl) (ap (λ (x : NameReply). x .answer) e) h

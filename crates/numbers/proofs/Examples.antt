@@ -1,9 +1,11 @@
 -- What a filter's number asks, by example.
 use mathlib.Core.Path.{_≡_, refl}
 use mathlib.Core.Option.{none, some}
-use Rattle.asks.specs.declared.Ask.the-variants.{Modules}
+use Rattle.source.specs.declared.ItemKind.the-variants.{Register}
+use Rattle.source.specs.declared.KindFilter.the-variants.{Only}
+use Rattle.asks.specs.declared.Ask.the-variants.{Names, Modules}
 use Rattle.asks.specs.declared.Filter.the-variants.{NamespacesOnly}
-use Rattle.numbers.specs.Filters.{modules-for}
+use Rattle.numbers.specs.Filters.{names-for, modules-for}
 
 last-filter : modules-for 3 ≡ some (Modules NamespacesOnly)
 unfolding modules-for
@@ -12,3 +14,11 @@ last-filter = refl
 no-filter : modules-for 4 ≡ none
 unfolding modules-for
 no-filter = refl
+
+last-kind : names-for 3 ≡ some (Names (Only Register))
+unfolding names-for
+last-kind = refl
+
+no-kind : names-for 4 ≡ none
+unfolding names-for
+no-kind = refl

@@ -1,14 +1,18 @@
--- What a filter's number asks (`modules-for`).
-use Prim.Native.Nat.{ℕ, zero, suc, _<_}
-use mathlib.Core.Path.{_≡_, refl, sym}
+-- What a filter's number asks (`names-for`, `modules-for`).
+use Prim.Native.Nat.{ℕ, zero, suc, _<_, _≤_}
+use mathlib.Core.Path.{_≡_, refl, sym, _∙_}
 use mathlib.Core.Bool.{true, false, true≢false}
-use mathlib.Core.Option.{none, some}
+use mathlib.Core.Option.{Option, none, some}
 use native.Mathlib.Omega.{arith}
 use lib.Dec.{ltb}
-use borrow.Author.Tests.{le-ltb}
-use Rattle.asks.specs.declared.Ask.the-variants.{Modules}
+use borrow.Author.Tests.{le-ltb, ltb-true}
+use Rattle.source.specs.Tries.{dflt}
+use Rattle.source.specs.Items.{kind-for, read-kind}
+use Rattle.source.specs.declared.KindFilter.the-variants.{Only}
+use Rattle.asks.specs.declared.Ask.{Ask}
+use Rattle.asks.specs.declared.Ask.the-variants.{Names, Modules}
 use Rattle.asks.specs.declared.Filter.the-variants.{NamespacesOnly}
-use Rattle.numbers.specs.Filters.{modules-for, is-asked}
+use Rattle.numbers.specs.Filters.{names-for, modules-for, is-asked}
 
 pub filter-test : (n : ℕ) → ltb n 4 ≡ is-asked (modules-for n)
 unfolding modules-for
@@ -18,23 +22,36 @@ filter-test (suc (suc zero)) = refl
 filter-test (suc (suc (suc zero))) = refl
 filter-test (suc (suc (suc (suc n)))) = le-ltb (suc (suc (suc (suc n)))) 4 (omega arith)
 
--- A filter's number.
-pub filter-below : (n : ℕ) → is-asked (modules-for n) ≡ true → n < 4
-unfolding modules-for
-filter-below zero e = omega arith
-filter-below (suc zero) e = omega arith
-filter-below (suc (suc zero)) e = omega arith
-filter-below (suc (suc (suc zero))) e = omega arith
-filter-below (suc (suc (suc (suc n)))) e = absurd (true≢false (sym e))
+pub kind-test : (n : ℕ) → ltb n 4 ≡ is-asked (names-for n)
+unfolding names-for
+kind-test zero = refl
+kind-test (suc zero) = refl
+kind-test (suc (suc zero)) = refl
+kind-test (suc (suc (suc zero))) = refl
+kind-test (suc (suc (suc (suc n)))) = le-ltb (suc (suc (suc (suc n)))) 4 (omega arith)
 
--- A number that is no filter's.
-pub filter-none : (n : ℕ) → is-asked (modules-for n) ≡ false → modules-for n ≡ none
-unfolding modules-for
-filter-none zero e = absurd (true≢false e)
-filter-none (suc zero) e = absurd (true≢false e)
-filter-none (suc (suc zero)) e = absurd (true≢false e)
-filter-none (suc (suc (suc zero))) e = absurd (true≢false e)
-filter-none (suc (suc (suc (suc n)))) e = refl
+-- What asks nothing.
+pub asked-none : (o : Option Ask) → is-asked o ≡ false → o ≡ none
+asked-none (some a) e = absurd (true≢false e)
+asked-none none e = refl
+
+pub modules-none : (n : ℕ) → 4 ≤ n → modules-for n ≡ none
+modules-none n h = asked-none (modules-for n) (sym (filter-test n) ∙ le-ltb n 4 h)
+
+-- A filter's number.
+pub names-below : (n : ℕ) → is-asked (names-for n) ≡ true → n < 4
+names-below n e = ltb-true n 4 (kind-test n ∙ e)
+
+pub modules-below : (n : ℕ) → is-asked (modules-for n) ≡ true → n < 4
+modules-below n e = ltb-true n 4 (filter-test n ∙ e)
+
+pub names-some : (f : ℕ) → f < 4 → (f ≡ 0 → ⊥) → names-for f ≡ some (Names (Only (read-kind f)))
+unfolding names-for read-kind kind-for dflt
+names-some zero h a = absurd (a refl)
+names-some (suc zero) h a = refl
+names-some (suc (suc zero)) h a = refl
+names-some (suc (suc (suc zero))) h a = refl
+names-some (suc (suc (suc (suc n)))) h a = absurd (omega arith)
 
 pub modules-three : (f : ℕ) → f < 4 → (f ≡ 0 → ⊥) → (f ≡ 1 → ⊥) → (f ≡ 2 → ⊥) → modules-for f ≡ some (Modules NamespacesOnly)
 unfolding modules-for

@@ -2,11 +2,21 @@
 use Prim.Native.Nat.{ℕ, zero, suc}
 use mathlib.Core.Bool.{Bool, true, false}
 use mathlib.Core.Option.{Option, none, some}
+use Rattle.source.specs.declared.ItemKind.the-variants.{Timer, Port, Register}
+use Rattle.source.specs.declared.KindFilter.the-variants.{Every, Only}
 use Rattle.asks.specs.declared.Ask.{Ask}
-use Rattle.asks.specs.declared.Ask.the-variants.{Modules}
+use Rattle.asks.specs.declared.Ask.the-variants.{Names, Modules}
 use Rattle.asks.specs.declared.Filter.the-variants.{All, Loaded, ModulesOnly, NamespacesOnly}
 
--- What is asked of the modules, by the number of a filter. Another number asks nothing.
+-- What is asked of the names, by the number of a filter: 0, or that of a kind. Another number asks nothing.
+unfoldable pub names-for : ℕ → Option Ask
+names-for zero = some (Names Every)
+names-for (suc zero) = some (Names (Only Timer))
+names-for (suc (suc zero)) = some (Names (Only Port))
+names-for (suc (suc (suc zero))) = some (Names (Only Register))
+names-for (suc (suc (suc (suc n)))) = none
+
+-- What is asked of the modules.
 unfoldable pub modules-for : ℕ → Option Ask
 modules-for zero = some (Modules All)
 modules-for (suc zero) = some (Modules Loaded)

@@ -3,7 +3,9 @@ use Prim.Native.Nat.{ℕ}
 use mathlib.Core.Path.{_≡_}
 use mathlib.Core.Logic.{_⊎_}
 use mathlib.Core.Bool.{Bool, true, false}
+use Rattle.source.specs.Items.{kind-number}
 use Rattle.source.specs.Calls as C
+use Rattle.source.specs.declared.LidSymbol.{LidSymbol}
 use Rattle.refusals.specs.Refusals.{number}
 use Rattle.memory.specs.declared.ModSymbol.{ModSymbol}
 use Rattle.memory.specs.declared.ModSymbol.the-variants.{Module, Namespace}
@@ -26,11 +28,11 @@ no-answer = 4294967295
 abbrev pub Answered : ℕ → Type 0
 Answered a = (a ≡ 0) ⊎ (a ≡ no-answer)
 
--- The reply to a look-up of a name: 0 with the item, no-answer, else the number of the refusal.
-abbrev pub name-reply : C.Found ℕ → NameReply
-name-reply (C.found n) = record { answer = 0; item = n }
-name-reply C.not-found = record { answer = no-answer; item = 0 }
-name-reply (C.refused n) = record { answer = n; item = 0 }
+-- The reply to a look-up of a name: 0 with the kind and number of the item, no-answer, else the number of the refusal.
+abbrev pub name-reply : C.Found LidSymbol → NameReply
+name-reply (C.found c) = record { answer = 0; kind = kind-number (c .kind); number = c .number }
+name-reply C.not-found = record { answer = no-answer; kind = 0; number = 0 }
+name-reply (C.refused n) = record { answer = n; kind = 0; number = 0 }
 
 -- A yes or no as a number.
 abbrev pub flag : Bool → ℕ

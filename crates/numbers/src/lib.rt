@@ -5,6 +5,7 @@ use memory::ModSymbol;
 use roots::Completed;
 use roots::Found;
 use roots::FoundModule;
+use source::KindFilter;
 use table::Finding;
 use table::Listing;
 use table::ModuleFinding;
@@ -13,17 +14,19 @@ ghost use mathlib.Core.Path.{_≡_};
 ghost use mathlib.Core.Option.{some};
 ghost use Rattle.source.specs.Calls.{refused};
 ghost use Rattle.roots.specs.Answers.{name-found};
-ghost use Rattle.numbers.specs.Filters.{modules-for, is-asked};
+ghost use Rattle.numbers.specs.Filters.{names-for, modules-for, is-asked};
 ghost use Rattle.numbers.specs.Replies.{name-reply, flag, no-module, symbol-reply, module-reply, no-lines, lines-reply, shared-reply};
 
 // The answer of a look-up that finds nothing: no refusal has this number.
 pub const NONE: u32 = 4294967295;
 
-// The reply to a look-up of a name: 0 with its item, NONE, else the number of the refusal.
+// The reply to a look-up of a name: 0 with the kind and the number of its item, NONE, else the number of the refusal.
+// What does not apply is 0.
 #[repr(C)]
 pub struct NameReply {
     pub answer: u32,
-    pub item: u32,
+    pub kind: u32,
+    pub number: u32,
 }
 
 // The reply to a look-up of a module or namespace: 0 with its sort (0 a Module, 1 a Namespace), the spans of its full name and
@@ -62,7 +65,8 @@ pub fn no_name(answer: u32) -> NameReply
 {
     NameReply {
         answer: answer,
-        item: 0,
+        kind: 0,
+        number: 0,
     }
 }
 
@@ -87,7 +91,14 @@ pub fn name_reply(x: Finding) -> NameReply
 {
     let f = x.answer;
     match f {
-        Found::Item(n) => NameReply { answer: 0, item: n },
+        Found::Item(item) => {
+            let kind = item.kind;
+            NameReply {
+                answer: 0,
+                kind: items::number_of(kind),
+                number: item.number,
+            }
+        }
         Found::Nothing => no_name(NONE),
         Found::Refused(x) => no_name(refusals::number(x)),
     }
@@ -179,15 +190,26 @@ pub fn shared_reply(r: CompleteReply, shared: u32) -> SharedReply
     }
 }
 
-// Whether a number is a filter's.
+// Whether a number is a filter's: names and modules have four each.
 pub fn is_filter(n: u32) -> bool
-    ensures { λ r. ⌜ r ≡ is-asked (modules-for n) ⌝ }
+    ensures { λ r. ⌜ (r ≡ is-asked (names-for n)) × (r ≡ is-asked (modules-for n)) ⌝ }
 {
     n < 4
 }
 
-// What a filter's number asks.
-pub fn ask_of(filter: u32) -> Ask
+// What a filter's number asks of the names.
+pub fn names_asked(filter: u32) -> Ask
+    requires { ⌜ filter < 4 ⌝ }
+    ensures { λ r. ⌜ names-for filter ≡ some r ⌝ }
+{
+    if filter == 0 {
+        return Ask::Names(KindFilter::Every);
+    }
+    Ask::Names(KindFilter::Only(items::kind_of(filter)))
+}
+
+// What it asks of the modules.
+pub fn modules_asked(filter: u32) -> Ask
     requires { ⌜ filter < 4 ⌝ }
     ensures { λ r. ⌜ modules-for filter ≡ some r ⌝ }
 {

@@ -10,8 +10,8 @@ use borrow.Author.Tests.{eqb-true, not-false}
 use Rattle.numerals.specs.declared.Sort.{Sort}
 use Rattle.numerals.specs.declared.Sort.the-variants.{Query, Word, Line}
 use Rattle.numerals.specs.Bytes.{Str, _·_, bytes, byte-ok, LineEnd}
-use Rattle.numerals.specs.Numerals.{Numeral}
-use Rattle.parts.specs.Parts.{cut, run-length, StartsSays, Stops, Piece, PieceAt, QueryEnd, QueryAt, PairEnd, LastAt, IdEnd}
+use Rattle.source.specs.declared.LidSymbol.{LidSymbol}
+use Rattle.parts.specs.Parts.{cut, run-length, StartsSays, Stops, Piece, PieceAt, QueryEnd, QueryAt, PairEnd, LastAt, ItemText, IdEnd}
 use Rattle.parts.proofs.Runs.{run-all, run-le, run-after, piece-cut, piece-once, cut-all}
 
 -- ---- `piece`
@@ -103,30 +103,30 @@ last-once p q e =
     let l : length p ≡ length q = omega (arith, simp length-append at (ap length e)) in
     sym (take-at p (93 ∷ []) (length p) refl) ∙ ap (take (length p)) e ∙ take-at q (93 ∷ []) (length p) (sym l)
 
-pub id-piece : {s id : Str} {n : ℕ} → (r : IdEnd s id n) → Piece Word (32 ∷ []) s id (r .digits · bytes "]")
+pub id-piece : {s id : Str} {c : LidSymbol} → (r : IdEnd s id c) → Piece Word (32 ∷ []) s id (r .word · bytes "]")
 unfolding bytes
 id-piece r = record { ok = r .id-ok; spelled = r .spelled }
 
 module _ {line : Str} {at e : ℕ} (p : PieceAt Word (32 ∷ []) line at e) where
-  pub id-yes : {f n : ℕ} → (e ≡ at → ⊥) → LastAt line (e + 1) f → Numeral (cut (e + 1) f line) n → IdEnd (drop at line) (cut at e line) n
+  pub id-yes : {f : ℕ} {c : LidSymbol} → (e ≡ at → ⊥) → LastAt line (e + 1) f → ItemText (cut (e + 1) f line) c → IdEnd (drop at line) (cut at e line) c
   unfolding bytes
   id-yes {f} some l m = record {
     id-ok = p .piece .ok;
     id-some = rw (cut-length p) (omega (arith, some, p .start));
-    digits = cut (e + 1) f line;
-    number = m;
+    word = cut (e + 1) f line;
+    item = m;
     spelled = p .piece .spelled ∙ ap (λ (t : Str). cut at e line · 32 ∷ t) (l .spelled);
   }
 
-  pub id-empty : e ≡ at → (id : Str) (n : ℕ) → IdEnd (drop at line) id n → ⊥
-  id-empty h id n r = omega (arith, r .id-some, ap length (part-found p stops-word (id-piece r)), cut-length p)
+  pub id-empty : e ≡ at → (id : Str) (c : LidSymbol) → IdEnd (drop at line) id c → ⊥
+  id-empty h id c r = omega (arith, r .id-some, ap length (part-found p stops-word (id-piece r)), cut-length p)
 
-  pub id-open : ((ds : Str) → drop (e + 1) line ≡ ds · bytes "]" → ⊥) → (id : Str) (n : ℕ) → IdEnd (drop at line) id n → ⊥
-  id-open f id n r = f (r .digits) (sym (rest-found p stops-word (id-piece r)))
+  pub id-open : ((ds : Str) → drop (e + 1) line ≡ ds · bytes "]" → ⊥) → (id : Str) (c : LidSymbol) → IdEnd (drop at line) id c → ⊥
+  id-open f id c r = f (r .word) (sym (rest-found p stops-word (id-piece r)))
 
-  pub id-number : {f : ℕ} → LastAt line (e + 1) f → ((n : ℕ) → Numeral (cut (e + 1) f line) n → ⊥) → (id : Str) (n : ℕ) → IdEnd (drop at line) id n → ⊥
-  id-number {f} l none id n r =
-      none n (subst (λ (t : Str). Numeral t n) (last-once (r .digits) (cut (e + 1) f line) (rest-found p stops-word (id-piece r) ∙ l .spelled)) (r .number))
+  pub id-item : {f : ℕ} → LastAt line (e + 1) f → ((c : LidSymbol) → ItemText (cut (e + 1) f line) c → ⊥) → (id : Str) (c : LidSymbol) → IdEnd (drop at line) id c → ⊥
+  id-item {f} l none id c r =
+      none c (subst (λ (t : Str). ItemText t c) (last-once (r .word) (cut (e + 1) f line) (rest-found p stops-word (id-piece r) ∙ l .spelled)) (r .item))
 
 -- ---- `line_end`
 

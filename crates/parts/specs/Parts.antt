@@ -1,9 +1,14 @@
 -- The parts of a line: what each function of this crate answers of one.
 use mathlib.Core.Path.{_≡_}
-use mathlib.Core.Bool.{Bool, true, false}
+use mathlib.Core.Bool.{Bool, true, false, cond, _||_}
 use mathlib.Core.List.{[], _∷_}
 use Prim.Native.Nat.{ℕ, zero, suc, _+_, _-_, _<_, _≤_}
-use lib.ListN.{length, take, drop}
+use lib.Dec.{eqb}
+use lib.ListN.{length, getD, take, drop}
+use Rattle.source.specs.Items.{kind-letter}
+use Rattle.source.specs.declared.ItemKind.{ItemKind}
+use Rattle.source.specs.declared.ItemKind.the-variants.{Timer, Port, Register}
+use Rattle.source.specs.declared.LidSymbol.{LidSymbol}
 use Rattle.numerals.specs.declared.Sort.{Sort}
 use Rattle.numerals.specs.declared.Sort.the-variants.{Query, Word}
 use Rattle.parts.specs.declared.Extent.{Extent}
@@ -11,6 +16,8 @@ use Rattle.parts.specs.declared.Part.{Part}
 use Rattle.parts.specs.declared.Part.the-variants.{At, No}
 use Rattle.parts.specs.declared.Pair.{Pair}
 use Rattle.parts.specs.declared.Pair.the-variants.{At as AtPair, No as NoPair}
+use Rattle.parts.specs.declared.Item.{Item}
+use Rattle.parts.specs.declared.Item.the-variants.{At as AtItem, No as NoItem}
 use Rattle.parts.specs.declared.Tail.{Tail}
 use Rattle.parts.specs.declared.Tail.the-variants.{At as AtTail, No as NoTail}
 use Rattle.numerals.specs.Bytes.{Str, bytes, _·_, byte-ok, All}
@@ -102,18 +109,41 @@ abbrev pub LastSays : Str → ℕ → Part → Type 0
 LastSays line at (At e) = LastAt line at e
 LastSays line at No = (part : Str) → drop at line ≡ part · bytes "]" → ⊥
 
--- An id, a number and the last bracket.
-pub record IdEnd (s id : Str) (n : ℕ) : Type 0 where
+-- ---- An item: the letter of its kind and its number, or the number alone, which is a Register's.
+
+unfoldable pub written-kind : Str → ItemKind
+written-kind s = cond (eqb (getD s 0 0) (kind-letter Timer)) Timer (cond (eqb (getD s 0 0) (kind-letter Port)) Port Register)
+
+unfoldable pub written-digits : Str → Str
+written-digits s =
+    cond (eqb (getD s 0 0) (kind-letter Timer) || eqb (getD s 0 0) (kind-letter Port) || eqb (getD s 0 0) (kind-letter Register)) (drop 1 s) s
+
+pub record ItemText (s : Str) (c : LidSymbol) : Type 0 where
+  pub kind-is : c .kind ≡ written-kind s
+  pub number-is : Numeral (written-digits s) (c .number)
+
+-- The item that is written, or that none is.
+abbrev pub ItemSays : Str → Item → Type 0
+ItemSays s (AtItem c) = ItemText s c
+ItemSays s NoItem = (c : LidSymbol) → ItemText s c → ⊥
+
+-- The item of a kind and of digits, or that they are no number.
+abbrev pub NumberedSays : ItemKind → Str → Item → Type 0
+NumberedSays k ds (AtItem c) = (c .kind ≡ k) × Numeral ds (c .number)
+NumberedSays k ds NoItem = (n : ℕ) → Numeral ds n → ⊥
+
+-- An id, an item and the last bracket.
+pub record IdEnd (s id : Str) (c : LidSymbol) : Type 0 where
   pub id-ok : All Word id
   pub id-some : 0 < length id
-  pub digits : Str
-  pub number : Numeral digits n
-  pub spelled : s ≡ id · bytes " " · digits · bytes "]"
+  pub word : Str
+  pub item : ItemText word c
+  pub spelled : s ≡ id · bytes " " · word · bytes "]"
 
--- The id and the number that end the line from at on, or that none do.
+-- The id and the item that end the line from at on, or that none do.
 abbrev pub IdSays : Str → ℕ → Tail → Type 0
-IdSays line at (AtTail id n) = Within line id × IdEnd (drop at line) (part-of line id) n
-IdSays line at NoTail = (id : Str) (n : ℕ) → IdEnd (drop at line) id n → ⊥
+IdSays line at (AtTail id c) = Within line id × IdEnd (drop at line) (part-of line id) c
+IdSays line at NoTail = (id : Str) (c : LidSymbol) → IdEnd (drop at line) id c → ⊥
 
 -- The word stands at the line's start, up to at.
 pub record WordAt (line word : Str) (at : ℕ) : Type 0 where

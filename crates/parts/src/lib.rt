@@ -1,11 +1,13 @@
 // The parts of a line: a run of bytes of one sort, what closes it, and where it ends. Nothing is known of the forms of a script.
 use numerals::Number;
 use numerals::Sort;
+use source::ItemKind;
+use source::LidSymbol;
 ghost use mathlib.Core.Path.{_≡_};
 ghost use Prim.Native.Nat.{_+_, _≤_};
 ghost use lib.ListN.{length, getD, drop};
 ghost use Rattle.source.specs.Lent.{old};
-ghost use Rattle.parts.specs.Parts.{run-length, StartsSays, Stops, PieceSays, QuerySays, PairSays, LastSays, IdSays, WordSays};
+ghost use Rattle.parts.specs.Parts.{run-length, StartsSays, Stops, PieceSays, QuerySays, PairSays, LastSays, NumberedSays, ItemSays, IdSays, WordSays};
 ghost use Rattle.numerals.specs.Bytes.{LineEnd};
 
 // A part of a line: where it starts, and its length.
@@ -26,9 +28,15 @@ pub enum Pair {
     No,
 }
 
-// An id and a number, or that they do not stand there.
+// An item, or that none is written.
+pub enum Item {
+    At(LidSymbol),
+    No,
+}
+
+// An id and an item, or that they do not stand there.
 pub enum Tail {
-    At { id: Extent, item: u32 },
+    At { id: Extent, item: LidSymbol },
     No,
 }
 
@@ -140,7 +148,47 @@ pub fn last_end(line: &[u8], at: usize) -> Part
     Part::No
 }
 
-// An id and a number, up to the line's last bracket.
+// The byte at `i`, or 0 past the line's end.
+pub fn byte_at(line: &[u8], i: usize) -> u8
+    ensures { λ r. ⌜ r ≡ getD (old line) i 0 ⌝ }
+{
+    if i < line.len() {
+        return line[i];
+    }
+    0
+}
+
+// The item of the kind whose number the digits are.
+fn numbered(digits: &[u8], kind: ItemKind) -> Item
+    ensures { λ r. ⌜ NumberedSays kind (old digits) r ⌝ }
+{
+    match numerals::digits::numeral(digits) {
+        Number::At(n) => Item::At(LidSymbol {
+            kind: kind,
+            number: n,
+        }),
+        Number::No => Item::No,
+    }
+}
+
+// The item that the text is: a letter and a number, or the number of a Register.
+pub fn item_of(text: &[u8]) -> Item
+    ensures { λ r. ⌜ ItemSays (old text) r ⌝ }
+{
+    let letter = byte_at(text, 0);
+    if letter == b't' {
+        return numbered(&text[1..], ItemKind::Timer);
+    }
+    if letter == b'p' {
+        return numbered(&text[1..], ItemKind::Port);
+    }
+    if letter == b'r' {
+        return numbered(&text[1..], ItemKind::Register);
+    }
+    numbered(text, ItemKind::Register)
+}
+
+// An id and an item, up to the line's last bracket.
 pub fn id_end(line: &[u8], at: usize) -> Tail
     requires { ⌜ at ≤ length (now line) ⌝ }
     ensures { λ r. ⌜ IdSays (old line) at r ⌝ }
@@ -151,31 +199,21 @@ pub fn id_end(line: &[u8], at: usize) -> Tail
                 return Tail::No;
             }
             match last_end(line, e + 1) {
-                Part::At(f) => match numerals::digits::numeral(&line[e + 1..f]) {
-                    Number::At(n) => Tail::At {
+                Part::At(f) => match item_of(&line[e + 1..f]) {
+                    Item::At(item) => Tail::At {
                         id: Extent {
                             start: at,
                             len: e - at,
                         },
-                        item: n,
+                        item: item,
                     },
-                    Number::No => Tail::No,
+                    Item::No => Tail::No,
                 },
                 Part::No => Tail::No,
             }
         }
         Part::No => Tail::No,
     }
-}
-
-// The byte at `i`, or 0 past the line's end.
-pub fn byte_at(line: &[u8], i: usize) -> u8
-    ensures { λ r. ⌜ r ≡ getD (old line) i 0 ⌝ }
-{
-    if i < line.len() {
-        return line[i];
-    }
-    0
 }
 
 // Where the first line of `input` ends: at its line feed, or at the end of `input`.

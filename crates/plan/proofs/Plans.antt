@@ -20,6 +20,7 @@ use Rattle.source.specs.Plans.{along, inserted-records, inserted-weight, ins-in
 use Rattle.source.proofs.Planning.{along-host}
 use Rattle.source.proofs.PlannedRecords.{records-onto}
 use Rattle.source.proofs.PlannedWeight.{crowded-onto}
+use Rattle.source.specs.declared.LidSymbol.{LidSymbol}
 use Rattle.memory.specs.Layout.{Which, Item, names, modules, list, trieˢ, what}
 use Rattle.memory.specs.Read.{ReadTrie}
 use Rattle.memory.specs.Stored.{weight-in, trie-in}
@@ -118,7 +119,7 @@ pub path-few : {ws txt : List ℕ} {w : Which} {query : Str} {root link at n ste
     → Stands ws txt w query root link at (StepsDown builds weighs tr q steps records crowded) → Segment query at n → steps < length q
 path-few g y = omega (arith, g .says .number, ap length (y .splits))
 
-module _ {ws txt : List ℕ} {host : Str} {root link at steps records : ℕ} {crowded : Bool} {tr : Trie ℕ} {q : Query}
+module _ {ws txt : List ℕ} {host : Str} {root link at steps records : ℕ} {crowded : Bool} {tr : Trie LidSymbol} {q : Query}
     (g : Stands ws txt names host root link at (StepsDown step-records step-weight tr q steps records crowded)) where
   pub path-next : {way way′ : List ℕ} {n y a : ℕ} {b : Bool} → Segment host at n → Stepped ws txt link (take (at + n - at) (drop at host)) way way′ steps y a b
       → Stands ws txt names host root y (at + n + 1) (StepsDown step-records step-weight tr q (steps + 1) (records + a) (crowded || b))
@@ -138,14 +139,14 @@ module _ {ws txt : List ℕ} {root link steps records : ℕ} {crowded : Bool} (h
   number-is = omega (arith, g .gives .number)
 
   module _ {p : M.Trie} (q : ReadTrie ws link p) (tbl : Table) (e : tbl .tbl-lids ≡ what names ws txt root trieˢ) where
-    pub name-planned : {id : Str} {holder count wt : ℕ} (number : ℕ) → NamesPlaced ws txt (p .bindings) id holder count wt
-        → Planned tbl (name host id number) (record { records = records + (count + 2); crowded = crowded || ltb 96 wt; deep = ltb 16 steps })
+    pub name-planned : {id : Str} {holder count wt : ℕ} (c : LidSymbol) → NamesPlaced ws txt (p .bindings) id holder count wt
+        → Planned tbl (name host id c) (record { records = records + (count + 2); crowded = crowded || ltb 96 wt; deep = ltb 16 steps })
     unfolding plan-records plan-crowded plan-weight plan-depth name-records name-weight
-    name-planned number z =
+    name-planned c z =
         let i = z .inserts names bind (bindings-at (g .here) q) in
         record {
           records = rw (e, built-all (g .gives), ← bindings-read (g .here) q) (omega (arith, placed-records i));
-          crowded = rw (e, weighed-all (g .gives), ← bindings-read (g .here) q, placed-weight i (item 0));
+          crowded = rw (e, weighed-all (g .gives), ← bindings-read (g .here) q, placed-weight i (item c));
           deep = rw number-is;
         }
 

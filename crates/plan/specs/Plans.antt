@@ -13,6 +13,7 @@ use Rattle.source.specs.Table.{Table}
 use Rattle.source.specs.Calls.{Call, name, include, opens, alias, module-path, is-empty}
 use Rattle.source.specs.Plans.{host-of}
 use Rattle.source.specs.Plans.{along, inserted-records, inserted-weight, ins-inserts, step-records, step-weight, plan-depth, plan-crowded, plan-records, insert-branches, first-tree}
+use Rattle.source.specs.declared.LidSymbol.{LidSymbol}
 use Rattle.memory.specs.Layout.{Which, names, modules, trieˢ, what}
 use Rattle.kinds.specs.declared.Form.{Form}
 use Rattle.kinds.specs.declared.Form.the-variants as form
@@ -65,7 +66,7 @@ pub record Planned (tbl : Table) (c : Call) (p : Plan) : Type 0 where
 -- Of a name, for any table of the root.
 abbrev pub NamePlanned : (ws txt : List ℕ) (root : ℕ) (host id : Str) (p : Plan) → Type 0
 NamePlanned ws txt root host id p =
-    (tbl : Table) (number : ℕ) → tbl .tbl-lids ≡ what names ws txt root trieˢ → Planned tbl (name host id number) p
+    (tbl : Table) (c : LidSymbol) → tbl .tbl-lids ≡ what names ws txt root trieˢ → Planned tbl (name host id c) p
 
 -- The link inc reads as the trie that a query includes.
 abbrev pub Includes : (ws txt : List ℕ) (root inc : ℕ) (q : Str) → Type 0

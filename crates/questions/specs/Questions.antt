@@ -7,26 +7,28 @@ use Rattle.source.specs.Table as S
 use Rattle.source.specs.Table.{Line}
 use Rattle.source.specs.Calls as C
 use Rattle.source.specs.Calls.{Output, look-up, complete, complete-modules}
+use Rattle.source.specs.declared.LidSymbol.{LidSymbol}
+use Rattle.source.specs.declared.KindFilter.the-variants.{Every}
 use Rattle.memory.specs.Layout.{Which, names, modules, Item}
 use Rattle.numerals.specs.Bytes.{Str, _·_}
 use Rattle.script.specs.declared.Question.{Question}
 use Rattle.script.specs.declared.Question.the-variants.{Find, Complete, Modules}
 use Rattle.replies.specs.declared.ItemReply.{ItemReply}
-use Rattle.replies.specs.declared.ItemReply.the-variants.{Number, Module, Namespace}
+use Rattle.replies.specs.declared.ItemReply.the-variants.{Name, Module, Namespace}
 use Rattle.replies.specs.Replies.{found-reply, none-reply, refused-reply, line-reply, end-reply}
 
 -- The requirements' budget of a completion.
 abbrev pub budget : ℕ
 budget = 4096
 
-abbrev pub found-text : C.Found ℕ → Str
+abbrev pub found-text : C.Found LidSymbol → Str
 found-text (C.found n) = found-reply n
 found-text C.not-found = none-reply
 found-text (C.refused n) = refused-reply n
 
--- The item of a line: its number in `complete`, m or n in `modules`.
+-- The item of a line: its kind and number in `complete`, m or n in `modules`.
 abbrev pub item-reply : (w : Which) → Item w → ItemReply
-item-reply names n = Number n
+item-reply names c = Name c
 item-reply modules (S.Module full path loaded) = Module
 item-reply modules (S.Namespace full loaded) = Namespace
 
@@ -46,5 +48,5 @@ completed-text w (C.refused n) = refused-reply n
 
 abbrev pub asked-text : Output → S.Table → Question → Str → Str
 asked-text out tbl Find q = found-text (look-up true (tbl .tbl-lids) q)
-asked-text out tbl Complete q = completed-text names (complete true tbl budget out q)
+asked-text out tbl Complete q = completed-text names (complete true tbl Every budget out q)
 asked-text out tbl Modules q = completed-text modules (complete-modules true tbl C.All budget out q)

@@ -9,7 +9,7 @@ use Rattle.memory.specs.Read.{text-of}
 use Rattle.memory.specs.declared.ModSymbol.the-variants as M
 use Rattle.numerals.specs.Bytes.{Str, _·_}
 use Rattle.replies.specs.declared.ItemReply.{ItemReply}
-use Rattle.replies.specs.declared.ItemReply.the-variants.{Number, Module, Namespace}
+use Rattle.replies.specs.declared.ItemReply.the-variants as reply
 use Rattle.replies.specs.Replies.{refused-reply, line-reply, end-reply, reply-room}
 use Rattle.output.specs.Output.{line-bytes}
 use Rattle.rows.specs.Rows.{words-from, row-in, TextsIn}
@@ -23,9 +23,9 @@ use Rattle.roots.specs.declared.Completed.the-variants.{Listed, Refused}
 -- ---- One row
 
 abbrev pub item-shown : RowItem → ItemReply
-item-shown (Name n) = Number n
-item-shown (Symbol (M.Module name path loaded)) = Module
-item-shown (Symbol (M.Namespace name loaded)) = Namespace
+item-shown (Name c) = reply.Name c
+item-shown (Symbol (M.Module name path loaded)) = reply.Module
+item-shown (Symbol (M.Namespace name loaded)) = reply.Namespace
 
 -- Its reply, its texts in the pane.
 unfoldable pub row-text : List ℕ → Row → Str

@@ -5,6 +5,7 @@ use roots::Completed;
 use roots::Found;
 use rows::Row;
 use rows::RowItem;
+use source::KindFilter;
 use table::Table;
 ghost use mathlib.Core.Path.{_≡_};
 ghost use mathlib.Core.Bool.{true};
@@ -42,7 +43,7 @@ fn item_reply(item: RowItem) -> ItemReply
     ensures { λ r. ⌜ r ≡ item-shown item ⌝ }
 {
     match item {
-        RowItem::Name(n) => ItemReply::Number(n),
+        RowItem::Name(c) => ItemReply::Name(c),
         RowItem::Symbol(s) => match s {
             ModSymbol::Module(name, path, loaded) => ItemReply::Module,
             ModSymbol::Namespace(name, loaded) => ItemReply::Namespace,
@@ -175,7 +176,7 @@ pub fn ask_line(
             start,
             words,
             text,
-            asks::Ask::Names,
+            asks::Ask::Names(KindFilter::Every),
             query,
             flat,
             pane,

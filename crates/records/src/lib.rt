@@ -23,7 +23,12 @@ pub fn record_ok(
 {
     let k = r[memory::KIND];
     match k {
-        memory::BINDING_KIND => branches::branch_ok(words, text, used, link, r, k, least, greatest),
+        memory::BINDING_KIND => {
+            if !branches::branch_ok(words, text, used, link, r, k, least, greatest) {
+                return false;
+            }
+            items::is_kind(r[memory::ITEM_KIND])
+        }
         memory::MODULE_BINDING_KIND => {
             if !branches::branch_ok(words, text, used, link, r, k, least, greatest) {
                 return false;

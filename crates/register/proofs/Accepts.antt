@@ -13,6 +13,7 @@ use Rattle.source.specs.Table.{ModSymbol}
 use Rattle.source.specs.Counted.{Counted}
 use Rattle.source.specs.Calls.{State, whole-records, free, Call, registered, records, arguments, text-taken, after}
 use Rattle.source.proofs.Refusals.{Acceptable, registration-rows-none}
+use Rattle.source.specs.declared.LidSymbol.{LidSymbol}
 use Rattle.memory.specs.Layout.{Which, names, modules, Item, trieˢ, Reading, kind, what, table-of, state-of}
 use Rattle.memory.specs.Sound.{LinkOk, Used, Sound}
 use Rattle.memory.proofs.Seen.{link-later}
@@ -48,7 +49,7 @@ record Settled (ws ws′ txt : List ℕ) (h h′ : Header) (used : ℕ) (c : Cal
   words : Outside (h .records * 12) (h′ .records * 12) ws ws′
   text : h′ .text ≡ used
 
-state-is : {a : Trie ℕ} {b : Trie ModSymbol} {n m used : ℕ} (x : S.Table) → a ≡ x .tbl-lids → b ≡ x .tbl-mods → n ≡ m
+state-is : {a : Trie LidSymbol} {b : Trie ModSymbol} {n m used : ℕ} (x : S.Table) → a ≡ x .tbl-lids → b ≡ x .tbl-mods → n ≡ m
     → _≡_ {A = State} (record { table = record { tbl-lids = a; tbl-mods = b }; records-used = n; text-used = used }) (record { table = x; records-used = m; text-used = used })
 state-is x e f g = rw (e, f, g)
 

@@ -1,18 +1,24 @@
 -- Replies: the session of the requirements and a few more.
 use mathlib.Core.Path.{_≡_, refl}
 use lib.IntN.{pos, negsuc}
-use Rattle.replies.specs.declared.ItemReply.the-variants.{Number, Module}
+use Rattle.source.specs.Items.{kind-letter}
+use Rattle.source.specs.declared.ItemKind.the-variants.{Timer, Register}
+use Rattle.replies.specs.declared.ItemReply.the-variants.{Name, Module}
 use Rattle.numerals.specs.Bytes.{bytes}
 use Rattle.numerals.specs.Numerals.{digits, decimal}
-use Rattle.replies.specs.Replies.{signed, item-text, ok-reply, line-reply, end-reply}
+use Rattle.replies.specs.Replies.{signed, name-text, item-text, ok-reply, found-reply, line-reply, end-reply}
 
 ok-text : ok-reply 19 ≡ bytes "[ok 19]\n"
 unfolding bytes ok-reply decimal digits
 ok-text = refl
 
-line-text : line-reply (pos 8) (Number 1) (bytes "") (bytes "Live.offset") ≡ bytes "[line 8 1 [] Live.offset]\n"
-unfolding bytes line-reply signed item-text decimal digits
+line-text : line-reply (pos 8) (Name (record { kind = Register; number = 1 })) (bytes "") (bytes "Live.offset") ≡ bytes "[line 8 r1 [] Live.offset]\n"
+unfolding bytes line-reply signed item-text name-text kind-letter decimal digits
 line-text = refl
+
+found-text : found-reply (record { kind = Timer; number = 5 }) ≡ bytes "[found t5]\n"
+unfolding bytes found-reply name-text kind-letter decimal digits
+found-text = refl
 
 modules-text : line-reply (negsuc 0) Module (bytes "") (bytes "IO.Bus") ≡ bytes "[line -1 m [] IO.Bus]\n"
 unfolding bytes line-reply signed item-text decimal digits

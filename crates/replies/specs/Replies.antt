@@ -1,8 +1,11 @@
 -- The replies of the program `console`, and what it is to write one into a lent text.
 use Prim.Native.Nat.{ℕ, suc}
+use mathlib.Core.List.{_∷_}
 use lib.IntN.{ℤ, pos, negsuc}
+use Rattle.source.specs.Items.{kind-letter}
+use Rattle.source.specs.declared.LidSymbol.{LidSymbol}
 use Rattle.replies.specs.declared.ItemReply.{ItemReply}
-use Rattle.replies.specs.declared.ItemReply.the-variants.{Number, Module, Namespace}
+use Rattle.replies.specs.declared.ItemReply.the-variants.{Name, Module, Namespace}
 use Rattle.numerals.specs.Bytes.{Str, bytes, _·_}
 use Rattle.numerals.specs.Numerals.{decimal}
 
@@ -15,9 +18,13 @@ signed (negsuc n) = bytes "-" · decimal (suc n)
 
 -- ---- Replies
 
--- The item of a line: its number in `complete`, m or n in `modules`.
+-- The item of a name: the letter of its kind, then its number.
+unfoldable pub name-text : LidSymbol → Str
+name-text c = kind-letter (c .kind) ∷ decimal (c .number)
+
+-- The item of a line: that in `complete`, m or n in `modules`.
 unfoldable pub item-text : ItemReply → Str
-item-text (Number n) = decimal n
+item-text (Name c) = name-text c
 item-text Module = bytes "m"
 item-text Namespace = bytes "n"
 
@@ -26,8 +33,8 @@ unfoldable pub ok-reply : ℕ → Str
 ok-reply r = bytes "[ok " · decimal r · bytes "]\n"
 
 -- `[found N]`
-unfoldable pub found-reply : ℕ → Str
-found-reply n = bytes "[found " · decimal n · bytes "]\n"
+unfoldable pub found-reply : LidSymbol → Str
+found-reply c = bytes "[found " · name-text c · bytes "]\n"
 
 -- `[none]`
 unfoldable pub none-reply : Str

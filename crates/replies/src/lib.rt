@@ -1,6 +1,7 @@
 // The replies of the program `console`. Each function writes one at `at` and returns where it ends; every other byte of `out` stays.
 // Nothing is assumed.
 use numerals::digits::put_number;
+use source::LidSymbol;
 ghost use Prim.Native.Nat.{_+_, _≤_};
 ghost use lib.ListN.{length};
 ghost use Rattle.source.specs.Calls.{signed-word};
@@ -8,11 +9,11 @@ ghost use Rattle.source.specs.Lent.{old, new};
 ghost use Rattle.text.specs.Laid.{Laid};
 ghost use Rattle.numerals.specs.Bytes.{bytes, _·_};
 ghost use Rattle.numerals.specs.Numerals.{decimal};
-ghost use Rattle.replies.specs.Replies.{signed, item-text, ok-reply, found-reply, none-reply, refused-reply, bad-reply, line-reply, end-reply, reply-room};
+ghost use Rattle.replies.specs.Replies.{signed, name-text, item-text, ok-reply, found-reply, none-reply, refused-reply, bad-reply, line-reply, end-reply, reply-room};
 
-// The item of a line: its number in `complete`, module or namespace in `modules`.
+// The item of a line: its kind and number in `complete`, module or namespace in `modules`.
 pub enum ItemReply {
-    Number(u32),
+    Name(LidSymbol),
     Module,
     Namespace,
 }
@@ -48,12 +49,25 @@ pub fn put_ok(out: &mut [u8], at: usize, records: u32) -> usize
     put_counted(out, at, b"[ok ", records)
 }
 
+// Writes the letter of a kind, then a number.
+fn put_name(out: &mut [u8], at: usize, item: LidSymbol) -> usize
+    requires { ⌜ at + 11 ≤ length (now out) ⌝ }
+    ensures { λ r. ⌜ Laid (old out) (new out) at r (name-text item) × (r ≤ at + 11) ⌝ }
+{
+    let kind = item.kind;
+    let letter = [items::letter_of(kind)];
+    let a = put(out, at, &letter);
+    put_number(out, a, item.number)
+}
+
 // `[found N]`
-pub fn put_found(out: &mut [u8], at: usize, item: u32) -> usize
+pub fn put_found(out: &mut [u8], at: usize, item: LidSymbol) -> usize
     requires { ⌜ at + reply-room ≤ length (now out) ⌝ }
     ensures { λ r. ⌜ Laid (old out) (new out) at r (found-reply item) ⌝ }
 {
-    put_counted(out, at, b"[found ", item)
+    let a = put(out, at, b"[found ");
+    let b = put_name(out, a, item);
+    put(out, b, b"]\n")
 }
 
 // `[none]`
@@ -82,11 +96,11 @@ pub fn put_bad(out: &mut [u8], at: usize) -> usize
 
 // Writes an item.
 fn put_item(out: &mut [u8], at: usize, item: ItemReply) -> usize
-    requires { ⌜ at + 10 ≤ length (now out) ⌝ }
-    ensures { λ r. ⌜ Laid (old out) (new out) at r (item-text item) × (r ≤ at + 10) ⌝ }
+    requires { ⌜ at + 11 ≤ length (now out) ⌝ }
+    ensures { λ r. ⌜ Laid (old out) (new out) at r (item-text item) × (r ≤ at + 11) ⌝ }
 {
     match item {
-        ItemReply::Number(n) => put_number(out, at, n),
+        ItemReply::Name(c) => put_name(out, at, c),
         ItemReply::Module => put(out, at, b"m"),
         ItemReply::Namespace => put(out, at, b"n"),
     }
@@ -116,8 +130,8 @@ fn put_word(out: &mut [u8], at: usize, word: u32) -> usize
 
 // Writes a line's numbers, its length as a word.
 fn put_words(out: &mut [u8], at: usize, word: u32, item: ItemReply) -> usize
-    requires { ⌜ at + 27 ≤ length (now out) ⌝ }
-    ensures { λ r. ⌜ Laid (old out) (new out) at r (bytes "[line " · signed (signed-word word) · bytes " " · item-text item) × (r ≤ at + 27) ⌝ }
+    requires { ⌜ at + 28 ≤ length (now out) ⌝ }
+    ensures { λ r. ⌜ Laid (old out) (new out) at r (bytes "[line " · signed (signed-word word) · bytes " " · item-text item) × (r ≤ at + 28) ⌝ }
 {
     let a = put(out, at, b"[line ");
     let b = put_word(out, a, word);

@@ -103,5 +103,5 @@ module _ {ws txt : List ℕ} {ask : Ask} {root : ℕ} {query : Str} {budget : �
 -- ---- The root that is asked
 
 pub root-trie : {ws txt : List ℕ} {h : Header} → Sound ws txt h → (ask : Ask) → At ws txt (asked ask) trieˢ (root-for h ask)
-root-trie o Names = names-trie o
+root-trie o (Names f) = names-trie o
 root-trie o (Modules f) = modules-trie o

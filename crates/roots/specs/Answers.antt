@@ -12,6 +12,7 @@ use Rattle.source.specs.Calls as C
 use Rattle.source.specs.Calls.{look-up}
 use Rattle.memory.specs.Layout.{record-at, Which, modules, Item, item-of, tree, trieˢ, kind, what}
 use Rattle.memory.specs.Sound.{LinkOk, At}
+use Rattle.source.specs.declared.LidSymbol.{LidSymbol}
 use Rattle.memory.specs.Read.{symbol-of}
 use Rattle.refusals.specs.Refusals.{number}
 use Rattle.rows.specs.Rows.{SymbolInside}
@@ -23,7 +24,7 @@ use Rattle.roots.specs.declared.FoundModule.{FoundModule}
 use Rattle.roots.specs.declared.FoundModule.the-variants.{Symbol, Nothing as No-symbol, Refused as Not-found}
 
 -- The answer of a look-up of a name.
-abbrev pub name-found : Found → C.Found ℕ
+abbrev pub name-found : Found → C.Found LidSymbol
 name-found (Item-of n) = C.found n
 name-found Nothing = C.not-found
 name-found (Refused r) = C.refused (number r)

@@ -35,7 +35,7 @@ CompletesAs ask ws txt flat flat′ out out′ r (C.refused n) = (refused-by r �
 
 -- The root that is asked.
 abbrev pub root-for : Header → Ask → ℕ
-root-for h Names = h .names
+root-for h (Names f) = h .names
 root-for h (Modules f) = h .modules
 
 -- The answer of a completion of well-formed arguments.

@@ -5,6 +5,7 @@ use memory::Header;
 use memory::ModSymbol;
 use refusals::Admission;
 use refusals::Refusal;
+use source::LidSymbol;
 ghost use mathlib.Core.Path.{_≡_};
 ghost use mathlib.Core.Bool.{true};
 ghost use Rattle.source.specs.Lent.{old, new};
@@ -24,7 +25,7 @@ enum Looked {
 
 // The answer of a look-up of a name.
 pub enum Found {
-    Item(u32),
+    Item(LidSymbol),
     Nothing,
     Refused(Refusal),
 }
@@ -67,7 +68,7 @@ pub fn find(words: &[u32], text: &[u8], header: Header, query: &[u8]) -> Found
 {
     let l = look_up(words, text, header.names, query);
     match l {
-        Looked::Branch(link) => Found::Item(access::number_of(words, link)),
+        Looked::Branch(link) => Found::Item(access::lid_of(words, link)),
         Looked::Nothing => Found::Nothing,
         Looked::Refused(x) => Found::Refused(x),
     }
@@ -95,7 +96,7 @@ fn root_for(header: Header, ask: Ask) -> u32
     ensures { λ r. ⌜ r ≡ root-for header ask ⌝ }
 {
     match ask {
-        Ask::Names => header.names,
+        Ask::Names(f) => header.names,
         Ask::Modules(f) => header.modules,
     }
 }

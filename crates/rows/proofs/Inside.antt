@@ -5,7 +5,7 @@ use mathlib.Core.Path.{_≡_}
 use mathlib.Core.List.{List}
 use lib.ListN.{length}
 use Rattle.source.specs.Types.{bind}
-use Rattle.memory.specs.Layout.{Which, names, modules, record-at, tree, symbol-word, name-start, name-len, path-start, path-len, loaded-word}
+use Rattle.memory.specs.Layout.{Which, names, modules, record-at, tree, symbol-word, name-start, name-len, path-start, path-len, loaded-word, item-kind-word}
 use Rattle.memory.specs.Sound.{SymbolOk, ItemOk}
 use Rattle.memory.specs.Read.{symbol-in}
 use Rattle.memory.proofs.RecordOk.{record-as, zero-one}
@@ -23,7 +23,9 @@ item-in-inside modules txt r h o = symbol-in-inside o h
 
 -- Words that are a right branch's.
 same-ok : (w : Which) (txt r b : List ℕ) (used : ℕ) → item-words r ≡ item-words b → ItemOk txt used w b → ItemOk txt used w r
-same-ok names txt r b used e o = tt
+same-ok names txt r b used e o =
+    let e6 : item-kind-word r ≡ item-kind-word b = cc in
+    rw e6 o
 same-ok modules txt r b used e o =
     let e5 : symbol-word r ≡ symbol-word b = cc in
     let e6 : name-start r ≡ name-start b = cc in
@@ -34,7 +36,7 @@ same-ok modules txt r b used e o =
     record { sort = rw e5 (o .sort); name = rw (e6, e7) (o .name); path = λ z. rw (e8, e9) (o .path (rw e5 at z)); loaded = rw e10 (o .loaded) }
 
 module _ {ws txt r : List ℕ} (w : Which) (f : RowFrom ws txt w r) where
-  -- The item's words are right: of modules, 0 or 1 in words 5 and 10, and texts that keep their rules.
+  -- The item's words are right: of names one of the kinds in word 6, of modules 0 or 1 in words 5 and 10, and texts that keep their rules.
   pub row-ok : ItemOk txt (f .at .at .used) w r
   row-ok =
       let b = f .at in

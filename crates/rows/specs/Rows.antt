@@ -6,7 +6,7 @@ use lib.ListN.{length, drop}
 use Rattle.source.specs.Text.{Str}
 use Rattle.source.specs.Calls.{signed-word}
 use Rattle.source.specs.Table.{Line}
-use Rattle.memory.specs.Layout.{Which, names, modules, Item, item-of, number-word, span}
+use Rattle.memory.specs.Layout.{Which, names, modules, Item, item-of, lid-in, span}
 use Rattle.memory.specs.Read.{symbol-in, symbol-of}
 use Rattle.memory.specs.declared.Span.{Span}
 use Rattle.memory.specs.declared.ModSymbol.{ModSymbol}
@@ -28,7 +28,7 @@ words-from flat i (suc n) = words-at flat i ∷ words-from flat (suc i) n
 -- ---- The struct
 
 abbrev pub item-in : Which → List ℕ → RowItem
-item-in names r = Name (number-word r)
+item-in names r = Name (lid-in r)
 item-in modules r = Symbol (symbol-in r)
 
 abbrev pub candidate-in : List ℕ → Span

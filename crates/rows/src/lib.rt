@@ -2,6 +2,7 @@
 use asks::Ask;
 use memory::ModSymbol;
 use memory::Span;
+use source::LidSymbol;
 ghost use mathlib.Core.Path.{_≡_};
 ghost use Prim.Native.Nat.{_+_, _*_, _≤_};
 ghost use lib.ListN.{length};
@@ -23,9 +24,9 @@ const ANNOTATION_START: usize = 3;
 
 const ANNOTATION_LEN: usize = 4;
 
-// The item of a row: of names its number, of modules and namespaces the mod symbol, whose spans are in the table text.
+// The item of a row: of names its kind and number, of modules and namespaces the mod symbol, whose spans are in the table text.
 pub enum RowItem {
-    Name(u32),
+    Name(LidSymbol),
     Symbol(ModSymbol),
 }
 
@@ -43,7 +44,7 @@ fn item_in(words: &[u32], ask: Ask) -> RowItem
     ensures { λ r. ⌜ r ≡ item-in (asked ask) (record-at (old words) 1) ⌝ }
 {
     match ask {
-        Ask::Names => RowItem::Name(access::number_of(words, 1)),
+        Ask::Names(f) => RowItem::Name(access::lid_of(words, 1)),
         Ask::Modules(f) => RowItem::Symbol(access::symbol_of(words, 1)),
     }
 }

@@ -12,6 +12,7 @@ use Rattle.source.specs.Calls.{look-up, lowest, argument-rows, Output, complete
 use Rattle.source.specs.Agreement.{Covers, Agreement}
 use Rattle.source.proofs.Agreement.{agreement}
 use Rattle.source.proofs.Refusals.{look-up-refused, completed-refused}
+use Rattle.source.specs.declared.KindFilter.the-variants.{Every}
 use Rattle.memory.specs.Layout.{names, modules, Item}
 use Rattle.memory.specs.Sound.{Says}
 use Rattle.memory.proofs.SoundTable.{sound-table}
@@ -23,7 +24,7 @@ use Rattle.rows.specs.Rows.{lines-seen}
 use Rattle.rows.proofs.Written.{written-seen}
 use Rattle.completion.specs.Completes.{output}
 use Rattle.table.specs.Header.{table-in, names-in, modules-in}
-use Rattle.numbers.specs.Filters.{modules-for}
+use Rattle.numbers.specs.Filters.{names-for, modules-for}
 use Rattle.numbers.specs.Replies.{name-reply, Answered}
 use Rattle.numbers.specs.declared.NameReply.{NameReply}
 use Rattle.numbers.specs.declared.ModuleReply.{ModuleReply}
@@ -36,7 +37,7 @@ use Rattle.screen.specs.Completions.{ListsAs}
 use Rattle.screen.specs.Agreement.{BytesAgree}
 
 module _ (b : Bool) (tbl : S.Table) (budget : ℕ) (o : Output) (q : Str) {n : ℕ} where
-  names-refused : complete b tbl budget o q ≡ C.refused n → 0 < n
+  names-refused : complete b tbl Every budget o q ≡ C.refused n → 0 < n
   unfolding complete
   names-refused e = completed-refused b budget o q _ _ e .0
 
@@ -59,13 +60,13 @@ module _ (st bs txt : List ℕ) (name query : Str) (budget : ℕ) (ls ls′ out 
   tbl = table-in (words-in bs) txt (table-at st)
 
   names-agree : (b : Bool) → Says b (SoundBytes st bs txt) → (f : NameReply) → f ≡ name-reply (look-up b (names-in (words-in bs) txt (table-at st)) name) → Answered (f .answer)
-      → ListsAs Names (words-in bs) txt ls ls′ out out′ l (complete b tbl budget (output ls out) query) → l .answer ≡ 0
+      → ListsAs (Names Every) (words-in bs) txt ls ls′ out out′ l (complete b tbl Every budget (output ls out) query) → l .answer ≡ 0
       → (f ≡ name-reply (look-up true (names-in (words-in bs) txt (table-at st)) name)) × Agreement (names-in (words-in bs) txt (table-at st)) name (lines-seen names txt ls′ out′ (l .lines))
   unfolding look-up lowest argument-rows
   names-agree false s f e h c z = absurd (name-answered (C.refused 1) e h (λ n i. let j : 1 ≡ n = cc in (omega arith, omega arith)))
   names-agree true s f e h c z =
       let ok = name-answered _ e h (λ n. look-up-refused true (names-in (words-in bs) txt (table-at st)) name) in
-      let k = listed-bytes Names (words-in bs) txt ls ls′ out out′ l _ c z (λ n. names-refused true tbl budget (output ls out) query) in
+      let k = listed-bytes (Names Every) (words-in bs) txt ls ls′ out out′ l _ c z (λ n. names-refused true tbl budget (output ls out) query) in
       (e, rw (k .3) (agreement .names tbl (sound-table (s .sound)) name query budget (output ls out) (k .0) (k .1) ok (k .2) cover))
 
   modules-agree : (b : Bool) → Says b (SoundBytes st bs txt) → (f : ModuleReply) → SaysModule txt (look-up b (modules-in (words-in bs) txt (table-at st)) name) f → Answered (f .answer)
@@ -80,7 +81,7 @@ module _ (st bs txt : List ℕ) (name query : Str) (budget : ℕ) (ls ls′ out 
 
 -- Demand 3, of the exported calls.
 pub bytes-agree : BytesAgree
-unfolding modules-for
+unfolding names-for modules-for
 bytes-agree = record {
   of-names = λ st bs txt b s name query f budget ls ls′ out out′ l found ok c z cover.
       names-agree st bs txt name query budget ls ls′ out out′ l cover b s f (found .says b s) ok (c .says b s) z;

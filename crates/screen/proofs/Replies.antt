@@ -25,7 +25,7 @@ use Rattle.wire.specs.Memory.{header-in, words-lent, words-in, Saved}
 use Rattle.wire.proofs.Memory.{words-in-length, words-in-fit}
 use Rattle.screen.specs.Memory.{table-at, SoundBytes}
 use Rattle.kinds.proofs.Shapes.{open-module-is-include}
-use Rattle.screen.specs.Replies.{chosen, unchosen, answer-to, RepliesAs, Replies}
+use Rattle.screen.specs.Replies.{flag-for, chosen, unchosen, answer-to, RepliesAs, Replies}
 use Rattle.wire.proofs.Bytes.{read-back}
 use Rattle.screen.proofs.Held.{Held, says-memory, says-unsound}
 
@@ -53,24 +53,26 @@ open-module-replies = (
   λ a. record { says = λ b h. rw open-module-is-include (a .says b h) },
 )
 
-chosen-some : (f : Bool → Call) (n : ℕ) → n < 2 → chosen f n ≡ some (f (eqb n 1))
-unfolding chosen
-chosen-some f zero h = refl
-chosen-some f (suc zero) h = refl
-chosen-some f (suc (suc n)) h = absurd (omega arith)
+-- ---- A choice by its number
 
-chosen-none : (f : Bool → Call) (n : ℕ) → 2 ≤ n → chosen f n ≡ none
-unfolding chosen
-chosen-none f zero h = absurd (omega arith)
-chosen-none f (suc zero) h = absurd (omega arith)
-chosen-none f (suc (suc n)) h = refl
+pub flag-some : (n : ℕ) → n < 2 → flag-for n ≡ some (eqb n 1)
+unfolding flag-for
+flag-some zero h = refl
+flag-some (suc zero) h = refl
+flag-some (suc (suc n)) h = absurd (omega arith)
 
-module _ {st bs txt st′ bs′ txt′ : List ℕ} {r : ℕ} (f : Bool → Call) {n : ℕ} where
-  pub reply-chosen : n < 2 → Replies st bs txt st′ bs′ txt′ (some (f (eqb n 1))) r → Replies st bs txt st′ bs′ txt′ (chosen f n) r
-  reply-chosen h p = rw (chosen-some f n h) p
+pub flag-none : (n : ℕ) → 2 ≤ n → flag-for n ≡ none
+unfolding flag-for
+flag-none zero h = absurd (omega arith)
+flag-none (suc zero) h = absurd (omega arith)
+flag-none (suc (suc n)) h = refl
 
-  pub reply-unchosen : 2 ≤ n → Replies st bs txt st′ bs′ txt′ none r → Replies st bs txt st′ bs′ txt′ (chosen f n) r
-  reply-unchosen h p = rw (chosen-none f n h) p
+module _ {A : Type 0} {st bs txt st′ bs′ txt′ : List ℕ} {r : ℕ} (f : A → Call) {o : Option A} where
+  pub reply-chosen : {a : A} → o ≡ some a → Replies st bs txt st′ bs′ txt′ (some (f a)) r → Replies st bs txt st′ bs′ txt′ (chosen f o) r
+  reply-chosen e p = rw e p
+
+  pub reply-unchosen : o ≡ none → Replies st bs txt st′ bs′ txt′ none r → Replies st bs txt st′ bs′ txt′ (chosen f o) r
+  reply-unchosen e p = rw e p
 
 -- ---- A call, by crate table's answer
 

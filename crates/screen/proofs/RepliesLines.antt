@@ -3,7 +3,7 @@ use Prim.Native.Nat.{ℕ}
 use mathlib.Core.Path.{_≡_, refl, ap, _∙_}
 use mathlib.Core.Bool.{Bool, true, false}
 use mathlib.Core.List.{List}
-use mathlib.Core.Option.{none, some, Option·none-ne-some}
+use mathlib.Core.Option.{Option, none, some, Option·none-ne-some}
 use Rattle.source.specs.Text.{Str}
 use Rattle.source.specs.Table as S
 use Rattle.source.specs.Calls as C
@@ -20,8 +20,8 @@ use Rattle.table.specs.declared.Table.{Table}
 use Rattle.roots.specs.declared.Completed.{Completed}
 use Rattle.roots.specs.declared.Completed.the-variants.{Listed, Refused}
 use Rattle.table.specs.declared.Listing.{Listing}
-use Rattle.numbers.specs.Filters.{modules-for, is-asked}
-use Rattle.numbers.proofs.Filters.{filter-none}
+use Rattle.numbers.specs.Filters.{is-asked}
+use Rattle.numbers.proofs.Filters.{asked-none}
 use Rattle.numbers.specs.Replies.{no-lines, lines-reply}
 use Rattle.numbers.specs.declared.CompleteReply.{CompleteReply}
 use Rattle.screen.specs.Memory.{SoundBytes}
@@ -44,7 +44,7 @@ module _ (ask : Ask) (m txt ls ls′ out out′ : List ℕ) where
 
 completion-unsound : (tbl : S.Table) (ask : Ask) (budget : ℕ) (o : Output) (q : Str) → completion false tbl ask budget o q ≡ C.refused 1
 unfolding complete complete-modules completed completion-rows lowest argument-rows
-completion-unsound tbl Names budget o q = refl
+completion-unsound tbl (Names f) budget o q = refl
 completion-unsound tbl (Modules f) budget o q = refl
 
 unasked-as : (b : Bool) (st bs txt ls out : List ℕ) {k : ℕ} {r : CompleteReply} → RepliesAs (unchosen b) st bs txt st bs txt k → r ≡ no-lines k → Refuses (unasked b) ls ls out out r
@@ -65,9 +65,9 @@ module _ {st bs txt : List ℕ} {query : Str} {budget : ℕ} {ls out : List ℕ}
         (replied-as ask m txt ls ls′ out out′ (r .answer) (completion b (table-in m txt t) ask budget (output ls out) query) (g .says b (says-memory txt h b i)));
   }
 
-  pub lines-asked : {ls′ out′ : List ℕ} {ask : Ask} (f : ℕ) {r : CompleteReply} → modules-for f ≡ some ask → RepliesLines st bs txt (some ask) query budget ls ls′ out out′ r
-      → RepliesLines st bs txt (modules-for f) query budget ls ls′ out out′ r
-  lines-asked f e p = rw e p
+  pub lines-asked : {ls′ out′ : List ℕ} {ask : Ask} {o : Option Ask} {r : CompleteReply} → o ≡ some ask → RepliesLines st bs txt (some ask) query budget ls ls′ out out′ r
+      → RepliesLines st bs txt o query budget ls ls′ out out′ r
+  lines-asked e p = rw e p
 
-  pub lines-unasked : (f : ℕ) {k : ℕ} {r : CompleteReply} → is-asked (modules-for f) ≡ false → Replies st bs txt st bs txt none k → r ≡ no-lines k → RepliesLines st bs txt (modules-for f) query budget ls ls out out r
-  lines-unasked f h p q = rw (filter-none f h) (record { says = λ b i. unasked-as b st bs txt ls out (p .says b i) q })
+  pub lines-unasked : (o : Option Ask) {k : ℕ} {r : CompleteReply} → is-asked o ≡ false → Replies st bs txt st bs txt none k → r ≡ no-lines k → RepliesLines st bs txt o query budget ls ls out out r
+  lines-unasked o h p q = rw (asked-none o h) (record { says = λ b i. unasked-as b st bs txt ls out (p .says b i) q })

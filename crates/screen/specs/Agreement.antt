@@ -3,16 +3,14 @@ use Prim.Native.Nat.{ℕ}
 use mathlib.Core.Path.{_≡_}
 use mathlib.Core.Bool.{Bool, true}
 use mathlib.Core.List.{List}
-use mathlib.Core.Option.{some}
 use Rattle.source.specs.Text.{Str, segments}
 use Rattle.source.specs.Calls.{look-up}
 use Rattle.source.specs.Agreement.{Covers, Agreement}
 use Rattle.memory.specs.Layout.{names, modules}
 use Rattle.memory.specs.Sound.{Says}
-use Rattle.asks.specs.declared.Ask.the-variants.{Names}
 use Rattle.rows.specs.Rows.{lines-seen}
 use Rattle.table.specs.Header.{names-in, modules-in}
-use Rattle.numbers.specs.Filters.{modules-for}
+use Rattle.numbers.specs.Filters.{names-for, modules-for}
 use Rattle.numbers.specs.Replies.{name-reply, Answered}
 use Rattle.numbers.specs.declared.NameReply.{NameReply}
 use Rattle.numbers.specs.declared.ModuleReply.{ModuleReply}
@@ -27,7 +25,7 @@ use Rattle.screen.specs.Completions.{RepliesLines}
 pub record BytesAgree : Type 0 where
   pub of-names : (st bs txt : List ℕ) (b : Bool) → Says b (SoundBytes st bs txt) → (name query : Str) (f : NameReply) (budget : ℕ) (ls ls′ out out′ : List ℕ) (l : CompleteReply)
       → RepliesName st bs txt name f → Answered (f .answer)
-      → RepliesLines st bs txt (some Names) query budget ls ls′ out out′ l → l .answer ≡ 0 → Covers (segments query) (segments name)
+      → RepliesLines st bs txt (names-for 0) query budget ls ls′ out out′ l → l .answer ≡ 0 → Covers (segments query) (segments name)
       → (f ≡ name-reply (look-up true (names-in (words-in bs) txt (table-at st)) name))
       × Agreement (names-in (words-in bs) txt (table-at st)) name (lines-seen names txt ls′ out′ (l .lines))
   pub of-modules : (st bs txt : List ℕ) (b : Bool) → Says b (SoundBytes st bs txt) → (name query : Str) (f : ModuleReply) (budget : ℕ) (ls ls′ out out′ : List ℕ) (l : CompleteReply)

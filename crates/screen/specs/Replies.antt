@@ -23,11 +23,16 @@ use Rattle.screen.specs.Memory.{table-at, SoundBytes}
 
 -- ---- Registrations
 
--- A call with a yes or no given as a number: 0 is no, 1 is yes, another number gives no call.
-unfoldable pub chosen : (Bool → Call) → ℕ → Option Call
-chosen f zero = some (f false)
-chosen f (suc zero) = some (f true)
-chosen f (suc (suc n)) = none
+-- A yes or no given as a number: 0 is no, 1 is yes.
+unfoldable pub flag-for : ℕ → Option Bool
+flag-for zero = some false
+flag-for (suc zero) = some true
+flag-for (suc (suc n)) = none
+
+-- The call of a choice; a number that stands for none gives no call.
+abbrev pub chosen : {A : Type 0} → (A → Call) → Option A → Option Call
+chosen f (some a) = some (f a)
+chosen f none = none
 
 -- What no call hands back: it is malformed, and Unsound is lower.
 abbrev pub unchosen : (sound : Bool) → C.Registered

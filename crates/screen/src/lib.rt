@@ -9,6 +9,7 @@ use numbers::CompleteReply;
 use numbers::ModuleReply;
 use numbers::NameReply;
 use numbers::SharedReply;
+use source::LidSymbol;
 use table::Registered;
 use table::Table;
 ghost use mathlib.Core.Path.{_≡_};
@@ -17,15 +18,15 @@ ghost use mathlib.Core.Option.{none, some};
 ghost use lib.ListN.{length};
 ghost use Rattle.source.specs.Lent.{old, new};
 ghost use Rattle.source.specs.Calls.{name, include, opens, alias, module-path};
+ghost use Rattle.source.specs.Items.{kind-for};
 ghost use Rattle.kinds.specs.Shapes.{call-of};
 ghost use Rattle.wire.specs.Memory.{state-bytes, words-in};
 ghost use Rattle.screen.specs.Memory.{table-at};
-ghost use Rattle.asks.specs.declared.Ask.the-variants.{Names};
 ghost use Rattle.beginnings.specs.Shared.{CandidatesIn, shared-seen};
-ghost use Rattle.numbers.specs.Filters.{modules-for};
+ghost use Rattle.numbers.specs.Filters.{names-for, modules-for};
 ghost use Rattle.numbers.specs.Replies.{shared-reply};
 ghost use Rattle.screen.specs.Completions.{RepliesLines, RepliesShared};
-ghost use Rattle.screen.specs.Replies.{chosen, Replies, RepliesName, RepliesModule};
+ghost use Rattle.screen.specs.Replies.{flag-for, chosen, Replies, RepliesName, RepliesModule};
 
 // The table that a state spells.
 fn table_of(state: &[u8]) -> Table
@@ -106,19 +107,28 @@ fn malformed(state: &[u8], words: &[u8], text: &[u8]) -> u32
     1
 }
 
-// Registers a name with its item.
+// Registers a name with its item, by the numbers of its kind and itself.
 #[no_mangle]
-pub extern "C" fn name_console_insert(
+pub extern "C" fn name_console_insert_item(
     state: &mut [u8],
     words: &mut [u8],
     text: &mut [u8],
     host: &[u8],
     id: &[u8],
-    item: u32,
+    kind: u32,
+    number: u32,
 ) -> u32
-    ensures { λ r. ⌜ Replies (old state) (old words) (old text) (new state) (new words) (new text) (some (name (old host) (old id) item)) r ⌝ }
+    ensures { λ r. ⌜ Replies (old state) (old words) (old text) (new state) (new words) (new text)
+        (chosen (λ k. name (old host) (old id) (record { kind = k; number = number })) (kind-for kind)) r ⌝ }
 {
-    register(state, words, text, Kind::Name(item), host, id, &host[..0])
+    if items::is_kind(kind) {
+        let item = LidSymbol {
+            kind: items::kind_of(kind),
+            number: number,
+        };
+        return register(state, words, text, Kind::Name(item), host, id, &host[..0]);
+    }
+    malformed(state, words, text)
 }
 
 // Registers an include.
@@ -189,7 +199,7 @@ pub extern "C" fn name_console_module(
     path: &[u8],
 ) -> u32
     ensures { λ r. ⌜ Replies (old state) (old words) (old text) (new state) (new words) (new text)
-        (chosen (λ b. module-path b (old query) (old path)) loaded) r ⌝ }
+        (chosen (λ b. module-path b (old query) (old path)) (flag-for loaded)) r ⌝ }
 {
     if loaded < 2 {
         return register(
@@ -209,7 +219,7 @@ pub extern "C" fn name_console_module(
 
 // Looks a name up.
 #[no_mangle]
-pub extern "C" fn name_console_find(
+pub extern "C" fn name_console_find_item(
     state: &[u8],
     words: &[u8],
     text: &[u8],
@@ -278,20 +288,33 @@ fn complete(
     numbers::lines_reply(t.complete_sound(&memory[..n], text, ask, query, budget, lines, out))
 }
 
-// Completes a name: lines of 48 bytes into `lines`, their texts into `out`.
+// Completes a name, of every kind if `kind` is 0, else of the kind of that number: lines of 48 bytes into `lines`, their texts into `out`.
 #[no_mangle]
-pub extern "C" fn name_console_complete(
+pub extern "C" fn name_console_complete_names(
     state: &[u8],
     words: &[u8],
     text: &[u8],
+    kind: u32,
     query: &[u8],
     budget: u32,
     lines: &mut [u8],
     out: &mut [u8],
 ) -> CompleteReply
-    ensures { λ r. ⌜ RepliesLines (old state) (old words) (old text) (some Names) (old query) budget (old lines) (new lines) (old out) (new out) r ⌝ }
+    ensures { λ r. ⌜ RepliesLines (old state) (old words) (old text) (names-for kind) (old query) budget (old lines) (new lines) (old out) (new out) r ⌝ }
 {
-    complete(state, words, text, Ask::Names, query, budget, lines, out)
+    if numbers::is_filter(kind) {
+        return complete(
+            state,
+            words,
+            text,
+            numbers::names_asked(kind),
+            query,
+            budget,
+            lines,
+            out,
+        );
+    }
+    numbers::no_lines(malformed(state, words, text))
 }
 
 // Completes a module or namespace: all if `filter` is 0, those loaded if 1, modules if 2, namespaces if 3.
@@ -313,7 +336,7 @@ pub extern "C" fn name_console_complete_modules(
             state,
             words,
             text,
-            numbers::ask_of(filter),
+            numbers::modules_asked(filter),
             query,
             budget,
             lines,
@@ -336,18 +359,19 @@ fn with_shared(r: CompleteReply, lines: &[u8], out: &[u8]) -> SharedReply
 
 // Completes a name, and says how many bytes the beginning has that all lines share.
 #[no_mangle]
-pub extern "C" fn name_console_complete_shared(
+pub extern "C" fn name_console_complete_names_shared(
     state: &[u8],
     words: &[u8],
     text: &[u8],
+    kind: u32,
     query: &[u8],
     budget: u32,
     lines: &mut [u8],
     out: &mut [u8],
 ) -> SharedReply
-    ensures { λ r. ⌜ RepliesShared (old state) (old words) (old text) (some Names) (old query) budget (old lines) (new lines) (old out) (new out) r ⌝ }
+    ensures { λ r. ⌜ RepliesShared (old state) (old words) (old text) (names-for kind) (old query) budget (old lines) (new lines) (old out) (new out) r ⌝ }
 {
-    let r = name_console_complete(state, words, text, query, budget, lines, out);
+    let r = name_console_complete_names(state, words, text, kind, query, budget, lines, out);
     with_shared(r, lines, out)
 }
 

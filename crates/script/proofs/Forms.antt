@@ -6,6 +6,7 @@ use Prim.Native.Nat.{ℕ, _+_, _-_}
 use native.Mathlib.Omega.{arith}
 use lib.ListN.{length, drop}
 use lib.Seq.{drop-at}
+use Rattle.source.specs.declared.LidSymbol.{LidSymbol}
 use Rattle.numerals.specs.declared.Sort.the-variants.{Query, Word}
 use Rattle.script.specs.declared.Import.{Import}
 use Rattle.script.specs.declared.Import.the-variants.{Include, OpenModule, OpenNamespace}
@@ -34,7 +35,7 @@ command-key (ask what q) = AskKey what
 
 -- The command is of this form, and the line is spelled so.
 abbrev pub Keyed : Str → Command → Key → Type 0
-Keyed line c NameKey = (host : Str) × (id : Str) × (n : ℕ) × (c ≡ name host id n) × NameLine line host id n
+Keyed line c NameKey = (host : Str) × (id : Str) × (n : LidSymbol) × (c ≡ name host id n) × NameLine line host id n
 Keyed line c (ImportKey how) = (host : Str) × (q : Str) × (c ≡ import how host q) × ImportLine how line host q
 Keyed line c AliasKey = (word : Str) × (host : Str) × (q : Str) × (c ≡ alias word host q) × AliasLine line word host q
 Keyed line c (ModuleKey loaded) = (q : Str) × (path : Str) × (c ≡ module-path loaded q path) × ModuleLine loaded line q path
@@ -85,12 +86,12 @@ word-none {line} {k} o n = refused o (λ c r. begun k c n r)
 
 -- ---- The form's parts, after its first word
 
-pub name-piece : {line host id s : Str} {n : ℕ} → (r : NameLine line host id n) → s ≡ host · bytes "] " · id · bytes " " · r .digits · bytes "]" → Piece Query (93 ∷ 32 ∷ []) s host (id · bytes " " · r .digits · bytes "]")
+pub name-piece : {line host id s : Str} {c : LidSymbol} → (r : NameLine line host id c) → s ≡ host · bytes "] " · id · bytes " " · r .word · bytes "]" → Piece Query (93 ∷ 32 ∷ []) s host (id · bytes " " · r .word · bytes "]")
 unfolding bytes
 name-piece r e = record { ok = r .host-ok; spelled = e }
 
-pub name-id : {line host id s : Str} {n : ℕ} → (r : NameLine line host id n) → s ≡ id · bytes " " · r .digits · bytes "]" → IdEnd s id n
-name-id r e = record { id-ok = r .id-ok; id-some = r .id-some; digits = r .digits; number = r .number; spelled = e }
+pub name-id : {line host id s : Str} {c : LidSymbol} → (r : NameLine line host id c) → s ≡ id · bytes " " · r .word · bytes "]" → IdEnd s id c
+name-id r e = record { id-ok = r .id-ok; id-some = r .id-some; word = r .word; item = r .item; spelled = e }
 
 pub import-pair : {how : Import} {line host q s : Str} → ImportLine how line host q → s ≡ host · bytes "] [" · q · bytes "]]" → PairEnd s host q
 import-pair r e = record { host-ok = r .host-ok; query-ok = r .query-ok; spelled = e }
@@ -120,24 +121,24 @@ module _ {line : Str} {at : ℕ} (o : Only line NameKey) (w : WordAt line (key N
   name-none n = refused o (λ c k. n _ _ (name-piece (k .4) (after-word w (k .4 .spelled))))
 
   module _ {e : ℕ} (p : PieceAt Query (93 ∷ 32 ∷ []) line at e) where
-    pub name-no : ((id : Str) (n : ℕ) → IdEnd (drop (e + 2) line) id n → ⊥) → (c : Command) → Reads line c → ⊥
+    pub name-no : ((id : Str) (c : LidSymbol) → IdEnd (drop (e + 2) line) id c → ⊥) → (c : Command) → Reads line c → ⊥
     name-no n = refused o (λ c k. n (k .1) (k .2) (name-id (k .4) (sym (rest-found p stops-query (name-piece (k .4) (after-word w (k .4 .spelled)))))))
 
-    pub name-yes : (id : Extent) (n : ℕ) → IdSays line (e + 2) (AtTail id n) → Parsed line (Register (kind.Name n) (record { start = at; len = e - at }) id none)
+    pub name-yes : (id : Extent) (c : LidSymbol) → IdSays line (e + 2) (AtTail id c) → Parsed line (Register (kind.Name c) (record { start = at; len = e - at }) id none)
     unfolding bytes
-    name-yes id n r = record {
+    name-yes id c r = record {
       host-in = omega (arith, p .start, p .end);
       other-in = r .0;
       key-in = omega arith;
-      command = name (cut at e line) (part-of line id) n;
+      command = name (cut at e line) (part-of line id) c;
       reads = record {
         short = o .short;
         spelled = record {
           host-ok = p .piece .ok;
           id-ok = r .1 .id-ok;
           id-some = r .1 .id-some;
-          digits = r .1 .digits;
-          number = r .1 .number;
+          word = r .1 .word;
+          item = r .1 .item;
           spelled = w .spelled ∙ ap (λ (t : Str). key NameKey · t) (p .piece .spelled ∙ ap (λ (t : Str). cut at e line · 93 ∷ 32 ∷ t) (r .1 .spelled));
         };
       };

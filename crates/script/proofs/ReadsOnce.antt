@@ -1,16 +1,16 @@
 -- A line is spelled by one command at most.
-use mathlib.Core.Path.{_≡_, refl, sym, ap, _∙_}
-use Prim.Native.Nat.{ℕ}
+use mathlib.Core.Path.{_≡_, refl, sym, ap, _∙_, ap₂}
 use lib.ListN.{length, drop}
 use lib.Seq.{drop-at}
+use Rattle.source.specs.declared.LidSymbol.{LidSymbol}
 use Rattle.numerals.specs.declared.Sort.the-variants.{Query, Word}
 use Rattle.script.specs.declared.Key.{Key}
 use Rattle.script.specs.declared.Key.the-variants.{Name as NameKey, Alias as AliasKey, Import as ImportKey, Module as ModuleKey, Ask as AskKey}
 use Rattle.numerals.specs.Bytes.{Str, _·_}
 use Rattle.script.specs.Script.{key, Command, Reads}
-use Rattle.numerals.specs.Numerals.{Numeral}
+use Rattle.numerals.specs.Numerals.{value-from}
 use Rattle.script.specs.Keys.{key-of}
-use Rattle.parts.specs.Parts.{IdEnd, PairEnd, QueryEnd}
+use Rattle.parts.specs.Parts.{written-kind, written-digits, ItemText, IdEnd, PairEnd, QueryEnd}
 use Rattle.parts.proofs.Runs.{piece-once}
 use Rattle.parts.proofs.Parts.{last-once, stops-query, stops-word, query-piece, pair-piece, id-piece}
 use Rattle.script.proofs.Forms.{Keyed, keyed, name-piece, name-id, import-pair, alias-piece, alias-pair, module-piece, ask-query}
@@ -19,8 +19,11 @@ use Rattle.script.proofs.Forms.{Keyed, keyed, name-piece, name-id, impo
 after : {line : Str} (word : Str) {s t : Str} → line ≡ word · s → line ≡ word · t → s ≡ t
 after word {s} {t} a b = sym (drop-at word s (length word) refl) ∙ ap (drop (length word)) (sym a ∙ b) ∙ drop-at word t (length word) refl
 
-number-once : {ds ds′ : Str} {n n′ : ℕ} → Numeral ds n → Numeral ds′ n′ → ds ≡ ds′ → n ≡ n′
-number-once a b e = sym (a .value) ∙ rw e (b .value)
+item-once : {w w′ : Str} {c c′ : LidSymbol} → ItemText w c → ItemText w′ c′ → w ≡ w′ → c ≡ c′
+item-once a b e =
+    ap₂ (λ k n. record { kind = k; number = n })
+    (a .kind-is ∙ ap written-kind e ∙ sym (b .kind-is))
+    (sym (a .number-is .value) ∙ ap (λ w. value-from 0 (written-digits w)) e ∙ b .number-is .value)
 
 query-once : {s q q′ : Str} → QueryEnd s q → QueryEnd s q′ → q ≡ q′
 query-once a b = piece-once Query stops-query (query-piece a) (query-piece b) .0
@@ -30,10 +33,10 @@ pair-once a b =
     let o = piece-once Query stops-query (pair-piece a) (pair-piece b) in
     (o .0, query-once (record { query-ok = a .query-ok; spelled = refl }) (record { query-ok = b .query-ok; spelled = o .1 }))
 
-id-once : {s i i′ : Str} {n n′ : ℕ} → IdEnd s i n → IdEnd s i′ n′ → (i ≡ i′) × (n ≡ n′)
+id-once : {s i i′ : Str} {c c′ : LidSymbol} → IdEnd s i c → IdEnd s i′ c′ → (i ≡ i′) × (c ≡ c′)
 id-once a b =
     let o = piece-once Word stops-word (id-piece a) (id-piece b) in
-    (o .0, number-once (a .number) (b .number) (last-once (a .digits) (b .digits) (o .1)))
+    (o .0, item-once (a .item) (b .item) (last-once (a .word) (b .word) (o .1)))
 
 -- Two commands of one form that one line spells.
 keyed-once : (line : Str) (k : Key) (c d : Command) → Keyed line c k → Keyed line d k → c ≡ d

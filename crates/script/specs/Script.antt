@@ -1,12 +1,12 @@
 -- The script's lines as the requirements spell them, and what `parse` answers.
 use mathlib.Core.Path.{_≡_}
 use mathlib.Core.Bool.{Bool, true, false}
-use Prim.Native.Nat.{ℕ, _<_, _≤_}
+use Prim.Native.Nat.{_<_, _≤_}
 use lib.ListN.{length}
+use Rattle.source.specs.declared.LidSymbol.{LidSymbol}
 use Rattle.numerals.specs.declared.Sort.the-variants.{Query, Word}
 use Rattle.numerals.specs.Bytes.{Str, bytes, _·_, All}
-use Rattle.numerals.specs.Numerals.{Numeral}
-use Rattle.parts.specs.Parts.{Within, part-of}
+use Rattle.parts.specs.Parts.{Within, part-of, ItemText}
 use Rattle.parts.specs.declared.Extent.{Extent}
 use Rattle.kinds.specs.declared.Kind.{Kind}
 use Rattle.kinds.specs.declared.Kind.the-variants as kind
@@ -36,20 +36,20 @@ key (AskKey Modules) = bytes "[modules ["
 
 -- What a line says: its form and the form's parts.
 pub data Command : Type 0 where
-  name : (host id : Str) (n : ℕ) → Command
+  name : (host id : Str) (c : LidSymbol) → Command
   import : (how : Import) (host q : Str) → Command
   alias : (word host q : Str) → Command
   module-path : (loaded : Bool) (q path : Str) → Command
   ask : (what : Question) (q : Str) → Command
 
--- `[name [host] id N]`
-pub record NameLine (line host id : Str) (n : ℕ) : Type 0 where
+-- `[name [host] id N]`, N an item: t5, p5, r5, or 5, which is r5.
+pub record NameLine (line host id : Str) (c : LidSymbol) : Type 0 where
   pub host-ok : All Query host
   pub id-ok : All Word id
   pub id-some : 0 < length id
-  pub digits : Str
-  pub number : Numeral digits n
-  pub spelled : line ≡ key NameKey · host · bytes "] " · id · bytes " " · digits · bytes "]"
+  pub word : Str
+  pub item : ItemText word c
+  pub spelled : line ≡ key NameKey · host · bytes "] " · id · bytes " " · word · bytes "]"
 
 -- `[include [host] [q]]`, `[open m [host] [q]]`, `[open n [host] [q]]`
 pub record ImportLine (how : Import) (line host q : Str) : Type 0 where
@@ -77,7 +77,7 @@ pub record AskLine (what : Question) (line q : Str) : Type 0 where
 
 -- The line is spelled so.
 abbrev pub Spelled : Str → Command → Type 0
-Spelled line (name host id n) = NameLine line host id n
+Spelled line (name host id c) = NameLine line host id c
 Spelled line (import how host q) = ImportLine how line host q
 Spelled line (alias word host q) = AliasLine line word host q
 Spelled line (module-path loaded q path) = ModuleLine loaded line q path
@@ -98,7 +98,7 @@ import-kind OpenNamespace = kind.Open
 
 -- The command is a registration of this kind, of these texts, as `call-of` of crate kinds orders them.
 abbrev pub OfKind : Command → Kind → (host other key : Str) → Type 0
-OfKind (name host id n) k h o y = (k ≡ kind.Name n) × (h ≡ host) × (o ≡ id)
+OfKind (name host id c) k h o y = (k ≡ kind.Name c) × (h ≡ host) × (o ≡ id)
 OfKind (import how host q) k h o y = (k ≡ import-kind how) × (h ≡ host) × (o ≡ q)
 OfKind (alias word host q) k h o y = (k ≡ kind.Alias) × (h ≡ host) × (o ≡ q) × (y ≡ word)
 OfKind (module-path loaded q path) k h o y = (k ≡ kind.Module loaded) × (h ≡ q) × (o ≡ path)

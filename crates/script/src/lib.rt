@@ -141,7 +141,7 @@ fn import_kind(how: Import) -> Kind
     }
 }
 
-// `[name [host] id N]`
+// `[name [host] id N]`, N an item
 fn name_form(line: &[u8]) -> LineForm
     requires { ⌜ Only (now line) Key.Name ⌝ }
     ensures { λ r. ⌜ Parsed (old line) r ⌝ }

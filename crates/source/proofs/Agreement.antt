@@ -19,7 +19,7 @@ use Rattle.source.specs.Rules.{Formed, IsKey, IsLabel, NameItem, ModItem
 use Rattle.source.specs.Calls.{Found, refused, found-of, look-up, Completed, listed, Output, completed, complete, complete-modules, lowest, argument-rows, completion-rows, a-look-up, is-empty}
 use Rattle.source.specs.Agreement.{Covers, without-last, NotRefused, lines-of-text, Shows, OneHolder, Agreement, Demand3}
 use Rattle.source.specs.Shared.{same, Allˡ}
-use Rattle.source.proofs.Filters.{all-listed}
+use Rattle.source.proofs.Filters.{all-listed, every-kept, all-kept}
 use Rattle.source.proofs.Queries.{and-parts, string-is}
 use Rattle.source.proofs.Refusals.{Admitted, argument-rows-none, look-up-whole, look-up-segment}
 use Rattle.source.proofs.Listed.{look-up-is-walk, to-list}
@@ -175,10 +175,11 @@ pub agreement : Demand3
 unfolding complete complete-modules autocomplete-lid autocomplete-mod-or-ns completion-result-of-lid completion-result-of-ns-or-mod
 agreement = record {
   names = λ tbl sound name query budget out lines entered asked e covers.
-      subst (Agreement (tbl .tbl-lids) name) (completed-lines true budget out query _ lines _ entered e)
+      subst (Agreement (tbl .tbl-lids) name)
+      (sym (every-kept _) ∙ completed-lines true budget out query _ lines _ entered e)
       (root-agreement NameItem completion-result-of-lid (λ x. refl) (λ x. refl) (tbl .tbl-lids) (sound .lids) name query asked covers);
   modules = λ tbl sound name query budget out lines entered asked e covers.
       subst (Agreement (tbl .tbl-mods) name)
-      (sym (all-listed tbl (segments query)) ∙ completed-lines true budget out query _ lines _ entered e)
+      (sym (all-listed tbl (segments query)) ∙ sym (all-kept _) ∙ completed-lines true budget out query _ lines _ entered e)
       (root-agreement ModItem completion-result-of-ns-or-mod (λ x. refl) (λ x. refl) (tbl .tbl-mods) (sound .mods) name query asked covers);
 }

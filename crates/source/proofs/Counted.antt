@@ -16,6 +16,7 @@ use Rattle.source.specs.Calls.{Call, name, include, opens, alias, module
 use Rattle.source.specs.Shared.{sumˡ}
 use Rattle.source.specs.Plans.{insert-branches, first-tree}
 use Rattle.source.specs.Forward.{entered}
+use Rattle.source.specs.declared.LidSymbol.{LidSymbol}
 
 -- A function of a choice by an order, case by case.
 by-order : {B C : Type 0} (f : B → C) (o : Ordering) {x y z : B} {x′ y′ z′ : C} → f x ≡ x′ → f y ≡ y′ → f z ≡ z′
@@ -113,11 +114,11 @@ module _ {A : Type 0} where
       trie-mutate-leaf-value _ _ (λ at rev-acc. trie-mutate-leaf-value _ _ (λ _ _. refl) at (key ∷ [])) tr host
 
 -- ---- The table
-lids-value : (tbl : Table) (m : Counted (Trie ℕ)) (tr : Trie ℕ) → m .value ≡ tr → lids tbl m .value ≡ record { tbl-lids = tr; tbl-mods = tbl .tbl-mods }
+lids-value : (tbl : Table) (m : Counted (Trie LidSymbol)) (tr : Trie LidSymbol) → m .value ≡ tr → lids tbl m .value ≡ record { tbl-lids = tr; tbl-mods = tbl .tbl-mods }
 unfolding lids _>>=_ pure
 lids-value tbl m tr e = ap (λ tr. record { tbl-lids = tr; tbl-mods = tbl .tbl-mods }) e
 
-pub insert-value : (tbl : Table) (host : Query) (id : Str) (c : ℕ) → insertᶜ tbl host id c .value ≡ insert tbl host id c
+pub insert-value : (tbl : Table) (host : Query) (id : Str) (c : LidSymbol) → insertᶜ tbl host id c .value ≡ insert tbl host id c
 unfolding insertᶜ insert
 insert-value tbl host id c = lids-value tbl _ _ (trie-insert-value (tbl .tbl-lids) host id c)
 

@@ -36,6 +36,7 @@ pub mod Worded
 pub mod Unchanged
 pub mod Quoted
 pub mod Bytes
+pub mod Items
 pub mod Filters
 pub mod Taken
 pub mod Spans

@@ -1,9 +1,10 @@
 -- The listing without an accumulator, forward: bindings ascending, then each namespace ascending with its own listing.
 -- What is counted of it, as sums: tries entered, lines, bytes of the output text.
 use Prim.Native.Nat.{ℕ, zero, suc, _+_}
-use mathlib.Core.Path.{_≡_, refl, sym, ap, ap₂, _∙_}
+use mathlib.Core.Path.{_≡_, refl, sym, ap, ap₂, subst, _∙_}
+use mathlib.Core.Bool.{Bool, true, false, cond}
 use mathlib.Core.List.{List, [], _∷_, _++_, map, flatMap, reverse, tail, append-assoc, append-nil, reverse-cons, map-append}
-use mathlib.Core.Option.{Option, none, some}
+use mathlib.Core.Option.{some}
 use native.Mathlib.Omega.{arith}
 use lib.ListN.{length, length-append, length-map}
 use Rattle.source.specs.Text.{Query}
@@ -11,12 +12,14 @@ use Rattle.source.specs.Types.{Value, Trie, bind, bindings, namespaces}
 use Rattle.source.specs.Trees.{PathElem}
 use Rattle.source.specs.Terms.{depth}
 use Rattle.source.specs.Listing.{PathOf, fold-left, rev-map-onto, ns-search-term, bindings-search-term, names-find-rev, find-prefix-fuel, trie-find-prefix′, trie-find-prefix}
-use Rattle.source.specs.Table.{Table, ModSymbol, Line, completion-result-of-lid, completion-result-of-ns-or-mod, filter-map, autocomplete-lid, autocomplete-mod-or-ns}
+use Rattle.source.specs.Table.{Table, ModSymbol, Line, completion-result-of-lid, completion-result-of-ns-or-mod, autocomplete-lid, autocomplete-mod-or-ns}
 use Rattle.source.specs.Forward.{entered}
-use Rattle.source.specs.Calls.{output-text, output-lines}
+use Rattle.source.specs.Calls.{output-text, output-lines, kept}
 use Rattle.source.specs.Shared.{sumˡ}
 use Rattle.source.specs.Forward.{found}
 use Rattle.source.specs.Forward.{line, lines, made, kept-line}
+use Rattle.source.specs.declared.LidSymbol.{LidSymbol}
+use Rattle.source.proofs.Filters.{all-listed}
 
 -- ---- lists
 module _ {A B : Type 0} where
@@ -148,30 +151,30 @@ module _ {B : Type 0} where
       rw (made-is mk n tr path q, output-text-append, length-append, text-length-flatMap (here mk n tr path q), text-length-flatMap (below mk n tr path q))
 
 -- ---- the two completions
-map-is-flatMap : {A B : Type 0} (f : A → B) (l : List A) → map f l ≡ flatMap (λ x. f x ∷ []) l
-unfolding flatMap
-map-is-flatMap f [] = refl
-map-is-flatMap f (a ∷ l) = ap (_∷_ (f a)) (map-is-flatMap f l)
 
-pub autocomplete-lid-is : (tbl : Table) (q : Query)
-    → autocomplete-lid tbl q ≡ made (λ x. completion-result-of-lid x ∷ []) (suc (depth (tbl .tbl-lids))) (tbl .tbl-lids) [] q
-unfolding autocomplete-lid made
-autocomplete-lid-is tbl q = ap (map completion-result-of-lid) (trie-find-prefix-is (tbl .tbl-lids) q) ∙ map-is-flatMap completion-result-of-lid _
-
-filter-map-is : (filter : PathOf × ModSymbol → Option (PathOf × ModSymbol)) (l : List (PathOf × ModSymbol))
-    → map completion-result-of-ns-or-mod (filter-map filter l) ≡ flatMap (kept-line filter) l
-unfolding filter-map flatMap kept-line
-filter-map-is filter [] = refl
-filter-map-is filter (x ∷ l) = go (filter x) (filter-map-is filter l)
+-- The lines that are kept of a listing.
+kept-made : {A : Type 0} (result : PathOf × A → Line A) → ((x : PathOf × A) → result x .item-of ≡ x .1) → (keep : A → Bool) (l : List (PathOf × A))
+    → kept keep (map result l) ≡ flatMap (kept-line result keep) l
+unfolding kept flatMap kept-line
+kept-made result h keep [] = refl
+kept-made result h keep (x ∷ l) =
+    subst (λ b. cond (keep (result x .item-of)) (result x ∷ kept keep (map result l)) (kept keep (map result l)) ≡ cond b (result x ∷ []) [] ++ flatMap (kept-line result keep) l)
+    (ap keep (h x)) (go (keep (result x .item-of)) (kept-made result h keep l))
   where
-    go : (o : Option (PathOf × ModSymbol)) → map completion-result-of-ns-or-mod (filter-map filter l) ≡ flatMap (kept-line filter) l
-        → map completion-result-of-ns-or-mod (elim o [ none ↦ filter-map filter l | some y ↦ y ∷ filter-map filter l ])
-        ≡ elim o [ none ↦ [] | some y ↦ completion-result-of-ns-or-mod y ∷ [] ] ++ flatMap (kept-line filter) l
-    go none e = e
-    go (some y) e = ap (_∷_ (completion-result-of-ns-or-mod y)) e
+    go : (b : Bool) → kept keep (map result l) ≡ flatMap (kept-line result keep) l
+        → cond b (result x ∷ kept keep (map result l)) (kept keep (map result l)) ≡ cond b (result x ∷ []) [] ++ flatMap (kept-line result keep) l
+    go true e = ap (_∷_ (result x)) e
+    go false e = e
 
-pub autocomplete-mod-or-ns-is : (tbl : Table) (q : Query) (filter : PathOf × ModSymbol → Option (PathOf × ModSymbol))
-    → autocomplete-mod-or-ns tbl q filter ≡ made (kept-line filter) (suc (depth (tbl .tbl-mods))) (tbl .tbl-mods) [] q
-unfolding autocomplete-mod-or-ns made
-autocomplete-mod-or-ns-is tbl q filter =
-    ap (λ l. map completion-result-of-ns-or-mod (filter-map filter l)) (trie-find-prefix-is (tbl .tbl-mods) q) ∙ filter-map-is filter _
+pub autocomplete-lid-is : (tbl : Table) (q : Query) (keep : LidSymbol → Bool)
+    → kept keep (autocomplete-lid tbl q) ≡ made (kept-line completion-result-of-lid keep) (suc (depth (tbl .tbl-lids))) (tbl .tbl-lids) [] q
+unfolding autocomplete-lid made completion-result-of-lid
+autocomplete-lid-is tbl q keep =
+    ap (λ l. kept keep (map completion-result-of-lid l)) (trie-find-prefix-is (tbl .tbl-lids) q) ∙ kept-made completion-result-of-lid (λ x. refl) keep _
+
+pub autocomplete-mod-or-ns-is : (tbl : Table) (q : Query) (keep : ModSymbol → Bool)
+    → kept keep (autocomplete-mod-or-ns tbl q some) ≡ made (kept-line completion-result-of-ns-or-mod keep) (suc (depth (tbl .tbl-mods))) (tbl .tbl-mods) [] q
+unfolding made completion-result-of-ns-or-mod
+autocomplete-mod-or-ns-is tbl q keep =
+    ap (kept keep) (all-listed tbl q ∙ ap (map completion-result-of-ns-or-mod) (trie-find-prefix-is (tbl .tbl-mods) q))
+    ∙ kept-made completion-result-of-ns-or-mod (λ x. refl) keep _

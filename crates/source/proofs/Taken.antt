@@ -9,6 +9,7 @@ use borrow.Author.Tests.{ltb-true, ltb-false, lt-ltb, le-ltb}
 use Rattle.source.specs.Limits.{record-words, most-used}
 use Rattle.source.specs.Text.{Str}
 use Rattle.source.specs.Calls.{text-of, name, include, opens, alias, module-path, arguments, whole-records, free, text-taken}
+use Rattle.source.specs.declared.LidSymbol.{LidSymbol}
 
 -- Twelve words to a record: the whole records lent, and less than a record over.
 pub whole-records-are : (words : ℕ) → (whole-records words * 12 ≤ words) × (words < whole-records words * 12 + 12)
@@ -44,7 +45,7 @@ module _ (words used needed : ℕ) where
 
 -- A call takes the bytes of its texts, each once and whole.
 pub record Taken : Type 0 where
-  pub of-name : (host id : Str) (number : ℕ) → text-taken (arguments (name host id number)) ≡ length host + length id
+  pub of-name : (host id : Str) (c : LidSymbol) → text-taken (arguments (name host id c)) ≡ length host + length id
   pub of-include : (host q : Str) → text-taken (arguments (include host q)) ≡ length host + length q
   pub of-open : (is-module : Bool) (host q : Str) → text-taken (arguments (opens is-module host q)) ≡ length host + length q
   pub of-alias : (key host q : Str) → text-taken (arguments (alias key host q)) ≡ length key + length host + length q

@@ -14,6 +14,8 @@ use Rattle.source.specs.Rules.{SoundTable}
 use Rattle.source.specs.Calls.{State, Lent, Call, name, include, opens, alias, module-path, accepted, register, registered, after, look-up, lowest, argument-rows, a-look-up, Found, found-of, refused, Output, listed, complete}
 use Rattle.source.specs.Agreement.{Covers, without-last, NotRefused, lines-of-text, Shows}
 use Rattle.source.specs.Plans.{host-of}
+use Rattle.source.specs.declared.LidSymbol.{LidSymbol}
+use Rattle.source.specs.declared.KindFilter.the-variants.{Every}
 use Rattle.source.proofs.Elsewhere.{Pick, Picks, walk, first-pick, last-pick, first-picks, last-picks, first-walk, last-walk, leaf-elsewhere}
 use Rattle.source.proofs.Refusals.{accepted-is}
 use Rattle.source.proofs.Keeps.{accepted-sound}
@@ -71,7 +73,7 @@ module _ {A : Type 0} (pick : Pick A) (laws : Picks pick) where
       go rest [] e f = refl
       go rest (y ∷ r) e f = absurd (d y r (e ∙ ap (λ r. host ++ r) f))
 
-module _ (pick : Pick ℕ) (laws : Picks pick) where
+module _ (pick : Pick LidSymbol) (laws : Picks pick) where
   registered-walk : (tbl : Table) (c : Call) (n : Query) → (Touches c n → ⊥) → walk pick (registered tbl c .tbl-lids) n ≡ walk pick (tbl .tbl-lids) n
   unfolding registered insert register-include register-open register-alias register-module-stays-loaded
   registered-walk tbl (name host id number) n d = name-walk pick laws (tbl .tbl-lids) (segments host) id number n d
@@ -95,7 +97,7 @@ module _ (sound : Bool) (lent : Lent) (s s′ : State) (c : Call) (e : register 
   unfolding look-up after
   look-up-unchanged =
       ap (λ t. look-up true (t .table .tbl-lids) query) (accepted-is sound lent s s′ c e)
-      ∙ ap (λ o. elim (lowest (argument-rows true (a-look-up query ∷ []))) as (λ _. Found ℕ) [ none ↦ found-of o | some n ↦ refused n ])
+      ∙ ap (λ o. elim (lowest (argument-rows true (a-look-up query ∷ []))) as (λ _. Found LidSymbol) [ none ↦ found-of o | some n ↦ refused n ])
       (find-unchanged (s .table) c (segments query) d)
 
   same-walk : walk-last (s′ .table .tbl-lids) (segments query) ≡ walk-last (s .table .tbl-lids) (segments query)
@@ -104,9 +106,9 @@ module _ (sound : Bool) (lent : Lent) (s s′ : State) (c : Call) (e : register 
 
   -- Nor does it change the lines of other names: completions before and after, of one query that covers the name, both show it with the same item, or neither does.
   pub lines-unchanged : SoundTable (s .table) → NotRefused (look-up true (s .table .tbl-lids) query)
-      → (typed : Str) → Covers (segments typed) (segments query) → (budget budget′ : ℕ) (out out′ : Output) (lines lines′ : List (Line ℕ)) (entered entered′ : ℕ)
-      → complete true (s .table) budget out typed ≡ listed lines entered → complete true (s′ .table) budget′ out′ typed ≡ listed lines′ entered′
-      → (w : Found ℕ) × Shows (lines-of-text (without-last query) lines) w × Shows (lines-of-text (without-last query) lines′) w
+      → (typed : Str) → Covers (segments typed) (segments query) → (budget budget′ : ℕ) (out out′ : Output) (lines lines′ : List (Line LidSymbol)) (entered entered′ : ℕ)
+      → complete true (s .table) Every budget out typed ≡ listed lines entered → complete true (s′ .table) Every budget′ out′ typed ≡ listed lines′ entered′
+      → (w : Found LidSymbol) × Shows (lines-of-text (without-last query) lines) w × Shows (lines-of-text (without-last query) lines′) w
   lines-unchanged t asked typed covers budget budget′ out out′ lines lines′ entered entered′ f f′ = (
     found-of (walk-last (s .table .tbl-lids) (segments query)),
     agreement .names (s .table) t query typed budget out lines entered asked f covers .pane,
@@ -114,10 +116,10 @@ module _ (sound : Bool) (lent : Lent) (s s′ : State) (c : Call) (e : register 
   )
 
 -- An accepted name changes no look-up on the names root but that of its own full name.
-pub name-unchanged : (sound : Bool) (lent : Lent) (s s′ : State) (host id : Str) (number : ℕ) (query : Str)
-    → register sound lent s (name host id number) ≡ accepted s′ → (segments query ≡ segments host ++ (id ∷ []) → ⊥)
+pub name-unchanged : (sound : Bool) (lent : Lent) (s s′ : State) (host id : Str) (x : LidSymbol) (query : Str)
+    → register sound lent s (name host id x) ≡ accepted s′ → (segments query ≡ segments host ++ (id ∷ []) → ⊥)
     → look-up true (s′ .table .tbl-lids) query ≡ look-up true (s .table .tbl-lids) query
-name-unchanged sound lent s s′ host id number query e d = look-up-unchanged sound lent s s′ (name host id number) e query d
+name-unchanged sound lent s s′ host id x query e d = look-up-unchanged sound lent s s′ (name host id x) e query d
 
 -- ---- an include copies
 
@@ -159,9 +161,9 @@ apart-untouched host x (module-path loaded query path) a t = t
 pub record Copied (s s′ : State) (query : Str) : Type 0 where
   pub found : look-up true (s′ .table .tbl-lids) query ≡ look-up true (s .table .tbl-lids) query
   pub shown : SoundTable (s .table) → NotRefused (look-up true (s .table .tbl-lids) query)
-      → (typed : Str) → Covers (segments typed) (segments query) → (budget budget′ : ℕ) (out out′ : Output) (lines lines′ : List (Line ℕ)) (entered entered′ : ℕ)
-      → complete true (s .table) budget out typed ≡ listed lines entered → complete true (s′ .table) budget′ out′ typed ≡ listed lines′ entered′
-      → (w : Found ℕ) × Shows (lines-of-text (without-last query) lines) w × Shows (lines-of-text (without-last query) lines′) w
+      → (typed : Str) → Covers (segments typed) (segments query) → (budget budget′ : ℕ) (out out′ : Output) (lines lines′ : List (Line LidSymbol)) (entered entered′ : ℕ)
+      → complete true (s .table) Every budget out typed ≡ listed lines entered → complete true (s′ .table) Every budget′ out′ typed ≡ listed lines′ entered′
+      → (w : Found LidSymbol) × Shows (lines-of-text (without-last query) lines) w × Shows (lines-of-text (without-last query) lines′) w
 
 -- An include copies the names as they are at that moment: no later registration apart from the including host, in the included module or elsewhere, changes a name right there.
 -- For every registration at another host it would be false: after `include [Live.] [Saved.]`, `open n [] [Lib.]` makes `Live.` lead to `Lib.Live.` (`shadowed` in Cases).

@@ -13,6 +13,8 @@ use Rattle.source.specs.Terms.{flatten, holders, first-of, walk-first, w
 use Rattle.source.specs.Table.{Table, ModSymbol, Line}
 use Rattle.source.specs.Rules.{SoundTable}
 use Rattle.source.specs.Calls.{Found, found, not-found, refused, found-of, look-up, listed, Output, All, complete, complete-modules}
+use Rattle.source.specs.declared.LidSymbol.{LidSymbol}
+use Rattle.source.specs.declared.KindFilter.the-variants.{Every}
 
 -- A query covers a full name that has at least as many segments and whose segments begin, one by one, with the query's.
 abbrev pub Covers : (query name : Query) → Type 0
@@ -56,10 +58,10 @@ module _ {A : Type 0} where
     pub agree : Shows (lines-of-text (without-last name) lines) (look-up true root name) ↔ (walk-first root (segments name) ≡ walk-last root (segments name))
     pub one-holder : OneHolder root (segments name) → Shows (lines-of-text (without-last name) lines) (look-up true root name)
 
--- On either root of every sound table, for every full name that look-up does not refuse and every completion, unfiltered and not refused, that covers it.
+-- On either root of every sound table, for every full name that look-up does not refuse and every completion, of all kinds or unfiltered and not refused, that covers it.
 pub record Demand3 : Type 0 where
-  pub names : (tbl : Table) → SoundTable tbl → (name query : Str) (budget : ℕ) (out : Output) (lines : List (Line ℕ)) (entered : ℕ)
-      → NotRefused (look-up true (tbl .tbl-lids) name) → complete true tbl budget out query ≡ listed lines entered → Covers (segments query) (segments name)
+  pub names : (tbl : Table) → SoundTable tbl → (name query : Str) (budget : ℕ) (out : Output) (lines : List (Line LidSymbol)) (entered : ℕ)
+      → NotRefused (look-up true (tbl .tbl-lids) name) → complete true tbl Every budget out query ≡ listed lines entered → Covers (segments query) (segments name)
       → Agreement (tbl .tbl-lids) name lines
   pub modules : (tbl : Table) → SoundTable tbl → (name query : Str) (budget : ℕ) (out : Output) (lines : List (Line ModSymbol)) (entered : ℕ)
       → NotRefused (look-up true (tbl .tbl-mods) name) → complete-modules true tbl All budget out query ≡ listed lines entered → Covers (segments query) (segments name)

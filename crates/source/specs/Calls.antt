@@ -11,10 +11,14 @@ use Rattle.source.specs.Text.{Str, Query, common-prefix, string-length, 
 use Rattle.source.specs.Types.{Value, Trie, bind, the-item}
 use Rattle.source.specs.Tries.{trie-find-exact}
 use Rattle.source.specs.Terms.{heaviest, depth}
-use Rattle.source.specs.Listing.{PathOf, fold-left}
+use Rattle.source.specs.Listing.{fold-left}
 use Rattle.source.specs.Table.{Table, ModSymbol, Module, Namespace, Line, empty, insert, register-alias, register-include, register-open, register-module-stays-loaded, autocomplete-lid, autocomplete-mod-or-ns}
 use Rattle.source.specs.Counted.{insertᶜ, register-aliasᶜ, register-includeᶜ, register-openᶜ, register-module-pathᶜ, trie-find-prefixᶜ}
 use Rattle.source.specs.Rules.{all}
+use Rattle.source.specs.Items.{same-kind}
+use Rattle.source.specs.declared.LidSymbol.{LidSymbol}
+use Rattle.source.specs.declared.KindFilter.{KindFilter}
+use Rattle.source.specs.declared.KindFilter.the-variants.{Every, Only}
 
 -- ---- Arguments
 
@@ -117,14 +121,14 @@ free lent used = min lent most-used - used
 
 -- A registration, with its texts as lent.
 pub data Call : Type 0 where
-  name : (host id : Str) (number : ℕ) → Call
+  name : (host id : Str) (c : LidSymbol) → Call
   include : (host included : Str) → Call
   opens : (is-module : Bool) (host included : Str) → Call
   alias : (key host included : Str) → Call
   module-path : (loaded : Bool) (query path : Str) → Call
 
 unfoldable pub arguments : Call → List Argument
-arguments (name host id number) = a-query host ∷ a-name id ∷ []
+arguments (name host id c) = a-query host ∷ a-name id ∷ []
 arguments (include host included) = a-query host ∷ a-query included ∷ []
 arguments (opens is-module host included) = a-query host ∷ a-query included ∷ []
 arguments (alias key host included) = a-name key ∷ a-query host ∷ a-query included ∷ []
@@ -132,7 +136,7 @@ arguments (module-path loaded query path) = a-query query ∷ a-path path ∷ []
 
 -- The source's function for a registration; of a module path the one that departs from it.
 unfoldable pub registered : Table → Call → Table
-registered tbl (name host id number) = insert tbl (segments host) id number
+registered tbl (name host id c) = insert tbl (segments host) id c
 registered tbl (include host included) = register-include tbl (segments host) (segments included)
 registered tbl (opens is-module host included) = register-open tbl is-module (segments host) (segments included)
 registered tbl (alias key host included) = register-alias tbl key (segments host) (segments included)
@@ -140,7 +144,7 @@ registered tbl (module-path loaded query path) = register-module-stays-loaded tb
 
 -- Records: those that the source's expressions build in the call.
 unfoldable pub records : Table → Call → ℕ
-records tbl (name host id number) = insertᶜ tbl (segments host) id number .count
+records tbl (name host id c) = insertᶜ tbl (segments host) id c .count
 records tbl (include host included) = register-includeᶜ tbl (segments host) (segments included) .count
 records tbl (opens is-module host included) = register-openᶜ tbl is-module (segments host) (segments included) .count
 records tbl (alias key host included) = register-aliasᶜ tbl key (segments host) (segments included) .count
@@ -262,7 +266,17 @@ module _ {A : Type 0} where
 unfoldable pub tries-entered : {A : Type 0} → Trie A → Query → ℕ
 tries-entered root query = trie-find-prefixᶜ root query .count
 
--- The filter argument. Loaded is of either sort.
+-- What a completion keeps: the lines whose item passes, in order and as they are.
+unfoldable pub kept : {A : Type 0} → (A → Bool) → List (Line A) → List (Line A)
+kept keep [] = []
+kept keep (l ∷ ls) = cond (keep (l .item-of)) (l ∷ kept keep ls) (kept keep ls)
+
+-- The filter of names.
+unfoldable pub keeps-kind : KindFilter → LidSymbol → Bool
+keeps-kind Every c = true
+keeps-kind (Only k) c = same-kind k (c .kind)
+
+-- The filter of modules. Loaded is of either sort.
 pub data Filter : Type 0 where
   All Loaded ModulesOnly NamespacesOnly : Filter
 
@@ -275,17 +289,14 @@ keeps ModulesOnly (Namespace n loaded) = false
 keeps NamespacesOnly (Module m path loaded) = false
 keeps NamespacesOnly (Namespace n loaded) = true
 
-unfoldable pub filter-of : Filter → PathOf × ModSymbol → Option (PathOf × ModSymbol)
-filter-of f x = elim (keeps f (x .1)) [ true ↦ some x | false ↦ none ]
-
 -- What a completion hands back: of names, of modules.
-unfoldable pub complete : (sound : Bool) → Table → (budget : ℕ) → Output → Str → Completed ℕ
-complete sound tbl budget out query =
-    completed sound budget out query (autocomplete-lid tbl (segments query)) (tries-entered (tbl .tbl-lids) (segments query))
+unfoldable pub complete : (sound : Bool) → Table → KindFilter → (budget : ℕ) → Output → Str → Completed LidSymbol
+complete sound tbl f budget out query =
+    completed sound budget out query (kept (keeps-kind f) (autocomplete-lid tbl (segments query))) (tries-entered (tbl .tbl-lids) (segments query))
 
 unfoldable pub complete-modules : (sound : Bool) → Table → Filter → (budget : ℕ) → Output → Str → Completed ModSymbol
 complete-modules sound tbl f budget out query =
-    completed sound budget out query (autocomplete-mod-or-ns tbl (segments query) (filter-of f)) (tries-entered (tbl .tbl-mods) (segments query))
+    completed sound budget out query (kept (keeps f) (autocomplete-mod-or-ns tbl (segments query) some)) (tries-entered (tbl .tbl-mods) (segments query))
 
 -- ---- What all lines agree on
 

@@ -9,6 +9,7 @@ use Rattle.source.specs.Tries.{names-find-exact, scope-of, included}
 use Rattle.source.specs.Terms.{depth}
 use Rattle.source.specs.Listing.{PathOf, rev-map-onto, ns-search-term, bindings-search-term, names-find-rev}
 use Rattle.source.specs.Table.{Table, ModSymbol, Module, Namespace, ns-inserts, name-of-revq, loaded-module}
+use Rattle.source.specs.declared.LidSymbol.{LidSymbol}
 
 -- A value, and how many were counted on the way to it.
 pub record Counted (A : Type 0) : Type 0 where
@@ -97,12 +98,12 @@ module _ {A : Type 0} where
         b ← one (ImportedNames label (bindings inc) []ᴺ)
         one (trie b []ᴺ)))
 
-unfoldable pub lids : Table → Counted (Trie ℕ) → Counted Table
+unfoldable pub lids : Table → Counted (Trie LidSymbol) → Counted Table
 lids tbl m = do
   tr ← m
   pure (record { tbl-lids = tr; tbl-mods = tbl .tbl-mods })
 
-unfoldable pub insertᶜ : Table → Query → Str → ℕ → Counted Table
+unfoldable pub insertᶜ : Table → Query → Str → LidSymbol → Counted Table
 insertᶜ tbl host id c = lids tbl (trie-insertᶜ (tbl .tbl-lids) host id c)
 
 unfoldable pub register-aliasᶜ : Table → Str → Query → Query → Counted Table

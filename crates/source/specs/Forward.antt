@@ -10,7 +10,7 @@ use Rattle.source.specs.Lists.{Run, run, first, run-cmp, put-back}
 use Rattle.source.specs.Types.{Level, Value, Tree, NameList, Trie, bind, []ᴺ, Names, ImportedNames, the-item, bindings, namespaces}
 use Rattle.source.specs.Trees.{PrefixMatch, PathElem, btree-find-all, btree-find-prefix}
 use Rattle.source.specs.Listing.{PathOf, SearchTerm, NSTAll, NSTNone, NSTPrefix, ns-search-term, bindings-search-term, names-find-rev}
-use Rattle.source.specs.Table.{ModSymbol, Line, completion-result-of-ns-or-mod}
+use Rattle.source.specs.Table.{Line}
 use Rattle.source.specs.Shared.{same, sumˡ}
 
 -- ---- Heaps
@@ -120,6 +120,6 @@ module _ {A : Type 0} where
   entered zero tr q = 0
   entered (suc n) tr q = suc (sumˡ (λ x. entered n (x .1) (tail q)) (names-find-rev (namespaces tr) (ns-search-term q)))
 
--- The line of a symbol that the filter keeps.
-unfoldable pub kept-line : (PathOf × ModSymbol → Option (PathOf × ModSymbol)) → PathOf × ModSymbol → List (Line ModSymbol)
-kept-line filter x = elim (filter x) [ none ↦ [] | some y ↦ completion-result-of-ns-or-mod y ∷ [] ]
+  -- The line of a path and its item, none where the item does not pass.
+  unfoldable pub kept-line : (PathOf × A → Line A) → (A → Bool) → PathOf × A → List (Line A)
+  kept-line result keep x = cond (keep (x .1)) (result x ∷ []) []

@@ -9,6 +9,7 @@ pub mod Trees
 pub mod Tries
 pub mod Terms
 pub mod Listing
+pub mod Items
 pub mod Table
 pub mod Forward
 pub mod Rules

@@ -10,6 +10,7 @@ use Rattle.source.specs.Text.{Str, name-byte, query-byte, path-byte}
 use Rattle.source.specs.Types.{Level, Value, Trie, Tree, NameList, item, trie, StrEmpty, StrBranch, []ᴺ, Names, ImportedNames}
 use Rattle.source.specs.Terms.{heaviest, depth}
 use Rattle.source.specs.Table.{ModSymbol, Module, Namespace, Table}
+use Rattle.source.specs.declared.LidSymbol.{LidSymbol}
 
 -- Each byte passes the test.
 unfoldable pub all : (ℕ → Bool) → Str → Bool
@@ -35,8 +36,8 @@ IsFullName s = Fits query-byte 1 longest-full-name s
 abbrev pub IsPath : Str → Type 0
 IsPath s = Fits path-byte 0 longest-path s
 
--- The items of the names table (any number that a word holds), and of the module table.
-abbrev pub NameItem : ℕ → Type 0
+-- The items of the names table (any kind and number), and of the module table.
+abbrev pub NameItem : LidSymbol → Type 0
 NameItem n = Unit {0}
 
 abbrev pub ModItem : ModSymbol → Type 0

@@ -9,20 +9,21 @@ use Rattle.source.specs.Types.{Value, Trie, NameList, bind, item, trie, 
 use Rattle.source.specs.Trees.{PathElem}
 use Rattle.source.specs.Tries.{names-find-exact, names-insert, trie-mutate, trie-insert, trie-include, trie-open-namespace, trie-add-alias, trie-find-exact, dflt}
 use Rattle.source.specs.Listing.{PathOf, fold-left, trie-find-prefix}
+use Rattle.source.specs.declared.LidSymbol.{LidSymbol}
 
--- mod_symbol. A lid_symbol is a 32-bit number.
+-- mod_symbol. A lid_symbol is a kind and a 32-bit number, LidSymbol of src/lib.rt.
 pub data ModSymbol : Type 0 where
   Module : (mod-name mod-path : Str) (mod-loaded : Bool) → ModSymbol
   Namespace : (ns-name : Str) (ns-loaded : Bool) → ModSymbol
 
 pub record Table : Type 0 where
-  pub tbl-lids : Trie ℕ
+  pub tbl-lids : Trie LidSymbol
   pub tbl-mods : Trie ModSymbol
 
 unfoldable pub empty : Table
 empty = record { tbl-lids = trie-empty; tbl-mods = trie-empty }
 
-unfoldable pub insert : Table → Query → Str → ℕ → Table
+unfoldable pub insert : Table → Query → Str → LidSymbol → Table
 insert tbl host id c = record { tbl-lids = trie-insert (tbl .tbl-lids) host id c; tbl-mods = tbl .tbl-mods }
 
 unfoldable pub register-alias : Table → Str → Query → Query → Table
@@ -128,7 +129,7 @@ pub record Line (A : Type 0) : Type 0 where
   pub candidate : Str
   pub annotation : Str
 
-unfoldable pub completion-result-of-lid : PathOf × ℕ → Line ℕ
+unfoldable pub completion-result-of-lid : PathOf × LidSymbol → Line LidSymbol
 completion-result-of-lid x = record {
   match-length = match-length-of-path (x .0);
   item-of = x .1;
@@ -154,7 +155,7 @@ completion-result-of-ns-or-mod x = record {
 unfoldable pub find-module-or-ns : Table → Query → Option (Value ModSymbol bind)
 find-module-or-ns tbl query = trie-find-exact (tbl .tbl-mods) query
 
-unfoldable pub autocomplete-lid : Table → Query → List (Line ℕ)
+unfoldable pub autocomplete-lid : Table → Query → List (Line LidSymbol)
 autocomplete-lid tbl query = map completion-result-of-lid (trie-find-prefix (tbl .tbl-lids) query)
 
 -- List.filter_map

@@ -11,6 +11,8 @@ use Rattle.source.specs.Calls as C
 use Rattle.source.specs.Calls.{look-up, argument-rows, lowest, complete, complete-modules}
 use Rattle.source.specs.Agreement.{Covers, NotRefused, Agreement}
 use Rattle.source.proofs.Agreement.{agreement}
+use Rattle.source.specs.declared.LidSymbol.{LidSymbol}
+use Rattle.source.specs.declared.KindFilter.the-variants.{Every}
 use Rattle.memory.specs.Layout.{names, modules, Item}
 use Rattle.memory.specs.Sound.{Says}
 use Rattle.memory.proofs.SoundTable.{sound-table}
@@ -39,13 +41,13 @@ listed-lines ask ws txt flat flat′ out out′ n entered (C.listed lines e) h =
 listed-lines ask ws txt flat flat′ out out′ n entered (C.refused m) h = absurd (Option·none-ne-some m (h .0))
 
 module _ (ws txt : List ℕ) (t : Table) (name query : Str) (budget : ℕ) (flat flat′ out out′ : List ℕ) (n entered : ℕ) (cover : Covers (segments query) (segments name)) where
-  names-agree : (b : Bool) → Says b (IsSound ws txt t) → (a : C.Found ℕ) → a ≡ look-up b (names-in ws txt t) name → NotRefused a
-      → CompletesAs Names ws txt flat flat′ out out′ (Listed n entered) (complete b (table-in ws txt t) budget (output flat out) query)
+  names-agree : (b : Bool) → Says b (IsSound ws txt t) → (a : C.Found LidSymbol) → a ≡ look-up b (names-in ws txt t) name → NotRefused a
+      → CompletesAs (Names Every) ws txt flat flat′ out out′ (Listed n entered) (complete b (table-in ws txt t) Every budget (output flat out) query)
       → (a ≡ look-up true (names-in ws txt t) name) × Agreement (names-in ws txt t) name (lines-seen names txt flat′ out′ n)
   unfolding look-up lowest argument-rows
   names-agree false s a f ok c = absurd (rw f at ok)
   names-agree true s a f ok c =
-      let l = listed-lines Names ws txt flat flat′ out out′ n entered _ c in
+      let l = listed-lines (Names Every) ws txt flat flat′ out out′ n entered _ c in
       (f, rw (l .2) (agreement .names (table-in ws txt t) (sound-table s) name query budget (output flat out) (l .0) entered (rw f at ok) (l .1) cover))
 
   modules-agree : (b : Bool) → Says b (IsSound ws txt t) → (a : C.Found ModSymbol) → a ≡ look-up b (modules-in ws txt t) name → NotRefused a

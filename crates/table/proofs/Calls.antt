@@ -10,6 +10,7 @@ use Rattle.source.specs.Calls as C
 use Rattle.source.specs.Calls.{State, Call, name, opens, registered, after, register, look-up}
 use Rattle.source.proofs.Refusals.{accepted-is}
 use Rattle.source.proofs.Unchanged.{name-unchanged}
+use Rattle.source.specs.declared.LidSymbol.{LidSymbol}
 use Rattle.table.specs.declared.Table.{Table}
 use Rattle.table.specs.declared.Registration.{Registration}
 use Rattle.table.specs.Header.{table-in, state, lent, names-in}
@@ -36,7 +37,7 @@ pub opened-table : {ws txt ws′ txt′ : List ℕ} {t : Table} {r : Registratio
 unfolding registered
 opened-table is-module host query a e = accepted-table a e
 
-pub insert-unchanged : (ws txt ws′ txt′ : List ℕ) (t : Table) (host id : Str) (item : ℕ) (r : Registration) (query : Str)
+pub insert-unchanged : (ws txt ws′ txt′ : List ℕ) (t : Table) (host id : Str) (item : LidSymbol) (r : Registration) (query : Str)
     → Answers true ws txt ws′ txt′ t (name host id item) r → refusal-of (r .answer) ≡ none → (segments query ≡ segments host ++ (id ∷ []) → ⊥)
     → look-up true (names-in ws′ txt′ (r .table)) query ≡ look-up true (names-in ws txt t) query
 insert-unchanged ws txt ws′ txt′ t host id item r query a e d = name-unchanged true (lent ws txt) (state ws txt t) _ host id item query (accepts a e) d

@@ -4,10 +4,10 @@ use mathlib.Core.Path.{_≡_, refl, subst}
 use mathlib.Core.Bool.{true, false}
 use mathlib.Core.List.{List}
 use Rattle.source.specs.Text.{Str, segments}
-use Rattle.source.specs.Calls.{lowest, argument-rows, Output, completion-rows, completed, tries-entered, complete, complete-modules}
+use Rattle.source.specs.Calls.{lowest, argument-rows, Output, completion-rows, completed, tries-entered, keeps-kind, keeps, complete, complete-modules}
 use Rattle.source.proofs.Lines.{autocomplete-lid-is, autocomplete-mod-or-ns-is}
 use Rattle.memory.specs.Layout.{trieˢ, what}
-use Rattle.asks.specs.Ask.{asked}
+use Rattle.asks.specs.Ask.{filter-in, asked}
 use Rattle.asks.specs.declared.Ask.{Ask}
 use Rattle.asks.specs.declared.Ask.the-variants.{Names, Modules}
 use Rattle.completion.specs.Completes.{output, lines-of}
@@ -24,8 +24,8 @@ on-table : (ws txt : List ℕ) (t : Table) (ask : Ask) (budget : ℕ) (out : Out
     → completed true budget out query (lines-of ask (what (asked ask) ws txt (root-for (t .header) ask) trieˢ) (segments query)) (tries-entered (what (asked ask) ws txt (root-for (t .header) ask) trieˢ) (segments query))
     ≡ completion true (table-in ws txt t) ask budget out query
 unfolding complete complete-modules
-on-table ws txt t Names budget out query = rw (autocomplete-lid-is (table-in ws txt t) (segments query))
-on-table ws txt t (Modules f) budget out query = rw (autocomplete-mod-or-ns-is (table-in ws txt t) (segments query))
+on-table ws txt t (Names f) budget out query = rw (autocomplete-lid-is (table-in ws txt t) (segments query) (keeps-kind f))
+on-table ws txt t (Modules f) budget out query = rw (autocomplete-mod-or-ns-is (table-in ws txt t) (segments query) (keeps (filter-in f)))
 
 pub completes-table : {ws txt : List ℕ} {t : Table} {ask : Ask} {query : Str} {budget : ℕ} {flat flat′ out out′ : List ℕ} {r : Completed} → IsSound ws txt t
     → CompletesOn ws txt ask (root-for (t .header) ask) query budget flat flat′ out out′ r → Completes ws txt t ask query budget flat flat′ out out′ (record { table = t; answer = r })
@@ -41,5 +41,5 @@ unfolding complete complete-modules completed completion-rows lowest argument-ro
 completes-unsound {ws} {txt} {t} {ask} {query} {budget} {flat} {out} o = record { table = refl; says = λ b h. rw (decided _ b false h o) (go ask) }
   where
     go : (ask : Ask) → CompletesAs ask ws txt flat flat out out (Refused Unsound) (completion false (table-in ws txt t) ask budget (output flat out) query)
-    go Names = (refl, refl, refl)
+    go (Names f) = (refl, refl, refl)
     go (Modules f) = (refl, refl, refl)

@@ -6,6 +6,7 @@ use mathlib.Core.List.{List}
 use Rattle.source.specs.Text.{Str, segments}
 use Rattle.source.specs.Calls.{look-up}
 use Rattle.source.specs.Agreement.{Covers, NotRefused, Agreement}
+use Rattle.source.specs.declared.KindFilter.the-variants.{Every}
 use Rattle.memory.specs.Layout.{names, modules}
 use Rattle.memory.specs.Sound.{Says}
 use Rattle.asks.specs.declared.Ask.the-variants.{Names, Modules}
@@ -26,7 +27,7 @@ use Rattle.roots.specs.declared.Completed.the-variants.{Listed}
 pub record CallsAgree : Type 0 where
   pub of-names : (ws txt : List ℕ) (t : Table) (b : Bool) → Says b (IsSound ws txt t) → (name query : Str) (f : Finding) (budget : ℕ) (flat flat′ out out′ : List ℕ) (l : Listing) (lines entered : ℕ)
       → Finds ws txt t name f → NotRefused (name-found (f .answer))
-      → Completes ws txt t Names query budget flat flat′ out out′ l → l .answer ≡ Listed lines entered → Covers (segments query) (segments name)
+      → Completes ws txt t (Names Every) query budget flat flat′ out out′ l → l .answer ≡ Listed lines entered → Covers (segments query) (segments name)
       → (name-found (f .answer) ≡ look-up true (names-in ws txt t) name) × Agreement (names-in ws txt t) name (lines-seen names txt flat′ out′ lines)
   pub of-modules : (ws txt : List ℕ) (t : Table) (b : Bool) → Says b (IsSound ws txt t) → (name query : Str) (f : ModuleFinding) (budget : ℕ) (flat flat′ out out′ : List ℕ) (l : Listing) (lines entered : ℕ)
       → FindsModule ws txt t name f → NotRefused (module-found txt (f .answer))

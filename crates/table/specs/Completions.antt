@@ -20,7 +20,7 @@ use Rattle.table.specs.declared.Listing.{Listing}
 
 -- The requirements' answer to what is asked.
 abbrev pub completion : (sound : Bool) → S.Table → (ask : Ask) → (budget : ℕ) → Output → Str → C.Completed (Item (asked ask))
-completion sound tbl Names budget out query = complete sound tbl budget out query
+completion sound tbl (Names f) budget out query = complete sound tbl f budget out query
 completion sound tbl (Modules f) budget out query = complete-modules sound tbl (filter-in f) budget out query
 
 -- What a completion hands back, in any memory: the table as it was, and the answer of the definition; b says whether the memory is sound.

@@ -6,6 +6,7 @@ use Rattle.source.specs.Types.{Trie}
 use Rattle.source.specs.Table as S
 use Rattle.source.specs.Table.{ModSymbol}
 use Rattle.source.specs.Calls.{State, Lent, fresh}
+use Rattle.source.specs.declared.LidSymbol.{LidSymbol}
 use Rattle.memory.specs.Layout.{names, modules, trieˢ, what, table-of, state-of}
 use Rattle.memory.specs.Sound.{Sound}
 use Rattle.register.specs.Checks as R
@@ -24,7 +25,7 @@ abbrev pub state : (ws txt : List ℕ) → Table → State
 state ws txt t = state-of ws txt (t .header)
 
 -- Its root of names.
-abbrev pub names-in : (ws txt : List ℕ) → Table → Trie ℕ
+abbrev pub names-in : (ws txt : List ℕ) → Table → Trie LidSymbol
 names-in ws txt t = what names ws txt (t .header .names) trieˢ
 
 -- Its root of modules.

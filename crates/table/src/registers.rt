@@ -2,6 +2,7 @@
 use crate::Registration;
 use crate::Table;
 use kinds::Kind;
+use source::LidSymbol;
 ghost use mathlib.Core.Bool.{true, false};
 ghost use Rattle.source.specs.Lent.{old, new};
 ghost use Rattle.source.specs.Calls.{name, include, opens, alias, module-path};
@@ -16,7 +17,7 @@ impl Table {
         text: &mut [u8],
         host: &[u8],
         id: &[u8],
-        item: u32,
+        item: LidSymbol,
     ) -> Registration
         ensures { λ r. ⌜ Total (old words) (old text) (new words) (new text) self (name (old host) (old id) item) r ⌝ }
     {
@@ -30,7 +31,7 @@ impl Table {
         text: &mut [u8],
         host: &[u8],
         id: &[u8],
-        item: u32,
+        item: LidSymbol,
     ) -> Registration
         requires { ⌜ IsSound (now words) (now text) self ⌝ }
         ensures { λ r. ⌜ Answers true (old words) (old text) (new words) (new text) self (name (old host) (old id) item) r ⌝ }

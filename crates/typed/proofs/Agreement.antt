@@ -13,6 +13,8 @@ use Rattle.source.specs.Calls as C
 use Rattle.source.specs.Calls.{look-up, lowest, argument-rows, output-text, complete, complete-modules}
 use Rattle.source.specs.Agreement.{Covers, NotRefused, Agreement}
 use Rattle.source.proofs.Agreement.{agreement}
+use Rattle.source.specs.declared.LidSymbol.{LidSymbol}
+use Rattle.source.specs.declared.KindFilter.the-variants.{Every}
 use Rattle.memory.specs.Layout.{names, modules, Item}
 use Rattle.memory.specs.Sound.{Says}
 use Rattle.memory.proofs.SoundTable.{sound-table}
@@ -41,14 +43,14 @@ listed-lines ask ws txt flat flat′ out out′ ls ls′ n entered (C.listed lin
 listed-lines ask ws txt flat flat′ out out′ ls ls′ n entered (C.refused m) h s = absurd (Option·none-ne-some m (h .0))
 
 module _ (ws txt : List ℕ) (t : Table) (name query : Str) (budget : ℕ) (ls ls′ : List Line) (flat flat′ out out′ : List ℕ) (n entered : ℕ) (cover : Covers (segments query) (segments name)) where
-  names-agree : (b : Bool) → Says b (IsSound ws txt t) → (a : C.Found ℕ) → a ≡ look-up b (names-in ws txt t) name → NotRefused a
-      → CompletesAs Names ws txt flat flat′ out out′ (Listed n entered) (complete b (table-in ws txt t) budget (output (length ls) flat out) query)
-      → ShownAs Names txt ls ls′ (complete b (table-in ws txt t) budget (output (length ls) flat out) query)
-      → (a ≡ look-up true (names-in ws txt t) name) × ((lines : List (S.Line ℕ)) × LinesStand names txt ls ls′ out out′ n lines × Agreement (names-in ws txt t) name lines)
+  names-agree : (b : Bool) → Says b (IsSound ws txt t) → (a : C.Found LidSymbol) → a ≡ look-up b (names-in ws txt t) name → NotRefused a
+      → CompletesAs (Names Every) ws txt flat flat′ out out′ (Listed n entered) (complete b (table-in ws txt t) Every budget (output (length ls) flat out) query)
+      → ShownAs (Names Every) txt ls ls′ (complete b (table-in ws txt t) Every budget (output (length ls) flat out) query)
+      → (a ≡ look-up true (names-in ws txt t) name) × ((lines : List (S.Line LidSymbol)) × LinesStand names txt ls ls′ out out′ n lines × Agreement (names-in ws txt t) name lines)
   unfolding look-up lowest argument-rows
   names-agree false s a f ok c v = absurd (rw f at ok)
   names-agree true s a f ok c v =
-      let l = listed-lines Names ws txt flat flat′ out out′ ls ls′ n entered _ c v in
+      let l = listed-lines (Names Every) ws txt flat flat′ out out′ ls ls′ n entered _ c v in
       (f, (l .0, l .2, agreement .names (table-in ws txt t) (sound-table s) name query budget (output (length ls) flat out) (l .0) entered (rw f at ok) (l .1) cover))
 
   modules-agree : (b : Bool) → Says b (IsSound ws txt t) → (a : C.Found ModSymbol) → a ≡ look-up b (modules-in ws txt t) name → NotRefused a

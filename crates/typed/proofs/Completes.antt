@@ -100,7 +100,7 @@ all-held ws txt t ask query budget true s o = answer-held true (table-in ws txt 
 all-held ws txt t ask query budget false s o = go ask
   where
     go : (ask : Ask) → AnswerHeld (completion false (table-in ws txt t) ask budget o query)
-    go Names = tt
+    go (Names f) = tt
     go (Modules f) = tt
 
 module _ {ws txt : List ℕ} {t : Table} {q : Request} {query : Str} {flat flat′ out out′ : List ℕ} {r : Listing} {n : ℕ} where

@@ -89,5 +89,5 @@ module _ {ws txt : List ℕ} {t : Table} {q : Request} {query : Str} {room : ℕ
   }
     where
       go : (ask : Ask) → CompletesAs ask ws txt flat flat out out (Refused Unsound) (completion false (table-in ws txt t) ask (q .budget) (output room flat out) query)
-      go Names = (refl, refl, refl)
+      go (Names f) = (refl, refl, refl)
       go (Modules f) = (refl, refl, refl)

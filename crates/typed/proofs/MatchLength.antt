@@ -16,13 +16,14 @@ use Rattle.source.specs.Terms.{depth}
 use Rattle.source.specs.Listing.{PathOf, SearchTerm, NSTAll, NSTNone, NSTPrefix, ns-search-term, bindings-search-term, revmap-onto, names-revmap, matching-values, with-imports, elem-key, names-find-rev}
 use Rattle.source.specs.Table.{Table, ModSymbol, Line, Matched, match-elem, match-length-of-path, completion-result-of-lid, completion-result-of-ns-or-mod}
 use Rattle.source.specs.Rules.{IsKey, IsLabel, NameItem, ModItem, Formed, FormedNames, SoundTrie, SoundTable}
-use Rattle.source.specs.Calls.{Completed, listed, refused, Output, completed, completion-rows, lowest, complete, complete-modules, keeps, filter-of}
+use Rattle.source.specs.Calls.{Completed, listed, refused, Output, completed, completion-rows, lowest, complete, complete-modules, keeps-kind, keeps}
 use Rattle.source.specs.Shared.{Allˡ}
 use Rattle.source.proofs.Lookup.{Allˡ-map, Allˡ-zip}
 use Rattle.source.proofs.Lists.{merge-all}
 use Rattle.source.proofs.Listed.{rows-formed, parts}
 use Rattle.source.specs.Forward.{found}
 use Rattle.source.specs.Forward.{line, lines, made, kept-line}
+use Rattle.source.specs.declared.LidSymbol.{LidSymbol}
 use Rattle.source.proofs.Lines.{autocomplete-lid-is, autocomplete-mod-or-ns-is}
 use Rattle.source.proofs.Paths.{matched, match-length-skip, match-length-some, match-length-none}
 use Rattle.text.proofs.Texts.{starts-short}
@@ -200,16 +201,21 @@ completed-held A b budget out query lines entered a = go (lowest (completion-row
     go none = a
     go (some n) = tt
 
-pub answer-held : (b : Bool) (tbl : Table) (ask : Ask) (budget : ℕ) (out : Output) (query : Str) → SoundTable tbl → AnswerHeld (completion b tbl ask budget out query)
-unfolding complete complete-modules completion-result-of-lid kept-line completion-result-of-ns-or-mod filter-of
-answer-held b tbl Asks.Names budget out query s =
-    completed-held ℕ b budget out query _ _ (subst (Allˡ (λ l. Held (l .match-length))) (sym (autocomplete-lid-is tbl (segments query))) (made-held NameItem _ (tbl .tbl-lids) (segments query) (λ x h. (h, tt)) (s .lids)))
-answer-held b tbl (Asks.Modules f) budget out query s =
-    completed-held ModSymbol b budget out query _ _ (subst (Allˡ (λ l. Held (l .match-length))) (sym (autocomplete-mod-or-ns-is tbl (segments query) (filter-of (filter-in f)))) (made-held ModItem _ (tbl .tbl-mods) (segments query) (λ x h. kept x h) (s .mods)))
+-- So has a line that is kept.
+kept-held : {A : Type 0} (result : PathOf × A → Line A) → ((x : PathOf × A) → result x .match-length ≡ match-length-of-path (x .0)) → (keep : A → Bool) (x : PathOf × A)
+    → Held (match-length-of-path (x .0)) → Allˡ (λ l. Held (l .match-length)) (kept-line result keep x)
+unfolding kept-line
+kept-held result e keep x h = go (keep (x .1))
   where
-    kept : (x : PathOf × ModSymbol) → Held (match-length-of-path (x .0)) → Allˡ (λ l. Held (l .match-length)) (kept-line (filter-of (filter-in f)) x)
-    kept x h = go (keeps (filter-in f) (x .1))
-      where
-        go : (t : Bool) → Allˡ (λ (l : Line ModSymbol). Held (l .match-length)) (let o : Option (PathOf × ModSymbol) = elim t [ true ↦ some x | false ↦ none ] in elim o [ none ↦ [] | some y ↦ completion-result-of-ns-or-mod y ∷ [] ])
-        go true = (h, tt)
-        go false = tt
+    go : (t : Bool) → Allˡ (λ l. Held (l .match-length)) (cond t (result x ∷ []) [])
+    go true = (rw (e x) h, tt)
+    go false = tt
+
+pub answer-held : (b : Bool) (tbl : Table) (ask : Ask) (budget : ℕ) (out : Output) (query : Str) → SoundTable tbl → AnswerHeld (completion b tbl ask budget out query)
+unfolding complete complete-modules completion-result-of-lid completion-result-of-ns-or-mod
+answer-held b tbl (Asks.Names f) budget out query s =
+    completed-held LidSymbol b budget out query _ _ (subst (Allˡ (λ l. Held (l .match-length))) (sym (autocomplete-lid-is tbl (segments query) (keeps-kind f)))
+    (made-held NameItem _ (tbl .tbl-lids) (segments query) (λ x h. kept-held completion-result-of-lid (λ y. refl) (keeps-kind f) x h) (s .lids)))
+answer-held b tbl (Asks.Modules f) budget out query s =
+    completed-held ModSymbol b budget out query _ _ (subst (Allˡ (λ l. Held (l .match-length))) (sym (autocomplete-mod-or-ns-is tbl (segments query) (keeps (filter-in f))))
+    (made-held ModItem _ (tbl .tbl-mods) (segments query) (λ x h. kept-held completion-result-of-ns-or-mod (λ y. refl) (keeps (filter-in f)) x h) (s .mods)))

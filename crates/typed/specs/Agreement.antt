@@ -9,6 +9,8 @@ use Rattle.source.specs.Table as S
 use Rattle.source.specs.Table.{ModSymbol}
 use Rattle.source.specs.Calls.{look-up, output-text}
 use Rattle.source.specs.Agreement.{Covers, NotRefused, Agreement}
+use Rattle.source.specs.declared.LidSymbol.{LidSymbol}
+use Rattle.source.specs.declared.KindFilter.the-variants.{Every}
 use Rattle.memory.specs.Layout as L
 use Rattle.memory.specs.Layout.{names, modules}
 use Rattle.memory.specs.Sound.{Says}
@@ -37,9 +39,9 @@ pub record LinesStand (w : L.Which) (txt : List ℕ) (ls ls′ : List Line) (out
 pub record TypedAgree : Type 0 where
   pub of-names : (ws txt : List ℕ) (t : Table) (b : Bool) → Says b (IsSound ws txt t) → (name query : Str) (f : Finding) (budget : ℕ) (ls ls′ : List Line) (flat flat′ out out′ : List ℕ) (l : Listing) (n entered : ℕ)
       → Finds ws txt t name f → NotRefused (name-found (f .answer))
-      → CompletesLines ws txt t (record { ask = Names; budget = budget }) query ls ls′ flat flat′ out out′ l → l .answer ≡ Listed n entered → Covers (segments query) (segments name)
+      → CompletesLines ws txt t (record { ask = Names Every; budget = budget }) query ls ls′ flat flat′ out out′ l → l .answer ≡ Listed n entered → Covers (segments query) (segments name)
       → (name-found (f .answer) ≡ look-up true (names-in ws txt t) name)
-      × ((lines : List (S.Line ℕ)) × LinesStand names txt ls ls′ out out′ n lines × Agreement (names-in ws txt t) name lines)
+      × ((lines : List (S.Line LidSymbol)) × LinesStand names txt ls ls′ out out′ n lines × Agreement (names-in ws txt t) name lines)
   pub of-modules : (ws txt : List ℕ) (t : Table) (b : Bool) → Says b (IsSound ws txt t) → (name query : Str) (f : ModuleFinding) (budget : ℕ) (ls ls′ : List Line) (flat flat′ out out′ : List ℕ) (l : Listing) (n entered : ℕ)
       → FindsModule ws txt t name f → NotRefused (module-found txt (f .answer))
       → CompletesLines ws txt t (record { ask = Modules All; budget = budget }) query ls ls′ flat flat′ out out′ l → l .answer ≡ Listed n entered → Covers (segments query) (segments name)

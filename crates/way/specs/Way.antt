@@ -7,6 +7,7 @@ use Rattle.source.specs.Text.{Str, Query, segments}
 use Rattle.source.specs.Types.{Trie, NameList, ns, bindings, namespaces}
 use Rattle.source.specs.Tries.{scope-of}
 use Rattle.source.specs.Plans.{insert-branches, first-tree}
+use Rattle.source.specs.declared.LidSymbol.{LidSymbol}
 use Rattle.memory.specs.Layout.{Which, Item, names, modules, trieˢ, what}
 use Rattle.memory.specs.Grown.{Keeps}
 use Rattle.memory.specs.declared.Header.{Header}
@@ -80,9 +81,9 @@ pub record WayNotedIn (k : Kind) (ws txt : List ℕ) (w : Which) (root : ℕ) (h
   pub kept : Keeps 1 way way′
   pub leads : Way ws txt w k other key (drop 1 way′) root (segments host)
 
--- Of a name, whatever its number.
+-- Of a name, whatever its item.
 abbrev pub NameNoted : (ws txt : List ℕ) (root : ℕ) (host id : Str) (way way′ : List ℕ) → Type 0
-NameNoted ws txt root host id way way′ = (number : ℕ) (key : Str) → WayNotedIn (Name number) ws txt names root host id key way way′
+NameNoted ws txt root host id way way′ = (c : LidSymbol) (key : Str) → WayNotedIn (Name c) ws txt names root host id key way way′
 
 -- Of an alias.
 abbrev pub AliasNoted : (ws txt : List ℕ) (root : ℕ) (key host : Str) (way way′ : List ℕ) → Type 0

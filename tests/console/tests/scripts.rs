@@ -47,7 +47,7 @@ fn scripts_at_limits() {
 #[test]
 fn the_printed_session() {
     let input = b"[name [Saved.] offset 1]\n[include [Live.] [Saved.]]\n[name [Live.] offset 3]\n[find [Live.offset.]]\n[complete [Live.off.]]\n";
-    let output = b"[ok 6]\n[ok 12]\n[ok 19]\n[found 3]\n[line 8 1 [] Live.offset]\n[end 1 2]\n";
+    let output = b"[ok 6]\n[ok 12]\n[ok 19]\n[found r3]\n[line 8 r1 [] Live.offset]\n[end 1 2]\n";
     assert_eq!(console(input), output);
     assert_eq!(console(&input[..input.len() - 1]), output);
 }
@@ -76,7 +76,7 @@ fn replies_come_before_the_next_line() {
     let mut run = Command::new(program).stdin(Stdio::piped()).stdout(Stdio::piped()).spawn().unwrap();
     let mut input = run.stdin.take().unwrap();
     let mut output = BufReader::new(run.stdout.take().unwrap());
-    for (line, reply) in [("[name [] tick 5]\n", "[ok 3]\n"), ("[find [tick.]]\n", "[found 5]\n"), ("tick\n", "[bad]\n")] {
+    for (line, reply) in [("[name [] tick 5]\n", "[ok 3]\n"), ("[find [tick.]]\n", "[found r5]\n"), ("tick\n", "[bad]\n")] {
         input.write_all(line.as_bytes()).unwrap();
         let mut got = String::new();
         output.read_line(&mut got).unwrap();

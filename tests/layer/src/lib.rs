@@ -1,7 +1,7 @@
 //! The C layer's calls (bindings/rust) on the independent implementation's terms.
 use model::layout::{Header, Memory};
 use model::listings::{both, Shared};
-use model::model::{CompletionResult, Filter, ModSymbol, Registration, Str};
+use model::model::{Ask, CompletionResult, Filter, Item, Kind, ModSymbol, Registration, Str};
 use name_console::{bytes as calls, sys};
 
 /// A table as bytes.
@@ -43,31 +43,41 @@ impl Bytes {
     }
 }
 
-/// The number that stands for a yes or no; `odd` puts another one in its place.
-fn flag(yes: bool, odd: Option<u32>) -> u32 {
-    odd.unwrap_or(yes as u32)
+/// The number of the choice that a registration has: a kind, or a yes or no.
+pub fn choice(call: &Registration) -> Option<u32> {
+    match call {
+        Registration::Name { item, .. } => Some(item.kind.number()),
+        Registration::Module { loaded, .. } => Some(*loaded as u32),
+        _ => None,
+    }
 }
 
-/// A registration; `odd` in the place of a flag, where the call has one.
+/// A registration; `odd` in the place of its choice, where it has one.
 pub fn register(t: &mut Bytes, call: &Registration, odd: Option<u32>) -> u32 {
     let (s, w, x) = (&mut t.state[..], &mut t.words[..], &mut t.text[..]);
+    let choice = odd.or(choice(call)).unwrap_or(0);
     match call {
-        Registration::Name { host, id, item } => calls::insert(s, w, x, host, id, *item),
+        Registration::Name { host, id, item } => calls::insert_item(s, w, x, host, id, choice, item.number),
         Registration::Include { host, included } => calls::include(s, w, x, host, included),
         Registration::OpenNamespace { host, included } => calls::open_namespace(s, w, x, host, included),
         Registration::OpenModule { host, included } => calls::open_module(s, w, x, host, included),
         Registration::Alias { key, host, included } => calls::alias(s, w, x, key, host, included),
-        Registration::Module { loaded, query, path } => calls::module(s, w, x, flag(*loaded, odd), query, path),
+        Registration::Module { query, path, .. } => calls::module(s, w, x, choice, query, path),
     }
 }
 
-pub fn find(t: &Bytes, q: &[u8]) -> Result<Option<u32>, u32> {
-    let r = calls::find(&t.state, &t.words, &t.text, q);
-    match r.answer {
-        0 => Ok(Some(r.item)),
-        sys::NONE => Ok(None),
-        n => Err(n),
+/// The item of this kind, which stands for one, and number.
+fn item(kind: u32, number: u32) -> Item {
+    Item { kind: Kind::from_number(kind).expect("a kind"), number }
+}
+
+pub fn find(t: &Bytes, q: &[u8]) -> Result<Option<Item>, u32> {
+    let r = calls::find_item(&t.state, &t.words, &t.text, q);
+    if r.answer == 0 {
+        return Ok(Some(item(r.kind, r.number)));
     }
+    assert_eq!((r.kind, r.number), (0, 0));
+    if r.answer == sys::NONE { Ok(None) } else { Err(r.answer) }
 }
 
 fn part(text: &[u8], span: [u32; 2]) -> Str {
@@ -97,12 +107,31 @@ pub struct Output {
     pub text: Vec<u8>,
 }
 
-/// A completion of names, or of modules under the number of a filter.
-pub fn complete(t: &Bytes, modules: Option<u32>, q: &[u8], budget: u32, out: &mut Output) -> Result<(u32, u32), u32> {
+/// What a completion asks for, by the number of a kind or of a filter. It may stand for none.
+#[derive(Clone, Copy, Debug)]
+pub enum Asked {
+    Names(u32),
+    Modules(u32),
+}
+
+impl From<Ask> for Asked {
+    fn from(ask: Ask) -> Asked {
+        match ask {
+            Ask::Names(kind) => Asked::Names(kind.map_or(0, Kind::number)),
+            Ask::Modules(Filter::All) => Asked::Modules(0),
+            Ask::Modules(Filter::Loaded) => Asked::Modules(1),
+            Ask::Modules(Filter::ModulesOnly) => Asked::Modules(2),
+            Ask::Modules(Filter::NamespacesOnly) => Asked::Modules(3),
+        }
+    }
+}
+
+/// A completion.
+pub fn complete(t: &Bytes, asked: impl Into<Asked>, q: &[u8], budget: u32, out: &mut Output) -> Result<(u32, u32), u32> {
     let (lines, text) = (&mut out.lines, &mut out.text);
-    let r = match modules {
-        None => calls::complete(&t.state, &t.words, &t.text, q, budget, lines, text),
-        Some(f) => calls::complete_modules(&t.state, &t.words, &t.text, f, q, budget, lines, text),
+    let r = match asked.into() {
+        Asked::Names(kind) => calls::complete_names(&t.state, &t.words, &t.text, kind, q, budget, lines, text),
+        Asked::Modules(f) => calls::complete_modules(&t.state, &t.words, &t.text, f, q, budget, lines, text),
     };
     match r.answer {
         0 => Ok((r.lines, r.entered)),
@@ -114,11 +143,11 @@ pub fn complete(t: &Bytes, modules: Option<u32>, q: &[u8], budget: u32, out: &mu
 }
 
 /// The same with its shared length.
-pub fn complete_shared(t: &Bytes, modules: Option<u32>, q: &[u8], budget: u32, out: &mut Output) -> Shared {
+pub fn complete_shared(t: &Bytes, asked: impl Into<Asked>, q: &[u8], budget: u32, out: &mut Output) -> Shared {
     let (lines, text) = (&mut out.lines, &mut out.text);
-    let r = match modules {
-        None => calls::complete_shared(&t.state, &t.words, &t.text, q, budget, lines, text),
-        Some(f) => calls::complete_modules_shared(&t.state, &t.words, &t.text, f, q, budget, lines, text),
+    let r = match asked.into() {
+        Asked::Names(kind) => calls::complete_names_shared(&t.state, &t.words, &t.text, kind, q, budget, lines, text),
+        Asked::Modules(f) => calls::complete_modules_shared(&t.state, &t.words, &t.text, f, q, budget, lines, text),
     };
     match r.answer {
         0 => Ok((r.lines, r.entered, r.shared)),
@@ -130,9 +159,10 @@ pub fn complete_shared(t: &Bytes, modules: Option<u32>, q: &[u8], budget: u32, o
 }
 
 /// Both, held to each other.
-pub fn complete_both(t: &Bytes, modules: Option<u32>, q: &[u8], budget: u32, out: &mut Output) -> Shared {
-    let plain = |o: &mut Output| complete(t, modules, q, budget, o);
-    both(&(modules, q, budget), out, plain, |o| complete_shared(t, modules, q, budget, o))
+pub fn complete_both(t: &Bytes, asked: impl Into<Asked>, q: &[u8], budget: u32, out: &mut Output) -> Shared {
+    let asked = asked.into();
+    let plain = |o: &mut Output| complete(t, asked, q, budget, o);
+    both(&(asked, q, budget), out, plain, |o| complete_shared(t, asked, q, budget, o))
 }
 
 impl Output {
@@ -146,25 +176,18 @@ impl Output {
     }
 
     /// Line `k` of a completion of names.
-    pub fn name(&self, k: usize) -> CompletionResult<u32> {
-        let w = self.words(k);
-        CompletionResult { match_length: w[0] as i32, item: w[5], candidate: part(&self.text, [w[1], w[2]]), annotation: part(&self.text, [w[3], w[4]]) }
+    pub fn name(&self, k: usize) -> CompletionResult<Item> {
+        self.line(k, |w| item(w[6], w[5]))
     }
 
     /// Line `k` of a completion of modules, its texts in the table's text.
     pub fn module(&self, table: &[u8], k: usize) -> CompletionResult<ModSymbol> {
-        let w = self.words(k);
-        let item = symbol(table, w[5], [w[6], w[7]], [w[8], w[9]], w[10]);
-        CompletionResult { match_length: w[0] as i32, item, candidate: part(&self.text, [w[1], w[2]]), annotation: part(&self.text, [w[3], w[4]]) }
+        self.line(k, |w| symbol(table, w[5], [w[6], w[7]], [w[8], w[9]], w[10]))
     }
-}
 
-/// The number of a filter.
-pub fn number(f: Filter) -> u32 {
-    match f {
-        Filter::All => 0,
-        Filter::Loaded => 1,
-        Filter::ModulesOnly => 2,
-        Filter::NamespacesOnly => 3,
+    /// Line `k`, its item read from its words.
+    fn line<A>(&self, k: usize, item: impl Fn(&[u32]) -> A) -> CompletionResult<A> {
+        let w = self.words(k);
+        CompletionResult { match_length: w[0] as i32, item: item(&w), candidate: part(&self.text, [w[1], w[2]]), annotation: part(&self.text, [w[3], w[4]]) }
     }
 }

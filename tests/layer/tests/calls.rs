@@ -1,24 +1,21 @@
 //! The C layer against the independent implementation: answers, tables, lines, and every byte that a call may not change.
-use layer::{complete_both, find, find_module, number, register, Bytes, Output};
+use layer::{choice, complete_both, find, find_module, register, Asked, Bytes, Output};
 use model::gen::{completion_query, damaged_query, damaged_registration, damages, full_name, registered_memory, registration, Rng, MIXES};
 use model::layout::{decode, same_table};
 use model::listings::Tally;
-use model::model::{self as independent, autocomplete_lid, autocomplete_mod_or_ns, shared_length, CompletionResult, Filter, Refusal, Registration, Table};
-
-const FILTERS: [Filter; 4] = [Filter::All, Filter::Loaded, Filter::ModulesOnly, Filter::NamespacesOnly];
+use model::model::{self as independent, autocomplete_lid, autocomplete_mod_or_ns, shared_length, Ask, CompletionResult, Refusal, Registration, Table};
 
 /// The table that the bytes are, or Unsound.
 fn table(t: &Bytes) -> Result<Table, Refusal> {
     t.memory().ok_or(Refusal::Unsound).and_then(|m| m.table())
 }
 
-/// What a registration must answer and leave. Counts answers by number.
+/// What a registration must answer and leave, `odd` in the place of its choice. Counts answers by number.
 fn hold(t: &mut Bytes, call: &Registration, odd: Option<u32>, answers: &mut [u64; 9]) {
     let before = t.clone();
-    let flagged = matches!(call, Registration::Module { .. });
     let expected = table(&before).and_then(|old| match odd {
-        Some(_) if flagged => Err(Refusal::Malformed),
-        _ => independent::register(&old, before.memory().unwrap().lent(), call),
+        Some(_) => Err(Refusal::Malformed),
+        None => independent::register(&old, before.memory().unwrap().lent(), call),
     });
     let answer = register(t, call, odd);
     answers[answer as usize] += 1;
@@ -40,10 +37,24 @@ fn hold(t: &mut Bytes, call: &Registration, odd: Option<u32>, answers: &mut [u64
     }
 }
 
+/// A number that does not stand for what the call has a choice of, if it has one.
+fn odd(rng: &mut Rng, call: &Registration) -> Option<u32> {
+    let stands = match call {
+        Registration::Name { .. } => 1..=3,
+        _ => 0..=1,
+    };
+    choice(call)?;
+    let any = rng.word();
+    let number = *rng.pick(&[0, 2, 4, 256 + 1, u32::MAX, any]);
+    (!stands.contains(&number)).then_some(number)
+}
+
 #[test]
 fn registrations_and_look_ups() {
     let mut rng = Rng::new(Rng::seed_or(8));
     let mut answers = [0; 9];
+    // Names and modules that are accepted but for the number in the place of their choice.
+    let mut odds = [0; 2];
     for round in 0..30 {
         let mut t = Bytes::of(&registered_memory(&mut rng, 0, [40, 300, 1100][round % 3], [60, 700, 4000][round % 3]));
         // Bytes that are no whole record.
@@ -51,8 +62,11 @@ fn registrations_and_look_ups() {
         let mix = *rng.pick(&MIXES);
         for _ in 0..100 {
             let call = if rng.one_in(6) { damaged_registration(&mut rng, &mix) } else { registration(&mut rng, &mix) };
-            let odd = rng.one_in(10).then(|| 2 + rng.word() % 0xFFFF_FFFE);
+            let odd = if rng.one_in(10) { odd(&mut rng, &call) } else { None };
             hold(&mut t, &call, odd, &mut answers);
+            if odd.is_some() && register(&mut t.clone(), &call, None) == 0 {
+                odds[usize::from(matches!(call, Registration::Module { .. }))] += 1;
+            }
         }
         let now = table(&t).expect("sound");
         for _ in 0..100 {
@@ -61,14 +75,15 @@ fn registrations_and_look_ups() {
             assert_eq!(find_module(&t, &query), independent::find(&now.modules, &query).map_err(|r| r.number()), "{query:?}");
         }
     }
-    println!("registrations by answer (0 accepted): {answers:?}; 6000 look-ups; 0 disagreements");
+    println!("registrations by answer (0 accepted): {answers:?}; names and modules refused for their choice: {odds:?}; 6000 look-ups; 0 disagreements");
     assert!([0, 2, 3, 4, 7, 8].iter().all(|&n| 0 < answers[n]), "{answers:?}");
+    assert!(odds.iter().all(|&n| 0 < n), "{odds:?}");
 }
 
 /// What a completion must answer and leave, with and without its shared length.
 fn listed<A: PartialEq + std::fmt::Debug>(
     t: &Bytes,
-    filter: Option<u32>,
+    asked: Asked,
     query: &[u8],
     budget: u32,
     room: (usize, usize),
@@ -78,20 +93,20 @@ fn listed<A: PartialEq + std::fmt::Debug>(
 ) {
     let mut out = Output::with_room(room.0, room.1);
     let before = out.clone();
-    let answer = complete_both(t, filter, query, budget, &mut out);
+    let answer = complete_both(t, asked, query, budget, &mut out);
     let size = |l: &[CompletionResult<A>]| l.iter().map(|r| r.candidate.len() + r.annotation.len()).sum::<usize>();
     let fits = |l: &[CompletionResult<A>]| l.len() <= room.0 && size(l) <= room.1;
     let expected = expected.and_then(|(l, e)| if fits(&l) { Ok((l, e)) } else { Err(Refusal::Lines) });
     match expected {
         Err(r) => {
             tally.refused(r.number());
-            assert_eq!(answer, Err(r.number()), "{filter:?} {query:?}");
+            assert_eq!(answer, Err(r.number()), "{asked:?} {query:?}");
         }
         Ok((lines, entered)) => {
             tally.listed(&lines);
-            assert_eq!(answer, Ok((lines.len() as u32, entered, shared_length(&lines))), "{filter:?} {query:?}");
+            assert_eq!(answer, Ok((lines.len() as u32, entered, shared_length(&lines))), "{asked:?} {query:?}");
             for (k, l) in lines.iter().enumerate() {
-                assert_eq!(&line(&out, k), l, "{filter:?} {query:?}");
+                assert_eq!(&line(&out, k), l, "{asked:?} {query:?}");
             }
             assert!(out.lines[lines.len() * 48..] == before.lines[lines.len() * 48..]);
             let used = size(&lines);
@@ -104,14 +119,26 @@ fn complete_all(rng: &mut Rng, t: &Bytes, query: &[u8], tally: &mut Tally) {
     let now = table(t);
     let budget = if rng.one_in(3) { rng.below(12) as u32 } else { rng.word() };
     let room = (rng.below(30) * rng.below(30), rng.below(60) * rng.below(60));
-    let names = now.as_ref().map_err(|&r| r).and_then(|n| autocomplete_lid(n, query, budget));
-    listed(t, None, query, budget, room, names, |o, k| o.name(k), tally);
-    for f in FILTERS {
-        let modules = now.as_ref().map_err(|&r| r).and_then(|n| autocomplete_mod_or_ns(n, query, f, budget));
-        listed(t, Some(number(f)), query, budget, room, modules, |o, k| o.module(&t.text, k), tally);
+    for ask in Ask::ALL {
+        match ask {
+            Ask::Names(kind) => {
+                let names = now.as_ref().map_err(|&r| r).and_then(|n| autocomplete_lid(n, query, kind, budget));
+                if let (None, Ok((lines, _))) = (kind, &names) {
+                    tally.all_kinds(lines);
+                }
+                listed(t, ask.into(), query, budget, room, names, |o, k| o.name(k), tally);
+            }
+            Ask::Modules(f) => {
+                let modules = now.as_ref().map_err(|&r| r).and_then(|n| autocomplete_mod_or_ns(n, query, f, budget));
+                listed(t, ask.into(), query, budget, room, modules, |o, k| o.module(&t.text, k), tally);
+            }
+        }
     }
-    let odd = Err(now.map_or(Refusal::Unsound, |_| Refusal::Malformed));
-    listed(t, Some(4 + rng.word() % 0xFFFF_FFFC), query, budget, room, odd, |o, k| o.name(k), tally);
+    let none = 4 + rng.word() % 0xFFFF_FFFC;
+    for asked in [Asked::Names(none), Asked::Modules(none)] {
+        let odd = Err(now.as_ref().map_or(Refusal::Unsound, |_| Refusal::Malformed));
+        listed(t, asked, query, budget, room, odd, |o, k| o.name(k), tally);
+    }
 }
 
 #[test]
@@ -126,7 +153,7 @@ fn completions() {
         }
     }
     println!("completions: {tally:?}; 0 disagreements");
-    assert!(tally.has(&[0, 2, 4, 9, 10]), "{tally:?}");
+    assert!(tally.has(&[0, 2, 4, 9, 10]) && tally.has_kinds(), "{tally:?}");
 }
 
 #[test]

@@ -1,7 +1,7 @@
 //! A Module registered again as unloaded (docs/REQUIREMENTS.md, section 7): what the C layer keeps, looks up and lists. Expectations are by the rule.
-use layer::{complete, find_module, number, register, Bytes, Output};
+use layer::{complete, find_module, register, Bytes, Output};
 use model::layout::{Memory, BINDINGS_LIST, MODULES};
-use model::model::{Filter, ModSymbol, Registration, Str};
+use model::model::{Ask, Filter, ModSymbol, Registration, Str};
 use model::written::{with_free, Written};
 
 fn module(loaded: bool, query: &str, path: &str) -> Registration {
@@ -30,7 +30,7 @@ fn is_namespace(t: &Bytes, query: &str, name: &str, loaded: bool) {
 /// The lines of a completion of everything: candidate and annotation.
 fn listed(t: &Bytes, filter: Filter) -> Vec<(String, String)> {
     let mut out = Output::with_room(9, 99);
-    let (lines, _) = complete(t, Some(number(filter)), b"", 9, &mut out).expect("listed");
+    let (lines, _) = complete(t, Ask::Modules(filter), b"", 9, &mut out).expect("listed");
     let text = |s: &[u8]| String::from_utf8(s.to_vec()).unwrap();
     let line = |k| out.module(&t.text, k);
     (0..lines as usize).map(|k| (text(&line(k).candidate), text(&line(k).annotation))).collect()
@@ -160,7 +160,7 @@ fn the_filter_loaded_at_the_exact_output_size() {
     let answer = |filter, lines, text| {
         let mut out = Output::with_room(lines, text);
         let before = out.clone();
-        let answer = complete(&t, Some(number(filter)), b"", 9, &mut out);
+        let answer = complete(&t, Ask::Modules(filter), b"", 9, &mut out);
         assert!(answer.is_ok() || out == before);
         answer.map(|(lines, _)| lines)
     };

@@ -1,7 +1,7 @@
 //! Every call on a thread with exactly the stack that include/name_console.h states and a guard page below it, on the tables that need most.
 use layer::{complete, complete_shared, find, find_module, register, Bytes, Output};
 use model::layout::{BINDINGS_LIST, MODULES, NAMESPACES_LIST};
-use model::model::Registration;
+use model::model::{Ask, Item, Registration};
 use model::written::{with_free, Key, Written};
 use std::ffi::c_void;
 
@@ -111,7 +111,7 @@ fn registrations(q: &[u8]) -> Vec<Registration> {
     let (s, k) = (b"s.".to_vec(), b"k".to_vec());
     let mut all = Vec::new();
     for (host, included) in [(q.to_vec(), s.clone()), (s, q.to_vec()), (q.to_vec(), q.to_vec())] {
-        all.push(Registration::Name { host: host.clone(), id: k.clone(), item: 1 });
+        all.push(Registration::Name { host: host.clone(), id: k.clone(), item: Item::register(1) });
         all.push(Registration::Include { host: host.clone(), included: included.clone() });
         all.push(Registration::OpenNamespace { host: host.clone(), included: included.clone() });
         all.push(Registration::OpenModule { host: host.clone(), included: included.clone() });
@@ -193,7 +193,7 @@ fn completions() {
     let (mut listed, mut shared) = (Most::new(), Most::new());
     for (what, table) in tables() {
         for q in queries() {
-            for ask in [None, Some(0), Some(1), Some(2), Some(3)] {
+            for ask in Ask::ALL {
                 for (budget, room) in [(u32::MAX, 2000), (u32::MAX, 0), (16, 512)] {
                     let mut out = Output::with_room(room, 65536);
                     let mut answer = 0;

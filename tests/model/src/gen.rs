@@ -250,12 +250,13 @@ pub fn registration(rng: &mut Rng, mix: &Mix) -> Registration {
     }
 }
 
-fn item(rng: &mut Rng) -> u32 {
-    match rng.below(8) {
+pub fn item(rng: &mut Rng) -> Item {
+    let number = match rng.below(8) {
         0 => rng.word(),
         1 => *rng.pick(&[0, 1, u32::MAX]),
         _ => rng.below(9) as u32,
-    }
+    };
+    Item { kind: *rng.pick(&Kind::ALL), number }
 }
 
 /// A registration of which one or more texts may break a rule.
@@ -304,10 +305,17 @@ pub fn form(rng: &mut Rng, mix: &Mix) -> Form {
     }
 }
 
-/// A line without a line feed: a form as it is spelled, or with its spelling
-/// damaged.
+/// A line without a line feed: a form as it is spelled, but for a Register's
+/// letter, or with its spelling damaged.
 pub fn line(rng: &mut Rng, mix: &Mix) -> Vec<u8> {
-    let mut line = spell(&form(rng, mix));
+    let form = form(rng, mix);
+    let mut line = spell(&form);
+    if let Form::Register(Registration::Name { item: Item { kind: Kind::Register, .. }, .. }) = form
+    {
+        if rng.one_in(2) {
+            line.remove(item_at(&line));
+        }
+    }
     line.retain(|&b| b != b'\n');
     if !rng.one_in(8) {
         return line;
@@ -318,7 +326,7 @@ pub fn line(rng: &mut Rng, mix: &Mix) -> Vec<u8> {
             line.remove(at);
         }
         1 => line.insert(at, *rng.pick(b" []am0.")),
-        2 => line[at] = *rng.pick(b" []amnlu01.9"),
+        2 => line[at] = *rng.pick(b" []amnluptr01.9"),
         3 => line.insert(at, line[at]),
         4 => line.truncate(at),
         5 => line.push(b'\r'),
@@ -326,9 +334,10 @@ pub fn line(rng: &mut Rng, mix: &Mix) -> Vec<u8> {
         7 => line.clear(),
         8 => line.extend(b" "),
         9 => {
-            let numbers = ["01", "00", "0", "4294967295", "4294967296", "-1", "+1", ""];
-            let number = rng.pick(&numbers).as_bytes();
-            line = [b"[name [a.] b ", number, b"]"].concat();
+            let letter = *rng.pick(&["", "t", "p", "r", "x", "T", "tt", "t "]);
+            let numbers = ["01", "00", "0", "4294967295", "4294967296", "-1", "+1", "", "1r"];
+            let item = [letter, *rng.pick(&numbers)].concat();
+            line = format!("[name [a.] b {item}]").into_bytes();
         }
         10 => {
             let length = MOST_LINE + rng.below(3) - 1;
@@ -351,6 +360,11 @@ pub fn line(rng: &mut Rng, mix: &Mix) -> Vec<u8> {
         }
     }
     line
+}
+
+/// Where the item begins in the line of a name.
+pub fn item_at(line: &[u8]) -> usize {
+    line.iter().rposition(|&b| b == b' ').expect("a space before it") + 1
 }
 
 /// A script of so many lines. The last line may lack its line feed.
@@ -617,6 +631,8 @@ pub fn sound_memory(rng: &mut Rng, records: usize) -> Memory {
                     (r[8], r[9]) = add_text(&mut memory.text, &path);
                 }
                 r[10] = rng.below(2) as u32;
+            } else {
+                r[6] = rng.pick(&Kind::ALL).number();
             }
         } else if kind < TRIE {
             r[5] = if follows { 0 } else { rng.below(2) as u32 };

@@ -9,7 +9,8 @@
 //! | 0 | kind | kind | kind (3/8 bindings, 4/9 namespaces) | kind |
 //! | 1, 2 | key | key | label, if imported | |
 //! | 3, 4 | left, right | left, right | tree or own list, rest | bindings, namespaces |
-//! | 5 | item; modules: 0 Module, 1 Namespace | trie | 0 tree, 1 imported | |
+//! | 5 | item's number; modules: 0 Module, 1 Namespace | trie | 0 tree, 1 imported | |
+//! | 6 | item's kind | | | |
 //! | 6, 7 | modules: full name | | | |
 //! | 8, 9 | modules: path, of a Module | | | |
 //! | 10 | modules: loaded | | weight | |
@@ -188,11 +189,11 @@ impl<'a> Looked<'a> {
         true
     }
 
-    /// What a bindings branch holds. Any number is an item.
+    /// What a bindings branch holds. An item may have any number.
     fn item_is_sound(&self, number: usize) -> bool {
         let r = record(self.words, number);
         if r[0] == BINDINGS_BRANCH {
-            return true;
+            return Kind::from_number(r[6]).is_some();
         }
         let (sort, loaded) = (r[5], r[10]);
         sort <= 1
@@ -361,9 +362,10 @@ pub fn meanings<A: Value>(
     all
 }
 
-/// The item of a names branch.
-pub fn item_of(r: &Record, _text: &[u8]) -> u32 {
-    r[5]
+/// The item of a names branch. A kind that is none, which is not sound, reads
+/// as Register.
+pub fn item_of(r: &Record, _text: &[u8]) -> Item {
+    Item { kind: Kind::from_number(r[6]).unwrap_or(Kind::Register), number: r[5] }
 }
 
 /// The item of a module branch.
@@ -400,7 +402,7 @@ pub trait Same {
     fn same(&self, other: &Self, equal: &mut Equal) -> bool;
 }
 
-impl Same for u32 {
+impl Same for Item {
     fn same(&self, other: &Self, _: &mut Equal) -> bool {
         self == other
     }
@@ -485,7 +487,7 @@ struct Text {
 
 /// What a registration does where the host's path ends, or on the way.
 enum Change {
-    Name { id: Text, item: u32 },
+    Name { id: Text, item: Item },
     Include { label: Text, list: u32 },
     Open { label: Text, list: u32 },
     Alias { key: Text, label: Text, list: u32 },
@@ -697,8 +699,8 @@ impl Memory {
     ) -> u32 {
         match *change {
             Change::Name { id, item } => {
-                let bindings =
-                    self.names_insert(BINDINGS_LIST + base, bindings, id, [item, 0, 0, 0, 0, 0]);
+                let value = [item.number, item.kind.number(), 0, 0, 0, 0];
+                let bindings = self.names_insert(BINDINGS_LIST + base, bindings, id, value);
                 self.trie(base, bindings, namespaces)
             }
             Change::Include { label, list } => {

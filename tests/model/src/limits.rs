@@ -3,7 +3,7 @@
 //! by hand from docs/REQUIREMENTS.md, section 6, and docs/LAYOUT.md.
 
 use crate::layout::{Header, Memory, Record};
-use crate::model::{Filter, Registration};
+use crate::model::{Ask, Filter, Item, Kind, Registration};
 use crate::written::record;
 
 pub const UNSOUND: u32 = 1;
@@ -27,13 +27,13 @@ pub trait Calls {
     fn register(memory: &mut Memory, call: &Registration) -> u32;
 
     /// An item of the names root or none, or the number of the refusal.
-    fn find(memory: &Memory, query: &[u8]) -> Result<Option<u32>, u32>;
+    fn find(memory: &Memory, query: &[u8]) -> Result<Option<Item>, u32>;
 
-    /// Lines and tries entered of names, or of modules under a filter, with so
-    /// many lines and bytes of output lent; or the number of the refusal.
+    /// Lines and tries entered of what is asked, with so many lines and bytes of
+    /// output lent; or the number of the refusal.
     fn complete(
         memory: &Memory,
-        modules: Option<Filter>,
+        ask: Ask,
         query: &[u8],
         budget: u32,
         room: (usize, usize),
@@ -58,20 +58,17 @@ macro_rules! at_limits {
 pub enum Call {
     Register(Registration),
     Find(Vec<u8>),
-    Complete(Option<Filter>, Vec<u8>),
+    Complete(Ask, Vec<u8>),
 }
-
-const ASKS: [Option<Filter>; 5] = [
-    None,
-    Some(Filter::All),
-    Some(Filter::Loaded),
-    Some(Filter::ModulesOnly),
-    Some(Filter::NamespacesOnly),
-];
 
 const PLENTY: (usize, usize) = (200, 20_000);
 
-fn name(host: &[u8], id: &[u8], item: u32) -> Registration {
+/// A name with a Register.
+fn name(host: &[u8], id: &[u8], number: u32) -> Registration {
+    named(host, id, Item::register(number))
+}
+
+fn named(host: &[u8], id: &[u8], item: Item) -> Registration {
     Registration::Name { host: host.into(), id: id.into(), item }
 }
 
@@ -127,7 +124,7 @@ fn look_ups(q: &[u8]) -> Vec<Call> {
 }
 
 fn completions(q: &[u8]) -> Vec<Call> {
-    ASKS.map(|ask| Call::Complete(ask, q.into())).into()
+    Ask::ALL.map(|ask| Call::Complete(ask, q.into())).into()
 }
 
 /// The calls with this query, at every place that has one.
@@ -196,9 +193,9 @@ fn written(records: &[Record], text: &[u8]) -> Memory {
     Memory { words: records.concat(), text: text.into(), header }
 }
 
-/// A bindings branch of the names table with a key of one byte.
+/// A bindings branch of the names table with a key of one byte; its item is r0.
 fn branch(at: u32, left: u32, right: u32) -> Record {
-    record(&[(0, 1), (1, at), (2, 1), (3, left), (4, right)])
+    record(&[(0, 1), (1, at), (2, 1), (3, left), (4, right), (6, 3)])
 }
 
 /// A bindings list of so many collections, each an empty tree.
@@ -234,7 +231,7 @@ fn memories(most_records: usize) -> Vec<(&'static str, Memory, bool)> {
         add("kind", &[record(&[(0, kind)])], b"", sound);
     }
     for (length, sound) in [(0, false), (1, true), (31, true), (32, false)] {
-        add("key length", &[record(&[(0, 1), (2, length)])], &n, sound);
+        add("key length", &[record(&[(0, 1), (2, length), (6, 3)])], &n, sound);
     }
     for (byte, sound) in NAME_BYTES {
         add("key byte", &[branch(0, 0, 0)], &[byte], sound);
@@ -258,6 +255,14 @@ fn memories(most_records: usize) -> Vec<(&'static str, Memory, bool)> {
         add("earlier link", &[branch(0, 0, 0), branch(1, link, 0)], b"ab", sound);
     }
     add("link of another kind", &[record(&[(0, 5)]), branch(0, 1, 0)], b"a", false);
+    for (kind, sound) in
+        [(0, false), (1, true), (2, true), (3, true), (4, false), (256, false), (u32::MAX, false)]
+    {
+        add("kind of an item", &[record(&[(0, 1), (2, 1), (6, kind)])], b"n", sound);
+    }
+    for number in [1, u32::MAX] {
+        add("number of an item", &[record(&[(0, 1), (2, 1), (5, number), (6, 1)])], b"n", true);
+    }
     for (sort, sound) in [(0, true), (1, true), (2, false)] {
         add("sort of a collection", &[record(&[(0, 3), (5, sort), (10, 1)])], b"", sound);
         add("sort of an item", &[record(&[(0, 6), (2, 1), (5, sort), (7, 1)])], b"n", sound);
@@ -557,25 +562,40 @@ pub fn text_full<C: Calls>() {
 /// A completion of the requirements: its table, what is asked, lines, the bytes of
 /// their texts, and tries entered.
 #[allow(clippy::type_complexity)]
-fn listings() -> Vec<(Vec<Registration>, Option<Filter>, &'static [u8], usize, usize, u32)> {
+fn listings() -> Vec<(Vec<Registration>, Ask, &'static [u8], usize, usize, u32)> {
+    use Ask::{Modules, Names};
     let t = table_t().to_vec();
     let at_root = t.iter().cloned().chain([include(b"", b"Saved.")]).collect();
+    let kinds = vec![
+        named(b"", b"a", Item::timer(1)),
+        named(b"io.", b"bb", Item::port(1)),
+        named(b"io.", b"ccc", Item::timer(2)),
+        include(b"", b"io."),
+    ];
     let bus = vec![module(false, b"IO.Bus.", b"io/bus")];
     vec![
-        (vec![], None, b"", 0, 0, 1),
-        (vec![], Some(Filter::All), b".", 0, 0, 1),
+        (vec![], Names(None), b"", 0, 0, 1),
+        (vec![], Names(Some(Kind::Timer)), b"", 0, 0, 1),
+        (vec![], Modules(Filter::All), b".", 0, 0, 1),
         // Live.offset
-        (t.clone(), None, b"Live.off.", 1, 11, 2),
+        (t.clone(), Names(None), b"Live.off.", 1, 11, 2),
         // Live.offset, Saved.late, Saved.offset
-        (t.clone(), None, b"", 3, 11 + 10 + 12, 3),
-        (t, None, b".", 3, 33, 3),
+        (t.clone(), Names(None), b"", 3, 11 + 10 + 12, 3),
+        (t.clone(), Names(Some(Kind::Register)), b".", 3, 33, 3),
+        (t.clone(), Names(Some(Kind::Port)), b".", 0, 0, 3),
+        (t, Names(None), b".", 3, 33, 3),
         // offset, Saved
-        (at_root, None, b"off.", 1, 6 + 5, 1),
+        (at_root, Names(None), b"off.", 1, 6 + 5, 1),
+        // a; bb and ccc, io; io.bb, io.ccc
+        (kinds.clone(), Names(None), b"", 5, 1 + 2 + 2 + 3 + 2 + 5 + 6, 2),
+        (kinds.clone(), Names(Some(Kind::Timer)), b"", 3, 1 + 3 + 2 + 6, 2),
+        (kinds.clone(), Names(Some(Kind::Port)), b"", 2, 2 + 2 + 5, 2),
+        (kinds, Names(Some(Kind::Register)), b"", 0, 0, 2),
         // IO (ns), IO.Bus (mod)
-        (bus.clone(), Some(Filter::All), b"I.", 2, 2 + 4 + 6 + 5, 3),
-        (bus.clone(), Some(Filter::NamespacesOnly), b"I.", 1, 2 + 4, 3),
-        (bus.clone(), Some(Filter::ModulesOnly), b"I.", 1, 6 + 5, 3),
-        (bus, Some(Filter::Loaded), b"I.", 0, 0, 3),
+        (bus.clone(), Modules(Filter::All), b"I.", 2, 2 + 4 + 6 + 5, 3),
+        (bus.clone(), Modules(Filter::NamespacesOnly), b"I.", 1, 2 + 4, 3),
+        (bus.clone(), Modules(Filter::ModulesOnly), b"I.", 1, 6 + 5, 3),
+        (bus, Modules(Filter::Loaded), b"I.", 0, 0, 3),
     ]
 }
 
@@ -608,7 +628,7 @@ pub fn lines<C: Calls>() {
             refused += 1;
         }
     }
-    assert_eq!(refused, 7);
+    assert_eq!(refused, 11);
 }
 
 // ------------------------------------------------------------------- order
@@ -645,7 +665,8 @@ pub fn lowest_first<C: Calls>() {
         each::<C>(&memory, vec![Call::Register(call)], expected);
     }
     let mut t = made::<C>(26, 44, &table_t());
-    let none = |t: &Memory, query: &[u8], budget| C::complete(t, None, query, budget, (0, 0));
+    let none =
+        |t: &Memory, query: &[u8], budget| C::complete(t, Ask::Names(None), query, budget, (0, 0));
     let too_long = [b'.'; 18];
     assert_eq!(none(&t, &[&too_long[..], b"a"].concat(), 0), Err(MALFORMED));
     assert_eq!(none(&t, &too_long, 0), Err(TOO_LONG));

@@ -1,7 +1,7 @@
 //! What a suite holds the completions of any implementation to, and which of
 //! them it has met.
 
-use crate::model::{shared_length, CompletionResult};
+use crate::model::{shared_length, CompletionResult, Item, Kind};
 use std::fmt::Debug;
 
 /// Lines, tries entered and shared length, or the number of the refusal.
@@ -37,6 +37,9 @@ pub struct Tally {
     pub part: u64,
     /// Several that share the whole of it.
     pub whole: u64,
+    /// By kind: listings of names of which asking for it keeps all lines, some,
+    /// and none.
+    pub kept: [[u64; 3]; 3],
 }
 
 impl Tally {
@@ -57,9 +60,29 @@ impl Tally {
         *sort += 1;
     }
 
+    /// A listing of names of all kinds, of which each kind is asked for too. One
+    /// without a line counts for none.
+    pub fn all_kinds(&mut self, results: &[CompletionResult<Item>]) {
+        if results.is_empty() {
+            return;
+        }
+        for ([all, some, none], kind) in self.kept.iter_mut().zip(Kind::ALL) {
+            match results.iter().filter(|r| r.item.kind == kind).count() {
+                0 => *none += 1,
+                n if n < results.len() => *some += 1,
+                _ => *all += 1,
+            }
+        }
+    }
+
     /// Each of these answers came up, and each sort of listing.
     pub fn has(&self, answers: &[usize]) -> bool {
         let sorts = [self.no_line, self.one_line, self.nothing, self.part, self.whole];
         answers.iter().map(|&n| self.answers[n]).chain(sorts).all(|count| 0 < count)
+    }
+
+    /// Each kind kept all lines of a listing, some, and none.
+    pub fn has_kinds(&self) -> bool {
+        self.kept.as_flattened().iter().all(|&count| 0 < count)
     }
 }

@@ -6,6 +6,7 @@
 //! `StrEmpty` and `[]` are `None`.
 
 use std::collections::VecDeque;
+use std::fmt;
 use std::rc::Rc;
 
 // ---------------------------------------------------------------- limits
@@ -711,6 +712,64 @@ pub fn first_import_of_path(path: &[PathElem]) -> Option<Str> {
 
 // ------------------------------------------------------- the two tables
 
+/// What an item of the names table is, with its number in records, lines and
+/// calls.
+#[derive(Clone, Copy, Debug, PartialEq, Eq, Hash)]
+pub enum Kind {
+    Timer = 1,
+    Port = 2,
+    Register = 3,
+}
+
+impl Kind {
+    pub const ALL: [Kind; 3] = [Kind::Timer, Kind::Port, Kind::Register];
+
+    pub fn number(self) -> u32 {
+        self as u32
+    }
+
+    /// The kind with this number, if there is one.
+    pub fn from_number(number: u32) -> Option<Kind> {
+        Kind::ALL.into_iter().find(|kind| kind.number() == number)
+    }
+
+    /// The letter before an item's number.
+    pub fn letter(self) -> char {
+        match self {
+            Kind::Timer => 't',
+            Kind::Port => 'p',
+            Kind::Register => 'r',
+        }
+    }
+}
+
+/// An item of the names table.
+#[derive(Clone, Copy, Debug, PartialEq, Eq, Hash)]
+pub struct Item {
+    pub kind: Kind,
+    pub number: u32,
+}
+
+impl Item {
+    pub const fn timer(number: u32) -> Item {
+        Item { kind: Kind::Timer, number }
+    }
+
+    pub const fn port(number: u32) -> Item {
+        Item { kind: Kind::Port, number }
+    }
+
+    pub const fn register(number: u32) -> Item {
+        Item { kind: Kind::Register, number }
+    }
+}
+
+impl fmt::Display for Item {
+    fn fmt(&self, f: &mut fmt::Formatter) -> fmt::Result {
+        write!(f, "{}{}", self.kind.letter(), self.number)
+    }
+}
+
 /// An item of the module table.
 #[derive(Clone, Debug, PartialEq, Eq)]
 pub enum ModSymbol {
@@ -731,7 +790,7 @@ impl ModSymbol {
     }
 }
 
-impl Value for u32 {
+impl Value for Item {
     fn depth_held(&self) -> u32 {
         0
     }
@@ -746,7 +805,7 @@ impl Value for ModSymbol {
 /// The two roots, records used and text used.
 #[derive(Clone, Default)]
 pub struct Table {
-    pub names: Trie<u32>,
+    pub names: Trie<Item>,
     pub modules: Trie<ModSymbol>,
     pub records: u32,
     pub text: u32,
@@ -895,7 +954,7 @@ fn check_arguments(arguments: &[Argument]) -> Result<(), Refusal> {
 /// A registration with its raw texts.
 #[derive(Clone, Debug, PartialEq, Eq)]
 pub enum Registration {
-    Name { host: Vec<u8>, id: Vec<u8>, item: u32 },
+    Name { host: Vec<u8>, id: Vec<u8>, item: Item },
     Include { host: Vec<u8>, included: Vec<u8> },
     OpenNamespace { host: Vec<u8>, included: Vec<u8> },
     OpenModule { host: Vec<u8>, included: Vec<u8> },
@@ -953,7 +1012,7 @@ impl Lent {
 }
 
 /// The roots that the source's function makes, without any limit.
-pub fn build(table: &Table, call: &Registration) -> (Trie<u32>, Trie<ModSymbol>, Built) {
+pub fn build(table: &Table, call: &Registration) -> (Trie<Item>, Trie<ModSymbol>, Built) {
     use Registration::*;
     let mut built = Built::default();
     let b = &mut built;
@@ -1032,6 +1091,27 @@ impl Filter {
     }
 }
 
+/// What a completion asks for: names, of all kinds or of one, or modules and
+/// namespaces under a filter.
+#[derive(Clone, Copy, Debug, PartialEq, Eq)]
+pub enum Ask {
+    Names(Option<Kind>),
+    Modules(Filter),
+}
+
+impl Ask {
+    pub const ALL: [Ask; 8] = [
+        Ask::Names(None),
+        Ask::Names(Some(Kind::Timer)),
+        Ask::Names(Some(Kind::Port)),
+        Ask::Names(Some(Kind::Register)),
+        Ask::Modules(Filter::All),
+        Ask::Modules(Filter::Loaded),
+        Ask::Modules(Filter::ModulesOnly),
+        Ask::Modules(Filter::NamespacesOnly),
+    ];
+}
+
 /// A start and a length in the output text.
 #[derive(Clone, Copy, Debug, PartialEq, Eq)]
 pub struct Span {
@@ -1063,7 +1143,7 @@ pub struct CompletionResult<A> {
     pub annotation: Str,
 }
 
-pub fn completion_result_of_lid((path, lid): (Path, u32)) -> CompletionResult<u32> {
+pub fn completion_result_of_lid((path, lid): (Path, Item)) -> CompletionResult<Item> {
     CompletionResult {
         match_length: match_length_of_path(&path),
         item: lid,
@@ -1089,16 +1169,22 @@ pub fn completion_result_of_ns_or_mod(
     }
 }
 
-/// The lines of a completion of names and the tries entered: rows 2, 4, 9.
+/// The lines of a completion of names, of all kinds or of one, and the tries
+/// entered: rows 2, 4, 9.
 pub fn autocomplete_lid(
     table: &Table,
     query: &[u8],
+    kind: Option<Kind>,
     budget: u32,
-) -> Result<(Vec<CompletionResult<u32>>, u32), Refusal> {
+) -> Result<(Vec<CompletionResult<Item>>, u32), Refusal> {
     check_arguments(&[Argument::Completion(query)])?;
     let mut entered = Entered { tries: 0, budget };
     let found = trie_find_prefix(&mut entered, &table.names, &segments(query))?;
-    let results = found.into_iter().map(completion_result_of_lid).collect();
+    let results = found
+        .into_iter()
+        .filter(|(_, item)| kind.is_none_or(|asked| item.kind == asked))
+        .map(completion_result_of_lid)
+        .collect();
     Ok((results, entered.tries as u32))
 }
 
@@ -1162,11 +1248,12 @@ fn lay<A: Clone>(
 pub fn complete_names(
     table: &Table,
     query: &[u8],
+    kind: Option<Kind>,
     budget: u32,
-    lines: &mut [Line<u32>],
+    lines: &mut [Line<Item>],
     text: &mut [u8],
 ) -> Result<Listed, Refusal> {
-    let (results, entered) = autocomplete_lid(table, query, budget)?;
+    let (results, entered) = autocomplete_lid(table, query, kind, budget)?;
     Ok(Listed { lines: lay(&results, lines, text)?, entered })
 }
 

@@ -112,12 +112,16 @@ fn text_keeps(text: &[u8], rule: &Rule) -> bool {
 }
 
 /// What a record of this kind and sort asks of its words: links with the
-/// kind wanted, texts with their rule, words that must be 0 or 1.
+/// kind wanted, texts with their rule, words with what they may be.
 #[allow(clippy::type_complexity)]
-fn asked(r: &Record) -> Option<(Vec<(u32, u32)>, Vec<(u32, u32, Rule)>, Vec<u32>)> {
+fn asked(
+    r: &Record,
+) -> Option<(Vec<(u32, u32)>, Vec<(u32, u32, Rule)>, Vec<(u32, &'static [u32])>)> {
+    const FLAG: &[u32] = &[0, 1];
+    const KIND: &[u32] = &[1, 2, 3];
     let key = || vec![(r[1], r[2], Rule::Key)];
     Some(match r[0] {
-        1 => (vec![(r[3], 1), (r[4], 1)], key(), vec![]),
+        1 => (vec![(r[3], 1), (r[4], 1)], key(), vec![(r[6], KIND)]),
         2 => (vec![(r[3], 2), (r[4], 2), (r[5], 5)], key(), vec![]),
         6 => {
             let mut texts = key();
@@ -125,13 +129,13 @@ fn asked(r: &Record) -> Option<(Vec<(u32, u32)>, Vec<(u32, u32, Rule)>, Vec<u32>
             if r[5] == 0 {
                 texts.push((r[8], r[9], Rule::Path));
             }
-            (vec![(r[3], 6), (r[4], 6)], texts, vec![r[5], r[10]])
+            (vec![(r[3], 6), (r[4], 6)], texts, vec![(r[5], FLAG), (r[10], FLAG)])
         }
         7 => (vec![(r[3], 7), (r[4], 7), (r[5], 10)], key(), vec![]),
         3 | 4 | 8 | 9 if r[5] == 0 => (vec![(r[3], r[0] - 2), (r[4], r[0])], vec![], vec![]),
         3 | 4 | 8 | 9 => {
             let label = vec![(r[1], r[2], Rule::Label)];
-            (vec![(r[3], r[0]), (r[4], r[0])], label, vec![r[5]])
+            (vec![(r[3], r[0]), (r[4], r[0])], label, vec![(r[5], FLAG)])
         }
         5 => (vec![(r[3], 3), (r[4], 4)], vec![], vec![]),
         10 => (vec![(r[3], 8), (r[4], 9)], vec![], vec![]),
@@ -178,7 +182,7 @@ pub fn sound_naive(memory: &Memory) -> bool {
     let kind_of = |link: u32| record(&memory.words, link as usize - 1)[0];
     for number in 0..records {
         let r = record(&memory.words, number);
-        let Some((links, texts, flags)) = asked(&r) else {
+        let Some((links, texts, choices)) = asked(&r) else {
             return false;
         };
         let links_right = links
@@ -189,7 +193,8 @@ pub fn sound_naive(memory: &Memory) -> bool {
             end.and_then(|end| used.get(*start as usize..end))
                 .is_some_and(|text| text_keeps(text, rule))
         });
-        if !links_right || !texts_right || !flags.iter().all(|&flag| flag <= 1) {
+        let choices_right = choices.iter().all(|(word, all)| all.contains(word));
+        if !links_right || !texts_right || !choices_right {
             return false;
         }
         let meaning_right = if r[0] <= 5 {

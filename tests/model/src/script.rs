@@ -58,8 +58,13 @@ impl<'a> Rest<'a> {
         Some(self.take(length))
     }
 
-    fn number(&mut self) -> Option<u32> {
-        number(self.word()?)
+    /// A kind's letter and a number. A bare number is a Register's.
+    fn item(&mut self) -> Option<Item> {
+        let word = self.word()?;
+        match Kind::ALL.into_iter().find(|kind| word[0] == kind.letter() as u8) {
+            Some(kind) => Some(Item { kind, number: number(&word[1..])? }),
+            None => Some(Item::register(number(word)?)),
+        }
     }
 
     /// One of two letters; true for the first.
@@ -114,7 +119,7 @@ pub fn parse_line(line: &[u8]) -> Option<Form> {
             rest.exactly(b" ")?;
             let id = rest.word()?.to_vec();
             rest.exactly(b" ")?;
-            let item = rest.number()?;
+            let item = rest.item()?;
             Form::Register(Registration::Name { host, id, item })
         }
         b"include" => {
@@ -246,10 +251,17 @@ impl Console {
                 None => b"[none]\n".to_vec(),
             }),
             Form::Complete(query) => {
-                let empty = Line { match_length: 0, item: 0, candidate: blank, annotation: blank };
+                let item = Item::register(0);
+                let empty = Line { match_length: 0, item, candidate: blank, annotation: blank };
                 let mut lines = vec![empty; CONSOLE_LINES];
-                let listed =
-                    complete_names(&self.table, query, CONSOLE_BUDGET, &mut lines, &mut output)?;
+                let listed = complete_names(
+                    &self.table,
+                    query,
+                    None,
+                    CONSOLE_BUDGET,
+                    &mut lines,
+                    &mut output,
+                )?;
                 Ok(listing_reply(&lines, &output, listed, &|item| item.to_string()))
             }
             Form::Modules(query) => {

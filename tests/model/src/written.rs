@@ -2,7 +2,7 @@
 //! may not make.
 
 use crate::layout::*;
-use crate::model::WORDS_A_RECORD;
+use crate::model::{Kind, WORDS_A_RECORD};
 
 /// A record with these words at these places, and 0 at the others.
 pub fn record(words: &[(usize, u32)]) -> Record {
@@ -45,10 +45,15 @@ impl Written {
         (start, key.len() as u32)
     }
 
-    /// A bindings branch; of modules, a Namespace that is not loaded.
+    /// A bindings branch: of names the item r1, of modules a Namespace that is
+    /// not loaded.
     pub fn leaf(&mut self, key: Key, left: u32, right: u32) -> u32 {
         let sides = [(0, BINDINGS_BRANCH), (1, key.0), (2, key.1), (3, left), (4, right)];
-        self.put(&[&sides[..], &[(5, 1), (6, key.0), (7, key.1)]].concat())
+        let held = match self.base {
+            MODULES => vec![(5, 1), (6, key.0), (7, key.1)],
+            _ => vec![(5, 1), (6, Kind::Register.number())],
+        };
+        self.put(&[&sides[..], &held].concat())
     }
 
     /// The branch of a Module without sides; its full name is its key.

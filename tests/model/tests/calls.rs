@@ -4,6 +4,7 @@ mod common;
 use common::*;
 use model::gen::{self, Rng};
 use model::layout::*;
+use model::listings::Tally;
 use model::model::*;
 use model::naive::*;
 use std::collections::BTreeMap;
@@ -200,14 +201,14 @@ fn rows_of_completions() {
         assert_eq!(both.modules(query, Filter::All), Err(number), "{query}");
     }
     assert_eq!(both.complete(&q(17)), Ok((vec![], 3)));
-    assert_eq!(both.complete("Live.."), Ok((vec![("Live.offset".into(), 1, 5, "".into())], 2)));
+    assert_eq!(both.complete("Live.."), Ok((vec![("Live.offset".into(), r(1), 5, "".into())], 2)));
     // Rows 2 and 4 come before 9.
-    assert_eq!(autocomplete_lid(&both.table, b"a", 0).err(), Some(Refusal::Malformed));
-    assert_eq!(autocomplete_lid(&both.table, &[DOT; 18], 0).err(), Some(Refusal::TooLong));
-    assert_eq!(autocomplete_lid(&both.table, b"", 0).err(), Some(Refusal::Spent));
+    assert_eq!(autocomplete_lid(&both.table, b"a", None, 0).err(), Some(Refusal::Malformed));
+    assert_eq!(autocomplete_lid(&both.table, &[DOT; 18], None, 0).err(), Some(Refusal::TooLong));
+    assert_eq!(autocomplete_lid(&both.table, b"", None, 0).err(), Some(Refusal::Spent));
     let empty = Table::default();
-    assert_eq!(autocomplete_lid(&empty, b"", 0).err(), Some(Refusal::Spent));
-    assert_eq!(autocomplete_lid(&empty, b"", 1), Ok((vec![], 1)));
+    assert_eq!(autocomplete_lid(&empty, b"", None, 0).err(), Some(Refusal::Spent));
+    assert_eq!(autocomplete_lid(&empty, b"", None, 1), Ok((vec![], 1)));
 }
 
 #[test]
@@ -217,12 +218,12 @@ fn lines_fit_exactly() {
     // late, offset with annotation Saved each, and the three others.
     let bytes = 4 + 5 + 6 + 5 + 11 + 10 + 12;
     let complete = |lines: usize, text: usize| {
-        let (mut lines, mut text) = (blank_lines(lines, 0), vec![b'x'; text]);
-        let answer = complete_names(&both.table, b"", 9, &mut lines, &mut text);
+        let (mut lines, mut text) = (blank_lines(lines, r(0)), vec![b'x'; text]);
+        let answer = complete_names(&both.table, b"", None, 9, &mut lines, &mut text);
         (answer.map_err(Refusal::number), lines, text)
     };
-    assert_eq!(complete(4, 100), (Err(10), blank_lines(4, 0), vec![b'x'; 100]));
-    assert_eq!(complete(5, bytes - 1), (Err(10), blank_lines(5, 0), vec![b'x'; bytes - 1]));
+    assert_eq!(complete(4, 100), (Err(10), blank_lines(4, r(0)), vec![b'x'; 100]));
+    assert_eq!(complete(5, bytes - 1), (Err(10), blank_lines(5, r(0)), vec![b'x'; bytes - 1]));
     let (answer, lines, text) = complete(5, bytes);
     assert_eq!(answer, Ok(Listed { lines: 5, entered: 3 }));
     assert_eq!(text, b"lateSavedoffsetSavedLive.offsetSaved.lateSaved.offset");
@@ -239,7 +240,7 @@ fn lines_fit_exactly() {
         ]
     );
     let (_, lines, text) = complete(7, bytes + 2);
-    assert_eq!(lines[5..], blank_lines(2, 0));
+    assert_eq!(lines[5..], blank_lines(2, r(0)));
     assert_eq!(text[bytes..], *b"xx");
 }
 
@@ -281,13 +282,23 @@ fn shared_lengths() {
 fn shared_lengths_of_listings() {
     let mut both = Both::t();
     let names = |both: &Both, query: &str| {
-        let (lines, _) = autocomplete_lid(&both.table, query.as_bytes(), 9).unwrap();
+        let (lines, _) = autocomplete_lid(&both.table, query.as_bytes(), None, 9).unwrap();
         (lines.len(), shared_length(&lines))
     };
     assert_eq!(names(&both, ""), (3, 0));
     assert_eq!(names(&both, "S."), (2, 6));
     assert_eq!(names(&both, "Live.off."), (1, 11));
     assert_eq!(names(&both, "None."), (0, 0));
+    // What the kind drops does not count.
+    both.register(&named("Saved.", "offcut", p(1))).unwrap();
+    let of_kind = |kind| {
+        let (lines, _) = autocomplete_lid(&both.table, b"S.o.", kind, 9).unwrap();
+        (lines.len(), shared_length(&lines))
+    };
+    assert_eq!(of_kind(None), (2, 9));
+    assert_eq!(of_kind(Some(Kind::Port)), (1, 12));
+    assert_eq!(of_kind(Some(Kind::Register)), (1, 12));
+    assert_eq!(of_kind(Some(Kind::Timer)), (0, 0));
     // What the filter drops does not count.
     both.register(&module(true, "IO.Bus.", "io/bus")).unwrap();
     both.register(&module(false, "IO.Bit.", "")).unwrap();
@@ -324,6 +335,61 @@ fn filters() {
     assert!(fits(Filter::Loaded, 2, 1 + 4 + 3 + 5));
     assert!(!fits(Filter::Loaded, 1, 13) && !fits(Filter::Loaded, 2, 12));
     assert!(!fits(Filter::All, 2, 13));
+}
+
+#[test]
+fn kinds() {
+    let mut both = Both::fresh(200, 300);
+    for call in [
+        named("", "a", t(1)),
+        named("io.", "bb", p(1)),
+        named("io.", "ccc", t(2)),
+        named("io.", "d", r(1)),
+        include("", "io."),
+    ] {
+        both.register(&call).unwrap();
+    }
+    let names = |kind| -> Vec<String> {
+        let (lines, entered) = both.names("", kind).unwrap();
+        assert_eq!(entered, 2);
+        lines.into_iter().map(|l| format!("{} {} {}", l.0, l.1, l.3)).collect()
+    };
+    assert_eq!(
+        names(None),
+        ["a t1 ", "bb p1 io", "ccc t2 io", "d r1 io", "io.bb p1 ", "io.ccc t2 ", "io.d r1 "]
+    );
+    assert_eq!(names(Some(Kind::Timer)), ["a t1 ", "ccc t2 io", "io.ccc t2 "]);
+    assert_eq!(names(Some(Kind::Port)), ["bb p1 io", "io.bb p1 "]);
+    assert_eq!(names(Some(Kind::Register)), ["d r1 io", "io.d r1 "]);
+    // Dropped lines take no output.
+    let fits = |kind, lines, text| {
+        let (mut lines, mut text) = (blank_lines(lines, r(0)), vec![0; text]);
+        complete_names(&both.table, b"", kind, 2, &mut lines, &mut text).is_ok()
+    };
+    assert!(fits(Some(Kind::Port), 2, 2 + 2 + 5));
+    assert!(!fits(Some(Kind::Port), 1, 9) && !fits(Some(Kind::Port), 2, 8));
+    assert!(!fits(None, 2, 9) && !fits(Some(Kind::Timer), 2, 9));
+}
+
+#[test]
+fn items_of_one_number_differ_by_kind() {
+    let all = [t(5), p(5), r(5)];
+    for (i, item) in all.into_iter().enumerate() {
+        let mut both = Both::fresh(40, 100);
+        both.register(&named("", "a", item)).unwrap();
+        for (k, other) in all.into_iter().enumerate() {
+            assert_eq!(item == other, i == k);
+            // The later one replaces it, and the tables differ by it alone.
+            let mut then = Both { table: both.table.clone(), memory: both.memory.clone() };
+            then.register(&named("", "a", other)).unwrap();
+            assert_eq!(then.find("a."), Ok(Some(other)));
+            assert_eq!(then.names("a.", Some(item.kind)).unwrap().0.is_empty(), i != k);
+            let mut again = Both { table: both.table.clone(), memory: both.memory.clone() };
+            again.register(&named("", "a", item)).unwrap();
+            assert_eq!(same_table(&then.table, &again.table), i == k);
+            assert_eq!(then.memory == again.memory, i == k);
+        }
+    }
 }
 
 #[test]
@@ -391,33 +457,33 @@ fn includes_opens_and_aliases() {
     // Include carries bindings only; an open of a module is the same.
     for (host, call) in [("i", include("i.", "m.")), ("o", open_module("o.", "m."))] {
         both.register(&call).unwrap();
-        assert_eq!(both.find(&format!("{host}.x.")), Ok(Some(1)));
+        assert_eq!(both.find(&format!("{host}.x.")), Ok(Some(r(1))));
         assert_eq!(both.find(&format!("{host}.s.y.")), Ok(None));
     }
     // An open of a namespace carries namespaces only.
     both.register(&open_namespace("n.", "m.")).unwrap();
     assert_eq!(both.find("n.x."), Ok(None));
-    assert_eq!(both.find("n.s.y."), Ok(Some(2)));
+    assert_eq!(both.find("n.s.y."), Ok(Some(r(2))));
     // The included query starts at the root, also below a host that has the
     // name itself.
     both.register(&include("h.", "m.")).unwrap();
-    assert_eq!(both.find("h.x."), Ok(Some(1)));
+    assert_eq!(both.find("h.x."), Ok(Some(r(1))));
     assert_eq!(both.find("h.z."), Ok(None));
     // Registering below a namespace held by an imported list copies it into
     // a tree in front; the origin stays.
     both.register(&name("n.s.", "w", 4)).unwrap();
-    assert_eq!(both.find("n.s.w."), Ok(Some(4)));
-    assert_eq!(both.find("n.s.y."), Ok(Some(2)));
+    assert_eq!(both.find("n.s.w."), Ok(Some(r(4))));
+    assert_eq!(both.find("n.s.y."), Ok(Some(r(2))));
     assert_eq!(both.find("m.s.w."), Ok(None));
     // The listing enters the last holder only, so w is missing.
     let (lines, _) = both.complete("n.s.").unwrap();
-    assert_eq!(lines, [("n.s.y".to_string(), 2, 3, "".to_string())]);
+    assert_eq!(lines, [("n.s.y".to_string(), r(2), 3, "".to_string())]);
     // An alias replaces the key and has no namespaces.
     both.register(&alias("s", "m.", "h.")).unwrap();
     assert_eq!(both.find("m.s.y."), Ok(None));
-    assert_eq!(both.find("m.s.x."), Ok(Some(1)));
+    assert_eq!(both.find("m.s.x."), Ok(Some(r(1))));
     both.register(&alias("k", "", "m.")).unwrap();
-    assert_eq!(both.find("k.x."), Ok(Some(1)));
+    assert_eq!(both.find("k.x."), Ok(Some(r(1))));
     assert_eq!(both.find("k.s.x."), Ok(None));
 }
 
@@ -438,7 +504,7 @@ fn annotations() {
     both.register(&include("", "")).unwrap();
     both.register(&include("", "")).unwrap();
     let (lines, _) = both.complete("").unwrap();
-    assert_eq!(lines, [("x".to_string(), 1, -1, "".to_string())]);
+    assert_eq!(lines, [("x".to_string(), r(1), -1, "".to_string())]);
 }
 
 #[test]
@@ -558,12 +624,31 @@ fn check_root<A: Value + PartialEq + std::fmt::Debug>(
     }
 }
 
-fn check_table(table: &Table, rng: &mut Rng, counts: &mut [usize; 4]) {
+/// Of one kind are the lines of all kinds that have it, with as many tries
+/// entered.
+fn check_kinds(table: &Table, rng: &mut Rng, tally: &mut Tally) {
+    let query = gen::completion_query(rng);
+    let budget = *rng.pick(&[2, 8, 300]);
+    let all = autocomplete_lid(table, &query, None, budget);
+    for kind in Kind::ALL {
+        let expected = all.clone().map(|(mut lines, entered)| {
+            lines.retain(|line| line.item.kind == kind);
+            (lines, entered)
+        });
+        assert_eq!(autocomplete_lid(table, &query, Some(kind), budget), expected, "{query:?}");
+    }
+    if let Ok((lines, _)) = all {
+        tally.all_kinds(&lines);
+    }
+}
+
+fn check_table(table: &Table, rng: &mut Rng, counts: &mut [usize; 4], tally: &mut Tally) {
     let empty = || Str::from(&b""[..]);
+    check_kinds(table, rng, tally);
     check_root(
         &table.names,
         rng,
-        &|query, budget| autocomplete_lid(table, query, budget),
+        &|query, budget| autocomplete_lid(table, query, None, budget),
         &|_, label| label.unwrap_or_else(empty),
         counts,
     );
@@ -587,7 +672,7 @@ fn check_table(table: &Table, rng: &mut Rng, counts: &mut [usize; 4]) {
 #[test]
 fn listings_of_registered_tables() {
     let rng = &mut Rng::new(Rng::seed_or(32));
-    let mut counts = [0; 4];
+    let (mut counts, mut tally) = ([0; 4], Tally::default());
     for round in 0..150 {
         let mut table = Table::default();
         let lent = Lent { words: 12 * 2000, text: 4000 };
@@ -595,22 +680,24 @@ fn listings_of_registered_tables() {
             let call = gen::registration(rng, &gen::MIXES[round % 3]);
             table = register(&table, lent, &call).unwrap_or(table);
         }
-        check_table(&table, rng, &mut counts);
+        check_table(&table, rng, &mut counts, &mut tally);
     }
     assert!(counts.iter().all(|&n| n > 20), "{counts:?}");
+    assert!(tally.has_kinds(), "{tally:?}");
 }
 
 /// Sound tables of any shape, also such as no registration makes.
 #[test]
 fn listings_of_other_sound_tables() {
     let rng = &mut Rng::new(Rng::seed_or(33));
-    let mut counts = [0; 4];
+    let (mut counts, mut tally) = ([0; 4], Tally::default());
     for _ in 0..150 {
         let count = 20 + rng.below(120);
         let memory = gen::sound_memory(rng, count);
-        check_table(&memory.table().unwrap(), rng, &mut counts);
+        check_table(&memory.table().unwrap(), rng, &mut counts, &mut tally);
     }
     assert!(counts.iter().all(|&n| n > 20), "{counts:?}");
+    assert!(tally.has_kinds(), "{tally:?}");
 }
 
 #[test]

@@ -9,7 +9,7 @@ use model::script;
 fn printed_session() {
     let input = b"[name [Saved.] offset 1]\n[include [Live.] [Saved.]]\n[name [Live.] offset 3]\n\
         [find [Live.offset.]]\n[complete [Live.off.]]\n";
-    let output = b"[ok 6]\n[ok 12]\n[ok 19]\n[found 3]\n[line 8 1 [] Live.offset]\n[end 1 2]\n";
+    let output = b"[ok 6]\n[ok 12]\n[ok 19]\n[found r3]\n[line 8 r1 [] Live.offset]\n[end 1 2]\n";
     assert_eq!(script::run(input), output);
     assert_eq!(script::run(&input[..input.len() - 1]), output);
 }
@@ -28,18 +28,18 @@ fn a_session_by_the_program() {
     program.stdin.take().unwrap().write_all(input).unwrap();
     let output = program.wait_with_output().unwrap();
     assert!(output.status.success());
-    assert_eq!(output.stdout, b"[ok 6]\n[found 1]\n[bad]\n");
+    assert_eq!(output.stdout, b"[ok 6]\n[found r1]\n[bad]\n");
 }
 
-fn line(text: &str, item: u32, length: i32, annotation: &str) -> (String, u32, i32, String) {
-    (text.into(), item, length, annotation.into())
+fn line(text: &str, number: u32, length: i32, annotation: &str) -> (String, Item, i32, String) {
+    (text.into(), r(number), length, annotation.into())
 }
 
 #[test]
 fn case_1() {
     let mut both = Both::fresh(10, 10);
     assert_eq!(both.register(&name("", "tick", 5)), Ok(3));
-    assert_eq!(both.find("tick."), Ok(Some(5)));
+    assert_eq!(both.find("tick."), Ok(Some(r(5))));
 }
 
 #[test]
@@ -53,12 +53,12 @@ fn case_2() {
 fn case_3() {
     let both = Both::t();
     assert_eq!(both.find("Live.late."), Ok(None));
-    assert_eq!(both.find("Saved.late."), Ok(Some(2)));
+    assert_eq!(both.find("Saved.late."), Ok(Some(r(2))));
 }
 
 #[test]
 fn case_4() {
-    assert_eq!(Both::t().find("Live.offset."), Ok(Some(3)));
+    assert_eq!(Both::t().find("Live.offset."), Ok(Some(r(3))));
 }
 
 #[test]
@@ -82,7 +82,7 @@ fn cases_6_and_7() {
 fn case_8() {
     let mut both = Both::t();
     assert_eq!(both.register(&alias("K", "Live.", "Saved.")), Ok(35));
-    assert_eq!(both.find("Live.K.late."), Ok(Some(2)));
+    assert_eq!(both.find("Live.K.late."), Ok(Some(r(2))));
 }
 
 #[test]
@@ -142,13 +142,13 @@ fn case_12() {
 fn case_13() {
     let both = Both::t();
     let mut text = vec![b'x'; 20];
-    let mut run = |budget, lines: &mut [Line<u32>]| {
-        let answer = complete_names(&both.table, b"Live.off.", budget, lines, &mut text);
+    let mut run = |budget, lines: &mut [Line<Item>]| {
+        let answer = complete_names(&both.table, b"Live.off.", None, budget, lines, &mut text);
         (answer.map_err(Refusal::number), text.clone())
     };
-    let mut lines = blank_lines(2, 0);
+    let mut lines = blank_lines(2, r(0));
     assert_eq!(run(1, &mut lines), (Err(9), vec![b'x'; 20]));
-    assert_eq!(lines, blank_lines(2, 0));
+    assert_eq!(lines, blank_lines(2, r(0)));
     assert_eq!(run(2, &mut []), (Err(10), vec![b'x'; 20]));
     // Both rows apply: the lower number.
     assert_eq!(run(1, &mut []), (Err(9), vec![b'x'; 20]));
@@ -158,7 +158,7 @@ fn case_13() {
     let span = |start, length| Span { start, length };
     assert_eq!(
         lines[0],
-        Line { match_length: 8, item: 1, candidate: span(0, 11), annotation: span(11, 0) }
+        Line { match_length: 8, item: r(1), candidate: span(0, 11), annotation: span(11, 0) }
     );
-    assert_eq!(lines[1..], blank_lines(1, 0));
+    assert_eq!(lines[1..], blank_lines(1, r(0)));
 }

@@ -13,13 +13,13 @@ impl Calls for Model {
         memory.register(call).err().map_or(0, Refusal::number)
     }
 
-    fn find(memory: &Memory, query: &[u8]) -> Result<Option<u32>, u32> {
+    fn find(memory: &Memory, query: &[u8]) -> Result<Option<Item>, u32> {
         memory.table().and_then(|t| find(&t.names, query)).map_err(Refusal::number)
     }
 
     fn complete(
         memory: &Memory,
-        modules: Option<Filter>,
+        ask: Ask,
         query: &[u8],
         budget: u32,
         (lines, bytes): (usize, usize),
@@ -28,12 +28,13 @@ impl Calls for Model {
         let mut text = vec![0; bytes];
         let (none, span) = (Str::from(&b""[..]), Span { start: 0, length: 0 });
         let symbol = ModSymbol::Namespace { ns_name: none, ns_loaded: false };
-        let listed = match modules {
-            None => {
-                let blank = Line { match_length: 0, item: 0, candidate: span, annotation: span };
-                complete_names(&table, query, budget, &mut vec![blank; lines], &mut text)
+        let listed = match ask {
+            Ask::Names(kind) => {
+                let item = Item::register(0);
+                let blank = Line { match_length: 0, item, candidate: span, annotation: span };
+                complete_names(&table, query, kind, budget, &mut vec![blank; lines], &mut text)
             }
-            Some(f) => {
+            Ask::Modules(f) => {
                 let blank =
                     Line { match_length: 0, item: symbol, candidate: span, annotation: span };
                 complete_modules(&table, query, f, budget, &mut vec![blank; lines], &mut text)

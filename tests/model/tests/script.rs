@@ -17,7 +17,9 @@ fn bad(line: &[u8]) {
 
 #[test]
 fn every_form() {
-    registers("[name [a.b.] id 7]", name("a.b.", "id", 7));
+    registers("[name [a.b.] id t7]", named("a.b.", "id", t(7)));
+    registers("[name [a.b.] id p7]", named("a.b.", "id", p(7)));
+    registers("[name [a.b.] id r7]", named("a.b.", "id", r(7)));
     registers("[name [] id 0]", name("", "id", 0));
     registers("[include [a.] [b.]]", include("a.", "b."));
     registers("[include [] []]", include("", ""));
@@ -117,7 +119,7 @@ fn texts_run_to_the_letter() {
     // An id may hold all but space and brackets.
     for id in [&b"a.b"[..], b".", b"\xFF", b"\0", b"\r", b"\x7F"] {
         let line = [b"[name [] ", id, b" 1]"].concat();
-        let call = Registration::Name { host: vec![], id: id.to_vec(), item: 1 };
+        let call = Registration::Name { host: vec![], id: id.to_vec(), item: r(1) };
         assert_eq!(parse_line(&line), Some(Form::Register(call)));
         assert_eq!(Console::default().reply(&line), b"[refused 2]\n");
     }
@@ -134,9 +136,18 @@ fn texts_run_to_the_letter() {
 }
 
 #[test]
-fn numbers() {
-    for (digits, item) in [("0", 0), ("1", 1), ("10", 10), ("4294967295", u32::MAX)] {
-        registers(&format!("[name [] a {digits}]"), name("", "a", item));
+fn items() {
+    for (digits, number) in [("0", 0), ("1", 1), ("10", 10), ("4294967295", u32::MAX)] {
+        // A bare number is a Register's.
+        registers(&format!("[name [] a {digits}]"), named("", "a", r(number)));
+        registers(&format!("[name [] a r{digits}]"), named("", "a", r(number)));
+        registers(&format!("[name [] a p{digits}]"), named("", "a", p(number)));
+        registers(&format!("[name [] a t{digits}]"), named("", "a", t(number)));
+        for letter in ["x", "T", "P", "R", "q", "s", "tt", "rt", "t ", " t", "-", "t-", "t."] {
+            bad(format!("[name [] a {letter}{digits}]").as_bytes());
+        }
+        bad(format!("[name [] a {digits}t]").as_bytes());
+        bad(format!("[name [] a {digits} t]").as_bytes());
     }
     for digits in [
         "",
@@ -155,8 +166,25 @@ fn numbers() {
         "99999999999999999999999",
         "1\u{660}",
     ] {
-        bad(format!("[name [] a {digits}]").as_bytes());
+        for letter in ["", "t", "p", "r"] {
+            bad(format!("[name [] a {letter}{digits}]").as_bytes());
+        }
     }
+}
+
+/// Replies have the letter always, however the item was written.
+#[test]
+fn replies_of_items() {
+    let script = b"[name [] a 5]\n[name [] b t5]\n[name [b.] c p4294967295]\n[name [] d r0]\n\
+        [find [a.]]\n[find [b.]]\n[find [b.c.]]\n[find [d.]]\n[complete []]\n\
+        [name [] a p5]\n[find [a.]]\n[name [] a t05]\n[name [] a x5]\n[name [] a t]\n\
+        [name [] a r4294967296]\n[find [a.]]\n";
+    let expected = "[ok 3]\n[ok 7]\n[ok 13]\n[ok 18]\n\
+        [found r5]\n[found t5]\n[found p4294967295]\n[found r0]\n\
+        [line -1 r5 [] a]\n[line -1 t5 [] b]\n[line -1 r0 [] d]\n[line -1 p4294967295 [] b.c]\n\
+        [end 4 2]\n\
+        [ok 21]\n[found p5]\n[bad]\n[bad]\n[bad]\n[bad]\n[found p5]\n";
+    assert_eq!(string(&run(script)), expected);
 }
 
 #[test]
@@ -227,12 +255,12 @@ fn word_fits(word: &[u8]) -> bool {
     !word.is_empty() && !word.iter().any(|b| b" []".contains(b))
 }
 
-/// A read line is a form as it is spelled, and nothing else: what is read
-/// from a damaged line is spelled as that line.
+/// A read line is a form as it is spelled, but for a Register's letter, and
+/// nothing else: what is read from a damaged line is spelled as that line.
 #[test]
 fn read_lines_are_spelled_so() {
     let rng = &mut Rng::new(Rng::seed_or(52));
-    let mut counts = [0; 2];
+    let (mut counts, mut bare) = ([0; 2], 0);
     for round in 0..3000 {
         let mut line = gen::line(rng, &gen::MIXES[round % 3]);
         for _ in 0..40 {
@@ -251,12 +279,17 @@ fn read_lines_are_spelled_so() {
             let form = parse_line(&line);
             counts[form.is_some() as usize] += 1;
             if let Some(form) = form {
-                assert_eq!(spell(&form), line);
+                let spelled = spell(&form);
+                if spelled != line {
+                    line.insert(gen::item_at(&line), b'r');
+                    bare += 1;
+                }
+                assert_eq!(spelled, line);
             }
             line = old;
         }
     }
-    assert!(counts.iter().all(|&n| n > 10_000), "{counts:?}");
+    assert!(counts.iter().all(|&n| n > 10_000) && bare > 500, "{counts:?} {bare}");
 }
 
 /// The console on the model, and the same registrations in a record memory.

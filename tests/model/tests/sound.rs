@@ -11,9 +11,9 @@ use model::naive::sound_naive;
 fn all_kinds() -> Memory {
     let mut memory = Memory::with_room(80, 200);
     for call in [
-        name("m.", "b", 1),
-        name("m.", "a", 2),
-        name("m.", "c", 3),
+        named("m.", "b", t(1)),
+        named("m.", "a", p(2)),
+        named("m.", "c", r(3)),
         include("h.", "m."),
         open_namespace("h.", ""),
         alias("k", "h.", "m."),
@@ -103,8 +103,19 @@ fn each_word_by_kind() {
         (
             1,
             None,
-            vec![5, 6, 7, 8, 9, 10, 11],
-            vec![(0, 0), (1, beyond), (2, 0), (2, 32), (3, max), (4, max)],
+            vec![5, 7, 8, 9, 10, 11],
+            vec![
+                (0, 0),
+                (1, beyond),
+                (2, 0),
+                (2, 32),
+                (3, max),
+                (4, max),
+                (6, 0),
+                (6, 4),
+                (6, 256 + 1),
+                (6, max),
+            ],
         ),
         (
             2,
@@ -182,6 +193,34 @@ fn each_word_by_kind() {
     }
 }
 
+/// Every item of names, with each of the kinds and with numbers that are none.
+#[test]
+fn kinds_of_items() {
+    let memory = all_kinds();
+    let branches: Vec<usize> = (0..memory.header.records as usize)
+        .filter(|&n| record(&memory.words, n)[0] == BINDINGS_BRANCH)
+        .collect();
+    assert_eq!(branches.len(), 1 + 2 + 2);
+    for number in branches {
+        for (value, sound) in [
+            (0, false),
+            (1, true),
+            (2, true),
+            (3, true),
+            (4, false),
+            (1 << 8 | 3, false),
+            (1 << 31 | 1, false),
+            (u32::MAX, false),
+        ] {
+            assert_eq!(
+                with(&memory, Damage::Word { at: 12 * number + 6, value }),
+                sound,
+                "{value}"
+            );
+        }
+    }
+}
+
 /// One record over given text; words not given are junk.
 fn one(set: &[(usize, u32)], text: &[u8]) -> bool {
     let mut r: Record = [0xABCD; 12];
@@ -202,7 +241,7 @@ fn one(set: &[(usize, u32)], text: &[u8]) -> bool {
 #[test]
 fn texts_keep_the_rules() {
     let n = [b'n'; 600];
-    let key = |length: u32| one(&[(0, 1), (1, 0), (2, length)], &n);
+    let key = |length: u32| one(&[(0, 1), (1, 0), (2, length), (6, 1)], &n);
     assert!(!key(0) && key(1) && key(31) && !key(32));
     let label = |length: u32| one(&[(0, 3), (1, 0), (2, length), (5, 1), (10, 1)], &n);
     assert!(label(0) && label(1) && label(543) && !label(544));
@@ -216,7 +255,7 @@ fn texts_keep_the_rules() {
     assert!(module(1, 1, 121) && !module(1, 0, 0) && !module(1, 544, 0));
     for b in 0..=255 {
         let text = [b'n', b, b'n'];
-        assert_eq!(one(&[(0, 1), (1, 0), (2, 3)], &text), is_name_byte(b));
+        assert_eq!(one(&[(0, 1), (1, 0), (2, 3), (6, 1)], &text), is_name_byte(b));
         let dots = is_name_byte(b) || b == DOT;
         assert_eq!(one(&[(0, 3), (1, 0), (2, 3), (5, 1), (10, 1)], &text), dots);
         let full_name = [(0, 6), (1, 0), (2, 1), (5, 1), (6, 1), (7, 2), (10, 0)];
@@ -241,7 +280,7 @@ fn tree(branches: &[(u32, u32, u32)]) -> bool {
     let text = b"abcdefgh".to_vec();
     let mut words = Vec::new();
     for &(key, left, right) in branches {
-        words.extend([1, key, 1, left, right, 0, 0, 0, 0, 0, 0, 0]);
+        words.extend([1, key, 1, left, right, 0, 1, 0, 0, 0, 0, 0]);
     }
     let header = Header { records: branches.len() as u32, text: 8, ..Header::default() };
     let memory = Memory { words, text, header };
@@ -446,7 +485,7 @@ fn chain(to_left: bool) -> Memory {
         let start = (key.as_ptr() as usize - text.as_ptr() as usize) as u32;
         let last = i as u32;
         let (left, right) = if to_left { (last, 0) } else { (0, last) };
-        words.extend([1, start, 31, left, right, last, 0, 0, 0, 0, 0, 0]);
+        words.extend([1, start, 31, left, right, last, 3, 0, 0, 0, 0, 0]);
     }
     let count = keys.len() as u32;
     words.extend([3, 0, 0, count, 0, 0, 0, 0, 0, 0, 1, 0]);
@@ -462,7 +501,8 @@ fn long_chains() {
         for to_left in [true, false] {
             let mut memory = chain(to_left);
             let count = memory.header.records as usize - 2;
-            let (lines, entered) = autocomplete_lid(&memory.table().unwrap(), b"", 1).unwrap();
+            let (lines, entered) =
+                autocomplete_lid(&memory.table().unwrap(), b"", None, 1).unwrap();
             assert_eq!((lines.len(), entered), (count, 1));
             assert!(lines.windows(2).all(|pair| pair[0].candidate < pair[1].candidate));
             // The last branch's other side takes the first branch: its key

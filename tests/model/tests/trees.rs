@@ -13,10 +13,10 @@ fn trees_are_sorted_maps() {
     let rng = &mut Rng::new(Rng::seed_or(21));
     let (mut found, mut replaced) = (0, 0);
     for _ in 0..200 {
-        let mut tree: Tree<u32> = None;
-        let mut map: BTreeMap<Vec<u8>, u32> = BTreeMap::new();
-        for item in 0..rng.below(40) as u32 {
-            let key = gen::name(rng);
+        let mut tree: Tree<Item> = None;
+        let mut map: BTreeMap<Vec<u8>, Item> = BTreeMap::new();
+        for _ in 0..rng.below(40) {
+            let (key, item) = (gen::name(rng), gen::item(rng));
             let built = &mut Built::default();
             let steps = branches_on_the_way(&tree, &key);
             tree = btree_insert_replace(built, &tree, &key.as_slice().into(), item);
@@ -25,8 +25,8 @@ fn trees_are_sorted_maps() {
             // A replaced branch is built anew, a new one is one more.
             assert_eq!(built.records, steps + old.is_none() as u64);
         }
-        let all: Vec<(Vec<u8>, u32)> = map.clone().into_iter().collect();
-        let plain = |list: List<(PrefixMatch, u32)>| -> Vec<(Vec<u8>, u32)> {
+        let all: Vec<(Vec<u8>, Item)> = map.clone().into_iter().collect();
+        let plain = |list: List<(PrefixMatch, Item)>| -> Vec<(Vec<u8>, Item)> {
             list.into_iter().map(|(m, item)| (m.completion.to_vec(), item)).collect()
         };
         assert_eq!(plain(btree_find_all(&None, &tree)), all);
@@ -46,7 +46,7 @@ fn trees_are_sorted_maps() {
 }
 
 /// Branches from the root to the key's place, the key's own included.
-fn branches_on_the_way(mut tree: &Tree<u32>, key: &[u8]) -> u64 {
+fn branches_on_the_way(mut tree: &Tree<Item>, key: &[u8]) -> u64 {
     let mut steps = 0;
     while let Some(b) = tree {
         steps += 1;

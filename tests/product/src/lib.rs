@@ -2,7 +2,7 @@
 //! Nothing checks these declarations against crates/exports: keep them few.
 use model::layout::{Header, Memory};
 use model::listings::{both, Shared};
-use model::model::{CompletionResult, Filter, ModSymbol, Registration, Str};
+use model::model::{Ask, CompletionResult, Filter, Item, Kind, ModSymbol, Registration, Str};
 
 /// A registration's reply: 0 or the number of the refusal, and the header.
 #[repr(C)]
@@ -23,11 +23,12 @@ impl Reply {
 /// The answer none.
 const NONE: u32 = u32::MAX;
 
-/// A look-up's reply: 0 for an item, NONE for none, else the number of the refusal.
+/// A look-up's reply: 0 for an item, NONE for none, else the number of the refusal; the item's kind and number.
 #[repr(C)]
 pub struct Looked {
-    answer: u32,
-    item: u32,
+    pub answer: u32,
+    pub kind: u32,
+    pub number: u32,
 }
 
 /// A completion's reply: 0 or the number of the refusal, lines and tries entered.
@@ -54,7 +55,7 @@ type Bytes = *const u8;
 extern "C" {
     fn name_table_sound(words: *const u32, nwords: usize, text: Bytes, ntext: usize, names: u32, modules: u32, records: u32, used: u32) -> bool;
     fn name_table_insert(words: Words, nwords: usize, text: *mut u8, ntext: usize, names: u32, modules: u32, records: u32, used: u32,
-        host: Bytes, nhost: usize, id: Bytes, nid: usize, item: u32) -> Reply;
+        host: Bytes, nhost: usize, id: Bytes, nid: usize, kind: u32, number: u32) -> Reply;
     fn name_table_include(words: Words, nwords: usize, text: *mut u8, ntext: usize, names: u32, modules: u32, records: u32, used: u32,
         host: Bytes, nhost: usize, query: Bytes, nquery: usize) -> Reply;
     fn name_table_open_namespace(words: Words, nwords: usize, text: *mut u8, ntext: usize, names: u32, modules: u32, records: u32, used: u32,
@@ -68,7 +69,7 @@ extern "C" {
     fn name_table_find(words: *const u32, nwords: usize, text: Bytes, ntext: usize, names: u32, modules: u32, records: u32, used: u32,
         query: Bytes, nquery: usize) -> Looked;
     fn name_table_insert_sound(words: Words, nwords: usize, text: *mut u8, ntext: usize, names: u32, modules: u32, records: u32, used: u32,
-        host: Bytes, nhost: usize, id: Bytes, nid: usize, item: u32) -> Reply;
+        host: Bytes, nhost: usize, id: Bytes, nid: usize, kind: u32, number: u32) -> Reply;
     fn name_table_find_sound(words: *const u32, nwords: usize, text: Bytes, ntext: usize, names: u32, modules: u32, records: u32, used: u32,
         query: Bytes, nquery: usize) -> Looked;
     fn name_table_complete(words: *const u32, nwords: usize, text: Bytes, ntext: usize, names: u32, modules: u32, records: u32, used: u32,
@@ -95,7 +96,7 @@ pub fn register(m: &mut Memory, call: &Registration) -> u32 {
     let r = unsafe {
         match call {
             Registration::Name { host, id, item } => name_table_insert(w, nw, t, nt, h.names, h.modules, h.records, h.text,
-                host.as_ptr(), host.len(), id.as_ptr(), id.len(), *item),
+                host.as_ptr(), host.len(), id.as_ptr(), id.len(), item.kind.number(), item.number),
             Registration::Include { host, included } => name_table_include(w, nw, t, nt, h.names, h.modules, h.records, h.text,
                 host.as_ptr(), host.len(), included.as_ptr(), included.len()),
             Registration::OpenNamespace { host, included } => name_table_open_namespace(w, nw, t, nt, h.names, h.modules, h.records, h.text,
@@ -113,7 +114,7 @@ pub fn register(m: &mut Memory, call: &Registration) -> u32 {
 }
 
 /// Look-up of a name for whatever is lent: the item or none, or the number of the refusal.
-pub fn find(m: &Memory, query: &[u8]) -> Result<Option<u32>, u32> {
+pub fn find(m: &Memory, query: &[u8]) -> Result<Option<Item>, u32> {
     let h = m.header;
     #[rustfmt::skip]
     let r = unsafe {
@@ -124,12 +125,12 @@ pub fn find(m: &Memory, query: &[u8]) -> Result<Option<u32>, u32> {
 }
 
 impl Looked {
-    pub fn result(&self) -> Result<Option<u32>, u32> {
-        match self.answer {
-            0 => Ok(Some(self.item)),
-            NONE => Ok(None),
-            n => Err(n),
+    pub fn result(&self) -> Result<Option<Item>, u32> {
+        if self.answer == 0 {
+            return Ok(Some(item_of(self.kind, self.number)));
         }
+        assert_eq!((self.kind, self.number), (0, 0));
+        if self.answer == NONE { Ok(None) } else { Err(self.answer) }
     }
 }
 
@@ -137,11 +138,11 @@ impl Looked {
 ///
 /// # Safety
 /// The memory is sound.
-pub unsafe fn insert_sound(m: &mut Memory, host: &[u8], id: &[u8], item: u32) -> u32 {
+pub unsafe fn insert_sound(m: &mut Memory, host: &[u8], id: &[u8], item: Item) -> u32 {
     let h = m.header;
     #[rustfmt::skip]
     let r = name_table_insert_sound(m.words.as_mut_ptr(), m.words.len(), m.text.as_mut_ptr(), m.text.len(), h.names, h.modules, h.records, h.text,
-        host.as_ptr(), host.len(), id.as_ptr(), id.len(), item);
+        host.as_ptr(), host.len(), id.as_ptr(), id.len(), item.kind.number(), item.number);
     m.header = r.header();
     r.refusal
 }
@@ -150,7 +151,7 @@ pub unsafe fn insert_sound(m: &mut Memory, host: &[u8], id: &[u8], item: u32) ->
 ///
 /// # Safety
 /// The memory is sound.
-pub unsafe fn find_sound(m: &Memory, query: &[u8]) -> Result<Option<u32>, u32> {
+pub unsafe fn find_sound(m: &Memory, query: &[u8]) -> Result<Option<Item>, u32> {
     let h = m.header;
     #[rustfmt::skip]
     let r = name_table_find_sound(m.words.as_ptr(), m.words.len(), m.text.as_ptr(), m.text.len(), h.names, h.modules, h.records, h.text,
@@ -158,22 +159,15 @@ pub unsafe fn find_sound(m: &Memory, query: &[u8]) -> Result<Option<u32>, u32> {
     r.result()
 }
 
-/// What a completion asks: names, or modules and namespaces with a filter.
-#[derive(Clone, Copy, Debug)]
-pub enum Ask {
-    Names,
-    Modules(Filter),
-}
-
-impl Ask {
-    fn number(self) -> u32 {
-        match self {
-            Ask::Names => 0,
-            Ask::Modules(Filter::All) => 1,
-            Ask::Modules(Filter::Loaded) => 2,
-            Ask::Modules(Filter::ModulesOnly) => 3,
-            Ask::Modules(Filter::NamespacesOnly) => 4,
-        }
+/// What a completion asks, by its number.
+fn number(ask: Ask) -> u32 {
+    match ask {
+        Ask::Names(None) => 0,
+        Ask::Names(Some(kind)) => kind.number(),
+        Ask::Modules(Filter::All) => 4,
+        Ask::Modules(Filter::Loaded) => 5,
+        Ask::Modules(Filter::ModulesOnly) => 6,
+        Ask::Modules(Filter::NamespacesOnly) => 7,
     }
 }
 
@@ -211,7 +205,7 @@ pub fn complete(m: &Memory, ask: Ask, query: &[u8], budget: u32, out: &mut Outpu
     #[rustfmt::skip]
     let r = unsafe {
         name_table_complete(m.words.as_ptr(), m.words.len(), m.text.as_ptr(), m.text.len(), h.names, h.modules, h.records, h.text,
-            ask.number(), query.as_ptr(), query.len(), budget, out.lines.as_mut_ptr(), out.lines.len(), out.text.as_mut_ptr(), out.text.len())
+            number(ask), query.as_ptr(), query.len(), budget, out.lines.as_mut_ptr(), out.lines.len(), out.text.as_mut_ptr(), out.text.len())
     };
     r.result()
 }
@@ -224,7 +218,7 @@ pub unsafe fn complete_sound(m: &Memory, ask: Ask, query: &[u8], budget: u32, ou
     let h = m.header;
     #[rustfmt::skip]
     let r = name_table_complete_sound(m.words.as_ptr(), m.words.len(), m.text.as_ptr(), m.text.len(), h.names, h.modules, h.records, h.text,
-        ask.number(), query.as_ptr(), query.len(), budget, out.lines.as_mut_ptr(), out.lines.len(), out.text.as_mut_ptr(), out.text.len());
+        number(ask), query.as_ptr(), query.len(), budget, out.lines.as_mut_ptr(), out.lines.len(), out.text.as_mut_ptr(), out.text.len());
     r.result()
 }
 
@@ -234,7 +228,7 @@ pub fn complete_shared(m: &Memory, ask: Ask, query: &[u8], budget: u32, out: &mu
     #[rustfmt::skip]
     let r = unsafe {
         name_table_complete_shared(m.words.as_ptr(), m.words.len(), m.text.as_ptr(), m.text.len(), h.names, h.modules, h.records, h.text,
-            ask.number(), query.as_ptr(), query.len(), budget, out.lines.as_mut_ptr(), out.lines.len(), out.text.as_mut_ptr(), out.text.len())
+            number(ask), query.as_ptr(), query.len(), budget, out.lines.as_mut_ptr(), out.lines.len(), out.text.as_mut_ptr(), out.text.len())
     };
     r.result()
 }
@@ -247,7 +241,7 @@ pub unsafe fn complete_shared_sound(m: &Memory, ask: Ask, query: &[u8], budget: 
     let h = m.header;
     #[rustfmt::skip]
     let r = name_table_complete_shared_sound(m.words.as_ptr(), m.words.len(), m.text.as_ptr(), m.text.len(), h.names, h.modules, h.records, h.text,
-        ask.number(), query.as_ptr(), query.len(), budget, out.lines.as_mut_ptr(), out.lines.len(), out.text.as_mut_ptr(), out.text.len());
+        number(ask), query.as_ptr(), query.len(), budget, out.lines.as_mut_ptr(), out.lines.len(), out.text.as_mut_ptr(), out.text.len());
     r.result()
 }
 
@@ -283,6 +277,16 @@ impl Output {
         let part = |start: u32, len: u32| Str::from(&self.text[start as usize..(start + len) as usize]);
         CompletionResult { match_length: w[0] as i32, item: item(w), candidate: part(w[1], w[2]), annotation: part(w[3], w[4]) }
     }
+}
+
+/// The item of this kind, which stands for one, and number.
+fn item_of(kind: u32, number: u32) -> Item {
+    Item { kind: Kind::from_number(kind).expect("a kind"), number }
+}
+
+/// The item in a line's words.
+pub fn item(w: &[u32]) -> Item {
+    item_of(w[6], w[5])
 }
 
 /// The mod symbol in a line's words.

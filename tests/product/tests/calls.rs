@@ -1,7 +1,7 @@
 //! Registrations and look-ups of the product against the independent implementation: answers, tables, and what a call may change.
 use model::gen::{damaged_query, damaged_registration, damages, full_name, near_query, registered_memory, registration, sound_memory, Rng, MIXES};
 use model::layout::{decode, same_table, Memory};
-use model::model::{bindings, btree_find_exact, find, segments, trie_descend_exact, Collection, ModSymbol, Registration, Table, Trie, Value};
+use model::model::{bindings, btree_find_exact, find, segments, trie_descend_exact, Collection, Kind, ModSymbol, Registration, Table, Trie, Value};
 use model::written::with_free;
 
 /// The product's answer to a registration, and everything that it leaves, as the model has it.
@@ -13,6 +13,12 @@ fn hold(memory: &mut Memory, table: &mut Option<Table>, call: &Registration, ans
     };
     let answer = product::register(memory, call);
     answers[answer as usize] += 1;
+    // Where the model does not say Unsound, a name also without the test.
+    if let (Registration::Name { host, id, item }, false) = (call, answer == 1) {
+        let mut other = before.clone();
+        assert_eq!(unsafe { product::insert_sound(&mut other, host, id, *item) }, answer, "{call:?}");
+        assert!(other == *memory, "another memory: {call:?}");
+    }
     match expected {
         Err(refusal) => {
             assert_eq!(answer, refusal.number(), "{call:?}");
@@ -36,7 +42,8 @@ fn hold(memory: &mut Memory, table: &mut Option<Table>, call: &Registration, ans
 fn registrations_and_look_ups() {
     let mut rng = Rng::new(Rng::seed_or(3));
     let mut answers = [0; 9];
-    let mut found = [0; 3];
+    // Look-ups that found a Timer, a Port, a Register; none; refused.
+    let mut found = [0; 5];
     for round in 0..60 {
         let mut memory = registered_memory(&mut rng, 0, [40, 200, 1000][round % 3], [60, 400, 3000][round % 3]);
         let mut table = Some(decode(&memory));
@@ -54,10 +61,12 @@ fn registrations_and_look_ups() {
             };
             let expected = find(root, &query).map_err(|r| r.number());
             assert_eq!(product::find(&memory, &query), expected, "{query:?}");
-            found[match expected { Ok(Some(_)) => 0, Ok(None) => 1, Err(_) => 2 }] += 1;
+            assert_eq!(unsafe { product::find_sound(&memory, &query) }, expected, "{query:?}");
+            let kind = expected.map(|item| item.map(|i| i.kind));
+            found[match kind { Ok(Some(Kind::Timer)) => 0, Ok(Some(Kind::Port)) => 1, Ok(Some(Kind::Register)) => 2, Ok(None) => 3, Err(_) => 4 }] += 1;
         }
     }
-    println!("registrations by answer (0 accepted): {answers:?}; look-ups found, none, refused: {found:?}; 0 disagreements");
+    println!("registrations by answer (0 accepted): {answers:?}; look-ups found by kind, none, refused: {found:?}; 0 disagreements");
     assert!([0, 2, 3, 4, 7, 8].iter().all(|&n| 0 < answers[n]), "{answers:?}");
     assert!(found.iter().all(|&n| 0 < n), "{found:?}");
 }

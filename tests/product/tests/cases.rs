@@ -1,10 +1,15 @@
 //! The thirteen cases of docs/REQUIREMENTS.md, run on the product. Every expected number and line is printed there.
 use model::layout::Memory;
-use model::model::{Filter, Registration};
-use product::{complete, find, register, Ask, Output};
+use model::model::{Ask, Filter, Item, Registration};
+use product::{complete, find, item, register, Output};
 
-fn name(host: &[u8], id: &[u8], item: u32) -> Registration {
-    Registration::Name { host: host.to_vec(), id: id.to_vec(), item }
+/// The cases speak of Registers.
+const R1: Item = Item::register(1);
+const R2: Item = Item::register(2);
+const R3: Item = Item::register(3);
+
+fn name(host: &[u8], id: &[u8], number: u32) -> Registration {
+    Registration::Name { host: host.to_vec(), id: id.to_vec(), item: Item::register(number) }
 }
 
 fn include(host: &[u8], included: &[u8]) -> Registration {
@@ -28,20 +33,25 @@ fn t() -> [Registration; 4] {
     [name(b"Saved.", b"offset", 1), include(b"Live.", b"Saved."), name(b"Saved.", b"late", 2), name(b"Live.", b"offset", 3)]
 }
 
-/// The lines of a completion as (match length, word 5, annotation, candidate), and the tries entered.
-fn listed(m: &Memory, ask: Ask, query: &[u8]) -> (Vec<(i32, u32, String, String)>, u32) {
+/// The lines of a completion as (match length, what `read` makes of the words, annotation, candidate), and the tries entered.
+fn listed<A>(m: &Memory, ask: Ask, query: &[u8], read: impl Fn(&[u32]) -> A) -> (Vec<(i32, A, String, String)>, u32) {
     let mut out = Output::with_room(512, 32768);
     let (lines, entered) = complete(m, ask, query, 4096, &mut out).expect("listed");
     let text = |s: &[u8]| String::from_utf8(s.to_vec()).unwrap();
     let line = |k| {
-        let l = out.line(k, |w| w[5]);
+        let l = out.line(k, &read);
         (l.match_length, l.item, text(&l.annotation), text(&l.candidate))
     };
     ((0..lines as usize).map(line).collect(), entered)
 }
 
-fn lines(all: &[(i32, u32, &str, &str)]) -> Vec<(i32, u32, String, String)> {
+fn lines<A: Copy>(all: &[(i32, A, &str, &str)]) -> Vec<(i32, A, String, String)> {
     all.iter().map(|&(l, i, a, c)| (l, i, a.to_string(), c.to_string())).collect()
+}
+
+/// A completion of names of all kinds.
+fn names(m: &Memory, query: &[u8]) -> (Vec<(i32, Item, String, String)>, u32) {
+    listed(m, Ask::Names(None), query, item)
 }
 
 #[test]
@@ -59,17 +69,17 @@ fn case_2_table_t() {
 fn cases_3_and_4_look_ups() {
     let m = made(&t());
     assert_eq!(find(&m, b"Live.late."), Ok(None));
-    assert_eq!(find(&m, b"Saved.late."), Ok(Some(2)));
-    assert_eq!(find(&m, b"Live.offset."), Ok(Some(3)));
+    assert_eq!(find(&m, b"Saved.late."), Ok(Some(R2)));
+    assert_eq!(find(&m, b"Live.offset."), Ok(Some(R3)));
 }
 
 #[test]
 fn cases_5_6_and_7_completions() {
     let m = made(&t());
-    assert_eq!(listed(&m, Ask::Names, b"Live.off."), (lines(&[(8, 1, "", "Live.offset")]), 2));
-    let all = |l| lines(&[(l, 1, "", "Live.offset"), (l, 2, "", "Saved.late"), (l, 1, "", "Saved.offset")]);
-    assert_eq!(listed(&m, Ask::Names, b""), (all(-1), 3));
-    assert_eq!(listed(&m, Ask::Names, b".").0, all(0));
+    assert_eq!(names(&m, b"Live.off."), (lines(&[(8, R1, "", "Live.offset")]), 2));
+    let all = |l| lines(&[(l, R1, "", "Live.offset"), (l, R2, "", "Saved.late"), (l, R1, "", "Saved.offset")]);
+    assert_eq!(names(&m, b""), (all(-1), 3));
+    assert_eq!(names(&m, b".").0, all(0));
 }
 
 #[test]
@@ -78,21 +88,22 @@ fn case_8_an_alias() {
     let alias = Registration::Alias { key: b"K".to_vec(), host: b"Live.".to_vec(), included: b"Saved.".to_vec() };
     assert_eq!(register(&mut m, &alias), 0);
     assert_eq!(m.header.records, 35);
-    assert_eq!(find(&m, b"Live.K.late."), Ok(Some(2)));
+    assert_eq!(find(&m, b"Live.K.late."), Ok(Some(R2)));
 }
 
 #[test]
 fn case_9_an_annotation() {
     let mut m = made(&t());
     assert_eq!(register(&mut m, &include(b"", b"Saved.")), 0);
-    assert_eq!(listed(&m, Ask::Names, b"off.").0, lines(&[(3, 1, "Saved", "offset")]));
+    assert_eq!(names(&m, b"off.").0, lines(&[(3, R1, "Saved", "offset")]));
 }
 
 #[test]
 fn case_10_modules() {
     let m = made(&[Registration::Module { loaded: false, query: b"IO.Bus.".to_vec(), path: b"io/bus".to_vec() }]);
     assert_eq!(m.header.records, 10);
-    assert_eq!(listed(&m, Ask::Modules(Filter::All), b"I."), (lines(&[(1, 1, "(ns)", "IO"), (1, 0, "(mod)", "IO.Bus")]), 3));
+    let sort = |w: &[u32]| w[5];
+    assert_eq!(listed(&m, Ask::Modules(Filter::All), b"I.", sort), (lines(&[(1, 1, "(ns)", "IO"), (1, 0, "(mod)", "IO.Bus")]), 3));
 }
 
 #[test]
@@ -118,7 +129,7 @@ fn case_12_room() {
 #[test]
 fn case_13_budget_and_lines() {
     let m = made(&t());
-    let answer = |budget, lines| complete(&m, Ask::Names, b"Live.off.", budget, &mut Output::with_room(lines, 100));
+    let answer = |budget, lines| complete(&m, Ask::Names(None), b"Live.off.", budget, &mut Output::with_room(lines, 100));
     assert_eq!(answer(1, 10), Err(9));
     assert_eq!(answer(2, 10), Ok((1, 2)));
     assert_eq!(answer(2, 0), Err(10));
@@ -130,5 +141,5 @@ fn damaged_tables_are_unsound() {
     m.words[(m.header.names as usize - 1) * 12] = 99;
     assert_eq!(find(&m, b"Saved.late."), Err(1));
     assert_eq!(register(&mut m, &name(b"", b"tick", 5)), 1);
-    assert_eq!(complete(&m, Ask::Names, b"", 4096, &mut Output::with_room(10, 100)), Err(1));
+    assert_eq!(complete(&m, Ask::Names(None), b"", 4096, &mut Output::with_room(10, 100)), Err(1));
 }

@@ -2,17 +2,9 @@
 use model::gen::{completion_query, damaged_query, damages, registered_memory, sound_memory, Rng};
 use model::layout::{decode, Memory};
 use model::listings::Tally;
-use model::model::{autocomplete_lid, autocomplete_mod_or_ns, shared_length, CompletionResult, Filter, Table};
-use product::{complete_both, complete_both_sound, symbol, Ask, Output};
+use model::model::{autocomplete_lid, autocomplete_mod_or_ns, shared_length, Ask, CompletionResult, Table};
+use product::{complete_both, complete_both_sound, item, symbol, Output};
 use std::fmt::Debug;
-
-const ASKS: [Ask; 5] = [
-    Ask::Names,
-    Ask::Modules(Filter::All),
-    Ask::Modules(Filter::Loaded),
-    Ask::Modules(Filter::ModulesOnly),
-    Ask::Modules(Filter::NamespacesOnly),
-];
 
 /// A completion, with and without its shared length, held to what the model says, at the limits and one below them.
 fn hold<A: PartialEq + Debug>(
@@ -72,11 +64,14 @@ fn hold<A: PartialEq + Debug>(
 }
 
 fn hold_all(memory: &Memory, table: &Result<Table, u32>, query: &[u8], tally: &mut Tally) {
-    for ask in ASKS {
+    for ask in Ask::ALL {
         match ask {
-            Ask::Names => {
-                let expected = |budget| table.as_ref().map_err(|&n| n).and_then(|t| autocomplete_lid(t, query, budget).map_err(|r| r.number()));
-                hold(memory, ask, query, &expected, &|w| w[5], tally);
+            Ask::Names(kind) => {
+                let expected = |budget| table.as_ref().map_err(|&n| n).and_then(|t| autocomplete_lid(t, query, kind, budget).map_err(|r| r.number()));
+                hold(memory, ask, query, &expected, &item, tally);
+                if let (None, Ok((results, _))) = (kind, expected(u32::MAX)) {
+                    tally.all_kinds(&results);
+                }
             }
             Ask::Modules(f) => {
                 let expected = |budget| table.as_ref().map_err(|&n| n).and_then(|t| autocomplete_mod_or_ns(t, query, f, budget).map_err(|r| r.number()));
@@ -99,7 +94,7 @@ fn completions_of_registered_tables() {
         }
     }
     println!("completions: {tally:?}; 0 disagreements");
-    assert!(tally.has(&[0, 2, 4, 9, 10]), "{tally:?}");
+    assert!(tally.has(&[0, 2, 4, 9, 10]) && tally.has_kinds(), "{tally:?}");
 }
 
 #[test]
@@ -114,7 +109,7 @@ fn completions_of_hand_made_sound_tables() {
         }
     }
     println!("completions of hand-made tables: {tally:?}; 0 disagreements");
-    assert!(tally.has(&[0, 9, 10]), "{tally:?}");
+    assert!(tally.has(&[0, 9, 10]) && tally.has_kinds(), "{tally:?}");
 }
 
 #[test]

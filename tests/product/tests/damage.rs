@@ -1,6 +1,6 @@
 //! Damages sound tables one word, byte or header field at a time and holds the product's soundness test to the independent one.
 use model::gen::{damages, registered_memory, sound_memory, Damage, Rng};
-use model::layout::{Memory, BINDINGS_LIST};
+use model::layout::{record, Memory, BINDINGS_BRANCH, BINDINGS_LIST};
 use model::model::WORDS_A_RECORD;
 use model::written::{Key, Written};
 
@@ -51,6 +51,27 @@ fn every_word_of_tables_written_record_by_record() {
         }
     }
     report("written tables", &count);
+}
+
+/// An item of names is a Timer, 1, a Port, 2, or a Register, 3. Expectations are by that rule.
+#[test]
+fn every_kind_of_every_item() {
+    let mut rng = Rng::new(Rng::seed_or(23));
+    let mut kinds = [0; 3];
+    for round in 0..12 {
+        let memory = if round % 2 == 0 { registered_memory(&mut rng, 30, 300, 900) } else { sound_memory(&mut rng, 60) };
+        for number in (0..memory.header.records as usize).filter(|&n| record(&memory.words, n)[0] == BINDINGS_BRANCH) {
+            let at = number * WORDS_A_RECORD + 6;
+            kinds[memory.words[at] as usize - 1] += 1;
+            for value in [0, 1, 2, 3, 4, 5, 1 << 8 | 1, 1 << 16 | 2, 1 << 31 | 3, u32::MAX, rng.word() | 4] {
+                let mut m = memory.clone();
+                m.words[at] = value;
+                assert_eq!(product::sound(&m), (1..=3).contains(&value), "{value}");
+            }
+        }
+    }
+    println!("items by kind, each with every kind: {kinds:?}");
+    assert!(kinds.iter().all(|&n| 0 < n), "{kinds:?}");
 }
 
 /// So many records: a chain to the right or to the left, and the branches that all have it to their other side.

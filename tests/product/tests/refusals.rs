@@ -1,8 +1,8 @@
 //! Each refusal of the product at its limit and just inside it (tests/model/src/limits.rs).
 use model::layout::Memory;
 use model::limits::Calls;
-use model::model::{Filter, Registration};
-use product::{Ask, Output};
+use model::model::{Ask, Item, Registration};
+use product::Output;
 
 struct Exports;
 
@@ -13,13 +13,12 @@ impl Calls for Exports {
         product::register(memory, call)
     }
 
-    fn find(memory: &Memory, query: &[u8]) -> Result<Option<u32>, u32> {
+    fn find(memory: &Memory, query: &[u8]) -> Result<Option<Item>, u32> {
         product::find(memory, query)
     }
 
     /// Both completions are refused alike.
-    fn complete(memory: &Memory, modules: Option<Filter>, query: &[u8], budget: u32, room: (usize, usize)) -> Result<(u32, u32), u32> {
-        let ask = modules.map_or(Ask::Names, Ask::Modules);
+    fn complete(memory: &Memory, ask: Ask, query: &[u8], budget: u32, room: (usize, usize)) -> Result<(u32, u32), u32> {
         let answer = product::complete_both(memory, ask, query, budget, &mut Output::with_room(room.0, room.1));
         answer.map(|(lines, entered, _)| (lines, entered))
     }

@@ -1,17 +1,28 @@
 -- `annotations::kept` meets its contract.
 use mathlib.Core.List.{[]}
-use Rattle.annotations.proofs.Noted.{module-at, namespace-at}
+use borrow.Author.Needs.{needs}
+use Rattle.source.specs.Items.{same-kind}
+use Rattle.source.specs.Calls.{keeps-kind}
+use Rattle.annotations.proofs.Noted.{kind-at, module-at, namespace-at}
 use Rattle.annotations.proofs.kept.Statement.{statement}
 use Rattle.annotations.proofs.kept.Tie as tie
-use borrow.Author.Needs.{needs}
 
 pub kept-spec : {M : Type 1} → statement M
+unfolding keeps-kind
 kept-spec =
     tie.close
     (tie.spec
+    {- enum-known-ask -}
+    (λ c. search needs)
     {- enum-told -}
     (λ c. search needs)
-    {- enum-known-ask -}
+    {- enum-known-f -}
+    (λ c. search needs)
+    {- lid-of-requires -}
+    (λ c κs. search needs)
+    {- same-kind-requires -}
+    (λ c κs. search needs)
+    {- enum-known-ask-2 -}
     (λ c. search needs)
     {- symbol-of-requires -}
     (λ c κs. search needs)
@@ -24,8 +35,10 @@ kept-spec =
     {- keeps-requires-2 -}
     (λ c κs. search needs)
     {- returns -}
-    (λ c txt. rw (c .enum-told .given .1))
+    (λ c. λ txt. rw (c .before .before .before .ask .given .1, c .enum-told .given .1))
     {- returns-2 -}
-    (λ c txt. rw (c .before .before .before .before .before .before .ask .given .1, module-at (c .before .before .before .before .before .before .before .before .before .args .words .now) txt (c .before .before .before .before .before .before .before .before .before .args .branch) (c .before .before .before .before .symbol-of .ensures) (c .before .before .symbol .given .1)) (c .keeps .ensures _ _))
+    (λ c. λ txt. rw (c .before .before .before .before .before .before .ask .given .1, c .before .before .before .f .given .1) (kind-at _ (c .before .lid-of .ensures) (c .same-kind .ensures)))
     {- returns-3 -}
-    (λ c txt. rw (c .before .before .before .before .before .before .ask .given .1, namespace-at (c .before .before .before .before .before .before .before .before .before .args .words .now) txt (c .before .before .before .before .before .before .before .before .before .args .branch) (c .before .before .before .before .symbol-of .ensures) (c .before .before .symbol2 .given .1)) (c .keeps2 .ensures _ [])))
+    (λ c. λ txt. rw (c .before .before .before .before .before .before .ask2 .given .1, module-at (c .before .before .before .before .before .before .before .before .before .args .words .now) txt (c .before .before .before .before .before .before .before .before .before .args .branch) (c .before .before .before .before .symbol-of .ensures) (c .before .before .symbol .given .1)) (c .keeps .ensures _ _))
+    {- returns-4 -}
+    (λ c. λ txt. rw (c .before .before .before .before .before .before .ask2 .given .1, namespace-at (c .before .before .before .before .before .before .before .before .before .args .words .now) txt (c .before .before .before .before .before .before .before .before .before .args .branch) (c .before .before .before .before .symbol-of .ensures) (c .before .before .symbol2 .given .1)) (c .keeps2 .ensures _ [])))

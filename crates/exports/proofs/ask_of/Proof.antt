@@ -1,19 +1,25 @@
 -- `exports::ask_of` meets its contract.
-use borrow.Author.Tests.{eq-eqb, ne-eqb}
+use Prim.Native.Nat.{_-_}
+use native.Mathlib.Omega.{arith}
+use borrow.Author.Tests.{lt-ltb, le-ltb}
+use borrow.Author.Needs.{needs}
+use Rattle.source.specs.Tries.{dflt}
+use Rattle.numbers.proofs.Filters.{modules-none}
 use Rattle.exports.proofs.ask_of.Statement.{statement}
 use Rattle.exports.proofs.ask_of.Tie as tie
 
 pub ask-of-spec : {M : Type 1} → statement M
+unfolding dflt
 ask-of-spec =
     tie.close
     (tie.spec
+    {- names-asked-requires -}
+    (λ c κs. search needs)
     {- returns -}
-    (λ c. rw (eq-eqb _ _ (c .if1 .taken)))
+    (λ c. rw (lt-ltb _ 4 (c .before .if1 .taken), c .names-asked .ensures))
+    {- modules-asked-requires -}
+    (λ c κs. search needs)
     {- returns-2 -}
-    (λ c. rw (ne-eqb _ _ (c .before .if1 .left), eq-eqb _ _ (c .if2 .taken)))
+    (λ c. rw (le-ltb _ 4 (c .before .before .if1 .left), c .modules-asked .ensures))
     {- returns-3 -}
-    (λ c. rw (ne-eqb _ _ (c .before .before .if1 .left), ne-eqb _ _ (c .before .if2 .left), eq-eqb _ _ (c .if3 .taken)))
-    {- returns-4 -}
-    (λ c. rw (ne-eqb _ _ (c .before .before .before .if1 .left), ne-eqb _ _ (c .before .before .if2 .left), ne-eqb _ _ (c .before .if3 .left), eq-eqb _ _ (c .if4 .taken)))
-    {- returns-5 -}
-    (λ c. rw (ne-eqb _ _ (c .before .before .before .if1 .left), ne-eqb _ _ (c .before .before .if2 .left), ne-eqb _ _ (c .before .if3 .left), ne-eqb _ _ (c .if4 .left))))
+    (λ c. rw (le-ltb _ 4 (c .before .if1 .left), modules-none (c .before .before .args .n - 4) (omega (arith, c .if2 .left)))))

@@ -1,6 +1,6 @@
 -- `exports::name_table_insert` meets its contract.
-use Rattle.exports.proofs.Replies.{replies}
 use borrow.Author.Needs.{needs}
+use Rattle.exports.proofs.Replies.{replies}
 use Rattle.exports.proofs.name_table_insert.Statement.{statement}
 use Rattle.exports.proofs.name_table_insert.Tie as tie
 
@@ -9,6 +9,8 @@ name-table-insert-spec =
     tie.close
     (tie.spec
     {- table-of-requires -}
+    (λ c κs. search needs)
+    {- item-of-requires -}
     (λ c κs. search needs)
     {- insert-requires -}
     (λ c κs. search needs)
@@ -19,4 +21,4 @@ name-table-insert-spec =
     {- same-length-2 -}
     (λ c. search needs)
     {- returns -}
-    (λ c. replies (c .before .before .before .before .before .before .before .before .table-of .ensures) (c .before .before .before .before .before .insert .ensures) (c .reply-of .ensures)))
+    (λ c. replies (c .before .before .before .before .before .before .before .before .before .table-of .ensures) (rw (c .before .before .before .before .before .before .item-of .ensures) at (c .before .before .before .before .before .insert .ensures)) (c .reply-of .ensures)))

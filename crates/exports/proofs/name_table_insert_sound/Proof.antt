@@ -1,6 +1,6 @@
 -- `exports::name_table_insert_sound` meets its contract.
-use Rattle.exports.proofs.Replies.{replies-sound}
 use borrow.Author.Needs.{needs}
+use Rattle.exports.proofs.Replies.{replies-sound}
 use Rattle.exports.proofs.name_table_insert_sound.Statement.{statement}
 use Rattle.exports.proofs.name_table_insert_sound.Tie as tie
 
@@ -10,8 +10,10 @@ name-table-insert-sound-spec =
     (tie.spec
     {- table-of-requires -}
     (λ c κs. search needs)
+    {- item-of-requires -}
+    (λ c κs. search needs)
     {- insert-sound-requires -}
-    (λ c κs. rw (c .before .before .table-of .ensures) (c .before .before .before .before .before .before .before .pre))
+    (λ c κs. rw (c .before .before .before .table-of .ensures) (c .before .before .before .before .before .before .before .before .pre))
     {- reply-of-requires -}
     (λ c κs. search needs)
     {- same-length -}
@@ -19,4 +21,4 @@ name-table-insert-sound-spec =
     {- same-length-2 -}
     (λ c. search needs)
     {- returns -}
-    (λ c. replies-sound (c .before .before .before .before .before .before .before .before .table-of .ensures) (c .before .before .before .before .before .before .before .before .before .before .before .before .before .pre) (c .before .before .before .before .before .insert-sound .ensures) (c .reply-of .ensures)))
+    (λ c. replies-sound (c .before .before .before .before .before .before .before .before .before .table-of .ensures) (c .before .before .before .before .before .before .before .before .before .before .before .before .before .before .pre) (rw (c .before .before .before .before .before .before .item-of .ensures) at (c .before .before .before .before .before .insert-sound .ensures)) (c .reply-of .ensures)))

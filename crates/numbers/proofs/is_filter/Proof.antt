@@ -1,5 +1,5 @@
 -- is_filter meets its contract.
-use Rattle.numbers.proofs.Filters.{filter-test}
+use Rattle.numbers.proofs.Filters.{kind-test, filter-test}
 use Rattle.numbers.proofs.is_filter.Statement.{statement}
 use Rattle.numbers.proofs.is_filter.Tie as tie
 
@@ -8,4 +8,4 @@ is-filter-spec =
     tie.close
     (tie.spec
     {- returns -}
-    (λ c. filter-test (c .args .n)))
+    (λ c. (kind-test (c .args .n), filter-test (c .args .n))))

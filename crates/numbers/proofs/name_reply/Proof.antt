@@ -13,6 +13,8 @@ name-reply-spec =
     (tie.spec
     {- enum-known-f -}
     (λ c. search needs)
+    {- number-of-requires -}
+    (λ c κs. search needs)
     {- enum-told -}
     (λ c. search needs)
     {- no-name-requires -}
@@ -24,7 +26,7 @@ name-reply-spec =
     {- no-name-requires-2 -}
     (λ c κs. search needs)
     {- returns -}
-    (λ c. rw (c .before .f .given .1))
+    (λ c. rw (c .before .before .f .given .1, c .number-of .ensures))
     {- returns-2 -}
     (λ c. rw (c .before .enum-told .given .1) (c .no-name .ensures))
     {- returns-3 -}

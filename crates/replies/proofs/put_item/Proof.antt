@@ -8,7 +8,7 @@ use Rattle.replies.proofs.put_item.Tie as tie
 
 returns : tie.Need-returns
 unfolding item-text bytes
-returns c = rw (c .before .before .before .before .before .item .given .1) (c .before .before .put-number .ensures)
+returns c = rw (c .before .before .before .before .before .item .given .1) (c .before .before .put-name .ensures)
 
 returns-2 : tie.Need-returns-2
 unfolding item-text bytes

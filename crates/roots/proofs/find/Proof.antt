@@ -16,14 +16,14 @@ find-spec =
     (λ c κs. record { which = names; trie = names-trie (c .before .before .before .pre) })
     {- enum-known-l -}
     (λ c. search needs)
-    {- number-of-requires -}
+    {- lid-of-requires -}
     (λ c κs. let h = rw (c .before .l .given .1) at (c .before .before .before .look-up .ensures .fits) in omega arith)
     {- enum-told -}
     (λ c. search needs)
     {- enum-known-l-2 -}
     (λ c. search needs)
     {- returns -}
-    (λ c. ap found (c .number-of .ensures) ∙ rw (c .before .before .l .given .1) at (c .before .before .before .before .look-up .ensures .says names (names-trie (c .before .before .before .before .before .before .before .before .pre))))
+    (λ c. ap found (c .lid-of .ensures) ∙ rw (c .before .before .l .given .1) at (c .before .before .before .before .look-up .ensures .says names (names-trie (c .before .before .before .before .before .before .before .before .pre))))
     {- returns-2 -}
     (λ c. rw (c .enum-told .given .1) at (c .before .before .look-up .ensures .says names (names-trie (c .before .before .before .before .before .before .pre))))
     {- returns-3 -}

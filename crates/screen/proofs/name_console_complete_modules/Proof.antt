@@ -1,7 +1,7 @@
 -- name_console_complete_modules meets its contract.
 use mathlib.Core.Path.{sym, _∙_}
 use borrow.Author.Needs.{needs}
-use Rattle.numbers.proofs.Filters.{filter-below}
+use Rattle.numbers.proofs.Filters.{modules-below}
 use Rattle.screen.proofs.RepliesLines.{lines-asked, lines-unasked}
 use Rattle.screen.proofs.name_console_complete_modules.Statement.{statement}
 use Rattle.screen.proofs.name_console_complete_modules.Tie as tie
@@ -12,8 +12,8 @@ name-console-complete-modules-spec =
     (tie.spec
     {- is-filter-requires -}
     (λ c κs. search needs)
-    {- ask-of-requires -}
-    (λ c κs. filter-below _ (sym (c .before .is-filter .ensures) ∙ c .if1 .taken))
+    {- modules-asked-requires -}
+    (λ c κs. modules-below _ (sym (c .before .is-filter .ensures .1) ∙ c .if1 .taken))
     {- complete-requires -}
     (λ c κs. search needs)
     {- same-length -}
@@ -21,10 +21,10 @@ name-console-complete-modules-spec =
     {- same-length-2 -}
     (λ c. search needs)
     {- returns -}
-    (λ c. lines-asked _ (c .before .before .before .before .before .before .before .ask-of .ensures) (c .before .before .before .before .complete .ensures))
+    (λ c. lines-asked (c .before .before .before .before .before .before .before .modules-asked .ensures) (c .before .before .before .before .complete .ensures))
     {- malformed-requires -}
     (λ c κs. search needs)
     {- no-lines-requires -}
     (λ c κs. search needs)
     {- returns-2 -}
-    (λ c. lines-unasked _ (sym (c .before .before .before .is-filter .ensures) ∙ c .before .before .if1 .left) (c .before .malformed .ensures) (c .no-lines .ensures)))
+    (λ c. lines-unasked _ (sym (c .before .before .before .is-filter .ensures .1) ∙ c .before .before .if1 .left) (c .before .malformed .ensures) (c .no-lines .ensures)))

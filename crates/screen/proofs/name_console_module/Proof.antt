@@ -1,7 +1,7 @@
 -- name_console_module meets its contract.
 use borrow.Author.Needs.{needs}
 use Rattle.source.specs.Calls.{module-path}
-use Rattle.screen.proofs.Replies.{reply-chosen, reply-unchosen}
+use Rattle.screen.proofs.Replies.{flag-some, flag-none, reply-chosen, reply-unchosen}
 use Rattle.screen.proofs.name_console_module.Statement.{statement}
 use Rattle.screen.proofs.name_console_module.Tie as tie
 
@@ -20,7 +20,7 @@ name-console-module-spec =
     {- same-length-3 -}
     (λ c. search needs)
     {- returns -}
-    (λ c. reply-chosen (λ b. module-path b (c .before .before .before .before .before .before .before .before .before .before .before .before .before .before .before .before .before .args .query .now) (c .before .before .before .before .before .before .before .before .before .before .before .before .before .before .before .before .before .args .path .now)) (c .before .before .before .before .before .before .before .before .before .before .before .if1 .taken) (c .before .before .before .before .before .before .register .ensures))
+    (λ c. reply-chosen (λ b. module-path b (c .before .before .before .before .before .before .before .before .before .before .before .before .before .before .before .before .before .args .query .now) (c .before .before .before .before .before .before .before .before .before .before .before .before .before .before .before .before .before .args .path .now)) (flag-some _ (c .before .before .before .before .before .before .before .before .before .before .before .if1 .taken)) (c .before .before .before .before .before .before .register .ensures))
     {- malformed-requires -}
     (λ c κs. search needs)
     {- same-length-4 -}
@@ -30,4 +30,4 @@ name-console-module-spec =
     {- same-length-6 -}
     (λ c. search needs)
     {- returns-2 -}
-    (λ c. reply-unchosen (λ b. module-path b (c .before .before .before .before .before .before .before .before .before .before .args .query .now) (c .before .before .before .before .before .before .before .before .before .before .args .path .now)) (c .before .before .before .before .if1 .left) (c .malformed .ensures)))
+    (λ c. reply-unchosen (λ b. module-path b (c .before .before .before .before .before .before .before .before .before .before .args .query .now) (c .before .before .before .before .before .before .before .before .before .before .args .path .now)) (flag-none _ (c .before .before .before .before .if1 .left)) (c .malformed .ensures)))

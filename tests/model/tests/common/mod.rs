@@ -4,8 +4,25 @@
 use model::layout::*;
 use model::model::*;
 
-pub fn name(host: &str, id: &str, item: u32) -> Registration {
+pub fn named(host: &str, id: &str, item: Item) -> Registration {
     Registration::Name { host: host.into(), id: id.into(), item }
+}
+
+/// A name with a Register.
+pub fn name(host: &str, id: &str, number: u32) -> Registration {
+    named(host, id, r(number))
+}
+
+pub fn t(number: u32) -> Item {
+    Item::timer(number)
+}
+
+pub fn p(number: u32) -> Item {
+    Item::port(number)
+}
+
+pub fn r(number: u32) -> Item {
+    Item::register(number)
 }
 
 pub fn include(host: &str, included: &str) -> Registration {
@@ -88,16 +105,26 @@ impl Both {
     }
 
     /// Look-up of a name.
-    pub fn find(&self, query: &str) -> Result<Option<u32>, u32> {
+    pub fn find(&self, query: &str) -> Result<Option<Item>, u32> {
         find(&self.table.names, query.as_bytes()).map_err(Refusal::number)
     }
 
-    /// Lines of a completion of names: text, item, match length, annotation;
-    /// and tries entered.
+    /// Lines of a completion of names of all kinds: text, item, match length,
+    /// annotation; and tries entered.
     #[allow(clippy::type_complexity)]
-    pub fn complete(&self, query: &str) -> Result<(Vec<(String, u32, i32, String)>, u32), u32> {
+    pub fn complete(&self, query: &str) -> Result<(Vec<(String, Item, i32, String)>, u32), u32> {
+        self.names(query, None)
+    }
+
+    /// The same of all kinds or of one.
+    #[allow(clippy::type_complexity)]
+    pub fn names(
+        &self,
+        query: &str,
+        kind: Option<Kind>,
+    ) -> Result<(Vec<(String, Item, i32, String)>, u32), u32> {
         let (lines, entered) =
-            autocomplete_lid(&self.table, query.as_bytes(), 4096).map_err(Refusal::number)?;
+            autocomplete_lid(&self.table, query.as_bytes(), kind, 4096).map_err(Refusal::number)?;
         let lines = lines
             .into_iter()
             .map(|l| (string(&l.candidate), l.item, l.match_length, string(&l.annotation)))

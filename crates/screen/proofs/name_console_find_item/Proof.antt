@@ -1,14 +1,14 @@
--- name_console_find meets its contract.
+-- name_console_find_item meets its contract.
 use borrow.Author.Needs.{needs}
 use Rattle.memory.proofs.Says.{passes, refuses}
 use Rattle.wire.proofs.Memory.{loaded-fits, loaded-count}
 use Rattle.screen.proofs.Held.{held, unsound-memory, unsound-short}
 use Rattle.screen.proofs.RepliesModule.{name-unsound, name-looked}
-use Rattle.screen.proofs.name_console_find.Statement.{statement}
-use Rattle.screen.proofs.name_console_find.Tie as tie
+use Rattle.screen.proofs.name_console_find_item.Statement.{statement}
+use Rattle.screen.proofs.name_console_find_item.Tie as tie
 
-pub name-console-find-spec : {M : Type 1} → statement M
-name-console-find-spec =
+pub name-console-find-item-spec : {M : Type 1} → statement M
+name-console-find-item-spec =
     tie.close
     (tie.spec
     {- no-name-requires -}

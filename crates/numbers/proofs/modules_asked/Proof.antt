@@ -1,12 +1,12 @@
--- ask_of meets its contract.
+-- modules_asked meets its contract.
 use Rattle.numbers.specs.Filters.{modules-for}
 use Rattle.numbers.proofs.Filters.{modules-three}
-use Rattle.numbers.proofs.ask_of.Statement.{statement}
-use Rattle.numbers.proofs.ask_of.Tie as tie
+use Rattle.numbers.proofs.modules_asked.Statement.{statement}
+use Rattle.numbers.proofs.modules_asked.Tie as tie
 
-pub ask-of-spec : {M : Type 1} → statement M
+pub modules-asked-spec : {M : Type 1} → statement M
 unfolding modules-for
-ask-of-spec =
+modules-asked-spec =
     tie.close
     (tie.spec
     {- returns -}
