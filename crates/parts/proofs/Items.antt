@@ -1,7 +1,6 @@
 -- An item as it is written, by its first byte.
 use Prim.Native.Nat.{ℕ, _-_, _<_}
 use mathlib.Core.Path.{_≡_, refl, sym, _∙_}
-use mathlib.Core.Bool.{true, false, cond, _||_}
 use mathlib.Core.List.{[], _∷_}
 use native.Mathlib.Omega.{arith}
 use lib.ListN.{length, getD, take, drop}
@@ -11,7 +10,8 @@ use Rattle.source.specs.Items.{kind-letter}
 use Rattle.source.specs.declared.ItemKind.{ItemKind}
 use Rattle.source.specs.declared.ItemKind.the-variants.{Timer, Port, Register}
 use Rattle.numerals.specs.Bytes.{Str}
-use Rattle.parts.specs.Parts.{written-kind, written-digits, ItemText, ItemSays, NumberedSays}
+use Rattle.numerals.specs.Items.{written-kind, written-digits}
+use Rattle.parts.specs.Parts.{ItemSays, NumberedSays}
 use Rattle.parts.specs.declared.Item.{Item}
 use Rattle.parts.specs.declared.Item.the-variants.{At, No}
 
@@ -33,21 +33,20 @@ rest-is : (s : Str) → drop 1 s ≡ rest s
 rest-is [] = refl
 rest-is (a ∷ s) = sym (take-all (length (a ∷ s) - 1) s (omega arith))
 
--- A letter, and the digits after it.
 module _ (s : Str) where
-  pub timer-written : getD s 0 0 ≡ 116 → (written-kind s ≡ Timer) × (written-digits s ≡ rest s)
+  -- A letter, and the digits after it.
+  pub letter-written : (k : ItemKind) → getD s 0 0 ≡ kind-letter k → (written-kind s ≡ k) × (written-digits s ≡ rest s)
   unfolding written-kind written-digits kind-letter
-  timer-written e = (rw e refl, rw e (rest-is s))
-
-  pub port-written : getD s 0 0 ≡ 112 → (written-kind s ≡ Port) × (written-digits s ≡ rest s)
-  unfolding written-kind written-digits kind-letter
-  port-written e = (rw e refl, rw e (rest-is s))
-
-  pub register-written : getD s 0 0 ≡ 114 → (written-kind s ≡ Register) × (written-digits s ≡ rest s)
-  unfolding written-kind written-digits kind-letter
-  register-written e = (rw e refl, rw e (rest-is s))
+  letter-written Timer e = (rw e refl, rw e (rest-is s))
+  letter-written Port e = (rw e refl, rw e (rest-is s))
+  letter-written Register e = (rw e refl, rw e (rest-is s))
 
   -- No letter.
-  pub bare-written : (getD s 0 0 ≡ 116 → ⊥) → (getD s 0 0 ≡ 112 → ⊥) → (getD s 0 0 ≡ 114 → ⊥) → (written-kind s ≡ Register) × (written-digits s ≡ s)
-  unfolding written-kind written-digits kind-letter
-  bare-written t p r = (rw (ne-eqb (getD s 0 0) 116 t, ne-eqb (getD s 0 0) 112 p) refl, rw (ne-eqb (getD s 0 0) 116 t, ne-eqb (getD s 0 0) 112 p, ne-eqb (getD s 0 0) 114 r) refl)
+  pub bare-written : (getD s 0 0 ≡ kind-letter Timer → ⊥) → (getD s 0 0 ≡ kind-letter Port → ⊥) → (getD s 0 0 ≡ kind-letter Register → ⊥)
+      → (written-kind s ≡ Register) × (written-digits s ≡ s)
+  unfolding written-kind written-digits
+  bare-written t p r =
+      let t = ne-eqb (getD s 0 0) (kind-letter Timer) t in
+      let p = ne-eqb (getD s 0 0) (kind-letter Port) p in
+      let r = ne-eqb (getD s 0 0) (kind-letter Register) r in
+      (rw (t, p) refl, rw (t, p, r) refl)

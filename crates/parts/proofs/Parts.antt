@@ -11,7 +11,8 @@ use Rattle.numerals.specs.declared.Sort.{Sort}
 use Rattle.numerals.specs.declared.Sort.the-variants.{Query, Word, Line}
 use Rattle.numerals.specs.Bytes.{Str, _·_, bytes, byte-ok, LineEnd}
 use Rattle.source.specs.declared.LidSymbol.{LidSymbol}
-use Rattle.parts.specs.Parts.{cut, run-length, StartsSays, Stops, Piece, PieceAt, QueryEnd, QueryAt, PairEnd, LastAt, ItemText, IdEnd}
+use Rattle.numerals.specs.Items.{ItemText}
+use Rattle.parts.specs.Parts.{cut, run-length, StartsSays, Stops, Piece, PieceAt, QueryEnd, QueryAt, PairEnd, LastAt, IdEnd}
 use Rattle.parts.proofs.Runs.{run-all, run-le, run-after, piece-cut, piece-once, cut-all}
 
 -- ---- `piece`

@@ -1,13 +1,10 @@
 -- The parts of a line: what each function of this crate answers of one.
 use mathlib.Core.Path.{_≡_}
-use mathlib.Core.Bool.{Bool, true, false, cond, _||_}
+use mathlib.Core.Bool.{Bool, true, false}
 use mathlib.Core.List.{[], _∷_}
 use Prim.Native.Nat.{ℕ, zero, suc, _+_, _-_, _<_, _≤_}
-use lib.Dec.{eqb}
-use lib.ListN.{length, getD, take, drop}
-use Rattle.source.specs.Items.{kind-letter}
+use lib.ListN.{length, take, drop}
 use Rattle.source.specs.declared.ItemKind.{ItemKind}
-use Rattle.source.specs.declared.ItemKind.the-variants.{Timer, Port, Register}
 use Rattle.source.specs.declared.LidSymbol.{LidSymbol}
 use Rattle.numerals.specs.declared.Sort.{Sort}
 use Rattle.numerals.specs.declared.Sort.the-variants.{Query, Word}
@@ -22,6 +19,7 @@ use Rattle.parts.specs.declared.Tail.{Tail}
 use Rattle.parts.specs.declared.Tail.the-variants.{At as AtTail, No as NoTail}
 use Rattle.numerals.specs.Bytes.{Str, bytes, _·_, byte-ok, All}
 use Rattle.numerals.specs.Numerals.{Numeral}
+use Rattle.numerals.specs.Items.{ItemText}
 
 -- The span lies in the line.
 abbrev pub Within : Str → Extent → Type 0
@@ -108,19 +106,6 @@ pub record LastAt (line : Str) (at e : ℕ) : Type 0 where
 abbrev pub LastSays : Str → ℕ → Part → Type 0
 LastSays line at (At e) = LastAt line at e
 LastSays line at No = (part : Str) → drop at line ≡ part · bytes "]" → ⊥
-
--- ---- An item: the letter of its kind and its number, or the number alone, which is a Register's.
-
-unfoldable pub written-kind : Str → ItemKind
-written-kind s = cond (eqb (getD s 0 0) (kind-letter Timer)) Timer (cond (eqb (getD s 0 0) (kind-letter Port)) Port Register)
-
-unfoldable pub written-digits : Str → Str
-written-digits s =
-    cond (eqb (getD s 0 0) (kind-letter Timer) || eqb (getD s 0 0) (kind-letter Port) || eqb (getD s 0 0) (kind-letter Register)) (drop 1 s) s
-
-pub record ItemText (s : Str) (c : LidSymbol) : Type 0 where
-  pub kind-is : c .kind ≡ written-kind s
-  pub number-is : Numeral (written-digits s) (c .number)
 
 -- The item that is written, or that none is.
 abbrev pub ItemSays : Str → Item → Type 0

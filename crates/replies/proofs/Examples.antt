@@ -6,7 +6,8 @@ use Rattle.source.specs.declared.ItemKind.the-variants.{Timer, Register}
 use Rattle.replies.specs.declared.ItemReply.the-variants.{Name, Module}
 use Rattle.numerals.specs.Bytes.{bytes}
 use Rattle.numerals.specs.Numerals.{digits, decimal}
-use Rattle.replies.specs.Replies.{signed, name-text, item-text, ok-reply, found-reply, line-reply, end-reply}
+use Rattle.numerals.specs.Items.{name-text}
+use Rattle.replies.specs.Replies.{signed, item-text, ok-reply, found-reply, line-reply, end-reply}
 
 ok-text : ok-reply 19 ≡ bytes "[ok 19]\n"
 unfolding bytes ok-reply decimal digits

@@ -1,13 +1,12 @@
 -- The replies of the program `console`, and what it is to write one into a lent text.
 use Prim.Native.Nat.{ℕ, suc}
-use mathlib.Core.List.{_∷_}
 use lib.IntN.{ℤ, pos, negsuc}
-use Rattle.source.specs.Items.{kind-letter}
 use Rattle.source.specs.declared.LidSymbol.{LidSymbol}
 use Rattle.replies.specs.declared.ItemReply.{ItemReply}
 use Rattle.replies.specs.declared.ItemReply.the-variants.{Name, Module, Namespace}
 use Rattle.numerals.specs.Bytes.{Str, bytes, _·_}
 use Rattle.numerals.specs.Numerals.{decimal}
+use Rattle.numerals.specs.Items.{name-text}
 
 -- ---- Match lengths
 
@@ -18,11 +17,7 @@ signed (negsuc n) = bytes "-" · decimal (suc n)
 
 -- ---- Replies
 
--- The item of a name: the letter of its kind, then its number.
-unfoldable pub name-text : LidSymbol → Str
-name-text c = kind-letter (c .kind) ∷ decimal (c .number)
-
--- The item of a line: that in `complete`, m or n in `modules`.
+-- The item of a line: its kind and number in `complete`, m or n in `modules`.
 unfoldable pub item-text : ItemReply → Str
 item-text (Name c) = name-text c
 item-text Module = bytes "m"

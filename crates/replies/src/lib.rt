@@ -9,7 +9,8 @@ ghost use Rattle.source.specs.Lent.{old, new};
 ghost use Rattle.text.specs.Laid.{Laid};
 ghost use Rattle.numerals.specs.Bytes.{bytes, _·_};
 ghost use Rattle.numerals.specs.Numerals.{decimal};
-ghost use Rattle.replies.specs.Replies.{signed, name-text, item-text, ok-reply, found-reply, none-reply, refused-reply, bad-reply, line-reply, end-reply, reply-room};
+ghost use Rattle.numerals.specs.Items.{name-text};
+ghost use Rattle.replies.specs.Replies.{signed, item-text, ok-reply, found-reply, none-reply, refused-reply, bad-reply, line-reply, end-reply, reply-room};
 
 // The item of a line: its kind and number in `complete`, module or namespace in `modules`.
 pub enum ItemReply {

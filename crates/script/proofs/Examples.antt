@@ -7,7 +7,8 @@ use Rattle.source.specs.declared.ItemKind.the-variants.{Timer, Register}
 use Rattle.numerals.specs.declared.Sort.the-variants.{Query, Word}
 use Rattle.numerals.specs.Bytes.{bytes, byte-ok}
 use Rattle.numerals.specs.Numerals.{value-from}
-use Rattle.parts.specs.Parts.{run-length, written-kind, written-digits}
+use Rattle.numerals.specs.Items.{written-kind, written-digits}
+use Rattle.parts.specs.Parts.{run-length}
 use Rattle.parts.proofs.Runs.{run-all}
 use Rattle.script.specs.declared.Import.the-variants.{Include}
 use Rattle.script.specs.declared.Question.the-variants.{Complete}

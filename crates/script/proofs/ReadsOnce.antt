@@ -10,7 +10,8 @@ use Rattle.numerals.specs.Bytes.{Str, _·_}
 use Rattle.script.specs.Script.{key, Command, Reads}
 use Rattle.numerals.specs.Numerals.{value-from}
 use Rattle.script.specs.Keys.{key-of}
-use Rattle.parts.specs.Parts.{written-kind, written-digits, ItemText, IdEnd, PairEnd, QueryEnd}
+use Rattle.numerals.specs.Items.{written-kind, written-digits, ItemText}
+use Rattle.parts.specs.Parts.{IdEnd, PairEnd, QueryEnd}
 use Rattle.parts.proofs.Runs.{piece-once}
 use Rattle.parts.proofs.Parts.{last-once, stops-query, stops-word, query-piece, pair-piece, id-piece}
 use Rattle.script.proofs.Forms.{Keyed, keyed, name-piece, name-id, import-pair, alias-piece, alias-pair, module-piece, ask-query}

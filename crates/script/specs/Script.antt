@@ -6,7 +6,8 @@ use lib.ListN.{length}
 use Rattle.source.specs.declared.LidSymbol.{LidSymbol}
 use Rattle.numerals.specs.declared.Sort.the-variants.{Query, Word}
 use Rattle.numerals.specs.Bytes.{Str, bytes, _·_, All}
-use Rattle.parts.specs.Parts.{Within, part-of, ItemText}
+use Rattle.numerals.specs.Items.{ItemText}
+use Rattle.parts.specs.Parts.{Within, part-of}
 use Rattle.parts.specs.declared.Extent.{Extent}
 use Rattle.kinds.specs.declared.Kind.{Kind}
 use Rattle.kinds.specs.declared.Kind.the-variants as kind

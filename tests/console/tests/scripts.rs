@@ -1,10 +1,11 @@
 //! Scripts, random and at every limit. SCRIPTS says how many random ones, 400 at least; SEED says where they begin.
 use console::console;
 use model::gen::{at_least, limit_scripts, script, times, Rng};
+use model::model::Kind;
 use model::script::run;
 
-/// Both write the same; if not, the first line that differs.
-fn agree(what: &str, input: &[u8]) {
+/// Both write the same, which is given; if not, the first line that differs.
+fn agree(what: &str, input: &[u8]) -> Vec<u8> {
     let (ours, theirs) = (console(input), run(input));
     if ours != theirs {
         let at = ours.iter().zip(&theirs).take_while(|(a, b)| a == b).count();
@@ -12,6 +13,19 @@ fn agree(what: &str, input: &[u8]) {
         let part = |s: &[u8]| String::from_utf8_lossy(&s[from.min(s.len())..(at + 80).min(s.len())]).into_owned();
         panic!("{what}: at byte {at} console has {:?}, the model {:?}", part(&ours), part(&theirs));
     }
+    ours
+}
+
+/// Whether a reply has an item: found (0) or in a line (1), and the place of its kind.
+fn item(reply: &[u8]) -> Option<(usize, usize)> {
+    let mut words = reply.split(|&b| b == b' ');
+    let (form, item) = match words.next()? {
+        b"[found" => (0, words.next()?),
+        b"[line" => (1, words.nth(1)?),
+        _ => return None,
+    };
+    // A line of modules has m or n there.
+    Kind::ALL.iter().position(|kind| item[0] == kind.letter() as u8).map(|kind| (form, kind))
 }
 
 #[test]
@@ -19,13 +33,19 @@ fn random_scripts() {
     let mut rng = Rng::new(Rng::seed_or(12));
     let count = times("SCRIPTS", 400);
     let mut bytes = 0;
+    // Items found and items of lines, by kind.
+    let mut items = [[0; 3]; 2];
     for k in 0..count {
         let lines = [3, 20, 80, 300][k % 4];
         let input = script(&mut rng, lines);
         bytes += input.len();
-        agree(&format!("random script {k}"), &input);
+        let replies = agree(&format!("random script {k}"), &input);
+        for (form, kind) in replies.split(|&b| b == b'\n').filter_map(item) {
+            items[form][kind] += 1;
+        }
     }
-    println!("{count} random scripts of {bytes} bytes; 0 disagreements");
+    println!("{count} random scripts of {bytes} bytes; items found and listed, by kind: {items:?}; 0 disagreements");
+    assert!(items.as_flattened().iter().all(|&n| 0 < n), "{items:?}");
 }
 
 /// SCRIPTS cannot empty the test above.

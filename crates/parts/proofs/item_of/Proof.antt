@@ -2,12 +2,14 @@
 use mathlib.Core.Path.{sym, _∙_}
 use native.Mathlib.Omega.{arith}
 use borrow.Author.Needs.{needs}
+use Rattle.source.specs.Items.{kind-letter}
 use Rattle.source.specs.declared.ItemKind.the-variants.{Timer, Port, Register}
-use Rattle.parts.proofs.Items.{lettered, item-says, timer-written, port-written, register-written, bare-written}
+use Rattle.parts.proofs.Items.{lettered, item-says, letter-written, bare-written}
 use Rattle.parts.proofs.item_of.Statement.{statement}
 use Rattle.parts.proofs.item_of.Tie as tie
 
 pub item-of-spec : {M : Type 1} → statement M
+unfolding kind-letter
 item-of-spec =
     tie.close
     (tie.spec
@@ -22,7 +24,7 @@ item-of-spec =
     {- numbered-requires -}
     (λ c κs. search needs)
     {- returns -}
-    (λ c. let w = timer-written (c .before .before .before .before .before .args .text .now) (sym (c .before .before .before .byte-at .ensures) ∙ c .before .before .if1 .taken) in item-says (c .before .before .before .before .before .args .text .now) Timer _ (w .0) (w .1) (c .numbered .result) (c .numbered .ensures))
+    (λ c. let w = letter-written (c .before .before .before .before .before .args .text .now) Timer (sym (c .before .before .before .byte-at .ensures) ∙ c .before .before .if1 .taken) in item-says (c .before .before .before .before .before .args .text .now) Timer _ (w .0) (w .1) (c .numbered .result) (c .numbered .ensures))
     {- sub-numbered-2 -}
     (λ c. omega (arith, lettered (c .before .before .before .before .args .text .now) (sym (c .before .before .byte-at .ensures) ∙ c .if2 .taken) (omega arith)))
     {- part-numbered-start-2 -}
@@ -32,7 +34,7 @@ item-of-spec =
     {- numbered-requires-2 -}
     (λ c κs. search needs)
     {- returns-2 -}
-    (λ c. let w = port-written (c .before .before .before .before .before .before .args .text .now) (sym (c .before .before .before .before .byte-at .ensures) ∙ c .before .before .if2 .taken) in item-says (c .before .before .before .before .before .before .args .text .now) Port _ (w .0) (w .1) (c .numbered2 .result) (c .numbered2 .ensures))
+    (λ c. let w = letter-written (c .before .before .before .before .before .before .args .text .now) Port (sym (c .before .before .before .before .byte-at .ensures) ∙ c .before .before .if2 .taken) in item-says (c .before .before .before .before .before .before .args .text .now) Port _ (w .0) (w .1) (c .numbered2 .result) (c .numbered2 .ensures))
     {- sub-numbered-3 -}
     (λ c. omega (arith, lettered (c .before .before .before .before .before .args .text .now) (sym (c .before .before .before .byte-at .ensures) ∙ c .if3 .taken) (omega arith)))
     {- part-numbered-start-3 -}
@@ -42,7 +44,7 @@ item-of-spec =
     {- numbered-requires-3 -}
     (λ c κs. search needs)
     {- returns-3 -}
-    (λ c. let w = register-written (c .before .before .before .before .before .before .before .args .text .now) (sym (c .before .before .before .before .before .byte-at .ensures) ∙ c .before .before .if3 .taken) in item-says (c .before .before .before .before .before .before .before .args .text .now) Register _ (w .0) (w .1) (c .numbered3 .result) (c .numbered3 .ensures))
+    (λ c. let w = letter-written (c .before .before .before .before .before .before .before .args .text .now) Register (sym (c .before .before .before .before .before .byte-at .ensures) ∙ c .before .before .if3 .taken) in item-says (c .before .before .before .before .before .before .before .args .text .now) Register _ (w .0) (w .1) (c .numbered3 .result) (c .numbered3 .ensures))
     {- numbered-requires-4 -}
     (λ c κs. search needs)
     {- returns-4 -}

@@ -2,7 +2,7 @@
 use native.Mathlib.Omega.{arith}
 use borrow.Author.Needs.{needs}
 use Rattle.text.proofs.Laid.{laid-more}
-use Rattle.replies.specs.Replies.{name-text}
+use Rattle.numerals.specs.Items.{name-text}
 use Rattle.replies.proofs.put_name.Statement.{statement}
 use Rattle.replies.proofs.put_name.Tie as tie
 
