@@ -54,7 +54,7 @@ pub fn insert(m: &mut Memory, host: &[u8], id: &[u8], item: Item) -> u32 {
 pub fn find(m: &Memory, query: &[u8]) -> Result<Option<Item>, u32> {
     let mut item = [0; 2];
     match unsafe { c_find(m.words.as_ptr(), m.text.as_ptr(), m.header.names, query.as_ptr(), query.len(), &mut item) } {
-        0 => Ok(Some(Item { kind: Kind::from_number(item[1]).expect("a kind"), number: item[0] })),
+        0 => Ok(Some(Item::from_numbers(item[1], item[0]).expect("a kind"))),
         11 => Ok(None),
         n => Err(n),
     }

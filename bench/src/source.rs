@@ -1,6 +1,6 @@
 //! The source's functions compiled natively (source.c), on the trees that a memory reads as.
 use model::layout::Memory;
-use model::model::{CompletionResult, Item, Kind, Str};
+use model::model::{CompletionResult, Item, Str};
 use std::ffi::c_void;
 
 /// Blocks of source.c: a string, a list cell and a line.
@@ -43,7 +43,7 @@ pub fn word_of(item: Item) -> u64 {
 }
 
 fn item_of(word: u64) -> Item {
-    Item { kind: Kind::from_number((word >> 32) as u32).expect("a kind"), number: word as u32 }
+    Item::from_numbers((word >> 32) as u32, word as u32).expect("a kind")
 }
 
 /// A names root. All of them share an arena, so the last one made goes first.

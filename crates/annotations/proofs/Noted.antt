@@ -1,4 +1,4 @@
--- The item of a branch by the one that was read, and the annotation of a found branch.
+-- The symbol of a branch by the one that was read, and the annotation of a found branch.
 use Prim.Native.Nat.{ℕ, _<_, _≤_}
 use mathlib.Core.Path.{_≡_, refl, sym, ap, _∙_}
 use mathlib.Core.Bool.{Bool, true, false}
@@ -7,11 +7,6 @@ use native.Mathlib.Omega.{arith}
 use lib.ListN.{length}
 use Rattle.source.specs.Text.{Str}
 use Rattle.source.specs.Table.{ModSymbol, Module, Namespace, mod-annotation}
-use Rattle.source.specs.Items.{same-kind}
-use Rattle.source.specs.Calls.{keeps-kind}
-use Rattle.source.specs.declared.ItemKind.{ItemKind}
-use Rattle.source.specs.declared.LidSymbol.{LidSymbol}
-use Rattle.source.specs.declared.KindFilter.the-variants.{Only}
 use Rattle.memory.specs.Layout.{record-at}
 use Rattle.memory.specs.Read.{text-of, symbol-in, symbol-of}
 use Rattle.memory.specs.declared.Span.{Span}
@@ -24,10 +19,6 @@ use Rattle.output.specs.Parts.{TextAt}
 use Rattle.annotations.specs.Annotations.{symbol-at, by-symbol, annotation}
 use Rattle.annotations.specs.declared.Labelled.{Labelled}
 use Rattle.annotations.proofs.NoteAt.{note-short}
-
-pub kind-at : (k : ItemKind) {x y : LidSymbol} {b : Bool} → x ≡ y → b ≡ same-kind k (x .kind) → b ≡ keeps-kind (Only k) y
-unfolding keeps-kind
-kind-at k e f = f ∙ ap (λ (x : LidSymbol). same-kind k (x .kind)) e
 
 pub module-at : (ws txt : List ℕ) (branch : ℕ) {x : Read} {name path : Span} {loaded : Bool} → x ≡ symbol-in (record-at ws branch) → x ≡ ReadModule name path loaded
     → symbol-at ws txt branch ≡ Module (text-of txt name) (text-of txt path) loaded

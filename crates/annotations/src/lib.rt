@@ -4,14 +4,16 @@ use memory::ModSymbol;
 use output::COUNT;
 use output::LABEL;
 use output::RUN;
+use source::ItemKind;
 use source::KindFilter;
 ghost use mathlib.Core.Path.{_≡_};
 ghost use Prim.Native.Nat.{ℕ, _*_, _<_, _≤_};
 ghost use mathlib.Core.List.{List};
 ghost use lib.ListN.{length};
 ghost use Rattle.source.specs.Lent.{old};
+ghost use Rattle.source.specs.Items.{same-kind};
 ghost use Rattle.source.specs.Limits.{record-words, most-used};
-ghost use Rattle.memory.specs.Layout.{record-at, item-of};
+ghost use Rattle.memory.specs.Layout.{record-at, lid-in, item-of};
 ghost use Rattle.asks.specs.Ask.{asked, passes};
 ghost use Rattle.output.specs.Run.{path-in};
 ghost use Rattle.output.specs.Parts.{TextAt};
@@ -45,6 +47,16 @@ fn note_of<'a>(words: &[u32], text: &'a [u8], label: u32) -> &'a [u8]
     access::key_of(words, text, label)
 }
 
+// Whether the item of a branch of names is of the kind.
+fn is_of(words: &[u32], branch: u32, kind: ItemKind) -> bool
+    requires { ⌜ (0 < branch) × (branch * record-words ≤ length (now words)) ⌝ }
+    ensures { λ r. ⌜ r ≡ same-kind (lid-in (record-at (old words) branch) .kind) kind ⌝ }
+{
+    let item = access::lid_of(words, branch);
+    let held = item.kind;
+    items::same_kind(held, kind)
+}
+
 // Whether what is asked keeps a found branch.
 pub fn kept(words: &[u32], ask: Ask, branch: u32) -> bool
     requires { ⌜ (0 < branch) × (branch * record-words ≤ length (now words)) ⌝ }
@@ -53,11 +65,9 @@ pub fn kept(words: &[u32], ask: Ask, branch: u32) -> bool
     match ask {
         Ask::Names(f) => match f {
             KindFilter::Every => true,
-            KindFilter::Only(k) => {
-                let item = access::lid_of(words, branch);
-                let kind = item.kind;
-                items::same_kind(k, kind)
-            }
+            KindFilter::Timers => is_of(words, branch, ItemKind::Timer),
+            KindFilter::Ports => is_of(words, branch, ItemKind::Port),
+            KindFilter::Registers => is_of(words, branch, ItemKind::Register),
         },
         Ask::Modules(f) => {
             let symbol = access::symbol_of(words, branch);

@@ -1,8 +1,7 @@
 -- What a filter's number asks, by example.
 use mathlib.Core.Path.{_≡_, refl}
 use mathlib.Core.Option.{none, some}
-use Rattle.source.specs.declared.ItemKind.the-variants.{Register}
-use Rattle.source.specs.declared.KindFilter.the-variants.{Only}
+use Rattle.source.specs.declared.KindFilter.the-variants.{Registers}
 use Rattle.asks.specs.declared.Ask.the-variants.{Names, Modules}
 use Rattle.asks.specs.declared.Filter.the-variants.{NamespacesOnly}
 use Rattle.numbers.specs.Filters.{names-for, modules-for}
@@ -15,7 +14,7 @@ no-filter : modules-for 4 ≡ none
 unfolding modules-for
 no-filter = refl
 
-last-kind : names-for 3 ≡ some (Names (Only Register))
+last-kind : names-for 3 ≡ some (Names Registers)
 unfolding names-for
 last-kind = refl
 

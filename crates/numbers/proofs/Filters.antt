@@ -6,9 +6,7 @@ use mathlib.Core.Option.{Option, none, some}
 use native.Mathlib.Omega.{arith}
 use lib.Dec.{ltb}
 use borrow.Author.Tests.{le-ltb, ltb-true}
-use Rattle.source.specs.Tries.{dflt}
-use Rattle.source.specs.Items.{kind-for, read-kind}
-use Rattle.source.specs.declared.KindFilter.the-variants.{Only}
+use Rattle.source.specs.declared.KindFilter.the-variants.{Registers}
 use Rattle.asks.specs.declared.Ask.{Ask}
 use Rattle.asks.specs.declared.Ask.the-variants.{Names, Modules}
 use Rattle.asks.specs.declared.Filter.the-variants.{NamespacesOnly}
@@ -45,13 +43,13 @@ names-below n e = ltb-true n 4 (kind-test n ∙ e)
 pub modules-below : (n : ℕ) → is-asked (modules-for n) ≡ true → n < 4
 modules-below n e = ltb-true n 4 (filter-test n ∙ e)
 
-pub names-some : (f : ℕ) → f < 4 → (f ≡ 0 → ⊥) → names-for f ≡ some (Names (Only (read-kind f)))
-unfolding names-for read-kind kind-for dflt
-names-some zero h a = absurd (a refl)
-names-some (suc zero) h a = refl
-names-some (suc (suc zero)) h a = refl
-names-some (suc (suc (suc zero))) h a = refl
-names-some (suc (suc (suc (suc n)))) h a = absurd (omega arith)
+pub names-three : (f : ℕ) → f < 4 → (f ≡ 0 → ⊥) → (f ≡ 1 → ⊥) → (f ≡ 2 → ⊥) → names-for f ≡ some (Names Registers)
+unfolding names-for
+names-three zero h a b c = absurd (a refl)
+names-three (suc zero) h a b c = absurd (b refl)
+names-three (suc (suc zero)) h a b c = absurd (c refl)
+names-three (suc (suc (suc zero))) h a b c = refl
+names-three (suc (suc (suc (suc n)))) h a b c = absurd (omega arith)
 
 pub modules-three : (f : ℕ) → f < 4 → (f ≡ 0 → ⊥) → (f ≡ 1 → ⊥) → (f ≡ 2 → ⊥) → modules-for f ≡ some (Modules NamespacesOnly)
 unfolding modules-for

@@ -2,8 +2,7 @@
 use Prim.Native.Nat.{ℕ, zero, suc}
 use mathlib.Core.Bool.{Bool, true, false}
 use mathlib.Core.Option.{Option, none, some}
-use Rattle.source.specs.declared.ItemKind.the-variants.{Timer, Port, Register}
-use Rattle.source.specs.declared.KindFilter.the-variants.{Every, Only}
+use Rattle.source.specs.declared.KindFilter.the-variants.{Every, Timers, Ports, Registers}
 use Rattle.asks.specs.declared.Ask.{Ask}
 use Rattle.asks.specs.declared.Ask.the-variants.{Names, Modules}
 use Rattle.asks.specs.declared.Filter.the-variants.{All, Loaded, ModulesOnly, NamespacesOnly}
@@ -11,9 +10,9 @@ use Rattle.asks.specs.declared.Filter.the-variants.{All, Loaded, ModulesOnly, N
 -- What is asked of the names, by the number of a filter: 0, or that of a kind. Another number asks nothing.
 unfoldable pub names-for : ℕ → Option Ask
 names-for zero = some (Names Every)
-names-for (suc zero) = some (Names (Only Timer))
-names-for (suc (suc zero)) = some (Names (Only Port))
-names-for (suc (suc (suc zero))) = some (Names (Only Register))
+names-for (suc zero) = some (Names Timers)
+names-for (suc (suc zero)) = some (Names Ports)
+names-for (suc (suc (suc zero))) = some (Names Registers)
 names-for (suc (suc (suc (suc n)))) = none
 
 -- What is asked of the modules.

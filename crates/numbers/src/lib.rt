@@ -205,7 +205,13 @@ pub fn names_asked(filter: u32) -> Ask
     if filter == 0 {
         return Ask::Names(KindFilter::Every);
     }
-    Ask::Names(KindFilter::Only(items::kind_of(filter)))
+    if filter == 1 {
+        return Ask::Names(KindFilter::Timers);
+    }
+    if filter == 2 {
+        return Ask::Names(KindFilter::Ports);
+    }
+    Ask::Names(KindFilter::Registers)
 }
 
 // What it asks of the modules.

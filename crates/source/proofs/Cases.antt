@@ -22,7 +22,7 @@ use Rattle.source.specs.Items.{kind-number, same-kind}
 use Rattle.source.specs.declared.ItemKind.the-variants.{Timer, Port, Register}
 use Rattle.source.specs.declared.LidSymbol.{LidSymbol}
 use Rattle.source.specs.declared.KindFilter.{KindFilter}
-use Rattle.source.specs.declared.KindFilter.the-variants.{Every, Only}
+use Rattle.source.specs.declared.KindFilter.the-variants.{Every, Ports, Registers}
 use Rattle.source.proofs.Quoted.{bytes}
 
 -- What the program console lends.
@@ -173,8 +173,8 @@ pub record OtherCases : Type 0 where
       × (then-call (accepted fresh) (module-path true (bytes "M.") (repeated 121 "x")) ≡ refused 4)
   -- A Timer and a Port of one number: asked for one kind, a completion enters what it enters of all, and a dropped line takes no output.
   pub kinds : (of-kind two-kinds Every 2 ≡ some (listed (line (pos 1) tick "tick" "" ∷ line (pos 1) tock "tock" "" ∷ []) 1))
-      × (of-kind two-kinds (Only Port) 1 ≡ some (listed (line (pos 1) tock "tock" "" ∷ []) 1))
-      × (of-kind two-kinds (Only Register) 0 ≡ some (listed [] 1))
+      × (of-kind two-kinds Ports 1 ≡ some (listed (line (pos 1) tock "tock" "" ∷ []) 1))
+      × (of-kind two-kinds Registers 0 ≡ some (listed [] 1))
 
 pub other-cases : OtherCases
 unfolding compute

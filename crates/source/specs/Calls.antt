@@ -16,9 +16,10 @@ use Rattle.source.specs.Table.{Table, ModSymbol, Module, Namespace, Line
 use Rattle.source.specs.Counted.{insertᶜ, register-aliasᶜ, register-includeᶜ, register-openᶜ, register-module-pathᶜ, trie-find-prefixᶜ}
 use Rattle.source.specs.Rules.{all}
 use Rattle.source.specs.Items.{same-kind}
+use Rattle.source.specs.declared.ItemKind.the-variants.{Timer, Port, Register}
 use Rattle.source.specs.declared.LidSymbol.{LidSymbol}
 use Rattle.source.specs.declared.KindFilter.{KindFilter}
-use Rattle.source.specs.declared.KindFilter.the-variants.{Every, Only}
+use Rattle.source.specs.declared.KindFilter.the-variants.{Every, Timers, Ports, Registers}
 
 -- ---- Arguments
 
@@ -274,7 +275,9 @@ kept keep (l ∷ ls) = cond (keep (l .item-of)) (l ∷ kept keep ls) (kept keep 
 -- The filter of names.
 unfoldable pub keeps-kind : KindFilter → LidSymbol → Bool
 keeps-kind Every c = true
-keeps-kind (Only k) c = same-kind k (c .kind)
+keeps-kind Timers c = same-kind (c .kind) Timer
+keeps-kind Ports c = same-kind (c .kind) Port
+keeps-kind Registers c = same-kind (c .kind) Register
 
 -- The filter of modules. Loaded is of either sort.
 pub data Filter : Type 0 where

@@ -17,5 +17,7 @@ pub struct LidSymbol {
 // The kinds that a completion of names keeps: every one, or one only.
 pub enum KindFilter {
     Every,
-    Only(ItemKind),
+    Timers,
+    Ports,
+    Registers,
 }

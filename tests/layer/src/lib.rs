@@ -66,15 +66,17 @@ pub fn register(t: &mut Bytes, call: &Registration, odd: Option<u32>) -> u32 {
     }
 }
 
-/// The item of this kind, which stands for one, and number.
-fn item(kind: u32, number: u32) -> Item {
-    Item { kind: Kind::from_number(kind).expect("a kind"), number }
+/// The calls, each accepted, on a fresh table of 100 records and 100 bytes.
+pub fn made(calls: &[Registration]) -> Bytes {
+    let mut t = Bytes::of(&Memory::with_room(100, 100));
+    calls.iter().for_each(|c| assert_eq!(register(&mut t, c, None), 0, "{c:?}"));
+    t
 }
 
 pub fn find(t: &Bytes, q: &[u8]) -> Result<Option<Item>, u32> {
     let r = calls::find_item(&t.state, &t.words, &t.text, q);
     if r.answer == 0 {
-        return Ok(Some(item(r.kind, r.number)));
+        return Ok(Some(Item::from_numbers(r.kind, r.number).expect("a kind")));
     }
     assert_eq!((r.kind, r.number), (0, 0));
     if r.answer == sys::NONE { Ok(None) } else { Err(r.answer) }
@@ -177,7 +179,7 @@ impl Output {
 
     /// Line `k` of a completion of names.
     pub fn name(&self, k: usize) -> CompletionResult<Item> {
-        self.line(k, |w| item(w[6], w[5]))
+        self.line(k, |w| Item::from_numbers(w[6], w[5]).expect("a kind"))
     }
 
     /// Line `k` of a completion of modules, its texts in the table's text.

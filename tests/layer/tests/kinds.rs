@@ -1,5 +1,5 @@
-//! Items of each kind (docs/REQUIREMENTS.md, section 3): what the C layer stores, looks up, lists and refuses. Expectations are by the rule.
-use layer::{choice, complete, complete_both, find, find_module, register, Asked, Bytes, Output};
+//! Items of each kind (docs/REQUIREMENTS.md, sections 5 and 9): what the C layer stores, looks up, lists and refuses. Expectations are by the rule.
+use layer::{choice, complete, complete_both, find, find_module, made, register, Asked, Bytes, Output};
 use model::gen::{completion_query, registered_memory, Rng};
 use model::layout::{record, Memory, BINDINGS_BRANCH};
 use model::limits::{MALFORMED, UNSOUND};
@@ -24,13 +24,6 @@ fn p(number: u32) -> Item {
 
 fn r(number: u32) -> Item {
     Item::register(number)
-}
-
-/// The calls, each accepted, on a fresh table.
-fn made(calls: &[Registration]) -> Bytes {
-    let mut t = Bytes::of(&Memory::with_room(100, 100));
-    calls.iter().for_each(|c| assert_eq!(register(&mut t, c, None), 0, "{c:?}"));
-    t
 }
 
 /// A Timer at the root; a Port, a Timer and a Register in io, which is included at the root.

@@ -1,18 +1,11 @@
 //! A Module registered again as unloaded (docs/REQUIREMENTS.md, section 7): what the C layer keeps, looks up and lists. Expectations are by the rule.
-use layer::{complete, find_module, register, Bytes, Output};
-use model::layout::{Memory, BINDINGS_LIST, MODULES};
+use layer::{complete, find_module, made, register, Bytes, Output};
+use model::layout::{BINDINGS_LIST, MODULES};
 use model::model::{Ask, Filter, ModSymbol, Registration, Str};
 use model::written::{with_free, Written};
 
 fn module(loaded: bool, query: &str, path: &str) -> Registration {
     Registration::Module { loaded, query: query.into(), path: path.into() }
-}
-
-/// The calls, each accepted, on a fresh table.
-fn made(calls: &[Registration]) -> Bytes {
-    let mut t = Bytes::of(&Memory::with_room(100, 100));
-    calls.iter().for_each(|c| assert_eq!(register(&mut t, c, None), 0, "{c:?}"));
-    t
 }
 
 /// What look-up gives for a query is this Module.

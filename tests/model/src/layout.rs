@@ -365,7 +365,7 @@ pub fn meanings<A: Value>(
 /// The item of a names branch. A kind that is none, which is not sound, reads
 /// as Register.
 pub fn item_of(r: &Record, _text: &[u8]) -> Item {
-    Item { kind: Kind::from_number(r[6]).unwrap_or(Kind::Register), number: r[5] }
+    Item::from_numbers(r[6], r[5]).unwrap_or(Item::register(r[5]))
 }
 
 /// The item of a module branch.

@@ -762,6 +762,11 @@ impl Item {
     pub const fn register(number: u32) -> Item {
         Item { kind: Kind::Register, number }
     }
+
+    /// The item with these numbers, if the first is a kind's.
+    pub fn from_numbers(kind: u32, number: u32) -> Option<Item> {
+        Kind::from_number(kind).map(|kind| Item { kind, number })
+    }
 }
 
 impl fmt::Display for Item {

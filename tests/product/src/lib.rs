@@ -2,7 +2,7 @@
 //! Nothing checks these declarations against crates/exports: keep them few.
 use model::layout::{Header, Memory};
 use model::listings::{both, Shared};
-use model::model::{Ask, CompletionResult, Filter, Item, Kind, ModSymbol, Registration, Str};
+use model::model::{Ask, CompletionResult, Filter, Item, ModSymbol, Registration, Str};
 
 /// A registration's reply: 0 or the number of the refusal, and the header.
 #[repr(C)]
@@ -127,7 +127,7 @@ pub fn find(m: &Memory, query: &[u8]) -> Result<Option<Item>, u32> {
 impl Looked {
     pub fn result(&self) -> Result<Option<Item>, u32> {
         if self.answer == 0 {
-            return Ok(Some(item_of(self.kind, self.number)));
+            return Ok(Some(Item::from_numbers(self.kind, self.number).expect("a kind")));
         }
         assert_eq!((self.kind, self.number), (0, 0));
         if self.answer == NONE { Ok(None) } else { Err(self.answer) }
@@ -279,14 +279,9 @@ impl Output {
     }
 }
 
-/// The item of this kind, which stands for one, and number.
-fn item_of(kind: u32, number: u32) -> Item {
-    Item { kind: Kind::from_number(kind).expect("a kind"), number }
-}
-
 /// The item in a line's words.
 pub fn item(w: &[u32]) -> Item {
-    item_of(w[6], w[5])
+    Item::from_numbers(w[6], w[5]).expect("a kind")
 }
 
 /// The mod symbol in a line's words.

@@ -1,7 +1,7 @@
 //! Registrations and look-ups of the product against the independent implementation: answers, tables, and what a call may change.
 use model::gen::{damaged_query, damaged_registration, damages, full_name, near_query, registered_memory, registration, sound_memory, Rng, MIXES};
 use model::layout::{decode, same_table, Memory};
-use model::model::{bindings, btree_find_exact, find, segments, trie_descend_exact, Collection, Kind, ModSymbol, Registration, Table, Trie, Value};
+use model::model::{bindings, btree_find_exact, find, segments, trie_descend_exact, Collection, Kind, ModSymbol, Refusal, Registration, Table, Trie, Value};
 use model::written::with_free;
 
 /// The product's answer to a registration, and everything that it leaves, as the model has it.
@@ -14,7 +14,7 @@ fn hold(memory: &mut Memory, table: &mut Option<Table>, call: &Registration, ans
     let answer = product::register(memory, call);
     answers[answer as usize] += 1;
     // Where the model does not say Unsound, a name also without the test.
-    if let (Registration::Name { host, id, item }, false) = (call, answer == 1) {
+    if let (Registration::Name { host, id, item }, false) = (call, matches!(expected, Err(Refusal::Unsound))) {
         let mut other = before.clone();
         assert_eq!(unsafe { product::insert_sound(&mut other, host, id, *item) }, answer, "{call:?}");
         assert!(other == *memory, "another memory: {call:?}");

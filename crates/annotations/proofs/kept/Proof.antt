@@ -1,9 +1,8 @@
 -- `annotations::kept` meets its contract.
 use mathlib.Core.List.{[]}
 use borrow.Author.Needs.{needs}
-use Rattle.source.specs.Items.{same-kind}
 use Rattle.source.specs.Calls.{keeps-kind}
-use Rattle.annotations.proofs.Noted.{kind-at, module-at, namespace-at}
+use Rattle.annotations.proofs.Noted.{module-at, namespace-at}
 use Rattle.annotations.proofs.kept.Statement.{statement}
 use Rattle.annotations.proofs.kept.Tie as tie
 
@@ -16,11 +15,17 @@ kept-spec =
     (λ c. search needs)
     {- enum-told -}
     (λ c. search needs)
-    {- enum-known-f -}
+    {- enum-told-2 -}
     (λ c. search needs)
-    {- lid-of-requires -}
+    {- is-of-requires -}
     (λ c κs. search needs)
-    {- same-kind-requires -}
+    {- enum-told-3 -}
+    (λ c. search needs)
+    {- is-of-requires-2 -}
+    (λ c κs. search needs)
+    {- enum-told-4 -}
+    (λ c. search needs)
+    {- is-of-requires-3 -}
     (λ c κs. search needs)
     {- enum-known-ask-2 -}
     (λ c. search needs)
@@ -37,8 +42,12 @@ kept-spec =
     {- returns -}
     (λ c. λ txt. rw (c .before .before .before .ask .given .1, c .enum-told .given .1))
     {- returns-2 -}
-    (λ c. λ txt. rw (c .before .before .before .before .before .before .ask .given .1, c .before .before .before .f .given .1) (kind-at _ (c .before .lid-of .ensures) (c .same-kind .ensures)))
+    (λ c. λ txt. rw (c .before .before .before .before .ask .given .1, c .before .enum-told2 .given .1) (c .is-of .ensures))
     {- returns-3 -}
-    (λ c. λ txt. rw (c .before .before .before .before .before .before .ask2 .given .1, module-at (c .before .before .before .before .before .before .before .before .before .args .words .now) txt (c .before .before .before .before .before .before .before .before .before .args .branch) (c .before .before .before .before .symbol-of .ensures) (c .before .before .symbol .given .1)) (c .keeps .ensures _ _))
+    (λ c. λ txt. rw (c .before .before .before .before .ask .given .1, c .before .enum-told3 .given .1) (c .is-of2 .ensures))
     {- returns-4 -}
+    (λ c. λ txt. rw (c .before .before .before .before .ask .given .1, c .before .enum-told4 .given .1) (c .is-of3 .ensures))
+    {- returns-5 -}
+    (λ c. λ txt. rw (c .before .before .before .before .before .before .ask2 .given .1, module-at (c .before .before .before .before .before .before .before .before .before .args .words .now) txt (c .before .before .before .before .before .before .before .before .before .args .branch) (c .before .before .before .before .symbol-of .ensures) (c .before .before .symbol .given .1)) (c .keeps .ensures _ _))
+    {- returns-6 -}
     (λ c. λ txt. rw (c .before .before .before .before .before .before .ask2 .given .1, namespace-at (c .before .before .before .before .before .before .before .before .before .args .words .now) txt (c .before .before .before .before .before .before .before .before .before .args .branch) (c .before .before .before .before .symbol-of .ensures) (c .before .before .symbol2 .given .1)) (c .keeps2 .ensures _ [])))

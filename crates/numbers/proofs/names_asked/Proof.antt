@@ -1,7 +1,6 @@
 -- names_asked meets its contract.
-use borrow.Author.Needs.{needs}
 use Rattle.numbers.specs.Filters.{names-for}
-use Rattle.numbers.proofs.Filters.{names-some}
+use Rattle.numbers.proofs.Filters.{names-three}
 use Rattle.numbers.proofs.names_asked.Statement.{statement}
 use Rattle.numbers.proofs.names_asked.Tie as tie
 
@@ -12,7 +11,9 @@ names-asked-spec =
     (tie.spec
     {- returns -}
     (λ c. rw (c .if1 .taken))
-    {- kind-of-requires -}
-    (λ c κs. search needs)
     {- returns-2 -}
-    (λ c. rw (c .kind-of .ensures) (names-some _ (c .before .before .pre) (c .before .if1 .left))))
+    (λ c. rw (c .if2 .taken))
+    {- returns-3 -}
+    (λ c. rw (c .if3 .taken))
+    {- returns-4 -}
+    (λ c. names-three _ (c .before .before .before .pre) (c .before .before .if1 .left) (c .before .if2 .left) (c .if3 .left)))
