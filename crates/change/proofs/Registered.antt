@@ -28,7 +28,7 @@ module _ (ws txt : List ℕ) (at end : ℕ) where
   nothing-passed = let z : at - at ≡ 0 = omega arith in rw z
 
   module _ (ch : Change) where
-    pub name-change : (tr : Trie LidSymbol) (x : LidSymbol) → mutated ws txt (with-kind (Name x) ch) tr at at end ≡ trie-insertᶜ tr (between txt at end) (text-of txt (ch .text)) x
+    pub name-change : (tr : Trie LidSymbol) (x : LidSymbol) → mutated ws txt (with-kind (Name (x .kind) (x .number)) ch) tr at at end ≡ trie-insertᶜ tr (between txt at end) (text-of txt (ch .text)) x
     unfolding trie-insertᶜ trie-mutate-leafᶜ node-of leaf-by bindings-by pure one _>>=_
     name-change tr x = rw nothing-passed
 
@@ -62,7 +62,7 @@ pub record Registers (tbl : Table) (c : Call) (w : Which) (m : Counted (Trie (It
   pub number : m .count ≡ records tbl c
 
 module _ (ws txt : List ℕ) (at end : ℕ) (tbl : Table) (host : Str) (h : between txt at end ≡ segments host) (ch : Change) where
-  pub name-registers : (id : Str) (x : LidSymbol) → text-of txt (ch .text) ≡ id → Registers tbl (name host id x) names (mutated ws txt (with-kind (Name x) ch) (tbl .tbl-lids) at at end)
+  pub name-registers : (id : Str) (x : LidSymbol) → text-of txt (ch .text) ≡ id → Registers tbl (name host id x) names (mutated ws txt (with-kind (Name (x .kind) (x .number)) ch) (tbl .tbl-lids) at at end)
   unfolding registered insert records insertᶜ lids pure _>>=_
   name-registers id x e = rw (name-change ws txt at end, h, e) (record { root = trie-insert-value (tbl .tbl-lids) (segments host) id x; number = omega arith })
 

@@ -18,7 +18,7 @@ use Rattle.kinds.specs.declared.Form.the-variants as form
 
 pub arguments-of : (k : Kind) (host other key : Str) → arguments (call-of k host other key) ≡ key-argument k key ++ (a-query host ∷ other-argument k other ∷ [])
 unfolding arguments
-arguments-of (Name number) host other key = refl
+arguments-of (Name k n) host other key = refl
 arguments-of Include host other key = refl
 arguments-of Open host other key = refl
 arguments-of Alias host other key = refl

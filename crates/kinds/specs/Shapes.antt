@@ -12,7 +12,7 @@ use Rattle.kinds.specs.declared.Shape.{Shape}
 
 -- What a kind is made of.
 abbrev pub shape-of : Kind → Shape
-shape-of (Name c) = record { form = form.Name; keyed = false }
+shape-of (Name k n) = record { form = form.Name; keyed = false }
 shape-of Include = record { form = form.Import; keyed = false }
 shape-of Open = record { form = form.Import; keyed = false }
 shape-of Alias = record { form = form.Import; keyed = true }
@@ -27,7 +27,7 @@ key-size k n = cond (shape-of k .keyed) n 0
 
 -- The call of a kind with the texts that it uses.
 abbrev pub call-with : Kind → (host other key : Str) → Call
-call-with (Name c) host other key = name host other c
+call-with (Name k n) host other key = name host other (record { kind = k; number = n })
 call-with Include host other key = include host other
 call-with Open host other key = opens false host other
 call-with Alias host other key = alias key host other

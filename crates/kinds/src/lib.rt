@@ -1,13 +1,13 @@
 // The kinds of registration, and what each is made of.
-use source::LidSymbol;
+use source::ItemKind;
 ghost use mathlib.Core.Path.{_≡_};
 ghost use Prim.Native.Nat.{_≤_};
 ghost use Rattle.kinds.specs.Shapes.{shape-of, key-size};
 
 // A registration apart from its texts.
 pub enum Kind {
-    // The source's insert: a name with its item.
-    Name(LidSymbol),
+    // The source's insert: a name with its item, its kind and number.
+    Name(ItemKind, u32),
     // register_include, register_open_module: the included bindings, under their label.
     Include,
     // register_open_namespace: the included namespaces, under their label.
@@ -37,7 +37,7 @@ pub fn shape_of(kind: Kind) -> Shape
     ensures { λ r. ⌜ r ≡ shape-of kind ⌝ }
 {
     match kind {
-        Kind::Name(_) => Shape {
+        Kind::Name(_, _) => Shape {
             form: Form::Name,
             keyed: false,
         },

@@ -114,11 +114,11 @@ module _ {ws txt : List ℕ} {n used x : ℕ} {text key : Span} {inc : ℕ} {p p
     open-built f g = rw (open-lists .b-reads) at (namespaces-built open-builds (open-lists .b-link) refl f g)
 
 -- ---- a name
-module _ {ws txt : List ℕ} {n used x : ℕ} {c : LidSymbol} {text key : Span} {inc : ℕ} {p : M.Trie} (l : Leaf ws txt n used x (change-of (Name c) text key inc)) (q : ReadTrie ws x p) where
+module _ {ws txt : List ℕ} {n used x : ℕ} {c : LidSymbol} {text key : Span} {inc : ℕ} {p : M.Trie} (l : Leaf ws txt n used x (change-of (Name (c .kind) (c .number)) text key inc)) (q : ReadTrie ws x p) where
   name-lists : Lists ws txt n names x p
   name-lists = lists-in (l .change .sound) (l .link) q
 
-  module _ {count : ℕ} (z : LeafBuilds ws txt x (change-of (Name c) text key inc) count) where
+  module _ {count : ℕ} (z : LeafBuilds ws txt x (change-of (Name (c .kind) (c .number)) text key inc) count) where
     abbrev name-row : List ℕ
     name-row = 1 ∷ text .start ∷ text .len ∷ 0 ∷ 0 ∷ c .number ∷ kind-number (c .kind) ∷ 0 ∷ 0 ∷ 0 ∷ 0 ∷ 0 ∷ []
 
@@ -146,7 +146,7 @@ module _ {ws txt : List ℕ} {n used x : ℕ} {c : LidSymbol} {text key : Span} 
       unfolding leaf-by _>>=_ one depth
       name-trie-ready = bindings-ready name-builds (name-lists .n-link) (l .fits .room) (rw (name-lists .n-reads) (l .fits .shallow))
 
-      pub name-built : {ws₂ : List ℕ} {r : ℕ} → r ≡ b + 1 → MadeTrie ws₁ ws₂ b 5 b (p .namespaces) r → Builds ws ws₂ txt n used names trieˢ (leaf-of ws txt (change-of (Name c) text key inc) (what names ws txt x trieˢ)) r r
+      pub name-built : {ws₂ : List ℕ} {r : ℕ} → r ≡ b + 1 → MadeTrie ws₁ ws₂ b 5 b (p .namespaces) r → Builds ws ws₂ txt n used names trieˢ (leaf-of ws txt (change-of (Name (c .kind) (c .number)) text key inc) (what names ws txt x trieˢ)) r r
       unfolding leaf-by
       name-built f g = rw (name-lists .n-reads) at (bindings-built name-builds (name-lists .n-link) refl f g)
 

@@ -41,8 +41,8 @@ label-in text = record { start = text .start; len = text .len - 1 }
 
 -- mut_leaf of each kind: inc is the included trie.
 unfoldable pub leaf-by : (ws txt : List ℕ) (k : Kind) (text key : Span) (inc : ℕ) → Trie (Item (which-by (shape-of k .form))) → Counted (Trie (Item (which-by (shape-of k .form))))
-leaf-by ws txt (Name c) text key inc tr = do
-  b ← names-insertᶜ (bindings tr) (text-of txt text) (item c)
+leaf-by ws txt (Name k n) text key inc tr = do
+  b ← names-insertᶜ (bindings tr) (text-of txt text) (item (record { kind = k; number = n }))
   one (trie b (namespaces tr))
 leaf-by ws txt Include text key inc tr = do
   b ← one (ImportedNames (text-of txt (label-in text)) (bindings (what names ws txt inc trieˢ)) (bindings tr))

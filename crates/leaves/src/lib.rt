@@ -53,9 +53,9 @@ fn insert_leaf(
     item: LidSymbol,
     count: u32,
 ) -> Built
-    requires { ⌜ Some (λ used. Leaf (now words) (now text) records used trie (with-kind (Name item) change)) ⌝ }
-    requires { ⌜ LeafBuilds (now words) (now text) trie (with-kind (Name item) change) count ⌝ }
-    ensures { λ r. ⌜ LeafBuilt (old words) (new words) (old text) records trie (with-kind (Name item) change) (r .link) (r .records) ⌝ }
+    requires { ⌜ Some (λ used. Leaf (now words) (now text) records used trie (with-kind (Name (item .kind) (item .number)) change)) ⌝ }
+    requires { ⌜ LeafBuilds (now words) (now text) trie (with-kind (Name (item .kind) (item .number)) change) count ⌝ }
+    ensures { λ r. ⌜ LeafBuilt (old words) (new words) (old text) records trie (with-kind (Name (item .kind) (item .number)) change) (r .link) (r .records) ⌝ }
 {
     let t = access::trie_of(words, trie);
     let row = access::make::binding_row(change.text, item);
@@ -141,7 +141,13 @@ pub fn mut_leaf(
 {
     let kind = change.kind;
     match kind {
-        Kind::Name(item) => insert_leaf(words, text, records, trie, change, item, count),
+        Kind::Name(kind, number) => {
+            let item = LidSymbol {
+                kind: kind,
+                number: number,
+            };
+            insert_leaf(words, text, records, trie, change, item, count)
+        }
         Kind::Include => include_leaf(words, text, records, trie, change),
         Kind::Open => open_leaf(words, text, records, trie, change),
         Kind::Alias => alias_leaf(words, text, records, trie, change, count),

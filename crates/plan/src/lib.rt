@@ -276,7 +276,7 @@ pub fn plan_of(
 {
     let inc = way[0];
     match kind {
-        Kind::Name(_) => plan_name(words, text, h.names, host, other, way),
+        Kind::Name(_, _) => plan_name(words, text, h.names, host, other, way),
         Kind::Include => plan_include(words, text, h.names, host, inc, way),
         Kind::Open => plan_open(words, text, h.names, host, inc, way),
         Kind::Alias => plan_alias(words, text, h.names, key, host, inc, way),

@@ -71,10 +71,10 @@ module _ {ws txt : List ℕ} (h : Header) {used : ℕ} (o : Sound ws txt (with-t
     pub change-right : (k : Kind) (inc : ℕ) → Ready k host other key → Carries (shape-of k .form) ws txt (h .names) other inc
         → Right at (at + length host) (call-of k host other key) (change-at k inc at host other key) (root-at (which-by (shape-of k .form)) h)
     unfolding registered insert register-alias register-include register-open register-module-stays-loaded
-    change-right (Name number) inc r i = record {
+    change-right (Name k n) inc r i = record {
       change = record { sound = o .right; text = record { inside = omega arith; keeps = rw (p .other-at) (r .other-keeps) }; key = tt; inc = tt };
       link = o .names-link;
-      registers = name-registers ws txt at _ _ host host-is (change-at (Name number) inc at host other key) other number (p .other-at);
+      registers = name-registers ws txt at _ _ host host-is (change-at (Name k n) inc at host other key) other (record { kind = k; number = n }) (p .other-at);
       stays = refl;
     }
     change-right Include inc r i = record {

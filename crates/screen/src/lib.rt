@@ -9,7 +9,6 @@ use numbers::CompleteReply;
 use numbers::ModuleReply;
 use numbers::NameReply;
 use numbers::SharedReply;
-use source::LidSymbol;
 use table::Registered;
 use table::Table;
 ghost use mathlib.Core.Path.{_≡_};
@@ -122,11 +121,8 @@ pub extern "C" fn name_console_insert_item(
         (chosen (λ k. name (old host) (old id) (record { kind = k; number = number })) (kind-for kind)) r ⌝ }
 {
     if items::is_kind(kind) {
-        let item = LidSymbol {
-            kind: items::kind_of(kind),
-            number: number,
-        };
-        return register(state, words, text, Kind::Name(item), host, id, &host[..0]);
+        let kind = Kind::Name(items::kind_of(kind), number);
+        return register(state, words, text, kind, host, id, &host[..0]);
     }
     malformed(state, words, text)
 }

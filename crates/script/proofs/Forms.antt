@@ -124,7 +124,7 @@ module _ {line : Str} {at : ℕ} (o : Only line NameKey) (w : WordAt line (key N
     pub name-no : ((id : Str) (c : LidSymbol) → IdEnd (drop (e + 2) line) id c → ⊥) → (c : Command) → Reads line c → ⊥
     name-no n = refused o (λ c k. n (k .1) (k .2) (name-id (k .4) (sym (rest-found p stops-query (name-piece (k .4) (after-word w (k .4 .spelled)))))))
 
-    pub name-yes : (id : Extent) (c : LidSymbol) → IdSays line (e + 2) (AtTail id c) → Parsed line (Register (kind.Name c) (record { start = at; len = e - at }) id none)
+    pub name-yes : (id : Extent) (c : LidSymbol) → IdSays line (e + 2) (AtTail id c) → Parsed line (Register (kind.Name (c .kind) (c .number)) (record { start = at; len = e - at }) id none)
     unfolding bytes
     name-yes id c r = record {
       host-in = omega (arith, p .start, p .end);

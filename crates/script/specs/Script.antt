@@ -99,7 +99,7 @@ import-kind OpenNamespace = kind.Open
 
 -- The command is a registration of this kind, of these texts, as `call-of` of crate kinds orders them.
 abbrev pub OfKind : Command → Kind → (host other key : Str) → Type 0
-OfKind (name host id c) k h o y = (k ≡ kind.Name c) × (h ≡ host) × (o ≡ id)
+OfKind (name host id c) k h o y = (k ≡ kind.Name (c .kind) (c .number)) × (h ≡ host) × (o ≡ id)
 OfKind (import how host q) k h o y = (k ≡ import-kind how) × (h ≡ host) × (o ≡ q)
 OfKind (alias word host q) k h o y = (k ≡ kind.Alias) × (h ≡ host) × (o ≡ q) × (y ≡ word)
 OfKind (module-path loaded q path) k h o y = (k ≡ kind.Module loaded) × (h ≡ q) × (o ≡ path)

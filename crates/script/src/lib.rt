@@ -149,15 +149,18 @@ fn name_form(line: &[u8]) -> LineForm
     match word_end(line, b"[name [") {
         Part::At(at) => match piece(line, at, Sort::Query, b"] ") {
             Part::At(e) => match id_end(line, e + 2) {
-                Tail::At { id, item } => LineForm::Register {
-                    kind: Kind::Name(item),
-                    host: Extent {
-                        start: at,
-                        len: e - at,
-                    },
-                    other: id,
-                    key: Extent { start: 0, len: 0 },
-                },
+                Tail::At { id, item } => {
+                    let kind = item.kind;
+                    LineForm::Register {
+                        kind: Kind::Name(kind, item.number),
+                        host: Extent {
+                            start: at,
+                            len: e - at,
+                        },
+                        other: id,
+                        key: Extent { start: 0, len: 0 },
+                    }
+                }
                 Tail::No => LineForm::Bad,
             },
             Part::No => LineForm::Bad,

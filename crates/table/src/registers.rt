@@ -21,7 +21,15 @@ impl Table {
     ) -> Registration
         ensures { λ r. ⌜ Total (old words) (old text) (new words) (new text) self (name (old host) (old id) item) r ⌝ }
     {
-        self.register(words, text, Kind::Name(item), host, id, &host[..0])
+        let kind = item.kind;
+        self.register(
+            words,
+            text,
+            Kind::Name(kind, item.number),
+            host,
+            id,
+            &host[..0],
+        )
     }
 
     // The same, in a sound memory.
@@ -36,7 +44,15 @@ impl Table {
         requires { ⌜ IsSound (now words) (now text) self ⌝ }
         ensures { λ r. ⌜ Answers true (old words) (old text) (new words) (new text) self (name (old host) (old id) item) r ⌝ }
     {
-        self.register_sound(words, text, Kind::Name(item), host, id, &host[..0])
+        let kind = item.kind;
+        self.register_sound(
+            words,
+            text,
+            Kind::Name(kind, item.number),
+            host,
+            id,
+            &host[..0],
+        )
     }
 
     // The source's register_include.

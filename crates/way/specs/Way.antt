@@ -36,7 +36,7 @@ way-size = 37
 -- The branches that the insertion at the host builds: of the id of a name into its bindings, of the key of an alias into its namespaces.
 -- The others insert nothing there.
 abbrev pub HostBuilds : {A : Type 0} → Kind → (other key : Str) → Trie A → ℕ → Type 0
-HostBuilds (Name number) other key tr count = count ≡ insert-branches (first-tree (bindings tr)) other
+HostBuilds (Name k n) other key tr count = count ≡ insert-branches (first-tree (bindings tr)) other
 HostBuilds Include other key tr count = Unit {0}
 HostBuilds Open other key tr count = Unit {0}
 HostBuilds Alias other key tr count = count ≡ insert-branches (first-tree (namespaces tr)) key
@@ -83,7 +83,7 @@ pub record WayNotedIn (k : Kind) (ws txt : List ℕ) (w : Which) (root : ℕ) (h
 
 -- Of a name, whatever its item.
 abbrev pub NameNoted : (ws txt : List ℕ) (root : ℕ) (host id : Str) (way way′ : List ℕ) → Type 0
-NameNoted ws txt root host id way way′ = (c : LidSymbol) (key : Str) → WayNotedIn (Name c) ws txt names root host id key way way′
+NameNoted ws txt root host id way way′ = (c : LidSymbol) (key : Str) → WayNotedIn (Name (c .kind) (c .number)) ws txt names root host id key way way′
 
 -- Of an alias.
 abbrev pub AliasNoted : (ws txt : List ℕ) (root : ℕ) (key host : Str) (way way′ : List ℕ) → Type 0

@@ -26,4 +26,4 @@ plan-name-spec =
     {- add-t14 -}
     (λ c. omega (arith, placed-small (any-bindings (c .before .before .before .before .before .before .plan-path .ensures .0 .here) (c .before .before .before .before .before .trie-of .ensures)) (c .before .before .before .before .names-place .ensures), c .before .before .before .before .before .before .plan-path .ensures .0 .few, c .before .before .before .before .before .before .plan-path .ensures .0 .gives .small))
     {- returns -}
-    (λ c. (λ tbl number e. name-planned _ (c .before .before .before .before .before .before .before .before .before .plan-path .ensures .0) (c .before .before .before .before .before .before .before .before .trie-of .ensures) tbl e number (c .before .before .before .before .before .before .before .names-place .ensures), λ number key. noted-count (c .before .before .before .before .before .before .before .before .before .plan-path .ensures .1) (omega (arith, c .before .before .before .before .before .before .before .before .before .plan-path .ensures .0 .few, c .before .before .before .before .before .before .before .before .before .plan-path .ensures .1 .kept .size, c .before .before .before .before .before .before .before .before .before .before .before .before .before .before .before .pre .1 .2)) (Name number) (c .before .before .before .before .before .before .before .before .before .before .before .before .before .before .before .args .id .now) key (c .before .before .before .before .before .note-host .ensures) (bindings-builds (c .before .before .before .before .before .before .before .before .before .plan-path .ensures .0 .here) (c .before .before .before .before .before .before .before .before .trie-of .ensures) (c .before .before .before .before .before .before .before .names-place .ensures)))))
+    (λ c. (λ tbl number e. name-planned _ (c .before .before .before .before .before .before .before .before .before .plan-path .ensures .0) (c .before .before .before .before .before .before .before .before .trie-of .ensures) tbl e number (c .before .before .before .before .before .before .before .names-place .ensures), λ number key. noted-count (c .before .before .before .before .before .before .before .before .before .plan-path .ensures .1) (omega (arith, c .before .before .before .before .before .before .before .before .before .plan-path .ensures .0 .few, c .before .before .before .before .before .before .before .before .before .plan-path .ensures .1 .kept .size, c .before .before .before .before .before .before .before .before .before .before .before .before .before .before .before .pre .1 .2)) (Name (number .kind) (number .number)) (c .before .before .before .before .before .before .before .before .before .before .before .before .before .before .before .args .id .now) key (c .before .before .before .before .before .note-host .ensures) (bindings-builds (c .before .before .before .before .before .before .before .before .before .plan-path .ensures .0 .here) (c .before .before .before .before .before .before .before .before .trie-of .ensures) (c .before .before .before .before .before .before .before .names-place .ensures)))))

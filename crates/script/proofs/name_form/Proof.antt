@@ -19,8 +19,8 @@ add-id-end c = omega (arith, (subst (PieceSays _ _ _ _) (c .before .e .given .1)
 id-end-requires : tie.Need-id-end-requires
 id-end-requires c κs = (subst (PieceSays _ _ _ _) (c .before .e .given .1) (c .before .before .before .piece .ensures)) .end
 
-sub-t21 : tie.Need-sub-t21
-sub-t21 c = (subst (PieceSays _ _ _ _) (c .before .before .before .before .before .e .given .1) (c .before .before .before .before .before .before .before .piece .ensures)) .start
+sub-t22 : tie.Need-sub-t22
+sub-t22 c = (subst (PieceSays _ _ _ _) (c .before .before .before .before .before .e .given .1) (c .before .before .before .before .before .before .before .piece .ensures)) .start
 
 returns : tie.Need-returns
 unfolding key bytes
@@ -39,4 +39,4 @@ unfolding key bytes
 returns-4 c = word-none (c .before .before .before .before .before .pre) (subst (WordSays _ _) (c .enum-told3 .given .1) (c .before .before .word-end .ensures))
 
 pub name-form-spec : {M : Type 1} → statement M
-name-form-spec = tie.close (tie.spec (λ c. search needs) (λ c κs. search needs) (λ c. search needs) (λ c. search needs) piece-requires (λ c. search needs) add-id-end id-end-requires (λ c. search needs) sub-t21 (λ c. search needs) (λ c. search needs) (λ c. search needs) returns returns-2 returns-3 returns-4)
+name-form-spec = tie.close (tie.spec (λ c. search needs) (λ c κs. search needs) (λ c. search needs) (λ c. search needs) piece-requires (λ c. search needs) add-id-end id-end-requires (λ c. search needs) sub-t22 (λ c. search needs) (λ c. search needs) (λ c. search needs) returns returns-2 returns-3 returns-4)
