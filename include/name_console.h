@@ -47,7 +47,7 @@ enum name_console_answer {
 /* The answer of a look-up that finds nothing: no refusal has this number. */
 #define NAME_CONSOLE_NONE UINT32_MAX
 
-/* What an item of a name is. */
+/* What an item of a name is. A table with names from before version 0.4.0 has none of these, and is Unsound. */
 enum name_console_kind {
   NAME_CONSOLE_TIMER = 1,
   NAME_CONSOLE_PORT = 2,

@@ -6,27 +6,33 @@ use mathlib.Core.Option.{Option, none, some}
 use native.Mathlib.Omega.{arith}
 use lib.Dec.{ltb}
 use borrow.Author.Tests.{le-ltb, ltb-true}
-use Rattle.source.specs.declared.KindFilter.the-variants.{Registers}
+use Rattle.source.specs.Items.{kind-number, same-kind}
+use Rattle.source.specs.Calls.{keeps-kind}
+use Rattle.source.specs.declared.ItemKind.{ItemKind}
+use Rattle.source.specs.declared.ItemKind.the-variants.{Timer, Port, Register}
+use Rattle.source.specs.declared.LidSymbol.{LidSymbol}
+use Rattle.source.specs.declared.KindFilter.{KindFilter}
+use Rattle.source.specs.declared.KindFilter.the-variants.{Timers, Ports, Registers}
 use Rattle.asks.specs.declared.Ask.{Ask}
-use Rattle.asks.specs.declared.Ask.the-variants.{Names, Modules}
-use Rattle.asks.specs.declared.Filter.the-variants.{NamespacesOnly}
+use Rattle.asks.specs.declared.Ask.the-variants.{Names}
 use Rattle.numbers.specs.Filters.{names-for, modules-for, is-asked}
 
-pub filter-test : (n : ℕ) → ltb n 4 ≡ is-asked (modules-for n)
-unfolding modules-for
-filter-test zero = refl
-filter-test (suc zero) = refl
-filter-test (suc (suc zero)) = refl
-filter-test (suc (suc (suc zero))) = refl
-filter-test (suc (suc (suc (suc n)))) = le-ltb (suc (suc (suc (suc n)))) 4 (omega arith)
+-- What asks at 0 to 3 and at no other number.
+four : (ask : ℕ → Option Ask) → is-asked (ask 0) ≡ true → is-asked (ask 1) ≡ true → is-asked (ask 2) ≡ true → is-asked (ask 3) ≡ true
+    → ((n : ℕ) → is-asked (ask (suc (suc (suc (suc n))))) ≡ false) → (n : ℕ) → ltb n 4 ≡ is-asked (ask n)
+four ask a b c d e zero = sym a
+four ask a b c d e (suc zero) = sym b
+four ask a b c d e (suc (suc zero)) = sym c
+four ask a b c d e (suc (suc (suc zero))) = sym d
+four ask a b c d e (suc (suc (suc (suc n)))) = le-ltb (suc (suc (suc (suc n)))) 4 (omega arith) ∙ sym (e n)
 
-pub kind-test : (n : ℕ) → ltb n 4 ≡ is-asked (names-for n)
+pub names-test : (n : ℕ) → ltb n 4 ≡ is-asked (names-for n)
 unfolding names-for
-kind-test zero = refl
-kind-test (suc zero) = refl
-kind-test (suc (suc zero)) = refl
-kind-test (suc (suc (suc zero))) = refl
-kind-test (suc (suc (suc (suc n)))) = le-ltb (suc (suc (suc (suc n)))) 4 (omega arith)
+names-test = four names-for refl refl refl refl (λ n. refl)
+
+pub modules-test : (n : ℕ) → ltb n 4 ≡ is-asked (modules-for n)
+unfolding modules-for
+modules-test = four modules-for refl refl refl refl (λ n. refl)
 
 -- What asks nothing.
 pub asked-none : (o : Option Ask) → is-asked o ≡ false → o ≡ none
@@ -34,27 +40,34 @@ asked-none (some a) e = absurd (true≢false e)
 asked-none none e = refl
 
 pub modules-none : (n : ℕ) → 4 ≤ n → modules-for n ≡ none
-modules-none n h = asked-none (modules-for n) (sym (filter-test n) ∙ le-ltb n 4 h)
+modules-none n h = asked-none (modules-for n) (sym (modules-test n) ∙ le-ltb n 4 h)
 
 -- A filter's number.
 pub names-below : (n : ℕ) → is-asked (names-for n) ≡ true → n < 4
-names-below n e = ltb-true n 4 (kind-test n ∙ e)
+names-below n e = ltb-true n 4 (names-test n ∙ e)
 
 pub modules-below : (n : ℕ) → is-asked (modules-for n) ≡ true → n < 4
-modules-below n e = ltb-true n 4 (filter-test n ∙ e)
+modules-below n e = ltb-true n 4 (modules-test n ∙ e)
 
-pub names-three : (f : ℕ) → f < 4 → (f ≡ 0 → ⊥) → (f ≡ 1 → ⊥) → (f ≡ 2 → ⊥) → names-for f ≡ some (Names Registers)
-unfolding names-for
-names-three zero h a b c = absurd (a refl)
-names-three (suc zero) h a b c = absurd (b refl)
-names-three (suc (suc zero)) h a b c = absurd (c refl)
-names-three (suc (suc (suc zero))) h a b c = refl
-names-three (suc (suc (suc (suc n)))) h a b c = absurd (omega arith)
+-- The last of them.
+pub third : (n : ℕ) → n < 4 → (n ≡ 0 → ⊥) → (n ≡ 1 → ⊥) → (n ≡ 2 → ⊥) → n ≡ 3
+third n h a b c = omega (arith, a, b, c)
 
-pub modules-three : (f : ℕ) → f < 4 → (f ≡ 0 → ⊥) → (f ≡ 1 → ⊥) → (f ≡ 2 → ⊥) → modules-for f ≡ some (Modules NamespacesOnly)
-unfolding modules-for
-modules-three zero h a b c = absurd (a refl)
-modules-three (suc zero) h a b c = absurd (b refl)
-modules-three (suc (suc zero)) h a b c = absurd (c refl)
-modules-three (suc (suc (suc zero))) h a b c = refl
-modules-three (suc (suc (suc (suc n)))) h a b c = absurd (omega arith)
+-- ---- The number of a kind asks for that kind
+
+abbrev pub only : ItemKind → KindFilter
+only Timer = Timers
+only Port = Ports
+only Register = Registers
+
+pub kind-asked : (k : ItemKind) → names-for (kind-number k) ≡ some (Names (only k))
+unfolding names-for kind-number
+kind-asked Timer = refl
+kind-asked Port = refl
+kind-asked Register = refl
+
+pub only-keeps : (k : ItemKind) (c : LidSymbol) → keeps-kind (only k) c ≡ same-kind (c .kind) k
+unfolding keeps-kind
+only-keeps Timer c = refl
+only-keeps Port c = refl
+only-keeps Register c = refl

@@ -1,5 +1,5 @@
 -- is_filter meets its contract.
-use Rattle.numbers.proofs.Filters.{kind-test, filter-test}
+use Rattle.numbers.proofs.Filters.{names-test, modules-test}
 use Rattle.numbers.proofs.is_filter.Statement.{statement}
 use Rattle.numbers.proofs.is_filter.Tie as tie
 
@@ -8,4 +8,4 @@ is-filter-spec =
     tie.close
     (tie.spec
     {- returns -}
-    (λ c. (kind-test (c .args .n), filter-test (c .args .n))))
+    (λ c. (names-test (c .args .n), modules-test (c .args .n))))

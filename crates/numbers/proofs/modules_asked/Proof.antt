@@ -1,6 +1,6 @@
 -- modules_asked meets its contract.
 use Rattle.numbers.specs.Filters.{modules-for}
-use Rattle.numbers.proofs.Filters.{modules-three}
+use Rattle.numbers.proofs.Filters.{third}
 use Rattle.numbers.proofs.modules_asked.Statement.{statement}
 use Rattle.numbers.proofs.modules_asked.Tie as tie
 
@@ -16,4 +16,4 @@ modules-asked-spec =
     {- returns-3 -}
     (λ c. rw (c .if3 .taken))
     {- returns-4 -}
-    (λ c. modules-three _ (c .before .before .before .pre) (c .before .before .if1 .left) (c .before .if2 .left) (c .if3 .left)))
+    (λ c. rw (third _ (c .before .before .before .pre) (c .before .before .if1 .left) (c .before .if2 .left) (c .if3 .left))))
