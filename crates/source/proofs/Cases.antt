@@ -13,9 +13,9 @@ use Rattle.source.specs.Types.{the-item, bindings, namespaces, trie-empt
 use Rattle.source.specs.Trees.{btree-insert-replace, btree-find-exact, find-prefix-onto, btree-find-prefix, btree-fold, btree-find-all}
 use Rattle.source.specs.Tries.{or-else, dflt, bind-option, names-find-exact, trie-descend-exact, trie-find-exact, names-insert, scope-of, trie-mutate, trie-mutate-leaf, trie-insert, included, trie-import, trie-include, trie-open-namespace, trie-add-alias}
 use Rattle.source.specs.Terms.{weight, heaviest, heaviest-tree, heaviest-names, depth, depth-tree, depth-names}
-use Rattle.source.specs.Listing.{fold-left, rev-map-onto, ns-search-term, bindings-search-term, revmap-onto, names-revmap, matching-values, with-imports, elem-key, names-find-rev, find-prefix-fuel, trie-find-prefix′, trie-find-prefix}
-use Rattle.source.specs.Table.{Line, ModSymbol, Module, Namespace, empty, insert, register-alias, register-include, register-open, ns-inserts, ins-ns, ins-mod, name-of-revq, loaded-module, ins-stays-loaded, register-module-stays-loaded, string-of-path, match-elem, match-length-of-path, last-opt, first-import-of-path, completion-result-of-lid, mod-annotation, completion-result-of-ns-or-mod, autocomplete-lid, filter-map, autocomplete-mod-or-ns}
-use Rattle.source.specs.Counted.{pure, one, _>>=_, btree-insert-replaceᶜ, names-insertᶜ, trie-mutateᶜ, trie-mutate-leafᶜ, trie-insertᶜ, trie-importᶜ, trie-includeᶜ, trie-open-namespaceᶜ, trie-add-aliasᶜ, lids, insertᶜ, register-aliasᶜ, register-includeᶜ, register-openᶜ, ins-nsᶜ, ins-modᶜ, insᶜ, register-module-pathᶜ, fold-leftᶜ, find-prefix-fuelᶜ, trie-find-prefixᶜ}
+use Rattle.source.specs.Listing.{fold-left, rev-map-onto, ns-search-term, bindings-search-term, revmap-onto, names-revmap, matching-values, with-imports, elem-key, names-find-rev-first, find-prefix-fuel, trie-find-prefix′, trie-find-prefix-first}
+use Rattle.source.specs.Table.{Line, ModSymbol, Module, Namespace, empty, insert, register-alias, register-include, register-open, ns-inserts, ins-ns, ins-mod, name-of-revq, loaded-module, ins-stays-loaded, register-module-stays-loaded, string-of-path, match-elem, match-length-of-path, last-opt, first-import-of-path, completion-result-of-lid, mod-annotation, completion-result-of-ns-or-mod, autocomplete-lid-first, filter-map, autocomplete-mod-or-ns-first}
+use Rattle.source.specs.Counted.{pure, one, _>>=_, btree-insert-replaceᶜ, names-insertᶜ, trie-mutateᶜ, trie-mutate-leafᶜ, trie-insertᶜ, trie-importᶜ, trie-includeᶜ, trie-open-namespaceᶜ, trie-add-aliasᶜ, lids, insertᶜ, register-aliasᶜ, register-includeᶜ, register-openᶜ, ins-nsᶜ, ins-modᶜ, insᶜ, register-module-pathᶜ, fold-leftᶜ, find-prefix-fuelᶜ, trie-find-prefix′ᶜ}
 use Rattle.source.specs.Calls.{Lent, Output, State, Call, name, include, opens, alias, module-path, Registered, accepted, refused, Found, found, not-found, Completed, listed, All, text-of, is-empty, any, bad-query, malformed, empty-name, long-query, too-long, lowest, argument-rows, fresh, whole-records, free, arguments, registered, records, text-taken, crowded, deep, registration-rows, after, register, found-of, look-up, output-text, completion-rows, completed, tries-entered, kept, keeps-kind, keeps, complete, complete-modules}
 use Rattle.source.specs.Rules.{all}
 use Rattle.source.specs.Items.{kind-number, same-kind}
@@ -63,7 +63,7 @@ r n = record { kind = Register; number = n }
 
 -- The same three lines, by their length.
 unfoldable pub three : ℤ → List (Line LidSymbol)
-three n = line n (r 1) "Live.offset" "" ∷ line n (r 2) "Saved.late" "" ∷ line n (r 1) "Saved.offset" "" ∷ []
+three n = line n (r 3) "Live.offset" "" ∷ line n (r 2) "Saved.late" "" ∷ line n (r 1) "Saved.offset" "" ∷ []
 
 -- Table T.
 unfoldable pub T : Registered
@@ -110,7 +110,7 @@ pub record StarredCases : Type 0 where
   pub case-2 : (records-of T ≡ some 26) × (ask T (λ s. s .text-used) ≡ some 44)
   pub case-3 : (find T "Live.late." ≡ some not-found) × (find T "Saved.late." ≡ some (found (r 2)))
   pub case-4 : find T "Live.offset." ≡ some (found (r 3))
-  pub case-5 : names T "Live.off." ≡ some (listed (line (pos 8) (r 1) "Live.offset" "" ∷ []) 2)
+  pub case-5 : names T "Live.off." ≡ some (listed (line (pos 8) (r 3) "Live.offset" "" ∷ []) 2)
   pub case-6 : names T "" ≡ some (listed (three (negsuc 0)) 3)
   pub case-7 : names T "." ≡ some (listed (three (pos 0)) 3)
   pub case-8 : (records-of aliased ≡ some 35) × (find aliased "Live.K.late." ≡ some (found (r 2)))
@@ -131,9 +131,9 @@ unfolding bytes console pane then-call ask records-of find names modules line r 
     btree-insert-replace btree-find-exact find-prefix-onto btree-find-prefix btree-fold btree-find-all
     or-else dflt bind-option names-find-exact trie-descend-exact trie-find-exact names-insert scope-of trie-mutate trie-mutate-leaf trie-insert included trie-import trie-include trie-open-namespace trie-add-alias
     weight heaviest heaviest-tree heaviest-names depth depth-tree depth-names
-    fold-left rev-map-onto ns-search-term bindings-search-term revmap-onto names-revmap matching-values with-imports elem-key names-find-rev find-prefix-fuel trie-find-prefix′ trie-find-prefix
-    empty insert register-alias register-include register-open ns-inserts ins-ns ins-mod name-of-revq loaded-module ins-stays-loaded register-module-stays-loaded string-of-path match-elem match-length-of-path last-opt first-import-of-path completion-result-of-lid mod-annotation completion-result-of-ns-or-mod autocomplete-lid filter-map autocomplete-mod-or-ns
-    pure one _>>=_ btree-insert-replaceᶜ names-insertᶜ trie-mutateᶜ trie-mutate-leafᶜ trie-insertᶜ trie-importᶜ trie-includeᶜ trie-open-namespaceᶜ trie-add-aliasᶜ lids insertᶜ register-aliasᶜ register-includeᶜ register-openᶜ ins-nsᶜ ins-modᶜ insᶜ register-module-pathᶜ fold-leftᶜ find-prefix-fuelᶜ trie-find-prefixᶜ
+    fold-left rev-map-onto ns-search-term bindings-search-term revmap-onto names-revmap matching-values with-imports elem-key names-find-rev-first find-prefix-fuel trie-find-prefix′ trie-find-prefix-first
+    empty insert register-alias register-include register-open ns-inserts ins-ns ins-mod name-of-revq loaded-module ins-stays-loaded register-module-stays-loaded string-of-path match-elem match-length-of-path last-opt first-import-of-path completion-result-of-lid mod-annotation completion-result-of-ns-or-mod autocomplete-lid-first filter-map autocomplete-mod-or-ns-first
+    pure one _>>=_ btree-insert-replaceᶜ names-insertᶜ trie-mutateᶜ trie-mutate-leafᶜ trie-insertᶜ trie-importᶜ trie-includeᶜ trie-open-namespaceᶜ trie-add-aliasᶜ lids insertᶜ register-aliasᶜ register-includeᶜ register-openᶜ ins-nsᶜ ins-modᶜ insᶜ register-module-pathᶜ fold-leftᶜ find-prefix-fuelᶜ trie-find-prefix′ᶜ
     kind-number same-kind
     text-of is-empty any bad-query malformed empty-name long-query too-long lowest argument-rows fresh whole-records free arguments registered records text-taken crowded deep registration-rows after register found-of look-up output-text completion-rows completed tries-entered kept keeps-kind keeps complete complete-modules
     all
@@ -165,7 +165,7 @@ pub record OtherCases : Type 0 where
       × (records-of (register true (record { words = 36; text = 4 }) fresh (name (bytes "") (bytes "tick") (r 5))) ≡ some 3)
       × (register true (record { words = 36; text = 3 }) fresh (name (bytes "") (bytes "tick") (r 5)) ≡ refused 8)
   pub case-13 : (ask T (λ s. complete true (s .table) Every 1 pane (bytes "Live.off.")) ≡ some (refused 9))
-      × (ask T (λ s. complete true (s .table) Every 2 pane (bytes "Live.off.")) ≡ some (listed (line (pos 8) (r 1) "Live.offset" "" ∷ []) 2))
+      × (ask T (λ s. complete true (s .table) Every 2 pane (bytes "Live.off.")) ≡ some (listed (line (pos 8) (r 3) "Live.offset" "" ∷ []) 2))
       × (ask T (λ s. complete true (s .table) Every 2 (record { lines = 0; text = 32768 }) (bytes "Live.off.")) ≡ some (refused 10))
   -- A file path may be empty, and has at most 120 bytes.
   pub paths : (records-of (then-call (accepted fresh) (module-path true (bytes "M.") (bytes ""))) ≡ some 5)

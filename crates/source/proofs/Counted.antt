@@ -9,9 +9,9 @@ use Rattle.source.specs.Types.{Level, Value, Trie, Tree, NameList, bind,
 use Rattle.source.specs.Trees.{btree-insert-replace}
 use Rattle.source.specs.Tries.{MutNode, MutLeaf, names-find-exact, names-insert, scope-of, trie-mutate, trie-mutate-leaf, trie-insert, trie-import, trie-include, trie-open-namespace, trie-add-alias}
 use Rattle.source.specs.Terms.{depth}
-use Rattle.source.specs.Listing.{PathOf, fold-left, rev-map-onto, ns-search-term, bindings-search-term, names-find-rev, find-prefix-fuel, trie-find-prefix′, trie-find-prefix}
+use Rattle.source.specs.Listing.{PathOf, fold-left, rev-map-onto, ns-search-term, bindings-search-term, names-find-rev-first, Finder, by-first, find-prefix-fuel, trie-find-prefix′}
 use Rattle.source.specs.Table.{Table, ModSymbol, Module, Namespace, insert, register-alias, register-include, register-open, ns-inserts, ins-ns, ins-mod, ins, name-of-revq, register-module-path, ins-stays-loaded, register-module-stays-loaded}
-use Rattle.source.specs.Counted.{Counted, pure, one, _>>=_, MutNodeᶜ, MutLeafᶜ, btree-insert-replaceᶜ, names-insertᶜ, trie-mutateᶜ, trie-mutate-leafᶜ, trie-insertᶜ, trie-importᶜ, trie-includeᶜ, trie-open-namespaceᶜ, trie-add-aliasᶜ, lids, insertᶜ, register-aliasᶜ, register-includeᶜ, register-openᶜ, ins-nsᶜ, ins-modᶜ, insᶜ, register-module-pathᶜ, ins-stays-loadedᶜ, register-module-stays-loadedᶜ, fold-leftᶜ, find-prefix-fuelᶜ, trie-find-prefixᶜ}
+use Rattle.source.specs.Counted.{Counted, pure, one, _>>=_, MutNodeᶜ, MutLeafᶜ, btree-insert-replaceᶜ, names-insertᶜ, trie-mutateᶜ, trie-mutate-leafᶜ, trie-insertᶜ, trie-importᶜ, trie-includeᶜ, trie-open-namespaceᶜ, trie-add-aliasᶜ, lids, insertᶜ, register-aliasᶜ, register-includeᶜ, register-openᶜ, ins-nsᶜ, ins-modᶜ, insᶜ, register-module-pathᶜ, ins-stays-loadedᶜ, register-module-stays-loadedᶜ, fold-leftᶜ, find-prefix-fuelᶜ, trie-find-prefix′ᶜ}
 use Rattle.source.specs.Calls.{Call, name, include, opens, alias, module-path, registered, records, tries-entered}
 use Rattle.source.specs.Shared.{sumˡ}
 use Rattle.source.specs.Plans.{insert-branches, first-tree}
@@ -233,31 +233,32 @@ module _ {A B : Type 0} (fᶜ : B → A → Counted B) where
   fold-left-count c h b [] = refl
   fold-left-count c h b (a ∷ l) = omega (arith, h b a, fold-left-count c h (fᶜ b a .value) l)
 
-module _ {A : Type 0} where
+module _ {A : Type 0} (find : Finder A) where
   pub find-prefix-fuel-value : (n : ℕ) (tr : Trie A) (path : PathOf) (q : Query) (acc : List (PathOf × A))
-      → find-prefix-fuelᶜ n tr path q acc .value ≡ find-prefix-fuel n tr path q acc
+      → find-prefix-fuelᶜ find n tr path q acc .value ≡ find-prefix-fuel find n tr path q acc
   unfolding find-prefix-fuelᶜ find-prefix-fuel _>>=_ pure one
   find-prefix-fuel-value zero tr path q acc = refl
   find-prefix-fuel-value (suc n) tr path q acc =
-      ap (rev-map-onto (λ x. (reverse (x .0 ∷ path), the-item (x .1))) (names-find-rev (bindings tr) (bindings-search-term q)))
-      (fold-left-value _ _ (λ acc x. find-prefix-fuel-value n (x .1) (x .0 ∷ path) (tail q) acc) acc (names-find-rev (namespaces tr) (ns-search-term q)))
+      ap (rev-map-onto (λ x. (reverse (x .0 ∷ path), the-item (x .1))) (find bind (bindings tr) (bindings-search-term q)))
+      (fold-left-value _ _ (λ acc x. find-prefix-fuel-value n (x .1) (x .0 ∷ path) (tail q) acc) acc (find ns (namespaces tr) (ns-search-term q)))
 
-  pub trie-find-prefix-value : (tr : Trie A) (q : Query) → trie-find-prefixᶜ tr q .value ≡ trie-find-prefix tr q
-  unfolding trie-find-prefixᶜ trie-find-prefix trie-find-prefix′
-  trie-find-prefix-value tr q = find-prefix-fuel-value (suc (depth tr)) tr [] q []
+  pub trie-find-prefix-value : (tr : Trie A) (path : PathOf) (q : Query) (acc : List (PathOf × A)) → trie-find-prefix′ᶜ find tr path q acc .value ≡ trie-find-prefix′ find tr path q acc
+  unfolding trie-find-prefix′ᶜ trie-find-prefix′
+  trie-find-prefix-value tr path q acc = find-prefix-fuel-value (suc (depth tr)) tr path q acc
 
+module _ {A : Type 0} where
   -- The count depends neither on the path nor on acc.
   pub find-prefix-fuel-count : (n : ℕ) (tr : Trie A) (path : PathOf) (q : Query) (acc : List (PathOf × A))
-      → find-prefix-fuelᶜ n tr path q acc .count ≡ entered n tr q
+      → find-prefix-fuelᶜ by-first n tr path q acc .count ≡ entered n tr q
   unfolding find-prefix-fuelᶜ entered _>>=_ pure one
   find-prefix-fuel-count zero tr path q acc = refl
   find-prefix-fuel-count (suc n) tr path q acc =
       omega (
         arith,
-        fold-left-count (λ acc x. find-prefix-fuelᶜ n (x .1) (x .0 ∷ path) (tail q) acc) (λ x. entered n (x .1) (tail q))
-            (λ acc x. find-prefix-fuel-count n (x .1) (x .0 ∷ path) (tail q) acc) acc (names-find-rev (namespaces tr) (ns-search-term q)),
+        fold-left-count (λ acc x. find-prefix-fuelᶜ by-first n (x .1) (x .0 ∷ path) (tail q) acc) (λ x. entered n (x .1) (tail q))
+            (λ acc x. find-prefix-fuel-count n (x .1) (x .0 ∷ path) (tail q) acc) acc (names-find-rev-first (namespaces tr) (ns-search-term q)),
       )
 
   pub tries-entered-count : (tr : Trie A) (q : Query) → tries-entered tr q ≡ entered (suc (depth tr)) tr q
-  unfolding tries-entered trie-find-prefixᶜ
+  unfolding tries-entered trie-find-prefix′ᶜ
   tries-entered-count tr q = find-prefix-fuel-count (suc (depth tr)) tr [] q []

@@ -9,8 +9,8 @@ use lib.Dec.{ltb}
 use lib.ListN.{length, length-append}
 use borrow.Author.Tests.{ltb-false, le-ltb}
 use Rattle.source.specs.Text.{Query, Str}
-use Rattle.source.specs.Listing.{PathOf, trie-find-prefix}
-use Rattle.source.specs.Table.{Table, ModSymbol, Module, Namespace, Line, completion-result-of-ns-or-mod, filter-map, autocomplete-mod-or-ns}
+use Rattle.source.specs.Listing.{PathOf, trie-find-prefix-first}
+use Rattle.source.specs.Table.{Table, ModSymbol, Module, Namespace, Line, completion-result-of-ns-or-mod, filter-map, autocomplete-mod-or-ns-first}
 use Rattle.source.specs.Calls.{kept, keeps-kind, Filter, All, Loaded, ModulesOnly, NamespacesOnly, keeps, Output, output-text, completion-rows, Completed, listed, refused, lowest, argument-rows, completed, complete, complete-modules}
 use Rattle.source.specs.declared.LidSymbol.{LidSymbol}
 use Rattle.source.specs.declared.KindFilter.{KindFilter}
@@ -99,16 +99,16 @@ module _ {A : Type 0} where
 unfoldable pub filter-of : Filter → PathOf × ModSymbol → Option (PathOf × ModSymbol)
 filter-of f x = elim (keeps f (x .1)) [ true ↦ some x | false ↦ none ]
 
-filter-map-some : {A : Type 0} (xs : List A) → filter-map some xs ≡ xs
+pub filter-map-some : {A : Type 0} (xs : List A) → filter-map some xs ≡ xs
 unfolding filter-map
 filter-map-some [] = refl
 filter-map-some (x ∷ xs) = ap (λ l. x ∷ l) (filter-map-some xs)
 
 -- With nothing dropped a listing has a line for each path that the source finds.
 pub all-listed : (tbl : Table) (q : Query)
-    → autocomplete-mod-or-ns tbl q some ≡ map completion-result-of-ns-or-mod (trie-find-prefix (tbl .tbl-mods) q)
-unfolding autocomplete-mod-or-ns
-all-listed tbl q = ap (map completion-result-of-ns-or-mod) (filter-map-some (trie-find-prefix (tbl .tbl-mods) q))
+    → autocomplete-mod-or-ns-first tbl q some ≡ map completion-result-of-ns-or-mod (trie-find-prefix-first (tbl .tbl-mods) q)
+unfolding autocomplete-mod-or-ns-first
+all-listed tbl q = ap (map completion-result-of-ns-or-mod) (filter-map-some (trie-find-prefix-first (tbl .tbl-mods) q))
 
 filter-kept : (f : Filter) (xs : List (PathOf × ModSymbol))
     → kept (keeps f) (map completion-result-of-ns-or-mod xs) ≡ map completion-result-of-ns-or-mod (filter-map (filter-of f) xs)
@@ -124,9 +124,9 @@ filter-kept f (x ∷ xs) = go (keeps f (x .1)) (filter-kept f xs)
 
 -- The lines kept are those that the source's function gives with the filter.
 pub filter-listed : (f : Filter) (tbl : Table) (q : Query)
-    → kept (keeps f) (autocomplete-mod-or-ns tbl q some) ≡ autocomplete-mod-or-ns tbl q (filter-of f)
-unfolding autocomplete-mod-or-ns
-filter-listed f tbl q = ap (kept (keeps f)) (all-listed tbl q) ∙ filter-kept f (trie-find-prefix (tbl .tbl-mods) q)
+    → kept (keeps f) (autocomplete-mod-or-ns-first tbl q some) ≡ autocomplete-mod-or-ns-first tbl q (filter-of f)
+unfolding autocomplete-mod-or-ns-first
+filter-listed f tbl q = ap (kept (keeps f)) (all-listed tbl q) ∙ filter-kept f (trie-find-prefix-first (tbl .tbl-mods) q)
 
 -- ---- The calls
 

@@ -1,21 +1,19 @@
 -- The merge read forward: what its heap gives, in order and without repeats, where the source accumulates it reversed.
-use Prim.Native.Nat.{ℕ, zero, suc, _+_, _-_, _≤_, _<_}
+use Prim.Native.Nat.{ℕ, zero, suc, _+_, _≤_, _<_}
 use mathlib.Core.Path.{_≡_, refl, sym, ap, ap₂, _∙_, subst}
 use mathlib.Core.Bool.{Bool, true, false, cond}
-use mathlib.Core.List.{List, [], _∷_, _++_, map, reverse, reverseAux, reverse-cons, append-nil, nil≢cons}
+use mathlib.Core.List.{List, [], _∷_, _++_, map, reverse, reverseAux, reverse-reverse, nil≢cons}
 use mathlib.Core.Option.{Option, none, some}
 use native.Mathlib.Omega.{arith}
-use lib.ListN.{length, getD, length-map, length-reverse}
+use lib.ListN.{length, getD, length-map}
 use Rattle.source.specs.Text.{Str}
-use Rattle.source.specs.Rules.{_<ˢ_}
-use Rattle.source.proofs.Order.{<ˢ-irrefl}
 use Rattle.source.specs.Heap.{Heap, Forest, EmptyHeap, HeapOf, []ᶠ, _∷ᶠ_, is-lt, heap-merge, heap-insert, heap-merge-pairs, heap-pair-up, heap-insert-all, heap-from-list}
 use Rattle.source.specs.Forward.{sumᶠ}
-use Rattle.source.specs.Lists.{Run, run, first, priority, nonempty, add-priorities, total, push-nodup, run-cmp, put-back, merge-aux, merge-nonempty, merge-increasing-lists-rev}
+use Rattle.source.specs.Lists.{Run, run, first, priority, nonempty, add-priorities, total, push-nodup, run-cmp, put-back, merge-aux, merge-increasing-lists-rev}
 use Rattle.source.specs.Shared.{same, Allˡ}
-use Rattle.source.proofs.Lookup.{same-ne, Increasing}
+use Rattle.source.proofs.Lookup.{Increasing}
 use Rattle.source.specs.Forward.{rest, size}
-use Rattle.source.proofs.Lists.{put-back-size, from-list-size, nonempty-all}
+use Rattle.source.proofs.Lists.{put-back-size, nonempty-all, Runs, turned-runs, merge-any-order}
 use Rattle.source.specs.Forward.{held, again, popped, forward}
 
 module _ {A : Type 0} (key : A → Str) where
@@ -65,43 +63,14 @@ module _ {A : Type 0} (key : A → Str) where
       go true ih = ih (a ∷ acc)
       go false ih = ih (first r ∷ (a ∷ acc))
 
-  -- One list alone gives itself.
-  abbrev Past : Option A → A → Type 0
-  Past none v = Unit {0}
-  Past (some y) v = key y <ˢ key v
-
-  not-again : (last : Option A) (v : A) → Past last v → again key v last ≡ false
-  unfolding again
-  not-again none v p = refl
-  not-again (some y) v p = same-ne (key v) (key y) (λ e. <ˢ-irrefl (key v) (rw (← e) at p))
-
-  forward-one : (pr : ℕ) (v : A) (tl : List A) (last : Option A) → Increasing key (v ∷ tl) → Past last v
-      → forward key (suc (length tl)) (HeapOf (run pr v tl) []ᶠ) last ≡ v ∷ tl
-  unfolding forward first put-back heap-merge-pairs heap-insert heap-merge
-  forward-one pr v [] last i p = rw (not-again last v p)
-  forward-one pr v (w ∷ tl) last i p = rw (not-again last v p) (ap (_∷_ v) (forward-one pr w tl (some v) (i .1) (i .0 .0)))
-
-  abbrev start : List (List A) → Heap (Run A)
-  start ls = heap-from-list (run-cmp key) (add-priorities 0 [] ls)
-
-  pub held-start : (ls : List (List A)) → held (start ls) ≡ total ls
-  unfolding held
-  held-start ls = from-list-size key ls
-
-  merge-nonempty-is : (ls : List (List A)) → Allˡ (Increasing key) ls → merge-nonempty key ls ≡ reverse (forward key (total ls) (start ls) none)
-  unfolding merge-nonempty total heap-from-list add-priorities heap-insert-all heap-insert heap-merge forward
-  merge-nonempty-is [] a = refl
-  merge-nonempty-is ([] ∷ []) a = refl
-  merge-nonempty-is ((v ∷ tl) ∷ []) a = let e : suc (length tl) + 0 ≡ suc (length tl) = omega arith in
-      ap reverse (sym (ap (λ n. forward key n (HeapOf (run 0 v tl) []ᶠ) none) e ∙ forward-one 0 v tl none (a .0) tt))
-  merge-nonempty-is (l ∷ (m ∷ ms)) a = merge-aux-is (total (l ∷ (m ∷ ms))) (start (l ∷ (m ∷ ms))) []
-
-  pub merge-is : (ls : List (List A)) → Allˡ (Increasing key) ls
-      → merge-increasing-lists-rev key ls ≡ reverse (forward key (total (nonempty ls)) (heap-from-list (run-cmp key) (add-priorities 0 [] (nonempty ls))) none)
+  -- What the merge gives, whatever the order in which its heap is built.
+  pub merge-is : (ls : List (List A)) (rs : List (Run A)) → Allˡ (Increasing key) ls → Runs key (nonempty ls) rs
+      → merge-increasing-lists-rev key ls ≡ reverse (forward key (total (nonempty ls)) (heap-from-list (run-cmp key) rs) none)
   unfolding merge-increasing-lists-rev
-  merge-is ls a = merge-nonempty-is (nonempty ls) (nonempty-all key (Increasing key) ls a)
+  merge-is ls rs a h =
+      merge-any-order key (nonempty ls) rs (nonempty-all key (Increasing key) ls a) h ∙ merge-aux-is (total (nonempty ls)) (heap-from-list (run-cmp key) rs) []
 
--- ---- the heap of lists in flattened order, of which the source merges the reverse
+-- ---- the heap of lists, put in one after another
 module _ {A : Type 0} where
   pub nonempty-append : (ls ms : List (List A)) → nonempty (ls ++ ms) ≡ nonempty ls ++ nonempty ms
   unfolding nonempty
@@ -109,78 +78,54 @@ module _ {A : Type 0} where
   nonempty-append ([] ∷ ls) ms = nonempty-append ls ms
   nonempty-append ((v ∷ tl) ∷ ls) ms = ap (_∷_ (v ∷ tl)) (nonempty-append ls ms)
 
-  pub nonempty-reverse : (ls : List (List A)) → nonempty (reverse ls) ≡ reverse (nonempty ls)
-  unfolding nonempty
-  nonempty-reverse [] = refl
-  nonempty-reverse (l ∷ ls) =
-      ap nonempty (reverse-cons l ls) ∙ nonempty-append (reverse ls) (l ∷ []) ∙ ap (λ ms. ms ++ nonempty (l ∷ [])) (nonempty-reverse ls) ∙ go l
-    where
-      go : (l : List A) → reverse (nonempty ls) ++ nonempty (l ∷ []) ≡ reverse (nonempty (l ∷ ls))
-      go [] = append-nil (reverse (nonempty ls))
-      go (v ∷ tl) = sym (reverse-cons (v ∷ tl) (nonempty ls))
+  -- The lists with their priorities, ascending.
+  unfoldable pub numbered : ℕ → List (List A) → List (Run A)
+  numbered n [] = []
+  numbered n ([] ∷ ls) = numbered (suc n) ls
+  numbered n ((v ∷ tl) ∷ ls) = run n v tl ∷ numbered (suc n) ls
 
-  -- Of n lists the k-th has priority n - 1 - k.
-  unfoldable pub runs : List (List A) → List (Run A)
-  runs [] = []
-  runs ([] ∷ ls) = runs ls
-  runs ((v ∷ tl) ∷ ls) = run (length ls) v tl ∷ runs ls
-
-  priorities-onto : (n : ℕ) (acc : List (Run A)) (ls : List (List A)) (l : List A) (i : ℕ) → i ≡ n + length ls
-      → add-priorities n acc (ls ++ (l ∷ [])) ≡ add-priorities i (add-priorities n acc ls) (l ∷ [])
-  unfolding add-priorities
-  priorities-onto n acc [] l i e = let e′ : n ≡ i = omega arith in ap (λ j. add-priorities j acc (l ∷ [])) e′
-  priorities-onto n acc ([] ∷ ls) l i e = priorities-onto (suc n) acc ls l i (omega arith)
-  priorities-onto n acc ((v ∷ tl) ∷ ls) l i e = priorities-onto (suc n) (run n v tl ∷ acc) ls l i (omega arith)
-
-  pub priorities-reverse : (ls : List (List A)) → add-priorities 0 [] (reverse ls) ≡ runs ls
-  unfolding add-priorities runs
-  priorities-reverse [] = refl
-  priorities-reverse (l ∷ ls) =
-      ap (add-priorities 0 []) (reverse-cons l ls)
-      ∙ priorities-onto 0 [] (reverse ls) l (length ls) (omega (arith, length-reverse ls))
-      ∙ ap (λ acc. add-priorities (length ls) acc (l ∷ [])) (priorities-reverse ls) ∙ go l
-    where
-      go : (l : List A) → add-priorities (length ls) (runs ls) (l ∷ []) ≡ runs (l ∷ ls)
-      go [] = refl
-      go (v ∷ tl) = refl
+  priorities-numbered : (n : ℕ) (acc : List (Run A)) (ls : List (List A)) → add-priorities n acc ls ≡ reverseAux (numbered n ls) acc
+  unfolding add-priorities numbered
+  priorities-numbered n acc [] = refl
+  priorities-numbered n acc ([] ∷ ls) = priorities-numbered (suc n) acc ls
+  priorities-numbered n acc ((v ∷ tl) ∷ ls) = priorities-numbered (suc n) (run n v tl ∷ acc) ls
 
   -- A list that is not empty, with a priority.
   abbrev pub IsRun : ℕ → List A → Run A → Type 0
   IsRun pr l r = (priority r ≡ pr) × (first r ∷ rest r ≡ l)
 
-  -- r gives the lists in flattened order, the k-th of n with priority n - 1 - k.
+  -- r gives the lists in order, the k-th with priority k.
   abbrev pub AreRuns : List (List A) → (ℕ → Run A) → Type 0
-  AreRuns ls r = (k : ℕ) → k < length ls → IsRun (length ls - 1 - k) (getD ls k []) (r k)
+  AreRuns ls r = (k : ℕ) → k < length ls → IsRun k (getD ls k []) (r k)
 
   run-is : (pr : ℕ) (v : A) (tl : List A) (r : Run A) → IsRun pr (v ∷ tl) r → r ≡ run pr v tl
   unfolding priority first rest
   run-is pr v tl (run q w ul) h = cc
 
 module _ {A : Type 0} (key : A → Str) where
+  pub numbered-runs : (ls : List (List A)) → Runs key ls (numbered 0 ls)
+  numbered-runs ls = subst (Runs key ls) (ap reverse (priorities-numbered 0 [] ls) ∙ reverse-reverse (numbered 0 ls)) (turned-runs key ls)
+
   -- The heap of r 0, .., r (k - 1), put in one after another.
   unfoldable pub built : (ℕ → Run A) → ℕ → Heap (Run A)
   built r zero = EmptyHeap
   built r (suc k) = heap-insert (run-cmp key) (built r k) (r k)
 
   built-onto : (r : ℕ → Run A) (i : ℕ) (ls : List (List A)) (j : ℕ) → j ≡ i + length ls
-      → ((k m : ℕ) → m ≡ i + k → k < length ls → IsRun (length ls - 1 - k) (getD ls k []) (r m))
-      → heap-insert-all (run-cmp key) (built r i) (runs ls) ≡ built r j
-  unfolding heap-insert-all built runs
+      → ((k m : ℕ) → m ≡ i + k → k < length ls → IsRun m (getD ls k []) (r m))
+      → heap-insert-all (run-cmp key) (built r i) (numbered i ls) ≡ built r j
+  unfolding heap-insert-all built numbered
   built-onto r i [] j e h = let e′ : i ≡ j = omega arith in ap (built r) e′
   built-onto r i ([] ∷ ls) j e h = absurd (nil≢cons (sym (h 0 i (omega arith) (omega arith) .1)))
   built-onto r i ((v ∷ tl) ∷ ls) j e h =
-      let here = h 0 i (omega arith) (omega arith) in
-      ap (λ x. heap-insert-all (run-cmp key) (heap-insert (run-cmp key) (built r i) x) (runs ls))
-      (sym (run-is (length ls) v tl (r i) (omega (arith, here .0), here .1)))
-      ∙ built-onto r (suc i) ls j (omega arith) (λ k m f l. let next = h (suc k) m (omega arith) (omega arith) in (omega (arith, next .0), next .1))
+      ap (λ x. heap-insert-all (run-cmp key) (heap-insert (run-cmp key) (built r i) x) (numbered (suc i) ls))
+      (sym (run-is i v tl (r i) (h 0 i (omega arith) (omega arith))))
+      ∙ built-onto r (suc i) ls j (omega arith) (λ k m f l. h (suc k) m (omega arith) (omega arith))
 
-  -- That is the source's heap.
-  pub built-is : (ls : List (List A)) (r : ℕ → Run A) → AreRuns ls r → built r (length ls) ≡ heap-from-list (run-cmp key) (add-priorities 0 [] (reverse ls))
+  pub built-is : (ls : List (List A)) (r : ℕ → Run A) → AreRuns ls r → built r (length ls) ≡ heap-from-list (run-cmp key) (numbered 0 ls)
   unfolding heap-from-list built
   built-is ls r h =
-      sym (ap (heap-insert-all (run-cmp key) EmptyHeap) (priorities-reverse ls)
-      ∙ built-onto r 0 ls (length ls) (omega arith)
-      (λ k m e l. let e′ : k ≡ m = omega arith in subst (λ m. IsRun (length ls - 1 - k) (getD ls k []) (r m)) e′ (h k l)))
+      sym (built-onto r 0 ls (length ls) (omega arith) (λ k m e l. let e′ : k ≡ m = omega arith in subst (λ m. IsRun m (getD ls k []) (r m)) e′ (h k l)))
 
 -- ---- merging and then reading is reading and then merging
 module _ {A B : Type 0} (f : A → B) where

@@ -1,27 +1,24 @@
 -- What a search gives, ascending, as what the heap of the matching lists gives.
 use Prim.Native.Nat.{ℕ, _≤_}
 use mathlib.Core.Path.{_≡_, refl, sym, ap, _∙_}
-use mathlib.Core.List.{List, [], _∷_, map, reverse, reverseAux, map-map, reverse-reverse}
+use mathlib.Core.List.{List, [], _∷_, map, reverse, map-map, reverse-reverse}
 use mathlib.Core.Option.{none}
 use native.Mathlib.Omega.{arith}
 use lib.ListN.{length}
 use Rattle.source.specs.Text.{Str}
 use Rattle.source.specs.Types.{Level, Value, Tree, NameList}
 use Rattle.source.specs.Trees.{PathElem}
-use Rattle.source.specs.Heap.{Heap, heap-from-list}
-use Rattle.source.specs.Lists.{Run, nonempty, add-priorities, total, run-cmp, merge-nonempty, merge-increasing-lists-rev}
-use Rattle.source.specs.Listing.{SearchTerm, NSTAll, NSTNone, NSTPrefix, matching-values, with-imports, elem-key, names-find-rev}
+use Rattle.source.specs.Heap.{heap-from-list}
+use Rattle.source.specs.Lists.{Run, nonempty, total, run-cmp, merge-nonempty, merge-increasing-lists-rev}
+use Rattle.source.specs.Listing.{SearchTerm, NSTAll, NSTNone, NSTPrefix, matching-values, with-imports, elem-key, names-find-rev-first}
 use Rattle.source.specs.Forward.{tree-matches}
-use Rattle.source.proofs.Names.{OrderedN, values-none, values-increasing}
+use Rattle.source.proofs.Names.{OrderedN, values-none, turned-increasing}
+use Rattle.source.proofs.Lists.{runs-size}
 use Rattle.source.specs.Forward.{held, forward}
-use Rattle.source.proofs.Forward.{held-start, forward-fuel, merge-is, nonempty-reverse, AreRuns, built, built-is, map-run, map-heap, held-map, forward-map, built-map}
+use Rattle.source.proofs.Forward.{forward-fuel, merge-is, numbered, numbered-runs, AreRuns, built, built-is, map-run, map-heap, held-map, forward-map, built-map}
 use Rattle.source.specs.Forward.{flat}
 use Rattle.source.proofs.Flat.{values-all-is, values-prefix-is}
 use Rattle.source.specs.Forward.{found}
-
-map-reverse : {A B : Type 0} (f : A → B) (l acc : List A) → map f (reverseAux l acc) ≡ reverseAux (map f l) (map f acc)
-map-reverse f [] acc = refl
-map-reverse f (a ∷ l) acc = map-reverse f l (a ∷ acc)
 
 module _ {A : Type 0} {l : Level} where
   -- Each tree's matches with its imports, in flattened order.
@@ -29,56 +26,48 @@ module _ {A : Type 0} {l : Level} where
   match-lists term n = map (λ x. with-imports (x .0, tree-matches term (x .1))) (flat n)
 
   lists-are : (term : SearchTerm) (n : NameList A l) → matching-values n term ≡ reverse (map (λ x. (x .0, tree-matches term (x .1))) (flat n))
-      → nonempty (map with-imports (matching-values n term)) ≡ reverse (nonempty (match-lists term n))
+      → map with-imports (reverse (matching-values n term)) ≡ match-lists term n
   unfolding match-lists
   lists-are term n e =
-      ap (λ ls. nonempty (map with-imports ls)) e
-      ∙ ap nonempty (map-reverse with-imports (map (λ x. (x .0, tree-matches term (x .1))) (flat n)) []
-      ∙ ap reverse (map-map with-imports (λ x. (x .0, tree-matches term (x .1))) (flat n)))
-      ∙ nonempty-reverse (map (λ x. with-imports (x .0, tree-matches term (x .1))) (flat n))
+      ap (λ ls. map with-imports (reverse ls)) e
+      ∙ ap (map with-imports) (reverse-reverse (map (λ x. (x .0, tree-matches term (x .1))) (flat n)))
+      ∙ map-map with-imports (λ x. (x .0, tree-matches term (x .1))) (flat n)
 
   none-match : (ts : List (List Str × Tree A l)) → nonempty (map (λ x. with-imports (x .0, tree-matches NSTNone (x .1))) ts) ≡ []
   unfolding nonempty with-imports tree-matches
   none-match [] = refl
   none-match (t ∷ ts) = none-match ts
 
-  -- What the source merges, in flattened order.
-  pub values-are : (term : SearchTerm) (n : NameList A l) → nonempty (map with-imports (matching-values n term)) ≡ reverse (nonempty (match-lists term n))
+  -- What is merged, in flattened order.
+  pub values-are : (term : SearchTerm) (n : NameList A l) → nonempty (map with-imports (reverse (matching-values n term))) ≡ nonempty (match-lists term n)
   unfolding match-lists nonempty
-  values-are NSTAll n = lists-are NSTAll n (values-all-is n)
+  values-are NSTAll n = ap nonempty (lists-are NSTAll n (values-all-is n))
   values-are NSTNone n = rw (values-none n, none-match (flat n))
-  values-are (NSTPrefix p) n = lists-are (NSTPrefix p) n (values-prefix-is n p)
+  values-are (NSTPrefix p) n = ap nonempty (lists-are (NSTPrefix p) n (values-prefix-is n p))
 
   pub found-empty : (n : NameList A l) (term : SearchTerm) → nonempty (match-lists term n) ≡ [] → found n term ≡ []
-  unfolding found names-find-rev merge-increasing-lists-rev merge-nonempty
+  unfolding found names-find-rev-first merge-increasing-lists-rev merge-nonempty
   found-empty n term e = rw (values-are term n, e)
 
   -- One list alone is what is found.
   pub found-one : (n : NameList A l) (term : SearchTerm) (m : List (PathElem × Value A l)) → nonempty (match-lists term n) ≡ m ∷ [] → found n term ≡ m
-  unfolding found names-find-rev merge-increasing-lists-rev merge-nonempty
+  unfolding found names-find-rev-first merge-increasing-lists-rev merge-nonempty
   found-one n term m e = rw (values-are term n, e) (reverse-reverse m)
-
-  -- The source's heap of them.
-  abbrev pub merge-heap : SearchTerm → NameList A l → Heap (Run (PathElem × Value A l))
-  merge-heap term n = heap-from-list (run-cmp elem-key) (add-priorities 0 [] (reverse (nonempty (match-lists term n))))
-
-  pub found-is : (n : NameList A l) (term : SearchTerm) (fuel : ℕ) → OrderedN n → held (merge-heap term n) ≤ fuel
-      → found n term ≡ forward elem-key fuel (merge-heap term n) none
-  unfolding found names-find-rev
-  found-is n term fuel o h =
-      let ms : List (List (PathElem × Value A l)) = reverse (nonempty (match-lists term n)) in
-      ap reverse (merge-is elem-key (map with-imports (matching-values n term)) (values-increasing term n o))
-      ∙ reverse-reverse (forward elem-key (total (nonempty (map with-imports (matching-values n term)))) _ none)
-      ∙ ap (λ ms. forward elem-key (total ms) (heap-from-list (run-cmp elem-key) (add-priorities 0 [] ms)) none) (values-are term n)
-      ∙ forward-fuel elem-key (total ms) fuel (merge-heap term n) none (omega (arith, held-start elem-key ms)) h
 
   -- The same of the heap built in flattened order.
   pub found-built : (n : NameList A l) (term : SearchTerm) (r : ℕ → Run (PathElem × Value A l)) (cells fuel : ℕ) → OrderedN n
       → cells ≡ length (nonempty (match-lists term n)) → AreRuns (nonempty (match-lists term n)) r → held (built elem-key r cells) ≤ fuel
       → found n term ≡ forward elem-key fuel (built elem-key r cells) none
+  unfolding found names-find-rev-first held
   found-built n term r cells fuel o e a h =
-      let same-heap : built elem-key r cells ≡ merge-heap term n = ap (built elem-key r) e ∙ built-is elem-key (nonempty (match-lists term n)) r a in
-      found-is n term fuel o (omega (arith, ap held same-heap)) ∙ ap (λ g. forward elem-key fuel g none) (sym same-heap)
+      let ms : List (List (PathElem × Value A l)) = nonempty (match-lists term n) in
+      let rs : List (Run (PathElem × Value A l)) = numbered 0 ms in
+      let same-heap : built elem-key r cells ≡ heap-from-list (run-cmp elem-key) rs = ap (built elem-key r) e ∙ built-is elem-key ms r a in
+      ap reverse (merge-is elem-key (map with-imports (reverse (matching-values n term))) rs (turned-increasing term n o) (rw (values-are term n) (numbered-runs elem-key ms)))
+      ∙ reverse-reverse (forward elem-key (total (nonempty (map with-imports (reverse (matching-values n term))))) _ none)
+      ∙ ap (λ ms. forward elem-key (total ms) (heap-from-list (run-cmp elem-key) rs) none) (values-are term n)
+      ∙ ap (λ g. forward elem-key (total ms) g none) (sym same-heap)
+      ∙ forward-fuel elem-key (total ms) fuel (built elem-key r cells) none (omega (arith, ap held same-heap, runs-size elem-key ms rs (numbered-runs elem-key ms))) h
 
   -- The same of a heap of other elements with the same keys, each read afterwards.
   pub found-read : {B : Type 0} (n : NameList A l) (term : SearchTerm) (f : B → PathElem × Value A l) (key : B → Str) (r : ℕ → Run B) (cells fuel : ℕ)

@@ -32,6 +32,7 @@ pub mod PlannedDepth
 pub mod PlannedWeight
 pub mod PlannedRecords
 pub mod Agreement
+pub mod Departs
 pub mod Worded
 pub mod Unchanged
 pub mod Quoted

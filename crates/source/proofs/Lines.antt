@@ -11,8 +11,8 @@ use Rattle.source.specs.Text.{Query}
 use Rattle.source.specs.Types.{Value, Trie, bind, bindings, namespaces}
 use Rattle.source.specs.Trees.{PathElem}
 use Rattle.source.specs.Terms.{depth}
-use Rattle.source.specs.Listing.{PathOf, fold-left, rev-map-onto, ns-search-term, bindings-search-term, names-find-rev, find-prefix-fuel, trie-find-prefix′, trie-find-prefix}
-use Rattle.source.specs.Table.{Table, ModSymbol, Line, completion-result-of-lid, completion-result-of-ns-or-mod, autocomplete-lid, autocomplete-mod-or-ns}
+use Rattle.source.specs.Listing.{PathOf, fold-left, rev-map-onto, ns-search-term, bindings-search-term, names-find-rev-first, by-first, find-prefix-fuel, trie-find-prefix′, trie-find-prefix-first}
+use Rattle.source.specs.Table.{Table, ModSymbol, Line, completion-result-of-lid, completion-result-of-ns-or-mod, autocomplete-lid-first, autocomplete-mod-or-ns-first}
 use Rattle.source.specs.Forward.{entered}
 use Rattle.source.specs.Calls.{output-text, output-lines, kept}
 use Rattle.source.specs.Shared.{sumˡ}
@@ -49,7 +49,7 @@ module _ {A B : Type 0} where
       fold-left-is g f l (g acc a) h
       ∙ rw (h acc a, reverse-cons a l, flatMap-append f (reverse l) (a ∷ []), append-nil (f a)) (sym (append-assoc (flatMap f (reverse l)) (f a) acc))
 
-  flatMap-map : {C : Type 0} (g : B → List C) (f : A → B) (l : List A) → flatMap g (map f l) ≡ flatMap (λ x. g (f x)) l
+  pub flatMap-map : {C : Type 0} (g : B → List C) (f : A → B) (l : List A) → flatMap g (map f l) ≡ flatMap (λ x. g (f x)) l
   unfolding flatMap
   flatMap-map g f [] = refl
   flatMap-map g f (a ∷ l) = ap (λ r. g (f a) ++ r) (flatMap-map g f l)
@@ -70,24 +70,24 @@ module _ {A : Type 0} where
 
 -- ---- the listing
 module _ {A : Type 0} where
-  pub listing-is : (n : ℕ) (tr : Trie A) (path : PathOf) (q : Query) (acc : List (PathOf × A)) → find-prefix-fuel n tr path q acc ≡ lines n tr path q ++ acc
+  pub listing-is : (n : ℕ) (tr : Trie A) (path : PathOf) (q : Query) (acc : List (PathOf × A)) → find-prefix-fuel by-first n tr path q acc ≡ lines n tr path q ++ acc
   unfolding find-prefix-fuel lines found
   listing-is zero tr path q acc = refl
   listing-is (suc n) tr path q acc =
-      ap (rev-map-onto (line path) (names-find-rev (bindings tr) (bindings-search-term q)))
-      (fold-left-is _ (λ x. lines n (x .1) (x .0 ∷ path) (tail q)) (names-find-rev (namespaces tr) (ns-search-term q)) acc
+      ap (rev-map-onto (line path) (names-find-rev-first (bindings tr) (bindings-search-term q)))
+      (fold-left-is _ (λ x. lines n (x .1) (x .0 ∷ path) (tail q)) (names-find-rev-first (namespaces tr) (ns-search-term q)) acc
       (λ acc x. listing-is n (x .1) (x .0 ∷ path) (tail q) acc))
-      ∙ rev-map-onto-is (line path) (names-find-rev (bindings tr) (bindings-search-term q)) _
-      ∙ sym (append-assoc (map (line path) (reverse (names-find-rev (bindings tr) (bindings-search-term q)))) _ acc)
+      ∙ rev-map-onto-is (line path) (names-find-rev-first (bindings tr) (bindings-search-term q)) _
+      ∙ sym (append-assoc (map (line path) (reverse (names-find-rev-first (bindings tr) (bindings-search-term q)))) _ acc)
 
-  pub trie-find-prefix-is : (tr : Trie A) (q : Query) → trie-find-prefix tr q ≡ lines (suc (depth tr)) tr [] q
-  unfolding trie-find-prefix trie-find-prefix′
+  pub trie-find-prefix-is : (tr : Trie A) (q : Query) → trie-find-prefix-first tr q ≡ lines (suc (depth tr)) tr [] q
+  unfolding trie-find-prefix-first trie-find-prefix′
   trie-find-prefix-is tr q = listing-is (suc (depth tr)) tr [] q [] ∙ append-nil (lines (suc (depth tr)) tr [] q)
 
   -- Tries entered: one more than in the found namespaces.
   pub entered-is : (n : ℕ) (tr : Trie A) (q : Query) → entered (suc n) tr q ≡ suc (sumˡ (λ x. entered n (x .1) (tail q)) (found (namespaces tr) (ns-search-term q)))
   unfolding entered found
-  entered-is n tr q = ap suc (sym (sumˡ-reverse (λ x. entered n (x .1) (tail q)) (names-find-rev (namespaces tr) (ns-search-term q))))
+  entered-is n tr q = ap suc (sym (sumˡ-reverse (λ x. entered n (x .1) (tail q)) (names-find-rev-first (namespaces tr) (ns-search-term q))))
 
   pub lines-count : (n : ℕ) (tr : Trie A) (path : PathOf) (q : Query)
       → length (lines (suc n) tr path q)
@@ -167,13 +167,13 @@ kept-made result h keep (x ∷ l) =
     go false e = e
 
 pub autocomplete-lid-is : (tbl : Table) (q : Query) (keep : LidSymbol → Bool)
-    → kept keep (autocomplete-lid tbl q) ≡ made (kept-line completion-result-of-lid keep) (suc (depth (tbl .tbl-lids))) (tbl .tbl-lids) [] q
-unfolding autocomplete-lid made completion-result-of-lid
+    → kept keep (autocomplete-lid-first tbl q) ≡ made (kept-line completion-result-of-lid keep) (suc (depth (tbl .tbl-lids))) (tbl .tbl-lids) [] q
+unfolding autocomplete-lid-first made completion-result-of-lid
 autocomplete-lid-is tbl q keep =
     ap (λ l. kept keep (map completion-result-of-lid l)) (trie-find-prefix-is (tbl .tbl-lids) q) ∙ kept-made completion-result-of-lid (λ x. refl) keep _
 
 pub autocomplete-mod-or-ns-is : (tbl : Table) (q : Query) (keep : ModSymbol → Bool)
-    → kept keep (autocomplete-mod-or-ns tbl q some) ≡ made (kept-line completion-result-of-ns-or-mod keep) (suc (depth (tbl .tbl-mods))) (tbl .tbl-mods) [] q
+    → kept keep (autocomplete-mod-or-ns-first tbl q some) ≡ made (kept-line completion-result-of-ns-or-mod keep) (suc (depth (tbl .tbl-mods))) (tbl .tbl-mods) [] q
 unfolding made completion-result-of-ns-or-mod
 autocomplete-mod-or-ns-is tbl q keep =
     ap (kept keep) (all-listed tbl q ∙ ap (map completion-result-of-ns-or-mod) (trie-find-prefix-is (tbl .tbl-mods) q))

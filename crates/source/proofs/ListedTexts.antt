@@ -5,16 +5,15 @@ use mathlib.Core.Logic.{_≢_}
 use mathlib.Core.Bool.{Bool, true, false, cond, true≢false}
 use mathlib.Core.List.{List, [], _∷_, _++_, reverse, reverseAux, tail, nil≢cons, head-eq-of-cons-eq, tail-eq-of-cons-eq}
 use Rattle.source.specs.Text.{Str, Query, query-to-string, dot}
-use Rattle.source.specs.Types.{Level, Value, Trie, bind, the-item, bindings, namespaces}
+use Rattle.source.specs.Types.{Level, Value, Trie, bind, ns, the-item, bindings, namespaces}
 use Rattle.source.specs.Trees.{PathElem}
-use Rattle.source.specs.Terms.{depth, walk-last}
-use Rattle.source.specs.Listing.{PathOf, fold-left, rev-map-onto, elem-key, names-find-rev, ns-search-term, bindings-search-term, find-prefix-fuel, trie-find-prefix, trie-find-prefix′}
+use Rattle.source.specs.Terms.{depth}
+use Rattle.source.specs.Listing.{PathOf, Finder, fold-left, rev-map-onto, elem-key, ns-search-term, bindings-search-term, find-prefix-fuel, trie-find-prefix′}
 use Rattle.source.specs.Table.{string-of-path}
 use Rattle.source.specs.Rules.{Formed}
-use Rattle.source.specs.Agreement.{Covers}
 use Rattle.source.specs.Shared.{same, Allˡ}
 use Rattle.source.proofs.Lookup.{same-self, same-ne, Allˡ-map}
-use Rattle.source.proofs.Listed.{rows-formed, keys, same-names, same-names-eq, same-names-self, keys-reverse, items, parts, to-list, listed-items}
+use Rattle.source.proofs.Listed.{Finds, keys, same-names, same-names-eq, same-names-self, keys-reverse, named, parts, along, listed-named}
 
 -- ---- names without dots: the text tells the segments
 abbrev pub NoDot : Str → Type 0
@@ -55,7 +54,7 @@ onto-all : (P : Str → Type 0) (p : List Str) (k : Str) (m : List Str) → All�
 onto-all P [] k m a b = (k, m, refl, b)
 onto-all P (x ∷ p) k m a b = onto-all P p x (k ∷ m) (a .1) (a .0, b)
 
-module _ {A : Type 0} (Key Label : Str → Type 0) (Item : A → Type 0) where
+module _ {A : Type 0} (Key Label : Str → Type 0) (Item : A → Type 0) (find : Finder A) (finds : Finds Key Label Item find) where
   -- a line's path: not empty, each key fine
   abbrev LineOk : PathOf × A → Type 0
   LineOk x = (k : Str) × (m : List Str) × (keys (x .0) ≡ k ∷ m) × Allˡ Key (k ∷ m)
@@ -73,28 +72,28 @@ module _ {A : Type 0} (Key Label : Str → Type 0) (Item : A → Type 0) where
   fold-ok f Q (y ∷ m) acc h a b = fold-ok f Q m (f acc y) h (a .1) (h acc y (a .0) b)
 
   lines-ok : (n : ℕ) (tr : Trie A) (path : PathOf) (q : Query) (acc : List (PathOf × A)) → Formed Key Label Item tr → Allˡ Key (keys path) → Allˡ LineOk acc
-      → Allˡ LineOk (find-prefix-fuel n tr path q acc)
+      → Allˡ LineOk (find-prefix-fuel find n tr path q acc)
   unfolding find-prefix-fuel elem-key
   lines-ok zero tr path q acc g p a = a
   lines-ok (suc n) tr path q acc g p a =
-      rev-map-ok _ (names-find-rev (bindings tr) (bindings-search-term q)) _
-      (Allˡ-map (names-find-rev (bindings tr) (bindings-search-term q)) line (rows-formed Key Label Item (bindings tr) (bindings-search-term q) (parts Key Label Item tr g .0)))
-      (fold-ok _ (λ y. Key (elem-key y) × Formed Key Label Item (y .1)) (names-find-rev (namespaces tr) (ns-search-term q)) acc
+      rev-map-ok _ (find bind (bindings tr) (bindings-search-term q)) _
+      (Allˡ-map (find bind (bindings tr) (bindings-search-term q)) line (finds .formed bind (bindings tr) (bindings-search-term q) (parts Key Label Item tr g .0)))
+      (fold-ok _ (λ y. Key (elem-key y) × Formed Key Label Item (y .1)) (find ns (namespaces tr) (ns-search-term q)) acc
       (λ acc y f b. lines-ok n (y .1) (y .0 ∷ path) (tail q) acc (f .1) (f .0, p) b)
-      (rows-formed Key Label Item (namespaces tr) (ns-search-term q) (parts Key Label Item tr g .1)) a)
+      (finds .formed ns (namespaces tr) (ns-search-term q) (parts Key Label Item tr g .1)) a)
     where
       line : (y : PathElem × Value A bind) → Key (elem-key y) × Formed Key Label Item (y .1) → LineOk (reverse (y .0 ∷ path), the-item (y .1))
       line y f = let r : (k′ : Str) × (m′ : List Str) × (reverseAux (keys path) (elem-key y ∷ []) ≡ k′ ∷ m′) × Allˡ Key (k′ ∷ m′) = onto-all Key (keys path) (elem-key y) [] p (f .0, tt) in
           (r .0, r .1, keys-reverse path (y .0 ∷ []) ∙ r .2, r .3)
 
 module _ {A : Type 0} where
-  -- the items of the lines with that text
-  unfoldable pub items-of-text : Str → List (PathOf × A) → List A
-  items-of-text t [] = []
-  items-of-text t (x ∷ ls) = cond (same (string-of-path (x .0)) t) (x .1 ∷ items-of-text t ls) (items-of-text t ls)
+  -- the lines with that text
+  unfoldable pub with-text : Str → List (PathOf × A) → List (PathOf × A)
+  with-text t [] = []
+  with-text t (x ∷ ls) = cond (same (string-of-path (x .0)) t) (x ∷ with-text t ls) (with-text t ls)
 
-module _ {A : Type 0} (Key Label : Str → Type 0) (Item : A → Type 0) (no-dots : (k : Str) → Key k → NoDot k) where
-  same-test : (s : Str) (name : Query) (x : PathOf × A) → Allˡ NoDot (s ∷ name) → LineOk Key Label Item x
+module _ {A : Type 0} (Key Label : Str → Type 0) (Item : A → Type 0) (no-dots : (k : Str) → Key k → NoDot k) (find : Finder A) (finds : Finds Key Label Item find) where
+  same-test : (s : Str) (name : Query) (x : PathOf × A) → Allˡ NoDot (s ∷ name) → LineOk Key Label Item find finds x
       → same (string-of-path (x .0)) (query-to-string (s ∷ name)) ≡ same-names (keys (x .0)) (s ∷ name)
   unfolding string-of-path
   same-test s name x a o = go (same-names (keys (x .0)) (s ∷ name)) refl
@@ -105,15 +104,15 @@ module _ {A : Type 0} (Key Label : Str → Type 0) (Item : A → Type 0) (no-dot
           (o .2 ∙ text-injective (o .0) (o .1) s name (Allˡ-map (o .0 ∷ o .1) no-dots (o .3)) a (ap query-to-string (sym (o .2)) ∙ i))
           ∙ same-names-self (s ∷ name)) ∙ e))
 
-  by-text : (s : Str) (name : Query) (ls : List (PathOf × A)) → Allˡ NoDot (s ∷ name) → Allˡ (LineOk Key Label Item) ls
-      → items-of-text (query-to-string (s ∷ name)) ls ≡ items (s ∷ name) ls
-  unfolding items-of-text items
+  by-text : (s : Str) (name : Query) (ls : List (PathOf × A)) → Allˡ NoDot (s ∷ name) → Allˡ (LineOk Key Label Item find finds) ls
+      → with-text (query-to-string (s ∷ name)) ls ≡ named (s ∷ name) ls
+  unfolding with-text named
   by-text s name [] a o = refl
   by-text s name (x ∷ ls) a o = rw (same-test s name x a (o .0), by-text s name ls a (o .1))
 
-  pub listed-items-of-text : (tr : Trie A) (q : Query) (s : Str) (name : Query) → Formed Key Label Item tr → Allˡ NoDot (s ∷ name) → Covers q (s ∷ name)
-      → items-of-text (query-to-string (s ∷ name)) (trie-find-prefix tr q) ≡ to-list (walk-last tr (s ∷ name))
-  unfolding trie-find-prefix trie-find-prefix′
-  listed-items-of-text tr q s name g a b =
-      by-text s name (find-prefix-fuel (suc (depth tr)) tr [] q []) a (lines-ok Key Label Item (suc (depth tr)) tr [] q [] g tt tt)
-      ∙ listed-items Key Label Item tr q s name g b
+  pub listed-text : (tr : Trie A) (q : Query) (s : Str) (name : Query) → Formed Key Label Item tr → Allˡ NoDot (s ∷ name)
+      → with-text (query-to-string (s ∷ name)) (trie-find-prefix′ find tr [] q []) ≡ along find tr [] q s name
+  unfolding trie-find-prefix′
+  listed-text tr q s name g a =
+      by-text s name (find-prefix-fuel find (suc (depth tr)) tr [] q []) a (lines-ok Key Label Item find finds (suc (depth tr)) tr [] q [] g tt tt)
+      ∙ listed-named find Key Label Item finds tr q s name g

@@ -3,8 +3,8 @@ use Prim.Native.Nat.{ℕ, zero, suc, _+_, _≤_, _<_, compare, Ordering, Orderin
 use mathlib.Core.Path.{_≡_, refl, sym, ap, _∙_, subst}
 use mathlib.Core.Logic.{_⊎_, inl, inr, _≢_}
 use mathlib.Core.Bool.{Bool, true, false, cond}
-use mathlib.Core.List.{List, [], _∷_, reverseAux, nil≢cons}
-use mathlib.Core.Option.{Option, none, some}
+use mathlib.Core.List.{List, [], _∷_, reverse, reverseAux, nil≢cons, map-id}
+use mathlib.Core.Option.{Option, none, some, Option·map}
 use native.Mathlib.Omega.{arith}
 use native.Mathlib.Decide.{ℕ-discrete}
 use borrow.Author.Tests.{eq-eqb, ne-eqb}
@@ -20,19 +20,19 @@ use Rattle.source.specs.Forward.{sum, sumᶠ}
 use Rattle.source.proofs.Heap.{All, Allᶠ, Heaped, All-map, Allᶠ-map, Allᶠ-zip, none-countedᶠ, counted, sum-merge, sum-pairs, All-merge, All-pairs, Heaped-merge, Heaped-pairs, sum-from-list, Heaped-from-list}
 use Rattle.source.specs.Lists.{Run, run, first, priority, nonempty, add-priorities, total, push-nodup, run-cmp, put-back, merge-aux, merge-nonempty, merge-increasing-lists-rev}
 use Rattle.source.specs.Shared.{same, Allˡ}
-use Rattle.source.proofs.Lookup.{Same, same-view, Allˡ-map, or-else-none, lt-ne, lookup, first-lookup, Above, Below, Increasing, Decreasing, lookup-hit, lookup-miss, lookup-above, lookup-below}
+use Rattle.source.proofs.Lookup.{Same, same-view, Allˡ-map, or-else-none, lt-ne, lookup, first-lookup, Above, Below, Increasing, Decreasing, lookup-hit, lookup-miss, lookup-above, lookup-below, decreasing-unique}
 use Rattle.source.specs.Tries.{or-else}
 use Rattle.source.specs.Forward.{rest, size}
 
 ≤ˢ-lt : Str → Str → Type 0
 ≤ˢ-lt s t = (s <ˢ t) ⊎ (s ≡ t)
 
-abbrev live : {A : Type 0} → List A → ℕ
+abbrev pub live : {A : Type 0} → List A → ℕ
 live [] = 0
 live (x ∷ l) = 1
 
 -- one at the runs of that priority
-at : {A : Type 0} → ℕ → Run A → ℕ
+pub at : {A : Type 0} → ℕ → Run A → ℕ
 at q r = cond (eqb (priority r) q) 1 0
 
 at-same : {A : Type 0} (q : ℕ) (r : Run A) → priority r ≡ q → at q r ≡ 1
@@ -425,15 +425,45 @@ module _ {A : Type 0} (key : A → Str) where
   all-getD (l ∷ ls) zero a = a .0
   all-getD (l ∷ ls) (suc q) a = all-getD ls q (a .1)
 
-  start : (ls : List (List A)) → Allˡ (Increasing key) ls → Inv ls (heap-from-list (run-cmp key) (add-priorities 0 [] ls))
+  -- A heap of the lists' runs, in whatever order they were put in.
+  pub record Runs (ls : List (List A)) (rs : List (Run A)) : Type 0 where
+    pub sound : Allˡ (λ r. getD ls (priority r) [] ≡ first r ∷ rest r) rs
+    pub counts : (q : ℕ) → sumˡ (at q) rs ≡ live (getD ls q [])
+    pub sizes : sumˡ size rs ≡ total ls
+
+  start : (ls : List (List A)) (rs : List (Run A)) → Allˡ (Increasing key) ls → Runs ls rs → Inv ls (heap-from-list (run-cmp key) rs)
   unfolding heap-from-list
-  start ls a = record {
-    heaped = Heaped-from-list (run-cmp key) RLe RLe-trans run-less run-not-less (add-priorities 0 [] ls);
-    sound = insert-all-all (λ r. getD ls (priority r) [] ≡ first r ∷ rest r) EmptyHeap (add-priorities 0 [] ls) tt
-        (priorities-sound ls 0 [] ls (λ q i e. ap (λ j. getD ls j []) (omega arith)) tt);
-    counts = λ q. omega (arith, sum-from-list (run-cmp key) (at q) (add-priorities 0 [] ls), priorities-count q 0 [] ls, cnt-at 0 ls q q (omega arith));
+  start ls rs a h = record {
+    heaped = Heaped-from-list (run-cmp key) RLe RLe-trans run-less run-not-less rs;
+    sound = insert-all-all (λ r. getD ls (priority r) [] ≡ first r ∷ rest r) EmptyHeap rs tt (h .sound);
+    counts = λ q. omega (arith, sum-from-list (run-cmp key) (at q) rs, h .counts q);
     increasing = λ q. all-getD ls q a;
   }
+
+  priorities-runs : (ls : List (List A)) → Runs ls (add-priorities 0 [] ls)
+  priorities-runs ls = record {
+    sound = priorities-sound ls 0 [] ls (λ q i e. ap (λ j. getD ls j []) (omega arith)) tt;
+    counts = λ q. omega (arith, priorities-count q 0 [] ls, cnt-at 0 ls q q (omega arith));
+    sizes = omega (arith, priorities-size 0 [] ls);
+  }
+
+  sum-turned : (f : Run A → ℕ) (rs acc : List (Run A)) → sumˡ f (reverseAux rs acc) ≡ sumˡ f rs + sumˡ f acc
+  sum-turned f [] acc = omega arith
+  sum-turned f (r ∷ rs) acc = omega (arith, sum-turned f rs (r ∷ acc))
+
+  all-turned : (P : Run A → Type 0) (rs acc : List (Run A)) → Allˡ P rs → Allˡ P acc → Allˡ P (reverseAux rs acc)
+  all-turned P [] acc a b = b
+  all-turned P (r ∷ rs) acc a b = all-turned P rs (r ∷ acc) (a .1) (a .0, b)
+
+  pub turned-runs : (ls : List (List A)) → Runs ls (reverse (add-priorities 0 [] ls))
+  turned-runs ls =
+      let h = priorities-runs ls in
+      let rs = add-priorities 0 [] ls in
+      record {
+        sound = all-turned (λ r. getD ls (priority r) [] ≡ first r ∷ rest r) rs [] (h .sound) tt;
+        counts = λ q. omega (arith, sum-turned (at q) rs [], h .counts q);
+        sizes = omega (arith, sum-turned size rs [], h .sizes);
+      }
 
   -- ---- one list: its reverse
   reversed : (l acc : List A) → Increasing key l → Decreasing key acc → Allˡ (λ a. Above key (key a) l) acc → Decreasing key (reverseAux l acc)
@@ -462,21 +492,34 @@ module _ {A : Type 0} (key : A → Str) where
   nonempty-all P ([] ∷ ls) a = nonempty-all P ls (a .1)
   nonempty-all P ((x ∷ l) ∷ ls) a = (a .0, nonempty-all P ls (a .1))
 
+  pub runs-size : (ls : List (List A)) (rs : List (Run A)) → Runs ls rs → sum size (heap-from-list (run-cmp key) rs) ≡ total ls
+  runs-size ls rs h = omega (arith, sum-from-list (run-cmp key) size rs, h .sizes)
+
   pub from-list-size : (ls : List (List A)) → sum size (heap-from-list (run-cmp key) (add-priorities 0 [] ls)) ≡ total ls
-  unfolding heap-from-list
-  from-list-size ls = omega (arith, sum-from-list (run-cmp key) size (add-priorities 0 [] ls), priorities-size 0 [] ls)
+  from-list-size ls = runs-size ls (add-priorities 0 [] ls) (priorities-runs ls)
+
+  runs-spec : (ls : List (List A)) (rs : List (Run A)) → Allˡ (Increasing key) ls → Runs ls rs → Merged [] ls (merge-aux key (total ls) (heap-from-list (run-cmp key) rs) [])
+  unfolding Reached
+  runs-spec ls rs a h = merge-spec (total ls) (heap-from-list (run-cmp key) rs) [] ls (omega (arith, runs-size ls rs h)) (start ls rs a h) tt tt
 
   merge-nonempty-spec : (ls : List (List A)) → Allˡ (Increasing key) ls → Merged [] ls (merge-nonempty key ls)
-  unfolding merge-nonempty lookup or-else first-lookup Reached heap-from-list
+  unfolding merge-nonempty lookup or-else first-lookup
   merge-nonempty-spec [] a = record { decreasing = tt; at-key = λ k. refl }
   merge-nonempty-spec (l ∷ []) a = record {
     decreasing = reversed l [] (a .0) tt tt;
     at-key = λ k. reversed-at k l [] (a .0);
   }
-  merge-nonempty-spec (l ∷ (m ∷ ls)) a =
-      merge-spec (total (l ∷ (m ∷ ls))) (heap-from-list (run-cmp key) (add-priorities 0 [] (l ∷ (m ∷ ls)))) [] (l ∷ (m ∷ ls))
-      (omega (arith, from-list-size (l ∷ (m ∷ ls))))
-      (start (l ∷ (m ∷ ls)) a) tt tt
+  merge-nonempty-spec (l ∷ (m ∷ ls)) a = runs-spec (l ∷ (m ∷ ls)) (add-priorities 0 [] (l ∷ (m ∷ ls))) a (priorities-runs (l ∷ (m ∷ ls)))
+
+  -- In whatever order the heap is built, the merge is the same.
+  pub merge-any-order : (ls : List (List A)) (rs : List (Run A)) → Allˡ (Increasing key) ls → Runs ls rs
+      → merge-nonempty key ls ≡ merge-aux key (total ls) (heap-from-list (run-cmp key) rs) []
+  merge-any-order ls rs a h =
+      let m = merge-nonempty-spec ls a in
+      let n = runs-spec ls rs a h in
+      sym (map-id (merge-nonempty key ls))
+      ∙ decreasing-unique key (λ x. x) _ _ (m .decreasing) (n .decreasing) (λ k. ap (Option·map (λ x. x)) (m .at-key k ∙ sym (n .at-key k)))
+      ∙ map-id (merge-aux key (total ls) (heap-from-list (run-cmp key) rs) [])
 
   -- the theorem
   pub merge-decreasing : (ls : List (List A)) → Allˡ (Increasing key) ls → Decreasing key (merge-increasing-lists-rev key ls)

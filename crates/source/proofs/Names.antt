@@ -1,7 +1,8 @@
--- Lists of collections: names_find_rev gives, at each key, what the last holder gives.
-use mathlib.Core.Path.{_≡_, refl, sym, ap, _∙_}
+-- Lists of collections: what a search of one gives at a key. Of the key's rows in flattened order the source's gives the last, the listing's the first.
+use mathlib.Core.Path.{_≡_, refl, sym, ap, ap₂, _∙_}
+use mathlib.Core.Logic.{inl, inr}
 use mathlib.Core.Bool.{Bool, true, false, cond}
-use mathlib.Core.List.{List, [], _∷_, _++_, map}
+use mathlib.Core.List.{List, [], _∷_, _++_, map, flatMap, reverse, reverseAux, reverse-cons, append-nil}
 use mathlib.Core.Option.{Option, none, some}
 use Rattle.source.specs.Text.{Str, starts-with}
 use Rattle.source.specs.Rules.{Ordered}
@@ -9,11 +10,13 @@ use Rattle.source.specs.Types.{Level, Value, Tree, NameList, []ᴺ, Name
 use Rattle.source.specs.Trees.{PrefixMatch, PathElem, btree-find-exact}
 use Rattle.source.specs.Tries.{or-else, names-find-exact}
 use Rattle.source.specs.Shared.{same, Allˡ}
-use Rattle.source.proofs.Lookup.{lookup, first-lookup, Above, Increasing, Decreasing, or-else-none}
+use Rattle.source.proofs.Lookup.{Same, same-view, lookup, first-lookup, Above, Increasing, Decreasing, or-else-none, lookup-above, lookup-below}
 use Rattle.source.proofs.Lists.{merge-decreasing, merge-at}
-use Rattle.source.specs.Listing.{SearchTerm, NSTAll, NSTNone, NSTPrefix, revmap-onto, names-revmap, matching-values, with-imports, elem-key, names-find-rev}
-use Rattle.source.specs.Terms.{flatten, found-onto, holders, first-of, last-of}
-use Rattle.source.proofs.Trees.{gate, valof, or-assoc, gate-or, gate-none, entry-key, find-prefix-ascends, find-prefix-exactly, find-all-ascends, find-all-exactly}
+use Rattle.source.specs.Listing.{SearchTerm, NSTAll, NSTNone, NSTPrefix, revmap-onto, names-revmap, matching-values, with-imports, elem-key, names-find-rev, names-find-rev-first}
+use Rattle.source.specs.Terms.{flatten, found-onto, holders, first-of}
+use Rattle.source.specs.Departs.{last-of, to-list, with-key, rows-of}
+use Rattle.source.proofs.Trees.{gate, valof, or-assoc, entry-key, find-prefix-ascends, find-prefix-exactly, find-all-ascends, find-all-exactly}
+use Rattle.source.proofs.Lines.{flatMap-append}
 use Rattle.source.specs.Forward.{tree-matches}
 
 abbrev pub accepts : SearchTerm → Str → Bool
@@ -21,63 +24,73 @@ accepts NSTAll k = true
 accepts NSTNone k = false
 accepts (NSTPrefix p) k = starts-with k p
 
-valof-or : {A B : Type 0} (x y : Option (A × B)) → valof (or-else x y) ≡ or-else (valof x) (valof y)
-unfolding or-else
-valof-or none y = refl
-valof-or (some x) y = refl
+-- ---- lists, their first and last elements
+pub map-reverse : {A B : Type 0} (f : A → B) (l acc : List A) → map f (reverseAux l acc) ≡ reverseAux (map f l) (map f acc)
+map-reverse f [] acc = refl
+map-reverse f (a ∷ l) acc = map-reverse f l (a ∷ acc)
 
 module _ {A : Type 0} where
-  -- ---- the first and the last holder, by look-up in each tree
-  unfoldable pub first-holder : {l : Level} → List (Tree A l) → Str → Option (Value A l)
-  first-holder [] k = none
-  first-holder (t ∷ ts) k = or-else (btree-find-exact t k) (first-holder ts k)
+  all-reverse : (P : A → Type 0) (l acc : List A) → Allˡ P l → Allˡ P acc → Allˡ P (reverseAux l acc)
+  all-reverse P [] acc a b = b
+  all-reverse P (x ∷ l) acc a b = all-reverse P l (x ∷ acc) (a .1) (a .0, b)
 
-  unfoldable pub last-holder : {l : Level} → List (Tree A l) → Str → Option (Value A l)
-  last-holder [] k = none
-  last-holder (t ∷ ts) k = or-else (last-holder ts k) (btree-find-exact t k)
+  first-append : (l m : List A) → first-of (l ++ m) ≡ or-else (first-of l) (first-of m)
+  unfolding first-of or-else
+  first-append [] m = refl
+  first-append (a ∷ l) m = refl
 
-  pub first-of-holders : {l : Level} (ts : List (Tree A l)) (k : Str) → first-of (holders ts k) ≡ first-holder ts k
-  unfolding holders found-onto first-of first-holder or-else
-  first-of-holders [] k = refl
-  first-of-holders (t ∷ ts) k = go (btree-find-exact t k) (first-of-holders ts k)
+  last-cons : (a : A) (l : List A) → last-of (a ∷ l) ≡ or-else (last-of l) (some a)
+  unfolding last-of or-else
+  last-cons a [] = refl
+  last-cons a (b ∷ l) = sym (some-last b l)
     where
-      go : (o : Option (Value A _)) → first-of (holders ts k) ≡ first-holder ts k → first-of (found-onto o (holders ts k)) ≡ or-else o (first-holder ts k)
-      go none e = e
-      go (some v) e = refl
+      some-last : (b : A) (l : List A) → or-else (last-of (b ∷ l)) (some a) ≡ last-of (b ∷ l)
+      some-last b [] = refl
+      some-last b (c ∷ l) = some-last c l
 
-  last-onto : {l : Level} (o : Option (Value A l)) (vs : List (Value A l)) → last-of (found-onto o vs) ≡ or-else (last-of vs) o
-  unfolding found-onto last-of or-else
-  last-onto none vs = sym (or-else-none (last-of vs))
-  last-onto (some v) [] = refl
-  last-onto (some v) (w ∷ vs) = sym (some-last w vs)
+  last-append : (l m : List A) → last-of (l ++ m) ≡ or-else (last-of m) (last-of l)
+  unfolding last-of
+  last-append [] m = sym (or-else-none (last-of m))
+  last-append (a ∷ l) m =
+      last-cons a (l ++ m) ∙ ap (λ o. or-else o (some a)) (last-append l m) ∙ or-assoc (last-of m) (last-of l) (some a) ∙ ap (or-else (last-of m)) (sym (last-cons a l))
+
+ends-of : {B : Type 0} (o : Option B) → (first-of (to-list o) ≡ o) × (last-of (to-list o) ≡ o)
+unfolding first-of last-of
+ends-of none = (refl, refl)
+ends-of (some b) = (refl, refl)
+
+map-to-list : {B C : Type 0} (o : Option (B × C)) → map (λ x. x .1) (to-list o) ≡ to-list (valof o)
+map-to-list none = refl
+map-to-list (some x) = refl
+
+pub value-of-first : {B C : Type 0} (l : List (B × C)) → valof (first-of l) ≡ first-of (map (λ x. x .1) l)
+unfolding first-of
+value-of-first [] = refl
+value-of-first (x ∷ l) = refl
+
+-- ---- look-up takes the first holder
+module _ {A : Type 0} where
+  first-onto : {l : Level} (o : Option (Value A l)) (vs : List (Value A l)) → first-of (found-onto o vs) ≡ or-else o (first-of vs)
+  unfolding found-onto first-of or-else
+  first-onto none vs = refl
+  first-onto (some v) vs = refl
+
+  pub holders-append : {l : Level} (xs ys : List (Tree A l)) (k : Str) → holders (xs ++ ys) k ≡ holders xs k ++ holders ys k
+  unfolding holders found-onto
+  holders-append [] ys k = refl
+  holders-append (t ∷ xs) ys k = rw (holders-append xs ys k) (go (btree-find-exact t k))
     where
-      some-last : (w : Value A _) (vs : List (Value A _)) → or-else (last-of (w ∷ vs)) (some v) ≡ last-of (w ∷ vs)
-      some-last w [] = refl
-      some-last w (x ∷ vs) = some-last x vs
+      go : (o : Option (Value A _)) → found-onto o (holders xs k ++ holders ys k) ≡ found-onto o (holders xs k) ++ holders ys k
+      go none = refl
+      go (some v) = refl
 
-  pub last-of-holders : {l : Level} (ts : List (Tree A l)) (k : Str) → last-of (holders ts k) ≡ last-holder ts k
-  unfolding holders last-holder last-of
-  last-of-holders [] k = refl
-  last-of-holders (t ∷ ts) k = last-onto (btree-find-exact t k) (holders ts k) ∙ ap (λ o. or-else o (btree-find-exact t k)) (last-of-holders ts k)
-
-  first-append : {l : Level} (xs ys : List (Tree A l)) (k : Str) → first-holder (xs ++ ys) k ≡ or-else (first-holder xs k) (first-holder ys k)
-  unfolding first-holder or-else
-  first-append [] ys k = refl
-  first-append (t ∷ xs) ys k = ap (or-else (btree-find-exact t k)) (first-append xs ys k) ∙ sym (or-assoc (btree-find-exact t k) (first-holder xs k) (first-holder ys k))
-
-  last-append : {l : Level} (xs ys : List (Tree A l)) (k : Str) → last-holder (xs ++ ys) k ≡ or-else (last-holder ys k) (last-holder xs k)
-  unfolding last-holder or-else
-  last-append [] ys k = sym (or-else-none (last-holder ys k))
-  last-append (t ∷ xs) ys k =
-      ap (λ o. or-else o (btree-find-exact t k)) (last-append xs ys k) ∙ or-assoc (last-holder ys k) (last-holder xs k) (btree-find-exact t k)
-
-  -- look-up takes the first holder
-  pub find-exact-is-first : {l : Level} (n : NameList A l) (k : Str) → names-find-exact n k ≡ first-holder (flatten n) k
-  unfolding names-find-exact flatten first-holder
+  pub find-exact-is-first : {l : Level} (n : NameList A l) (k : Str) → names-find-exact n k ≡ first-of (holders (flatten n) k)
+  unfolding names-find-exact flatten holders first-of
   find-exact-is-first []ᴺ k = refl
-  find-exact-is-first (Names bt tl) k = ap (or-else (btree-find-exact bt k)) (find-exact-is-first tl k)
+  find-exact-is-first (Names bt tl) k = ap (or-else (btree-find-exact bt k)) (find-exact-is-first tl k) ∙ sym (first-onto (btree-find-exact bt k) (holders (flatten tl) k))
   find-exact-is-first (ImportedNames label inner tl) k =
-      rw (find-exact-is-first inner k, find-exact-is-first tl k) (sym (first-append (flatten inner) (flatten tl) k))
+      rw (find-exact-is-first inner k, find-exact-is-first tl k)
+      (sym (ap first-of (holders-append (flatten inner) (flatten tl) k) ∙ first-append (holders (flatten inner) k) (holders (flatten tl) k)))
 
   -- ---- sound lists: each tree's keys ascend
   abbrev pub OrderedN : {l : Level} → NameList A l → Type 0
@@ -125,32 +138,7 @@ module _ {A : Type 0} where
   labelled-increasing i [] a = tt
   labelled-increasing i (x ∷ m) a = (labelled-above i (x .0 .completion) m (a .0), labelled-increasing i m (a .1))
 
-  -- ---- all the trees, the last first
-  abbrev lists-at : {l : Level} → Str → List (List Str × List (PrefixMatch × Value A l)) → Option (Value A l)
-  lists-at k acc = valof (first-lookup elem-key k (map with-imports acc))
-
-  one-more : {l : Level} (term : SearchTerm) (k : Str) (acc : List (List Str × List (PrefixMatch × Value A l))) (i : List Str) (bt : Tree A l) → Ordered bt
-      → lists-at k ((i, tree-matches term bt) ∷ acc) ≡ or-else (gate (accepts term k) (btree-find-exact bt k)) (lists-at k acc)
-  unfolding first-lookup with-imports Shows
-  one-more term k acc i bt o =
-      valof-or _ _ ∙ ap (λ x. or-else x (lists-at k acc)) (labelled-at i k (tree-matches term bt) ∙ tree-shows term bt o .1 k)
-
-  revmap-at : {l : Level} (term : SearchTerm) (k : Str) (acc : List (List Str × List (PrefixMatch × Value A l))) (i : List Str) (n : NameList A l) → OrderedN n
-      → lists-at k (revmap-onto (tree-matches term) acc i n) ≡ or-else (gate (accepts term k) (last-holder (flatten n) k)) (lists-at k acc)
-  unfolding revmap-onto flatten last-holder or-else
-  revmap-at term k acc i []ᴺ o = rw (gate-none (accepts term k))
-  revmap-at term k acc i (Names bt tl) o =
-      revmap-at term k ((i, tree-matches term bt) ∷ acc) i tl (o .1)
-      ∙ ap (or-else (gate (accepts term k) (last-holder (flatten tl) k))) (one-more term k acc i bt (o .0))
-      ∙ sym (or-assoc (gate (accepts term k) (last-holder (flatten tl) k)) (gate (accepts term k) (btree-find-exact bt k)) (lists-at k acc))
-      ∙ ap (λ x. or-else x (lists-at k acc)) (sym (gate-or (accepts term k) (last-holder (flatten tl) k) (btree-find-exact bt k)))
-  revmap-at term k acc i (ImportedNames label inner tl) o =
-      revmap-at term k (revmap-onto (tree-matches term) acc (label ∷ i) inner) i tl (o .1)
-      ∙ ap (or-else (gate (accepts term k) (last-holder (flatten tl) k))) (revmap-at term k acc (label ∷ i) inner (o .0))
-      ∙ sym (or-assoc (gate (accepts term k) (last-holder (flatten tl) k)) (gate (accepts term k) (last-holder (flatten inner) k)) (lists-at k acc))
-      ∙ ap (λ x. or-else x (lists-at k acc))
-      (sym (gate-or (accepts term k) (last-holder (flatten tl) k) (last-holder (flatten inner) k)) ∙ ap (gate (accepts term k)) (sym (last-append (flatten inner) (flatten tl) k)))
-
+  -- ---- all the trees
   revmap-increasing : {l : Level} (term : SearchTerm) (acc : List (List Str × List (PrefixMatch × Value A l))) (i : List Str) (n : NameList A l) → OrderedN n
       → Allˡ (Increasing elem-key) (map with-imports acc) → Allˡ (Increasing elem-key) (map with-imports (revmap-onto (tree-matches term) acc i n))
   unfolding revmap-onto with-imports Shows
@@ -174,27 +162,95 @@ module _ {A : Type 0} where
   values-prefix n [] = refl
   values-prefix n (c ∷ p) = refl
 
-  values-at : {l : Level} (term : SearchTerm) (k : Str) (n : NameList A l) → OrderedN n
-      → lists-at k (matching-values n term) ≡ gate (accepts term k) (last-holder (flatten n) k)
-  unfolding names-revmap first-lookup
-  values-at NSTAll k n o = rw (values-all n) (revmap-at NSTAll k [] [] n o ∙ or-else-none (last-holder (flatten n) k))
-  values-at NSTNone k n o = rw (values-none n)
-  values-at (NSTPrefix p) k n o =
-      rw (values-prefix n p) (revmap-at (NSTPrefix p) k [] [] n o ∙ or-else-none (gate (starts-with k p) (last-holder (flatten n) k)))
-
   pub values-increasing : {l : Level} (term : SearchTerm) (n : NameList A l) → OrderedN n → Allˡ (Increasing elem-key) (map with-imports (matching-values n term))
   unfolding names-revmap
   values-increasing NSTAll n o = rw (values-all n) (revmap-increasing NSTAll [] [] n o tt)
   values-increasing NSTNone n o = rw (values-none n) tt
   values-increasing (NSTPrefix p) n o = rw (values-prefix n p) (revmap-increasing (NSTPrefix p) [] [] n o tt)
 
-  -- ---- the two facts of names_find_rev
+  -- ---- the rows of a key
+  pub key-append : {l : Level} (k : Str) (xs ys : List (PathElem × Value A l)) → with-key k (xs ++ ys) ≡ with-key k xs ++ with-key k ys
+  unfolding with-key
+  key-append k [] ys = refl
+  key-append k (x ∷ xs) ys = rw (key-append k xs ys) (go (same k (elem-key x)))
+    where
+      go : (b : Bool) → cond b (x ∷ (with-key k xs ++ with-key k ys)) (with-key k xs ++ with-key k ys) ≡ cond b (x ∷ with-key k xs) (with-key k xs) ++ with-key k ys
+      go true = refl
+      go false = refl
+
+  no-key : {l : Level} (k : Str) (x : PathElem × Value A l) (xs : List (PathElem × Value A l)) → lookup elem-key k xs ≡ none → with-key k xs ≡ to-list (lookup elem-key k xs)
+      → cond (same k (elem-key x)) (x ∷ with-key k xs) (with-key k xs) ≡ to-list (cond (same k (elem-key x)) (some x) (lookup elem-key k xs))
+  no-key {l} k x xs e h = go (same k (elem-key x))
+    where
+      go : (b : Bool) → cond b (x ∷ with-key k xs) (with-key k xs) ≡ to-list (cond b (some x) (lookup elem-key k xs))
+      go true = ap (_∷_ x) (h ∙ ap to-list e)
+      go false = h
+
+  -- Of an ascending or descending list at most one.
+  key-ascending : {l : Level} (k : Str) (xs : List (PathElem × Value A l)) → Increasing elem-key xs → with-key k xs ≡ to-list (lookup elem-key k xs)
+  unfolding with-key lookup Same
+  key-ascending k [] i = refl
+  key-ascending k (x ∷ xs) i = go (same-view k (elem-key x)) (key-ascending k xs (i .1))
+    where
+      go : Same k (elem-key x) → with-key k xs ≡ to-list (lookup elem-key k xs) → with-key k (x ∷ xs) ≡ to-list (lookup elem-key k (x ∷ xs))
+      go (inl (t, e)) h = no-key k x xs (lookup-above elem-key k xs (rw e (i .0))) h
+      go (inr (f, _)) h = rw f h
+
+  pub key-descending : {l : Level} (k : Str) (xs : List (PathElem × Value A l)) → Decreasing elem-key xs → with-key k xs ≡ to-list (lookup elem-key k xs)
+  unfolding with-key lookup Same
+  key-descending k [] i = refl
+  key-descending k (x ∷ xs) i = go (same-view k (elem-key x)) (key-descending k xs (i .1))
+    where
+      go : Same k (elem-key x) → with-key k xs ≡ to-list (lookup elem-key k xs) → with-key k (x ∷ xs) ≡ to-list (lookup elem-key k (x ∷ xs))
+      go (inl (t, e)) h = no-key k x xs (lookup-below elem-key k xs (rw e (i .0))) h
+      go (inr (f, _)) h = rw f h
+
+  -- The first list with the key has the first row, and the last of the turned ones.
+  first-row : {l : Level} (k : Str) (ms : List (List Str × List (PrefixMatch × Value A l))) → Allˡ (Increasing elem-key) (map with-imports ms)
+      → first-lookup elem-key k (map with-imports ms) ≡ first-of (with-key k (flatMap with-imports ms))
+  unfolding first-lookup flatMap with-key first-of
+  first-row k [] i = refl
+  first-row k (m ∷ ms) i =
+      ap₂ or-else (sym (ap first-of (key-ascending k (with-imports m) (i .0)) ∙ ends-of (lookup elem-key k (with-imports m)) .0)) (first-row k ms (i .1))
+      ∙ sym (ap first-of (key-append k (with-imports m) (flatMap with-imports ms)) ∙ first-append (with-key k (with-imports m)) (with-key k (flatMap with-imports ms)))
+
+  last-row : {l : Level} (k : Str) (ms : List (List Str × List (PrefixMatch × Value A l))) → Allˡ (Increasing elem-key) (map with-imports ms)
+      → first-lookup elem-key k (map with-imports ms) ≡ last-of (with-key k (flatMap with-imports (reverse ms)))
+  unfolding first-lookup flatMap with-key last-of
+  last-row k [] i = refl
+  last-row k (m ∷ ms) i =
+      ap₂ or-else (sym (ap last-of (key-ascending k (with-imports m) (i .0)) ∙ ends-of (lookup elem-key k (with-imports m)) .1)) (last-row k ms (i .1))
+      ∙ sym (ap (λ l. last-of (with-key k l)) (ap (flatMap with-imports) (reverse-cons m ms) ∙ flatMap-append with-imports (reverse ms) (m ∷ []) ∙ ap (λ r. flatMap with-imports (reverse ms) ++ r) (append-nil (with-imports m)))
+      ∙ ap last-of (key-append k (flatMap with-imports (reverse ms)) (with-imports m)) ∙ last-append (with-key k (flatMap with-imports (reverse ms))) (with-key k (with-imports m)))
+
+  -- ---- what a search gives: descending, and at each key the last row or the first
   pub find-rev-decreasing : {l : Level} (n : NameList A l) (term : SearchTerm) → OrderedN n → Decreasing elem-key (names-find-rev n term)
   unfolding names-find-rev
   find-rev-decreasing n term o = merge-decreasing elem-key (map with-imports (matching-values n term)) (values-increasing term n o)
 
-  pub find-rev-at : {l : Level} (n : NameList A l) (term : SearchTerm) (k : Str) → OrderedN n
-      → valof (lookup elem-key k (names-find-rev n term)) ≡ gate (accepts term k) (last-holder (flatten n) k)
-  unfolding names-find-rev
+  pub find-rev-at : {l : Level} (n : NameList A l) (term : SearchTerm) (k : Str) → OrderedN n → lookup elem-key k (names-find-rev n term) ≡ last-of (rows-of n term k)
+  unfolding names-find-rev rows-of
   find-rev-at n term k o =
-      ap valof (merge-at elem-key (map with-imports (matching-values n term)) (values-increasing term n o) k) ∙ values-at term k n o
+      merge-at elem-key (map with-imports (matching-values n term)) (values-increasing term n o) k ∙ last-row k (matching-values n term) (values-increasing term n o)
+
+  pub turned-increasing : {l : Level} (term : SearchTerm) (n : NameList A l) → OrderedN n → Allˡ (Increasing elem-key) (map with-imports (reverse (matching-values n term)))
+  turned-increasing term n o =
+      rw (map-reverse with-imports (matching-values n term) []) (all-reverse (Increasing elem-key) (map with-imports (matching-values n term)) [] (values-increasing term n o) tt)
+
+  pub find-first-decreasing : {l : Level} (n : NameList A l) (term : SearchTerm) → OrderedN n → Decreasing elem-key (names-find-rev-first n term)
+  unfolding names-find-rev-first
+  find-first-decreasing n term o = merge-decreasing elem-key (map with-imports (reverse (matching-values n term))) (turned-increasing term n o)
+
+  pub find-first-at : {l : Level} (n : NameList A l) (term : SearchTerm) (k : Str) → OrderedN n → lookup elem-key k (names-find-rev-first n term) ≡ first-of (rows-of n term k)
+  unfolding names-find-rev-first rows-of
+  find-first-at n term k o =
+      merge-at elem-key (map with-imports (reverse (matching-values n term))) (turned-increasing term n o) k ∙ first-row k (reverse (matching-values n term)) (turned-increasing term n o)
+
+  -- ---- the row of a key in one tree
+  pub tree-row : {l : Level} (term : SearchTerm) (k : Str) (i : List Str) (bt : Tree A l) → Ordered bt
+      → map (λ x. x .1) (with-key k (with-imports (i, tree-matches term bt))) ≡ to-list (gate (accepts term k) (btree-find-exact bt k))
+  unfolding with-imports Shows
+  tree-row term k i bt o =
+      let m = tree-matches term bt in
+      let s = tree-shows term bt o in
+      ap (map (λ x. x .1)) (key-ascending k (with-imports (i, m)) (labelled-increasing i m (s .0))) ∙ map-to-list (lookup elem-key k (with-imports (i, m))) ∙ ap to-list (labelled-at i k m ∙ s .1 k)

@@ -2,9 +2,11 @@
 use Prim.Native.Nat.{ℕ, zero, suc, _<_, compare, Ordering, Ordering·lt, Ordering·eq, Ordering·gt, compare·zero-suc, compare·suc-zero, compare·suc-suc, suc-le-suc, zero-le}
 use mathlib.Core.Path.{_≡_, refl, sym, ap, _∙_}
 use mathlib.Core.Logic.{inl, inr}
+use mathlib.Core.Bool.{true}
 use mathlib.Core.List.{[], _∷_}
 use native.Mathlib.Omega.{arith}
-use Rattle.source.specs.Text.{Str, then, string-compare}
+use borrow.Author.Tests.{eq-eqb}
+use Rattle.source.specs.Text.{Str, then, string-compare, starts-with}
 use Rattle.source.specs.Rules.{_<ˢ_}
 
 -- numbers
@@ -68,3 +70,8 @@ compare-self s = go (string-compare s s) (compare-strings s s)
     go Ordering·lt v = absurd (<ˢ-irrefl s v)
     go Ordering·eq v = refl
     go Ordering·gt v = absurd (<ˢ-irrefl s v)
+
+pub starts-self : (s : Str) → starts-with s s ≡ true
+unfolding starts-with
+starts-self [] = refl
+starts-self (a ∷ s) = rw (eq-eqb a a refl) (starts-self s)

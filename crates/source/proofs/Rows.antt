@@ -1,7 +1,7 @@
 -- What the rows of names_find_rev are, whatever the order of the keys: branches of the list's trees.
 use Prim.Native.Nat.{ℕ, _≤_, _<_}
 use mathlib.Core.Bool.{Bool, true, false, cond, _||_}
-use mathlib.Core.List.{List, [], _∷_, map}
+use mathlib.Core.List.{List, [], _∷_, map, reverse, reverseAux}
 use mathlib.Core.Option.{Option, none, some}
 use native.Mathlib.Omega.{arith}
 use lib.Dec.{isLe}
@@ -9,7 +9,7 @@ use Rattle.source.specs.Text.{Str, string-compare, starts-with}
 use Rattle.source.specs.Types.{Level, Value, Tree, NameList, StrEmpty, StrBranch, []ᴺ, Names, ImportedNames}
 use Rattle.source.specs.Trees.{PrefixMatch, PathElem, find-prefix-onto, btree-find-prefix, btree-fold, btree-find-all}
 use Rattle.source.specs.Terms.{depth, depth-tree, depth-names}
-use Rattle.source.specs.Listing.{SearchTerm, NSTAll, NSTNone, NSTPrefix, revmap-onto, names-revmap, matching-values, with-imports, elem-key, names-find-rev}
+use Rattle.source.specs.Listing.{SearchTerm, NSTAll, NSTNone, NSTPrefix, revmap-onto, names-revmap, matching-values, with-imports, elem-key, names-find-rev, names-find-rev-first}
 use Rattle.source.specs.Shared.{Allˡ}
 use Rattle.source.proofs.Lists.{merge-all}
 
@@ -87,6 +87,16 @@ module _ {A : Type 0} {l : Level} (P : Str → Value A l → Type 0) where
   names-find-rev-all n term a =
       merge-all elem-key Row (map with-imports (matching-values n term)) (all-with-imports (matching-values n term) (matching-values-all n term a))
 
+  all-turned : (ms acc : List (List Str × List (PrefixMatch × Value A l))) → AllMatches ms → AllMatches acc → AllMatches (reverseAux ms acc)
+  all-turned [] acc a b = b
+  all-turned (m ∷ ms) acc a b = all-turned ms (m ∷ acc) (a .1) (a .0, b)
+
+  pub names-find-first-all : (n : NameList A l) (term : SearchTerm) → AllNamed n → Allˡ Row (names-find-rev-first n term)
+  unfolding names-find-rev-first
+  names-find-first-all n term a =
+      merge-all elem-key Row (map with-imports (reverse (matching-values n term)))
+      (all-with-imports (reverse (matching-values n term)) (all-turned (matching-values n term) [] (matching-values-all n term a) tt))
+
 -- ---- Depth
 module _ {A : Type 0} {l : Level} (d : ℕ) where
   abbrev Shallow : Str → Value A l → Type 0
@@ -104,5 +114,9 @@ module _ {A : Type 0} {l : Level} (d : ℕ) where
   names-shallow (ImportedNames label inner tl) h = (names-shallow inner (omega arith), names-shallow tl (omega arith))
 
 -- Each row's value has less depth than the list.
-pub names-find-rev-depth : {A : Type 0} {l : Level} (n : NameList A l) (term : SearchTerm) → Allˡ (λ x. depth (x .1) < depth-names n) (names-find-rev n term)
-names-find-rev-depth n term = names-find-rev-all (λ k v. depth v < depth-names n) n term (names-shallow (depth-names n) n (omega arith))
+module _ {A : Type 0} {l : Level} (n : NameList A l) (term : SearchTerm) where
+  pub names-find-rev-depth : Allˡ (λ x. depth (x .1) < depth-names n) (names-find-rev n term)
+  names-find-rev-depth = names-find-rev-all (λ k v. depth v < depth-names n) n term (names-shallow (depth-names n) n (omega arith))
+
+  pub names-find-first-depth : Allˡ (λ x. depth (x .1) < depth-names n) (names-find-rev-first n term)
+  names-find-first-depth = names-find-first-all (λ k v. depth v < depth-names n) n term (names-shallow (depth-names n) n (omega arith))

@@ -6,9 +6,8 @@ use mathlib.Core.Bool.{Bool, true, false}
 use mathlib.Core.List.{List, [], _∷_, _++_, nil≢cons, tail-eq-of-cons-eq}
 use mathlib.Core.Option.{none, some}
 use Rattle.source.specs.Text.{Str, Query, query-to-string, segments}
-use Rattle.source.specs.Types.{Trie, bind, item, trie, []ᴺ, ImportedNames, bindings, namespaces}
+use Rattle.source.specs.Types.{Trie, item, trie, []ᴺ, ImportedNames, bindings, namespaces}
 use Rattle.source.specs.Tries.{names-insert, trie-find-exact, trie-insert, included, trie-import, trie-include, trie-open-namespace, trie-add-alias}
-use Rattle.source.specs.Terms.{walk-last}
 use Rattle.source.specs.Table.{Table, Line, insert, register-alias, register-include, register-open, register-module-stays-loaded}
 use Rattle.source.specs.Rules.{SoundTable}
 use Rattle.source.specs.Calls.{State, Lent, Call, name, include, opens, alias, module-path, accepted, register, registered, after, look-up, lowest, argument-rows, a-look-up, Found, found-of, refused, Output, listed, complete}
@@ -16,7 +15,7 @@ use Rattle.source.specs.Agreement.{Covers, without-last, NotRefused, lin
 use Rattle.source.specs.Plans.{host-of}
 use Rattle.source.specs.declared.LidSymbol.{LidSymbol}
 use Rattle.source.specs.declared.KindFilter.the-variants.{Every}
-use Rattle.source.proofs.Elsewhere.{Pick, Picks, walk, first-pick, last-pick, first-picks, last-picks, first-walk, last-walk, leaf-elsewhere}
+use Rattle.source.proofs.Elsewhere.{names-find-other, leaf-elsewhere}
 use Rattle.source.proofs.Refusals.{accepted-is}
 use Rattle.source.proofs.Keeps.{accepted-sound}
 use Rattle.source.proofs.Agreement.{agreement}
@@ -30,65 +29,58 @@ Touches (opens false host q) n = (x : Str) × (y : Str) × (r : Query) × (n ≡
 Touches (alias key host q) n = (y : Str) × (r : Query) × (n ≡ segments host ++ (key ∷ (y ∷ r)))
 Touches (module-path loaded query path) n = ⊥
 
-module _ {A : Type 0} (pick : Pick A) (laws : Picks pick) where
-  name-walk : (tr : Trie A) (host : Query) (id : Str) (v : A) (n : Query) → (n ≡ host ++ (id ∷ []) → ⊥) → walk pick (trie-insert tr host id v) n ≡ walk pick tr n
-  unfolding trie-insert walk bindings namespaces
-  name-walk tr host id v n d = leaf-elsewhere pick laws _ tr host n (λ rest e. go (host-of tr host) rest (λ f. d (e ∙ ap (λ r. host ++ r) f)))
+module _ {A : Type 0} where
+  name-walk : (tr : Trie A) (host : Query) (id : Str) (v : A) (n : Query) → (n ≡ host ++ (id ∷ []) → ⊥) → trie-find-exact (trie-insert tr host id v) n ≡ trie-find-exact tr n
+  unfolding trie-insert trie-find-exact bindings namespaces
+  name-walk tr host id v n d = leaf-elsewhere _ tr host n (λ rest e. go (host-of tr host) rest (λ f. d (e ∙ ap (λ r. host ++ r) f)))
     where
       go : (at : Trie A) (rest : Query) → (rest ≡ id ∷ [] → ⊥)
-          → walk pick (trie (names-insert (bindings at) id (item v)) (namespaces at)) rest ≡ walk pick at rest
+          → trie-find-exact (trie (names-insert (bindings at) id (item v)) (namespaces at)) rest ≡ trie-find-exact at rest
       go at [] d = refl
-      go at (x ∷ []) d = laws .other bind (bindings at) id x (item v) (λ e. d (cc))
+      go at (x ∷ []) d = names-find-other (bindings at) id x (item v) (λ e. d (cc))
       go at (x ∷ (y ∷ r)) d = refl
 
-  include-walk : (tr : Trie A) (host q n : Query) → ((x : Str) → n ≡ host ++ (x ∷ []) → ⊥) → walk pick (trie-include tr host q) n ≡ walk pick tr n
-  unfolding trie-include trie-import walk bindings namespaces
-  include-walk tr host q n d = leaf-elsewhere pick laws _ tr host n (λ rest e. go (host-of tr host) rest (λ x f. d x (e ∙ ap (λ r. host ++ r) f)))
+  include-walk : (tr : Trie A) (host q n : Query) → ((x : Str) → n ≡ host ++ (x ∷ []) → ⊥) → trie-find-exact (trie-include tr host q) n ≡ trie-find-exact tr n
+  unfolding trie-include trie-import trie-find-exact bindings namespaces
+  include-walk tr host q n d = leaf-elsewhere _ tr host n (λ rest e. go (host-of tr host) rest (λ x f. d x (e ∙ ap (λ r. host ++ r) f)))
     where
       go : (at : Trie A) (rest : Query) → ((x : Str) → rest ≡ x ∷ [] → ⊥)
-          → walk pick (trie (ImportedNames (query-to-string q) (bindings (included tr q)) (bindings at)) (namespaces at)) rest ≡ walk pick at rest
+          → trie-find-exact (trie (ImportedNames (query-to-string q) (bindings (included tr q)) (bindings at)) (namespaces at)) rest ≡ trie-find-exact at rest
       go at [] d = refl
       go at (x ∷ []) d = absurd (d x refl)
       go at (x ∷ (y ∷ r)) d = refl
 
-  open-walk : (tr : Trie A) (host q n : Query) → ((x y : Str) (r : Query) → n ≡ host ++ (x ∷ (y ∷ r)) → ⊥) → walk pick (trie-open-namespace tr host q) n ≡ walk pick tr n
-  unfolding trie-open-namespace trie-import walk bindings namespaces
-  open-walk tr host q n d = leaf-elsewhere pick laws _ tr host n (λ rest e. go (host-of tr host) rest (λ x y r f. d x y r (e ∙ ap (λ r. host ++ r) f)))
+  open-walk : (tr : Trie A) (host q n : Query) → ((x y : Str) (r : Query) → n ≡ host ++ (x ∷ (y ∷ r)) → ⊥) → trie-find-exact (trie-open-namespace tr host q) n ≡ trie-find-exact tr n
+  unfolding trie-open-namespace trie-import trie-find-exact bindings namespaces
+  open-walk tr host q n d = leaf-elsewhere _ tr host n (λ rest e. go (host-of tr host) rest (λ x y r f. d x y r (e ∙ ap (λ r. host ++ r) f)))
     where
       go : (at : Trie A) (rest : Query) → ((x y : Str) (r : Query) → rest ≡ x ∷ (y ∷ r) → ⊥)
-          → walk pick (trie (bindings at) (ImportedNames (query-to-string q) (namespaces (included tr q)) (namespaces at))) rest ≡ walk pick at rest
+          → trie-find-exact (trie (bindings at) (ImportedNames (query-to-string q) (namespaces (included tr q)) (namespaces at))) rest ≡ trie-find-exact at rest
       go at [] d = refl
       go at (x ∷ []) d = refl
       go at (x ∷ (y ∷ r)) d = absurd (d x y r refl)
 
-  alias-walk : (tr : Trie A) (key : Str) (host q n : Query) → ((y : Str) (r : Query) → n ≡ host ++ (key ∷ (y ∷ r)) → ⊥) → walk pick (trie-add-alias tr key host q) n ≡ walk pick tr n
-  unfolding trie-add-alias trie-import walk
+  alias-walk : (tr : Trie A) (key : Str) (host q n : Query) → ((y : Str) (r : Query) → n ≡ host ++ (key ∷ (y ∷ r)) → ⊥) → trie-find-exact (trie-add-alias tr key host q) n ≡ trie-find-exact tr n
+  unfolding trie-add-alias trie-import trie-find-exact
   alias-walk tr key host q n d =
-      leaf-elsewhere pick laws _ tr host n (λ rest e. leaf-elsewhere pick laws (λ _. put) (host-of tr host) (key ∷ []) rest (λ r f. go rest r e f))
+      leaf-elsewhere _ tr host n (λ rest e. leaf-elsewhere (λ _. put) (host-of tr host) (key ∷ []) rest (λ r f. go rest r e f))
     where
       put : Trie A
       put = trie (ImportedNames (query-to-string q) (bindings (included tr q)) []ᴺ) []ᴺ
 
-      go : (rest r : Query) → n ≡ host ++ rest → rest ≡ (key ∷ []) ++ r → walk pick put r ≡ walk pick (host-of (host-of tr host) (key ∷ [])) r
+      go : (rest r : Query) → n ≡ host ++ rest → rest ≡ (key ∷ []) ++ r → trie-find-exact put r ≡ trie-find-exact (host-of (host-of tr host) (key ∷ [])) r
       go rest [] e f = refl
       go rest (y ∷ r) e f = absurd (d y r (e ∙ ap (λ r. host ++ r) f))
 
-module _ (pick : Pick LidSymbol) (laws : Picks pick) where
-  registered-walk : (tbl : Table) (c : Call) (n : Query) → (Touches c n → ⊥) → walk pick (registered tbl c .tbl-lids) n ≡ walk pick (tbl .tbl-lids) n
-  unfolding registered insert register-include register-open register-alias register-module-stays-loaded
-  registered-walk tbl (name host id number) n d = name-walk pick laws (tbl .tbl-lids) (segments host) id number n d
-  registered-walk tbl (include host q) n d = include-walk pick laws (tbl .tbl-lids) (segments host) (segments q) n (λ x e. d (x, e))
-  registered-walk tbl (opens true host q) n d = include-walk pick laws (tbl .tbl-lids) (segments host) (segments q) n (λ x e. d (x, e))
-  registered-walk tbl (opens false host q) n d = open-walk pick laws (tbl .tbl-lids) (segments host) (segments q) n (λ x y r e. d (x, y, r, e))
-  registered-walk tbl (alias key host q) n d = alias-walk pick laws (tbl .tbl-lids) key (segments host) (segments q) n (λ y r e. d (y, r, e))
-  registered-walk tbl (module-path loaded query path) n d = refl
-
--- The two walks for a name that the call does not touch.
+-- Look-up of a name that the call does not touch.
 pub find-unchanged : (tbl : Table) (c : Call) (n : Query) → (Touches c n → ⊥) → trie-find-exact (registered tbl c .tbl-lids) n ≡ trie-find-exact (tbl .tbl-lids) n
-find-unchanged tbl c n d = first-walk _ n ∙ registered-walk first-pick first-picks tbl c n d ∙ sym (first-walk _ n)
-
-pub last-unchanged : (tbl : Table) (c : Call) (n : Query) → (Touches c n → ⊥) → walk-last (registered tbl c .tbl-lids) n ≡ walk-last (tbl .tbl-lids) n
-last-unchanged tbl c n d = last-walk _ n ∙ registered-walk last-pick last-picks tbl c n d ∙ sym (last-walk _ n)
+unfolding registered insert register-include register-open register-alias register-module-stays-loaded
+find-unchanged tbl (name host id number) n d = name-walk (tbl .tbl-lids) (segments host) id number n d
+find-unchanged tbl (include host q) n d = include-walk (tbl .tbl-lids) (segments host) (segments q) n (λ x e. d (x, e))
+find-unchanged tbl (opens true host q) n d = include-walk (tbl .tbl-lids) (segments host) (segments q) n (λ x e. d (x, e))
+find-unchanged tbl (opens false host q) n d = open-walk (tbl .tbl-lids) (segments host) (segments q) n (λ x y r e. d (x, y, r, e))
+find-unchanged tbl (alias key host q) n d = alias-walk (tbl .tbl-lids) key (segments host) (segments q) n (λ y r e. d (y, r, e))
+find-unchanged tbl (module-path loaded query path) n d = refl
 
 -- ---- the calls
 module _ (sound : Bool) (lent : Lent) (s s′ : State) (c : Call) (e : register sound lent s c ≡ accepted s′) (query : Str) (d : Touches c (segments query) → ⊥) where
@@ -100,19 +92,15 @@ module _ (sound : Bool) (lent : Lent) (s s′ : State) (c : Call) (e : register 
       ∙ ap (λ o. elim (lowest (argument-rows true (a-look-up query ∷ []))) as (λ _. Found LidSymbol) [ none ↦ found-of o | some n ↦ refused n ])
       (find-unchanged (s .table) c (segments query) d)
 
-  same-walk : walk-last (s′ .table .tbl-lids) (segments query) ≡ walk-last (s .table .tbl-lids) (segments query)
-  unfolding after
-  same-walk = ap (λ t. walk-last (t .table .tbl-lids) (segments query)) (accepted-is sound lent s s′ c e) ∙ last-unchanged (s .table) c (segments query) d
-
-  -- Nor does it change the lines of other names: completions before and after, of one query that covers the name, both show it with the same item, or neither does.
+  -- Nor does it change the lines of other names: completions before and after, of one query that covers the name, both show what look-up finds.
   pub lines-unchanged : SoundTable (s .table) → NotRefused (look-up true (s .table .tbl-lids) query)
       → (typed : Str) → Covers (segments typed) (segments query) → (budget budget′ : ℕ) (out out′ : Output) (lines lines′ : List (Line LidSymbol)) (entered entered′ : ℕ)
       → complete true (s .table) Every budget out typed ≡ listed lines entered → complete true (s′ .table) Every budget′ out′ typed ≡ listed lines′ entered′
-      → (w : Found LidSymbol) × Shows (lines-of-text (without-last query) lines) w × Shows (lines-of-text (without-last query) lines′) w
+      → Shows (lines-of-text (without-last query) lines) (look-up true (s .table .tbl-lids) query)
+      × Shows (lines-of-text (without-last query) lines′) (look-up true (s .table .tbl-lids) query)
   lines-unchanged t asked typed covers budget budget′ out out′ lines lines′ entered entered′ f f′ = (
-    found-of (walk-last (s .table .tbl-lids) (segments query)),
-    agreement .names (s .table) t query typed budget out lines entered asked f covers .pane,
-    rw same-walk at (agreement .names (s′ .table) (accepted-sound sound lent s s′ c t e) query typed budget′ out′ lines′ entered′ (rw look-up-unchanged asked) f′ covers .pane),
+    agreement .names (s .table) t query typed budget out lines entered asked f covers,
+    rw look-up-unchanged at (agreement .names (s′ .table) (accepted-sound sound lent s s′ c t e) query typed budget′ out′ lines′ entered′ (rw look-up-unchanged asked) f′ covers),
   )
 
 -- An accepted name changes no look-up on the names root but that of its own full name.
@@ -163,7 +151,8 @@ pub record Copied (s s′ : State) (query : Str) : Type 0 where
   pub shown : SoundTable (s .table) → NotRefused (look-up true (s .table .tbl-lids) query)
       → (typed : Str) → Covers (segments typed) (segments query) → (budget budget′ : ℕ) (out out′ : Output) (lines lines′ : List (Line LidSymbol)) (entered entered′ : ℕ)
       → complete true (s .table) Every budget out typed ≡ listed lines entered → complete true (s′ .table) Every budget′ out′ typed ≡ listed lines′ entered′
-      → (w : Found LidSymbol) × Shows (lines-of-text (without-last query) lines) w × Shows (lines-of-text (without-last query) lines′) w
+      → Shows (lines-of-text (without-last query) lines) (look-up true (s .table .tbl-lids) query)
+      × Shows (lines-of-text (without-last query) lines′) (look-up true (s .table .tbl-lids) query)
 
 -- An include copies the names as they are at that moment: no later registration apart from the including host, in the included module or elsewhere, changes a name right there.
 -- For every registration at another host it would be false: after `include [Live.] [Saved.]`, `open n [] [Lib.]` makes `Live.` lead to `Lib.Live.` (`shadowed` in Cases).

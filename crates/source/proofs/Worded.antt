@@ -1,4 +1,4 @@
--- The conditions of demand 3 are as worded: refused by no number, and covered segment by segment.
+-- The conditions of demand 3 are as worded: refused by no number, covered segment by segment; a name covers itself.
 use Prim.Native.Nat.{ℕ, zero, suc, _≤_, _<_}
 use mathlib.Core.Path.{_≡_, refl}
 use mathlib.Core.Logic.{_↔_}
@@ -9,6 +9,7 @@ use lib.ListN.{length, getD}
 use Rattle.source.specs.Text.{Query, starts-with}
 use Rattle.source.specs.Calls.{Found, found, not-found, refused}
 use Rattle.source.specs.Agreement.{Covers, NotRefused}
+use Rattle.source.proofs.Order.{starts-self}
 
 pub not-refused-exactly : {A : Type 0} (f : Found A) → NotRefused f ↔ ((n : ℕ) → f ≡ refused n → ⊥)
 not-refused-exactly (found a) = (λ _ n e. let z : _≡_ {A = ℕ} 0 1 = cc in absurd (omega arith), λ _. tt)
@@ -34,3 +35,7 @@ covers-exactly (p ∷ query) (s ∷ name) = go (covers-exactly query name)
       λ h. let r = e .0 (h .1) in (omega (arith, r .0), at (h .0) (r .1)),
       λ h. (h .1 0 (omega arith), e .1 (omega (arith, h .0), λ i l. h .1 (suc i) (omega arith))),
     )
+
+pub covers-itself : (q : Query) → Covers q q
+covers-itself [] = tt
+covers-itself (s ∷ q) = (starts-self s, covers-itself q)

@@ -1,18 +1,14 @@
--- Demand 3: what the pane lists and what look-up takes.
-use Prim.Native.Nat.{ℕ, _-_, _≤_}
+-- Demand 3: the pane lists what look-up takes.
+use Prim.Native.Nat.{ℕ, _-_}
 use mathlib.Core.Path.{_≡_}
-use mathlib.Core.Logic.{_↔_}
 use mathlib.Core.Bool.{true, false}
 use mathlib.Core.List.{List, [], _∷_}
-use mathlib.Core.Option.{some}
 use lib.Dec.{isEq}
 use lib.ListN.{length, take}
 use Rattle.source.specs.Text.{Str, Query, string-compare, starts-with, segments}
-use Rattle.source.specs.Types.{Trie, bindings, namespaces}
-use Rattle.source.specs.Terms.{flatten, holders, first-of, walk-first, walk-last}
 use Rattle.source.specs.Table.{Table, ModSymbol, Line}
 use Rattle.source.specs.Rules.{SoundTable}
-use Rattle.source.specs.Calls.{Found, found, not-found, refused, found-of, look-up, listed, Output, All, complete, complete-modules}
+use Rattle.source.specs.Calls.{Found, found, not-found, refused, look-up, listed, Output, All, complete, complete-modules}
 use Rattle.source.specs.declared.LidSymbol.{LidSymbol}
 use Rattle.source.specs.declared.KindFilter.the-variants.{Every}
 
@@ -43,26 +39,19 @@ module _ {A : Type 0} where
   Shows ls not-found = ls ≡ []
   Shows ls (refused n) = ⊥
 
-  -- No step of the walk by first holders meets more than one holder.
-  abbrev pub OneHolder : Trie A → Query → Type 0
-  OneHolder tr [] = Unit {0}
-  OneHolder tr (s ∷ []) = length (holders (flatten (bindings tr)) s) ≤ 1
-  OneHolder tr (s ∷ (t ∷ q)) =
-      (length (holders (flatten (namespaces tr)) s) ≤ 1)
-      × ((scope : Trie A) → first-of (holders (flatten (namespaces tr)) s) ≡ some scope → OneHolder scope (t ∷ q))
-
-  -- What holds of a root, a full name and the lines of a completion that covers it.
-  pub record Agreement (root : Trie A) (name : Str) (lines : List (Line A)) : Type 0 where
-    pub pane : Shows (lines-of-text (without-last name) lines) (found-of (walk-last root (segments name)))
-    pub enter : look-up true root name ≡ found-of (walk-first root (segments name))
-    pub agree : Shows (lines-of-text (without-last name) lines) (look-up true root name) ↔ (walk-first root (segments name) ≡ walk-last root (segments name))
-    pub one-holder : OneHolder root (segments name) → Shows (lines-of-text (without-last name) lines) (look-up true root name)
-
--- On either root of every sound table, for every full name that look-up does not refuse and every completion, of all kinds or unfiltered and not refused, that covers it.
+-- On either root of every sound table.
 pub record Demand3 : Type 0 where
+  -- The lines with the text of a full name show what look-up finds: where it is not refused, in every completion, of all kinds or unfiltered and not refused, that covers the name.
   pub names : (tbl : Table) → SoundTable tbl → (name query : Str) (budget : ℕ) (out : Output) (lines : List (Line LidSymbol)) (entered : ℕ)
       → NotRefused (look-up true (tbl .tbl-lids) name) → complete true tbl Every budget out query ≡ listed lines entered → Covers (segments query) (segments name)
-      → Agreement (tbl .tbl-lids) name lines
+      → Shows (lines-of-text (without-last name) lines) (look-up true (tbl .tbl-lids) name)
   pub modules : (tbl : Table) → SoundTable tbl → (name query : Str) (budget : ℕ) (out : Output) (lines : List (Line ModSymbol)) (entered : ℕ)
       → NotRefused (look-up true (tbl .tbl-mods) name) → complete-modules true tbl All budget out query ≡ listed lines entered → Covers (segments query) (segments name)
-      → Agreement (tbl .tbl-mods) name lines
+      → Shows (lines-of-text (without-last name) lines) (look-up true (tbl .tbl-mods) name)
+  -- A name that look-up finds is listed where it is asked for in full.
+  pub names-in-full : (tbl : Table) → SoundTable tbl → (name : Str) (budget : ℕ) (out : Output) (lines : List (Line LidSymbol)) (entered : ℕ) (c : LidSymbol)
+      → look-up true (tbl .tbl-lids) name ≡ found c → complete true tbl Every budget out name ≡ listed lines entered
+      → Shows (lines-of-text (without-last name) lines) (found c)
+  pub modules-in-full : (tbl : Table) → SoundTable tbl → (name : Str) (budget : ℕ) (out : Output) (lines : List (Line ModSymbol)) (entered : ℕ) (m : ModSymbol)
+      → look-up true (tbl .tbl-mods) name ≡ found m → complete-modules true tbl All budget out name ≡ listed lines entered
+      → Shows (lines-of-text (without-last name) lines) (found m)

@@ -11,9 +11,9 @@ use Rattle.source.specs.Text.{Str, Query, common-prefix, string-length, 
 use Rattle.source.specs.Types.{Value, Trie, bind, the-item}
 use Rattle.source.specs.Tries.{trie-find-exact}
 use Rattle.source.specs.Terms.{heaviest, depth}
-use Rattle.source.specs.Listing.{fold-left}
-use Rattle.source.specs.Table.{Table, ModSymbol, Module, Namespace, Line, empty, insert, register-alias, register-include, register-open, register-module-stays-loaded, autocomplete-lid, autocomplete-mod-or-ns}
-use Rattle.source.specs.Counted.{insertᶜ, register-aliasᶜ, register-includeᶜ, register-openᶜ, register-module-pathᶜ, trie-find-prefixᶜ}
+use Rattle.source.specs.Listing.{fold-left, by-first}
+use Rattle.source.specs.Table.{Table, ModSymbol, Module, Namespace, Line, empty, insert, register-alias, register-include, register-open, register-module-stays-loaded, autocomplete-lid-first, autocomplete-mod-or-ns-first}
+use Rattle.source.specs.Counted.{insertᶜ, register-aliasᶜ, register-includeᶜ, register-openᶜ, register-module-pathᶜ, trie-find-prefix′ᶜ}
 use Rattle.source.specs.Rules.{all}
 use Rattle.source.specs.Items.{same-kind}
 use Rattle.source.specs.declared.ItemKind.the-variants.{Timer, Port, Register}
@@ -265,7 +265,7 @@ module _ {A : Type 0} where
 
 -- Tries entered: the calls of trie_find_prefix'.
 unfoldable pub tries-entered : {A : Type 0} → Trie A → Query → ℕ
-tries-entered root query = trie-find-prefixᶜ root query .count
+tries-entered root query = trie-find-prefix′ᶜ by-first root [] query [] .count
 
 -- What a completion keeps: the lines whose item passes, in order and as they are.
 unfoldable pub kept : {A : Type 0} → (A → Bool) → List (Line A) → List (Line A)
@@ -295,11 +295,11 @@ keeps NamespacesOnly (Namespace n loaded) = true
 -- What a completion hands back: of names, of modules.
 unfoldable pub complete : (sound : Bool) → Table → KindFilter → (budget : ℕ) → Output → Str → Completed LidSymbol
 complete sound tbl f budget out query =
-    completed sound budget out query (kept (keeps-kind f) (autocomplete-lid tbl (segments query))) (tries-entered (tbl .tbl-lids) (segments query))
+    completed sound budget out query (kept (keeps-kind f) (autocomplete-lid-first tbl (segments query))) (tries-entered (tbl .tbl-lids) (segments query))
 
 unfoldable pub complete-modules : (sound : Bool) → Table → Filter → (budget : ℕ) → Output → Str → Completed ModSymbol
 complete-modules sound tbl f budget out query =
-    completed sound budget out query (kept (keeps f) (autocomplete-mod-or-ns tbl (segments query) some)) (tries-entered (tbl .tbl-mods) (segments query))
+    completed sound budget out query (kept (keeps f) (autocomplete-mod-or-ns-first tbl (segments query) some)) (tries-entered (tbl .tbl-mods) (segments query))
 
 -- ---- What all lines agree on
 

@@ -7,7 +7,7 @@ use Rattle.source.specs.Text.{Str, Query, string-compare, query-to-strin
 use Rattle.source.specs.Types.{Level, Value, Trie, Tree, NameList, bind, ns, item, trie, StrEmpty, StrBranch, []ᴺ, Names, ImportedNames, the-item, bindings, namespaces}
 use Rattle.source.specs.Tries.{names-find-exact, scope-of, included}
 use Rattle.source.specs.Terms.{depth}
-use Rattle.source.specs.Listing.{PathOf, rev-map-onto, ns-search-term, bindings-search-term, names-find-rev}
+use Rattle.source.specs.Listing.{PathOf, Finder, rev-map-onto, ns-search-term, bindings-search-term}
 use Rattle.source.specs.Table.{Table, ModSymbol, Module, Namespace, ns-inserts, name-of-revq, loaded-module}
 use Rattle.source.specs.declared.LidSymbol.{LidSymbol}
 
@@ -162,13 +162,13 @@ fold-leftᶜ f b (a ∷ l) = do
   b ← f b a
   fold-leftᶜ f b l
 
-module _ {A : Type 0} where
+module _ {A : Type 0} (find : Finder A) where
   unfoldable pub find-prefix-fuelᶜ : ℕ → Trie A → PathOf → Query → List (PathOf × A) → Counted (List (PathOf × A))
   find-prefix-fuelᶜ zero tr path-acc q acc = pure acc
   find-prefix-fuelᶜ (suc n) tr path-acc q acc = do
     acc ← fold-leftᶜ (λ acc x. find-prefix-fuelᶜ n (x .1) (x .0 ∷ path-acc) (tail q) acc) acc
-        (names-find-rev (namespaces tr) (ns-search-term q))
-    one (rev-map-onto (λ x. (reverse (x .0 ∷ path-acc), the-item (x .1))) (names-find-rev (bindings tr) (bindings-search-term q)) acc)
+        (find ns (namespaces tr) (ns-search-term q))
+    one (rev-map-onto (λ x. (reverse (x .0 ∷ path-acc), the-item (x .1))) (find bind (bindings tr) (bindings-search-term q)) acc)
 
-  unfoldable pub trie-find-prefixᶜ : Trie A → Query → Counted (List (PathOf × A))
-  trie-find-prefixᶜ tr q = find-prefix-fuelᶜ (suc (depth tr)) tr [] q []
+  unfoldable pub trie-find-prefix′ᶜ : Trie A → PathOf → Query → List (PathOf × A) → Counted (List (PathOf × A))
+  trie-find-prefix′ᶜ tr path-acc q acc = find-prefix-fuelᶜ (suc (depth tr)) tr path-acc q acc

@@ -9,7 +9,7 @@ use Rattle.source.specs.Heap.{Heap, Forest, EmptyHeap, HeapOf, []ᶠ, _�
 use Rattle.source.specs.Lists.{Run, run, first, run-cmp, put-back}
 use Rattle.source.specs.Types.{Level, Value, Tree, NameList, Trie, bind, []ᴺ, Names, ImportedNames, the-item, bindings, namespaces}
 use Rattle.source.specs.Trees.{PrefixMatch, PathElem, btree-find-all, btree-find-prefix}
-use Rattle.source.specs.Listing.{PathOf, SearchTerm, NSTAll, NSTNone, NSTPrefix, ns-search-term, bindings-search-term, names-find-rev}
+use Rattle.source.specs.Listing.{PathOf, SearchTerm, NSTAll, NSTNone, NSTPrefix, ns-search-term, bindings-search-term, names-find-rev-first}
 use Rattle.source.specs.Table.{Line}
 use Rattle.source.specs.Shared.{same, sumˡ}
 
@@ -88,9 +88,9 @@ module _ {A : Type 0} {l : Level} where
   abbrev pub flat : NameList A l → List (List Str × Tree A l)
   flat n = flat-in [] n
 
-  -- What is found, ascending.
+  -- What is found, ascending: of each key the row of its first holder.
   unfoldable pub found : NameList A l → SearchTerm → List (PathElem × Value A l)
-  found n term = reverse (names-find-rev n term)
+  found n term = reverse (names-find-rev-first n term)
 
 -- ---- Lines
 
@@ -118,7 +118,7 @@ module _ {A : Type 0} where
   -- The tries entered from a trie: itself, and those entered from each row of its namespaces.
   unfoldable pub entered : ℕ → Trie A → Query → ℕ
   entered zero tr q = 0
-  entered (suc n) tr q = suc (sumˡ (λ x. entered n (x .1) (tail q)) (names-find-rev (namespaces tr) (ns-search-term q)))
+  entered (suc n) tr q = suc (sumˡ (λ x. entered n (x .1) (tail q)) (names-find-rev-first (namespaces tr) (ns-search-term q)))
 
   -- The line of a path and its item, none where the item does not pass.
   unfoldable pub kept-line : (PathOf × A → Line A) → (A → Bool) → PathOf × A → List (Line A)

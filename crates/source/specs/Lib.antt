@@ -18,3 +18,4 @@ pub mod Calls
 pub mod Queries
 pub mod Plans
 pub mod Agreement
+pub mod Departs

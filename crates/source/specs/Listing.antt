@@ -1,9 +1,9 @@
--- Listing, as in the source: names_revmap to trie_find_prefix.
+-- Listing, as in the source: names_revmap to trie_find_prefix; and what departs from it.
 use Prim.Native.Nat.{ℕ, zero, suc}
 use mathlib.Core.List.{List, [], _∷_, map, reverse, tail}
 use mathlib.Core.Option.{none, some}
 use Rattle.source.specs.Text.{Str, Query}
-use Rattle.source.specs.Types.{Level, Value, Trie, Tree, NameList, []ᴺ, Names, ImportedNames, the-item, bindings, namespaces}
+use Rattle.source.specs.Types.{Level, Value, Trie, Tree, NameList, bind, ns, []ᴺ, Names, ImportedNames, the-item, bindings, namespaces}
 use Rattle.source.specs.Trees.{PrefixMatch, PathElem, btree-find-all, btree-find-prefix}
 use Rattle.source.specs.Lists.{merge-increasing-lists-rev}
 use Rattle.source.specs.Terms.{depth}
@@ -65,16 +65,36 @@ module _ {A : Type 0} where
   unfoldable pub names-find-rev : {l : Level} → NameList A l → SearchTerm → List (PathElem × Value A l)
   names-find-rev n id = merge-increasing-lists-rev elem-key (map with-imports (matching-values n id))
 
-  -- trie_find_prefix'. Each call goes one trie deeper, so the depth is fuel enough: proofs/Fuel.antt.
-  unfoldable pub find-prefix-fuel : ℕ → Trie A → PathOf → Query → List (PathOf × A) → List (PathOf × A)
-  find-prefix-fuel zero tr path-acc q acc = acc
-  find-prefix-fuel (suc n) tr path-acc q acc =
-      rev-map-onto (λ x. (reverse (x .0 ∷ path-acc), the-item (x .1))) (names-find-rev (bindings tr) (bindings-search-term q))
-      (fold-left (λ acc x. find-prefix-fuel n (x .1) (x .0 ∷ path-acc) (tail q) acc) acc
-      (names-find-rev (namespaces tr) (ns-search-term q)))
+  -- Departs from the source: the lists go to the merge in flattened order, so that of equal keys the first holder is kept.
+  unfoldable pub names-find-rev-first : {l : Level} → NameList A l → SearchTerm → List (PathElem × Value A l)
+  names-find-rev-first n id = merge-increasing-lists-rev elem-key (map with-imports (reverse (matching-values n id)))
 
-  unfoldable pub trie-find-prefix′ : Trie A → PathOf → Query → List (PathOf × A) → List (PathOf × A)
-  trie-find-prefix′ tr path-acc q acc = find-prefix-fuel (suc (depth tr)) tr path-acc q acc
+-- How the rows of a list are found: by names_find_rev, or by what departs from it.
+abbrev pub Finder : Type 0 → Type 0
+Finder A = (l : Level) → NameList A l → SearchTerm → List (PathElem × Value A l)
+
+module _ {A : Type 0} where
+  module _ (find : Finder A) where
+    -- trie_find_prefix'. Each call goes one trie deeper, so the depth is fuel enough: proofs/Fuel.antt.
+    unfoldable pub find-prefix-fuel : ℕ → Trie A → PathOf → Query → List (PathOf × A) → List (PathOf × A)
+    find-prefix-fuel zero tr path-acc q acc = acc
+    find-prefix-fuel (suc n) tr path-acc q acc =
+        rev-map-onto (λ x. (reverse (x .0 ∷ path-acc), the-item (x .1))) (find bind (bindings tr) (bindings-search-term q))
+        (fold-left (λ acc x. find-prefix-fuel n (x .1) (x .0 ∷ path-acc) (tail q) acc) acc
+        (find ns (namespaces tr) (ns-search-term q)))
+
+    unfoldable pub trie-find-prefix′ : Trie A → PathOf → Query → List (PathOf × A) → List (PathOf × A)
+    trie-find-prefix′ tr path-acc q acc = find-prefix-fuel (suc (depth tr)) tr path-acc q acc
+
+  abbrev pub of-source : Finder A
+  of-source l n id = names-find-rev n id
+
+  abbrev pub by-first : Finder A
+  by-first l n id = names-find-rev-first n id
 
   unfoldable pub trie-find-prefix : Trie A → Query → List (PathOf × A)
-  trie-find-prefix tr q = trie-find-prefix′ tr [] q []
+  trie-find-prefix tr q = trie-find-prefix′ of-source tr [] q []
+
+  -- Departs from the source, as names-find-rev-first does.
+  unfoldable pub trie-find-prefix-first : Trie A → Query → List (PathOf × A)
+  trie-find-prefix-first tr q = trie-find-prefix′ by-first tr [] q []

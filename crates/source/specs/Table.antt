@@ -8,7 +8,7 @@ use Rattle.source.specs.Text.{Str, Query, query-to-string, string-length
 use Rattle.source.specs.Types.{Value, Trie, NameList, bind, item, trie, bindings, trie-empty}
 use Rattle.source.specs.Trees.{PathElem}
 use Rattle.source.specs.Tries.{names-find-exact, names-insert, trie-mutate, trie-insert, trie-include, trie-open-namespace, trie-add-alias, trie-find-exact, dflt}
-use Rattle.source.specs.Listing.{PathOf, fold-left, trie-find-prefix}
+use Rattle.source.specs.Listing.{PathOf, fold-left, trie-find-prefix, trie-find-prefix-first}
 use Rattle.source.specs.declared.LidSymbol.{LidSymbol}
 
 -- mod_symbol. A lid_symbol is a kind and a 32-bit number, LidSymbol of src/lib.rt.
@@ -158,6 +158,10 @@ find-module-or-ns tbl query = trie-find-exact (tbl .tbl-mods) query
 unfoldable pub autocomplete-lid : Table → Query → List (Line LidSymbol)
 autocomplete-lid tbl query = map completion-result-of-lid (trie-find-prefix (tbl .tbl-lids) query)
 
+-- Departs from the source: over trie-find-prefix-first.
+unfoldable pub autocomplete-lid-first : Table → Query → List (Line LidSymbol)
+autocomplete-lid-first tbl query = map completion-result-of-lid (trie-find-prefix-first (tbl .tbl-lids) query)
+
 -- List.filter_map
 unfoldable pub filter-map : {A B : Type 0} → (A → Option B) → List A → List B
 filter-map f [] = []
@@ -166,3 +170,8 @@ filter-map f (a ∷ l) = elim (f a) [ none ↦ filter-map f l | some b ↦ b ∷
 unfoldable pub autocomplete-mod-or-ns : Table → Query → (PathOf × ModSymbol → Option (PathOf × ModSymbol)) → List (Line ModSymbol)
 autocomplete-mod-or-ns tbl query filter =
     map completion-result-of-ns-or-mod (filter-map filter (trie-find-prefix (tbl .tbl-mods) query))
+
+-- Departs from the source in the same way.
+unfoldable pub autocomplete-mod-or-ns-first : Table → Query → (PathOf × ModSymbol → Option (PathOf × ModSymbol)) → List (Line ModSymbol)
+autocomplete-mod-or-ns-first tbl query filter =
+    map completion-result-of-ns-or-mod (filter-map filter (trie-find-prefix-first (tbl .tbl-mods) query))

@@ -1,4 +1,4 @@
--- The requirements' terms of lists and tries: flattening, holder, weight, depth, the two walks.
+-- The requirements' terms of lists and tries: flattening, holder, weight, depth, the walk.
 use Prim.Native.Nat.{ℕ, suc, _+_, max}
 use mathlib.Core.List.{List, [], _∷_, _++_}
 use mathlib.Core.Option.{Option, none, some}
@@ -10,11 +10,6 @@ use Rattle.source.specs.Tries.{bind-option}
 unfoldable pub first-of : {B : Type 0} → List B → Option B
 first-of [] = none
 first-of (b ∷ bs) = some b
-
-unfoldable pub last-of : {B : Type 0} → List B → Option B
-last-of [] = none
-last-of (b ∷ []) = some b
-last-of (b ∷ (c ∷ bs)) = last-of (c ∷ bs)
 
 module _ {A : Type 0} where
   -- Flattening: an imported list, itself flattened, stands at its collection's place.
@@ -69,15 +64,8 @@ module _ {A : Type 0} where
     depth-names (Names bt tl) = max (depth-tree bt) (depth-names tl)
     depth-names (ImportedNames label inner tl) = max (depth-names inner) (depth-names tl)
 
-  -- A walk for a full name takes a holder in the namespaces for each segment but the last, and one in the bindings for the last.
-  -- The walk by first holders takes at each step the first holder in the flattened list.
+  -- The walk for a full name takes at each step the first holder in the flattened list: of the namespaces for each segment but the last, of the bindings for the last.
   unfoldable pub walk-first : Trie A → Query → Option (Value A bind)
   walk-first tr [] = none
   walk-first tr (s ∷ []) = first-of (holders (flatten (bindings tr)) s)
   walk-first tr (s ∷ (t ∷ q)) = bind-option (first-of (holders (flatten (namespaces tr)) s)) (λ scope. walk-first scope (t ∷ q))
-
-  -- The walk by last holders takes the last.
-  unfoldable pub walk-last : Trie A → Query → Option (Value A bind)
-  walk-last tr [] = none
-  walk-last tr (s ∷ []) = last-of (holders (flatten (bindings tr)) s)
-  walk-last tr (s ∷ (t ∷ q)) = bind-option (last-of (holders (flatten (namespaces tr)) s)) (λ scope. walk-last scope (t ∷ q))

@@ -16,7 +16,8 @@ use Rattle.tree.proofs.Branches.{no-tree}
 use Rattle.tree.proofs.Keep.{by-test, keep-none, keep-swap, all-keep, kept-pass, keep-increasing}
 use Rattle.tree.specs.Links.{BranchOf}
 use Rattle.tree.proofs.Links.{branches-of, branch-tree}
-use Rattle.tree.proofs.Past.{past-of-prefix, past-begun, starts-self}
+use Rattle.tree.proofs.Past.{past-of-prefix, past-begun}
+use Rattle.source.proofs.Order.{starts-self}
 use Rattle.tree.proofs.Matches.{branches-increasing, matches-past}
 use Rattle.successor.specs.Begun.{begun}
 

@@ -6,7 +6,7 @@ use mathlib.Core.List.{[], _∷_}
 use borrow.Author.Tests.{eq-eqb}
 use Rattle.source.specs.Text.{Str, string-compare, starts-with}
 use Rattle.source.specs.Rules.{_<ˢ_}
-use Rattle.source.proofs.Order.{View, compare-strings, <ˢ-irrefl, <ˢ-trans}
+use Rattle.source.proofs.Order.{View, compare-strings, <ˢ-irrefl, <ˢ-trans, starts-self}
 use Rattle.source.proofs.Trees.{before-prefix, past-prefix}
 use Rattle.tree.specs.Links.{past-by, past}
 
@@ -56,11 +56,6 @@ unfolding past past-by
 past-self k = by-order k k (λ e v. absurd (<ˢ-irrefl k v)) (λ e v. rw e) (λ e v. rw e)
 
 -- ---- Keys that begin with a prefix
-
-pub starts-self : (p : Str) → starts-with p p ≡ true
-unfolding starts-with
-starts-self [] = refl
-starts-self (a ∷ p) = rw (eq-eqb a a refl) (starts-self p)
 
 -- A key that begins with p is past it.
 pub prefix-past : (p k : Str) → starts-with k p ≡ true → past false p k ≡ true

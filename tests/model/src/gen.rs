@@ -151,15 +151,29 @@ pub fn completion_query(rng: &mut Rng) -> Vec<u8> {
     let mut query = Vec::new();
     for _ in 0..[0, 0, 1, 1, 1, 1, 2, 2, 2, 3][rng.below(10)] {
         let name = name(rng);
-        let length = match rng.below(4) {
-            0 => 0,
-            1 => name.len(),
-            _ => rng.below(name.len() + 1),
-        };
-        query.extend(&name[..length]);
+        query.extend(beginning(rng, &name));
         query.push(DOT);
     }
     query
+}
+
+/// A completion's query that covers the full name.
+pub fn covering_query(rng: &mut Rng, full_name: &[Str]) -> Vec<u8> {
+    let mut query = Vec::new();
+    for segment in &full_name[..rng.below(full_name.len() + 1)] {
+        query.extend(beginning(rng, segment));
+        query.push(DOT);
+    }
+    query
+}
+
+/// None of a name, all of it or a part.
+fn beginning<'a>(rng: &mut Rng, name: &'a [u8]) -> &'a [u8] {
+    match rng.below(4) {
+        0 => &[],
+        1 => name,
+        _ => &name[..rng.below(name.len() + 1)],
+    }
 }
 
 /// A query that may break a rule.

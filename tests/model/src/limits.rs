@@ -559,8 +559,8 @@ pub fn text_full<C: Calls>() {
 
 // ------------------------------------------------------- 9 Spent, 10 Lines
 
-/// A completion of the requirements: its table, what is asked, lines, the bytes of
-/// their texts, and tries entered.
+/// Completions of the requirements, and of tables with two holders of a name: the
+/// table, what is asked, lines, the bytes of their texts, and tries entered.
 #[allow(clippy::type_complexity)]
 fn listings() -> Vec<(Vec<Registration>, Ask, &'static [u8], usize, usize, u32)> {
     use Ask::{Modules, Names};
@@ -573,6 +573,17 @@ fn listings() -> Vec<(Vec<Registration>, Ask, &'static [u8], usize, usize, u32)>
         include(b"", b"io."),
     ];
     let bus = vec![module(false, b"IO.Bus.", b"io/bus")];
+    let bound_twice = vec![
+        name(b"Saved.", b"offset", 1),
+        include(b"", b"Saved."),
+        named(b"", b"offset", Item::timer(3)),
+    ];
+    let held_twice = vec![
+        name(b"m.s.", b"y", 2),
+        open_namespace(b"n.", b"m."),
+        named(b"n.s.", b"w", Item::timer(4)),
+        name(b"n.s.t.", b"v", 5),
+    ];
     vec![
         (vec![], Names(None), b"", 0, 0, 1),
         (vec![], Names(Some(Kind::Timer)), b"", 0, 0, 1),
@@ -591,6 +602,13 @@ fn listings() -> Vec<(Vec<Registration>, Ask, &'static [u8], usize, usize, u32)>
         (kinds.clone(), Names(Some(Kind::Timer)), b"", 3, 1 + 3 + 2 + 6, 2),
         (kinds.clone(), Names(Some(Kind::Port)), b"", 2, 2 + 2 + 5, 2),
         (kinds, Names(Some(Kind::Register)), b"", 0, 0, 2),
+        // offset, of the tree in front and not of the label Saved
+        (bound_twice.clone(), Names(None), b"off.", 1, 6, 1),
+        (bound_twice.clone(), Names(Some(Kind::Timer)), b"off.", 1, 6, 1),
+        (bound_twice, Names(Some(Kind::Register)), b"off.", 0, 0, 1),
+        // n.s.w, n.s.y, n.s.t.v: of the copy in front and not of m's
+        (held_twice.clone(), Names(None), b"n.", 3, 5 + 5 + 7, 4),
+        (held_twice, Names(Some(Kind::Timer)), b"n.", 1, 5, 4),
         // IO (ns), IO.Bus (mod)
         (bus.clone(), Modules(Filter::All), b"I.", 2, 2 + 4 + 6 + 5, 3),
         (bus.clone(), Modules(Filter::NamespacesOnly), b"I.", 1, 2 + 4, 3),
@@ -628,7 +646,7 @@ pub fn lines<C: Calls>() {
             refused += 1;
         }
     }
-    assert_eq!(refused, 11);
+    assert_eq!(refused, 15);
 }
 
 // ------------------------------------------------------------------- order

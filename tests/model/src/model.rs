@@ -615,6 +615,8 @@ pub enum NameSearchTerm {
     NSTPrefix(Str),
 }
 
+/// The source's `names_find_rev`, but of equal names the first holder's is
+/// kept, where the source keeps the last one's.
 pub fn names_find_rev<V: Value>(names: &Names<V>, id: &NameSearchTerm) -> List<(PathElem, V)> {
     use NameSearchTerm::*;
     let with_imports = match id {
@@ -625,8 +627,11 @@ pub fn names_find_rev<V: Value>(names: &Names<V>, id: &NameSearchTerm) -> List<(
         }
         NSTPrefix(id) => names_revmap(&|bt| btree_find_prefix(bt, id), names),
     };
+    // The last collection comes first. The merge keeps what the earliest list
+    // has, so the lists are turned round.
     let per_collection: List<List<(PathElem, V)>> = with_imports
         .into_iter()
+        .rev()
         .map(|(imports, matches)| {
             matches
                 .into_iter()

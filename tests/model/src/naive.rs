@@ -5,6 +5,7 @@
 use crate::layout::*;
 use crate::model::*;
 use std::collections::BTreeMap;
+use std::fmt::Debug;
 
 // ------------------------------------------------------ weight and depth
 
@@ -24,15 +25,16 @@ pub fn weight_of<V>(names: &Names<V>) -> u32 {
 
 /// The branches of a tree in ascending order of place, left to right.
 pub fn entries<V: Clone>(bt: &Tree<V>) -> Vec<(Str, V)> {
-    match bt {
-        None => Vec::new(),
-        Some(b) => {
-            let mut all = entries(&b.left);
+    fn add<V: Clone>(bt: &Tree<V>, all: &mut Vec<(Str, V)>) {
+        if let Some(b) = bt {
+            add(&b.left, all);
             all.push((b.key.clone(), b.value.clone()));
-            all.extend(entries(&b.right));
-            all
+            add(&b.right, all);
         }
     }
+    let mut all = Vec::new();
+    add(bt, &mut all);
+    all
 }
 
 /// The trees of the flattened list, each with its outermost label.
@@ -212,40 +214,88 @@ pub fn sound_naive(memory: &Memory) -> bool {
 
 // --------------------------------------------------------- walks, listing
 
-/// All holders of a name in the flattened list, first to last: what they
-/// give for it.
-pub fn holders<V: Clone>(names: &Names<V>, name: &[u8]) -> Vec<V> {
-    let mut all = Vec::new();
-    for (_, bt) in flatten(names) {
+/// Which holder of a name counts: the first, in look-ups and listings, or the
+/// last, in the source's listings.
+#[derive(Clone, Copy, Debug, PartialEq, Eq)]
+pub enum Holder {
+    First,
+    Last,
+}
+
+impl Holder {
+    fn of<T>(self, all: &[T]) -> Option<&T> {
+        match self {
+            Holder::First => all.first(),
+            Holder::Last => all.last(),
+        }
+    }
+}
+
+/// What a holder gives for a name, and its outermost label.
+pub type Held<V> = (Option<Str>, V);
+
+/// All holders of each name that begins so, first to last in the flattened
+/// list.
+pub fn holders<V: Clone>(names: &Names<V>, prefix: &[u8]) -> BTreeMap<Str, Vec<Held<V>>> {
+    let mut all: BTreeMap<Str, Vec<Held<V>>> = BTreeMap::new();
+    for (label, bt) in flatten(names) {
         for (key, value) in entries(&bt) {
-            if &key[..] == name {
-                all.push(value);
+            if key.starts_with(prefix) {
+                all.entry(key).or_default().push((label.clone(), value));
             }
         }
     }
     all
 }
 
-/// A walk for a full name: its end, and the greatest number of holders that
-/// a step met.
-pub fn walk<A: Clone>(root: &Trie<A>, full_name: &[Str], by_last: bool) -> (Option<A>, usize) {
-    fn take<V: Clone>(all: &[V], by_last: bool) -> Option<V> {
-        if by_last { all.last() } else { all.first() }.cloned()
+/// A walk for a full name.
+#[derive(Clone, Debug, PartialEq)]
+pub struct Walk<A> {
+    /// Where it ends.
+    pub end: Option<A>,
+    /// The outermost label of the holder that its first step takes.
+    pub label: Option<Str>,
+    /// The greatest number of holders that a step met in namespaces.
+    pub in_namespaces: usize,
+    /// How many the last step met in bindings.
+    pub in_bindings: usize,
+}
+
+impl<A> Walk<A> {
+    /// Whether a step met more than one holder.
+    pub fn meets_several(&self) -> bool {
+        self.in_namespaces > 1 || self.in_bindings > 1
+    }
+}
+
+/// The walk for a full name by first or by last holders.
+pub fn walk<A: Clone>(root: &Trie<A>, full_name: &[Str], by: Holder) -> Walk<A> {
+    /// What the step for this name takes, and how many holders it meets.
+    fn step<V: Clone>(names: &Names<V>, name: &Str, by: Holder) -> (Option<Held<V>>, usize) {
+        let met = holders(names, name).remove(name).unwrap_or_default();
+        (by.of(&met).cloned(), met.len())
     }
     let (last, before) = full_name.split_last().expect("a full name has a segment");
+    let mut walk = Walk { end: None, label: None, in_namespaces: 0, in_bindings: 0 };
     let mut trie = root.clone();
-    let mut most = 0;
-    for segment in before {
-        let all = holders(&namespaces(&trie), segment);
-        most = most.max(all.len());
-        match take(&all, by_last) {
-            None => return (None, most),
-            Some(below) => trie = below,
+    for (k, segment) in before.iter().enumerate() {
+        let (taken, met) = step(&namespaces(&trie), segment, by);
+        walk.in_namespaces = walk.in_namespaces.max(met);
+        let Some((label, below)) = taken else { return walk };
+        if k == 0 {
+            walk.label = label;
         }
+        trie = below;
     }
-    let all = holders(&bindings(&trie), last);
-    most = most.max(all.len());
-    (take(&all, by_last), most)
+    let (taken, met) = step(&bindings(&trie), last, by);
+    walk.in_bindings = met;
+    if let Some((label, item)) = taken {
+        if before.is_empty() {
+            walk.label = label;
+        }
+        walk.end = Some(item);
+    }
+    walk
 }
 
 /// Full names that some walk by any holders reaches, at most about so many.
@@ -273,29 +323,105 @@ pub fn covers(query: &[Str], full_name: &[Str]) -> bool {
     full_name.len() >= query.len() && query.iter().zip(full_name).all(|(q, f)| f.starts_with(q))
 }
 
+/// An item of either root, as completions have it.
+pub trait Symbol: Value + PartialEq + Debug {
+    /// What a completion on its root may ask for, everything first.
+    const ASKS: [Ask; 4];
+
+    /// Whether a completion that asks so keeps it.
+    fn kept_by(&self, ask: Ask) -> bool;
+
+    /// The annotation of its line, whose path's first element has this
+    /// outermost label.
+    fn annotation(&self, label: &Option<Str>) -> Str;
+}
+
+impl Symbol for Item {
+    const ASKS: [Ask; 4] = [
+        Ask::Names(None),
+        Ask::Names(Some(Kind::Timer)),
+        Ask::Names(Some(Kind::Port)),
+        Ask::Names(Some(Kind::Register)),
+    ];
+
+    fn kept_by(&self, ask: Ask) -> bool {
+        match ask {
+            Ask::Names(kind) => kind.is_none() || kind == Some(self.kind),
+            Ask::Modules(_) => panic!("an item of names"),
+        }
+    }
+
+    fn annotation(&self, label: &Option<Str>) -> Str {
+        label.clone().unwrap_or_else(|| Str::from(&b""[..]))
+    }
+}
+
+impl Symbol for ModSymbol {
+    const ASKS: [Ask; 4] = [
+        Ask::Modules(Filter::All),
+        Ask::Modules(Filter::Loaded),
+        Ask::Modules(Filter::ModulesOnly),
+        Ask::Modules(Filter::NamespacesOnly),
+    ];
+
+    fn kept_by(&self, ask: Ask) -> bool {
+        match (ask, self) {
+            (Ask::Modules(Filter::All), _) => true,
+            (Ask::Modules(Filter::Loaded), ModSymbol::Module { mod_loaded, .. }) => *mod_loaded,
+            (Ask::Modules(Filter::Loaded), ModSymbol::Namespace { ns_loaded, .. }) => *ns_loaded,
+            (Ask::Modules(Filter::ModulesOnly), ModSymbol::Module { .. }) => true,
+            (Ask::Modules(Filter::NamespacesOnly), ModSymbol::Namespace { .. }) => true,
+            (Ask::Modules(_), _) => false,
+            (Ask::Names(_), _) => panic!("an item of modules"),
+        }
+    }
+
+    fn annotation(&self, _: &Option<Str>) -> Str {
+        let text = match self {
+            ModSymbol::Module { mod_loaded: true, .. } => " mod ",
+            ModSymbol::Module { mod_loaded: false, .. } => "(mod)",
+            ModSymbol::Namespace { ns_loaded: true, .. } => " ns ",
+            ModSymbol::Namespace { ns_loaded: false, .. } => "(ns)",
+        };
+        text.as_bytes().into()
+    }
+}
+
 /// An element of a path: its name and the length of the prefix that matched
 /// it.
 type Element = (Str, Option<usize>);
 
+/// A listing without regard to the room for it.
+#[derive(Clone, Debug, PartialEq)]
+pub struct Listing<A> {
+    pub lines: Vec<CompletionResult<A>>,
+    /// Tries entered.
+    pub entered: u64,
+    /// The greatest number of holders of a name that it lists or enters.
+    pub most_holders: usize,
+}
+
 /// The listing by the requirements' words: bindings ascending, then each
-/// namespace ascending with its own listing; of equal names the last holder.
-/// Gives text, match length, outermost label of the first element and item.
-/// None if more tries are entered than `most`.
-#[allow(clippy::type_complexity)]
-pub fn listing<A: Clone>(
+/// namespace ascending with its own listing; of equal names the first holder,
+/// or the last, as the source has it. None if more tries are entered than
+/// `most`.
+pub fn listing<A: Symbol>(
     root: &Trie<A>,
     query: &[Str],
     most: u64,
-) -> Option<(Vec<(Vec<u8>, i32, Option<Str>, A)>, u64)> {
-    /// The last holder of each name that begins with the prefix.
-    fn merged<V: Clone>(names: &Names<V>, prefix: &[u8]) -> BTreeMap<Vec<u8>, (Option<Str>, V)> {
-        let mut all = BTreeMap::new();
-        for (label, bt) in flatten(names) {
-            for (key, value) in entries(&bt) {
-                if key.starts_with(prefix) {
-                    all.insert(key.to_vec(), (label.clone(), value));
-                }
-            }
+    by: Holder,
+) -> Option<Listing<A>> {
+    /// What is taken of each name, in order, and the most holders of one.
+    fn taken<V: Clone>(
+        names: &Names<V>,
+        prefix: &[u8],
+        by: Holder,
+        most_holders: &mut usize,
+    ) -> Vec<(Str, Held<V>)> {
+        let mut all = Vec::new();
+        for (name, met) in holders(names, prefix) {
+            *most_holders = met.len().max(*most_holders);
+            all.push((name, by.of(&met).expect("a holder").clone()));
         }
         all
     }
@@ -311,41 +437,46 @@ pub fn listing<A: Clone>(
         }
         length
     }
-    #[allow(clippy::type_complexity)]
-    fn enter<A: Clone>(
+    fn enter<A: Symbol>(
         tr: &Trie<A>,
         query: &[Str],
         path: &[Element],
         label: &Option<Str>,
-        most: u64,
-        out: &mut (Vec<(Vec<u8>, i32, Option<Str>, A)>, u64),
+        (most, by): (u64, Holder),
+        out: &mut Listing<A>,
     ) -> Option<()> {
-        out.1 += 1;
-        if out.1 > most {
+        out.entered += 1;
+        if out.entered > most {
             return None;
         }
         let matched = query.first().map(|segment| segment.len());
         let prefix: &[u8] = query.first().map_or(b"", |segment| segment);
-        let extend = |name: &[u8]| {
-            let mut longer = path.to_vec();
-            longer.push((name.into(), matched));
-            longer
-        };
+        let extend = |name: Str| [path, &[(name, matched)]].concat();
         let outermost = |here: Option<Str>| if path.is_empty() { here } else { label.clone() };
         if query.len() <= 1 {
-            for (name, (here, item)) in merged(&bindings(tr), prefix) {
-                let whole = extend(&name);
+            for (name, (here, item)) in taken(&bindings(tr), prefix, by, &mut out.most_holders) {
+                let whole = extend(name);
                 let parts: Vec<&[u8]> = whole.iter().map(|(name, _)| &name[..]).collect();
-                out.0.push((parts.join(&b'.'), match_length(&whole), outermost(here), item));
+                out.lines.push(CompletionResult {
+                    match_length: match_length(&whole),
+                    candidate: parts.join(&DOT).into(),
+                    annotation: item.annotation(&outermost(here)),
+                    item,
+                });
             }
         }
-        for (name, (here, below)) in merged(&namespaces(tr), prefix) {
+        for (name, (here, below)) in taken(&namespaces(tr), prefix, by, &mut out.most_holders) {
             let rest = query.get(1..).unwrap_or(&[]);
-            enter(&below, rest, &extend(&name), &outermost(here), most, out)?;
+            enter(&below, rest, &extend(name), &outermost(here), (most, by), out)?;
         }
         Some(())
     }
-    let mut out = (Vec::new(), 0);
-    enter(root, query, &[], &None, most, &mut out)?;
+    let mut out = Listing { lines: Vec::new(), entered: 0, most_holders: 0 };
+    enter(root, query, &[], &None, (most, by), &mut out)?;
     Some(out)
+}
+
+/// The lines that the source lists of names, which keeps last holders.
+pub fn source_lines(root: &Trie<Item>, query: &[u8]) -> Vec<CompletionResult<Item>> {
+    listing(root, &segments(query), u64::MAX, Holder::Last).expect("no budget").lines
 }

@@ -2,6 +2,7 @@
 
 mod common;
 use common::*;
+use model::agreement::{hold, Met};
 use model::gen::{self, Rng};
 use model::layout::*;
 use model::listings::Tally;
@@ -201,7 +202,7 @@ fn rows_of_completions() {
         assert_eq!(both.modules(query, Filter::All), Err(number), "{query}");
     }
     assert_eq!(both.complete(&q(17)), Ok((vec![], 3)));
-    assert_eq!(both.complete("Live.."), Ok((vec![("Live.offset".into(), r(1), 5, "".into())], 2)));
+    assert_eq!(both.complete("Live.."), Ok((vec![("Live.offset".into(), r(3), 5, "".into())], 2)));
     // Rows 2 and 4 come before 9.
     assert_eq!(autocomplete_lid(&both.table, b"a", None, 0).err(), Some(Refusal::Malformed));
     assert_eq!(autocomplete_lid(&both.table, &[DOT; 18], None, 0).err(), Some(Refusal::TooLong));
@@ -475,9 +476,10 @@ fn includes_opens_and_aliases() {
     assert_eq!(both.find("n.s.w."), Ok(Some(r(4))));
     assert_eq!(both.find("n.s.y."), Ok(Some(r(2))));
     assert_eq!(both.find("m.s.w."), Ok(None));
-    // The listing enters the last holder only, so w is missing.
-    let (lines, _) = both.complete("n.s.").unwrap();
-    assert_eq!(lines, [("n.s.y".to_string(), r(2), 3, "".to_string())]);
+    // The listing enters the copy alone, which has both; the origin has one.
+    let line = |text: &str, number| (text.to_string(), r(number), 3, "".to_string());
+    assert_eq!(both.complete("n.s."), Ok((vec![line("n.s.w", 4), line("n.s.y", 2)], 3)));
+    assert_eq!(both.complete("m.s."), Ok((vec![line("m.s.y", 2)], 3)));
     // An alias replaces the key and has no namespaces.
     both.register(&alias("s", "m.", "h.")).unwrap();
     assert_eq!(both.find("m.s.y."), Ok(None));
@@ -505,6 +507,45 @@ fn annotations() {
     both.register(&include("", "")).unwrap();
     let (lines, _) = both.complete("").unwrap();
     assert_eq!(lines, [("x".to_string(), r(1), -1, "".to_string())]);
+}
+
+/// Of equal names the first holder gives item, label and what is below.
+#[test]
+fn the_first_holder_is_listed() {
+    let mut both = Both::fresh(500, 900);
+    let listed = |both: &mut Both, call, query: &str| {
+        both.register(&call).unwrap();
+        let (lines, entered) = both.complete(query).unwrap();
+        let line = |l: &(String, Item, i32, String)| format!("{} {} {} [{}]", l.2, l.1, l.0, l.3);
+        (lines.iter().map(line).collect::<Vec<_>>(), entered)
+    };
+    both.register(&named("old.", "x", r(1))).unwrap();
+    both.register(&named("new.", "x", p(2))).unwrap();
+    // Bindings of the root: an imported list, another in front of it, then a
+    // tree in front of both.
+    let one = |line: &str| (vec![line.to_string()], 1);
+    assert_eq!(listed(&mut both, include("", "old."), "x."), one("1 r1 x [old]"));
+    assert_eq!(listed(&mut both, include("", "new."), "x."), one("1 p2 x [new]"));
+    assert_eq!(listed(&mut both, named("", "x", t(3)), "x."), one("1 t3 x []"));
+    assert_eq!(listed(&mut both, include("", "old."), "x."), one("1 r1 x [old]"));
+    assert_eq!(both.find("x."), Ok(Some(r(1))));
+    // Only the first holder's kind is listed.
+    let of_kind = |kind| both.names("x.", Some(kind)).unwrap().0.len();
+    assert_eq!(Kind::ALL.map(of_kind), [0, 0, 1]);
+
+    // Namespaces of the root: s by an import, by another one that has none of
+    // its names and a trie below it, then by an alias in a tree in front.
+    let mut both = Both::fresh(500, 900);
+    for call in [named("m.s.", "y", r(1)), named("m.s.t.", "z", r(2)), named("n.s.", "w", p(3))] {
+        both.register(&call).unwrap();
+    }
+    let lines = |all: &[&str], entered| (all.iter().map(|l| l.to_string()).collect(), entered);
+    let below = lines(&["2 r1 s.y [m]", "2 r2 s.t.z [m]"], 3);
+    assert_eq!(listed(&mut both, open_namespace("", "m."), "s.."), below);
+    assert_eq!(listed(&mut both, open_namespace("", "n."), "s.."), lines(&["2 p3 s.w [n]"], 2));
+    assert_eq!(listed(&mut both, alias("s", "", "m.s."), "s.."), lines(&["2 r1 s.y []"], 2));
+    let found = |query| both.find(query).unwrap();
+    assert_eq!([found("s.y."), found("s.t.z."), found("s.w.")], [Some(r(1)), None, None]);
 }
 
 #[test]
@@ -555,125 +596,133 @@ fn model_and_memory_agree() {
     assert!([2, 3, 4, 5, 6, 7, 8].iter().all(|&n| counts[n] > 0), "{counts:?}");
 }
 
-/// A completion by query and budget.
-type Complete<'f, A> = &'f dyn Fn(&[u8], u32) -> Result<(Vec<CompletionResult<A>>, u32), Refusal>;
+/// What listings of one root were tried on.
+#[derive(Debug, Default)]
+struct Counts {
+    spent: usize,
+    /// Listings in which no name has two holders, and with such names: those
+    /// that the source lists alike, and otherwise.
+    single: usize,
+    alike: usize,
+    otherwise: usize,
+    /// Texts whose lines are other ones in the source's listing, and texts
+    /// that are in one of the listings alone: ours, the source's.
+    other: usize,
+    ours: usize,
+    theirs: usize,
+    met: Met,
+}
 
-/// Look-up is the walk by first holders, the listing is the naive one, and
-/// demand 3 holds, on one root. Counts: spent, names listed, names that the
-/// two walks resolve differently, names not listed.
-fn check_root<A: Value + PartialEq + std::fmt::Debug>(
+impl Counts {
+    fn has_names(&self) -> bool {
+        self.spent > 20 && self.single > 20 && self.met.has_names()
+    }
+
+    /// Each place where the source lists otherwise.
+    fn has_holders(&self) -> bool {
+        let counts = [self.alike, self.otherwise, self.other, self.ours, self.theirs];
+        counts.iter().all(|&n| n > 20) && self.met.has_holders()
+    }
+}
+
+/// A listing beside the source's, which keeps last holders: they are the same
+/// where no name has two, and differ only at names whose walk meets two.
+fn beside_the_source<A: Symbol>(
+    root: &Trie<A>,
+    query: &[Str],
+    ours: &Listing<A>,
+    counts: &mut Counts,
+) {
+    let Some(theirs) = listing(root, query, 3_000, Holder::Last) else {
+        assert!(ours.most_holders > 1, "{query:?}");
+        return;
+    };
+    if ours.most_holders <= 1 {
+        assert_eq!(*ours, theirs, "{query:?}");
+        counts.single += 1;
+        return;
+    }
+    let lines = |l: &Listing<A>| -> BTreeMap<Str, CompletionResult<A>> {
+        l.lines.iter().map(|line| (line.candidate.clone(), line.clone())).collect()
+    };
+    let (ours, theirs) = (lines(ours), lines(&theirs));
+    *if ours == theirs { &mut counts.alike } else { &mut counts.otherwise } += 1;
+    for text in ours.keys().chain(theirs.keys().filter(|text| !ours.contains_key(*text))) {
+        let (line, other) = (ours.get(text), theirs.get(text));
+        if line == other {
+            continue;
+        }
+        let full_name = segments(&[text, &b"."[..]].concat());
+        assert!(walk(root, &full_name, Holder::First).meets_several(), "{query:?} {text:?}");
+        *match (line, other) {
+            (Some(_), Some(_)) => &mut counts.other,
+            (Some(_), None) => &mut counts.ours,
+            _ => &mut counts.theirs,
+        } += 1;
+    }
+}
+
+/// A completion by what it asks for, query and budget.
+type Complete<'f, A> =
+    &'f dyn Fn(Ask, &[u8], u32) -> Result<(Vec<CompletionResult<A>>, u32), Refusal>;
+
+/// On one root: a listing is the naive one, and what is asked for keeps of it
+/// what it keeps; look-up and listings agree.
+fn check_root<A: Symbol>(
     root: &Trie<A>,
     rng: &mut Rng,
     complete: Complete<A>,
-    annotation: &dyn Fn(&A, Option<Str>) -> Str,
-    counts: &mut [usize; 4],
+    counts: &mut Counts,
 ) {
-    let known = full_names(root, 200);
     for _ in 0..6 {
         let query = gen::completion_query(rng);
-        let query_segments = segments(&query);
         let budget = *rng.pick(&[2, 8, 300]);
-        let naive = listing(root, &query_segments, u64::from(budget));
-        let listed = complete(&query, budget);
-        let (Some((lines, entered)), Ok((results, count))) = (&naive, &listed) else {
-            assert!(naive.is_none() && listed == Err(Refusal::Spent), "{query:?}");
-            counts[0] += 1;
-            continue;
-        };
-        assert_eq!(u64::from(*count), *entered);
-        let expected: Vec<CompletionResult<A>> = lines
-            .iter()
-            .map(|(text, match_length, label, item)| CompletionResult {
-                match_length: *match_length,
-                item: item.clone(),
-                candidate: text.as_slice().into(),
-                annotation: annotation(item, label.clone()),
-            })
-            .collect();
-        assert_eq!(*results, expected);
-        for _ in 0..8 {
-            let full_name = if known.is_empty() || rng.one_in(4) {
-                segments(&gen::full_name(rng))
-            } else {
-                rng.pick(&known).clone()
-            };
-            let text = concat_dots(&full_name);
-            let (first, met) = walk(root, &full_name, false);
-            let (last, _) = walk(root, &full_name, true);
-            let mut spelled = text.to_vec();
-            spelled.push(DOT);
-            match find(root, &spelled) {
-                Ok(found) => assert_eq!(found, first),
-                Err(refusal) => {
-                    assert_eq!(refusal, Refusal::TooLong);
-                    continue;
+        let naive = listing(root, &segments(&query), u64::from(budget), Holder::First);
+        for ask in A::ASKS {
+            let expected = match &naive {
+                None => Err(Refusal::Spent),
+                Some(l) => {
+                    let kept = l.lines.iter().filter(|line| line.item.kept_by(ask)).cloned();
+                    Ok((kept.collect(), l.entered as u32))
                 }
-            }
-            if met <= 1 {
-                assert_eq!(first, last);
-            }
-            if covers(&query_segments, &full_name) {
-                let with: Vec<&A> =
-                    results.iter().filter(|r| r.candidate == text).map(|r| &r.item).collect();
-                assert_eq!(with, last.iter().collect::<Vec<&A>>());
-                counts[1] += last.is_some() as usize;
-                counts[2] += (first != last) as usize;
-                counts[3] += last.is_none() as usize;
-            }
+            };
+            assert_eq!(complete(ask, &query, budget), expected, "{ask:?} {query:?}");
+        }
+        match &naive {
+            None => counts.spent += 1,
+            Some(ours) => beside_the_source(root, &segments(&query), ours, counts),
         }
     }
+    let find = |query: &[u8]| find(root, query).map_err(Refusal::number);
+    let listed = |ask, query: &[u8]| match complete(ask, query, 300) {
+        Ok((lines, _)) => Ok(lines),
+        Err(refusal) => Err(refusal.number()),
+    };
+    hold(root, rng, &find, &listed, &mut counts.met);
 }
 
-/// Of one kind are the lines of all kinds that have it, with as many tries
-/// entered.
-fn check_kinds(table: &Table, rng: &mut Rng, tally: &mut Tally) {
-    let query = gen::completion_query(rng);
-    let budget = *rng.pick(&[2, 8, 300]);
-    let all = autocomplete_lid(table, &query, None, budget);
-    for kind in Kind::ALL {
-        let expected = all.clone().map(|(mut lines, entered)| {
-            lines.retain(|line| line.item.kind == kind);
-            (lines, entered)
-        });
-        assert_eq!(autocomplete_lid(table, &query, Some(kind), budget), expected, "{query:?}");
-    }
-    if let Ok((lines, _)) = all {
+/// Both roots; the names first.
+fn check_table(table: &Table, rng: &mut Rng, counts: &mut [Counts; 2], tally: &mut Tally) {
+    if let Ok((lines, _)) = autocomplete_lid(table, &gen::completion_query(rng), None, 300) {
         tally.all_kinds(&lines);
     }
-}
-
-fn check_table(table: &Table, rng: &mut Rng, counts: &mut [usize; 4], tally: &mut Tally) {
-    let empty = || Str::from(&b""[..]);
-    check_kinds(table, rng, tally);
-    check_root(
-        &table.names,
-        rng,
-        &|query, budget| autocomplete_lid(table, query, None, budget),
-        &|_, label| label.unwrap_or_else(empty),
-        counts,
-    );
-    check_root(
-        &table.modules,
-        rng,
-        &|query, budget| autocomplete_mod_or_ns(table, query, Filter::All, budget),
-        &|symbol, _| {
-            let text = match symbol {
-                ModSymbol::Module { mod_loaded: true, .. } => " mod ",
-                ModSymbol::Module { mod_loaded: false, .. } => "(mod)",
-                ModSymbol::Namespace { ns_loaded: true, .. } => " ns ",
-                ModSymbol::Namespace { ns_loaded: false, .. } => "(ns)",
-            };
-            text.as_bytes().into()
-        },
-        counts,
-    );
+    let names = |ask, query: &[u8], budget| match ask {
+        Ask::Names(kind) => autocomplete_lid(table, query, kind, budget),
+        Ask::Modules(_) => unreachable!(),
+    };
+    check_root(&table.names, rng, &names, &mut counts[0]);
+    let modules = |ask, query: &[u8], budget| match ask {
+        Ask::Modules(filter) => autocomplete_mod_or_ns(table, query, filter, budget),
+        Ask::Names(_) => unreachable!(),
+    };
+    check_root(&table.modules, rng, &modules, &mut counts[1]);
 }
 
 #[test]
 fn listings_of_registered_tables() {
     let rng = &mut Rng::new(Rng::seed_or(32));
-    let (mut counts, mut tally) = ([0; 4], Tally::default());
-    for round in 0..150 {
+    let (mut counts, mut tally) = <([Counts; 2], Tally)>::default();
+    for round in 0..400 {
         let mut table = Table::default();
         let lent = Lent { words: 12 * 2000, text: 4000 };
         for _ in 0..1 + rng.below(30) {
@@ -682,21 +731,25 @@ fn listings_of_registered_tables() {
         }
         check_table(&table, rng, &mut counts, &mut tally);
     }
-    assert!(counts.iter().all(|&n| n > 20), "{counts:?}");
-    assert!(tally.has_kinds(), "{tally:?}");
+    println!("registered tables, names and modules: {counts:?}");
+    let [names, modules] = &counts;
+    assert!(names.has_names() && names.has_holders() && tally.has_kinds(), "{names:?} {tally:?}");
+    // No call puts a second holder among the modules.
+    assert!(modules.has_names() && modules.met.is_single(), "{modules:?}");
 }
 
 /// Sound tables of any shape, also such as no registration makes.
 #[test]
 fn listings_of_other_sound_tables() {
     let rng = &mut Rng::new(Rng::seed_or(33));
-    let (mut counts, mut tally) = ([0; 4], Tally::default());
-    for _ in 0..150 {
+    let (mut counts, mut tally) = <([Counts; 2], Tally)>::default();
+    for _ in 0..400 {
         let count = 20 + rng.below(120);
         let memory = gen::sound_memory(rng, count);
         check_table(&memory.table().unwrap(), rng, &mut counts, &mut tally);
     }
-    assert!(counts.iter().all(|&n| n > 20), "{counts:?}");
+    println!("other sound tables, names and modules: {counts:?}");
+    assert!(counts.iter().all(|c| c.has_names() && c.has_holders()), "{counts:?}");
     assert!(tally.has_kinds(), "{tally:?}");
 }
 

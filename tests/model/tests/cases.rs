@@ -9,7 +9,7 @@ use model::script;
 fn printed_session() {
     let input = b"[name [Saved.] offset 1]\n[include [Live.] [Saved.]]\n[name [Live.] offset 3]\n\
         [find [Live.offset.]]\n[complete [Live.off.]]\n";
-    let output = b"[ok 6]\n[ok 12]\n[ok 19]\n[found r3]\n[line 8 r1 [] Live.offset]\n[end 1 2]\n";
+    let output = b"[ok 6]\n[ok 12]\n[ok 19]\n[found r3]\n[line 8 r3 [] Live.offset]\n[end 1 2]\n";
     assert_eq!(script::run(input), output);
     assert_eq!(script::run(&input[..input.len() - 1]), output);
 }
@@ -63,14 +63,14 @@ fn case_4() {
 
 #[test]
 fn case_5() {
-    assert_eq!(Both::t().complete("Live.off."), Ok((vec![line("Live.offset", 1, 8, "")], 2)));
+    assert_eq!(Both::t().complete("Live.off."), Ok((vec![line("Live.offset", 3, 8, "")], 2)));
 }
 
 #[test]
 fn cases_6_and_7() {
     for (query, length) in [("", -1), (".", 0)] {
         let lines = vec![
-            line("Live.offset", 1, length, ""),
+            line("Live.offset", 3, length, ""),
             line("Saved.late", 2, length, ""),
             line("Saved.offset", 1, length, ""),
         ];
@@ -158,7 +158,7 @@ fn case_13() {
     let span = |start, length| Span { start, length };
     assert_eq!(
         lines[0],
-        Line { match_length: 8, item: r(1), candidate: span(0, 11), annotation: span(11, 0) }
+        Line { match_length: 8, item: r(3), candidate: span(0, 11), annotation: span(11, 0) }
     );
     assert_eq!(lines[1..], blank_lines(1, r(0)));
 }

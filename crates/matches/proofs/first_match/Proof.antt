@@ -1,7 +1,7 @@
 -- `first_match` gives the first match and notes the others.
 use mathlib.Core.Bool.{false}
 use borrow.Author.Needs.{needs}
-use Rattle.tree.proofs.Past.{starts-self}
+use Rattle.source.proofs.Order.{starts-self}
 use Rattle.marks.proofs.Marks.{clear-fits}
 use Rattle.matches.proofs.Matched.{first-noting, first-pass, first-none, matched-top}
 use Rattle.matches.proofs.first_match.Statement.{statement}
