@@ -28,7 +28,7 @@ use Rattle.heads.specs.Compare.{Heads, cell-cmp, sign, Stands}
 small : (n : ℕ) → n < 96 → toZ w32 n ≡ pos n
 small n h = toZ-ofZ w32 (pos n) (record { sfits = omega arith })
 
-pub read-difference : (a b : ℕ) → a < 96 → b < 96 → toZ w32 a -ℤ toZ w32 b ≡ pos a -ℤ pos b
+read-difference : (a b : ℕ) → a < 96 → b < 96 → toZ w32 a -ℤ toZ w32 b ≡ pos a -ℤ pos b
 read-difference a b h k = ap₂ _-ℤ_ (small a h) (small b k)
 
 mag-cond : (t : Bool) (x y : ℕ) → x < 96 → y < 96 → mag (cond t (negsuc x) (pos y)) < 96
@@ -85,7 +85,7 @@ key-bytes ws txt x b =
 
 -- The cell with the smaller beginning comes first.
 pub by-beginning : {ws txt heads : List ℕ} {n a b : ℕ} → Bytes txt → Heads ws txt heads n → a < n → b < n → getD heads (96 + a) 0 < getD heads (96 + b) 0
-    → (Ordering·lt ≡ cell-cmp ws txt heads n a b) × (Ordering·gt ≡ cell-cmp ws txt heads n b a)
+    → (Ordering·lt ≡ cell-cmp ws txt heads a b) × (Ordering·gt ≡ cell-cmp ws txt heads b a)
 unfolding cell-cmp then
 by-beginning {ws} {txt} {heads} {n} {a} {b} f o h k l =
     let x = key-at ws txt (getD heads a 0) in
@@ -93,17 +93,17 @@ by-beginning {ws} {txt} {heads} {n} {a} {b} f o h k l =
     let r : Before x y = beginning-says x y (key-bytes ws txt (getD heads a 0) f) (key-bytes ws txt (getD heads b 0) f) (omega (arith, o .begun a h, o .begun b k)) in
     (rw (r .is-less), rw (r .is-more))
 
-module _ (ws txt heads : List ℕ) (n a b : ℕ) {o : Order} (e : ordering o ≡ string-compare (key-at ws txt (getD heads a 0)) (key-at ws txt (getD heads b 0))) where
-  pub by-key : (s : Order) → o ≡ s → then (ordering s) (compare (n - 1 - a) (n - 1 - b)) ≡ cell-cmp ws txt heads n a b
+module _ (ws txt heads : List ℕ) (a b : ℕ) {o : Order} (e : ordering o ≡ string-compare (key-at ws txt (getD heads a 0)) (key-at ws txt (getD heads b 0))) where
+  pub by-key : (s : Order) → o ≡ s → then (ordering s) (compare a b) ≡ cell-cmp ws txt heads a b
   unfolding cell-cmp
-  by-key s f = ap (λ (x : Ordering). then x (compare (n - 1 - a) (n - 1 - b))) (ap ordering (sym f) ∙ e)
+  by-key s f = ap (λ (x : Ordering). then x (compare a b)) (ap ordering (sym f) ∙ e)
 
--- What a read of the answer of priority_difference says.
-pub by-priority : (x y : ℕ) (z : ℤ) → mag z < 2 ^ hbits w32 → z ≡ pos x -ℤ pos y → sign (toZ w32 (ofZ w32 z)) ≡ compare x y
-by-priority x y z f e = ap sign (toZ-ofZ w32 z (sfits-of f) ∙ e) ∙ sign-difference x y
+-- What a read of the difference of two places says.
+pub by-place : (a b : ℕ) → a < 96 → b < 96 → sign (toZ w32 (ofZ w32 (toZ w32 a -ℤ toZ w32 b))) ≡ compare a b
+by-place a b h k = ap sign (toZ-ofZ w32 _ (difference-fits a b h k) ∙ read-difference a b h k) ∙ sign-difference a b
 
 -- run-cmp, seen through cells.
-pub cell-cmp-run : {A : Type 0} (key : A → Str) (ws txt heads : List ℕ) (n a b : ℕ) {r s : Run A}
-    → Stands key ws txt heads n a r → Stands key ws txt heads n b s → run-cmp key r s ≡ cell-cmp ws txt heads n a b
+pub cell-cmp-run : {A : Type 0} (key : A → Str) (ws txt heads : List ℕ) (a b : ℕ) {r s : Run A}
+    → Stands key ws txt heads a r → Stands key ws txt heads b s → run-cmp key r s ≡ cell-cmp ws txt heads a b
 unfolding cell-cmp run-cmp
-cell-cmp-run key ws txt heads n a b p q = rw (p .key-is, q .key-is, p .priority-is, q .priority-is)
+cell-cmp-run key ws txt heads a b p q = rw (p .key-is, q .key-is, p .priority-is, q .priority-is)

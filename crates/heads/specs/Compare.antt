@@ -1,5 +1,5 @@
 -- How two cells compare: by the keys of their heads, then by their priorities.
-use Prim.Native.Nat.{ℕ, zero, suc, _+_, _-_, _≤_, _<_, compare, Ordering, Ordering·lt, Ordering·eq, Ordering·gt}
+use Prim.Native.Nat.{ℕ, zero, suc, _+_, _≤_, _<_, compare, Ordering, Ordering·lt, Ordering·eq, Ordering·gt}
 use mathlib.Core.Path.{_≡_}
 use mathlib.Core.List.{List}
 use lib.IntN.{ℤ, pos, negsuc}
@@ -26,10 +26,10 @@ pub record Heads (ws txt heads : List ℕ) (n : ℕ) : Type 0 where
   pub small : (j : ℕ) → j < n → getD heads j 0 ≤ most-used
   pub begun : (j : ℕ) → j < n → Begun ws txt heads j
 
--- The source's run-cmp on n cells: cell j has priority n - 1 - j.
-unfoldable pub cell-cmp : List ℕ → List ℕ → List ℕ → ℕ → ℕ → ℕ → Ordering
-cell-cmp ws txt heads n a b =
-    then (string-compare (key-at ws txt (getD heads a 0)) (key-at ws txt (getD heads b 0))) (compare (n - 1 - a) (n - 1 - b))
+-- The source's run-cmp on cells: a cell's place is its priority.
+unfoldable pub cell-cmp : List ℕ → List ℕ → List ℕ → ℕ → ℕ → Ordering
+cell-cmp ws txt heads a b =
+    then (string-compare (key-at ws txt (getD heads a 0)) (key-at ws txt (getD heads b 0))) (compare a b)
 
 -- The answer that a number gives by its sign.
 abbrev pub sign : ℤ → Ordering
@@ -37,7 +37,7 @@ sign (negsuc k) = Ordering·lt
 sign (pos zero) = Ordering·eq
 sign (pos (suc k)) = Ordering·gt
 
--- The cell j of n stands for the list r.
-pub record Stands {A : Type 0} (key : A → Str) (ws txt heads : List ℕ) (n j : ℕ) (r : Run A) : Type 0 where
+-- The cell j stands for the list r.
+pub record Stands {A : Type 0} (key : A → Str) (ws txt heads : List ℕ) (j : ℕ) (r : Run A) : Type 0 where
   pub key-is : key (first r) ≡ key-at ws txt (getD heads j 0)
-  pub priority-is : priority r ≡ n - 1 - j
+  pub priority-is : priority r ≡ j

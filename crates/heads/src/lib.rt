@@ -1,8 +1,7 @@
 // The lists of a merge, at most 96: each is a cell, whose head is a branch's link. How two cells compare.
 use text::Order;
 ghost use mathlib.Core.Path.{_≡_};
-ghost use Prim.Native.Nat.{_-_, _<_};
-ghost use lib.IntN.{pos, _-ℤ_};
+ghost use Prim.Native.Nat.{_<_};
 ghost use Rattle.source.specs.Lent.{old, new};
 ghost use Rattle.source.specs.Limits.{heaviest-list};
 ghost use Rattle.source.specs.Text.{string-compare};
@@ -40,15 +39,7 @@ fn compare_keys(words: &[u32], text: &[u8], x: u32, y: u32) -> Order
     c.order
 }
 
-// The difference of the priorities of two of `n` cells: a later cell has a smaller priority.
-fn priority_difference(n: usize, a: usize, b: usize) -> i32
-    requires { ⌜ (a < n) × (b < n) × (n < 97) ⌝ }
-    ensures { λ r. ⌜ r ≡ pos (n - 1 - a) -ℤ pos (n - 1 - b) ⌝ }
-{
-    (n - 1 - a) as i32 - (n - 1 - b) as i32
-}
-
-// The comparator of merge_increasing_lists_rev: by the keys of the heads, then by priority. Its sign is the answer.
+// The comparator of merge_increasing_lists_rev: by the keys of the heads, then by priority, which is a cell's place: the first holder comes first. Its sign is the answer.
 // The keys are read only where their beginnings are the same.
 pub fn cell_cmp(
     words: &[u32],
@@ -60,7 +51,7 @@ pub fn cell_cmp(
 ) -> i32
     requires { ⌜ Heads (now words) (now text) (now heads) n ⌝ }
     requires { ⌜ (a < n) × (b < n) ⌝ }
-    ensures { λ r. ⌜ sign r ≡ cell-cmp (old words) (old text) (old heads) n a b ⌝ }
+    ensures { λ r. ⌜ sign r ≡ cell-cmp (old words) (old text) (old heads) a b ⌝ }
 {
     let p = heads[CELLS + a];
     let q = heads[CELLS + b];
@@ -74,7 +65,7 @@ pub fn cell_cmp(
     let y = heads[b] as u32;
     match compare_keys(words, text, x, y) {
         Order::Less => -1,
-        Order::Same => priority_difference(n, a, b),
+        Order::Same => a as i32 - b as i32,
         Order::More => 1,
     }
 }

@@ -13,11 +13,11 @@ use Rattle.source.specs.Text.{Str, starts-with}
 use Rattle.source.specs.Types.{Level, Value, NameList, ns, []ᴺ}
 use Rattle.source.specs.Trees.{PathElem}
 use Rattle.source.specs.Terms.{depth, depth-names}
-use Rattle.source.specs.Listing.{SearchTerm, NSTAll, NSTNone, NSTPrefix, revmap-onto, names-revmap, matching-values, names-find-rev}
+use Rattle.source.specs.Listing.{SearchTerm, NSTAll, NSTNone, NSTPrefix, revmap-onto, names-revmap, matching-values, names-find-rev-first}
 use Rattle.source.specs.Lists.{nonempty, merge-nonempty, merge-increasing-lists-rev}
 use Rattle.source.specs.Shared.{Allˡ}
 use Rattle.source.proofs.Lookup.{Allˡ-map, Increasing}
-use Rattle.source.proofs.Rows.{names-find-rev-depth}
+use Rattle.source.proofs.Rows.{names-find-first-depth}
 use Rattle.source.specs.Forward.{found}
 use Rattle.memory.specs.Layout.{Which, Item, tree, list, what, key-at}
 use Rattle.memory.specs.Sound.{Used, At}
@@ -59,7 +59,7 @@ all-reverse P (x ∷ l) a = rw (reverse-cons x l) (all-append P (reverse l) (x �
 -- What is found in a list of namespaces is less deep than the list.
 found-deep : {A : Type 0} {v : Level} (n : NameList A v) (term : SearchTerm) → Allˡ (λ x. depth (x .1) < depth-names n) (found n term)
 unfolding found
-found-deep n term = all-reverse _ (names-find-rev n term) (names-find-rev-depth n term)
+found-deep n term = all-reverse _ (names-find-rev-first n term) (names-find-first-depth n term)
 
 -- No label.
 pub no-label : {ws txt : List ℕ} {w : Which} {v : Level} {n used : ℕ} → Used ws txt n used → LabelAt ws txt w v 0
@@ -273,7 +273,7 @@ entries-list {ws} {txt} {ask} {leaf = leaf} {x} says runs = record {
 -- ---- No list
 
 found-empty : {A : Type 0} {v : Level} (n : NameList A v) → n ≡ []ᴺ → (term : SearchTerm) → found n term ≡ []
-unfolding found names-find-rev matching-values names-revmap revmap-onto merge-increasing-lists-rev merge-nonempty nonempty
+unfolding found names-find-rev-first matching-values names-revmap revmap-onto merge-increasing-lists-rev merge-nonempty nonempty
 found-empty n e NSTAll = rw e
 found-empty n e NSTNone = refl
 found-empty n e (NSTPrefix []) = rw e

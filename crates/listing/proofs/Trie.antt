@@ -11,7 +11,7 @@ use lib.ListN.{length, getD, set, take, drop, length-drop}
 use Rattle.source.specs.Text.{Str, segments, ends-in-dot}
 use Rattle.source.specs.Types.{Level, Value, NameList, trie, ns, bindings, namespaces}
 use Rattle.source.specs.Terms.{depth, depth-names}
-use Rattle.source.specs.Listing.{PathOf, NSTNone, matching-values, names-find-rev}
+use Rattle.source.specs.Listing.{PathOf, NSTNone, matching-values, names-find-rev-first}
 use Rattle.source.specs.Calls.{output-text}
 use Rattle.source.specs.Forward.{entered}
 use Rattle.source.specs.Lists.{nonempty, merge-nonempty, merge-increasing-lists-rev}
@@ -44,7 +44,7 @@ inside a = record { entered = a .entered + 1; lines = a .lines; bytes = a .bytes
 
 -- Bindings are not searched while more than one segment is left.
 found-none : {A : Type 0} {v : Level} (n : NameList A v) → found n NSTNone ≡ []
-unfolding found names-find-rev matching-values merge-increasing-lists-rev merge-nonempty nonempty
+unfolding found names-find-rev-first matching-values merge-increasing-lists-rev merge-nonempty nonempty
 found-none n = refl
 
 module _ {w : Which} {ws txt : List ℕ} {lim : Limits} where

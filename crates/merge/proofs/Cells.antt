@@ -73,10 +73,10 @@ pub next-branch : {ws txt : List ℕ} {w : Which} {v : Level} {x : ℕ} {p : Str
     → Next (cell-tree g j l) p (getD (m .heads) j 0) r → BranchOf ws w v x r
 next-branch g {j} l m = record { some = m .match .branch .some; link = link-later (omega (arith, g .cells j l .root-link .earlier)) (m .match .branch .link) }
 
-pub stands : (ws txt : List ℕ) (p : Str) (roots heads labels : List ℕ) (n j : ℕ) → j < n
-    → Stands (entry-key ws txt) ws txt heads n j (run-at ws txt p roots heads labels n j)
+pub stands : (ws txt : List ℕ) (p : Str) (roots heads labels : List ℕ) (j : ℕ)
+    → Stands (entry-key ws txt) ws txt heads j (run-at ws txt p roots heads labels j)
 unfolding run-at first priority
-stands ws txt p roots heads labels n j l = record { key-is = refl; priority-is = refl }
+stands ws txt p roots heads labels j = record { key-is = refl; priority-is = refl }
 
 -- ---- How many are left
 module _ (ws txt : List ℕ) (p : Str) (roots heads roots′ heads′ : List ℕ) (c : ℕ)

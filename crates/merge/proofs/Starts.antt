@@ -1,5 +1,5 @@
 -- The start of a merge: the cells stand for what names_find_rev merges, so that the entries show what is found.
-use Prim.Native.Nat.{ℕ, zero, suc, _+_, _-_, _<_, _≤_}
+use Prim.Native.Nat.{ℕ, zero, suc, _+_, _<_, _≤_}
 use mathlib.Core.Path.{_≡_, refl, sym, ap, ap₂, _∙_}
 use mathlib.Core.List.{List, [], _∷_, map, map-map, nil≢cons}
 use mathlib.Core.Option.{Option, none, some}
@@ -56,25 +56,25 @@ built-ext key r r′ (suc k) e = ap₂ (heap-insert (run-cmp key)) (built-ext ke
 
 module _ (ws txt : List ℕ) (p : Str) (roots heads labels : List ℕ) (n : ℕ) where
   abbrev val : ℕ → Run Entry
-  val = run-at ws txt p roots heads labels n
+  val = run-at ws txt p roots heads labels
 
   abbrev cells-heap : ℕ → Heap ℕ
-  cells-heap k = heap-from-list (cell-cmp ws txt heads n) (first-cells k)
+  cells-heap k = heap-from-list (cell-cmp ws txt heads) (first-cells k)
 
-  insert-below : (g : Heap ℕ) (k : ℕ) → k < n → All (λ j. j < n) g → All (λ j. j < n) (heap-insert (cell-cmp ws txt heads n) g k)
+  insert-below : (g : Heap ℕ) (k : ℕ) → k < n → All (λ j. j < n) g → All (λ j. j < n) (heap-insert (cell-cmp ws txt heads) g k)
   unfolding heap-insert
-  insert-below g k l a = All-merge (cell-cmp ws txt heads n) (λ j. j < n) (HeapOf k []ᶠ) g (l, tt) a
+  insert-below g k l a = All-merge (cell-cmp ws txt heads) (λ j. j < n) (HeapOf k []ᶠ) g (l, tt) a
 
   built-cells : (k : ℕ) → k ≤ n → All (λ j. j < n) (cells-heap k) × (built (entry-key ws txt) val k ≡ heap-map val (cells-heap k))
   unfolding built heap-from-list first-cells heap-insert-all
   built-cells zero h = (tt, refl)
   built-cells (suc k) h =
       let b = built-cells k (omega arith) in
-      rw (insert-all-more (cell-cmp ws txt heads n) EmptyHeap (first-cells k) k) (
+      rw (insert-all-more (cell-cmp ws txt heads) EmptyHeap (first-cells k) k) (
         insert-below (cells-heap k) k (omega arith) (b .0),
         ap (λ (g : Heap (Run Entry)). heap-insert (run-cmp (entry-key ws txt)) g (val k)) (b .1)
-            ∙ map-insert val (cell-cmp ws txt heads n) (run-cmp (entry-key ws txt)) (λ j. j < n)
-            (λ i j a c. cell-cmp-run (entry-key ws txt) ws txt heads n i j (stands ws txt p roots heads labels n i a) (stands ws txt p roots heads labels n j c))
+            ∙ map-insert val (cell-cmp ws txt heads) (run-cmp (entry-key ws txt)) (λ j. j < n)
+            (λ i j a c. cell-cmp-run (entry-key ws txt) ws txt heads i j (stands ws txt p roots heads labels i) (stands ws txt p roots heads labels j))
             (cells-heap k) k (b .0) (omega arith),
       )
 
@@ -104,7 +104,7 @@ module _ (ws txt : List ℕ) where
   -- The list of the k-th part.
   run-of : Str → List ℕ → List (TreePart ws txt) → ℕ → Run (Match ws txt)
   run-of p heads parts k =
-      run (length parts - 1 - k) (match-of (getD parts k no-part) (getD heads k 0))
+      run k (match-of (getD parts k no-part) (getD heads k 0))
       (map (match-of (getD parts k no-part)) (later ws txt p (getD parts k no-part .root) (getD heads k 0)))
 
   module _ (w : Which) (v : Level) (q : Option Str) where
@@ -167,7 +167,7 @@ module _ {ws txt : List ℕ} {w : Which} {v : Level} {x : ℕ} {p : Str} {roots 
         let l : k < length parts = omega (arith, length-map parts (elements w ws txt v q p)) in
         let o = part-at 0 parts a k k (omega arith) l in
         let c = getD parts k (no-part ws txt) in (
-          rw (length-map parts (elements w ws txt v q p)),
+          refl,
           sym (getD-map (elements w ws txt v q p) parts k (no-part ws txt) [] l
               ∙ ap (λ (l : List ℕ). with-imports (c .imports, map (row-at w ws txt v q) l)) (part-later o)
               ∙ part-elements ws txt w v q c (getD heads k 0 ∷ later ws txt p (c .root) (getD heads k 0))),
@@ -177,7 +177,7 @@ module _ {ws txt : List ℕ} {w : Which} {v : Level} {x : ℕ} {p : Str} {roots 
     unfolding run-at run-of
     runs-same n e k l =
         let o = part-at 0 parts a k k (omega arith) (omega arith) in
-        rw (e, o .root-is, o .label-is, map-map)
+        rw (o .root-is, o .label-is, map-map)
 
 -- ---- merge_start
 ordered : {ws txt : List ℕ} {w : Which} {v : Level} {x : ℕ} (t : At ws txt w (list v) x) → OrderedN (what w ws txt x (list v))
@@ -200,7 +200,7 @@ module _ {ws txt : List ℕ} {p : Str} {x n : ℕ} {roots₀ heads₀ labels₀ 
       begun = λ j l. has-cell j l .begun;
     }
 
-  pub starts : {child next : List ℕ} {root : ℕ} → n ≤ 96 → Rep n child next root (heap-from-list (cell-cmp ws txt heads n) (first-cells n))
+  pub starts : {child next : List ℕ} {root : ℕ} → n ≤ 96 → Rep n child next root (heap-from-list (cell-cmp ws txt heads) (first-cells n))
       → Starts ws txt x p (state roots heads labels child next n root 0)
   unfolding match-lists
   starts {child} {next} {root} few rep w v t =

@@ -82,7 +82,7 @@ module _ {ws txt : List ℕ} {p : Str} {n root last : ℕ} {roots heads labels c
       go (HeapOf c hh) o h q =
           let k = takes .took labels last w v x (HeapOf c hh) o in
           let a = o .cells c (k .below) in
-          let val = run-at ws txt p roots heads labels n in
+          let val = run-at ws txt p roots heads labels in
           let few : held (heap-of ws txt p m′ (k .heap)) ≤ g .fuel =
           omega (arith, ap held (k .heap-is), held-popped (entry-key ws txt) (val c) (forest-map val hh)) in
           record {

@@ -33,36 +33,36 @@ use Rattle.merge.proofs.Cells.{Next, later-end, later-next, branch-head
 use Rattle.memory.proofs.At.{no-link}
 
 -- A cell's lists before and after a change of another cell.
-run-same : (ws txt : List ℕ) (p : Str) (roots heads roots′ heads′ labels : List ℕ) (n j : ℕ)
+run-same : (ws txt : List ℕ) (p : Str) (roots heads roots′ heads′ labels : List ℕ) (j : ℕ)
     → getD roots j 0 ≡ getD roots′ j 0 → getD heads j 0 ≡ getD heads′ j 0
-    → run-at ws txt p roots heads labels n j ≡ run-at ws txt p roots′ heads′ labels n j
+    → run-at ws txt p roots heads labels j ≡ run-at ws txt p roots′ heads′ labels j
 unfolding run-at
-run-same ws txt p roots heads roots′ heads′ labels n j e f = rw (e, f)
+run-same ws txt p roots heads roots′ heads′ labels j e f = rw (e, f)
 
 module _ {ws txt : List ℕ} {w : Which} {v : Level} {x : ℕ} {p : Str} {n root last c : ℕ} {roots heads labels child next : List ℕ} {hh : Forest ℕ}
     (g : Holding ws txt w v x p (state roots heads labels child next n root last) (HeapOf c hh)) where
   abbrev val : ℕ → Run Entry
-  val = run-at ws txt p roots heads labels n
+  val = run-at ws txt p roots heads labels
 
   abbrev others : Heap ℕ
-  others = heap-merge-pairs (cell-cmp ws txt heads n) hh
+  others = heap-merge-pairs (cell-cmp ws txt heads) hh
 
   below : c < n
   below = g .rep .holds .1
 
   free : count c others ≡ 0
-  free = omega (arith, sum-pairs (cell-cmp ws txt heads n) (is c) hh, is-self c, g .rep .once c)
+  free = omega (arith, sum-pairs (cell-cmp ws txt heads) (is c) hh, is-self c, g .rep .once c)
 
   not-c : (j : ℕ) → 0 < count j others → j ≡ c → ⊥
   not-c j l e = omega (arith, free, ap (λ (k : ℕ). count k others) e)
 
   live-still : (j : ℕ) → 0 < count j others → 0 < getD roots j 0
-  live-still j l = g .live j (omega (arith, sum-pairs (cell-cmp ws txt heads n) (is j) hh))
+  live-still j l = g .live j (omega (arith, sum-pairs (cell-cmp ws txt heads) (is j) hh))
 
   popped-is : popped (entry-key ws txt) (val c) (forest-map val hh) ≡ put-back (entry-key ws txt) (val c) (heap-map val others)
   popped-is =
       ap (put-back (entry-key ws txt) (val c))
-      (stands-pairs (entry-key ws txt) ws txt heads n val (stands ws txt p roots heads labels n) hh (rep-below n child next (g .few) (g .rep) .1))
+      (stands-pairs (entry-key ws txt) ws txt heads n val (λ j l. stands ws txt p roots heads labels j) hh (rep-below n child next (g .few) (g .rep) .1))
 
   -- Its list is at its end.
   module _ (rest : ℕ) (child′ next′ : List ℕ) (made : Makes n child next child′ next′ rest others)
@@ -103,8 +103,8 @@ module _ {ws txt : List ℕ} {w : Which} {v : Level} {x : ℕ} {p : Str} {n root
         live = λ j l. rw (getD-set-other roots c j 0 0 (not-c j l)) (live-still j l);
       };
       heap-is = sym (popped-is ∙ val-end
-          ∙ map-same val (run-at ws txt p (set roots c 0) heads labels n) (λ j. j ≡ c → ⊥)
-          (λ j ne. run-same ws txt p roots heads (set roots c 0) heads labels n j (sym (getD-set-other roots c j 0 0 ne)) refl)
+          ∙ map-same val (run-at ws txt p (set roots c 0) heads labels) (λ j. j ≡ c → ⊥)
+          (λ j ne. run-same ws txt p roots heads (set roots c 0) heads labels j (sym (getD-set-other roots c j 0 0 ne)) refl)
           others (all-counted (λ j. j ≡ c → ⊥) others not-c));
       fewer = remaining-less ws txt p roots heads (set roots c 0) heads c (λ j l ne. (getD-set-other roots c j 0 0 ne, refl)) n (g .few) below
           (rw (getD-set-same roots c 0 0 (omega (arith, below, g .few, g .full .of-roots)), ne-eqb (getD roots c 0) 0 (λ z. omega (arith, g .live c (omega (arith, is-self c)))))
@@ -113,9 +113,9 @@ module _ {ws txt : List ℕ} {w : Which} {v : Level} {x : ℕ} {p : Str} {n root
 
   -- It goes on with the branch r.
   module _ (r : ℕ) (next-match : Next (cell-tree g c below) p (getD heads c 0) r) (rest top : ℕ) (child′ next′ child″ next″ : List ℕ) (made : Makes n child next child′ next′ rest others)
-      (inserted : Inserts (cell-cmp ws txt (with-head ws txt heads c r) n) n child′ next′ child″ next″ top rest c) where
+      (inserted : Inserts (cell-cmp ws txt (with-head ws txt heads c r)) n child′ next′ child″ next″ top rest c) where
     abbrev val′ : ℕ → Run Entry
-    val′ = run-at ws txt p roots (with-head ws txt heads c r) labels n
+    val′ = run-at ws txt p roots (with-head ws txt heads c r) labels
 
     small : c < 96
     small = omega (arith, below, g .few)
@@ -139,7 +139,7 @@ module _ {ws txt : List ℕ} {w : Which} {v : Level} {x : ℕ} {p : Str} {n root
           cell-is = refl;
           below = below;
           branch-is = refl;
-          heap = heap-insert (cell-cmp ws txt (with-head ws txt heads c r) n) others c;
+          heap = heap-insert (cell-cmp ws txt (with-head ws txt heads c r)) others c;
           holding = record {
             here = g .here;
             few = g .few;
@@ -166,12 +166,12 @@ module _ {ws txt : List ℕ} {w : Which} {v : Level} {x : ℕ} {p : Str} {n root
             rep = m .rep;
             live = λ j l. elim (ℕ-discrete j c) [
               | yes q ↦ rw q (g .live c (omega (arith, is-self c)))
-              | no ne ↦ live-still j (omega (arith, sum-merge (cell-cmp ws txt (with-head ws txt heads c r) n) (is j) (HeapOf c []ᶠ) others, is-other j c ne))
+              | no ne ↦ live-still j (omega (arith, sum-merge (cell-cmp ws txt (with-head ws txt heads c r)) (is j) (HeapOf c []ᶠ) others, is-other j c ne))
             ];
           };
           heap-is = sym (popped-is ∙ val-next
-              ∙ stands-insert (entry-key ws txt) ws txt (with-head ws txt heads c r) n val′ (stands ws txt p roots (with-head ws txt heads c r) labels n) val c below
-              (λ j l ne. run-same ws txt p roots heads roots (with-head ws txt heads c r) labels n j refl (sym (head-other j l ne)))
+              ∙ stands-insert (entry-key ws txt) ws txt (with-head ws txt heads c r) n val′ (λ j l. stands ws txt p roots (with-head ws txt heads c r) labels j) val c below
+              (λ j l ne. run-same ws txt p roots heads roots (with-head ws txt heads c r) labels j refl (sym (head-other j l ne)))
               others (rep-below n child′ next′ (g .few) (made .rep)) free);
           fewer = remaining-less ws txt p roots heads roots (with-head ws txt heads c r) c (λ j l ne. (refl, other-head ws txt heads c r small j l ne)) n (g .few) below
               (rw (head-set, ne-eqb (getD roots c 0) 0 (λ z. omega (arith, g .live c (omega (arith, is-self c))))) (omega (arith, ap length (next-match .is-next))));
@@ -179,7 +179,7 @@ module _ {ws txt : List ℕ} {w : Which} {v : Level} {x : ℕ} {p : Str} {n root
 
 -- ---- What take answers
 module _ {ws txt : List ℕ} {p : Str} {n root : ℕ} {roots heads child next child′ next′ : List ℕ} where
-  pub takes-none : {b r : ℕ} → Pops (cell-cmp ws txt heads n) n child next child′ next′ Nothing root
+  pub takes-none : {b r : ℕ} → Pops (cell-cmp ws txt heads) n child next child′ next′ Nothing root
       → Takes ws txt p n root roots heads child next roots heads child′ next′ (record { cell = 96; branch = b; root = r })
   unfolding heap-pop
   takes-none {b} {r} pop = record { took = λ labels last w v x h g. go labels last w v x h (g .rep) }
@@ -189,7 +189,7 @@ module _ {ws txt : List ℕ} {p : Str} {n root : ℕ} {roots heads child next ch
       go labels last w v x EmptyHeap s = refl
       go labels last w v x (HeapOf c hh) s = absurd (pop (HeapOf c hh) s)
 
-  module _ {cell rest : ℕ} {roots′ heads′ child″ next″ : List ℕ} {t : Taken} (pop : Pops (cell-cmp ws txt heads n) n child next child′ next′ (Least cell rest) root) where
+  module _ {cell rest : ℕ} {roots′ heads′ child″ next″ : List ℕ} {t : Taken} (pop : Pops (cell-cmp ws txt heads) n child next child′ next′ (Least cell rest) root) where
     takes-some : ((labels : List ℕ) (last : ℕ) (w : Which) (v : Level) (x c : ℕ) (hh : Forest ℕ) (g : Holding ws txt w v x p (state roots heads labels child next n root last) (HeapOf c hh))
         → cell ≡ c → Makes n child next child′ next′ rest (others g)
         → TookCell ws txt w v x p (state roots heads labels child next n root last) (state roots′ heads′ labels child″ next″ n (t .root) last) t c hh)
@@ -206,7 +206,7 @@ module _ {ws txt : List ℕ} {p : Str} {n root : ℕ} {roots heads child next ch
 
 pub record Least-cell (ws txt : List ℕ) (p : Str) (n root : ℕ) (roots heads child next child′ next′ : List ℕ) (cell rest : ℕ) : Type 0 where
   pub ready : CellsReady ws txt p n root roots heads child next
-  pub pops : Pops (cell-cmp ws txt heads n) n child next child′ next′ (Least cell rest) root
+  pub pops : Pops (cell-cmp ws txt heads) n child next child′ next′ (Least cell rest) root
 
 module _ {ws txt : List ℕ} {p : Str} {n root cell rest : ℕ} {roots heads child next child′ next′ : List ℕ} (k : Least-cell ws txt p n root roots heads child next child′ next′ cell rest) where
   abbrev y : CellsReady ws txt p n root roots heads child next
@@ -262,7 +262,7 @@ module _ {ws txt : List ℕ} {p : Str} {n root cell rest : ℕ} {roots heads chi
             (popped-cell .1, l),
           )
 
-      pub takes-next : {top : ℕ} {child″ next″ : List ℕ} → Inserts (cell-cmp ws txt (with-head ws txt heads cell r) n) n child′ next′ child″ next″ top rest cell
+      pub takes-next : {top : ℕ} {child″ next″ : List ℕ} → Inserts (cell-cmp ws txt (with-head ws txt heads cell r)) n child′ next′ child″ next″ top rest cell
           → Takes ws txt p n root roots heads child next roots (with-head ws txt heads cell r) child″ next″ (record { cell = cell; branch = getD heads cell 0; root = top })
       takes-next {top} {child″} {next″} inserted =
           takes-some (k .pops)

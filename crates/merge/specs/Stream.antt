@@ -1,5 +1,5 @@
 -- The state of a merge, and the entries that it still gives.
-use Prim.Native.Nat.{ℕ, zero, suc, _+_, _-_, _<_, _≤_}
+use Prim.Native.Nat.{ℕ, zero, suc, _+_, _<_, _≤_}
 use mathlib.Core.Path.{_≡_}
 use mathlib.Core.Bool.{true, cond}
 use mathlib.Core.List.{List, [], _∷_, map, List·Memᴰ}
@@ -53,10 +53,10 @@ pub record Step : Type 0 where
 abbrev pub later : (ws txt : List ℕ) (p : Str) (root head : ℕ) → List ℕ
 later ws txt p root head = after (key-at ws txt) (key-at ws txt head) (matches ws txt root p)
 
--- The list that the cell j of n stands for: its head, and the later matches of its tree.
-unfoldable pub run-at : (ws txt : List ℕ) (p : Str) (roots heads labels : List ℕ) (n j : ℕ) → Run Entry
-run-at ws txt p roots heads labels n j =
-    run (n - 1 - j) (record { branch = getD heads j 0; label = getD labels j 0 })
+-- The list that the cell j stands for: its head, and the later matches of its tree.
+unfoldable pub run-at : (ws txt : List ℕ) (p : Str) (roots heads labels : List ℕ) (j : ℕ) → Run Entry
+run-at ws txt p roots heads labels j =
+    run j (record { branch = getD heads j 0; label = getD labels j 0 })
     (map (λ b. record { branch = b; label = getD labels j 0 }) (later ws txt p (getD roots j 0) (getD heads j 0)))
 
 -- How many branches a cell has left, none once its tree is 0.
@@ -88,7 +88,7 @@ pub record Holding (ws txt : List ℕ) (w : Which) (v : Level) (x : ℕ) (p : St
 
 -- The lists of a heap of cells.
 abbrev pub heap-of : (ws txt : List ℕ) (p : Str) (m : Merge) → Heap ℕ → Heap (Run Entry)
-heap-of ws txt p m h = heap-map (run-at ws txt p (m .roots) (m .heads) (m .labels) (m .n)) h
+heap-of ws txt p m h = heap-map (run-at ws txt p (m .roots) (m .heads) (m .labels)) h
 
 -- The last entry given, by the link of its branch, 0 for none yet.
 abbrev pub Last : (ws : List ℕ) (w : Which) (v : Level) (x l : ℕ) → Option Entry → Type 0
@@ -155,8 +155,8 @@ pub record TookCell (ws txt : List ℕ) (w : Which) (v : Level) (x : ℕ) (p : S
   pub branch-is : t .branch ≡ getD (m .heads) c 0
   pub heap : Heap ℕ
   pub holding : Holding ws txt w v x p m′ heap
-  pub heap-is : heap-of ws txt p m′ heap ≡ popped (entry-key ws txt) (run-at ws txt p (m .roots) (m .heads) (m .labels) (m .n) c)
-      (forest-map (run-at ws txt p (m .roots) (m .heads) (m .labels) (m .n)) hh)
+  pub heap-is : heap-of ws txt p m′ heap ≡ popped (entry-key ws txt) (run-at ws txt p (m .roots) (m .heads) (m .labels) c)
+      (forest-map (run-at ws txt p (m .roots) (m .heads) (m .labels)) hh)
   pub fewer : remaining ws txt p (m′ .roots) (m′ .heads) (m .n) < remaining ws txt p (m .roots) (m .heads) (m .n)
 
 -- What is taken of a heap: cell 96 of the empty one.

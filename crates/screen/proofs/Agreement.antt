@@ -9,8 +9,10 @@ use Rattle.source.specs.Table as S
 use Rattle.source.specs.Table.{Line}
 use Rattle.source.specs.Calls as C
 use Rattle.source.specs.Calls.{look-up, lowest, argument-rows, Output, complete, complete-modules}
-use Rattle.source.specs.Agreement.{Covers, Agreement}
+use Rattle.source.specs.Agreement.{Covers, without-last, lines-of-text, Shows}
+use Rattle.source.specs.declared.LidSymbol.{LidSymbol}
 use Rattle.source.proofs.Agreement.{agreement}
+use Rattle.source.proofs.Worded.{covers-itself}
 use Rattle.source.proofs.Refusals.{look-up-refused, completed-refused}
 use Rattle.source.specs.declared.KindFilter.the-variants.{Every}
 use Rattle.memory.specs.Layout.{names, modules, Item}
@@ -61,23 +63,23 @@ module _ (st bs txt : List ℕ) (name query : Str) (budget : ℕ) (ls ls′ out 
 
   names-agree : (b : Bool) → Says b (SoundBytes st bs txt) → (f : NameReply) → f ≡ name-reply (look-up b (names-in (words-in bs) txt (table-at st)) name) → Answered (f .answer)
       → ListsAs (Names Every) (words-in bs) txt ls ls′ out out′ l (complete b tbl Every budget (output ls out) query) → l .answer ≡ 0
-      → (f ≡ name-reply (look-up true (names-in (words-in bs) txt (table-at st)) name)) × Agreement (names-in (words-in bs) txt (table-at st)) name (lines-seen names txt ls′ out′ (l .lines))
+      → (a : C.Found LidSymbol) × (f ≡ name-reply a) × Shows (lines-of-text (without-last name) (lines-seen names txt ls′ out′ (l .lines))) a
   unfolding look-up lowest argument-rows
   names-agree false s f e h c z = absurd (name-answered (C.refused 1) e h (λ n i. let j : 1 ≡ n = cc in (omega arith, omega arith)))
   names-agree true s f e h c z =
       let ok = name-answered _ e h (λ n. look-up-refused true (names-in (words-in bs) txt (table-at st)) name) in
       let k = listed-bytes (Names Every) (words-in bs) txt ls ls′ out out′ l _ c z (λ n. names-refused true tbl budget (output ls out) query) in
-      (e, rw (k .3) (agreement .names tbl (sound-table (s .sound)) name query budget (output ls out) (k .0) (k .1) ok (k .2) cover))
+      (look-up true (names-in (words-in bs) txt (table-at st)) name, e, rw (k .3) (agreement .names tbl (sound-table (s .sound)) name query budget (output ls out) (k .0) (k .1) ok (k .2) cover))
 
   modules-agree : (b : Bool) → Says b (SoundBytes st bs txt) → (f : ModuleReply) → SaysModule txt (look-up b (modules-in (words-in bs) txt (table-at st)) name) f → Answered (f .answer)
       → ListsAs (Modules All) (words-in bs) txt ls ls′ out out′ l (complete-modules b tbl C.All budget (output ls out) query) → l .answer ≡ 0
-      → SaysModule txt (look-up true (modules-in (words-in bs) txt (table-at st)) name) f × Agreement (modules-in (words-in bs) txt (table-at st)) name (lines-seen modules txt ls′ out′ (l .lines))
+      → (a : C.Found S.ModSymbol) × SaysModule txt a f × Shows (lines-of-text (without-last name) (lines-seen modules txt ls′ out′ (l .lines))) a
   unfolding look-up lowest argument-rows
   modules-agree false s f e h c z = absurd (module-answered txt (e .found) {a = C.refused 1} (e .reply) (e .says) h (λ n i. let j : 1 ≡ n = cc in (omega arith, omega arith)))
   modules-agree true s f e h c z =
       let ok = module-answered txt (e .found) (e .reply) (e .says) h (λ n. look-up-refused true (modules-in (words-in bs) txt (table-at st)) name) in
       let k = listed-bytes (Modules All) (words-in bs) txt ls ls′ out out′ l _ c z (λ n. modules-refused true tbl budget (output ls out) query) in
-      (e, rw (k .3) (agreement .modules tbl (sound-table (s .sound)) name query budget (output ls out) (k .0) (k .1) ok (k .2) cover))
+      (look-up true (modules-in (words-in bs) txt (table-at st)) name, e, rw (k .3) (agreement .modules tbl (sound-table (s .sound)) name query budget (output ls out) (k .0) (k .1) ok (k .2) cover))
 
 -- Demand 3, of the exported calls.
 pub bytes-agree : BytesAgree
@@ -87,4 +89,8 @@ bytes-agree = record {
       names-agree st bs txt name query budget ls ls′ out out′ l cover b s f (found .says b s) ok (c .says b s) z;
   of-modules = λ st bs txt b s name query f budget ls ls′ out out′ l found ok c z cover.
       modules-agree st bs txt name query budget ls ls′ out out′ l cover b s f (found .says b s) ok (c .says b s) z;
+  in-full = λ st bs txt b s name f budget ls ls′ out out′ l found ok c z.
+      names-agree st bs txt name name budget ls ls′ out out′ l (covers-itself (segments name)) b s f (found .says b s) ok (c .says b s) z;
+  module-in-full = λ st bs txt b s name f budget ls ls′ out out′ l found ok c z.
+      modules-agree st bs txt name name budget ls ls′ out out′ l (covers-itself (segments name)) b s f (found .says b s) ok (c .says b s) z;
 }

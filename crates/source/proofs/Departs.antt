@@ -10,14 +10,14 @@ use lib.ListN.{length, length-map}
 use Rattle.source.specs.Text.{Str, Query, segments}
 use Rattle.source.specs.Types.{Level, Value, Trie, NameList, bind, the-item, bindings, namespaces}
 use Rattle.source.specs.Trees.{PathElem}
-use Rattle.source.specs.Terms.{flatten, holders, first-of, depth}
+use Rattle.source.specs.Terms.{flatten, holders, first-of, last-of, depth}
 use Rattle.source.specs.Listing.{PathOf, SearchTerm, of-source, by-first, rev-map-onto, ns-search-term, bindings-search-term, elem-key, names-find-rev, names-find-rev-first, trie-find-prefix, trie-find-prefix-first}
 use Rattle.source.specs.Table.{Table, Line, string-of-path, completion-result-of-lid, completion-result-of-ns-or-mod, autocomplete-lid, autocomplete-lid-first, autocomplete-mod-or-ns, autocomplete-mod-or-ns-first}
 use Rattle.source.specs.Counted.{Counted, one, _>>=_, fold-leftᶜ, find-prefix-fuelᶜ, trie-find-prefix′ᶜ}
 use Rattle.source.specs.Rules.{Formed, IsKey, IsLabel, NameItem, ModItem, SoundTrie, SoundTable}
 use Rattle.source.specs.Calls.{is-empty}
 use Rattle.source.specs.Agreement.{Covers, without-last, lines-of-text}
-use Rattle.source.specs.Departs.{last-of, to-list, with-key, rows-of, ListDeparts, OneHolderEach, SameRun, OneHolder, SameLine, Departs}
+use Rattle.source.specs.Departs.{to-list, with-key, rows-of, ListDeparts, OneHolderEach, SameRun, OneHolder, SameLine, Departs}
 use Rattle.source.specs.Shared.{Allˡ}
 use Rattle.source.proofs.Lookup.{Same, same-view, lookup, decreasing-unique, Allˡ-zip}
 use Rattle.source.proofs.Trees.{valof}

@@ -13,8 +13,8 @@ use Rattle.source.specs.Shared.{same, Allˡ}
 use Rattle.source.proofs.Lookup.{Same, same-view, lookup, first-lookup, Above, Increasing, Decreasing, or-else-none, lookup-above, lookup-below}
 use Rattle.source.proofs.Lists.{merge-decreasing, merge-at}
 use Rattle.source.specs.Listing.{SearchTerm, NSTAll, NSTNone, NSTPrefix, revmap-onto, names-revmap, matching-values, with-imports, elem-key, names-find-rev, names-find-rev-first}
-use Rattle.source.specs.Terms.{flatten, found-onto, holders, first-of}
-use Rattle.source.specs.Departs.{last-of, to-list, with-key, rows-of}
+use Rattle.source.specs.Terms.{flatten, found-onto, holders, first-of, last-of}
+use Rattle.source.specs.Departs.{to-list, with-key, rows-of}
 use Rattle.source.proofs.Trees.{gate, valof, or-assoc, entry-key, find-prefix-ascends, find-prefix-exactly, find-all-ascends, find-all-exactly}
 use Rattle.source.proofs.Lines.{flatMap-append}
 use Rattle.source.specs.Forward.{tree-matches}

@@ -2,8 +2,6 @@
 use Prim.Native.Nat.{Ordering, Ordering·lt, Ordering·eq, Ordering·gt}
 use mathlib.Core.Path.{_≡_, refl, sym, ap, _∙_}
 use mathlib.Core.Bool.{Bool, true, false, true≢false, false≢true}
-use mathlib.Core.List.{[], _∷_}
-use borrow.Author.Tests.{eq-eqb}
 use Rattle.source.specs.Text.{Str, string-compare, starts-with}
 use Rattle.source.specs.Rules.{_<ˢ_}
 use Rattle.source.proofs.Order.{View, compare-strings, <ˢ-irrefl, <ˢ-trans, starts-self}

@@ -1,6 +1,6 @@
 -- Demand 3 of the typed completion follows from its contract and from the theorem over the definitions.
 use Prim.Native.Nat.{ℕ, _+_}
-use mathlib.Core.Path.{_≡_}
+use mathlib.Core.Path.{_≡_, sym, _∙_}
 use mathlib.Core.Bool.{Bool, true, false}
 use mathlib.Core.List.{List}
 use mathlib.Core.Option.{Option·none-ne-some}
@@ -11,8 +11,9 @@ use Rattle.source.specs.Table as S
 use Rattle.source.specs.Table.{ModSymbol}
 use Rattle.source.specs.Calls as C
 use Rattle.source.specs.Calls.{look-up, lowest, argument-rows, output-text, complete, complete-modules}
-use Rattle.source.specs.Agreement.{Covers, NotRefused, Agreement}
+use Rattle.source.specs.Agreement.{Covers, NotRefused, without-last, lines-of-text, Shows}
 use Rattle.source.proofs.Agreement.{agreement}
+use Rattle.source.proofs.Worded.{covers-itself}
 use Rattle.source.specs.declared.LidSymbol.{LidSymbol}
 use Rattle.source.specs.declared.KindFilter.the-variants.{Every}
 use Rattle.memory.specs.Layout.{names, modules, Item}
@@ -28,7 +29,7 @@ use Rattle.roots.specs.Completions.{CompletesAs}
 use Rattle.table.specs.declared.Table.{Table}
 use Rattle.roots.specs.declared.Completed.the-variants.{Listed}
 use Rattle.typed.specs.Completions.{output, ShownAs}
-use Rattle.typed.specs.Agreement.{LinesStand, TypedAgree}
+use Rattle.typed.specs.Agreement.{LinesStand, ShownAlike, TypedAgree}
 use Rattle.typed.specs.declared.Line.{Line}
 
 -- A listing that was not refused.
@@ -46,22 +47,24 @@ module _ (ws txt : List ℕ) (t : Table) (name query : Str) (budget : ℕ) (ls l
   names-agree : (b : Bool) → Says b (IsSound ws txt t) → (a : C.Found LidSymbol) → a ≡ look-up b (names-in ws txt t) name → NotRefused a
       → CompletesAs (Names Every) ws txt flat flat′ out out′ (Listed n entered) (complete b (table-in ws txt t) Every budget (output (length ls) flat out) query)
       → ShownAs (Names Every) txt ls ls′ (complete b (table-in ws txt t) Every budget (output (length ls) flat out) query)
-      → (a ≡ look-up true (names-in ws txt t) name) × ((lines : List (S.Line LidSymbol)) × LinesStand names txt ls ls′ out out′ n lines × Agreement (names-in ws txt t) name lines)
+      → ShownAlike names txt ls ls′ out out′ n name a
   unfolding look-up lowest argument-rows
   names-agree false s a f ok c v = absurd (rw f at ok)
   names-agree true s a f ok c v =
       let l = listed-lines (Names Every) ws txt flat flat′ out out′ ls ls′ n entered _ c v in
-      (f, (l .0, l .2, agreement .names (table-in ws txt t) (sound-table s) name query budget (output (length ls) flat out) (l .0) entered (rw f at ok) (l .1) cover))
+      let shown : Shows (lines-of-text (without-last name) (l .0)) a = rw f (agreement .names (table-in ws txt t) (sound-table s) name query budget (output (length ls) flat out) (l .0) entered (rw f at ok) (l .1) cover) in
+      (l .0, l .2, shown)
 
   modules-agree : (b : Bool) → Says b (IsSound ws txt t) → (a : C.Found ModSymbol) → a ≡ look-up b (modules-in ws txt t) name → NotRefused a
       → CompletesAs (Modules All) ws txt flat flat′ out out′ (Listed n entered) (complete-modules b (table-in ws txt t) C.All budget (output (length ls) flat out) query)
       → ShownAs (Modules All) txt ls ls′ (complete-modules b (table-in ws txt t) C.All budget (output (length ls) flat out) query)
-      → (a ≡ look-up true (modules-in ws txt t) name) × ((lines : List (S.Line ModSymbol)) × LinesStand modules txt ls ls′ out out′ n lines × Agreement (modules-in ws txt t) name lines)
+      → ShownAlike modules txt ls ls′ out out′ n name a
   unfolding look-up lowest argument-rows
   modules-agree false s a f ok c v = absurd (rw f at ok)
   modules-agree true s a f ok c v =
       let l = listed-lines (Modules All) ws txt flat flat′ out out′ ls ls′ n entered _ c v in
-      (f, (l .0, l .2, agreement .modules (table-in ws txt t) (sound-table s) name query budget (output (length ls) flat out) (l .0) entered (rw f at ok) (l .1) cover))
+      let shown : Shows (lines-of-text (without-last name) (l .0)) a = rw f (agreement .modules (table-in ws txt t) (sound-table s) name query budget (output (length ls) flat out) (l .0) entered (rw f at ok) (l .1) cover) in
+      (l .0, l .2, shown)
 
 -- Demand 3, of the typed completion.
 pub typed-agree : TypedAgree
@@ -70,4 +73,8 @@ typed-agree = record {
       names-agree ws txt t name query budget ls ls′ flat flat′ out out′ n entered cover b s (name-found (f .answer)) (found .says b s) ok (rw e at (c .says b s)) (c .shows b s);
   of-modules = λ ws txt t b s name query f budget ls ls′ flat flat′ out out′ l n entered found ok c e cover.
       modules-agree ws txt t name query budget ls ls′ flat flat′ out out′ n entered cover b s (module-found txt (f .answer)) (found .says b s) ok (rw e at (c .says b s)) (c .shows b s);
+  in-full = λ ws txt t b s name f budget ls ls′ flat flat′ out out′ l n entered x found is c e.
+      names-agree ws txt t name name budget ls ls′ flat flat′ out out′ n entered (covers-itself (segments name)) b s (C.found x) (sym is ∙ found .says b s) tt (rw e at (c .says b s)) (c .shows b s);
+  module-in-full = λ ws txt t b s name f budget ls ls′ flat flat′ out out′ l n entered x found is c e.
+      modules-agree ws txt t name name budget ls ls′ flat flat′ out out′ n entered (covers-itself (segments name)) b s (C.found x) (sym is ∙ found .says b s) tt (rw e at (c .says b s)) (c .shows b s);
 }

@@ -13,7 +13,7 @@ use Rattle.source.specs.Text.{Str, Query, segments, string-compare, starts-with
 use Rattle.source.specs.Types.{Level, Value, Trie, Tree, NameList, StrEmpty, StrBranch, []ᴺ, Names, ImportedNames, bindings, namespaces}
 use Rattle.source.specs.Trees.{PrefixMatch, PathElem, find-prefix-onto, btree-find-prefix, btree-fold, btree-find-all}
 use Rattle.source.specs.Terms.{depth}
-use Rattle.source.specs.Listing.{PathOf, SearchTerm, NSTAll, NSTNone, NSTPrefix, ns-search-term, bindings-search-term, revmap-onto, names-revmap, matching-values, with-imports, elem-key, names-find-rev}
+use Rattle.source.specs.Listing.{PathOf, SearchTerm, NSTAll, NSTNone, NSTPrefix, ns-search-term, bindings-search-term, revmap-onto, names-revmap, matching-values, with-imports, elem-key, names-find-rev-first}
 use Rattle.source.specs.Table.{Table, ModSymbol, Line, Matched, match-elem, match-length-of-path, completion-result-of-lid, completion-result-of-ns-or-mod}
 use Rattle.source.specs.Rules.{IsKey, IsLabel, NameItem, ModItem, Formed, FormedNames, SoundTrie, SoundTable}
 use Rattle.source.specs.Calls.{Completed, listed, refused, Output, completed, completion-rows, lowest, complete, complete-modules, keeps-kind, keeps}
@@ -130,9 +130,10 @@ module _ {A : Type 0} {l : Level} where
   all-fine [] a = tt
   all-fine (m ∷ ms) a = (with-imports-fine (m .0) (m .1) (a .0), all-fine ms (a .1))
 
-  rows-fine : (n : NameList A l) (term : SearchTerm) → Allˡ Row (names-find-rev n term)
-  unfolding names-find-rev
-  rows-fine n term = merge-all elem-key Row (map with-imports (matching-values n term)) (all-fine (matching-values n term) (matching-fine n term))
+  rows-fine : (n : NameList A l) (term : SearchTerm) → Allˡ Row (names-find-rev-first n term)
+  unfolding names-find-rev-first
+  rows-fine n term = merge-all elem-key Row (map with-imports (reverse (matching-values n term)))
+      (all-fine (reverse (matching-values n term)) (all-reverse (λ m. Matches (m .1)) (matching-values n term) [] (matching-fine n term) tt))
 
 -- ---- paths
 -- An element of a sound table's path.
@@ -168,7 +169,7 @@ module _ {A : Type 0} (Item : A → Type 0) where
   rows-short : {l : Level} (n : NameList A l) (term : SearchTerm) → FormedNames IsKey IsLabel Item n → Allˡ RowOk (found n term)
   unfolding found elem-key
   rows-short n term g =
-      all-reverse RowOk (names-find-rev n term) [] (Allˡ-zip (names-find-rev n term) (λ y k b. ((k .0 .short, b), k .1)) (rows-formed IsKey IsLabel Item n term g) (rows-fine n term)) tt
+      all-reverse RowOk (names-find-rev-first n term) [] (Allˡ-zip (names-find-rev-first n term) (λ y k b. ((k .0 .short, b), k .1)) (rows-formed IsKey IsLabel Item n term g) (rows-fine n term)) tt
 
   abbrev LineOk : PathOf × A → Type 0
   LineOk x = Held (match-length-of-path (x .0))

@@ -3,7 +3,7 @@ use mathlib.Core.Path.{_∙_}
 use native.Mathlib.Omega.{arith}
 use Rattle.source.specs.Text.{then}
 use Rattle.text.specs.declared.Order.the-variants.{Less, Same, More}
-use Rattle.heads.proofs.Compare.{by-beginning, by-key, by-priority}
+use Rattle.heads.proofs.Compare.{difference-fits, by-beginning, by-key, by-place}
 use borrow.Author.Needs.{needs}
 use Rattle.heads.proofs.cell_cmp.Statement.{statement}
 use Rattle.heads.proofs.cell_cmp.Tie as tie
@@ -63,25 +63,31 @@ enum-told c = search needs
 enum-told-2 : tie.Need-enum-told-2
 enum-told-2 c = search needs
 
-priority-difference-requires : tie.Need-priority-difference-requires
-priority-difference-requires c κs = search needs
+cast-result : tie.Need-cast-result
+cast-result c = search needs
+
+cast-result-2 : tie.Need-cast-result-2
+cast-result-2 c = search needs
+
+sub-result : tie.Need-sub-result
+sub-result c = difference-fits (c .before .before .before .before .before .before .before .before .before .before .before .args .a) (c .before .before .before .before .before .before .before .before .before .before .before .args .b) (omega (arith, c .before .before .before .before .before .before .before .before .before .before .before .pre .0 .few)) (omega (arith, c .before .before .before .before .before .before .before .before .before .before .before .pre .0 .few))
 
 enum-told-3 : tie.Need-enum-told-3
 enum-told-3 c = search needs
 
 returns-3 : tie.Need-returns-3
 unfolding then
-returns-3 c = by-key _ _ _ _ _ _ (c .before .before .compare-keys .ensures) Less (c .enum-told .given .1)
+returns-3 c = by-key _ _ _ _ _ (c .before .before .compare-keys .ensures) Less (c .enum-told .given .1)
 
 returns-4 : tie.Need-returns-4
 unfolding then
 returns-4 c =
-    by-priority _ _ _ (c .priority-difference .ok) (c .priority-difference .ensures)
-    ∙ by-key _ _ _ _ _ _ (c .before .before .before .compare-keys .ensures) Same (c .before .enum-told2 .given .1)
+    by-place (c .before .before .before .before .before .before .before .before .before .before .before .args .a) (c .before .before .before .before .before .before .before .before .before .before .before .args .b) (omega (arith, c .before .before .before .before .before .before .before .before .before .before .before .pre .0 .few)) (omega (arith, c .before .before .before .before .before .before .before .before .before .before .before .pre .0 .few))
+    ∙ by-key _ _ _ _ _ (c .before .before .compare-keys .ensures) Same (c .enum-told2 .given .1)
 
 returns-5 : tie.Need-returns-5
 unfolding then
-returns-5 c = by-key _ _ _ _ _ _ (c .before .before .compare-keys .ensures) More (c .enum-told3 .given .1)
+returns-5 c = by-key _ _ _ _ _ (c .before .before .compare-keys .ensures) More (c .enum-told3 .given .1)
 
 pub cell-cmp-spec : {M : Type 1} → statement M
 cell-cmp-spec =
@@ -104,7 +110,9 @@ cell-cmp-spec =
     compare-keys-requires
     enum-told
     enum-told-2
-    priority-difference-requires
+    cast-result
+    cast-result-2
+    sub-result
     enum-told-3
     returns-3
     returns-4

@@ -9,7 +9,7 @@ use Rattle.heap.proofs.heap_from_list.Statement.{statement}
 use Rattle.heap.proofs.heap_from_list.Tie as tie
 
 abbrev Inv-loop : tie.InvT-loop
-Inv-loop words text heads n child₀ next₀ root₀ v₀ child next root v = Built (cell-cmp words text heads n) n child next root v
+Inv-loop words text heads n child₀ next₀ root₀ v₀ child next root v = Built (cell-cmp words text heads) n child next root v
 
 abbrev μ-loop : tie.MeasureT-loop
 μ-loop words text heads n child₀ next₀ root₀ v₀ child next root v = n - v

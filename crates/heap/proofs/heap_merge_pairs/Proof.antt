@@ -13,15 +13,15 @@ use Rattle.heap.proofs.heap_merge_pairs.Tie as tie
 abbrev Inv-loop : tie.InvT-loop
 Inv-loop child₀ next₀ words text heads n i stack₀ at₀ child next stack at =
     (hh : Forest ℕ) → Repᶠ n child₀ next₀ i hh
-    → Pairing (cell-cmp words text heads n) n child₀ next₀ (heap-merge-pairs (cell-cmp words text heads n) hh) child next stack at
+    → Pairing (cell-cmp words text heads) n child₀ next₀ (heap-merge-pairs (cell-cmp words text heads) hh) child next stack at
 
 abbrev μ-loop : tie.MeasureT-loop
 μ-loop child₀ next₀ words text heads n i stack₀ at₀ child next stack at = siblings 96 next at
 
 abbrev Inv-loop2 : tie.InvT-loop2
 Inv-loop2 child₀ next₀ words text heads n i stack₀ at r₀ child next stack r =
-    (child₁ next₁ : List ℕ) (all : Heap ℕ) → Merging (cell-cmp words text heads n) n child₁ next₁ all child₀ next₀ stack₀ r₀
-    → Merging (cell-cmp words text heads n) n child₁ next₁ all child next stack r
+    (child₁ next₁ : List ℕ) (all : Heap ℕ) → Merging (cell-cmp words text heads) n child₁ next₁ all child₀ next₀ stack₀ r₀
+    → Merging (cell-cmp words text heads) n child₁ next₁ all child next stack r
 
 abbrev μ-loop2 : tie.MeasureT-loop2
 μ-loop2 child₀ next₀ words text heads n i stack₀ at r₀ child next stack r = siblings 96 next stack
