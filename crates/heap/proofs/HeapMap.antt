@@ -2,12 +2,10 @@
 use Prim.Native.Nat.{Ordering}
 use mathlib.Core.Path.{_≡_, refl, sym, ap, ap₂, _∙_}
 use mathlib.Core.Bool.{Bool, true, false, cond}
-use mathlib.Core.List.{List, [], _∷_, map}
 use mathlib.Core.Option.{some, Option·map}
-use Rattle.source.specs.Heap.{Heap, Forest, EmptyHeap, HeapOf, []ᶠ, _∷ᶠ_, is-lt, heap-merge, heap-insert, heap-merge-pairs, heap-pair-up, heap-pop, heap-insert-all, heap-from-list}
+use Rattle.source.specs.Heap.{Heap, Forest, EmptyHeap, HeapOf, []ᶠ, _∷ᶠ_, is-lt, heap-merge, heap-insert, heap-merge-pairs, heap-pair-up, heap-pop}
 use Rattle.source.specs.Forward.{heap-map, forest-map}
 use Rattle.source.proofs.Heap.{All, Allᶠ, All-merge, All-pairs}
-use Rattle.source.specs.Shared.{Allˡ}
 
 module _ {A B : Type 0} (f : A → B) (cmp : A → A → Ordering) (cmp′ : B → B → Ordering)
     (P : A → Type 0) (agree : (a b : A) → P a → P b → cmp′ (f a) (f b) ≡ cmp a b) where
@@ -44,17 +42,6 @@ module _ {A B : Type 0} (f : A → B) (cmp : A → A → Ordering) (cmp′ : B �
   unfolding heap-pop
   map-pop EmptyHeap p = refl
   map-pop (HeapOf v hh) p = ap (λ (h : Heap B). some (f v, h)) (map-pairs hh (p .1))
-
-  map-insert-all : (h : Heap A) (l : List A) → All P h → Allˡ P l → heap-insert-all cmp′ (heap-map f h) (map f l) ≡ heap-map f (heap-insert-all cmp h l)
-  unfolding heap-insert-all heap-insert
-  map-insert-all h [] p q = refl
-  map-insert-all h (v ∷ l) p q =
-      ap (λ (h : Heap B). heap-insert-all cmp′ h (map f l)) (map-insert h v p (q .0))
-      ∙ map-insert-all (heap-insert cmp h v) l (All-merge cmp P (HeapOf v []ᶠ) h (q .0, tt) p) (q .1)
-
-  pub map-from-list : (l : List A) → Allˡ P l → heap-from-list cmp′ (map f l) ≡ heap-map f (heap-from-list cmp l)
-  unfolding heap-from-list
-  map-from-list l q = map-insert-all EmptyHeap l tt q
 
 module _ {A B : Type 0} (f g : A → B) (P : A → Type 0) (same : (a : A) → P a → f a ≡ g a) where
   mutual

@@ -13,14 +13,13 @@ use Rattle.source.specs.Types.{Value, Trie, bind}
 use Rattle.source.specs.Tries.{trie-find-exact}
 use Rattle.source.specs.Terms.{walk-first}
 use Rattle.source.specs.Listing.{PathOf, Finder, by-first, trie-find-prefix′, trie-find-prefix-first}
-use Rattle.source.specs.Table.{Table, ModSymbol, Line, string-of-path, completion-result-of-lid, completion-result-of-ns-or-mod, autocomplete-lid-first}
-use Rattle.source.specs.Rules.{Formed, IsKey, IsLabel, NameItem, ModItem, SoundTrie, SoundTable, all}
-use Rattle.source.specs.Calls.{Found, refused, found-of, look-up, Completed, listed, Output, All, completed, complete, complete-modules, lowest, argument-rows, completion-rows, a-look-up, is-empty}
-use Rattle.source.specs.Agreement.{Covers, without-last, NotRefused, lines-of-text, Shows, Demand3}
+use Rattle.source.specs.Table.{Line, string-of-path, completion-result-of-lid, completion-result-of-ns-or-mod, autocomplete-lid-first}
+use Rattle.source.specs.Rules.{Formed, IsKey, IsLabel, NameItem, ModItem, SoundTrie, all}
+use Rattle.source.specs.Calls.{Found, found, not-found, refused, found-of, look-up, Completed, listed, Output, All, kept, keeps, keeps-kind, completed, complete, complete-modules, lowest, argument-rows, completion-rows, a-look-up, is-empty}
+use Rattle.source.specs.Agreement.{Covers, without-last, NotRefused, lines-of-text, Shows, passing, Demand3, FilteredAgree}
 use Rattle.source.specs.Shared.{same, Allˡ}
-use Rattle.source.specs.declared.LidSymbol.{LidSymbol}
 use Rattle.source.specs.declared.KindFilter.the-variants.{Every}
-use Rattle.source.proofs.Filters.{all-listed, every-kept, all-kept}
+use Rattle.source.proofs.Filters.{all-listed}
 use Rattle.source.proofs.Queries.{and-parts, string-is}
 use Rattle.source.proofs.Worded.{covers-itself}
 use Rattle.source.proofs.Refusals.{Admitted, argument-rows-none, look-up-whole, look-up-segment}
@@ -135,31 +134,58 @@ module _ {A : Type 0} (Item : A → Type 0) (f : PathOf × A → Line A) (text :
             ∙ same-items (along by-first tr [] (segments query) s q)
             ∙ along-items IsKey IsLabel Item tr [] (segments query) s q (sound .formed) c)))
 
--- ---- Demand 3
-names-shown : (tbl : Table) → SoundTable tbl → (name query : Str) (budget : ℕ) (out : Output) (lines : List (Line LidSymbol)) (entered : ℕ)
-    → NotRefused (look-up true (tbl .tbl-lids) name) → complete true tbl Every budget out query ≡ listed lines entered → Covers (segments query) (segments name)
-    → Shows (lines-of-text (without-last name) lines) (look-up true (tbl .tbl-lids) name)
-unfolding complete autocomplete-lid-first completion-result-of-lid
-names-shown tbl sound name query budget out lines entered asked e covers =
-    subst (λ ls. Shows (lines-of-text (without-last name) ls) (look-up true (tbl .tbl-lids) name))
-    (sym (every-kept _) ∙ completed-lines true budget out query _ lines _ entered e)
-    (root-agreement NameItem completion-result-of-lid (λ x. refl) (λ x. refl) (tbl .tbl-lids) (sound .lids) name query asked covers)
+-- ---- what a filter leaves
+module _ {A : Type 0} (keep : A → Bool) where
+  kept-text : (t : Str) (ls : List (Line A)) → lines-of-text t (kept keep ls) ≡ kept keep (lines-of-text t ls)
+  unfolding lines-of-text kept
+  kept-text t [] = refl
+  kept-text t (l ∷ ls) = go (keep (l .item-of)) refl (same (l .candidate) t) refl (kept-text t ls)
+    where
+      go : (k : Bool) → keep (l .item-of) ≡ k → (b : Bool) → same (l .candidate) t ≡ b → lines-of-text t (kept keep ls) ≡ kept keep (lines-of-text t ls)
+          → lines-of-text t (cond k (l ∷ kept keep ls) (kept keep ls)) ≡ kept keep (elim b [ true ↦ l ∷ lines-of-text t ls | false ↦ lines-of-text t ls ])
+      go true e true f h = rw (f, lines-of-text, e, kept) (ap (_∷_ l) h)
+      go true e false f h = rw (f, lines-of-text) h
+      go false e true f h = rw (e, kept) h
+      go false e false f h = h
 
-modules-shown : (tbl : Table) → SoundTable tbl → (name query : Str) (budget : ℕ) (out : Output) (lines : List (Line ModSymbol)) (entered : ℕ)
-    → NotRefused (look-up true (tbl .tbl-mods) name) → complete-modules true tbl All budget out query ≡ listed lines entered → Covers (segments query) (segments name)
-    → Shows (lines-of-text (without-last name) lines) (look-up true (tbl .tbl-mods) name)
-unfolding complete-modules completion-result-of-ns-or-mod
-modules-shown tbl sound name query budget out lines entered asked e covers =
-    subst (λ ls. Shows (lines-of-text (without-last name) ls) (look-up true (tbl .tbl-mods) name))
-    (sym (all-listed tbl (segments query)) ∙ sym (all-kept _) ∙ completed-lines true budget out query _ lines _ entered e)
-    (root-agreement ModItem completion-result-of-ns-or-mod (λ x. refl) (λ x. refl) (tbl .tbl-mods) (sound .mods) name query asked covers)
+  shows-kept : (ls : List (Line A)) (a : Found A) → Shows ls a → Shows (kept keep ls) (passing keep a)
+  unfolding kept passing
+  shows-kept ls (found x) (l, e, i) =
+      subst (λ m. Shows (kept keep m) (cond (keep x) (found x) not-found)) (sym e)
+      (subst (λ y. Shows (cond (keep (l .item-of)) (l ∷ []) []) (cond (keep y) (found x) not-found)) i (go (keep (l .item-of))))
+    where
+      go : (k : Bool) → Shows (cond k (l ∷ []) []) (cond k (found x) not-found)
+      go true = (l, refl, i)
+      go false = refl
+  shows-kept ls not-found e = rw e refl
+
+  pub passing-all : (a : Found A) → ((x : A) → keep x ≡ true) → passing keep a ≡ a
+  unfolding passing
+  passing-all (found x) h = rw (h x)
+  passing-all not-found h = refl
+  passing-all (refused n) h = refl
+
+-- ---- Demand 3
+pub filtered-agree : FilteredAgree
+unfolding complete complete-modules autocomplete-lid-first completion-result-of-lid completion-result-of-ns-or-mod
+filtered-agree = record {
+  names = λ tbl sound f name query budget out lines entered asked e covers.
+      rw (← completed-lines true budget out query _ lines _ entered e, kept-text (keeps-kind f))
+      (shows-kept (keeps-kind f) _ _ (root-agreement NameItem completion-result-of-lid (λ x. refl) (λ x. refl) (tbl .tbl-lids) (sound .lids) name query asked covers));
+  modules = λ tbl sound f name query budget out lines entered asked e covers.
+      rw (← completed-lines true budget out query _ lines _ entered e, kept-text (keeps f), all-listed tbl (segments query))
+      (shows-kept (keeps f) _ _ (root-agreement ModItem completion-result-of-ns-or-mod (λ x. refl) (λ x. refl) (tbl .tbl-mods) (sound .mods) name query asked covers));
+}
 
 pub agreement : Demand3
+unfolding keeps keeps-kind passing
 agreement = record {
-  names = names-shown;
-  modules = modules-shown;
+  names = λ tbl sound name query budget out lines entered asked e covers.
+      subst (Shows _) (passing-all (keeps-kind Every) (look-up true (tbl .tbl-lids) name) (λ x. refl)) (filtered-agree .names tbl sound Every name query budget out lines entered asked e covers);
+  modules = λ tbl sound name query budget out lines entered asked e covers.
+      subst (Shows _) (passing-all (keeps All) (look-up true (tbl .tbl-mods) name) (λ x. refl)) (filtered-agree .modules tbl sound All name query budget out lines entered asked e covers);
   names-in-full = λ tbl sound name budget out lines entered c f e.
-      subst (Shows (lines-of-text (without-last name) lines)) f (names-shown tbl sound name name budget out lines entered (rw f tt) e (covers-itself (segments name)));
+      subst (Shows _) (ap (passing (keeps-kind Every)) f) (filtered-agree .names tbl sound Every name name budget out lines entered (rw f tt) e (covers-itself (segments name)));
   modules-in-full = λ tbl sound name budget out lines entered m f e.
-      subst (Shows (lines-of-text (without-last name) lines)) f (modules-shown tbl sound name name budget out lines entered (rw f tt) e (covers-itself (segments name)));
+      subst (Shows _) (ap (passing (keeps All)) f) (filtered-agree .modules tbl sound All name name budget out lines entered (rw f tt) e (covers-itself (segments name)));
 }

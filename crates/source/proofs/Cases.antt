@@ -175,6 +175,9 @@ pub record OtherCases : Type 0 where
   pub kinds : (of-kind two-kinds Every 2 ≡ some (listed (line (pos 1) tick "tick" "" ∷ line (pos 1) tock "tock" "" ∷ []) 1))
       × (of-kind two-kinds Ports 1 ≡ some (listed (line (pos 1) tock "tock" "" ∷ []) 1))
       × (of-kind two-kinds Registers 0 ≡ some (listed [] 1))
+  -- Two holders of a key: the first one's item and label, of a binding; of a namespace its trie and label. The source lists r1 with Saved, and Live.offset.
+  pub holders : (names (then-call included-here (name (bytes "") (bytes "offset") (r 4))) "off." ≡ some (listed (line (pos 3) (r 4) "offset" "" ∷ []) 1))
+      × (names shadow "Live." ≡ some (listed (line (pos 4) (r 7) "Live.late" "Lib" ∷ []) 2))
 
 pub other-cases : OtherCases
 unfolding compute
@@ -184,6 +187,7 @@ other-cases = record {
   case-13 = (refl, refl, refl);
   paths = (refl, refl, refl);
   kinds = (refl, refl, refl);
+  holders = (refl, refl);
 }
 
 -- An open of a namespace above an including host changes what its name leads to (Apart, in Unchanged).

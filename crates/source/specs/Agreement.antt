@@ -1,15 +1,16 @@
 -- Demand 3: the pane lists what look-up takes.
 use Prim.Native.Nat.{ℕ, _-_}
 use mathlib.Core.Path.{_≡_}
-use mathlib.Core.Bool.{true, false}
+use mathlib.Core.Bool.{Bool, true, false, cond}
 use mathlib.Core.List.{List, [], _∷_}
 use lib.Dec.{isEq}
 use lib.ListN.{length, take}
 use Rattle.source.specs.Text.{Str, Query, string-compare, starts-with, segments}
 use Rattle.source.specs.Table.{Table, ModSymbol, Line}
 use Rattle.source.specs.Rules.{SoundTable}
-use Rattle.source.specs.Calls.{Found, found, not-found, refused, look-up, listed, Output, All, complete, complete-modules}
+use Rattle.source.specs.Calls.{Found, found, not-found, refused, look-up, listed, Output, Filter, All, keeps, keeps-kind, complete, complete-modules}
 use Rattle.source.specs.declared.LidSymbol.{LidSymbol}
+use Rattle.source.specs.declared.KindFilter.{KindFilter}
 use Rattle.source.specs.declared.KindFilter.the-variants.{Every}
 
 -- A query covers a full name that has at least as many segments and whose segments begin, one by one, with the query's.
@@ -39,6 +40,12 @@ module _ {A : Type 0} where
   Shows ls not-found = ls ≡ []
   Shows ls (refused n) = ⊥
 
+  -- What a filter leaves of what look-up finds.
+  unfoldable pub passing : (A → Bool) → Found A → Found A
+  passing keep (found a) = cond (keep a) (found a) not-found
+  passing keep not-found = not-found
+  passing keep (refused n) = refused n
+
 -- On either root of every sound table.
 pub record Demand3 : Type 0 where
   -- The lines with the text of a full name show what look-up finds: where it is not refused, in every completion, of all kinds or unfiltered and not refused, that covers the name.
@@ -55,3 +62,12 @@ pub record Demand3 : Type 0 where
   pub modules-in-full : (tbl : Table) → SoundTable tbl → (name : Str) (budget : ℕ) (out : Output) (lines : List (Line ModSymbol)) (entered : ℕ) (m : ModSymbol)
       → look-up true (tbl .tbl-mods) name ≡ found m → complete-modules true tbl All budget out name ≡ listed lines entered
       → Shows (lines-of-text (without-last name) lines) (found m)
+
+-- The same of a listing of one kind, or filtered: its lines with the text show what passes of what look-up finds.
+pub record FilteredAgree : Type 0 where
+  pub names : (tbl : Table) → SoundTable tbl → (f : KindFilter) (name query : Str) (budget : ℕ) (out : Output) (lines : List (Line LidSymbol)) (entered : ℕ)
+      → NotRefused (look-up true (tbl .tbl-lids) name) → complete true tbl f budget out query ≡ listed lines entered → Covers (segments query) (segments name)
+      → Shows (lines-of-text (without-last name) lines) (passing (keeps-kind f) (look-up true (tbl .tbl-lids) name))
+  pub modules : (tbl : Table) → SoundTable tbl → (f : Filter) (name query : Str) (budget : ℕ) (out : Output) (lines : List (Line ModSymbol)) (entered : ℕ)
+      → NotRefused (look-up true (tbl .tbl-mods) name) → complete-modules true tbl f budget out query ≡ listed lines entered → Covers (segments query) (segments name)
+      → Shows (lines-of-text (without-last name) lines) (passing (keeps f) (look-up true (tbl .tbl-mods) name))
