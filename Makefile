@@ -10,7 +10,7 @@ FLAGS = -std=c11 -D_POSIX_C_SOURCE=200809L -Wall -Wextra -Werror -Iinclude
 ARCHIVE = target/staticlib/libscreen.a
 PROGRAM = target/bin/console
 CRATES := crates.txt $(shell find crates -name '*.rt' -o -name '*.antt')
-VERSION = 0.4.0
+VERSION = 0.5.0
 PREFIX ?= /usr/local
 TO = $(DESTDIR)$(PREFIX)
 

@@ -73,10 +73,10 @@ static int compare(const struct run *r, const struct list *l, const size_t *at, 
     size_t k = x[2] < y[2] ? x[2] : y[2];
     int c = memcmp(r->text + x[1], r->text + y[1], k);
     if (!c) c = x[2] < y[2] ? -1 : x[2] > y[2];
-    return c ? c : a > b ? -1 : 1;
+    return c ? c : a < b ? -1 : 1;
 }
 
-// What is found in a list, in order, one of each key, the last holder's.
+// What is found in a list, in order, one of each key, the first holder's.
 static struct list search(const struct run *r, uint32_t list, const uint8_t *prefix, size_t n) {
     struct list all = {0}, kept = {0};
     size_t at[97], heap[96], trees = 0, live = 0;

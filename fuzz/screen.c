@@ -1,12 +1,12 @@
 /* Fuzzes the C layer: any bytes as table, texts and output. Each call must answer a number that it may answer, leave
    every byte equal where it refuses, never write outside what is lent, and leave a sound table where it accepts. A
    completion that says what is certain must reply and write what the completion does; one of a kind must keep the lines
-   of that kind. */
+   of that kind. Each line must be what a look-up of its candidate finds, and what a look-up finds must be listed. */
 #include "name_console.h"
 #include <stdlib.h>
 #include <string.h>
 
-enum { GUARD = 64, MOST = 64 };
+enum { GUARD = 64, MOST = 64, NAME = 544 };
 
 static const uint8_t *data;
 static size_t left;
@@ -110,17 +110,6 @@ static void registration(uint32_t call) {
   }
 }
 
-static void look_up(void) {
-  uint8_t a[MOST];
-  size_t an = text_of(a);
-  struct name_console_item f = name_console_find_item(TABLE, a, an);
-  must(f.answer <= NAME_CONSOLE_TOO_LONG || f.answer == NAME_CONSOLE_NONE);
-  must(f.answer ? !f.kind && !f.number : is_kind(f.kind));
-  struct name_console_symbol m = name_console_find_module(TABLE, a, an);
-  must(m.answer <= NAME_CONSOLE_TOO_LONG || m.answer == NAME_CONSOLE_NONE);
-  if (!m.answer) must((uint64_t)m.name_start + m.name_len <= table_text.len && (uint64_t)m.path_start + m.path_len <= table_text.len);
-}
-
 /* Bytes that the candidates of the first n lines begin with alike. */
 static uint32_t beginning(uint32_t n) {
   if (!n) return 0;
@@ -185,12 +174,59 @@ static void of_kinds(struct name_console_listing r, uint32_t kind, const uint8_t
   must(of_kind(all.lines, NAME_CONSOLE_TIMER) + of_kind(all.lines, NAME_CONSOLE_PORT) + of_kind(all.lines, NAME_CONSOLE_REGISTER) == all.lines);
 }
 
+/* Whether a line has the item that a look-up of its text finds. */
+static int is_item(struct name_console_line l, struct name_console_item f) { return !f.answer && f.kind == l.kind && f.number == l.number; }
+
+static int is_symbol(struct name_console_line l, struct name_console_symbol m) {
+  int path = l.sort ? !m.path_start && !m.path_len : m.path_start == l.path && m.path_len == l.path_len;
+  return !m.answer && m.sort == l.sort && m.name_start == l.name && m.name_len == l.name_len && m.loaded == l.loaded && path;
+}
+
+/* After a listing: each of its lines is what a look-up finds. */
+static void found(int modules, uint32_t n) {
+  for (uint32_t i = 0; i < n; i++) {
+    struct name_console_line l = name_console_line_at(lines.bytes, i);
+    uint8_t q[NAME];
+    must(l.candidate_len < NAME);
+    memcpy(q, out.bytes + l.candidate, l.candidate_len);
+    q[l.candidate_len] = '.';
+    must(modules ? is_symbol(l, name_console_find_module(TABLE, q, l.candidate_len + 1)) : is_item(l, name_console_find_item(TABLE, q, l.candidate_len + 1)));
+  }
+}
+
+/* A full name that is looked up: asked for in full it has one line if it is found, and none if it is not, unless the listing is refused. */
+static void in_full(int modules, int there, const uint8_t *q, size_t qn) {
+  struct name_console_listing r = complete(modules, 0, q, qn, 4096);
+  must(!r.answer || r.answer == NAME_CONSOLE_SPENT || r.answer == NAME_CONSOLE_NO_ROOM);
+  int its = 0;
+  for (uint32_t i = 0; i < r.lines; i++) {
+    struct name_console_line l = name_console_line_at(lines.bytes, i);
+    its += l.candidate_len == qn - 1 && !memcmp(out.bytes + l.candidate, q, qn - 1);
+  }
+  must(r.answer || its == there);
+  found(modules, r.lines);
+}
+
+static void look_up(void) {
+  uint8_t a[MOST];
+  size_t an = text_of(a);
+  struct name_console_item f = name_console_find_item(TABLE, a, an);
+  must(f.answer <= NAME_CONSOLE_TOO_LONG || f.answer == NAME_CONSOLE_NONE);
+  must(f.answer ? !f.kind && !f.number : is_kind(f.kind));
+  if (!f.answer || f.answer == NAME_CONSOLE_NONE) in_full(0, !f.answer, a, an);
+  struct name_console_symbol m = name_console_find_module(TABLE, a, an);
+  must(m.answer <= NAME_CONSOLE_TOO_LONG || m.answer == NAME_CONSOLE_NONE);
+  if (!m.answer) must((uint64_t)m.name_start + m.name_len <= table_text.len && (uint64_t)m.path_start + m.path_len <= table_text.len);
+  if (!m.answer || m.answer == NAME_CONSOLE_NONE) in_full(1, !m.answer, a, an);
+}
+
 static void completion(int modules) {
   uint8_t q[MOST];
   size_t qn = text_of(q);
   uint32_t choice = byte() % 5, budget = byte() < 128 ? word() : byte();
   struct name_console_listing r = complete(modules, choice, q, qn, budget);
   if (!r.answer) {
+    found(modules, r.lines);
     if (!modules) of_kinds(r, choice, q, qn, budget);
     must(complete(modules, choice, q, qn, r.entered).answer == NAME_CONSOLE_OK);
     must(complete(modules, choice, q, qn, r.entered - 1).answer == NAME_CONSOLE_SPENT);

@@ -125,6 +125,9 @@ struct name_console_symbol name_console_find_module(const uint8_t *state, size_t
    then annotation. Listed, the first `lines` records and the bytes of their texts are written, and every other byte of
    both is as it was. `entered` is the number of tries entered; more than `budget` is refused.
 
+   Of equal names the first holder is listed, so that the line of a name carries the item that a look-up of that name finds,
+   and a name that is found is listed when it is asked for in full. A kind or a filter looks at that item.
+
    bytes of a line   word
     0                match length: 4294967295 for -1
     4,  8            candidate: start, length in out

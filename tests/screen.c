@@ -187,9 +187,9 @@ static void table_t(void) {
 
 static void cases(void) {
   table_t();
-  check("case 5", listed(complete("Live.off."), 1, 2) && line(0, "Live.offset", "", 1, 8));
-  check("case 6", listed(complete(""), 3, 3) && line(0, "Live.offset", "", 1, -1) && line(1, "Saved.late", "", 2, -1) && line(2, "Saved.offset", "", 1, -1));
-  check("case 7", listed(complete("."), 3, 3) && line(0, "Live.offset", "", 1, 0) && line(2, "Saved.offset", "", 1, 0));
+  check("case 5", listed(complete("Live.off."), 1, 2) && line(0, "Live.offset", "", 3, 8));
+  check("case 6", listed(complete(""), 3, 3) && line(0, "Live.offset", "", 3, -1) && line(1, "Saved.late", "", 2, -1) && line(2, "Saved.offset", "", 1, -1));
+  check("case 7", listed(complete("."), 3, 3) && line(0, "Live.offset", "", 3, 0) && line(2, "Saved.offset", "", 1, 0));
   budget = 1;
   check("case 13: budget 1", refused(complete("Live.off."), NAME_CONSOLE_SPENT));
   budget = 2;
@@ -341,6 +341,42 @@ static void kinds(void) {
   check("no timer any more", listed(names(NAME_CONSOLE_TIMER, ""), 0, 2) && listed(names(NAME_CONSOLE_PORT, ""), 2, 2));
 }
 
+/* Each line of a completion of everything has the item that a look-up of its candidate finds. */
+static int lines_are_found(uint32_t count) {
+  struct name_console_listing r = complete("");
+  int good = r.answer == NAME_CONSOLE_OK && r.lines == count;
+  for (uint32_t i = 0; good && i < count; i++) {
+    char q[600] = "";
+    struct name_console_line l = name_console_line_at(lines, i);
+    memcpy(q, out + l.candidate, l.candidate_len);
+    q[l.candidate_len] = '.';
+    good = finds_item(q, NAME_CONSOLE_OK, l.kind, l.number);
+  }
+  return good;
+}
+
+/* Names that two trees hold: the first holder gives the item, the annotation and what is below, whatever kind is asked for. */
+static void holders(void) {
+  table_t();
+  check("each line of T is found", lines_are_found(3));
+  fresh();
+  check("a name in two namespaces", item("old.", "x", NAME_CONSOLE_REGISTER, 1) == 0 && item("new.", "x", NAME_CONSOLE_PORT, 2) == 0);
+  check("included", name_console_include(TABLE, S(""), S("old.")) == 0 && listed(complete("x."), 1, 1) && line(0, "x", "old", 1, 1));
+  check("a second include", name_console_include(TABLE, S(""), S("new.")) == 0 && listed(complete("x."), 1, 1));
+  check("is listed", item_line(0, "x", "new", NAME_CONSOLE_PORT, 2, 1) && finds_item("x.", NAME_CONSOLE_OK, NAME_CONSOLE_PORT, 2));
+  check("a name of the root", item("", "x", NAME_CONSOLE_TIMER, 3) == 0 && listed(complete("x."), 1, 1));
+  check("is listed then", item_line(0, "x", "", NAME_CONSOLE_TIMER, 3, 1) && finds_item("x.", NAME_CONSOLE_OK, NAME_CONSOLE_TIMER, 3));
+  check("among timers", listed(names(NAME_CONSOLE_TIMER, "x."), 1, 1) && item_line(0, "x", "", NAME_CONSOLE_TIMER, 3, 1));
+  check("and no other kind", listed(names(NAME_CONSOLE_PORT, "x."), 0, 1) && listed(names(NAME_CONSOLE_REGISTER, "x."), 0, 1));
+  check("each line is found", lines_are_found(3));
+  fresh();
+  check("a namespace to open", name("m.s.", "y", 1) == 0 && name_console_open_namespace(TABLE, S("n."), S("m.")) == 0);
+  check("a name below it", name("n.s.", "w", 2) == 0 && name("n.s.t.", "v", 3) == 0);
+  check("the copy is listed", listed(complete("n."), 3, 4) && line(0, "n.s.w", "", 2, 1) && line(1, "n.s.y", "", 1, 1) && line(2, "n.s.t.v", "", 3, 1));
+  check("the origin is as it was", listed(complete("m."), 1, 3) && line(0, "m.s.y", "", 1, 1));
+  check("each line is found, below too", lines_are_found(4));
+}
+
 static void refusals(void) {
   const char *n32 = "nnnnnnnnnnnnnnnnnnnnnnnnnnnnnnnn", *s17 = "s.s.s.s.s.s.s.s.s.s.s.s.s.s.s.s.s.";
   check("numbers", NAME_CONSOLE_OK == 0 && NAME_CONSOLE_UNSOUND == 1 && NAME_CONSOLE_MALFORMED == 2 && NAME_CONSOLE_EMPTY == 3 && NAME_CONSOLE_TOO_LONG == 4 &&
@@ -448,6 +484,7 @@ int main(void) {
   cases();
   filters();
   kinds();
+  holders();
   beginnings();
   unsound();
   many();

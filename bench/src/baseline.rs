@@ -3,6 +3,7 @@ use crate::source::Source;
 use model::gen::{completion_query, damaged_query, damaged_registration, damages, full_name, registered_memory, registration, sound_memory, Rng};
 use model::layout::{decode, same_table, Header, Memory};
 use model::model::{autocomplete_lid, find as independent_find, register as independent_register, Item, Kind, Registration};
+use model::naive::source_lines;
 use product::{item, Output};
 
 #[rustfmt::skip]
@@ -60,7 +61,7 @@ pub fn find(m: &Memory, query: &[u8]) -> Result<Option<Item>, u32> {
     }
 }
 
-/// Holds the baselines to the independent implementation, so that they do the same work.
+/// Holds the baselines to the independent implementation, so that they do the same work. The source's lines are held to its own listing by last holders.
 pub fn check() {
     registrations_and_look_ups(&mut Rng::new(1));
     soundness(&mut Rng::new(2));
@@ -83,7 +84,7 @@ fn registrations_and_look_ups(rng: &mut Rng) {
                 Ok(new) => {
                     assert!(answer == 0 && m.is_sound() && same_table(&decode(&m), &new), "{call:?}");
                     let by_source = Source::new(&before).begin().insert(host, id, *item).lines(b"");
-                    assert!(by_source == autocomplete_lid(&new, b"", None, u32::MAX).unwrap().0, "{call:?}");
+                    assert!(by_source == source_lines(&new.names, b""), "{call:?}");
                 }
             }
             let query = if rng.one_in(5) { damaged_query(rng) } else { full_name(rng) };
@@ -114,6 +115,8 @@ fn soundness(rng: &mut Rng) {
 fn completions(rng: &mut Rng) {
     // Listed, of all kinds and of one; spent; too little room.
     let mut answers = [0; 4];
+    // Listings that the source has alike, and otherwise.
+    let mut sources = [0; 2];
     for round in 0..60 {
         let m = if round % 2 == 0 { registered_memory(rng, 30, 1000, 6000) } else { sound_memory(rng, 60) };
         let (table, source) = (decode(&m), Source::new(&m));
@@ -129,14 +132,15 @@ fn completions(rng: &mut Rng) {
                 Ok((lines, _)) => {
                     assert_eq!(answer, Ok(lines.len() as u32), "{query:?}");
                     assert!((0..lines.len()).all(|k| out.line(k, item) == lines[k]), "{query:?}");
-                    let by_source = source.begin().lines(&query).into_iter().filter(|l| kind.is_none_or(|k| l.item.kind == k));
-                    assert!(by_source.eq(lines), "{query:?}");
+                    let by_source = source.begin().lines(&query);
+                    assert!(by_source == source_lines(&table.names, &query), "{query:?}");
+                    sources[usize::from(!by_source.into_iter().filter(|l| kind.is_none_or(|k| l.item.kind == k)).eq(lines))] += 1;
                 }
             }
             answers[match answer { Ok(_) if kind.is_none() => 0, Ok(_) => 1, Err(9) => 2, Err(_) => 3 }] += 1;
         }
     }
-    assert!(answers.iter().all(|&n| 0 < n), "{answers:?}");
+    assert!(answers.iter().chain(&sources).all(|&n| 0 < n), "{answers:?} {sources:?}");
 }
 
 #[test]

@@ -2,9 +2,9 @@
 use crate::calls::{fresh, made, Name};
 use crate::layer::table;
 use crate::measure::compare;
+use crate::merged_table;
 use layer::Bytes;
-use model::layout::{Memory, BINDINGS_BRANCH};
-use model::model::WORDS_A_RECORD;
+use model::layout::Memory;
 use product::{Listing, Looked, Output, Reply};
 use std::cell::RefCell;
 
@@ -47,8 +47,9 @@ macro_rules! library {
             },
             find: |m, n| {
                 let h = m.header;
-                unsafe { $find(m.words.as_ptr(), m.words.len(), m.text.as_ptr(), m.text.len(), h.names, h.modules, h.records, h.text,
-                    n.query.as_ptr(), n.query.len()) }.found(n)
+                let r = unsafe { $find(m.words.as_ptr(), m.words.len(), m.text.as_ptr(), m.text.len(), h.names, h.modules, h.records, h.text,
+                    n.query.as_ptr(), n.query.len()) };
+                r.result() == Ok(Some(n.item))
             },
             complete: |m, query, out| {
                 let h = m.header;
@@ -78,41 +79,9 @@ fn number(n: &Name) -> u32 {
 
 library!(NOW(kind, number) -> Looked: name_table_insert_sound, name_table_find_sound, name_table_complete_sound,
     name_console_insert_item, name_console_module);
-// The commit before E6: an item is its number alone.
-library!(BEFORE(number) -> Number: before_name_table_insert_sound, before_name_table_find_sound, before_name_table_complete_sound,
-    before_name_console_insert, before_name_console_module);
-
-/// A look-up's reply before E6.
-#[repr(C)]
-struct Number {
-    answer: u32,
-    item: u32,
-}
-
-trait Found {
-    /// Whether it is the name's item.
-    fn found(&self, n: &Name) -> bool;
-}
-
-impl Found for Looked {
-    fn found(&self, n: &Name) -> bool {
-        (self.answer, self.kind, self.number) == (0, kind(n), number(n))
-    }
-}
-
-impl Found for Number {
-    fn found(&self, n: &Name) -> bool {
-        (self.answer, self.item) == (0, number(n))
-    }
-}
-
-/// What both libraries leave alike: all but the kinds of items, which the one before does not write.
-fn without_kinds(mut m: Memory) -> Memory {
-    for r in m.words.chunks_exact_mut(WORDS_A_RECORD).take(m.header.records as usize).filter(|r| r[0] == BINDINGS_BRANCH) {
-        r[6] = 0;
-    }
-    m
-}
+// The commit before E9: the same calls, but of equal names the last holder is listed.
+library!(BEFORE(kind, number) -> Looked: before_name_table_insert_sound, before_name_table_find_sound, before_name_table_complete_sound,
+    before_name_console_insert_item, before_name_console_module);
 
 /// One and the other in turn, on the same memory. Not one of them twice in a turn: the processor then foresees its branches, a tenth to a quarter of 1,000 names.
 fn row(what: &str, calls: usize, run: impl Fn(&Library) -> bool) {
@@ -120,12 +89,12 @@ fn row(what: &str, calls: usize, run: impl Fn(&Library) -> bool) {
     println!("| {what} | {before:.1} | {now:.1} | {:.3} |", now / before);
 }
 
-/// Both leave the same behind, as `seen` sees it.
-fn same<T: Clone, S: PartialEq>(what: &str, start: &T, seen: impl Fn(T) -> S, run: impl Fn(&Library, &mut T) -> bool) {
+/// Both leave the same behind.
+fn same<T: Clone + PartialEq>(what: &str, start: &T, run: impl Fn(&Library, &mut T) -> bool) {
     let [now, before] = [&NOW, &BEFORE].map(|library| {
         let mut left = start.clone();
         assert!(run(library, &mut left), "refused: {what}");
-        seen(left)
+        left
     });
     assert!(now == before, "another result: {what}");
 }
@@ -135,7 +104,7 @@ fn registrations(what: &str, memory: &Memory, names: &[Name]) {
         m.header = memory.header;
         names.iter().all(|n| (library.insert)(m, n))
     };
-    same(what, memory, without_kinds, all);
+    same(what, memory, all);
     let changed = RefCell::new(memory.clone());
     row(what, names.len(), |library| all(library, &mut changed.borrow_mut()));
 }
@@ -151,9 +120,20 @@ pub fn run(sizes: &[usize], names: impl Fn(usize) -> Vec<Name>) {
         let listing = |library: &Library, out: &mut Output| (library.complete)(&m, b"", out);
         let what = format!("list all names, {count} names");
         let out = Output::with_room(32768, 1 << 20);
-        same(&what, &out, |out| out, listing);
+        same(&what, &out, listing);
         let out = RefCell::new(out);
         row(&what, 1, |library| listing(library, &mut out.borrow_mut()));
+    }
+    for (what, own, shared) in [("500 lines of 10 lists", 50, 0), ("10 lists, 250 names in each", 0, 250)] {
+        let m = merged_table(10, own, shared);
+        let listing = |library: &Library, out: &mut Output| (library.complete)(&m, b".", out);
+        let out = Output::with_room(32768, 1 << 20);
+        // Of names in several lists each library has another label.
+        if shared == 0 {
+            same(what, &out, listing);
+        }
+        let out = RefCell::new(out);
+        row(what, 1, |library| listing(library, &mut out.borrow_mut()));
     }
     let (memory, more) = table(&names(1000));
     console("register a name, C layer, 1,024 records", &Bytes::of(&memory), |library, t| (library.console_insert)(t, &more));
@@ -169,7 +149,7 @@ fn console(what: &str, start: &Bytes, call: impl Fn(&Library, &mut Bytes) -> u32
         t.state.copy_from_slice(&start.state);
         call(library, t) == 0
     };
-    same(what, start, |t| without_kinds(t.memory().expect("a state")), one);
+    same(what, start, one);
     let changed = RefCell::new(start.clone());
     row(what, 1, |library| one(library, &mut changed.borrow_mut()));
 }

@@ -1,9 +1,11 @@
-//! One call by the product, by hand in C and by the source's functions, all held to the independent implementation (tests/model).
+//! One call by the product, by hand in C and by the source's functions, all held to the independent implementation (tests/model). The source lists
+//! last holders, so its lines are held to the listing by these, and have the product's candidates in all that is timed.
 use crate::baseline;
 use crate::measure::{compare, least, Row};
 use crate::source::Source;
 use model::layout::{decode, same_table, Memory};
 use model::model::{autocomplete_lid, find, register, Ask, Item, Registration};
+use model::naive::source_lines;
 use product::{item, Output};
 use std::cell::RefCell;
 use std::hint::black_box;
@@ -69,7 +71,7 @@ pub fn registrations(what: &str, memory: &Memory, names: &[Name]) -> Row {
     for m in [&proved, &any, &c] {
         assert!(same_table(&decode(&m.borrow()), &expected), "another table: {what}");
     }
-    assert!(by_source().lines(b"") == autocomplete_lid(&expected, b"", None, u32::MAX).expect("listed").0, "another table: {what}");
+    assert!(by_source().lines(b"") == source_lines(&expected.names, b""), "another table: {what}");
     let now = proved.borrow().header;
     let bytes = (now.records - header.records) as usize * 48 + (now.text - header.text) as usize;
     row(what, None, any_ns, times, names.len(), bytes)
@@ -113,7 +115,9 @@ pub fn completions(what: &str, memory: &Memory, queries: &[&[u8]]) -> Row {
         assert_eq!(product::complete(memory, Ask::Names(None), q, u32::MAX, &mut any.borrow_mut()), Ok((expected.len() as u32, entered)), "{what}");
         assert_eq!(baseline::complete(memory, None, q, u32::MAX, &mut c.borrow_mut()), Ok(expected.len() as u32), "{what}");
         assert!(**out == *any.borrow() && **out == *c.borrow(), "other lines: {what}");
-        assert!(source.begin().lines(q) == expected, "other lines: {what}");
+        let by_source = source.begin().lines(q);
+        assert!(by_source == source_lines(&table.names, q), "other lines: {what}");
+        assert!(by_source.iter().map(|l| &l.candidate).eq(expected.iter().map(|l| &l.candidate)), "other candidates: {what}");
         for (k, line) in expected.iter().enumerate() {
             assert_eq!(&out.line(k, item), line, "{what}");
             written = (written.0 + 1, written.1 + line.candidate.len() + line.annotation.len());

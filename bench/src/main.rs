@@ -99,6 +99,7 @@ impl Work {
         script.find(&self.memory, &slices(&self.missing));
         script.complete(&self.memory, &slices(&self.begun));
         script.complete(&self.memory, &[b""]);
+        assert_eq!(script.listings[1], 0, "a name with two holders");
         script
     }
 }

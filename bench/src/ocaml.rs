@@ -1,8 +1,10 @@
-//! The source's own code in OCaml (source.ml), built by OCaml's compiler and timed by source_main.ml, on the product's work.
+//! The source's own code in OCaml (source.ml), built by OCaml's compiler and timed by source_main.ml, on the product's work. The source lists last
+//! holders: its lines are held to the listing by these (tests/model), which is the product's where no name has two holders, as in all that is timed.
 use crate::measure::Row;
 use crate::source::word_of;
-use model::layout::Memory;
+use model::layout::{decode, Memory};
 use model::model::{Ask, Item, Registration};
+use model::naive::source_lines;
 use product::{item, Output};
 use std::fmt::Write as _;
 use std::io::{ErrorKind, Write as _};
@@ -86,13 +88,9 @@ impl Sum {
         }
     }
 
-    /// The product's lines.
+    /// The source's lines.
     fn complete(&mut self, m: &Memory, query: &[u8]) {
-        let mut out = Output::with_room(32768, 1 << 20);
-        // SAFETY: the memory is sound.
-        let (lines, _) = unsafe { product::complete_sound(m, Ask::Names(None), query, u32::MAX, &mut out) }.expect("listed");
-        for k in 0..lines as usize {
-            let line = out.line(k, item);
+        for line in source_lines(&decode(m).names, query) {
             self.count += 1;
             self.text(&line.candidate);
             self.text(&line.annotation);
@@ -102,11 +100,21 @@ impl Sum {
     }
 }
 
-/// Work for source_main.ml, from the empty table on, and the sums of the product's results, one for each row.
+/// Whether the product lists what the source does.
+fn alike(m: &Memory, query: &[u8]) -> bool {
+    let mut out = Output::with_room(32768, 1 << 20);
+    // SAFETY: the memory is sound.
+    let (lines, _) = unsafe { product::complete_sound(m, Ask::Names(None), query, u32::MAX, &mut out) }.expect("listed");
+    (0..lines as usize).map(|k| out.line(k, item)).eq(source_lines(&decode(m).names, query))
+}
+
+/// Work for source_main.ml, from the empty table on, and the sums of the results, one for each row.
 #[derive(Default)]
 pub struct Script {
     lines: String,
     sums: Vec<Sum>,
+    /// Listings that the product has alike, and otherwise.
+    pub listings: [usize; 2],
 }
 
 impl Script {
@@ -138,6 +146,7 @@ impl Script {
         let mut sum = Sum::default();
         sum.complete(after, b"");
         self.sums.push(sum);
+        self.listings[usize::from(!alike(after, b""))] += 1;
     }
 
     fn queries(&mut self, word: &str, m: &Memory, queries: &[&[u8]], call: fn(&mut Sum, &Memory, &[u8])) {
@@ -158,10 +167,11 @@ impl Script {
     /// A row of completions.
     pub fn complete(&mut self, m: &Memory, queries: &[&[u8]]) {
         self.queries("complete", m, queries, Sum::complete);
+        queries.iter().for_each(|q| self.listings[usize::from(!alike(m, q))] += 1);
     }
 
     /// Nanoseconds a call of each row, in the least of so many turns and in their mean, or none where OCaml's compiler or the integers' library is missing.
-    /// Other results than the product's end the program.
+    /// Other results than these end the program.
     pub fn run(&self, integers: Integers, turns: usize) -> Option<Vec<[f64; 2]>> {
         let mut program = Command::new(built(integers)?).arg(turns.to_string()).stdin(Stdio::piped()).stdout(Stdio::piped()).spawn().expect("the OCaml program");
         program.stdin.take().unwrap().write_all(self.lines.as_bytes()).expect("its input");
@@ -169,7 +179,7 @@ impl Script {
         assert!(answer.status.success(), "the OCaml program failed");
         let answer = String::from_utf8(answer.stdout).unwrap();
         let rows: Vec<([f64; 2], Sum)> = answer.lines().map(parse).collect();
-        assert!(rows.iter().map(|r| &r.1).eq(&self.sums), "OCaml has other results: {rows:?}, the product {:?}", self.sums);
+        assert!(rows.iter().map(|r| &r.1).eq(&self.sums), "OCaml has other results: {rows:?}, not {:?}", self.sums);
         Some(rows.into_iter().map(|r| r.0).collect())
     }
 }
@@ -245,6 +255,7 @@ mod tests {
     #[test]
     fn ocaml_does_the_same_work() {
         let mut rng = Rng::new(4);
+        let mut listings = [0; 2];
         for _ in 0..20 {
             let mut m = fresh();
             let calls: Vec<Registration> = (0..30).map(|_| registration(&mut rng, &[4, 2, 1, 1, 0])).filter(|call| product::register(&mut m, call) == 0).collect();
@@ -254,12 +265,14 @@ mod tests {
             script.find(&m, &slices(&names));
             let begun: Vec<Vec<u8>> = (0..30).map(|_| completion_query(&mut rng)).collect();
             script.complete(&m, &slices(&begun));
+            (0..2).for_each(|k| listings[k] += script.listings[k]);
             for integers in [Integers::Machine, Integers::Zarith] {
                 if script.run(integers, 1).is_none() {
                     println!("{LEFT_OUT}");
                 }
             }
         }
+        assert!(listings.iter().all(|&n| 0 < n), "{listings:?}");
     }
 
     #[test]

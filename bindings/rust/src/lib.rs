@@ -15,7 +15,7 @@
 //! let mut output = Output::new(10, 100);
 //! let listing = table.complete(None, "Live.off.", 4096, &mut output)?;
 //! let line = listing.line(0).unwrap();
-//! assert_eq!((line.candidate, line.item.to_string(), line.match_length), (&b"Live.offset"[..], "r1".into(), 8));
+//! assert_eq!((line.candidate, line.item.to_string(), line.match_length), (&b"Live.offset"[..], "r3".into(), 8));
 //!
 //! table.insert("Saved.", "late", Item::timer(2))?;
 //! let shared = table.complete_shared(None, "S.", 4096, &mut output)?;

@@ -109,7 +109,7 @@ impl Table {
     }
 
     /// Lists the names that the query covers, of one kind or of all (`None`), entering no more tries than the budget. Names of other
-    /// kinds take no output; the tries entered are those of all kinds.
+    /// kinds take no output; the tries entered are those of all kinds. The line of a name carries the item that [`find`](Table::find) finds.
     pub fn complete<'a>(
         &'a self,
         kind: Option<Kind>,
@@ -122,7 +122,8 @@ impl Table {
         Refusal::check(reply.answer).map(|()| Listing::new(reply, output, &self.text, item))
     }
 
-    /// Lists the modules and namespaces that the query covers and the filter keeps.
+    /// Lists the modules and namespaces that the query covers and the filter keeps, each with the item that
+    /// [`find_module`](Table::find_module) finds.
     pub fn complete_modules<'a>(
         &'a self,
         filter: Filter,

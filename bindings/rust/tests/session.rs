@@ -13,7 +13,7 @@ Live.late. is not there
 Live.offset is refused: 2 Malformed: a query does not end in a dot, or a byte is not allowed at its place
 all kinds:
 tick t5 []
-Live.offset r1 []
+Live.offset r3 []
 Saved.late r2 []
 Saved.offset r1 []
 timers:

@@ -46,8 +46,8 @@ fn names() {
 #[test]
 fn completions() {
     let mut t = t();
-    assert_eq!(listed(&t, None, "Live.off."), (vec![line(8, r(1), "", "Live.offset")], 2));
-    let all = |l| vec![line(l, r(1), "", "Live.offset"), line(l, r(2), "", "Saved.late"), line(l, r(1), "", "Saved.offset")];
+    assert_eq!(listed(&t, None, "Live.off."), (vec![line(8, r(3), "", "Live.offset")], 2));
+    let all = |l| vec![line(l, r(3), "", "Live.offset"), line(l, r(2), "", "Saved.late"), line(l, r(1), "", "Saved.offset")];
     assert_eq!(listed(&t, None, ""), (all(-1), 3));
     assert_eq!(listed(&t, None, "."), (all(0), 3));
     assert_eq!(listed(&t, None, "None."), (vec![], 1));
@@ -76,6 +76,35 @@ fn kinds() {
     // Another kind replaces an item of the same number.
     t.insert("", "a", Item::port(7)).unwrap();
     assert_eq!((t.find("a."), listed(&t, Some(Kind::Timer), "")), (Ok(Some(Item::port(7))), (vec![], 2)));
+}
+
+/// A name that two holders have: each line is what a look-up finds, and what it finds is listed when it is asked for in full.
+#[test]
+fn lines_are_what_is_found() {
+    let mut t = t();
+    t.insert("Live.", "late", Item::timer(4)).unwrap();
+    t.register_include("Live.", "Saved.").unwrap();
+    t.register_include("", "Saved.").unwrap();
+    t.insert("", "late", Item::port(5)).unwrap();
+    let (lines, entered) = listed(&t, None, "");
+    let expected = [
+        line(-1, Item::port(5), "", "late"),
+        line(-1, r(1), "Saved", "offset"),
+        line(-1, r(2), "", "Live.late"),
+        line(-1, r(1), "", "Live.offset"),
+        line(-1, r(2), "", "Saved.late"),
+        line(-1, r(1), "", "Saved.offset"),
+    ];
+    assert_eq!((&lines[..], entered), (&expected[..], 3));
+    for (_, item, annotation, candidate) in lines {
+        let query = format!("{candidate}.");
+        assert_eq!(t.find(&query), Ok(Some(item)), "{query}");
+        let in_full = vec![line(candidate.len() as i32, item, &annotation, &candidate)];
+        assert_eq!(listed(&t, None, &query).0, in_full, "{query}");
+        for kind in Kind::ALL {
+            assert_eq!(!listed(&t, Some(kind), &query).0.is_empty(), kind == item.kind, "{query} {kind:?}");
+        }
+    }
 }
 
 #[test]

@@ -2,7 +2,7 @@
 use Prim.Native.Nat.{ℕ, _+_, _<_, _≤_}
 use mathlib.Core.Path.{_≡_, refl, sym, ap, _∙_, subst}
 use mathlib.Core.Bool.{Bool, true, false, cond, true≢false}
-use mathlib.Core.List.{List, [], _∷_, map, reverse, reverse-cons, nil≢cons}
+use mathlib.Core.List.{List, [], _∷_, map, nil≢cons}
 use mathlib.Core.Option.{Option, some}
 use native.Mathlib.Omega.{arith}
 use native.Mathlib.Decide.{ℕ-discrete}
@@ -18,6 +18,7 @@ use Rattle.source.specs.Lists.{nonempty, merge-nonempty, merge-increasing-lists
 use Rattle.source.specs.Shared.{Allˡ}
 use Rattle.source.proofs.Lookup.{Allˡ-map, Increasing}
 use Rattle.source.proofs.Rows.{names-find-first-depth}
+use Rattle.source.proofs.Lookup.{Allˡ-reverse}
 use Rattle.source.specs.Forward.{found}
 use Rattle.memory.specs.Layout.{Which, Item, tree, list, what, key-at}
 use Rattle.memory.specs.Sound.{Used, At}
@@ -26,7 +27,6 @@ use Rattle.tree.specs.Links.{matches, head0, row-at}
 use Rattle.tree.proofs.Branches.{any-tree}
 use Rattle.tree.proofs.After.{after-first}
 use Rattle.tree.proofs.Matches.{MatchOf, matches-of, matches-increasing}
-use Rattle.tree.proofs.Keep.{all-append}
 use Rattle.matches.specs.Matched.{Noted, Matched}
 use Rattle.marks.specs.declared.Next.{Next}
 use Rattle.names.specs.Names.{AnyList}
@@ -52,14 +52,10 @@ use Rattle.memory.proofs.At.{no-link, at-of, at-in}
 use Rattle.memory.proofs.What.{what-none}
 use Rattle.lines.proofs.Goes.{goes-none}
 
-all-reverse : {A : Type 0} (P : A → Type 0) (l : List A) → Allˡ P l → Allˡ P (reverse l)
-all-reverse P [] a = tt
-all-reverse P (x ∷ l) a = rw (reverse-cons x l) (all-append P (reverse l) (x ∷ []) (all-reverse P l (a .1)) (a .0, tt))
-
 -- What is found in a list of namespaces is less deep than the list.
 found-deep : {A : Type 0} {v : Level} (n : NameList A v) (term : SearchTerm) → Allˡ (λ x. depth (x .1) < depth-names n) (found n term)
 unfolding found
-found-deep n term = all-reverse _ (names-find-rev-first n term) (names-find-first-depth n term)
+found-deep n term = Allˡ-reverse _ (names-find-rev-first n term) [] (names-find-first-depth n term) tt
 
 -- No label.
 pub no-label : {ws txt : List ℕ} {w : Which} {v : Level} {n used : ℕ} → Used ws txt n used → LabelAt ws txt w v 0

@@ -20,6 +20,7 @@ use Rattle.source.specs.Forward.{found}
 use Rattle.source.specs.Forward.{line, lines, made, kept-line}
 use Rattle.source.specs.declared.LidSymbol.{LidSymbol}
 use Rattle.source.proofs.Filters.{all-listed}
+use Rattle.source.proofs.Lookup.{sumˡ-reverse}
 
 -- ---- lists
 module _ {A B : Type 0} where
@@ -59,15 +60,6 @@ unfolding flatMap
 flatMap-flatMap g f [] = refl
 flatMap-flatMap g f (a ∷ l) = flatMap-append g (f a) (flatMap f l) ∙ ap (λ r. flatMap g (f a) ++ r) (flatMap-flatMap g f l)
 
-module _ {A : Type 0} where
-  sumˡ-append : (f : A → ℕ) (l m : List A) → sumˡ f (l ++ m) ≡ sumˡ f l + sumˡ f m
-  sumˡ-append f [] m = omega arith
-  sumˡ-append f (a ∷ l) m = omega (arith, sumˡ-append f l m)
-
-  sumˡ-reverse : (f : A → ℕ) (l : List A) → sumˡ f (reverse l) ≡ sumˡ f l
-  sumˡ-reverse f [] = refl
-  sumˡ-reverse f (a ∷ l) = rw (reverse-cons a l) (omega (arith, sumˡ-append f (reverse l) (a ∷ []), sumˡ-reverse f l))
-
 -- ---- the listing
 module _ {A : Type 0} where
   pub listing-is : (n : ℕ) (tr : Trie A) (path : PathOf) (q : Query) (acc : List (PathOf × A)) → find-prefix-fuel by-first n tr path q acc ≡ lines n tr path q ++ acc
@@ -87,7 +79,7 @@ module _ {A : Type 0} where
   -- Tries entered: one more than in the found namespaces.
   pub entered-is : (n : ℕ) (tr : Trie A) (q : Query) → entered (suc n) tr q ≡ suc (sumˡ (λ x. entered n (x .1) (tail q)) (found (namespaces tr) (ns-search-term q)))
   unfolding entered found
-  entered-is n tr q = ap suc (sym (sumˡ-reverse (λ x. entered n (x .1) (tail q)) (names-find-rev-first (namespaces tr) (ns-search-term q))))
+  entered-is n tr q = omega (arith, sumˡ-reverse (λ x. entered n (x .1) (tail q)) (names-find-rev-first (namespaces tr) (ns-search-term q)) [])
 
   pub lines-count : (n : ℕ) (tr : Trie A) (path : PathOf) (q : Query)
       → length (lines (suc n) tr path q)

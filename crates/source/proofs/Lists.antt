@@ -20,7 +20,7 @@ use Rattle.source.specs.Forward.{sum, sumᶠ}
 use Rattle.source.proofs.Heap.{All, Allᶠ, Heaped, All-map, Allᶠ-map, Allᶠ-zip, none-countedᶠ, counted, sum-merge, sum-pairs, All-merge, All-pairs, Heaped-merge, Heaped-pairs, sum-from-list, Heaped-from-list}
 use Rattle.source.specs.Lists.{Run, run, first, priority, nonempty, add-priorities, total, push-nodup, run-cmp, put-back, merge-aux, merge-nonempty, merge-increasing-lists-rev}
 use Rattle.source.specs.Shared.{same, Allˡ}
-use Rattle.source.proofs.Lookup.{Same, same-view, Allˡ-map, or-else-none, lt-ne, lookup, first-lookup, Above, Below, Increasing, Decreasing, lookup-hit, lookup-miss, lookup-above, lookup-below, decreasing-unique}
+use Rattle.source.proofs.Lookup.{Same, same-view, Allˡ-map, Allˡ-reverse, sumˡ-reverse, or-else-none, lt-ne, lookup, first-lookup, Above, Below, Increasing, Decreasing, lookup-hit, lookup-miss, lookup-above, lookup-below, decreasing-unique}
 use Rattle.source.specs.Tries.{or-else}
 use Rattle.source.specs.Forward.{rest, size}
 
@@ -447,22 +447,14 @@ module _ {A : Type 0} (key : A → Str) where
     sizes = omega (arith, priorities-size 0 [] ls);
   }
 
-  sum-turned : (f : Run A → ℕ) (rs acc : List (Run A)) → sumˡ f (reverseAux rs acc) ≡ sumˡ f rs + sumˡ f acc
-  sum-turned f [] acc = omega arith
-  sum-turned f (r ∷ rs) acc = omega (arith, sum-turned f rs (r ∷ acc))
-
-  all-turned : (P : Run A → Type 0) (rs acc : List (Run A)) → Allˡ P rs → Allˡ P acc → Allˡ P (reverseAux rs acc)
-  all-turned P [] acc a b = b
-  all-turned P (r ∷ rs) acc a b = all-turned P rs (r ∷ acc) (a .1) (a .0, b)
-
   pub turned-runs : (ls : List (List A)) → Runs ls (reverse (add-priorities 0 [] ls))
   turned-runs ls =
       let h = priorities-runs ls in
       let rs = add-priorities 0 [] ls in
       record {
-        sound = all-turned (λ r. getD ls (priority r) [] ≡ first r ∷ rest r) rs [] (h .sound) tt;
-        counts = λ q. omega (arith, sum-turned (at q) rs [], h .counts q);
-        sizes = omega (arith, sum-turned size rs [], h .sizes);
+        sound = Allˡ-reverse (λ r. getD ls (priority r) [] ≡ first r ∷ rest r) rs [] (h .sound) tt;
+        counts = λ q. omega (arith, sumˡ-reverse (at q) rs [], h .counts q);
+        sizes = omega (arith, sumˡ-reverse size rs [], h .sizes);
       }
 
   -- ---- one list: its reverse
@@ -559,14 +551,10 @@ module _ {A : Type 0} (key : A → Str) where
     priorities-all n acc ([] ∷ ls) a b = priorities-all (suc n) acc ls a (b .1)
     priorities-all n acc ((v ∷ tl) ∷ ls) a b = priorities-all (suc n) (run n v tl ∷ acc) ls (b .0, a) (b .1)
 
-    reverse-all : (l acc : List A) → Allˡ P l → Allˡ P acc → Allˡ P (reverseAux l acc)
-    reverse-all [] acc a b = b
-    reverse-all (x ∷ l) acc a b = reverse-all l (x ∷ acc) (a .1) (a .0, b)
-
     merge-nonempty-all : (ls : List (List A)) → Allˡ (Allˡ P) ls → Allˡ P (merge-nonempty key ls)
     unfolding merge-nonempty heap-from-list
     merge-nonempty-all [] a = tt
-    merge-nonempty-all (l ∷ []) a = reverse-all l [] (a .0) tt
+    merge-nonempty-all (l ∷ []) a = Allˡ-reverse P l [] (a .0) tt
     merge-nonempty-all (l ∷ (m ∷ ls)) a =
         merge-aux-all (total (l ∷ (m ∷ ls))) (heap-from-list (run-cmp key) (add-priorities 0 [] (l ∷ (m ∷ ls)))) []
         (insert-all-all AllRun EmptyHeap (add-priorities 0 [] (l ∷ (m ∷ ls))) tt (priorities-all 0 [] (l ∷ (m ∷ ls)) tt a)) tt

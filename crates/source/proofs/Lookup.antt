@@ -1,16 +1,17 @@
 -- Elements by their key: a property of all, the first with a key, ascending and descending lists.
-use Prim.Native.Nat.{Ordering, Ordering·lt, Ordering·eq, Ordering·gt}
+use Prim.Native.Nat.{ℕ, _+_, Ordering, Ordering·lt, Ordering·eq, Ordering·gt}
 use mathlib.Core.Path.{_≡_, refl, sym, ap, ap₂, _∙_}
 use mathlib.Core.Logic.{_⊎_, inl, inr}
 use mathlib.Core.Bool.{true, false, cond}
-use mathlib.Core.List.{List, [], _∷_, map}
+use mathlib.Core.List.{List, [], _∷_, map, reverseAux}
 use mathlib.Core.Option.{Option, none, some, Option·map, Option·none-ne-some, Option·some-injective}
+use native.Mathlib.Omega.{arith}
 use lib.Dec.{isEq}
 use Rattle.source.specs.Text.{Str, string-compare}
 use Rattle.source.specs.Rules.{_<ˢ_}
 use Rattle.source.proofs.Order.{View, compare-strings, <ˢ-irrefl, <ˢ-trans}
 use Rattle.source.specs.Tries.{or-else}
-use Rattle.source.specs.Shared.{same, Allˡ}
+use Rattle.source.specs.Shared.{same, Allˡ, sumˡ}
 
 -- ---- equal strings, as a test
 unfoldable pub Same : Str → Str → Type 0
@@ -49,6 +50,14 @@ Allˡ-map (x ∷ l) f p = (f x (p .0), Allˡ-map l f (p .1))
 pub Allˡ-zip : {A : Type 0} {P Q R : A → Type 0} (l : List A) → ((a : A) → P a → Q a → R a) → Allˡ P l → Allˡ Q l → Allˡ R l
 Allˡ-zip [] f p q = tt
 Allˡ-zip (a ∷ l) f p q = (f a (p .0) (q .0), Allˡ-zip l f (p .1) (q .1))
+
+pub Allˡ-reverse : {A : Type 0} (P : A → Type 0) (l acc : List A) → Allˡ P l → Allˡ P acc → Allˡ P (reverseAux l acc)
+Allˡ-reverse P [] acc a b = b
+Allˡ-reverse P (x ∷ l) acc a b = Allˡ-reverse P l (x ∷ acc) (a .1) (a .0, b)
+
+pub sumˡ-reverse : {A : Type 0} (f : A → ℕ) (l acc : List A) → sumˡ f (reverseAux l acc) ≡ sumˡ f l + sumˡ f acc
+sumˡ-reverse f [] acc = omega arith
+sumˡ-reverse f (x ∷ l) acc = omega (arith, sumˡ-reverse f l (x ∷ acc))
 
 pub or-else-none : {A : Type 0} (o : Option A) → or-else o none ≡ o
 unfolding or-else

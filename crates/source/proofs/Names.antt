@@ -10,7 +10,7 @@ use Rattle.source.specs.Types.{Level, Value, Tree, NameList, []ᴺ, Name
 use Rattle.source.specs.Trees.{PrefixMatch, PathElem, btree-find-exact}
 use Rattle.source.specs.Tries.{or-else, names-find-exact}
 use Rattle.source.specs.Shared.{same, Allˡ}
-use Rattle.source.proofs.Lookup.{Same, same-view, lookup, first-lookup, Above, Increasing, Decreasing, or-else-none, lookup-above, lookup-below}
+use Rattle.source.proofs.Lookup.{Same, same-view, lookup, first-lookup, Above, Increasing, Decreasing, or-else-none, lookup-above, lookup-below, Allˡ-reverse}
 use Rattle.source.proofs.Lists.{merge-decreasing, merge-at}
 use Rattle.source.specs.Listing.{SearchTerm, NSTAll, NSTNone, NSTPrefix, revmap-onto, names-revmap, matching-values, with-imports, elem-key, names-find-rev, names-find-rev-first}
 use Rattle.source.specs.Terms.{flatten, found-onto, holders, first-of, last-of}
@@ -30,10 +30,6 @@ map-reverse f [] acc = refl
 map-reverse f (a ∷ l) acc = map-reverse f l (a ∷ acc)
 
 module _ {A : Type 0} where
-  all-reverse : (P : A → Type 0) (l acc : List A) → Allˡ P l → Allˡ P acc → Allˡ P (reverseAux l acc)
-  all-reverse P [] acc a b = b
-  all-reverse P (x ∷ l) acc a b = all-reverse P l (x ∷ acc) (a .1) (a .0, b)
-
   first-append : (l m : List A) → first-of (l ++ m) ≡ or-else (first-of l) (first-of m)
   unfolding first-of or-else
   first-append [] m = refl
@@ -235,7 +231,7 @@ module _ {A : Type 0} where
 
   pub turned-increasing : {l : Level} (term : SearchTerm) (n : NameList A l) → OrderedN n → Allˡ (Increasing elem-key) (map with-imports (reverse (matching-values n term)))
   turned-increasing term n o =
-      rw (map-reverse with-imports (matching-values n term) []) (all-reverse (Increasing elem-key) (map with-imports (matching-values n term)) [] (values-increasing term n o) tt)
+      rw (map-reverse with-imports (matching-values n term) []) (Allˡ-reverse (Increasing elem-key) (map with-imports (matching-values n term)) [] (values-increasing term n o) tt)
 
   pub find-first-decreasing : {l : Level} (n : NameList A l) (term : SearchTerm) → OrderedN n → Decreasing elem-key (names-find-rev-first n term)
   unfolding names-find-rev-first

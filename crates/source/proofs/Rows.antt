@@ -1,7 +1,7 @@
 -- What the rows of names_find_rev are, whatever the order of the keys: branches of the list's trees.
 use Prim.Native.Nat.{ℕ, _≤_, _<_}
 use mathlib.Core.Bool.{Bool, true, false, cond, _||_}
-use mathlib.Core.List.{List, [], _∷_, map, reverse, reverseAux}
+use mathlib.Core.List.{List, [], _∷_, map, reverse}
 use mathlib.Core.Option.{Option, none, some}
 use native.Mathlib.Omega.{arith}
 use lib.Dec.{isLe}
@@ -11,6 +11,7 @@ use Rattle.source.specs.Trees.{PrefixMatch, PathElem, find-prefix-onto, 
 use Rattle.source.specs.Terms.{depth, depth-tree, depth-names}
 use Rattle.source.specs.Listing.{SearchTerm, NSTAll, NSTNone, NSTPrefix, revmap-onto, names-revmap, matching-values, with-imports, elem-key, names-find-rev, names-find-rev-first}
 use Rattle.source.specs.Shared.{Allˡ}
+use Rattle.source.proofs.Lookup.{Allˡ-reverse}
 use Rattle.source.proofs.Lists.{merge-all}
 
 module _ {A : Type 0} {l : Level} (P : Str → Value A l → Type 0) where
@@ -87,15 +88,11 @@ module _ {A : Type 0} {l : Level} (P : Str → Value A l → Type 0) where
   names-find-rev-all n term a =
       merge-all elem-key Row (map with-imports (matching-values n term)) (all-with-imports (matching-values n term) (matching-values-all n term a))
 
-  all-turned : (ms acc : List (List Str × List (PrefixMatch × Value A l))) → AllMatches ms → AllMatches acc → AllMatches (reverseAux ms acc)
-  all-turned [] acc a b = b
-  all-turned (m ∷ ms) acc a b = all-turned ms (m ∷ acc) (a .1) (a .0, b)
-
   pub names-find-first-all : (n : NameList A l) (term : SearchTerm) → AllNamed n → Allˡ Row (names-find-rev-first n term)
   unfolding names-find-rev-first
   names-find-first-all n term a =
       merge-all elem-key Row (map with-imports (reverse (matching-values n term)))
-      (all-with-imports (reverse (matching-values n term)) (all-turned (matching-values n term) [] (matching-values-all n term a) tt))
+      (all-with-imports (reverse (matching-values n term)) (Allˡ-reverse (λ m. Matches (m .1)) (matching-values n term) [] (matching-values-all n term a) tt))
 
 -- ---- Depth
 module _ {A : Type 0} {l : Level} (d : ℕ) where

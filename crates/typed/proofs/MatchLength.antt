@@ -2,7 +2,7 @@
 use Prim.Native.Nat.{ℕ, zero, suc, _+_, _*_, _≤_, _<_}
 use mathlib.Core.Path.{_≡_, refl, sym, _∙_, subst}
 use mathlib.Core.Bool.{Bool, true, false, cond, _||_, true≢false}
-use mathlib.Core.List.{List, [], _∷_, _++_, map, flatMap, reverse, reverseAux, tail}
+use mathlib.Core.List.{List, [], _∷_, _++_, map, flatMap, reverse, tail}
 use mathlib.Core.Option.{Option, none, some}
 use native.Mathlib.Omega.{arith}
 use lib.Dec.{isLe, ltb}
@@ -18,7 +18,7 @@ use Rattle.source.specs.Table.{Table, ModSymbol, Line, Matched, match-elem, mat
 use Rattle.source.specs.Rules.{IsKey, IsLabel, NameItem, ModItem, Formed, FormedNames, SoundTrie, SoundTable}
 use Rattle.source.specs.Calls.{Completed, listed, refused, Output, completed, completion-rows, lowest, complete, complete-modules, keeps-kind, keeps}
 use Rattle.source.specs.Shared.{Allˡ}
-use Rattle.source.proofs.Lookup.{Allˡ-map, Allˡ-zip}
+use Rattle.source.proofs.Lookup.{Allˡ-map, Allˡ-zip, Allˡ-reverse}
 use Rattle.source.proofs.Lists.{merge-all}
 use Rattle.source.proofs.Listed.{rows-formed, parts}
 use Rattle.source.specs.Forward.{found}
@@ -42,10 +42,6 @@ module _ {A : Type 0} (P : A → Type 0) where
   all-append : (l m : List A) → Allˡ P l → Allˡ P m → Allˡ P (l ++ m)
   all-append [] m a b = b
   all-append (x ∷ l) m a b = (a .0, all-append l m (a .1) b)
-
-  all-reverse : (l acc : List A) → Allˡ P l → Allˡ P acc → Allˡ P (reverseAux l acc)
-  all-reverse [] acc a b = b
-  all-reverse (x ∷ l) acc a b = all-reverse l (x ∷ acc) (a .1) (a .0, b)
 
   pub all-flatMap : {B : Type 0} (Q : B → Type 0) (f : B → List A) → ((b : B) → Q b → Allˡ P (f b)) → (l : List B) → Allˡ Q l → Allˡ P (flatMap f l)
   unfolding flatMap
@@ -133,7 +129,7 @@ module _ {A : Type 0} {l : Level} where
   rows-fine : (n : NameList A l) (term : SearchTerm) → Allˡ Row (names-find-rev-first n term)
   unfolding names-find-rev-first
   rows-fine n term = merge-all elem-key Row (map with-imports (reverse (matching-values n term)))
-      (all-fine (reverse (matching-values n term)) (all-reverse (λ m. Matches (m .1)) (matching-values n term) [] (matching-fine n term) tt))
+      (all-fine (reverse (matching-values n term)) (Allˡ-reverse (λ m. Matches (m .1)) (matching-values n term) [] (matching-fine n term) tt))
 
 -- ---- paths
 -- An element of a sound table's path.
@@ -169,7 +165,7 @@ module _ {A : Type 0} (Item : A → Type 0) where
   rows-short : {l : Level} (n : NameList A l) (term : SearchTerm) → FormedNames IsKey IsLabel Item n → Allˡ RowOk (found n term)
   unfolding found elem-key
   rows-short n term g =
-      all-reverse RowOk (names-find-rev-first n term) [] (Allˡ-zip (names-find-rev-first n term) (λ y k b. ((k .0 .short, b), k .1)) (rows-formed IsKey IsLabel Item n term g) (rows-fine n term)) tt
+      Allˡ-reverse RowOk (names-find-rev-first n term) [] (Allˡ-zip (names-find-rev-first n term) (λ y k b. ((k .0 .short, b), k .1)) (rows-formed IsKey IsLabel Item n term g) (rows-fine n term)) tt
 
   abbrev LineOk : PathOf × A → Type 0
   LineOk x = Held (match-length-of-path (x .0))

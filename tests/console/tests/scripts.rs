@@ -1,8 +1,9 @@
 //! Scripts, random and at every limit. SCRIPTS says how many random ones, 400 at least; SEED says where they begin.
 use console::console;
-use model::gen::{at_least, limit_scripts, script, times, Rng};
-use model::model::Kind;
-use model::script::run;
+use model::gen::{at_least, limit_scripts, registration, script, times, Rng, MIXES};
+use model::model::{concat_dots, Kind};
+use model::naive::{full_names, walk, Holder};
+use model::script::{run, spell, Console, Form};
 
 /// Both write the same, which is given; if not, the first line that differs.
 fn agree(what: &str, input: &[u8]) -> Vec<u8> {
@@ -48,7 +49,73 @@ fn random_scripts() {
     assert!(items.as_flattened().iter().all(|&n| 0 < n), "{items:?}");
 }
 
-/// SCRIPTS cannot empty the test above.
+/// Item and candidate of the lines of a listing, which is taken from the replies; none if it is refused.
+fn listing<'a>(replies: &mut impl Iterator<Item = &'a str>) -> Option<Vec<(&'a str, &'a str)>> {
+    let mut lines = Vec::new();
+    loop {
+        let reply = replies.next().expect("an end");
+        match reply.trim_matches(|c| c == '[' || c == ']').split(' ').collect::<Vec<_>>()[..] {
+            ["line", _, item, .., candidate] => lines.push((item, candidate)),
+            ["end", ..] => return Some(lines),
+            ["refused", "9" | "10"] => return None,
+            _ => panic!("{reply}"),
+        }
+    }
+}
+
+/// The item that a look-up's reply has.
+fn found(reply: &str) -> Option<&str> {
+    match reply {
+        "[none]" => None,
+        _ => Some(reply.strip_prefix("[found ").and_then(|r| r.strip_suffix(']')).expect("an item")),
+    }
+}
+
+/// Pane and look-up (docs/REQUIREMENTS.md, section 2, demand 3): a name that is found is listed with its item when it is asked for in full,
+/// one that is not found is not listed, and each line of everything is found.
+#[test]
+fn what_is_listed_is_found() {
+    let mut rng = Rng::new(Rng::seed_or(29));
+    // Names found and not, and with several holders; lines looked up; listings refused.
+    let (mut names, mut several, mut looked_up, mut refused) = ([0; 2], [0; 2], 0, 0);
+    for round in 0..120 {
+        let mut model = Console::default();
+        let mut made = String::new();
+        for _ in 0..40 {
+            let call = String::from_utf8(spell(&Form::Register(registration(&mut rng, &MIXES[round % 2])))).unwrap();
+            model.reply(call.as_bytes());
+            made += &(call + "\n");
+        }
+        let known = full_names(&model.table.names, 60);
+        let texts: Vec<String> = known.iter().map(|n| String::from_utf8(concat_dots(n).to_vec()).unwrap()).collect();
+        let asked: String = texts.iter().map(|text| format!("[find [{text}.]]\n[complete [{text}.]]\n")).collect();
+        let output = String::from_utf8(console((made.clone() + &asked + "[complete []]\n").as_bytes())).unwrap();
+        let mut replies = output.lines().skip(40);
+        for (name, text) in known.iter().zip(&texts) {
+            let item = found(replies.next().unwrap());
+            let met = usize::from(item.is_none());
+            names[met] += 1;
+            several[met] += u32::from(walk(&model.table.names, name, Holder::First).meets_several());
+            match listing(&mut replies) {
+                None => refused += 1,
+                Some(lines) => {
+                    let its: Vec<&str> = lines.into_iter().filter(|(_, candidate)| candidate == text).map(|(item, _)| item).collect();
+                    assert_eq!(its, Vec::from_iter(item), "{text} after\n{made}");
+                }
+            }
+        }
+        let all = listing(&mut replies).unwrap_or_default();
+        let asked: String = all.iter().map(|(_, candidate)| format!("[find [{candidate}.]]\n")).collect();
+        let output = String::from_utf8(console((made.clone() + &asked).as_bytes())).unwrap();
+        let items: Vec<_> = output.lines().skip(40).map(found).collect();
+        assert_eq!(items, all.iter().map(|(item, _)| Some(*item)).collect::<Vec<_>>(), "after\n{made}");
+        looked_up += all.len();
+    }
+    println!("names found and not: {names:?}, with several holders: {several:?}; {looked_up} lines looked up; {refused} listings refused; 0 disagreements");
+    assert!(names.iter().chain(&several).all(|&n| 100 < n) && 1000 < looked_up, "{names:?} {several:?} {looked_up}");
+}
+
+/// SCRIPTS cannot empty the random scripts.
 #[test]
 fn fewer_scripts_are_an_error() {
     for few in ["0", "399", "-1", "", "all", "4e3", " 400"] {
@@ -67,7 +134,7 @@ fn scripts_at_limits() {
 #[test]
 fn the_printed_session() {
     let input = b"[name [Saved.] offset 1]\n[include [Live.] [Saved.]]\n[name [Live.] offset 3]\n[find [Live.offset.]]\n[complete [Live.off.]]\n";
-    let output = b"[ok 6]\n[ok 12]\n[ok 19]\n[found r3]\n[line 8 r1 [] Live.offset]\n[end 1 2]\n";
+    let output = b"[ok 6]\n[ok 12]\n[ok 19]\n[found r3]\n[line 8 r3 [] Live.offset]\n[end 1 2]\n";
     assert_eq!(console(input), output);
     assert_eq!(console(&input[..input.len() - 1]), output);
 }

@@ -123,8 +123,9 @@ fn complete_all(rng: &mut Rng, t: &Bytes, query: &[u8], tally: &mut Tally) {
         match ask {
             Ask::Names(kind) => {
                 let names = now.as_ref().map_err(|&r| r).and_then(|n| autocomplete_lid(n, query, kind, budget));
-                if let (None, Ok((lines, _))) = (kind, &names) {
+                if let (None, Ok(n), Ok((lines, _))) = (kind, &now, &names) {
                     tally.all_kinds(lines);
+                    tally.beside_the_source(&n.names, query, lines);
                 }
                 listed(t, ask.into(), query, budget, room, names, |o, k| o.name(k), tally);
             }
@@ -153,7 +154,7 @@ fn completions() {
         }
     }
     println!("completions: {tally:?}; 0 disagreements");
-    assert!(tally.has(&[0, 2, 4, 9, 10]) && tally.has_kinds(), "{tally:?}");
+    assert!(tally.has(&[0, 2, 4, 9, 10]) && tally.has_kinds() && 0 < tally.otherwise[0], "{tally:?}");
 }
 
 #[test]

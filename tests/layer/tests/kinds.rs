@@ -134,9 +134,9 @@ fn dropped_lines_take_no_output() {
     assert!(dropped.iter().all(|&n| 0 < n), "{dropped:?}");
 }
 
-/// Of equal names the last holder is listed, whatever kind is asked for: a line of another kind hides a name of the kind.
+/// Of equal names the first holder is listed, whatever kind is asked for: a name is listed among the kind that look-up finds, and no other.
 #[test]
-fn the_last_holder_decides_before_the_kind() {
+fn the_first_holder_decides_before_the_kind() {
     let table = made(&[name("Saved.", "offset", r(1)), include("Live.", "Saved."), name("Live.", "offset", t(3))]);
     let listed = |kind| {
         let mut out = Output::with_room(9, 99);
@@ -144,9 +144,9 @@ fn the_last_holder_decides_before_the_kind() {
         ((0..lines as usize).map(|k| out.name(k).item).collect::<Vec<_>>(), entered)
     };
     assert_eq!(find(&table, b"Live.offset."), Ok(Some(t(3))));
-    assert_eq!(listed(None), (vec![r(1)], 2));
-    assert_eq!(listed(Some(Kind::Register)), (vec![r(1)], 2));
-    assert_eq!(listed(Some(Kind::Timer)), (vec![], 2));
+    assert_eq!(listed(None), (vec![t(3)], 2));
+    assert_eq!(listed(Some(Kind::Timer)), (vec![t(3)], 2));
+    assert_eq!(listed(Some(Kind::Register)), (vec![], 2));
 }
 
 /// Each registration, all accepted by [`plant`].

@@ -4,6 +4,7 @@
 use crate::gen::{self, Rng};
 use crate::model::*;
 use crate::naive::*;
+use std::collections::BTreeSet;
 
 /// Names that look-up and completions were held to each other on.
 #[derive(Debug, Default)]
@@ -101,11 +102,13 @@ pub fn hold<A: Symbol>(
             None
         }
     };
-    // Each line is what look-up finds.
+    // Each line is what look-up finds, and no two have one text.
     for query in [vec![], gen::completion_query(rng)] {
+        let mut texts = BTreeSet::new();
         for line in listed(met, A::ASKS[0], &query).unwrap_or_default() {
             met.lines += 1;
             assert_eq!(find(&query_of(&line.candidate)), Ok(Some(line.item)), "{query:?}");
+            assert!(texts.insert(line.candidate), "{query:?}");
         }
     }
     // What look-up finds is a line, and there is no other of that text.

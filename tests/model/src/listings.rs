@@ -1,7 +1,8 @@
 //! What a suite holds the completions of any implementation to, and which of
 //! them it has met.
 
-use crate::model::{shared_length, CompletionResult, Item, Kind};
+use crate::model::{segments, shared_length, Ask, CompletionResult, Item, Kind, Trie};
+use crate::naive::{listing, Holder, Symbol};
 use std::fmt::Debug;
 
 /// Lines, tries entered and shared length, or the number of the refusal.
@@ -40,6 +41,9 @@ pub struct Tally {
     /// By kind: listings of names of which asking for it keeps all lines, some,
     /// and none.
     pub kept: [[u64; 3]; 3],
+    /// Listings of everything that the source has otherwise, since it keeps
+    /// last holders: of names, and of modules.
+    pub otherwise: [u64; 2],
 }
 
 impl Tally {
@@ -73,6 +77,18 @@ impl Tally {
                 _ => *all += 1,
             }
         }
+    }
+
+    /// A listing of everything on this root.
+    pub fn beside_the_source<A: Symbol>(
+        &mut self,
+        root: &Trie<A>,
+        query: &[u8],
+        results: &[CompletionResult<A>],
+    ) {
+        let theirs = listing(root, &segments(query), 3_000, Holder::Last);
+        let modules = usize::from(matches!(A::ASKS[0], Ask::Modules(_)));
+        self.otherwise[modules] += u64::from(theirs.is_some_and(|l| l.lines != results));
     }
 
     /// Each of these answers came up, and each sort of listing.

@@ -76,8 +76,8 @@ fn cases_3_and_4_look_ups() {
 #[test]
 fn cases_5_6_and_7_completions() {
     let m = made(&t());
-    assert_eq!(names(&m, b"Live.off."), (lines(&[(8, R1, "", "Live.offset")]), 2));
-    let all = |l| lines(&[(l, R1, "", "Live.offset"), (l, R2, "", "Saved.late"), (l, R1, "", "Saved.offset")]);
+    assert_eq!(names(&m, b"Live.off."), (lines(&[(8, R3, "", "Live.offset")]), 2));
+    let all = |l| lines(&[(l, R3, "", "Live.offset"), (l, R2, "", "Saved.late"), (l, R1, "", "Saved.offset")]);
     assert_eq!(names(&m, b""), (all(-1), 3));
     assert_eq!(names(&m, b".").0, all(0));
 }

@@ -2,7 +2,7 @@
 use model::gen::{completion_query, damaged_query, damages, registered_memory, sound_memory, Rng};
 use model::layout::{decode, Memory};
 use model::listings::Tally;
-use model::model::{autocomplete_lid, autocomplete_mod_or_ns, shared_length, Ask, CompletionResult, Table};
+use model::model::{autocomplete_lid, autocomplete_mod_or_ns, shared_length, Ask, CompletionResult, Filter, Table};
 use product::{complete_both, complete_both_sound, item, symbol, Output};
 use std::fmt::Debug;
 
@@ -69,13 +69,17 @@ fn hold_all(memory: &Memory, table: &Result<Table, u32>, query: &[u8], tally: &m
             Ask::Names(kind) => {
                 let expected = |budget| table.as_ref().map_err(|&n| n).and_then(|t| autocomplete_lid(t, query, kind, budget).map_err(|r| r.number()));
                 hold(memory, ask, query, &expected, &item, tally);
-                if let (None, Ok((results, _))) = (kind, expected(u32::MAX)) {
+                if let (None, Ok(t), Ok((results, _))) = (kind, table, expected(u32::MAX)) {
                     tally.all_kinds(&results);
+                    tally.beside_the_source(&t.names, query, &results);
                 }
             }
             Ask::Modules(f) => {
                 let expected = |budget| table.as_ref().map_err(|&n| n).and_then(|t| autocomplete_mod_or_ns(t, query, f, budget).map_err(|r| r.number()));
                 hold(memory, ask, query, &expected, &|w| symbol(&memory.text, w), tally);
+                if let (Filter::All, Ok(t), Ok((results, _))) = (f, table, expected(u32::MAX)) {
+                    tally.beside_the_source(&t.modules, query, &results);
+                }
             }
         }
     }
@@ -94,7 +98,7 @@ fn completions_of_registered_tables() {
         }
     }
     println!("completions: {tally:?}; 0 disagreements");
-    assert!(tally.has(&[0, 2, 4, 9, 10]) && tally.has_kinds(), "{tally:?}");
+    assert!(tally.has(&[0, 2, 4, 9, 10]) && tally.has_kinds() && 0 < tally.otherwise[0], "{tally:?}");
 }
 
 #[test]
@@ -109,7 +113,7 @@ fn completions_of_hand_made_sound_tables() {
         }
     }
     println!("completions of hand-made tables: {tally:?}; 0 disagreements");
-    assert!(tally.has(&[0, 9, 10]) && tally.has_kinds(), "{tally:?}");
+    assert!(tally.has(&[0, 9, 10]) && tally.has_kinds() && tally.otherwise.iter().all(|&n| 0 < n), "{tally:?}");
 }
 
 #[test]
