@@ -2,6 +2,7 @@
 //! implementation, held to each other, and which names they were tried on.
 
 use crate::gen::{self, Rng};
+use crate::layout::Memory;
 use crate::model::*;
 use crate::naive::*;
 use std::collections::BTreeSet;
@@ -151,4 +152,33 @@ pub fn hold<A: Symbol>(
             met.in_full += 1;
         }
     }
+}
+
+/// Holds both roots of a sound table; the names first.
+pub type HoldBoth<'f> = &'f dyn Fn(&mut Rng, &Memory, &mut [Met; 2]);
+
+/// On tables that registrations make.
+pub fn on_registered_tables(seed: u64, hold_both: HoldBoth) {
+    let rng = &mut Rng::new(Rng::seed_or(seed));
+    let mut met = <[Met; 2]>::default();
+    for round in 0..150 {
+        let memory = gen::registered_memory(rng, [10, 40, 100][round % 3], 1000, 8000);
+        hold_both(rng, &memory, &mut met);
+    }
+    println!("registered tables, names and modules: {met:?}; 0 disagreements");
+    assert!(met[0].has_names() && met[0].has_holders(), "{met:?}");
+    // No call puts a second holder among the modules.
+    assert!(met[1].has_names() && met[1].is_single(), "{met:?}");
+}
+
+/// On sound tables of any shape.
+pub fn on_written_tables(seed: u64, hold_both: HoldBoth) {
+    let rng = &mut Rng::new(Rng::seed_or(seed));
+    let mut met = <[Met; 2]>::default();
+    for _ in 0..400 {
+        let memory = gen::sound_memory(rng, 80);
+        hold_both(rng, &memory, &mut met);
+    }
+    println!("written tables, names and modules: {met:?}; 0 disagreements");
+    assert!(met.iter().all(|m| m.has_names() && m.has_holders()), "{met:?}");
 }
