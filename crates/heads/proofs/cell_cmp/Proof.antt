@@ -70,7 +70,7 @@ cast-result-2 : tie.Need-cast-result-2
 cast-result-2 c = search needs
 
 sub-result : tie.Need-sub-result
-sub-result c = difference-fits (c .before .before .before .before .before .before .before .before .before .before .before .args .a) (c .before .before .before .before .before .before .before .before .before .before .before .args .b) (omega (arith, c .before .before .before .before .before .before .before .before .before .before .before .pre .0 .few)) (omega (arith, c .before .before .before .before .before .before .before .before .before .before .before .pre .0 .few))
+sub-result c = let s = c .before .before .before .before .before .before .before .before .before .before .before in difference-fits (s .args .a) (s .args .b) (omega (arith, s .pre .0 .few)) (omega (arith, s .pre .0 .few))
 
 enum-told-3 : tie.Need-enum-told-3
 enum-told-3 c = search needs
@@ -82,7 +82,7 @@ returns-3 c = by-key _ _ _ _ _ (c .before .before .compare-keys .ensures) Less (
 returns-4 : tie.Need-returns-4
 unfolding then
 returns-4 c =
-    by-place (c .before .before .before .before .before .before .before .before .before .before .before .args .a) (c .before .before .before .before .before .before .before .before .before .before .before .args .b) (omega (arith, c .before .before .before .before .before .before .before .before .before .before .before .pre .0 .few)) (omega (arith, c .before .before .before .before .before .before .before .before .before .before .before .pre .0 .few))
+    by-place _ _ (omega (arith, c .before .before .before .before .before .before .before .before .before .before .before .pre .0 .few)) (omega (arith, c .before .before .before .before .before .before .before .before .before .before .before .pre .0 .few))
     ∙ by-key _ _ _ _ _ (c .before .before .compare-keys .ensures) Same (c .enum-told2 .given .1)
 
 returns-5 : tie.Need-returns-5
