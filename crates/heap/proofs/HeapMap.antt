@@ -1,9 +1,8 @@
 -- Replacing the elements commutes with the heap's functions where the comparisons agree on the elements in play.
 use Prim.Native.Nat.{Ordering}
-use mathlib.Core.Path.{_≡_, refl, sym, ap, ap₂, _∙_}
+use mathlib.Core.Path.{_≡_, refl, ap₂, _∙_}
 use mathlib.Core.Bool.{Bool, true, false, cond}
-use mathlib.Core.Option.{some, Option·map}
-use Rattle.source.specs.Heap.{Heap, Forest, EmptyHeap, HeapOf, []ᶠ, _∷ᶠ_, is-lt, heap-merge, heap-insert, heap-merge-pairs, heap-pair-up, heap-pop}
+use Rattle.source.specs.Heap.{Heap, Forest, EmptyHeap, HeapOf, []ᶠ, _∷ᶠ_, is-lt, heap-merge, heap-insert, heap-merge-pairs, heap-pair-up}
 use Rattle.source.specs.Forward.{heap-map, forest-map}
 use Rattle.source.proofs.Heap.{All, Allᶠ, All-merge, All-pairs}
 
@@ -38,11 +37,6 @@ module _ {A B : Type 0} (f : A → B) (cmp : A → A → Ordering) (cmp′ : B �
         ap₂ (heap-merge cmp′) (map-merge h g p (q .0)) (map-pairs hh (q .1))
         ∙ map-merge (heap-merge cmp h g) (heap-merge-pairs cmp hh) (All-merge cmp P h g p (q .0)) (All-pairs cmp P hh (q .1))
 
-  pub map-pop : (h : Heap A) → All P h → heap-pop cmp′ (heap-map f h) ≡ Option·map (λ x. (f (x .0), heap-map f (x .1))) (heap-pop cmp h)
-  unfolding heap-pop
-  map-pop EmptyHeap p = refl
-  map-pop (HeapOf v hh) p = ap (λ (h : Heap B). some (f v, h)) (map-pairs hh (p .1))
-
 module _ {A B : Type 0} (f g : A → B) (P : A → Type 0) (same : (a : A) → P a → f a ≡ g a) where
   mutual
     -- A heap's elements alone count.
@@ -53,30 +47,3 @@ module _ {A B : Type 0} (f g : A → B) (P : A → Type 0) (same : (a : A) → P
     pub map-sameᶠ : (hh : Forest A) → Allᶠ P hh → forest-map f hh ≡ forest-map g hh
     map-sameᶠ []ᶠ p = refl
     map-sameᶠ (h ∷ᶠ hh) p = ap₂ (λ (h : Heap B) (hh : Forest B). h ∷ᶠ hh) (map-same h (p .0)) (map-sameᶠ hh (p .1))
-
-mutual
-  map-id : {A : Type 0} (h : Heap A) → heap-map (λ a. a) h ≡ h
-  map-id EmptyHeap = refl
-  map-id (HeapOf v hh) = ap (HeapOf v) (map-idᶠ hh)
-
-  map-idᶠ : {A : Type 0} (hh : Forest A) → forest-map (λ a. a) hh ≡ hh
-  map-idᶠ []ᶠ = refl
-  map-idᶠ {A} (h ∷ᶠ hh) = ap₂ (λ (h : Heap A) (hh : Forest A). h ∷ᶠ hh) (map-id h) (map-idᶠ hh)
-
--- The heap's functions only depend on the comparison of elements in play.
-module _ {A : Type 0} (cmp cmp′ : A → A → Ordering) (P : A → Type 0) (agree : (a b : A) → P a → P b → cmp′ a b ≡ cmp a b) where
-  pub merge-same : (h g : Heap A) → All P h → All P g → heap-merge cmp′ h g ≡ heap-merge cmp h g
-  merge-same h g p q =
-      ap₂ (heap-merge cmp′) (sym (map-id h)) (sym (map-id g)) ∙ map-merge (λ a. a) cmp cmp′ P agree h g p q ∙ map-id (heap-merge cmp h g)
-
-  pub insert-same : (h : Heap A) (v : A) → All P h → P v → heap-insert cmp′ h v ≡ heap-insert cmp h v
-  unfolding heap-insert
-  insert-same h v p q = merge-same (HeapOf v []ᶠ) h (q, tt) p
-
-  pub pairs-same : (hh : Forest A) → Allᶠ P hh → heap-merge-pairs cmp′ hh ≡ heap-merge-pairs cmp hh
-  pairs-same hh p = ap (heap-merge-pairs cmp′) (sym (map-idᶠ hh)) ∙ map-pairs (λ a. a) cmp cmp′ P agree hh p ∙ map-id (heap-merge-pairs cmp hh)
-
-  pub pop-same : (h : Heap A) → All P h → heap-pop cmp′ h ≡ heap-pop cmp h
-  unfolding heap-pop
-  pop-same EmptyHeap p = refl
-  pop-same (HeapOf v hh) p = ap (λ (h : Heap A). some (v, h)) (pairs-same hh (p .1))

@@ -2,10 +2,9 @@
 use Prim.Native.Nat.{ℕ, _<_}
 use mathlib.Core.Path.{_≡_, ap, _∙_}
 use mathlib.Core.List.{List}
-use mathlib.Core.Option.{Option·map}
 use native.Mathlib.Omega.{arith}
 use Rattle.source.specs.Text.{Str}
-use Rattle.source.specs.Heap.{Heap, Forest, heap-insert, heap-merge-pairs, heap-pop}
+use Rattle.source.specs.Heap.{Heap, Forest, heap-insert, heap-merge-pairs}
 use Rattle.source.specs.Lists.{Run, run-cmp}
 use Rattle.source.specs.Forward.{heap-map, forest-map}
 use Rattle.source.proofs.Heap.{All, Allᶠ}
@@ -13,7 +12,7 @@ use Rattle.heads.specs.Compare.{cell-cmp, Stands}
 use Rattle.heap.specs.Cells.{count}
 use Rattle.heads.proofs.Compare.{cell-cmp-run}
 use Rattle.heap.proofs.CellCounts.{all-counted, counted-all}
-use Rattle.heap.proofs.HeapMap.{map-insert, map-pairs, map-pop, map-same}
+use Rattle.heap.proofs.HeapMap.{map-insert, map-pairs, map-same}
 
 module _ {A : Type 0} (key : A → Str) (ws txt heads : List ℕ) (n : ℕ) (val : ℕ → Run A) (stands : (j : ℕ) → j < n → Stands key ws txt heads j (val j)) where
   agree : (a b : ℕ) → a < n → b < n → run-cmp key (val a) (val b) ≡ cell-cmp ws txt heads a b
@@ -22,10 +21,6 @@ module _ {A : Type 0} (key : A → Str) (ws txt heads : List ℕ) (n : ℕ) (val
   pub stands-pairs : (hh : Forest ℕ) → Allᶠ (λ v. v < n) hh
       → heap-merge-pairs (run-cmp key) (forest-map val hh) ≡ heap-map val (heap-merge-pairs (cell-cmp ws txt heads) hh)
   stands-pairs hh p = map-pairs val (cell-cmp ws txt heads) (run-cmp key) (λ v. v < n) agree hh p
-
-  pub stands-pop : (h : Heap ℕ) → All (λ v. v < n) h
-      → heap-pop (run-cmp key) (heap-map val h) ≡ Option·map (λ x. (val (x .0), heap-map val (x .1))) (heap-pop (cell-cmp ws txt heads) h)
-  stands-pop h p = map-pop val (cell-cmp ws txt heads) (run-cmp key) (λ v. v < n) agree h p
 
   -- The cell v, which is not in the heap, stood for another list before.
   pub stands-insert : (old : ℕ → Run A) (v : ℕ) → v < n → ((j : ℕ) → j < n → (j ≡ v → ⊥) → old j ≡ val j)

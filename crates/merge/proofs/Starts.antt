@@ -1,4 +1,4 @@
--- The start of a merge: the cells stand for what names_find_rev merges, so that the entries show what is found.
+-- The start of a merge: the cells stand for the lists that are merged, so that the entries show what is found.
 use Prim.Native.Nat.{ℕ, zero, suc, _+_, _<_, _≤_}
 use mathlib.Core.Path.{_≡_, refl, sym, ap, ap₂, _∙_}
 use mathlib.Core.List.{List, [], _∷_, map, map-map, nil≢cons}

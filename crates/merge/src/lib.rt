@@ -1,4 +1,4 @@
-// The branches of a list of collections that begin with a prefix, ascending, one of each key, the last holder's.
+// The branches of a list of collections that begin with a prefix, ascending, one of each key, the first holder's.
 // Each comes with the collection that has its outermost label, 0 for none.
 use collect::LabelledList;
 use heap::Popped;

@@ -136,10 +136,10 @@ module _ {A : Type 0} (Item : A → Type 0) (f : PathOf × A → Line A) (text :
 
 -- ---- what a filter leaves
 module _ {A : Type 0} (keep : A → Bool) where
-  kept-text : (t : Str) (ls : List (Line A)) → lines-of-text t (kept keep ls) ≡ kept keep (lines-of-text t ls)
+  text-kept : (t : Str) (ls : List (Line A)) → lines-of-text t (kept keep ls) ≡ kept keep (lines-of-text t ls)
   unfolding lines-of-text kept
-  kept-text t [] = refl
-  kept-text t (l ∷ ls) = go (keep (l .item-of)) refl (same (l .candidate) t) refl (kept-text t ls)
+  text-kept t [] = refl
+  text-kept t (l ∷ ls) = go (keep (l .item-of)) refl (same (l .candidate) t) refl (text-kept t ls)
     where
       go : (k : Bool) → keep (l .item-of) ≡ k → (b : Bool) → same (l .candidate) t ≡ b → lines-of-text t (kept keep ls) ≡ kept keep (lines-of-text t ls)
           → lines-of-text t (cond k (l ∷ kept keep ls) (kept keep ls)) ≡ kept keep (elim b [ true ↦ l ∷ lines-of-text t ls | false ↦ lines-of-text t ls ])
@@ -170,10 +170,10 @@ pub filtered-agree : FilteredAgree
 unfolding complete complete-modules autocomplete-lid-first completion-result-of-lid completion-result-of-ns-or-mod
 filtered-agree = record {
   names = λ tbl sound f name query budget out lines entered asked e covers.
-      rw (← completed-lines true budget out query _ lines _ entered e, kept-text (keeps-kind f))
+      rw (← completed-lines true budget out query _ lines _ entered e, text-kept (keeps-kind f))
       (shows-kept (keeps-kind f) _ _ (root-agreement NameItem completion-result-of-lid (λ x. refl) (λ x. refl) (tbl .tbl-lids) (sound .lids) name query asked covers));
   modules = λ tbl sound f name query budget out lines entered asked e covers.
-      rw (← completed-lines true budget out query _ lines _ entered e, kept-text (keeps f), all-listed tbl (segments query))
+      rw (← completed-lines true budget out query _ lines _ entered e, text-kept (keeps f), all-listed tbl (segments query))
       (shows-kept (keeps f) _ _ (root-agreement ModItem completion-result-of-ns-or-mod (λ x. refl) (λ x. refl) (tbl .tbl-mods) (sound .mods) name query asked covers));
 }
 

@@ -10,9 +10,9 @@ use lib.ListN.{length, length-map}
 use Rattle.source.specs.Text.{Str, Query, segments}
 use Rattle.source.specs.Types.{Level, Value, Trie, NameList, bind, the-item, bindings, namespaces}
 use Rattle.source.specs.Trees.{PathElem}
-use Rattle.source.specs.Terms.{flatten, holders, first-of, last-of, depth}
+use Rattle.source.specs.Terms.{flatten, holders, first-of, depth}
 use Rattle.source.specs.Listing.{PathOf, SearchTerm, of-source, by-first, rev-map-onto, ns-search-term, bindings-search-term, elem-key, names-find-rev, names-find-rev-first, trie-find-prefix, trie-find-prefix-first}
-use Rattle.source.specs.Table.{Table, Line, string-of-path, completion-result-of-lid, completion-result-of-ns-or-mod, autocomplete-lid, autocomplete-lid-first, autocomplete-mod-or-ns, autocomplete-mod-or-ns-first}
+use Rattle.source.specs.Table.{Table, Line, last-opt, string-of-path, completion-result-of-lid, completion-result-of-ns-or-mod, autocomplete-lid, autocomplete-lid-first, autocomplete-mod-or-ns, autocomplete-mod-or-ns-first}
 use Rattle.source.specs.Counted.{Counted, one, _>>=_, fold-leftᶜ, find-prefix-fuelᶜ, trie-find-prefix′ᶜ}
 use Rattle.source.specs.Rules.{Formed, IsKey, IsLabel, NameItem, ModItem, SoundTrie, SoundTable}
 use Rattle.source.specs.Calls.{is-empty}
@@ -30,8 +30,8 @@ use Rattle.source.proofs.Agreement.{line-along, look-up-admitted}
 use Rattle.source.proofs.Filters.{filter-map-some}
 
 -- ---- one row is the first and the last
-one-of : {B : Type 0} (bs : List B) → length bs ≤ 1 → first-of bs ≡ last-of bs
-unfolding first-of last-of
+one-of : {B : Type 0} (bs : List B) → length bs ≤ 1 → first-of bs ≡ last-opt bs
+unfolding first-of last-opt
 one-of [] h = refl
 one-of (b ∷ []) h = refl
 one-of (b ∷ (c ∷ bs)) h = absurd (omega arith)
@@ -47,8 +47,8 @@ module _ {A : Type 0} {l : Level} where
       go (inl (t, e)) a = rw t (sym e, a)
       go (inr (f, _)) a = rw f a
 
-  same-ends : (k : Str) (xs : List (PathElem × Value A l)) → Allˡ (λ x. elem-key x ≡ k) xs → Option·map elem-key (first-of xs) ≡ Option·map elem-key (last-of xs)
-  unfolding first-of last-of
+  same-ends : (k : Str) (xs : List (PathElem × Value A l)) → Allˡ (λ x. elem-key x ≡ k) xs → Option·map elem-key (first-of xs) ≡ Option·map elem-key (last-opt xs)
+  unfolding first-of last-opt
   same-ends k [] a = refl
   same-ends k (x ∷ []) a = refl
   same-ends k (x ∷ (y ∷ xs)) a = ap some (a .0 ∙ sym (a .1 .0)) ∙ same-ends k (y ∷ xs) (a .1)

@@ -9,8 +9,8 @@ use lib.Dec.{ltb}
 use lib.ListN.{length, length-append}
 use borrow.Author.Tests.{ltb-false, le-ltb}
 use Rattle.source.specs.Text.{Query, Str}
-use Rattle.source.specs.Listing.{PathOf, trie-find-prefix-first}
-use Rattle.source.specs.Table.{Table, ModSymbol, Module, Namespace, Line, completion-result-of-ns-or-mod, filter-map, autocomplete-mod-or-ns-first}
+use Rattle.source.specs.Listing.{PathOf, trie-find-prefix, trie-find-prefix-first}
+use Rattle.source.specs.Table.{Table, ModSymbol, Module, Namespace, Line, completion-result-of-ns-or-mod, filter-map, autocomplete-mod-or-ns, autocomplete-mod-or-ns-first}
 use Rattle.source.specs.Calls.{kept, keeps-kind, Filter, All, Loaded, ModulesOnly, NamespacesOnly, keeps, Output, output-text, completion-rows, Completed, listed, refused, lowest, argument-rows, completed, complete, complete-modules}
 use Rattle.source.specs.declared.LidSymbol.{LidSymbol}
 use Rattle.source.specs.declared.KindFilter.{KindFilter}
@@ -104,7 +104,7 @@ unfolding filter-map
 filter-map-some [] = refl
 filter-map-some (x ∷ xs) = ap (λ l. x ∷ l) (filter-map-some xs)
 
--- With nothing dropped a listing has a line for each path that the source finds.
+-- With nothing dropped a listing has a line for each path that is found.
 pub all-listed : (tbl : Table) (q : Query)
     → autocomplete-mod-or-ns-first tbl q some ≡ map completion-result-of-ns-or-mod (trie-find-prefix-first (tbl .tbl-mods) q)
 unfolding autocomplete-mod-or-ns-first
@@ -122,11 +122,20 @@ filter-kept f (x ∷ xs) = go (keeps f (x .1)) (filter-kept f xs)
     go true e = ap (λ l. completion-result-of-ns-or-mod x ∷ l) e
     go false e = e
 
--- The lines kept are those that the source's function gives with the filter.
+-- Of any paths, the lines kept are those of the paths that the filter keeps.
+filter-lines : (f : Filter) (xs : List (PathOf × ModSymbol))
+    → kept (keeps f) (map completion-result-of-ns-or-mod (filter-map some xs)) ≡ map completion-result-of-ns-or-mod (filter-map (filter-of f) xs)
+filter-lines f xs = ap (λ l. kept (keeps f) (map completion-result-of-ns-or-mod l)) (filter-map-some xs) ∙ filter-kept f xs
+
+-- So of the listing, and of the source's own function with its filter.
 pub filter-listed : (f : Filter) (tbl : Table) (q : Query)
     → kept (keeps f) (autocomplete-mod-or-ns-first tbl q some) ≡ autocomplete-mod-or-ns-first tbl q (filter-of f)
 unfolding autocomplete-mod-or-ns-first
-filter-listed f tbl q = ap (kept (keeps f)) (all-listed tbl q) ∙ filter-kept f (trie-find-prefix-first (tbl .tbl-mods) q)
+filter-listed f tbl q = filter-lines f (trie-find-prefix-first (tbl .tbl-mods) q)
+
+pub filter-source : (f : Filter) (tbl : Table) (q : Query) → kept (keeps f) (autocomplete-mod-or-ns tbl q some) ≡ autocomplete-mod-or-ns tbl q (filter-of f)
+unfolding autocomplete-mod-or-ns
+filter-source f tbl q = filter-lines f (trie-find-prefix (tbl .tbl-mods) q)
 
 -- ---- The calls
 

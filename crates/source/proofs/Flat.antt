@@ -1,16 +1,13 @@
 -- The trees of a list of collections in flattened order, each with its imports.
-use Prim.Native.Nat.{_≤_}
 use mathlib.Core.Path.{_≡_, refl, sym, ap, ap₂, _∙_}
 use mathlib.Core.Bool.{Bool, true, false, cond}
 use mathlib.Core.List.{List, [], _∷_, _++_, map, flatMap, reverse, reverseAux, map-append, reverseAux-append, reverse-reverse}
 use mathlib.Core.Option.{Option, none, some}
-use native.Mathlib.Omega.{arith}
-use lib.ListN.{length, length-append}
 use Rattle.source.specs.Text.{Str}
 use Rattle.source.specs.Types.{Level, Value, Tree, NameList, []ᴺ, Names, ImportedNames}
 use Rattle.source.specs.Trees.{PathElem, btree-find-exact}
 use Rattle.source.specs.Tries.{dflt}
-use Rattle.source.specs.Terms.{flatten, found-onto, holders, first-of, weight}
+use Rattle.source.specs.Terms.{flatten, found-onto, holders, first-of}
 use Rattle.source.specs.Listing.{SearchTerm, NSTAll, NSTNone, NSTPrefix, revmap-onto, names-revmap, matching-values, with-imports, elem-key, names-find-rev-first}
 use Rattle.source.specs.Departs.{to-list, with-key, rows-of}
 use Rattle.source.specs.Table.{last-opt}
@@ -43,34 +40,6 @@ module _ {A : Type 0} {l : Level} where
   pub names-revmap-is : {B : Type 0} (fn : Tree A l → B) (n : NameList A l) → names-revmap fn n ≡ reverse (map (λ x. (x .0, fn (x .1))) (flat n))
   unfolding names-revmap
   names-revmap-is fn n = revmap-onto-is fn [] [] n
-
-  pub flat-trees : (imports : List Str) (n : NameList A l) → map (λ x. x .1) (flat-in imports n) ≡ flatten n
-  unfolding flat-in flatten
-  flat-trees imports []ᴺ = refl
-  flat-trees imports (Names bt tl) = ap (_∷_ bt) (flat-trees imports tl)
-  flat-trees imports (ImportedNames label inner tl) =
-      map-append (λ x. x .1) (flat-in (label ∷ imports) inner) (flat-in imports tl) ∙ ap₂ _++_ (flat-trees (label ∷ imports) inner) (flat-trees imports tl)
-
-  pub flat-length : (imports : List Str) (n : NameList A l) → length (flat-in imports n) ≤ weight n
-  unfolding flat-in weight
-  flat-length imports []ᴺ = omega arith
-  flat-length imports (Names bt tl) = omega (arith, flat-length imports tl)
-  flat-length imports (ImportedNames label inner tl) =
-      omega (arith, length-append (flat-in (label ∷ imports) inner) (flat-in imports tl), flat-length (label ∷ imports) inner, flat-length imports tl)
-
-  -- ---- the outermost import alone
-  unfoldable pub labelled : Option Str → NameList A l → List (Option Str × Tree A l)
-  labelled o []ᴺ = []
-  labelled o (Names bt tl) = (o, bt) ∷ labelled o tl
-  labelled o (ImportedNames label inner tl) = labelled (some (dflt label o)) inner ++ labelled o tl
-
-  pub labelled-is : (imports : List Str) (n : NameList A l) → map (λ x. (last-opt (x .0), x .1)) (flat-in imports n) ≡ labelled (last-opt imports) n
-  unfolding flat-in labelled
-  labelled-is imports []ᴺ = refl
-  labelled-is imports (Names bt tl) = ap (_∷_ (last-opt imports, bt)) (labelled-is imports tl)
-  labelled-is imports (ImportedNames label inner tl) =
-      map-append (λ x. (last-opt (x .0), x .1)) (flat-in (label ∷ imports) inner) (flat-in imports tl)
-      ∙ ap₂ _++_ (labelled-is (label ∷ imports) inner ∙ ap (λ o. labelled o inner) (last-import label imports)) (labelled-is imports tl)
 
   -- ---- what names_find_rev asks of the trees
   pub values-all-is : (n : NameList A l) → matching-values n NSTAll ≡ reverse (map (λ x. (x .0, tree-matches NSTAll (x .1))) (flat n))

@@ -13,7 +13,8 @@ use Rattle.source.specs.Shared.{same, Allˡ}
 use Rattle.source.proofs.Lookup.{Same, same-view, lookup, first-lookup, Above, Increasing, Decreasing, or-else-none, lookup-above, lookup-below, Allˡ-reverse}
 use Rattle.source.proofs.Lists.{merge-decreasing, merge-at}
 use Rattle.source.specs.Listing.{SearchTerm, NSTAll, NSTNone, NSTPrefix, revmap-onto, names-revmap, matching-values, with-imports, elem-key, names-find-rev, names-find-rev-first}
-use Rattle.source.specs.Terms.{flatten, found-onto, holders, first-of, last-of}
+use Rattle.source.specs.Terms.{flatten, found-onto, holders, first-of}
+use Rattle.source.specs.Table.{last-opt}
 use Rattle.source.specs.Departs.{to-list, with-key, rows-of}
 use Rattle.source.proofs.Trees.{gate, valof, or-assoc, entry-key, find-prefix-ascends, find-prefix-exactly, find-all-ascends, find-all-exactly}
 use Rattle.source.proofs.Lines.{flatMap-append}
@@ -35,23 +36,23 @@ module _ {A : Type 0} where
   first-append [] m = refl
   first-append (a ∷ l) m = refl
 
-  last-cons : (a : A) (l : List A) → last-of (a ∷ l) ≡ or-else (last-of l) (some a)
-  unfolding last-of or-else
+  last-cons : (a : A) (l : List A) → last-opt (a ∷ l) ≡ or-else (last-opt l) (some a)
+  unfolding last-opt or-else
   last-cons a [] = refl
   last-cons a (b ∷ l) = sym (some-last b l)
     where
-      some-last : (b : A) (l : List A) → or-else (last-of (b ∷ l)) (some a) ≡ last-of (b ∷ l)
+      some-last : (b : A) (l : List A) → or-else (last-opt (b ∷ l)) (some a) ≡ last-opt (b ∷ l)
       some-last b [] = refl
       some-last b (c ∷ l) = some-last c l
 
-  last-append : (l m : List A) → last-of (l ++ m) ≡ or-else (last-of m) (last-of l)
-  unfolding last-of
-  last-append [] m = sym (or-else-none (last-of m))
+  last-append : (l m : List A) → last-opt (l ++ m) ≡ or-else (last-opt m) (last-opt l)
+  unfolding last-opt
+  last-append [] m = sym (or-else-none (last-opt m))
   last-append (a ∷ l) m =
-      last-cons a (l ++ m) ∙ ap (λ o. or-else o (some a)) (last-append l m) ∙ or-assoc (last-of m) (last-of l) (some a) ∙ ap (or-else (last-of m)) (sym (last-cons a l))
+      last-cons a (l ++ m) ∙ ap (λ o. or-else o (some a)) (last-append l m) ∙ or-assoc (last-opt m) (last-opt l) (some a) ∙ ap (or-else (last-opt m)) (sym (last-cons a l))
 
-ends-of : {B : Type 0} (o : Option B) → (first-of (to-list o) ≡ o) × (last-of (to-list o) ≡ o)
-unfolding first-of last-of
+ends-of : {B : Type 0} (o : Option B) → (first-of (to-list o) ≡ o) × (last-opt (to-list o) ≡ o)
+unfolding first-of last-opt
 ends-of none = (refl, refl)
 ends-of (some b) = (refl, refl)
 
@@ -174,32 +175,34 @@ module _ {A : Type 0} where
       go true = refl
       go false = refl
 
-  no-key : {l : Level} (k : Str) (x : PathElem × Value A l) (xs : List (PathElem × Value A l)) → lookup elem-key k xs ≡ none → with-key k xs ≡ to-list (lookup elem-key k xs)
-      → cond (same k (elem-key x)) (x ∷ with-key k xs) (with-key k xs) ≡ to-list (cond (same k (elem-key x)) (some x) (lookup elem-key k xs))
-  no-key {l} k x xs e h = go (same k (elem-key x))
-    where
-      go : (b : Bool) → cond b (x ∷ with-key k xs) (with-key k xs) ≡ to-list (cond b (some x) (lookup elem-key k xs))
-      go true = ap (_∷_ x) (h ∙ ap to-list e)
-      go false = h
+  -- No key comes twice.
+  abbrev Once : {l : Level} → List (PathElem × Value A l) → Type 0
+  Once [] = Unit {0}
+  Once (x ∷ xs) = (lookup elem-key (elem-key x) xs ≡ none) × Once xs
 
-  -- Of an ascending or descending list at most one.
-  key-ascending : {l : Level} (k : Str) (xs : List (PathElem × Value A l)) → Increasing elem-key xs → with-key k xs ≡ to-list (lookup elem-key k xs)
+  key-once : {l : Level} (k : Str) (xs : List (PathElem × Value A l)) → Once xs → with-key k xs ≡ to-list (lookup elem-key k xs)
   unfolding with-key lookup Same
-  key-ascending k [] i = refl
-  key-ascending k (x ∷ xs) i = go (same-view k (elem-key x)) (key-ascending k xs (i .1))
+  key-once k [] o = refl
+  key-once k (x ∷ xs) o = go (same-view k (elem-key x)) (key-once k xs (o .1))
     where
       go : Same k (elem-key x) → with-key k xs ≡ to-list (lookup elem-key k xs) → with-key k (x ∷ xs) ≡ to-list (lookup elem-key k (x ∷ xs))
-      go (inl (t, e)) h = no-key k x xs (lookup-above elem-key k xs (rw e (i .0))) h
+      go (inl (t, e)) h = rw t (ap (_∷_ x) (h ∙ ap to-list (ap (λ k. lookup elem-key k xs) e ∙ o .0)))
       go (inr (f, _)) h = rw f h
+
+  ascending-once : {l : Level} (xs : List (PathElem × Value A l)) → Increasing elem-key xs → Once xs
+  ascending-once [] i = tt
+  ascending-once (x ∷ xs) i = (lookup-above elem-key (elem-key x) xs (i .0), ascending-once xs (i .1))
+
+  descending-once : {l : Level} (xs : List (PathElem × Value A l)) → Decreasing elem-key xs → Once xs
+  descending-once [] i = tt
+  descending-once (x ∷ xs) i = (lookup-below elem-key (elem-key x) xs (i .0), descending-once xs (i .1))
+
+  -- Of an ascending or descending list at most one row has a key.
+  key-ascending : {l : Level} (k : Str) (xs : List (PathElem × Value A l)) → Increasing elem-key xs → with-key k xs ≡ to-list (lookup elem-key k xs)
+  key-ascending k xs i = key-once k xs (ascending-once xs i)
 
   pub key-descending : {l : Level} (k : Str) (xs : List (PathElem × Value A l)) → Decreasing elem-key xs → with-key k xs ≡ to-list (lookup elem-key k xs)
-  unfolding with-key lookup Same
-  key-descending k [] i = refl
-  key-descending k (x ∷ xs) i = go (same-view k (elem-key x)) (key-descending k xs (i .1))
-    where
-      go : Same k (elem-key x) → with-key k xs ≡ to-list (lookup elem-key k xs) → with-key k (x ∷ xs) ≡ to-list (lookup elem-key k (x ∷ xs))
-      go (inl (t, e)) h = no-key k x xs (lookup-below elem-key k xs (rw e (i .0))) h
-      go (inr (f, _)) h = rw f h
+  key-descending k xs i = key-once k xs (descending-once xs i)
 
   -- The first list with the key has the first row, and the last of the turned ones.
   first-row : {l : Level} (k : Str) (ms : List (List Str × List (PrefixMatch × Value A l))) → Allˡ (Increasing elem-key) (map with-imports ms)
@@ -211,20 +214,20 @@ module _ {A : Type 0} where
       ∙ sym (ap first-of (key-append k (with-imports m) (flatMap with-imports ms)) ∙ first-append (with-key k (with-imports m)) (with-key k (flatMap with-imports ms)))
 
   last-row : {l : Level} (k : Str) (ms : List (List Str × List (PrefixMatch × Value A l))) → Allˡ (Increasing elem-key) (map with-imports ms)
-      → first-lookup elem-key k (map with-imports ms) ≡ last-of (with-key k (flatMap with-imports (reverse ms)))
-  unfolding first-lookup flatMap with-key last-of
+      → first-lookup elem-key k (map with-imports ms) ≡ last-opt (with-key k (flatMap with-imports (reverse ms)))
+  unfolding first-lookup flatMap with-key last-opt
   last-row k [] i = refl
   last-row k (m ∷ ms) i =
-      ap₂ or-else (sym (ap last-of (key-ascending k (with-imports m) (i .0)) ∙ ends-of (lookup elem-key k (with-imports m)) .1)) (last-row k ms (i .1))
-      ∙ sym (ap (λ l. last-of (with-key k l)) (ap (flatMap with-imports) (reverse-cons m ms) ∙ flatMap-append with-imports (reverse ms) (m ∷ []) ∙ ap (λ r. flatMap with-imports (reverse ms) ++ r) (append-nil (with-imports m)))
-      ∙ ap last-of (key-append k (flatMap with-imports (reverse ms)) (with-imports m)) ∙ last-append (with-key k (flatMap with-imports (reverse ms))) (with-key k (with-imports m)))
+      ap₂ or-else (sym (ap last-opt (key-ascending k (with-imports m) (i .0)) ∙ ends-of (lookup elem-key k (with-imports m)) .1)) (last-row k ms (i .1))
+      ∙ sym (ap (λ l. last-opt (with-key k l)) (ap (flatMap with-imports) (reverse-cons m ms) ∙ flatMap-append with-imports (reverse ms) (m ∷ []) ∙ ap (λ r. flatMap with-imports (reverse ms) ++ r) (append-nil (with-imports m)))
+      ∙ ap last-opt (key-append k (flatMap with-imports (reverse ms)) (with-imports m)) ∙ last-append (with-key k (flatMap with-imports (reverse ms))) (with-key k (with-imports m)))
 
   -- ---- what a search gives: descending, and at each key the last row or the first
   pub find-rev-decreasing : {l : Level} (n : NameList A l) (term : SearchTerm) → OrderedN n → Decreasing elem-key (names-find-rev n term)
   unfolding names-find-rev
   find-rev-decreasing n term o = merge-decreasing elem-key (map with-imports (matching-values n term)) (values-increasing term n o)
 
-  pub find-rev-at : {l : Level} (n : NameList A l) (term : SearchTerm) (k : Str) → OrderedN n → lookup elem-key k (names-find-rev n term) ≡ last-of (rows-of n term k)
+  pub find-rev-at : {l : Level} (n : NameList A l) (term : SearchTerm) (k : Str) → OrderedN n → lookup elem-key k (names-find-rev n term) ≡ last-opt (rows-of n term k)
   unfolding names-find-rev rows-of
   find-rev-at n term k o =
       merge-at elem-key (map with-imports (matching-values n term)) (values-increasing term n o) k ∙ last-row k (matching-values n term) (values-increasing term n o)

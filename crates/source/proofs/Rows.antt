@@ -1,4 +1,4 @@
--- What the rows of names_find_rev are, whatever the order of the keys: branches of the list's trees.
+-- What the rows of a list are, the source's and the listing's, whatever the order of the keys: branches of its trees.
 use Prim.Native.Nat.{ℕ, _≤_, _<_}
 use mathlib.Core.Bool.{Bool, true, false, cond, _||_}
 use mathlib.Core.List.{List, [], _∷_, map, reverse}

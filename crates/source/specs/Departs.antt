@@ -9,9 +9,9 @@ use lib.ListN.{length}
 use Rattle.source.specs.Text.{Str, Query, segments}
 use Rattle.source.specs.Types.{Level, Value, Trie, NameList, bindings, namespaces}
 use Rattle.source.specs.Trees.{PathElem}
-use Rattle.source.specs.Terms.{flatten, holders, first-of, last-of, depth}
+use Rattle.source.specs.Terms.{flatten, holders, first-of, depth}
 use Rattle.source.specs.Listing.{SearchTerm, ns-search-term, bindings-search-term, matching-values, with-imports, elem-key, names-find-rev, names-find-rev-first, of-source, by-first}
-use Rattle.source.specs.Table.{Table, Line, autocomplete-lid, autocomplete-lid-first, autocomplete-mod-or-ns, autocomplete-mod-or-ns-first}
+use Rattle.source.specs.Table.{Table, Line, last-opt, autocomplete-lid, autocomplete-lid-first, autocomplete-mod-or-ns, autocomplete-mod-or-ns-first}
 use Rattle.source.specs.Counted.{trie-find-prefix′ᶜ}
 use Rattle.source.specs.Calls.{look-up}
 use Rattle.source.specs.Agreement.{Covers, NotRefused, without-last, lines-of-text}
@@ -34,7 +34,7 @@ module _ {A : Type 0} {l : Level} where
   -- In a list: the same keys in the same order; of each the last row by the source, the first by the listing. The rows are those of the holders, or none where the term does not match.
   pub record ListDeparts (n : NameList A l) (term : SearchTerm) : Type 0 where
     pub same-keys : map elem-key (names-find-rev-first n term) ≡ map elem-key (names-find-rev n term)
-    pub by-source : (k : Str) → with-key k (names-find-rev n term) ≡ to-list (last-of (rows-of n term k))
+    pub by-source : (k : Str) → with-key k (names-find-rev n term) ≡ to-list (last-opt (rows-of n term k))
     pub by-listing : (k : Str) → with-key k (names-find-rev-first n term) ≡ to-list (first-of (rows-of n term k))
     pub rows-hold : (k : Str) → (rows-of n term k ≡ []) ⊎ (map (λ x. x .1) (rows-of n term k) ≡ holders (flatten n) k)
 

@@ -11,11 +11,6 @@ unfoldable pub first-of : {B : Type 0} → List B → Option B
 first-of [] = none
 first-of (b ∷ bs) = some b
 
-unfoldable pub last-of : {B : Type 0} → List B → Option B
-last-of [] = none
-last-of (b ∷ []) = some b
-last-of (b ∷ (c ∷ bs)) = last-of (c ∷ bs)
-
 module _ {A : Type 0} where
   -- Flattening: an imported list, itself flattened, stands at its collection's place.
   unfoldable pub flatten : {l : Level} → NameList A l → List (Tree A l)
