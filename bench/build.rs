@@ -9,7 +9,7 @@ fn main() {
     if std::env::var_os("CARGO_FEATURE_BEFORE").is_some() {
         let folder = std::env::var("BEFORE").expect("run bench/before");
         println!("cargo:rustc-link-search=native={folder}");
-        println!("cargo:rustc-link-lib=static=before_exports");
+        println!("cargo:rustc-link-lib=static=before_screen_tests");
         println!("cargo:rustc-link-lib=static=before_screen");
         println!("cargo:rerun-if-changed={folder}");
     }

@@ -16,7 +16,7 @@ import sys
 
 KINDS = ['code', 'definitions', 'laws', 'proofs']
 # Where the words of a line, which are not a record's, have their names.
-LAYOUTS = ('output/specs/Output.antt',)
+LAYOUTS = ('listing_output/specs/Output.antt',)
 LONGEST_CONTRACT, MOST_PARAMETERS = 160, 8
 CITE = re.compile(r'^\s*(?:pub )?(?:ghost )?use Rattle·([a-z0-9_]+)(?:·(?:specs|proofs))?\.(specs|proofs)\.')
 CALL = re.compile(r'\b([a-z][a-z0-9_]*)::')

@@ -18,7 +18,7 @@ struct Library {
 }
 
 /// The library whose calls have these names, take these numbers for an item and reply so to a look-up. Nothing checks them against crates
-/// exports and screen, of either commit.
+/// screen_tests and screen, of either commit.
 macro_rules! library {
     ($library:ident($($item:ident),*) -> $looked:ty: $insert:ident, $find:ident, $complete:ident, $console_insert:ident, $console_module:ident) => {
         #[rustfmt::skip]

@@ -2,8 +2,8 @@
 use std::path::Path;
 
 fn main() {
-    let library = Path::new("../../target/staticlib").canonicalize().expect("run 'rt staticlib exports' first");
+    let library = Path::new("../../target/staticlib").canonicalize().expect("run 'rt staticlib screen_tests' first");
     println!("cargo:rustc-link-search=native={}", library.display());
-    println!("cargo:rustc-link-lib=static=exports");
-    println!("cargo:rerun-if-changed={}/libexports.a", library.display());
+    println!("cargo:rustc-link-lib=static=screen_tests");
+    println!("cargo:rerun-if-changed={}/libscreen_tests.a", library.display());
 }

@@ -1,4 +1,4 @@
-"""gen_complete.py: writes crates/typed/proofs/complete/Proof.antt, the walk of `typed::complete`, from complete.tmpl. walk.py keeps the walk's context by names."""
+"""gen_complete.py: writes crates/table_typed/proofs/complete/Proof.antt, the walk of `table_typed::complete`, from complete.tmpl. walk.py keeps the walk's context by names."""
 import os
 import sys
 HERE = os.path.dirname(os.path.abspath(__file__))

@@ -9,9 +9,9 @@ use Rattle.source.specs.Calls.{Output}
 use Rattle.text.specs.Laid.{Laid}
 use Rattle.text.proofs.Laid.{laid-length}
 use Rattle.table.specs.Header.{IsSound}
-use Rattle.feed.specs.Feed.{Inside, Feeds}
-use Rattle.feed.specs.declared.Feed.{Feed}
-use Rattle.feed.specs.declared.Progress.{Progress}
+use Rattle.console_feed.specs.Feed.{Inside, Feeds}
+use Rattle.console_feed.specs.declared.Feed.{Feed}
+use Rattle.console_feed.specs.declared.Progress.{Progress}
 
 -- What a test of `!b` says.
 pub off : (b : Bool) → not b ≡ true → b ≡ false

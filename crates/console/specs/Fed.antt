@@ -4,7 +4,7 @@ use mathlib.Core.Path.{_≡_}
 use mathlib.Core.Bool.{true}
 use mathlib.Core.List.{List}
 use Rattle.table.specs.Header.{IsSound}
-use Rattle.feed.specs.Feed.{Inside}
+use Rattle.console_feed.specs.Feed.{Inside}
 use Rattle.console.specs.declared.AfterRead.{AfterRead}
 
 -- The table is sound, and what is left lies in the input; after all replies, at its start, and leaves room for a read.

@@ -1,14 +1,14 @@
 // The program `console`: it reads a script from standard input to its end and replies line by line. What is read and written no
-// contract can say: crate feed says what the replies are, and here its steps are fed. Replies are written out before each read, so
+// contract can say: crate console_feed says what the replies are, and here its steps are fed. Replies are written out before each read, so
 // that whoever types a line sees its reply. A read or a write that fails ends the program, and nothing of a partial line is executed.
 ghost use Prim.Native.Nat.{_≤_};
 ghost use lib.ListN.{length};
 ghost use Rattle.source.specs.Lent.{new};
 ghost use Rattle.table.specs.Header.{IsSound};
-ghost use Rattle.questions.specs.RowReplies.{room};
-ghost use Rattle.feed.specs.Feed.{Inside};
+ghost use Rattle.console_questions.specs.RowReplies.{room};
+ghost use Rattle.console_feed.specs.Feed.{Inside};
 ghost use Rattle.console.specs.Fed.{Rests};
-use feed::Feed;
+use console_feed::Feed;
 use libc::STDOUT_FILENO;
 use table::Table;
 
@@ -35,10 +35,10 @@ fn reply_all(
 {
     let mut g = f;
     loop {
-        let r = feed::step(g, words, text, input, flat, pane, reply);
+        let r = console_feed::step(g, words, text, input, flat, pane, reply);
         let e = r.end;
         g = r.feed;
-        if !streams::put(STDOUT_FILENO, &reply[..e]) {
+        if !console_streams::put(STDOUT_FILENO, &reply[..e]) {
             return AfterRead {
                 feed: g,
                 written: false,
@@ -67,9 +67,9 @@ fn reply_last(
     requires { ⌜ room (now flat) (now pane) ≤ length (now reply) ⌝ }
     requires { ⌜ Inside f (now input) ⌝ }
 {
-    let d = feed::last(f, words, text, input, flat, pane, reply);
+    let d = console_feed::last(f, words, text, input, flat, pane, reply);
     let e = d.end;
-    streams::put(STDOUT_FILENO, &reply[..e])
+    console_streams::put(STDOUT_FILENO, &reply[..e])
 }
 
 // Reads and replies to the end of the input, or to the first fault.
@@ -85,7 +85,7 @@ fn talk() {
     let mut left: u64 = 18446744073709551615;
     while 0 < left {
         left -= 1;
-        let got = streams::fill(&mut input, have);
+        let got = console_streams::fill(&mut input, have);
         if got.failed {
             if !got.again {
                 os::fail(b"console: standard input");
@@ -138,11 +138,11 @@ fn main() {
         return;
     }
     let n = os::arg(1, &mut arg);
-    if streams::help::asked(&arg[..n]) {
-        streams::help::print();
+    if console_streams::help::asked(&arg[..n]) {
+        console_streams::help::print();
         return;
     }
-    streams::put(
+    console_streams::put(
         libc::STDERR_FILENO,
         b"console: unknown argument; --help says what it reads\n",
     );

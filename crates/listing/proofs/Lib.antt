@@ -1,6 +1,1 @@
-pub mod TrieGives
-pub mod Runs
-pub mod EntriesRun
-pub mod Branch
-pub mod Listed
-pub mod Trie
+pub mod Completes

@@ -13,15 +13,15 @@ use Rattle.source.specs.Shared.{Allˡ}
 use Rattle.memory.specs.Layout.{Which, tree, key-at, list}
 use Rattle.memory.specs.Read.{TextIn}
 use Rattle.memory.proofs.Seen.{link-later}
-use Rattle.heads.specs.Compare.{Heads, Stands}
-use Rattle.tree.specs.Tree.{AnyTree}
-use Rattle.tree.specs.Links.{matches, head0}
-use Rattle.tree.proofs.Branches.{text-in}
-use Rattle.tree.specs.Links.{BranchOf}
-use Rattle.tree.proofs.After.{all-after, after-next}
-use Rattle.tree.proofs.Matches.{MatchOf, matches-of, matches-increasing}
-use Rattle.names.specs.Entries.{entry-key}
-use Rattle.collect.proofs.Collected.{no-match}
+use Rattle.merge_heads.specs.Compare.{Heads, Stands}
+use Rattle.find_tree.specs.Tree.{AnyTree}
+use Rattle.find_tree.specs.Links.{matches, head0}
+use Rattle.find_tree.proofs.Branches.{text-in}
+use Rattle.find_tree.specs.Links.{BranchOf}
+use Rattle.find_tree.proofs.After.{all-after, after-next}
+use Rattle.find_tree.proofs.Matches.{MatchOf, matches-of, matches-increasing}
+use Rattle.find_list.specs.Entries.{entry-key}
+use Rattle.merge_collect.proofs.Collected.{no-match}
 use Rattle.merge.specs.Stream.{Merge, later, run-at, left, remaining, Holding}
 use Rattle.memory.specs.Sound.{At}
 use Rattle.memory.proofs.At.{at-of}

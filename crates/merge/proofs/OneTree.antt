@@ -16,12 +16,12 @@ use Rattle.source.proofs.Found.{match-lists, found-empty, found-one}
 use Rattle.memory.specs.Layout.{record-at, Which, Item, list, what, tree, own-link, rest-link, sort-word}
 use Rattle.memory.proofs.What.{what-none}
 use Rattle.memory.proofs.Seen.{link-later}
-use Rattle.tree.specs.Links.{matches, row-at}
-use Rattle.names.proofs.Collections.{collection-right, sort-tree, names-reads}
-use Rattle.names.specs.Entries.{shown, outer, Asks}
+use Rattle.find_tree.specs.Links.{matches, row-at}
+use Rattle.find_list.proofs.Collections.{collection-right, sort-tree, names-reads}
+use Rattle.find_list.specs.Entries.{shown, outer, Asks}
 use Rattle.merge.specs.Single.{SingleIn, Single}
 use Rattle.merge.specs.Stream.{OneTree}
-use Rattle.collect.proofs.Collected.{term-rows}
+use Rattle.merge_collect.proofs.Collected.{term-rows}
 use Rattle.memory.specs.Sound.{At}
 use Rattle.memory.proofs.At.{no-link, at-of}
 

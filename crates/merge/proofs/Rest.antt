@@ -9,9 +9,9 @@ use Rattle.source.specs.Rules.{IsLabel}
 use Rattle.memory.specs.Layout.{record-at, Which, list, text-len, text-start}
 use Rattle.memory.specs.Sound.{TextOk, At}
 use Rattle.memory.proofs.Seen.{link-later}
-use Rattle.names.proofs.Collections.{collection-right}
-use Rattle.names.specs.Entries.{Entry}
-use Rattle.names.specs.Entries.{LabelOk}
+use Rattle.find_list.proofs.Collections.{collection-right}
+use Rattle.find_list.specs.Entries.{Entry}
+use Rattle.find_list.specs.Entries.{LabelOk}
 use Rattle.merge.specs.Stream.{Merge, Step, Rest, AnyRest, GivenIn, GivesIn, Gives}
 
 -- The text of a label.

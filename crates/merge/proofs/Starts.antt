@@ -24,16 +24,16 @@ use Rattle.source.proofs.Found.{match-lists, found-one, found-read}
 use Rattle.memory.specs.Layout.{Which, Item, list, what, key-at, tree}
 use Rattle.memory.proofs.Seen.{link-later}
 use Rattle.memory.proofs.SoundTable.{IsItem, link-fine}
-use Rattle.heads.specs.Compare.{Heads, cell-cmp}
-use Rattle.heap.specs.Cells.{count, Rep, first-cells}
-use Rattle.heads.proofs.Compare.{cell-cmp-run}
-use Rattle.heap.proofs.CellCounts.{rep-below, counted-all}
-use Rattle.heap.proofs.HeapMap.{map-insert}
-use Rattle.tree.specs.Links.{matches, row-at}
-use Rattle.tree.proofs.After.{after-first}
-use Rattle.tree.proofs.Matches.{matches-none, matches-of, matches-increasing}
-use Rattle.names.specs.Entries.{Entry, entry-key, label-at, shown, outer, Asks}
-use Rattle.collect.specs.Lists.{TreePart, elements, HasPart, HasParts, more, match-lists-in, CollectedIn, Collected}
+use Rattle.merge_heads.specs.Compare.{Heads, cell-cmp}
+use Rattle.merge_heap.specs.Cells.{count, Rep, first-cells}
+use Rattle.merge_heads.proofs.Compare.{cell-cmp-run}
+use Rattle.merge_heap.proofs.CellCounts.{rep-below, counted-all}
+use Rattle.merge_heap.proofs.HeapMap.{map-insert}
+use Rattle.find_tree.specs.Links.{matches, row-at}
+use Rattle.find_tree.proofs.After.{after-first}
+use Rattle.find_tree.proofs.Matches.{matches-none, matches-of, matches-increasing}
+use Rattle.find_list.specs.Entries.{Entry, entry-key, label-at, shown, outer, Asks}
+use Rattle.merge_collect.specs.Lists.{TreePart, elements, HasPart, HasParts, more, match-lists-in, CollectedIn, Collected}
 use Rattle.merge.specs.Stream.{later, run-at, CellOk, Starts, state, OneTree}
 use Rattle.merge.proofs.Cells.{branch-head, branch-few, stands}
 use Rattle.memory.specs.Sound.{At}

@@ -15,10 +15,10 @@ use Rattle.source.specs.Shared.{same}
 use Rattle.source.specs.Forward.{held, again, forward}
 use Rattle.source.proofs.Forward.{held-popped, forward-empty, forward-step}
 use Rattle.memory.specs.Layout.{Which, key-at}
-use Rattle.tree.specs.Tree.{AnyTree}
-use Rattle.tree.specs.Links.{BranchOf}
-use Rattle.names.specs.Entries.{Entry, entry-key}
-use Rattle.names.specs.Entries.{LabelOk}
+use Rattle.find_tree.specs.Tree.{AnyTree}
+use Rattle.find_tree.specs.Links.{BranchOf}
+use Rattle.find_list.specs.Entries.{Entry, entry-key}
+use Rattle.find_list.specs.Entries.{LabelOk}
 use Rattle.merge.specs.Stream.{Merge, Step, run-at, remaining, Holding, heap-of, Last, Rest, AnyRest, left-in, GivenIn, GivesIn, Gives, state, Takes, CellsReady}
 use Rattle.merge.specs.declared.Taken.{Taken}
 use Rattle.merge.proofs.Cells.{branch-tree}

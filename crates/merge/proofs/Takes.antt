@@ -17,16 +17,16 @@ use Rattle.source.proofs.Heap.{sum-merge, sum-pairs}
 use Rattle.source.specs.Forward.{popped}
 use Rattle.memory.specs.Layout.{Which, key-at}
 use Rattle.memory.specs.Read.{TextIn}
-use Rattle.heads.specs.Compare.{Heads, with-head, cell-cmp}
-use Rattle.heap.specs.Cells.{Root, is, count, Rep, Makes, Inserts, Pops}
-use Rattle.heap.specs.declared.Popped.the-variants.{Nothing, Least}
-use Rattle.heap.proofs.CellCounts.{root-in, rep-below, all-counted, is-self, is-other}
-use Rattle.heads.proofs.Heads.{head-length, own-head, other-head, head-begun}
-use Rattle.heap.proofs.HeapMap.{map-same}
-use Rattle.heap.proofs.Rep.{stands-pairs, stands-insert}
-use Rattle.tree.specs.Tree.{AnyTree}
-use Rattle.tree.specs.Links.{branches, head0, BranchOf}
-use Rattle.names.specs.Entries.{Entry, entry-key}
+use Rattle.merge_heads.specs.Compare.{Heads, with-head, cell-cmp}
+use Rattle.merge_heap.specs.Cells.{Root, is, count, Rep, Makes, Inserts, Pops}
+use Rattle.merge_heap.specs.declared.Popped.the-variants.{Nothing, Least}
+use Rattle.merge_heap.proofs.CellCounts.{root-in, rep-below, all-counted, is-self, is-other}
+use Rattle.merge_heads.proofs.Heads.{head-length, own-head, other-head, head-begun}
+use Rattle.merge_heap.proofs.HeapMap.{map-same}
+use Rattle.merge_heap.proofs.Rep.{stands-pairs, stands-insert}
+use Rattle.find_tree.specs.Tree.{AnyTree}
+use Rattle.find_tree.specs.Links.{branches, head0, BranchOf}
+use Rattle.find_list.specs.Entries.{Entry, entry-key}
 use Rattle.merge.specs.Stream.{later, run-at, left, Holding, state, TookCell, TookIn, Takes, CellsReady}
 use Rattle.merge.specs.declared.Taken.{Taken}
 use Rattle.merge.proofs.Cells.{Next, later-end, later-next, branch-head, branch-few, cell-tree, next-branch, stands, remaining-less}

@@ -17,12 +17,12 @@ use Rattle.source.specs.Forward.{held, popped, forward}
 use Rattle.source.specs.Forward.{found}
 use Rattle.memory.specs.Layout.{Which, tree, list, kind, what, key-at}
 use Rattle.memory.specs.Sound.{LinkOk, At}
-use Rattle.heads.specs.Compare.{Begun}
-use Rattle.heap.specs.Cells.{count, Rep}
-use Rattle.tree.specs.Links.{branches, matches, after, BranchOf}
-use Rattle.names.specs.Entries.{Entry, entry-key, shown, outer, Asks}
-use Rattle.names.specs.Entries.{LabelOk}
-use Rattle.collect.specs.Lists.{Full}
+use Rattle.merge_heads.specs.Compare.{Begun}
+use Rattle.merge_heap.specs.Cells.{count, Rep}
+use Rattle.find_tree.specs.Links.{branches, matches, after, BranchOf}
+use Rattle.find_list.specs.Entries.{Entry, entry-key, shown, outer, Asks}
+use Rattle.find_list.specs.Entries.{LabelOk}
+use Rattle.merge_collect.specs.Lists.{Full}
 use Rattle.merge.specs.declared.Start.{Start}
 use Rattle.merge.specs.declared.Cursor.{Cursor}
 use Rattle.merge.specs.declared.Taken.{Taken}

@@ -1,7 +1,7 @@
 // The branches of a list of collections that begin with a prefix, ascending, one of each key, the first holder's.
 // Each comes with the collection that has its outermost label, 0 for none.
-use collect::LabelledList;
-use heap::Popped;
+use merge_collect::LabelledList;
+use merge_heap::Popped;
 use text::Order;
 ghost use mathlib.Core.Path.{_≡_};
 ghost use Prim.Native.Nat.{_<_, _≤_, _*_};
@@ -10,16 +10,16 @@ ghost use Rattle.source.specs.Lent.{old, new};
 ghost use Rattle.source.specs.Limits.{record-words};
 ghost use Rattle.source.specs.Shared.{same};
 ghost use Rattle.memory.specs.Layout.{key-at};
-ghost use Rattle.tree.specs.Tree.{AnyTree};
-ghost use Rattle.names.specs.Names.{AnyList};
-ghost use Rattle.collect.specs.Lists.{Full};
+ghost use Rattle.find_tree.specs.Tree.{AnyTree};
+ghost use Rattle.find_list.specs.Names.{AnyList};
+ghost use Rattle.merge_collect.specs.Lists.{Full};
 ghost use Rattle.merge.specs.Single.{Single};
 ghost use Rattle.merge.specs.Stream.{CellsReady, Takes, Begins, Stands, Steps};
 
 // The most trees of a list, whose weight is at most 96, and the size of their heads.
-pub const CELLS: usize = heads::CELLS;
+pub const CELLS: usize = merge_heads::CELLS;
 
-pub const HEADS: usize = heads::HEADS;
+pub const HEADS: usize = merge_heads::HEADS;
 
 // The heap at the start of a merge: its cells, each with a tree, its current branch and its label in lent arrays, how many they are, and its root.
 pub struct Start {
@@ -51,13 +51,13 @@ pub fn single(words: &[u32], list: u32) -> u32
     if list == 0 {
         return 0;
     }
-    if access::sort_of(words, list) == memory::IMPORTED {
+    if memory_access::sort_of(words, list) == memory::IMPORTED {
         return 0;
     }
-    if 0 < access::rest_of(words, list) {
+    if 0 < memory_access::rest_of(words, list) {
         return 0;
     }
-    access::own_of(words, list)
+    memory_access::own_of(words, list)
 }
 
 // Whether two branches have the same key.
@@ -66,7 +66,7 @@ fn same_key(words: &[u32], text: &[u8], a: u32, b: u32) -> bool
     requires { ⌜ (0 < b) × AnyTree (now words) (now text) b ⌝ }
     ensures { λ r. ⌜ r ≡ same (key-at (old words) (old text) a) (key-at (old words) (old text) b) ⌝ }
 {
-    match tree::key_order(words, text, b, access::key_of(words, text, a)) {
+    match find_tree::key_order(words, text, b, memory_access::key_of(words, text, a)) {
         Order::Less => false,
         Order::Same => true,
         Order::More => false,
@@ -89,7 +89,7 @@ fn take(
         (new heads) (new child) (new next) r ⌝ }
 {
     let n = turn.n;
-    match heap::heap_pop(child, next, words, text, heads, n, turn.root) {
+    match merge_heap::heap_pop(child, next, words, text, heads, n, turn.root) {
         Popped::Nothing => Taken {
             cell: CELLS,
             branch: 0,
@@ -98,7 +98,7 @@ fn take(
         Popped::Least(cell, rest) => {
             let branch = heads[cell] as u32;
             let own = roots[cell];
-            let after = successor::tree_next(words, text, own, prefix, branch);
+            let after = match_next::tree_next(words, text, own, prefix, branch);
             if after == 0 {
                 roots[cell] = 0;
                 return Taken {
@@ -107,8 +107,8 @@ fn take(
                     root: rest,
                 };
             }
-            heads::set_head(words, text, heads, cell, after);
-            let top = heap::heap_insert(child, next, words, text, heads, n, rest, cell);
+            merge_heads::set_head(words, text, heads, cell, after);
+            let top = merge_heap::heap_insert(child, next, words, text, heads, n, rest, cell);
             Taken {
                 cell: cell,
                 branch: branch,
@@ -136,8 +136,8 @@ pub fn merge_start(
         list: list,
         label: 0,
     };
-    let n = collect::collect(words, text, prefix, whole, roots, heads, labels, 0);
-    let cells = heap::heap_from_list(words, text, heads, n);
+    let n = merge_collect::collect(words, text, prefix, whole, roots, heads, labels, 0);
+    let cells = merge_heap::heap_from_list(words, text, heads, n);
     let child = cells.child;
     let next = cells.next;
     Start {

@@ -1,5 +1,5 @@
 // The refusals of the requirements: their numbers, and the conditions of rows 2 to 8.
-use queries::Rule;
+use text_query::Rule;
 ghost use mathlib.Core.Path.{_≡_};
 ghost use lib.Dec.{ltb};
 ghost use Rattle.source.specs.Lent.{old};
@@ -61,7 +61,7 @@ pub struct Flags {
 pub fn query_flags(s: &[u8]) -> Flags
     ensures { λ r. ⌜ Flagged (a-query (old s)) r ⌝ }
 {
-    let v = queries::query_survey(s);
+    let v = text_query::query_survey(s);
     Flags {
         malformed: v.malformed,
         empty: v.empty,
@@ -74,9 +74,9 @@ pub fn name_flags(s: &[u8]) -> Flags
     ensures { λ r. ⌜ Flagged (a-name (old s)) r ⌝ }
 {
     Flags {
-        malformed: !queries::all_allowed(Rule::Name, s),
+        malformed: !text_query::all_allowed(Rule::Name, s),
         empty: s.len() == 0,
-        long: queries::NAME_MOST < s.len(),
+        long: text_query::NAME_MOST < s.len(),
     }
 }
 
@@ -85,9 +85,9 @@ pub fn path_flags(s: &[u8]) -> Flags
     ensures { λ r. ⌜ Flagged (a-path (old s)) r ⌝ }
 {
     Flags {
-        malformed: !queries::all_allowed(Rule::Path, s),
+        malformed: !text_query::all_allowed(Rule::Path, s),
         empty: false,
-        long: queries::PATH_MOST < s.len(),
+        long: text_query::PATH_MOST < s.len(),
     }
 }
 
@@ -95,7 +95,7 @@ pub fn path_flags(s: &[u8]) -> Flags
 pub fn look_up_flags(s: &[u8]) -> Flags
     ensures { λ r. ⌜ Flagged (a-look-up (old s)) r ⌝ }
 {
-    let v = queries::query_survey(s);
+    let v = text_query::query_survey(s);
     Flags {
         malformed: v.malformed,
         empty: v.empty | (v.segments == 0),
@@ -107,7 +107,7 @@ pub fn look_up_flags(s: &[u8]) -> Flags
 pub fn completion_flags(s: &[u8]) -> Flags
     ensures { λ r. ⌜ Flagged (a-completion (old s)) r ⌝ }
 {
-    let v = queries::query_survey(s);
+    let v = text_query::query_survey(s);
     Flags {
         malformed: v.malformed,
         empty: false,

@@ -20,18 +20,18 @@ use Rattle.memory.proofs.Seen.{link-later}
 use Rattle.memory.specs.Grown.{Keeps, Outside}
 use Rattle.memory.specs.declared.Header.{Header}
 use Rattle.memory.proofs.Keeps.{what-keeps, table-keeps, used-text}
-use Rattle.writers.specs.Made.{Room}
-use Rattle.writers.proofs.Made.{made-what, made-link}
-use Rattle.kinds.specs.Shapes.{shape-of, call-of}
-use Rattle.kinds.specs.declared.Kind.{Kind}
-use Rattle.kinds.specs.declared.Form.{Form}
-use Rattle.kinds.specs.declared.Form.the-variants as form
-use Rattle.plan.specs.Plans.{Carries}
-use Rattle.way.specs.Way.{which-by, root-at, Way}
-use Rattle.leaves.specs.Leaves.{which-of, Builds}
-use Rattle.change.specs.Changes.{mutated, descent, Mutation, TrieWay, Mutated}
-use Rattle.leaves.specs.declared.Change.{Change}
-use Rattle.change.proofs.Registered.{Registers}
+use Rattle.insert_record.specs.Made.{Room}
+use Rattle.insert_record.proofs.Made.{made-what, made-link}
+use Rattle.register_kind.specs.Shapes.{shape-of, call-of}
+use Rattle.register_kind.specs.declared.Kind.{Kind}
+use Rattle.register_kind.specs.declared.Form.{Form}
+use Rattle.register_kind.specs.declared.Form.the-variants as form
+use Rattle.register_plan.specs.Plans.{Carries}
+use Rattle.register_way.specs.Way.{which-by, root-at, Way}
+use Rattle.register_leaf.specs.Leaves.{which-of, Builds}
+use Rattle.register_change.specs.Changes.{mutated, descent, Mutation, TrieWay, Mutated}
+use Rattle.register_leaf.specs.declared.Change.{Change}
+use Rattle.register_change.proofs.Registered.{Registers}
 use Rattle.register.specs.Checks.{lent, Ready, Passes}
 use Rattle.register.specs.Writes.{TextsLaid, with-root, with-text, Accepts}
 use Rattle.register.proofs.Checks.{ready, taken-all}

@@ -19,17 +19,17 @@ use Rattle.memory.specs.Sound.{LinkOk, TextOk, Sound}
 use Rattle.memory.specs.Read.{text-of}
 use Rattle.memory.specs.declared.Header.{Header}
 use Rattle.memory.proofs.Seen.{link-later}
-use Rattle.writers.specs.Made.{Room}
-use Rattle.kinds.specs.Shapes.{shape-of, call-of}
-use Rattle.kinds.specs.declared.Kind.{Kind}
-use Rattle.kinds.specs.declared.Kind.the-variants.{Name, Include, Open, Alias, Module}
-use Rattle.plan.specs.Plans.{Carries}
-use Rattle.way.specs.Way.{which-by, root-at}
-use Rattle.leaves.specs.Leaves.{which-of, label-in, ChangeOk}
-use Rattle.change.specs.Changes.{between, mutated, descent, Mutation}
-use Rattle.leaves.specs.declared.Change.{Change}
-use Rattle.change.proofs.QueryPlace.{place-first}
-use Rattle.change.proofs.Registered.{Registers, name-registers, include-registers, alias-registers, open-registers, module-registers, registers-fits}
+use Rattle.insert_record.specs.Made.{Room}
+use Rattle.register_kind.specs.Shapes.{shape-of, call-of}
+use Rattle.register_kind.specs.declared.Kind.{Kind}
+use Rattle.register_kind.specs.declared.Kind.the-variants.{Name, Include, Open, Alias, Module}
+use Rattle.register_plan.specs.Plans.{Carries}
+use Rattle.register_way.specs.Way.{which-by, root-at}
+use Rattle.register_leaf.specs.Leaves.{which-of, label-in, ChangeOk}
+use Rattle.register_change.specs.Changes.{between, mutated, descent, Mutation}
+use Rattle.register_leaf.specs.declared.Change.{Change}
+use Rattle.register_change.proofs.QueryPlace.{place-first}
+use Rattle.register_change.proofs.Registered.{Registers, name-registers, include-registers, alias-registers, open-registers, module-registers, registers-fits}
 use Rattle.register.specs.Checks.{Ready}
 use Rattle.register.specs.Writes.{Stand, with-text}
 

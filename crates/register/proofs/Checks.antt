@@ -20,15 +20,15 @@ use Rattle.source.proofs.PlannedWeight.{crowded-planned}
 use Rattle.source.proofs.PlannedRecords.{records-planned}
 use Rattle.refusals.specs.Rows.{capacity-rows}
 use Rattle.refusals.proofs.Rows.{query-ends}
-use Rattle.kinds.specs.Shapes.{shape-of, call-of, argument-as, other-argument, key-argument}
-use Rattle.kinds.specs.declared.Kind.{Kind}
-use Rattle.kinds.specs.declared.Form.{Form}
-use Rattle.kinds.specs.declared.Form.the-variants as form
-use Rattle.kinds.proofs.Shapes.{arguments-of, taken-is}
+use Rattle.register_kind.specs.Shapes.{shape-of, call-of, argument-as, other-argument, key-argument}
+use Rattle.register_kind.specs.declared.Kind.{Kind}
+use Rattle.register_kind.specs.declared.Form.{Form}
+use Rattle.register_kind.specs.declared.Form.the-variants as form
+use Rattle.register_kind.proofs.Shapes.{arguments-of, taken-is}
 use Rattle.memory.specs.Grown as Grown
-use Rattle.plan.specs.Plans.{Planned}
+use Rattle.register_plan.specs.Plans.{Planned}
 use Rattle.memory.proofs.Keeps.{keeps-at}
-use Rattle.plan.specs.declared.Plan.{Plan}
+use Rattle.register_plan.specs.declared.Plan.{Plan}
 use Rattle.register.specs.Checks.{NoKey, Ready}
 
 -- ---- Texts

@@ -13,10 +13,10 @@ use Rattle.refusals.specs.Refusals.{number}
 use Rattle.memory.specs.Layout.{state-of}
 use Rattle.memory.specs.Sound.{Sound}
 use Rattle.memory.specs.declared.Header.{Header}
-use Rattle.kinds.specs.Shapes.{shape-of, used-key, call-of, other-argument, key-argument}
-use Rattle.kinds.specs.declared.Kind.{Kind}
-use Rattle.plan.specs.Plans.{Carries}
-use Rattle.way.specs.Way.{which-by, root-at, way-size, Way}
+use Rattle.register_kind.specs.Shapes.{shape-of, used-key, call-of, other-argument, key-argument}
+use Rattle.register_kind.specs.declared.Kind.{Kind}
+use Rattle.register_plan.specs.Plans.{Carries}
+use Rattle.register_way.specs.Way.{which-by, root-at, way-size, Way}
 use Rattle.register.specs.declared.Checked.{Checked}
 use Rattle.register.specs.declared.Checked.the-variants.{Passed, Refused}
 

@@ -1,8 +1,4 @@
 // A registration over a header: the rows that it must pass, and what it writes.
-use change::Descent;
-use kinds::Form;
-use kinds::Kind;
-use leaves::Change;
 use memory::Header;
 use memory::Span;
 use refusals::Admission;
@@ -10,6 +6,10 @@ use refusals::Capacity;
 use refusals::Demand;
 use refusals::Flags;
 use refusals::Refusal;
+use register_change::Descent;
+use register_kind::Form;
+use register_kind::Kind;
+use register_leaf::Change;
 ghost use mathlib.Core.Path.{_≡_};
 ghost use mathlib.Core.Bool.{false, cond};
 ghost use mathlib.Core.List.{[], _∷_};
@@ -21,14 +21,14 @@ ghost use Rattle.source.specs.Calls.{a-name, malformed, arguments, after};
 ghost use Rattle.refusals.specs.Rows.{Flagged, AllFlagged};
 ghost use Rattle.memory.specs.Layout.{names, trieˢ, state-of};
 ghost use Rattle.memory.specs.Sound.{Sound, At};
-ghost use Rattle.kinds.specs.Shapes.{call-of, argument-as};
-ghost use Rattle.plan.specs.Plans.{Carries};
-ghost use Rattle.way.specs.Way.{which-by, root-at, way-size};
+ghost use Rattle.register_kind.specs.Shapes.{call-of, argument-as};
+ghost use Rattle.register_plan.specs.Plans.{Carries};
+ghost use Rattle.register_way.specs.Way.{which-by, root-at, way-size};
 ghost use Rattle.register.specs.Checks.{NoKey, Passes, Checks};
 ghost use Rattle.register.specs.Writes.{TextsLaid, with-root, Accepts};
 
 // The size of the array that a check notes the way of a registration in, for its writing.
-pub const WAY: usize = way::WAY;
+pub const WAY: usize = register_way::WAY;
 
 // Whether a registration passes every row.
 pub enum Checked {
@@ -61,7 +61,7 @@ fn key_flags(keyed: bool, key: &[u8]) -> Flags
 fn flags_of(kind: Kind, host: &[u8], other: &[u8], key: &[u8]) -> Flags
     ensures { λ r. ⌜ AllFlagged (arguments (call-of kind (old host) (old other) (old key))) r ⌝ }
 {
-    let s = kinds::shape_of(kind);
+    let s = register_kind::shape_of(kind);
     let form = s.form;
     let k = key_flags(s.keyed, key);
     let h = refusals::query_flags(host);
@@ -77,7 +77,7 @@ fn included(words: &[u32], text: &[u8], root: u32, form: Form, other: &[u8]) -> 
 {
     match form {
         Form::Name => 0,
-        Form::Import => lookup::trie_descend(words, text, root, other),
+        Form::Import => find_trie::trie_descend(words, text, root, other),
         Form::Module(_) => 0,
     }
 }
@@ -101,10 +101,10 @@ pub fn check(
     match a {
         Admission::Refused(x) => Checked::Refused(x),
         Admission::Admitted => {
-            let s = kinds::shape_of(kind);
+            let s = register_kind::shape_of(kind);
             let form = s.form;
             way[0] = included(words, text, h.names, form, other);
-            let p = plan::plan_of(words, text, h, kind, host, other, key, way);
+            let p = register_plan::plan_of(words, text, h, kind, host, other, key, way);
             let demand = Demand {
                 crowded: p.crowded,
                 deep: p.deep,
@@ -134,9 +134,9 @@ fn put_texts(text: &mut [u8], used: u32, host: &[u8], other: &[u8], key: &[u8])
 {
     let start = used + host.len() as u32;
     let end = start + other.len() as u32;
-    access::put_text(text, used, host);
-    access::put_text(text, start, other);
-    access::put_text(text, end, key);
+    memory_access::put_text(text, used, host);
+    memory_access::put_text(text, start, other);
+    memory_access::put_text(text, end, key);
 }
 
 // The root that a form changes.
@@ -204,7 +204,7 @@ pub fn write(
         },
         inc: way[0],
     };
-    let s = kinds::shape_of(kind);
+    let s = register_kind::shape_of(kind);
     let form = s.form;
     let root = root_of(h, form);
     let d = Descent {
@@ -212,6 +212,6 @@ pub fn write(
         end: start,
         change: change,
     };
-    let b = change::trie_mutate(words, text, h.records, root, h.text, d, &way[1..]);
+    let b = register_change::trie_mutate(words, text, h.records, root, h.text, d, &way[1..]);
     changed(h, form, b.link, b.records, end + size)
 }

@@ -18,21 +18,21 @@ use Rattle.source.specs.declared.KindFilter.the-variants.{Every}
 use Rattle.memory.specs.Layout.{names, modules, Item}
 use Rattle.memory.specs.Sound.{Says}
 use Rattle.memory.proofs.SoundTable.{sound-table}
-use Rattle.asks.specs.Ask.{asked}
-use Rattle.asks.specs.declared.Ask.{Ask}
-use Rattle.asks.specs.declared.Ask.the-variants.{Names, Modules}
-use Rattle.asks.specs.declared.Filter.the-variants.{All}
-use Rattle.rows.specs.Rows.{lines-seen}
-use Rattle.rows.proofs.Written.{written-seen}
-use Rattle.completion.specs.Completes.{output}
+use Rattle.listing_ask.specs.Ask.{asked}
+use Rattle.listing_ask.specs.declared.Ask.{Ask}
+use Rattle.listing_ask.specs.declared.Ask.the-variants.{Names, Modules}
+use Rattle.listing_ask.specs.declared.Filter.the-variants.{All}
+use Rattle.listing_row.specs.Rows.{lines-seen}
+use Rattle.listing_row.proofs.Written.{written-seen}
+use Rattle.listing.specs.Completes.{output}
 use Rattle.table.specs.Header.{table-in, names-in, modules-in}
-use Rattle.numbers.specs.Filters.{names-for, modules-for}
-use Rattle.numbers.specs.Replies.{name-reply, Answered}
-use Rattle.numbers.specs.declared.NameReply.{NameReply}
-use Rattle.numbers.specs.declared.ModuleReply.{ModuleReply}
-use Rattle.numbers.specs.declared.CompleteReply.{CompleteReply}
-use Rattle.numbers.proofs.Answered.{name-answered, module-answered}
-use Rattle.wire.specs.Memory.{words-in}
+use Rattle.screen_replies.specs.Filters.{names-for, modules-for}
+use Rattle.screen_replies.specs.Replies.{name-reply, Answered}
+use Rattle.screen_replies.specs.declared.NameReply.{NameReply}
+use Rattle.screen_replies.specs.declared.ModuleReply.{ModuleReply}
+use Rattle.screen_replies.specs.declared.CompleteReply.{CompleteReply}
+use Rattle.screen_replies.proofs.Answered.{name-answered, module-answered}
+use Rattle.memory_bytes.specs.Memory.{words-in}
 use Rattle.screen.specs.Memory.{table-at, SoundBytes}
 use Rattle.screen.specs.Replies.{SaysModule}
 use Rattle.screen.specs.Completions.{ListsAs}

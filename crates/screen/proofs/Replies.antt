@@ -20,13 +20,13 @@ use Rattle.table.specs.declared.Table.{Table}
 use Rattle.table.specs.declared.Registration.{Registration}
 use Rattle.table.proofs.Says.{decided}
 use Rattle.table.proofs.Answers.{register-unsound}
-use Rattle.wire.specs.Bytes.{Stored}
-use Rattle.wire.specs.Memory.{header-in, words-lent, words-in, Saved}
-use Rattle.wire.proofs.Memory.{words-in-length, words-in-fit}
+use Rattle.memory_bytes.specs.Bytes.{Stored}
+use Rattle.memory_bytes.specs.Memory.{header-in, words-lent, words-in, Saved}
+use Rattle.memory_bytes.proofs.Memory.{words-in-length, words-in-fit}
 use Rattle.screen.specs.Memory.{table-at, SoundBytes}
-use Rattle.kinds.proofs.Shapes.{open-module-is-include}
+use Rattle.register_kind.proofs.Shapes.{open-module-is-include}
 use Rattle.screen.specs.Replies.{flag-for, chosen, unchosen, answer-to, RepliesAs, Replies}
-use Rattle.wire.proofs.Bytes.{read-back}
+use Rattle.memory_bytes.proofs.Bytes.{read-back}
 use Rattle.screen.proofs.Held.{Held, says-memory, says-unsound}
 
 answer-unsound : (l : Lent) (s : State) (c : Option Call) → answer-to false l s c ≡ C.refused 1

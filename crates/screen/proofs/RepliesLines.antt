@@ -9,21 +9,21 @@ use Rattle.source.specs.Table as S
 use Rattle.source.specs.Calls as C
 use Rattle.source.specs.Calls.{lowest, argument-rows, Output, completion-rows, completed, complete, complete-modules}
 use Rattle.memory.specs.Layout.{Item}
-use Rattle.asks.specs.Ask.{asked}
-use Rattle.asks.specs.declared.Ask.{Ask}
-use Rattle.asks.specs.declared.Ask.the-variants.{Names, Modules}
-use Rattle.completion.specs.Completes.{output}
+use Rattle.listing_ask.specs.Ask.{asked}
+use Rattle.listing_ask.specs.declared.Ask.{Ask}
+use Rattle.listing_ask.specs.declared.Ask.the-variants.{Names, Modules}
+use Rattle.listing.specs.Completes.{output}
 use Rattle.table.specs.Header.{table-in}
-use Rattle.roots.specs.Completions.{CompletesAs}
+use Rattle.table_roots.specs.Completions.{CompletesAs}
 use Rattle.table.specs.Completions.{completion, Completes}
 use Rattle.table.specs.declared.Table.{Table}
-use Rattle.roots.specs.declared.Completed.{Completed}
-use Rattle.roots.specs.declared.Completed.the-variants.{Listed, Refused}
+use Rattle.table_roots.specs.declared.Completed.{Completed}
+use Rattle.table_roots.specs.declared.Completed.the-variants.{Listed, Refused}
 use Rattle.table.specs.declared.Listing.{Listing}
-use Rattle.numbers.specs.Filters.{is-asked}
-use Rattle.numbers.proofs.Filters.{asked-none}
-use Rattle.numbers.specs.Replies.{no-lines, lines-reply}
-use Rattle.numbers.specs.declared.CompleteReply.{CompleteReply}
+use Rattle.screen_replies.specs.Filters.{is-asked}
+use Rattle.screen_replies.proofs.Filters.{asked-none}
+use Rattle.screen_replies.specs.Replies.{no-lines, lines-reply}
+use Rattle.screen_replies.specs.declared.CompleteReply.{CompleteReply}
 use Rattle.screen.specs.Memory.{SoundBytes}
 use Rattle.screen.specs.Replies.{RepliesAs, unchosen, Replies}
 use Rattle.screen.specs.Completions.{ListsAs, unasked, Refuses, RepliesLines}

@@ -7,16 +7,16 @@ use Rattle.source.specs.Text.{Str}
 use Rattle.source.specs.Types.{Trie}
 use Rattle.source.specs.Calls as C
 use Rattle.source.specs.Calls.{lowest, argument-rows, look-up}
-use Rattle.roots.specs.Answers.{name-found}
+use Rattle.table_roots.specs.Answers.{name-found}
 use Rattle.table.specs.Answers.{Finds, FindsModule}
 use Rattle.table.specs.declared.Table.{Table}
 use Rattle.table.specs.declared.Finding.{Finding}
 use Rattle.table.specs.declared.ModuleFinding.{ModuleFinding}
-use Rattle.roots.specs.declared.FoundModule.the-variants.{Refused}
+use Rattle.table_roots.specs.declared.FoundModule.the-variants.{Refused}
 use Rattle.refusals.specs.declared.Refusal.the-variants.{Unsound}
-use Rattle.numbers.specs.Replies.{name-reply, no-module, module-reply}
-use Rattle.numbers.specs.declared.NameReply.{NameReply}
-use Rattle.numbers.specs.declared.ModuleReply.{ModuleReply}
+use Rattle.screen_replies.specs.Replies.{name-reply, no-module, module-reply}
+use Rattle.screen_replies.specs.declared.NameReply.{NameReply}
+use Rattle.screen_replies.specs.declared.ModuleReply.{ModuleReply}
 use Rattle.screen.specs.Memory.{SoundBytes}
 use Rattle.screen.specs.Replies.{RepliesName, RepliesModule}
 use Rattle.screen.proofs.Held.{Held, says-memory, says-unsound}

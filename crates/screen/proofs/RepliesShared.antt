@@ -8,17 +8,17 @@ use Rattle.source.specs.Text.{Str}
 use Rattle.source.specs.Calls as C
 use Rattle.memory.specs.Layout.{Which, names, Item}
 use Rattle.memory.specs.Sound.{Says}
-use Rattle.asks.specs.Ask.{asked}
-use Rattle.asks.specs.declared.Ask.{Ask}
-use Rattle.beginnings.specs.Shared.{CandidatesIn, shared-seen}
-use Rattle.beginnings.proofs.Shared.{Leaves, leaves-shared, left-candidates}
-use Rattle.completion.specs.Completes.{output}
+use Rattle.listing_ask.specs.Ask.{asked}
+use Rattle.listing_ask.specs.declared.Ask.{Ask}
+use Rattle.listing_shared.specs.Shared.{CandidatesIn, shared-seen}
+use Rattle.listing_shared.proofs.Shared.{Leaves, leaves-shared, left-candidates}
+use Rattle.listing.specs.Completes.{output}
 use Rattle.table.specs.Header.{table-in}
 use Rattle.table.specs.Completions.{completion}
-use Rattle.numbers.specs.Replies.{shared-reply}
-use Rattle.numbers.specs.declared.CompleteReply.{CompleteReply}
-use Rattle.numbers.specs.declared.SharedReply.{SharedReply}
-use Rattle.wire.specs.Memory.{words-in}
+use Rattle.screen_replies.specs.Replies.{shared-reply}
+use Rattle.screen_replies.specs.declared.CompleteReply.{CompleteReply}
+use Rattle.screen_replies.specs.declared.SharedReply.{SharedReply}
+use Rattle.memory_bytes.specs.Memory.{words-in}
 use Rattle.screen.specs.Memory.{table-at, SoundBytes}
 use Rattle.screen.specs.Completions.{ListsAs, unasked, RepliesLines, shared-for, RepliesShared}
 

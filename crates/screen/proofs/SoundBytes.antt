@@ -6,8 +6,8 @@ use lib.ListN.{replicate}
 use Rattle.source.specs.Calls.{State, fresh}
 use Rattle.memory.proofs.Stays.{fresh-sound, fresh-state}
 use Rattle.table.specs.Header.{state}
-use Rattle.wire.specs.Bytes.{word-at}
-use Rattle.wire.specs.Memory.{state-bytes, header-in, words-in}
+use Rattle.memory_bytes.specs.Bytes.{word-at}
+use Rattle.memory_bytes.specs.Memory.{state-bytes, header-in, words-in}
 use Rattle.screen.specs.Memory.{table-at, SoundBytes}
 use Rattle.screen.specs.Replies.{AcceptsBytes}
 

@@ -10,12 +10,12 @@ use Rattle.source.specs.Agreement.{Covers, without-last, lines-of-text, Shows}
 use Rattle.source.specs.declared.LidSymbol.{LidSymbol}
 use Rattle.memory.specs.Layout.{names, modules}
 use Rattle.memory.specs.Sound.{Says}
-use Rattle.rows.specs.Rows.{lines-seen}
-use Rattle.numbers.specs.Filters.{names-for, modules-for}
-use Rattle.numbers.specs.Replies.{name-reply, Answered}
-use Rattle.numbers.specs.declared.NameReply.{NameReply}
-use Rattle.numbers.specs.declared.ModuleReply.{ModuleReply}
-use Rattle.numbers.specs.declared.CompleteReply.{CompleteReply}
+use Rattle.listing_row.specs.Rows.{lines-seen}
+use Rattle.screen_replies.specs.Filters.{names-for, modules-for}
+use Rattle.screen_replies.specs.Replies.{name-reply, Answered}
+use Rattle.screen_replies.specs.declared.NameReply.{NameReply}
+use Rattle.screen_replies.specs.declared.ModuleReply.{ModuleReply}
+use Rattle.screen_replies.specs.declared.CompleteReply.{CompleteReply}
 use Rattle.screen.specs.Memory.{SoundBytes}
 use Rattle.screen.specs.Replies.{RepliesName, SaysModule, RepliesModule}
 use Rattle.screen.specs.Completions.{RepliesLines}

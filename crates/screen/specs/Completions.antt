@@ -11,16 +11,16 @@ use Rattle.source.specs.Table.{Line}
 use Rattle.source.specs.Calls as C
 use Rattle.memory.specs.Layout.{Item}
 use Rattle.memory.specs.Sound.{Says}
-use Rattle.asks.specs.Ask.{asked}
-use Rattle.output.specs.Output.{Written}
-use Rattle.asks.specs.declared.Ask.{Ask}
+use Rattle.listing_ask.specs.Ask.{asked}
+use Rattle.listing_output.specs.Output.{Written}
+use Rattle.listing_ask.specs.declared.Ask.{Ask}
 use Rattle.table.specs.Header.{table-in}
-use Rattle.completion.specs.Completes.{output}
+use Rattle.listing.specs.Completes.{output}
 use Rattle.table.specs.Completions.{completion}
-use Rattle.numbers.specs.Replies.{no-lines, lines-part}
-use Rattle.numbers.specs.declared.CompleteReply.{CompleteReply}
-use Rattle.numbers.specs.declared.SharedReply.{SharedReply}
-use Rattle.wire.specs.Memory.{words-in}
+use Rattle.screen_replies.specs.Replies.{no-lines, lines-part}
+use Rattle.screen_replies.specs.declared.CompleteReply.{CompleteReply}
+use Rattle.screen_replies.specs.declared.SharedReply.{SharedReply}
+use Rattle.memory_bytes.specs.Memory.{words-in}
 use Rattle.screen.specs.Memory.{table-at, SoundBytes}
 
 -- Listed: the lines are written from the start of the lent bytes, their texts from the start of the output text, and every other byte is as it was.

@@ -11,14 +11,14 @@ use Rattle.source.specs.Calls as C
 use Rattle.source.specs.Calls.{State, Lent, Call, register, look-up}
 use Rattle.memory.specs.Sound.{Says}
 use Rattle.table.specs.Header.{state, lent, names-in, modules-in}
-use Rattle.roots.specs.Answers.{module-found, FoundInside}
+use Rattle.table_roots.specs.Answers.{module-found, FoundInside}
 use Rattle.memory.specs.Grown.{Outside}
 use Rattle.table.specs.Registrations.{Accepts}
-use Rattle.roots.specs.declared.FoundModule.{FoundModule}
-use Rattle.numbers.specs.Replies.{name-reply, module-reply}
-use Rattle.numbers.specs.declared.NameReply.{NameReply}
-use Rattle.numbers.specs.declared.ModuleReply.{ModuleReply}
-use Rattle.wire.specs.Memory.{state-bytes, record-bytes, header-in, words-in}
+use Rattle.table_roots.specs.declared.FoundModule.{FoundModule}
+use Rattle.screen_replies.specs.Replies.{name-reply, module-reply}
+use Rattle.screen_replies.specs.declared.NameReply.{NameReply}
+use Rattle.screen_replies.specs.declared.ModuleReply.{ModuleReply}
+use Rattle.memory_bytes.specs.Memory.{state-bytes, record-bytes, header-in, words-in}
 use Rattle.screen.specs.Memory.{table-at, SoundBytes}
 
 -- ---- Registrations

@@ -1,14 +1,14 @@
 // The exported layer for screen code in C: numbers and bytes in, numbers and bytes out.
-// A slice passes as a pointer and a length. State and words are bytes as crate wire reads them;
+// A slice passes as a pointer and a length. State and words are bytes as crate memory_bytes reads them;
 // the layer copies the words in, tests them with little stack, calls crate table, and copies out what an accepted call has taken.
 // Lines are written in place.
 // Every exported call answers for whatever bytes are lent.
-use asks::Ask;
-use kinds::Kind;
-use numbers::CompleteReply;
-use numbers::ModuleReply;
-use numbers::NameReply;
-use numbers::SharedReply;
+use listing_ask::Ask;
+use register_kind::Kind;
+use screen_replies::CompleteReply;
+use screen_replies::ModuleReply;
+use screen_replies::NameReply;
+use screen_replies::SharedReply;
 use table::Registered;
 use table::Table;
 ghost use mathlib.Core.Path.{_≡_};
@@ -18,12 +18,12 @@ ghost use lib.ListN.{length};
 ghost use Rattle.source.specs.Lent.{old, new};
 ghost use Rattle.source.specs.Calls.{name, include, opens, alias, module-path};
 ghost use Rattle.source.specs.Items.{kind-for};
-ghost use Rattle.kinds.specs.Shapes.{call-of};
-ghost use Rattle.wire.specs.Memory.{state-bytes, words-in};
+ghost use Rattle.register_kind.specs.Shapes.{call-of};
+ghost use Rattle.memory_bytes.specs.Memory.{state-bytes, words-in};
 ghost use Rattle.screen.specs.Memory.{table-at};
-ghost use Rattle.beginnings.specs.Shared.{CandidatesIn, shared-seen};
-ghost use Rattle.numbers.specs.Filters.{names-for, modules-for};
-ghost use Rattle.numbers.specs.Replies.{shared-reply};
+ghost use Rattle.listing_shared.specs.Shared.{CandidatesIn, shared-seen};
+ghost use Rattle.screen_replies.specs.Filters.{names-for, modules-for};
+ghost use Rattle.screen_replies.specs.Replies.{shared-reply};
 ghost use Rattle.screen.specs.Completions.{RepliesLines, RepliesShared};
 ghost use Rattle.screen.specs.Replies.{flag-for, chosen, Replies, RepliesName, RepliesModule};
 
@@ -33,7 +33,7 @@ fn table_of(state: &[u8]) -> Table
     ensures { λ r. ⌜ r ≡ table-at (old state) ⌝ }
 {
     Table {
-        header: wire::header_of(state),
+        header: memory_bytes::header_of(state),
     }
 }
 
@@ -63,7 +63,7 @@ fn enter(
     let a = r.answer;
     match a {
         Registered::Accepted => {
-            wire::save(state, words, memory, t.header.records, h.header);
+            memory_bytes::save(state, words, memory, t.header.records, h.header);
             0
         }
         Registered::Refused(x) => refusals::number(x),
@@ -82,11 +82,11 @@ fn register(
 ) -> u32
     ensures { λ r. ⌜ Replies (old state) (old words) (old text) (new state) (new words) (new text) (some (call-of kind (old host) (old other) (old key))) r ⌝ }
 {
-    if state.len() != wire::STATE_BYTES {
+    if state.len() != memory_bytes::STATE_BYTES {
         return 1;
     }
-    let mut memory = [0u32; wire::WORDS];
-    let n = wire::load(words, &mut memory);
+    let mut memory = [0u32; memory_bytes::WORDS];
+    let n = memory_bytes::load(words, &mut memory);
     enter(state, words, text, &mut memory[..n], kind, host, other, key)
 }
 
@@ -94,11 +94,11 @@ fn register(
 fn malformed(state: &[u8], words: &[u8], text: &[u8]) -> u32
     ensures { λ r. ⌜ Replies (old state) (old words) (old text) (old state) (old words) (old text) none r ⌝ }
 {
-    if state.len() != wire::STATE_BYTES {
+    if state.len() != memory_bytes::STATE_BYTES {
         return 1;
     }
-    let mut memory = [0u32; wire::WORDS];
-    let n = wire::load(words, &mut memory);
+    let mut memory = [0u32; memory_bytes::WORDS];
+    let n = memory_bytes::load(words, &mut memory);
     let t = table_of(state);
     if t.is_sound_small(&memory[..n], text) {
         return 2;
@@ -120,8 +120,8 @@ pub extern "C" fn name_console_insert_item(
     ensures { λ r. ⌜ Replies (old state) (old words) (old text) (new state) (new words) (new text)
         (chosen (λ k. name (old host) (old id) (record { kind = k; number = number })) (kind-for kind)) r ⌝ }
 {
-    if items::is_kind(kind) {
-        let kind = Kind::Name(items::kind_of(kind), number);
+    if source_item::is_kind(kind) {
+        let kind = Kind::Name(source_item::kind_of(kind), number);
         return register(state, words, text, kind, host, id, &host[..0]);
     }
     malformed(state, words, text)
@@ -223,16 +223,16 @@ pub extern "C" fn name_console_find_item(
 ) -> NameReply
     ensures { λ r. ⌜ RepliesName (old state) (old words) (old text) (old query) r ⌝ }
 {
-    if state.len() != wire::STATE_BYTES {
-        return numbers::no_name(1);
+    if state.len() != memory_bytes::STATE_BYTES {
+        return screen_replies::no_name(1);
     }
-    let mut memory = [0u32; wire::WORDS];
-    let n = wire::load(words, &mut memory);
+    let mut memory = [0u32; memory_bytes::WORDS];
+    let n = memory_bytes::load(words, &mut memory);
     let t = table_of(state);
     if !t.is_sound_small(&memory[..n], text) {
-        return numbers::no_name(1);
+        return screen_replies::no_name(1);
     }
-    numbers::name_reply(t.find_sound(&memory[..n], text, query))
+    screen_replies::name_reply(t.find_sound(&memory[..n], text, query))
 }
 
 // Looks a module or namespace up.
@@ -245,16 +245,16 @@ pub extern "C" fn name_console_find_module(
 ) -> ModuleReply
     ensures { λ r. ⌜ RepliesModule (old state) (old words) (old text) (old query) r ⌝ }
 {
-    if state.len() != wire::STATE_BYTES {
-        return numbers::no_module(1);
+    if state.len() != memory_bytes::STATE_BYTES {
+        return screen_replies::no_module(1);
     }
-    let mut memory = [0u32; wire::WORDS];
-    let n = wire::load(words, &mut memory);
+    let mut memory = [0u32; memory_bytes::WORDS];
+    let n = memory_bytes::load(words, &mut memory);
     let t = table_of(state);
     if !t.is_sound_small(&memory[..n], text) {
-        return numbers::no_module(1);
+        return screen_replies::no_module(1);
     }
-    numbers::module_reply(t.find_module_sound(&memory[..n], text, query))
+    screen_replies::module_reply(t.find_module_sound(&memory[..n], text, query))
 }
 
 // ---- Completions
@@ -272,16 +272,24 @@ fn complete(
 ) -> CompleteReply
     ensures { λ r. ⌜ RepliesLines (old state) (old words) (old text) (some ask) (old query) budget (old lines) (new lines) (old out) (new out) r ⌝ }
 {
-    if state.len() != wire::STATE_BYTES {
-        return numbers::no_lines(1);
+    if state.len() != memory_bytes::STATE_BYTES {
+        return screen_replies::no_lines(1);
     }
-    let mut memory = [0u32; wire::WORDS];
-    let n = wire::load(words, &mut memory);
+    let mut memory = [0u32; memory_bytes::WORDS];
+    let n = memory_bytes::load(words, &mut memory);
     let t = table_of(state);
     if !t.is_sound_small(&memory[..n], text) {
-        return numbers::no_lines(1);
+        return screen_replies::no_lines(1);
     }
-    numbers::lines_reply(t.complete_sound(&memory[..n], text, ask, query, budget, lines, out))
+    screen_replies::lines_reply(t.complete_sound(
+        &memory[..n],
+        text,
+        ask,
+        query,
+        budget,
+        lines,
+        out,
+    ))
 }
 
 // Completes a name, of every kind if `kind` is 0, else of the kind of that number: lines of 48 bytes into `lines`, their texts into `out`.
@@ -298,19 +306,19 @@ pub extern "C" fn name_console_complete_names(
 ) -> CompleteReply
     ensures { λ r. ⌜ RepliesLines (old state) (old words) (old text) (names-for kind) (old query) budget (old lines) (new lines) (old out) (new out) r ⌝ }
 {
-    if numbers::is_filter(kind) {
+    if screen_replies::is_filter(kind) {
         return complete(
             state,
             words,
             text,
-            numbers::names_asked(kind),
+            screen_replies::names_asked(kind),
             query,
             budget,
             lines,
             out,
         );
     }
-    numbers::no_lines(malformed(state, words, text))
+    screen_replies::no_lines(malformed(state, words, text))
 }
 
 // Completes a module or namespace: all if `filter` is 0, those loaded if 1, modules if 2, namespaces if 3.
@@ -327,19 +335,19 @@ pub extern "C" fn name_console_complete_modules(
 ) -> CompleteReply
     ensures { λ r. ⌜ RepliesLines (old state) (old words) (old text) (modules-for filter) (old query) budget (old lines) (new lines) (old out) (new out) r ⌝ }
 {
-    if numbers::is_filter(filter) {
+    if screen_replies::is_filter(filter) {
         return complete(
             state,
             words,
             text,
-            numbers::modules_asked(filter),
+            screen_replies::modules_asked(filter),
             query,
             budget,
             lines,
             out,
         );
     }
-    numbers::no_lines(malformed(state, words, text))
+    screen_replies::no_lines(malformed(state, words, text))
 }
 
 // ---- Completions with what their lines share
@@ -349,8 +357,8 @@ fn with_shared(r: CompleteReply, lines: &[u8], out: &[u8]) -> SharedReply
     requires { ⌜ CandidatesIn (now lines) (now out) (r .lines) ⌝ }
     ensures { λ s. ⌜ s ≡ shared-reply r (shared-seen (old lines) (old out) (r .lines)) ⌝ }
 {
-    let shared = beginnings::shared_length(lines, out, r.lines as usize);
-    numbers::shared_reply(r, shared)
+    let shared = listing_shared::shared_length(lines, out, r.lines as usize);
+    screen_replies::shared_reply(r, shared)
 }
 
 // Completes a name, and says how many bytes the beginning has that all lines share.

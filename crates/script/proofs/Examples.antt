@@ -4,12 +4,12 @@ use mathlib.Core.Bool.{true}
 use native.Mathlib.Omega.{arith}
 use Rattle.source.specs.Items.{kind-letter}
 use Rattle.source.specs.declared.ItemKind.the-variants.{Timer, Register}
-use Rattle.numerals.specs.declared.Sort.the-variants.{Query, Word}
-use Rattle.numerals.specs.Bytes.{bytes, byte-ok}
-use Rattle.numerals.specs.Numerals.{value-from}
-use Rattle.numerals.specs.Items.{written-kind, written-digits}
-use Rattle.parts.specs.Parts.{run-length}
-use Rattle.parts.proofs.Runs.{run-all}
+use Rattle.script_decimal.specs.declared.Sort.the-variants.{Query, Word}
+use Rattle.script_decimal.specs.Bytes.{bytes, byte-ok}
+use Rattle.script_decimal.specs.Numerals.{value-from}
+use Rattle.script_decimal.specs.Items.{written-kind, written-digits}
+use Rattle.script_parts.specs.Parts.{run-length}
+use Rattle.script_parts.proofs.Runs.{run-all}
 use Rattle.script.specs.declared.Import.the-variants.{Include}
 use Rattle.script.specs.declared.Question.the-variants.{Complete}
 use Rattle.script.specs.Script.{key, name, import, module-path, ask, Reads}

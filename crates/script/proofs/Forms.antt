@@ -7,23 +7,23 @@ use native.Mathlib.Omega.{arith}
 use lib.ListN.{length, drop}
 use lib.Seq.{drop-at}
 use Rattle.source.specs.declared.LidSymbol.{LidSymbol}
-use Rattle.numerals.specs.declared.Sort.the-variants.{Query, Word}
+use Rattle.script_decimal.specs.declared.Sort.the-variants.{Query, Word}
 use Rattle.script.specs.declared.Import.{Import}
 use Rattle.script.specs.declared.Import.the-variants.{Include, OpenModule, OpenNamespace}
 use Rattle.script.specs.declared.Question.{Question}
 use Rattle.script.specs.declared.Question.the-variants.{Find, Complete, Modules}
 use Rattle.script.specs.declared.Key.{Key}
 use Rattle.script.specs.declared.Key.the-variants.{Name as NameKey, Alias as AliasKey, Import as ImportKey, Module as ModuleKey, Ask as AskKey}
-use Rattle.parts.specs.declared.Extent.{Extent}
-use Rattle.kinds.specs.declared.Kind.the-variants as kind
+use Rattle.script_parts.specs.declared.Extent.{Extent}
+use Rattle.register_kind.specs.declared.Kind.the-variants as kind
 use Rattle.script.specs.declared.LineForm.the-variants.{Register, Ask as AskForm}
-use Rattle.parts.specs.declared.Pair.the-variants.{At as AtPair}
-use Rattle.parts.specs.declared.Tail.the-variants.{At as AtTail}
-use Rattle.numerals.specs.Bytes.{Str, _·_, bytes}
+use Rattle.script_parts.specs.declared.Pair.the-variants.{At as AtPair}
+use Rattle.script_parts.specs.declared.Tail.the-variants.{At as AtTail}
+use Rattle.script_decimal.specs.Bytes.{Str, _·_, bytes}
 use Rattle.script.specs.Script.{key, Command, name, import, alias, module-path, ask, NameLine, ImportLine, AliasLine, ModuleLine, AskLine, Spelled, Reads, import-kind, Parsed}
-use Rattle.parts.specs.Parts.{part-of, cut, WordAt, Piece, PieceAt, IdEnd, IdSays, PairEnd, PairSays, LastAt, QueryEnd, QueryAt}
+use Rattle.script_parts.specs.Parts.{part-of, cut, WordAt, Piece, PieceAt, IdEnd, IdSays, PairEnd, PairSays, LastAt, QueryEnd, QueryAt}
 use Rattle.script.specs.Keys.{key-of, Only}
-use Rattle.parts.proofs.Parts.{part-found, rest-found, cut-length, stops-query, stops-word}
+use Rattle.script_parts.proofs.Parts.{part-found, rest-found, cut-length, stops-query, stops-word}
 
 -- The command's form.
 abbrev command-key : Command → Key

@@ -3,17 +3,17 @@ use mathlib.Core.Path.{_≡_, refl, sym, ap, _∙_, ap₂}
 use lib.ListN.{length, drop}
 use lib.Seq.{drop-at}
 use Rattle.source.specs.declared.LidSymbol.{LidSymbol}
-use Rattle.numerals.specs.declared.Sort.the-variants.{Query, Word}
+use Rattle.script_decimal.specs.declared.Sort.the-variants.{Query, Word}
 use Rattle.script.specs.declared.Key.{Key}
 use Rattle.script.specs.declared.Key.the-variants.{Name as NameKey, Alias as AliasKey, Import as ImportKey, Module as ModuleKey, Ask as AskKey}
-use Rattle.numerals.specs.Bytes.{Str, _·_}
+use Rattle.script_decimal.specs.Bytes.{Str, _·_}
 use Rattle.script.specs.Script.{key, Command, Reads}
-use Rattle.numerals.specs.Numerals.{value-from}
+use Rattle.script_decimal.specs.Numerals.{value-from}
 use Rattle.script.specs.Keys.{key-of}
-use Rattle.numerals.specs.Items.{written-kind, written-digits, ItemText}
-use Rattle.parts.specs.Parts.{IdEnd, PairEnd, QueryEnd}
-use Rattle.parts.proofs.Runs.{piece-once}
-use Rattle.parts.proofs.Parts.{last-once, stops-query, stops-word, query-piece, pair-piece, id-piece}
+use Rattle.script_decimal.specs.Items.{written-kind, written-digits, ItemText}
+use Rattle.script_parts.specs.Parts.{IdEnd, PairEnd, QueryEnd}
+use Rattle.script_parts.proofs.Runs.{piece-once}
+use Rattle.script_parts.proofs.Parts.{last-once, stops-query, stops-word, query-piece, pair-piece, id-piece}
 use Rattle.script.proofs.Forms.{Keyed, keyed, name-piece, name-id, import-pair, alias-piece, alias-pair, module-piece, ask-query}
 
 -- What follows one word in one line.

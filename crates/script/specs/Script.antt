@@ -4,13 +4,13 @@ use mathlib.Core.Bool.{Bool, true, false}
 use Prim.Native.Nat.{_<_, _≤_}
 use lib.ListN.{length}
 use Rattle.source.specs.declared.LidSymbol.{LidSymbol}
-use Rattle.numerals.specs.declared.Sort.the-variants.{Query, Word}
-use Rattle.numerals.specs.Bytes.{Str, bytes, _·_, All}
-use Rattle.numerals.specs.Items.{ItemText}
-use Rattle.parts.specs.Parts.{Within, part-of}
-use Rattle.parts.specs.declared.Extent.{Extent}
-use Rattle.kinds.specs.declared.Kind.{Kind}
-use Rattle.kinds.specs.declared.Kind.the-variants as kind
+use Rattle.script_decimal.specs.declared.Sort.the-variants.{Query, Word}
+use Rattle.script_decimal.specs.Bytes.{Str, bytes, _·_, All}
+use Rattle.script_decimal.specs.Items.{ItemText}
+use Rattle.script_parts.specs.Parts.{Within, part-of}
+use Rattle.script_parts.specs.declared.Extent.{Extent}
+use Rattle.register_kind.specs.declared.Kind.{Kind}
+use Rattle.register_kind.specs.declared.Kind.the-variants as kind
 use Rattle.script.specs.declared.Import.{Import}
 use Rattle.script.specs.declared.Import.the-variants.{Include, OpenModule, OpenNamespace}
 use Rattle.script.specs.declared.Question.{Question}
@@ -97,7 +97,7 @@ import-kind Include = kind.Include
 import-kind OpenModule = kind.Include
 import-kind OpenNamespace = kind.Open
 
--- The command is a registration of this kind, of these texts, as `call-of` of crate kinds orders them.
+-- The command is a registration of this kind, of these texts, as `call-of` of crate register_kind orders them.
 abbrev pub OfKind : Command → Kind → (host other key : Str) → Type 0
 OfKind (name host id c) k h o y = (k ≡ kind.Name (c .kind) (c .number)) × (h ≡ host) × (o ≡ id)
 OfKind (import how host q) k h o y = (k ≡ import-kind how) × (h ≡ host) × (o ≡ q)

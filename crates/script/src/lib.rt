@@ -1,20 +1,20 @@
 // The forms of a line of the program `console`. `parse` answers the form that spells a line, or that none does. Nothing is assumed.
-use kinds::Kind;
-use numerals::Sort;
-use parts::Extent;
-use parts::Pair;
-use parts::Part;
-use parts::Tail;
-use parts::byte_at;
-use parts::id_end;
-use parts::last_end;
-use parts::pair_end;
-use parts::piece;
-use parts::query_end;
-use parts::word_end;
+use register_kind::Kind;
+use script_decimal::Sort;
+use script_parts::Extent;
+use script_parts::Pair;
+use script_parts::Part;
+use script_parts::Tail;
+use script_parts::byte_at;
+use script_parts::id_end;
+use script_parts::last_end;
+use script_parts::pair_end;
+use script_parts::piece;
+use script_parts::query_end;
+use script_parts::word_end;
 ghost use mathlib.Core.Path.{_≡_};
 ghost use Rattle.source.specs.Lent.{old};
-ghost use Rattle.parts.specs.Parts.{WordSays};
+ghost use Rattle.script_parts.specs.Parts.{WordSays};
 ghost use Rattle.script.specs.Script.{key, import-kind, Parsed};
 ghost use Rattle.script.specs.Keys.{key-by, key-of, Only};
 

@@ -6,7 +6,7 @@ use native.Mathlib.Omega.{arith}
 use lib.ListN.{length}
 use Rattle.memory.specs.Sound.{RecordOk}
 use Rattle.memory.proofs.RecordOk.{links-earlier}
-use Rattle.branches.specs.Branches.{Notes}
+use Rattle.sound_branch.specs.Branches.{Notes}
 use Rattle.sound.specs.Notes.{CanNote, NotesOn}
 
 pub notes-start : {ws least greatest : List ℕ} → NotesOn ws 1 least greatest least greatest

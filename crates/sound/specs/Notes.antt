@@ -5,8 +5,8 @@ use mathlib.Core.List.{List}
 use lib.ListN.{length}
 use Rattle.source.specs.Limits.{record-words}
 use Rattle.memory.specs.Layout.{record-at, left-link, right-link}
-use Rattle.fields.specs.Fields.{WaysNoted}
-use Rattle.branches.specs.Branches.{Notes}
+use Rattle.sound_field.specs.Fields.{WaysNoted}
+use Rattle.sound_branch.specs.Branches.{Notes}
 
 -- The record of link l can be noted next.
 pub record CanNote (ws : List ℕ) (l : ℕ) (least greatest : List ℕ) : Type 0 where

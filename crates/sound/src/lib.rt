@@ -10,8 +10,8 @@ fn note(words: &[u32], link: u32, least: &mut [u32], greatest: &mut [u32])
     requires { ⌜ CanNote (now words) link (now least) (now greatest) ⌝ }
     ensures { λ _. ⌜ NotesOn (old words) (link + 1) (old least) (old greatest) (new least) (new greatest) ⌝ }
 {
-    fields::note(words, link, memory::LEFT, least);
-    fields::note(words, link, memory::RIGHT, greatest);
+    sound_field::note(words, link, memory::LEFT, least);
+    sound_field::note(words, link, memory::RIGHT, greatest);
 }
 
 // One pass over the used records, with notes for as many as are lent.
@@ -32,16 +32,16 @@ fn pass(words: &[u32], text: &[u8], header: Header, least: &mut [u32], greatest:
     if text.len() < used as usize {
         return false;
     }
-    if !fields::link_ok(words, records + 1, header.names, memory::TRIE_KIND) {
+    if !sound_field::link_ok(words, records + 1, header.names, memory::TRIE_KIND) {
         return false;
     }
-    if !fields::link_ok(words, records + 1, header.modules, memory::MODULE_TRIE_KIND) {
+    if !sound_field::link_ok(words, records + 1, header.modules, memory::MODULE_TRIE_KIND) {
         return false;
     }
     let mut link = 1;
     while link <= records {
         let at = (link as usize - 1) * memory::ROW;
-        if !records::record_ok(
+        if !sound_record::record_ok(
             words,
             text,
             used,

@@ -8,7 +8,7 @@ use mathlib.Core.Option.{none, some}
 use Rattle.source.specs.Text.{Str}
 use Rattle.source.specs.Calls.{lowest, argument-rows, State, Lent, Call, registration-rows, after, accepted, refused, register, include, opens}
 use Rattle.table.specs.Header.{state, lent}
-use Rattle.kinds.proofs.Shapes.{open-module-is-include}
+use Rattle.register_kind.proofs.Shapes.{open-module-is-include}
 use Rattle.refusals.specs.Refusals.{number}
 use Rattle.table.specs.Registrations.{Accepts, Answers}
 use Rattle.table.specs.declared.Table.{Table}

@@ -7,17 +7,17 @@ use Rattle.source.specs.Text.{Str, segments}
 use Rattle.source.specs.Calls.{lowest, argument-rows, Output, completion-rows, completed, tries-entered, keeps-kind, keeps, complete, complete-modules}
 use Rattle.source.proofs.Lines.{autocomplete-lid-is, autocomplete-mod-or-ns-is}
 use Rattle.memory.specs.Layout.{trieˢ, what}
-use Rattle.asks.specs.Ask.{filter-in, asked}
-use Rattle.asks.specs.declared.Ask.{Ask}
-use Rattle.asks.specs.declared.Ask.the-variants.{Names, Modules}
-use Rattle.completion.specs.Completes.{output, lines-of}
+use Rattle.listing_ask.specs.Ask.{filter-in, asked}
+use Rattle.listing_ask.specs.declared.Ask.{Ask}
+use Rattle.listing_ask.specs.declared.Ask.the-variants.{Names, Modules}
+use Rattle.listing.specs.Completes.{output, lines-of}
 use Rattle.table.specs.Header.{IsSound, table-in}
-use Rattle.roots.specs.Completions.{CompletesAs, root-for, CompletesOn}
+use Rattle.table_roots.specs.Completions.{CompletesAs, root-for, CompletesOn}
 use Rattle.table.specs.Completions.{completion, Completes}
 use Rattle.table.specs.declared.Table.{Table}
 use Rattle.refusals.specs.declared.Refusal.the-variants.{Unsound}
-use Rattle.roots.specs.declared.Completed.{Completed}
-use Rattle.roots.specs.declared.Completed.the-variants.{Refused}
+use Rattle.table_roots.specs.declared.Completed.{Completed}
+use Rattle.table_roots.specs.declared.Completed.the-variants.{Refused}
 use Rattle.table.proofs.Says.{decided}
 
 on-table : (ws txt : List ℕ) (t : Table) (ask : Ask) (budget : ℕ) (out : Output) (query : Str)

@@ -8,13 +8,13 @@ use Rattle.source.specs.Calls.{lowest, argument-rows, look-up}
 use Rattle.memory.specs.Layout.{modules}
 use Rattle.refusals.specs.declared.Refusal.the-variants.{Unsound}
 use Rattle.table.specs.Header.{IsSound, names-in}
-use Rattle.roots.specs.Answers.{name-found, FindsModuleOn}
+use Rattle.table_roots.specs.Answers.{name-found, FindsModuleOn}
 use Rattle.table.specs.Answers.{Finds, FindsModule}
 use Rattle.table.specs.declared.Table.{Table}
-use Rattle.roots.specs.declared.Found.{Found}
-use Rattle.roots.specs.declared.Found.the-variants.{Refused}
-use Rattle.roots.specs.declared.FoundModule.{FoundModule}
-use Rattle.roots.specs.declared.FoundModule.the-variants.{Refused as Not-found}
+use Rattle.table_roots.specs.declared.Found.{Found}
+use Rattle.table_roots.specs.declared.Found.the-variants.{Refused}
+use Rattle.table_roots.specs.declared.FoundModule.{FoundModule}
+use Rattle.table_roots.specs.declared.FoundModule.the-variants.{Refused as Not-found}
 use Rattle.table.proofs.Says.{decided}
 
 module _ {ws txt : List ℕ} {t : Table} {query : Str} where

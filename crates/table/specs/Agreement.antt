@@ -11,18 +11,18 @@ use Rattle.source.specs.declared.LidSymbol.{LidSymbol}
 use Rattle.source.specs.declared.KindFilter.the-variants.{Every}
 use Rattle.memory.specs.Layout.{names, modules}
 use Rattle.memory.specs.Sound.{Says}
-use Rattle.asks.specs.declared.Ask.the-variants.{Names, Modules}
-use Rattle.asks.specs.declared.Filter.the-variants.{All}
-use Rattle.rows.specs.Rows.{lines-seen}
+use Rattle.listing_ask.specs.declared.Ask.the-variants.{Names, Modules}
+use Rattle.listing_ask.specs.declared.Filter.the-variants.{All}
+use Rattle.listing_row.specs.Rows.{lines-seen}
 use Rattle.table.specs.Header.{IsSound}
-use Rattle.roots.specs.Answers.{name-found, module-found}
+use Rattle.table_roots.specs.Answers.{name-found, module-found}
 use Rattle.table.specs.Answers.{Finds, FindsModule}
 use Rattle.table.specs.Completions.{Completes}
 use Rattle.table.specs.declared.Table.{Table}
 use Rattle.table.specs.declared.Finding.{Finding}
 use Rattle.table.specs.declared.ModuleFinding.{ModuleFinding}
 use Rattle.table.specs.declared.Listing.{Listing}
-use Rattle.roots.specs.declared.Completed.the-variants.{Listed}
+use Rattle.table_roots.specs.declared.Completed.the-variants.{Listed}
 
 -- On either root, whatever memory is lent (b says whether it is sound): where look-up of a full name is not refused, and a completion of all kinds or unfiltered that covers the name
 -- is not refused, the lines with the name's text that it left in the lent output show look-up's answer. So a name that look-up finds is listed where it is asked for in full.

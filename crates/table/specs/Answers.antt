@@ -7,7 +7,7 @@ use lib.ListN.{length}
 use Rattle.source.specs.Text.{Str}
 use Rattle.source.specs.Calls.{look-up}
 use Rattle.memory.specs.Sound.{Says}
-use Rattle.roots.specs.Answers.{name-found, module-found, FoundInside}
+use Rattle.table_roots.specs.Answers.{name-found, module-found, FoundInside}
 use Rattle.table.specs.Header.{IsSound, names-in, modules-in}
 use Rattle.table.specs.declared.Table.{Table}
 use Rattle.table.specs.declared.Finding.{Finding}

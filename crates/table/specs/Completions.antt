@@ -9,11 +9,11 @@ use Rattle.source.specs.Calls as C
 use Rattle.source.specs.Calls.{Output, complete, complete-modules}
 use Rattle.memory.specs.Layout.{Item}
 use Rattle.memory.specs.Sound.{Says}
-use Rattle.asks.specs.Ask.{asked, filter-in}
-use Rattle.asks.specs.declared.Ask.{Ask}
-use Rattle.asks.specs.declared.Ask.the-variants.{Names, Modules}
-use Rattle.completion.specs.Completes.{output}
-use Rattle.roots.specs.Completions.{CompletesAs}
+use Rattle.listing_ask.specs.Ask.{asked, filter-in}
+use Rattle.listing_ask.specs.declared.Ask.{Ask}
+use Rattle.listing_ask.specs.declared.Ask.the-variants.{Names, Modules}
+use Rattle.listing.specs.Completes.{output}
+use Rattle.table_roots.specs.Completions.{CompletesAs}
 use Rattle.table.specs.Header.{IsSound, table-in}
 use Rattle.table.specs.declared.Table.{Table}
 use Rattle.table.specs.declared.Listing.{Listing}

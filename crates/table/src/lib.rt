@@ -2,18 +2,18 @@
 // Each call has a form for callers that have proved the memory sound, and a total one that tests it first.
 mod registers;
 
-use asks::Ask;
-use kinds::Kind;
+use listing_ask::Ask;
 use memory::Header;
 use refusals::Refusal;
 use register::Checked;
-use roots::Completed;
-use roots::Found;
-use roots::FoundModule;
+use register_kind::Kind;
+use table_roots::Completed;
+use table_roots::Found;
+use table_roots::FoundModule;
 ghost use mathlib.Core.Bool.{true};
 ghost use Rattle.source.specs.Lent.{old, new};
 ghost use Rattle.memory.specs.Sound.{Says};
-ghost use Rattle.kinds.specs.Shapes.{call-of};
+ghost use Rattle.register_kind.specs.Shapes.{call-of};
 ghost use Rattle.table.specs.Header.{IsSound, Fresh};
 ghost use Rattle.table.specs.Answers.{Finds, FindsModule};
 ghost use Rattle.table.specs.Completions.{Completes};
@@ -104,7 +104,7 @@ impl Table {
         ensures { λ r. ⌜ Completes (old words) (old text) self ask (old query) budget
             (old flat) (new flat) (old out) (new out) r ⌝ }
     {
-        let answer = roots::complete(words, text, self.header, ask, query, budget, flat, out);
+        let answer = table_roots::complete(words, text, self.header, ask, query, budget, flat, out);
         Listing {
             table: self,
             answer: answer,
@@ -139,7 +139,7 @@ impl Table {
         requires { ⌜ IsSound (now words) (now text) self ⌝ }
         ensures { λ r. ⌜ Finds (old words) (old text) self (old query) r ⌝ }
     {
-        let answer = roots::find(words, text, self.header, query);
+        let answer = table_roots::find(words, text, self.header, query);
         Finding {
             table: self,
             answer: answer,
@@ -164,7 +164,7 @@ impl Table {
         requires { ⌜ IsSound (now words) (now text) self ⌝ }
         ensures { λ r. ⌜ FindsModule (old words) (old text) self (old query) r ⌝ }
     {
-        let answer = roots::find_module(words, text, self.header, query);
+        let answer = table_roots::find_module(words, text, self.header, query);
         ModuleFinding {
             table: self,
             answer: answer,
@@ -199,7 +199,7 @@ impl Table {
         ensures { λ r. ⌜ Answers true (old words) (old text) (new words) (new text) self
             (call-of kind (old host) (old other) (old key)) r ⌝ }
     {
-        let n = kinds::key_size(kind, key.len());
+        let n = register_kind::key_size(kind, key.len());
         let mut way = [0; register::WAY];
         let k = register::check(
             words,

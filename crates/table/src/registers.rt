@@ -1,7 +1,7 @@
 // Registrations under the source's names.
 use crate::Registration;
 use crate::Table;
-use kinds::Kind;
+use register_kind::Kind;
 use source::LidSymbol;
 ghost use mathlib.Core.Bool.{true, false};
 ghost use Rattle.source.specs.Lent.{old, new};

@@ -1,5 +1,5 @@
-//! The product's calls, from the static library that `rt staticlib exports` writes.
-//! Nothing checks these declarations against crates/exports: keep them few.
+//! The product's calls, from the static library that `rt staticlib screen_tests` writes.
+//! Nothing checks these declarations against crates/screen_tests: keep them few.
 use model::layout::{Header, Memory};
 use model::listings::{both, Shared};
 use model::model::{Ask, CompletionResult, Filter, Item, ModSymbol, Registration, Str};

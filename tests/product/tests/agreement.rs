@@ -15,7 +15,7 @@ fn lines<A>(memory: &Memory, ask: Ask, query: &[u8], item: impl Fn(&[u32]) -> A)
     answer.map(|(lines, ..)| (0..lines as usize).map(|k| out.line(k, &item)).collect())
 }
 
-/// Both roots of a table; the names first. Crate exports has no look-up of modules: theirs is the independent one.
+/// Both roots of a table; the names first. Crate screen_tests has no look-up of modules: theirs is the independent one.
 fn hold_both(rng: &mut Rng, memory: &Memory, met: &mut [Met; 2]) {
     let table = decode(memory);
     let found = |query: &[u8]| {

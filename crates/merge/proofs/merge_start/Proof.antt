@@ -1,6 +1,6 @@
 -- `merge::merge_start` meets its contract.
 use native.Mathlib.Omega.{arith}
-use Rattle.names.proofs.Collections.{list-light}
+use Rattle.find_list.proofs.Collections.{list-light}
 use Rattle.merge.proofs.Starts.{start-heads, starts, starts-one}
 use Rattle.merge.proofs.merge_start.Statement.{statement}
 use Rattle.merge.proofs.merge_start.Tie as tie

@@ -5,7 +5,7 @@ use borrow.Author.Needs.{needs}
 use lib.Dec.{isEq}
 use Rattle.text.specs.Text.{ordering}
 use Rattle.text.specs.declared.Order.{Order}
-use Rattle.tree.proofs.Branches.{tree-fits, key-inside}
+use Rattle.find_tree.proofs.Branches.{tree-fits, key-inside}
 use Rattle.merge.proofs.same_key.Statement.{statement}
 use Rattle.merge.proofs.same_key.Tie as tie
 

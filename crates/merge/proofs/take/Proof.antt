@@ -3,10 +3,10 @@ use native.Mathlib.Omega.{arith}
 use borrow.Author.Needs.{needs}
 use Rattle.merge.proofs.Cells.{heads-of}
 use Rattle.merge.proofs.Takes.{takes-none, Least-cell, cell-small, branch-fits, next-asks, takes-last, next-in, insert-asks, takes-next}
-use Rattle.heap.proofs.heap_pop.Reads as heap-pop-reads
-use Rattle.heap.proofs.heap_insert.Reads as heap-insert-reads
-use Rattle.successor.proofs.tree_next.Reads as tree-next-reads
-use Rattle.heads.proofs.set_head.Reads as set-head-reads
+use Rattle.merge_heap.proofs.heap_pop.Reads as heap-pop-reads
+use Rattle.merge_heap.proofs.heap_insert.Reads as heap-insert-reads
+use Rattle.match_next.proofs.tree_next.Reads as tree-next-reads
+use Rattle.merge_heads.proofs.set_head.Reads as set-head-reads
 use Rattle.merge.proofs.take.Reads as reads
 use Rattle.merge.proofs.take.Lts as lts
 use Rattle.merge.proofs.take.Statement.{statement}

@@ -1,7 +1,7 @@
 -- look_up_flags meets its contract, by the survey: a query of no segment is empty.
 use borrow.Author.Needs.{needs}
 use Rattle.source.specs.Calls.{malformed, empty-name, too-long}
-use Rattle.queries.proofs.Surveys.{empty-length}
+use Rattle.text_query.proofs.Surveys.{empty-length}
 use Rattle.refusals.proofs.look_up_flags.Statement.{statement}
 use Rattle.refusals.proofs.look_up_flags.Tie as tie
 

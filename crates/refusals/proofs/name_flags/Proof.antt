@@ -3,7 +3,7 @@ use mathlib.Core.Bool.{not}
 use mathlib.Core.Path.{refl, sym, ap}
 use borrow.Author.Needs.{needs}
 use Rattle.source.specs.Calls.{malformed, empty-name, too-long}
-use Rattle.queries.proofs.Surveys.{empty-length}
+use Rattle.text_query.proofs.Surveys.{empty-length}
 use Rattle.refusals.proofs.name_flags.Statement.{statement}
 use Rattle.refusals.proofs.name_flags.Tie as tie
 

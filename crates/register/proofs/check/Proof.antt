@@ -3,7 +3,7 @@ use mathlib.Core.Path.{sym, _∙_}
 use native.Mathlib.Omega.{arith}
 use Rattle.source.proofs.Refusals.{argument-rows-none}
 use Rattle.memory.proofs.SoundTable.{sound-table}
-use Rattle.lookup.proofs.Roots.{names-trie}
+use Rattle.find_trie.proofs.Roots.{names-trie}
 use Rattle.refusals.proofs.Rows.{passes, stops}
 use Rattle.register.proofs.Checks.{ready, ready-short, taken-all, first-written, first-stays, rows-refused, rows-planned}
 use borrow.Author.Needs.{needs}

@@ -1,6 +1,6 @@
 -- flags_of meets its contract.
 use Rattle.refusals.proofs.Rows.{one-flagged, both-flagged}
-use Rattle.kinds.proofs.Shapes.{arguments-of}
+use Rattle.register_kind.proofs.Shapes.{arguments-of}
 use borrow.Author.Needs.{needs}
 use Rattle.register.proofs.flags_of.Statement.{statement}
 use Rattle.register.proofs.flags_of.Tie as tie

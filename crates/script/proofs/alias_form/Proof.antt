@@ -2,9 +2,9 @@
 use mathlib.Core.Path.{subst}
 use native.Mathlib.Omega.{arith}
 use Rattle.script.specs.Script.{key}
-use Rattle.numerals.specs.Bytes.{bytes}
-use Rattle.parts.specs.Parts.{WordSays, PieceSays, PairSays}
-use Rattle.parts.proofs.Parts.{stops-word}
+use Rattle.script_decimal.specs.Bytes.{bytes}
+use Rattle.script_parts.specs.Parts.{WordSays, PieceSays, PairSays}
+use Rattle.script_parts.proofs.Parts.{stops-word}
 use Rattle.script.proofs.Forms.{word-none, alias-none, alias-empty, alias-no, alias-yes}
 use borrow.Author.Needs.{needs}
 use Rattle.script.proofs.alias_form.Statement.{statement}

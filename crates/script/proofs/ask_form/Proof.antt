@@ -1,6 +1,6 @@
 -- `ask_form` answers for every form: a line that begins so can be no other.
 use mathlib.Core.Path.{subst}
-use Rattle.parts.specs.Parts.{WordSays, QuerySays}
+use Rattle.script_parts.specs.Parts.{WordSays, QuerySays}
 use Rattle.script.proofs.Forms.{word-none, ask-no, ask-yes}
 use borrow.Author.Needs.{needs}
 use Rattle.script.proofs.ask_form.Statement.{statement}

@@ -1,6 +1,6 @@
 -- `import_form` answers for every form: a line that begins so can be no other.
 use mathlib.Core.Path.{subst}
-use Rattle.parts.specs.Parts.{WordSays, PairSays}
+use Rattle.script_parts.specs.Parts.{WordSays, PairSays}
 use Rattle.script.proofs.Forms.{word-none, import-no, import-yes}
 use borrow.Author.Needs.{needs}
 use Rattle.script.proofs.import_form.Statement.{statement}

@@ -1,6 +1,6 @@
 -- `import_word` answers by its definition.
 use Rattle.script.specs.Script.{key}
-use Rattle.numerals.specs.Bytes.{bytes}
+use Rattle.script_decimal.specs.Bytes.{bytes}
 use borrow.Author.Needs.{needs}
 use Rattle.script.proofs.import_word.Statement.{statement}
 use Rattle.script.proofs.import_word.Tie as tie

@@ -1,8 +1,8 @@
 -- `module_form` answers for every form: a line that begins so can be no other.
 use mathlib.Core.Path.{subst}
 use native.Mathlib.Omega.{arith}
-use Rattle.parts.specs.Parts.{WordSays, PieceSays, LastSays}
-use Rattle.parts.proofs.Parts.{stops-query}
+use Rattle.script_parts.specs.Parts.{WordSays, PieceSays, LastSays}
+use Rattle.script_parts.proofs.Parts.{stops-query}
 use Rattle.script.proofs.Forms.{word-none, module-none, module-no, module-yes}
 use borrow.Author.Needs.{needs}
 use Rattle.script.proofs.module_form.Statement.{statement}

@@ -1,5 +1,5 @@
 -- Table::register_sound meets its contract.
-use Rattle.kinds.proofs.Shapes.{cut-used, cut-call}
+use Rattle.register_kind.proofs.Shapes.{cut-used, cut-call}
 use Rattle.table.proofs.Answers.{answers-refused, answers-accepted}
 use mathlib.Core.Path.{refl, sym}
 use lib.Seq.{length-take-le}

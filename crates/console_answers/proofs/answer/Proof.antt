@@ -1,0 +1,88 @@
+-- `answer` meets its contract.
+use Rattle.console_answers.proofs.Answered.{ask-reads, answered-call, answered-ask, answered-bad}
+use Rattle.listing.specs.Completes.{output}
+use borrow.Author.Needs.{needs}
+use Rattle.console_answers.proofs.answer.Statement.{statement}
+use Rattle.console_answers.proofs.answer.Tie as tie
+
+part-requires : tie.Need-part-requires
+part-requires c κs = (rw (c .before .before .before .form .given .1) at (c .before .before .before .before .before .parse .ensures)) .host-in
+
+part-requires-2 : tie.Need-part-requires-2
+part-requires-2 c κs = (rw (c .before .before .before .before .form .given .1) at (c .before .before .before .before .before .before .parse .ensures)) .other-in
+
+part-requires-3 : tie.Need-part-requires-3
+part-requires-3 c κs = (rw (c .before .before .before .before .before .form .given .1) at (c .before .before .before .before .before .before .before .parse .ensures)) .key-in
+
+part-requires-4 : tie.Need-part-requires-4
+part-requires-4 c κs = (rw (c .before .before .before .form2 .given .1) at (c .before .before .before .before .before .parse .ensures)) .0
+
+enum-told : tie.Need-enum-told
+enum-told c = search needs
+
+put-bad-requires : tie.Need-put-bad-requires
+put-bad-requires c κs = search needs
+
+same-length : tie.Need-same-length
+same-length c = search needs
+
+same-length-2 : tie.Need-same-length-2
+same-length-2 c = search needs
+
+same-length-3 : tie.Need-same-length-3
+same-length-3 c = search needs
+
+returns : tie.Need-returns
+returns c = answered-call (output (c .before .before .before .before .before .before .before .before .before .before .before .before .before .before .before .before .before .before .before .before .before .before .before .args .flat .now) (c .before .before .before .before .before .before .before .before .before .before .before .before .before .before .before .before .before .before .before .before .before .before .before .args .pane .now)) (rw (c .before .before .before .before .before .before .before .before .before .before .before .before .before .before .form .given .1) at (c .before .before .before .before .before .before .before .before .before .before .before .before .before .before .before .before .parse .ensures)) (c .before .before .before .before .before .before .before .before .before .before .part .ensures) (c .before .before .before .before .before .before .before .before .before .part2 .ensures) (c .before .before .before .before .before .before .before .before .part3 .ensures) (c .before .before .before .before .before .before .register-line .ensures)
+
+same-length-4 : tie.Need-same-length-4
+same-length-4 c = search needs
+
+same-length-5 : tie.Need-same-length-5
+same-length-5 c = search needs
+
+same-length-6 : tie.Need-same-length-6
+same-length-6 c = search needs
+
+same-length-7 : tie.Need-same-length-7
+same-length-7 c = search needs
+
+same-length-8 : tie.Need-same-length-8
+same-length-8 c = search needs
+
+returns-2 : tie.Need-returns-2
+returns-2 c = answered-ask (output (c .before .before .before .before .before .before .before .before .before .before .before .before .before .before .before .before .before .before .before .before .before .before .before .args .flat .now) (c .before .before .before .before .before .before .before .before .before .before .before .before .before .before .before .before .before .before .before .before .before .before .before .args .pane .now)) (c .before .before .before .before .before .before .before .before .before .before .before .before .before .before .before .before .before .before .before .before .before .before .before .pre .0) (ask-reads (c .before .before .before .before .before .before .before .before .before .before .part4 .ensures) ((rw (c .before .before .before .before .before .before .before .before .before .before .before .before .before .before .form2 .given .1) at (c .before .before .before .before .before .before .before .before .before .before .before .before .before .before .before .before .parse .ensures)) .1)) (c .before .before .before .before .before .before .ask-line .ensures)
+
+same-length-9 : tie.Need-same-length-9
+same-length-9 c = search needs
+
+returns-3 : tie.Need-returns-3
+returns-3 c = answered-bad (output (c .before .before .before .before .before .before .before .before .before .before .before .before .before .args .flat .now) (c .before .before .before .before .before .before .before .before .before .before .before .before .before .args .pane .now)) (c .before .before .before .before .before .before .before .before .before .before .before .before .before .pre .0) (rw (c .before .before .before .before .enum-told .given .1) at (c .before .before .before .before .before .before .parse .ensures)) (c .before .before .put-bad .ensures)
+
+pub answer-spec : {M : Type 1} → statement M
+answer-spec =
+    tie.close
+    (tie.spec
+    (λ c κs. search needs)
+    (λ c. search needs)
+    part-requires
+    part-requires-2
+    part-requires-3
+    (λ c κs. search needs)
+    (λ c. search needs)
+    part-requires-4
+    (λ c κs. search needs)
+    enum-told
+    put-bad-requires
+    same-length
+    same-length-2
+    same-length-3
+    returns
+    same-length-4
+    same-length-5
+    same-length-6
+    same-length-7
+    same-length-8
+    returns-2
+    same-length-9
+    returns-3)

@@ -1,0 +1,27 @@
+-- `fill` meets its contract.
+use native.Mathlib.Omega.{arith}
+use lib.Seq.{take-at, length-take-le}
+use borrow.Author.Needs.{needs}
+use Rattle.console_streams.proofs.fill.Statement.{statement}
+use Rattle.console_streams.proofs.fill.Tie as tie
+
+pub fill-spec : {M : Type 1} → statement M
+fill-spec =
+    tie.close
+    (tie.spec
+    (λ c. search needs)
+    (λ c. search needs)
+    (λ c. search needs)
+    (λ c κs. search needs)
+    (λ c κs. search needs)
+    (λ c. search needs)
+    {- returns -}
+    (λ c. record { kept = take-at _ _ _ (length-take-le _ _ (c .before .before .before .before .before .before .before .pre)); more = omega arith; inside = search needs })
+    (λ c. search needs)
+    (λ c. search needs)
+    (λ c. search needs)
+    (λ c κs. search needs)
+    (λ c. search needs)
+    (λ c. search needs)
+    {- returns-2 -}
+    (λ c. record { kept = take-at _ _ _ (length-take-le _ _ (c .before .before .before .before .before .before .before .before .before .pre)); more = omega arith; inside = search needs }))

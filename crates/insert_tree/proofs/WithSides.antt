@@ -1,0 +1,163 @@
+-- A branch with other sides: its words, its depth, and the memory into which it is put.
+use Prim.Native.Nat.{ℕ, suc, _+_, _*_, _≤_, _<_, max}
+use mathlib.Core.Path.{_≡_, refl, sym, _∙_, subst}
+use mathlib.Core.Bool.{true, false, _||_, true≢false, false≢true}
+use mathlib.Core.List.{List}
+use native.Mathlib.Omega.{arith}
+use lib.Dec.{eqb}
+use lib.ListN.{length, set, length-set}
+use lib.Seq.{getD-set-same, getD-set-other}
+use Rattle.source.specs.Types.{Level, bind, ns, Tree, StrBranch}
+use Rattle.source.specs.Terms.{depth-tree}
+use Rattle.source.specs.Rules.{IsKey, IsLabel, Ordered, Formed}
+use Rattle.memory.specs.Layout.{record-at, word, span, Which, names, modules, Item, tree, trieˢ, kind, Reading, value, row, what, depth-word, kind-word, left-link, right-link, text-len, text-start, trie-link}
+use Rattle.memory.specs.Stored.{depth-of, depth-in}
+use Rattle.memory.specs.Sound.{LinkOk, BranchOk, ItemOk, RecordAs, Used}
+use Rattle.memory.specs.Grown.{put}
+use Rattle.memory.proofs.RecordOk.{record-as, branch-at}
+use Rattle.memory.proofs.StoredSizes.{stored-trie, depth-branch}
+use Rattle.memory.proofs.Put.{put-used, put-what, put-link}
+use Rattle.memory.proofs.SoundTable.{IsItem, item-fine, link-fine, link-shallow}
+use Rattle.memory.proofs.Seen.{link-fits, link-ok, link-later}
+use Rattle.insert_copy.specs.Copies.{of-namespaces, branch-depth, DepthOk, with-sides}
+use Rattle.insert_tree.specs.Insert.{HeldOk, NewBranch}
+
+-- ---- Words
+
+module _ (ws r : List ℕ) (a b : ℕ) (twelve : length r ≡ 12) where
+  abbrev s : List ℕ
+  s = with-sides ws r a b
+
+  pub sided-length : length s ≡ 12
+  unfolding with-sides
+  sided-length = length-set (set (set r 3 a) 4 b) 11 _ ∙ length-set (set r 3 a) 4 b ∙ length-set r 3 a ∙ twelve
+
+  -- The other words stay.
+  sided-word : (k : ℕ) → (eqb k 3 || (eqb k 4 || eqb k 11)) ≡ false → word s k ≡ word r k
+  unfolding with-sides
+  sided-word k h =
+      getD-set-other (set (set r 3 a) 4 b) 11 k _ 0 (λ e. true≢false (rw e at h))
+      ∙ getD-set-other (set r 3 a) 4 k b 0 (λ e. true≢false (rw e at h))
+      ∙ getD-set-other r 3 k a 0 (λ e. true≢false (rw e at h))
+
+  sided-left : left-link s ≡ a
+  unfolding with-sides
+  sided-left = getD-set-other (set (set r 3 a) 4 b) 11 3 _ 0 (λ e. omega arith) ∙ getD-set-other (set r 3 a) 4 3 b 0 (λ e. omega arith) ∙ getD-set-same r 3 a 0 (omega arith)
+
+  sided-right : right-link s ≡ b
+  unfolding with-sides
+  sided-right = getD-set-other (set (set r 3 a) 4 b) 11 4 _ 0 (λ e. omega arith) ∙ getD-set-same (set r 3 a) 4 b 0 (omega (arith, length-set r 3 a))
+
+  sided-depth : depth-word s ≡ branch-depth ws (kind-word r) (trie-link r) a b
+  unfolding with-sides
+  sided-depth = getD-set-same (set (set r 3 a) 4 b) 11 _ 0 (omega (arith, length-set (set r 3 a) 4 b, length-set r 3 a))
+
+  sided-value : (w : Which) (txt : List ℕ) (f : ℕ → Reading w) (v : Level) → value w txt s f v ≡ value w txt r f v
+  sided-value names txt f bind = rw (sided-word 5 refl, sided-word 6 refl)
+  sided-value names txt f ns = rw (sided-word 5 refl)
+  sided-value modules txt f bind = rw (sided-word 5 refl, sided-word 6 refl, sided-word 7 refl, sided-word 8 refl, sided-word 9 refl, sided-word 10 refl)
+  sided-value modules txt f ns = rw (sided-word 5 refl)
+
+  sided-item : (w : Which) (txt : List ℕ) (used : ℕ) → ItemOk txt used w r → ItemOk txt used w s
+  sided-item names txt used o = rw (sided-word 6 refl) o
+  sided-item modules txt used o = record {
+    sort = rw (sided-word 5 refl) (o .sort);
+    name = rw (sided-word 6 refl, sided-word 7 refl) (o .name);
+    path = rw (sided-word 5 refl, sided-word 8 refl, sided-word 9 refl) (o .path);
+    loaded = rw (sided-word 10 refl) (o .loaded);
+  }
+
+-- ---- Depths
+
+ns-kind : (w : Which) → of-namespaces (kind w (tree ns)) ≡ true
+ns-kind names = refl
+ns-kind modules = refl
+
+bind-kind : (w : Which) → of-namespaces (kind w (tree bind)) ≡ false
+bind-kind names = refl
+bind-kind modules = refl
+
+module _ {ws txt : List ℕ} {n used : ℕ} (o : Used ws txt n used) (w : Which) (r : List ℕ) where
+  -- What a right branch holds is formed.
+  pub held-fine : (v : Level) → HeldOk ws txt used (n + 1) w r v → Formed IsKey IsLabel (IsItem w) (value w txt r (what w ws txt) v)
+  held-fine bind h = item-fine txt used w r h
+  held-fine ns h = link-fine o w trieˢ (omega arith) h .0
+
+  module _ {a b : ℕ} where
+    pub depth-ok : (v : Level) → NewBranch ws txt used (n + 1) w r v → LinkOk ws (n + 1) a (kind w (tree v)) → LinkOk ws (n + 1) b (kind w (tree v)) → DepthOk ws (kind-word r) (trie-link r) a b
+    depth-ok bind g i j = record {
+      left-fits = link-fits o i;
+      right-fits = link-fits o j;
+      held-fits = λ e. absurd (false≢true (sym (bind-kind w) ∙ rw (g .known) at e));
+      shallow = λ e. absurd (false≢true (sym (bind-kind w) ∙ rw (g .known) at e));
+    }
+    depth-ok ns g i j = record {
+      left-fits = link-fits o i;
+      right-fits = link-fits o j;
+      held-fits = λ e. link-fits o (g .holds);
+      shallow = λ e. rw (stored-trie (λ j p h. o .rows j p (omega arith)) w (trie-link r) (g .holds)) (link-shallow o w (omega arith) (g .holds));
+    }
+
+-- An old branch as a new one.
+pub old-branch : {ws txt : List ℕ} {n used : ℕ} → Used ws txt n used → (w : Which) (v : Level) {x : ℕ} → LinkOk ws (n + 1) x (kind w (tree v)) → 0 < x
+    → NewBranch ws txt used (n + 1) w (record-at ws x) v
+old-branch {ws} {txt} {n} {used} o w v {x} i p = record { known = k; key = branch-at (link-ok o i p) w v k .key; holds = holds v k }
+  where
+    k : kind-word (record-at ws x) ≡ kind w (tree v)
+    k = i .of-kind (λ e. omega arith)
+
+    holds : (v : Level) → kind-word (record-at ws x) ≡ kind w (tree v) → HeldOk ws txt used (n + 1) w (record-at ws x) v
+    holds bind k = record-as (link-ok o i p) w (tree bind) k .2
+    holds ns k = link-later (omega (arith, i .earlier)) (record-as (link-ok o i p) w (tree ns) k .2)
+
+-- ---- The branch r is put with the sides a and b
+
+module _ {ws txt : List ℕ} {n used : ℕ} (o : Used ws txt n used) (r : List ℕ) (twelve : length r ≡ 12) (w : Which) (a b : ℕ) where
+  deep : kind-word r ≡ kind w (tree ns) → BranchOk ws txt used (n + 1) w (with-sides ws r a b) ns → LinkOk ws (n + 1) (trie-link (with-sides ws r a b)) (kind w trieˢ)
+      → depth-word (with-sides ws r a b) ≡ depth-tree (row w txt (with-sides ws r a b) (what w ws txt) (tree ns))
+  unfolding branch-depth depth-of
+  deep k y h =
+      let e : branch-depth ws (kind-word r) (trie-link r) a b ≡ max (suc (depth-in ws (trie-link r))) (max (depth-in ws a) (depth-in ws b)) = rw (k, ns-kind w) in
+      let f : max (suc (depth-in ws (trie-link (with-sides ws r a b)))) (depth-of ws (with-sides ws r a b)) ≡ max (suc (depth-in ws (trie-link r))) (max (depth-in ws a) (depth-in ws b)) =
+      rw (sided-word ws r a b twelve 5 refl, sided-left ws r a b twelve, sided-right ws r a b twelve)
+      in
+      sided-depth ws r a b twelve ∙ e ∙ sym f ∙ depth-branch (λ j p h. o .rows j p (omega arith)) w y h
+
+  as-row : (v : Level) → NewBranch ws txt used (n + 1) w r v → BranchOk ws txt used (n + 1) w (with-sides ws r a b) v → Ordered (row w txt (with-sides ws r a b) (what w ws txt) (tree v))
+      → RecordAs ws txt used (n + 1) w (tree v) (with-sides ws r a b) (row w txt (with-sides ws r a b) (what w ws txt) (tree v))
+  as-row bind g y q = (y, q, sided-item ws r a b twelve w txt used (g .holds))
+  as-row ns g y q =
+      let h : LinkOk ws (n + 1) (trie-link (with-sides ws r a b)) (kind w trieˢ) = rw (sided-word ws r a b twelve 5 refl) (g .holds) in
+      (y, q, h, deep (g .known) y h)
+
+module _ {ws txt : List ℕ} {n used : ℕ} (o : Used ws txt n used) (few : n < 65536) (room : n * 12 + 12 ≤ length ws) (r : List ℕ) (twelve : length r ≡ 12)
+    (w : Which) (v : Level) (g : NewBranch ws txt used (n + 1) w r v) (a b : ℕ) (i : LinkOk ws (n + 1) a (kind w (tree v))) (j : LinkOk ws (n + 1) b (kind w (tree v)))
+    (ordered : Ordered (StrBranch (span txt (text-start r) (text-len r)) (value w txt r (what w ws txt) v) (what w ws txt a (tree v)) (what w ws txt b (tree v)))) where
+  abbrev new : List ℕ
+  new = with-sides ws r a b
+
+  row-is : row w txt new (what w ws txt) (tree v) ≡ StrBranch (span txt (text-start r) (text-len r)) (value w txt r (what w ws txt) v) (what w ws txt a (tree v)) (what w ws txt b (tree v))
+  row-is =
+      rw (sided-word ws r a b twelve 1 refl, sided-word ws r a b twelve 2 refl, sided-left ws r a b twelve, sided-right ws r a b twelve, sided-value ws r a b twelve w txt (what w ws txt) v)
+
+  branch : BranchOk ws txt used (n + 1) w new v
+  branch = record {
+    key = rw (sided-word ws r a b twelve 1 refl, sided-word ws r a b twelve 2 refl) (g .key);
+    left = rw (sided-left ws r a b twelve) i;
+    right = rw (sided-right ws r a b twelve) j;
+  }
+
+  known : kind-word new ≡ kind w (tree v)
+  known = sided-word ws r a b twelve 0 refl ∙ g .known
+
+  right : RecordAs ws txt used (n + 1) w (tree v) new (row w txt new (what w ws txt) (tree v))
+  right = as-row o r twelve w a b v g branch (subst (λ (t : Tree (Item w) v). Ordered t) (sym row-is) ordered)
+
+  pub branch-sound : Used (put ws n new) txt (n + 1) used
+  branch-sound = put-used o few room new (sided-length ws r a b twelve) w (tree v) known right
+
+  pub branch-what : what w (put ws n new) txt (n + 1) (tree v) ≡ StrBranch (span txt (text-start r) (text-len r)) (value w txt r (what w ws txt) v) (what w ws txt a (tree v)) (what w ws txt b (tree v))
+  branch-what = put-what o few room new (sided-length ws r a b twelve) w (tree v) known right ∙ row-is
+
+  pub branch-link : LinkOk (put ws n new) (n + 1 + 1) (n + 1) (kind w (tree v))
+  branch-link = put-link o few room new (sided-length ws r a b twelve) w (tree v) known right

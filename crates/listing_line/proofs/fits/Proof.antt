@@ -1,0 +1,19 @@
+-- `listing_line::fits` meets its contract.
+use Rattle.listing_line.proofs.Capped.{room-says}
+use Rattle.listing_line.proofs.fits.Statement.{statement}
+use Rattle.listing_line.proofs.fits.Tie as tie
+use borrow.Author.Needs.{needs}
+use native.Mathlib.Omega.{arith}
+
+pub fits-spec : {M : Type 1} → statement M
+fits-spec =
+    tie.close
+    (tie.spec
+    {- returns -}
+    (λ c. search needs)
+    {- returns-2 -}
+    (λ c. search needs)
+    {- returns-3 -}
+    (λ c. search needs)
+    {- returns-4 -}
+    (λ c. room-says (c .before .before .before .args .at) (c .before .before .before .args .n) (c .before .before .before .args .limit) (c .before .before .before .args .lent) (omega arith) (omega arith) (omega arith)))

@@ -1,0 +1,45 @@
+-- `listing_line::try_line` meets its contract.
+use Rattle.listing_line.proofs.Lines.{tried-put, no-row, no-text, passed}
+use native.Mathlib.Omega.{arith}
+use Rattle.listing_line.proofs.try_line.Statement.{statement}
+use Rattle.listing_line.proofs.try_line.Tie as tie
+use borrow.Author.Needs.{needs}
+
+pub try-line-spec : {M : Type 1} → statement M
+try-line-spec =
+    tie.close
+    (tie.spec
+    {- element-copy-out-fits -}
+    (λ c. search needs)
+    {- element-copy-out-fits-2 -}
+    (λ c. search needs)
+    {- fits-requires -}
+    (λ c κs. search needs)
+    {- returns -}
+    (λ c. no-row (c .before .before .before .before .before .before .before .before .before .pre .0) (c .before .fits2 .result) (c .before .fits2 .ensures) (c .if1 .taken))
+    {- element-copy-out-size -}
+    (λ c. search needs)
+    {- text-len-requires -}
+    (λ c κs. search needs)
+    {- cast-size -}
+    (λ c. search needs)
+    {- add-size -}
+    (λ c. search needs)
+    {- add-size-2 -}
+    (λ c. search needs)
+    {- element-copy-out-fits-3 -}
+    (λ c. search needs)
+    {- element-copy-out-fits-4 -}
+    (λ c. search needs)
+    {- fits-requires-2 -}
+    (λ c κs. search needs)
+    {- returns-2 -}
+    (λ c. no-text (c .before .before .before .before .before .before .before .before .before .before .before .before .before .before .before .pre .0) (c .before .fits3 .result) (omega (arith, c .before .before .before .before .text-len .ensures)) (c .before .fits3 .ensures) (c .if2 .taken))
+    {- write-line-requires -}
+    (λ c κs. (c .before .before .before .before .before .before .before .before .before .before .before .before .before .before .before .before .before .pre .0, passed (c .before .before .before .before .before .before .before .before .before .before .before .before .before .before .before .before .before .pre .0) (c .before .before .before .before .before .before .before .before .before .fits2 .result) (c .before .before .before .fits3 .result) (omega (arith, c .before .before .before .before .before .before .text-len .ensures)) (c .before .before .before .before .before .before .before .before .before .fits2 .ensures) (c .before .before .before .before .before .before .before .before .if1 .left) (c .before .before .before .fits3 .ensures) (c .before .before .if2 .left)))
+    {- same-length -}
+    (λ c. search needs)
+    {- same-length-2 -}
+    (λ c. search needs)
+    {- returns-3 -}
+    (λ c. tried-put (c .before .before .before .before .before .before .before .before .before .before .before .before .before .before .before .before .before .before .before .before .before .before .pre .0) (c .before .before .before .before .write-line .ensures)))

@@ -1,0 +1,59 @@
+-- The lent run: the path to the trie at hand, what the completion has taken and may take, and the match length.
+--
+--   number   of a run
+--   0..15    the path's links
+--   16       how many they are
+--   17       the path's length
+--   18       the path's label
+--   19..21   tries entered, lines, bytes
+--   22..24   how many of each may be
+--   25       match length, 4294967295 for -1
+use Prim.Native.Nat.{ℕ, _≤_}
+use mathlib.Core.List.{List}
+use lib.ListN.{getD}
+use Rattle.listing_output.specs.Path.{Path}
+
+-- How many numbers a run is.
+abbrev pub run-size : ℕ
+run-size = 26
+
+-- What a completion has taken.
+pub record Tally : Type 0 where
+  pub entered : ℕ
+  pub lines : ℕ
+  pub bytes : ℕ
+
+-- What it may take.
+pub record Limits : Type 0 where
+  pub budget : ℕ
+  pub lines : ℕ
+  pub bytes : ℕ
+
+-- Limits that 32 bits hold.
+pub record Small (lim : Limits) : Type 0 where
+  pub budget-small : lim .budget ≤ 4294967295
+  pub lines-small : lim .lines ≤ 4294967295
+  pub bytes-small : lim .bytes ≤ 4294967295
+
+abbrev pub path-in : List ℕ → Path
+path-in run = record { links = run; n = getD run 16 0; len = getD run 17 0; label = getD run 18 0 }
+
+abbrev pub tally-in : List ℕ → Tally
+tally-in run = record { entered = getD run 19 0; lines = getD run 20 0; bytes = getD run 21 0 }
+
+abbrev pub limits-in : List ℕ → Limits
+limits-in run = record { budget = getD run 22 0; lines = getD run 23 0; bytes = getD run 24 0 }
+
+abbrev pub matched-in : List ℕ → ℕ
+matched-in run = getD run 25 0
+
+-- A line to list: its path and branch, what matched, what the completion may take and what it has taken.
+pub record Job : Type 0 where
+  pub path : Path
+  pub branch : ℕ
+  pub matched : ℕ
+  pub lim : Limits
+  pub tally : Tally
+
+abbrev pub job-in : ℕ → List ℕ → Job
+job-in branch run = record { path = path-in run; branch = branch; matched = matched-in run; lim = limits-in run; tally = tally-in run }

@@ -1,0 +1,23 @@
+-- `cut_query` cuts before the first dot and after it.
+use mathlib.Core.Path.{refl}
+use native.Mathlib.Omega.{arith}
+use Rattle.text_query.proofs.Segments.{before-inside}
+use Rattle.listing_step.proofs.Cuts.{cuts-none, cuts-some}
+use borrow.Author.Needs.{needs}
+use Rattle.listing_step.proofs.cut_query.Statement.{statement}
+use Rattle.listing_step.proofs.cut_query.Tie as tie
+
+pub cut-query-spec : {M : Type 1} → statement M
+cut-query-spec =
+    tie.close
+    (tie.spec
+    {- returns -}
+    (λ c. cuts-none (c .before .before .args .query .now) _ _ (c .if1 .taken))
+    {- segment-length-requires -}
+    (λ c κs. search needs)
+    {- add-t5 -}
+    (λ c. omega (arith, c .segment-length .ensures, c .before .before .before .pre .1, before-inside (c .before .before .before .args .query .now) (c .before .before .before .pre .0) (omega (arith, c .before .if1 .left))))
+    {- add-t7 -}
+    (λ c. omega (arith, c .segment-length .ensures, c .before .before .before .pre .1, c .before .before .before .pre .2, before-inside (c .before .before .before .args .query .now) (c .before .before .before .pre .0) (omega (arith, c .before .if1 .left))))
+    {- returns-2 -}
+    (λ c. cuts-some (c .before .before .before .args .query .now) _ _ _ _ (c .before .before .before .pre .0) (c .before .if1 .left) (c .before .before .before .pre .1) (c .before .before .before .pre .2) (c .segment-length .ensures) refl))

@@ -1,0 +1,44 @@
+-- `enter` puts a branch onto the path.
+use mathlib.Core.Path.{refl, _∙_}
+use mathlib.Core.Logic.{⊎-elim}
+use native.Mathlib.Omega.{arith}
+use borrow.Author.Needs.{needs}
+use borrow.Author.Tests.{eq-eqb, ne-eqb}
+use Rattle.listing_step.proofs.PathDown.{entered}
+use Rattle.listing_step.proofs.enter.Statement.{statement}
+use Rattle.listing_step.proofs.enter.Tie as tie
+
+pub enter-spec : {M : Type 1} → statement M
+enter-spec =
+    tie.close
+    (tie.spec
+    {- element-copy-out-n -}
+    (λ c. search needs)
+    {- element-copy-out-len -}
+    (λ c. search needs)
+    {- element-copy-out-run -}
+    (λ c. search needs)
+    {- element-copy-out-len-2 -}
+    (λ c. search needs)
+    {- text-len-requires -}
+    (λ c κs. search needs)
+    {- cast-len -}
+    (λ c. search needs)
+    {- add-len -}
+    (λ c. search needs)
+    {- add-len-2 -}
+    (λ c. search needs)
+    {- cast-label -}
+    (λ c. search needs)
+    {- cast-run -}
+    (λ c. search needs)
+    {- mul-run -}
+    (λ c. search needs)
+    {- element-write-run -}
+    (λ c. search needs)
+    {- add-set-path -}
+    (λ c. search needs)
+    {- set-path-requires -}
+    (λ c κs. search needs)
+    {- returns -}
+    (λ c. (refl, entered (c .before .before .before .before .before .before .before .before .before .before .before .args .found) (c .before .before .before .before .before .before .before .before .before .before .before .pre .1) (c .set-path .ensures) (omega (arith, c .before .before .before .before .before .text-len .ensures)) (⊎-elim (λ z. z .2 ∙ rw (eq-eqb _ 0 (z .0 .taken))) (λ z. z .1 ∙ rw (ne-eqb _ 0 (z .0 .left))) (c .before .before .before .if1 .came)))))

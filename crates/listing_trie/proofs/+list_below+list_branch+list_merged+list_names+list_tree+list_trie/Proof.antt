@@ -1,0 +1,365 @@
+-- The run over tries, lists and branches: a cycle of six functions, measured by the link.
+use Prim.Native.Nat.{_+_, _*_}
+use mathlib.Core.Path.{refl, _∙_}
+use lib.ListN.{length, take}
+use native.Mathlib.Omega.{arith}
+use borrow.Author.Needs.{needs}
+use Rattle.merge.specs.Stream.{state, left-in}
+use Rattle.merge.proofs.OneTree.{single-one}
+use Rattle.text.proofs.Texts.{tail-is}
+use Rattle.find_tree.proofs.Branches.{any-tree}
+use Rattle.memory.proofs.At.{at-fits}
+use Rattle.listing_line.proofs.Run.{same-run}
+use Rattle.listing_step.proofs.Cuts.{front-is}
+use Rattle.listing_trie.proofs.Branch.{leaf-runs, line-ready, branch-named, space-at, below-ready, child-earlier, namespace-ready, namespace-sized, namespace-runs}
+use Rattle.listing_trie.proofs.Listed.{none-runs, onward, along-earlier, along-tree, along-begins, Stepping, stepping-first, stepping-branch, stepping-next, stepping-less, stepping-spent, stepping-done, list-any, one-earlier, one-ready, one-runs, Merging, merging-first, merging-any, merging-done, merging-earlier, merging-less, merging-branch, merging-next, merging-spent}
+use Rattle.listing_trie.proofs.Trie.{trie-spent, trie-named, cut-ready, bindings-earlier, namespaces-earlier, bindings-asked, namespaces-asked, trie-all, trie-few}
+use Prim.Native.Nat.{ℕ, _<_}
+use borrow.Fn.Kinds.{In}
+use borrow.Fn.PlainCycle.{Measures, is, falls, and}
+use Rattle.listing_trie.proofs.list_below.Reads as list-below
+use Rattle.listing_trie.proofs.list_below.Kinds as list-below-kinds
+use Rattle.listing_trie.proofs.+list_below+list_branch+list_merged+list_names+list_tree+list_trie.Lts-list_below as list-below-lts
+use Rattle.listing_trie.proofs.list_branch.Reads as list-branch
+use Rattle.listing_trie.proofs.list_branch.Kinds as list-branch-kinds
+use Rattle.listing_trie.proofs.+list_below+list_branch+list_merged+list_names+list_tree+list_trie.Lts-list_branch as list-branch-lts
+use Rattle.listing_trie.proofs.list_merged.Reads as list-merged
+use Rattle.listing_trie.proofs.list_merged.Kinds as list-merged-kinds
+use Rattle.listing_trie.proofs.+list_below+list_branch+list_merged+list_names+list_tree+list_trie.Lts-list_merged as list-merged-lts
+use Rattle.listing_trie.proofs.list_names.Reads as list-names
+use Rattle.listing_trie.proofs.list_names.Kinds as list-names-kinds
+use Rattle.listing_trie.proofs.+list_below+list_branch+list_merged+list_names+list_tree+list_trie.Lts-list_names as list-names-lts
+use Rattle.listing_trie.proofs.list_tree.Reads as list-tree
+use Rattle.listing_trie.proofs.list_tree.Kinds as list-tree-kinds
+use Rattle.listing_trie.proofs.+list_below+list_branch+list_merged+list_names+list_tree+list_trie.Lts-list_tree as list-tree-lts
+use Rattle.listing_trie.proofs.list_trie.Reads as list-trie
+use Rattle.listing_trie.proofs.list_trie.Kinds as list-trie-kinds
+use Rattle.listing_trie.proofs.+list_below+list_branch+list_merged+list_names+list_tree+list_trie.Lts-list_trie as list-trie-lts
+use Rattle.listing_line.proofs.line.Reads as line-reads
+use Rattle.listing_step.proofs.begin.Reads as begin-reads
+use Rattle.listing_step.proofs.cut_query.Reads as cut-query-reads
+use Rattle.listing_step.proofs.enter.Reads as enter-reads
+use Rattle.listing_step.proofs.leave.Reads as leave-reads
+use Rattle.listing_step.proofs.skips_bindings.Reads as skips-bindings-reads
+use Rattle.match_walk.proofs.first_match.Reads as first-match-reads
+use Rattle.match_walk.proofs.next_match.Reads as next-match-reads
+use Rattle.memory_access.proofs.held_of.Reads as held-of-reads
+use Rattle.memory_access.proofs.trie_of.Reads as trie-of-reads
+use Rattle.merge.proofs.merge_next.Reads as merge-next-reads
+use Rattle.merge.proofs.merge_start.Reads as merge-start-reads
+use Rattle.merge.proofs.single.Reads as single-reads
+use Rattle.listing_trie.proofs.+list_below+list_branch+list_merged+list_names+list_tree+list_trie.{
+  statement,
+}
+use Rattle.listing_trie.proofs.+list_below+list_branch+list_merged+list_names+list_tree+list_trie.Tie.{
+  close,
+}
+
+abbrev μ-list-below : Measures 6 list-below-kinds.ps ℕ
+μ-list-below κs a = 6 * a .1 .1 .1 .1 .0 .link
+
+abbrev μ-list-branch : Measures 6 list-branch-kinds.ps ℕ
+μ-list-branch κs a = 6 * a .1 .1 .1 .1 .0 .link + 1
+
+abbrev μ-list-merged : Measures 6 list-merged-kinds.ps ℕ
+μ-list-merged κs a = 6 * a .1 .1 .1 .1 .0 + 3
+
+abbrev μ-list-names : Measures 6 list-names-kinds.ps ℕ
+μ-list-names κs a = 6 * a .1 .1 .1 .1 .0 + 4
+
+abbrev μ-list-tree : Measures 6 list-tree-kinds.ps ℕ
+μ-list-tree κs a = 6 * a .1 .1 .1 .1 .0 .link + 2
+
+abbrev μ-list-trie : Measures 6 list-trie-kinds.ps ℕ
+μ-list-trie κs a = 6 * a .1 .1 .1 .1 .0 + 5
+
+abbrev list-below-at : ℕ → In 6 list-below-kinds.ps
+list-below-at t = and 6 list-below-kinds.ps (is 6 list-below-kinds.ps μ-list-below t) list-below.Pre
+
+abbrev list-below-below : ℕ → In 6 list-below-kinds.ps
+list-below-below t =
+    and 6 list-below-kinds.ps (falls 6 list-below-kinds.ps _<_ μ-list-below t) list-below.Pre
+
+abbrev list-branch-at : ℕ → In 6 list-branch-kinds.ps
+list-branch-at t =
+    and 6 list-branch-kinds.ps (is 6 list-branch-kinds.ps μ-list-branch t) list-branch.Pre
+
+abbrev list-branch-below : ℕ → In 6 list-branch-kinds.ps
+list-branch-below t =
+    and 6 list-branch-kinds.ps (falls 6 list-branch-kinds.ps _<_ μ-list-branch t) list-branch.Pre
+
+abbrev list-merged-at : ℕ → In 6 list-merged-kinds.ps
+list-merged-at t =
+    and 6 list-merged-kinds.ps (is 6 list-merged-kinds.ps μ-list-merged t) list-merged.Pre
+
+abbrev list-merged-below : ℕ → In 6 list-merged-kinds.ps
+list-merged-below t =
+    and 6 list-merged-kinds.ps (falls 6 list-merged-kinds.ps _<_ μ-list-merged t) list-merged.Pre
+
+abbrev list-names-at : ℕ → In 6 list-names-kinds.ps
+list-names-at t =
+    and 6 list-names-kinds.ps (is 6 list-names-kinds.ps μ-list-names t) list-names.Pre
+
+abbrev list-names-below : ℕ → In 6 list-names-kinds.ps
+list-names-below t =
+    and 6 list-names-kinds.ps (falls 6 list-names-kinds.ps _<_ μ-list-names t) list-names.Pre
+
+abbrev list-tree-at : ℕ → In 6 list-tree-kinds.ps
+list-tree-at t = and 6 list-tree-kinds.ps (is 6 list-tree-kinds.ps μ-list-tree t) list-tree.Pre
+
+abbrev list-tree-below : ℕ → In 6 list-tree-kinds.ps
+list-tree-below t =
+    and 6 list-tree-kinds.ps (falls 6 list-tree-kinds.ps _<_ μ-list-tree t) list-tree.Pre
+
+abbrev list-trie-at : ℕ → In 6 list-trie-kinds.ps
+list-trie-at t = and 6 list-trie-kinds.ps (is 6 list-trie-kinds.ps μ-list-trie t) list-trie.Pre
+
+abbrev list-trie-below : ℕ → In 6 list-trie-kinds.ps
+list-trie-below t =
+    and 6 list-trie-kinds.ps (falls 6 list-trie-kinds.ps _<_ μ-list-trie t) list-trie.Pre
+
+abbrev list-merged-Inv-loop : list-merged-lts.InvT-loop
+list-merged-Inv-loop words text query place list run₀ flat₀ out₀ budget len rest roots₀ heads₀ labels n child₀ next₀ turn₀ run flat out roots heads child next turn =
+    Merging words text query place list run₀ run flat₀ flat out₀ out (state roots heads labels child next (turn .n) (turn .root) (turn .last))
+
+abbrev list-merged-μ-loop : list-merged-lts.MeasureT-loop
+list-merged-μ-loop words text query place list run₀ flat₀ out₀ budget len rest roots₀ heads₀ labels n child₀ next₀ turn₀ run flat out roots heads child next turn =
+    left-in words text (take (place .len) query) (state roots heads labels child next (turn .n) (turn .root) (turn .last))
+
+abbrev list-tree-Inv-loop : list-tree-lts.InvT-loop
+list-tree-Inv-loop words text query place found run₀ flat₀ out₀ budget len rest root notes₀ step₀ run flat out notes step =
+    Stepping words text query place found run₀ run flat₀ flat out₀ out notes step
+
+abbrev list-tree-μ-loop : list-tree-lts.MeasureT-loop
+list-tree-μ-loop words text query place found run₀ flat₀ out₀ budget len rest root notes₀ step₀ run flat out notes step =
+    length (onward words text (take (place .len) query) (found .link) (step .link))
+
+pub +list-below+list-branch+list-merged+list-names+list-tree+list-trie-spec : {M : Type 1} → statement M
++list-below+list-branch+list-merged+list-names+list-tree+list-trie-spec =
+    close
+    μ-list-below
+    μ-list-branch
+    μ-list-merged
+    μ-list-names
+    μ-list-tree
+    μ-list-trie
+    (λ t. list-below-lts.spec (held-of-reads.Asked, held-of-reads.Learnt, enter-reads.Asked, enter-reads.Learnt, list-trie-below t, list-trie.Post, leave-reads.Asked, leave-reads.Learnt)
+    (list-below-at t)
+    list-below.Post
+    {- held-of-requires -}
+    (λ c κs. branch-named (c .before .before .before .before .before .pre .1 .can))
+    {- enter-requires -}
+    (λ c κs. (branch-named (c .before .before .before .before .before .before .before .pre .1 .can), below-ready (c .before .before .before .before .before .before .before .pre .1 .can) refl))
+    {- list-trie-requires -}
+    (λ c κs. (omega (arith, c .before .before .before .before .before .before .before .before .before .before .before .pre .0, c .before .before .before .before .before .held-of .ensures, child-earlier (space-at (c .before .before .before .before .before .before .before .before .before .before .before .pre .1 .can) refl .0)), namespace-ready (c .before .before .before .before .before .before .before .before .before .before .before .pre .1) (c .before .before .before .enter .ensures .1) (c .before .before .before .before .before .held-of .ensures)))
+    {- leave-requires -}
+    (λ c κs. namespace-sized (c .before .before .before .before .before .before .before .before .before .before .before .before .before .before .before .before .before .pre .1) (c .before .before .before .before .before .before .before .before .before .enter .ensures .1) (c .before .before .before .before .before .before .before .before .before .before .before .held-of .ensures) (c .before .before .before .before .before .list-trie .ensures))
+    {- same-length -}
+    (λ c. search needs)
+    {- same-length-2 -}
+    (λ c. search needs)
+    {- returns -}
+    (λ c. namespace-runs (c .before .before .before .before .before .before .before .before .before .before .before .before .before .before .before .before .before .before .pre .1) (c .before .before .before .before .before .before .before .before .before .before .enter .ensures .1) (c .before .before .before .before .before .before .before .before .before .before .before .before .held-of .ensures) (c .before .before .before .before .before .before .list-trie .ensures) (c .before .before .before .before .before .before .before .before .before .before .enter .ensures .0) (c .leave .ensures)))
+    (λ t. list-branch-lts.spec (line-reads.Asked, line-reads.Learnt, list-below-below t, list-below.Post)
+    (list-branch-at t)
+    list-branch.Post
+    {- line-requires -}
+    (λ c κs. line-ready (c .before .before .before .before .before .before .before .before .before .pre .1) (c .before .before .before .if1 .taken))
+    {- same-length -}
+    (λ c. search needs)
+    {- same-length-2 -}
+    (λ c. search needs)
+    {- returns -}
+    (λ c. leaf-runs (c .before .before .before .before .before .before .before .before .if1 .taken) (c .before .before .before .before .line .ensures))
+    {- list-below-requires -}
+    (λ c κs. (omega (arith, c .before .before .before .before .before .before .before .before .before .pre .0), rw (c .before .before .before .if1 .left) at (c .before .before .before .before .before .before .before .before .before .pre .1)))
+    {- same-length-3 -}
+    (λ c. search needs)
+    {- same-length-4 -}
+    (λ c. search needs)
+    {- returns-2 -}
+    (λ c. rw (c .before .before .before .before .before .before .before .before .if1 .left) (c .before .before .before .before .list-below .ensures)))
+    (λ t. list-merged-lts.spec (merge-start-reads.Asked, merge-start-reads.Learnt, list-tree-below t, list-tree.Post, merge-next-reads.Asked, merge-next-reads.Learnt, list-branch-below t, list-branch.Post)
+    (list-merged-at t)
+    list-merged.Post
+    list-merged-Inv-loop
+    list-merged-μ-loop
+    {- element-copy-out-budget -}
+    (λ c. search needs)
+    {- sub-merge-start -}
+    (λ c. search needs)
+    {- part-merge-start-start -}
+    (λ c. search needs)
+    {- part-merge-start-end -}
+    (λ c. omega (arith, c .before .before .before .before .before .before .pre .1 .place-ok .len-inside))
+    {- merge-start-requires -}
+    (λ c κs. (list-any (c .before .before .before .before .before .before .before .before .before .before .pre .1 .can), record { of-roots = refl; of-heads = refl; of-labels = refl }))
+    {- array-read-t37 -}
+    (λ c. search needs)
+    {- array-read-t40 -}
+    (λ c. search needs)
+    {- list-tree-requires -}
+    (λ c κs. (omega (arith, c .before .before .before .before .before .before .before .before .before .before .before .before .before .before .before .pre .0, one-earlier (c .before .before .before .before .before .before .before .before .before .before .before .before .before .before .before .pre .1) ((rw front-is at (c .before .before .before .before .merge-start .ensures)) .one (c .before .before .before .if1 .taken) _ _ (c .before .before .before .before .before .before .before .before .before .before .before .before .before .before .before .pre .1 .can .list-at))), one-ready (c .before .before .before .before .before .before .before .before .before .before .before .before .before .before .before .pre .1) ((rw front-is at (c .before .before .before .before .merge-start .ensures)) .one (c .before .before .before .if1 .taken) _ _ (c .before .before .before .before .before .before .before .before .before .before .before .before .before .before .before .pre .1 .can .list-at))))
+    {- same-length -}
+    (λ c. search needs)
+    {- same-length-2 -}
+    (λ c. search needs)
+    {- returns -}
+    (λ c. one-runs (c .before .before .before .before .before .before .before .before .before .before .before .before .before .before .before .before .before .before .before .before .pre .1) ((rw front-is at (c .before .before .before .before .before .before .before .before .before .merge-start .ensures)) .one (c .before .before .before .before .before .before .before .before .if1 .taken) _ _ (c .before .before .before .before .before .before .before .before .before .before .before .before .before .before .before .before .before .before .before .before .pre .1 .can .list-at)) (c .before .before .before .before .list-tree .ensures))
+    {- loop-holds -}
+    (λ c. merging-first (c .before .before .before .before .before .before .before .before .before .before .before .before .before .before .pre .1) ((rw front-is at (c .before .before .before .merge-start .ensures)) .starts))
+    {- sub-merge-next -}
+    (λ c. search needs)
+    {- part-merge-next-start -}
+    (λ c. search needs)
+    {- part-merge-next-end -}
+    (λ c. omega (arith, c .before .before .before .before .before .before .before .before .before .before .before .before .before .before .before .pre .1 .place-ok .len-inside))
+    {- merge-next-requires -}
+    (λ c κs. rw front-is (record { labels = _; any = merging-any (c .before .before .before .before .before .loop .inv) }))
+    {- same-length-3 -}
+    (λ c. c .before .before .before .before .before .before .before .loop .inv .left .flat-size)
+    {- same-length-4 -}
+    (λ c. c .before .before .before .before .before .before .before .loop .inv .left .out-size)
+    {- returns-2 -}
+    (λ c. merging-done (c .before .before .before .before .before .before .before .loop .inv) ((rw front-is at (c .before .merge-next .ensures)) .gives _) (c .if2 .taken))
+    {- mul-t48 -}
+    (λ c. omega (arith, c .before .merge-next .ensures .small (c .if2 .left)))
+    {- array-read-t58 -}
+    (λ c. c .before .merge-next .ensures .small (c .if2 .left))
+    {- sub-list-branch -}
+    (λ c. omega (arith, c .before .before .before .before .before .before .before .before .before .before .before .before .before .before .before .before .before .before .before .before .before .before .pre .1 .place-ok .next-inside))
+    {- part-list-branch-start -}
+    (λ c. omega (arith, c .before .before .before .before .before .before .before .before .before .before .before .before .before .before .before .before .before .before .before .before .before .before .pre .1 .place-ok .next-inside))
+    {- part-list-branch-end -}
+    (λ c. search needs)
+    {- list-branch-requires -}
+    (λ c κs. (omega (arith, c .before .before .before .before .before .before .before .before .before .before .before .before .before .before .before .before .before .before .before .before .before .before .before .before .before .before .pre .0, merging-earlier (c .before .before .before .before .before .before .before .before .before .before .before .loop .inv) ((rw front-is at (c .before .before .before .before .before .merge-next .ensures)) .gives _) (c .before .before .before .before .if2 .left)), rw tail-is (merging-branch (c .before .before .before .before .before .before .before .before .before .before .before .loop .inv) ((rw front-is at (c .before .before .before .before .before .merge-next .ensures)) .gives _) (c .before .before .before .before .if2 .left) (c .before .before .before .before .before .before .before .before .before .before .before .before .before .before .before .before .before .before .before .before .before .before .before .before .before .before .pre .1))))
+    {- element-copy-out-if3 -}
+    (λ c. search needs)
+    {- same-length-5 -}
+    (λ c. merging-next (c .before .before .before .before .before .before .before .before .before .before .before .before .before .before .before .before .before .before .loop .inv) ((rw front-is at (c .before .before .before .before .before .before .before .before .before .before .before .before .merge-next .ensures)) .gives _) (c .before .before .before .before .before .before .before .before .before .before .before .if2 .left) (rw tail-is at (c .before .before .before .before .before .before .list-branch .ensures)) (c .before .before .before .before .before .flat2 .given) (c .before .before .before .out2 .given) .left .flat-size)
+    {- same-length-6 -}
+    (λ c. merging-next (c .before .before .before .before .before .before .before .before .before .before .before .before .before .before .before .before .before .before .loop .inv) ((rw front-is at (c .before .before .before .before .before .before .before .before .before .before .before .before .merge-next .ensures)) .gives _) (c .before .before .before .before .before .before .before .before .before .before .before .if2 .left) (rw tail-is at (c .before .before .before .before .before .before .list-branch .ensures)) (c .before .before .before .before .before .flat2 .given) (c .before .before .before .out2 .given) .left .out-size)
+    {- returns-3 -}
+    (λ c. merging-spent (c .before .before .before .before .before .before .before .before .before .before .before .before .before .before .before .before .before .before .loop .inv) ((rw front-is at (c .before .before .before .before .before .before .before .before .before .before .before .before .merge-next .ensures)) .gives _) (c .before .before .before .before .before .before .before .before .before .before .before .if2 .left) (rw tail-is at (c .before .before .before .before .before .before .list-branch .ensures)) (c .before .before .before .before .before .flat2 .given) (c .before .before .before .out2 .given) (c .if3 .taken))
+    {- loop-less -}
+    (λ c. merging-less (c .before .before .before .before .before .before .before .before .before .before .before .before .before .before .before .before .before .before .loop .inv) ((rw front-is at (c .before .before .before .before .before .before .before .before .before .before .before .before .merge-next .ensures)) .gives _) (c .before .before .before .before .before .before .before .before .before .before .before .if2 .left))
+    {- loop-again -}
+    (λ c. merging-next (c .before .before .before .before .before .before .before .before .before .before .before .before .before .before .before .before .before .before .loop .inv) ((rw front-is at (c .before .before .before .before .before .before .before .before .before .before .before .before .merge-next .ensures)) .gives _) (c .before .before .before .before .before .before .before .before .before .before .before .if2 .left) (rw tail-is at (c .before .before .before .before .before .before .list-branch .ensures)) (c .before .before .before .before .before .flat2 .given) (c .before .before .before .out2 .given)))
+    (λ t. list-names-lts.spec (single-reads.Asked, single-reads.Learnt, list-tree-below t, list-tree.Post, list-merged-below t, list-merged.Post)
+    (list-names-at t)
+    list-names.Post
+    {- returns -}
+    (λ c. none-runs (c .if1 .taken))
+    {- single-requires -}
+    (λ c κs. at-fits (c .before .before .before .before .before .before .pre .1 .can .list-at))
+    {- list-tree-requires -}
+    (λ c κs. (omega (arith, c .before .before .before .before .before .before .before .before .before .before .before .pre .0, one-earlier (c .before .before .before .before .before .before .before .before .before .before .before .pre .1) (single-one _ (c .before .before .before .before .before .before .before .before .before .before .before .pre .1 .can .list-at) (c .before .before .before .before .single .ensures) (c .before .before .before .if2 .taken))), one-ready (c .before .before .before .before .before .before .before .before .before .before .before .pre .1) (single-one _ (c .before .before .before .before .before .before .before .before .before .before .before .pre .1 .can .list-at) (c .before .before .before .before .single .ensures) (c .before .before .before .if2 .taken))))
+    {- same-length -}
+    (λ c. search needs)
+    {- same-length-2 -}
+    (λ c. search needs)
+    {- returns-2 -}
+    (λ c. one-runs (c .before .before .before .before .before .before .before .before .before .before .before .before .before .before .before .before .pre .1) (single-one _ (c .before .before .before .before .before .before .before .before .before .before .before .before .before .before .before .before .pre .1 .can .list-at) (c .before .before .before .before .before .before .before .before .before .single .ensures) (c .before .before .before .before .before .before .before .before .if2 .taken)) (c .before .before .before .before .list-tree .ensures))
+    {- list-merged-requires -}
+    (λ c κs. (omega (arith, c .before .before .before .before .before .before .before .before .before .before .before .pre .0), c .before .before .before .before .before .before .before .before .before .before .before .pre .1))
+    {- same-length-3 -}
+    (λ c. search needs)
+    {- same-length-4 -}
+    (λ c. search needs)
+    {- returns-3 -}
+    (λ c. c .before .before .before .before .list-merged .ensures))
+    (λ t. list-tree-lts.spec (first-match-reads.Asked, first-match-reads.Learnt, list-branch-below t, list-branch.Post, next-match-reads.Asked, next-match-reads.Learnt)
+    (list-tree-at t)
+    list-tree.Post
+    list-tree-Inv-loop
+    list-tree-μ-loop
+    {- element-copy-out-budget -}
+    (λ c. search needs)
+    {- sub-first-match -}
+    (λ c. search needs)
+    {- part-first-match-start -}
+    (λ c. search needs)
+    {- part-first-match-end -}
+    (λ c. omega (arith, c .before .before .before .before .before .before .pre .1 .place-ok .len-inside))
+    {- first-match-requires -}
+    (λ c κs. (any-tree (c .before .before .before .before .before .before .before .before .pre .1 .can .tree-at), refl))
+    {- loop-holds -}
+    (λ c. stepping-first (c .before .before .before .before .before .before .before .before .before .pre .1) (rw front-is at (c .first-match .ensures)))
+    {- sub-list-branch -}
+    (λ c. omega (arith, c .before .before .before .before .before .before .before .before .before .before .before .before .pre .1 .place-ok .next-inside))
+    {- part-list-branch-start -}
+    (λ c. omega (arith, c .before .before .before .before .before .before .before .before .before .before .before .before .pre .1 .place-ok .next-inside))
+    {- part-list-branch-end -}
+    (λ c. search needs)
+    {- list-branch-requires -}
+    (λ c κs. (omega (arith, c .before .before .before .before .before .before .before .before .before .before .before .before .before .before .before .before .pre .0, along-earlier (c .before .before .before .before .before .before .loop .inv .along) (λ z. omega (arith, c .before .before .before .before .if1 .taken))), rw tail-is (stepping-branch (c .before .before .before .before .before .before .loop .inv) (λ z. omega (arith, c .before .before .before .before .if1 .taken)) (c .before .before .before .before .before .before .before .before .before .before .before .before .before .before .before .before .pre .1))))
+    {- element-copy-out-if2 -}
+    (λ c. search needs)
+    {- same-length -}
+    (λ c. c .before .before .before .before .before .flat .given ∙ c .before .before .before .before .before .before .before .before .before .before .before .before .before .loop .inv .along .left .flat-size)
+    {- same-length-2 -}
+    (λ c. c .before .before .before .out .given ∙ c .before .before .before .before .before .before .before .before .before .before .before .before .before .loop .inv .along .left .out-size)
+    {- returns -}
+    (λ c. stepping-spent (c .before .before .before .before .before .before .before .before .before .before .before .before .before .loop .inv) (λ z. omega (arith, c .before .before .before .before .before .before .before .before .before .before .before .if1 .taken)) (rw tail-is at (c .before .before .before .before .before .before .list-branch .ensures)) (c .before .before .before .before .before .flat .given) (c .before .before .before .out .given) (c .if2 .taken))
+    {- sub-next-match -}
+    (λ c. search needs)
+    {- part-next-match-start -}
+    (λ c. search needs)
+    {- part-next-match-end -}
+    (λ c. omega (arith, c .before .before .before .before .before .before .before .before .before .before .before .before .before .before .before .before .before .before .before .before .before .before .before .pre .1 .place-ok .len-inside))
+    {- next-match-requires -}
+    (λ c κs. (any-tree (c .before .before .before .before .before .before .before .before .before .before .before .before .before .before .before .before .before .before .before .before .before .before .before .before .before .pre .1 .can .tree-at), (along-tree (c .before .before .before .before .before .before .before .before .before .before .before .before .before .before .before .loop .inv .along) (λ z. omega (arith, c .before .before .before .before .before .before .before .before .before .before .before .before .before .if1 .taken)), (rw front-is (along-begins (c .before .before .before .before .before .before .before .before .before .before .before .before .before .before .before .loop .inv .along) (λ z. omega (arith, c .before .before .before .before .before .before .before .before .before .before .before .before .before .if1 .taken))), rw front-is (c .before .before .before .before .before .before .before .before .before .before .before .before .before .before .before .loop .inv .noted (λ z. omega (arith, c .before .before .before .before .before .before .before .before .before .before .before .before .before .if1 .taken)))))))
+    {- loop-less -}
+    (λ c. stepping-less (c .before .before .before .before .before .before .before .before .before .before .before .before .before .before .before .before .loop .inv) (λ z. omega (arith, c .before .before .before .before .before .before .before .before .before .before .before .before .before .before .if1 .taken)) (rw tail-is at (c .before .before .before .before .before .before .before .before .before .list-branch .ensures)) (c .before .before .before .before .before .before .before .before .flat .given) (c .before .before .before .before .before .before .out .given) (rw front-is at (c .next-match .ensures)))
+    {- loop-again -}
+    (λ c. stepping-next (c .before .before .before .before .before .before .before .before .before .before .before .before .before .before .before .before .loop .inv) (λ z. omega (arith, c .before .before .before .before .before .before .before .before .before .before .before .before .before .before .if1 .taken)) (rw tail-is at (c .before .before .before .before .before .before .before .before .before .list-branch .ensures)) (c .before .before .before .before .before .before .before .before .flat .given) (c .before .before .before .before .before .before .out .given) (rw front-is at (c .next-match .ensures)))
+    {- same-length-3 -}
+    (λ c. c .before .before .loop .inv .along .left .flat-size)
+    {- same-length-4 -}
+    (λ c. c .before .before .loop .inv .along .left .out-size)
+    {- returns-2 -}
+    (λ c. stepping-done (c .before .before .loop .inv) (omega (arith, c .if1 .left))))
+    λ t. list-trie-lts.spec (trie-of-reads.Asked, trie-of-reads.Learnt, cut-query-reads.Asked, cut-query-reads.Learnt, skips-bindings-reads.Asked, skips-bindings-reads.Learnt, begin-reads.Asked, begin-reads.Learnt, list-names-below t, list-names.Post)
+    (list-trie-at t)
+    list-trie.Post
+    {- element-copy-out-budget -}
+    (λ c. search needs)
+    {- element-copy-out-before -}
+    (λ c. search needs)
+    {- element-copy-out-base -}
+    (λ c. search needs)
+    {- add-run -}
+    (λ c. omega (arith, c .before .before .before .before .before .before .before .before .before .pre .1 .can .ready .small .budget-small))
+    {- element-write-run -}
+    (λ c. search needs)
+    {- returns -}
+    (λ c. trie-spent (c .before .before .before .before .before .before .before .before .before .pre .1) (c .if1 .taken))
+    {- trie-of-requires -}
+    (λ c κs. trie-named (c .before .before .before .before .before .before .before .before .before .pre .1 .can))
+    {- element-copy-out-cut-query -}
+    (λ c. search needs)
+    {- cut-query-requires -}
+    (λ c κs. cut-ready (c .before .before .before .before .before .before .before .before .before .before .before .pre .1 .can))
+    {- skips-bindings-requires -}
+    (λ c κs. search needs)
+    {- begin-requires -}
+    (λ c κs. (c .before .before .before .before .before .before .before .before .before .before .before .before .before .before .before .pre .1 .can .ready .path-ok .sized, omega (arith, c .before .before .before .before .before .before .if1 .left, c .before .before .before .before .before .before .before .before .before .before .before .before .before .before .before .pre .1 .can .ready .small .budget-small)))
+    {- list-names-requires -}
+    (λ c κs. (omega (arith, c .before .before .before .before .before .before .before .before .before .before .before .before .before .before .before .before .before .before .before .before .pre .0, namespaces-earlier (c .before .before .before .before .before .before .before .before .before .before .before .before .before .before .before .before .before .before .before .before .pre .1 .can) (c .before .before .before .before .before .before .before .before .before .before .trie-of .ensures) (c .before .before .before .before .before .before .before .before .cut-query .ensures)), rw (c .before .before .before .before .begin .ensures) (namespaces-asked (c .before .before .before .before .before .before .before .before .before .before .before .before .before .before .before .before .before .before .before .before .pre .1) (c .before .before .before .before .before .before .before .before .before .before .trie-of .ensures) (c .before .before .before .before .before .before .before .before .cut-query .ensures) (omega (arith, c .before .before .before .before .before .before .before .before .before .before .before .if1 .left)) (same-run _))))
+    {- same-length -}
+    (λ c. search needs)
+    {- same-length-2 -}
+    (λ c. search needs)
+    {- returns-2 -}
+    (λ c. trie-few (c .before .before .before .before .before .before .before .before .before .before .before .before .before .before .before .before .before .before .before .before .before .before .before .before .before .pre .1) (c .before .before .before .before .before .before .before .before .before .before .before .before .before .before .before .trie-of .ensures) (c .before .before .before .before .before .before .before .before .before .before .before .before .before .cut-query .ensures) (omega (arith, c .before .before .before .before .before .before .before .before .before .before .before .before .before .before .before .before .if1 .left)) (c .before .before .before .before .before .before .before .before .before .before .before .skips-bindings .ensures .when (c .before .before .before .before .before .before .before .before .if2 .taken)) (rw (c .before .before .before .before .before .before .before .before .before .begin .ensures) at (c .before .before .before .before .list-names .ensures)))
+    {- list-names-requires-2 -}
+    (λ c κs. (omega (arith, c .before .before .before .before .before .before .before .before .before .before .before .before .before .before .before .before .before .before .before .before .pre .0, bindings-earlier (c .before .before .before .before .before .before .before .before .before .before .before .before .before .before .before .before .before .before .before .before .pre .1 .can) (c .before .before .before .before .before .before .before .before .before .before .trie-of .ensures) (c .before .before .before .before .before .before .before .before .cut-query .ensures)), rw (c .before .before .before .before .begin .ensures) (bindings-asked (c .before .before .before .before .before .before .before .before .before .before .before .before .before .before .before .before .before .before .before .before .pre .1) (c .before .before .before .before .before .before .before .before .before .before .trie-of .ensures) (c .before .before .before .before .before .before .before .before .cut-query .ensures) (omega (arith, c .before .before .before .before .before .before .before .before .before .before .before .if1 .left)))))
+    {- list-names-requires-3 -}
+    (λ c κs. (omega (arith, c .before .before .before .before .before .before .before .before .before .before .before .before .before .before .before .before .before .before .before .before .before .before .before .before .before .before .before .before .pre .0, namespaces-earlier (c .before .before .before .before .before .before .before .before .before .before .before .before .before .before .before .before .before .before .before .before .before .before .before .before .before .before .before .before .pre .1 .can) (c .before .before .before .before .before .before .before .before .before .before .before .before .before .before .before .before .before .before .trie-of .ensures) (c .before .before .before .before .before .before .before .before .before .before .before .before .before .before .before .before .cut-query .ensures)), namespaces-asked (c .before .before .before .before .before .before .before .before .before .before .before .before .before .before .before .before .before .before .before .before .before .before .before .before .before .before .before .before .pre .1) (c .before .before .before .before .before .before .before .before .before .before .before .before .before .before .before .before .before .before .trie-of .ensures) (c .before .before .before .before .before .before .before .before .before .before .before .before .before .before .before .before .cut-query .ensures) (omega (arith, c .before .before .before .before .before .before .before .before .before .before .before .before .before .before .before .before .before .before .before .if1 .left)) (rw (c .before .before .before .before .before .before .before .before .before .before .before .before .begin .ensures) at (c .before .before .before .before .before .before .before .list-names2 .ensures .same))))
+    {- same-length-3 -}
+    (λ c. search needs)
+    {- same-length-4 -}
+    (λ c. search needs)
+    {- returns-3 -}
+    (λ c. trie-all (c .before .before .before .before .before .before .before .before .before .before .before .before .before .before .before .before .before .before .before .before .before .before .before .before .before .before .before .before .before .before .before .before .before .pre .1) (c .before .before .before .before .before .before .before .before .before .before .before .before .before .before .before .before .before .before .before .before .before .before .before .trie-of .ensures) (c .before .before .before .before .before .before .before .before .before .before .before .before .before .before .before .before .before .before .before .before .before .cut-query .ensures) (omega (arith, c .before .before .before .before .before .before .before .before .before .before .before .before .before .before .before .before .before .before .before .before .before .before .before .before .if1 .left)) (c .before .before .before .before .before .before .before .before .before .before .before .before .before .before .before .before .before .before .before .skips-bindings .ensures .unless (c .before .before .before .before .before .before .before .before .before .before .before .before .before .before .before .before .if2 .left)) (rw (c .before .before .before .before .before .before .before .before .before .before .before .before .before .before .before .before .before .begin .ensures) at (c .before .before .before .before .before .before .before .before .before .before .before .before .list-names2 .ensures)) (c .before .before .before .before .list-names3 .ensures))

@@ -1,0 +1,78 @@
+-- `merge_heap::heap_merge_pairs` meets its contract. The measures are the numbers of siblings that are left, of those to be paired and of those to be merged.
+use Prim.Native.Nat.{ℕ}
+use mathlib.Core.List.{List}
+use native.Mathlib.Omega.{arith}
+use Rattle.source.specs.Heap.{Heap, Forest, heap-merge-pairs}
+use Rattle.merge_heads.specs.Compare.{cell-cmp}
+use Rattle.merge_heap.specs.Cells.{Repᶠ}
+use Rattle.merge_heap.proofs.CellCounts.{root-in}
+use Rattle.merge_heap.proofs.HeapMergePairs.{siblings, some-siblings, Pairing, Merging, small, inside, after, none-paired, odd-one, pair-up, all-paired, merge-on, all-merged}
+use Rattle.merge_heap.proofs.heap_merge_pairs.Statement.{statement}
+use Rattle.merge_heap.proofs.heap_merge_pairs.Tie as tie
+
+abbrev Inv-loop : tie.InvT-loop
+Inv-loop child₀ next₀ words text heads n i stack₀ at₀ child next stack at =
+    (hh : Forest ℕ) → Repᶠ n child₀ next₀ i hh
+    → Pairing (cell-cmp words text heads) n child₀ next₀ (heap-merge-pairs (cell-cmp words text heads) hh) child next stack at
+
+abbrev μ-loop : tie.MeasureT-loop
+μ-loop child₀ next₀ words text heads n i stack₀ at₀ child next stack at = siblings 96 next at
+
+abbrev Inv-loop2 : tie.InvT-loop2
+Inv-loop2 child₀ next₀ words text heads n i stack₀ at r₀ child next stack r =
+    (child₁ next₁ : List ℕ) (all : Heap ℕ) → Merging (cell-cmp words text heads) n child₁ next₁ all child₀ next₀ stack₀ r₀
+    → Merging (cell-cmp words text heads) n child₁ next₁ all child next stack r
+
+abbrev μ-loop2 : tie.MeasureT-loop2
+μ-loop2 child₀ next₀ words text heads n i stack₀ at r₀ child next stack r = siblings 96 next stack
+
+pub heap-merge-pairs-spec : {M : Type 1} → statement M
+heap-merge-pairs-spec =
+    tie.close
+    (tie.spec
+    Inv-loop
+    μ-loop
+    Inv-loop2
+    μ-loop2
+    {- loop-holds -}
+    (λ c. none-paired)
+    {- element-copy-out-k -}
+    (λ c. let s = c .before .before .before .before in let f = s .pre .0 .few in let w = c .before .loop .inv (s .pre .1 .0) (s .pre .1 .1) in omega (arith, inside f (w .rest) (c .loop-test .taken)))
+    {- cast-k -}
+    (λ c. let s = c .before .before .before .before .before in let f = s .pre .0 .few in let w = c .before .before .loop .inv (s .pre .1 .0) (s .pre .1 .1) in omega (arith, small f (after f (w .rest) (c .before .loop-test .taken))))
+    {- cast-next -}
+    (λ c. let s = c .before .before .before .before .before .before in let f = s .pre .0 .few in let w = c .before .before .before .loop .inv (s .pre .1 .0) (s .pre .1 .1) in omega (arith, small f (w .stage .done)))
+    {- element-write-next -}
+    (λ c. let s = c .before .before .before .before .before .before in let f = s .pre .0 .few in let w = c .before .before .before .loop .inv (s .pre .1 .0) (s .pre .1 .1) in omega (arith, inside f (w .rest) (c .before .before .loop-test .taken)))
+    {- loop-less -}
+    (λ c. some-siblings _ _ _ (c .before .before .loop-test .taken))
+    {- loop-again -}
+    (λ c hh p. let w = c .before .before .before .loop .inv hh p in odd-one (c .before .before .before .before .before .before .pre .0 .few) (w .rest .0) (w .rest .1) (w .stage) (c .before .before .loop-test .taken) (c .if1 .taken))
+    {- element-copy-out-rest -}
+    (λ c. let s = c .before .before .before .before .before .before in let f = s .pre .0 .few in let w = c .before .before .before .loop .inv (s .pre .1 .0) (s .pre .1 .1) in omega (arith, inside f (after f (w .rest) (c .before .before .loop-test .taken)) (c .if1 .left)))
+    {- cast-rest -}
+    (λ c. let s = c .before .before .before .before .before .before .before in let f = s .pre .0 .few in let w = c .before .before .before .before .loop .inv (s .pre .1 .0) (s .pre .1 .1) in omega (arith, small f (after f (after f (w .rest) (c .before .before .before .loop-test .taken)) (c .before .if1 .left))))
+    {- heap-merge-requires -}
+    (λ c κs. let s = c .before .before .before .before .before .before .before .before .before in let f = s .pre .0 .few in let w = c .before .before .before .before .before .before .loop .inv (s .pre .1 .0) (s .pre .1 .1) in (s .pre .0, ((λ _. inside f (w .rest) (c .before .before .before .before .before .loop-test .taken)), inside f (after f (w .rest) (c .before .before .before .before .before .loop-test .taken)))))
+    {- cast-next-2 -}
+    (λ c. let s = c .before .before .before .before .before .before .before .before .before .before in let f = s .pre .0 .few in let w = c .before .before .before .before .before .before .before .loop .inv (s .pre .1 .0) (s .pre .1 .1) in omega (arith, small f (w .stage .done)))
+    {- element-write-next-2 -}
+    (λ c. let s = c .before .before .before .before .before .before .before .before .before .before in let f = s .pre .0 .few in let w = c .before .before .before .before .before .before .before .loop .inv (s .pre .1 .0) (s .pre .1 .1) in omega (arith, pair-up f (w .rest .0) (w .rest .1) (w .stage) (c .before .before .before .before .before .before .loop-test .taken) (c .before .before .before .before .if1 .left) (c .heap-merge .ensures) .0))
+    {- loop-less-2 -}
+    (λ c. let s = c .before .before .before .before .before .before .before .before .before .before in let f = s .pre .0 .few in let w = c .before .before .before .before .before .before .before .loop .inv (s .pre .1 .0) (s .pre .1 .1) in pair-up f (w .rest .0) (w .rest .1) (w .stage) (c .before .before .before .before .before .before .loop-test .taken) (c .before .before .before .before .if1 .left) (c .heap-merge .ensures) .2)
+    {- loop-again-2 -}
+    (λ c hh p. let w = c .before .before .before .before .before .before .before .loop .inv hh p in pair-up (c .before .before .before .before .before .before .before .before .before .before .pre .0 .few) (w .rest .0) (w .rest .1) (w .stage) (c .before .before .before .before .before .before .loop-test .taken) (c .before .before .before .before .if1 .left) (c .heap-merge .ensures) .1)
+    {- loop2-holds -}
+    (λ c _ _ _ w. w)
+    {- element-copy-out-below -}
+    (λ c. let s = c .before .before .before .before .before .before in let f = s .pre .0 .few in let v = c .before .loop2 .inv _ _ _ (all-paired f (c .before .before .before .loop .inv (s .pre .1 .0) (s .pre .1 .1)) (c .before .before .loop-test .left)) in omega (arith, inside f (v .stage .done) (c .loop2-test .taken)))
+    {- cast-below -}
+    (λ c. let s = c .before .before .before .before .before .before .before in let f = s .pre .0 .few in let v = c .before .before .loop2 .inv _ _ _ (all-paired f (c .before .before .before .before .loop .inv (s .pre .1 .0) (s .pre .1 .1)) (c .before .before .before .loop-test .left)) in omega (arith, small f (after f (v .stage .done) (c .before .loop2-test .taken))))
+    {- heap-merge-requires-2 -}
+    (λ c κs. let s = c .before .before .before .before .before .before .before .before .before in let f = s .pre .0 .few in let v = c .before .before .before .before .loop2 .inv _ _ _ (all-paired f (c .before .before .before .before .before .before .loop .inv (s .pre .1 .0) (s .pre .1 .1)) (c .before .before .before .before .before .loop-test .left)) in (s .pre .0, (inside f (v .stage .done), root-in _ _ _ f (v .root))))
+    {- loop2-less -}
+    (λ c. let s = c .before .before .before .before .before .before .before .before .before .before in let f = s .pre .0 .few in let v = c .before .before .before .before .before .loop2 .inv _ _ _ (all-paired f (c .before .before .before .before .before .before .before .loop .inv (s .pre .1 .0) (s .pre .1 .1)) (c .before .before .before .before .before .before .loop-test .left)) in merge-on f v (c .before .before .before .before .loop2-test .taken) (c .heap-merge2 .ensures) .1)
+    {- loop2-again -}
+    (λ c child₁ next₁ all w. merge-on (c .before .before .before .before .before .before .before .before .before .before .pre .0 .few) (c .before .before .before .before .before .loop2 .inv child₁ next₁ all w) (c .before .before .before .before .loop2-test .taken) (c .heap-merge2 .ensures) .0)
+    {- returns -}
+    (λ c hh p. let f = c .before .before .before .before .before .before .pre .0 .few in all-merged f (c .before .loop2 .inv _ _ _ (all-paired f (c .before .before .before .loop .inv hh p) (c .before .before .loop-test .left))) (c .loop2-test .left)))

@@ -1,0 +1,27 @@
+-- `merge_heap::heap_pop` meets its contract.
+use native.Mathlib.Omega.{arith}
+use Rattle.merge_heap.proofs.CellCounts.{root-in}
+use Rattle.merge_heap.proofs.HeapPop.{kids, kids-small, pop-none, pop-least}
+use Rattle.merge_heap.proofs.heap_pop.Statement.{statement}
+use Rattle.merge_heap.proofs.heap_pop.Tie as tie
+
+returns : tie.Need-returns
+returns c = pop-none _ _ _ (c .before .before .before .pre .0 .few) _ _ (c .if1 .taken)
+
+element-copy-out-k : tie.Need-element-copy-out-k
+element-copy-out-k c = let s = c .before .before .before in omega (arith, s .pre .0 .few, root-in _ _ _ (s .pre .0 .few) (s .pre .1 .1) (c .if1 .left))
+
+cast-k : tie.Need-cast-k
+cast-k c = let s = c .before .before .before .before in omega (arith, kids-small _ _ _ (s .pre .0 .few) _ (s .pre .1 .0) (s .pre .1 .1) (c .before .if1 .left))
+
+heap-merge-pairs-requires : tie.Need-heap-merge-pairs-requires
+heap-merge-pairs-requires c κs =
+    let s = c .before .before .before .before .before .before in
+    (s .pre .0, kids _ _ _ (s .pre .0 .few) _ (s .pre .1 .0) (s .pre .1 .1) (c .before .before .before .if1 .left))
+
+returns-2 : tie.Need-returns-2
+returns-2 c = pop-least _ _ _ (c .before .before .before .before .before .before .before .pre .0 .few) _ _ _ _ _ (c .before .before .before .before .if1 .left) (c .heap-merge-pairs .ensures)
+
+pub heap-pop-spec : {M : Type 1} → statement M
+heap-pop-spec =
+    tie.close (tie.spec returns element-copy-out-k cast-k heap-merge-pairs-requires returns-2)

@@ -1,0 +1,34 @@
+-- plan_include meets its contract.
+use Rattle.find_list.proofs.Collections.{list-light}
+use Rattle.memory.proofs.Tries.{bindings-at}
+use Rattle.register_plan.proofs.Plans.{include-planned}
+use Rattle.register_way.proofs.Way.{noted-path}
+use Rattle.register_kind.specs.declared.Kind.the-variants.{Include}
+use native.Mathlib.Omega.{arith}
+use borrow.Author.Needs.{needs}
+use Rattle.register_plan.proofs.plan_include.Statement.{statement}
+use Rattle.register_plan.proofs.plan_include.Tie as tie
+use Rattle.memory.proofs.At.{at-fits}
+
+pub plan-include-spec : {M : Type 1} → statement M
+plan-include-spec =
+    tie.close
+    (tie.spec
+    {- plan-path-requires -}
+    (λ c κs. search needs)
+    {- trie-of-requires -}
+    (λ c κs. at-fits (c .plan-path .ensures .0 .here))
+    {- trie-of-requires-2 -}
+    (λ c κs. at-fits (c .before .before .before .before .before .before .pre .0 .1))
+    {- weight-of-requires -}
+    (λ c κs. omega (arith, at-fits (bindings-at (c .before .before .before .before .before .before .before .pre .0 .1) (c .trie-of2 .ensures))))
+    {- weight-of-requires-2 -}
+    (λ c κs. omega (arith, at-fits (bindings-at (c .before .before .before .plan-path .ensures .0 .here) (c .before .before .trie-of .ensures))))
+    {- add-weight -}
+    (λ c. omega (arith, list-light (bindings-at (c .before .before .before .before .plan-path .ensures .0 .here) (c .before .before .before .trie-of .ensures)), list-light (bindings-at (c .before .before .before .before .before .before .before .before .before .pre .0 .1) (c .before .before .trie-of2 .ensures)), c .before .weight-of .ensures, c .weight-of2 .ensures))
+    {- add-weight-2 -}
+    (λ c. omega (arith, list-light (bindings-at (c .before .before .before .before .plan-path .ensures .0 .here) (c .before .before .before .trie-of .ensures)), list-light (bindings-at (c .before .before .before .before .before .before .before .before .before .pre .0 .1) (c .before .before .trie-of2 .ensures)), c .before .weight-of .ensures, c .weight-of2 .ensures))
+    {- add-t12 -}
+    (λ c. omega (arith, c .before .before .before .before .before .plan-path .ensures .0 .few, c .before .before .before .before .before .plan-path .ensures .0 .gives .small))
+    {- returns -}
+    (λ c. (λ tbl q e f. include-planned _ (c .before .before .before .before .before .before .before .plan-path .ensures .0) (c .before .before .before .before .before .before .trie-of .ensures) tbl e (c .before .before .before .before .before .before .before .before .before .before .before .before .pre .0 .1) (c .before .before .before .before .before .trie-of2 .ensures) q f (c .before .before .before .before .weight-of .ensures) (c .before .before .before .weight-of2 .ensures), λ other key. noted-path (c .before .before .before .before .before .before .before .plan-path .ensures .1) (omega (arith, c .before .before .before .before .before .before .before .plan-path .ensures .0 .few, c .before .before .before .before .before .before .before .plan-path .ensures .1 .kept .size, c .before .before .before .before .before .before .before .before .before .before .before .before .pre .1 .2)) Include other key tt)))

@@ -1,0 +1,24 @@
+-- `screen_tests::name_table_complete_shared_sound` meets its contract.
+use Rattle.screen_tests.proofs.Replies.{shares-replies}
+use borrow.Author.Needs.{needs}
+use Rattle.screen_tests.proofs.name_table_complete_shared_sound.Statement.{statement}
+use Rattle.screen_tests.proofs.name_table_complete_shared_sound.Tie as tie
+
+pub name-table-complete-shared-sound-spec : {M : Type 1} → statement M
+name-table-complete-shared-sound-spec =
+    tie.close
+    (tie.spec
+    {- table-of-requires -}
+    (λ c κs. search needs)
+    {- ask-of-requires -}
+    (λ c κs. search needs)
+    {- complete-sound-requires -}
+    (λ c κs. rw (c .before .before .before .table-of .ensures) (c .before .before .before .before .before .before .before .before .before .pre))
+    {- shared-of-requires -}
+    (λ c κs. search needs)
+    {- same-length -}
+    (λ c. search needs)
+    {- same-length-2 -}
+    (λ c. search needs)
+    {- returns -}
+    (λ c. shares-replies (c .before .before .before .before .before .before .before .before .before .table-of .ensures) (c .before .before .before .before .before .before .before .before .ask-of .ensures) (c .before .before .before .before .before .complete-sound .ensures) (c .shared-of .ensures)))

@@ -1,0 +1,51 @@
+-- `item_of` answers by its definition.
+use mathlib.Core.Path.{sym, _∙_}
+use native.Mathlib.Omega.{arith}
+use borrow.Author.Needs.{needs}
+use Rattle.source.specs.Items.{kind-letter}
+use Rattle.source.specs.declared.ItemKind.the-variants.{Timer, Port, Register}
+use Rattle.script_parts.proofs.Items.{lettered, item-says, letter-written, bare-written}
+use Rattle.script_parts.proofs.item_of.Statement.{statement}
+use Rattle.script_parts.proofs.item_of.Tie as tie
+
+pub item-of-spec : {M : Type 1} → statement M
+unfolding kind-letter
+item-of-spec =
+    tie.close
+    (tie.spec
+    {- byte-at-requires -}
+    (λ c κs. search needs)
+    {- sub-numbered -}
+    (λ c. omega (arith, lettered (c .before .before .before .args .text .now) (sym (c .before .byte-at .ensures) ∙ c .if1 .taken) (omega arith)))
+    {- part-numbered-start -}
+    (λ c. omega (arith, lettered (c .before .before .before .args .text .now) (sym (c .before .byte-at .ensures) ∙ c .if1 .taken) (omega arith)))
+    {- part-numbered-end -}
+    (λ c. search needs)
+    {- numbered-requires -}
+    (λ c κs. search needs)
+    {- returns -}
+    (λ c. let w = letter-written (c .before .before .before .before .before .args .text .now) Timer (sym (c .before .before .before .byte-at .ensures) ∙ c .before .before .if1 .taken) in item-says (c .before .before .before .before .before .args .text .now) Timer _ (w .0) (w .1) (c .numbered .result) (c .numbered .ensures))
+    {- sub-numbered-2 -}
+    (λ c. omega (arith, lettered (c .before .before .before .before .args .text .now) (sym (c .before .before .byte-at .ensures) ∙ c .if2 .taken) (omega arith)))
+    {- part-numbered-start-2 -}
+    (λ c. omega (arith, lettered (c .before .before .before .before .args .text .now) (sym (c .before .before .byte-at .ensures) ∙ c .if2 .taken) (omega arith)))
+    {- part-numbered-end-2 -}
+    (λ c. search needs)
+    {- numbered-requires-2 -}
+    (λ c κs. search needs)
+    {- returns-2 -}
+    (λ c. let w = letter-written (c .before .before .before .before .before .before .args .text .now) Port (sym (c .before .before .before .before .byte-at .ensures) ∙ c .before .before .if2 .taken) in item-says (c .before .before .before .before .before .before .args .text .now) Port _ (w .0) (w .1) (c .numbered2 .result) (c .numbered2 .ensures))
+    {- sub-numbered-3 -}
+    (λ c. omega (arith, lettered (c .before .before .before .before .before .args .text .now) (sym (c .before .before .before .byte-at .ensures) ∙ c .if3 .taken) (omega arith)))
+    {- part-numbered-start-3 -}
+    (λ c. omega (arith, lettered (c .before .before .before .before .before .args .text .now) (sym (c .before .before .before .byte-at .ensures) ∙ c .if3 .taken) (omega arith)))
+    {- part-numbered-end-3 -}
+    (λ c. search needs)
+    {- numbered-requires-3 -}
+    (λ c κs. search needs)
+    {- returns-3 -}
+    (λ c. let w = letter-written (c .before .before .before .before .before .before .before .args .text .now) Register (sym (c .before .before .before .before .before .byte-at .ensures) ∙ c .before .before .if3 .taken) in item-says (c .before .before .before .before .before .before .before .args .text .now) Register _ (w .0) (w .1) (c .numbered3 .result) (c .numbered3 .ensures))
+    {- numbered-requires-4 -}
+    (λ c κs. search needs)
+    {- returns-4 -}
+    (λ c. let w = bare-written (c .before .before .before .before .before .before .args .text .now) (λ e. c .before .before .before .if1 .left (c .before .before .before .before .byte-at .ensures ∙ e)) (λ e. c .before .before .if2 .left (c .before .before .before .before .byte-at .ensures ∙ e)) (λ e. c .before .if3 .left (c .before .before .before .before .byte-at .ensures ∙ e)) in item-says (c .before .before .before .before .before .before .args .text .now) Register _ (w .0) (w .1) (c .numbered4 .result) (c .numbered4 .ensures)))

@@ -1,0 +1,13 @@
+-- `put_counted` writes its three parts.
+use Rattle.script_decimal.specs.Bytes.{bytes}
+use Rattle.text.proofs.Laid.{laid-more}
+use borrow.Author.Needs.{needs}
+use Rattle.script_replies.proofs.put_counted.Statement.{statement}
+use Rattle.script_replies.proofs.put_counted.Tie as tie
+
+returns : tie.Need-returns
+unfolding bytes
+returns c = laid-more (c .before .before .before .before .before .before .before .before .before .before .before .put .ensures) (laid-more (c .before .before .before .before .before .before .before .put-number .ensures .0) (c .before .before .put2 .ensures))
+
+pub put-counted-spec : {M : Type 1} → statement M
+put-counted-spec = tie.close (tie.spec (λ c κs. search needs) (λ c κs. search needs) (λ c. search needs) (λ c κs. search needs) (λ c. search needs) returns)

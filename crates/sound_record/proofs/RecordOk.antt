@@ -1,0 +1,61 @@
+-- A record that is tested by its sort is right.
+use Prim.Native.Nat.{ℕ, _+_}
+use mathlib.Core.Path.{_≡_, sym, ap, _∙_, subst}
+use mathlib.Core.Bool.{Bool}
+use mathlib.Core.List.{List}
+use mathlib.Core.Logic.{_⊎_, inl, inr, ⊎-elim}
+use native.Mathlib.Omega.{arith}
+use lib.ListN.{length}
+use Rattle.source.specs.Types.{bind, ns}
+use Rattle.memory.specs.Layout.{record-at, Which, names, modules, Item, Sort, tree, list, trieˢ, Of, kind, kind-in, row, what, kind-word}
+use Rattle.memory.specs.Sound.{Says, RecordAs, RecordOk}
+use Rattle.memory.proofs.Says.{says-iff}
+use Rattle.memory.proofs.What.{what-row}
+use Rattle.memory.proofs.RecordOk.{as-earlier, record-as}
+use Rattle.memory.proofs.RecordAt.{record-length}
+use Rattle.sound_field.specs.Fields.{Before}
+
+-- The table of a kind that is a sort's, and the kinds beside it.
+pub known-as : (s : Sort) {k : ℕ} → (k ≡ kind names s) ⊎ (k ≡ kind modules s) → (w : Which) × (k ≡ kind w s)
+known-as s e = ⊎-elim (λ x. (names, x)) (λ x. (modules, x)) e
+
+pub beside : (w : Which) (s t : Sort) {k m : ℕ} → k ≡ kind w s → k + kind-in t ≡ m + kind-in s → m ≡ kind w t
+beside names s t e f = omega arith
+beside modules s t e f = omega arith
+
+-- A number that is no kind.
+pub no-kind : {k : ℕ} (w : Which) (s : Sort) → k ≡ kind w s → (k ≡ 1 → ⊥) → (k ≡ 6 → ⊥)
+    → ((k ≡ 2) ⊎ (k ≡ 7) → ⊥) → ((k ≡ 3) ⊎ (k ≡ 8) → ⊥) → ((k ≡ 4) ⊎ (k ≡ 9) → ⊥) → ((k ≡ 5) ⊎ (k ≡ 10) → ⊥) → ⊥
+no-kind names (tree bind) e a b c d f g = a e
+no-kind names (tree ns) e a b c d f g = c (inl e)
+no-kind names (list bind) e a b c d f g = d (inl e)
+no-kind names (list ns) e a b c d f g = f (inl e)
+no-kind names trieˢ e a b c d f g = g (inl e)
+no-kind modules (tree bind) e a b c d f g = b e
+no-kind modules (tree ns) e a b c d f g = c (inr e)
+no-kind modules (list bind) e a b c d f g = d (inr e)
+no-kind modules (list ns) e a b c d f g = f (inr e)
+no-kind modules trieˢ e a b c d f g = g (inr e)
+
+-- The record r of link l, tested as what its words say, is tested as what the link reads as.
+module _ {ws txt : List ℕ} {used l : ℕ} (before : Before ws txt used l) {r : List ℕ} (at : r ≡ record-at ws l) (w : Which) (s : Sort) (known : kind-word r ≡ kind w s) where
+  abbrev Right : Of (Item w) s → Type 0
+  Right t = RecordAs ws txt used l w s (record-at ws l) t
+
+  same : (t : Of (Item w) s) → Right t → what w ws txt l s ≡ row w txt (record-at ws l) (what w ws txt) s
+  same t a = what-row w ws txt s l (before .some) (as-earlier ws txt used l w s (record-at ws l) t a)
+
+  pub right-as : RecordOk ws txt used l → RecordAs ws txt used l w s r (row w txt r (what w ws txt) s)
+  right-as o =
+      let a : Right (what w ws txt l s) = record-as o w s (rw at at known) in
+      rw at (subst Right (same (what w ws txt l s) a) a)
+
+  pub says-record : (b : Bool) → Says b (RecordAs ws txt used l w s r (row w txt r (what w ws txt) s)) → Says b (RecordOk ws txt used l)
+  says-record b h =
+      says-iff b h
+      (λ a. let c : Right (row w txt (record-at ws l) (what w ws txt) s) = rw at at a in
+      record { which = w; sort = s; known = rw at at known; right = subst Right (sym (same (row w txt (record-at ws l) (what w ws txt) s) c)) c })
+      right-as
+
+pub twelve : {ws txt : List ℕ} {used l : ℕ} {r : List ℕ} → Before ws txt used l → r ≡ record-at ws l → length r ≡ 12
+twelve {ws} {l = l} b e = ap length e ∙ record-length ws l (b .some) (b .fits)

@@ -1,0 +1,57 @@
+-- A look-up: the rows of its query, and the item at its end.
+use Prim.Native.Nat.{ℕ, _+_, _*_, _<_, _≤_}
+use mathlib.Core.Path.{_≡_}
+use mathlib.Core.Bool.{true}
+use mathlib.Core.List.{List, [], _∷_}
+use mathlib.Core.Option.{none, some}
+use native.Mathlib.Omega.{arith}
+use lib.ListN.{length}
+use borrow.Author.Tests.{ne-eqb}
+use Rattle.source.specs.Text.{Str, Query, segments, ends-in-dot}
+use Rattle.source.specs.Types.{Trie, bind, the-item}
+use Rattle.source.specs.Tries.{trie-find-exact}
+use Rattle.source.specs.Calls.{a-look-up, lowest, argument-rows, found, not-found, refused, found-of, look-up}
+use Rattle.source.proofs.Refusals.{argument-rows-none, look-up-whole}
+use Rattle.memory.specs.Layout.{record-at, Which, modules, item-of, tree, trieˢ, kind, what}
+use Rattle.memory.specs.Sound.{LinkOk, At}
+use Rattle.memory.specs.Read.{symbol-in}
+use Rattle.memory.proofs.RecordOk.{record-as}
+use Rattle.memory.proofs.Seen.{link-fits, link-later, link-ok}
+use Rattle.find_tree.specs.Tree.{held}
+use Rattle.find_trie.specs.Tries as T
+use Rattle.find_trie.specs.Tries.{AnyTrie, FindsExactIn}
+use Rattle.listing_row.specs.Rows.{SymbolInside}
+use Rattle.listing_row.proofs.Inside.{symbol-in-inside}
+
+module _ (query : Str) where
+  pub query-whole : lowest (argument-rows true (a-look-up query ∷ [])) ≡ none → ends-in-dot query ≡ true
+  query-whole e = look-up-whole true query (argument-rows-none true _ e)
+
+  pub look-up-refused : {A : Type 0} (root : Trie A) {n : ℕ} → lowest (argument-rows true (a-look-up query ∷ [])) ≡ some n → refused n ≡ look-up true root query
+  unfolding look-up
+  look-up-refused root e = rw (look-up, e)
+
+  look-up-passed : {A : Type 0} (root : Trie A) → lowest (argument-rows true (a-look-up query ∷ [])) ≡ none → look-up true root query ≡ found-of (trie-find-exact root (segments query))
+  unfolding look-up
+  look-up-passed root e = rw (look-up, e)
+
+  module _ (e : lowest (argument-rows true (a-look-up query ∷ [])) ≡ none) {ws txt : List ℕ} {w : Which} {root r : ℕ} (h : FindsExactIn ws txt w root (segments query) r) where
+    pub look-up-none : r ≡ 0 → not-found ≡ look-up true (what w ws txt root trieˢ) query
+    unfolding found-of
+    look-up-none z = rw (look-up-passed _ e, h .says, z)
+
+    pub look-up-found : (r ≡ 0 → ⊥) → found (item-of w txt (record-at ws r)) ≡ look-up true (what w ws txt root trieˢ) query
+    unfolding found-of held the-item
+    look-up-found z = rw (look-up-passed _ e, h .says, ne-eqb r 0 z)
+
+-- The branch that is found is a record.
+pub branch-fits : {ws txt : List ℕ} {root r : ℕ} {q : Query} → AnyTrie ws txt root → T.FindsExact ws txt root q r → (r ≡ 0 → ⊥) → (0 < r) × (r * 12 ≤ length ws)
+branch-fits a h z = (omega arith, link-fits (a .trie .sound) (link-later (omega (arith, a .trie .link .earlier)) (h (a .which) (a .trie) .link)))
+
+-- The texts of a found symbol lie in the lent text.
+pub symbol-inside : {ws txt : List ℕ} {root l : ℕ} → At ws txt modules trieˢ root → LinkOk ws (root + 1) l (kind modules (tree bind)) → 0 < l
+    → SymbolInside (length txt) (symbol-in (record-at ws l))
+symbol-inside o i p =
+    symbol-in-inside
+    (record-as (link-ok (o .sound) (link-later (omega (arith, o .link .earlier)) i) p) modules (tree bind) (i .of-kind (λ e. omega arith)) .2)
+    (o .sound .text-fits)

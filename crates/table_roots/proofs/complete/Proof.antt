@@ -1,0 +1,33 @@
+-- complete meets its contract.
+use borrow.Author.Needs.{needs}
+use Rattle.refusals.proofs.Rows.{one-flagged, passes, stops}
+use Rattle.table_roots.proofs.Completes.{query-whole, completes-refused, completes-passed, root-trie}
+use Rattle.table_roots.proofs.complete.Statement.{statement}
+use Rattle.table_roots.proofs.complete.Tie as tie
+
+pub complete-spec : {M : Type 1} → statement M
+complete-spec =
+    tie.close
+    (tie.spec
+    {- completion-flags-requires -}
+    (λ c κs. search needs)
+    {- admit-requires -}
+    (λ c κs. search needs)
+    {- enum-known-a -}
+    (λ c. search needs)
+    {- enum-told -}
+    (λ c. search needs)
+    {- root-for-requires -}
+    (λ c κs. search needs)
+    {- complete-requires -}
+    (λ c κs. (rw (c .before .before .root-for .ensures) (root-trie (c .before .before .before .before .before .before .before .before .before .before .before .before .pre) (c .before .before .before .before .before .before .before .before .before .before .before .before .args .ask)), query-whole _ (passes (one-flagged (c .before .before .before .before .before .before .completion-flags .ensures)) (c .before .before .before .before .before .admit .ensures) (c .before .before .before .enum-told .given .1))))
+    {- answer-of-requires -}
+    (λ c κs. search needs)
+    {- returns -}
+    (λ c. completes-refused (stops (one-flagged (c .before .before .before .before .completion-flags .ensures)) (c .before .before .before .admit .ensures) (c .before .a .given .1)))
+    {- same-length -}
+    (λ c. search needs)
+    {- same-length-2 -}
+    (λ c. search needs)
+    {- returns-2 -}
+    (λ c. rw (c .answer-of .ensures) (completes-passed (passes (one-flagged (c .before .before .before .before .before .before .before .before .before .before .before .before .completion-flags .ensures)) (c .before .before .before .before .before .before .before .before .before .before .before .admit .ensures) (c .before .before .before .before .before .before .before .before .before .enum-told .given .1)) (rw (c .before .before .before .before .before .before .before .before .root-for .ensures) at (c .before .before .before .before .before .complete .ensures)))))
