@@ -1,17 +1,17 @@
 #!/usr/bin/env python3
-"""edits.py [--check]: the table of must-fail edits of docs/PROMISES.md, written there anew from the edits' own first lines.
+"""edits.py [--check]: the must-fail edits, a line each: crate/label, and what must be so by the edit's own first line.
 
---check changes nothing: it fails where the table is not that, or where an edit's `old:` text does not stand exactly once in its file; its last line
-is 'N passed, M failed'.
+--check fails where an edit's `old:` text does not stand exactly once in its file, and where a document names an edit (`must-fail crate/label`, and
+after it in the same brackets `, crate/label`) that is not there; its last line is 'N passed, M failed'.
 """
 import glob
 import os
+import re
 import sys
-
-DOC, HEAD, END = 'docs/PROMISES.md', '| edit | what must be so |\n|---|---|\n', '\n## What is assumed'
 
 
 def edits():
+    """Of each edit its name, its first line, and the text that it changes in each file."""
     for path in sorted(glob.glob('crates/*/must-fail/*.edit')):
         lines = open(path, encoding='utf-8').read().split('\n')
         changes, file = [], None
@@ -19,31 +19,39 @@ def edits():
             file = line[6:] if line.startswith('file: ') else file
             if line.startswith('old: '):
                 changes.append((file, line[5:]))
-        yield path, lines[0].lstrip('# '), changes
+        yield f'{path.split("/")[1]}/{os.path.basename(path)[:-5]}', lines[0].lstrip('# '), changes
+
+
+def named():
+    """The edits that documents name, with the place."""
+    for path in ['README.md'] + sorted(glob.glob('docs/*.md')):
+        for n, line in enumerate(open(path, encoding='utf-8'), 1):
+            for listed in re.findall(r'must-fail ((?:[a-z0-9_]+/[a-z0-9_]+(?:, | and )?)+)', line):
+                for name in re.findall(r'[a-z0-9_]+/[a-z0-9_]+', listed):
+                    yield f'{path}:{n}', name
 
 
 def main():
-    rows, wrong, right = [], [], 0
-    for path, what, changes in edits():
-        crate, name = path.split('/')[1], os.path.basename(path)[:-5]
-        rows.append(f'| {crate}/{name} | {what} |')
+    found = list(edits())
+    if '--check' not in sys.argv:
+        print('\n'.join(f'{name}: {what}' for name, what, _ in found))
+        return 0
+    wrong, right = [], 0
+    for name, _, changes in found:
+        crate = name.split('/')[0]
         counts = [open(f'crates/{crate}/{file}', encoding='utf-8').read().count(old) for file, old in changes]
         if changes and all(n == 1 for n in counts):
             right += 1
         else:
-            wrong.append(f"{path}: its 'old:' text stands {counts} times")
-    text = open(DOC, encoding='utf-8').read()
-    start, end = text.index(HEAD), text.index(END)
-    new = text[:start] + HEAD + '\n'.join(rows) + '\n' + text[end:]
-    if '--check' not in sys.argv:
-        open(DOC, 'w', encoding='utf-8').write(new)
-    elif new == text:
-        right += 1
-    else:
-        wrong.append(f'{DOC}: the table of must-fail edits is not that of the edits (python3 tools/edits.py)')
-    if '--check' in sys.argv:
-        print('\n'.join(wrong + [f'{right} passed, {len(wrong)} failed']))
-    return 1 if wrong and '--check' in sys.argv else 0
+            wrong.append(f"{name}: its 'old:' text stands {counts} times")
+    there = {name for name, _, _ in found}
+    for place, name in named():
+        if name in there:
+            right += 1
+        else:
+            wrong.append(f'{place}: there is no edit {name}')
+    print('\n'.join(wrong + [f'{right} passed, {len(wrong)} failed']))
+    return 1 if wrong else 0
 
 
 if __name__ == '__main__':
