@@ -1,5 +1,5 @@
-// What the program `console` answers to a line: it is read, its call is made on a table whose memory is sound by proof, and the
-// reply is written. A line that is no form is `[bad]`, and changes nothing.
+// What the program `console` answers to a line: it is read, its call is made on a table that is sound by proof, its reply is written.
+// A line that is no form is `[bad]`, and changes nothing.
 use console_questions::Asking;
 use console_registrations::Done;
 use script::LineForm;

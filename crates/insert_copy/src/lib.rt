@@ -1,5 +1,5 @@
-// The branches that an insertion makes: a branch of the way down copied with another side, and the new branch with the sides of the one it
-// replaces. The way down is noted in the records that they take.
+// The branches that an insertion makes: one of the way down copied with another side, the new one with the sides of the one it replaces.
+// The way down is noted in the records that they take.
 ghost use mathlib.Core.Path.{_≡_};
 ghost use Prim.Native.Nat.{max};
 ghost use Rattle.source.specs.Lent.{old};

@@ -1,5 +1,5 @@
-// Records in the lent words: the words by name, what a record holds as structs. specs/Layout.antt has the layout, specs/Sound.antt what a sound
-// table is; crate memory_access reads and makes records.
+// Records in the lent words: the words by name, what a record holds as structs.
+// specs/Layout.antt has the layout, specs/Sound.antt what a sound table is; crate memory_access reads and makes records.
 
 // The words, kinds and limits by name.
 mod layout;
