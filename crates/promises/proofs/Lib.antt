@@ -1,0 +1,15 @@
+pub mod Tries
+pub mod Fuel
+pub mod Impossible
+pub mod Trees
+pub mod Names
+pub mod Holders
+pub mod Listed
+pub mod ListedTexts
+pub mod Worded
+pub mod Agreement
+pub mod Departs
+pub mod Modules
+pub mod EverLoaded
+pub mod Unchanged
+pub mod Cases
