@@ -11,7 +11,7 @@ use Rattle.source.specs.Table.{ModSymbol, Module, Namespace, Table, empty, inse
 use Rattle.source.specs.Calls.{State, Call, name, include, opens, alias, module-path, fresh, registered, after}
 use Rattle.source.proofs.Refusals.{accepted-is}
 use Rattle.source.proofs.Elsewhere.{same-key}
-use Rattle.source.proofs.Keeps.{Made, made-fresh, made-by}
+use Rattle.promises.proofs.Keeps.{Made, made-fresh, made-by}
 use Rattle.source.proofs.ModuleRules.{namespace-unloaded, module-replaces, namespace-first, namespace-keeps, namespace-replaces, unloaded-keeps, module-elsewhere}
 
 -- The call registers the query as a loaded Module.

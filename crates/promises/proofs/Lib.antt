@@ -9,7 +9,10 @@ pub mod ListedTexts
 pub mod Worded
 pub mod Agreement
 pub mod Departs
+pub mod Keeps
 pub mod Modules
 pub mod EverLoaded
+pub mod Elsewhere
 pub mod Unchanged
+pub mod SharedBeginning
 pub mod Cases

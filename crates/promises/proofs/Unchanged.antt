@@ -15,9 +15,10 @@ use Rattle.promises.specs.Agreement.{Covers, without-last, NotRefused, l
 use Rattle.source.specs.Plans.{host-of}
 use Rattle.source.specs.declared.LidSymbol.{LidSymbol}
 use Rattle.source.specs.declared.KindFilter.the-variants.{Every}
-use Rattle.source.proofs.Elsewhere.{names-find-other, leaf-elsewhere}
+use Rattle.source.proofs.Elsewhere.{names-find-other}
+use Rattle.promises.proofs.Elsewhere.{leaf-elsewhere}
 use Rattle.source.proofs.Refusals.{accepted-is}
-use Rattle.source.proofs.Keeps.{accepted-sound}
+use Rattle.promises.proofs.Keeps.{accepted-sound}
 use Rattle.promises.proofs.Agreement.{agreement}
 
 -- The full names whose look-up or line a call may change: its own name; the names right at the host; those below a namespace of the host; those below the key.
