@@ -9,6 +9,7 @@ pub mod ListedTexts
 pub mod Worded
 pub mod Agreement
 pub mod Departs
+pub mod Refusals
 pub mod Keeps
 pub mod Modules
 pub mod EverLoaded

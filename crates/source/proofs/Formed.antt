@@ -1,4 +1,4 @@
--- Formed lists are ordered, and so are their rows formed.
+-- Formed lists are ordered, and the rows that a search finds in them are formed.
 use mathlib.Core.Path.{_≡_, refl}
 use Rattle.source.specs.Text.{Str}
 use Rattle.source.specs.Types.{Level, Trie, Tree, NameList, trie, StrEmpty, StrBranch, []ᴺ, Names, ImportedNames, bindings, namespaces}
