@@ -3,7 +3,7 @@
 
 A law is used where a function, a contract, a function's proof, a definition or a law that is used names it; where its file is called Examples or
 Cases; or where a document (docs/*.md, README.md) has its name in backticks. Records and data types count by their names and constructors, not by
-fields. With --check the last line is 'N passed, M failed', a law being one.
+fields. With --check the last line is 'N passed, M failed', a law or definition being one.
 """
 import glob
 import os
