@@ -5,7 +5,6 @@ use native.Mathlib.Omega.{arith}
 use Rattle.source.specs.Types.{Trie}
 use Rattle.source.specs.declared.LidSymbol.{LidSymbol}
 use Rattle.memory.specs.Layout.{names, modules, trieˢ}
-use Rattle.find_trie.specs.Tries.{AnyTrie}
 use Rattle.memory.specs.declared.Header.{Header}
 use Rattle.memory.specs.Sound.{Sound, At, Reads}
 use Rattle.memory.proofs.At.{at-of}
@@ -16,12 +15,6 @@ module _ {ws txt : List ℕ} {h : Header} (o : Sound ws txt h) where
 
   pub modules-trie : At ws txt modules trieˢ (h .modules)
   modules-trie = record { records = h .records; used = h .text; sound = o .right; link = o .modules-link }
-
-  pub any-names : AnyTrie ws txt (h .names)
-  any-names = record { which = names; trie = names-trie }
-
-  pub any-modules : AnyTrie ws txt (h .modules)
-  any-modules = record { which = modules; trie = modules-trie }
 
   -- The trie that a query includes.
   pub included-trie : {inc : ℕ} {x : Trie LidSymbol} → Reads ws txt names (h .names) inc x → At ws txt names trieˢ inc

@@ -9,7 +9,7 @@ use Rattle.source.specs.Text.{Str, string-compare}
 use Rattle.source.specs.Types.{Level, bind, ns, Value, Tree, StrBranch}
 use Rattle.source.specs.Trees.{btree-insert-replace}
 use Rattle.source.specs.Rules.{IsKey, IsLabel, Ordered, Formed}
-use Rattle.source.proofs.Listed.{formed-ordered}
+use Rattle.source.proofs.Formed.{formed-ordered}
 use Rattle.source.proofs.Keeps.{btree-insert-replace-formed}
 use Rattle.memory.specs.Layout.{record-at, span, Which, Item, tree, trieˢ, kind, value, what, key-at, left-link, right-link, text-len, text-start, trie-link}
 use Rattle.memory.specs.Stored.{left-in, right-in}

@@ -17,7 +17,7 @@ use Rattle.source.specs.Forward.{heap-map}
 use Rattle.source.proofs.Heap.{insert-all-more, All, All-merge}
 use Rattle.source.specs.Forward.{rest}
 use Rattle.source.proofs.Names.{OrderedN}
-use Rattle.source.proofs.Listed.{formed-orderedN}
+use Rattle.source.proofs.Formed.{formed-orderedN}
 use Rattle.source.specs.Forward.{held, forward}
 use Rattle.source.proofs.Forward.{AreRuns, built, map-run, map-heap, held-map, forward-map, built-map}
 use Rattle.source.proofs.Found.{match-lists, found-one, found-read}

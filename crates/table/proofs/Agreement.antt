@@ -9,9 +9,9 @@ use Rattle.source.specs.Text.{Str, segments}
 use Rattle.source.specs.Table.{ModSymbol, Line}
 use Rattle.source.specs.Calls as C
 use Rattle.source.specs.Calls.{look-up, argument-rows, lowest, complete, complete-modules}
-use Rattle.source.specs.Agreement.{Covers, NotRefused, without-last, lines-of-text, Shows}
-use Rattle.source.proofs.Agreement.{agreement}
-use Rattle.source.proofs.Worded.{covers-itself}
+use Rattle.promises.specs.Agreement.{Covers, NotRefused, without-last, lines-of-text, Shows}
+use Rattle.promises.proofs.Agreement.{agreement}
+use Rattle.promises.proofs.Worded.{covers-itself}
 use Rattle.source.specs.declared.LidSymbol.{LidSymbol}
 use Rattle.source.specs.declared.KindFilter.the-variants.{Every}
 use Rattle.memory.specs.Layout.{names, modules, Item}

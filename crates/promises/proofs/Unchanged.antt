@@ -5,20 +5,21 @@ use mathlib.Core.Path.{_≡_, refl, sym, ap, _∙_}
 use mathlib.Core.Bool.{Bool, true, false}
 use mathlib.Core.List.{List, [], _∷_, _++_, nil≢cons, tail-eq-of-cons-eq}
 use mathlib.Core.Option.{none, some}
 use Rattle.source.specs.Text.{Str, Query, query-to-string, segments}
 use Rattle.source.specs.Types.{Trie, item, trie, []ᴺ, ImportedNames, bindings, namespaces}
 use Rattle.source.specs.Tries.{names-insert, trie-find-exact, trie-insert, included, trie-import, trie-include, trie-open-namespace, trie-add-alias}
 use Rattle.source.specs.Table.{Table, Line, insert, register-alias, register-include, register-open, register-module-stays-loaded}
 use Rattle.source.specs.Rules.{SoundTable}
 use Rattle.source.specs.Calls.{State, Lent, Call, name, include, opens, alias, module-path, accepted, register, registered, after, look-up, lowest, argument-rows, a-look-up, Found, found-of, refused, Output, listed, complete}
-use Rattle.source.specs.Agreement.{Covers, without-last, NotRefused, lines-of-text, Shows}
+use Rattle.promises.specs.Agreement.{Covers, without-last, NotRefused, lines-of-text, Shows}
 use Rattle.source.specs.Plans.{host-of}
 use Rattle.source.specs.declared.LidSymbol.{LidSymbol}
 use Rattle.source.specs.declared.KindFilter.the-variants.{Every}
-use Rattle.source.proofs.Elsewhere.{names-find-other, leaf-elsewhere}
+use Rattle.source.proofs.Elsewhere.{names-find-other}
+use Rattle.promises.proofs.Elsewhere.{leaf-elsewhere}
 use Rattle.source.proofs.Refusals.{accepted-is}
-use Rattle.source.proofs.Keeps.{accepted-sound}
-use Rattle.source.proofs.Agreement.{agreement}
+use Rattle.promises.proofs.Keeps.{accepted-sound}
+use Rattle.promises.proofs.Agreement.{agreement}
 
 -- The full names whose look-up or line a call may change: its own name; the names right at the host; those below a namespace of the host; those below the key.
 abbrev pub Touches : Call → Query → Type 0

@@ -6,10 +6,10 @@ use mathlib.Core.Bool.{true}
 use mathlib.Core.List.{[], _∷_}
 use native.Mathlib.Omega.{arith}
 use lib.ListN.{length, getD}
 use Rattle.source.specs.Text.{Query, starts-with}
 use Rattle.source.specs.Calls.{Found, found, not-found, refused}
-use Rattle.source.specs.Agreement.{Covers, NotRefused}
+use Rattle.promises.specs.Agreement.{Covers, NotRefused}
 use Rattle.source.proofs.Order.{starts-self}
 
 pub not-refused-exactly : {A : Type 0} (f : Found A) → NotRefused f ↔ ((n : ℕ) → f ≡ refused n → ⊥)
 not-refused-exactly (found a) = (λ _ n e. let z : _≡_ {A = ℕ} 0 1 = cc in absurd (omega arith), λ _. tt)

@@ -1,15 +1,15 @@
 -- The module table holds no imported list: the source never adds aliases to tbl_mods, nor includes or opens.
 use mathlib.Core.Bool.{Bool, true, false, cond}
 use mathlib.Core.List.{[], _∷_}
 use Rattle.source.specs.Text.{Str, Query, segments}
 use Rattle.source.specs.Types.{Level, Value, Trie, Tree, NameList, bind, item, trie, StrEmpty, StrBranch, []ᴺ, Names, ImportedNames, bindings, trie-empty}
 use Rattle.source.specs.Tries.{names-find-exact, names-insert}
 use Rattle.source.specs.Table.{ModSymbol, Namespace, Table, empty, insert, register-alias, register-include, register-open, ns-inserts, ins-ns, ins-mod, name-of-revq, ins-stays-loaded, register-module-stays-loaded}
 use Rattle.source.specs.Shared.{Allˡ}
 use Rattle.source.specs.Rules.{Formed, FormedTree, FormedNames}
 use Rattle.source.specs.Calls.{State, Call, name, include, opens, alias, module-path, fresh, registered, after}
 use Rattle.source.proofs.Refusals.{accepted-is}
-use Rattle.source.proofs.Keeps.{Made, made-fresh, made-by, bindings-formed, names-insert-formed, trie-mutate-formed}
+use Rattle.promises.proofs.Keeps.{Made, made-fresh, made-by, bindings-formed, names-insert-formed, trie-mutate-formed}
 
 -- Any key and item, and no label.
 abbrev Any : {B : Type 0} → B → Type 0

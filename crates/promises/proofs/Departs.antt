@@ -7,27 +7,30 @@ use mathlib.Core.List.{List, [], _∷_, map, reverse, tail, map-id, nil≢cons}
 use mathlib.Core.Option.{Option, none, some, Option·map}
 use native.Mathlib.Omega.{arith}
 use lib.ListN.{length, length-map}
 use Rattle.source.specs.Text.{Str, Query, segments}
 use Rattle.source.specs.Types.{Level, Value, Trie, NameList, bind, the-item, bindings, namespaces}
 use Rattle.source.specs.Trees.{PathElem}
 use Rattle.source.specs.Terms.{flatten, holders, first-of, depth}
 use Rattle.source.specs.Listing.{PathOf, SearchTerm, of-source, by-first, rev-map-onto, ns-search-term, bindings-search-term, elem-key, names-find-rev, names-find-rev-first, trie-find-prefix, trie-find-prefix-first}
 use Rattle.source.specs.Table.{Table, Line, last-opt, string-of-path, completion-result-of-lid, completion-result-of-ns-or-mod, autocomplete-lid, autocomplete-lid-first, autocomplete-mod-or-ns, autocomplete-mod-or-ns-first}
 use Rattle.source.specs.Counted.{Counted, one, _>>=_, fold-leftᶜ, find-prefix-fuelᶜ, trie-find-prefix′ᶜ}
 use Rattle.source.specs.Rules.{Formed, IsKey, IsLabel, NameItem, ModItem, SoundTrie, SoundTable}
 use Rattle.source.specs.Calls.{is-empty}
-use Rattle.source.specs.Agreement.{Covers, without-last, lines-of-text}
-use Rattle.source.specs.Departs.{to-list, with-key, rows-of, ListDeparts, OneHolderEach, SameRun, OneHolder, SameLine, Departs}
+use Rattle.promises.specs.Agreement.{Covers, without-last, lines-of-text}
+use Rattle.promises.specs.Departs.{to-list, with-key, rows-of, ListDeparts, OneHolderEach, SameRun, OneHolder, SameLine, Departs}
 use Rattle.source.specs.Shared.{Allˡ}
 use Rattle.source.proofs.Lookup.{Same, same-view, lookup, decreasing-unique, Allˡ-zip}
-use Rattle.source.proofs.Trees.{valof}
-use Rattle.source.proofs.Names.{accepts, OrderedN, key-descending, find-rev-decreasing, find-rev-at, find-first-decreasing, find-first-at}
-use Rattle.source.proofs.Flat.{rows-hold, first-found}
-use Rattle.source.proofs.Fuel.{fold-leftᶜ-same}
-use Rattle.source.proofs.Listed.{parts, formed-orderedN, rows-formed, source-finds, first-finds, lookup-all, from, along, covers-binding, covers-namespace, covers-tail}
+use Rattle.promises.proofs.Trees.{valof}
+use Rattle.promises.proofs.Names.{accepts}
+use Rattle.source.proofs.Names.{OrderedN}
+use Rattle.promises.proofs.Names.{key-descending, find-rev-decreasing, find-rev-at, find-first-decreasing, find-first-at}
+use Rattle.promises.proofs.Holders.{rows-hold, first-found}
+use Rattle.promises.proofs.Fuel.{fold-leftᶜ-same}
+use Rattle.source.proofs.Formed.{parts, formed-orderedN, rows-formed}
+use Rattle.promises.proofs.Listed.{source-finds, first-finds, lookup-all, from, along, covers-binding, covers-namespace, covers-tail}
 use Rattle.source.proofs.Refusals.{look-up-whole, look-up-segment}
-use Rattle.source.proofs.Agreement.{line-along, look-up-admitted}
+use Rattle.promises.proofs.Agreement.{line-along, look-up-admitted}
 use Rattle.source.proofs.Filters.{filter-map-some}
 
 -- ---- one row is the first and the last
 one-of : {B : Type 0} (bs : List B) → length bs ≤ 1 → first-of bs ≡ last-opt bs

@@ -4,16 +4,18 @@ use mathlib.Core.Path.{_≡_, refl, sym, ap, _∙_}
 use mathlib.Core.Logic.{_≢_}
 use mathlib.Core.Bool.{Bool, true, false, cond, true≢false}
 use mathlib.Core.List.{List, [], _∷_, _++_, reverse, reverseAux, tail, nil≢cons, head-eq-of-cons-eq, tail-eq-of-cons-eq}
 use Rattle.source.specs.Text.{Str, Query, query-to-string, dot}
 use Rattle.source.specs.Types.{Level, Value, Trie, bind, ns, the-item, bindings, namespaces}
 use Rattle.source.specs.Trees.{PathElem}
 use Rattle.source.specs.Terms.{depth}
 use Rattle.source.specs.Listing.{PathOf, Finder, fold-left, rev-map-onto, elem-key, ns-search-term, bindings-search-term, find-prefix-fuel, trie-find-prefix′}
 use Rattle.source.specs.Table.{string-of-path}
 use Rattle.source.specs.Rules.{Formed}
 use Rattle.source.specs.Shared.{same, Allˡ}
 use Rattle.source.proofs.Lookup.{same-self, same-ne, Allˡ-map}
-use Rattle.source.proofs.Listed.{Finds, keys, same-names, same-names-eq, same-names-self, keys-reverse, named, parts, along, listed-named}
+use Rattle.promises.proofs.Listed.{Finds, same-names, same-names-eq, same-names-self, keys-reverse, named, along, listed-named}
+use Rattle.source.proofs.Paths.{keys}
+use Rattle.source.proofs.Formed.{parts}
 
 -- ---- names without dots: the text tells the segments
 abbrev pub NoDot : Str → Type 0

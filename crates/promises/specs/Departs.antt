@@ -6,16 +6,16 @@ use mathlib.Core.Bool.{true, cond}
 use mathlib.Core.List.{List, [], _∷_, map, flatMap, reverse, tail}
 use mathlib.Core.Option.{Option, none, some}
 use lib.ListN.{length}
 use Rattle.source.specs.Text.{Str, Query, segments}
 use Rattle.source.specs.Types.{Level, Value, Trie, NameList, bindings, namespaces}
 use Rattle.source.specs.Trees.{PathElem}
 use Rattle.source.specs.Terms.{flatten, holders, first-of, depth}
 use Rattle.source.specs.Listing.{SearchTerm, ns-search-term, bindings-search-term, matching-values, with-imports, elem-key, names-find-rev, names-find-rev-first, of-source, by-first}
 use Rattle.source.specs.Table.{Table, Line, last-opt, autocomplete-lid, autocomplete-lid-first, autocomplete-mod-or-ns, autocomplete-mod-or-ns-first}
 use Rattle.source.specs.Counted.{trie-find-prefix′ᶜ}
 use Rattle.source.specs.Calls.{look-up}
-use Rattle.source.specs.Agreement.{Covers, NotRefused, without-last, lines-of-text}
+use Rattle.promises.specs.Agreement.{Covers, NotRefused, without-last, lines-of-text}
 use Rattle.source.specs.Shared.{same, Allˡ}
 
 abbrev pub to-list : {B : Type 0} → Option B → List B
 to-list none = []

@@ -5,17 +5,17 @@ use mathlib.Core.Bool.{Bool, true, false, cond, true≢false}
 use mathlib.Core.List.{List, [], _∷_, map, reverse}
 use mathlib.Core.Option.{Option, none, some}
 use native.Mathlib.Omega.{arith}
 use Rattle.source.specs.Text.{Str, Query, then, string-compare, segments}
 use Rattle.source.specs.Heap.{Heap, Forest, EmptyHeap, HeapOf, []ᶠ, _∷ᶠ_, is-lt, heap-merge, heap-insert, heap-merge-pairs, heap-pair-up, heap-insert-all, heap-from-list}
 use Rattle.source.specs.Lists.{Run, run, first, priority, nonempty, add-priorities, total, push-nodup, run-cmp, put-back, merge-aux, merge-nonempty, merge-increasing-lists-rev}
 use Rattle.source.specs.Types.{Value, Trie, bind, bindings, namespaces}
 use Rattle.source.specs.Tries.{bind-option as _>>=_, names-find-exact, trie-find-exact}
 use Rattle.source.specs.Calls.{a-look-up, is-empty}
 use Rattle.source.specs.Forward.{heap-map, forest-map, sum}
 use Rattle.source.specs.Forward.{size}
 use Rattle.source.proofs.Lists.{put-back-size, from-list-size}
-use Rattle.source.proofs.Fuel.{merge-aux-fuel}
+use Rattle.promises.proofs.Fuel.{merge-aux-fuel}
 use Rattle.source.proofs.Refusals.{Admitted, look-up-segment}
 
 -- ---- The source's text, over a comparison that may fail
 module _ {A : Type 0} (cmp : A → A → Option Ordering) where

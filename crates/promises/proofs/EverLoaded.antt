@@ -4,15 +4,15 @@ use mathlib.Core.Logic.{_⊎_, inl, inr, ⊎-elim, _↔_}
 use mathlib.Core.Bool.{Bool, true, false, _||_, false≢true}
 use mathlib.Core.List.{[], _∷_, _++_, append-assoc, nil≢cons}
 use mathlib.Core.Option.{Option, none, some}
 use Rattle.source.specs.Text.{Str, Query, segments}
 use Rattle.source.specs.Types.{Value, bind, item, bindings, namespaces, trie-empty}
 use Rattle.source.specs.Tries.{bind-option, names-find-exact, trie-find-exact}
 use Rattle.source.specs.Table.{ModSymbol, Module, Namespace, Table, empty, insert, register-alias, register-include, register-open, loaded-module, register-module-stays-loaded, find-module-or-ns}
 use Rattle.source.specs.Calls.{State, Call, name, include, opens, alias, module-path, fresh, registered, after}
 use Rattle.source.proofs.Refusals.{accepted-is}
 use Rattle.source.proofs.Elsewhere.{same-key}
-use Rattle.source.proofs.Keeps.{Made, made-fresh, made-by}
-use Rattle.source.proofs.ModuleRules.{module-replaces, namespace-first, namespace-keeps, namespace-replaces, unloaded-keeps, module-elsewhere}
+use Rattle.promises.proofs.Keeps.{Made, made-fresh, made-by}
+use Rattle.source.proofs.ModuleRules.{namespace-unloaded, module-replaces, namespace-first, namespace-keeps, namespace-replaces, unloaded-keeps, module-elsewhere}
 
 -- The call registers the query as a loaded Module.
 abbrev pub Loads : Query → Call → Type 0
@@ -60,8 +60,8 @@ module _ (p : Query) (s : Str) where
     passed t q (some (item (Namespace n false))) e = go loaded
       where
         go : (l : Bool) → is-loaded (register-module-stays-loaded tbl l path (p ++ (s ∷ (t ∷ q)))) ≡ false
-        go true = rw (namespace-replaces tbl path p s t q n e)
-        go false = rw (unloaded-keeps tbl path p s t q (Namespace n false) e)
+        go true = rw (namespace-replaces tbl path p s t q n e) (namespace-unloaded n true)
+        go false = rw (unloaded-keeps tbl path p s t q (Namespace n false) e) (namespace-unloaded n false)
 
     -- The query, or what look-up gives is as loaded as it was.
     other-loaded : (q : Query) → (q ≡ p ++ (s ∷ [])) ⊎ (is-loaded (new q) ≡ is-loaded tbl)

@@ -8,23 +8,23 @@ use mathlib.Core.Option.{Option, none, some}
 use native.Mathlib.Omega.{arith}
 use borrow.Author.Tests.{eqb-false}
 use lib.Dec.{eqb}
 use Rattle.source.specs.Text.{Str, Query, dot, segments, onto-first, ends-in-dot, query-to-string, name-byte}
 use Rattle.source.specs.Types.{Value, Trie, bind}
 use Rattle.source.specs.Tries.{trie-find-exact}
 use Rattle.source.specs.Terms.{walk-first}
 use Rattle.source.specs.Listing.{PathOf, Finder, by-first, trie-find-prefix′, trie-find-prefix-first}
 use Rattle.source.specs.Table.{Line, string-of-path, completion-result-of-lid, completion-result-of-ns-or-mod, autocomplete-lid-first}
 use Rattle.source.specs.Rules.{Formed, IsKey, IsLabel, NameItem, ModItem, SoundTrie, all}
 use Rattle.source.specs.Calls.{Found, found, not-found, refused, found-of, look-up, Completed, listed, Output, All, kept, keeps, keeps-kind, completed, complete, complete-modules, lowest, argument-rows, completion-rows, a-look-up, is-empty}
-use Rattle.source.specs.Agreement.{Covers, without-last, NotRefused, lines-of-text, Shows, passing, Demand3, FilteredAgree}
+use Rattle.promises.specs.Agreement.{Covers, without-last, NotRefused, lines-of-text, Shows, passing, Demand3, FilteredAgree}
 use Rattle.source.specs.Shared.{same, Allˡ}
 use Rattle.source.specs.declared.KindFilter.the-variants.{Every}
 use Rattle.source.proofs.Filters.{all-listed}
 use Rattle.source.proofs.Queries.{and-parts, string-is}
-use Rattle.source.proofs.Worded.{covers-itself}
+use Rattle.promises.proofs.Worded.{covers-itself}
 use Rattle.source.proofs.Refusals.{Admitted, argument-rows-none, look-up-whole, look-up-segment}
-use Rattle.source.proofs.Listed.{look-up-is-walk, Finds, first-finds, along, item-list, along-items}
-use Rattle.source.proofs.ListedTexts.{NoDot, with-text, listed-text}
+use Rattle.promises.proofs.Listed.{look-up-is-walk, Finds, first-finds, along, item-list, along-items}
+use Rattle.promises.proofs.ListedTexts.{NoDot, with-text, listed-text}
 
 -- ---- a full name's text
 onto-no-dot : (b : ℕ) (q : Query) → b ≢ dot → Allˡ NoDot q → Allˡ NoDot (onto-first b q)

@@ -6,21 +6,25 @@ use mathlib.Core.Bool.{Bool, true, false, cond, _&&_, true≢false, false≢true
 use mathlib.Core.List.{List, [], _∷_, _++_, map, reverse, reverseAux, tail, nil≢cons, head-eq-of-cons-eq, tail-eq-of-cons-eq, append-nil}
 use mathlib.Core.Option.{Option, none, some, Option·none-ne-some, Option·some-injective}
 use native.Mathlib.Omega.{arith}
 use Rattle.source.specs.Text.{Str, Query}
-use Rattle.source.specs.Types.{Level, Value, Trie, Tree, NameList, bind, ns, trie, StrEmpty, StrBranch, []ᴺ, Names, ImportedNames, the-item, bindings, namespaces}
+use Rattle.source.specs.Types.{Level, Value, Trie, NameList, bind, ns, the-item, bindings, namespaces}
 use Rattle.source.specs.Trees.{PathElem}
 use Rattle.source.specs.Tries.{bind-option, trie-find-exact}
 use Rattle.source.specs.Terms.{flatten, holders, first-of, depth, depth-names, walk-first}
 use Rattle.source.specs.Listing.{PathOf, SearchTerm, Finder, of-source, by-first, fold-left, rev-map-onto, elem-key, names-find-rev-first, ns-search-term, bindings-search-term, find-prefix-fuel, trie-find-prefix′}
-use Rattle.source.specs.Rules.{Ordered, Formed, FormedTree, FormedNames}
-use Rattle.source.specs.Agreement.{Covers}
+use Rattle.source.specs.Rules.{Formed, FormedNames}
+use Rattle.promises.specs.Agreement.{Covers}
 use Rattle.source.proofs.Order.{<ˢ-irrefl}
 use Rattle.source.specs.Shared.{same, Allˡ}
 use Rattle.source.proofs.Lookup.{Same, same-view, same-self, lookup, lookup-hit, lookup-miss, Below, Decreasing, Allˡ-zip}
-use Rattle.source.proofs.Trees.{valof}
-use Rattle.source.proofs.Rows.{AllBranches, AllNamed, names-find-rev-all, names-find-rev-depth, names-find-first-all, names-find-first-depth}
-use Rattle.source.proofs.Names.{accepts, find-exact-is-first, OrderedN, find-rev-decreasing, find-first-decreasing}
-use Rattle.source.proofs.Flat.{first-found}
+use Rattle.promises.proofs.Trees.{valof}
+use Rattle.source.proofs.Rows.{names-find-rev-all, names-find-rev-depth, names-find-first-depth}
+use Rattle.promises.proofs.Names.{accepts}
+use Rattle.source.proofs.Names.{OrderedN}
+use Rattle.promises.proofs.Names.{find-exact-is-first, find-rev-decreasing, find-first-decreasing}
+use Rattle.promises.proofs.Holders.{first-found}
+use Rattle.source.proofs.Formed.{formed-orderedN, formed-named, parts, rows-formed}
+use Rattle.source.proofs.Paths.{keys}
 
 -- ---- look-up is the walk
 module _ {A : Type 0} where
@@ -37,35 +41,8 @@ module _ {A : Type 0} where
       go none f = refl
       go (some x) f = f x
 
--- ---- formed lists are ordered
+-- ---- what a listing asks of rows
 module _ {A : Type 0} (Key Label : Str → Type 0) (Item : A → Type 0) where
-  pub formed-ordered : {l : Level} (t : Tree A l) → FormedTree Key Label Item t → Ordered t
-  formed-ordered StrEmpty g = tt
-  formed-ordered (StrBranch k v lbt rbt) g = (g .2, g .3, formed-ordered lbt (g .4), formed-ordered rbt (g .5))
-
-  pub formed-orderedN : {l : Level} (n : NameList A l) → FormedNames Key Label Item n → OrderedN n
-  formed-orderedN []ᴺ g = tt
-  formed-orderedN (Names bt tl) g = (formed-ordered bt (g .0), formed-orderedN tl (g .1))
-  formed-orderedN (ImportedNames label inner tl) g = (formed-orderedN inner (g .1), formed-orderedN tl (g .2))
-
-  -- each row of a formed list is formed
-  formed-branches : {l : Level} (t : Tree A l) → FormedTree Key Label Item t → AllBranches (λ k v. Key k × Formed Key Label Item v) t
-  formed-branches StrEmpty g = tt
-  formed-branches (StrBranch k v lbt rbt) g = ((g .0, g .1), formed-branches lbt (g .4), formed-branches rbt (g .5))
-
-  formed-named : {l : Level} (n : NameList A l) → FormedNames Key Label Item n → AllNamed (λ k v. Key k × Formed Key Label Item v) n
-  formed-named []ᴺ g = tt
-  formed-named (Names bt tl) g = (formed-branches bt (g .0), formed-named tl (g .1))
-  formed-named (ImportedNames label inner tl) g = (formed-named inner (g .1), formed-named tl (g .2))
-
-  pub parts : (tr : Trie A) → Formed Key Label Item tr → FormedNames Key Label Item (bindings tr) × FormedNames Key Label Item (namespaces tr) × (depth tr ≡ depth-names (namespaces tr))
-  unfolding bindings namespaces depth
-  parts (trie b n) g = (g .0, g .1, refl)
-
-  pub rows-formed : {l : Level} (n : NameList A l) (term : SearchTerm) → FormedNames Key Label Item n
-      → Allˡ (λ y. Key (elem-key y) × Formed Key Label Item (y .1)) (names-find-rev-first n term)
-  rows-formed n term g = names-find-first-all (λ k v. Key k × Formed Key Label Item v) n term (formed-named n g)
-
   -- What a listing asks of the rows of a list.
   pub record Finds (find : Finder A) : Type 0 where
     pub descends : (l : Level) (n : NameList A l) (term : SearchTerm) → OrderedN n → Decreasing elem-key (find l n term)
@@ -75,14 +52,14 @@ module _ {A : Type 0} (Key Label : Str → Type 0) (Item : A → Type 0) where
   pub source-finds : Finds of-source
   source-finds = record {
     descends = λ l n term o. find-rev-decreasing n term o;
-    formed = λ l n term g. names-find-rev-all (λ k v. Key k × Formed Key Label Item v) n term (formed-named n g);
+    formed = λ l n term g. names-find-rev-all (λ k v. Key k × Formed Key Label Item v) n term (formed-named Key Label Item n g);
     shallow = λ n term. names-find-rev-depth n term;
   }
 
   pub first-finds : Finds by-first
   first-finds = record {
     descends = λ l n term o. find-first-decreasing n term o;
-    formed = λ l n term g. rows-formed n term g;
+    formed = λ l n term g. rows-formed Key Label Item n term g;
     shallow = λ n term. names-find-first-depth n term;
   }
 
@@ -96,9 +73,6 @@ lookup-all key P k (x ∷ m) y a e = go (same k (key x)) (lookup-all key P k m y
     go false f e = f e
 
 -- ---- lines by name
-abbrev pub keys : PathOf → List Str
-keys p = map (λ el. el .segment .completion) p
-
 unfoldable pub same-names : List Str → List Str → Bool
 same-names [] [] = true
 same-names [] (t ∷ b) = false
