@@ -43,3 +43,4 @@ pub mod Taken
 pub mod Spans
 pub mod Cases
 pub mod SharedBeginning
+pub mod Outside
