@@ -20,7 +20,7 @@ use Rattle.memory.proofs.RecordOk.{zero-some}
 use Rattle.memory.proofs.StoredSizes.{stored-none, stored-some}
 use Rattle.memory.proofs.Stays.{what-stays, link-stays, stays-on}
 use Rattle.memory.proofs.RecordAt.{record-length}
-use Rattle.memory.proofs.SoundTable.{IsItem, link-fine}
+use Rattle.memory.proofs.Fine.{IsItem, link-fine}
 use Rattle.memory.proofs.Seen.{link-later, link-fits}
 use Rattle.find_tree.specs.Tree.{held, AnyTree, Builds}
 use Rattle.insert_copy.specs.Copies.{noted-link, noted-side, with-sides, raised-row, RaiseOk, lowest-row, LowestOk}

@@ -23,7 +23,7 @@ use Rattle.source.proofs.Forward.{AreRuns, built, map-run, map-heap, held-map, 
 use Rattle.source.proofs.Found.{match-lists, found-one, found-read}
 use Rattle.memory.specs.Layout.{Which, Item, list, what, key-at, tree}
 use Rattle.memory.proofs.Seen.{link-later}
-use Rattle.memory.proofs.SoundTable.{IsItem, link-fine}
+use Rattle.memory.proofs.Fine.{IsItem, link-fine}
 use Rattle.merge_heads.specs.Compare.{Heads, cell-cmp}
 use Rattle.merge_heap.specs.Cells.{count, Rep, first-cells}
 use Rattle.merge_heads.proofs.Compare.{cell-cmp-run}

@@ -32,3 +32,4 @@ pub mod Taken
 pub mod SharedBeginning
 pub mod Bytes
 pub mod Spans
+pub mod Outside

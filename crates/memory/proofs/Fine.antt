@@ -1,4 +1,4 @@
--- What a sound memory gives of the tables that it holds: source's SoundTable.
+-- What the links of a sound memory read as is formed, no list weighs over 96, and no trie is deeper than 16.
 use Prim.Native.Nat.{ℕ, _+_, _≤_}
 use mathlib.Core.Path.{sym, subst}
 use mathlib.Core.List.{List}
@@ -6,12 +6,11 @@ use native.Mathlib.Omega.{arith}
 use native.Mathlib.Nat.{max-le}
 use Rattle.source.specs.Types.{Level, bind, ns}
 use Rattle.source.specs.Terms.{weight, depth, depth-names, heaviest, heaviest-tree, heaviest-names}
-use Rattle.source.specs.Rules.{IsKey, IsLabel, NameItem, ModItem, Ordered, Formed, FormedTree, FormedNames, SoundTrie, SoundTable}
-use Rattle.memory.specs.Layout.{record-at, word, Which, names, modules, Item, item-of, Sort, tree, list, trieˢ, Of, kind, value, row, what, table-of}
-use Rattle.memory.specs.Sound.{LinkOk, BranchOk, CollectionOk, ItemOk, RecordAs, Used, Sound}
+use Rattle.source.specs.Rules.{IsKey, IsLabel, NameItem, ModItem, Ordered, Formed, FormedTree, FormedNames}
+use Rattle.memory.specs.Layout.{record-at, word, Which, names, modules, Item, item-of, Sort, tree, list, trieˢ, Of, kind, value, row, what}
+use Rattle.memory.specs.Sound.{LinkOk, BranchOk, CollectionOk, ItemOk, RecordAs, Used}
 use Rattle.memory.proofs.What.{what-none, what-row}
 use Rattle.memory.proofs.RecordOk.{zero-one, zero-some, as-earlier, record-as, by-links}
-use Rattle.memory.specs.declared.Header.{Header}
 
 abbrev pub IsItem : (w : Which) → Item w → Type 0
 IsItem names = NameItem
@@ -78,10 +77,3 @@ module _ {ws txt : List ℕ} {n used : ℕ} (o : Used ws txt n used) where
       zero-some x
       (λ e. rw (e, what-none w ws txt) (omega arith))
       (λ p. record-as (o .rows x p (omega (arith, i .earlier))) w trieˢ (i .of-kind (λ z. omega arith)) .2)
-
-  trie-sound : (w : Which) {x : ℕ} → LinkOk ws (n + 1) x (kind w trieˢ) → SoundTrie (IsItem w) (what w ws txt x trieˢ)
-  trie-sound w i = let f = link-fine w trieˢ (omega arith) i in record { formed = f .0; light = f .1; shallow = link-shallow w (omega arith) i }
-
--- The table of the two roots.
-pub sound-table : {ws txt : List ℕ} {h : Header} → Sound ws txt h → SoundTable (table-of ws txt h)
-sound-table o = record { lids = trie-sound (o .right) names (o .names-link); mods = trie-sound (o .right) modules (o .modules-link) }

@@ -5,7 +5,7 @@ use mathlib.Core.List.{List}
 use native.Mathlib.Omega.{arith}
 use lib.ListN.{getD, set, take, drop, length-set}
 use lib.Seq.{take-take, drop-drop, take-set-le, drop-set-lt, getD-take, getD-drop}
-use Rattle.memory.specs.Grown.{Outside}
+use Rattle.source.specs.Lent.{Outside}
 
 pub outside-none : {a b : ℕ} (l : List ℕ) → Outside a b l l
 outside-none l = record { before = refl; after = refl; size = refl }

@@ -1,10 +1,10 @@
--- `find_list::names_insert` meets its contract.
+-- `insert_list::names_insert` meets its contract.
 use mathlib.Core.Path.{refl}
 use native.Mathlib.Omega.{arith}
 use borrow.Author.Needs.{needs}
-use Rattle.find_list.proofs.NamesInsertion.{kind-list, kind-small, first-insertion, rest-ready, names-inserted}
-use Rattle.find_list.proofs.names_insert.Statement.{statement}
-use Rattle.find_list.proofs.names_insert.Tie as tie
+use Rattle.insert_list.proofs.NamesInsertion.{kind-list, kind-small, first-insertion, rest-ready, names-inserted}
+use Rattle.insert_list.proofs.names_insert.Statement.{statement}
+use Rattle.insert_list.proofs.names_insert.Tie as tie
 
 pub names-insert-spec : {M : Type 1} → statement M
 names-insert-spec =

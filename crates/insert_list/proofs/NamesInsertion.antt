@@ -19,11 +19,11 @@ use Rattle.insert_tree.specs.Insert.{NewBranch, Insertion, Inserted}
 use Rattle.find_tree.proofs.Branches.{branch-right, branch-reads}
 use Rattle.find_tree.proofs.Links.{by-sides}
 use Rattle.find_tree.proofs.Past.{by-order}
 use Rattle.find_list.specs.Names.{LedIn, Led}
 use Rattle.insert_record.specs.Made.{Room, Made, MadeNames}
-use Rattle.find_list.specs.Insert.{inserted, NamesInsertion}
+use Rattle.insert_list.specs.Insert.{inserted, NamesInsertion}
 use Rattle.find_list.proofs.Collections.{list-weight}
 use Rattle.find_list.proofs.NamesPlaced.{names-insert-first, names-insert-weight}
 use Rattle.insert_record.proofs.Made.{made-as, made-what, made-stored, made-link, made-room, made-then}
 use Rattle.memory.specs.Sound.{At}
 use Rattle.memory.proofs.At.{at-of}
