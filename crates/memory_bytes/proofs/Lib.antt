@@ -1,4 +1,3 @@
 pub mod Bytes
 pub mod Parts
-pub mod Memory
 mod Examples

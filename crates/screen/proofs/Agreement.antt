@@ -32,7 +32,7 @@ use Rattle.screen_replies.specs.declared.NameReply.{NameReply}
 use Rattle.screen_replies.specs.declared.ModuleReply.{ModuleReply}
 use Rattle.screen_replies.specs.declared.CompleteReply.{CompleteReply}
 use Rattle.screen_replies.proofs.Answered.{name-answered, module-answered}
-use Rattle.memory_bytes.specs.Memory.{words-in}
+use Rattle.screen_memory.specs.Memory.{words-in}
 use Rattle.screen.specs.Memory.{table-at, SoundBytes}
 use Rattle.screen.specs.Replies.{SaysModule}
 use Rattle.screen.specs.Completions.{ListsAs}

@@ -9,7 +9,7 @@ use Rattle.memory.proofs.Says.{says-iff}
 use Rattle.table.specs.Header.{IsSound}
 use Rattle.table.specs.declared.Table.{Table}
 use Rattle.table.proofs.Says.{decided}
-use Rattle.memory_bytes.specs.Memory.{state-bytes, Spells, words-in}
+use Rattle.screen_memory.specs.Memory.{state-bytes, Spells, words-in}
 use Rattle.screen.specs.Memory.{table-at, SoundBytes}
 
 -- The state spells the table t, and m has the lent words.

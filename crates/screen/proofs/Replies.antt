@@ -21,8 +21,8 @@ use Rattle.table.specs.declared.Registration.{Registration}
 use Rattle.table.proofs.Says.{decided}
 use Rattle.table.proofs.Answers.{register-unsound}
 use Rattle.memory_bytes.specs.Bytes.{Stored}
-use Rattle.memory_bytes.specs.Memory.{header-in, words-lent, words-in, Saved}
-use Rattle.memory_bytes.proofs.Memory.{words-in-length, words-in-fit}
+use Rattle.screen_memory.specs.Memory.{header-in, words-lent, words-in, Saved}
+use Rattle.screen_memory.proofs.Memory.{words-in-length, words-in-fit}
 use Rattle.screen.specs.Memory.{table-at, SoundBytes}
 use Rattle.register_kind.proofs.Shapes.{open-module-is-include}
 use Rattle.screen.specs.Replies.{flag-for, chosen, unchosen, answer-to, RepliesAs, Replies}

@@ -18,7 +18,7 @@ use Rattle.table.specs.Completions.{completion}
 use Rattle.screen_replies.specs.Replies.{shared-reply}
 use Rattle.screen_replies.specs.declared.CompleteReply.{CompleteReply}
 use Rattle.screen_replies.specs.declared.SharedReply.{SharedReply}
-use Rattle.memory_bytes.specs.Memory.{words-in}
+use Rattle.screen_memory.specs.Memory.{words-in}
 use Rattle.screen.specs.Memory.{table-at, SoundBytes}
 use Rattle.screen.specs.Completions.{ListsAs, unasked, RepliesLines, shared-for, RepliesShared}
 

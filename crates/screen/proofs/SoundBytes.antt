@@ -7,7 +7,7 @@ use Rattle.source.specs.Calls.{State, fresh}
 use Rattle.memory_table.proofs.Table.{fresh-sound, fresh-state}
 use Rattle.table.specs.Header.{state}
 use Rattle.memory_bytes.specs.Bytes.{word-at}
-use Rattle.memory_bytes.specs.Memory.{state-bytes, header-in, words-in}
+use Rattle.screen_memory.specs.Memory.{state-bytes, header-in, words-in}
 use Rattle.screen.specs.Memory.{table-at, SoundBytes}
 use Rattle.screen.specs.Replies.{AcceptsBytes}
 

@@ -20,7 +20,7 @@ use Rattle.table.specs.Completions.{completion}
 use Rattle.screen_replies.specs.Replies.{no-lines, lines-part}
 use Rattle.screen_replies.specs.declared.CompleteReply.{CompleteReply}
 use Rattle.screen_replies.specs.declared.SharedReply.{SharedReply}
-use Rattle.memory_bytes.specs.Memory.{words-in}
+use Rattle.screen_memory.specs.Memory.{words-in}
 use Rattle.screen.specs.Memory.{table-at, SoundBytes}
 
 -- Listed: the lines are written from the start of the lent bytes, their texts from the start of the output text, and every other byte is as it was.

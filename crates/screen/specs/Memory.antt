@@ -3,7 +3,7 @@ use mathlib.Core.Path.{_≡_}
 use Prim.Native.Nat.{ℕ}
 use mathlib.Core.List.{List}
 use lib.ListN.{length}
-use Rattle.memory_bytes.specs.Memory.{state-bytes, header-in, words-in}
+use Rattle.screen_memory.specs.Memory.{state-bytes, header-in, words-in}
 use Rattle.table.specs.declared.Table.{Table}
 use Rattle.table.specs.Header.{IsSound}
 

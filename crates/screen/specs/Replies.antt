@@ -18,7 +18,7 @@ use Rattle.table_roots.specs.declared.FoundModule.{FoundModule}
 use Rattle.screen_replies.specs.Replies.{name-reply, module-reply}
 use Rattle.screen_replies.specs.declared.NameReply.{NameReply}
 use Rattle.screen_replies.specs.declared.ModuleReply.{ModuleReply}
-use Rattle.memory_bytes.specs.Memory.{state-bytes, record-bytes, header-in, words-in}
+use Rattle.screen_memory.specs.Memory.{state-bytes, record-bytes, header-in, words-in}
 use Rattle.screen.specs.Memory.{table-at, SoundBytes}
 
 -- ---- Registrations

@@ -1,5 +1,5 @@
 // The exported layer for screen code in C: numbers and bytes in, numbers and bytes out.
-// A slice passes as a pointer and a length. State and words are bytes as crate memory_bytes reads them;
+// A slice passes as a pointer and a length. State and words are bytes as crate screen_memory reads them;
 // the layer copies the words in, tests them with little stack, calls crate table, and copies out what an accepted call has taken.
 // Lines are written in place.
 // Every exported call answers for whatever bytes are lent.
@@ -19,7 +19,7 @@ ghost use Rattle.source.specs.Lent.{old, new};
 ghost use Rattle.source.specs.Calls.{name, include, opens, alias, module-path};
 ghost use Rattle.source.specs.Items.{kind-for};
 ghost use Rattle.register_kind.specs.Shapes.{call-of};
-ghost use Rattle.memory_bytes.specs.Memory.{state-bytes, words-in};
+ghost use Rattle.screen_memory.specs.Memory.{state-bytes, words-in};
 ghost use Rattle.screen.specs.Memory.{table-at};
 ghost use Rattle.listing_shared.specs.Shared.{CandidatesIn, shared-seen};
 ghost use Rattle.screen_replies.specs.Filters.{names-for, modules-for};
@@ -33,7 +33,7 @@ fn table_of(state: &[u8]) -> Table
     ensures { λ r. ⌜ r ≡ table-at (old state) ⌝ }
 {
     Table {
-        header: memory_bytes::header_of(state),
+        header: screen_memory::header_of(state),
     }
 }
 
@@ -63,7 +63,7 @@ fn enter(
     let a = r.answer;
     match a {
         Registered::Accepted => {
-            memory_bytes::save(state, words, memory, t.header.records, h.header);
+            screen_memory::save(state, words, memory, t.header.records, h.header);
             0
         }
         Registered::Refused(x) => refusals::number(x),
@@ -82,11 +82,11 @@ fn register(
 ) -> u32
     ensures { λ r. ⌜ Replies (old state) (old words) (old text) (new state) (new words) (new text) (some (call-of kind (old host) (old other) (old key))) r ⌝ }
 {
-    if state.len() != memory_bytes::STATE_BYTES {
+    if state.len() != screen_memory::STATE_BYTES {
         return 1;
     }
-    let mut memory = [0u32; memory_bytes::WORDS];
-    let n = memory_bytes::load(words, &mut memory);
+    let mut memory = [0u32; screen_memory::WORDS];
+    let n = screen_memory::load(words, &mut memory);
     enter(state, words, text, &mut memory[..n], kind, host, other, key)
 }
 
@@ -94,11 +94,11 @@ fn register(
 fn malformed(state: &[u8], words: &[u8], text: &[u8]) -> u32
     ensures { λ r. ⌜ Replies (old state) (old words) (old text) (old state) (old words) (old text) none r ⌝ }
 {
-    if state.len() != memory_bytes::STATE_BYTES {
+    if state.len() != screen_memory::STATE_BYTES {
         return 1;
     }
-    let mut memory = [0u32; memory_bytes::WORDS];
-    let n = memory_bytes::load(words, &mut memory);
+    let mut memory = [0u32; screen_memory::WORDS];
+    let n = screen_memory::load(words, &mut memory);
     let t = table_of(state);
     if t.is_sound_small(&memory[..n], text) {
         return 2;
@@ -223,11 +223,11 @@ pub extern "C" fn name_console_find_item(
 ) -> NameReply
     ensures { λ r. ⌜ RepliesName (old state) (old words) (old text) (old query) r ⌝ }
 {
-    if state.len() != memory_bytes::STATE_BYTES {
+    if state.len() != screen_memory::STATE_BYTES {
         return screen_replies::no_name(1);
     }
-    let mut memory = [0u32; memory_bytes::WORDS];
-    let n = memory_bytes::load(words, &mut memory);
+    let mut memory = [0u32; screen_memory::WORDS];
+    let n = screen_memory::load(words, &mut memory);
     let t = table_of(state);
     if !t.is_sound_small(&memory[..n], text) {
         return screen_replies::no_name(1);
@@ -245,11 +245,11 @@ pub extern "C" fn name_console_find_module(
 ) -> ModuleReply
     ensures { λ r. ⌜ RepliesModule (old state) (old words) (old text) (old query) r ⌝ }
 {
-    if state.len() != memory_bytes::STATE_BYTES {
+    if state.len() != screen_memory::STATE_BYTES {
         return screen_replies::no_module(1);
     }
-    let mut memory = [0u32; memory_bytes::WORDS];
-    let n = memory_bytes::load(words, &mut memory);
+    let mut memory = [0u32; screen_memory::WORDS];
+    let n = screen_memory::load(words, &mut memory);
     let t = table_of(state);
     if !t.is_sound_small(&memory[..n], text) {
         return screen_replies::no_module(1);
@@ -272,11 +272,11 @@ fn complete(
 ) -> CompleteReply
     ensures { λ r. ⌜ RepliesLines (old state) (old words) (old text) (some ask) (old query) budget (old lines) (new lines) (old out) (new out) r ⌝ }
 {
-    if state.len() != memory_bytes::STATE_BYTES {
+    if state.len() != screen_memory::STATE_BYTES {
         return screen_replies::no_lines(1);
     }
-    let mut memory = [0u32; memory_bytes::WORDS];
-    let n = memory_bytes::load(words, &mut memory);
+    let mut memory = [0u32; screen_memory::WORDS];
+    let n = screen_memory::load(words, &mut memory);
     let t = table_of(state);
     if !t.is_sound_small(&memory[..n], text) {
         return screen_replies::no_lines(1);

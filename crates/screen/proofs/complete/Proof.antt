@@ -1,7 +1,7 @@
 -- complete meets its contract.
 use borrow.Author.Needs.{needs}
 use Rattle.memory.proofs.Says.{passes, refuses}
-use Rattle.memory_bytes.proofs.Memory.{loaded-fits, loaded-count}
+use Rattle.screen_memory.proofs.Memory.{loaded-fits, loaded-count}
 use Rattle.screen.proofs.Held.{held, unsound-memory, unsound-short}
 use Rattle.screen.proofs.RepliesLines.{lines-unsound, lines-replied}
 use Rattle.screen.proofs.complete.Statement.{statement}

@@ -1,6 +1,6 @@
 -- malformed meets its contract.
 use borrow.Author.Needs.{needs}
-use Rattle.memory_bytes.proofs.Memory.{loaded-fits, loaded-count}
+use Rattle.screen_memory.proofs.Memory.{loaded-fits, loaded-count}
 use Rattle.screen.proofs.Held.{held, unsound-short}
 use Rattle.screen.proofs.Replies.{reply-unsound, reply-none}
 use Rattle.screen.proofs.malformed.Statement.{statement}

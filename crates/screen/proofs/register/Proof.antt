@@ -1,6 +1,6 @@
 -- register meets its contract.
 use borrow.Author.Needs.{needs}
-use Rattle.memory_bytes.proofs.Memory.{loaded-fits, loaded-count}
+use Rattle.screen_memory.proofs.Memory.{loaded-fits, loaded-count}
 use Rattle.screen.proofs.Held.{unsound-short}
 use Rattle.screen.proofs.Replies.{reply-unsound}
 use Rattle.screen.proofs.register.Statement.{statement}

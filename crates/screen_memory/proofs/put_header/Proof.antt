@@ -1,8 +1,8 @@
 -- put_header meets its contract.
 use borrow.Author.Needs.{needs}
-use Rattle.memory_bytes.proofs.Memory.{header-put}
-use Rattle.memory_bytes.proofs.put_header.Statement.{statement}
-use Rattle.memory_bytes.proofs.put_header.Tie as tie
+use Rattle.screen_memory.proofs.Memory.{header-put}
+use Rattle.screen_memory.proofs.put_header.Statement.{statement}
+use Rattle.screen_memory.proofs.put_header.Tie as tie
 
 pub put-header-spec : {M : Type 1} → statement M
 put-header-spec =

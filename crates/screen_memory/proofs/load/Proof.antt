@@ -3,11 +3,11 @@ use Prim.Native.Nat.{_-_}
 use mathlib.Core.Path.{ap, _∙_}
 use native.Mathlib.Omega.{arith}
 use borrow.Author.Needs.{needs}
 use Rattle.memory_bytes.specs.Bytes.{words-at}
-use Rattle.memory_bytes.specs.Memory.{words-lent, words-in}
+use Rattle.screen_memory.specs.Memory.{words-lent, words-in}
 use Rattle.memory_bytes.proofs.Bytes.{Loading, loading-none, loading-more, loading-done}
-use Rattle.memory_bytes.proofs.load.Statement.{statement}
-use Rattle.memory_bytes.proofs.load.Tie as tie
+use Rattle.screen_memory.proofs.load.Statement.{statement}
+use Rattle.screen_memory.proofs.load.Tie as tie
 
 abbrev Inv-loop : tie.InvT-loop
 Inv-loop bytes words₀ n i₀ words i = Loading bytes words₀ words i n

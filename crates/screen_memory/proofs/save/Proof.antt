@@ -1,7 +1,7 @@
 -- save meets its contract.
 use borrow.Author.Needs.{needs}
-use Rattle.memory_bytes.proofs.save.Statement.{statement}
-use Rattle.memory_bytes.proofs.save.Tie as tie
+use Rattle.screen_memory.proofs.save.Statement.{statement}
+use Rattle.screen_memory.proofs.save.Tie as tie
 
 pub save-spec : {M : Type 1} → statement M
 save-spec =

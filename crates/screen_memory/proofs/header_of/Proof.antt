@@ -1,8 +1,8 @@
 -- header_of meets its contract.
 use borrow.Author.Needs.{needs}
-use Rattle.memory_bytes.specs.Memory.{header-in}
-use Rattle.memory_bytes.proofs.header_of.Statement.{statement}
-use Rattle.memory_bytes.proofs.header_of.Tie as tie
+use Rattle.screen_memory.specs.Memory.{header-in}
+use Rattle.screen_memory.proofs.header_of.Statement.{statement}
+use Rattle.screen_memory.proofs.header_of.Tie as tie
 
 pub header-of-spec : {M : Type 1} → statement M
 unfolding header-in

@@ -1,8 +1,8 @@
 -- words_lent meets its contract.
 use native.Mathlib.Omega.{arith}
-use Rattle.memory_bytes.specs.Memory.{words-lent}
-use Rattle.memory_bytes.proofs.words_lent.Statement.{statement}
-use Rattle.memory_bytes.proofs.words_lent.Tie as tie
+use Rattle.screen_memory.specs.Memory.{words-lent}
+use Rattle.screen_memory.proofs.words_lent.Statement.{statement}
+use Rattle.screen_memory.proofs.words_lent.Tie as tie
 
 pub words-lent-spec : {M : Type 1} → statement M
 unfolding words-lent

@@ -5,9 +5,9 @@ use mathlib.Core.List.{List}
 use native.Mathlib.Omega.{arith}
 use lib.ListN.{length, take, length-take}
 use Rattle.source.specs.Calls.{whole-records}
 use Rattle.memory_bytes.specs.Bytes.{Put}
-use Rattle.memory_bytes.specs.Memory.{state-bytes, record-bytes, records-lent-most, header-in, Spells, words-lent, words-in, Loaded}
+use Rattle.screen_memory.specs.Memory.{state-bytes, record-bytes, records-lent-most, header-in, Spells, words-lent, words-in, Loaded}
 use Rattle.memory_bytes.proofs.Bytes.{word-before, words-length}
 
 -- A header put word by word.
 pub header-put : {s s₁ s₂ s₃ s₄ : List ℕ} {a b c d : ℕ} → length s ≡ state-bytes → Put 0 a s s₁ → Put 1 b s₁ s₂ → Put 2 c s₂ s₃ → Put 3 d s₃ s₄
