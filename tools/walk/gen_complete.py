@@ -4,7 +4,7 @@ import sys
 HERE = os.path.dirname(os.path.abspath(__file__))
 sys.path.insert(0, HERE)
 from walk import Walk
-OUT = os.path.join(HERE, '..', '..', 'crates', 'typed', 'proofs', 'complete', 'Proof.antt')
+OUT = os.path.join(HERE, '..', '..', 'crates', 'table_typed', 'proofs', 'complete', 'Proof.antt')
 SHARED = {'words': ('0', 'w', 'u32', 'v₂'), 'text': ('1', 'x', 'u8', 'v₃'), 'query': ('2', 'y', 'u8', 'v₄')}
 OWN_TABLE = 'owned ! Tb.the-row (Is Tb.the-row) (LL.makes Tb.the-type Tb′.the-plain 𝓤 H A) t _ t-is $'
 OWN_ASK = 'owned ! Q.the-row (Is Q.the-row) (LE.makes Q.the-type Q′.the-plain 𝓤 H A) ak _ ak-is $'

@@ -1,13 +1,13 @@
 // Cases 1 to 13 of docs/REQUIREMENTS.md, and a damaged table through the total calls.
 // Cases 1 to 11 are scripts, each on a fresh table as the program `console` has it; what is written is held to the file `stdout`, which is written from the requirements.
 use libc::STDOUT_FILENO;
+use listing::Completed;
 use source::ItemKind;
 use source::KindFilter;
 use source::LidSymbol;
 use table::Registered;
 use table::Registration;
 use table::Table;
-use table_roots::Completed;
 use table_roots::Found;
 
 fn say(s: &[u8]) {
@@ -114,15 +114,11 @@ fn listed(
     flat: &mut [u8],
     pane: &mut [u8],
 ) -> u32 {
-    let l = t.complete(
-        words,
-        text,
-        listing_ask::Ask::Names(KindFilter::Every),
-        b"Live.off.",
-        budget,
-        flat,
-        pane,
-    );
+    let request = listing_ask::Request {
+        ask: listing_ask::Ask::Names(KindFilter::Every),
+        budget: budget,
+    };
+    let l = t.complete(words, text, request, b"Live.off.", flat, pane);
     let c = l.answer;
     match c {
         Completed::Listed(n, entered) => 0,

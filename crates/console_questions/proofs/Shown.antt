@@ -14,16 +14,16 @@ use Rattle.script_decimal.specs.Bytes.{Str, _·_}
 use Rattle.script_replies.specs.Replies.{refused-reply, end-reply}
 use Rattle.listing_ask.specs.Ask.{asked}
 use Rattle.listing_ask.specs.declared.Ask.{Ask}
+use Rattle.listing_ask.specs.declared.Request.{Request}
 use Rattle.listing_row.specs.Rows.{words-from, line-seen}
 use Rattle.listing_row.proofs.Written.{written-lines, written-texts}
-use Rattle.listing.specs.Completes.{output}
+use Rattle.listing.specs.Completes.{output, refused-by, CompletesAs}
 use Rattle.table.specs.Header.{IsSound, table-in}
 use Rattle.refusals.specs.Refusals.{number}
-use Rattle.table_roots.specs.Completions.{refused-by, CompletesAs}
 use Rattle.table.specs.Completions.{completion, Completes}
 use Rattle.table.specs.declared.Table.{Table}
-use Rattle.table_roots.specs.declared.Completed.{Completed}
-use Rattle.table_roots.specs.declared.Completed.the-variants.{Listed, Refused}
+use Rattle.listing.specs.declared.Completed.{Completed}
+use Rattle.listing.specs.declared.Completed.the-variants.{Listed, Refused}
 use Rattle.table.specs.declared.Listing.{Listing}
 use Rattle.console_questions.specs.Questions.{lines-text, completed-text}
 use Rattle.console_questions.specs.RowReplies.{RowsShown, shown-text}
@@ -54,7 +54,7 @@ module _ (ask : Ask) (ws txt flat flat′ out out′ : List ℕ) where
       })
   tells r (C.refused n) (e, w, o) = tells-refused ask flat′ out′ n r e
 
-pub completes-tells : {ws txt flat flat′ out out′ query : List ℕ} {t : Table} {ask : Ask} {budget : ℕ} {r : Listing} → IsSound ws txt t → Completes ws txt t ask query budget flat flat′ out out′ r
-    → Tells ask flat′ out′ (r .answer) (completion true (table-in ws txt t) ask budget (output flat out) query)
-completes-tells {ws} {txt} {flat} {flat′} {out} {out′} {query} {t} {ask} {budget} {r} o x =
-    tells ask ws txt flat flat′ out out′ (r .answer) (completion true (table-in ws txt t) ask budget (output flat out) query) (x .says true o)
+pub completes-tells : {ws txt flat flat′ out out′ query : List ℕ} {t : Table} {request : Request} {r : Listing} → IsSound ws txt t → Completes ws txt t request query flat flat′ out out′ r
+    → Tells (request .ask) flat′ out′ (r .answer) (completion true (table-in ws txt t) (request .ask) (request .budget) (output flat out) query)
+completes-tells {ws} {txt} {flat} {flat′} {out} {out′} {query} {t} {request} {r} o x =
+    tells (request .ask) ws txt flat flat′ out out′ (r .answer) (completion true (table-in ws txt t) (request .ask) (request .budget) (output flat out) query) (x .says true o)

@@ -17,8 +17,8 @@ use Rattle.listing_row.specs.declared.RowItem.{RowItem}
 use Rattle.listing_row.specs.declared.RowItem.the-variants.{Name, Symbol}
 use Rattle.listing_row.specs.declared.Row.{Row}
 use Rattle.refusals.specs.Refusals.{number}
-use Rattle.table_roots.specs.declared.Completed.{Completed}
-use Rattle.table_roots.specs.declared.Completed.the-variants.{Listed, Refused}
+use Rattle.listing.specs.declared.Completed.{Completed}
+use Rattle.listing.specs.declared.Completed.the-variants.{Listed, Refused}
 
 -- ---- One row
 

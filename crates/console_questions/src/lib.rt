@@ -1,11 +1,11 @@
 // The line of a question answered: a look-up or a completion of a table whose memory is sound by proof, and its reply.
+use listing::Completed;
 use listing_row::Row;
 use listing_row::RowItem;
 use memory::ModSymbol;
 use script_replies::ItemReply;
 use source::KindFilter;
 use table::Table;
-use table_roots::Completed;
 use table_roots::Found;
 ghost use mathlib.Core.Path.{_≡_};
 ghost use mathlib.Core.Bool.{true};
@@ -144,7 +144,11 @@ fn complete_line(
         (old query))) ⌝ }
 {
     let table = start.table;
-    let l = table.complete_sound(words, text, ask, query, 4096, flat, pane);
+    let request = listing_ask::Request {
+        ask: ask,
+        budget: 4096,
+    };
+    let l = table.complete_sound(words, text, request, query, flat, pane);
     let c = l.answer;
     put_completed(flat, pane, ask, c, reply, start.at)
 }

@@ -1,8 +1,9 @@
 -- Completion on a root: the run begins at the root with nothing counted, first over an empty output, then over the one lent.
 use Prim.Native.Nat.{ℕ, suc, _+_, _/_, _<_, _≤_, min}
 use mathlib.Core.Path.{_≡_, refl, _∙_}
-use mathlib.Core.Bool.{Bool, true, false, or-true}
+use mathlib.Core.Bool.{Bool, true, false, _||_, or-true}
 use mathlib.Core.List.{List, [], _∷_}
+use mathlib.Core.Option.{none, some}
 use mathlib.Core.Logic.{inl, inr}
 use native.Mathlib.Omega.{arith}
 use lib.Dec.{ltb}
@@ -13,9 +14,11 @@ use Rattle.source.specs.Text.{Str, segments, ends-in-dot}
 use Rattle.source.specs.Types.{Trie, bind}
 use Rattle.source.specs.Terms.{depth}
 use Rattle.source.specs.Table.{Line, first-import-of-path}
-use Rattle.source.specs.Calls.{lowest, output-text, tries-entered}
+use Rattle.source.specs.Calls as C
+use Rattle.source.specs.Calls.{Row, _when_, a-completion, lowest, argument-rows, Output, output-text, completion-rows, completed, tries-entered}
 use Rattle.source.specs.Forward.{entered}
 use Rattle.source.proofs.Counted.{tries-entered-count}
+use Rattle.source.proofs.Refusals.{lowest-past}
 use Rattle.source.specs.Forward.{base}
 use Rattle.memory.specs.Layout.{Item, trieˢ, what}
 use Rattle.memory.proofs.Tries.{trie-shallow}
@@ -26,12 +29,15 @@ use Rattle.listing_output.specs.Output.{line-bytes, Written}
 use Rattle.listing_output.specs.Run.{Tally, Limits, Small, path-in, tally-in}
 use Rattle.listing_line.specs.Goes.{Shows, Past, Fit, Goes}
 use Rattle.listing_ask.specs.declared.Ask.{Ask}
+use Rattle.listing_ask.specs.declared.Request.{Request}
 use Rattle.listing_line.proofs.Capped.{tally-is, tells-past}
 use Rattle.listing_trie.specs.Runs.{trie-gives, TrieReady, TrieRuns, TrieListed}
 use Rattle.listing_start.specs.Outset.{start-run}
 use Rattle.listing_start.proofs.Outset.{unmatched, root-matching}
-use Rattle.listing.specs.Completes.{output, output-rows, lines-of, CompletesAs, CompletesTrie}
-use Rattle.listing.specs.declared.Completion.the-variants.{Listed, Spent, Lines}
+use Rattle.refusals.specs.declared.Refusal.the-variants.{Spent, Lines}
+use Rattle.listing.specs.Completes.{output, lines-of, CompletesAs, CompletesOn}
+use Rattle.listing.specs.declared.Completed.{Completed}
+use Rattle.listing.specs.declared.Completed.the-variants.{Listed, Refused}
 use Rattle.listing_trie.proofs.Listed.{no-label}
 use Rattle.memory.specs.Sound.{At}
 
@@ -169,37 +175,50 @@ module _ {lim : Limits} {e l b : ℕ} {a : Tally} (s : Shows lim e l b a) where
 affordable : {lim : Limits} {budget : ℕ} {flat out : List ℕ} {e l b : ℕ} {a : Tally} → Set lim budget flat out → Shows lim e l b a → a .entered ≤ lim .budget → ltb budget e ≡ false
 affordable {budget = budget} {e = e} set s h = le-ltb budget e (omega (arith, within s h, set .budget-is))
 
-module _ {ws txt : List ℕ} {ask : Ask} {root : ℕ} {query : Str} {budget : ℕ} {flat flat′ out out′ : List ℕ} {lim : Limits} {a : Tally} (set : Set lim budget flat out)
-    (s : Shows lim (tries ws txt ask root query) (length (listed ws txt ask root query)) (length (output-text (listed ws txt ask root query))) a) where
-  pub completes-spent : lim .budget < a .entered → flat′ ≡ flat → out′ ≡ out → CompletesTrie ws txt ask root query budget flat flat′ out out′ Spent
+-- Rows 9 and 10.
+abbrev output-rows : {A : Type 0} → (budget : ℕ) → Output → List (Line A) → (entered : ℕ) → List Row
+output-rows budget out lines entered =
+    (9 when ltb budget entered) ∷ (10 when ltb (out .lines) (length lines) || ltb (out .text) (length (output-text lines))) ∷ []
+
+module _ (ws txt : List ℕ) (request : Request) (root : ℕ) (query : Str) (flat flat′ out out′ : List ℕ) (r : Completed) where
+  -- What rows 9 and 10 say.
+  abbrev ByRows : Type 0
+  ByRows = CompletesAs (request .ask) ws txt flat flat′ out out′ r
+      (elim (lowest (output-rows (request .budget) (output flat out) (listed ws txt (request .ask) root query) (tries ws txt (request .ask) root query)))
+      [ none ↦ C.listed (listed ws txt (request .ask) root query) (tries ws txt (request .ask) root query) | some n ↦ C.refused n ])
+
+  by-rows : lowest (argument-rows true (a-completion query ∷ [])) ≡ none → ByRows → CompletesOn ws txt request root query flat flat′ out out′ r
+  unfolding completed completion-rows
+  by-rows e c = record { says = rw (completed, completion-rows, lowest-past (argument-rows true (a-completion query ∷ [])) _ e) c }
+
+module _ {ws txt : List ℕ} {request : Request} {root : ℕ} {query : Str} (e : lowest (argument-rows true (a-completion query ∷ [])) ≡ none) {flat flat′ out out′ : List ℕ} {lim : Limits} {a : Tally}
+    (set : Set lim (request .budget) flat out)
+    (s : Shows lim (tries ws txt (request .ask) root query) (length (listed ws txt (request .ask) root query)) (length (output-text (listed ws txt (request .ask) root query))) a) where
+  pub completes-spent : lim .budget < a .entered → flat′ ≡ flat → out′ ≡ out → CompletesOn ws txt request root query flat flat′ out out′ (Refused Spent)
   unfolding lowest
-  completes-spent h f o = record { says = rw (lt-ltb budget (tries ws txt ask root query) (omega (arith, passed s h, set .budget-is))) (refl, f, o) }
+  completes-spent h f o = by-rows ws txt request root query flat flat′ out out′ _ e (rw (lt-ltb (request .budget) (tries ws txt (request .ask) root query) (omega (arith, passed s h, set .budget-is))) (refl, f, o))
 
   module _ (h : a .entered ≤ lim .budget) where
     -- Lines or bytes past what is lent.
-    pub completes-past : Past lim (a .lines) (a .bytes) → flat′ ≡ flat → out′ ≡ out → CompletesTrie ws txt ask root query budget flat flat′ out out′ Lines
+    pub completes-past : Past lim (a .lines) (a .bytes) → flat′ ≡ flat → out′ ≡ out → CompletesOn ws txt request root query flat flat′ out out′ (Refused Lines)
     unfolding lowest
-    completes-past p f o = record { says = go (tells-past lim a p (s .counted (within s h))) }
+    completes-past p f o = by-rows ws txt request root query flat flat′ out out′ _ e (go (tells-past lim a p (s .counted (within s h))))
       where
-        go : Past lim (length (listed ws txt ask root query)) (length (output-text (listed ws txt ask root query)))
-            → CompletesAs ws txt ask flat flat′ out out′ Lines (listed ws txt ask root query) (tries ws txt ask root query)
-            (lowest (output-rows budget (output flat out) (listed ws txt ask root query) (tries ws txt ask root query)))
-        go (inl k) = rw (affordable set s h, lt-ltb (min (length flat / line-bytes) 4294967295) (length (listed ws txt ask root query)) (omega (arith, set .lines-are))) (refl, f, o)
+        go : Past lim (length (listed ws txt (request .ask) root query)) (length (output-text (listed ws txt (request .ask) root query))) → ByRows ws txt request root query flat flat′ out out′ (Refused Lines)
+        go (inl k) = rw (affordable set s h, lt-ltb (min (length flat / line-bytes) 4294967295) (length (listed ws txt (request .ask) root query)) (omega (arith, set .lines-are))) (refl, f, o)
         go (inr k) =
-            rw (affordable set s h, lt-ltb (min (length out) 4294967295) (length (output-text (listed ws txt ask root query))) (omega (arith, set .bytes-are)), or-true)
+            rw (affordable set s h, lt-ltb (min (length out) 4294967295) (length (output-text (listed ws txt (request .ask) root query))) (omega (arith, set .bytes-are)), or-true (ltb (output flat out .lines) (length (listed ws txt (request .ask) root query))))
             (refl, f, o)
 
-    pub completes-listed : a .lines ≤ lim .lines → a .bytes ≤ lim .bytes → Written (asked ask) ws txt flat flat′ out out′ 0 0 (listed ws txt ask root query)
-        → CompletesTrie ws txt ask root query budget flat flat′ out out′ (Listed (a .lines) (a .entered))
+    pub completes-listed : a .lines ≤ lim .lines → a .bytes ≤ lim .bytes → Written (asked (request .ask)) ws txt flat flat′ out out′ 0 0 (listed ws txt (request .ask) root query)
+        → CompletesOn ws txt request root query flat flat′ out out′ (Listed (a .lines) (a .entered))
     unfolding lowest
     completes-listed l b w =
         let x = exact s h l b in
-        record {
-          says =
-              rw (
-                affordable set s h,
-                le-ltb (min (length flat / line-bytes) 4294967295) (length (listed ws txt ask root query)) (omega (arith, x .1, set .lines-are)),
-                le-ltb (min (length out) 4294967295) (length (output-text (listed ws txt ask root query))) (omega (arith, x .2, set .bytes-are)),
-              )
-              (rw (x .0, x .1), w);
-        }
+        by-rows ws txt request root query flat flat′ out out′ _ e
+        (rw (
+          affordable set s h,
+          le-ltb (min (length flat / line-bytes) 4294967295) (length (listed ws txt (request .ask) root query)) (omega (arith, x .1, set .lines-are)),
+          le-ltb (min (length out) 4294967295) (length (output-text (listed ws txt (request .ask) root query))) (omega (arith, x .2, set .bytes-are)),
+        )
+        (rw (x .0, x .1), w))

@@ -1,1 +1,2 @@
+mod Admitted
 pub mod Completes

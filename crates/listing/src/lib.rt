@@ -1,43 +1,42 @@
-// Completion on a root of well-formed arguments: rows 9 and 10, counted before anything is written.
-use listing_ask::Ask;
+// Completion on a root, of a query that is admitted: rows 9 and 10, counted before anything is written.
+use listing_ask::Request;
+use refusals::Refusal;
 ghost use mathlib.Core.Path.{_≡_};
 ghost use mathlib.Core.Bool.{true};
-ghost use Prim.Native.Nat.{_≤_};
-ghost use lib.ListN.{length};
+ghost use mathlib.Core.List.{[], _∷_};
+ghost use mathlib.Core.Option.{none};
 ghost use Rattle.source.specs.Lent.{old, new};
-ghost use Rattle.source.specs.Limits.{longest-query};
-ghost use Rattle.source.specs.Text.{ends-in-dot};
+ghost use Rattle.source.specs.Calls.{a-completion, lowest, argument-rows};
 ghost use Rattle.memory.specs.Layout.{trieˢ};
 ghost use Rattle.memory.specs.Sound.{At};
 ghost use Rattle.listing_ask.specs.Ask.{asked};
-ghost use Rattle.listing.specs.Completes.{CompletesTrie};
+ghost use Rattle.listing.specs.Completes.{CompletesOn};
 
-// What a completion of well-formed arguments hands back: the lines and the tries entered, or rows 9 and 10.
-pub enum Completion {
+// The answer of a completion: how many lines and tries entered, or a refusal.
+pub enum Completed {
     Listed(u32, u32),
-    Spent,
-    Lines,
+    Refused(Refusal),
 }
 
 // Completion on a root: counted first, so that a refusal writes nothing, then written.
 pub fn complete(
     words: &[u32],
     text: &[u8],
-    ask: Ask,
+    request: Request,
     root: u32,
     query: &[u8],
-    budget: u32,
     flat: &mut [u8],
     out: &mut [u8],
-) -> Completion
-    requires { ⌜ At (now words) (now text) (asked ask) trieˢ root ⌝ }
-    requires { ⌜ (ends-in-dot (now query) ≡ true) × (length (now query) ≤ longest-query) ⌝ }
-    ensures { λ r. ⌜ CompletesTrie (old words) (old text) ask root (old query) budget
+) -> Completed
+    requires { ⌜ At (now words) (now text) (asked (request .ask)) trieˢ root ⌝ }
+    requires { ⌜ lowest (argument-rows true (a-completion (now query) ∷ [])) ≡ none ⌝ }
+    ensures { λ r. ⌜ CompletesOn (old words) (old text) request root (old query)
         (old flat) (new flat) (old out) (new out) r ⌝ }
 {
+    let ask = request.ask;
     let lines = listing_start::lines_lent(flat.len());
     let bytes = listing_start::lent(out.len());
-    let most = budget as usize;
+    let most = request.budget as usize;
     let mut run = listing_start::start(most, lines, bytes);
     listing_trie::list_trie(
         words,
@@ -51,17 +50,17 @@ pub fn complete(
     );
     let entered = run[listing_output::ENTERED];
     if most < entered {
-        return Completion::Spent;
+        return Completed::Refused(Refusal::Spent);
     }
     let count = run[listing_output::LINES];
     let size = run[listing_output::BYTES];
     if lines < count {
-        return Completion::Lines;
+        return Completed::Refused(Refusal::Lines);
     }
     if bytes < size {
-        return Completion::Lines;
+        return Completed::Refused(Refusal::Lines);
     }
     let mut again = listing_start::start(most, lines, bytes);
     listing_trie::list_trie(words, text, query, ask, root, &mut again, flat, out);
-    Completion::Listed(count as u32, entered as u32)
+    Completed::Listed(count as u32, entered as u32)
 }

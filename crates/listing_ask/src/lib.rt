@@ -21,6 +21,12 @@ pub enum Ask {
     Modules(Filter),
 }
 
+// What a completion is asked, beside its query: which lines, and how many tries it may enter.
+pub struct Request {
+    pub ask: Ask,
+    pub budget: u32,
+}
+
 // Whether the filter keeps a symbol: a module where `m`, else a namespace, loaded or not.
 pub fn keeps(f: Filter, m: bool, loaded: bool) -> bool
     ensures { λ r. ⌜ ((name path : Str) → r ≡ C.keeps (filter-in f) (pick m (Module name path loaded) (Namespace name loaded))) ⌝ }

@@ -12,13 +12,13 @@ use Rattle.memory.specs.Layout.{Item}
 use Rattle.listing_ask.specs.Ask.{asked}
 use Rattle.listing_ask.specs.declared.Ask.{Ask}
 use Rattle.listing_ask.specs.declared.Ask.the-variants.{Names, Modules}
-use Rattle.listing.specs.Completes.{output}
+use Rattle.listing_ask.specs.declared.Request.{Request}
+use Rattle.listing.specs.Completes.{output, CompletesAs}
 use Rattle.table.specs.Header.{table-in}
-use Rattle.table_roots.specs.Completions.{CompletesAs}
 use Rattle.table.specs.Completions.{completion, Completes}
 use Rattle.table.specs.declared.Table.{Table}
-use Rattle.table_roots.specs.declared.Completed.{Completed}
-use Rattle.table_roots.specs.declared.Completed.the-variants.{Listed, Refused}
+use Rattle.listing.specs.declared.Completed.{Completed}
+use Rattle.listing.specs.declared.Completed.the-variants.{Listed, Refused}
 use Rattle.table.specs.declared.Listing.{Listing}
 use Rattle.screen_replies.specs.Filters.{is-asked}
 use Rattle.screen_replies.proofs.Filters.{asked-none}
@@ -51,23 +51,23 @@ unasked-as : (b : Bool) (st bs txt ls out : List ℕ) {k : ℕ} {r : CompleteRep
 unasked-as true st bs txt ls out a p = record { reply = p ∙ ap no-lines (a .0); lines = refl; text = refl }
 unasked-as false st bs txt ls out a p = record { reply = p ∙ ap no-lines (a .0); lines = refl; text = refl }
 
-module _ {st bs txt : List ℕ} {query : Str} {budget : ℕ} {ls out : List ℕ} where
-  pub lines-unsound : {ask : Ask} {r : CompleteReply} → (SoundBytes st bs txt → ⊥) → r ≡ no-lines 1 → RepliesLines st bs txt (some ask) query budget ls ls out out r
-  lines-unsound {ask} e p = record {
-    says = λ b h. rw (says-unsound b e h, completion-unsound _ ask _ _ _) (record { reply = p; lines = refl; text = refl });
+module _ {st bs txt : List ℕ} {query : Str} {ls out : List ℕ} where
+  pub lines-unsound : {request : Request} {r : CompleteReply} → (SoundBytes st bs txt → ⊥) → r ≡ no-lines 1 → RepliesLines st bs txt (some (request .ask)) query (request .budget) ls ls out out r
+  lines-unsound {request} e p = record {
+    says = λ b h. rw (says-unsound b e h, completion-unsound _ (request .ask) _ _ _) (record { reply = p; lines = refl; text = refl });
   }
 
-  pub lines-replied : {m ls′ out′ : List ℕ} {t : Table} {ask : Ask} (r : Listing) {c : CompleteReply} → Held st bs m t
-      → Completes m txt t ask query budget ls ls′ out out′ r → c ≡ lines-reply (r .answer)
-      → RepliesLines st bs txt (some ask) query budget ls ls′ out out′ c
-  lines-replied {m} {ls′} {out′} {t} {ask} r h g p = record {
+  pub lines-replied : {m ls′ out′ : List ℕ} {t : Table} {request : Request} (r : Listing) {c : CompleteReply} → Held st bs m t
+      → Completes m txt t request query ls ls′ out out′ r → c ≡ lines-reply (r .answer)
+      → RepliesLines st bs txt (some (request .ask)) query (request .budget) ls ls′ out out′ c
+  lines-replied {m} {ls′} {out′} {t} {request} r h g p = record {
     says = λ b i. rw (← h .lent, h .spelt .header, p)
-        (replied-as ask m txt ls ls′ out out′ (r .answer) (completion b (table-in m txt t) ask budget (output ls out) query) (g .says b (says-memory txt h b i)));
+        (replied-as (request .ask) m txt ls ls′ out out′ (r .answer) (completion b (table-in m txt t) (request .ask) (request .budget) (output ls out) query) (g .says b (says-memory txt h b i)));
   }
 
-  pub lines-asked : {ls′ out′ : List ℕ} {ask : Ask} {o : Option Ask} {r : CompleteReply} → o ≡ some ask → RepliesLines st bs txt (some ask) query budget ls ls′ out out′ r
+  pub lines-asked : {budget : ℕ} {ls′ out′ : List ℕ} {ask : Ask} {o : Option Ask} {r : CompleteReply} → o ≡ some ask → RepliesLines st bs txt (some ask) query budget ls ls′ out out′ r
       → RepliesLines st bs txt o query budget ls ls′ out out′ r
   lines-asked e p = rw e p
 
-  pub lines-unasked : (o : Option Ask) {k : ℕ} {r : CompleteReply} → is-asked o ≡ false → Replies st bs txt st bs txt none k → r ≡ no-lines k → RepliesLines st bs txt o query budget ls ls out out r
+  pub lines-unasked : {budget : ℕ} (o : Option Ask) {k : ℕ} {r : CompleteReply} → is-asked o ≡ false → Replies st bs txt st bs txt none k → r ≡ no-lines k → RepliesLines st bs txt o query budget ls ls out out r
   lines-unasked o h p q = rw (asked-none o h) (record { says = λ b i. unasked-as b st bs txt ls out (p .says b i) q })

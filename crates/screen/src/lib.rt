@@ -3,7 +3,7 @@
 // the layer copies the words in, tests them with little stack, calls crate table, and copies out what an accepted call has taken.
 // Lines are written in place.
 // Every exported call answers for whatever bytes are lent.
-use listing_ask::Ask;
+use listing_ask::Request;
 use register_kind::Kind;
 use screen_replies::CompleteReply;
 use screen_replies::ModuleReply;
@@ -264,13 +264,13 @@ fn complete(
     state: &[u8],
     words: &[u8],
     text: &[u8],
-    ask: Ask,
+    request: Request,
     query: &[u8],
-    budget: u32,
     lines: &mut [u8],
     out: &mut [u8],
 ) -> CompleteReply
-    ensures { λ r. ⌜ RepliesLines (old state) (old words) (old text) (some ask) (old query) budget (old lines) (new lines) (old out) (new out) r ⌝ }
+    ensures { λ r. ⌜ RepliesLines (old state) (old words) (old text) (some (request .ask)) (old query) (request .budget)
+        (old lines) (new lines) (old out) (new out) r ⌝ }
 {
     if state.len() != screen_memory::STATE_BYTES {
         return screen_replies::no_lines(1);
@@ -281,15 +281,7 @@ fn complete(
     if !t.is_sound_small(&memory[..n], text) {
         return screen_replies::no_lines(1);
     }
-    screen_replies::lines_reply(t.complete_sound(
-        &memory[..n],
-        text,
-        ask,
-        query,
-        budget,
-        lines,
-        out,
-    ))
+    screen_replies::lines_reply(t.complete_sound(&memory[..n], text, request, query, lines, out))
 }
 
 // Completes a name, of every kind if `kind` is 0, else of the kind of that number: lines of 48 bytes into `lines`, their texts into `out`.
@@ -307,16 +299,11 @@ pub extern "C" fn name_console_complete_names(
     ensures { λ r. ⌜ RepliesLines (old state) (old words) (old text) (names-for kind) (old query) budget (old lines) (new lines) (old out) (new out) r ⌝ }
 {
     if screen_replies::is_filter(kind) {
-        return complete(
-            state,
-            words,
-            text,
-            screen_replies::names_asked(kind),
-            query,
-            budget,
-            lines,
-            out,
-        );
+        let request = Request {
+            ask: screen_replies::names_asked(kind),
+            budget: budget,
+        };
+        return complete(state, words, text, request, query, lines, out);
     }
     screen_replies::no_lines(malformed(state, words, text))
 }
@@ -336,16 +323,11 @@ pub extern "C" fn name_console_complete_modules(
     ensures { λ r. ⌜ RepliesLines (old state) (old words) (old text) (modules-for filter) (old query) budget (old lines) (new lines) (old out) (new out) r ⌝ }
 {
     if screen_replies::is_filter(filter) {
-        return complete(
-            state,
-            words,
-            text,
-            screen_replies::modules_asked(filter),
-            query,
-            budget,
-            lines,
-            out,
-        );
+        let request = Request {
+            ask: screen_replies::modules_asked(filter),
+            budget: budget,
+        };
+        return complete(state, words, text, request, query, lines, out);
     }
     screen_replies::no_lines(malformed(state, words, text))
 }

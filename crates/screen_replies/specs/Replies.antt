@@ -11,8 +11,8 @@ use Rattle.memory.specs.declared.ModSymbol.{ModSymbol}
 use Rattle.memory.specs.declared.ModSymbol.the-variants.{Module, Namespace}
 use Rattle.table_roots.specs.declared.FoundModule.{FoundModule}
 use Rattle.table_roots.specs.declared.FoundModule.the-variants.{Symbol, Nothing, Refused}
-use Rattle.table_roots.specs.declared.Completed.{Completed}
-use Rattle.table_roots.specs.declared.Completed.the-variants.{Listed, Refused as Not-listed}
+use Rattle.listing.specs.declared.Completed.{Completed}
+use Rattle.listing.specs.declared.Completed.the-variants.{Listed, Refused as Not-listed}
 use Rattle.screen_replies.specs.declared.NameReply.{NameReply}
 use Rattle.screen_replies.specs.declared.ModuleReply.{ModuleReply}
 use Rattle.screen_replies.specs.declared.CompleteReply.{CompleteReply}

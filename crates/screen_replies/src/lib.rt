@@ -1,4 +1,5 @@
 // Replies as numbers, by what crate table hands back, and what is asked by number.
+use listing::Completed;
 use listing_ask::Ask;
 use listing_ask::Filter;
 use memory::ModSymbol;
@@ -6,7 +7,6 @@ use source::KindFilter;
 use table::Finding;
 use table::Listing;
 use table::ModuleFinding;
-use table_roots::Completed;
 use table_roots::Found;
 use table_roots::FoundModule;
 ghost use Prim.Native.Nat.{_<_};

@@ -41,8 +41,8 @@ same-asked : (P : Table → Ask → Type 0) {t t′ : Table} {ask ask′ : Ask} 
 same-asked P {t′ = t′} {ask} e g x = subst (P t′) g (subst (λ (u : Table). P u ask) e x)
 
 module _ {ws txt : List ℕ} {t t′ : Table} {ask : Ask} {n : ℕ} {query : Str} {budget : ℕ} {flat flat′ out out′ : List ℕ} (e : t ≡ t′) (g : ask ≡ ask-of n) where
-  pub lists-replies : {x : Listing} {r : CompleteReply} → Completes ws txt t ask query budget flat flat′ out out′ x → r ≡ lines-reply (x .answer) → ListReplies ws txt t′ n query budget flat flat′ out out′ r
-  lists-replies {x} a f = record { answer = x; completes = same-asked (λ u k. Completes ws txt u k query budget flat flat′ out out′ x) e g a; reply = f }
+  pub lists-replies : {x : Listing} {r : CompleteReply} → Completes ws txt t (record { ask = ask; budget = budget }) query flat flat′ out out′ x → r ≡ lines-reply (x .answer) → ListReplies ws txt t′ n query budget flat flat′ out out′ r
+  lists-replies {x} a f = record { answer = x; completes = same-asked (λ u k. Completes ws txt u (record { ask = k; budget = budget }) query flat flat′ out out′ x) e g a; reply = f }
 
-  pub shares-replies : {x : Sharing} {r : SharedReply} → CompletesShared ws txt t ask query budget flat flat′ out out′ x → r ≡ shared-of x → SharedReplies ws txt t′ n query budget flat flat′ out out′ r
-  shares-replies {x} a f = record { answer = x; completes = same-asked (λ u k. CompletesShared ws txt u k query budget flat flat′ out out′ x) e g a; reply = f }
+  pub shares-replies : {x : Sharing} {r : SharedReply} → CompletesShared ws txt t (record { ask = ask; budget = budget }) query flat flat′ out out′ x → r ≡ shared-of x → SharedReplies ws txt t′ n query budget flat flat′ out out′ r
+  shares-replies {x} a f = record { answer = x; completes = same-asked (λ u k. CompletesShared ws txt u (record { ask = k; budget = budget }) query flat flat′ out out′ x) e g a; reply = f }

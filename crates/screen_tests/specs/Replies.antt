@@ -79,7 +79,7 @@ pub record FindReplies (ws txt : List ℕ) (t : Table) (query : Str) (r : NameRe
 -- The reply to a completion: that of what table's contract says.
 pub record ListReplies (ws txt : List ℕ) (t : Table) (ask : ℕ) (query : Str) (budget : ℕ) (flat flat′ out out′ : List ℕ) (r : CompleteReply) : Type 0 where
   pub answer : Listing
-  pub completes : Completes ws txt t (ask-of ask) query budget flat flat′ out out′ answer
+  pub completes : Completes ws txt t (record { ask = ask-of ask; budget = budget }) query flat flat′ out out′ answer
   pub reply : r ≡ lines-reply (answer .answer)
 
 abbrev pub shared-of : Sharing → SharedReply
@@ -88,5 +88,5 @@ shared-of x = shared-reply (lines-reply (x .listing .answer)) (x .shared)
 -- The reply to a completion with its shared length: that of what sharing's contract says.
 pub record SharedReplies (ws txt : List ℕ) (t : Table) (ask : ℕ) (query : Str) (budget : ℕ) (flat flat′ out out′ : List ℕ) (r : SharedReply) : Type 0 where
   pub answer : Sharing
-  pub completes : CompletesShared ws txt t (ask-of ask) query budget flat flat′ out out′ answer
+  pub completes : CompletesShared ws txt t (record { ask = ask-of ask; budget = budget }) query flat flat′ out out′ answer
   pub reply : r ≡ shared-of answer

@@ -2,6 +2,7 @@
 // Each replies what crate table hands back.
 use listing_ask::Ask;
 use listing_ask::Filter;
+use listing_ask::Request;
 use memory_table::Header;
 use screen_replies::CompleteReply;
 use screen_replies::NameReply;
@@ -257,7 +258,11 @@ pub extern "C" fn name_table_complete(
         (old flat) (new flat) (old out) (new out) r ⌝ }
 {
     let t = table_of(names, modules, records, used);
-    screen_replies::lines_reply(t.complete(words, text, ask_of(ask), query, budget, flat, out))
+    let request = Request {
+        ask: ask_of(ask),
+        budget: budget,
+    };
+    screen_replies::lines_reply(t.complete(words, text, request, query, flat, out))
 }
 
 // The same, with the length of the beginning that the lines share.
@@ -279,7 +284,11 @@ pub extern "C" fn name_table_complete_shared(
         (old flat) (new flat) (old out) (new out) r ⌝ }
 {
     let t = table_of(names, modules, records, used);
-    shared_of(table_shared::complete(t, words, text, ask_of(ask), query, budget, flat, out))
+    let request = Request {
+        ask: ask_of(ask),
+        budget: budget,
+    };
+    shared_of(table_shared::complete(t, words, text, request, query, flat, out))
 }
 
 // For callers whose memory is sound: no test.
@@ -340,15 +349,11 @@ pub extern "C" fn name_table_complete_sound(
         (old flat) (new flat) (old out) (new out) r ⌝ }
 {
     let t = table_of(names, modules, records, used);
-    screen_replies::lines_reply(t.complete_sound(
-        words,
-        text,
-        ask_of(ask),
-        query,
-        budget,
-        flat,
-        out,
-    ))
+    let request = Request {
+        ask: ask_of(ask),
+        budget: budget,
+    };
+    screen_replies::lines_reply(t.complete_sound(words, text, request, query, flat, out))
 }
 
 #[no_mangle]
@@ -370,5 +375,9 @@ pub extern "C" fn name_table_complete_shared_sound(
         (old flat) (new flat) (old out) (new out) r ⌝ }
 {
     let t = table_of(names, modules, records, used);
-    shared_of(table_shared::complete_sound(t, words, text, ask_of(ask), query, budget, flat, out))
+    let request = Request {
+        ask: ask_of(ask),
+        budget: budget,
+    };
+    shared_of(table_shared::complete_sound(t, words, text, request, query, flat, out))
 }

@@ -23,14 +23,13 @@ use Rattle.listing_ask.specs.declared.Ask.the-variants.{Names, Modules}
 use Rattle.listing_ask.specs.declared.Filter.the-variants.{All}
 use Rattle.listing_row.specs.Rows.{lines-seen}
 use Rattle.listing_row.proofs.Written.{written-seen}
-use Rattle.listing.specs.Completes.{output}
+use Rattle.listing.specs.Completes.{output, CompletesAs}
 use Rattle.table.specs.Header.{IsSound, table-in, names-in, modules-in}
 use Rattle.table_roots.specs.Answers.{name-found, module-found}
-use Rattle.table_roots.specs.Completions.{CompletesAs}
 use Rattle.table.specs.Agreement.{CallsAgree}
 use Rattle.table.specs.declared.Table.{Table}
-use Rattle.table_roots.specs.declared.Completed.{Completed}
-use Rattle.table_roots.specs.declared.Completed.the-variants.{Listed}
+use Rattle.listing.specs.declared.Completed.{Completed}
+use Rattle.listing.specs.declared.Completed.the-variants.{Listed}
 
 -- A listing that was not refused.
 listed-lines : (ask : Ask) (ws txt flat flat′ out out′ : List ℕ) (n entered : ℕ) (o : C.Completed (Item (asked ask))) → CompletesAs ask ws txt flat flat′ out out′ (Listed n entered) o

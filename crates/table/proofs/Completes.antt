@@ -10,14 +10,15 @@ use Rattle.memory.specs.Layout.{trieˢ, what}
 use Rattle.listing_ask.specs.Ask.{filter-in, asked}
 use Rattle.listing_ask.specs.declared.Ask.{Ask}
 use Rattle.listing_ask.specs.declared.Ask.the-variants.{Names, Modules}
-use Rattle.listing.specs.Completes.{output, lines-of}
+use Rattle.listing_ask.specs.declared.Request.{Request}
+use Rattle.listing.specs.Completes.{output, lines-of, CompletesAs, CompletesOn}
 use Rattle.table.specs.Header.{IsSound, table-in}
-use Rattle.table_roots.specs.Completions.{CompletesAs, root-for, CompletesOn}
+use Rattle.table_roots.specs.Completions.{root-for}
 use Rattle.table.specs.Completions.{completion, Completes}
 use Rattle.table.specs.declared.Table.{Table}
 use Rattle.refusals.specs.declared.Refusal.the-variants.{Unsound}
-use Rattle.table_roots.specs.declared.Completed.{Completed}
-use Rattle.table_roots.specs.declared.Completed.the-variants.{Refused}
+use Rattle.listing.specs.declared.Completed.{Completed}
+use Rattle.listing.specs.declared.Completed.the-variants.{Refused}
 use Rattle.table.proofs.Says.{decided}
 
 on-table : (ws txt : List ℕ) (t : Table) (ask : Ask) (budget : ℕ) (out : Output) (query : Str)
@@ -27,19 +28,19 @@ unfolding complete complete-modules
 on-table ws txt t (Names f) budget out query = rw (autocomplete-lid-is (table-in ws txt t) (segments query) (keeps-kind f))
 on-table ws txt t (Modules f) budget out query = rw (autocomplete-mod-or-ns-is (table-in ws txt t) (segments query) (keeps (filter-in f)))
 
-pub completes-table : {ws txt : List ℕ} {t : Table} {ask : Ask} {query : Str} {budget : ℕ} {flat flat′ out out′ : List ℕ} {r : Completed} → IsSound ws txt t
-    → CompletesOn ws txt ask (root-for (t .header) ask) query budget flat flat′ out out′ r → Completes ws txt t ask query budget flat flat′ out out′ (record { table = t; answer = r })
-completes-table {ws} {txt} {t} {ask} {query} {budget} {flat} {flat′} {out} {out′} {r} o c = record {
+pub completes-table : {ws txt : List ℕ} {t : Table} {request : Request} {query : Str} {flat flat′ out out′ : List ℕ} {r : Completed} → IsSound ws txt t
+    → CompletesOn ws txt request (root-for (t .header) (request .ask)) query flat flat′ out out′ r → Completes ws txt t request query flat flat′ out out′ (record { table = t; answer = r })
+completes-table {ws} {txt} {t} {request} {query} {flat} {flat′} {out} {out′} {r} o c = record {
   table = refl;
-  says = λ b h. rw (decided _ b true h o) (subst (CompletesAs ask ws txt flat flat′ out out′ r) (on-table ws txt t ask budget (output flat out) query) (c .says));
+  says = λ b h. rw (decided _ b true h o) (subst (CompletesAs (request .ask) ws txt flat flat′ out out′ r) (on-table ws txt t (request .ask) (request .budget) (output flat out) query) (c .says));
 }
 
 -- A memory that is not sound is refused, whatever is asked.
-pub completes-unsound : {ws txt : List ℕ} {t : Table} {ask : Ask} {query : Str} {budget : ℕ} {flat out : List ℕ} → (IsSound ws txt t → ⊥)
-    → Completes ws txt t ask query budget flat flat out out (record { table = t; answer = Refused Unsound })
+pub completes-unsound : {ws txt : List ℕ} {t : Table} {request : Request} {query : Str} {flat out : List ℕ} → (IsSound ws txt t → ⊥)
+    → Completes ws txt t request query flat flat out out (record { table = t; answer = Refused Unsound })
 unfolding complete complete-modules completed completion-rows lowest argument-rows
-completes-unsound {ws} {txt} {t} {ask} {query} {budget} {flat} {out} o = record { table = refl; says = λ b h. rw (decided _ b false h o) (go ask) }
+completes-unsound {ws} {txt} {t} {request} {query} {flat} {out} o = record { table = refl; says = λ b h. rw (decided _ b false h o) (go (request .ask)) }
   where
-    go : (ask : Ask) → CompletesAs ask ws txt flat flat out out (Refused Unsound) (completion false (table-in ws txt t) ask budget (output flat out) query)
+    go : (ask : Ask) → CompletesAs ask ws txt flat flat out out (Refused Unsound) (completion false (table-in ws txt t) ask (request .budget) (output flat out) query)
     go (Names f) = (refl, refl, refl)
     go (Modules f) = (refl, refl, refl)

@@ -12,8 +12,8 @@ use Rattle.memory.specs.Sound.{Says}
 use Rattle.listing_ask.specs.Ask.{asked, filter-in}
 use Rattle.listing_ask.specs.declared.Ask.{Ask}
 use Rattle.listing_ask.specs.declared.Ask.the-variants.{Names, Modules}
-use Rattle.listing.specs.Completes.{output}
-use Rattle.table_roots.specs.Completions.{CompletesAs}
+use Rattle.listing_ask.specs.declared.Request.{Request}
+use Rattle.listing.specs.Completes.{output, CompletesAs}
 use Rattle.table.specs.Header.{IsSound, table-in}
 use Rattle.table.specs.declared.Table.{Table}
 use Rattle.table.specs.declared.Listing.{Listing}
@@ -24,6 +24,6 @@ completion sound tbl (Names f) budget out query = complete sound tbl f budget ou
 completion sound tbl (Modules f) budget out query = complete-modules sound tbl (filter-in f) budget out query
 
 -- What a completion hands back, in any memory: the table as it was, and the answer of the definition; b says whether the memory is sound.
-pub record Completes (ws txt : List ℕ) (t : Table) (ask : Ask) (query : Str) (budget : ℕ) (flat flat′ out out′ : List ℕ) (r : Listing) : Type 0 where
+pub record Completes (ws txt : List ℕ) (t : Table) (request : Request) (query : Str) (flat flat′ out out′ : List ℕ) (r : Listing) : Type 0 where
   pub table : r .table ≡ t
-  pub says : (b : Bool) → Says b (IsSound ws txt t) → CompletesAs ask ws txt flat flat′ out out′ (r .answer) (completion b (table-in ws txt t) ask budget (output flat out) query)
+  pub says : (b : Bool) → Says b (IsSound ws txt t) → CompletesAs (request .ask) ws txt flat flat′ out out′ (r .answer) (completion b (table-in ws txt t) (request .ask) (request .budget) (output flat out) query)

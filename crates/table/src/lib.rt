@@ -2,12 +2,12 @@
 // Each call has a form for callers that have proved the memory sound, and a total one that tests it first.
 mod registers;
 
-use listing_ask::Ask;
+use listing::Completed;
+use listing_ask::Request;
 use memory_table::Header;
 use refusals::Refusal;
 use register::Checked;
 use register_kind::Kind;
-use table_roots::Completed;
 use table_roots::Found;
 use table_roots::FoundModule;
 ghost use mathlib.Core.Bool.{true};
@@ -34,12 +34,6 @@ pub struct Finding {
 pub struct ModuleFinding {
     pub table: Table,
     pub answer: FoundModule,
-}
-
-// What a completion is asked, beside its query: which lines, and how many tries it may enter.
-pub struct Request {
-    pub ask: Ask,
-    pub budget: u32,
 }
 
 // The table that a completion hands back, with its answer.
@@ -94,17 +88,16 @@ impl Table {
         self,
         words: &[u32],
         text: &[u8],
-        ask: Ask,
+        request: Request,
         query: &[u8],
-        budget: u32,
         flat: &mut [u8],
         out: &mut [u8],
     ) -> Listing
         requires { ⌜ IsSound (now words) (now text) self ⌝ }
-        ensures { λ r. ⌜ Completes (old words) (old text) self ask (old query) budget
+        ensures { λ r. ⌜ Completes (old words) (old text) self request (old query)
             (old flat) (new flat) (old out) (new out) r ⌝ }
     {
-        let answer = table_roots::complete(words, text, self.header, ask, query, budget, flat, out);
+        let answer = table_roots::complete(words, text, self.header, request, query, flat, out);
         Listing {
             table: self,
             answer: answer,
@@ -116,17 +109,16 @@ impl Table {
         self,
         words: &[u32],
         text: &[u8],
-        ask: Ask,
+        request: Request,
         query: &[u8],
-        budget: u32,
         flat: &mut [u8],
         out: &mut [u8],
     ) -> Listing
-        ensures { λ r. ⌜ Completes (old words) (old text) self ask (old query) budget
+        ensures { λ r. ⌜ Completes (old words) (old text) self request (old query)
             (old flat) (new flat) (old out) (new out) r ⌝ }
     {
         if self.is_sound(words, text) {
-            return self.complete_sound(words, text, ask, query, budget, flat, out);
+            return self.complete_sound(words, text, request, query, flat, out);
         }
         Listing {
             table: self,

@@ -1,7 +1,7 @@
 -- How many lines a completion lists.
 use Prim.Native.Nat.{ℕ}
-use Rattle.table_roots.specs.declared.Completed.{Completed}
-use Rattle.table_roots.specs.declared.Completed.the-variants.{Listed, Refused}
+use Rattle.listing.specs.declared.Completed.{Completed}
+use Rattle.listing.specs.declared.Completed.the-variants.{Listed, Refused}
 
 -- How many lines an answer lists.
 abbrev pub lines-in : Completed → ℕ

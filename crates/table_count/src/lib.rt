@@ -1,6 +1,6 @@
 // Line structs in numbers: the match length that one holds, the bytes lent for them, and how many are listed.
+use listing::Completed;
 use table::Listing;
-use table_roots::Completed;
 ghost use Prim.Native.Nat.{_*_, _/_, min};
 ghost use mathlib.Core.Path.{_≡_};
 ghost use Rattle.listing_output.specs.Output.{line-bytes};

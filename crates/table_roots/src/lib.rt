@@ -1,7 +1,9 @@
 // Look-up and completion in a sound memory, each on the root that is asked.
-use listing::Completion;
+use listing::Completed;
 use listing_ask::Ask;
+use listing_ask::Request;
 use memory::ModSymbol;
+use memory_table::Header;
 use memory_table::Header;
 use refusals::Admission;
 use refusals::Refusal;
@@ -14,7 +16,8 @@ ghost use Rattle.memory.specs.Layout.{names, trieˢ, what};
 ghost use Rattle.memory_table.specs.Table.{Sound};
 ghost use Rattle.find_trie.specs.Tries.{AnyTrie};
 ghost use Rattle.table_roots.specs.Answers.{LookedUp, name-found, FindsModuleOn};
-ghost use Rattle.table_roots.specs.Completions.{answer-in, root-for, CompletesOn};
+ghost use Rattle.listing.specs.Completes.{CompletesOn};
+ghost use Rattle.table_roots.specs.Completions.{root-for};
 
 // What a look-up ends at: a branch of bindings, or none.
 enum Looked {
@@ -34,12 +37,6 @@ pub enum Found {
 pub enum FoundModule {
     Symbol(ModSymbol),
     Nothing,
-    Refused(Refusal),
-}
-
-// The answer of a completion: how many lines and tries entered, or a refusal.
-pub enum Completed {
-    Listed(u32, u32),
     Refused(Refusal),
 }
 
@@ -101,38 +98,27 @@ fn root_for(header: Header, ask: Ask) -> u32
     }
 }
 
-// The answer of a completion of well-formed arguments.
-fn answer_of(c: Completion) -> Completed
-    ensures { λ r. ⌜ r ≡ answer-in c ⌝ }
-{
-    match c {
-        Completion::Listed(lines, entered) => Completed::Listed(lines, entered),
-        Completion::Spent => Completed::Refused(Refusal::Spent),
-        Completion::Lines => Completed::Refused(Refusal::Lines),
-    }
-}
-
 // A completion. Lines go into `flat`, 48 bytes to a line, their texts into `out`.
 pub fn complete(
     words: &[u32],
     text: &[u8],
     header: Header,
-    ask: Ask,
+    request: Request,
     query: &[u8],
-    budget: u32,
     flat: &mut [u8],
     out: &mut [u8],
 ) -> Completed
     requires { ⌜ Sound (now words) (now text) header ⌝ }
-    ensures { λ r. ⌜ CompletesOn (old words) (old text) ask (root-for header ask) (old query) budget
+    ensures { λ r. ⌜ CompletesOn (old words) (old text) request (root-for header (request .ask)) (old query)
         (old flat) (new flat) (old out) (new out) r ⌝ }
 {
     let a = refusals::admit(refusals::completion_flags(query));
     match a {
         Admission::Refused(x) => Completed::Refused(x),
         Admission::Admitted => {
+            let ask = request.ask;
             let root = root_for(header, ask);
-            answer_of(listing::complete(words, text, ask, root, query, budget, flat, out))
+            listing::complete(words, text, request, root, query, flat, out)
         }
     }
 }

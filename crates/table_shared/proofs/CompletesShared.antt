@@ -10,13 +10,13 @@ use Rattle.memory.specs.Layout.{Item}
 use Rattle.memory.specs.Sound.{Says}
 use Rattle.listing_ask.specs.Ask.{asked}
 use Rattle.listing_ask.specs.declared.Ask.{Ask}
+use Rattle.listing_ask.specs.declared.Request.{Request}
 use Rattle.listing_shared.specs.Shared.{CandidatesIn}
 use Rattle.listing_shared.proofs.Shared.{Leaves, leaves-shared, left-candidates}
-use Rattle.listing.specs.Completes.{output}
+use Rattle.listing.specs.Completes.{output, CompletesAs}
 use Rattle.table_count.specs.LinesIn.{lines-in}
-use Rattle.table_roots.specs.Completions.{CompletesAs}
-use Rattle.table_roots.specs.declared.Completed.{Completed}
-use Rattle.table_roots.specs.declared.Completed.the-variants.{Listed, Refused}
+use Rattle.listing.specs.declared.Completed.{Completed}
+use Rattle.listing.specs.declared.Completed.the-variants.{Listed, Refused}
 use Rattle.table.specs.Header.{IsSound, table-in}
 use Rattle.table.specs.Completions.{completion, Completes}
 use Rattle.table.specs.declared.Table.{Table}
@@ -30,18 +30,18 @@ module _ (ask : Ask) (ws txt flat flat′ out out′ : List ℕ) where
   leaves (Listed lines entered) (C.refused n) a = absurd (Option·none-ne-some n (a .0))
   leaves (Refused x) (C.refused n) a = refl
 
-module _ {ws txt : List ℕ} {t : Table} {ask : Ask} {query : Str} {budget : ℕ} {flat flat′ out out′ : List ℕ} {l : Listing} (x : Completes ws txt t ask query budget flat flat′ out out′ l) where
-  abbrev answer : Bool → C.Completed (Item (asked ask))
-  answer b = completion b (table-in ws txt t) ask budget (output flat out) query
+module _ {ws txt : List ℕ} {t : Table} {request : Request} {query : Str} {flat flat′ out out′ : List ℕ} {l : Listing} (x : Completes ws txt t request query flat flat′ out out′ l) where
+  abbrev answer : Bool → C.Completed (Item (asked (request .ask)))
+  answer b = completion b (table-in ws txt t) (request .ask) (request .budget) (output flat out) query
 
-  left : (b : Bool) → Says b (IsSound ws txt t) → Leaves (asked ask) ws txt flat flat′ out out′ (lines-in (l .answer)) (answer b)
-  left b h = leaves ask ws txt flat flat′ out out′ (l .answer) (answer b) (x .says b h)
+  left : (b : Bool) → Says b (IsSound ws txt t) → Leaves (asked (request .ask)) ws txt flat flat′ out out′ (lines-in (l .answer)) (answer b)
+  left b h = leaves (request .ask) ws txt flat flat′ out out′ (l .answer) (answer b) (x .says b h)
 
   pub completes-candidates : CandidatesIn flat′ out′ (lines-in (l .answer))
-  completes-candidates = left-candidates (asked ask) ws txt flat flat′ out out′ (lines-in (l .answer)) answer left
+  completes-candidates = left-candidates (asked (request .ask)) ws txt flat flat′ out out′ (lines-in (l .answer)) answer left
 
-  pub completes-shared : {r : Sharing} → r ≡ sharing-seen flat′ out′ l → CompletesShared ws txt t ask query budget flat flat′ out out′ r
+  pub completes-shared : {r : Sharing} → r ≡ sharing-seen flat′ out′ l → CompletesShared ws txt t request query flat flat′ out out′ r
   completes-shared e = rw e (record {
     listing = x;
-    shared = λ b h. leaves-shared (asked ask) ws txt flat flat′ out out′ (lines-in (l .answer)) (answer b) (left b h);
+    shared = λ b h. leaves-shared (asked (request .ask)) ws txt flat flat′ out out′ (lines-in (l .answer)) (answer b) (left b h);
   })

@@ -6,7 +6,7 @@ use mathlib.Core.List.{List}
 use Rattle.source.specs.Text.{Str}
 use Rattle.source.specs.Calls.{shared-length}
 use Rattle.memory.specs.Sound.{Says}
-use Rattle.listing_ask.specs.declared.Ask.{Ask}
+use Rattle.listing_ask.specs.declared.Request.{Request}
 use Rattle.listing_shared.specs.Shared.{shared-seen}
 use Rattle.listing.specs.Completes.{output}
 use Rattle.table_count.specs.LinesIn.{lines-in}
@@ -21,6 +21,6 @@ abbrev pub sharing-seen : (flat out : List ℕ) → Listing → Sharing
 sharing-seen flat out l = record { listing = l; shared = shared-seen flat out (lines-in (l .answer)) }
 
 -- In any memory: all that a completion hands back and leaves, and the shared length of the definition's answer; b says whether the memory is sound.
-pub record CompletesShared (ws txt : List ℕ) (t : Table) (ask : Ask) (query : Str) (budget : ℕ) (flat flat′ out out′ : List ℕ) (r : Sharing) : Type 0 where
-  pub listing : Completes ws txt t ask query budget flat flat′ out out′ (r .listing)
-  pub shared : (b : Bool) → Says b (IsSound ws txt t) → r .shared ≡ shared-length (completion b (table-in ws txt t) ask budget (output flat out) query)
+pub record CompletesShared (ws txt : List ℕ) (t : Table) (request : Request) (query : Str) (flat flat′ out out′ : List ℕ) (r : Sharing) : Type 0 where
+  pub listing : Completes ws txt t request query flat flat′ out out′ (r .listing)
+  pub shared : (b : Bool) → Says b (IsSound ws txt t) → r .shared ≡ shared-length (completion b (table-in ws txt t) (request .ask) (request .budget) (output flat out) query)

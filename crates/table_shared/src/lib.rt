@@ -1,6 +1,6 @@
 // Completions that say, beside what a completion says, how long the beginning is that all its lines share.
 // The completion is crate table's; the lines that it wrote are read once.
-use listing_ask::Ask;
+use listing_ask::Request;
 use table::Listing;
 use table::Table;
 ghost use mathlib.Core.Path.{_≡_};
@@ -33,17 +33,16 @@ pub fn complete_sound(
     table: Table,
     words: &[u32],
     text: &[u8],
-    ask: Ask,
+    request: Request,
     query: &[u8],
-    budget: u32,
     flat: &mut [u8],
     out: &mut [u8],
 ) -> Sharing
     requires { ⌜ IsSound (now words) (now text) table ⌝ }
-    ensures { λ r. ⌜ CompletesShared (old words) (old text) table ask (old query) budget
+    ensures { λ r. ⌜ CompletesShared (old words) (old text) table request (old query)
         (old flat) (new flat) (old out) (new out) r ⌝ }
 {
-    let listing = table.complete_sound(words, text, ask, query, budget, flat, out);
+    let listing = table.complete_sound(words, text, request, query, flat, out);
     sharing_of(listing, flat, out)
 }
 
@@ -52,15 +51,14 @@ pub fn complete(
     table: Table,
     words: &[u32],
     text: &[u8],
-    ask: Ask,
+    request: Request,
     query: &[u8],
-    budget: u32,
     flat: &mut [u8],
     out: &mut [u8],
 ) -> Sharing
-    ensures { λ r. ⌜ CompletesShared (old words) (old text) table ask (old query) budget
+    ensures { λ r. ⌜ CompletesShared (old words) (old text) table request (old query)
         (old flat) (new flat) (old out) (new out) r ⌝ }
 {
-    let listing = table.complete(words, text, ask, query, budget, flat, out);
+    let listing = table.complete(words, text, request, query, flat, out);
     sharing_of(listing, flat, out)
 }

@@ -25,9 +25,9 @@ use Rattle.listing_ask.specs.declared.Ask.the-variants.{Names, Modules}
 use Rattle.listing_ask.specs.declared.Filter.the-variants.{All}
 use Rattle.table.specs.Header.{IsSound, table-in, names-in, modules-in}
 use Rattle.table_roots.specs.Answers.{name-found, module-found}
-use Rattle.table_roots.specs.Completions.{CompletesAs}
+use Rattle.listing.specs.Completes.{CompletesAs}
 use Rattle.table.specs.declared.Table.{Table}
-use Rattle.table_roots.specs.declared.Completed.the-variants.{Listed}
+use Rattle.listing.specs.declared.Completed.the-variants.{Listed}
 use Rattle.table_typed.specs.Completions.{output, ShownAs}
 use Rattle.table_typed.specs.Agreement.{LinesStand, ShownAlike, TypedAgree}
 use Rattle.table_typed.specs.declared.Line.{Line}

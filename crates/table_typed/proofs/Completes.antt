@@ -24,11 +24,11 @@ use Rattle.listing_output.specs.Output.{line-bytes, line-of, Written, matched-w
 use Rattle.listing_ask.specs.declared.Ask.{Ask}
 use Rattle.listing_ask.specs.declared.Ask.the-variants.{Names, Modules}
 use Rattle.table.specs.Header.{IsSound, table-in}
-use Rattle.table_roots.specs.Completions.{CompletesAs}
+use Rattle.listing.specs.Completes.{CompletesAs}
 use Rattle.table.specs.Completions.{completion}
 use Rattle.table.specs.declared.Table.{Table}
-use Rattle.table_roots.specs.declared.Completed.{Completed}
-use Rattle.table.specs.declared.Request.{Request}
+use Rattle.listing.specs.declared.Completed.{Completed}
+use Rattle.listing_ask.specs.declared.Request.{Request}
 use Rattle.table.specs.declared.Listing.{Listing}
 use Rattle.listing_row.specs.Rows.{words-from, item-in, row-in, ItemInside}
 use Rattle.listing_row.proofs.Rows.{item-seen-is}

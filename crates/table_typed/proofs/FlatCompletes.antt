@@ -19,13 +19,13 @@ use Rattle.listing_ask.specs.declared.Ask.the-variants.{Names, Modules}
 use Rattle.listing.specs.Completes as F
 use Rattle.table.specs.Header.{IsSound, table-in}
 use Rattle.table.specs.Completions as T
-use Rattle.table_roots.specs.Completions.{CompletesAs, refused-by}
+use Rattle.listing.specs.Completes.{CompletesAs, refused-by}
 use Rattle.table.specs.Completions.{completion}
 use Rattle.table.specs.declared.Table.{Table}
 use Rattle.refusals.specs.declared.Refusal.the-variants.{Unsound}
-use Rattle.table_roots.specs.declared.Completed.{Completed}
-use Rattle.table_roots.specs.declared.Completed.the-variants.{Listed, Refused}
-use Rattle.table.specs.declared.Request.{Request}
+use Rattle.listing.specs.declared.Completed.{Completed}
+use Rattle.listing.specs.declared.Completed.the-variants.{Listed, Refused}
+use Rattle.listing_ask.specs.declared.Request.{Request}
 use Rattle.table.specs.declared.Listing.{Listing}
 use Rattle.table.proofs.Says.{decided}
 use Rattle.table_count.specs.LinesIn.{lines-in}
@@ -63,7 +63,7 @@ output-part room k flat out h e =
 
 module _ {ws txt : List ℕ} {t : Table} {q : Request} {query : Str} {room : ℕ} {flat out : List ℕ} where
   pub flat-completes : {f out′ : List ℕ} {r : Listing} {k : ℕ} → IsSound ws txt t → k ≡ min (length flat / line-bytes) room * line-bytes
-      → T.Completes ws txt t (q .ask) query (q .budget) (take k flat) f out out′ r → FlatCompletes ws txt t q query room flat (f ++ drop k flat) out out′ r
+      → T.Completes ws txt t q query (take k flat) f out out′ r → FlatCompletes ws txt t q query room flat (f ++ drop k flat) out out′ r
   flat-completes {f} {out′} {r} {k} o e c =
       let ask : Ask = q .ask in
       let budget : ℕ = q .budget in

@@ -24,7 +24,7 @@ use Rattle.table.specs.declared.Table.{Table}
 use Rattle.table.specs.declared.Finding.{Finding}
 use Rattle.table.specs.declared.ModuleFinding.{ModuleFinding}
 use Rattle.table.specs.declared.Listing.{Listing}
-use Rattle.table_roots.specs.declared.Completed.the-variants.{Listed}
+use Rattle.listing.specs.declared.Completed.the-variants.{Listed}
 use Rattle.table_typed.specs.Completions.{Shown, CompletesLines}
 use Rattle.table_typed.specs.declared.Line.{Line}
 

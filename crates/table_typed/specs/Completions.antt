@@ -17,10 +17,10 @@ use Rattle.listing_output.specs.Output.{line-bytes}
 use Rattle.listing_ask.specs.declared.Ask.{Ask}
 use Rattle.listing_row.specs.Rows.{ItemInside}
 use Rattle.table.specs.Header.{IsSound, table-in}
-use Rattle.table_roots.specs.Completions.{CompletesAs}
+use Rattle.listing.specs.Completes.{CompletesAs}
 use Rattle.table.specs.Completions.{completion}
 use Rattle.table.specs.declared.Table.{Table}
-use Rattle.table.specs.declared.Request.{Request}
+use Rattle.listing_ask.specs.declared.Request.{Request}
 use Rattle.table.specs.declared.Listing.{Listing}
 use Rattle.table_typed.specs.declared.Line.{Line}
 use Rattle.table_count.specs.LinesIn.{lines-in}

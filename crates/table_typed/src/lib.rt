@@ -1,14 +1,14 @@
 // The typed completion: a line is a struct, and lines go into a lent slice of these.
 // `store_line`, `store_lines` and `complete` are proved by hand; what they call is covered.
+use listing::Completed;
 use listing_ask::Ask;
+use listing_ask::Request;
 use listing_row::Row;
 use listing_row::RowItem;
 use memory::Span;
 use refusals::Refusal;
 use table::Listing;
-use table::Request;
 use table::Table;
-use table_roots::Completed;
 ghost use mathlib.Core.Path.{_≡_};
 ghost use Prim.Native.Nat.{_+_, _*_, _≤_, _<_};
 ghost use lib.ListN.{length, set};
@@ -85,10 +85,8 @@ fn complete_flat(
         (old flat) (new flat) (old out) (new out) r ⌝ }
 {
     if table.is_sound(words, text) {
-        let ask = request.ask;
-        let budget = request.budget;
         let lent = table_count::bytes_for(flat.len(), room);
-        return table.complete_sound(words, text, ask, query, budget, &mut flat[..lent], out);
+        return table.complete_sound(words, text, request, query, &mut flat[..lent], out);
     }
     Listing {
         table: table,

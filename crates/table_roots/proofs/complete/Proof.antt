@@ -1,7 +1,7 @@
 -- complete meets its contract.
 use borrow.Author.Needs.{needs}
 use Rattle.refusals.proofs.Rows.{one-flagged, passes, stops}
-use Rattle.table_roots.proofs.Completes.{query-whole, completes-refused, completes-passed, root-trie}
+use Rattle.table_roots.proofs.Completes.{completes-refused, root-trie}
 use Rattle.table_roots.proofs.complete.Statement.{statement}
 use Rattle.table_roots.proofs.complete.Tie as tie
 
@@ -20,9 +20,7 @@ complete-spec =
     {- root-for-requires -}
     (λ c κs. search needs)
     {- complete-requires -}
-    (λ c κs. (rw (c .before .before .root-for .ensures) (root-trie (c .before .before .before .before .before .before .before .before .before .before .before .before .pre) (c .before .before .before .before .before .before .before .before .before .before .before .before .args .ask)), query-whole _ (passes (one-flagged (c .before .before .before .before .before .before .completion-flags .ensures)) (c .before .before .before .before .before .admit .ensures) (c .before .before .before .enum-told .given .1))))
-    {- answer-of-requires -}
-    (λ c κs. search needs)
+    (λ c κs. (rw (c .before .before .root-for .ensures) (root-trie (c .before .before .before .before .before .before .before .before .before .before .before .before .pre) (c .before .before .before .before .before .before .before .before .before .before .before .before .args .request .ask)), passes (one-flagged (c .before .before .before .before .before .before .completion-flags .ensures)) (c .before .before .before .before .before .admit .ensures) (c .before .before .before .enum-told .given .1)))
     {- returns -}
     (λ c. completes-refused (stops (one-flagged (c .before .before .before .before .completion-flags .ensures)) (c .before .before .before .admit .ensures) (c .before .a .given .1)))
     {- same-length -}
@@ -30,4 +28,4 @@ complete-spec =
     {- same-length-2 -}
     (λ c. search needs)
     {- returns-2 -}
-    (λ c. rw (c .answer-of .ensures) (completes-passed (passes (one-flagged (c .before .before .before .before .before .before .before .before .before .before .before .before .completion-flags .ensures)) (c .before .before .before .before .before .before .before .before .before .before .before .admit .ensures) (c .before .before .before .before .before .before .before .before .before .enum-told .given .1)) (rw (c .before .before .before .before .before .before .before .before .root-for .ensures) at (c .before .before .before .before .before .complete .ensures)))))
+    (λ c. rw (c .before .before .before .before .before .before .before .root-for .ensures) at (c .before .before .before .before .complete .ensures)))

@@ -44,12 +44,12 @@ use Rattle.listing_ask.specs.declared.Ask.{Ask}
 use Rattle.listing_ask.proofs.Ask as Q
 use Rattle.listing_ask.proofs.Ask.Laws as Q′
 use Rattle.table.specs.declared.Table.{Table}
-use Rattle.table.specs.declared.Request.{Request}
+use Rattle.listing_ask.specs.declared.Request.{Request}
 use Rattle.table.specs.declared.Listing.{Listing}
 use Rattle.table.proofs.Table as Tb
 use Rattle.table.proofs.Table.Laws as Tb′
-use Rattle.table.proofs.Request as Rq
-use Rattle.table.proofs.Request.Laws as Rq′
+use Rattle.listing_ask.proofs.Request as Rq
+use Rattle.listing_ask.proofs.Request.Laws as Rq′
 use Rattle.table.proofs.Listing as R
 use Rattle.table.proofs.Listing.Laws as R′
 use Rattle.table_count.specs.LinesIn.{lines-in as linesIn}
