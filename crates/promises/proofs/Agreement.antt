@@ -16,7 +16,7 @@ use Rattle.source.specs.Listing.{PathOf, Finder, by-first, trie-find-prefix′,
 use Rattle.source.specs.Table.{Line, string-of-path, completion-result-of-lid, completion-result-of-ns-or-mod, autocomplete-lid-first}
 use Rattle.source.specs.Rules.{Formed, IsKey, IsLabel, NameItem, ModItem, SoundTrie, all}
 use Rattle.source.specs.Calls.{Found, found, not-found, refused, found-of, look-up, Completed, listed, Output, All, kept, keeps, keeps-kind, completed, complete, complete-modules, lowest, argument-rows, completion-rows, a-look-up, is-empty}
-use Rattle.promises.specs.Agreement.{Covers, without-last, NotRefused, lines-of-text, Shows, passing, Demand3, FilteredAgree}
+use Rattle.promises.specs.Agreement.{Covers, without-last, NotRefused, lines-of-text, Shows, passing, Agree, Demand3, FilteredAgree}
 use Rattle.source.specs.Shared.{same, Allˡ}
 use Rattle.source.specs.declared.KindFilter.the-variants.{Every}
 use Rattle.source.proofs.Filters.{all-listed}
@@ -165,27 +165,39 @@ module _ {A : Type 0} (keep : A → Bool) where
   passing-all not-found h = refl
   passing-all (refused n) h = refl
 
+  not-refused-passing : (a : Found A) → NotRefused (passing keep a) → NotRefused a
+  unfolding passing
+  not-refused-passing (found x) h = tt
+  not-refused-passing not-found h = tt
+  not-refused-passing (refused n) h = h
+
 -- ---- Demand 3
+-- What is listed in full is an instance: a name covers itself.
+pub agrees : {A : Type 0} {Finds : Str → Found A → Type 0} {Lists : Str → List (Line A) → Type 0}
+    → ((name query : Str) (a : Found A) (lines : List (Line A)) → Finds name a → NotRefused a → Lists query lines
+    → Covers (segments query) (segments name) → Shows (lines-of-text (without-last name) lines) a) → Agree Finds Lists
+agrees h = record { shows = h; in-full = λ name a lines f l. h name name (found a) lines f tt l (covers-itself (segments name)) }
+
 pub filtered-agree : FilteredAgree
 unfolding complete complete-modules autocomplete-lid-first completion-result-of-lid completion-result-of-ns-or-mod
 filtered-agree = record {
-  names = λ tbl sound f name query budget out lines entered asked e covers.
-      rw (← completed-lines true budget out query _ lines _ entered e, text-kept (keeps-kind f))
-      (shows-kept (keeps-kind f) _ _ (root-agreement NameItem completion-result-of-lid (λ x. refl) (λ x. refl) (tbl .tbl-lids) (sound .lids) name query asked covers));
-  modules = λ tbl sound f name query budget out lines entered asked e covers.
-      rw (← completed-lines true budget out query _ lines _ entered e, text-kept (keeps f), all-listed tbl (segments query))
-      (shows-kept (keeps f) _ _ (root-agreement ModItem completion-result-of-ns-or-mod (λ x. refl) (λ x. refl) (tbl .tbl-mods) (sound .mods) name query asked covers));
+  names = λ tbl sound f. agrees (λ name query a lines e ok (budget, out, entered, h) covers.
+      rw (← e, ← completed-lines true budget out query _ lines _ entered h, text-kept (keeps-kind f))
+      (shows-kept (keeps-kind f) _ _
+      (root-agreement NameItem completion-result-of-lid (λ x. refl) (λ x. refl) (tbl .tbl-lids) (sound .lids) name query
+      (not-refused-passing (keeps-kind f) (look-up true (tbl .tbl-lids) name) (rw e ok)) covers)));
+  modules = λ tbl sound f. agrees (λ name query a lines e ok (budget, out, entered, h) covers.
+      rw (← e, ← completed-lines true budget out query _ lines _ entered h, text-kept (keeps f), all-listed tbl (segments query))
+      (shows-kept (keeps f) _ _
+      (root-agreement ModItem completion-result-of-ns-or-mod (λ x. refl) (λ x. refl) (tbl .tbl-mods) (sound .mods) name query
+      (not-refused-passing (keeps f) (look-up true (tbl .tbl-mods) name) (rw e ok)) covers)));
 }
 
 pub agreement : Demand3
 unfolding keeps keeps-kind passing
 agreement = record {
-  names = λ tbl sound name query budget out lines entered asked e covers.
-      subst (Shows _) (passing-all (keeps-kind Every) (look-up true (tbl .tbl-lids) name) (λ x. refl)) (filtered-agree .names tbl sound Every name query budget out lines entered asked e covers);
-  modules = λ tbl sound name query budget out lines entered asked e covers.
-      subst (Shows _) (passing-all (keeps All) (look-up true (tbl .tbl-mods) name) (λ x. refl)) (filtered-agree .modules tbl sound All name query budget out lines entered asked e covers);
-  names-in-full = λ tbl sound name budget out lines entered c f e.
-      subst (Shows _) (ap (passing (keeps-kind Every)) f) (filtered-agree .names tbl sound Every name name budget out lines entered (rw f tt) e (covers-itself (segments name)));
-  modules-in-full = λ tbl sound name budget out lines entered m f e.
-      subst (Shows _) (ap (passing (keeps All)) f) (filtered-agree .modules tbl sound All name name budget out lines entered (rw f tt) e (covers-itself (segments name)));
+  names = λ tbl sound. agrees (λ name query a lines e.
+      filtered-agree .names tbl sound Every .shows name query a lines (passing-all (keeps-kind Every) (look-up true (tbl .tbl-lids) name) (λ x. refl) ∙ e));
+  modules = λ tbl sound. agrees (λ name query a lines e.
+      filtered-agree .modules tbl sound All .shows name query a lines (passing-all (keeps All) (look-up true (tbl .tbl-mods) name) (λ x. refl) ∙ e));
 }

@@ -7,6 +7,7 @@ pub mod Holders
 pub mod Listed
 pub mod ListedTexts
 pub mod Worded
+pub mod Stable
 pub mod Agreement
 pub mod Departs
 pub mod Refusals

@@ -100,8 +100,8 @@ module _ (sound : Bool) (lent : Lent) (s s′ : State) (c : Call) (e : register 
       → Shows (lines-of-text (without-last query) lines) (look-up true (s .table .tbl-lids) query)
       × Shows (lines-of-text (without-last query) lines′) (look-up true (s .table .tbl-lids) query)
   lines-unchanged t asked typed covers budget budget′ out out′ lines lines′ entered entered′ f f′ = (
-    agreement .names (s .table) t query typed budget out lines entered asked f covers,
-    rw look-up-unchanged at (agreement .names (s′ .table) (accepted-sound sound lent s s′ c t e) query typed budget′ out′ lines′ entered′ (rw look-up-unchanged asked) f′ covers),
+    agreement .names (s .table) t .shows query typed _ lines refl asked (budget, out, entered, f) covers,
+    agreement .names (s′ .table) (accepted-sound sound lent s s′ c t e) .shows query typed _ lines′ look-up-unchanged asked (budget′, out′, entered′, f′) covers,
   )
 
 -- An accepted name changes no look-up on the names root but that of its own full name.

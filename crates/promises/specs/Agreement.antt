@@ -46,28 +46,33 @@ module _ {A : Type 0} where
   passing keep not-found = not-found
   passing keep (refused n) = refused n
 
--- On either root of every sound table.
-pub record Demand3 : Type 0 where
-  -- The lines with the text of a full name show what look-up finds: where it is not refused, in every completion, of all kinds or unfiltered and not refused, that covers the name.
-  pub names : (tbl : Table) → SoundTable tbl → (name query : Str) (budget : ℕ) (out : Output) (lines : List (Line LidSymbol)) (entered : ℕ)
-      → NotRefused (look-up true (tbl .tbl-lids) name) → complete true tbl Every budget out query ≡ listed lines entered → Covers (segments query) (segments name)
-      → Shows (lines-of-text (without-last name) lines) (look-up true (tbl .tbl-lids) name)
-  pub modules : (tbl : Table) → SoundTable tbl → (name query : Str) (budget : ℕ) (out : Output) (lines : List (Line ModSymbol)) (entered : ℕ)
-      → NotRefused (look-up true (tbl .tbl-mods) name) → complete-modules true tbl All budget out query ≡ listed lines entered → Covers (segments query) (segments name)
-      → Shows (lines-of-text (without-last name) lines) (look-up true (tbl .tbl-mods) name)
-  -- A name that look-up finds is listed where it is asked for in full.
-  pub names-in-full : (tbl : Table) → SoundTable tbl → (name : Str) (budget : ℕ) (out : Output) (lines : List (Line LidSymbol)) (entered : ℕ) (c : LidSymbol)
-      → look-up true (tbl .tbl-lids) name ≡ found c → complete true tbl Every budget out name ≡ listed lines entered
-      → Shows (lines-of-text (without-last name) lines) (found c)
-  pub modules-in-full : (tbl : Table) → SoundTable tbl → (name : Str) (budget : ℕ) (out : Output) (lines : List (Line ModSymbol)) (entered : ℕ) (m : ModSymbol)
-      → look-up true (tbl .tbl-mods) name ≡ found m → complete-modules true tbl All budget out name ≡ listed lines entered
-      → Shows (lines-of-text (without-last name) lines) (found m)
+-- Pane and look-up of one root. `Finds name a`: look-up of a full name gives a; `Lists query lines`: a completion of the query gives lines.
+pub record Agree {A : Type 0} (Finds : Str → Found A → Type 0) (Lists : Str → List (Line A) → Type 0) : Type 0 where
+  -- The lines with the text of a name show what look-up finds, where it is not refused and the query covers the name.
+  pub shows : (name query : Str) (a : Found A) (lines : List (Line A))
+      → Finds name a → NotRefused a → Lists query lines → Covers (segments query) (segments name)
+      → Shows (lines-of-text (without-last name) lines) a
+  -- So a name that look-up finds is listed where it is asked for in full.
+  pub in-full : (name : Str) (a : A) (lines : List (Line A)) → Finds name (found a) → Lists name lines
+      → Shows (lines-of-text (without-last name) lines) (found a)
 
--- The same of a listing of one kind, or filtered: its lines with the text show what passes of what look-up finds.
+-- The lines of a completion that is not refused, whatever its budget and output.
+abbrev pub ListsNames : Table → KindFilter → Str → List (Line LidSymbol) → Type 0
+ListsNames tbl f query lines =
+    (budget : ℕ) × (out : Output) × (entered : ℕ) × (complete true tbl f budget out query ≡ listed lines entered)
+
+abbrev pub ListsModules : Table → Filter → Str → List (Line ModSymbol) → Type 0
+ListsModules tbl f query lines =
+    (budget : ℕ) × (out : Output) × (entered : ℕ) × (complete-modules true tbl f budget out query ≡ listed lines entered)
+
+-- On either root of every sound table, in completions of all kinds and unfiltered.
+pub record Demand3 : Type 0 where
+  pub names : (tbl : Table) → SoundTable tbl → Agree (λ name a. look-up true (tbl .tbl-lids) name ≡ a) (ListsNames tbl Every)
+  pub modules : (tbl : Table) → SoundTable tbl → Agree (λ name a. look-up true (tbl .tbl-mods) name ≡ a) (ListsModules tbl All)
+
+-- The same of a listing of one kind, or filtered, and of what passes of what look-up finds.
 pub record FilteredAgree : Type 0 where
-  pub names : (tbl : Table) → SoundTable tbl → (f : KindFilter) (name query : Str) (budget : ℕ) (out : Output) (lines : List (Line LidSymbol)) (entered : ℕ)
-      → NotRefused (look-up true (tbl .tbl-lids) name) → complete true tbl f budget out query ≡ listed lines entered → Covers (segments query) (segments name)
-      → Shows (lines-of-text (without-last name) lines) (passing (keeps-kind f) (look-up true (tbl .tbl-lids) name))
-  pub modules : (tbl : Table) → SoundTable tbl → (f : Filter) (name query : Str) (budget : ℕ) (out : Output) (lines : List (Line ModSymbol)) (entered : ℕ)
-      → NotRefused (look-up true (tbl .tbl-mods) name) → complete-modules true tbl f budget out query ≡ listed lines entered → Covers (segments query) (segments name)
-      → Shows (lines-of-text (without-last name) lines) (passing (keeps f) (look-up true (tbl .tbl-mods) name))
+  pub names : (tbl : Table) → SoundTable tbl → (f : KindFilter)
+      → Agree (λ name a. passing (keeps-kind f) (look-up true (tbl .tbl-lids) name) ≡ a) (ListsNames tbl f)
+  pub modules : (tbl : Table) → SoundTable tbl → (f : Filter)
+      → Agree (λ name a. passing (keeps f) (look-up true (tbl .tbl-mods) name) ≡ a) (ListsModules tbl f)

@@ -10,8 +10,9 @@ use Rattle.source.specs.Table.{ModSymbol, Line}
 use Rattle.source.specs.Calls as C
 use Rattle.source.specs.Calls.{look-up, argument-rows, lowest, complete, complete-modules}
 use Rattle.promises.specs.Agreement.{Covers, NotRefused, without-last, lines-of-text, Shows}
-use Rattle.promises.proofs.Agreement.{agreement}
-use Rattle.promises.proofs.Worded.{covers-itself}
+use Rattle.promises.proofs.Agreement.{agrees, agreement}
+use Rattle.promises.proofs.Stable.{lid-told, mod-told, shows-stable}
+use Rattle.memory.proofs.Says.{either-way}
 use Rattle.source.specs.declared.LidSymbol.{LidSymbol}
 use Rattle.source.specs.declared.KindFilter.the-variants.{Every}
 use Rattle.memory.specs.Layout.{names, modules, Item}
@@ -26,7 +27,7 @@ use Rattle.listing_row.proofs.Written.{written-seen}
 use Rattle.listing.specs.Completes.{output, CompletesAs}
 use Rattle.table.specs.Header.{IsSound, table-in, names-in, modules-in}
 use Rattle.table_roots.specs.Answers.{name-found, module-found}
-use Rattle.table.specs.Agreement.{CallsAgree}
+use Rattle.table.specs.Agreement.{HoldsName, HoldsModule, HoldsLines, CallsAgree}
 use Rattle.table.specs.declared.Table.{Table}
 use Rattle.listing.specs.declared.Completed.{Completed}
 use Rattle.listing.specs.declared.Completed.the-variants.{Listed}
@@ -40,34 +41,28 @@ listed-lines ask ws txt flat flat′ out out′ n entered (C.listed lines e) h =
     (lines, rw f, rw k (written-seen (h .1)))
 listed-lines ask ws txt flat flat′ out out′ n entered (C.refused m) h = absurd (Option·none-ne-some m (h .0))
 
-module _ (ws txt : List ℕ) (t : Table) (name query : Str) (budget : ℕ) (flat flat′ out out′ : List ℕ) (n entered : ℕ) (cover : Covers (segments query) (segments name)) where
-  names-agree : (b : Bool) → Says b (IsSound ws txt t) → (a : C.Found LidSymbol) → a ≡ look-up b (names-in ws txt t) name → NotRefused a
-      → CompletesAs (Names Every) ws txt flat flat′ out out′ (Listed n entered) (complete b (table-in ws txt t) Every budget (output flat out) query)
-      → Shows (lines-of-text (without-last name) (lines-seen names txt flat′ out′ n)) a
+module _ (ws txt : List ℕ) (t : Table) (name query : Str) (cover : Covers (segments query) (segments name)) where
+  names-agree : (a : C.Found LidSymbol) (lines : List (Line LidSymbol)) → HoldsName ws txt t name a → NotRefused a → HoldsLines ws txt t (Names Every) query lines
+      → (b : Bool) → Says b (IsSound ws txt t) → Shows (lines-of-text (without-last name) lines) a
   unfolding look-up lowest argument-rows
-  names-agree false s a f ok c = absurd (rw f at ok)
-  names-agree true s a f ok c =
-      let l = listed-lines (Names Every) ws txt flat flat′ out out′ n entered _ c in
-      rw (f, l .2) (agreement .names (table-in ws txt t) (sound-table s) name query budget (output flat out) (l .0) entered (rw f at ok) (l .1) cover)
+  names-agree a lines f ok c false s = absurd (rw (sym (f .is) ∙ f .finds .says false s) at ok)
+  names-agree a lines f ok c true s =
+      let l = listed-lines (Names Every) ws txt (c .flat) (c .flat′) (c .out) (c .out′) (c .count) (c .entered) _ (rw (c .listed) at (c .completes .says true s)) in
+      rw (← c .read, l .2)
+      (agreement .names (table-in ws txt t) (sound-table s) .shows name query a (l .0) (sym (f .finds .says true s) ∙ f .is) ok (c .budget, output (c .flat) (c .out), c .entered, l .1) cover)
 
-  modules-agree : (b : Bool) → Says b (IsSound ws txt t) → (a : C.Found ModSymbol) → a ≡ look-up b (modules-in ws txt t) name → NotRefused a
-      → CompletesAs (Modules All) ws txt flat flat′ out out′ (Listed n entered) (complete-modules b (table-in ws txt t) C.All budget (output flat out) query)
-      → Shows (lines-of-text (without-last name) (lines-seen modules txt flat′ out′ n)) a
+  modules-agree : (a : C.Found ModSymbol) (lines : List (Line ModSymbol)) → HoldsModule ws txt t name a → NotRefused a → HoldsLines ws txt t (Modules All) query lines
+      → (b : Bool) → Says b (IsSound ws txt t) → Shows (lines-of-text (without-last name) lines) a
   unfolding look-up lowest argument-rows
-  modules-agree false s a f ok c = absurd (rw f at ok)
-  modules-agree true s a f ok c =
-      let l = listed-lines (Modules All) ws txt flat flat′ out out′ n entered _ c in
-      rw (f, l .2) (agreement .modules (table-in ws txt t) (sound-table s) name query budget (output flat out) (l .0) entered (rw f at ok) (l .1) cover)
+  modules-agree a lines f ok c false s = absurd (rw (sym (f .is) ∙ f .finds .says false s) at ok)
+  modules-agree a lines f ok c true s =
+      let l = listed-lines (Modules All) ws txt (c .flat) (c .flat′) (c .out) (c .out′) (c .count) (c .entered) _ (rw (c .listed) at (c .completes .says true s)) in
+      rw (← c .read, l .2)
+      (agreement .modules (table-in ws txt t) (sound-table s) .shows name query a (l .0) (sym (f .finds .says true s) ∙ f .is) ok (c .budget, output (c .flat) (c .out), c .entered, l .1) cover)
 
--- Demand 3, of the calls.
+-- Demand 3, of the calls: what the memory is need not be known.
 pub calls-agree : CallsAgree
 calls-agree = record {
-  of-names = λ ws txt t b s name query f budget flat flat′ out out′ l n entered found ok c e cover.
-      names-agree ws txt t name query budget flat flat′ out out′ n entered cover b s (name-found (f .answer)) (found .says b s) ok (rw e at (c .says b s));
-  of-modules = λ ws txt t b s name query f budget flat flat′ out out′ l n entered found ok c e cover.
-      modules-agree ws txt t name query budget flat flat′ out out′ n entered cover b s (module-found txt (f .answer)) (found .says b s) ok (rw e at (c .says b s));
-  in-full = λ ws txt t b s name f budget flat flat′ out out′ l n entered x found is c e.
-      names-agree ws txt t name name budget flat flat′ out out′ n entered (covers-itself (segments name)) b s (C.found x) (sym is ∙ found .says b s) tt (rw e at (c .says b s));
-  module-in-full = λ ws txt t b s name f budget flat flat′ out out′ l n entered x found is c e.
-      modules-agree ws txt t name name budget flat flat′ out out′ n entered (covers-itself (segments name)) b s (C.found x) (sym is ∙ found .says b s) tt (rw e at (c .says b s));
+  names = λ ws txt t. agrees (λ name query a lines f ok c cover. either-way (shows-stable lid-told _ a) (names-agree ws txt t name query cover a lines f ok c));
+  modules = λ ws txt t. agrees (λ name query a lines f ok c cover. either-way (shows-stable mod-told _ a) (modules-agree ws txt t name query cover a lines f ok c));
 }

@@ -1,20 +1,19 @@
 -- Demand 3 of the calls: what a caller reads of the lines in the lent output (rows' `lines-seen`), and what it has to do with look-up.
 use Prim.Native.Nat.{ℕ}
 use mathlib.Core.Path.{_≡_}
-use mathlib.Core.Bool.{Bool}
 use mathlib.Core.List.{List}
-use Rattle.source.specs.Text.{Str, segments}
-use Rattle.source.specs.Calls.{found}
-use Rattle.source.specs.Table.{ModSymbol}
-use Rattle.promises.specs.Agreement.{Covers, NotRefused, without-last, lines-of-text, Shows}
+use Rattle.source.specs.Text.{Str}
+use Rattle.source.specs.Calls.{Found}
+use Rattle.source.specs.Table.{ModSymbol, Line}
+use Rattle.promises.specs.Agreement.{Agree}
 use Rattle.source.specs.declared.LidSymbol.{LidSymbol}
 use Rattle.source.specs.declared.KindFilter.the-variants.{Every}
-use Rattle.memory.specs.Layout.{names, modules}
-use Rattle.memory.specs.Sound.{Says}
+use Rattle.memory.specs.Layout.{Item}
+use Rattle.listing_ask.specs.Ask.{asked}
+use Rattle.listing_ask.specs.declared.Ask.{Ask}
 use Rattle.listing_ask.specs.declared.Ask.the-variants.{Names, Modules}
 use Rattle.listing_ask.specs.declared.Filter.the-variants.{All}
 use Rattle.listing_row.specs.Rows.{lines-seen}
-use Rattle.table.specs.Header.{IsSound}
 use Rattle.table_roots.specs.Answers.{name-found, module-found}
 use Rattle.table.specs.Answers.{Finds, FindsModule}
 use Rattle.table.specs.Completions.{Completes}
@@ -24,20 +23,28 @@ use Rattle.table.specs.declared.ModuleFinding.{ModuleFinding}
 use Rattle.table.specs.declared.Listing.{Listing}
 use Rattle.listing.specs.declared.Completed.the-variants.{Listed}
 
--- On either root, whatever memory is lent (b says whether it is sound): where look-up of a full name is not refused, and a completion of all kinds or unfiltered that covers the name
--- is not refused, the lines with the name's text that it left in the lent output show look-up's answer. So a name that look-up finds is listed where it is asked for in full.
+-- What a caller holds of a look-up of a name that answered a.
+pub record HoldsName (ws txt : List ℕ) (t : Table) (name : Str) (a : Found LidSymbol) : Type 0 where
+  pub reply : Finding
+  pub finds : Finds ws txt t name reply
+  pub is : name-found (reply .answer) ≡ a
+
+-- The same of a module or namespace.
+pub record HoldsModule (ws txt : List ℕ) (t : Table) (name : Str) (a : Found ModSymbol) : Type 0 where
+  pub reply : ModuleFinding
+  pub finds : FindsModule ws txt t name reply
+  pub is : module-found txt (reply .answer) ≡ a
+
+-- What a caller holds of a completion that is not refused, and the lines that it reads in the lent output.
+pub record HoldsLines (ws txt : List ℕ) (t : Table) (ask : Ask) (query : Str) (lines : List (Line (Item (asked ask)))) : Type 0 where
+  pub budget count entered : ℕ
+  pub flat flat′ out out′ : List ℕ
+  pub reply : Listing
+  pub completes : Completes ws txt t (record { ask = ask; budget = budget }) query flat flat′ out out′ reply
+  pub listed : reply .answer ≡ Listed count entered
+  pub read : lines-seen (asked ask) txt flat′ out′ count ≡ lines
+
+-- Whatever memory is lent, on either root: the lines that a completion of all kinds, or unfiltered, left there show what look-up answered.
 pub record CallsAgree : Type 0 where
-  pub of-names : (ws txt : List ℕ) (t : Table) (b : Bool) → Says b (IsSound ws txt t) → (name query : Str) (f : Finding) (budget : ℕ) (flat flat′ out out′ : List ℕ) (l : Listing) (lines entered : ℕ)
-      → Finds ws txt t name f → NotRefused (name-found (f .answer))
-      → Completes ws txt t (record { ask = Names Every; budget = budget }) query flat flat′ out out′ l → l .answer ≡ Listed lines entered → Covers (segments query) (segments name)
-      → Shows (lines-of-text (without-last name) (lines-seen names txt flat′ out′ lines)) (name-found (f .answer))
-  pub of-modules : (ws txt : List ℕ) (t : Table) (b : Bool) → Says b (IsSound ws txt t) → (name query : Str) (f : ModuleFinding) (budget : ℕ) (flat flat′ out out′ : List ℕ) (l : Listing) (lines entered : ℕ)
-      → FindsModule ws txt t name f → NotRefused (module-found txt (f .answer))
-      → Completes ws txt t (record { ask = Modules All; budget = budget }) query flat flat′ out out′ l → l .answer ≡ Listed lines entered → Covers (segments query) (segments name)
-      → Shows (lines-of-text (without-last name) (lines-seen modules txt flat′ out′ lines)) (module-found txt (f .answer))
-  pub in-full : (ws txt : List ℕ) (t : Table) (b : Bool) → Says b (IsSound ws txt t) → (name : Str) (f : Finding) (budget : ℕ) (flat flat′ out out′ : List ℕ) (l : Listing) (lines entered : ℕ) (c : LidSymbol)
-      → Finds ws txt t name f → name-found (f .answer) ≡ found c → Completes ws txt t (record { ask = Names Every; budget = budget }) name flat flat′ out out′ l → l .answer ≡ Listed lines entered
-      → Shows (lines-of-text (without-last name) (lines-seen names txt flat′ out′ lines)) (found c)
-  pub module-in-full : (ws txt : List ℕ) (t : Table) (b : Bool) → Says b (IsSound ws txt t) → (name : Str) (f : ModuleFinding) (budget : ℕ) (flat flat′ out out′ : List ℕ) (l : Listing) (lines entered : ℕ) (m : ModSymbol)
-      → FindsModule ws txt t name f → module-found txt (f .answer) ≡ found m → Completes ws txt t (record { ask = Modules All; budget = budget }) name flat flat′ out out′ l → l .answer ≡ Listed lines entered
-      → Shows (lines-of-text (without-last name) (lines-seen modules txt flat′ out′ lines)) (found m)
+  pub names : (ws txt : List ℕ) (t : Table) → Agree (HoldsName ws txt t) (HoldsLines ws txt t (Names Every))
+  pub modules : (ws txt : List ℕ) (t : Table) → Agree (HoldsModule ws txt t) (HoldsLines ws txt t (Modules All))

@@ -1,0 +1,81 @@
+-- What the lines of a name show may be shown by contradiction: items are equal or not.
+use Prim.Native.Nat.{ℕ}
+use mathlib.Core.Path.{_≡_, refl, sym, ap, ap₂, _∙_}
+use mathlib.Core.Logic.{_⊎_, inl, inr}
+use mathlib.Core.Bool.{Bool, true, false, true≢false}
+use mathlib.Core.List.{List, [], _∷_, nil≢cons, head-eq-of-cons-eq, tail-eq-of-cons-eq}
+use native.Mathlib.Omega.{arith}
+use borrow.Author.Tests.{eqb-true, eqb-false}
+use lib.Dec.{eqb}
+use Rattle.source.specs.Text.{Str}
+use Rattle.source.specs.Table.{ModSymbol, Module, Namespace, Line}
+use Rattle.source.specs.Calls.{Found, found, not-found, refused}
+use Rattle.source.specs.declared.ItemKind.{ItemKind}
+use Rattle.source.specs.Items.{same-kind}
+use Rattle.source.specs.declared.LidSymbol.{LidSymbol}
+use Rattle.source.proofs.Elsewhere.{same-key}
+use Rattle.source.proofs.Items.{same-kind-is, kind-same}
+use Rattle.promises.specs.Agreement.{Shows}
+
+abbrev Told : {A : Type 0} → A → A → Type 0
+Told x y = (x ≡ y) ⊎ (x ≡ y → ⊥)
+
+kind-told : (x y : ItemKind) → Told x y
+kind-told x y = go (same-kind x y) refl
+  where
+    go : (b : Bool) → same-kind x y ≡ b → Told x y
+    go true e = inl (same-kind-is x y e)
+    go false e = inr (λ i. true≢false (sym (kind-same x) ∙ ap (same-kind x) i ∙ e))
+
+number-told : (x y : ℕ) → Told x y
+number-told x y = go (eqb x y) refl
+  where
+    go : (b : Bool) → eqb x y ≡ b → Told x y
+    go true e = inl (eqb-true x y e)
+    go false e = inr (eqb-false x y e)
+
+bool-told : (x y : Bool) → Told x y
+bool-told true true = inl refl
+bool-told false false = inl refl
+bool-told true false = inr (λ e. let z : _≡_ {A = ℕ} 0 1 = cc in omega arith)
+bool-told false true = inr (λ e. let z : _≡_ {A = ℕ} 0 1 = cc in omega arith)
+
+-- Two items of names.
+pub lid-told : (x y : LidSymbol) → (x ≡ y) ⊎ (x ≡ y → ⊥)
+lid-told x y = go (kind-told (x .kind) (y .kind)) (number-told (x .number) (y .number))
+  where
+    go : Told (x .kind) (y .kind) → Told (x .number) (y .number) → Told x y
+    go (inl e) (inl f) = inl (ap₂ (λ k n. record { kind = k; number = n }) e f)
+    go (inr e) f = inr (λ i. e (ap (λ (z : LidSymbol). z .kind) i))
+    go (inl e) (inr f) = inr (λ i. f (ap (λ (z : LidSymbol). z .number) i))
+
+-- Two modules or namespaces.
+pub mod-told : (x y : ModSymbol) → (x ≡ y) ⊎ (x ≡ y → ⊥)
+mod-told (Module n p l) (Module n′ p′ l′) = go (same-key n n′) (same-key p p′) (bool-told l l′)
+  where
+    go : Told n n′ → Told p p′ → Told l l′ → Told (Module n p l) (Module n′ p′ l′)
+    go (inl e) (inl f) (inl g) = inl (rw (e, f, g))
+    go (inr e) f g = inr (λ i. e cc)
+    go (inl e) (inr f) g = inr (λ i. f cc)
+    go (inl e) (inl f) (inr g) = inr (λ i. g cc)
+mod-told (Namespace n l) (Namespace n′ l′) = go (same-key n n′) (bool-told l l′)
+  where
+    go : Told n n′ → Told l l′ → Told (Namespace n l) (Namespace n′ l′)
+    go (inl e) (inl f) = inl (rw (e, f))
+    go (inr e) f = inr (λ i. e cc)
+    go (inl e) (inr f) = inr (λ i. f cc)
+mod-told (Module n p l) (Namespace n′ l′) = inr (λ e. let z : _≡_ {A = ℕ} 0 1 = cc in omega arith)
+mod-told (Namespace n l) (Module n′ p′ l′) = inr (λ e. let z : _≡_ {A = ℕ} 0 1 = cc in omega arith)
+
+pub shows-stable : {A : Type 0} → ((x y : A) → (x ≡ y) ⊎ (x ≡ y → ⊥)) → (ls : List (Line A)) (a : Found A)
+    → ((Shows ls a → ⊥) → ⊥) → Shows ls a
+shows-stable told [] (found x) h = absurd (h (λ s. nil≢cons (s .1)))
+shows-stable told (l ∷ []) (found x) h = go (told (l .item-of) x)
+  where
+    go : Told (l .item-of) x → Shows (l ∷ []) (found x)
+    go (inl e) = (l, refl, e)
+    go (inr n) = absurd (h (λ s. n (ap (λ z. z .item-of) (head-eq-of-cons-eq (s .1)) ∙ s .2)))
+shows-stable told (l ∷ (m ∷ ls)) (found x) h = absurd (h (λ s. nil≢cons (sym (tail-eq-of-cons-eq (s .1)))))
+shows-stable told [] not-found h = refl
+shows-stable told (l ∷ ls) not-found h = absurd (h (λ e. nil≢cons (sym e)))
+shows-stable told ls (refused n) h = absurd (h (λ x. x))
