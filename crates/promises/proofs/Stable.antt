@@ -7,7 +7,6 @@ use mathlib.Core.List.{List, [], _∷_, nil≢cons, head-eq-of-cons-eq, tail-eq-
 use native.Mathlib.Omega.{arith}
 use borrow.Author.Tests.{eqb-true, eqb-false}
 use lib.Dec.{eqb}
-use Rattle.source.specs.Text.{Str}
 use Rattle.source.specs.Table.{ModSymbol, Module, Namespace, Line}
 use Rattle.source.specs.Calls.{Found, found, not-found, refused}
 use Rattle.source.specs.declared.ItemKind.{ItemKind}

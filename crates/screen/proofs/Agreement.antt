@@ -69,7 +69,7 @@ module _ (st bs txt : List ℕ) (name query : Str) (budget : ℕ) (ls ls′ out 
   names-agree true s f e h c z =
       let ok = name-answered _ e h (λ n. look-up-refused true (names-in (words-in bs) txt (table-at st)) name) in
       let k = listed-bytes (Names Every) (words-in bs) txt ls ls′ out out′ l _ c z (λ n. names-refused true tbl budget (output ls out) query) in
-      (look-up true (names-in (words-in bs) txt (table-at st)) name, e, rw (k .3) (agreement .names tbl (sound-table (s .sound)) name query budget (output ls out) (k .0) (k .1) ok (k .2) cover))
+      (look-up true (names-in (words-in bs) txt (table-at st)) name, e, rw (k .3) (agreement .names tbl (sound-table (s .sound)) .shows name query _ (k .0) refl ok (budget, output ls out, k .1, k .2) cover))
 
   modules-agree : (b : Bool) → Says b (SoundBytes st bs txt) → (f : ModuleReply) → SaysModule txt (look-up b (modules-in (words-in bs) txt (table-at st)) name) f → Answered (f .answer)
       → ListsAs (Modules All) (words-in bs) txt ls ls′ out out′ l (complete-modules b tbl C.All budget (output ls out) query) → l .answer ≡ 0
@@ -79,7 +79,7 @@ module _ (st bs txt : List ℕ) (name query : Str) (budget : ℕ) (ls ls′ out 
   modules-agree true s f e h c z =
       let ok = module-answered txt (e .found) (e .reply) (e .says) h (λ n. look-up-refused true (modules-in (words-in bs) txt (table-at st)) name) in
       let k = listed-bytes (Modules All) (words-in bs) txt ls ls′ out out′ l _ c z (λ n. modules-refused true tbl budget (output ls out) query) in
-      (look-up true (modules-in (words-in bs) txt (table-at st)) name, e, rw (k .3) (agreement .modules tbl (sound-table (s .sound)) name query budget (output ls out) (k .0) (k .1) ok (k .2) cover))
+      (look-up true (modules-in (words-in bs) txt (table-at st)) name, e, rw (k .3) (agreement .modules tbl (sound-table (s .sound)) .shows name query _ (k .0) refl ok (budget, output ls out, k .1, k .2) cover))
 
 -- Demand 3, of the exported calls.
 pub bytes-agree : BytesAgree

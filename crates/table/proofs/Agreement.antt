@@ -8,7 +8,7 @@ use lib.ListN.{length}
 use Rattle.source.specs.Text.{Str, segments}
 use Rattle.source.specs.Table.{ModSymbol, Line}
 use Rattle.source.specs.Calls as C
-use Rattle.source.specs.Calls.{look-up, argument-rows, lowest, complete, complete-modules}
+use Rattle.source.specs.Calls.{look-up, argument-rows, lowest}
 use Rattle.promises.specs.Agreement.{Covers, NotRefused, without-last, lines-of-text, Shows}
 use Rattle.promises.proofs.Agreement.{agrees, agreement}
 use Rattle.promises.proofs.Stable.{lid-told, mod-told, shows-stable}
@@ -25,8 +25,7 @@ use Rattle.listing_ask.specs.declared.Filter.the-variants.{All}
 use Rattle.listing_row.specs.Rows.{lines-seen}
 use Rattle.listing_row.proofs.Written.{written-seen}
 use Rattle.listing.specs.Completes.{output, CompletesAs}
-use Rattle.table.specs.Header.{IsSound, table-in, names-in, modules-in}
-use Rattle.table_roots.specs.Answers.{name-found, module-found}
+use Rattle.table.specs.Header.{IsSound, table-in}
 use Rattle.table.specs.Agreement.{HoldsName, HoldsModule, HoldsLines, CallsAgree}
 use Rattle.table.specs.declared.Table.{Table}
 use Rattle.listing.specs.declared.Completed.{Completed}

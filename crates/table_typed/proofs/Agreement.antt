@@ -1,6 +1,6 @@
 -- Demand 3 of the typed completion follows from its contract and from the theorem over the definitions.
 use Prim.Native.Nat.{ℕ, _+_}
-use mathlib.Core.Path.{_≡_, sym, subst, _∙_}
+use mathlib.Core.Path.{_≡_, sym, _∙_}
 use mathlib.Core.Bool.{Bool, true, false}
 use mathlib.Core.List.{List}
 use mathlib.Core.Option.{Option·none-ne-some}
@@ -11,7 +11,7 @@ use Rattle.source.specs.Table as S
 use Rattle.source.specs.Table.{ModSymbol}
 use Rattle.source.specs.Calls as C
 use Rattle.source.specs.Calls.{look-up, lowest, argument-rows, output-text, complete, complete-modules}
-use Rattle.promises.specs.Agreement.{Covers, NotRefused, without-last, lines-of-text, Shows}
+use Rattle.promises.specs.Agreement.{Covers, NotRefused}
 use Rattle.promises.proofs.Agreement.{agreement}
 use Rattle.promises.proofs.Worded.{covers-itself}
 use Rattle.source.specs.declared.LidSymbol.{LidSymbol}
@@ -52,7 +52,7 @@ module _ (ws txt : List ℕ) (t : Table) (name query : Str) (budget : ℕ) (ls l
   names-agree false s a f ok c v = absurd (rw f at ok)
   names-agree true s a f ok c v =
       let l = listed-lines (Names Every) ws txt flat flat′ out out′ ls ls′ n entered _ c v in
-      (l .0, l .2, subst (Shows (lines-of-text (without-last name) (l .0))) (sym f) (agreement .names (table-in ws txt t) (sound-table s) name query budget (output (length ls) flat out) (l .0) entered (rw f at ok) (l .1) cover))
+      (l .0, l .2, agreement .names (table-in ws txt t) (sound-table s) .shows name query a (l .0) (sym f) ok (budget, output (length ls) flat out, entered, l .1) cover)
 
   modules-agree : (b : Bool) → Says b (IsSound ws txt t) → (a : C.Found ModSymbol) → a ≡ look-up b (modules-in ws txt t) name → NotRefused a
       → CompletesAs (Modules All) ws txt flat flat′ out out′ (Listed n entered) (complete-modules b (table-in ws txt t) C.All budget (output (length ls) flat out) query)
@@ -62,7 +62,7 @@ module _ (ws txt : List ℕ) (t : Table) (name query : Str) (budget : ℕ) (ls l
   modules-agree false s a f ok c v = absurd (rw f at ok)
   modules-agree true s a f ok c v =
       let l = listed-lines (Modules All) ws txt flat flat′ out out′ ls ls′ n entered _ c v in
-      (l .0, l .2, subst (Shows (lines-of-text (without-last name) (l .0))) (sym f) (agreement .modules (table-in ws txt t) (sound-table s) name query budget (output (length ls) flat out) (l .0) entered (rw f at ok) (l .1) cover))
+      (l .0, l .2, agreement .modules (table-in ws txt t) (sound-table s) .shows name query a (l .0) (sym f) ok (budget, output (length ls) flat out, entered, l .1) cover)
 
 -- Demand 3, of the typed completion.
 pub typed-agree : TypedAgree
