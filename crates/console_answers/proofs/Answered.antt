@@ -25,7 +25,7 @@ use Rattle.table.specs.Registrations.{Unchanged}
 use Rattle.table.specs.declared.Table.{Table}
 use Rattle.console_registrations.specs.Registers.{Outcome, registration, Leaves, Registers}
 use Rattle.console_registrations.specs.declared.Done.{Done}
-use Rattle.memory.proofs.Outside.{outside-none}
+use Rattle.source.proofs.Outside.{outside-none}
 use Rattle.console_questions.specs.Questions.{asked-text}
 use Rattle.console_answers.specs.Outcomes.{import-call, outcome, command-call, Accepted}
 use Rattle.console_answers.specs.Answers.{Answered}

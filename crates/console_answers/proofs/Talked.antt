@@ -13,11 +13,11 @@ use Rattle.script_decimal.specs.Bytes.{Str, _·_, All, LineEnd}
 use Rattle.script_decimal.specs.declared.Sort.the-variants.{Line}
 use Rattle.listing.specs.Completes.{output}
 use Rattle.table.specs.Header.{IsSound, state, lent}
-use Rattle.memory.specs.Grown.{Outside}
+use Rattle.source.specs.Lent.{Outside}
 use Rattle.table.specs.declared.Table.{Table}
 use Rattle.console_registrations.specs.Registers.{Outcome}
 use Rattle.console_registrations.specs.declared.Done.{Done}
-use Rattle.memory.proofs.Outside.{outside-none, outside-next}
+use Rattle.source.proofs.Outside.{outside-none, outside-next}
 use Rattle.console_questions.specs.RowReplies.{room}
 use Rattle.console_answers.specs.Outcomes.{Replied, Session, none, then, unlines}
 use Rattle.console_answers.specs.Answers.{Answered, Talked}

@@ -12,7 +12,7 @@ use Rattle.script_decimal.specs.Bytes.{Str, All}
 use Rattle.script.specs.Script.{Command, Reads}
 use Rattle.script_decimal.specs.declared.Sort.the-variants.{Line}
 use Rattle.table.specs.Header.{IsSound, state, lent}
-use Rattle.memory.specs.Grown.{Outside}
+use Rattle.source.specs.Lent.{Outside}
 use Rattle.table.specs.Registrations.{Unchanged}
 use Rattle.table.specs.declared.Table.{Table}
 use Rattle.console_registrations.specs.declared.Done.{Done}

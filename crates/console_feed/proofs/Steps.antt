@@ -12,7 +12,7 @@ use Rattle.script_decimal.specs.Bytes.{Str, _·_, All}
 use Rattle.script_decimal.specs.declared.Sort.the-variants.{Line}
 use Rattle.table.specs.Header.{IsSound, state, lent}
 use Rattle.console_registrations.specs.declared.Done.{Done}
-use Rattle.memory.proofs.Outside.{outside-none}
+use Rattle.source.proofs.Outside.{outside-none}
 use Rattle.console_answers.specs.Outcomes.{Session, none, then, unlines}
 use Rattle.console_answers.specs.Answers.{Answered, Talked}
 use Rattle.console_answers.specs.declared.AfterLines.{AfterLines}

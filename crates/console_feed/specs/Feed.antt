@@ -11,7 +11,7 @@ use Rattle.text.specs.Laid.{Laid}
 use Rattle.script_decimal.specs.Bytes.{Str, _·_, All}
 use Rattle.script_decimal.specs.declared.Sort.the-variants.{Line}
 use Rattle.table.specs.Header.{IsSound, state, lent}
-use Rattle.memory.specs.Grown.{Outside}
+use Rattle.source.specs.Lent.{Outside}
 use Rattle.console_registrations.specs.declared.Done.{Done}
 use Rattle.console_backlog.specs.Moves.{bytes-kept}
 use Rattle.console_backlog.specs.LastLine.{last-line}

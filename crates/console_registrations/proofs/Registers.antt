@@ -11,7 +11,7 @@ use Rattle.text.specs.Laid.{Laid}
 use Rattle.script_replies.specs.Replies.{ok-reply, refused-reply}
 use Rattle.table.specs.Header.{IsSound, state, lent}
 use Rattle.refusals.specs.Refusals.{number}
-use Rattle.memory.proofs.Outside.{outside-none}
+use Rattle.source.proofs.Outside.{outside-none}
 use Rattle.table.specs.Registrations.{refusal-of, Unchanged, AnswersAs, Answers}
 use Rattle.table.specs.declared.Table.{Table}
 use Rattle.table.specs.declared.Registered.{Registered}

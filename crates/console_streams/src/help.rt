@@ -1,7 +1,10 @@
 // What `console --help` writes.
 
-// Whether an argument is `--help`.
+// Whether an argument is `--help` or `-h`.
 pub fn asked(arg: &[u8]) -> bool {
+    if arg.len() == 2 {
+        return arg[0] == b'-' && arg[1] == b'h';
+    }
     if arg.len() != 6 {
         return false;
     }
@@ -18,11 +21,11 @@ fn forms() {
     );
     io::write_all(
         1,
-        b"  [name [host] id N]       registers the name id with the item N below the query host\n  [include [host] [q]]     the contents of q, copied, at host\n",
+        b"  [name [host] id N]       registers the name id with the item N below the query host\n  [include [host] [q]]     the names of q, as they are now, at host\n",
     );
     io::write_all(
         1,
-        b"  [open m|n [host] [q]]    the module (m) or namespace (n) q opened at host\n  [alias key [host] [q]]   q under key at host\n",
+        b"  [open m|n [host] [q]]    at host the names (m, as include) or the namespaces (n) of q\n  [alias key [host] [q]]   the names of q at key in host, in place of what was there\n",
     );
     io::write_all(
         1,
@@ -34,7 +37,7 @@ fn forms() {
     );
     io::write_all(
         1,
-        b"A query (host, q) is segments that each end in a dot, or nothing. N is at most 4294967295.\nThe last line may lack its line feed.\n\n",
+        b"A query (host, q) is segments that each end in a dot, or nothing. \nN is an item: timer t5, port p5 or register r5, and 5 is r5; its number is at most 4294967295.\nThe last line may lack its line feed.\n\n",
     );
 }
 
@@ -72,7 +75,7 @@ fn refusals() {
     );
     io::write_all(
         1,
-        b"A fault of standard input or output ends the program with a line on standard error.\n",
+        b"A fault of standard input or output ends the program with a line on standard error, and status 0.\n",
     );
 }
 

@@ -1,4 +1,3 @@
 pub mod Collections
 pub mod Holder
 pub mod NamesPlaced
-pub mod NamesInsertion

@@ -1,12 +1,10 @@
-// Lists of collections of the record memory: find and insertion.
+// Lists of collections of the record memory: find, and the place of a key.
 // A list is the link of its first collection; the same functions serve both tables and both levels.
-ghost use mathlib.Core.Path.{_≡_};
-ghost use Prim.Native.Nat.{_+_, _*_, _≤_};
+ghost use Prim.Native.Nat.{_*_, _≤_};
 ghost use lib.ListN.{length};
-ghost use Rattle.source.specs.Lent.{old, new};
+ghost use Rattle.source.specs.Lent.{old};
 ghost use Rattle.source.specs.Limits.{record-words};
 ghost use Rattle.find_list.specs.Names.{AnyList, Led, Holder, NamesPlaced};
-ghost use Rattle.find_list.specs.Insert.{AnyNamesInsertion, NamesInserts};
 
 // The tree that a list begins with, 0 for none, and the rest after it.
 pub struct Lead {
@@ -77,29 +75,4 @@ pub fn names_place(words: &[u32], text: &[u8], list: u32, key: &[u8]) -> NamesPl
         count: place.count,
         weight: memory_access::weight_of(words, lead.rest) + 1,
     }
-}
-
-// Inserts the branch `row` into the first tree of a list, which builds `count` branches, and puts that tree in front of the rest.
-// The answer is the new list.
-pub fn names_insert(
-    words: &mut [u32],
-    text: &[u8],
-    records: u32,
-    list: u32,
-    count: u32,
-    row: [u32; memory::ROW],
-) -> u32
-    requires { ⌜ AnyNamesInsertion (now words) (now text) records list count row ⌝ }
-    ensures { λ r. ⌜ r ≡ records + count + 1 ⌝ }
-    ensures { λ r. ⌜ NamesInserts (old words) (new words) (old text) records list count row r ⌝ }
-{
-    let lead = lead_of(words, list);
-    let tree = insert_tree::btree_insert_replace(words, text, records, lead.tree, count, row);
-    insert_record::put_names(
-        words,
-        records + count,
-        row[memory::KIND] + memory::LIST_OF,
-        tree,
-        lead.rest,
-    )
 }

@@ -1,4 +1,3 @@
 pub mod Links
 pub mod Found
 pub mod Symbols
-pub mod Roots

@@ -9,7 +9,7 @@ use Rattle.source.specs.Text.{Str, string-compare}
 use Rattle.source.specs.Types.{Level, bind, ns, Value, Tree, StrBranch}
 use Rattle.source.specs.Trees.{btree-insert-replace}
 use Rattle.source.specs.Rules.{IsKey, IsLabel, Ordered, Formed}
-use Rattle.source.proofs.Listed.{formed-ordered}
+use Rattle.source.proofs.Formed.{formed-ordered}
 use Rattle.source.proofs.Keeps.{btree-insert-replace-formed}
 use Rattle.memory.specs.Layout.{record-at, span, Which, Item, tree, trieˢ, kind, value, what, key-at, left-link, right-link, text-len, text-start, trie-link}
 use Rattle.memory.specs.Stored.{left-in, right-in}
@@ -20,7 +20,7 @@ use Rattle.memory.proofs.RecordOk.{zero-some}
 use Rattle.memory.proofs.StoredSizes.{stored-none, stored-some}
 use Rattle.memory.proofs.Stays.{what-stays, link-stays, stays-on}
 use Rattle.memory.proofs.RecordAt.{record-length}
-use Rattle.memory.proofs.SoundTable.{IsItem, link-fine}
+use Rattle.memory.proofs.Fine.{IsItem, link-fine}
 use Rattle.memory.proofs.Seen.{link-later, link-fits}
 use Rattle.find_tree.specs.Tree.{held, AnyTree, Builds}
 use Rattle.insert_copy.specs.Copies.{noted-link, noted-side, with-sides, raised-row, RaiseOk, lowest-row, LowestOk}

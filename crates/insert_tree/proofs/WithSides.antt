@@ -17,7 +17,7 @@ use Rattle.memory.specs.Grown.{put}
 use Rattle.memory.proofs.RecordOk.{record-as, branch-at}
 use Rattle.memory.proofs.StoredSizes.{stored-trie, depth-branch}
 use Rattle.memory.proofs.Put.{put-used, put-what, put-link}
-use Rattle.memory.proofs.SoundTable.{IsItem, item-fine, link-fine, link-shallow}
+use Rattle.memory.proofs.Fine.{IsItem, item-fine, link-fine, link-shallow}
 use Rattle.memory.proofs.Seen.{link-fits, link-ok, link-later}
 use Rattle.insert_copy.specs.Copies.{of-namespaces, branch-depth, DepthOk, with-sides}
 use Rattle.insert_tree.specs.Insert.{HeldOk, NewBranch}

@@ -144,9 +144,6 @@ module _ {w : Which} {ws txt flat flat′ out out′ : List ℕ} {lines : List (
   written-texts = rw written-words (lines-are w txt out′ (map line-words (x .rows)) 0 lines (x .reads) (stands-laid (x .out-laid)) .1)
 
   -- The items, and their texts.
-  pub written-from : Allˡ (RowFrom ws txt w) (words-from flat′ 0 (length lines))
-  written-from = rw written-words (x .from)
-
   pub written-items : Allˡ (λ r. ItemInside (length txt) (item-in w r)) (words-from flat′ 0 (length lines))
   written-items = rw written-words (go (map line-words (x .rows)) (x .from))
     where

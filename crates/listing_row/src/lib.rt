@@ -13,7 +13,7 @@ ghost use Rattle.listing_ask.specs.Ask.{asked};
 ghost use Rattle.listing_output.specs.Output.{line-bytes, line-words};
 ghost use Rattle.listing_row.specs.Rows.{item-in, candidate-in, row-in, words-at};
 
-// The words of a row, by what they hold (lines' specs/Output.antt). Those of its item are a branch's, by memory's names.
+// The words of a row, by what they hold (crates/listing_output/specs/Output.antt). Those of its item are a branch's, by memory's names.
 const MATCHED: usize = 0;
 
 const CANDIDATE_START: usize = 1;

@@ -4,8 +4,9 @@ use mathlib.Core.Path.{refl}
 use mathlib.Core.List.{List}
 use native.Mathlib.Omega.{arith}
 use lib.ListN.{length}
-use Rattle.memory.specs.Layout.{Which, Sort, kind}
-use Rattle.memory.specs.Sound.{LinkOk, RecordOk, Used, At}
+use Rattle.source.specs.Types.{Trie}
+use Rattle.memory.specs.Layout.{Which, Item, Sort, trieˢ, kind}
+use Rattle.memory.specs.Sound.{LinkOk, RecordOk, Used, At, Reads}
 use Rattle.memory.proofs.Seen.{link-fits, link-later}
 
 -- Link 0 names none, of any kind.
@@ -25,3 +26,7 @@ module _ {ws txt : List ℕ} {w : Which} {s : Sort} {x : ℕ} (t : At ws txt w s
   -- A link of the same table that comes no later.
   pub at-of : (s′ : Sort) {l y : ℕ} → l ≤ x + 1 → LinkOk ws l y (kind w s′) → At ws txt w s′ y
   at-of s′ h i = record { records = t .records; used = t .used; sound = t .sound; link = link-later (omega (arith, t .link .earlier)) i }
+
+-- A link that reads as a trie, from one.
+pub reads-at : {ws txt : List ℕ} {w : Which} {x r : ℕ} {tr : Trie (Item w)} → At ws txt w trieˢ x → Reads ws txt w x r tr → At ws txt w trieˢ r
+reads-at t i = at-of t trieˢ (omega arith) (i .link)

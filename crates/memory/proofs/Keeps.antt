@@ -1,4 +1,4 @@
--- What the links of a sound memory read as stays where only free text changes, and so does Sound.
+-- What the links of a sound memory read as stays where only free text changes, and the used records stay right.
 use Prim.Native.Nat.{ℕ, _+_, _≤_, _<_}
 use mathlib.Core.Path.{_≡_, refl, sym, ap, _∙_}
 use mathlib.Core.List.{List}
@@ -7,13 +7,12 @@ use lib.ListN.{length, getD, take, set, length-set}
 use lib.Seq.{length-paste, take-length, take-take, take-set-le, getD-take}
 use Rattle.source.specs.Types.{Level, bind, ns}
 use Rattle.source.specs.Text.{Str}
-use Rattle.memory.specs.Layout.{record-at, word, span, Which, names, modules, item-of, Sort, tree, list, trieˢ, kind, row, what, table-of}
-use Rattle.memory.specs.Sound.{LinkOk, TextOk, CollectionOk, ItemOk, RecordAs, Used, Sound}
+use Rattle.memory.specs.Layout.{record-at, word, span, Which, names, modules, item-of, Sort, tree, list, trieˢ, kind, row, what}
+use Rattle.memory.specs.Sound.{LinkOk, TextOk, CollectionOk, ItemOk, RecordAs, Used}
 use Rattle.memory.specs.Grown.{Keeps, put-text}
 use Rattle.memory.proofs.Pasted.{part-stays, paste-front, paste-part}
 use Rattle.memory.proofs.What.{what-none, what-row}
 use Rattle.memory.proofs.RecordOk.{zero-one, as-earlier, as-map, by-links}
-use Rattle.memory.specs.declared.Header.{Header}
 
 -- Lists that keep a beginning.
 pub keeps-then : {m n : ℕ} {t t′ t″ : List ℕ} → m ≤ n → Keeps m t t′ → Keeps n t′ t″ → Keeps m t t″
@@ -95,8 +94,3 @@ module _ {ws txt txt′ : List ℕ} {n used : ℕ} (o : Used ws txt n used) (y :
               (as-map {ws = ws} {ws′ = ws} {txt = txt} {txt′ = txt′} {used = used} {used′ = used′} {l = l} {l′ = l} (λ x k i. i) (text-keeps y more) (r .which) (r .sort) _ _ (r .right));
         };
   }
-
--- A table of which only free text changes.
-module _ {ws txt txt′ : List ℕ} {h : Header} (o : Sound ws txt h) (y : Keeps (h .text) txt txt′) where
-  pub table-keeps : table-of ws txt′ h ≡ table-of ws txt h
-  table-keeps = rw (what-keeps (o .right) y names trieˢ (omega arith) (o .names-link), what-keeps (o .right) y modules trieˢ (omega arith) (o .modules-link))

@@ -6,8 +6,7 @@ pub mod StoredSizes
 pub mod RecordAs
 pub mod Stays
 pub mod Keeps
-pub mod Outside
-pub mod SoundTable
+pub mod Fine
 mod Examples
 pub mod RecordAt
 pub mod Put

@@ -1,22 +1,19 @@
 -- What the readers show of a link of a sound memory.
 use Prim.Native.Nat.{ℕ, _+_, _*_, _≤_, _<_}
-use mathlib.Core.Path.{_≡_, refl, sym, _∙_}
-use mathlib.Core.Bool.{true, false}
+use mathlib.Core.Path.{_≡_, refl, _∙_}
 use mathlib.Core.List.{List}
 use native.Mathlib.Omega.{arith}
 use lib.ListN.{length}
-use borrow.Author.Tests.{ne-eqb, eqb-true, eqb-false}
-use Rattle.source.specs.Types.{Level, bind, ns, trie, Names, ImportedNames}
-use Rattle.source.specs.Terms.{weight, depth}
-use Rattle.source.specs.Rules.{IsLabel}
-use Rattle.memory.specs.Layout.{record-at, word, pick, Which, modules, item-of, Sort, tree, list, trieˢ, kind, row, what}
+use borrow.Author.Tests.{ne-eqb}
+use Rattle.source.specs.Types.{bind, ns, trie}
+use Rattle.source.specs.Terms.{depth}
+use Rattle.memory.specs.Layout.{record-at, word, Which, modules, item-of, Sort, list, trieˢ, kind, row, what}
 use Rattle.memory.specs.Stored.{stored}
-use Rattle.memory.specs.Sound.{LinkOk, TextOk, RecordOk, Used}
-use Rattle.memory.specs.Read.{text-of, symbol-in, symbol-of, ReadCollection, ReadTrie}
-use Rattle.memory.specs.declared.Collection.{Collection}
+use Rattle.memory.specs.Sound.{LinkOk, RecordOk, Used}
+use Rattle.memory.specs.Read.{symbol-in, symbol-of, ReadTrie}
 use Rattle.memory.specs.declared.Trie.{Trie}
 use Rattle.memory.proofs.What.{what-none}
-use Rattle.memory.proofs.RecordOk.{zero-one, zero-some, record-as, record-what, collection-at, weight-at}
+use Rattle.memory.proofs.RecordOk.{zero-some, record-as, record-what}
 use Rattle.memory.proofs.StoredSizes.{stored-none, stored-some, stored-trie}
 
 pub symbol-item : (txt r : List ℕ) → symbol-of txt (symbol-in r) ≡ item-of modules txt r
@@ -25,18 +22,6 @@ symbol-item txt r = zero-some (word r 5) (λ e. rw e) (λ p. rw (ne-eqb (word r 
 -- A link of an earlier record is a link of a later one.
 pub link-later : {ws : List ℕ} {l l′ x k : ℕ} → l ≤ l′ → LinkOk ws l x k → LinkOk ws l′ x k
 link-later h o = record { earlier = omega (arith, o .earlier); of-kind = o .of-kind }
-
-pub record SeenCollection (ws txt : List ℕ) (used x : ℕ) (w : Which) (v : Level) (c : Collection) : Type 0 where
-  pub reads : what w ws txt x (list v)
-      ≡ pick (c .imported)
-      (ImportedNames (text-of txt (c .label)) (what w ws txt (c .own) (list v)) (what w ws txt (c .rest) (list v)))
-      (Names (what w ws txt (c .own) (tree v)) (what w ws txt (c .rest) (list v)))
-  pub tree-link : c .imported ≡ false → LinkOk ws x (c .own) (kind w (tree v))
-  pub list-link : c .imported ≡ true → LinkOk ws x (c .own) (kind w (list v))
-  pub label : c .imported ≡ true → TextOk IsLabel txt used (c .label .start) (c .label .len)
-  pub rest : LinkOk ws x (c .rest) (kind w (list v))
-  pub weighs : c .weight ≡ weight (what w ws txt x (list v))
-  pub light : weight (what w ws txt x (list v)) ≤ 96
 
 pub record SeenTrie (ws txt : List ℕ) (n x : ℕ) (w : Which) (t : Trie) : Type 0 where
   pub reads : what w ws txt x trieˢ ≡ trie (what w ws txt (t .bindings) (list bind)) (what w ws txt (t .namespaces) (list ns))
@@ -53,23 +38,6 @@ module _ {ws txt : List ℕ} {n used : ℕ} (o : Used ws txt n used) where
 
   pub link-what : (w : Which) (s : Sort) {x : ℕ} → LinkOk ws (n + 1) x (kind w s) → 0 < x → what w ws txt x s ≡ row w txt (record-at ws x) (what w ws txt) s
   link-what w s i p = record-what (link-ok i p) w s (i .of-kind (λ e. omega arith)) p
-
-  module _ (w : Which) {x : ℕ} (p : 0 < x) where
-    pub collection-seen : {v : Level} {c : Collection} → LinkOk ws (n + 1) x (kind w (list v)) → ReadCollection (record-at ws x) c → SeenCollection ws txt used x w v c
-    collection-seen {v} i q =
-        let k = i .of-kind (λ e. omega arith) in
-        let y = collection-at (link-ok i p) w v k in
-        let z = weight-at (link-ok i p) w v k in
-        let r = record-at ws x in
-        record {
-          reads = link-what w (list v) i p ∙ rw (q .imported, q .label-start, q .label-len, q .own, q .rest) (zero-one (word r 5) (y .sort) (λ e. rw e) (λ e. rw e));
-          tree-link = λ e. rw (q .own) (zero-one (word r 5) (y .sort) (y .own) (λ f. absurd (eqb-false (word r 5) 1 (sym (q .imported) ∙ e) f)));
-          list-link = λ e. rw (q .own) (y .imported (eqb-true (word r 5) 1 (sym (q .imported) ∙ e)));
-          label = λ e. rw (q .label-start, q .label-len) (y .label (eqb-true (word r 5) 1 (sym (q .imported) ∙ e)));
-          rest = rw (q .rest) (y .rest);
-          weighs = q .weighs ∙ z .weighs;
-          light = z .light;
-        }
 
   pub trie-seen : (w : Which) {x : ℕ} {t : Trie} → LinkOk ws (n + 1) x (kind w trieˢ) → ReadTrie ws x t → SeenTrie ws txt n x w t
   trie-seen w {x} i q = record {

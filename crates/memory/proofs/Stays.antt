@@ -7,17 +7,12 @@ use native.Mathlib.Omega.{arith}
 use native.Mathlib.Nat.{eq-or-lt-of-le}
 use lib.ListN.{length, take}
 use lib.Seq.{take-take}
-use Rattle.source.specs.Types.{trie-empty}
-use Rattle.source.specs.Table.{empty}
-use Rattle.source.specs.Calls.{fresh}
-use Rattle.memory.specs.Layout.{record-at, Which, names, modules, Reading, among, what, table-of, state-of}
+use Rattle.memory.specs.Layout.{record-at, Which, Reading, among, what}
 use Rattle.memory.specs.Stored.{stored}
-use Rattle.memory.specs.Sound.{LinkOk, RecordOk, Used, Sound}
+use Rattle.memory.specs.Sound.{LinkOk, RecordOk, Used}
 use Rattle.memory.specs.Grown.{Stays}
 use Rattle.memory.proofs.Pasted.{part-stays}
-use Rattle.memory.proofs.What.{what-none}
 use Rattle.memory.proofs.RecordOk.{zero-some, as-map}
-use Rattle.memory.specs.declared.Header.{Header}
 
 pub stays-same : (n : ℕ) (ws : List ℕ) → Stays n ws ws
 stays-same n ws = record { same = refl; size = refl }
@@ -62,9 +57,6 @@ module _ {n : ℕ} {ws ws′ : List ℕ} (y : Stays n ws ws′) where
         (as-map {ws = ws} {ws′ = ws′} {txt = txt} {txt′ = txt} {used = used} {used′ = used} {l = l} {l′ = l} (λ x k a. link-stays (omega arith) (omega arith) a) (λ Rule s m a. a) (o .which) (o .sort) _ _ (o .right));
   }
 
-pub table-stays : {n : ℕ} {ws ws′ : List ℕ} → Stays n ws ws′ → (txt : List ℕ) (h : Header) → h .names ≤ n → h .modules ≤ n → table-of ws′ txt h ≡ table-of ws txt h
-table-stays y txt h k m = rw (what-stays y names txt (h .names) k, what-stays y modules txt (h .modules) m)
-
 -- A right record after the used ones.
 pub used-more : {ws ws′ txt : List ℕ} {n used : ℕ} → Used ws txt n used → Stays n ws ws′ → n < 65536 → n * 12 + 12 ≤ length ws → RecordOk ws′ txt used (n + 1)
     → Used ws′ txt (n + 1) used
@@ -85,18 +77,3 @@ used-first x o h = record {
   text-fits = o .text-fits;
   rows = λ l p k. o .rows l p (omega arith);
 }
-
--- The header of the fresh table.
-abbrev fresh-header : Header
-fresh-header = record { names = 0; modules = 0; records = 0; text = 0 }
-
-pub fresh-sound : (ws txt : List ℕ) → Sound ws txt fresh-header
-fresh-sound ws txt = record {
-  right = record { few = omega arith; short = omega arith; records-fit = omega arith; text-fits = omega arith; rows = λ l p h. absurd (omega arith) };
-  names-link = record { earlier = omega arith; of-kind = λ z. absurd (z refl) };
-  modules-link = record { earlier = omega arith; of-kind = λ z. absurd (z refl) };
-}
-
-pub fresh-state : (ws txt : List ℕ) → state-of ws txt fresh-header ≡ fresh
-unfolding fresh empty trie-empty
-fresh-state ws txt = rw (what-none names ws txt, what-none modules ws txt)

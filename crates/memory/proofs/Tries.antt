@@ -10,7 +10,7 @@ use Rattle.memory.specs.Sound.{LinkOk, Used, At}
 use Rattle.memory.specs.Read.{ReadTrie}
 use Rattle.memory.specs.declared.Trie.{Trie}
 use Rattle.memory.proofs.Stays.{used-first}
-use Rattle.memory.proofs.SoundTable.{link-shallow}
+use Rattle.memory.proofs.Fine.{link-shallow}
 use Rattle.memory.proofs.Seen.{SeenTrie, trie-seen}
 use Rattle.memory.proofs.At.{at-of}
 

@@ -2,7 +2,7 @@
 use Prim.Native.Nat.{ℕ, _*_}
 use mathlib.Core.Path.{_≡_}
 use mathlib.Core.List.{List}
-use lib.ListN.{length, take, drop}
+use lib.ListN.{length, take}
 use lib.Seq.{paste}
 use Rattle.source.specs.Limits.{record-words}
 
@@ -15,12 +15,6 @@ pub record Stays (n : ℕ) (ws ws′ : List ℕ) : Type 0 where
 pub record Keeps (used : ℕ) (txt txt′ : List ℕ) : Type 0 where
   pub same : take used txt′ ≡ take used txt
   pub size : length txt′ ≡ length txt
-
--- A list is as it was, except from a place up to another.
-pub record Outside (from to : ℕ) (l l′ : List ℕ) : Type 0 where
-  pub before : take from l′ ≡ take from l
-  pub after : drop to l′ ≡ drop to l
-  pub size : length l′ ≡ length l
 
 -- The words with the twelve words of r as record number n.
 unfoldable pub put : List ℕ → ℕ → List ℕ → List ℕ

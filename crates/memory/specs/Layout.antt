@@ -19,11 +19,9 @@ use lib.Dec.{eqb}
 use Rattle.source.specs.Limits.{record-words}
 use Rattle.source.specs.Text.{Str}
 use Rattle.source.specs.Types.{Level, Value, Tree, NameList, bind, ns, item, trie, StrEmpty, StrBranch, []ᴺ, Names, ImportedNames}
-use Rattle.source.specs.Table.{ModSymbol, Module, Namespace, Table}
-use Rattle.source.specs.Calls.{State}
+use Rattle.source.specs.Table.{ModSymbol, Module, Namespace}
 use Rattle.source.specs.Items.{read-kind}
 use Rattle.source.specs.declared.LidSymbol.{LidSymbol}
-use Rattle.memory.specs.declared.Header.{Header}
 
 -- The twelve words of the record that link l names.
 unfoldable pub record-at : List ℕ → ℕ → List ℕ
@@ -207,11 +205,3 @@ among w ws txt (suc n) l = pick (eqb l (suc n)) (row w txt (record-at ws (suc n)
 -- What link l reads as. Its record's links are read among the records before it.
 unfoldable pub what : (w : Which) → List ℕ → List ℕ → ℕ → Reading w
 what w ws txt l = among w ws txt l l
-
--- The source's table, by the header.
-abbrev pub table-of : List ℕ → List ℕ → Header → Table
-table-of ws txt h = record { tbl-lids = what names ws txt (h .names) trieˢ; tbl-mods = what modules ws txt (h .modules) trieˢ }
-
--- The table by value, as the source's table and what is used.
-abbrev pub state-of : List ℕ → List ℕ → Header → State
-state-of ws txt h = record { table = table-of ws txt h; records-used = h .records; text-used = h .text }

@@ -1,4 +1,4 @@
--- Sound, as the requirements have it: what the used records, their texts and the two roots must be, and nothing else.
+-- What Sound, as the requirements have it, asks of the used records and their texts, and nothing else. Crate memory_table has the roots.
 use Prim.Native.Nat.{ℕ, _+_, _*_, _≤_, _<_}
 use mathlib.Core.Path.{_≡_}
 use mathlib.Core.Bool.{Bool, true, false}
@@ -11,7 +11,6 @@ use Rattle.source.specs.Limits.{heaviest-list, deepest-trie, most-used, record-
 use Rattle.source.specs.Items.{is-kind}
 use Rattle.source.specs.Rules.{IsKey, IsLabel, IsFullName, IsPath, Ordered}
 use Rattle.memory.specs.Layout.{record-at, word, span, Which, names, modules, Item, Sort, tree, list, trieˢ, Of, kind, what}
-use Rattle.memory.specs.declared.Header.{Header}
 
 -- What a test's answer says of a statement.
 abbrev pub Says : Bool → Type 0 → Type 0
@@ -88,12 +87,6 @@ pub record Used (ws txt : List ℕ) (records used : ℕ) : Type 0 where
   pub records-fit : records * record-words ≤ length ws
   pub text-fits : used ≤ length txt
   pub rows : (l : ℕ) → 0 < l → l ≤ records → RecordOk ws txt used l
-
--- A sound table: its used records are right, and its roots are tries or none.
-pub record Sound (ws txt : List ℕ) (h : Header) : Type 0 where
-  pub right : Used ws txt (h .records) (h .text)
-  pub names-link : LinkOk ws (h .records + 1) (h .names) (kind names trieˢ)
-  pub modules-link : LinkOk ws (h .records + 1) (h .modules) (kind modules trieˢ)
 
 -- Link x names a tree, a list or a trie of the table w, or none, in a memory whose used records are right.
 pub record At (ws txt : List ℕ) (w : Which) (s : Sort) (x : ℕ) : Type 0 where

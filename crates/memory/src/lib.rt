@@ -1,5 +1,5 @@
 // Records in the lent words: the words by name, what a record holds as structs.
-// specs/Layout.antt has the layout, specs/Sound.antt what a sound table is; crate memory_access reads and makes records.
+// specs/Layout.antt has the layout, specs/Sound.antt what a right record is; crate memory_access reads and makes records.
 
 // The words, kinds and limits by name.
 mod layout;
@@ -50,14 +50,6 @@ pub use layout::TEXT_START;
 pub use layout::TRIE_IN;
 pub use layout::TRIE_KIND;
 pub use layout::WEIGHT;
-
-// The table by value: the links of its two roots, records used, text used.
-pub struct Header {
-    pub names: u32,
-    pub modules: u32,
-    pub records: u32,
-    pub text: u32,
-}
 
 // A text: a start and a length in the lent text.
 pub struct Span {

@@ -11,9 +11,9 @@ use lib.ListN.{length, getD, set, take, length-set, length-append, List·getD-ap
 use lib.Dec.{ltb}
 use borrow.Author.Tests.{ltb-true, ltb-false}
 use lib.Seq.{ext-getD, getD-set-same, getD-set-other, getD-take, getD-at, take-suc-set}
-use Rattle.memory.specs.Grown.{Outside}
+use Rattle.source.specs.Lent.{Outside}
 use Rattle.memory_bytes.specs.Bytes.{word-at, words-at, Put, Stored}
-use Rattle.memory.proofs.Outside.{outside-none, outside-set, outside-then, outside-wider, getD-before, getD-after}
+use Rattle.source.proofs.Outside.{outside-none, outside-set, outside-then, outside-wider, getD-before, getD-after}
 
 -- ---- One word
 

@@ -4,7 +4,7 @@ use mathlib.Core.Path.{_≡_}
 use mathlib.Core.List.{List}
 use lib.ListN.{length, take}
 use Rattle.source.specs.Limits.{record-words}
-use Rattle.memory.specs.declared.Header.{Header}
+use Rattle.memory_table.specs.declared.Header.{Header}
 use Rattle.memory_bytes.specs.Bytes.{word-at, words-at, Stored}
 
 -- Bytes of a word, of a state, and of a record.

@@ -1,5 +1,5 @@
 // Words spelled by bytes, four to a word, lowest first: the state and the records of a table as a caller in C lends them.
-use memory::Header;
+use memory_table::Header;
 ghost use mathlib.Core.Path.{_≡_};
 ghost use Prim.Native.Nat.{_+_, _*_, _%_, _≤_, _<_};
 ghost use lib.ListN.{length};

@@ -1,25 +1,13 @@
 -- What a caller takes from a step: the end, or an entry with its branch and label, and the entries after it.
-use Prim.Native.Nat.{ℕ, _<_}
+use Prim.Native.Nat.{ℕ}
 use mathlib.Core.Path.{_≡_, refl, _∙_}
 use mathlib.Core.List.{List, [], _∷_}
 use native.Mathlib.Omega.{arith}
 use Rattle.source.specs.Text.{Str}
 use Rattle.source.specs.Types.{Level}
-use Rattle.source.specs.Rules.{IsLabel}
-use Rattle.memory.specs.Layout.{record-at, Which, list, text-len, text-start}
-use Rattle.memory.specs.Sound.{TextOk, At}
-use Rattle.memory.proofs.Seen.{link-later}
-use Rattle.find_list.proofs.Collections.{collection-right}
+use Rattle.memory.specs.Layout.{Which}
 use Rattle.find_list.specs.Entries.{Entry}
-use Rattle.find_list.specs.Entries.{LabelOk}
 use Rattle.merge.specs.Stream.{Merge, Step, Rest, AnyRest, GivenIn, GivesIn, Gives}
-
--- The text of a label.
-pub label-text : {ws txt : List ℕ} {w : Which} {v : Level} {x label : ℕ} (t : At ws txt w (list v) x) → LabelOk ws w v x label → 0 < label
-    → TextOk IsLabel txt (t .used) (text-start (record-at ws label)) (text-len (record-at ws label))
-label-text {ws} {txt} {w} {v} {x} {label} t o p =
-    let k : At ws txt w (list v) label = record { records = t .records; used = t .used; sound = t .sound; link = link-later (omega (arith, t .link .earlier)) (o .link) } in
-    collection-right k p .label (o .imports p)
 
 module _ {ws txt : List ℕ} {w : Which} {v : Level} {x : ℕ} {p : Str} {m : Merge} {s : List Entry} (g : Rest ws txt w v x p m s) where
   -- What merge_next requires.

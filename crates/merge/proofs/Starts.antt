@@ -17,13 +17,13 @@ use Rattle.source.specs.Forward.{heap-map}
 use Rattle.source.proofs.Heap.{insert-all-more, All, All-merge}
 use Rattle.source.specs.Forward.{rest}
 use Rattle.source.proofs.Names.{OrderedN}
-use Rattle.source.proofs.Listed.{formed-orderedN}
+use Rattle.source.proofs.Formed.{formed-orderedN}
 use Rattle.source.specs.Forward.{held, forward}
 use Rattle.source.proofs.Forward.{AreRuns, built, map-run, map-heap, held-map, forward-map, built-map}
 use Rattle.source.proofs.Found.{match-lists, found-one, found-read}
 use Rattle.memory.specs.Layout.{Which, Item, list, what, key-at, tree}
 use Rattle.memory.proofs.Seen.{link-later}
-use Rattle.memory.proofs.SoundTable.{IsItem, link-fine}
+use Rattle.memory.proofs.Fine.{IsItem, link-fine}
 use Rattle.merge_heads.specs.Compare.{Heads, cell-cmp}
 use Rattle.merge_heap.specs.Cells.{count, Rep, first-cells}
 use Rattle.merge_heads.proofs.Compare.{cell-cmp-run}

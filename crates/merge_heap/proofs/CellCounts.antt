@@ -1,15 +1,14 @@
 -- Heaps in cells: how often a cell is in a heap, and what a change of other cells leaves.
-use Prim.Native.Nat.{ℕ, _≤_, _<_, Ordering}
+use Prim.Native.Nat.{ℕ, _≤_, _<_}
 use mathlib.Core.Path.{_≡_, refl, sym, ap, _∙_, subst}
 use mathlib.Core.List.{List}
-use mathlib.Core.Option.{some}
 use native.Mathlib.Decide.{ℕ-discrete}
 use native.Mathlib.Omega.{arith}
 use lib.ListN.{getD}
 use borrow.Author.Tests.{eq-eqb, ne-eqb}
-use Rattle.source.specs.Heap.{Heap, Forest, EmptyHeap, HeapOf, []ᶠ, _∷ᶠ_, heap-pop}
+use Rattle.source.specs.Heap.{Heap, Forest, EmptyHeap, HeapOf, []ᶠ, _∷ᶠ_}
 use Rattle.source.specs.Forward.{sumᶠ}
-use Rattle.source.proofs.Heap.{sum-pop, All, Allᶠ, counted}
+use Rattle.source.proofs.Heap.{All, Allᶠ, counted}
 use Rattle.merge_heap.specs.Cells.{Root, Holds, Holdsᶠ, is, count, Sized, Rep, Repᶠ, Apart, Same, Makes}
 
 pub is-self : (v : ℕ) → is v v ≡ 1
@@ -115,8 +114,3 @@ is-cell j v l = elim (ℕ-discrete j v) [ yes e ↦ e | no n ↦ absurd (omega (
 -- What holds of all holds of a cell that is counted.
 pub counted-all : (P : ℕ → Type 0) (j : ℕ) (h : Heap ℕ) → All P h → 0 < count j h → P j
 counted-all P j h p l = let k = counted P (is j) h l p in subst P (sym (is-cell j (k .0) (k .1))) (k .2)
-
--- The popped cell is not in the rest.
-pub pop-free : (cmp : ℕ → ℕ → Ordering) (n : ℕ) (child next : List ℕ) {i : ℕ} {h : Heap ℕ} → Rep n child next i h
-    → (v : ℕ) (g : Heap ℕ) → heap-pop cmp h ≡ some (v, g) → count v g ≡ 0
-pop-free cmp n child next {i} {h} r v g e = omega (arith, sum-pop cmp (is v) h v g e, is-self v, r .once v)

@@ -14,12 +14,15 @@ use Rattle.source.specs.Counted.{Counted}
 use Rattle.source.specs.Calls.{State, whole-records, free, Call, registered, records, arguments, text-taken, after}
 use Rattle.source.proofs.Refusals.{Acceptable, registration-rows-none}
 use Rattle.source.specs.declared.LidSymbol.{LidSymbol}
-use Rattle.memory.specs.Layout.{Which, names, modules, Item, trieˢ, Reading, kind, what, table-of, state-of}
-use Rattle.memory.specs.Sound.{LinkOk, Used, Sound}
+use Rattle.memory.specs.Layout.{Which, names, modules, Item, trieˢ, Reading, kind, what}
+use Rattle.memory_table.specs.Table.{table-of, state-of, Sound, root-at}
+use Rattle.memory.specs.Sound.{LinkOk, Used}
 use Rattle.memory.proofs.Seen.{link-later}
-use Rattle.memory.specs.Grown.{Keeps, Outside}
-use Rattle.memory.specs.declared.Header.{Header}
-use Rattle.memory.proofs.Keeps.{what-keeps, table-keeps, used-text}
+use Rattle.memory.specs.Grown.{Keeps}
+use Rattle.source.specs.Lent.{Outside}
+use Rattle.memory_table.specs.declared.Header.{Header}
+use Rattle.memory.proofs.Keeps.{what-keeps, used-text}
+use Rattle.memory_table.proofs.Table.{table-keeps}
 use Rattle.insert_record.specs.Made.{Room}
 use Rattle.insert_record.proofs.Made.{made-what, made-link}
 use Rattle.register_kind.specs.Shapes.{shape-of, call-of}
@@ -27,7 +30,7 @@ use Rattle.register_kind.specs.declared.Kind.{Kind}
 use Rattle.register_kind.specs.declared.Form.{Form}
 use Rattle.register_kind.specs.declared.Form.the-variants as form
 use Rattle.register_plan.specs.Plans.{Carries}
-use Rattle.register_way.specs.Way.{which-by, root-at, Way}
+use Rattle.register_way.specs.Way.{which-by, Way}
 use Rattle.register_leaf.specs.Leaves.{which-of, Builds}
 use Rattle.register_change.specs.Changes.{mutated, descent, Mutation, TrieWay, Mutated}
 use Rattle.register_leaf.specs.declared.Change.{Change}

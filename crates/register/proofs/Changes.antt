@@ -14,17 +14,18 @@ use Rattle.source.specs.Calls.{Call, registered, records, crowded, deep}
 use Rattle.source.specs.Queries.{IsQuery}
 use Rattle.source.proofs.Queries.{query-to-string-label, string-is}
 use Rattle.refusals.proofs.Rows.{query-ends}
-use Rattle.memory.specs.Layout.{span, Which, names, modules, trieˢ, kind, what, table-of}
-use Rattle.memory.specs.Sound.{LinkOk, TextOk, Sound}
+use Rattle.memory.specs.Layout.{span, Which, names, modules, trieˢ, kind, what}
+use Rattle.memory_table.specs.Table.{table-of, Sound, root-at}
+use Rattle.memory.specs.Sound.{LinkOk, TextOk}
 use Rattle.memory.specs.Read.{text-of}
-use Rattle.memory.specs.declared.Header.{Header}
+use Rattle.memory_table.specs.declared.Header.{Header}
 use Rattle.memory.proofs.Seen.{link-later}
 use Rattle.insert_record.specs.Made.{Room}
 use Rattle.register_kind.specs.Shapes.{shape-of, call-of}
 use Rattle.register_kind.specs.declared.Kind.{Kind}
 use Rattle.register_kind.specs.declared.Kind.the-variants.{Name, Include, Open, Alias, Module}
 use Rattle.register_plan.specs.Plans.{Carries}
-use Rattle.register_way.specs.Way.{which-by, root-at}
+use Rattle.register_way.specs.Way.{which-by}
 use Rattle.register_leaf.specs.Leaves.{which-of, label-in, ChangeOk}
 use Rattle.register_change.specs.Changes.{between, mutated, descent, Mutation}
 use Rattle.register_leaf.specs.declared.Change.{Change}

@@ -1,6 +1,6 @@
 -- The rows of a registration: what its texts keep, and rows 5 to 8 by its plan.
 use Prim.Native.Nat.{ℕ, _+_, _≤_}
-use mathlib.Core.Path.{_≡_, _∙_}
+use mathlib.Core.Path.{_≡_, refl, _∙_}
 use mathlib.Core.Bool.{Bool, true, false, cond, _||_}
 use mathlib.Core.List.{List, [], _∷_}
 use mathlib.Core.Option.{none, some}
@@ -26,7 +26,11 @@ use Rattle.register_kind.specs.declared.Form.{Form}
 use Rattle.register_kind.specs.declared.Form.the-variants as form
 use Rattle.register_kind.proofs.Shapes.{arguments-of, taken-is}
 use Rattle.memory.specs.Grown as Grown
-use Rattle.register_plan.specs.Plans.{Planned}
+use Rattle.memory.specs.Layout.{Which, names, modules}
+use Rattle.memory_table.specs.Table.{root-at, table-of}
+use Rattle.memory_table.specs.declared.Header.{Header}
+use Rattle.register_way.specs.Way.{which-by}
+use Rattle.register_plan.specs.Plans.{Planned, RootReads, Carries}
 use Rattle.memory.proofs.Keeps.{keeps-at}
 use Rattle.register_plan.specs.declared.Plan.{Plan}
 use Rattle.register.specs.Checks.{NoKey, Ready}
@@ -79,6 +83,19 @@ module _ (way : List ℕ) (inc : ℕ) (e : length way ≡ 37) where
 
   pub first-stays : {way′ : List ℕ} → Grown.Keeps 1 (set way 0 inc) way′ → (getD way′ 0 0 ≡ inc) × (length way′ ≡ 37)
   first-stays k = (keeps-at k 0 (omega arith) ∙ first-written .0, k .size ∙ first-written .1)
+
+-- ---- The root
+
+module _ (ws txt : List ℕ) (h : Header) where
+  -- Only a form that changes the names includes a trie.
+  pub carries-root : (f : Form) (other : Str) (r : ℕ) → Carries f ws txt (h .names) other r → Carries f ws txt (root-at (which-by f) h) other r
+  carries-root form.Name other r c = c
+  carries-root form.Import other r c = c
+  carries-root (form.Module loaded) other r c = c
+
+  pub root-reads : (w : Which) → RootReads w ws txt (root-at w h) (table-of ws txt h)
+  root-reads names = refl
+  root-reads modules = refl
 
 -- ---- Rows
 module _ (lent : Lent) (s : State) (c : Call) where

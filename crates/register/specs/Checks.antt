@@ -10,13 +10,12 @@ use Rattle.source.specs.Calls.{Lent, malformed, lowest, registration-rows}
 use Rattle.source.specs.Shared.{Allˡ}
 use Rattle.source.specs.Queries.{IsQuery, Keeps}
 use Rattle.refusals.specs.Refusals.{number}
-use Rattle.memory.specs.Layout.{state-of}
-use Rattle.memory.specs.Sound.{Sound}
-use Rattle.memory.specs.declared.Header.{Header}
+use Rattle.memory_table.specs.Table.{state-of, Sound, root-at}
+use Rattle.memory_table.specs.declared.Header.{Header}
 use Rattle.register_kind.specs.Shapes.{shape-of, used-key, call-of, other-argument, key-argument}
 use Rattle.register_kind.specs.declared.Kind.{Kind}
 use Rattle.register_plan.specs.Plans.{Carries}
-use Rattle.register_way.specs.Way.{which-by, root-at, way-size, Way}
+use Rattle.register_way.specs.Way.{which-by, way-size, Way}
 use Rattle.register.specs.declared.Checked.{Checked}
 use Rattle.register.specs.declared.Checked.the-variants.{Passed, Refused}
 

@@ -6,10 +6,11 @@ use lib.ListN.{length, drop}
 use Rattle.source.specs.Limits.{record-words}
 use Rattle.source.specs.Text.{Str}
 use Rattle.source.specs.Calls.{State}
-use Rattle.memory.specs.Layout.{span, Which, names, modules, state-of}
-use Rattle.memory.specs.Sound.{Sound}
-use Rattle.memory.specs.Grown.{Keeps, Outside}
-use Rattle.memory.specs.declared.Header.{Header}
+use Rattle.memory.specs.Layout.{span, Which, names, modules}
+use Rattle.memory_table.specs.Table.{state-of, Sound}
+use Rattle.memory.specs.Grown.{Keeps}
+use Rattle.source.specs.Lent.{Outside}
+use Rattle.memory_table.specs.declared.Header.{Header}
 
 -- Three texts stand one after another from a place on.
 pub record Stand (txt : List ℕ) (at : ℕ) (host other key : Str) : Type 0 where

@@ -1,6 +1,6 @@
 // A registration over a header: the rows that it must pass, and what it writes.
-use memory::Header;
 use memory::Span;
+use memory_table::Header;
 use refusals::Admission;
 use refusals::Capacity;
 use refusals::Demand;
@@ -19,11 +19,12 @@ ghost use Rattle.source.specs.Lent.{old, new};
 ghost use Rattle.source.specs.Limits.{most-used};
 ghost use Rattle.source.specs.Calls.{a-name, malformed, arguments, after};
 ghost use Rattle.refusals.specs.Rows.{Flagged, AllFlagged};
-ghost use Rattle.memory.specs.Layout.{names, trieˢ, state-of};
-ghost use Rattle.memory.specs.Sound.{Sound, At};
+ghost use Rattle.memory.specs.Layout.{names, trieˢ};
+ghost use Rattle.memory_table.specs.Table.{state-of, Sound, root-at};
+ghost use Rattle.memory.specs.Sound.{At};
 ghost use Rattle.register_kind.specs.Shapes.{call-of, argument-as};
 ghost use Rattle.register_plan.specs.Plans.{Carries};
-ghost use Rattle.register_way.specs.Way.{which-by, root-at, way-size};
+ghost use Rattle.register_way.specs.Way.{which-by, way-size};
 ghost use Rattle.register.specs.Checks.{NoKey, Passes, Checks};
 ghost use Rattle.register.specs.Writes.{TextsLaid, with-root, Accepts};
 
@@ -82,6 +83,17 @@ fn included(words: &[u32], text: &[u8], root: u32, form: Form, other: &[u8]) -> 
     }
 }
 
+// The root that a form changes.
+fn root_of(h: Header, form: Form) -> u32
+    ensures { λ r. ⌜ r ≡ root-at (which-by form) h ⌝ }
+{
+    match form {
+        Form::Name => h.names,
+        Form::Import => h.names,
+        Form::Module(_) => h.modules,
+    }
+}
+
 // Rows 2 to 8. Of a registration that passes them, the included trie and the way to its host are noted.
 pub fn check(
     words: &[u32],
@@ -104,7 +116,8 @@ pub fn check(
             let s = register_kind::shape_of(kind);
             let form = s.form;
             way[0] = included(words, text, h.names, form, other);
-            let p = register_plan::plan_of(words, text, h, kind, host, other, key, way);
+            let root = root_of(h, form);
+            let p = register_plan::plan_of(words, text, root, kind, host, other, key, way);
             let demand = Demand {
                 crowded: p.crowded,
                 deep: p.deep,
@@ -137,17 +150,6 @@ fn put_texts(text: &mut [u8], used: u32, host: &[u8], other: &[u8], key: &[u8])
     memory_access::put_text(text, used, host);
     memory_access::put_text(text, start, other);
     memory_access::put_text(text, end, key);
-}
-
-// The root that a form changes.
-fn root_of(h: Header, form: Form) -> u32
-    ensures { λ r. ⌜ r ≡ root-at (which-by form) h ⌝ }
-{
-    match form {
-        Form::Name => h.names,
-        Form::Import => h.names,
-        Form::Module(_) => h.modules,
-    }
 }
 
 // The header after a registration: `link` is the new root.

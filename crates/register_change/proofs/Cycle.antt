@@ -18,7 +18,7 @@ use Rattle.memory.specs.Read.{ReadTrie}
 use Rattle.memory.specs.declared.Trie as M
 use Rattle.memory.proofs.Seen.{link-later}
 use Rattle.insert_record.specs.Made.{Made}
-use Rattle.find_list.specs.Insert.{NamesInsertion, AnyNamesInsertion, NamesInserts}
+use Rattle.insert_list.specs.Insert.{NamesInsertion, AnyNamesInsertion, NamesInserts}
 use Rattle.insert_record.proofs.Made.{made-then, made-what, made-link, made-room}
 use Rattle.register_kind.specs.Shapes.{shape-of}
 use Rattle.register_kind.specs.declared.Form.{Form}

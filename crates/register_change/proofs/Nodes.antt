@@ -31,9 +31,9 @@ use Rattle.register_leaf.specs.declared.Change.{Change}
 use Rattle.register_change.specs.declared.Descent.{Descent}
 use Rattle.find_list.specs.Names.{NamesPlaced}
 use Rattle.insert_record.specs.Made.{Room, MadeTrie}
-use Rattle.find_list.specs.Insert.{NamesInsertion, AnyNamesInsertion, NamesInserts}
+use Rattle.insert_list.specs.Insert.{NamesInsertion, AnyNamesInsertion, NamesInserts}
 use Rattle.insert_record.proofs.Made.{made-none}
-use Rattle.find_list.proofs.NamesInsertion.{insertion-after}
+use Rattle.insert_list.proofs.NamesInsertion.{insertion-after}
 use Rattle.find_trie.specs.Tries.{NsInserts, LoadedModule}
 use Rattle.register_leaf.specs.Leaves.{which-of, Some, Builds}
 use Rattle.register_change.specs.Changes.{between, passed, Kinds, bindings-by, node-of, symbol-row, form-of, bindings-at, node-at, Bindings, Node, BindingsBuilt}

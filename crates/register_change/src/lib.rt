@@ -96,7 +96,7 @@ fn ins(
         let change = d.change;
         let flag = (last & find_trie::loaded_module(words, p.holder)) | loaded;
         let row = symbol_row(last, at, len, d.from, flag, change.text);
-        let b = find_list::names_insert(words, text, records, bindings, p.count, row);
+        let b = insert_list::names_insert(words, text, records, bindings, p.count, row);
         return Built {
             link: b,
             records: b,
@@ -185,7 +185,7 @@ fn namespaces_mutate(
         len: len,
     };
     let row = memory_access::make::namespace_row(kinds, key, m.link);
-    let link = find_list::names_insert(words, text, m.records, namespaces, way[1], row);
+    let link = insert_list::names_insert(words, text, m.records, namespaces, way[1], row);
     Built {
         link: link,
         records: link,

@@ -16,9 +16,9 @@ use Rattle.memory.specs.Layout.{span, Which, Item, Sort, tree, list, trieˢ, Of
 use Rattle.memory.specs.Stored.{depth-in}
 use Rattle.memory.specs.Sound.{LinkOk, TextOk, Used}
 use Rattle.insert_record.specs.Made.{Room, Made, MadeTrie}
-use Rattle.find_list.specs.Insert.{NamesInsertion, NamesInserts}
+use Rattle.insert_list.specs.Insert.{NamesInsertion, NamesInserts}
 use Rattle.insert_record.proofs.Made.{made-none, made-as, made-then, made-room, made-link, made-what, trie-shallow}
-use Rattle.find_list.proofs.NamesInsertion.{insertion-after}
+use Rattle.insert_list.proofs.NamesInsertion.{insertion-after}
 use Rattle.register_leaf.specs.Leaves.{Builds}
 
 -- ---- One after another

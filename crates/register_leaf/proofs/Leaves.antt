@@ -20,9 +20,9 @@ use Rattle.memory.specs.declared.Trie as M
 use Rattle.memory.specs.declared.Span.{Span}
 use Rattle.memory.proofs.What.{what-none}
 use Rattle.insert_record.specs.Made.{Room, MadeTrie, MadeImported}
-use Rattle.find_list.specs.Insert.{NamesInsertion, NamesInserts}
+use Rattle.insert_list.specs.Insert.{NamesInsertion, NamesInserts}
 use Rattle.insert_record.proofs.Made.{made-none, made-as, imported-light}
-use Rattle.find_list.proofs.NamesInsertion.{insertion-after}
+use Rattle.insert_list.proofs.NamesInsertion.{insertion-after}
 use Rattle.register_kind.specs.declared.Kind.{Kind}
 use Rattle.register_kind.specs.declared.Kind.the-variants.{Name, Include, Open, Alias, Module}
 use Rattle.register_leaf.specs.declared.Change.{Change}

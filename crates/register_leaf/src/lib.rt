@@ -59,7 +59,7 @@ fn insert_leaf(
 {
     let t = memory_access::trie_of(words, trie);
     let row = memory_access::make::binding_row(change.text, item);
-    let b = find_list::names_insert(words, text, records, t.bindings, count, row);
+    let b = insert_list::names_insert(words, text, records, t.bindings, count, row);
     let link = insert_record::put_trie(words, b, 5, b, t.namespaces);
     Built {
         link: link,
@@ -118,7 +118,7 @@ fn alias_leaf(
     let b = insert_record::imported(words, records, 3, label, i.bindings, 0);
     let scope = insert_record::put_trie(words, b, 5, b, 0);
     let row = memory_access::make::namespace_row(0, change.key, scope);
-    let n = find_list::names_insert(words, text, scope, t.namespaces, count, row);
+    let n = insert_list::names_insert(words, text, scope, t.namespaces, count, row);
     let link = insert_record::put_trie(words, n, 5, t.bindings, n);
     Built {
         link: link,

@@ -15,11 +15,13 @@ use Rattle.source.specs.Plans.{host-of}
 use Rattle.source.specs.Plans.{along, inserted-records, inserted-weight, ins-inserts, step-records, step-weight, plan-depth, plan-crowded, plan-records, insert-branches, first-tree}
 use Rattle.source.specs.declared.LidSymbol.{LidSymbol}
 use Rattle.memory.specs.Layout.{Which, names, modules, trieˢ, what}
+use Rattle.register_kind.specs.Shapes.{shape-of, call-of}
+use Rattle.register_kind.specs.declared.Kind.{Kind}
 use Rattle.register_kind.specs.declared.Form.{Form}
 use Rattle.register_kind.specs.declared.Form.the-variants as form
 use Rattle.register_plan.specs.declared.Plan.{Plan}
 use Rattle.memory.specs.Sound.{At, Reads}
-use Rattle.register_way.specs.Way.{NotesStep}
+use Rattle.register_way.specs.Way.{which-by, NotesStep}
 
 -- One step: the trie that it goes to, the records, whether the new list weighs over 96, and what is noted of it after steps others.
 pub record StepIn (ws txt : List ℕ) (w : Which) (x : ℕ) (s : Str) (way way′ : List ℕ) (steps link records : ℕ) (crowded : Bool) : Type 0 where
@@ -94,6 +96,16 @@ AliasPlanned ws txt root inc key host p =
 abbrev pub ModulePlanned : (ws txt : List ℕ) (root : ℕ) (loaded : Bool) (query : Str) (p : Plan) → Type 0
 ModulePlanned ws txt root loaded query p =
     (tbl : Table) (path : Str) → tbl .tbl-mods ≡ what modules ws txt root trieˢ → Planned tbl (module-path loaded query path) p
+
+-- The link root reads as a root of a table.
+abbrev pub RootReads : (w : Which) (ws txt : List ℕ) (root : ℕ) (tbl : Table) → Type 0
+RootReads names ws txt root tbl = tbl .tbl-lids ≡ what names ws txt root trieˢ
+RootReads modules ws txt root tbl = tbl .tbl-mods ≡ what modules ws txt root trieˢ
+
+-- Of each kind, for any table of the root that it changes.
+abbrev pub KindPlanned : (k : Kind) (ws txt : List ℕ) (root : ℕ) (host other key : Str) (p : Plan) → Type 0
+KindPlanned k ws txt root host other key p =
+    (tbl : Table) → RootReads (which-by (shape-of k .form)) ws txt root tbl → Planned tbl (call-of k host other key) p
 
 -- The link r reads as the trie that a form includes, 0 where it includes none.
 abbrev pub Carries : Form → (ws txt : List ℕ) (root : ℕ) (other : Str) (r : ℕ) → Type 0

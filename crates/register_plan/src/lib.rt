@@ -1,6 +1,5 @@
 // Planning: the records that a registration would build, and whether a list would be too heavy or a root too deep.
 // It goes down the host's path and reads what stands there; what the change will need of it is noted in an array, the way.
-use memory::Header;
 use register_kind::Kind;
 use register_way::WAY;
 ghost use mathlib.Core.Path.{_≡_};
@@ -10,13 +9,13 @@ ghost use Prim.Native.Nat.{_≤_, _<_};
 ghost use lib.ListN.{length, getD};
 ghost use Rattle.source.specs.Lent.{old, new};
 ghost use Rattle.source.specs.Text.{segments, ends-in-dot};
-ghost use Rattle.register_kind.specs.Shapes.{shape-of, call-of};
+ghost use Rattle.register_kind.specs.Shapes.{shape-of};
 ghost use Rattle.register_kind.specs.declared.Kind.the-variants.{Include, Open, Module};
-ghost use Rattle.memory.specs.Layout.{names, modules, trieˢ, table-of};
-ghost use Rattle.memory.specs.Sound.{Sound, At};
+ghost use Rattle.memory.specs.Layout.{names, modules, trieˢ};
+ghost use Rattle.memory.specs.Sound.{At};
 ghost use Rattle.find_trie.specs.Tries.{AnyTrie};
-ghost use Rattle.register_plan.specs.Plans.{Stepped, Inserted, Path, Planned, Carries, NamePlanned, IncludePlanned, OpenPlanned, AliasPlanned, ModulePlanned};
-ghost use Rattle.register_way.specs.Way.{way-size, Leads, NameNoted, AliasNoted, PathNoted, WayNoted};
+ghost use Rattle.register_plan.specs.Plans.{Stepped, Inserted, Path, Carries, KindPlanned, NamePlanned, IncludePlanned, OpenPlanned, AliasPlanned, ModulePlanned};
+ghost use Rattle.register_way.specs.Way.{which-by, way-size, Leads, NameNoted, AliasNoted, PathNoted, WayNoted};
 
 // One step down the path of a host: the trie that it goes to, the records that it builds, whether its new list weighs over 96.
 struct StepDown {
@@ -259,29 +258,29 @@ fn plan_module(
     }
 }
 
-// The plan of a registration, where the trie that it includes is noted first in the way, and what it notes after it.
+// The plan of a registration on the root of its table, where the trie that it includes is noted first in the way, and what it notes after it.
 pub fn plan_of(
     words: &[u32],
     text: &[u8],
-    h: Header,
+    root: u32,
     kind: Kind,
     host: &[u8],
     other: &[u8],
     key: &[u8],
     way: &mut [u32; WAY],
 ) -> Plan
-    requires { ⌜ Sound (now words) (now text) h ⌝ }
+    requires { ⌜ At (now words) (now text) (which-by (shape-of kind .form)) trieˢ root ⌝ }
     requires { ⌜ (ends-in-dot (now host) ≡ true) × (length (segments (now host)) ≤ 17) × (length (now way) ≡ way-size) ⌝ }
-    requires { ⌜ Carries (shape-of kind .form) (now words) (now text) (h .names) (now other) (getD (now way) 0 0) ⌝ }
-    ensures { λ r. ⌜ Planned (table-of (old words) (old text) h) (call-of kind (old host) (old other) (old key)) r ⌝ }
-    ensures { λ _. ⌜ WayNoted kind (old words) (old text) h (old host) (old other) (old key) (old way) (new way) ⌝ }
+    requires { ⌜ Carries (shape-of kind .form) (now words) (now text) root (now other) (getD (now way) 0 0) ⌝ }
+    ensures { λ r. ⌜ KindPlanned kind (old words) (old text) root (old host) (old other) (old key) r ⌝ }
+    ensures { λ _. ⌜ WayNoted kind (old words) (old text) root (old host) (old other) (old key) (old way) (new way) ⌝ }
 {
     let inc = way[0];
     match kind {
-        Kind::Name(_, _) => plan_name(words, text, h.names, host, other, way),
-        Kind::Include => plan_include(words, text, h.names, host, inc, way),
-        Kind::Open => plan_open(words, text, h.names, host, inc, way),
-        Kind::Alias => plan_alias(words, text, h.names, key, host, inc, way),
-        Kind::Module(loaded) => plan_module(words, text, h.modules, host, loaded, way),
+        Kind::Name(_, _) => plan_name(words, text, root, host, other, way),
+        Kind::Include => plan_include(words, text, root, host, inc, way),
+        Kind::Open => plan_open(words, text, root, host, inc, way),
+        Kind::Alias => plan_alias(words, text, root, key, host, inc, way),
+        Kind::Module(loaded) => plan_module(words, text, root, host, loaded, way),
     }
 }

@@ -10,7 +10,6 @@ use Rattle.source.specs.Plans.{insert-branches, first-tree}
 use Rattle.source.specs.declared.LidSymbol.{LidSymbol}
 use Rattle.memory.specs.Layout.{Which, Item, names, modules, trieˢ, what}
 use Rattle.memory.specs.Grown.{Keeps}
-use Rattle.memory.specs.declared.Header.{Header}
 use Rattle.register_kind.specs.Shapes.{shape-of}
 use Rattle.register_kind.specs.declared.Form.{Form}
 use Rattle.register_kind.specs.declared.Form.the-variants as form
@@ -23,11 +22,6 @@ abbrev pub which-by : Form → Which
 which-by form.Name = names
 which-by form.Import = names
 which-by (form.Module loaded) = modules
-
--- A root of the header.
-abbrev pub root-at : Which → Header → ℕ
-root-at names h = h .names
-root-at modules h = h .modules
 
 -- The size of a way: the included trie, two numbers for each of 17 segments, two for the host.
 abbrev pub way-size : ℕ
@@ -94,6 +88,5 @@ abbrev pub PathNoted : (k : Kind) (ws txt : List ℕ) (w : Which) (root : ℕ) (
 PathNoted k ws txt w root host way way′ = (other key : Str) → WayNotedIn k ws txt w root host other key way way′
 
 -- Of each kind, in its table.
-abbrev pub WayNoted : (k : Kind) (ws txt : List ℕ) (h : Header) (host other key : Str) (way way′ : List ℕ) → Type 0
-WayNoted k ws txt h host other key way way′ =
-    WayNotedIn k ws txt (which-by (shape-of k .form)) (root-at (which-by (shape-of k .form)) h) host other key way way′
+abbrev pub WayNoted : (k : Kind) (ws txt : List ℕ) (root : ℕ) (host other key : Str) (way way′ : List ℕ) → Type 0
+WayNoted k ws txt root host other key way way′ = WayNotedIn k ws txt (which-by (shape-of k .form)) root host other key way way′

@@ -13,7 +13,7 @@ use Rattle.source.specs.Calls as C
 use Rattle.source.specs.Text.{Str}
 use Rattle.source.specs.Calls.{State, Lent, Call, include, opens, register}
 use Rattle.memory.specs.Sound.{Says}
-use Rattle.memory.specs.Grown.{Outside}
+use Rattle.source.specs.Lent.{Outside}
 use Rattle.table.specs.Header.{IsSound, state, lent}
 use Rattle.table.specs.Registrations.{refusal-of, AnswersAs, Answers}
 use Rattle.table.specs.declared.Table.{Table}

@@ -4,7 +4,7 @@ use mathlib.Core.Path.{_≡_, refl}
 use mathlib.Core.List.{List}
 use lib.ListN.{replicate}
 use Rattle.source.specs.Calls.{State, fresh}
-use Rattle.memory.proofs.Stays.{fresh-sound, fresh-state}
+use Rattle.memory_table.proofs.Table.{fresh-sound, fresh-state}
 use Rattle.table.specs.Header.{state}
 use Rattle.memory_bytes.specs.Bytes.{word-at}
 use Rattle.memory_bytes.specs.Memory.{state-bytes, header-in, words-in}

@@ -12,7 +12,7 @@ use Rattle.source.specs.Calls.{State, Lent, Call, register, look-up}
 use Rattle.memory.specs.Sound.{Says}
 use Rattle.table.specs.Header.{state, lent, names-in, modules-in}
 use Rattle.table_roots.specs.Answers.{module-found, FoundInside}
-use Rattle.memory.specs.Grown.{Outside}
+use Rattle.source.specs.Lent.{Outside}
 use Rattle.table.specs.Registrations.{Accepts}
 use Rattle.table_roots.specs.declared.FoundModule.{FoundModule}
 use Rattle.screen_replies.specs.Replies.{name-reply, module-reply}

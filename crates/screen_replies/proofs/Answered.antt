@@ -7,7 +7,7 @@ use native.Mathlib.Omega.{arith}
 use Rattle.source.specs.Table.{ModSymbol}
 use Rattle.source.specs.Calls as C
 use Rattle.source.specs.declared.LidSymbol.{LidSymbol}
-use Rattle.source.specs.Agreement.{NotRefused}
+use Rattle.promises.specs.Agreement.{NotRefused}
 use Rattle.refusals.specs.Refusals.{number}
 use Rattle.table_roots.specs.Answers.{module-found}
 use Rattle.table_roots.specs.declared.FoundModule.{FoundModule}

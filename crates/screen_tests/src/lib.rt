@@ -2,7 +2,7 @@
 // Each replies what crate table hands back.
 use listing_ask::Ask;
 use listing_ask::Filter;
-use memory::Header;
+use memory_table::Header;
 use screen_replies::CompleteReply;
 use screen_replies::NameReply;
 use screen_replies::SharedReply;

@@ -1,8 +1,9 @@
 // Is the lent memory a sound table? One pass over the used records, each tested by what the records before it store.
-use memory::Header;
+use memory_table::Header;
 ghost use Prim.Native.Nat.{_+_};
 ghost use Rattle.source.specs.Lent.{old, new};
-ghost use Rattle.memory.specs.Sound.{Says, Sound};
+ghost use Rattle.memory.specs.Sound.{Says};
+ghost use Rattle.memory_table.specs.Table.{Sound};
 ghost use Rattle.sound.specs.Notes.{CanNote, NotesOn};
 
 // Notes the record of `link`, which is right.

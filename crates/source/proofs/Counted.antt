@@ -64,16 +64,6 @@ module _ {A : Type 0} where
     trie-mutate-value tr (id ∷ q) rev-acc =
         rw (trie-mutate-value (scope-of (namespaces tr) id) q (id ∷ rev-acc), names-insert-value) (node-value tr id q rev-acc _)
 
-    -- One step: the rest of the query, the insertion into the namespaces, mut_node.
-    pub trie-mutate-count : (tr : Trie A) (id : Str) (q rev-acc : Query)
-        → trie-mutateᶜ tr (id ∷ q) rev-acc nodeᶜ leafᶜ .count
-        ≡ trie-mutateᶜ (scope-of (namespaces tr) id) q (id ∷ rev-acc) nodeᶜ leafᶜ .count
-        + suc (insert-branches (first-tree (namespaces tr)) id)
-        + nodeᶜ tr id q rev-acc (names-insert (namespaces tr) id (trie-mutate (scope-of (namespaces tr) id) q (id ∷ rev-acc) node leaf)) .count
-    unfolding trie-mutateᶜ _>>=_
-    trie-mutate-count tr id q rev-acc =
-        rw (trie-mutate-value (scope-of (namespaces tr) id) q (id ∷ rev-acc), names-insert-value, names-insert-count) (omega arith)
-
   -- Nodes that count alike, whatever list they are given.
   trie-mutate-same-count : (node node′ : MutNodeᶜ A) (leaf : MutLeafᶜ A)
       → ((tr : Trie A) (id : Str) (q rev-acc : Query) (n n′ : NameList A ns) → node tr id q rev-acc n .count ≡ node′ tr id q rev-acc n′ .count)

@@ -6,10 +6,9 @@ use mathlib.Core.Bool.{Bool, true, false, cond}
 use mathlib.Core.List.{List, [], _∷_, _++_, map, flatMap, reverse, tail, append-assoc, append-nil, reverse-cons, map-append}
 use mathlib.Core.Option.{some}
 use native.Mathlib.Omega.{arith}
-use lib.ListN.{length, length-append, length-map}
+use lib.ListN.{length, length-append}
 use Rattle.source.specs.Text.{Query}
-use Rattle.source.specs.Types.{Value, Trie, bind, bindings, namespaces}
-use Rattle.source.specs.Trees.{PathElem}
+use Rattle.source.specs.Types.{Trie, bindings, namespaces}
 use Rattle.source.specs.Terms.{depth}
 use Rattle.source.specs.Listing.{PathOf, fold-left, rev-map-onto, ns-search-term, bindings-search-term, names-find-rev-first, by-first, find-prefix-fuel, trie-find-prefix′, trie-find-prefix-first}
 use Rattle.source.specs.Table.{Table, ModSymbol, Line, completion-result-of-lid, completion-result-of-ns-or-mod, autocomplete-lid-first, autocomplete-mod-or-ns-first}
@@ -28,11 +27,6 @@ module _ {A B : Type 0} where
   unfolding flatMap
   flatMap-append f [] m = refl
   flatMap-append f (a ∷ l) m = rw (flatMap-append f l m) (sym (append-assoc (f a) (flatMap f l) (flatMap f m)))
-
-  pub length-flatMap : (f : A → List B) (l : List A) → length (flatMap f l) ≡ sumˡ (λ x. length (f x)) l
-  unfolding flatMap
-  length-flatMap f [] = refl
-  length-flatMap f (a ∷ l) = omega (arith, length-append (f a) (flatMap f l), length-flatMap f l)
 
   rev-map-onto-is : (f : A → B) (l : List A) (acc : List B) → rev-map-onto f l acc ≡ map f (reverse l) ++ acc
   unfolding rev-map-onto
@@ -81,20 +75,7 @@ module _ {A : Type 0} where
   unfolding entered found
   entered-is n tr q = omega (arith, sumˡ-reverse (λ x. entered n (x .1) (tail q)) (names-find-rev-first (namespaces tr) (ns-search-term q)) [])
 
-  pub lines-count : (n : ℕ) (tr : Trie A) (path : PathOf) (q : Query)
-      → length (lines (suc n) tr path q)
-      ≡ length (found (bindings tr) (bindings-search-term q))
-      + sumˡ (λ x. length (lines n (x .1) (x .0 ∷ path) (tail q))) (found (namespaces tr) (ns-search-term q))
-  unfolding lines
-  lines-count n tr path q = rw (length-append, length-map, length-flatMap)
-
   module _ {B : Type 0} (mk : PathOf × A → List B) (n : ℕ) (tr : Trie A) (path : PathOf) (q : Query) where
-    abbrev here : PathElem × Value A bind → List B
-    here x = mk (line path x)
-
-    abbrev below : PathElem × Trie A → List B
-    below x = made mk n (x .1) (x .0 ∷ path) (tail q)
-
     pub made-is : made mk (suc n) tr path q
         ≡ flatMap (λ x. mk (line path x)) (found (bindings tr) (bindings-search-term q))
         ++ flatMap (λ x. made mk n (x .1) (x .0 ∷ path) (tail q)) (found (namespaces tr) (ns-search-term q))
@@ -103,11 +84,6 @@ module _ {A : Type 0} where
         flatMap-append mk (map (line path) (found (bindings tr) (bindings-search-term q))) _
         ∙ ap₂ _++_ (flatMap-map mk (line path) (found (bindings tr) (bindings-search-term q)))
         (flatMap-flatMap mk (λ x. lines n (x .1) (x .0 ∷ path) (tail q)) (found (namespaces tr) (ns-search-term q)))
-
-    pub made-count : length (made mk (suc n) tr path q)
-        ≡ sumˡ (λ x. length (mk (line path x))) (found (bindings tr) (bindings-search-term q))
-        + sumˡ (λ x. length (made mk n (x .1) (x .0 ∷ path) (tail q))) (found (namespaces tr) (ns-search-term q))
-    made-count = rw (made-is, length-append, length-flatMap here, length-flatMap below)
 
 -- ---- the output
 module _ {B : Type 0} where
@@ -128,19 +104,6 @@ module _ {B : Type 0} where
   unfolding output-lines
   output-lines-length at [] = refl
   output-lines-length at (x ∷ xs) = ap suc (output-lines-length (at + length (x .candidate) + length (x .annotation)) xs)
-
-  pub text-length-flatMap : {A : Type 0} (f : A → List (Line B)) (l : List A) → length (output-text (flatMap f l)) ≡ sumˡ (λ x. length (output-text (f x))) l
-  unfolding flatMap output-text
-  text-length-flatMap f [] = refl
-  text-length-flatMap f (a ∷ l) = rw (output-text-append (f a) (flatMap f l), length-append, text-length-flatMap f l)
-
-  -- The text's length.
-  pub made-text : {A : Type 0} (mk : PathOf × A → List (Line B)) (n : ℕ) (tr : Trie A) (path : PathOf) (q : Query)
-      → length (output-text (made mk (suc n) tr path q))
-      ≡ sumˡ (λ x. length (output-text (mk (line path x)))) (found (bindings tr) (bindings-search-term q))
-      + sumˡ (λ x. length (output-text (made mk n (x .1) (x .0 ∷ path) (tail q)))) (found (namespaces tr) (ns-search-term q))
-  made-text mk n tr path q =
-      rw (made-is mk n tr path q, output-text-append, length-append, text-length-flatMap (here mk n tr path q), text-length-flatMap (below mk n tr path q))
 
 -- ---- the two completions
 

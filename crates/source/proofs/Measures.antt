@@ -193,12 +193,6 @@ module _ {A : Type 0} where
       → max m (heaviest-tree (btree-insert-replace t k v)) ≡ max m (heaviest v)
   tree-insert-heaviest m t k v h = rw heaviest-greatest (tree-inserted heaviest m t k v (rw heaviest-greatest at h))
 
-  pub names-insert-weight : {l : Level} (n : NameList A l) (k : Str) (v : Value A l) → weight (names-insert n k v) ≡ inserted-weight n
-  unfolding names-insert inserted-weight weight
-  names-insert-weight []ᴺ k v = refl
-  names-insert-weight (Names bt tl) k v = refl
-  names-insert-weight (ImportedNames label inner tl) k v = refl
-
   pub names-insert-heaviest : {l : Level} (m : ℕ) (n : NameList A l) (k : Str) (v : Value A l) → heaviest-names n ≤ m
       → max m (heaviest-names (names-insert n k v)) ≡ max m (max (inserted-weight n) (heaviest v))
   unfolding names-insert heaviest-tree inserted-weight weight

@@ -115,6 +115,11 @@ full-name : (p : Query) (s : Str) → name-of-revq (s ∷ reverse p) ≡ query-t
 unfolding name-of-revq
 full-name p s = ap query-to-string (reverse-cons s (reverse p) ∙ ap (λ l. l ++ (s ∷ [])) (reverse-reverse p))
 
+-- A Namespace is no loaded Module.
+pub namespace-unloaded : (name : Str) (loaded : Bool) → loaded-module (some (item (Namespace name loaded))) ≡ false
+unfolding loaded-module
+namespace-unloaded name loaded = refl
+
 -- What is found before and after a registration of a module.
 module _ (tbl : Table) (loaded : Bool) (path : Str) where
   before : (p : Query) (s : Str) → find-module-or-ns tbl (p ++ (s ∷ [])) ≡ names-find-exact (bindings (host-of (tbl .tbl-mods) p)) s

@@ -1,7 +1,7 @@
 -- What a line says of its path, where the path is kept innermost first and grows by one element: candidate, match length, import.
 use Prim.Native.Nat.{ℕ, zero, suc, _+_, _-_, _≤_}
 use mathlib.Core.Path.{_≡_, refl, sym, ap, _∙_}
-use mathlib.Core.List.{List, [], _∷_, _++_, reverse, reverseAux, reverse-cons, append-assoc, map-append}
+use mathlib.Core.List.{List, [], _∷_, _++_, map, reverse, reverseAux, reverse-cons, append-assoc, map-append}
 use mathlib.Core.Option.{none, some}
 use native.Mathlib.Omega.{arith}
 use lib.IntN.{ℤ, pos, negsuc, _+ℤ_, _-ℤ_}
@@ -12,8 +12,10 @@ use Rattle.source.specs.Trees.{PathElem}
 use Rattle.source.specs.Listing.{PathOf, fold-left}
 use Rattle.source.specs.Table.{Matched, match-elem, match-length-of-path, string-of-path, first-import-of-path, last-opt}
 use Rattle.source.specs.Shared.{Allˡ}
-use Rattle.source.proofs.Listed.{keys}
 use Rattle.source.specs.Forward.{base}
+
+abbrev pub keys : PathOf → List Str
+keys p = map (λ el. el .segment .completion) p
 
 -- ---- candidate
 pub base-length : (el : PathElem) (path : PathOf) → length (base (el ∷ path)) ≡ length (base path) + length (el .segment .completion) + 1

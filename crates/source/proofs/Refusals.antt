@@ -6,16 +6,14 @@ use mathlib.Core.List.{List, [], _∷_, _++_}
 use mathlib.Core.Option.{Option, none, some, Option·none-ne-some}
 use native.Mathlib.Omega.{arith}
 use lib.Dec.{ltb}
-use lib.ListN.{length}
 use borrow.Author.Tests.{not-false}
 use Rattle.source.specs.Text.{Str, segments, ends-in-dot}
 use Rattle.source.specs.Types.{Trie, Value, bind}
 use Rattle.source.specs.Tries.{trie-find-exact}
 use Rattle.source.specs.Table.{Line}
-use Rattle.source.specs.Calls.{Argument, a-look-up, a-completion, is-empty, any, bad-query, malformed, empty-name, too-long, Row, _when_, lowest, argument-rows, State, Lent, whole-records, free, Call, arguments, registered, records, text-taken, crowded, deep, registration-rows, after, Registered, accepted, refused, register, Output, output-text, completion-rows, Found, found-of, look-up, Completed, listed, completed}
+use Rattle.source.specs.Calls.{Argument, a-look-up, is-empty, any, bad-query, malformed, empty-name, too-long, Row, _when_, lowest, argument-rows, State, Lent, whole-records, free, Call, arguments, registered, records, text-taken, crowded, deep, registration-rows, after, Registered, accepted, refused, register, Output, completion-rows, Found, found-of, look-up, Completed, listed, completed}
 use Rattle.source.proofs.Queries.{or-parts}
 use Rattle.source.specs.Shared.{Allˡ}
-use Rattle.source.proofs.Lookup.{Allˡ-map}
 
 -- ---- any
 pub any-append : (p : Argument → Bool) (xs ys : List Argument) → any p (xs ++ ys) ≡ any p xs || any p ys
@@ -33,11 +31,6 @@ number (n when b) = n
 
 abbrev pub holds : Row → Bool
 holds (n when b) = b
-
--- The numbers ascend from above m on.
-abbrev pub Ascending : ℕ → List Row → Type 0
-Ascending m [] = Unit {0}
-Ascending m ((n when b) ∷ rows) = (m < n) × Ascending n rows
 
 -- ---- lowest
 -- Of two lots of rows.
@@ -77,49 +70,7 @@ lowest-parts [] ys e = (refl, e)
 lowest-parts ((n when true) ∷ xs) ys e = absurd (Option·none-ne-some n (sym e))
 lowest-parts ((n when false) ∷ xs) ys e = lowest-parts xs ys e
 
-ascending-above : (l m : ℕ) (rows : List Row) → l ≤ m → Ascending m rows → Allˡ (λ r. l < number r) rows
-ascending-above l m [] h a = tt
-ascending-above l m ((n when b) ∷ rows) h a = (omega arith, ascending-above l n rows (omega arith) (a .1))
-
-lowest-above : (m : ℕ) (rows : List Row) (n : ℕ) → Ascending m rows → lowest rows ≡ some n → m < n
-unfolding lowest
-lowest-above m [] n a e = absurd (Option·none-ne-some n e)
-lowest-above m ((k when true) ∷ rows) n a e = let q : k ≡ n = cc in omega arith
-lowest-above m ((k when false) ∷ rows) n a e = omega (arith, lowest-above k rows n (a .1) e)
-
--- The row of that number holds, and none of a lower number.
-pub lowest-holds : (m : ℕ) (rows : List Row) (n : ℕ) → Ascending m rows → lowest rows ≡ some n → Allˡ (λ r. number r ≡ n → holds r ≡ true) rows
-unfolding lowest
-lowest-holds m [] n a e = tt
-lowest-holds m ((k when true) ∷ rows) n a e =
-    let q : k ≡ n = cc in
-    (λ _. refl, Allˡ-map rows (λ r h i. absurd (omega arith)) (ascending-above k k rows (omega arith) (a .1)))
-lowest-holds m ((k when false) ∷ rows) n a e =
-    let h : k < n = lowest-above k rows n (a .1) e in
-    (λ i. absurd (omega arith), lowest-holds k rows n (a .1) e)
-
-pub lowest-below : (m : ℕ) (rows : List Row) (n : ℕ) → Ascending m rows → lowest rows ≡ some n → Allˡ (λ r. number r < n → holds r ≡ false) rows
-unfolding lowest
-lowest-below m [] n a e = tt
-lowest-below m ((k when true) ∷ rows) n a e =
-    let q : k ≡ n = cc in
-    (λ i. absurd (omega arith), Allˡ-map rows (λ r h i. absurd (omega arith)) (ascending-above k k rows (omega arith) (a .1)))
-lowest-below m ((k when false) ∷ rows) n a e = (λ _. refl, lowest-below k rows n (a .1) e)
-
 -- ---- the calls' rows
-pub argument-rows-ascend : (sound : Bool) (args : List Argument) → Ascending 0 (argument-rows sound args)
-unfolding argument-rows
-argument-rows-ascend sound args = omega arith
-
-pub registration-rows-ascend : (sound : Bool) (lent : Lent) (s : State) (c : Call) → Ascending 0 (registration-rows sound lent s c)
-unfolding argument-rows registration-rows
-registration-rows-ascend sound lent s c = omega arith
-
-pub completion-rows-ascend : {A : Type 0} (sound : Bool) (budget : ℕ) (out : Output) (query : Str) (lines : List (Line A)) (entered : ℕ)
-    → Ascending 0 (completion-rows sound budget out query lines entered)
-unfolding argument-rows completion-rows
-completion-rows-ascend sound budget out query lines entered = omega arith
-
 -- A call that passes rows 1 to 4.
 pub record Admitted (sound : Bool) (args : List Argument) : Type 0 where
   pub is-sound : sound ≡ true
@@ -164,20 +115,6 @@ registration-rows-none sound lent s c e =
       records-fit = h .1 .1 .0;
       text-fits = h .1 .1 .1 .0;
     }
-
--- A completion that passes rows 1 to 4, 9 and 10.
-pub record Listable {A : Type 0} (sound : Bool) (budget : ℕ) (out : Output) (query : Str) (lines : List (Line A)) (entered : ℕ) : Type 0 where
-  pub admitted : Admitted sound (a-completion query ∷ [])
-  pub in-budget : ltb budget entered ≡ false
-  pub output-fits : ltb (out .lines) (length lines) || ltb (out .text) (length (output-text lines)) ≡ false
-
-pub completion-rows-none : {A : Type 0} (sound : Bool) (budget : ℕ) (out : Output) (query : Str) (lines : List (Line A)) (entered : ℕ)
-    → lowest (completion-rows sound budget out query lines entered) ≡ none → Listable sound budget out query lines entered
-unfolding completion-rows
-completion-rows-none sound budget out query lines entered e =
-    let p = lowest-parts (argument-rows sound (a-completion query ∷ [])) _ e in
-    let h = lowest-none _ (p .1) in
-    record { admitted = argument-rows-none sound _ (p .0); in-budget = h .0; output-fits = h .1 .0 }
 
 -- ---- accepted registrations
 accepted-view : (sound : Bool) (lent : Lent) (s s′ : State) (c : Call)

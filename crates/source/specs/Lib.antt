@@ -17,5 +17,3 @@ pub mod Counted
 pub mod Calls
 pub mod Queries
 pub mod Plans
-pub mod Agreement
-pub mod Departs

@@ -9,7 +9,7 @@ use Rattle.source.specs.Table.{register-open}
 use Rattle.source.specs.Calls as C
 use Rattle.source.specs.Calls.{State, Call, name, opens, registered, after, register, look-up}
 use Rattle.source.proofs.Refusals.{accepted-is}
-use Rattle.source.proofs.Unchanged.{name-unchanged}
+use Rattle.promises.proofs.Unchanged.{name-unchanged}
 use Rattle.source.specs.declared.LidSymbol.{LidSymbol}
 use Rattle.table.specs.declared.Table.{Table}
 use Rattle.table.specs.declared.Registration.{Registration}

@@ -7,8 +7,8 @@ use Rattle.source.specs.Table as S
 use Rattle.source.specs.Table.{ModSymbol}
 use Rattle.source.specs.Calls.{State, Lent, fresh}
 use Rattle.source.specs.declared.LidSymbol.{LidSymbol}
-use Rattle.memory.specs.Layout.{names, modules, trieˢ, what, table-of, state-of}
-use Rattle.memory.specs.Sound.{Sound}
+use Rattle.memory.specs.Layout.{names, modules, trieˢ, what}
+use Rattle.memory_table.specs.Table.{table-of, state-of, Sound}
 use Rattle.register.specs.Checks as R
 use Rattle.table.specs.declared.Table.{Table}
 

@@ -3,7 +3,7 @@
 mod registers;
 
 use listing_ask::Ask;
-use memory::Header;
+use memory_table::Header;
 use refusals::Refusal;
 use register::Checked;
 use register_kind::Kind;

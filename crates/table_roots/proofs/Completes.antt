@@ -30,9 +30,10 @@ use Rattle.refusals.specs.Refusals.{number}
 use Rattle.table_roots.specs.Completions.{refused-by, CompletesAs, root-for, answer-in, CompletesOn}
 use Rattle.refusals.specs.declared.Refusal.{Refusal}
 use Rattle.table_roots.specs.declared.Completed.the-variants.{Refused}
-use Rattle.find_trie.proofs.Roots.{names-trie, modules-trie}
-use Rattle.memory.specs.Sound.{At, Sound}
-use Rattle.memory.specs.declared.Header.{Header}
+use Rattle.memory_table.proofs.Table.{names-trie, modules-trie}
+use Rattle.memory.specs.Sound.{At}
+use Rattle.memory_table.specs.Table.{Sound}
+use Rattle.memory_table.specs.declared.Header.{Header}
 
 -- ---- The query
 

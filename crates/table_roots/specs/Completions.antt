@@ -10,7 +10,7 @@ use Rattle.source.specs.Types.{Trie}
 use Rattle.source.specs.Calls as C
 use Rattle.source.specs.Calls.{completed, tries-entered}
 use Rattle.memory.specs.Layout.{Item, trieˢ, what}
-use Rattle.memory.specs.declared.Header.{Header}
+use Rattle.memory_table.specs.declared.Header.{Header}
 use Rattle.listing_ask.specs.Ask.{asked}
 use Rattle.listing_output.specs.Output.{Written}
 use Rattle.listing_ask.specs.declared.Ask.{Ask}

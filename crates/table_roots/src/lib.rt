@@ -1,8 +1,8 @@
 // Look-up and completion in a sound memory, each on the root that is asked.
 use listing::Completion;
 use listing_ask::Ask;
-use memory::Header;
 use memory::ModSymbol;
+use memory_table::Header;
 use refusals::Admission;
 use refusals::Refusal;
 use source::LidSymbol;
@@ -11,7 +11,7 @@ ghost use mathlib.Core.Bool.{true};
 ghost use Rattle.source.specs.Lent.{old, new};
 ghost use Rattle.source.specs.Calls.{look-up};
 ghost use Rattle.memory.specs.Layout.{names, trieˢ, what};
-ghost use Rattle.memory.specs.Sound.{Sound};
+ghost use Rattle.memory_table.specs.Table.{Sound};
 ghost use Rattle.find_trie.specs.Tries.{AnyTrie};
 ghost use Rattle.table_roots.specs.Answers.{LookedUp, name-found, FindsModuleOn};
 ghost use Rattle.table_roots.specs.Completions.{answer-in, root-for, CompletesOn};

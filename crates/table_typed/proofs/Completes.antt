@@ -18,7 +18,7 @@ use Rattle.source.specs.Shared.{Allˡ}
 use Rattle.source.proofs.Lines.{output-lines-length}
 use Rattle.memory.specs.Layout.{Which, Item, pick}
 use Rattle.memory.specs.Sound.{Says}
-use Rattle.memory.proofs.SoundTable.{sound-table}
+use Rattle.memory_table.proofs.Table.{sound-table}
 use Rattle.listing_ask.specs.Ask.{asked}
 use Rattle.listing_output.specs.Output.{line-bytes, line-of, Written, matched-word}
 use Rattle.listing_ask.specs.declared.Ask.{Ask}

@@ -20,7 +20,7 @@ use Rattle.source.specs.Calls.{Completed, listed, refused, Output, completed, c
 use Rattle.source.specs.Shared.{Allˡ}
 use Rattle.source.proofs.Lookup.{Allˡ-map, Allˡ-zip, Allˡ-reverse}
 use Rattle.source.proofs.Lists.{merge-all}
-use Rattle.source.proofs.Listed.{rows-formed, parts}
+use Rattle.source.proofs.Formed.{rows-formed, parts}
 use Rattle.source.specs.Forward.{found}
 use Rattle.source.specs.Forward.{line, lines, made, kept-line}
 use Rattle.source.specs.declared.LidSymbol.{LidSymbol}

@@ -4,7 +4,6 @@ use mathlib.Core.Path.{_≡_, refl, sym, _∙_}
 use mathlib.Core.Bool.{Bool, true, false, cond}
 use mathlib.Core.List.{[], _∷_}
 use native.Mathlib.Omega.{arith}
-use native.Mathlib.Numerals.{sub-one}
 use lib.Dec.{eqb}
 use borrow.Author.Tests.{eq-eqb, ne-eqb}
 use lib.ListN.{length, getD, take, drop, length-drop, drop-of-length-le}
@@ -16,20 +15,6 @@ use Rattle.text.proofs.Texts.{drop-at, tail-is}
 use Rattle.text_query.specs.Queries.{Segment}
 
 -- ---- The last byte
-
-last-dot : (b : ℕ) (s : Str) → eqb (getD (b ∷ s) (length s) 0) dot ≡ ends-in-dot (b ∷ s)
-unfolding ends-in-dot
-last-dot b [] = refl
-last-dot b (c ∷ s) = last-dot c s
-
-pub ends-last : (s : Str) → (length s ≡ 0 → ⊥) → eqb (getD s (length s - 1) 0) dot ≡ ends-in-dot s
-ends-last [] h = absurd (h refl)
-ends-last (b ∷ s) h = rw sub-one (last-dot b s)
-
-pub ends-none : (s : Str) → length s ≡ 0 → true ≡ ends-in-dot s
-unfolding ends-in-dot
-ends-none [] h = refl
-ends-none (b ∷ s) h = absurd (omega arith)
 
 ends-cons : (b : ℕ) (s : Str) → 0 < length s → ends-in-dot (b ∷ s) ≡ ends-in-dot s
 unfolding ends-in-dot

@@ -17,7 +17,7 @@ use Rattle.register_change.proofs.trie_mutate.Kinds as trie-mutate-kind
 use Rattle.register_change.proofs.+namespaces_mutate+trie_mutate.Lts-trie_mutate as trie-mutate-lts
 use Rattle.memory_access.proofs.trie_of.Reads as trie-of-reads
 use Rattle.memory_access.proofs.make.namespace_row.Reads as namespace-row-reads
-use Rattle.find_list.proofs.names_insert.Reads as names-insert-reads
+use Rattle.insert_list.proofs.names_insert.Reads as names-insert-reads
 use Rattle.register_change.proofs.kinds_of.Reads as kinds-of-reads
 use Rattle.register_leaf.proofs.mut_leaf.Reads as mut-leaf-reads
 use Rattle.register_change.proofs.mut_node.Reads as mut-node-reads

@@ -1,6 +1,5 @@
 -- plan_of meets its contract: each kind has its own.
-use mathlib.Core.Path.{refl}
-use Rattle.find_trie.proofs.Roots.{names-trie, modules-trie, included-trie}
+use Rattle.memory.proofs.At.{reads-at}
 use borrow.Author.Needs.{needs}
 use Rattle.register_plan.proofs.plan_of.Statement.{statement}
 use Rattle.register_plan.proofs.plan_of.Tie as tie
@@ -14,30 +13,30 @@ plan-of-spec =
     {- enum-told -}
     (λ c. search needs)
     {- plan-name-requires -}
-    (λ c κs. (names-trie (c .before .before .before .before .before .before .before .before .before .pre .0), c .before .before .before .before .before .before .before .before .before .pre .1 .0))
+    (λ c κs. (rw (c .before .enum-told .given .1) at (c .before .before .before .before .before .before .before .before .before .pre .0), c .before .before .before .before .before .before .before .before .before .pre .1 .0))
     {- enum-told-2 -}
     (λ c. search needs)
     {- plan-include-requires -}
-    (λ c κs. ((names-trie (c .before .before .before .before .before .before .before .before .before .pre .0), included-trie (c .before .before .before .before .before .before .before .before .before .pre .0) (rw (c .before .enum-told2 .given .1) at (c .before .before .before .before .before .before .before .before .before .pre .1 .1))), c .before .before .before .before .before .before .before .before .before .pre .1 .0))
+    (λ c κs. ((let t = rw (c .before .enum-told2 .given .1) at (c .before .before .before .before .before .before .before .before .before .pre .0) in (t, reads-at t (rw (c .before .enum-told2 .given .1) at (c .before .before .before .before .before .before .before .before .before .pre .1 .1)))), c .before .before .before .before .before .before .before .before .before .pre .1 .0))
     {- enum-told-3 -}
     (λ c. search needs)
     {- plan-open-requires -}
-    (λ c κs. ((names-trie (c .before .before .before .before .before .before .before .before .before .pre .0), included-trie (c .before .before .before .before .before .before .before .before .before .pre .0) (rw (c .before .enum-told3 .given .1) at (c .before .before .before .before .before .before .before .before .before .pre .1 .1))), c .before .before .before .before .before .before .before .before .before .pre .1 .0))
+    (λ c κs. ((let t = rw (c .before .enum-told3 .given .1) at (c .before .before .before .before .before .before .before .before .before .pre .0) in (t, reads-at t (rw (c .before .enum-told3 .given .1) at (c .before .before .before .before .before .before .before .before .before .pre .1 .1)))), c .before .before .before .before .before .before .before .before .before .pre .1 .0))
     {- enum-told-4 -}
     (λ c. search needs)
     {- plan-alias-requires -}
-    (λ c κs. ((names-trie (c .before .before .before .before .before .before .before .before .before .pre .0), included-trie (c .before .before .before .before .before .before .before .before .before .pre .0) (rw (c .before .enum-told4 .given .1) at (c .before .before .before .before .before .before .before .before .before .pre .1 .1))), c .before .before .before .before .before .before .before .before .before .pre .1 .0))
+    (λ c κs. ((let t = rw (c .before .enum-told4 .given .1) at (c .before .before .before .before .before .before .before .before .before .pre .0) in (t, reads-at t (rw (c .before .enum-told4 .given .1) at (c .before .before .before .before .before .before .before .before .before .pre .1 .1)))), c .before .before .before .before .before .before .before .before .before .pre .1 .0))
     {- enum-known-kind -}
     (λ c. search needs)
     {- plan-module-requires -}
-    (λ c κs. (modules-trie (c .before .before .before .before .before .before .before .before .before .before .pre .0), c .before .before .before .before .before .before .before .before .before .before .pre .1 .0))
+    (λ c κs. (rw (c .before .before .kind .given .1) at (c .before .before .before .before .before .before .before .before .before .before .pre .0), c .before .before .before .before .before .before .before .before .before .before .pre .1 .0))
     {- returns -}
-    (λ c. rw (c .before .before .enum-told .given .1) (c .plan-name .ensures .0 _ _ refl, c .plan-name .ensures .1 _ _))
+    (λ c. rw (c .before .before .enum-told .given .1) ((λ tbl e. c .plan-name .ensures .0 tbl _ e), c .plan-name .ensures .1 _ _))
     {- returns-2 -}
-    (λ c. rw (c .before .before .enum-told2 .given .1) (c .plan-include .ensures .0 _ _ refl ((rw (c .before .before .enum-told2 .given .1) at (c .before .before .before .before .before .before .before .before .before .before .pre .1 .1)) .says), c .plan-include .ensures .1 _ _))
+    (λ c. rw (c .before .before .enum-told2 .given .1) ((λ tbl e. c .plan-include .ensures .0 tbl _ e ((rw (c .before .before .enum-told2 .given .1) at (c .before .before .before .before .before .before .before .before .before .before .pre .1 .1)) .says)), c .plan-include .ensures .1 _ _))
     {- returns-3 -}
-    (λ c. rw (c .before .before .enum-told3 .given .1) (c .plan-open .ensures .0 _ _ refl ((rw (c .before .before .enum-told3 .given .1) at (c .before .before .before .before .before .before .before .before .before .before .pre .1 .1)) .says), c .plan-open .ensures .1 _ _))
+    (λ c. rw (c .before .before .enum-told3 .given .1) ((λ tbl e. c .plan-open .ensures .0 tbl _ e ((rw (c .before .before .enum-told3 .given .1) at (c .before .before .before .before .before .before .before .before .before .before .pre .1 .1)) .says)), c .plan-open .ensures .1 _ _))
     {- returns-4 -}
-    (λ c. rw (c .before .before .enum-told4 .given .1) (c .plan-alias .ensures .0 _ _ refl ((rw (c .before .before .enum-told4 .given .1) at (c .before .before .before .before .before .before .before .before .before .before .pre .1 .1)) .says), c .plan-alias .ensures .1 _))
+    (λ c. rw (c .before .before .enum-told4 .given .1) ((λ tbl e. c .plan-alias .ensures .0 tbl _ e ((rw (c .before .before .enum-told4 .given .1) at (c .before .before .before .before .before .before .before .before .before .before .pre .1 .1)) .says)), c .plan-alias .ensures .1 _))
     {- returns-5 -}
-    (λ c. rw (c .before .before .before .kind .given .1) (c .plan-module .ensures .0 _ _ refl, c .plan-module .ensures .1 _ _)))
+    (λ c. rw (c .before .before .before .kind .given .1) ((λ tbl e. c .plan-module .ensures .0 tbl _ e), c .plan-module .ensures .1 _ _)))

@@ -4,7 +4,7 @@ use native.Mathlib.Omega.{arith}
 use borrow.Author.Needs.{needs}
 use Rattle.source.specs.Calls.{found}
 use Rattle.memory.specs.Layout.{names}
-use Rattle.find_trie.proofs.Roots.{names-trie}
+use Rattle.memory_table.proofs.Table.{names-trie}
 use Rattle.table_roots.proofs.find.Statement.{statement}
 use Rattle.table_roots.proofs.find.Tie as tie
 

@@ -6,7 +6,7 @@ use Rattle.source.specs.Calls.{found}
 use Rattle.memory.specs.Layout.{record-at, modules}
 use Rattle.memory.specs.Read.{symbol-of}
 use Rattle.memory.proofs.Seen.{symbol-item}
-use Rattle.find_trie.proofs.Roots.{modules-trie}
+use Rattle.memory_table.proofs.Table.{modules-trie}
 use Rattle.table_roots.proofs.Finds.{symbol-inside}
 use Rattle.table_roots.proofs.find_module.Statement.{statement}
 use Rattle.table_roots.proofs.find_module.Tie as tie

@@ -1,5 +1,5 @@
 -- Table::fresh meets its contract.
-use Rattle.memory.proofs.Stays.{fresh-sound, fresh-state}
+use Rattle.memory_table.proofs.Table.{fresh-sound, fresh-state}
 use Rattle.table.proofs.Table.fresh.Statement.{statement}
 use Rattle.table.proofs.Table.fresh.Tie as tie
 

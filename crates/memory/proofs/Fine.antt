@@ -1,0 +1,79 @@
+-- What the links of a sound memory read as is formed, no list weighs over 96, and no trie is deeper than 16.
+use Prim.Native.Nat.{ℕ, _+_, _≤_}
+use mathlib.Core.Path.{sym, subst}
+use mathlib.Core.List.{List}
+use native.Mathlib.Omega.{arith}
+use native.Mathlib.Nat.{max-le}
+use Rattle.source.specs.Types.{Level, bind, ns}
+use Rattle.source.specs.Terms.{weight, depth, depth-names, heaviest, heaviest-tree, heaviest-names}
+use Rattle.source.specs.Rules.{IsKey, IsLabel, NameItem, ModItem, Ordered, Formed, FormedTree, FormedNames}
+use Rattle.memory.specs.Layout.{record-at, word, Which, names, modules, Item, item-of, Sort, tree, list, trieˢ, Of, kind, value, row, what}
+use Rattle.memory.specs.Sound.{LinkOk, BranchOk, CollectionOk, ItemOk, RecordAs, Used}
+use Rattle.memory.proofs.What.{what-none, what-row}
+use Rattle.memory.proofs.RecordOk.{zero-one, zero-some, as-earlier, record-as, by-links}
+
+abbrev pub IsItem : (w : Which) → Item w → Type 0
+IsItem names = NameItem
+IsItem modules = ModItem
+
+-- Formed, and no list weighs over 96.
+abbrev pub Fine : (w : Which) (s : Sort) → Of (Item w) s → Type 0
+Fine w (tree v) t = FormedTree IsKey IsLabel (IsItem w) t × (heaviest-tree t ≤ 96)
+Fine w (list v) t = FormedNames IsKey IsLabel (IsItem w) t × (heaviest-names t ≤ 96)
+Fine w trieˢ t = Formed IsKey IsLabel (IsItem w) t × (heaviest t ≤ 96)
+
+none-fine : (ws txt : List ℕ) (w : Which) (s : Sort) → Fine w s (what w ws txt 0 s)
+unfolding heaviest heaviest-tree heaviest-names
+none-fine ws txt w (tree v) = rw (what-none w ws txt) (tt, omega arith)
+none-fine ws txt w (list v) = rw (what-none w ws txt) (tt, omega arith)
+none-fine ws txt w trieˢ = rw (what-none w ws txt) ((tt, tt), omega arith)
+
+pub item-fine : (txt : List ℕ) (used : ℕ) (w : Which) (r : List ℕ) → ItemOk txt used w r → IsItem w (item-of w txt r)
+item-fine txt used names r o = tt
+item-fine txt used modules r o =
+    zero-one (word r 5) (o .sort) (λ z. rw z (o .name .keeps, o .path z .keeps)) (λ z. rw z (o .name .keeps))
+
+module _ (ws txt : List ℕ) (used l : ℕ) (w : Which) (r : List ℕ) (ih : (x : ℕ) (t : Sort) → LinkOk ws l x (kind w t) → Fine w t (what w ws txt x t)) where
+  branch-fine : (v : Level) → BranchOk ws txt used l w r v → Ordered (row w txt r (what w ws txt) (tree v))
+      → Formed IsKey IsLabel (IsItem w) (value w txt r (what w ws txt) v) → heaviest (value w txt r (what w ws txt) v) ≤ 96 → Fine w (tree v) (row w txt r (what w ws txt) (tree v))
+  unfolding heaviest-tree
+  branch-fine v o a f h =
+      let i = ih (word r 3) (tree v) (o .left) in
+      let j = ih (word r 4) (tree v) (o .right) in
+      ((o .key .keeps, f, a .0, a .1, i .0, j .0), max-le h (max-le (i .1) (j .1)))
+
+  collection-fine : (v : Level) → CollectionOk ws txt used l w r v → weight (row w txt r (what w ws txt) (list v)) ≤ 96 → Fine w (list v) (row w txt r (what w ws txt) (list v))
+  unfolding heaviest-names
+  collection-fine v o h =
+      let j = ih (word r 4) (list v) (o .rest) in
+      zero-one (word r 5) (o .sort)
+      (λ z. let i = ih (word r 3) (tree v) (o .own z) in rw z ((i .0, j .0), max-le (rw z at h) (max-le (i .1) (j .1))))
+      (λ z. let i = ih (word r 3) (list v) (o .imported z) in rw z ((o .label z .keeps, i .0, j .0), max-le (rw z at h) (max-le (i .1) (j .1))))
+
+  row-fine : (s : Sort) → RecordAs ws txt used l w s r (row w txt r (what w ws txt) s) → Fine w s (row w txt r (what w ws txt) s)
+  unfolding heaviest
+  row-fine (tree bind) a = branch-fine bind (a .0) (a .1) (item-fine txt used w r (a .2)) (omega arith)
+  row-fine (tree ns) a = let h = ih (word r 5) trieˢ (a .2) in branch-fine ns (a .0) (a .1) (h .0) (h .1)
+  row-fine (list bind) a = collection-fine bind (a .0) (a .1 .light)
+  row-fine (list ns) a = collection-fine ns (a .0) (a .1 .light)
+  row-fine trieˢ a =
+      let i = ih (word r 3) (list bind) (a .0 .bindings) in
+      let j = ih (word r 4) (list ns) (a .0 .namespaces) in
+      ((i .0, j .0), max-le (i .1) (j .1))
+
+module _ {ws txt : List ℕ} {n used : ℕ} (o : Used ws txt n used) where
+  -- Of every link of a sound memory.
+  pub link-fine : (w : Which) (s : Sort) {l x : ℕ} → l ≤ n + 1 → LinkOk ws l x (kind w s) → Fine w s (what w ws txt x s)
+  link-fine =
+      by-links (o .rows) (λ w s x. Fine w s (what w ws txt x s)) (none-fine ws txt)
+      (λ w s l p r ih.
+      let e = what-row w ws txt s l p (as-earlier ws txt used l w s (record-at ws l) (what w ws txt l s) r) in
+      subst (Fine w s) (sym e)
+      (row-fine ws txt used l w (record-at ws l) ih s (subst (λ (t : Of (Item w) s). RecordAs ws txt used l w s (record-at ws l) t) e r)))
+
+  pub link-shallow : (w : Which) {l x : ℕ} → l ≤ n + 1 → LinkOk ws l x (kind w trieˢ) → depth (what w ws txt x trieˢ) ≤ 16
+  unfolding depth depth-names
+  link-shallow w {x = x} h i =
+      zero-some x
+      (λ e. rw (e, what-none w ws txt) (omega arith))
+      (λ p. record-as (o .rows x p (omega (arith, i .earlier))) w trieˢ (i .of-kind (λ z. omega arith)) .2)

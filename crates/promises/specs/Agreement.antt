@@ -1,0 +1,73 @@
+-- Demand 3: the pane lists what look-up takes.
+use Prim.Native.Nat.{ℕ, _-_}
+use mathlib.Core.Path.{_≡_}
+use mathlib.Core.Bool.{Bool, true, false, cond}
+use mathlib.Core.List.{List, [], _∷_}
+use lib.Dec.{isEq}
+use lib.ListN.{length, take}
+use Rattle.source.specs.Text.{Str, Query, string-compare, starts-with, segments}
+use Rattle.source.specs.Table.{Table, ModSymbol, Line}
+use Rattle.source.specs.Rules.{SoundTable}
+use Rattle.source.specs.Calls.{Found, found, not-found, refused, look-up, listed, Output, Filter, All, keeps, keeps-kind, complete, complete-modules}
+use Rattle.source.specs.declared.LidSymbol.{LidSymbol}
+use Rattle.source.specs.declared.KindFilter.{KindFilter}
+use Rattle.source.specs.declared.KindFilter.the-variants.{Every}
+
+-- A query covers a full name that has at least as many segments and whose segments begin, one by one, with the query's.
+abbrev pub Covers : (query name : Query) → Type 0
+Covers [] name = Unit {0}
+Covers (p ∷ query) [] = ⊥
+Covers (p ∷ query) (s ∷ name) = (starts-with s p ≡ true) × Covers query name
+
+-- A text without its last byte.
+unfoldable pub without-last : Str → Str
+without-last s = take (length s - 1) s
+
+module _ {A : Type 0} where
+  abbrev pub NotRefused : Found A → Type 0
+  NotRefused (found a) = Unit {0}
+  NotRefused not-found = Unit {0}
+  NotRefused (refused n) = ⊥
+
+  -- The lines with that text. A line's text is its candidate.
+  unfoldable pub lines-of-text : Str → List (Line A) → List (Line A)
+  lines-of-text t [] = []
+  lines-of-text t (l ∷ ls) = elim (isEq (string-compare (l .candidate) t)) [ true ↦ l ∷ lines-of-text t ls | false ↦ lines-of-text t ls ]
+
+  -- Exactly one line, which carries the item; or no line, and none.
+  abbrev pub Shows : List (Line A) → Found A → Type 0
+  Shows ls (found a) = (l : Line A) × (ls ≡ l ∷ []) × (l .item-of ≡ a)
+  Shows ls not-found = ls ≡ []
+  Shows ls (refused n) = ⊥
+
+  -- What a filter leaves of what look-up finds.
+  unfoldable pub passing : (A → Bool) → Found A → Found A
+  passing keep (found a) = cond (keep a) (found a) not-found
+  passing keep not-found = not-found
+  passing keep (refused n) = refused n
+
+-- On either root of every sound table.
+pub record Demand3 : Type 0 where
+  -- The lines with the text of a full name show what look-up finds: where it is not refused, in every completion, of all kinds or unfiltered and not refused, that covers the name.
+  pub names : (tbl : Table) → SoundTable tbl → (name query : Str) (budget : ℕ) (out : Output) (lines : List (Line LidSymbol)) (entered : ℕ)
+      → NotRefused (look-up true (tbl .tbl-lids) name) → complete true tbl Every budget out query ≡ listed lines entered → Covers (segments query) (segments name)
+      → Shows (lines-of-text (without-last name) lines) (look-up true (tbl .tbl-lids) name)
+  pub modules : (tbl : Table) → SoundTable tbl → (name query : Str) (budget : ℕ) (out : Output) (lines : List (Line ModSymbol)) (entered : ℕ)
+      → NotRefused (look-up true (tbl .tbl-mods) name) → complete-modules true tbl All budget out query ≡ listed lines entered → Covers (segments query) (segments name)
+      → Shows (lines-of-text (without-last name) lines) (look-up true (tbl .tbl-mods) name)
+  -- A name that look-up finds is listed where it is asked for in full.
+  pub names-in-full : (tbl : Table) → SoundTable tbl → (name : Str) (budget : ℕ) (out : Output) (lines : List (Line LidSymbol)) (entered : ℕ) (c : LidSymbol)
+      → look-up true (tbl .tbl-lids) name ≡ found c → complete true tbl Every budget out name ≡ listed lines entered
+      → Shows (lines-of-text (without-last name) lines) (found c)
+  pub modules-in-full : (tbl : Table) → SoundTable tbl → (name : Str) (budget : ℕ) (out : Output) (lines : List (Line ModSymbol)) (entered : ℕ) (m : ModSymbol)
+      → look-up true (tbl .tbl-mods) name ≡ found m → complete-modules true tbl All budget out name ≡ listed lines entered
+      → Shows (lines-of-text (without-last name) lines) (found m)
+
+-- The same of a listing of one kind, or filtered: its lines with the text show what passes of what look-up finds.
+pub record FilteredAgree : Type 0 where
+  pub names : (tbl : Table) → SoundTable tbl → (f : KindFilter) (name query : Str) (budget : ℕ) (out : Output) (lines : List (Line LidSymbol)) (entered : ℕ)
+      → NotRefused (look-up true (tbl .tbl-lids) name) → complete true tbl f budget out query ≡ listed lines entered → Covers (segments query) (segments name)
+      → Shows (lines-of-text (without-last name) lines) (passing (keeps-kind f) (look-up true (tbl .tbl-lids) name))
+  pub modules : (tbl : Table) → SoundTable tbl → (f : Filter) (name query : Str) (budget : ℕ) (out : Output) (lines : List (Line ModSymbol)) (entered : ℕ)
+      → NotRefused (look-up true (tbl .tbl-mods) name) → complete-modules true tbl f budget out query ≡ listed lines entered → Covers (segments query) (segments name)
+      → Shows (lines-of-text (without-last name) lines) (passing (keeps f) (look-up true (tbl .tbl-mods) name))
