@@ -3,7 +3,8 @@
 # make test       the C calls from C, the prompt typed into in a pseudo-terminal, and an installation that is used
 # make install    header, archive, pkg-config file, program and manual pages below PREFIX (DESTDIR in front of it)
 # make uninstall  takes them away
-# make fuzz       the C calls under libFuzzer for SECONDS seconds, with address and undefined-behaviour sanitizers on the C side
+# make fuzz       the C calls under libFuzzer for SECONDS seconds, from seeds, with address and undefined-behaviour sanitizers on the C side;
+#                 prints how often each call gave each answer
 CC ?= cc
 CFLAGS ?= -O2 -g
 FLAGS = -std=c11 -D_POSIX_C_SOURCE=200809L -Wall -Wextra -Werror -Iinclude
@@ -62,9 +63,10 @@ uninstall: | absolute
 SECONDS ?= 60
 fuzz: $(ARCHIVE)
 	@mkdir -p target/fuzz/corpus
+	python3 fuzz/seeds.py target/fuzz
 	clang -std=c11 -g -O1 -Wall -Wextra -Werror -Iinclude -fsanitize=fuzzer,address,undefined -fno-sanitize-recover=all \
 	  fuzz/screen.c $(ARCHIVE) -o target/fuzz/screen
-	target/fuzz/screen -max_len=600 -max_total_time=$(SECONDS) target/fuzz/corpus
+	target/fuzz/screen -max_len=600 -max_total_time=$(SECONDS) -dict=target/fuzz/screen.dict target/fuzz/corpus target/fuzz/seeds
 
 clean:
 	rm -f examples/session examples/prompt

@@ -1,12 +1,57 @@
 /* Fuzzes the C layer: any bytes as table, texts and output. Each call must answer a number that it may answer, leave
    every byte equal where it refuses, never write outside what is lent, and leave a sound table where it accepts. A
    completion that says what is certain must reply and write what the completion does; one of a kind must keep the lines
-   of that kind. Each line must be what a look-up of its candidate finds, and what a look-up finds must be listed. */
+   of that kind. Each line must be what a look-up of its candidate finds, and what a look-up finds must be listed.
+
+   libFuzzer sees the branches of this file and none of the archive's. What it is led by besides is what the calls answer: a
+   counter for each call and answer, for each number of lines and for each power of two of records used. At the end the answers
+   that were met are printed. fuzz/seeds.py writes inputs to begin with, and a dictionary, in the format that is read here. */
 #include "name_console.h"
+#include <stdio.h>
 #include <stdlib.h>
 #include <string.h>
 
 enum { GUARD = 64, MOST = 64, NAME = 544 };
+
+/* The calls that an input can ask for; the first six are registrations, by the number of the command. */
+enum { INSERT_ITEM, INCLUDE, OPEN_NAMESPACE, OPEN_MODULE, ALIAS, MODULE, FIND_ITEM, FIND_MODULE, COMPLETE_NAMES, COMPLETE_MODULES, CALLS };
+static const char *const call_names[CALLS] = {"insert_item", "include",     "open_namespace", "open_module",   "alias",
+                                              "module",      "find_item",   "find_module",    "complete_names", "complete_modules"};
+
+/* Answers 0 to 10, then none. */
+enum { ANSWERS = NAME_CONSOLE_NO_ROOM + 2, LINES = 20, POWERS = 12 };
+
+/* All that were met, and what libFuzzer is led by: it reads these counters after each input and sets them to 0. */
+static uint64_t met[CALLS][ANSWERS], inputs, commands;
+static struct {
+  uint8_t answers[CALLS][ANSWERS], lines[2][LINES], records[POWERS];
+} led __attribute__((section("__libfuzzer_extra_counters")));
+
+static void add(uint8_t *counter) { *counter += *counter < 255; }
+
+static void answered(int call, uint32_t answer) {
+  uint32_t a = answer == NAME_CONSOLE_NONE ? ANSWERS - 1 : answer;
+  met[call][a]++, add(&led.answers[call][a]);
+}
+
+static void print_met(void) {
+  int pairs = 0;
+  printf("%-16s %9s", "answers", "0");
+  for (int a = 1; a < ANSWERS - 1; a++) printf(" %9d", a);
+  printf(" %9s\n", "none");
+  for (int c = 0; c < CALLS; c++) {
+    printf("%-16s", call_names[c]);
+    for (int a = 0; a < ANSWERS; a++) printf(" %9llu", (unsigned long long)met[c][a]), pairs += met[c][a] != 0;
+    printf("\n");
+  }
+  printf("%llu inputs, %llu commands, %d of the pairs of call and answer\n", (unsigned long long)inputs, (unsigned long long)commands, pairs);
+}
+
+int LLVMFuzzerInitialize(int *argc, char ***argv);
+int LLVMFuzzerInitialize(int *argc, char ***argv) {
+  (void)argc, (void)argv;
+  return atexit(print_met);
+}
 
 static const uint8_t *data;
 static size_t left;
@@ -17,7 +62,12 @@ static uint32_t byte(void) {
   return *data++;
 }
 
-static uint32_t word(void) { return byte() | byte() << 8 | byte() << 16 | byte() << 24; }
+/* A number of so many bytes, lowest first. */
+static uint32_t number(int bytes) {
+  uint32_t n = 0;
+  for (int i = 0; i < bytes; i++) n |= byte() << 8 * i;
+  return n;
+}
 
 /* Stops here if it does not hold. */
 static void must(int holds) {
@@ -88,7 +138,7 @@ static int is_kind(uint32_t n) { return NAME_CONSOLE_TIMER <= n && n <= NAME_CON
 static void registration(uint32_t call) {
   uint8_t a[MOST], b[MOST], c[MOST];
   size_t an = text_of(a), bn = text_of(b), cn = text_of(c);
-  uint32_t n = word();
+  uint32_t n = number(4);
   keep(&state), keep(&words), keep(&table_text);
   uint32_t answer = 0, kind = n % 5;
   switch (call) {
@@ -103,10 +153,14 @@ static void registration(uint32_t call) {
   default: answer = name_console_module(TABLE, n % 3, a, an, b, bn); break;
   }
   must(answer <= NAME_CONSOLE_TEXT_FULL);
+  answered((int)call, answer);
   if (answer) {
     same(&state, 0), same(&words, 0), same(&table_text, 0);
   } else {
     must(name_console_find_item(TABLE, a, 0).answer == NAME_CONSOLE_EMPTY);
+    int power = 0;
+    for (uint32_t used = name_console_word(state.bytes, 2); used >> power && power < POWERS - 1;) power++;
+    add(&led.records[power]);
   }
 }
 
@@ -212,10 +266,12 @@ static void look_up(void) {
   size_t an = text_of(a);
   struct name_console_item f = name_console_find_item(TABLE, a, an);
   must(f.answer <= NAME_CONSOLE_TOO_LONG || f.answer == NAME_CONSOLE_NONE);
+  answered(FIND_ITEM, f.answer);
   must(f.answer ? !f.kind && !f.number : is_kind(f.kind));
   if (!f.answer || f.answer == NAME_CONSOLE_NONE) in_full(0, !f.answer, a, an);
   struct name_console_symbol m = name_console_find_module(TABLE, a, an);
   must(m.answer <= NAME_CONSOLE_TOO_LONG || m.answer == NAME_CONSOLE_NONE);
+  answered(FIND_MODULE, m.answer);
   if (!m.answer) must((uint64_t)m.name_start + m.name_len <= table_text.len && (uint64_t)m.path_start + m.path_len <= table_text.len);
   if (!m.answer || m.answer == NAME_CONSOLE_NONE) in_full(1, !m.answer, a, an);
 }
@@ -223,9 +279,11 @@ static void look_up(void) {
 static void completion(int modules) {
   uint8_t q[MOST];
   size_t qn = text_of(q);
-  uint32_t choice = byte() % 5, budget = byte() < 128 ? word() : byte();
+  uint32_t choice = byte() % 5, budget = byte() < 128 ? number(4) : byte();
   struct name_console_listing r = complete(modules, choice, q, qn, budget);
+  answered(modules ? COMPLETE_MODULES : COMPLETE_NAMES, r.answer);
   if (!r.answer) {
+    add(&led.lines[modules][r.lines < LINES ? r.lines : LINES - 1]);
     found(modules, r.lines);
     if (!modules) of_kinds(r, choice, q, qn, budget);
     must(complete(modules, choice, q, qn, r.entered).answer == NAME_CONSOLE_OK);
@@ -234,22 +292,25 @@ static void completion(int modules) {
 }
 
 int LLVMFuzzerTestOneInput(const uint8_t *bytes, size_t size) {
-  data = bytes, left = size;
-  uint32_t shape = byte();
+  data = bytes, left = size, inputs++;
+  uint32_t shape = byte(), records = byte(), more = byte() % 50, text = byte(), rows = byte() % LINES, over = byte() % 3, pane = byte();
   state = lend(shape < 250 ? NAME_CONSOLE_STATE : shape - 240);
-  words = lend(byte() * (size_t)NAME_CONSOLE_RECORD + byte() % 50);
-  table_text = lend(byte() * (size_t)4);
-  lines = lend(byte() % 20 * (size_t)NAME_CONSOLE_LINE + byte() % 3);
-  out = lend(byte() * (size_t)2);
+  words = lend(records * (size_t)NAME_CONSOLE_RECORD + more);
+  table_text = lend(text * (size_t)4);
+  lines = lend(rows * (size_t)NAME_CONSOLE_LINE + over);
+  out = lend(pane * (size_t)2);
   while (left) {
     uint32_t op = byte() % 13;
+    commands++;
     if (op < 6) registration(op);
     else if (op < 8) look_up();
     else if (op < 10) completion(0);
     else if (op < 12) completion(1);
     else {
       struct lent *b = byte() % 2 ? &words : &state;
-      if (b->len) b->bytes[(byte() | byte() << 8) % b->len] = (uint8_t)byte();
+      size_t at = number(2);
+      uint8_t value = (uint8_t)byte();
+      if (b->len) b->bytes[at % b->len] = value;
     }
     guards(&state), guards(&words), guards(&table_text), guards(&lines), guards(&out);
   }

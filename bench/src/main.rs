@@ -1,5 +1,6 @@
 //! Compares the product with baselines on the same input, turn by turn in one run. Each figure is the least of many turns.
-//! `cargo run --release --offline` prints the tables; with the word `write` after `--` it puts them and the plot into docs/.
+//! `cargo run --release --offline` prints the tables; with the word `write` after `--` it puts them and the plot into docs/, with `plot` it measures
+//! nothing and draws the plot from the figures in docs/.
 mod baseline;
 #[cfg(feature = "before")]
 mod before;
@@ -7,6 +8,7 @@ mod calls;
 mod layer;
 mod measure;
 mod ocaml;
+mod page;
 mod plot;
 mod shapes;
 mod source;
@@ -310,35 +312,14 @@ fn machine() -> String {
     format!("Measured on {}, {count} processors, with a load of {load} at the start.\n", cpu.unwrap_or("an unknown processor".into()))
 }
 
-/// The product's time over a baseline's, by the size of the table, a panel for each call.
-fn panels(sizes: &[[Row; 4]]) -> Vec<plot::Panel> {
-    ["register a name", "look a name up", "complete, one line", "list all names"]
-        .into_iter()
-        .enumerate()
-        .map(|(k, title)| {
-            let series = |name, colour, ratio: &dyn Fn(&Row) -> f64| plot::Series {
-                name,
-                colour,
-                points: SIZES.iter().zip(sizes).map(|(n, rows)| (*n as f64, ratio(&rows[k]))).collect(),
-            };
-            plot::Panel {
-                title,
-                series: vec![
-                    series("product / C", "#1f4e9c", &|r| r.proved / r.c),
-                    series("product / source", "#1b6e3c", &|r| r.proved / r.source),
-                ],
-            }
-        })
-        .collect()
-}
-
 fn run() {
     let write = match std::env::args().nth(1).as_deref() {
         None => false,
         Some("write") => true,
+        Some("plot") => return page::Page::read().draw(),
         #[cfg(feature = "before")]
         Some("before") => return before::run(&SIZES, names),
-        Some(other) => panic!("{other:?}: the only word is 'write'"),
+        Some(other) => panic!("{other:?}: the only words are 'write' and 'plot'"),
     };
     let machine = machine();
     baseline::check();
@@ -349,8 +330,14 @@ fn run() {
     let work = Work::new();
     let rows = work.rows();
     let script = work.script();
-    let zarith = script.run(ocaml::Integers::Zarith, measure::TURNS);
-    let ocaml = script.run(ocaml::Integers::Machine, measure::TURNS).map(|times| ocaml::table(&rows, &work.alone(), &times, zarith.as_deref()));
+    let [own, zarith] = [ocaml::Integers::Machine, ocaml::Integers::Zarith].map(|integers| {
+        let times = script.run(integers, measure::TURNS);
+        if times.is_none() {
+            println!("{}: the page keeps its table of OCaml.\n", integers.missing());
+        }
+        times
+    });
+    let ocaml = own.map(|times| ocaml::table(&rows, &work.alone(), &times, zarith.as_deref()));
     let mut sections = vec![
         ("machine", machine),
         ("work", measure::table(&rows)),
@@ -363,26 +350,20 @@ fn run() {
         ("sound", sound(&keys)),
         ("layer", layer::parts(&names(200))),
     ];
-    // Without OCaml the page keeps what it has.
+    let mut page = page::Page::read();
+    // A table without F*'s integers is printed, and the page keeps its own.
     match ocaml {
-        Some(table) => sections.insert(2, ("ocaml", table)),
-        None => println!("{}", ocaml::LEFT_OUT),
+        Some(table) if zarith.is_some() => sections.insert(2, ("ocaml", table)),
+        Some(table) => println!("{}\n\n{table}", page.title("ocaml")),
+        None => {}
     }
     for (name, text) in &sections {
-        println!("{name}\n\n{text}");
+        println!("{}\n\n{text}", page.title(name));
     }
     if write {
-        let docs = concat!(env!("CARGO_MANIFEST_DIR"), "/../docs/");
-        std::fs::write(format!("{docs}benchmarks.svg"), plot::svg(&panels(&sizes))).expect("docs/benchmarks.svg");
-        let file = format!("{docs}BENCHMARKS.md");
-        let mut page = std::fs::read_to_string(&file).expect("docs/BENCHMARKS.md");
-        for (name, text) in &sections {
-            let (begin, end) = (format!("<!-- {name} -->\n"), format!("<!-- end of {name} -->\n"));
-            let from = page.find(&begin).unwrap_or_else(|| panic!("no place for {name}")) + begin.len();
-            let to = page.find(&end).unwrap_or_else(|| panic!("no end of {name}"));
-            page.replace_range(from..to, text);
-        }
-        std::fs::write(&file, page).expect("docs/BENCHMARKS.md");
+        sections.iter().for_each(|(name, text)| page.put(name, text));
+        page.write();
+        page.draw();
     }
 }
 

@@ -11,8 +11,6 @@ use std::io::{ErrorKind, Write as _};
 use std::process::{Command, Stdio};
 use std::sync::OnceLock;
 
-pub const LEFT_OUT: &str = "ocaml\n\nLeft out: there is no ocamlopt on the PATH, or no Zarith (apt-get install --no-install-recommends ocaml-nox libzarith-ocaml-dev).\n";
-
 /// Options of the compiler. -O3 counts where it was built with flambda.
 const OPTIONS: [&str; 4] = ["-O3", "-unsafe", "-inline", "100"];
 
@@ -37,6 +35,14 @@ impl Integers {
         match self {
             Integers::Machine => &[],
             Integers::Zarith => &["-I", "+zarith", "zarith.cmxa"],
+        }
+    }
+
+    /// What to say where they are not at hand.
+    pub fn missing(self) -> &'static str {
+        match self {
+            Integers::Machine => "There is no ocamlopt on the PATH (apt-get install --no-install-recommends ocaml-nox)",
+            Integers::Zarith => "There is no ocamlopt with Zarith, F*'s integers (apt-get install --no-install-recommends ocaml-nox libzarith-ocaml-dev)",
         }
     }
 
@@ -268,7 +274,7 @@ mod tests {
             (0..2).for_each(|k| listings[k] += script.listings[k]);
             for integers in [Integers::Machine, Integers::Zarith] {
                 if script.run(integers, 1).is_none() {
-                    println!("{LEFT_OUT}");
+                    println!("{}", integers.missing());
                 }
             }
         }
@@ -279,7 +285,7 @@ mod tests {
     fn ocaml_does_the_same_on_the_modules() {
         for integers in [Integers::Machine, Integers::Zarith] {
             if crate::Work::new().script().run(integers, 1).is_none() {
-                println!("{LEFT_OUT}");
+                println!("{}", integers.missing());
             }
         }
     }
