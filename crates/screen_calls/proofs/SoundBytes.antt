@@ -8,8 +8,8 @@ use Rattle.memory.proofs.Stays.{fresh-sound, fresh-state}
 use Rattle.table.specs.Header.{state}
 use Rattle.memory_bytes.specs.Bytes.{word-at}
 use Rattle.memory_bytes.specs.Memory.{state-bytes, header-in, words-in}
-use Rattle.screen.specs.Memory.{table-at, SoundBytes}
-use Rattle.screen.specs.Replies.{AcceptsBytes}
+use Rattle.screen_calls.specs.Memory.{table-at, SoundBytes}
+use Rattle.screen_calls.specs.Replies.{AcceptsBytes}
 
 -- Sixteen zero bytes are the fresh table, whatever words and text are lent.
 module _ (bs txt : List ℕ) where
