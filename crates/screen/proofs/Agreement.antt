@@ -33,9 +33,9 @@ use Rattle.screen_replies.specs.declared.ModuleReply.{ModuleReply}
 use Rattle.screen_replies.specs.declared.CompleteReply.{CompleteReply}
 use Rattle.screen_replies.proofs.Answered.{name-answered, module-answered}
 use Rattle.screen_memory.specs.Memory.{words-in}
-use Rattle.screen.specs.Memory.{table-at, SoundBytes}
-use Rattle.screen.specs.Replies.{SaysModule}
-use Rattle.screen.specs.Completions.{ListsAs}
+use Rattle.screen_calls.specs.Memory.{table-at, SoundBytes}
+use Rattle.screen_calls.specs.Replies.{SaysModule}
+use Rattle.screen_calls.specs.Completions.{ListsAs}
 use Rattle.screen.specs.Agreement.{BytesAgree}
 
 module _ (b : Bool) (tbl : S.Table) (budget : ℕ) (o : Output) (q : Str) {n : ℕ} where

@@ -16,9 +16,9 @@ use Rattle.screen_replies.specs.Replies.{name-reply, Answered}
 use Rattle.screen_replies.specs.declared.NameReply.{NameReply}
 use Rattle.screen_replies.specs.declared.ModuleReply.{ModuleReply}
 use Rattle.screen_replies.specs.declared.CompleteReply.{CompleteReply}
-use Rattle.screen.specs.Memory.{SoundBytes}
-use Rattle.screen.specs.Replies.{RepliesName, SaysModule, RepliesModule}
-use Rattle.screen.specs.Completions.{RepliesLines}
+use Rattle.screen_calls.specs.Memory.{SoundBytes}
+use Rattle.screen_calls.specs.Replies.{RepliesName, SaysModule, RepliesModule}
+use Rattle.screen_calls.specs.Completions.{RepliesLines}
 
 -- On either root, whatever bytes are lent (b says whether they are a sound table): where look-up of a full name is not refused, and a completion of all kinds or unfiltered that
 -- covers the name is not refused, the lines with the name's text that it left in the lent bytes show what look-up replied. So a name that look-up finds is listed where it is asked for in full.

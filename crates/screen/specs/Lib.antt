@@ -1,4 +1,1 @@
-pub mod Memory
-pub mod Replies
-pub mod Completions
 pub mod Agreement

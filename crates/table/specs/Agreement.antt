@@ -37,8 +37,13 @@ pub record HoldsModule (ws txt : List ℕ) (t : Table) (name : Str) (a : Found M
 
 -- What a caller holds of a completion that is not refused, and the lines that it reads in the lent output.
 pub record HoldsLines (ws txt : List ℕ) (t : Table) (ask : Ask) (query : Str) (lines : List (Line (Item (asked ask)))) : Type 0 where
-  pub budget count entered : ℕ
-  pub flat flat′ out out′ : List ℕ
+  pub budget : ℕ
+  pub count : ℕ
+  pub entered : ℕ
+  pub flat : List ℕ
+  pub flat′ : List ℕ
+  pub out : List ℕ
+  pub out′ : List ℕ
   pub reply : Listing
   pub completes : Completes ws txt t (record { ask = ask; budget = budget }) query flat flat′ out out′ reply
   pub listed : reply .answer ≡ Listed count entered

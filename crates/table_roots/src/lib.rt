@@ -4,7 +4,6 @@ use listing_ask::Ask;
 use listing_ask::Request;
 use memory::ModSymbol;
 use memory_table::Header;
-use memory_table::Header;
 use refusals::Admission;
 use refusals::Refusal;
 use source::LidSymbol;

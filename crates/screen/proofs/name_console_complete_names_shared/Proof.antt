@@ -1,6 +1,6 @@
 -- name_console_complete_names_shared meets its contract.
 use borrow.Author.Needs.{needs}
-use Rattle.screen.proofs.RepliesShared.{replies-candidates, replies-shared}
+use Rattle.screen_calls.proofs.RepliesShared.{replies-candidates, replies-shared}
 use Rattle.screen.proofs.name_console_complete_names_shared.Statement.{statement}
 use Rattle.screen.proofs.name_console_complete_names_shared.Tie as tie
 

@@ -3,7 +3,7 @@ use mathlib.Core.Path.{sym, _∙_}
 use borrow.Author.Needs.{needs}
 use Rattle.source.specs.Calls.{name}
 use Rattle.source.proofs.Items.{kind-is, no-kind}
-use Rattle.screen.proofs.Replies.{reply-chosen, reply-unchosen}
+use Rattle.screen_calls.proofs.Replies.{reply-chosen, reply-unchosen}
 use Rattle.screen.proofs.name_console_insert_item.Statement.{statement}
 use Rattle.screen.proofs.name_console_insert_item.Tie as tie
 

@@ -1,7 +1,7 @@
 -- name_console_module meets its contract.
 use borrow.Author.Needs.{needs}
 use Rattle.source.specs.Calls.{module-path}
-use Rattle.screen.proofs.Replies.{flag-some, flag-none, reply-chosen, reply-unchosen}
+use Rattle.screen_calls.proofs.Replies.{flag-some, flag-none, reply-chosen, reply-unchosen}
 use Rattle.screen.proofs.name_console_module.Statement.{statement}
 use Rattle.screen.proofs.name_console_module.Tie as tie
 

@@ -1,10 +1,10 @@
 -- register meets its contract.
 use borrow.Author.Needs.{needs}
 use Rattle.screen_memory.proofs.Memory.{loaded-fits, loaded-count}
-use Rattle.screen.proofs.Held.{unsound-short}
-use Rattle.screen.proofs.Replies.{reply-unsound}
-use Rattle.screen.proofs.register.Statement.{statement}
-use Rattle.screen.proofs.register.Tie as tie
+use Rattle.screen_calls.proofs.Held.{unsound-short}
+use Rattle.screen_calls.proofs.Replies.{reply-unsound}
+use Rattle.screen_calls.proofs.register.Statement.{statement}
+use Rattle.screen_calls.proofs.register.Tie as tie
 
 pub register-spec : {M : Type 1} → statement M
 register-spec =

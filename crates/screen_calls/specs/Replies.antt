@@ -19,7 +19,7 @@ use Rattle.screen_replies.specs.Replies.{name-reply, module-reply}
 use Rattle.screen_replies.specs.declared.NameReply.{NameReply}
 use Rattle.screen_replies.specs.declared.ModuleReply.{ModuleReply}
 use Rattle.screen_memory.specs.Memory.{state-bytes, record-bytes, header-in, words-in}
-use Rattle.screen.specs.Memory.{table-at, SoundBytes}
+use Rattle.screen_calls.specs.Memory.{table-at, SoundBytes}
 
 -- ---- Registrations
 

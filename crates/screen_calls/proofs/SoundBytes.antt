@@ -4,12 +4,13 @@ use mathlib.Core.Path.{_≡_, refl}
 use mathlib.Core.List.{List}
 use lib.ListN.{replicate}
 use Rattle.source.specs.Calls.{State, fresh}
-use Rattle.memory_table.proofs.Table.{fresh-sound, fresh-state}
+use Rattle.memory_table.proofs.Table.{fresh-sound}
+use Rattle.memory_table.proofs.Table.{fresh-state}
 use Rattle.table.specs.Header.{state}
 use Rattle.memory_bytes.specs.Bytes.{word-at}
 use Rattle.screen_memory.specs.Memory.{state-bytes, header-in, words-in}
-use Rattle.screen.specs.Memory.{table-at, SoundBytes}
-use Rattle.screen.specs.Replies.{AcceptsBytes}
+use Rattle.screen_calls.specs.Memory.{table-at, SoundBytes}
+use Rattle.screen_calls.specs.Replies.{AcceptsBytes}
 
 -- Sixteen zero bytes are the fresh table, whatever words and text are lent.
 module _ (bs txt : List ℕ) where

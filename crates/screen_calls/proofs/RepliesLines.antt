@@ -24,10 +24,10 @@ use Rattle.screen_replies.specs.Filters.{is-asked}
 use Rattle.screen_replies.proofs.Filters.{asked-none}
 use Rattle.screen_replies.specs.Replies.{no-lines, lines-reply}
 use Rattle.screen_replies.specs.declared.CompleteReply.{CompleteReply}
-use Rattle.screen.specs.Memory.{SoundBytes}
-use Rattle.screen.specs.Replies.{RepliesAs, unchosen, Replies}
-use Rattle.screen.specs.Completions.{ListsAs, unasked, Refuses, RepliesLines}
-use Rattle.screen.proofs.Held.{Held, says-memory, says-unsound}
+use Rattle.screen_calls.specs.Memory.{SoundBytes}
+use Rattle.screen_calls.specs.Replies.{RepliesAs, unchosen, Replies}
+use Rattle.screen_calls.specs.Completions.{ListsAs, unasked, Refuses, RepliesLines}
+use Rattle.screen_calls.proofs.Held.{Held, says-memory, says-unsound}
 
 -- ---- By crate table's answer
 

@@ -1,14 +1,14 @@
--- name_console_find_item meets its contract.
+-- find_item meets its contract.
 use borrow.Author.Needs.{needs}
 use Rattle.memory.proofs.Says.{passes, refuses}
 use Rattle.screen_memory.proofs.Memory.{loaded-fits, loaded-count}
-use Rattle.screen.proofs.Held.{held, unsound-memory, unsound-short}
-use Rattle.screen.proofs.RepliesModule.{name-unsound, name-looked}
-use Rattle.screen.proofs.name_console_find_item.Statement.{statement}
-use Rattle.screen.proofs.name_console_find_item.Tie as tie
+use Rattle.screen_calls.proofs.Held.{held, unsound-memory, unsound-short}
+use Rattle.screen_calls.proofs.RepliesModule.{name-unsound, name-looked}
+use Rattle.screen_calls.proofs.find_item.Statement.{statement}
+use Rattle.screen_calls.proofs.find_item.Tie as tie
 
-pub name-console-find-item-spec : {M : Type 1} → statement M
-name-console-find-item-spec =
+pub find-item-spec : {M : Type 1} → statement M
+find-item-spec =
     tie.close
     (tie.spec
     {- no-name-requires -}

@@ -1,7 +1,7 @@
 -- with_shared meets its contract.
 use borrow.Author.Needs.{needs}
-use Rattle.screen.proofs.with_shared.Statement.{statement}
-use Rattle.screen.proofs.with_shared.Tie as tie
+use Rattle.screen_calls.proofs.with_shared.Statement.{statement}
+use Rattle.screen_calls.proofs.with_shared.Tie as tie
 
 pub with-shared-spec : {M : Type 1} → statement M
 with-shared-spec =

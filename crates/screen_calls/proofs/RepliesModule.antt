@@ -17,9 +17,9 @@ use Rattle.refusals.specs.declared.Refusal.the-variants.{Unsound}
 use Rattle.screen_replies.specs.Replies.{name-reply, no-module, module-reply}
 use Rattle.screen_replies.specs.declared.NameReply.{NameReply}
 use Rattle.screen_replies.specs.declared.ModuleReply.{ModuleReply}
-use Rattle.screen.specs.Memory.{SoundBytes}
-use Rattle.screen.specs.Replies.{RepliesName, RepliesModule}
-use Rattle.screen.proofs.Held.{Held, says-memory, says-unsound}
+use Rattle.screen_calls.specs.Memory.{SoundBytes}
+use Rattle.screen_calls.specs.Replies.{RepliesName, RepliesModule}
+use Rattle.screen_calls.proofs.Held.{Held, says-memory, says-unsound}
 
 look-up-unsound : {A : Type 0} (root : Trie A) (q : Str) → look-up false root q ≡ C.refused 1
 unfolding look-up lowest argument-rows

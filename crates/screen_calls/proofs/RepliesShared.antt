@@ -19,8 +19,8 @@ use Rattle.screen_replies.specs.Replies.{shared-reply}
 use Rattle.screen_replies.specs.declared.CompleteReply.{CompleteReply}
 use Rattle.screen_replies.specs.declared.SharedReply.{SharedReply}
 use Rattle.screen_memory.specs.Memory.{words-in}
-use Rattle.screen.specs.Memory.{table-at, SoundBytes}
-use Rattle.screen.specs.Completions.{ListsAs, unasked, RepliesLines, shared-for, RepliesShared}
+use Rattle.screen_calls.specs.Memory.{table-at, SoundBytes}
+use Rattle.screen_calls.specs.Completions.{ListsAs, unasked, RepliesLines, shared-for, RepliesShared}
 
 module _ (ask : Ask) (ws txt ls ls′ out out′ : List ℕ) (r : CompleteReply) where
   leaves : (v : C.Completed (Item (asked ask))) → ListsAs ask ws txt ls ls′ out out′ r v → Leaves (asked ask) ws txt ls ls′ out out′ (r .lines) v

@@ -1,7 +1,7 @@
 -- table_of meets its contract.
 use borrow.Author.Needs.{needs}
-use Rattle.screen.proofs.table_of.Statement.{statement}
-use Rattle.screen.proofs.table_of.Tie as tie
+use Rattle.screen_calls.proofs.table_of.Statement.{statement}
+use Rattle.screen_calls.proofs.table_of.Tie as tie
 
 pub table-of-spec : {M : Type 1} → statement M
 table-of-spec =

@@ -10,7 +10,7 @@ use Rattle.table.specs.Header.{IsSound}
 use Rattle.table.specs.declared.Table.{Table}
 use Rattle.table.proofs.Says.{decided}
 use Rattle.screen_memory.specs.Memory.{state-bytes, Spells, words-in}
-use Rattle.screen.specs.Memory.{table-at, SoundBytes}
+use Rattle.screen_calls.specs.Memory.{table-at, SoundBytes}
 
 -- The state spells the table t, and m has the lent words.
 pub record Held (st bs m : List ℕ) (t : Table) : Type 0 where

@@ -21,7 +21,7 @@ use Rattle.screen_replies.specs.Replies.{no-lines, lines-part}
 use Rattle.screen_replies.specs.declared.CompleteReply.{CompleteReply}
 use Rattle.screen_replies.specs.declared.SharedReply.{SharedReply}
 use Rattle.screen_memory.specs.Memory.{words-in}
-use Rattle.screen.specs.Memory.{table-at, SoundBytes}
+use Rattle.screen_calls.specs.Memory.{table-at, SoundBytes}
 
 -- Listed: the lines are written from the start of the lent bytes, their texts from the start of the output text, and every other byte is as it was.
 pub record Lists (ask : Ask) (ws txt ls ls′ out out′ : List ℕ) (lines : List (Line (Item (asked ask)))) (entered : ℕ) (r : CompleteReply) : Type 0 where

@@ -1,14 +1,14 @@
--- name_console_find_module meets its contract.
+-- find_module meets its contract.
 use borrow.Author.Needs.{needs}
 use Rattle.memory.proofs.Says.{passes, refuses}
 use Rattle.screen_memory.proofs.Memory.{loaded-fits, loaded-count}
-use Rattle.screen.proofs.Held.{held, unsound-memory, unsound-short}
-use Rattle.screen.proofs.RepliesModule.{module-unsound, module-looked}
-use Rattle.screen.proofs.name_console_find_module.Statement.{statement}
-use Rattle.screen.proofs.name_console_find_module.Tie as tie
+use Rattle.screen_calls.proofs.Held.{held, unsound-memory, unsound-short}
+use Rattle.screen_calls.proofs.RepliesModule.{module-unsound, module-looked}
+use Rattle.screen_calls.proofs.find_module.Statement.{statement}
+use Rattle.screen_calls.proofs.find_module.Tie as tie
 
-pub name-console-find-module-spec : {M : Type 1} → statement M
-name-console-find-module-spec =
+pub find-module-spec : {M : Type 1} → statement M
+find-module-spec =
     tie.close
     (tie.spec
     {- no-module-requires -}

@@ -1,10 +1,10 @@
 -- malformed meets its contract.
 use borrow.Author.Needs.{needs}
 use Rattle.screen_memory.proofs.Memory.{loaded-fits, loaded-count}
-use Rattle.screen.proofs.Held.{held, unsound-short}
-use Rattle.screen.proofs.Replies.{reply-unsound, reply-none}
-use Rattle.screen.proofs.malformed.Statement.{statement}
-use Rattle.screen.proofs.malformed.Tie as tie
+use Rattle.screen_calls.proofs.Held.{held, unsound-short}
+use Rattle.screen_calls.proofs.Replies.{reply-unsound, reply-none}
+use Rattle.screen_calls.proofs.malformed.Statement.{statement}
+use Rattle.screen_calls.proofs.malformed.Tie as tie
 
 pub malformed-spec : {M : Type 1} → statement M
 malformed-spec =

@@ -3,10 +3,10 @@ use mathlib.Core.Path.{ap}
 use borrow.Author.Needs.{needs}
 use Rattle.memory.proofs.Says.{passes, refuses}
 use Rattle.table.specs.Registrations.{refusal-of}
-use Rattle.screen.proofs.Held.{held, unsound-memory}
-use Rattle.screen.proofs.Replies.{store-fits, reply-unsound, reply-accepted, reply-refused}
-use Rattle.screen.proofs.enter.Statement.{statement}
-use Rattle.screen.proofs.enter.Tie as tie
+use Rattle.screen_calls.proofs.Held.{held, unsound-memory}
+use Rattle.screen_calls.proofs.Replies.{store-fits, reply-unsound, reply-accepted, reply-refused}
+use Rattle.screen_calls.proofs.enter.Statement.{statement}
+use Rattle.screen_calls.proofs.enter.Tie as tie
 
 pub enter-spec : {M : Type 1} → statement M
 enter-spec =

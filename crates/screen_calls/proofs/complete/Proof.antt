@@ -2,10 +2,10 @@
 use borrow.Author.Needs.{needs}
 use Rattle.memory.proofs.Says.{passes, refuses}
 use Rattle.screen_memory.proofs.Memory.{loaded-fits, loaded-count}
-use Rattle.screen.proofs.Held.{held, unsound-memory, unsound-short}
-use Rattle.screen.proofs.RepliesLines.{lines-unsound, lines-replied}
-use Rattle.screen.proofs.complete.Statement.{statement}
-use Rattle.screen.proofs.complete.Tie as tie
+use Rattle.screen_calls.proofs.Held.{held, unsound-memory, unsound-short}
+use Rattle.screen_calls.proofs.RepliesLines.{lines-unsound, lines-replied}
+use Rattle.screen_calls.proofs.complete.Statement.{statement}
+use Rattle.screen_calls.proofs.complete.Tie as tie
 
 pub complete-spec : {M : Type 1} → statement M
 complete-spec =
