@@ -4,7 +4,7 @@ use mathlib.Core.Path.{_≡_, refl, sym, ap, _∙_}
 use mathlib.Core.Bool.{true}
 use mathlib.Core.List.{List, [], _∷_}
 use native.Mathlib.Omega.{arith}
-use lib.ListN.{length, getD, drop}
+use lib.ListN.{length, drop}
 use borrow.Author.Tests.{ltb-false}
 use Rattle.source.specs.Text.{Str, Query, segments}
 use Rattle.source.specs.Types.{Trie}
@@ -30,7 +30,7 @@ use Rattle.register_kind.specs.declared.Kind.{Kind}
 use Rattle.register_kind.specs.declared.Form.{Form}
 use Rattle.register_kind.specs.declared.Form.the-variants as form
 use Rattle.register_plan.specs.Plans.{Carries}
-use Rattle.register_way.specs.Way.{which-by, Way}
+use Rattle.register_way.specs.Way.{steps-at, step-size, included-in, below-in, which-by, Way}
 use Rattle.register_leaf.specs.Leaves.{which-of, Builds}
 use Rattle.register_change.specs.Changes.{mutated, descent, Mutation, TrieWay, Mutated}
 use Rattle.register_leaf.specs.declared.Change.{Change}
@@ -95,14 +95,14 @@ way-keeps : {ws txt txt′ : List ℕ} {n used : ℕ} → Used ws txt n used →
     → LinkOk ws (n + 1) x (kind w trieˢ) → Way ws txt w k other key way x q → Way ws txt′ w k other key way x q
 way-keeps o y w k other key way x [] i z = rw (what-keeps o y w trieˢ (omega arith) i) z
 way-keeps {ws} {n = n} o y w k other key way x (s ∷ q) i z =
-    let j : LinkOk ws (n + 1) (getD way 0 0) (kind w trieˢ) = link-later (omega (arith, i .earlier)) (z .0 .next .link) in
+    let j : LinkOk ws (n + 1) (below-in way) (kind w trieˢ) = link-later (omega (arith, i .earlier)) (z .0 .next .link) in
     let e = what-keeps o y w trieˢ (omega arith) i in (
       record {
         long = z .0 .long;
         next = record { link = z .0 .next .link; says = what-keeps o y w trieˢ (omega arith) j ∙ z .0 .next .says ∙ rw e };
         builds = z .0 .builds ∙ rw e;
       },
-      way-keeps o y w k other key (drop 2 way) (getD way 0 0) q j (z .1),
+      way-keeps o y w k other key (drop step-size way) (below-in way) q j (z .1),
     )
 
 -- ---- Whole
@@ -134,21 +134,21 @@ module _ {ws txt : List ℕ} {h : Header} {k : Kind} {host other key : Str} {way
     sound-after = record { right = used-text (p .sound .right) (l .keeps) (omega arith) (text-room .1) (omega (arith, text-room, l .keeps .size)); names-link = p .sound .names-link; modules-link = p .sound .modules-link }
 
     abbrev change : Change
-    change = change-at k (getD way 0 0) (h .text) host other key
+    change = change-at k (included-in way) (h .text) host other key
 
     right : Right h sound-after (h .text) (h .text + length host) (call-of k host other key) change (root-at (which-of change) h)
-    right = change-right h sound-after (h .text) host other key (l .stand) (omega arith) k (getD way 0 0) is-ready (carries-keeps (p .sound) (l .keeps) (shape-of k .form) (getD way 0 0) other (p .carries))
+    right = change-right h sound-after (h .text) host other key (l .stand) (omega arith) k (included-in way) is-ready (carries-keeps (p .sound) (l .keeps) (shape-of k .form) (included-in way) other (p .carries))
 
-    pub write-mutation : Mutation ws txt′ (h .records) (text-after h host other key) (root-at (which-by (shape-of k .form)) h) (h .text) (descent (h .text) (h .text + length host) (change-at k (getD way 0 0) (h .text) host other key))
+    pub write-mutation : Mutation ws txt′ (h .records) (text-after h host other key) (root-at (which-by (shape-of k .form)) h) (h .text) (descent (h .text) (h .text + length host) (change-at k (included-in way) (h .text) host other key))
     write-mutation =
         right-mutation h sound-after (h .text) host other key (l .stand) (omega arith) right (is-ready .host-ends) (is-ready .host-keeps)
         (rw (table-keeps (p .sound) (l .keeps)) (passed .light)) (rw (table-keeps (p .sound) (l .keeps)) (passed .shallow)) (rw (table-keeps (p .sound) (l .keeps)) records-room)
 
-    pub write-way : TrieWay ws txt′ (root-at (which-by (shape-of k .form)) h) (h .text) (descent (h .text) (h .text + length host) (change-at k (getD way 0 0) (h .text) host other key)) (drop 1 way)
+    pub write-way : TrieWay ws txt′ (root-at (which-by (shape-of k .form)) h) (h .text) (descent (h .text) (h .text + length host) (change-at k (included-in way) (h .text) host other key)) (drop steps-at way)
     write-way = record {
       leads =
           rw (host-is h sound-after (h .text) host other key (l .stand) (omega arith), l .stand .other-at, l .stand .key-at)
-          (way-keeps (p .sound .right) (l .keeps) (which-of change) k other key (drop 1 way) _ (segments host) (right .link) (p .leads));
+          (way-keeps (p .sound .right) (l .keeps) (which-of change) k other key (drop steps-at way) _ (segments host) (right .link) (p .leads));
     }
 
     built-accepts : {ws′ : List ℕ} {link m : ℕ}
@@ -167,7 +167,7 @@ module _ {ws txt : List ℕ} {h : Header} {k : Kind} {host other key : Str} {way
         }
 
     pub write-accepts : {ws′ : List ℕ} {x link m : ℕ} {r : Header} → x ≡ root-at (which-by (shape-of k .form)) h
-        → Mutated ws ws′ txt′ (h .records) x (h .text) (descent (h .text) (h .text + length host) (change-at k (getD way 0 0) (h .text) host other key)) link m
+        → Mutated ws ws′ txt′ (h .records) x (h .text) (descent (h .text) (h .text + length host) (change-at k (included-in way) (h .text) host other key)) link m
         → r ≡ with-root (which-by (shape-of k .form)) h link m (text-after h host other key)
         → Accepts ws txt ws′ txt′ h r (after (state-of ws txt h) (call-of k host other key))
     write-accepts e g f = rw f (built-accepts ((rw e at g) _ write-mutation))

@@ -5,8 +5,7 @@ use mathlib.Core.Bool.{Bool, true, false, cond, _||_}
 use mathlib.Core.List.{List, [], _∷_}
 use mathlib.Core.Option.{none, some}
 use native.Mathlib.Omega.{arith}
-use lib.ListN.{length, getD, set, length-set}
-use lib.Seq.{getD-set-same}
+use lib.ListN.{length}
 use Rattle.source.specs.Text.{Str}
 use Rattle.source.specs.Rules.{SoundTable}
 use Rattle.source.specs.Calls.{a-query, a-name, any, malformed, lowest, argument-rows, State, Lent, Call, arguments, text-taken, registration-rows}
@@ -25,13 +24,11 @@ use Rattle.register_kind.specs.declared.Kind.{Kind}
 use Rattle.register_kind.specs.declared.Form.{Form}
 use Rattle.register_kind.specs.declared.Form.the-variants as form
 use Rattle.register_kind.proofs.Shapes.{arguments-of, taken-is}
-use Rattle.memory.specs.Grown as Grown
 use Rattle.memory.specs.Layout.{Which, names, modules}
 use Rattle.memory_table.specs.Table.{root-at, table-of}
 use Rattle.memory_table.specs.declared.Header.{Header}
 use Rattle.register_way.specs.Way.{which-by}
 use Rattle.register_plan.specs.Plans.{Planned, RootReads, Carries}
-use Rattle.memory.proofs.Keeps.{keeps-at}
 use Rattle.register_plan.specs.declared.Plan.{Plan}
 use Rattle.register.specs.Checks.{NoKey, Ready}
 
@@ -74,15 +71,6 @@ ready-short k host other key r n = record {
 -- The text that a call takes.
 pub taken-all : (k : Kind) (host other key : Str) → NoKey k key → text-taken (arguments (call-of k host other key)) ≡ length host + length other + length key
 taken-all k host other key n = taken-is k host other key ∙ rw n
-
--- ---- The way
--- The included trie is written first, and stays.
-module _ (way : List ℕ) (inc : ℕ) (e : length way ≡ 37) where
-  pub first-written : (getD (set way 0 inc) 0 0 ≡ inc) × (length (set way 0 inc) ≡ 37)
-  first-written = (getD-set-same way 0 inc 0 (omega arith), length-set way 0 inc ∙ e)
-
-  pub first-stays : {way′ : List ℕ} → Grown.Keeps 1 (set way 0 inc) way′ → (getD way′ 0 0 ≡ inc) × (length way′ ≡ 37)
-  first-stays k = (keeps-at k 0 (omega arith) ∙ first-written .0, k .size ∙ first-written .1)
 
 -- ---- The root
 

@@ -4,7 +4,7 @@ use mathlib.Core.Path.{_≡_}
 use mathlib.Core.Bool.{true, false}
 use mathlib.Core.List.{List}
 use mathlib.Core.Option.{none, some}
-use lib.ListN.{length, getD, drop}
+use lib.ListN.{length, drop}
 use Rattle.source.specs.Text.{Str, segments, ends-in-dot}
 use Rattle.source.specs.Calls.{Lent, malformed, lowest, registration-rows}
 use Rattle.source.specs.Shared.{Allˡ}
@@ -15,7 +15,7 @@ use Rattle.memory_table.specs.declared.Header.{Header}
 use Rattle.register_kind.specs.Shapes.{shape-of, used-key, call-of, other-argument, key-argument}
 use Rattle.register_kind.specs.declared.Kind.{Kind}
 use Rattle.register_plan.specs.Plans.{Carries}
-use Rattle.register_way.specs.Way.{which-by, way-size, Way}
+use Rattle.register_way.specs.Way.{steps-at, way-size, included-in, which-by, Way}
 use Rattle.register.specs.declared.Checked.{Checked}
 use Rattle.register.specs.declared.Checked.the-variants.{Passed, Refused}
 
@@ -41,8 +41,8 @@ pub record Passes (ws txt : List ℕ) (h : Header) (k : Kind) (host other key : 
   pub no-key : NoKey k key
   pub rows : lowest (registration-rows true (lent ws txt) (state-of ws txt h) (call-of k host other key)) ≡ none
   pub size : length way ≡ way-size
-  pub carries : Carries (shape-of k .form) ws txt (h .names) other (getD way 0 0)
-  pub leads : Way ws txt (which-by (shape-of k .form)) k other key (drop 1 way) (root-at (which-by (shape-of k .form)) h) (segments host)
+  pub carries : Carries (shape-of k .form) ws txt (h .names) other (included-in way)
+  pub leads : Way ws txt (which-by (shape-of k .form)) k other key (drop steps-at way) (root-at (which-by (shape-of k .form)) h) (segments host)
 
 -- The answer of a check: that it passes, or the first row that it meets.
 abbrev pub Checks : (ws txt : List ℕ) (h : Header) (k : Kind) (host other key : Str) (way : List ℕ) → Checked → Type 0

@@ -10,6 +10,8 @@ use register_change::Descent;
 use register_kind::Form;
 use register_kind::Kind;
 use register_leaf::Change;
+use register_way::INCLUDED;
+use register_way::STEPS;
 ghost use mathlib.Core.Path.{_≡_};
 ghost use mathlib.Core.Bool.{false, cond};
 ghost use mathlib.Core.List.{[], _∷_};
@@ -115,7 +117,7 @@ pub fn check(
         Admission::Admitted => {
             let s = register_kind::shape_of(kind);
             let form = s.form;
-            way[0] = included(words, text, h.names, form, other);
+            way[INCLUDED] = included(words, text, h.names, form, other);
             let root = root_of(h, form);
             let p = register_plan::plan_of(words, text, root, kind, host, other, key, way);
             let demand = Demand {
@@ -204,7 +206,7 @@ pub fn write(
             start: end,
             len: size,
         },
-        inc: way[0],
+        inc: way[INCLUDED],
     };
     let s = register_kind::shape_of(kind);
     let form = s.form;
@@ -212,8 +214,9 @@ pub fn write(
     let d = Descent {
         from: h.text,
         end: start,
+        form: form,
         change: change,
     };
-    let b = register_change::trie_mutate(words, text, h.records, root, h.text, d, &way[1..]);
+    let b = register_change::trie_mutate(words, text, h.records, root, h.text, d, &way[STEPS..]);
     changed(h, form, b.link, b.records, end + size)
 }

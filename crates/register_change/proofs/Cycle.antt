@@ -2,9 +2,9 @@
 use Prim.Native.Nat.{ℕ, _+_, _-_, _≤_, _<_}
 use mathlib.Core.Path.{_≡_}
 use mathlib.Core.Bool.{true}
-use mathlib.Core.List.{List, [], _∷_}
+use mathlib.Core.List.{List}
 use native.Mathlib.Omega.{arith}
-use lib.ListN.{length, getD}
+use lib.ListN.{length}
 use Rattle.source.specs.Text.{segments, ends-in-dot}
 use Rattle.source.specs.Types.{Trie, NameList, ns, namespaces}
 use Rattle.source.specs.Tries.{scope-of}
@@ -12,7 +12,8 @@ use Rattle.source.specs.Terms.{heaviest, depth}
 use Rattle.source.specs.Rules.{IsKey}
 use Rattle.source.specs.Counted.{Counted, one, _>>=_, names-insertᶜ, trie-mutateᶜ}
 use Rattle.source.proofs.Counted.{names-insert-value}
-use Rattle.memory.specs.Layout.{span, Which, Item, Sort, tree, list, trieˢ, Of, kind, what}
+use Rattle.memory.specs.Layout.{span, Which, Item, Sort, tree, list, trieˢ, Of, kind-in, kind, what}
+use Rattle.memory.specs.Made.{namespace-row}
 use Rattle.memory.specs.Sound.{TextOk}
 use Rattle.memory.specs.Read.{ReadTrie}
 use Rattle.memory.specs.declared.Trie as M
@@ -20,6 +21,7 @@ use Rattle.memory.proofs.Seen.{link-later}
 use Rattle.insert_record.specs.Made.{Made}
 use Rattle.insert_list.specs.Insert.{NamesInsertion, AnyNamesInsertion, NamesInserts}
 use Rattle.insert_record.proofs.Made.{made-then, made-what, made-link, made-room}
+use Rattle.register_way.specs.Way.{step-size, below-in, count-in}
 use Rattle.register_kind.specs.Shapes.{shape-of}
 use Rattle.register_kind.specs.declared.Form.{Form}
 use Rattle.register_kind.specs.declared.Form.the-variants as form
@@ -42,11 +44,12 @@ module _ {ws txt : List ℕ} {n used x at len : ℕ} {d : Descent} (g : Namespac
     value = mutated ws txt (d .change) (scope-of (what (which-of (d .change)) ws txt x (list ns)) (span txt at len)) (d .from) (at + len + 1) (d .end) .value
 
     -- What is asked of the scope.
-    pub spaces-mutation : Mutation ws txt n used (getD way 0 0) (at + len + 1) d
+    pub spaces-mutation : Mutation ws txt n used (below-in way) (at + len + 1) d
     unfolding _>>=_
     spaces-mutation =
         let w = inserted-within (what (which-of (d .change)) ws txt x (list ns)) (span txt at len) value in
         record {
+          form-is = g .form-is;
           change = g .change;
           link = z .first .next .link;
           place = place-next (g .place) (g .cut);
@@ -57,22 +60,26 @@ module _ {ws txt : List ℕ} {n used x at len : ℕ} {d : Descent} (g : Namespac
           });
         }
 
-    module _ {ws₁ : List ℕ} {s n₁ k : ℕ} (S : Mutated ws ws₁ txt n (getD way 0 0) (at + len + 1) d s n₁) (h : Kinds (d .change) k) where
+    module _ {ws₁ : List ℕ} {s n₁ k : ℕ} (S : Mutated ws ws₁ txt n (below-in way) (at + len + 1) d s n₁) (h : Kinds (d .form) k) where
       scope-builds : Builds ws ws₁ txt n used (which-of (d .change)) trieˢ (mutated ws txt (d .change) (scope-of (what (which-of (d .change)) ws txt x (list ns)) (span txt at len)) (d .from) (at + len + 1) (d .end)) s n₁
       scope-builds = rw (z .first .next .says) at (S used spaces-mutation)
 
-      kind-is : k + 2 ≡ kind (which-of (d .change)) (tree ns)
-      kind-is = omega (arith, h .1 (tree ns))
+      kind-is : k + kind-in (tree ns) ≡ kind (which-of (d .change)) (tree ns)
+      kind-is = omega (arith, (rw (g .form-is) at h) .1 (tree ns))
 
-      pub spaces-insertion : NamesInsertion ws₁ txt (which-of (d .change)) ns n₁ used x (getD way 1 0) ((k + 2) ∷ at ∷ len ∷ 0 ∷ 0 ∷ s ∷ 0 ∷ 0 ∷ 0 ∷ 0 ∷ 0 ∷ 0 ∷ [])
-      spaces-insertion = scope-insertion scope-builds (g .change .sound) (g .link) kind-is spaces-key (z .first .builds) (g .fits .room) (g .fits .light)
+      -- The row of the segment.
+      abbrev spaces-row : List ℕ
+      spaces-row = namespace-row k (record { start = at; len = len }) s
 
-      pub spaces-any : AnyNamesInsertion ws₁ txt n₁ x (getD way 1 0) ((k + 2) ∷ at ∷ len ∷ 0 ∷ 0 ∷ s ∷ 0 ∷ 0 ∷ 0 ∷ 0 ∷ 0 ∷ 0 ∷ [])
+      pub spaces-insertion : NamesInsertion ws₁ txt (which-of (d .change)) ns n₁ used x (count-in way) spaces-row
+      spaces-insertion = scope-insertion scope-builds (g .change .sound) (g .link) k kind-is _ spaces-key (z .first .builds) (g .fits .room) (g .fits .light)
+
+      pub spaces-any : AnyNamesInsertion ws₁ txt n₁ x (count-in way) spaces-row
       spaces-any = record { which = which-of (d .change); level = ns; used = used; insertion = spaces-insertion }
 
-      pub spaces-built : {ws₂ : List ℕ} {y : ℕ} → y ≡ n₁ + getD way 1 0 + 1 → NamesInserts ws₁ ws₂ txt n₁ x (getD way 1 0) ((k + 2) ∷ at ∷ len ∷ 0 ∷ 0 ∷ s ∷ 0 ∷ 0 ∷ 0 ∷ 0 ∷ 0 ∷ 0 ∷ []) y
+      pub spaces-built : {ws₂ : List ℕ} {y : ℕ} → y ≡ n₁ + count-in way + 1 → NamesInserts ws₁ ws₂ txt n₁ x (count-in way) spaces-row y
           → Builds ws ws₂ txt n used (which-of (d .change)) (list ns) (namespaces-mutated ws txt (d .change) (what (which-of (d .change)) ws txt x (list ns)) (d .from) at len (d .end)) y y
-      spaces-built f m = scope-built scope-builds (g .change .sound) (g .link) kind-is spaces-key (z .first .builds) spaces-insertion f m
+      spaces-built f m = scope-built scope-builds (g .change .sound) (g .link) k kind-is _ spaces-key (z .first .builds) spaces-insertion f m
 
 -- ---- trie_mutate at the host
 module _ (ws txt : List ℕ) (at : ℕ) (d : Descent) (e : at ≡ d .end) where
@@ -83,7 +90,7 @@ module _ (ws txt : List ℕ) (at : ℕ) (d : Descent) (e : at ≡ d .end) where
   pub leaf-mutation : {n used x : ℕ} → Mutation ws txt n used x at d → Leaf ws txt n used x (d .change)
   leaf-mutation m = record { change = m .change; link = m .link; fits = rw mutated-leaf at (m .fits) }
 
-  pub leaf-way : {x : ℕ} {way : List ℕ} → TrieWay ws txt x at d way → (2 ≤ length way) × LeafBuilds ws txt x (d .change) (getD way 1 0)
+  pub leaf-way : {x : ℕ} {way : List ℕ} → TrieWay ws txt x at d way → (step-size ≤ length way) × LeafBuilds ws txt x (d .change) (count-in way)
   unfolding span segments
   leaf-way y = let z : d .end - at ≡ 0 = omega arith in rw z at (y .leads)
 
@@ -141,6 +148,7 @@ module _ {ws txt : List ℕ} {n used x at len : ℕ} {d : Descent} {p : M.Trie} 
   pub mutation-spaces : NamespacesMutation ws txt n used (p .namespaces) at len d
   unfolding node-of _>>=_ one heaviest depth
   mutation-spaces = record {
+    form-is = m .form-is;
     change = m .change;
     link = mutation-lists .n-link;
     place = m .place;
@@ -173,6 +181,7 @@ module _ {ws txt : List ℕ} {n used x at len : ℕ} {d : Descent} {p : M.Trie} 
 
     pub mutation-node : Node ws₁ txt n₁ used x y at len d
     mutation-node = record {
+      form-is = m .form-is;
       change = change-stays (spaces-builds .made) (m .change);
       link = made-link (spaces-builds .made) (omega arith) (m .link);
       list-link = spaces-builds .made .link;

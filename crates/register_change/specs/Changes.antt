@@ -3,7 +3,7 @@ use Prim.Native.Nat.{ℕ, _+_, _-_, _≤_, _<_}
 use mathlib.Core.Path.{_≡_}
 use mathlib.Core.Bool.{Bool, true, cond}
 use mathlib.Core.List.{List, [], _∷_, reverse}
-use lib.ListN.{getD, drop}
+use lib.ListN.{drop}
 use Rattle.source.specs.Limits.{heaviest-list, deepest-trie}
 use Rattle.source.specs.Text.{Str, Query, segments, ends-in-dot}
 use Rattle.source.specs.Types.{Trie, NameList, bind, ns, trie, bindings}
@@ -11,12 +11,12 @@ use Rattle.source.specs.Tries.{scope-of}
 use Rattle.source.specs.Terms.{heaviest-names, depth-names}
 use Rattle.source.specs.Counted.{Counted, pure, one, _>>=_, MutNodeᶜ, names-insertᶜ, trie-mutateᶜ, ins-stays-loadedᶜ}
 use Rattle.source.specs.Queries.{IsQuery}
-use Rattle.memory.specs.Layout.{span, Item, Sort, list, trieˢ, kind-in, kind, what}
+use Rattle.memory.specs.Layout.{span, names, modules, Item, Sort, tree, list, trieˢ, kind-in, kind, what}
 use Rattle.memory.specs.Sound.{LinkOk, Used}
 use Rattle.memory.specs.Read.{text-of}
 use Rattle.memory.specs.declared.Span.{Span}
 use Rattle.insert_record.specs.Made.{Room}
-use Rattle.register_way.specs.Way.{which-by, StepNoted, Way}
+use Rattle.register_way.specs.Way.{step-size, below-in, which-by, StepNoted, Way}
 use Rattle.register_kind.specs.Shapes.{shape-of}
 use Rattle.register_kind.specs.declared.Form.{Form}
 use Rattle.register_kind.specs.declared.Form.the-variants as form
@@ -53,9 +53,13 @@ pub record SegmentCut (txt : List ℕ) (at len end : ℕ) : Type 0 where
 
 -- ---- Changes
 
--- What is added to the kinds of the names table in the table of a change.
-abbrev pub Kinds : Change → ℕ → Type 0
-Kinds ch r = (r ≤ 5) × ((s : Sort) → kind (which-of ch) s ≡ kind-in s + r)
+-- What is added to the kinds of the names table in that of modules.
+abbrev pub of-modules : ℕ
+of-modules = kind modules trieˢ - kind names trieˢ
+
+-- What is added to them in the table of a form.
+abbrev pub Kinds : Form → ℕ → Type 0
+Kinds f r = (r ≤ of-modules) × ((s : Sort) → kind (which-by f) s ≡ kind-in s + r)
 
 -- The bindings that mut_node gives a trie: a module path's alone are changed.
 unfoldable pub bindings-by : List ℕ → (f : Form) → Span → NameList (Item (which-by f)) bind → Str → Query → Query → Counted (NameList (Item (which-by f)) bind)
@@ -81,13 +85,13 @@ namespaces-mutated ws txt ch n from at len end = do
 
 -- ---- On the way down
 
+-- The form that a change has by its kind.
+abbrev pub form-of : Change → Form
+form-of ch = shape-of (ch .kind) .form
+
 -- A descent by its parts.
 abbrev pub descent : (from end : ℕ) → Change → Descent
-descent from end ch = record { from = from; end = end; change = ch }
-
--- The form of what is registered.
-abbrev pub form-of : Descent → Form
-form-of d = shape-of (d .change .kind) .form
+descent from end ch = record { from = from; end = end; form = form-of ch; change = ch }
 
 -- The bindings that mut_node gives a trie at the segment of len bytes from at on, where the form is f.
 abbrev pub bindings-at : (txt : List ℕ) (at len : ℕ) (d : Descent) (f : Form) → NameList (Item (which-by f)) bind → Counted (NameList (Item (which-by f)) bind)
@@ -118,6 +122,7 @@ pub record Bindings (ws txt : List ℕ) (n used x at len : ℕ) (d : Descent) (f
 
 -- What mut_node asks, where y is the new list of namespaces.
 pub record Node (ws txt : List ℕ) (n used x y at len : ℕ) (d : Descent) : Type 0 where
+  pub form-is : d .form ≡ form-of (d .change)
   pub change : ChangeOk ws txt n used (d .change)
   pub link : LinkOk ws (n + 1) x (kind (which-of (d .change)) trieˢ)
   pub list-link : LinkOk ws (n + 1) y (kind (which-of (d .change)) (list ns))
@@ -127,6 +132,7 @@ pub record Node (ws txt : List ℕ) (n used x y at len : ℕ) (d : Descent) : Ty
 
 -- What namespaces_mutate asks.
 pub record NamespacesMutation (ws txt : List ℕ) (n used x at len : ℕ) (d : Descent) : Type 0 where
+  pub form-is : d .form ≡ form-of (d .change)
   pub change : ChangeOk ws txt n used (d .change)
   pub link : LinkOk ws (n + 1) x (kind (which-of (d .change)) (list ns))
   pub place : QueryPlace txt used (d .from) at (d .end)
@@ -135,6 +141,7 @@ pub record NamespacesMutation (ws txt : List ℕ) (n used x at len : ℕ) (d : D
 
 -- What trie_mutate asks.
 pub record Mutation (ws txt : List ℕ) (n used x at : ℕ) (d : Descent) : Type 0 where
+  pub form-is : d .form ≡ form-of (d .change)
   pub change : ChangeOk ws txt n used (d .change)
   pub link : LinkOk ws (n + 1) x (kind (which-of (d .change)) trieˢ)
   pub place : QueryPlace txt used (d .from) at (d .end)
@@ -147,7 +154,7 @@ pub record TrieWay (ws txt : List ℕ) (x at : ℕ) (d : Descent) (way : List �
 -- The way from the list x of namespaces down the segment of len bytes from at on, and what is left after it; n records are used.
 pub record NamespacesWay (ws txt : List ℕ) (n x at len : ℕ) (d : Descent) (way : List ℕ) : Type 0 where
   pub first : StepNoted ws txt (which-of (d .change)) n (what (which-of (d .change)) ws txt x (list ns)) (span txt at len) way
-  pub rest : TrieWay ws txt (getD way 0 0) (at + len + 1) d (drop 2 way)
+  pub rest : TrieWay ws txt (below-in way) (at + len + 1) d (drop step-size way)
 
 -- ---- What a change makes
 
@@ -176,4 +183,4 @@ Mutated ws ws′ txt n x at d link n′ =
 -- The words of a branch that holds a Module, or a Namespace: key, full name, path, whether it is loaded.
 abbrev pub symbol-row : (last : Bool) (at len from : ℕ) (loaded : Bool) (path : Span) → List ℕ
 symbol-row last at len from loaded path =
-    6 ∷ at ∷ len ∷ 0 ∷ 0 ∷ cond last 0 1 ∷ from ∷ (at + len - from) ∷ cond last (path .start) 0 ∷ cond last (path .len) 0 ∷ cond loaded 1 0 ∷ 0 ∷ []
+    kind modules (tree bind) ∷ at ∷ len ∷ 0 ∷ 0 ∷ cond last 0 1 ∷ from ∷ (at + len - from) ∷ cond last (path .start) 0 ∷ cond last (path .len) 0 ∷ cond loaded 1 0 ∷ 0 ∷ []

@@ -1,10 +1,15 @@
 // The change of a trie: the source's namespaces_mutate and trie_mutate with mut_node and mut_leaf, building records after the used ones.
 use memory::ModSymbol;
+use memory::OF_MODULES;
 use memory::Span;
+use memory::TRIE_KIND;
 use register_kind::Form;
 use register_leaf::Built;
 use register_leaf::Change;
 use register_leaf::mut_leaf;
+use register_way::BELOW;
+use register_way::COUNT;
+use register_way::STEP;
 ghost use mathlib.Core.Path.{_≡_};
 ghost use mathlib.Core.Bool.{true};
 ghost use Prim.Native.Nat.{_+_, _-_, _<_, _≤_};
@@ -15,12 +20,13 @@ ghost use Rattle.source.specs.Text.{ends-in-dot};
 ghost use Rattle.memory.specs.Layout.{span};
 ghost use Rattle.register_kind.specs.declared.Form.the-variants as form;
 ghost use Rattle.register_leaf.specs.Leaves.{Some};
-ghost use Rattle.register_change.specs.Changes.{form-of, Kinds, symbol-row, SegmentCut, Bindings, Node, NamespacesMutation, Mutation, NamespacesWay, TrieWay, BindingsBuilt, NodeBuilt, NamespacesMutated, Mutated};
+ghost use Rattle.register_change.specs.Changes.{Kinds, symbol-row, SegmentCut, Bindings, Node, NamespacesMutation, Mutation, NamespacesWay, TrieWay, BindingsBuilt, NodeBuilt, NamespacesMutated, Mutated};
 
-// What stays the same on the way down a query: where the query begins and ends in the text, and the change at its end.
+// What stays the same on the way down a query: where the query begins and ends in the text, the change at its end and the form of its kind.
 pub struct Descent {
     pub from: u32,
     pub end: u32,
+    pub form: Form,
     pub change: Change,
 }
 
@@ -34,17 +40,14 @@ fn segment_in(text: &[u8], at: u32, end: u32) -> u32
     text_query::segment_length(&text[first..last]) as u32
 }
 
-// What is added to the kinds of the names table in the table of a change.
-fn kinds_of(change: Change) -> u32
-    ensures { λ r. ⌜ Kinds change r ⌝ }
+// What is added to the kinds of the names table in the table of a form.
+fn kinds_of(form: Form) -> u32
+    ensures { λ r. ⌜ Kinds form r ⌝ }
 {
-    let kind = change.kind;
-    let s = register_kind::shape_of(kind);
-    let f = s.form;
-    match f {
+    match form {
         Form::Name => 0,
         Form::Import => 0,
-        Form::Module(_) => 5,
+        Form::Module(_) => OF_MODULES,
     }
 }
 
@@ -118,14 +121,11 @@ fn mut_bindings(
     len: u32,
     d: Descent,
 ) -> Built
-    requires { ⌜ Some (λ used. Bindings (now words) (now text) records used bindings at len d (form-of d)) ⌝ }
-    ensures { λ r. ⌜ BindingsBuilt (old words) (new words) (old text) records bindings at len d (form-of d) (r .link) (r .records) ⌝ }
+    requires { ⌜ Some (λ used. Bindings (now words) (now text) records used bindings at len d (d .form)) ⌝ }
+    ensures { λ r. ⌜ BindingsBuilt (old words) (new words) (old text) records bindings at len d (d .form) (r .link) (r .records) ⌝ }
 {
-    let change = d.change;
-    let kind = change.kind;
-    let s = register_kind::shape_of(kind);
-    let f = s.form;
-    match f {
+    let form = d.form;
+    match form {
         Form::Name => Built {
             link: bindings,
             records: records,
@@ -154,8 +154,9 @@ fn mut_node(
 {
     let t = memory_access::trie_of(words, trie);
     let b = mut_bindings(words, text, records, t.bindings, at, len, d);
-    let kinds = kinds_of(d.change);
-    let link = insert_record::put_trie(words, b.records, kinds + 5, b.link, namespaces);
+    let form = d.form;
+    let kinds = kinds_of(form);
+    let link = insert_record::put_trie(words, b.records, kinds + TRIE_KIND, b.link, namespaces);
     Built {
         link: link,
         records: link,
@@ -163,7 +164,7 @@ fn mut_node(
 }
 
 // The source's namespaces_mutate. rev_acc is what stands before `at`; the next segment has `len` bytes.
-// The way has the trie below it and how many branches its insertion builds, then the same of the segments after it.
+// The way is that from this segment on.
 fn namespaces_mutate(
     words: &mut [u32],
     text: &[u8],
@@ -178,14 +179,23 @@ fn namespaces_mutate(
     requires { ⌜ NamespacesWay (now words) (now text) records namespaces at len d (now way) ⌝ }
     ensures { λ r. ⌜ NamespacesMutated (old words) (new words) (old text) records namespaces at len d (r .link) (r .records) ⌝ }
 {
-    let kinds = kinds_of(d.change);
-    let m = trie_mutate(words, text, records, way[0], at + len + 1, d, &way[2..]);
+    let form = d.form;
+    let kinds = kinds_of(form);
+    let m = trie_mutate(
+        words,
+        text,
+        records,
+        way[BELOW],
+        at + len + 1,
+        d,
+        &way[STEP..],
+    );
     let key = Span {
         start: at,
         len: len,
     };
     let row = memory_access::make::namespace_row(kinds, key, m.link);
-    let link = insert_list::names_insert(words, text, m.records, namespaces, way[1], row);
+    let link = insert_list::names_insert(words, text, m.records, namespaces, way[COUNT], row);
     Built {
         link: link,
         records: link,
@@ -207,7 +217,7 @@ pub fn trie_mutate(
     ensures { λ r. ⌜ Mutated (old words) (new words) (old text) records trie at d (r .link) (r .records) ⌝ }
 {
     if at == d.end {
-        return mut_leaf(words, text, records, trie, d.change, way[1]);
+        return mut_leaf(words, text, records, trie, d.change, way[COUNT]);
     }
     let len = segment_in(text, at, d.end);
     let t = memory_access::trie_of(words, trie);

@@ -1,7 +1,7 @@
 -- Records of counted values, built one after another.
 use Prim.Native.Nat.{ℕ, suc, _+_, _≤_, Ordering, Ordering·lt, Ordering·eq, Ordering·gt}
 use mathlib.Core.Path.{_≡_}
-use mathlib.Core.List.{List, [], _∷_}
+use mathlib.Core.List.{List}
 use native.Mathlib.Omega.{arith}
 use Rattle.source.specs.Text.{Str, string-compare}
 use Rattle.source.specs.Types.{Level, Value, Trie, Tree, NameList, bind, ns, trie, StrEmpty, StrBranch, []ᴺ, Names, ImportedNames}
@@ -12,9 +12,11 @@ use Rattle.source.specs.Counted.{Counted, pure, one, _>>=_, names-insertᶜ}
 use Rattle.source.specs.Plans.{insert-branches, first-tree}
 use Rattle.source.proofs.Counted.{names-insert-value, names-insert-count}
 use Rattle.source.specs.Rules.{IsKey}
-use Rattle.memory.specs.Layout.{span, Which, Item, Sort, tree, list, trieˢ, Of, kind, value, what, text-len, text-start}
+use Rattle.memory.specs.Layout.{span, Which, Item, Sort, tree, list, trieˢ, Of, kind-in, kind, value, what, text-len, text-start}
+use Rattle.memory.specs.Made.{namespace-row}
 use Rattle.memory.specs.Stored.{depth-in}
 use Rattle.memory.specs.Sound.{LinkOk, TextOk, Used}
+use Rattle.memory.specs.declared.Span.{Span}
 use Rattle.insert_record.specs.Made.{Room, Made, MadeTrie}
 use Rattle.insert_list.specs.Insert.{NamesInsertion, NamesInserts}
 use Rattle.insert_record.proofs.Made.{made-none, made-as, made-then, made-room, made-link, made-what, trie-shallow}
@@ -133,21 +135,21 @@ insert-count n key t e = rw names-insert-count (omega (arith, e))
 
 -- A trie, built before, goes into a list of namespaces that stood.
 module _ {ws ws₁ txt : List ℕ} {n n₁ used : ℕ} {w : Which} {c : Counted (Trie (Item w))} {s : ℕ} (S : Builds ws ws₁ txt n used w trieˢ c s n₁)
-    (o : Used ws txt n used) {x kd start len count : ℕ} (j : LinkOk ws (n + 1) x (kind w (list ns))) (k : kd ≡ kind w (tree ns))
-    (i : TextOk IsKey txt used start len) (e : count ≡ insert-branches (first-tree (what w ws txt x (list ns))) (span txt start len)) where
-  pub scope-insertion : Room ws n ((c >>= λ scope. names-insertᶜ (what w ws txt x (list ns)) (span txt start len) scope) .count)
-      → heaviest-names ((c >>= λ scope. names-insertᶜ (what w ws txt x (list ns)) (span txt start len) scope) .value) ≤ 96
-      → NamesInsertion ws₁ txt w ns n₁ used x count (kd ∷ start ∷ len ∷ 0 ∷ 0 ∷ s ∷ 0 ∷ 0 ∷ 0 ∷ 0 ∷ 0 ∷ 0 ∷ [])
+    (o : Used ws txt n used) {x count : ℕ} (j : LinkOk ws (n + 1) x (kind w (list ns))) (of : ℕ) (k : of + kind-in (tree ns) ≡ kind w (tree ns))
+    (key : Span) (i : TextOk IsKey txt used (key .start) (key .len)) (e : count ≡ insert-branches (first-tree (what w ws txt x (list ns))) (span txt (key .start) (key .len))) where
+  pub scope-insertion : Room ws n ((c >>= λ scope. names-insertᶜ (what w ws txt x (list ns)) (span txt (key .start) (key .len)) scope) .count)
+      → heaviest-names ((c >>= λ scope. names-insertᶜ (what w ws txt x (list ns)) (span txt (key .start) (key .len)) scope) .value) ≤ 96
+      → NamesInsertion ws₁ txt w ns n₁ used x count (namespace-row of key s)
   unfolding _>>=_
   scope-insertion room light =
-      insertion-after (S .made) (record { records = n; used = used; sound = o; link = j }) (omega (arith, j .earlier)) (kd ∷ start ∷ len ∷ 0 ∷ 0 ∷ s ∷ 0 ∷ 0 ∷ 0 ∷ 0 ∷ 0 ∷ 0 ∷ []) e
-      (c .value) (insert-light (what w ws txt x (list ns)) (span txt start len) (c .value) (rw names-insert-value at light))
-      (made-room (S .made) (c .count) (S .number) (rw (insert-count (what w ws txt x (list ns)) (span txt start len) (c .value) e) at room))
+      insertion-after (S .made) (record { records = n; used = used; sound = o; link = j }) (omega (arith, j .earlier)) (namespace-row of key s) e
+      (c .value) (insert-light (what w ws txt x (list ns)) (span txt (key .start) (key .len)) (c .value) (rw names-insert-value at light))
+      (made-room (S .made) (c .count) (S .number) (rw (insert-count (what w ws txt x (list ns)) (span txt (key .start) (key .len)) (c .value) e) at room))
       (record { known = k; key = i; holds = S .made .link })
 
-  pub scope-built : {ws₂ : List ℕ} {y : ℕ} → NamesInsertion ws₁ txt w ns n₁ used x count (kd ∷ start ∷ len ∷ 0 ∷ 0 ∷ s ∷ 0 ∷ 0 ∷ 0 ∷ 0 ∷ 0 ∷ 0 ∷ []) → y ≡ n₁ + count + 1
-      → NamesInserts ws₁ ws₂ txt n₁ x count (kd ∷ start ∷ len ∷ 0 ∷ 0 ∷ s ∷ 0 ∷ 0 ∷ 0 ∷ 0 ∷ 0 ∷ 0 ∷ []) y
-      → Builds ws ws₂ txt n used w (list ns) (c >>= λ scope. names-insertᶜ (what w ws txt x (list ns)) (span txt start len) scope) y y
+  pub scope-built : {ws₂ : List ℕ} {y : ℕ} → NamesInsertion ws₁ txt w ns n₁ used x count (namespace-row of key s) → y ≡ n₁ + count + 1
+      → NamesInserts ws₁ ws₂ txt n₁ x count (namespace-row of key s) y
+      → Builds ws ws₂ txt n used w (list ns) (c >>= λ scope. names-insertᶜ (what w ws txt x (list ns)) (span txt (key .start) (key .len)) scope) y y
   scope-built g f m =
-      builds-then S (λ scope. names-insertᶜ (what w ws txt x (list ns)) (span txt start len) scope)
+      builds-then S (λ scope. names-insertᶜ (what w ws txt x (list ns)) (span txt (key .start) (key .len)) scope)
       (rw (S .made .reads, made-what (S .made) w {x = x} (omega (arith, j .earlier))) at (builds-insert g m f))

@@ -2,7 +2,7 @@
 use Prim.Native.Nat.{ℕ, _+_, _-_, _*_, _≤_, _<_}
 use mathlib.Core.Path.{_≡_, refl, sym, subst}
 use mathlib.Core.Bool.{Bool}
-use mathlib.Core.List.{List, [], _∷_}
+use mathlib.Core.List.{List}
 use native.Mathlib.Omega.{arith}
 use lib.ListN.{length}
 use Rattle.source.specs.Types.{Trie, bind, ns, item, trie, []ᴺ, ImportedNames, bindings, namespaces}
@@ -10,10 +10,10 @@ use Rattle.source.specs.Tries.{names-insert}
 use Rattle.source.specs.Terms.{weight, heaviest, heaviest-names, depth, depth-names}
 use Rattle.source.specs.Counted.{Counted, one, _>>=_, names-insertᶜ}
 use Rattle.source.proofs.Counted.{names-insert-value}
-use Rattle.source.specs.Items.{kind-number}
 use Rattle.source.proofs.Items.{number-is-kind, number-in}
 use Rattle.source.specs.declared.LidSymbol.{LidSymbol}
-use Rattle.memory.specs.Layout.{span, names, list, trieˢ, what}
+use Rattle.memory.specs.Layout.{span, names, list, trieˢ, kind, what}
+use Rattle.memory.specs.Made.{binding-row, namespace-row}
 use Rattle.memory.specs.Stored.{weight-in, depth-in}
 use Rattle.memory.specs.Read.{ReadTrie}
 use Rattle.memory.specs.declared.Trie as M
@@ -64,7 +64,7 @@ module _ {ws txt : List ℕ} {n used x : ℕ} {text key : Span} {inc : ℕ} {p p
     ),
   )
 
-  module _ {ws₁ : List ℕ} {b : ℕ} (e : b ≡ n + 1) (m : MadeImported ws ws₁ n 3 (text .start) (text .len - 1) (p′ .bindings) (p .bindings) b) where
+  module _ {ws₁ : List ℕ} {b : ℕ} (e : b ≡ n + 1) (m : MadeImported ws ws₁ n (kind names (list bind)) (text .start) (text .len - 1) (p′ .bindings) (p .bindings) b) where
     include-builds : Builds ws ws₁ txt n used names (list bind) (one (ImportedNames (span txt (text .start) (text .len - 1)) (bindings (what names ws txt inc trieˢ)) (bindings (what names ws txt x trieˢ)))) b b
     include-builds =
         builds-one (made-as (m txt used names bind (l .change .sound) refl (l .change .text) (included-lists .b-link) (include-lists .b-link)) (rw (include-lists .b-reads, included-lists .b-reads))) e
@@ -73,7 +73,7 @@ module _ {ws txt : List ℕ} {n used x : ℕ} {text key : Span} {inc : ℕ} {p p
     unfolding leaf-by _>>=_ one depth
     include-trie-ready = bindings-ready include-builds (include-lists .n-link) (l .fits .room) (rw (include-lists .n-reads) (l .fits .shallow))
 
-    pub include-built : {ws₂ : List ℕ} {r : ℕ} → r ≡ b + 1 → MadeTrie ws₁ ws₂ b 5 b (p .namespaces) r → Builds ws ws₂ txt n used names trieˢ (leaf-of ws txt (change-of Include text key inc) (what names ws txt x trieˢ)) r r
+    pub include-built : {ws₂ : List ℕ} {r : ℕ} → r ≡ b + 1 → MadeTrie ws₁ ws₂ b (kind names trieˢ) b (p .namespaces) r → Builds ws ws₂ txt n used names trieˢ (leaf-of ws txt (change-of Include text key inc) (what names ws txt x trieˢ)) r r
     unfolding leaf-by
     include-built f g = rw (include-lists .n-reads) at (bindings-built include-builds (include-lists .n-link) refl f g)
 
@@ -100,7 +100,7 @@ module _ {ws txt : List ℕ} {n used x : ℕ} {text key : Span} {inc : ℕ} {p p
     ),
   )
 
-  module _ {ws₁ : List ℕ} {y : ℕ} (e : y ≡ n + 1) (m : MadeImported ws ws₁ n 4 (text .start) (text .len - 1) (p′ .namespaces) (p .namespaces) y) where
+  module _ {ws₁ : List ℕ} {y : ℕ} (e : y ≡ n + 1) (m : MadeImported ws ws₁ n (kind names (list ns)) (text .start) (text .len - 1) (p′ .namespaces) (p .namespaces) y) where
     open-builds : Builds ws ws₁ txt n used names (list ns) (one (ImportedNames (span txt (text .start) (text .len - 1)) (namespaces (what names ws txt inc trieˢ)) (namespaces (what names ws txt x trieˢ)))) y y
     open-builds =
         builds-one (made-as (m txt used names ns (l .change .sound) refl (l .change .text) (opened-lists .n-link) (open-lists .n-link)) (rw (open-lists .n-reads, opened-lists .n-reads))) e
@@ -109,7 +109,7 @@ module _ {ws txt : List ℕ} {n used x : ℕ} {text key : Span} {inc : ℕ} {p p
     unfolding leaf-by _>>=_ one depth
     open-trie-ready = namespaces-ready open-builds (open-lists .b-link) (l .fits .room) (l .fits .shallow)
 
-    pub open-built : {ws₂ : List ℕ} {r : ℕ} → r ≡ y + 1 → MadeTrie ws₁ ws₂ y 5 (p .bindings) y r → Builds ws ws₂ txt n used names trieˢ (leaf-of ws txt (change-of Open text key inc) (what names ws txt x trieˢ)) r r
+    pub open-built : {ws₂ : List ℕ} {r : ℕ} → r ≡ y + 1 → MadeTrie ws₁ ws₂ y (kind names trieˢ) (p .bindings) y r → Builds ws ws₂ txt n used names trieˢ (leaf-of ws txt (change-of Open text key inc) (what names ws txt x trieˢ)) r r
     unfolding leaf-by
     open-built f g = rw (open-lists .b-reads) at (namespaces-built open-builds (open-lists .b-link) refl f g)
 
@@ -120,7 +120,7 @@ module _ {ws txt : List ℕ} {n used x : ℕ} {c : LidSymbol} {text key : Span} 
 
   module _ {count : ℕ} (z : LeafBuilds ws txt x (change-of (Name (c .kind) (c .number)) text key inc) count) where
     abbrev name-row : List ℕ
-    name-row = 1 ∷ text .start ∷ text .len ∷ 0 ∷ 0 ∷ c .number ∷ kind-number (c .kind) ∷ 0 ∷ 0 ∷ 0 ∷ 0 ∷ 0 ∷ []
+    name-row = binding-row text c
 
     name-light : heaviest-names (names-insert (what names ws txt (p .bindings) (list bind)) (span txt (text .start) (text .len)) (item c)) ≤ 96
     unfolding heaviest leaf-by _>>=_ one
@@ -146,7 +146,7 @@ module _ {ws txt : List ℕ} {n used x : ℕ} {c : LidSymbol} {text key : Span} 
       unfolding leaf-by _>>=_ one depth
       name-trie-ready = bindings-ready name-builds (name-lists .n-link) (l .fits .room) (rw (name-lists .n-reads) (l .fits .shallow))
 
-      pub name-built : {ws₂ : List ℕ} {r : ℕ} → r ≡ b + 1 → MadeTrie ws₁ ws₂ b 5 b (p .namespaces) r → Builds ws ws₂ txt n used names trieˢ (leaf-of ws txt (change-of (Name (c .kind) (c .number)) text key inc) (what names ws txt x trieˢ)) r r
+      pub name-built : {ws₂ : List ℕ} {r : ℕ} → r ≡ b + 1 → MadeTrie ws₁ ws₂ b (kind names trieˢ) b (p .namespaces) r → Builds ws ws₂ txt n used names trieˢ (leaf-of ws txt (change-of (Name (c .kind) (c .number)) text key inc) (what names ws txt x trieˢ)) r r
       unfolding leaf-by
       name-built f g = rw (name-lists .n-reads) at (bindings-built name-builds (name-lists .n-link) refl f g)
 
@@ -190,7 +190,7 @@ module _ {ws txt : List ℕ} {n used x : ℕ} {text key : Span} {inc : ℕ} {p p
       ),
     )
 
-    module _ {ws₁ : List ℕ} {b : ℕ} (e : b ≡ n + 1) (m : MadeImported ws ws₁ n 3 (text .start) (text .len - 1) (p′ .bindings) 0 b) where
+    module _ {ws₁ : List ℕ} {b : ℕ} (e : b ≡ n + 1) (m : MadeImported ws ws₁ n (kind names (list bind)) (text .start) (text .len - 1) (p′ .bindings) 0 b) where
       alias-builds : Builds ws ws₁ txt n used names (list bind) (one (ImportedNames (span txt (text .start) (text .len - 1)) (bindings (what names ws txt inc trieˢ)) []ᴺ)) b b
       alias-builds =
           builds-one (made-as (m txt used names bind (l .change .sound) refl (l .change .text) (aliased-lists .b-link) (no-link n _)) (rw (what-none names ws txt, aliased-lists .b-reads))) e
@@ -199,23 +199,23 @@ module _ {ws txt : List ℕ} {n used x : ℕ} {text key : Span} {inc : ℕ} {p p
       unfolding one depth-names
       alias-fresh-ready = bindings-ready alias-builds (no-link n _) (less-room alias-room (omega arith)) (rw (what-none names ws txt) (omega arith))
 
-      module _ {ws₂ : List ℕ} {s : ℕ} (f : s ≡ b + 1) (g : MadeTrie ws₁ ws₂ b 5 b 0 s) where
+      module _ {ws₂ : List ℕ} {s : ℕ} (f : s ≡ b + 1) (g : MadeTrie ws₁ ws₂ b (kind names trieˢ) b 0 s) where
         fresh-builds : Builds ws ws₂ txt n used names trieˢ fresh s s
         fresh-builds = rw (what-none names ws txt) at (bindings-built alias-builds (no-link n _) refl f g)
 
         abbrev alias-row : List ℕ
-        alias-row = 2 ∷ key .start ∷ key .len ∷ 0 ∷ 0 ∷ s ∷ 0 ∷ 0 ∷ 0 ∷ 0 ∷ 0 ∷ 0 ∷ []
+        alias-row = namespace-row 0 key s
 
         pub alias-insertion : NamesInsertion ws₂ txt names ns s used (p .namespaces) count alias-row
         unfolding _>>=_ one
         alias-insertion =
-            scope-insertion fresh-builds (l .change .sound) (alias-lists .n-link) refl (l .change .key) (rw (alias-lists .n-reads) z)
+            scope-insertion fresh-builds (l .change .sound) (alias-lists .n-link) 0 refl key (l .change .key) (rw (alias-lists .n-reads) z)
             (rw (alias-lists .n-reads, alias-count) (less-room alias-room (omega arith)))
             (rw names-insert-value alias-light)
 
         module _ {ws₃ : List ℕ} {y : ℕ} (h : y ≡ s + count + 1) (i : NamesInserts ws₂ ws₃ txt s (p .namespaces) count alias-row y) where
           alias-spaces : Builds ws ws₃ txt n used names (list ns) (fresh >>= λ scope. names-insertᶜ (namespaces (what names ws txt x trieˢ)) (span txt (key .start) (key .len)) scope) y y
-          alias-spaces = rw (alias-lists .n-reads) at (scope-built fresh-builds (l .change .sound) (alias-lists .n-link) refl (l .change .key) (rw (alias-lists .n-reads) z) alias-insertion h i)
+          alias-spaces = rw (alias-lists .n-reads) at (scope-built fresh-builds (l .change .sound) (alias-lists .n-link) 0 refl key (l .change .key) (rw (alias-lists .n-reads) z) alias-insertion h i)
 
           pub alias-trie-ready : Room ws₃ y 1 × ((y ≤ y) × (depth-in ws₃ y ≤ 16))
           unfolding _>>=_ one
@@ -224,7 +224,7 @@ module _ {ws txt : List ℕ} {n used x : ℕ} {text key : Span} {inc : ℕ} {p p
               (rw alias-count (less-room alias-room (omega arith)))
               (rw names-insert-value alias-shallow)
 
-          pub alias-built : {ws₄ : List ℕ} {r : ℕ} → r ≡ y + 1 → MadeTrie ws₃ ws₄ y 5 (p .bindings) y r
+          pub alias-built : {ws₄ : List ℕ} {r : ℕ} → r ≡ y + 1 → MadeTrie ws₃ ws₄ y (kind names trieˢ) (p .bindings) y r
               → Builds ws ws₄ txt n used names trieˢ (leaf-of ws txt (change-of Alias text key inc) (what names ws txt x trieˢ)) r r
           unfolding leaf-by _>>=_ one
           alias-built j k =

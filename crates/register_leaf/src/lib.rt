@@ -1,5 +1,8 @@
 // mut_leaf of each kind of registration: what is put into the trie at the end of a query, building records after the used ones.
+use memory::BINDINGS_KIND;
+use memory::NAMESPACES_KIND;
 use memory::Span;
+use memory::TRIE_KIND;
 use register_kind::Kind;
 use source::LidSymbol;
 ghost use mathlib.Core.Path.{_≡_};
@@ -60,7 +63,7 @@ fn insert_leaf(
     let t = memory_access::trie_of(words, trie);
     let row = memory_access::make::binding_row(change.text, item);
     let b = insert_list::names_insert(words, text, records, t.bindings, count, row);
-    let link = insert_record::put_trie(words, b, 5, b, t.namespaces);
+    let link = insert_record::put_trie(words, b, TRIE_KIND, b, t.namespaces);
     Built {
         link: link,
         records: link,
@@ -75,8 +78,8 @@ fn include_leaf(words: &mut [u32], text: &[u8], records: u32, trie: u32, change:
     let t = memory_access::trie_of(words, trie);
     let i = memory_access::trie_of(words, change.inc);
     let label = label_of(change.text);
-    let b = insert_record::imported(words, records, 3, label, i.bindings, t.bindings);
-    let link = insert_record::put_trie(words, b, 5, b, t.namespaces);
+    let b = insert_record::imported(words, records, BINDINGS_KIND, label, i.bindings, t.bindings);
+    let link = insert_record::put_trie(words, b, TRIE_KIND, b, t.namespaces);
     Built {
         link: link,
         records: link,
@@ -91,8 +94,15 @@ fn open_leaf(words: &mut [u32], text: &[u8], records: u32, trie: u32, change: Ch
     let t = memory_access::trie_of(words, trie);
     let i = memory_access::trie_of(words, change.inc);
     let label = label_of(change.text);
-    let n = insert_record::imported(words, records, 4, label, i.namespaces, t.namespaces);
-    let link = insert_record::put_trie(words, n, 5, t.bindings, n);
+    let n = insert_record::imported(
+        words,
+        records,
+        NAMESPACES_KIND,
+        label,
+        i.namespaces,
+        t.namespaces,
+    );
+    let link = insert_record::put_trie(words, n, TRIE_KIND, t.bindings, n);
     Built {
         link: link,
         records: link,
@@ -115,11 +125,11 @@ fn alias_leaf(
     let t = memory_access::trie_of(words, trie);
     let i = memory_access::trie_of(words, change.inc);
     let label = label_of(change.text);
-    let b = insert_record::imported(words, records, 3, label, i.bindings, 0);
-    let scope = insert_record::put_trie(words, b, 5, b, 0);
+    let b = insert_record::imported(words, records, BINDINGS_KIND, label, i.bindings, 0);
+    let scope = insert_record::put_trie(words, b, TRIE_KIND, b, 0);
     let row = memory_access::make::namespace_row(0, change.key, scope);
     let n = insert_list::names_insert(words, text, scope, t.namespaces, count, row);
-    let link = insert_record::put_trie(words, n, 5, t.bindings, n);
+    let link = insert_record::put_trie(words, n, TRIE_KIND, t.bindings, n);
     Built {
         link: link,
         records: link,

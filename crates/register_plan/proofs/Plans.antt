@@ -7,6 +7,7 @@ use native.Mathlib.Omega.{arith}
 use lib.Dec.{eqb, ltb}
 use borrow.Author.Tests.{eqb-true, eqb-false}
 use lib.ListN.{length, take, drop, length-drop}
+use Rattle.source.specs.Limits.{most-segments}
 use Rattle.source.specs.Text.{Str, Query, segments, ends-in-dot}
 use Rattle.source.specs.Types.{Level, Value, Trie, NameList, bind, ns, item, []ᴺ, Names, ImportedNames, bindings, namespaces}
 use Rattle.source.specs.Tries.{names-insert, scope-of, included}
@@ -129,7 +130,7 @@ module _ {ws txt : List ℕ} {host : Str} {root link at steps records : ℕ} {cr
       stands-next g _ y (i .next) (λ f. steps-next f (i .builds) (omega (arith, i .small)) (i .weighs))
 
 pub path-last : {ws txt : List ℕ} {host : Str} {root link at steps records : ℕ} {crowded : Bool} {q : Query}
-    → Stands ws txt names host root link at (StepsDown step-records step-weight (what names ws txt root trieˢ) q steps records crowded) → length q ≤ 17 → length host ≤ at
+    → Stands ws txt names host root link at (StepsDown step-records step-weight (what names ws txt root trieˢ) q steps records crowded) → length q ≤ most-segments → length host ≤ at
     → Path ws txt root q link steps records crowded
 path-last g f h = record { few = omega (arith, g .says .number); here = g .here; gives = stands-last g h }
 

@@ -5,7 +5,7 @@ use mathlib.Core.Bool.{Bool, cond, _||_}
 use mathlib.Core.List.{List, []}
 use lib.Dec.{ltb}
 use lib.ListN.{length}
-use Rattle.source.specs.Limits.{heaviest-list, deepest-trie}
+use Rattle.source.specs.Limits.{most-segments, heaviest-list, deepest-trie}
 use Rattle.source.specs.Text.{Str, Query, segments}
 use Rattle.source.specs.Types.{Trie, bindings, namespaces}
 use Rattle.source.specs.Tries.{scope-of, included}
@@ -45,7 +45,7 @@ pub record StepsDown {A : Type 0} (builds weighs : Trie A → Str → Query → 
 
 -- The path to the host of a query.
 pub record Path (ws txt : List ℕ) (root : ℕ) (q : Query) (link steps records : ℕ) (crowded : Bool) : Type 0 where
-  pub few : steps ≤ 17
+  pub few : steps ≤ most-segments
   pub here : At ws txt names trieˢ link
   pub gives : StepsDown step-records step-weight (what names ws txt root trieˢ) q steps records crowded (what names ws txt link trieˢ) []
 

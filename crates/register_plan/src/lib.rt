@@ -6,8 +6,9 @@ ghost use mathlib.Core.Path.{_≡_};
 ghost use mathlib.Core.Bool.{true};
 ghost use mathlib.Core.List.{[]};
 ghost use Prim.Native.Nat.{_≤_, _<_};
-ghost use lib.ListN.{length, getD};
+ghost use lib.ListN.{length};
 ghost use Rattle.source.specs.Lent.{old, new};
+ghost use Rattle.source.specs.Limits.{most-segments};
 ghost use Rattle.source.specs.Text.{segments, ends-in-dot};
 ghost use Rattle.register_kind.specs.Shapes.{shape-of};
 ghost use Rattle.register_kind.specs.declared.Kind.the-variants.{Include, Open, Module};
@@ -15,7 +16,7 @@ ghost use Rattle.memory.specs.Layout.{names, modules, trieˢ};
 ghost use Rattle.memory.specs.Sound.{At};
 ghost use Rattle.find_trie.specs.Tries.{AnyTrie};
 ghost use Rattle.register_plan.specs.Plans.{Stepped, Inserted, Path, Carries, KindPlanned, NamePlanned, IncludePlanned, OpenPlanned, AliasPlanned, ModulePlanned};
-ghost use Rattle.register_way.specs.Way.{which-by, way-size, Leads, NameNoted, AliasNoted, PathNoted, WayNoted};
+ghost use Rattle.register_way.specs.Way.{which-by, way-size, included-in, Leads, NameNoted, AliasNoted, PathNoted, WayNoted};
 
 // One step down the path of a host: the trie that it goes to, the records that it builds, whether its new list weighs over 96.
 struct StepDown {
@@ -33,7 +34,7 @@ fn plan_step(
     way: &mut [u32; WAY],
     steps: u32,
 ) -> StepDown
-    requires { ⌜ AnyTrie (now words) (now text) trie × (steps < 17) × (length (now way) ≡ way-size) ⌝ }
+    requires { ⌜ AnyTrie (now words) (now text) trie × (steps < most-segments) × (length (now way) ≡ way-size) ⌝ }
     ensures { λ r. ⌜ Stepped (old words) (old text) trie (old s) (old way) (new way) steps (r .link) (r .records) (r .crowded) ⌝ }
 {
     let t = memory_access::trie_of(words, trie);
@@ -57,7 +58,7 @@ struct Walk {
 
 fn plan_path(words: &[u32], text: &[u8], root: u32, host: &[u8], way: &mut [u32; WAY]) -> Walk
     requires { ⌜ At (now words) (now text) names trieˢ root ⌝ }
-    requires { ⌜ (ends-in-dot (now host) ≡ true) × (length (segments (now host)) ≤ 17) × (length (now way) ≡ way-size) ⌝ }
+    requires { ⌜ (ends-in-dot (now host) ≡ true) × (length (segments (now host)) ≤ most-segments) × (length (now way) ≡ way-size) ⌝ }
     ensures { λ r. ⌜ Path (old words) (old text) root (segments (old host)) (r .link) (r .segments) (r .records) (r .crowded) ⌝ }
     ensures { λ r. ⌜ Leads (old words) (old text) names root (segments (old host)) (old way) (new way) (r .segments) (r .link) [] ⌝ }
 {
@@ -100,7 +101,7 @@ fn plan_name(
     way: &mut [u32; WAY],
 ) -> Plan
     requires { ⌜ At (now words) (now text) names trieˢ root ⌝ }
-    requires { ⌜ (ends-in-dot (now host) ≡ true) × (length (segments (now host)) ≤ 17) × (length (now way) ≡ way-size) ⌝ }
+    requires { ⌜ (ends-in-dot (now host) ≡ true) × (length (segments (now host)) ≤ most-segments) × (length (now way) ≡ way-size) ⌝ }
     ensures { λ r. ⌜ NamePlanned (old words) (old text) root (old host) (old id) r ⌝ }
     ensures { λ _. ⌜ NameNoted (old words) (old text) root (old host) (old id) (old way) (new way) ⌝ }
 {
@@ -125,7 +126,7 @@ fn plan_include(
     way: &mut [u32; WAY],
 ) -> Plan
     requires { ⌜ At (now words) (now text) names trieˢ root × At (now words) (now text) names trieˢ inc ⌝ }
-    requires { ⌜ (ends-in-dot (now host) ≡ true) × (length (segments (now host)) ≤ 17) × (length (now way) ≡ way-size) ⌝ }
+    requires { ⌜ (ends-in-dot (now host) ≡ true) × (length (segments (now host)) ≤ most-segments) × (length (now way) ≡ way-size) ⌝ }
     ensures { λ r. ⌜ IncludePlanned (old words) (old text) root inc (old host) r ⌝ }
     ensures { λ _. ⌜ PathNoted Include (old words) (old text) names root (old host) (old way) (new way) ⌝ }
 {
@@ -152,7 +153,7 @@ fn plan_open(
     way: &mut [u32; WAY],
 ) -> Plan
     requires { ⌜ At (now words) (now text) names trieˢ root × At (now words) (now text) names trieˢ inc ⌝ }
-    requires { ⌜ (ends-in-dot (now host) ≡ true) × (length (segments (now host)) ≤ 17) × (length (now way) ≡ way-size) ⌝ }
+    requires { ⌜ (ends-in-dot (now host) ≡ true) × (length (segments (now host)) ≤ most-segments) × (length (now way) ≡ way-size) ⌝ }
     ensures { λ r. ⌜ OpenPlanned (old words) (old text) root inc (old host) r ⌝ }
     ensures { λ _. ⌜ PathNoted Open (old words) (old text) names root (old host) (old way) (new way) ⌝ }
 {
@@ -180,7 +181,7 @@ fn plan_alias(
     way: &mut [u32; WAY],
 ) -> Plan
     requires { ⌜ At (now words) (now text) names trieˢ root × At (now words) (now text) names trieˢ inc ⌝ }
-    requires { ⌜ (ends-in-dot (now host) ≡ true) × (length (segments (now host)) ≤ 17) × (length (now way) ≡ way-size) ⌝ }
+    requires { ⌜ (ends-in-dot (now host) ≡ true) × (length (segments (now host)) ≤ most-segments) × (length (now way) ≡ way-size) ⌝ }
     ensures { λ r. ⌜ AliasPlanned (old words) (old text) root inc (old key) (old host) r ⌝ }
     ensures { λ _. ⌜ AliasNoted (old words) (old text) root (old key) (old host) (old way) (new way) ⌝ }
 {
@@ -231,7 +232,7 @@ fn plan_module(
     way: &mut [u32; WAY],
 ) -> Plan
     requires { ⌜ At (now words) (now text) modules trieˢ root ⌝ }
-    requires { ⌜ (ends-in-dot (now query) ≡ true) × (length (segments (now query)) ≤ 17) × (length (now way) ≡ way-size) ⌝ }
+    requires { ⌜ (ends-in-dot (now query) ≡ true) × (length (segments (now query)) ≤ most-segments) × (length (now way) ≡ way-size) ⌝ }
     ensures { λ r. ⌜ ModulePlanned (old words) (old text) root loaded (old query) r ⌝ }
     ensures { λ _. ⌜ PathNoted (Module loaded) (old words) (old text) modules root (old query) (old way) (new way) ⌝ }
 {
@@ -258,7 +259,7 @@ fn plan_module(
     }
 }
 
-// The plan of a registration on the root of its table, where the trie that it includes is noted first in the way, and what it notes after it.
+// The plan of a registration on the root of its table, where the trie that it includes is noted in the way; its steps are noted after it.
 pub fn plan_of(
     words: &[u32],
     text: &[u8],
@@ -270,12 +271,12 @@ pub fn plan_of(
     way: &mut [u32; WAY],
 ) -> Plan
     requires { ⌜ At (now words) (now text) (which-by (shape-of kind .form)) trieˢ root ⌝ }
-    requires { ⌜ (ends-in-dot (now host) ≡ true) × (length (segments (now host)) ≤ 17) × (length (now way) ≡ way-size) ⌝ }
-    requires { ⌜ Carries (shape-of kind .form) (now words) (now text) root (now other) (getD (now way) 0 0) ⌝ }
+    requires { ⌜ (ends-in-dot (now host) ≡ true) × (length (segments (now host)) ≤ most-segments) × (length (now way) ≡ way-size) ⌝ }
+    requires { ⌜ Carries (shape-of kind .form) (now words) (now text) root (now other) (included-in (now way)) ⌝ }
     ensures { λ r. ⌜ KindPlanned kind (old words) (old text) root (old host) (old other) (old key) r ⌝ }
     ensures { λ _. ⌜ WayNoted kind (old words) (old text) root (old host) (old other) (old key) (old way) (new way) ⌝ }
 {
-    let inc = way[0];
+    let inc = way[register_way::INCLUDED];
     match kind {
         Kind::Name(_, _) => plan_name(words, text, root, host, other, way),
         Kind::Include => plan_include(words, text, root, host, inc, way),

@@ -3,6 +3,7 @@ use Prim.Native.Nat.{ℕ, _+_, _*_, _≤_}
 use mathlib.Core.Path.{_≡_}
 use mathlib.Core.List.{List, [], _∷_}
 use lib.ListN.{length, getD, drop}
+use Rattle.source.specs.Limits.{most-segments}
 use Rattle.source.specs.Text.{Str, Query, segments}
 use Rattle.source.specs.Types.{Trie, NameList, ns, bindings, namespaces}
 use Rattle.source.specs.Tries.{scope-of}
@@ -23,9 +24,45 @@ which-by form.Name = names
 which-by form.Import = names
 which-by (form.Module loaded) = modules
 
--- The size of a way: the included trie, two numbers for each of 17 segments, two for the host.
+-- ---- Places
+
+-- Of a way: the included trie; the first step.
+abbrev pub included-at : ℕ
+included-at = 0
+
+abbrev pub steps-at : ℕ
+steps-at = 1
+
+-- Of a step: the trie below it; the branches that its insertion builds; how many numbers it has.
+abbrev pub below-at : ℕ
+below-at = 0
+
+abbrev pub count-at : ℕ
+count-at = 1
+
+abbrev pub step-size : ℕ
+step-size = 2
+
+-- Of the step after steps others.
+abbrev pub step-at : ℕ → ℕ
+step-at steps = step-size * steps + steps-at
+
+-- The size of a way: the included trie, a step for each segment, one for the host.
 abbrev pub way-size : ℕ
-way-size = 37
+way-size = step-at most-segments + step-size
+
+-- The included trie, 0 for none.
+abbrev pub included-in : List ℕ → ℕ
+included-in way = getD way included-at 0
+
+-- Of a way from a step on: the trie below the step, and the branches that its insertion builds.
+abbrev pub below-in : List ℕ → ℕ
+below-in way = getD way below-at 0
+
+abbrev pub count-in : List ℕ → ℕ
+count-in way = getD way count-at 0
+
+-- ---- What it says
 
 -- The branches that the insertion at the host builds: of the id of a name into its bindings, of the key of an alias into its namespaces.
 -- The others insert nothing there.
@@ -36,44 +73,44 @@ HostBuilds Open other key tr count = Unit {0}
 HostBuilds Alias other key tr count = count ≡ insert-branches (first-tree (namespaces tr)) key
 HostBuilds (Module loaded) other key tr count = Unit {0}
 
--- What the first two numbers of a way say of a step by the segment s from the list n of namespaces:
+-- What the first step of a way says of a step by the segment s from the list n of namespaces:
 -- the trie below it, no later than x, and the branches that the insertion of s builds.
 pub record StepNoted (ws txt : List ℕ) (w : Which) (x : ℕ) (n : NameList (Item w) ns) (s : Str) (way : List ℕ) : Type 0 where
-  pub long : 2 ≤ length way
-  pub next : Reads ws txt w x (getD way 0 0) (scope-of n s)
-  pub builds : getD way 1 0 ≡ insert-branches (first-tree n) s
+  pub long : step-size ≤ length way
+  pub next : Reads ws txt w x (below-in way) (scope-of n s)
+  pub builds : count-in way ≡ insert-branches (first-tree n) s
 
--- The way from the trie x down a query: two numbers a step, then one of no account and the branches at the host.
+-- The way from the trie x down a query, to the branches at the host.
 module _ (ws txt : List ℕ) (w : Which) (k : Kind) (other key : Str) where
   abbrev pub Way : List ℕ → ℕ → Query → Type 0
-  Way way x [] = (2 ≤ length way) × HostBuilds k other key (what w ws txt x trieˢ) (getD way 1 0)
-  Way way x (s ∷ q) = StepNoted ws txt w x (namespaces (what w ws txt x trieˢ)) s way × Way (drop 2 way) (getD way 0 0) q
+  Way way x [] = (step-size ≤ length way) × HostBuilds k other key (what w ws txt x trieˢ) (count-in way)
+  Way way x (s ∷ q) = StepNoted ws txt w x (namespaces (what w ws txt x trieˢ)) s way × Way (drop step-size way) (below-in way) q
 
 -- ---- What planning notes
 
 -- A step after steps others is noted, the trie link and count after it; what stands before is kept.
 pub record NotesStep (way way′ : List ℕ) (steps link count : ℕ) : Type 0 where
-  pub kept : Keeps (2 * steps + 1) way way′
-  pub room : 2 * steps + 3 ≤ length way′
-  pub link-noted : getD way′ (2 * steps + 1) 0 ≡ link
-  pub count-noted : getD way′ (2 * steps + 2) 0 ≡ count
+  pub kept : Keeps (step-at steps) way way′
+  pub room : step-at steps + step-size ≤ length way′
+  pub link-noted : getD way′ (step-at steps + below-at) 0 ≡ link
+  pub count-noted : getD way′ (step-at steps + count-at) 0 ≡ count
 
 -- The count at the host, after its steps.
 pub record NotesHost (way way′ : List ℕ) (steps count : ℕ) : Type 0 where
-  pub kept : Keeps (2 * steps + 1) way way′
-  pub count-noted : getD way′ (2 * steps + 2) 0 ≡ count
+  pub kept : Keeps (step-at steps) way way′
+  pub count-noted : getD way′ (step-at steps + count-at) 0 ≡ count
 
 -- After some steps of the query q from the root, down to the trie x with the segments rest left: the included trie is noted as it was,
 -- and whatever is noted from here on, a way from here is a way from the root.
 pub record Leads (ws txt : List ℕ) (w : Which) (root : ℕ) (q : Query) (way way′ : List ℕ) (steps x : ℕ) (rest : Query) : Type 0 where
-  pub kept : Keeps 1 way way′
-  pub goes : (k : Kind) (other key : Str) (way″ : List ℕ) → Keeps (2 * steps + 1) way′ way″ → Way ws txt w k other key (drop (2 * steps + 1) way″) x rest
-      → Way ws txt w k other key (drop 1 way″) root q
+  pub kept : Keeps steps-at way way′
+  pub goes : (k : Kind) (other key : Str) (way″ : List ℕ) → Keeps (step-at steps) way′ way″ → Way ws txt w k other key (drop (step-at steps) way″) x rest
+      → Way ws txt w k other key (drop steps-at way″) root q
 
 -- The way of a registration is noted after the included trie, which stays.
 pub record WayNotedIn (k : Kind) (ws txt : List ℕ) (w : Which) (root : ℕ) (host other key : Str) (way way′ : List ℕ) : Type 0 where
-  pub kept : Keeps 1 way way′
-  pub leads : Way ws txt w k other key (drop 1 way′) root (segments host)
+  pub kept : Keeps steps-at way way′
+  pub leads : Way ws txt w k other key (drop steps-at way′) root (segments host)
 
 -- Of a name, whatever its item.
 abbrev pub NameNoted : (ws txt : List ℕ) (root : ℕ) (host id : Str) (way way′ : List ℕ) → Type 0

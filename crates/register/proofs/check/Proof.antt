@@ -6,7 +6,8 @@ use Rattle.memory_table.proofs.Table.{sound-table, names-trie, either-trie}
 use Rattle.refusals.proofs.Rows.{passes, stops}
 use Rattle.register_kind.specs.Shapes.{shape-of}
 use Rattle.register_way.specs.Way.{which-by}
-use Rattle.register.proofs.Checks.{ready, ready-short, taken-all, first-written, first-stays, carries-root, root-reads, rows-refused, rows-planned}
+use Rattle.register.proofs.Checks.{ready, ready-short, taken-all, carries-root, root-reads, rows-refused, rows-planned}
+use Rattle.register_way.proofs.Way.{included-written, included-stays}
 use borrow.Author.Needs.{needs}
 use Rattle.register.proofs.check.Statement.{statement}
 use Rattle.register.proofs.check.Tie as tie
@@ -32,7 +33,7 @@ check-spec =
     {- root-of-requires -}
     (λ c κs. search needs)
     {- plan-of-requires -}
-    (λ c κs. (rw (c .before .root-of .ensures, c .before .before .before .shape-of .ensures) (either-trie (c .before .before .before .before .before .before .before .before .before .before .before .before .before .pre .0) (which-by (shape-of (c .before .before .before .before .before .before .before .before .before .before .before .before .before .args .kind) .form))), (let r = ready (c .before .before .before .before .before .before .before .before .before .before .before .before .before .args .kind) (c .before .before .before .before .before .before .before .before .before .before .before .before .before .args .host .now) (c .before .before .before .before .before .before .before .before .before .before .before .before .before .args .other .now) (c .before .before .before .before .before .before .before .before .before .before .before .before .before .args .key .now) (argument-rows-none _ _ (passes (c .before .before .before .before .before .before .before .flags-of .ensures) (c .before .before .before .before .before .before .admit .ensures) (c .before .before .before .before .enum-told .given .1))) in (r .host-ends, r .host-keeps .few, first-written (c .before .before .before .before .before .before .before .before .before .before .before .before .before .args .way .now) (c .before .before .included .result) (c .before .before .before .before .before .before .before .before .before .before .before .before .before .pre .1 .1) .1), rw (c .before .root-of .ensures, first-written (c .before .before .before .before .before .before .before .before .before .before .before .before .before .args .way .now) (c .before .before .included .result) (c .before .before .before .before .before .before .before .before .before .before .before .before .before .pre .1 .1) .0, ← c .before .before .before .shape-of .ensures) (carries-root (c .before .before .before .before .before .before .before .before .before .before .before .before .before .args .words .now) (c .before .before .before .before .before .before .before .before .before .before .before .before .before .args .text .now) (c .before .before .before .before .before .before .before .before .before .before .before .before .before .args .h) (c .before .before .before .shape-of .result .form) (c .before .before .before .before .before .before .before .before .before .before .before .before .before .args .other .now) (c .before .before .included .result) (c .before .before .included .ensures)))))
+    (λ c κs. (rw (c .before .root-of .ensures, c .before .before .before .shape-of .ensures) (either-trie (c .before .before .before .before .before .before .before .before .before .before .before .before .before .pre .0) (which-by (shape-of (c .before .before .before .before .before .before .before .before .before .before .before .before .before .args .kind) .form))), (let r = ready (c .before .before .before .before .before .before .before .before .before .before .before .before .before .args .kind) (c .before .before .before .before .before .before .before .before .before .before .before .before .before .args .host .now) (c .before .before .before .before .before .before .before .before .before .before .before .before .before .args .other .now) (c .before .before .before .before .before .before .before .before .before .before .before .before .before .args .key .now) (argument-rows-none _ _ (passes (c .before .before .before .before .before .before .before .flags-of .ensures) (c .before .before .before .before .before .before .admit .ensures) (c .before .before .before .before .enum-told .given .1))) in (r .host-ends, r .host-keeps .few, included-written (c .before .before .before .before .before .before .before .before .before .before .before .before .before .args .way .now) (c .before .before .included .result) (c .before .before .before .before .before .before .before .before .before .before .before .before .before .pre .1 .1) .1), rw (c .before .root-of .ensures, included-written (c .before .before .before .before .before .before .before .before .before .before .before .before .before .args .way .now) (c .before .before .included .result) (c .before .before .before .before .before .before .before .before .before .before .before .before .before .pre .1 .1) .0, ← c .before .before .before .shape-of .ensures) (carries-root (c .before .before .before .before .before .before .before .before .before .before .before .before .before .args .words .now) (c .before .before .before .before .before .before .before .before .before .before .before .before .before .args .text .now) (c .before .before .before .before .before .before .before .before .before .before .before .before .before .args .h) (c .before .before .before .shape-of .result .form) (c .before .before .before .before .before .before .before .before .before .before .before .before .before .args .other .now) (c .before .before .included .result) (c .before .before .included .ensures)))))
     {- add-t27 -}
     (λ c. let s = ready-short (c .before .before .before .before .before .before .before .before .before .before .before .before .before .before .args .kind) (c .before .before .before .before .before .before .before .before .before .before .before .before .before .before .args .host .now) (c .before .before .before .before .before .before .before .before .before .before .before .before .before .before .args .other .now) (c .before .before .before .before .before .before .before .before .before .before .before .before .before .before .args .key .now) (ready _ _ _ _ (argument-rows-none _ _ (passes (c .before .before .before .before .before .before .before .before .flags-of .ensures) (c .before .before .before .before .before .before .before .admit .ensures) (c .before .before .before .before .before .enum-told .given .1)))) (c .before .before .before .before .before .before .before .before .before .before .before .before .before .before .pre .1 .0) in omega (arith, s .host-short, s .other-short, s .key-short))
     {- add-t29 -}
@@ -48,4 +49,4 @@ check-spec =
     {- returns-2 -}
     (λ c. rows-planned _ _ _ (sound-table (c .before .before .before .before .before .before .before .before .before .before .before .before .before .before .before .before .before .before .pre .0)) (c .before .before .before .before .plan-of .ensures .0 _ (rw (c .before .before .before .before .before .before .root-of .ensures, c .before .before .before .before .before .before .before .before .shape-of .ensures) (root-reads _ _ _ (which-by (shape-of (c .before .before .before .before .before .before .before .before .before .before .before .before .before .before .before .before .before .before .args .kind) .form))))) (sym (taken-all (c .before .before .before .before .before .before .before .before .before .before .before .before .before .before .before .before .before .before .args .kind) (c .before .before .before .before .before .before .before .before .before .before .before .before .before .before .before .before .before .before .args .host .now) (c .before .before .before .before .before .before .before .before .before .before .before .before .before .before .before .before .before .before .args .other .now) (c .before .before .before .before .before .before .before .before .before .before .before .before .before .before .before .before .before .before .args .key .now) (c .before .before .before .before .before .before .before .before .before .before .before .before .before .before .before .before .before .before .pre .1 .0))) (passes (c .before .before .before .before .before .before .before .before .before .before .before .before .flags-of .ensures) (c .before .before .before .before .before .before .before .before .before .before .before .admit .ensures) (c .before .before .before .before .before .before .before .before .before .enum-told .given .1)) ∙ sym (rw (c .before .b .given .1) at (c .before .before .before .afford .ensures)))
     {- returns-3 -}
-    (λ c. record { sound = c .before .before .before .before .before .before .before .before .before .before .before .before .before .before .before .before .before .pre .0; no-key = c .before .before .before .before .before .before .before .before .before .before .before .before .before .before .before .before .before .pre .1 .0; rows = rows-planned _ _ _ (sound-table (c .before .before .before .before .before .before .before .before .before .before .before .before .before .before .before .before .before .pre .0)) (c .before .before .before .plan-of .ensures .0 _ (rw (c .before .before .before .before .before .root-of .ensures, c .before .before .before .before .before .before .before .shape-of .ensures) (root-reads _ _ _ (which-by (shape-of (c .before .before .before .before .before .before .before .before .before .before .before .before .before .before .before .before .before .args .kind) .form))))) (sym (taken-all (c .before .before .before .before .before .before .before .before .before .before .before .before .before .before .before .before .before .args .kind) (c .before .before .before .before .before .before .before .before .before .before .before .before .before .before .before .before .before .args .host .now) (c .before .before .before .before .before .before .before .before .before .before .before .before .before .before .before .before .before .args .other .now) (c .before .before .before .before .before .before .before .before .before .before .before .before .before .before .before .before .before .args .key .now) (c .before .before .before .before .before .before .before .before .before .before .before .before .before .before .before .before .before .pre .1 .0))) (passes (c .before .before .before .before .before .before .before .before .before .before .before .flags-of .ensures) (c .before .before .before .before .before .before .before .before .before .before .admit .ensures) (c .before .before .before .before .before .before .before .before .enum-told .given .1)) ∙ sym (rw (c .enum-told2 .given .1) at (c .before .before .afford .ensures)); size = first-stays (c .before .before .before .before .before .before .before .before .before .before .before .before .before .before .before .before .before .args .way .now) (c .before .before .before .before .before .before .included .result) (c .before .before .before .before .before .before .before .before .before .before .before .before .before .before .before .before .before .pre .1 .1) (c .before .before .before .plan-of .ensures .1 .kept) .1; carries = rw (first-stays (c .before .before .before .before .before .before .before .before .before .before .before .before .before .before .before .before .before .args .way .now) (c .before .before .before .before .before .before .included .result) (c .before .before .before .before .before .before .before .before .before .before .before .before .before .before .before .before .before .pre .1 .1) (c .before .before .before .plan-of .ensures .1 .kept) .0, ← c .before .before .before .before .before .before .before .shape-of .ensures) (c .before .before .before .before .before .before .included .ensures); leads = rw (c .before .before .before .before .before .root-of .ensures, c .before .before .before .before .before .before .before .shape-of .ensures) at (c .before .before .before .plan-of .ensures .1 .leads) }))
+    (λ c. record { sound = c .before .before .before .before .before .before .before .before .before .before .before .before .before .before .before .before .before .pre .0; no-key = c .before .before .before .before .before .before .before .before .before .before .before .before .before .before .before .before .before .pre .1 .0; rows = rows-planned _ _ _ (sound-table (c .before .before .before .before .before .before .before .before .before .before .before .before .before .before .before .before .before .pre .0)) (c .before .before .before .plan-of .ensures .0 _ (rw (c .before .before .before .before .before .root-of .ensures, c .before .before .before .before .before .before .before .shape-of .ensures) (root-reads _ _ _ (which-by (shape-of (c .before .before .before .before .before .before .before .before .before .before .before .before .before .before .before .before .before .args .kind) .form))))) (sym (taken-all (c .before .before .before .before .before .before .before .before .before .before .before .before .before .before .before .before .before .args .kind) (c .before .before .before .before .before .before .before .before .before .before .before .before .before .before .before .before .before .args .host .now) (c .before .before .before .before .before .before .before .before .before .before .before .before .before .before .before .before .before .args .other .now) (c .before .before .before .before .before .before .before .before .before .before .before .before .before .before .before .before .before .args .key .now) (c .before .before .before .before .before .before .before .before .before .before .before .before .before .before .before .before .before .pre .1 .0))) (passes (c .before .before .before .before .before .before .before .before .before .before .before .flags-of .ensures) (c .before .before .before .before .before .before .before .before .before .before .admit .ensures) (c .before .before .before .before .before .before .before .before .enum-told .given .1)) ∙ sym (rw (c .enum-told2 .given .1) at (c .before .before .afford .ensures)); size = included-stays (c .before .before .before .before .before .before .before .before .before .before .before .before .before .before .before .before .before .args .way .now) (c .before .before .before .before .before .before .included .result) (c .before .before .before .before .before .before .before .before .before .before .before .before .before .before .before .before .before .pre .1 .1) (c .before .before .before .plan-of .ensures .1 .kept) .1; carries = rw (included-stays (c .before .before .before .before .before .before .before .before .before .before .before .before .before .before .before .before .before .args .way .now) (c .before .before .before .before .before .before .included .result) (c .before .before .before .before .before .before .before .before .before .before .before .before .before .before .before .before .before .pre .1 .1) (c .before .before .before .plan-of .ensures .1 .kept) .0, ← c .before .before .before .before .before .before .before .shape-of .ensures) (c .before .before .before .before .before .before .included .ensures); leads = rw (c .before .before .before .before .before .root-of .ensures, c .before .before .before .before .before .before .before .shape-of .ensures) at (c .before .before .before .plan-of .ensures .1 .leads) }))

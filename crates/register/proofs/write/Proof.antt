@@ -2,6 +2,7 @@
 use native.Mathlib.Omega.{arith}
 use Rattle.register.proofs.Accepts.{text-room, write-mutation, write-way, write-accepts}
 use Rattle.text.proofs.Texts.{tail-is}
+use Rattle.register_way.specs.Way.{steps-at}
 use borrow.Author.Needs.{needs}
 use Rattle.register.proofs.write.Statement.{statement}
 use Rattle.register.proofs.write.Tie as tie
@@ -35,7 +36,7 @@ write-spec =
     {- part-trie-mutate-end -}
     (λ c. omega (arith, c .before .before .before .before .before .before .before .before .before .before .before .before .before .before .before .before .pre .size))
     {- trie-mutate-requires -}
-    (λ c κs. rw (c .before .before .before .root-of .ensures, c .before .before .before .before .shape-of .ensures, tail-is (c .before .before .before .before .before .before .before .before .before .before .before .before .before .before .before .before .before .args .way .now) 1) (record { used = _; holds = write-mutation (c .before .before .before .before .before .before .before .before .before .before .before .before .before .before .before .before .before .pre) (c .before .before .before .before .before .before .before .before .put-texts .ensures) }, write-way (c .before .before .before .before .before .before .before .before .before .before .before .before .before .before .before .before .before .pre) (c .before .before .before .before .before .before .before .before .put-texts .ensures)))
+    (λ c κs. rw (c .before .before .before .root-of .ensures, c .before .before .before .before .shape-of .ensures, tail-is (c .before .before .before .before .before .before .before .before .before .before .before .before .before .before .before .before .before .args .way .now) steps-at) (record { used = _; holds = write-mutation (c .before .before .before .before .before .before .before .before .before .before .before .before .before .before .before .before .before .pre) (c .before .before .before .before .before .before .before .before .put-texts .ensures) }, write-way (c .before .before .before .before .before .before .before .before .before .before .before .before .before .before .before .before .before .pre) (c .before .before .before .before .before .before .before .before .put-texts .ensures)))
     {- add-changed -}
     (λ c. omega (arith, text-room (c .before .before .before .before .before .before .before .before .before .before .before .before .before .before .before .before .before .before .before .before .pre)))
     {- changed-requires -}
@@ -45,4 +46,4 @@ write-spec =
     {- same-length-2 -}
     (λ c. search needs)
     {- returns -}
-    (λ c. write-accepts (c .before .before .before .before .before .before .before .before .before .before .before .before .before .before .before .before .before .before .before .before .before .pre) (c .before .before .before .before .before .before .before .before .before .before .before .before .put-texts .ensures) (rw (c .before .before .before .before .before .before .before .before .shape-of .ensures) at (c .before .before .before .before .before .before .before .root-of .ensures)) (c .before .before .before .trie-mutate .ensures) (rw (c .before .before .before .before .before .before .before .before .shape-of .ensures) at (c .changed .ensures))))
+    (λ c. write-accepts (c .before .before .before .before .before .before .before .before .before .before .before .before .before .before .before .before .before .before .before .before .before .pre) (c .before .before .before .before .before .before .before .before .before .before .before .before .put-texts .ensures) (rw (c .before .before .before .before .before .before .before .before .shape-of .ensures) at (c .before .before .before .before .before .before .before .root-of .ensures)) (rw (c .before .before .before .before .before .before .before .before .shape-of .ensures) at (c .before .before .before .trie-mutate .ensures)) (rw (c .before .before .before .before .before .before .before .before .shape-of .ensures) at (c .changed .ensures))))

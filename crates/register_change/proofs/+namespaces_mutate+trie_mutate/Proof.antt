@@ -5,6 +5,7 @@ use lib.ListN.{length}
 use borrow.Author.Needs.{needs}
 use native.Mathlib.Omega.{arith}
 use Rattle.text.proofs.Texts.{tail-is}
+use Rattle.register_way.specs.Way.{step-size}
 use Rattle.register_change.specs.Changes.{between}
 use Rattle.register_change.proofs.Cycle.{spaces-mutation, spaces-any, spaces-built, leaf-mutation, leaf-way, leaf-mutated, segment-ready, mutation-spaces, spaces-way, mutation-node, mutation-built}
 use borrow.Fn.Kinds.{In}
@@ -76,7 +77,7 @@ pub +namespaces-mutate+trie-mutate-spec : {M : Type 1} → statement M
     {- part-trie-mutate-end -}
     (λ c. omega (arith, c .before .before .before .before .before .before .pre .1 .1 .first .long))
     {- trie-mutate-requires -}
-    (λ c κs. (omega (arith, c .before .before .before .before .before .before .before .pre .0), (record { used = c .before .before .before .before .before .before .before .pre .1 .0 .used; holds = spaces-mutation (c .before .before .before .before .before .before .before .pre .1 .0 .holds) (c .before .before .before .before .before .before .before .pre .1 .1) }, rw (tail-is (c .before .before .before .before .before .before .before .args .way .now) 2) (c .before .before .before .before .before .before .before .pre .1 .1 .rest))))
+    (λ c κs. (omega (arith, c .before .before .before .before .before .before .before .pre .0), (record { used = c .before .before .before .before .before .before .before .pre .1 .0 .used; holds = spaces-mutation (c .before .before .before .before .before .before .before .pre .1 .0 .holds) (c .before .before .before .before .before .before .before .pre .1 .1) }, rw (tail-is (c .before .before .before .before .before .before .before .args .way .now) step-size) (c .before .before .before .before .before .before .before .pre .1 .1 .rest))))
     {- namespace-row-requires -}
     (λ c κs. search needs)
     {- shared-slice-read-names-insert -}

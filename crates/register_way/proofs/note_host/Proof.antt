@@ -13,6 +13,8 @@ note-host-spec =
     (λ c. search needs)
     {- add-way -}
     (λ c. search needs)
+    {- add-way-2 -}
+    (λ c. search needs)
     {- mul-way-2 -}
     (λ c. search needs)
     {- element-write-way -}

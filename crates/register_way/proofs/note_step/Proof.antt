@@ -13,11 +13,13 @@ note-step-spec =
     (λ c. search needs)
     {- add-at -}
     (λ c. search needs)
+    {- add-way -}
+    (λ c. search needs)
     {- mul-way -}
     (λ c. search needs)
     {- element-write-way -}
     (λ c. search needs)
-    {- add-way -}
+    {- add-way-2 -}
     (λ c. search needs)
     {- mul-way-2 -}
     (λ c. search needs)
