@@ -67,8 +67,21 @@ def loose(body):
         rest = re.sub(rf'(?<!{NAME})(?<!\.){name}(?= \.\w)', lambda _: chain, rest)
         rest = re.sub(rf'(?<!{NAME})(?<!\.){name}(?!{NAME})', lambda _: f'({chain})', rest)
         body, at = body[:m.start()] + rest + body[stop:], m.start()
-    far = max((m.group(1).count('.before') for m in chains('c').finditer(body)), default=0)
-    return None if rebound('c', body) or far > FAR and re.search(r'omega arith\b', body) else body
+    return None if rebound('c', body) or far(body) else body
+
+
+def far(body):
+    """Whether a bare `omega arith` stands far from the entry."""
+    return re.search(r'omega arith\b', body) and max((m.group(1).count('.before') for m in chains('c').finditer(body)), default=0) > FAR
+
+
+def cut(body):
+    """A body whose longest chains are written by a let of their own, which `omega arith` does not read."""
+    def two(m):
+        n = m.group(1).count('.before')
+        return f'(let u = c{" .before" * LONGEST} in u{m.group(1)[8 * LONGEST:]})' if n > LONGEST else m.group(0)
+
+    return re.sub(r'\((\(let u = [^()]*\))\)', r'\1', chains('c').sub(two, body)) if far(body) else body
 
 
 def chosen(found):
@@ -130,9 +143,10 @@ def bind(path, leave):
     parts, at, left = [], 0, 0
     for start, stop, need in scopes(text):
         body = text[start:stop]
-        plain = None if f'{path}:{need}' in leave or any(start <= k < stop for k in marks) else loose(body)
+        own = f'{path}:{need}' in leave or any(start <= k < stop for k in marks)
+        plain = None if own else loose(body)
         left += plain is None and bool(chosen([labels(m.group(1)) for m in chains('c').finditer(body)]))
-        parts += [(text[at:start], None), (body, plain)]
+        parts += [(text[at:start], None), (body if own else cut(body), plain)]
         at = stop
     parts.append((text[at:], None))
     rest = ''.join(a if b is None else b for a, b in parts)

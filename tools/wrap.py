@@ -65,10 +65,10 @@ def broken(line, limit, kept):
     for deep, kind, k, opens in breaks(line, start):
         if k <= min(limit + (not opens), len(line) - 3) and not any(a < k < b or opens and k <= b and a <= opens[1] for a, b in kept):
             found.setdefault((deep, kind), []).append(k)
-    for (_, kind), ks in sorted(found.items()):
-        k = ks[-1]
-        if not kind or k - start > 0.3 * (limit - start) or start + 4 < k and start + 4 + len(line) - k <= limit:
-            return [line[:k].rstrip(), ' ' * (start + 4) + line[k:].lstrip()]
+    last = [ks[-1] for _, ks in sorted(found.items())]
+    good = [k for k, (_, kind) in zip(last, sorted(found)) if not kind or k - start > 0.3 * (limit - start) or start + 4 < k and start + 4 + len(line) - k <= limit]
+    k = good[0] if good else max(last, default=0)
+    return [line[:k].rstrip(), ' ' * (start + 4) + line[k:].lstrip()] if k > start + 4 or good else None
 
 
 def comment(line, limit, kept):
