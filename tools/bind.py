@@ -8,24 +8,19 @@ Left alone are answers that a must-fail edit names, and those where a bare `omeg
 ones are among them. Where another answer no longer proves, name it by --leave.
 """
 import re
-import sys
 
 from paths import answered
 from wrap import named
 
 NAME = r'[\w·₀-₉′\-]'
 CHAIN = r'((?: \.[\w\-′₀-₉]+)+)'
+CHAINS = re.compile(rf'(?<!{NAME})(?<!\.)c{CHAIN}(?!{NAME})')
 LET = re.compile(rf'let ({NAME}+) = c{CHAIN} in\s+')
 DULL = re.compile(r'\.(\d+|now|ensures|result|given|taken|left|came)$')
 OPEN = re.compile(r'\(λ c(?: [^\s.()]+)*\.\s+|^(\s*)\S+(?: t)? c(?: κs)? =\s+', re.M)
 LEAST = 10          # characters that a binding of a place has to save; of a fact twice that
 LONGEST = 14        # `.before` that a chain may have
 FAR = 8             # `.before` from which on `omega arith` is not given more to read
-
-
-def chains(root):
-    """The pattern of the chains on the name `root`."""
-    return re.compile(rf'(?<!{NAME})(?<!\.){root}{CHAIN}(?!{NAME})')
 
 
 def labels(chain):
@@ -72,7 +67,7 @@ def loose(body):
 
 def far(body):
     """Whether a bare `omega arith` stands far from the entry."""
-    return re.search(r'omega arith\b', body) and max((m.group(1).count('.before') for m in chains('c').finditer(body)), default=0) > FAR
+    return re.search(r'omega arith\b', body) and max((m.group(1).count('.before') for m in CHAINS.finditer(body)), default=0) > FAR
 
 
 def cut(body):
@@ -81,7 +76,7 @@ def cut(body):
         n = m.group(1).count('.before')
         return f'(let u = c{" .before" * LONGEST} in u{m.group(1)[8 * LONGEST:]})' if n > LONGEST else m.group(0)
 
-    return re.sub(r'\((\(let u = [^()]*\))\)', r'\1', chains('c').sub(two, body)) if far(body) else body
+    return re.sub(r'\((\(let u = [^()]*\))\)', r'\1', CHAINS.sub(two, body)) if far(body) else body
 
 
 def chosen(found):
@@ -116,14 +111,14 @@ def tied(body, taken):
         b = max((b for b in names if b == chain[:len(b)]), key=len)
         return ' '.join((names[b],) + chain[len(b):])
 
-    for b in chosen([labels(m.group(1)) for m in chains('c').finditer(body)]):
+    for b in chosen([labels(m.group(1)) for m in CHAINS.finditer(body)]):
         stem = letter(b)
         free = (stem + ('' if n == 1 else str(n) if stem in 'sa' else '′' * (n - 1)) for n in range(1, 99))
         name = next(n for n in free if n not in taken and n not in names.values())
         head += f'let {name} = {spelled(b)} in '
         names[b] = name
     body = re.sub(rf'\(c{CHAIN}\)', lambda m: names.get(labels(m.group(1)), m.group(0)), body)
-    return head + chains('c').sub(lambda m: spelled(labels(m.group(1))), body)
+    return head + CHAINS.sub(lambda m: spelled(labels(m.group(1))), body)
 
 
 def scopes(text):
@@ -145,7 +140,7 @@ def bind(path, leave):
         body = text[start:stop]
         own = f'{path}:{need}' in leave or any(start <= k < stop for k in marks)
         plain = None if own else loose(body)
-        left += plain is None and bool(chosen([labels(m.group(1)) for m in chains('c').finditer(body)]))
+        left += plain is None and bool(chosen([labels(m.group(1)) for m in CHAINS.finditer(body)]))
         parts += [(text[at:start], None), (body if own else cut(body), plain)]
         at = stop
     parts.append((text[at:], None))
