@@ -16,8 +16,8 @@ import sys
 from paths import answered, functions, generate, places, walk
 
 KEPT = 'target/mend'
-LINK = re.compile(r'\bc((?: \.before)*) \.([A-Za-z0-9\-]+)')
-ANY = re.compile(r'(?<![\w.])([a-z]\w*)((?: \.before)*)(?: \.(?!before\b)([A-Za-z0-9\-]+))?(?![\w\-·])')
+ANY = re.compile(r'(?<![\w.\-·])([a-z]\w*)((?: \.before)*)(?: \.(?!before\b)([A-Za-z0-9\-]+))?(?![\w\-·′])')
+PLACE = re.compile(r'([a-z]\w*)((?: \.before)*) in\b')
 
 
 def plain(place):
@@ -43,50 +43,60 @@ def renamed(field, old_fields, new_fields):
     return same[0] if len(same) == 1 else None
 
 
-def lead_by_match(line, old, new, lost, bound):
-    """The line with its chains led to the matching places. `bound` has the names that a `let` gave to a chain: their old and new places."""
+def by_match(old, new):
+    """Where a chain of n `.before` and a field leads now: the matching place and the field's name there; None if nowhere, False if it never was one."""
     pairs = matched(old, new)
+
+    def to(n, field):
+        if n >= len(old) or field and field not in old[n][1]:
+            return False
+        k = pairs.get(n)
+        label = field and k is not None and renamed(field, old[n][1], new[k][1])
+        return None if k is None or field and not label else (k, label)
+
+    return to
+
+
+def by_name(new):
+    """The same without the old places: the nearest place that has the field."""
+    def to(n, field):
+        having = [k for k, (_, fields) in enumerate(new) if field in fields]
+        return (n, field) if not field or n in having else (min(having, key=lambda k: abs(k - n)), field) if having else None
+
+    return to
+
+
+def lead(line, to, lost, bound):
+    """The line with its chains led anew. `bound` has the names that a `let` gave to a place: its old and new distance from `c`, and whether it still is."""
+    def spelled(name, k):
+        led = bound.get(name, (0, 0, True))[1]
+        return 'c' + ' .before' * k if k < led else name + ' .before' * (k - led)
 
     def chain(m):
         name, n, field = m.group(1), m.group(2).count('.before'), m.group(3)
-        if name != 'c' and name not in bound or not n and not field:
+        base, _, still = bound.get(name, (0, 0, True))
+        if name != 'c' and name not in bound or not n and not field and still:
             return m.group(0)
-        base, led = bound.get(name, (0, 0))
-        n += base
-        if n >= len(old) or field and field not in old[n][1]:
-            return m.group(0)
-        k = pairs.get(n)
-        label = field and k is not None and renamed(field, old[n][1], new[k][1])
-        if k is None or field and not label:
+        led = to(n + base, field)
+        if led is None:
             lost.append(m.group(0))
-            return m.group(0)
-        if k < led:
-            name, led = 'c', 0
-        return name + ' .before' * (k - led) + (f' .{label}' if label else '')
+        return spelled(name, led[0]) + (f' .{led[1]}' if led[1] else '') if led else m.group(0)
 
     out, done = '', 0
-    for m in re.finditer(r'\blet (\w+) = ', line):
-        out += ANY.sub(chain, line[done:m.end()])
-        done = m.end()
-        v = re.match(r'c((?: \.before)+) in\b', line[done:])
-        if v and v.group(1).count('.before') in pairs:
-            n = v.group(1).count('.before')
-            bound[m.group(1)] = (n, pairs[n])
-        else:
-            bound.pop(m.group(1), None)
+    for m in re.finditer(r'\blet (\S+) = ', line):
+        out += ANY.sub(chain, line[done:m.start()]) + m.group(0)
+        done, v = m.end(), PLACE.match(line, m.end())
+        place = None
+        if v and (v.group(1) == 'c' or v.group(1) in bound):
+            n = near = bound.get(v.group(1), (0,))[0] + v.group(2).count('.before')
+            while near and not to(near, None):
+                near -= 1
+            k = (to(near, None) or (0,))[0]
+            out, done, place = out + spelled(v.group(1), k), v.end() - len(' in'), (n, k, near == n)
+        bound.pop(m.group(1), None)
+        if place:
+            bound[m.group(1)] = place
     return out + ANY.sub(chain, line[done:])
-
-
-def lead_by_name(line, new, lost):
-    def lead(m):
-        n, field = m.group(1).count('.before'), m.group(2)
-        having = [k for k, (_, fields) in enumerate(new) if field in fields]
-        if n in having or not having:
-            lost.extend([m.group(0)] if not having else [])
-            return m.group(0)
-        return 'c' + ' .before' * min(having, key=lambda k: abs(k - n)) + ' .' + field
-
-    return LINK.sub(lead, line)
 
 
 def needs_matched(old, new):
@@ -135,10 +145,8 @@ def main():
                 continue
             seen.add((at, need))
             there = places(new[at][0], new[at][1][need])
-            if at in old and need in old[at][1]:
-                line = lead_by_match(lines[i], places(old[at][0], old[at][1][need]), there, lost, bound)
-            else:
-                line = lead_by_name(lines[i], there, lost)
+            known = at in old and need in old[at][1]
+            line = lead(lines[i], by_match(places(old[at][0], old[at][1][need]), there) if known else by_name(there), lost, bound)
             mended += sum(a != b for a, b in zip(re.findall(r'(?: \.before)+', lines[i]), re.findall(r'(?: \.before)+', line)))
             lines[i] = line
         if mended:

@@ -1,6 +1,7 @@
 #!/usr/bin/env python3
 """paths.py CRATE FUNCTION: for each need of a function's proof, what its record `c` has in reach, and how many `.before` lead there.
 paths.py CRATE FUNCTION FILE: spells out each `c^thing` of FILE, in the answer of a need, as `c .before .. .thing`, in place.
+paths.py --bind FILE..: binds the chains that stand often in an answer, `let s = c .before .. in` (tools/bind.py).
 
 It runs `rt dev CRATE --generated target/gen` first (whether that proves or not). An answer is known by its line `NEED c = ..` or by a comment
 `{- NEED -}`. FUNCTION may be a folder of proofs/ (`+f+g` for a cycle, whose functions are told by `NAME-lts.spec`).
@@ -74,6 +75,9 @@ def spelled(line, reach):
 def main():
     if len(sys.argv) < 3:
         raise SystemExit(__doc__)
+    if sys.argv[1] == '--bind':
+        from bind import main as bind
+        return bind(sys.argv[2:])
     crate, function = sys.argv[1:3]
     ltss = functions(os.path.join(generate(crate), function))
     if not ltss:

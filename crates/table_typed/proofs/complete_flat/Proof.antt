@@ -27,6 +27,6 @@ complete-flat-spec =
     {- same-length-2 -}
     (λ c. search needs)
     {- returns -}
-    (λ c. flat-completes (holds _ (c .before .before .before .before .before .before .before .before .before .is-sound .ensures) (c .before .before .before .before .before .before .before .before .if1 .taken)) (c .before .before .before .before .before .before .before .bytes-for .ensures) (c .before .before .before .before .complete-sound .ensures))
+    (λ c. let s = c .before .before .before .before in let s2 = s .before .before .before in flat-completes (holds _ (s2 .before .before .is-sound .ensures) (s2 .before .if1 .taken)) (s2 .bytes-for .ensures) (s .complete-sound .ensures))
     {- returns-2 -}
     (λ c. flat-unsound (fails _ (c .before .is-sound .ensures) (c .if1 .left))))
