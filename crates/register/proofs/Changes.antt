@@ -113,7 +113,6 @@ module _ {ws txt : List ℕ} (h : Header) {used : ℕ} (o : Sound ws txt (with-t
         → crowded (registered (table-of ws txt h) c) ≡ false → deep (registered (table-of ws txt h) c) ≡ false → Room ws (h .records) (records (table-of ws txt h) c)
         → Mutation ws txt (h .records) used x at (descent at (at + length host) ch)
     right-mutation {ch = ch} r d q light shallow free = let z : at + length host - at ≡ length host = omega arith in record {
-      form-is = refl;
       change = r .change;
       link = r .link;
       place = place-first (omega arith) (omega arith) (rw (z, p .host-at) d) (rw host-is q);

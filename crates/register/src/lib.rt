@@ -214,7 +214,6 @@ pub fn write(
     let d = Descent {
         from: h.text,
         end: start,
-        form: form,
         change: change,
     };
     let b = register_change::trie_mutate(words, text, h.records, root, h.text, d, &way[STEPS..]);

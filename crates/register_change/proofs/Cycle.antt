@@ -49,7 +49,6 @@ module _ {ws txt : List ℕ} {n used x at len : ℕ} {d : Descent} (g : Namespac
     spaces-mutation =
         let w = inserted-within (what (which-of (d .change)) ws txt x (list ns)) (span txt at len) value in
         record {
-          form-is = g .form-is;
           change = g .change;
           link = z .first .next .link;
           place = place-next (g .place) (g .cut);
@@ -60,12 +59,12 @@ module _ {ws txt : List ℕ} {n used x at len : ℕ} {d : Descent} (g : Namespac
           });
         }
 
-    module _ {ws₁ : List ℕ} {s n₁ k : ℕ} (S : Mutated ws ws₁ txt n (below-in way) (at + len + 1) d s n₁) (h : Kinds (d .form) k) where
+    module _ {ws₁ : List ℕ} {s n₁ k : ℕ} (S : Mutated ws ws₁ txt n (below-in way) (at + len + 1) d s n₁) (h : Kinds (d .change) k) where
       scope-builds : Builds ws ws₁ txt n used (which-of (d .change)) trieˢ (mutated ws txt (d .change) (scope-of (what (which-of (d .change)) ws txt x (list ns)) (span txt at len)) (d .from) (at + len + 1) (d .end)) s n₁
       scope-builds = rw (z .first .next .says) at (S used spaces-mutation)
 
       kind-is : k + kind-in (tree ns) ≡ kind (which-of (d .change)) (tree ns)
-      kind-is = omega (arith, (rw (g .form-is) at h) .1 (tree ns))
+      kind-is = omega (arith, h .1 (tree ns))
 
       -- The row of the segment.
       abbrev spaces-row : List ℕ
@@ -148,7 +147,6 @@ module _ {ws txt : List ℕ} {n used x at len : ℕ} {d : Descent} {p : M.Trie} 
   pub mutation-spaces : NamespacesMutation ws txt n used (p .namespaces) at len d
   unfolding node-of _>>=_ one heaviest depth
   mutation-spaces = record {
-    form-is = m .form-is;
     change = m .change;
     link = mutation-lists .n-link;
     place = m .place;
@@ -181,7 +179,6 @@ module _ {ws txt : List ℕ} {n used x at len : ℕ} {d : Descent} {p : M.Trie} 
 
     pub mutation-node : Node ws₁ txt n₁ used x y at len d
     mutation-node = record {
-      form-is = m .form-is;
       change = change-stays (spaces-builds .made) (m .change);
       link = made-link (spaces-builds .made) (omega arith) (m .link);
       list-link = spaces-builds .made .link;

@@ -26,6 +26,8 @@ use Rattle.memory.specs.Sound.{TextOk, SymbolOk, At}
 use Rattle.memory.specs.declared.Span.{Span}
 use Rattle.register_kind.specs.declared.Form.{Form}
 use Rattle.register_kind.specs.declared.Form.the-variants as form
+use Rattle.register_kind.specs.Shapes.{shape-of}
+use Rattle.register_leaf.specs.declared.Change.{Change}
 use Rattle.register_change.specs.declared.Descent.{Descent}
 use Rattle.find_list.specs.Names.{NamesPlaced}
 use Rattle.insert_record.specs.Made.{Room, MadeTrie}
@@ -43,14 +45,14 @@ use Rattle.register_leaf.proofs.Builds.{builds-none, builds-insert, insert-ligh
 use Rattle.register_leaf.proofs.Leaves.{less-room}
 
 -- ---- kinds
-module _ {f : Form} where
-  pub kinds-name : f ≡ form.Name → Kinds f 0
+module _ (ch : Change) where
+  pub kinds-name : shape-of (ch .kind) .form ≡ form.Name → Kinds ch 0
   kinds-name e = rw e (omega arith, λ s. omega arith)
 
-  pub kinds-import : f ≡ form.Import → Kinds f 0
+  pub kinds-import : shape-of (ch .kind) .form ≡ form.Import → Kinds ch 0
   kinds-import e = rw e (omega arith, λ s. omega arith)
 
-  pub kinds-module : {loaded : Bool} → f ≡ form.Module loaded → Kinds f of-modules
+  pub kinds-module : {loaded : Bool} → shape-of (ch .kind) .form ≡ form.Module loaded → Kinds ch of-modules
   kinds-module e = rw e (omega arith, λ s. refl)
 
 -- ---- ins
@@ -197,9 +199,9 @@ module _ {ws txt : List ℕ} {n used x y at len : ℕ} {d : Descent} {p : M.Trie
   node-lists : Lists ws txt n (which-of (d .change)) x p
   node-lists = lists-in (i .change .sound) (i .link) q
 
-  pub node-bindings : Bindings ws txt n used (p .bindings) at len d (d .form)
+  pub node-bindings : Bindings ws txt n used (p .bindings) at len d (form-of d)
   unfolding node-of _>>=_ one heaviest
-  node-bindings = rw (i .form-is) (record {
+  node-bindings = record {
     sound = i .change .sound;
     text-ok = i .change .text;
     link = node-lists .b-link;
@@ -207,20 +209,17 @@ module _ {ws txt : List ℕ} {n used x y at len : ℕ} {d : Descent} {p : M.Trie
     cut = i .cut;
     room = rw (node-lists .b-reads) (less-room (i .fits .room) (omega arith));
     light = rw (node-lists .b-reads) (omega (arith, i .fits .light));
-  })
+  }
 
-  module _ {ws₁ : List ℕ} {b n₁ : ℕ} (B : BindingsBuilt ws ws₁ txt n (p .bindings) at len d (d .form) b n₁) where
-    node-builds : Builds ws ws₁ txt n used (which-of (d .change)) (list bind) (bindings-at txt at len d (form-of (d .change)) (what (which-of (d .change)) ws txt (p .bindings) (list bind))) b n₁
-    node-builds = rw (i .form-is) at (B used node-bindings)
-
+  module _ {ws₁ : List ℕ} {b n₁ : ℕ} (B : BindingsBuilt ws ws₁ txt n (p .bindings) at len d (form-of d) b n₁) where
     pub node-ready : Room ws₁ n₁ 1 × ((y ≤ n₁) × (depth-in ws₁ y ≤ 16))
     unfolding node-of _>>=_ one depth
-    node-ready = bindings-ready node-builds (i .list-link) (rw (node-lists .b-reads) (i .fits .room)) (i .fits .shallow)
+    node-ready = bindings-ready (B used node-bindings) (i .list-link) (rw (node-lists .b-reads) (i .fits .room)) (i .fits .shallow)
 
-    pub node-built : {ws₂ : List ℕ} {k r : ℕ} → Kinds (d .form) k → r ≡ n₁ + 1 → MadeTrie ws₁ ws₂ n₁ (k + kind-in trieˢ) b y r
+    pub node-built : {ws₂ : List ℕ} {k r : ℕ} → Kinds (d .change) k → r ≡ n₁ + 1 → MadeTrie ws₁ ws₂ n₁ (k + kind-in trieˢ) b y r
         → Builds ws ws₂ txt n used (which-of (d .change)) trieˢ
         (node-at ws txt x y at len d) r r
     unfolding node-of
     node-built {k = k} h e m =
-        let f : k + kind-in trieˢ ≡ kind (which-of (d .change)) trieˢ = omega (arith, (rw (i .form-is) at h) .1 trieˢ) in
-        rw (← node-lists .b-reads) (bindings-built node-builds (i .list-link) f e m)
+        let f : k + kind-in trieˢ ≡ kind (which-of (d .change)) trieˢ = omega (arith, h .1 trieˢ) in
+        rw (← node-lists .b-reads) (bindings-built (B used node-bindings) (i .list-link) f e m)

@@ -57,9 +57,9 @@ pub record SegmentCut (txt : List ℕ) (at len end : ℕ) : Type 0 where
 abbrev pub of-modules : ℕ
 of-modules = kind modules trieˢ - kind names trieˢ
 
--- What is added to them in the table of a form.
-abbrev pub Kinds : Form → ℕ → Type 0
-Kinds f r = (r ≤ of-modules) × ((s : Sort) → kind (which-by f) s ≡ kind-in s + r)
+-- What is added to them in the table of a change.
+abbrev pub Kinds : Change → ℕ → Type 0
+Kinds ch r = (r ≤ of-modules) × ((s : Sort) → kind (which-of ch) s ≡ kind-in s + r)
 
 -- The bindings that mut_node gives a trie: a module path's alone are changed.
 unfoldable pub bindings-by : List ℕ → (f : Form) → Span → NameList (Item (which-by f)) bind → Str → Query → Query → Counted (NameList (Item (which-by f)) bind)
@@ -85,13 +85,13 @@ namespaces-mutated ws txt ch n from at len end = do
 
 -- ---- On the way down
 
--- The form that a change has by its kind.
-abbrev pub form-of : Change → Form
-form-of ch = shape-of (ch .kind) .form
-
 -- A descent by its parts.
 abbrev pub descent : (from end : ℕ) → Change → Descent
-descent from end ch = record { from = from; end = end; form = form-of ch; change = ch }
+descent from end ch = record { from = from; end = end; change = ch }
+
+-- The form of what is registered.
+abbrev pub form-of : Descent → Form
+form-of d = shape-of (d .change .kind) .form
 
 -- The bindings that mut_node gives a trie at the segment of len bytes from at on, where the form is f.
 abbrev pub bindings-at : (txt : List ℕ) (at len : ℕ) (d : Descent) (f : Form) → NameList (Item (which-by f)) bind → Counted (NameList (Item (which-by f)) bind)
@@ -122,7 +122,6 @@ pub record Bindings (ws txt : List ℕ) (n used x at len : ℕ) (d : Descent) (f
 
 -- What mut_node asks, where y is the new list of namespaces.
 pub record Node (ws txt : List ℕ) (n used x y at len : ℕ) (d : Descent) : Type 0 where
-  pub form-is : d .form ≡ form-of (d .change)
   pub change : ChangeOk ws txt n used (d .change)
   pub link : LinkOk ws (n + 1) x (kind (which-of (d .change)) trieˢ)
   pub list-link : LinkOk ws (n + 1) y (kind (which-of (d .change)) (list ns))
@@ -132,7 +131,6 @@ pub record Node (ws txt : List ℕ) (n used x y at len : ℕ) (d : Descent) : Ty
 
 -- What namespaces_mutate asks.
 pub record NamespacesMutation (ws txt : List ℕ) (n used x at len : ℕ) (d : Descent) : Type 0 where
-  pub form-is : d .form ≡ form-of (d .change)
   pub change : ChangeOk ws txt n used (d .change)
   pub link : LinkOk ws (n + 1) x (kind (which-of (d .change)) (list ns))
   pub place : QueryPlace txt used (d .from) at (d .end)
@@ -141,7 +139,6 @@ pub record NamespacesMutation (ws txt : List ℕ) (n used x at len : ℕ) (d : D
 
 -- What trie_mutate asks.
 pub record Mutation (ws txt : List ℕ) (n used x at : ℕ) (d : Descent) : Type 0 where
-  pub form-is : d .form ≡ form-of (d .change)
   pub change : ChangeOk ws txt n used (d .change)
   pub link : LinkOk ws (n + 1) x (kind (which-of (d .change)) trieˢ)
   pub place : QueryPlace txt used (d .from) at (d .end)

@@ -20,13 +20,12 @@ ghost use Rattle.source.specs.Text.{ends-in-dot};
 ghost use Rattle.memory.specs.Layout.{span};
 ghost use Rattle.register_kind.specs.declared.Form.the-variants as form;
 ghost use Rattle.register_leaf.specs.Leaves.{Some};
-ghost use Rattle.register_change.specs.Changes.{Kinds, symbol-row, SegmentCut, Bindings, Node, NamespacesMutation, Mutation, NamespacesWay, TrieWay, BindingsBuilt, NodeBuilt, NamespacesMutated, Mutated};
+ghost use Rattle.register_change.specs.Changes.{form-of, Kinds, symbol-row, SegmentCut, Bindings, Node, NamespacesMutation, Mutation, NamespacesWay, TrieWay, BindingsBuilt, NodeBuilt, NamespacesMutated, Mutated};
 
-// What stays the same on the way down a query: where the query begins and ends in the text, the change at its end and the form of its kind.
+// What stays the same on the way down a query: where the query begins and ends in the text, and the change at its end.
 pub struct Descent {
     pub from: u32,
     pub end: u32,
-    pub form: Form,
     pub change: Change,
 }
 
@@ -40,11 +39,14 @@ fn segment_in(text: &[u8], at: u32, end: u32) -> u32
     text_query::segment_length(&text[first..last]) as u32
 }
 
-// What is added to the kinds of the names table in the table of a form.
-fn kinds_of(form: Form) -> u32
-    ensures { λ r. ⌜ Kinds form r ⌝ }
+// What is added to the kinds of the names table in the table of a change.
+fn kinds_of(change: Change) -> u32
+    ensures { λ r. ⌜ Kinds change r ⌝ }
 {
-    match form {
+    let kind = change.kind;
+    let s = register_kind::shape_of(kind);
+    let f = s.form;
+    match f {
         Form::Name => 0,
         Form::Import => 0,
         Form::Module(_) => OF_MODULES,
@@ -121,11 +123,14 @@ fn mut_bindings(
     len: u32,
     d: Descent,
 ) -> Built
-    requires { ⌜ Some (λ used. Bindings (now words) (now text) records used bindings at len d (d .form)) ⌝ }
-    ensures { λ r. ⌜ BindingsBuilt (old words) (new words) (old text) records bindings at len d (d .form) (r .link) (r .records) ⌝ }
+    requires { ⌜ Some (λ used. Bindings (now words) (now text) records used bindings at len d (form-of d)) ⌝ }
+    ensures { λ r. ⌜ BindingsBuilt (old words) (new words) (old text) records bindings at len d (form-of d) (r .link) (r .records) ⌝ }
 {
-    let form = d.form;
-    match form {
+    let change = d.change;
+    let kind = change.kind;
+    let s = register_kind::shape_of(kind);
+    let f = s.form;
+    match f {
         Form::Name => Built {
             link: bindings,
             records: records,
@@ -154,8 +159,7 @@ fn mut_node(
 {
     let t = memory_access::trie_of(words, trie);
     let b = mut_bindings(words, text, records, t.bindings, at, len, d);
-    let form = d.form;
-    let kinds = kinds_of(form);
+    let kinds = kinds_of(d.change);
     let link = insert_record::put_trie(words, b.records, kinds + TRIE_KIND, b.link, namespaces);
     Built {
         link: link,
@@ -179,8 +183,7 @@ fn namespaces_mutate(
     requires { ⌜ NamespacesWay (now words) (now text) records namespaces at len d (now way) ⌝ }
     ensures { λ r. ⌜ NamespacesMutated (old words) (new words) (old text) records namespaces at len d (r .link) (r .records) ⌝ }
 {
-    let form = d.form;
-    let kinds = kinds_of(form);
+    let kinds = kinds_of(d.change);
     let m = trie_mutate(
         words,
         text,

@@ -46,4 +46,4 @@ write-spec =
     {- same-length-2 -}
     (λ c. search needs)
     {- returns -}
-    (λ c. write-accepts (c .before .before .before .before .before .before .before .before .before .before .before .before .before .before .before .before .before .before .before .before .before .pre) (c .before .before .before .before .before .before .before .before .before .before .before .before .put-texts .ensures) (rw (c .before .before .before .before .before .before .before .before .shape-of .ensures) at (c .before .before .before .before .before .before .before .root-of .ensures)) (rw (c .before .before .before .before .before .before .before .before .shape-of .ensures) at (c .before .before .before .trie-mutate .ensures)) (rw (c .before .before .before .before .before .before .before .before .shape-of .ensures) at (c .changed .ensures))))
+    (λ c. write-accepts (c .before .before .before .before .before .before .before .before .before .before .before .before .before .before .before .before .before .before .before .before .before .pre) (c .before .before .before .before .before .before .before .before .before .before .before .before .put-texts .ensures) (rw (c .before .before .before .before .before .before .before .before .shape-of .ensures) at (c .before .before .before .before .before .before .before .root-of .ensures)) (c .before .before .before .trie-mutate .ensures) (rw (c .before .before .before .before .before .before .before .before .shape-of .ensures) at (c .changed .ensures))))

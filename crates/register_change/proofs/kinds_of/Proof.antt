@@ -8,6 +8,8 @@ pub kinds-of-spec : {M : Type 1} → statement M
 kinds-of-spec =
     tie.close
     (tie.spec
+    {- shape-of-requires -}
+    (λ c κs. search needs)
     {- enum-told -}
     (λ c. search needs)
     {- enum-told-2 -}
@@ -15,8 +17,8 @@ kinds-of-spec =
     {- enum-told-3 -}
     (λ c. search needs)
     {- returns -}
-    (λ c. kinds-name (c .enum-told .given .1))
+    (λ c. kinds-name (c .before .before .before .args .change) (rw (c .before .before .shape-of .ensures) at (c .enum-told .given .1)))
     {- returns-2 -}
-    (λ c. kinds-import (c .enum-told2 .given .1))
+    (λ c. kinds-import (c .before .before .before .args .change) (rw (c .before .before .shape-of .ensures) at (c .enum-told2 .given .1)))
     {- returns-3 -}
-    (λ c. kinds-module (c .enum-told3 .given .1)))
+    (λ c. kinds-module (c .before .before .before .args .change) (rw (c .before .before .shape-of .ensures) at (c .enum-told3 .given .1))))

@@ -8,19 +8,21 @@ pub mut-bindings-spec : {M : Type 1} → statement M
 mut-bindings-spec =
     tie.close
     (tie.spec
+    {- shape-of-requires -}
+    (λ c κs. search needs)
     {- enum-told -}
     (λ c. search needs)
     {- enum-told-2 -}
     (λ c. search needs)
-    {- enum-known-form -}
+    {- enum-known-f -}
     (λ c. search needs)
     {- ins-requires -}
-    (λ c κs. bindings-as (c .before .before .form .given .1) (c .before .before .before .before .before .before .pre))
+    (λ c κs. bindings-as (rw (c .before .before .before .before .shape-of .ensures) at (c .before .before .f .given .1)) (c .before .before .before .before .before .before .before .before .pre))
     {- returns -}
-    (λ c. keeps-name (c .enum-told .given .1))
+    (λ c. keeps-name (rw (c .before .before .shape-of .ensures) at (c .enum-told .given .1)))
     {- returns-2 -}
-    (λ c. keeps-import (c .enum-told2 .given .1))
+    (λ c. keeps-import (rw (c .before .before .shape-of .ensures) at (c .enum-told2 .given .1)))
     {- same-length -}
     (λ c. search needs)
     {- returns-3 -}
-    (λ c. bindings-to (c .before .before .before .before .before .form .given .1) (c .before .before .ins .ensures)))
+    (λ c. bindings-to (rw (c .before .before .before .before .before .before .before .shape-of .ensures) at (c .before .before .before .before .before .f .given .1)) (c .before .before .ins .ensures)))
