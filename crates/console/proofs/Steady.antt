@@ -14,13 +14,13 @@ use Rattle.console_feed.specs.declared.Feed.{Feed}
 use Rattle.console_feed.specs.declared.Progress.{Progress}
 
 -- What a test of `!b` says.
-pub off : (b : Bool) → not b ≡ true → b ≡ false
-off true e = absurd (true≢false (sym e))
-off false e = refl
+pub not-true : (b : Bool) → not b ≡ true → b ≡ false
+not-true true e = absurd (true≢false (sym e))
+not-true false e = refl
 
-pub on : (b : Bool) → not b ≡ false → b ≡ true
-on true e = refl
-on false e = absurd (true≢false e)
+pub not-false : (b : Bool) → not b ≡ false → b ≡ true
+not-false true e = refl
+not-false false e = absurd (true≢false e)
 
 pub laid-fits : {d d′ s : List ℕ} {at r : ℕ} → Laid d d′ at r s → r ≤ length d′
 laid-fits x = omega (arith, x .fits, laid-length x)

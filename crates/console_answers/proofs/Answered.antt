@@ -14,7 +14,7 @@ use Rattle.script.specs.declared.Import.{Import}
 use Rattle.script.specs.declared.Import.the-variants.{Include, OpenModule, OpenNamespace}
 use Rattle.script_parts.specs.Parts.{part-of}
 use Rattle.script_parts.specs.declared.Extent.{Extent}
-use Rattle.register_kind.specs.declared.Kind.{Kind}
+use Rattle.register_kind.specs.declared.CallKind.{CallKind}
 use Rattle.register_kind.specs.Shapes.{call-of}
 use Rattle.register_kind.proofs.Shapes.{open-module-is-include}
 use Rattle.script.specs.declared.Question.{Question}
@@ -34,7 +34,7 @@ pub ask-reads : {line : Str} {what : Question} {q q′ : Str} → q ≡ q′ →
 ask-reads p r = rw p r
 
 -- The call that a command asks for is registered as that of the kind and the texts.
-record IsCall (c : Command) (k : Kind) (h o y : Str) : Type 0 where
+record IsCall (c : Command) (k : CallKind) (h o y : Str) : Type 0 where
   call : Call
   is : command-call c ≡ some call
   outcome-is : (l : Lent) (out : Output) (s : State) → outcome l out s c ≡ registration s (register true l s call)
@@ -45,7 +45,7 @@ import-same Include l s host q key = refl
 import-same OpenModule l s host q key = sym (open-module-is-include true l s host q)
 import-same OpenNamespace l s host q key = refl
 
-is-call : (c : Command) {k : Kind} {h o y : Str} → OfKind c k h o y → IsCall c k h o y
+is-call : (c : Command) {k : CallKind} {h o y : Str} → OfKind c k h o y → IsCall c k h o y
 is-call (name host id n) e = record { call = C.name host id n; is = refl; outcome-is = λ l out s. refl; same = λ l s. rw (e .0, e .1, e .2) refl }
 is-call (import how host q) {y = y} e = record { call = import-call how host q; is = refl; outcome-is = λ l out s. refl; same = λ l s. rw (e .0, e .1, e .2) (import-same how l s host q y) }
 is-call (alias word host q) e = record { call = C.alias word host q; is = refl; outcome-is = λ l out s. refl; same = λ l s. rw (e .0, e .1, e .2, e .3) refl }
@@ -74,7 +74,7 @@ module _ {ws txt ws′ txt′ reply reply′ : List ℕ} {t : Table} {line : Str
   }
 
   -- A line that says a registration.
-  pub answered-call : {k : Kind} {host other key : Extent} {h o y : Str} → RegistrationLine line k host other key
+  pub answered-call : {k : CallKind} {host other key : Extent} {h o y : Str} → RegistrationLine line k host other key
       → h ≡ part-of line host → o ≡ part-of line other → y ≡ part-of line key
       → Registers ws txt ws′ txt′ t (call-of k h o y) reply reply′ at r → Answered ws txt ws′ txt′ t line out reply reply′ at r
   answered-call {k} {host} {other} {key} {h} {o} {y} l p q z x = answered-by (l .reads) leaves (go (register true (lent ws txt) (state ws txt t) (i .call)) refl)

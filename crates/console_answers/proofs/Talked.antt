@@ -58,10 +58,10 @@ pub record Going (ws₀ txt₀ : List ℕ) (t₀ : Table) (input : Str) (from : 
   pub fits : at ≤ length reply₀
   pub started : i ≡ from → at ≡ 0
 
-pub going-start : {ws txt flat pane reply : List ℕ} {t : Table} {input : Str} {from : ℕ} → IsSound ws txt t → from ≤ length input
+pub talk-going-start : {ws txt flat pane reply : List ℕ} {t : Table} {input : Str} {from : ℕ} → IsSound ws txt t → from ≤ length input
     → Going ws txt t input from flat pane reply ws txt flat pane reply t 0 from
 unfolding unlines
-going-start {ws} {txt} {reply = reply} {t} {from = from} s h =
+talk-going-start {ws} {txt} {reply = reply} {t} {from = from} s h =
     let z : from - from ≡ 0 = omega arith in
     record {
       lines = [];
@@ -96,10 +96,10 @@ module _ {ws₀ txt₀ flat₀ pane₀ reply₀ ws txt flat pane reply : List �
         take-suc (drop i input) r 0 h
         ∙ ap (λ (b : ℕ). take r (drop i input) · (b ∷ [])) (ap (λ (s : Str). getD s r 0) (sym rest-is) ∙ x .feed (rw rest-is h))
 
-    pub going-on : {ws′ txt′ flat′ pane′ reply′ : List ℕ} {d : Done} → length flat′ ≡ length flat → length pane′ ≡ length pane
+    pub talk-going-on : {ws′ txt′ flat′ pane′ reply′ : List ℕ} {d : Done} → length flat′ ≡ length flat → length pane′ ≡ length pane
         → Answered ws txt ws′ txt′ t (take (i + r - i) (drop i input)) (output flat pane) reply reply′ at d
         → Going ws₀ txt₀ t₀ input from flat₀ pane₀ reply₀ ws′ txt′ flat′ pane′ reply′ (d .table) (d .end) (i + r + 1)
-    going-on f p a =
+    talk-going-on f p a =
         let q : i + r - i ≡ r = omega arith in
         let n : i + r + 1 - from ≡ i - from + suc r = omega (arith, g .after) in
         let k : from + (i - from) ≡ i = omega (arith, g .after) in

@@ -125,9 +125,9 @@ module _ {ws txt ws′ txt′ input reply reply′ : List ℕ} {out : Output} {f
         texts = x .texts;
       }
 
-pub ends-none : {ws txt input reply : List ℕ} {out : Output} {f : Feed} → LastLine false (take (f .have - f .from) (drop (f .from) input)) → IsSound ws txt (f .table)
+pub feed-ends-none : {ws txt input reply : List ℕ} {out : Output} {f : Feed} → LastLine false (take (f .have - f .from) (drop (f .from) input)) → IsSound ws txt (f .table)
     → Ends ws txt ws txt f input out reply reply (record { table = f .table; end = 0 })
-ends-none {ws} {txt} {input} {reply} {out} {f} e sound =
+feed-ends-none {ws} {txt} {input} {reply} {out} {f} e sound =
     let p : pending f input ≡ take (f .have - f .from) (drop (f .from) input) = drop-take (f .from) (f .have) input in
     record {
       text = [];

@@ -69,8 +69,8 @@ pub record Going (w : Which) (flat pane reply₀ reply : List ℕ) (at e i n : �
   pub space : e + rows-room w (words-from flat i (n - i)) ≤ at + rows-room w (words-from flat 0 n)
 
 module _ {w : Which} {flat pane reply₀ : List ℕ} {at n : ℕ} where
-  pub going-start : RowsIn w flat pane n → at ≤ length reply₀ → Going w flat pane reply₀ reply₀ at at 0 n
-  going-start ok h =
+  pub rows-going-start : RowsIn w flat pane n → at ≤ length reply₀ → Going w flat pane reply₀ reply₀ at at 0 n
+  rows-going-start ok h =
       let e : n - 0 ≡ n = omega arith in
       record {
         below = omega arith;
@@ -96,8 +96,8 @@ module _ {w : Which} {flat pane reply₀ : List ℕ} {at n : ℕ} where
     pub going-space : e + row-room (row-in w (words-at flat i)) ≤ at + rows-room w (words-from flat 0 n)
     going-space = omega (arith, g .space, going-room)
 
-    pub going-on : {reply′ : List ℕ} {e′ : ℕ} → Laid reply reply′ e e′ (row-text pane (row-in w (words-at flat i))) → e′ ≤ e + row-room (row-in w (words-at flat i)) → Going w flat pane reply₀ reply′ at e′ (i + 1) n
-    going-on x h = record {
+    pub rows-going-on : {reply′ : List ℕ} {e′ : ℕ} → Laid reply reply′ e e′ (row-text pane (row-in w (words-at flat i))) → e′ ≤ e + row-room (row-in w (words-at flat i)) → Going w flat pane reply₀ reply′ at e′ (i + 1) n
+    rows-going-on x h = record {
       below = omega arith;
       done = g .done · row-text pane (row-in w (words-at flat i));
       laid = laid-more (g .laid) x;
@@ -106,9 +106,9 @@ module _ {w : Which} {flat pane reply₀ : List ℕ} {at n : ℕ} where
       space = omega (arith, g .space, going-room);
     }
 
-  pub going-end : {reply : List ℕ} {e i : ℕ} → Going w flat pane reply₀ reply at e i n → n ≤ i
+  pub rows-going-end : {reply : List ℕ} {e i : ℕ} → Going w flat pane reply₀ reply at e i n → n ≤ i
       → Laid reply₀ reply at e (rows-text w pane (words-from flat 0 n)) × (e ≤ at + rows-room w (words-from flat 0 n))
   unfolding rows-text words-from
-  going-end {reply} {e} {i} g h =
+  rows-going-end {reply} {e} {i} g h =
       let z : n - i ≡ 0 = omega arith in
       (subst (Laid reply₀ reply at e) (sym (append-nil (g .done)) ∙ (rw z at (g .rest))) (g .laid), omega (arith, g .space))

@@ -67,8 +67,8 @@ module _ {ws txt ws′ txt′ reply reply′ : List ℕ} {t : Table} {at : ℕ} 
   still (C.accepted s) x n e = let z : _≡_ {A = ℕ} 0 1 = cc in absurd (omega arith)
   still (C.refused m) (e, x) n p = rw (f .table-is) x
 
-  pub registers : {c : Call} → IsSound ws txt t → Answers true ws txt ws′ txt′ t c r → Registers ws txt ws′ txt′ t c reply reply′ at a
-  registers {c} s x = record {
+  pub line-registers : {c : Call} → IsSound ws txt t → Answers true ws txt ws′ txt′ t c r → Registers ws txt ws′ txt′ t c reply reply′ at a
+  line-registers {c} s x = record {
     leaves = leaves s (register true (lent ws txt) (state ws txt t) c) (register-grows (lent ws txt) (state ws txt t) c) (x .says);
     still = still (register true (lent ws txt) (state ws txt t) c) (x .says);
   }

@@ -1,5 +1,5 @@
 // The line of a registration answered: its call is made on a table whose memory is sound by proof, and its reply is written.
-use register_kind::Kind;
+use register_kind::CallKind;
 use table::Registered;
 use table::Registration;
 use table::Table;
@@ -48,7 +48,7 @@ pub fn register_line(
     start: Done,
     words: &mut [u32],
     text: &mut [u8],
-    kind: Kind,
+    kind: CallKind,
     host: &[u8],
     other: &[u8],
     key: &[u8],

@@ -31,9 +31,9 @@ module _ {A : Type 0} {l : Level} where
   names-insert-first (Names bt tl) k v = refl
   names-insert-first (ImportedNames label inner tl) k v = refl
 
-  pub names-insert-weight : (n : NameList A l) (k : Str) (v : Value A l) → weight (names-insert n k v) ≡ suc (weight (first-rest n))
+  pub names-insert-rest-weight : (n : NameList A l) (k : Str) (v : Value A l) → weight (names-insert n k v) ≡ suc (weight (first-rest n))
   unfolding weight
-  names-insert-weight n k v = rw names-insert-first
+  names-insert-rest-weight n k v = rw names-insert-first
 
 module _ {ws txt : List ℕ} {x first rest : ℕ} {key : Str} (d : Led ws x first rest) {link : ℕ} (f : FindsBranch ws txt first key link) where
   -- The first tree has the key.
@@ -71,6 +71,6 @@ names-placed {ws} {txt} {x} {first} {rest} {key} a d p h q = record {
       let e = d txt w v t in
       record {
         builds = p .builds .says w v (at-of t (tree _) (omega arith) (e .first-link)) ∙ rw (e .first-reads);
-        weighs = λ b. rw (names-insert-weight, e .rest-reads) (omega (arith, q, list-weight (at-of t (list _) (omega arith) (e .rest-link))));
+        weighs = λ b. rw (names-insert-rest-weight, e .rest-reads) (omega (arith, q, list-weight (at-of t (list _) (omega arith) (e .rest-link))));
       };
 }

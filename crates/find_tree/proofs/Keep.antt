@@ -15,18 +15,18 @@ pub by-test : {G : Type 0} (z : Bool) → (z ≡ true → G) → (z ≡ false �
 by-test true f g = f refl
 by-test false f g = g refl
 
-pub all-append : {A : Type 0} (P : A → Type 0) (l m : List A) → Allˡ P l → Allˡ P m → Allˡ P (l ++ m)
-all-append P [] m a b = b
-all-append P (x ∷ l) m a b = (a .0, all-append P l m (a .1) b)
+pub allˡ-append : {A : Type 0} (P : A → Type 0) (l m : List A) → Allˡ P l → Allˡ P m → Allˡ P (l ++ m)
+allˡ-append P [] m a b = b
+allˡ-append P (x ∷ l) m a b = (a .0, allˡ-append P l m (a .1) b)
 
 all-always : {A : Type 0} (P : A → Type 0) → ((x : A) → P x) → (l : List A) → Allˡ P l
 all-always P f [] = tt
 all-always P f (x ∷ l) = (f x, all-always P f l)
 
 -- What holds of all holds of each.
-pub all-at : {A : Type 0} (P : A → Type 0) (l : List A) → Allˡ P l → (x : A) → List·Memᴰ x l → P x
-all-at P [] a x m = absurd (List·Memᴰ·not-nil m)
-all-at P (y ∷ l) a x m = ⊎-elim (λ e. subst P (sym e) (a .0)) (all-at P l (a .1) x) (List·Memᴰ·cases-cons m)
+pub allˡ-at : {A : Type 0} (P : A → Type 0) (l : List A) → Allˡ P l → (x : A) → List·Memᴰ x l → P x
+allˡ-at P [] a x m = absurd (List·Memᴰ·not-nil m)
+allˡ-at P (y ∷ l) a x m = ⊎-elim (λ e. subst P (sym e) (a .0)) (allˡ-at P l (a .1) x) (List·Memᴰ·cases-cons m)
 
 -- Each is one of them.
 pub all-among : {A : Type 0} (l : List A) → Allˡ (λ x. List·Memᴰ x l) l

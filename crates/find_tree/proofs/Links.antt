@@ -22,8 +22,8 @@ use Rattle.memory.proofs.At.{at-of}
 use Rattle.memory.proofs.Seen.{link-later}
 use Rattle.find_tree.specs.Tree.{AnyTree}
 use Rattle.find_tree.specs.Links.{branches-among, branches, row-at}
-use Rattle.find_tree.proofs.Branches.{any-tree, branch-right, branch-ordered, branch-reads, left-tree, right-tree}
-use Rattle.find_tree.proofs.Keep.{all-append, all-at, map-append}
+use Rattle.find_tree.proofs.Branches.{any-tree, branch-right, branch-tree-ordered, branch-reads, left-tree, right-tree}
+use Rattle.find_tree.proofs.Keep.{allˡ-append, allˡ-at, map-append}
 use Rattle.find_tree.specs.Links.{BranchOf}
 
 module _ (ws : List ℕ) where
@@ -52,7 +52,7 @@ module _ {ws txt : List ℕ} {w : Which} {v : Level} where
   branches-at {x} t p = branches-some ws x p (branch-right t p .left .earlier) (branch-right t p .right .earlier)
 
   pub tree-ordered : {x : ℕ} → At ws txt w (tree v) x → Ordered (what w ws txt x (tree v))
-  tree-ordered {x} t = zero-some x (λ z. rw (z, what-none w ws txt) tt) (branch-ordered t)
+  tree-ordered {x} t = zero-some x (λ z. rw (z, what-none w ws txt) tt) (branch-tree-ordered t)
 
   -- What holds of none, and of a branch where it holds of its two sides, holds of every tree.
   module _ (P : ℕ → Type 0) (none : P 0)
@@ -74,7 +74,7 @@ module _ {ws txt : List ℕ} {w : Which} {v : Level} where
   branches-keys P =
       by-sides (λ x. AllKeys P (what w ws txt x (tree v)) → Allˡ (λ y. P (key-at ws txt y)) (branches ws x))
       (λ a. rw (branches-none ws) tt)
-      (λ x t p f g a. let b = rw (branch-reads t p) at a in rw (branches-at t p) (all-append (λ y. P (key-at ws txt y)) (branches ws (left-link (record-at ws x))) (x ∷ branches ws (right-link (record-at ws x))) (f (b .1)) (b .0, g (b .2))))
+      (λ x t p f g a. let b = rw (branch-reads t p) at a in rw (branches-at t p) (allˡ-append (λ y. P (key-at ws txt y)) (branches ws (left-link (record-at ws x))) (x ∷ branches ws (right-link (record-at ws x))) (f (b .1)) (b .0, g (b .2))))
 
   pub branches-of : (x : ℕ) → At ws txt w (tree v) x → Allˡ (BranchOf ws w v x) (branches ws x)
   branches-of =
@@ -84,7 +84,7 @@ module _ {ws txt : List ℕ} {w : Which} {v : Level} where
       let left = left-link (record-at ws x) in
       let right = right-link (record-at ws x) in
       rw (branches-at t p)
-      (all-append (BranchOf ws w v x) (branches ws left) (x ∷ branches ws right)
+      (allˡ-append (BranchOf ws w v x) (branches ws left) (x ∷ branches ws right)
       (Allˡ-map {P = BranchOf ws w v left} {Q = BranchOf ws w v x} (branches ws left) (λ y. branch-later (branch-right t p .left .earlier)) f) (
         record { some = p; link = record { earlier = omega arith; of-kind = t .link .of-kind } },
         Allˡ-map {P = BranchOf ws w v right} {Q = BranchOf ws w v x} (branches ws right) (λ y. branch-later (branch-right t p .right .earlier)) g,
@@ -112,7 +112,7 @@ module _ {ws txt : List ℕ} {w : Which} {v : Level} {root : ℕ} (t : At ws txt
 
   -- A branch by the list.
   pub among-branch : {x : ℕ} → List·Memᴰ x (branches ws root) → BranchOf ws w v root x
-  among-branch {x} m = all-at (BranchOf ws w v root) (branches ws root) (branches-of root t) x m
+  among-branch {x} m = allˡ-at (BranchOf ws w v root) (branches ws root) (branches-of root t) x m
 
 pub among-tree : {ws txt : List ℕ} {root x : ℕ} → AnyTree ws txt root → List·Memᴰ x (branches ws root) → (0 < x) × AnyTree ws txt x
 among-tree a m = let o = among-branch (a .tree) m in (o .some, branch-tree (a .tree) o)
@@ -123,10 +123,10 @@ module _ {ws txt : List ℕ} {x : ℕ} (a : AnyTree ws txt x) (q : 0 < x) where
   all-before P f =
       let left = left-link (record-at ws x) in
       branches-keys P left (left-tree (a .tree) q)
-      (AllKeys-map {P = λ y. y <ˢ key-at ws txt x} {Q = P} (what (a .which) ws txt left (tree (a .level))) f ((rw (branch-reads (a .tree) q) at (branch-ordered (a .tree) q)) .0))
+      (AllKeys-map {P = λ y. y <ˢ key-at ws txt x} {Q = P} (what (a .which) ws txt left (tree (a .level))) f ((rw (branch-reads (a .tree) q) at (branch-tree-ordered (a .tree) q)) .0))
 
   pub all-beyond : (P : Str → Type 0) → ((y : Str) → key-at ws txt x <ˢ y → P y) → Allˡ (λ y. P (key-at ws txt y)) (branches ws (right-link (record-at ws x)))
   all-beyond P f =
       let right = right-link (record-at ws x) in
       branches-keys P right (right-tree (a .tree) q)
-      (AllKeys-map {P = λ y. key-at ws txt x <ˢ y} {Q = P} (what (a .which) ws txt right (tree (a .level))) f ((rw (branch-reads (a .tree) q) at (branch-ordered (a .tree) q)) .1))
+      (AllKeys-map {P = λ y. key-at ws txt x <ˢ y} {Q = P} (what (a .which) ws txt right (tree (a .level))) f ((rw (branch-reads (a .tree) q) at (branch-tree-ordered (a .tree) q)) .1))

@@ -16,8 +16,8 @@ use Rattle.find_tree.specs.Tree.{AnyTree, Placed}
 use Rattle.find_tree.proofs.Branches.{branch-reads, left-tree, right-tree, sides-earlier, any-left, any-right}
 use Rattle.memory.specs.Sound.{At}
 
-pub same-key : (s t : Str) → Ordering·eq ≡ string-compare s t → s ≡ t
-same-key s t e = subst (View s t) (sym e) (compare-strings s t)
+pub compare-eq-same : (s t : Str) → Ordering·eq ≡ string-compare s t → s ≡ t
+compare-eq-same s t e = subst (View s t) (sym e) (compare-strings s t)
 
 -- The same search in the whole tree and in that of link, for one table and level.
 pub record SearchIn (ws txt : List ℕ) (w : Which) (v : Level) (root : ℕ) (key : Str) (link count : ℕ) : Type 0 where
@@ -75,7 +75,7 @@ module _ {ws txt : List ℕ} {root : ℕ} {key : Str} {link count : ℕ} (g : Se
           let s = g .says w v t in
           record {
             link = record { earlier = omega (arith, g .small, g .some); of-kind = s .here .link .of-kind };
-            has-key = λ _. sym (same-key key (key-at ws txt link) e);
+            has-key = λ _. sym (compare-eq-same key (key-at ws txt link) e);
             says = s .finds ∙ rw (branch-reads (s .here) p, ← e, ne-eqb link 0 (λ z. omega arith));
           };
       builds = record {

@@ -73,10 +73,10 @@ descends-all tr q = record { host = included-host tr q }
 pub descends-next : {A : Type 0} {tr at : Trie A} {q rest : Query} {s : Str} → Descends tr q at (s ∷ rest) → Descends tr q (scope-of (namespaces at) s) rest
 descends-next d = record { host = d .host ∙ host-of-step _ _ _ }
 
-pub descended : {ws txt : List ℕ} {w : Which} {query : Str} {root link at : ℕ} {tr : Trie (Item w)} {q : Query}
+pub descend-found : {ws txt : List ℕ} {w : Which} {query : Str} {root link at : ℕ} {tr : Trie (Item w)} {q : Query}
     → Stands ws txt w query root link at (Descends tr q) → length query ≤ at → Reads ws txt w root link (included tr q)
 unfolding host-of
-descended g h = record { link = record { earlier = omega (arith, g .earlier); of-kind = g .here .link .of-kind }; says = sym (stands-last g h .host) }
+descend-found g h = record { link = record { earlier = omega (arith, g .earlier); of-kind = g .here .link .of-kind }; says = sym (stands-last g h .host) }
 
 -- ---- look-up
 

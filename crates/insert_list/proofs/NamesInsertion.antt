@@ -23,7 +23,7 @@ use Rattle.find_list.specs.Names.{LedIn, Led}
 use Rattle.insert_record.specs.Made.{Room, Made, MadeNames}
 use Rattle.insert_list.specs.Insert.{inserted, NamesInsertion}
 use Rattle.find_list.proofs.Collections.{list-weight}
-use Rattle.find_list.proofs.NamesPlaced.{names-insert-first, names-insert-weight}
+use Rattle.find_list.proofs.NamesPlaced.{names-insert-first, names-insert-rest-weight}
 use Rattle.insert_record.proofs.Made.{made-as, made-what, made-stored, made-link, made-room, made-then}
 use Rattle.memory.specs.Sound.{At}
 use Rattle.memory.proofs.At.{at-of}
@@ -74,7 +74,7 @@ insertion-after {ws} {txt = txt} {w = w} m {v} {x} l h r e a g o b = record {
   link = made-link m {l = x + 1} (omega arith) (record { earlier = omega arith; of-kind = l .link .of-kind });
   new = b;
   counted = e ∙ rw (made-what m w h);
-  light = rw (made-what m w h, names-insert-weight) (omega (arith, g, names-insert-weight (what w ws txt x (list v)) (span txt (text-start r) (text-len r)) a));
+  light = rw (made-what m w h, names-insert-rest-weight) (omega (arith, g, names-insert-rest-weight (what w ws txt x (list v)) (span txt (text-start r) (text-len r)) a));
   room = o;
 }
 
@@ -115,7 +115,7 @@ module _ {ws txt : List ℕ} {w : Which} {v : Level} {records used x count : ℕ
 
     rest-light : weight-in ws rest < 96
     rest-light =
-        omega (arith, list-weight (at-of insertion-list (list _) (omega arith) (led .rest-link)), ap weight (led .rest-reads), names-insert-weight (what w ws txt x (list v)) (span txt (text-start r) (text-len r)) (value w txt r (what w ws txt) v), i .light)
+        omega (arith, list-weight (at-of insertion-list (list _) (omega arith) (led .rest-link)), ap weight (led .rest-reads), names-insert-rest-weight (what w ws txt x (list v)) (span txt (text-start r) (text-len r)) (value w txt r (what w ws txt) v), i .light)
 
     module _ {ws′ : List ℕ} {root : ℕ} (h : Inserted ws ws′ txt w v records used first count r root) where
       pub made-first : Made ws ws′ txt records (records + count) used w (tree v) root (btree-insert-replace (what w ws txt first (tree v)) (span txt (text-start r) (text-len r)) (value w txt r (what w ws txt) v))

@@ -126,6 +126,6 @@ module _ {ws txt : List ℕ} {n used : ℕ} (o : Used ws txt n used) (w : Which)
   unfolding weight
   imported-light v label i j h = omega (arith, stored-weight (rows-before o) w v _ i, stored-weight (rows-before o) w v _ j, h)
 
-  pub trie-shallow : {y : ℕ} (t : NameList (Item w) bind) → LinkOk ws (n + 1) y (kind w (list ns)) → depth (trie t (what w ws txt y (list ns))) ≤ 16 → depth-in ws y ≤ 16
+  pub made-shallow : {y : ℕ} (t : NameList (Item w) bind) → LinkOk ws (n + 1) y (kind w (list ns)) → depth (trie t (what w ws txt y (list ns))) ≤ 16 → depth-in ws y ≤ 16
   unfolding depth
-  trie-shallow t i h = omega (arith, stored-list (rows-before o) w _ i, h)
+  made-shallow t i h = omega (arith, stored-list (rows-before o) w _ i, h)

@@ -27,7 +27,7 @@ use Rattle.insert_copy.specs.Copies.{noted-link, noted-side, with-sides, raised
 use Rattle.insert_tree.specs.Insert.{NewBranch, HeldOk, Insertion, Inserted, SideTaken, Trail, top, turn, Changed, Marked}
 use Rattle.memory.proofs.Pasted.{part-span}
 use Rattle.find_tree.proofs.Branches.{any-tree, branch-right, branch-reads}
-use Rattle.find_tree.proofs.Placed.{same-key}
+use Rattle.find_tree.proofs.Placed.{compare-eq-same}
 use Rattle.insert_tree.proofs.Changed.{drop-more, put-changes, sound-stays, trail-stays}
 use Rattle.insert_tree.proofs.WithSides.{sided-length, held-fine, depth-ok, old-branch, branch-sound, branch-what, branch-link}
 use Rattle.memory.proofs.At.{at-in, at-of}
@@ -295,7 +295,7 @@ module _ {ws ws′ txt : List ℕ} {w : Which} {v : Level} {records used root co
       zero-some x
       (λ z. rw (value-stays v (g .new .holds), z, stored-none ws′ 3, stored-none ws′ 4, what-none w ws′ txt, what-none w ws txt))
       (λ p.
-      rw (value-stays v (g .new .holds), stored-some ws′ x 3 p, stored-some ws′ x 4 p, ← base-of ready x (omega (arith, trail-link (root-tree ready) (m .trail) .earlier)), branch-reads x-tree p, btree-insert-replace, ← m .here p, ← same-key (span txt (text-start r) (text-len r)) (key-at ws′ txt x) (m .here p)))
+      rw (value-stays v (g .new .holds), stored-some ws′ x 3 p, stored-some ws′ x 4 p, ← base-of ready x (omega (arith, trail-link (root-tree ready) (m .trail) .earlier)), branch-reads x-tree p, btree-insert-replace, ← m .here p, ← compare-eq-same (span txt (text-start r) (text-len r)) (key-at ws′ txt x) (m .here p)))
 
   pub lowest-risen : {ws″ low : List ℕ} → low ≡ lowest-row ws′ records r → ws″ ≡ put ws′ records low
       → Risen ws ws″ txt w v used (span txt (text-start r) (text-len r)) (value w txt r (what w ws txt) v) records root (records + count) (records + 1)

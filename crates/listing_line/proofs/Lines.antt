@@ -1,4 +1,4 @@
--- A line that is counted, and written where it fits.
+-- A line that is counts-kept, and written where it fits.
 use Prim.Native.Nat.{ℕ, _+_, _/_, _≤_}
 use mathlib.Core.Path.{_≡_, refl}
 use mathlib.Core.Bool.{Bool, true, false, not}
@@ -9,7 +9,7 @@ use Rattle.source.specs.Text.{Str}
 use Rattle.source.specs.Table.{Line}
 use Rattle.memory.specs.Layout.{Which, Item}
 use Rattle.memory.specs.Sound.{Says}
-use Rattle.memory.proofs.Says.{passes, refuses}
+use Rattle.memory.proofs.Says.{says-passes, says-refuses}
 use Rattle.text.proofs.Laid.{laid-length}
 use Rattle.listing_output.specs.Output.{line-bytes, Written}
 use Rattle.listing_output.specs.Run.{Tally, Job}
@@ -25,9 +25,9 @@ pub record Counted (j : Job) (size : ℕ) (t : Tally) : Type 0 where
   pub lines-more : (x : ℕ) → Capped (j .lim .lines) x (j .tally .lines) → Capped (j .lim .lines) (x + 1) (t .lines)
   pub bytes-more : (x : ℕ) → Capped (j .lim .bytes) x (j .tally .bytes) → Capped (j .lim .bytes) (x + size) (t .bytes)
 
-pub counted : {j : Job} {size n l b : ℕ} → n ≡ size → ((x : ℕ) → Capped (j .lim .lines) x (j .tally .lines) → Capped (j .lim .lines) (x + 1) l)
+pub counts-kept : {j : Job} {size n l b : ℕ} → n ≡ size → ((x : ℕ) → Capped (j .lim .lines) x (j .tally .lines) → Capped (j .lim .lines) (x + 1) l)
     → ((x : ℕ) → Capped (j .lim .bytes) x (j .tally .bytes) → Capped (j .lim .bytes) (x + n) b) → Counted j size (record { entered = j .tally .entered; lines = l; bytes = b })
-counted e f g = record { entered-same = refl; lines-more = f; bytes-more = rw e at g }
+counts-kept e f g = record { entered-same = refl; lines-more = f; bytes-more = rw e at g }
 
 -- What is tested before it is written.
 abbrev RowFits : Job → List ℕ → Type 0
@@ -50,7 +50,7 @@ module _ {ws txt : List ℕ} {j : Job} (ok : JobOk ws txt j) where
           shows = λ e i b h. record {
             spent = λ k. omega (arith, c .entered-same, h .spent (omega arith));
             entered-is = λ k. omega (arith, c .entered-same, h .entered-is (omega arith));
-            counted = λ k. rw size (tells-more (j .lim) 1 (size-of ws j note) (j .tally) t (c .lines-more) (c .bytes-more) i b (h .counted (omega arith)));
+            counts-kept = λ k. rw size (tells-more (j .lim) 1 (size-of ws j note) (j .tally) t (c .lines-more) (c .bytes-more) i b (h .counted (omega arith)));
           };
           writes = λ e i b h k.
               let is = tells-is (j .lim) (j .tally) (omega (arith, k .lines-fit)) (omega (arith, k .bytes-fit)) (h .counted (omega (arith, k .entered-fit))) in
@@ -73,18 +73,18 @@ module _ {ws txt : List ℕ} {j : Job} (ok : JobOk ws txt j) where
     pub tried-put : {flat flat′ out out′ : List ℕ} → LinePut ws txt j note flat flat′ out out′ → TriedLine ws txt j note flat flat′ out out′
     tried-put p = record { flat-size = laid-length (p .flat-laid); out-size = laid-length (p .out-laid); put = λ e f. p }
 
-    -- The test of room for the row, or for the texts, refuses it: nothing is written.
+    -- The test of room for the row, or for the texts, says-refuses it: nothing is written.
     pub no-row : {flat out : List ℕ} (b : Bool) → Says b (RowFits j flat) → not b ≡ true → TriedLine ws txt j note flat flat out out
-    no-row b says e = record { flat-size = refl; out-size = refl; put = λ i f. absurd (refuses b says e (f .lines-fit, omega (arith, f .lines-fit, f .flat-lent))) }
+    no-row b says e = record { flat-size = refl; out-size = refl; put = λ i f. absurd (says-refuses b says e (f .lines-fit, omega (arith, f .lines-fit, f .flat-lent))) }
 
     pub no-text : {flat out : List ℕ} {n : ℕ} (b : Bool) → n ≡ size-of ws j note → Says b (TextFits j n out) → not b ≡ true → TriedLine ws txt j note flat flat out out
     no-text b z says e =
-        record { flat-size = refl; out-size = refl; put = λ i f. absurd (refuses b says e (omega (arith, f .bytes-fit), omega (arith, f .bytes-fit, f .out-lent))) }
+        record { flat-size = refl; out-size = refl; put = λ i f. absurd (says-refuses b says e (omega (arith, f .bytes-fit), omega (arith, f .bytes-fit, f .out-lent))) }
 
   -- Both let it pass.
-  pub passed : {note flat out : List ℕ} {n : ℕ} (a b : Bool) → n ≡ size-of ws j note → Says a (RowFits j flat) → not a ≡ false → Says b (TextFits j n out) → not b ≡ false
+  pub both-fit : {note flat out : List ℕ} {n : ℕ} (a b : Bool) → n ≡ size-of ws j note → Says a (RowFits j flat) → not a ≡ false → Says b (TextFits j n out) → not b ≡ false
       → LineFits ws j note flat out
-  passed {flat = flat} {out} {n} a b z says e tells f =
-      let l : RowFits j flat = passes a says e in
-      let k : TextFits j n out = passes b tells f in
+  both-fit {flat = flat} {out} {n} a b z says e tells f =
+      let l : RowFits j flat = says-passes a says e in
+      let k : TextFits j n out = says-passes b tells f in
       record { flat-room = omega (arith, l .1); out-room = omega (arith, k .1); small = omega (arith, k .0, ok .small .bytes-small) }

@@ -33,8 +33,8 @@ use Rattle.memory.proofs.At.{at-fits}
 
 -- A branch is a tree.
 module _ {ws txt : List ℕ} {w : Which} {v : Level} {x : ℕ} (b : BranchAt ws txt w v x) where
-  pub branch-fits : (0 < x) × (x * 12 ≤ length ws)
-  branch-fits = (b .some, at-fits (b .at))
+  pub path-branch-fits : (0 < x) × (x * 12 ≤ length ws)
+  path-branch-fits = (b .some, at-fits (b .at))
 
   pub key-size : (length (key-at ws txt x) ≡ text-len (record-at ws x)) × (text-len (record-at ws x) ≤ 31)
   unfolding key-at
@@ -108,10 +108,10 @@ module _ (run : List ℕ) (n len label : ℕ) where
     after = λ k h. kept k (λ z. omega arith) (λ z. omega arith) (λ z. omega arith);
   }
 
-pub entered : {ws : List ℕ} (f : Labelled) {run run′ : List ℕ} {len label : ℕ} → (length run ≡ run-size) × (getD run 16 0 < 16) × (getD run 17 0 ≤ 544)
+pub run-entered : {ws : List ℕ} (f : Labelled) {run run′ : List ℕ} {len label : ℕ} → (length run ≡ run-size) × (getD run 16 0 < 16) × (getD run 17 0 ≤ 544)
     → PathSet (set run (getD run 16 0) (f .link)) run′ (getD run 16 0 + 1) len label
     → len ≡ getD run 17 0 + text-len (record-at ws (f .link)) + 1 → label ≡ pick (eqb (getD run 16 0) 0) (f .label) (getD run 18 0) → Entered ws f run run′
-entered f {run} r s l b = record {
+run-entered f {run} r s l b = record {
   down = record {
     size = s .size ∙ length-set run (getD run 16 0) (f .link);
     before = λ j h. s .links j (omega (arith, r .1)) ∙ apart j (λ z. omega arith);

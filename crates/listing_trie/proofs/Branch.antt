@@ -30,7 +30,7 @@ use Rattle.listing_annotation.specs.declared.Labelled.{Labelled}
 use Rattle.listing_step.specs.Steps.{PathDown, Entered, PathSet, before-of, left}
 use Rattle.listing_step.specs.declared.Before.{Before}
 use Rattle.listing_trie.specs.Runs.{level-of, BranchReady, BranchRuns, TrieReady, TrieRuns, BranchAsked, BranchListed, TrieAsked, TrieListed}
-use Rattle.listing_step.proofs.PathDown.{branch-fits, path-down, on-path-down, given, path-set}
+use Rattle.listing_step.proofs.PathDown.{path-branch-fits, path-down, on-path-down, given, path-set}
 use Rattle.memory.proofs.At.{at-of}
 
 -- The trie that a branch of namespaces holds.
@@ -83,7 +83,7 @@ module _ {ws txt : List ℕ} {ask : Ask} {rest : Str} {p : Path} {lim : Limits} 
         go false e b l = absurd (true≢false (sym e))
 
     pub branch-named : (0 < branch) × (branch * 12 ≤ length ws)
-    branch-named = branch-fits (r .branch-at)
+    branch-named = path-branch-fits (r .branch-at)
 
     module _ (e : leaf ≡ false) where
       pub space-at : BranchAt ws txt (asked ask) ns branch × LabelAt ws txt (asked ask) ns label

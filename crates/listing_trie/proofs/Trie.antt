@@ -115,8 +115,8 @@ module _ {ws txt : List ℕ} {ask : Ask} {query : Str} {p : Path} {lim : Limits}
     rest-ready : RunReady ws txt ask (drop (c .next) query) p lim
     rest-ready = record { path-ok = r .ready .path-ok; ends = cut .ends; short = omega (arith, length-drop (c .next) query, r .ready .short); small = r .ready .small }
 
-    pub bindings-ready : ListReady ws txt ask (drop (c .next) query) p lim true (t .bindings)
-    bindings-ready = record { ready = rest-ready; list-at = bindings-at (r .trie-at) seen; room = λ z. absurd (true≢false z) }
+    pub trie-bindings-ready : ListReady ws txt ask (drop (c .next) query) p lim true (t .bindings)
+    trie-bindings-ready = record { ready = rest-ready; list-at = bindings-at (r .trie-at) seen; room = λ z. absurd (true≢false z) }
 
     deep : depth (what (asked ask) ws txt trie-link trieˢ) ≡ depth-names (what (asked ask) ws txt (t .namespaces) (list ns))
     unfolding depth namespaces
@@ -125,8 +125,8 @@ module _ {ws txt : List ℕ} {ask : Ask} {query : Str} {p : Path} {lim : Limits}
         go : (tr : Value (Item (asked ask)) ns) → what (asked ask) ws txt (t .namespaces) (list ns) ≡ namespaces tr → depth tr ≡ depth-names (what (asked ask) ws txt (t .namespaces) (list ns))
         go (trie b n) e = rw e
 
-    pub namespaces-ready : ListReady ws txt ask (drop (c .next) query) p lim false (t .namespaces)
-    namespaces-ready = record { ready = rest-ready; list-at = namespaces-at (r .trie-at) seen; room = λ z. omega (arith, r .room, deep) }
+    pub trie-namespaces-ready : ListReady ws txt ask (drop (c .next) query) p lim false (t .namespaces)
+    trie-namespaces-ready = record { ready = rest-ready; list-at = namespaces-at (r .trie-at) seen; room = λ z. omega (arith, r .room, deep) }
 
     -- Both lists, or where more segments are left only the namespaces.
     module _ {a : Tally} (h : a .entered < lim .budget) where
@@ -212,12 +212,12 @@ module _ {ws txt : List ℕ} {query : Str} {ask : Ask} {run : List ℕ} {x : ℕ
     }
 
     pub bindings-asked : ListAsked ws txt query (down true) run₁ (t .bindings)
-    bindings-asked = record { place-ok = place-ok true; can = list-ready-at same₁ (bindings-ready (r .can) seen cut) }
+    bindings-asked = record { place-ok = place-ok true; can = list-ready-at same₁ (trie-bindings-ready (r .can) seen cut) }
 
     pub namespaces-asked : {run₂ : List ℕ} → SameRun run₁ run₂ → ListAsked ws txt query (down false) run₂ (t .namespaces)
     namespaces-asked s = record {
       place-ok = place-ok-at s (place-ok false);
-      can = list-ready-at (path-then same₁ (s .path)) (namespaces-ready (r .can) seen cut);
+      can = list-ready-at (path-then same₁ (s .path)) (trie-namespaces-ready (r .can) seen cut);
     }
 
     module _ {run₂ flat flat₁ out out₁ : List ℕ} where

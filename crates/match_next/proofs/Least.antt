@@ -15,7 +15,7 @@ use Rattle.memory.proofs.RecordOk.{zero-some}
 use Rattle.find_tree.specs.Tree.{AnyTree}
 use Rattle.find_tree.specs.Links.{branches, keep, past, head0}
 use Rattle.find_tree.proofs.Branches.{any-left, any-right}
-use Rattle.find_tree.proofs.Keep.{by-test, all-at, keep-append, keep-none, keep-all}
+use Rattle.find_tree.proofs.Keep.{by-test, allˡ-at, keep-append, keep-none, keep-all}
 use Rattle.find_tree.proofs.Links.{branches-none, branches-at, by-sides, all-before, all-beyond, among-branch}
 use Rattle.find_tree.proofs.Past.{past-low, past-after, past-down, past-self}
 
@@ -107,10 +107,10 @@ module _ {ws txt : List ℕ} {link at : ℕ} (a : AnyTree ws txt link) (m : List
       let left = left-link (record-at ws link) in
       let right = right-link (record-at ws link) in
       ⊎-elim
-      (λ i. f i (past-after true (key-at ws txt at) k (all-at (λ y. key-at ws txt y <ˢ k) (branches ws left) (all-before a p (λ y. y <ˢ k) (λ y z. z)) at i)))
+      (λ i. f i (past-after true (key-at ws txt at) k (allˡ-at (λ y. key-at ws txt y <ˢ k) (branches ws left) (all-before a p (λ y. y <ˢ k) (λ y z. z)) at i)))
       (λ i. ⊎-elim
       (λ e. absurd (n (sym e)))
-      (λ j. g j (past-low true (key-at ws txt at) k (all-at (λ y. k <ˢ key-at ws txt y) (branches ws right) (all-beyond a p (λ y. k <ˢ y) (λ y z. z)) at j)))
+      (λ j. g j (past-low true (key-at ws txt at) k (allˡ-at (λ y. k <ˢ key-at ws txt y) (branches ws right) (all-beyond a p (λ y. k <ˢ y) (λ y z. z)) at j)))
       (List·Memᴰ·cases-cons i))
       (List·Memᴰ·append-cases (branches ws left) (rw (branches-at (a .tree) p) at m))
 

@@ -54,8 +54,8 @@ table-stays y txt h k m = rw (what-stays y names txt (h .names) k, what-stays y 
 abbrev fresh-header : Header
 fresh-header = record { names = 0; modules = 0; records = 0; text = 0 }
 
-pub fresh-sound : (ws txt : List ℕ) → Sound ws txt fresh-header
-fresh-sound ws txt = record {
+pub fresh-memory-sound : (ws txt : List ℕ) → Sound ws txt fresh-header
+fresh-memory-sound ws txt = record {
   right = record { few = omega arith; short = omega arith; records-fit = omega arith; text-fits = omega arith; rows = λ l p h. absurd (omega arith) };
   names-link = record { earlier = omega arith; of-kind = λ z. absurd (z refl) };
   modules-link = record { earlier = omega arith; of-kind = λ z. absurd (z refl) };

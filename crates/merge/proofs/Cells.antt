@@ -52,11 +52,11 @@ module _ {ws txt : List ℕ} {w : Which} {v : Level} {root : ℕ} (t : At ws txt
 
 -- ---- What a cell names
 module _ {ws txt : List ℕ} {w : Which} {v : Level} {x : ℕ} (here : At ws txt w (list v) x) where
-  pub branch-tree : {y : ℕ} → BranchOf ws w v x y → (0 < y) × AnyTree ws txt y
-  branch-tree o = (o .some, record { which = w; level = v; tree = at-of here (tree _) (omega arith) (o .link) })
+  pub cell-branch-tree : {y : ℕ} → BranchOf ws w v x y → (0 < y) × AnyTree ws txt y
+  cell-branch-tree o = (o .some, record { which = w; level = v; tree = at-of here (tree _) (omega arith) (o .link) })
 
   pub branch-head : {y : ℕ} → BranchOf ws w v x y → TextIn ws txt y
-  branch-head o = let t = branch-tree o in text-in (t .1) (t .0)
+  branch-head o = let t = cell-branch-tree o in text-in (t .1) (t .0)
 
   pub branch-few : {y : ℕ} → BranchOf ws w v x y → y ≤ 65536
   branch-few o = omega (arith, o .link .earlier, here .link .earlier, here .sound .few)
@@ -73,10 +73,10 @@ pub next-branch : {ws txt : List ℕ} {w : Which} {v : Level} {x : ℕ} {p : Str
     → Next (cell-tree g j l) p (getD (m .heads) j 0) r → BranchOf ws w v x r
 next-branch g {j} l m = record { some = m .match .branch .some; link = link-later (omega (arith, g .cells j l .root-link .earlier)) (m .match .branch .link) }
 
-pub stands : (ws txt : List ℕ) (p : Str) (roots heads labels : List ℕ) (j : ℕ)
+pub cell-stands : (ws txt : List ℕ) (p : Str) (roots heads labels : List ℕ) (j : ℕ)
     → Stands (entry-key ws txt) ws txt heads j (run-at ws txt p roots heads labels j)
 unfolding run-at first priority
-stands ws txt p roots heads labels j = record { key-is = refl; priority-is = refl }
+cell-stands ws txt p roots heads labels j = record { key-is = refl; priority-is = refl }
 
 -- ---- How many are left
 module _ (ws txt : List ℕ) (p : Str) (roots heads roots′ heads′ : List ℕ) (c : ℕ)

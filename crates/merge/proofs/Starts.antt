@@ -35,7 +35,7 @@ use Rattle.find_tree.proofs.Matches.{matches-none, matches-of, matches-increasi
 use Rattle.find_list.specs.Entries.{Entry, entry-key, label-at, shown, outer, Asks}
 use Rattle.merge_collect.specs.Lists.{TreePart, elements, HasPart, HasParts, more, match-lists-in, CollectedIn, Collected}
 use Rattle.merge.specs.Stream.{later, run-at, CellOk, Starts, state, OneTree}
-use Rattle.merge.proofs.Cells.{branch-head, branch-few, stands}
+use Rattle.merge.proofs.Cells.{branch-head, branch-few, cell-stands}
 use Rattle.memory.specs.Sound.{At}
 use Rattle.memory.proofs.At.{no-link, at-of}
 
@@ -74,7 +74,7 @@ module _ (ws txt : List ℕ) (p : Str) (roots heads labels : List ℕ) (n : ℕ)
         insert-below (cells-heap k) k (omega arith) (b .0),
         ap (λ (g : Heap (Run Entry)). heap-insert (run-cmp (entry-key ws txt)) g (val k)) (b .1)
             ∙ map-insert val (cell-cmp ws txt heads) (run-cmp (entry-key ws txt)) (λ j. j < n)
-            (λ i j a c. cell-cmp-run (entry-key ws txt) ws txt heads i j (stands ws txt p roots heads labels i) (stands ws txt p roots heads labels j))
+            (λ i j a c. cell-cmp-run (entry-key ws txt) ws txt heads i j (cell-stands ws txt p roots heads labels i) (cell-stands ws txt p roots heads labels j))
             (cells-heap k) k (b .0) (omega arith),
       )
 
@@ -200,10 +200,10 @@ module _ {ws txt : List ℕ} {p : Str} {x n : ℕ} {roots₀ heads₀ labels₀ 
       begun = λ j l. has-cell j l .begun;
     }
 
-  pub starts : {child next : List ℕ} {root : ℕ} → n ≤ 96 → Rep n child next root (heap-from-list (cell-cmp ws txt heads) (first-cells n))
+  pub merge-starts : {child next : List ℕ} {root : ℕ} → n ≤ 96 → Rep n child next root (heap-from-list (cell-cmp ws txt heads) (first-cells n))
       → Starts ws txt x p (state roots heads labels child next n root 0)
   unfolding match-lists
-  starts {child} {next} {root} few rep w v t =
+  merge-starts {child} {next} {root} few rep w v t =
       let s = collected w v t in
       let h = cells-heap ws txt p roots heads labels n n in
       let r = run-of ws txt p heads (s .parts) in

@@ -21,7 +21,7 @@ use Rattle.find_list.specs.Entries.{Entry, entry-key}
 use Rattle.find_list.specs.Entries.{LabelOk}
 use Rattle.merge.specs.Stream.{Merge, Step, run-at, remaining, Holding, heap-of, Last, Rest, AnyRest, left-in, GivenIn, GivesIn, Gives, state, Takes, CellsReady}
 use Rattle.merge.specs.declared.Taken.{Taken}
-use Rattle.merge.proofs.Cells.{branch-tree}
+use Rattle.merge.proofs.Cells.{cell-branch-tree}
 
 -- Whether an entry has the key of the last one.
 module _ (ws txt : List ℕ) (w : Which) (v : Level) (x l : ℕ) (e : Entry) where
@@ -66,9 +66,9 @@ module _ {ws txt : List ℕ} {p : Str} {n root last : ℕ} {roots heads labels c
     pub after-rest : Rest ws txt w v x p (state roots′ heads′ labels child′ next′ n (t .root) (t .branch)) after
     pub fewer : remaining ws txt p roots′ heads′ n < remaining ws txt p roots heads n
 
-  pub steps : (t .cell ≡ 96 → ⊥) → Stepped
+  pub merge-steps : (t .cell ≡ 96 → ⊥) → Stepped
   unfolding first run-at
-  steps ne = go (g .heap) (g .holding) (g .enough) (g .says)
+  merge-steps ne = go (g .heap) (g .holding) (g .enough) (g .says)
     where
       m : Merge
       m = state roots heads labels child next n root last
@@ -140,16 +140,16 @@ module _ {ws txt : List ℕ} {p : Str} {m : Merge} {roots heads child next : Lis
 
   module _ {roots′ heads′ child′ next′ : List ℕ} {t : Taken} (takes : Takes ws txt p (m .n) root roots heads child next roots′ heads′ child′ next′ t) (ne : t .cell ≡ 96 → ⊥) where
     pub passing-small : t .cell < 96
-    passing-small = omega (arith, steps takes now-rest ne .below, now-rest .holding .few)
+    passing-small = omega (arith, merge-steps takes now-rest ne .below, now-rest .holding .few)
 
     pub passing-fewer : remaining ws txt p roots′ heads′ (m .n) < remaining ws txt p roots heads (m .n)
-    passing-fewer = steps takes now-rest ne .fewer
+    passing-fewer = merge-steps takes now-rest ne .fewer
 
     pub passing-branch : (0 < t .branch) × AnyTree ws txt (t .branch)
-    passing-branch = let k = steps takes now-rest ne in branch-tree (now-rest .holding .here) (k .branch)
+    passing-branch = let k = merge-steps takes now-rest ne in cell-branch-tree (now-rest .holding .here) (k .branch)
 
     pub passing-last : (m .last ≡ 0 → ⊥) → (0 < m .last) × AnyTree ws txt (m .last)
-    passing-last n = branch-tree (now-rest .holding .here) (last-branch ws (y .which) (y .level) (y .link) (m .last) (now-rest .given) (now-rest .last) n)
+    passing-last n = cell-branch-tree (now-rest .holding .here) (last-branch ws (y .which) (y .level) (y .link) (m .last) (now-rest .given) (now-rest .last) n)
 
 module _ {ws txt : List ℕ} {p : Str} {m : Merge} {roots heads child next : List ℕ} {root : ℕ} (o : Passing ws txt p m roots heads child next root)
     {roots′ heads′ child′ next′ : List ℕ} {t : Taken} (takes : Takes ws txt p (m .n) root roots heads child next roots′ heads′ child′ next′ t) where
@@ -162,7 +162,7 @@ module _ {ws txt : List ℕ} {p : Str} {m : Merge} {roots heads child next : Lis
     passing-on f n e = record {
       says = λ w v x s g.
           let r = o .says w v x s g in
-          let k = steps takes r ne in
+          let k = merge-steps takes r ne in
           subst (λ (s : List Entry). Rest ws txt w v x p (state roots′ heads′ (m .labels) child′ next′ (m .n) (t .root) (m .last)) s)
           (sym (k .splits ∙ rw (again-same ws txt w v x (m .last) (k .entry) (r .given) (r .last) n (rw (k .branch-is) at e)))) (k .passed-rest);
       fewer = omega (arith, o .fewer);
@@ -176,7 +176,7 @@ module _ {ws txt : List ℕ} {p : Str} {m : Merge} {roots heads child next : Lis
         })
     passing-gives f w v x s g =
         let r = o .says w v x s g in
-        let k = steps takes r ne in
+        let k = merge-steps takes r ne in
         let step : Step = record {
           branch = t .branch;
           label = getD (m .labels) (t .cell) 0;

@@ -29,7 +29,7 @@ use Rattle.find_tree.specs.Links.{branches, head0, BranchOf}
 use Rattle.find_list.specs.Entries.{Entry, entry-key}
 use Rattle.merge.specs.Stream.{later, run-at, left, Holding, state, TookCell, TookIn, Takes, CellsReady}
 use Rattle.merge.specs.declared.Taken.{Taken}
-use Rattle.merge.proofs.Cells.{Next, later-end, later-next, branch-head, branch-few, cell-tree, next-branch, stands, remaining-less}
+use Rattle.merge.proofs.Cells.{Next, later-end, later-next, branch-head, branch-few, cell-tree, next-branch, cell-stands, remaining-less}
 use Rattle.memory.proofs.At.{no-link}
 
 -- A cell's lists before and after a change of another cell.
@@ -62,7 +62,7 @@ module _ {ws txt : List ℕ} {w : Which} {v : Level} {x : ℕ} {p : Str} {n root
   popped-is : popped (entry-key ws txt) (val c) (forest-map val hh) ≡ put-back (entry-key ws txt) (val c) (heap-map val others)
   popped-is =
       ap (put-back (entry-key ws txt) (val c))
-      (stands-pairs (entry-key ws txt) ws txt heads n val (λ j l. stands ws txt p roots heads labels j) hh (rep-below n child next (g .few) (g .rep) .1))
+      (stands-pairs (entry-key ws txt) ws txt heads n val (λ j l. cell-stands ws txt p roots heads labels j) hh (rep-below n child next (g .few) (g .rep) .1))
 
   -- Its list is at its end.
   module _ (rest : ℕ) (child′ next′ : List ℕ) (made : Makes n child next child′ next′ rest others)
@@ -170,7 +170,7 @@ module _ {ws txt : List ℕ} {w : Which} {v : Level} {x : ℕ} {p : Str} {n root
             ];
           };
           heap-is = sym (popped-is ∙ val-next
-              ∙ stands-insert (entry-key ws txt) ws txt (with-head ws txt heads c r) n val′ (λ j l. stands ws txt p roots (with-head ws txt heads c r) labels j) val c below
+              ∙ stands-insert (entry-key ws txt) ws txt (with-head ws txt heads c r) n val′ (λ j l. cell-stands ws txt p roots (with-head ws txt heads c r) labels j) val c below
               (λ j l ne. run-same ws txt p roots heads roots (with-head ws txt heads c r) labels j refl (sym (head-other j l ne)))
               others (rep-below n child′ next′ (g .few) (made .rep)) free);
           fewer = remaining-less ws txt p roots heads roots (with-head ws txt heads c r) c (λ j l ne. (refl, other-head ws txt heads c r small j l ne)) n (g .few) below
@@ -226,8 +226,8 @@ module _ {ws txt : List ℕ} {p : Str} {n root cell rest : ℕ} {roots heads chi
   pub cell-small : cell < 96
   cell-small = omega (arith, popped-cell .0, g .few)
 
-  pub branch-fits : getD heads cell 0 ≤ 65536
-  branch-fits = branch-few (g .here) (g .cells cell (popped-cell .0) .branch)
+  pub head-fits : getD heads cell 0 ≤ 65536
+  head-fits = branch-few (g .here) (g .cells cell (popped-cell .0) .branch)
 
   pub next-asks : AnyTree ws txt (getD roots cell 0) × (List·Memᴰ (getD heads cell 0) (branches ws (getD roots cell 0)) × (starts-with (key-at ws txt (getD heads cell 0)) p ≡ true))
   next-asks =

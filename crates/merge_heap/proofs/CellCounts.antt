@@ -8,7 +8,7 @@ use lib.ListN.{getD}
 use borrow.Author.Tests.{eq-eqb, ne-eqb}
 use Rattle.source.specs.Heap.{Heap, Forest, EmptyHeap, HeapOf, []ᶠ, _∷ᶠ_}
 use Rattle.source.specs.Forward.{sumᶠ}
-use Rattle.source.proofs.Heap.{All, Allᶠ, counted}
+use Rattle.source.proofs.Heap.{All, Allᶠ, sum-counted}
 use Rattle.merge_heap.specs.Cells.{Root, Holds, Holdsᶠ, is, count, Sized, Rep, Repᶠ, Apart, Same, Makes}
 
 pub is-self : (v : ℕ) → is v v ≡ 1
@@ -82,8 +82,8 @@ module _ (n : ℕ) (child next : List ℕ) (few : n ≤ 96) where
     rep-keptᶠ {i} {hh} z f r = record { sized = z; holds = holds-keptᶠ hh i f (r .holds); once = r .once }
 
   -- Nothing was changed.
-  pub unchanged : {i : ℕ} {h : Heap ℕ} → Rep n child next i h → Makes n child next child next i h
-  unchanged r = record { rep = r; kept = λ j e. record { first-child = refl; next-sibling = refl } }
+  pub makes-unchanged : {i : ℕ} {h : Heap ℕ} → Rep n child next i h → Makes n child next child next i h
+  makes-unchanged r = record { rep = r; kept = λ j e. record { first-child = refl; next-sibling = refl } }
 
   mutual
     -- A heap's cells are below n.
@@ -99,7 +99,7 @@ module _ (n : ℕ) (child next : List ℕ) (few : n ≤ 96) where
   rep-below {i} {h} r = holds-below h i (r .holds)
 
 mutual
-  -- What holds of the cells that are counted holds of all.
+  -- What holds of the cells that are sum-counted holds of all.
   pub all-counted : (P : ℕ → Type 0) (h : Heap ℕ) → ((j : ℕ) → 0 < count j h → P j) → All P h
   all-counted P EmptyHeap f = tt
   all-counted P (HeapOf v hh) f = (f v (omega (arith, is-self v)), all-countedᶠ P hh (λ j l. f j (omega arith)))
@@ -111,6 +111,6 @@ mutual
 is-cell : (j v : ℕ) → 0 < is j v → j ≡ v
 is-cell j v l = elim (ℕ-discrete j v) [ yes e ↦ e | no n ↦ absurd (omega (arith, is-other j v n)) ]
 
--- What holds of all holds of a cell that is counted.
+-- What holds of all holds of a cell that is sum-counted.
 pub counted-all : (P : ℕ → Type 0) (j : ℕ) (h : Heap ℕ) → All P h → 0 < count j h → P j
-counted-all P j h p l = let k = counted P (is j) h l p in subst P (sym (is-cell j (k .0) (k .1))) (k .2)
+counted-all P j h p l = let k = sum-counted P (is j) h l p in subst P (sym (is-cell j (k .0) (k .1))) (k .2)

@@ -10,7 +10,7 @@ use lib.Seq.{getD-set-same, getD-set-other}
 use Rattle.source.specs.Heap.{Heap, Forest, EmptyHeap, HeapOf, []ᶠ, _∷ᶠ_, is-lt, heap-merge, heap-insert}
 use Rattle.source.proofs.Heap.{sum-merge}
 use Rattle.merge_heap.specs.Cells.{Holdsᶠ, is, count, Sized, Rep, Apart, Same, Makes, Merges, Inserts}
-use Rattle.merge_heap.proofs.CellCounts.{is-self, is-other, is-none, not-both, same-trans, by-root, holds-keptᶠ, rep-kept, unchanged}
+use Rattle.merge_heap.proofs.CellCounts.{is-self, is-other, is-none, not-both, same-trans, by-root, holds-keptᶠ, rep-kept, makes-unchanged}
 
 module _ (n : ℕ) (child next : List ℕ) (few : n ≤ 96) where
   -- What link does to the cells v and w.
@@ -75,13 +75,13 @@ module _ (n : ℕ) (child next : List ℕ) (few : n ≤ 96) where
   -- One of the two is empty.
   pub merge-none : (cmp : ℕ → ℕ → Ordering) (a b : ℕ) → a ≡ 96 → Merges cmp n child next child next b a b
   unfolding heap-merge
-  merge-none cmp a b e EmptyHeap g p q s = unchanged n child next few q
+  merge-none cmp a b e EmptyHeap g p q s = makes-unchanged n child next few q
   merge-none cmp a b e (HeapOf v hh) g p q s = absurd (omega (arith, p .holds .0, p .holds .1))
 
   pub merge-only : (cmp : ℕ → ℕ → Ordering) (a b : ℕ) → b ≡ 96 → Merges cmp n child next child next a a b
   unfolding heap-merge
-  merge-only cmp a b e EmptyHeap EmptyHeap p q s = unchanged n child next few p
-  merge-only cmp a b e (HeapOf v hh) EmptyHeap p q s = unchanged n child next few p
+  merge-only cmp a b e EmptyHeap EmptyHeap p q s = makes-unchanged n child next few p
+  merge-only cmp a b e (HeapOf v hh) EmptyHeap p q s = makes-unchanged n child next few p
   merge-only cmp a b e h (HeapOf w gg) p q s = absurd (omega (arith, q .holds .0, q .holds .1))
 
   -- heap_merge after the children of v were cut off.

@@ -81,11 +81,11 @@ abbrev Held : ℕ → List ℕ → List ℕ → ℕ → Type 0
 Held n child next i = (hh : Forest ℕ) × Repᶠ n child next i hh
 
 module _ {n : ℕ} {child next : List ℕ} (few : n ≤ 96) {i : ℕ} where
-  pub small : Held n child next i → i ≤ 96
-  small p = root-small n child next few i (p .0) (p .1 .holds)
+  pub held-small : Held n child next i → i ≤ 96
+  held-small p = root-small n child next few i (p .0) (p .1 .holds)
 
-  pub inside : Held n child next i → (i ≡ 96 → ⊥) → i < n
-  inside p ne = go (p .0) (p .1 .holds)
+  pub held-inside : Held n child next i → (i ≡ 96 → ⊥) → i < n
+  held-inside p ne = go (p .0) (p .1 .holds)
     where
       go : (hh : Forest ℕ) → Holdsᶠ n child next i hh → i < n
       go []ᶠ s = absurd (ne s)
@@ -97,8 +97,8 @@ module _ {n : ℕ} {child next : List ℕ} (few : n ≤ 96) {i : ℕ} where
   then : {h : Heap ℕ} {hh : Forest ℕ} → Repᶠ n child next i (h ∷ᶠ hh) → Repᶠ n child next (getD next i 0) hh
   then p = record { sized = p .sized; holds = p .holds .2; once = λ j. omega (arith, p .once j) }
 
-  pub after : Held n child next i → (i ≡ 96 → ⊥) → Held n child next (getD next i 0)
-  after p ne = go (p .0) (p .1)
+  pub held-next : Held n child next i → (i ≡ 96 → ⊥) → Held n child next (getD next i 0)
+  held-next p ne = go (p .0) (p .1)
     where
       go : (hh : Forest ℕ) → Repᶠ n child next i hh → Held n child next (getD next i 0)
       go []ᶠ q = absurd (ne (q .holds))

@@ -14,9 +14,9 @@ use Rattle.merge_heap.proofs.CellCounts.{root-small, is-other}
 -- ---- heap_pop
 module _ (n : ℕ) (child next : List ℕ) (few : n ≤ 96) (i : ℕ) where
   -- The heaps under a root.
-  pub kids : (h : Heap ℕ) → Rep n child next i h → (i ≡ 96 → ⊥) → (hh : Forest ℕ) × Repᶠ n child next (getD child i 0) hh
-  kids EmptyHeap p ne = absurd (ne (p .holds))
-  kids (HeapOf v hh) p ne = (
+  pub rep-kids : (h : Heap ℕ) → Rep n child next i h → (i ≡ 96 → ⊥) → (hh : Forest ℕ) × Repᶠ n child next (getD child i 0) hh
+  rep-kids EmptyHeap p ne = absurd (ne (p .holds))
+  rep-kids (HeapOf v hh) p ne = (
     hh,
     record {
       sized = p .sized;
@@ -26,7 +26,7 @@ module _ (n : ℕ) (child next : List ℕ) (few : n ≤ 96) (i : ℕ) where
   )
 
   pub kids-small : (h : Heap ℕ) → Rep n child next i h → (i ≡ 96 → ⊥) → getD child i 0 ≤ 96
-  kids-small h p ne = root-small n child next few (getD child i 0) (kids h p ne .0) (kids h p ne .1 .holds)
+  kids-small h p ne = root-small n child next few (getD child i 0) (rep-kids h p ne .0) (rep-kids h p ne .1 .holds)
 
   module _ (cmp : ℕ → ℕ → Ordering) where
     pub pop-none : i ≡ 96 → Pops cmp n child next child next Nothing i
@@ -34,11 +34,11 @@ module _ (n : ℕ) (child next : List ℕ) (few : n ≤ 96) (i : ℕ) where
     pop-none e EmptyHeap p = (refl, refl)
     pop-none e (HeapOf v hh) p = absurd (omega (arith, p .holds .0, p .holds .1))
 
-    pub pop-least : (child′ next′ : List ℕ) (r : ℕ) → (i ≡ 96 → ⊥)
+    pub pop-rep : (child′ next′ : List ℕ) (r : ℕ) → (i ≡ 96 → ⊥)
         → Pairs cmp n child next child′ next′ r (getD child i 0) → Pops cmp n child next child′ next′ (Least i r) i
-    unfolding heap-pop kids
-    pop-least child′ next′ r ne paired EmptyHeap p = absurd (ne (p .holds))
-    pop-least child′ next′ r ne paired (HeapOf v hh) p = (p .holds .0, paired hh (kids (HeapOf v hh) p ne .1))
+    unfolding heap-pop rep-kids
+    pop-rep child′ next′ r ne paired EmptyHeap p = absurd (ne (p .holds))
+    pop-rep child′ next′ r ne paired (HeapOf v hh) p = (p .holds .0, paired hh (rep-kids (HeapOf v hh) p ne .1))
 
 -- ---- heap_from_list
 module _ (cmp : ℕ → ℕ → Ordering) where

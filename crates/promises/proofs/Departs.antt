@@ -1,4 +1,4 @@
--- Where the listing departs from the source's, the theorems: `list-departs`, `departs`.
+-- Where the listing listing-departs from the source's, the theorems: `list-departs`, `listing-departs`.
 use Prim.Native.Nat.{ℕ, zero, suc, _≤_}
 use mathlib.Core.Path.{_≡_, refl, sym, ap, _∙_}
 use mathlib.Core.Logic.{_⊎_, inl, inr}
@@ -162,9 +162,9 @@ module _ {A : Type 0} (Item : A → Type 0) where
           ∙ ap (map f) (along-same tr [] (segments query) s q (sound .formed) c o)
           ∙ sym (line-along Item f text of-source (source-finds IsKey IsLabel Item) tr (sound .formed) name query s q e whole)
 
-pub departs : (tbl : Table) → SoundTable tbl → Departs tbl
+pub listing-departs : (tbl : Table) → SoundTable tbl → Departs tbl
 unfolding autocomplete-lid autocomplete-lid-first autocomplete-mod-or-ns autocomplete-mod-or-ns-first completion-result-of-lid completion-result-of-ns-or-mod
-departs tbl sound = record {
+listing-departs tbl sound = record {
   names-run = λ q. root-run NameItem (tbl .tbl-lids) q (sound .lids .formed);
   modules-run = λ q. root-run ModItem (tbl .tbl-mods) q (sound .mods .formed);
   names-line = λ name query. root-line NameItem completion-result-of-lid (λ x. refl) (tbl .tbl-lids) (sound .lids) name query;

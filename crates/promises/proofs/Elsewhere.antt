@@ -8,7 +8,7 @@ use Rattle.source.specs.Types.{Value, Trie, NameList, bind, ns, trie, bindings,
 use Rattle.source.specs.Tries.{dflt, bind-option, names-find-exact, names-insert, scope-of, trie-find-exact, trie-mutate, trie-mutate-leaf}
 use Rattle.source.specs.Plans.{host-of}
 use Rattle.source.proofs.Imports.{names-find-inserted}
-use Rattle.source.proofs.Elsewhere.{same-key, names-find-other}
+use Rattle.source.proofs.Elsewhere.{key-same-or-not, names-find-other}
 
 module _ {A : Type 0} where
   find-empty : (q : Query) → trie-find-exact {A = A} trie-empty q ≡ none
@@ -34,7 +34,7 @@ module _ {A : Type 0} where
   elsewhere leaf tr (h ∷ host) rev [] d = refl
   elsewhere leaf tr (h ∷ host) rev (s ∷ []) d = refl
   elsewhere leaf tr (h ∷ host) rev (s ∷ (t ∷ q)) d =
-      go (same-key s h) (λ n. elsewhere leaf (scope-of (namespaces tr) h) host (h ∷ rev) (t ∷ q) n)
+      go (key-same-or-not s h) (λ n. elsewhere leaf (scope-of (namespaces tr) h) host (h ∷ rev) (t ∷ q) n)
     where
       below : Trie A
       below = trie-mutate (scope-of (namespaces tr) h) host (h ∷ rev) (λ tr _ _ _ n. trie (bindings tr) n) (λ at _. leaf at)

@@ -10,7 +10,7 @@ use Rattle.source.specs.Tries.{bind-option, names-find-exact, trie-find-exact}
 use Rattle.source.specs.Table.{ModSymbol, Module, Namespace, Table, empty, insert, register-alias, register-include, register-open, loaded-module, register-module-stays-loaded, find-module-or-ns}
 use Rattle.source.specs.Calls.{State, Call, name, include, opens, alias, module-path, fresh, registered, after}
 use Rattle.source.proofs.Refusals.{accepted-is}
-use Rattle.source.proofs.Elsewhere.{same-key}
+use Rattle.source.proofs.Elsewhere.{key-same-or-not}
 use Rattle.promises.proofs.Keeps.{Made, made-fresh, made-by}
 use Rattle.source.proofs.ModuleRules.{namespace-unloaded, module-replaces, namespace-first, namespace-keeps, namespace-replaces, unloaded-keeps, module-elsewhere}
 
@@ -34,7 +34,7 @@ Begins q o = ((rest : Query) × (q ≡ o ++ rest)) ⊎ ((rest : Query) → q ≡
 begins : (q o : Query) → Begins q o
 begins q [] = inl (q, refl)
 begins [] (s ∷ o) = inr (λ rest e. nil≢cons e)
-begins (h ∷ q) (s ∷ o) = go (same-key h s) (begins q o)
+begins (h ∷ q) (s ∷ o) = go (key-same-or-not h s) (begins q o)
   where
     go : (h ≡ s) ⊎ (h ≡ s → ⊥) → Begins q o → Begins (h ∷ q) (s ∷ o)
     go (inl e) (inl r) = inl (r .0, let f = r .1 in cc)

@@ -12,7 +12,7 @@ use Rattle.source.specs.Calls.{Found, found, not-found, refused}
 use Rattle.source.specs.declared.ItemKind.{ItemKind}
 use Rattle.source.specs.Items.{same-kind}
 use Rattle.source.specs.declared.LidSymbol.{LidSymbol}
-use Rattle.source.proofs.Elsewhere.{same-key}
+use Rattle.source.proofs.Elsewhere.{key-same-or-not}
 use Rattle.source.proofs.Items.{same-kind-is, kind-same}
 use Rattle.promises.specs.Agreement.{Shows}
 
@@ -50,14 +50,14 @@ lid-told x y = go (kind-told (x .kind) (y .kind)) (number-told (x .number) (y .n
 
 -- Two modules or namespaces.
 pub mod-told : (x y : ModSymbol) → (x ≡ y) ⊎ (x ≡ y → ⊥)
-mod-told (Module n p l) (Module n′ p′ l′) = go (same-key n n′) (same-key p p′) (bool-told l l′)
+mod-told (Module n p l) (Module n′ p′ l′) = go (key-same-or-not n n′) (key-same-or-not p p′) (bool-told l l′)
   where
     go : Told n n′ → Told p p′ → Told l l′ → Told (Module n p l) (Module n′ p′ l′)
     go (inl e) (inl f) (inl g) = inl (rw (e, f, g))
     go (inr e) f g = inr (λ i. e cc)
     go (inl e) (inr f) g = inr (λ i. f cc)
     go (inl e) (inl f) (inr g) = inr (λ i. g cc)
-mod-told (Namespace n l) (Namespace n′ l′) = go (same-key n n′) (bool-told l l′)
+mod-told (Namespace n l) (Namespace n′ l′) = go (key-same-or-not n n′) (bool-told l l′)
   where
     go : Told n n′ → Told l l′ → Told (Namespace n l) (Namespace n′ l′)
     go (inl e) (inl f) = inl (rw (e, f))

@@ -45,8 +45,8 @@ rows-of h = ap lowest (rows-by-flags h)
 
 -- A call that admit lets through, and one that it refuses.
 module _ {args : List Argument} {f : Flags} {a : Admission} (h : AllFlagged args f) (e : row-of a ≡ lowest (flag-rows f)) where
-  pub passes : a ≡ Admitted → lowest (argument-rows true args) ≡ none
-  passes k = rows-of h ∙ sym (rw k at e)
+  pub admitted-none : a ≡ Admitted → lowest (argument-rows true args) ≡ none
+  admitted-none k = rows-of h ∙ sym (rw k at e)
 
-  pub stops : {x : Refusal} → a ≡ Refused x → lowest (argument-rows true args) ≡ some (number x)
-  stops k = rows-of h ∙ sym (rw k at e)
+  pub refused-lowest : {x : Refusal} → a ≡ Refused x → lowest (argument-rows true args) ≡ some (number x)
+  refused-lowest k = rows-of h ∙ sym (rw k at e)

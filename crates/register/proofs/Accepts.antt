@@ -26,7 +26,7 @@ use Rattle.memory_table.proofs.Table.{table-keeps}
 use Rattle.insert_record.specs.Made.{Room}
 use Rattle.insert_record.proofs.Made.{made-what, made-link}
 use Rattle.register_kind.specs.Shapes.{shape-of, call-of}
-use Rattle.register_kind.specs.declared.Kind.{Kind}
+use Rattle.register_kind.specs.declared.CallKind.{CallKind}
 use Rattle.register_kind.specs.declared.Form.{Form}
 use Rattle.register_kind.specs.declared.Form.the-variants as form
 use Rattle.register_plan.specs.Plans.{Carries}
@@ -37,7 +37,7 @@ use Rattle.register_leaf.specs.declared.Change.{Change}
 use Rattle.register_change.proofs.Registered.{Registers}
 use Rattle.register.specs.Checks.{lent, Ready, Passes}
 use Rattle.register.specs.Writes.{TextsLaid, with-root, with-text, Accepts}
-use Rattle.register.proofs.Checks.{ready, taken-all}
+use Rattle.register.proofs.Checks.{call-ready, taken-all}
 use Rattle.register.proofs.Changes.{change-at, Stays, Right, host-is, change-right, right-mutation}
 
 -- The text used after a call.
@@ -91,7 +91,7 @@ carries-keeps {txt = txt} {txt′} o y form.Import inc s r = record {
 carries-keeps o y (form.Module loaded) inc s r = r
 
 -- And so does the way.
-way-keeps : {ws txt txt′ : List ℕ} {n used : ℕ} → Used ws txt n used → Keeps used txt txt′ → (w : Which) (k : Kind) (other key : Str) (way : List ℕ) (x : ℕ) (q : Query)
+way-keeps : {ws txt txt′ : List ℕ} {n used : ℕ} → Used ws txt n used → Keeps used txt txt′ → (w : Which) (k : CallKind) (other key : Str) (way : List ℕ) (x : ℕ) (q : Query)
     → LinkOk ws (n + 1) x (kind w trieˢ) → Way ws txt w k other key way x q → Way ws txt′ w k other key way x q
 way-keeps o y w k other key way x [] i z = rw (what-keeps o y w trieˢ (omega arith) i) z
 way-keeps {ws} {n = n} o y w k other key way x (s ∷ q) i z =
@@ -106,12 +106,12 @@ way-keeps {ws} {n = n} o y w k other key way x (s ∷ q) i z =
     )
 
 -- ---- Whole
-module _ {ws txt : List ℕ} {h : Header} {k : Kind} {host other key : Str} {way : List ℕ} (p : Passes ws txt h k host other key way) where
+module _ {ws txt : List ℕ} {h : Header} {k : CallKind} {host other key : Str} {way : List ℕ} (p : Passes ws txt h k host other key way) where
   passed : Acceptable true (lent ws txt) (state-of ws txt h) (call-of k host other key)
   passed = registration-rows-none true _ _ _ (p .rows)
 
   is-ready : Ready k host other key
-  is-ready = ready k host other key (passed .admitted)
+  is-ready = call-ready k host other key (passed .admitted)
 
   -- The text that the call takes.
   taken : text-taken (arguments (call-of k host other key)) ≡ length host + length other + length key

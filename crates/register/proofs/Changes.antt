@@ -22,8 +22,8 @@ use Rattle.memory_table.specs.declared.Header.{Header}
 use Rattle.memory.proofs.Seen.{link-later}
 use Rattle.insert_record.specs.Made.{Room}
 use Rattle.register_kind.specs.Shapes.{shape-of, call-of}
-use Rattle.register_kind.specs.declared.Kind.{Kind}
-use Rattle.register_kind.specs.declared.Kind.the-variants.{Name, Include, Open, Alias, Module}
+use Rattle.register_kind.specs.declared.CallKind.{CallKind}
+use Rattle.register_kind.specs.declared.CallKind.the-variants.{Name, Include, Open, Alias, Module}
 use Rattle.register_plan.specs.Plans.{Carries}
 use Rattle.register_way.specs.Way.{which-by}
 use Rattle.register_leaf.specs.Leaves.{which-of, label-in, ChangeOk}
@@ -35,7 +35,7 @@ use Rattle.register.specs.Checks.{Ready}
 use Rattle.register.specs.Writes.{Stand, with-text}
 
 -- The change that a registration makes, where its texts stand from a place on.
-abbrev pub change-at : Kind → (inc at : ℕ) (host other key : Str) → Change
+abbrev pub change-at : CallKind → (inc at : ℕ) (host other key : Str) → Change
 change-at k inc at host other key = record {
   kind = k;
   text = record { start = at + length host; len = length other };
@@ -69,7 +69,7 @@ module _ {ws txt : List ℕ} (h : Header) {used : ℕ} (o : Sound ws txt (with-t
     pub host-is : between txt at (at + length host) ≡ segments host
     host-is = let z : at + length host - at ≡ length host = omega arith in rw (z, p .host-at)
 
-    pub change-right : (k : Kind) (inc : ℕ) → Ready k host other key → Carries (shape-of k .form) ws txt (h .names) other inc
+    pub change-right : (k : CallKind) (inc : ℕ) → Ready k host other key → Carries (shape-of k .form) ws txt (h .names) other inc
         → Right at (at + length host) (call-of k host other key) (change-at k inc at host other key) (root-at (which-by (shape-of k .form)) h)
     unfolding registered insert register-alias register-include register-open register-module-stays-loaded
     change-right (Name k n) inc r i = record {

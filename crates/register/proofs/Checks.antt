@@ -20,7 +20,7 @@ use Rattle.source.proofs.PlannedRecords.{records-planned}
 use Rattle.refusals.specs.Rows.{capacity-rows}
 use Rattle.refusals.proofs.Rows.{query-ends}
 use Rattle.register_kind.specs.Shapes.{shape-of, call-of, argument-as, other-argument, key-argument}
-use Rattle.register_kind.specs.declared.Kind.{Kind}
+use Rattle.register_kind.specs.declared.CallKind.{CallKind}
 use Rattle.register_kind.specs.declared.Form.{Form}
 use Rattle.register_kind.specs.declared.Form.the-variants as form
 use Rattle.register_kind.proofs.Shapes.{arguments-of, taken-is}
@@ -33,9 +33,9 @@ use Rattle.register_plan.specs.declared.Plan.{Plan}
 use Rattle.register.specs.Checks.{NoKey, Ready}
 
 -- ---- Texts
-pub ready : (k : Kind) (host other key : Str) → Admitted true (arguments (call-of k host other key)) → Ready k host other key
+pub call-ready : (k : CallKind) (host other key : Str) → Admitted true (arguments (call-of k host other key)) → Ready k host other key
 unfolding any
-ready k host other key a =
+call-ready k host other key a =
     let m = or-parts (any malformed (key-argument k key)) _ (rw (arguments-of k host other key, any-append) at (a .well-formed)) in
     let h = or-parts (malformed (a-query host)) (malformed (other-argument k other) || false) (m .1) in
     let t = keeps-parts (key-argument k key) _ (rw (arguments-of k host other key) at (admitted-keeps true _ a)) in
@@ -61,7 +61,7 @@ pub record Short (host other key : Str) : Type 0 where
   pub other-short : length other ≤ 544
   pub key-short : length key ≤ 31
 
-pub ready-short : (k : Kind) (host other key : Str) → Ready k host other key → NoKey k key → Short host other key
+pub ready-short : (k : CallKind) (host other key : Str) → Ready k host other key → NoKey k key → Short host other key
 ready-short k host other key r n = record {
   host-short = query-bound host (r .host-ends) (r .host-keeps);
   other-short = other-bound (shape-of k .form) other (r .other-fine) (r .other-keeps);
@@ -69,7 +69,7 @@ ready-short k host other key r n = record {
 }
 
 -- The text that a call takes.
-pub taken-all : (k : Kind) (host other key : Str) → NoKey k key → text-taken (arguments (call-of k host other key)) ≡ length host + length other + length key
+pub taken-all : (k : CallKind) (host other key : Str) → NoKey k key → text-taken (arguments (call-of k host other key)) ≡ length host + length other + length key
 taken-all k host other key n = taken-is k host other key ∙ rw n
 
 -- ---- The root

@@ -39,5 +39,5 @@ module _ (txt : List ℕ) (at : ℕ) (host other key : Str) (room : at + length 
         };
       }
 
-  pub laid : {a b c : List ℕ} → a ≡ put-text txt at host → b ≡ put-text a (at + length host) other → c ≡ put-text b (at + length host + length other) key → TextsLaid txt c at host other key
-  laid e f g = rw (g, f, e) laid-put
+  pub texts-laid : {a b c : List ℕ} → a ≡ put-text txt at host → b ≡ put-text a (at + length host) other → c ≡ put-text b (at + length host + length other) key → TextsLaid txt c at host other key
+  texts-laid e f g = rw (g, f, e) laid-put

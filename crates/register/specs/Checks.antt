@@ -13,7 +13,7 @@ use Rattle.refusals.specs.Refusals.{number}
 use Rattle.memory_table.specs.Table.{state-of, Sound, root-at}
 use Rattle.memory_table.specs.declared.Header.{Header}
 use Rattle.register_kind.specs.Shapes.{shape-of, used-key, call-of, other-argument, key-argument}
-use Rattle.register_kind.specs.declared.Kind.{Kind}
+use Rattle.register_kind.specs.declared.CallKind.{CallKind}
 use Rattle.register_plan.specs.Plans.{Carries}
 use Rattle.register_way.specs.Way.{steps-at, way-size, included-in, which-by, Way}
 use Rattle.register.specs.declared.Checked.{Checked}
@@ -24,11 +24,11 @@ abbrev pub lent : (ws txt : List ℕ) → Lent
 lent ws txt = record { words = length ws; text = length txt }
 
 -- A key is given only where the kind uses it.
-abbrev pub NoKey : Kind → Str → Type 0
+abbrev pub NoKey : CallKind → Str → Type 0
 NoKey k key = used-key k key ≡ key
 
 -- Texts that pass rows 2 to 4.
-pub record Ready (k : Kind) (host other key : Str) : Type 0 where
+pub record Ready (k : CallKind) (host other key : Str) : Type 0 where
   pub host-ends : ends-in-dot host ≡ true
   pub host-keeps : IsQuery (segments host)
   pub other-fine : malformed (other-argument k other) ≡ false
@@ -36,7 +36,7 @@ pub record Ready (k : Kind) (host other key : Str) : Type 0 where
   pub key-keeps : Allˡ Keeps (key-argument k key)
 
 -- A registration that passes every row of a sound memory, where the included trie and then the way to the host are noted.
-pub record Passes (ws txt : List ℕ) (h : Header) (k : Kind) (host other key : Str) (way : List ℕ) : Type 0 where
+pub record Passes (ws txt : List ℕ) (h : Header) (k : CallKind) (host other key : Str) (way : List ℕ) : Type 0 where
   pub sound : Sound ws txt h
   pub no-key : NoKey k key
   pub rows : lowest (registration-rows true (lent ws txt) (state-of ws txt h) (call-of k host other key)) ≡ none
@@ -45,6 +45,6 @@ pub record Passes (ws txt : List ℕ) (h : Header) (k : Kind) (host other key : 
   pub leads : Way ws txt (which-by (shape-of k .form)) k other key (drop steps-at way) (root-at (which-by (shape-of k .form)) h) (segments host)
 
 -- The answer of a check: that it passes, or the first row that it meets.
-abbrev pub Checks : (ws txt : List ℕ) (h : Header) (k : Kind) (host other key : Str) (way : List ℕ) → Checked → Type 0
+abbrev pub Checks : (ws txt : List ℕ) (h : Header) (k : CallKind) (host other key : Str) (way : List ℕ) → Checked → Type 0
 Checks ws txt h k host other key way Passed = Passes ws txt h k host other key way
 Checks ws txt h k host other key way (Refused x) = lowest (registration-rows true (lent ws txt) (state-of ws txt h) (call-of k host other key)) ≡ some (number x)

@@ -7,8 +7,8 @@ use refusals::Demand;
 use refusals::Flags;
 use refusals::Refusal;
 use register_change::Descent;
+use register_kind::CallKind;
 use register_kind::Form;
-use register_kind::Kind;
 use register_leaf::Change;
 use register_way::INCLUDED;
 use register_way::STEPS;
@@ -61,7 +61,7 @@ fn key_flags(keyed: bool, key: &[u8]) -> Flags
 }
 
 // The flags of all arguments.
-fn flags_of(kind: Kind, host: &[u8], other: &[u8], key: &[u8]) -> Flags
+fn flags_of(kind: CallKind, host: &[u8], other: &[u8], key: &[u8]) -> Flags
     ensures { λ r. ⌜ AllFlagged (arguments (call-of kind (old host) (old other) (old key))) r ⌝ }
 {
     let s = register_kind::shape_of(kind);
@@ -101,7 +101,7 @@ pub fn check(
     words: &[u32],
     text: &[u8],
     h: Header,
-    kind: Kind,
+    kind: CallKind,
     host: &[u8],
     other: &[u8],
     key: &[u8],
@@ -181,7 +181,7 @@ pub fn write(
     words: &mut [u32],
     text: &mut [u8],
     h: Header,
-    kind: Kind,
+    kind: CallKind,
     host: &[u8],
     other: &[u8],
     key: &[u8],

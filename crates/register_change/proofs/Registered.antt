@@ -17,7 +17,7 @@ use Rattle.source.specs.declared.LidSymbol.{LidSymbol}
 use Rattle.memory.specs.Layout.{span, Which, names, modules, Item, trieˢ, what}
 use Rattle.memory.specs.Read.{text-of}
 use Rattle.insert_record.specs.Made.{Room}
-use Rattle.register_kind.specs.declared.Kind.the-variants.{Name, Include, Open, Alias, Module}
+use Rattle.register_kind.specs.declared.CallKind.the-variants.{Name, Include, Open, Alias, Module}
 use Rattle.register_leaf.specs.declared.Change.{Change}
 use Rattle.register_leaf.specs.Leaves.{with-kind, label-in, leaf-by, Fits}
 use Rattle.register_change.specs.Changes.{between, passed, node-of, bindings-by, mutated}

@@ -11,12 +11,12 @@ use Rattle.source.specs.Table.{register-open}
 use Rattle.source.specs.Counted.{register-openᶜ}
 use Rattle.source.specs.Calls.{Lent, State, a-query, a-name, arguments, text-of, text-taken, registered, records, registration-rows, after, register, include, opens}
 use Rattle.register_kind.specs.Shapes.{shape-of, used-key, key-size, call-of, argument-as, other-argument, key-argument}
-use Rattle.register_kind.specs.declared.Kind.{Kind}
-use Rattle.register_kind.specs.declared.Kind.the-variants.{Name, Include, Open, Alias, Module}
+use Rattle.register_kind.specs.declared.CallKind.{CallKind}
+use Rattle.register_kind.specs.declared.CallKind.the-variants.{Name, Include, Open, Alias, Module}
 use Rattle.register_kind.specs.declared.Form.{Form}
 use Rattle.register_kind.specs.declared.Form.the-variants as form
 
-pub arguments-of : (k : Kind) (host other key : Str) → arguments (call-of k host other key) ≡ key-argument k key ++ (a-query host ∷ other-argument k other ∷ [])
+pub arguments-of : (k : CallKind) (host other key : Str) → arguments (call-of k host other key) ≡ key-argument k key ++ (a-query host ∷ other-argument k other ∷ [])
 unfolding arguments
 arguments-of (Name k n) host other key = refl
 arguments-of Include host other key = refl
@@ -25,7 +25,7 @@ arguments-of Alias host other key = refl
 arguments-of (Module loaded) host other key = refl
 
 -- The text that a call takes.
-pub taken-is : (k : Kind) (host other key : Str) → text-taken (arguments (call-of k host other key)) ≡ length host + length other + length (used-key k key)
+pub taken-is : (k : CallKind) (host other key : Str) → text-taken (arguments (call-of k host other key)) ≡ length host + length other + length (used-key k key)
 unfolding text-taken text-of
 taken-is k host other key = rw arguments-of (by (shape-of k .form) (shape-of k .keyed))
   where
@@ -38,14 +38,14 @@ taken-is k host other key = rw arguments-of (by (shape-of k .form) (shape-of k .
     by (form.Module loaded) false = omega arith
 
 -- ---- The key that counts
-pub used-twice : (k : Kind) (key : Str) → used-key k (used-key k key) ≡ used-key k key
+pub used-twice : (k : CallKind) (key : Str) → used-key k (used-key k key) ≡ used-key k key
 used-twice k key = go (shape-of k .keyed)
   where
     go : (b : Bool) → cond b (cond b key []) [] ≡ cond b key []
     go true = refl
     go false = refl
 
-pub used-taken : (k : Kind) (key : Str) → take (key-size k (length key)) key ≡ used-key k key
+pub used-taken : (k : CallKind) (key : Str) → take (key-size k (length key)) key ≡ used-key k key
 used-taken k key = go (shape-of k .keyed)
   where
     go : (b : Bool) → take (cond b (length key) 0) key ≡ cond b key []
@@ -53,7 +53,7 @@ used-taken k key = go (shape-of k .keyed)
     go false = refl
 
 -- The key cut to what counts.
-module _ (k : Kind) (key : Str) {n : ℕ} (e : n ≡ key-size k (length key)) where
+module _ (k : CallKind) (key : Str) {n : ℕ} (e : n ≡ key-size k (length key)) where
   pub cut-used : used-key k (take n key) ≡ take n key
   cut-used = rw (e, used-taken, used-twice)
 

@@ -5,7 +5,7 @@ ghost use Prim.Native.Nat.{_≤_};
 ghost use Rattle.register_kind.specs.Shapes.{shape-of, key-size};
 
 // A registration apart from its texts.
-pub enum Kind {
+pub enum CallKind {
     // The source's insert: a name with its item, its kind and number.
     Name(ItemKind, u32),
     // register_include, register_open_module: the included bindings, under their label.
@@ -33,27 +33,27 @@ pub struct Shape {
 }
 
 // The table of kinds: one row for each.
-pub fn shape_of(kind: Kind) -> Shape
+pub fn shape_of(kind: CallKind) -> Shape
     ensures { λ r. ⌜ r ≡ shape-of kind ⌝ }
 {
     match kind {
-        Kind::Name(_, _) => Shape {
+        CallKind::Name(_, _) => Shape {
             form: Form::Name,
             keyed: false,
         },
-        Kind::Include => Shape {
+        CallKind::Include => Shape {
             form: Form::Import,
             keyed: false,
         },
-        Kind::Open => Shape {
+        CallKind::Open => Shape {
             form: Form::Import,
             keyed: false,
         },
-        Kind::Alias => Shape {
+        CallKind::Alias => Shape {
             form: Form::Import,
             keyed: true,
         },
-        Kind::Module(loaded) => Shape {
+        CallKind::Module(loaded) => Shape {
             form: Form::Module(loaded),
             keyed: false,
         },
@@ -61,7 +61,7 @@ pub fn shape_of(kind: Kind) -> Shape
 }
 
 // How many bytes of the key count: all where the kind has one, else none.
-pub fn key_size(kind: Kind, key: usize) -> usize
+pub fn key_size(kind: CallKind, key: usize) -> usize
     ensures { λ r. ⌜ (r ≡ key-size kind key) × (r ≤ key) ⌝ }
 {
     let s = shape_of(kind);

@@ -19,7 +19,7 @@ use Rattle.memory.specs.Sound.{LinkOk, TextOk, Used}
 use Rattle.memory.specs.declared.Span.{Span}
 use Rattle.insert_record.specs.Made.{Room, Made, MadeTrie}
 use Rattle.insert_list.specs.Insert.{NamesInsertion, NamesInserts}
-use Rattle.insert_record.proofs.Made.{made-none, made-as, made-then, made-room, made-link, made-what, trie-shallow}
+use Rattle.insert_record.proofs.Made.{made-none, made-as, made-then, made-room, made-link, made-what, made-shallow}
 use Rattle.insert_list.proofs.NamesInsertion.{insertion-after}
 use Rattle.register_leaf.specs.Leaves.{Builds}
 
@@ -98,7 +98,7 @@ module _ {ws ws₁ txt : List ℕ} {n n₁ used : ℕ} {w : Which} where
       made-room (B .made) (c .count) (B .number) o,
       (
         omega (arith, j .earlier, B .number),
-        trie-shallow (B .made .sound) w []ᴺ (made-link (B .made) (omega arith) j) (rw (made-what (B .made) w {x = y} (omega (arith, j .earlier))) h),
+        made-shallow (B .made .sound) w []ᴺ (made-link (B .made) (omega arith) j) (rw (made-what (B .made) w {x = y} (omega (arith, j .earlier))) h),
       ),
     )
 
@@ -117,7 +117,7 @@ module _ {ws ws₁ txt : List ℕ} {n n₁ used : ℕ} {w : Which} where
       made-room (C .made) (c .count) (C .number) o,
       (
         omega (arith, C .made .link .earlier),
-        trie-shallow (C .made .sound) w []ᴺ (C .made .link) (rw (C .made .reads) h),
+        made-shallow (C .made .sound) w []ᴺ (C .made .link) (rw (C .made .reads) h),
       ),
     )
 

@@ -23,8 +23,8 @@ use Rattle.insert_record.specs.Made.{Room, MadeTrie, MadeImported}
 use Rattle.insert_list.specs.Insert.{NamesInsertion, NamesInserts}
 use Rattle.insert_record.proofs.Made.{made-none, made-as, imported-light}
 use Rattle.insert_list.proofs.NamesInsertion.{insertion-after}
-use Rattle.register_kind.specs.declared.Kind.{Kind}
-use Rattle.register_kind.specs.declared.Kind.the-variants.{Name, Include, Open, Alias, Module}
+use Rattle.register_kind.specs.declared.CallKind.{CallKind}
+use Rattle.register_kind.specs.declared.CallKind.the-variants.{Name, Include, Open, Alias, Module}
 use Rattle.register_leaf.specs.declared.Change.{Change}
 use Rattle.register_leaf.specs.Leaves.{change-of, with-kind, leaf-by, leaf-of, Some, Leaf, LeafBuilds, Builds, LeafBuilt}
 use Rattle.memory.proofs.Tries.{Lists, lists-in}
@@ -232,16 +232,16 @@ module _ {ws txt : List ℕ} {n used x : ℕ} {text key : Span} {inc : ℕ} {p p
               record { number = omega (arith, d .number); made = rw (alias-lists .b-reads) at (d .made) }
 
 -- ---- each kind
-module _ {ws txt : List ℕ} {n x : ℕ} {k : Kind} (ch : Change) (e : ch .kind ≡ k) where
+module _ {ws txt : List ℕ} {n x : ℕ} {k : CallKind} (ch : Change) (e : ch .kind ≡ k) where
   pub leaf-as : Some (λ used. Leaf ws txt n used x ch) → Some (λ used. Leaf ws txt n used x (with-kind k ch))
-  leaf-as l = subst (λ (k : Kind). Some (λ used. Leaf ws txt n used x (with-kind k ch))) e l
+  leaf-as l = subst (λ (k : CallKind). Some (λ used. Leaf ws txt n used x (with-kind k ch))) e l
 
   pub inserting-as : (count : ℕ) → Some (λ used. Leaf ws txt n used x ch) × LeafBuilds ws txt x ch count
       → Some (λ used. Leaf ws txt n used x (with-kind k ch)) × LeafBuilds ws txt x (with-kind k ch) count
-  inserting-as count l = subst (λ (k : Kind). Some (λ used. Leaf ws txt n used x (with-kind k ch)) × LeafBuilds ws txt x (with-kind k ch) count) e l
+  inserting-as count l = subst (λ (k : CallKind). Some (λ used. Leaf ws txt n used x (with-kind k ch)) × LeafBuilds ws txt x (with-kind k ch) count) e l
 
   pub leaf-built : {ws′ : List ℕ} {link n′ : ℕ} → LeafBuilt ws ws′ txt n x (with-kind k ch) link n′ → LeafBuilt ws ws′ txt n x ch link n′
-  leaf-built {ws′} {link} {n′} b = subst (λ (k : Kind). LeafBuilt ws ws′ txt n x (with-kind k ch) link n′) (sym e) b
+  leaf-built {ws′} {link} {n′} b = subst (λ (k : CallKind). LeafBuilt ws ws′ txt n x (with-kind k ch) link n′) (sym e) b
 
 pub leaf-module : {ws txt : List ℕ} {n x : ℕ} {loaded : Bool} (ch : Change) → LeafBuilt ws ws txt n x (with-kind (Module loaded) ch) x n
 unfolding leaf-by

@@ -15,8 +15,8 @@ use Rattle.memory.specs.declared.Span.{Span}
 use Rattle.insert_record.specs.Made.{Room, Made}
 use Rattle.register_way.specs.Way.{which-by, HostBuilds}
 use Rattle.register_kind.specs.Shapes.{shape-of}
-use Rattle.register_kind.specs.declared.Kind.{Kind}
-use Rattle.register_kind.specs.declared.Kind.the-variants.{Name, Include, Open, Alias, Module}
+use Rattle.register_kind.specs.declared.CallKind.{CallKind}
+use Rattle.register_kind.specs.declared.CallKind.the-variants.{Name, Include, Open, Alias, Module}
 use Rattle.register_kind.specs.declared.Form.{Form}
 use Rattle.register_kind.specs.declared.Form.the-variants as form
 use Rattle.register_leaf.specs.declared.Change.{Change}
@@ -28,11 +28,11 @@ abbrev pub which-of : Change → Which
 which-of ch = which-by (shape-of (ch .kind) .form)
 
 -- A change by its parts.
-abbrev pub change-of : Kind → (text key : Span) (inc : ℕ) → Change
+abbrev pub change-of : CallKind → (text key : Span) (inc : ℕ) → Change
 change-of k text key inc = record { kind = k; text = text; key = key; inc = inc }
 
 -- The change ch, where its kind is k.
-abbrev pub with-kind : Kind → Change → Change
+abbrev pub with-kind : CallKind → Change → Change
 with-kind k ch = change-of k (ch .text) (ch .key) (ch .inc)
 
 -- The label of an included query: without its last dot.
@@ -40,7 +40,7 @@ abbrev pub label-in : Span → Span
 label-in text = record { start = text .start; len = text .len - 1 }
 
 -- mut_leaf of each kind: inc is the included trie.
-unfoldable pub leaf-by : (ws txt : List ℕ) (k : Kind) (text key : Span) (inc : ℕ) → Trie (Item (which-by (shape-of k .form))) → Counted (Trie (Item (which-by (shape-of k .form))))
+unfoldable pub leaf-by : (ws txt : List ℕ) (k : CallKind) (text key : Span) (inc : ℕ) → Trie (Item (which-by (shape-of k .form))) → Counted (Trie (Item (which-by (shape-of k .form))))
 leaf-by ws txt (Name k n) text key inc tr = do
   b ← names-insertᶜ (bindings tr) (text-of txt text) (item (record { kind = k; number = n }))
   one (trie b (namespaces tr))

@@ -3,7 +3,7 @@ use memory::BINDINGS_KIND;
 use memory::NAMESPACES_KIND;
 use memory::Span;
 use memory::TRIE_KIND;
-use register_kind::Kind;
+use register_kind::CallKind;
 use source::LidSymbol;
 ghost use mathlib.Core.Path.{_≡_};
 ghost use Prim.Native.Nat.{_-_};
@@ -14,7 +14,7 @@ ghost use Rattle.register_leaf.specs.Leaves.{with-kind, label-in, Some, 
 // A change of a trie: its kind, its second text and key as spans of the table's text, and the included trie.
 // What the kind does not use is of no account.
 pub struct Change {
-    pub kind: Kind,
+    pub kind: CallKind,
     pub text: Span,
     pub key: Span,
     pub inc: u32,
@@ -151,17 +151,17 @@ pub fn mut_leaf(
 {
     let kind = change.kind;
     match kind {
-        Kind::Name(kind, number) => {
+        CallKind::Name(kind, number) => {
             let item = LidSymbol {
                 kind: kind,
                 number: number,
             };
             insert_leaf(words, text, records, trie, change, item, count)
         }
-        Kind::Include => include_leaf(words, text, records, trie, change),
-        Kind::Open => open_leaf(words, text, records, trie, change),
-        Kind::Alias => alias_leaf(words, text, records, trie, change, count),
-        Kind::Module(_) => Built {
+        CallKind::Include => include_leaf(words, text, records, trie, change),
+        CallKind::Open => open_leaf(words, text, records, trie, change),
+        CallKind::Alias => alias_leaf(words, text, records, trie, change, count),
+        CallKind::Module(_) => Built {
             link: trie,
             records: records,
         },

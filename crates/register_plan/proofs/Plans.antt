@@ -68,9 +68,9 @@ module _ {ws txt : List ℕ} {w : Which} {x : ℕ} {p : M.Trie} {key : Str} {hol
   namespaces-builds z = rw (← namespaces-read t q) (z .inserts w ns (namespaces-at t q) .builds)
 
 -- ---- a path
-pub stepped : {ws txt : List ℕ} {w : Which} {x : ℕ} {p : M.Trie} {s : Str} {way way′ : List ℕ} {steps holder count wt y : ℕ} → At ws txt w trieˢ x → ReadTrie ws x p
+pub path-stepped : {ws txt : List ℕ} {w : Which} {x : ℕ} {p : M.Trie} {s : Str} {way way′ : List ℕ} {steps holder count wt y : ℕ} → At ws txt w trieˢ x → ReadTrie ws x p
     → NamesPlaced ws txt (p .namespaces) s holder count wt → y ≡ trie-in ws holder → NotesStep way way′ steps y count → StepIn ws txt w x s way way′ steps y (count + 2) (ltb 96 wt)
-stepped {ws} {txt} {w} {x} {s = s} t q z e n =
+path-stepped {ws} {txt} {w} {x} {s = s} t q z e n =
     let a = namespaces-at t q in
     let i = z .inserts w ns a in
     record {
@@ -109,8 +109,8 @@ module _ {A : Type 0} {builds weighs : Trie A → Str → Query → ℕ} {tr : T
     }
 
     module _ (g : StepsDown builds weighs tr q steps records crowded at []) where
-      pub built-all : (end : Trie A → ℕ) → along _+_ builds end tr q ≡ records + end at
-      built-all end = g .built end ∙ rw (along-host _+_ builds end at)
+      pub along-builds : (end : Trie A → ℕ) → along _+_ builds end tr q ≡ records + end at
+      along-builds end = g .built end ∙ rw (along-host _+_ builds end at)
 
       pub weighed-all : (end : Trie A → ℕ) → ltb 96 (along max weighs end tr q) ≡ crowded || ltb 96 (end at)
       weighed-all end = g .weighed end ∙ rw (along-host max weighs end at)
@@ -146,7 +146,7 @@ module _ {ws txt : List ℕ} {root link steps records : ℕ} {crowded : Bool} (h
     name-planned c z =
         let i = z .inserts names bind (bindings-at (g .here) q) in
         record {
-          records = rw (e, built-all (g .gives), ← bindings-read (g .here) q) (omega (arith, placed-records i));
+          records = rw (e, along-builds (g .gives), ← bindings-read (g .here) q) (omega (arith, placed-records i));
           crowded = rw (e, weighed-all (g .gives), ← bindings-read (g .here) q, placed-weight i (item c));
           deep = rw number-is;
         }
@@ -161,7 +161,7 @@ module _ {ws txt : List ℕ} {root link steps records : ℕ} {crowded : Bool} (h
           → Planned tbl (include host query) (record { records = records + 2; crowded = crowded || ltb 96 (a + b + 1); deep = ltb 16 steps })
       unfolding plan-records plan-crowded plan-weight plan-depth import-records include-weight
       include-planned k l = record {
-        records = rw (e, built-all (g .gives));
+        records = rw (e, along-builds (g .gives));
         crowded = rw (e, weighed-all (g .gives), ← f, ← bindings-read (g .here) q, ← bindings-read t q′, weights bind (bindings-at t q′) (bindings-at (g .here) q) k l);
         deep = rw number-is;
       }
@@ -170,7 +170,7 @@ module _ {ws txt : List ℕ} {root link steps records : ℕ} {crowded : Bool} (h
           → Planned tbl (opens false host query) (record { records = records + 2; crowded = crowded || ltb 96 (a + b + 1); deep = ltb 16 (steps + p′ .depth) })
       unfolding plan-records plan-crowded plan-weight plan-depth import-records open-weight
       open-planned k l = record {
-        records = rw (e, built-all (g .gives));
+        records = rw (e, along-builds (g .gives));
         crowded = rw (e, weighed-all (g .gives), ← f, ← namespaces-read (g .here) q, ← namespaces-read t q′, weights ns (namespaces-at t q′) (namespaces-at (g .here) q) k l);
         deep = rw (e, number-is, ← f, lists-seen t q′ .deep);
       }
@@ -186,7 +186,7 @@ module _ {ws txt : List ℕ} {root link steps records : ℕ} {crowded : Bool} (h
           let i = z .inserts names ns (namespaces-at (g .here) q) in
           let k : a + 1 ≡ suc (weight (what names ws txt (p′ .bindings) (list bind))) = omega (arith, list-weight (bindings-at t q′)) in
           record {
-            records = rw (e, built-all (g .gives), ← namespaces-read (g .here) q) (omega (arith, placed-records i));
+            records = rw (e, along-builds (g .gives), ← namespaces-read (g .here) q) (omega (arith, placed-records i));
             crowded = rw (e, weighed-all (g .gives), ltb-max, ← f, ← namespaces-read (g .here) q, ← bindings-read t q′, placed-weight i (what names ws txt 0 trieˢ), k);
             deep = rw number-is;
           }
@@ -199,8 +199,8 @@ module _ {ws txt : List ℕ} {x : ℕ} {p : M.Trie} {s : Str} {holder count wt :
   ins-inserts-is [] e = rw e
   ins-inserts-is (g ∷ r) e = rw (e, ← bindings-read t q, z .found modules bind (bindings-at t q) .says) (sym (n .says txt))
 
-  pub inserted : last || b ≡ true → Inserted ws txt x s last loaded (count + 1) (ltb 96 wt)
-  inserted d =
+  pub step-inserted : last || b ≡ true → Inserted ws txt x s last loaded (count + 1) (ltb 96 wt)
+  step-inserted d =
       let i = z .inserts modules bind (bindings-at t q) in
       record {
         small = omega (arith, z .small, lists-seen t q .bindings .earlier, t .link .earlier, t .sound .few);
@@ -217,10 +217,10 @@ module _ {ws txt : List ℕ} {x : ℕ} {p : M.Trie} {s : Str} {holder count wt :
   }
 
 -- The segment at hand is the last.
-pub last-is : (query : Str) (at n : ℕ) → Segment query at n → ends-in-dot (drop at query) ≡ true
+pub segment-last : (query : Str) (at n : ℕ) → Segment query at n → ends-in-dot (drop at query) ≡ true
     → eqb (at + n + 1) (length query) ≡ is-empty (segments (drop (at + n + 1) query))
 unfolding is-empty
-last-is query at n y d = go (eqb (at + n + 1) (length query)) refl
+segment-last query at n y d = go (eqb (at + n + 1) (length query)) refl
   where
     some-is : (q : Query) → 0 < length q → false ≡ is-empty q
     some-is [] h = absurd (omega arith)
@@ -238,7 +238,7 @@ pub module-path-next : {ws txt way way′ : List ℕ} {query : Str} {root link a
 unfolding module-step-records module-step-weight
 module-path-next {query = query} {at = at} {n} g y s h =
     let i = rw (part-is query at n) at (s modules (g .here)) in
-    let j = rw (part-is query at n) at (h .says _ (last-is query at n y (g .ends))) in
+    let j = rw (part-is query at n) at (h .says _ (segment-last query at n y (g .ends))) in
     stands-next g _ y (i .next) (λ f. steps-next f (rw (i .builds, j .builds)) (omega (arith, i .small, h .small)) (rw (ltb-max, i .weighs, j .weighs)))
 
 pub module-planned : {steps records : ℕ} {crowded loaded : Bool} {tr at : Trie S.ModSymbol} (query path : Str) (tbl : Table)
@@ -249,7 +249,7 @@ unfolding plan-records plan-crowded plan-weight plan-depth module-host
 module-planned {steps = steps} {records} {crowded} query path tbl g e =
     let k : length (segments query) ≡ steps = omega (arith, g .number) in
     record {
-      records = rw (e, built-all g) (omega arith);
+      records = rw (e, along-builds g) (omega arith);
       crowded = rw (e, weighed-all g) (sym (or-false crowded));
       deep = rw k;
     }

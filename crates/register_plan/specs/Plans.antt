@@ -16,7 +16,7 @@ use Rattle.source.specs.Plans.{along, inserted-records, inserted-weight, ins-in
 use Rattle.source.specs.declared.LidSymbol.{LidSymbol}
 use Rattle.memory.specs.Layout.{Which, names, modules, trieˢ, what}
 use Rattle.register_kind.specs.Shapes.{shape-of, call-of}
-use Rattle.register_kind.specs.declared.Kind.{Kind}
+use Rattle.register_kind.specs.declared.CallKind.{CallKind}
 use Rattle.register_kind.specs.declared.Form.{Form}
 use Rattle.register_kind.specs.declared.Form.the-variants as form
 use Rattle.register_plan.specs.declared.Plan.{Plan}
@@ -103,7 +103,7 @@ RootReads names ws txt root tbl = tbl .tbl-lids ≡ what names ws txt root trie�
 RootReads modules ws txt root tbl = tbl .tbl-mods ≡ what modules ws txt root trieˢ
 
 -- Of each kind, for any table of the root that it changes.
-abbrev pub KindPlanned : (k : Kind) (ws txt : List ℕ) (root : ℕ) (host other key : Str) (p : Plan) → Type 0
+abbrev pub KindPlanned : (k : CallKind) (ws txt : List ℕ) (root : ℕ) (host other key : Str) (p : Plan) → Type 0
 KindPlanned k ws txt root host other key p =
     (tbl : Table) → RootReads (which-by (shape-of k .form)) ws txt root tbl → Planned tbl (call-of k host other key) p
 

@@ -1,6 +1,6 @@
 // Planning: the records that a registration would build, and whether a list would be too heavy or a root too deep.
 // It goes down the host's path and reads what stands there; what the change will need of it is noted in an array, the way.
-use register_kind::Kind;
+use register_kind::CallKind;
 use register_way::WAY;
 ghost use mathlib.Core.Path.{_≡_};
 ghost use mathlib.Core.Bool.{true};
@@ -264,7 +264,7 @@ pub fn plan_of(
     words: &[u32],
     text: &[u8],
     root: u32,
-    kind: Kind,
+    kind: CallKind,
     host: &[u8],
     other: &[u8],
     key: &[u8],
@@ -278,10 +278,10 @@ pub fn plan_of(
 {
     let inc = way[register_way::INCLUDED];
     match kind {
-        Kind::Name(_, _) => plan_name(words, text, root, host, other, way),
-        Kind::Include => plan_include(words, text, root, host, inc, way),
-        Kind::Open => plan_open(words, text, root, host, inc, way),
-        Kind::Alias => plan_alias(words, text, root, key, host, inc, way),
-        Kind::Module(loaded) => plan_module(words, text, root, host, loaded, way),
+        CallKind::Name(_, _) => plan_name(words, text, root, host, other, way),
+        CallKind::Include => plan_include(words, text, root, host, inc, way),
+        CallKind::Open => plan_open(words, text, root, host, inc, way),
+        CallKind::Alias => plan_alias(words, text, root, key, host, inc, way),
+        CallKind::Module(loaded) => plan_module(words, text, root, host, loaded, way),
     }
 }

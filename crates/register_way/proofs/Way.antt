@@ -9,7 +9,7 @@ use Rattle.source.specs.Text.{Str, Query, segments}
 use Rattle.source.specs.Types.{namespaces}
 use Rattle.source.specs.Tries.{scope-of}
 use Rattle.source.specs.Plans.{insert-branches, first-tree}
-use Rattle.register_kind.specs.declared.Kind.{Kind}
+use Rattle.register_kind.specs.declared.CallKind.{CallKind}
 use Rattle.memory.specs.Layout.{Which, trieˢ, what}
 use Rattle.memory.specs.Sound.{Reads}
 use Rattle.memory.specs.Grown.{Keeps}
@@ -63,7 +63,7 @@ module _ {ws txt : List ℕ} {w : Which} {root : ℕ} {q : Query} where
 
 -- ---- At the host
 module _ {ws txt : List ℕ} {w : Which} {root : ℕ} {host : Str} {way way′ : List ℕ} {steps x : ℕ} (l : Leads ws txt w root (segments host) way way′ steps x []) (h : step-at steps + step-size ≤ length way′) where
-  noted-at : (k : Kind) (other key : Str) {t : List ℕ} → Keeps (step-at steps) way′ t → HostBuilds k other key (what w ws txt x trieˢ) (getD t (step-at steps + count-at) 0)
+  noted-at : (k : CallKind) (other key : Str) {t : List ℕ} → Keeps (step-at steps) way′ t → HostBuilds k other key (what w ws txt x trieˢ) (getD t (step-at steps + count-at) 0)
       → WayNotedIn k ws txt w root host other key way t
   noted-at k other key {t} v b = record {
     kept = keeps-then (omega arith) (l .kept) v;
@@ -71,9 +71,9 @@ module _ {ws txt : List ℕ} {w : Which} {root : ℕ} {host : Str} {way way′ :
   }
 
   -- Nothing is inserted there.
-  pub noted-path : (k : Kind) (other key : Str) → HostBuilds k other key (what w ws txt x trieˢ) (getD way′ (step-at steps + count-at) 0) → WayNotedIn k ws txt w root host other key way way′
+  pub noted-path : (k : CallKind) (other key : Str) → HostBuilds k other key (what w ws txt x trieˢ) (getD way′ (step-at steps + count-at) 0) → WayNotedIn k ws txt w root host other key way way′
   noted-path k other key b = noted-at k other key (record { same = refl; size = refl }) b
 
   -- The count is noted.
-  pub noted-count : (k : Kind) (other key : Str) {count : ℕ} {t : List ℕ} → NotesHost way′ t steps count → HostBuilds k other key (what w ws txt x trieˢ) count → WayNotedIn k ws txt w root host other key way t
+  pub noted-count : (k : CallKind) (other key : Str) {count : ℕ} {t : List ℕ} → NotesHost way′ t steps count → HostBuilds k other key (what w ws txt x trieˢ) count → WayNotedIn k ws txt w root host other key way t
   noted-count k other key n b = noted-at k other key (n .kept) (rw (n .count-noted) b)

@@ -14,8 +14,8 @@ use Rattle.memory.specs.Grown.{Keeps}
 use Rattle.register_kind.specs.Shapes.{shape-of}
 use Rattle.register_kind.specs.declared.Form.{Form}
 use Rattle.register_kind.specs.declared.Form.the-variants as form
-use Rattle.register_kind.specs.declared.Kind.{Kind}
-use Rattle.register_kind.specs.declared.Kind.the-variants.{Name, Include, Open, Alias, Module}
+use Rattle.register_kind.specs.declared.CallKind.{CallKind}
+use Rattle.register_kind.specs.declared.CallKind.the-variants.{Name, Include, Open, Alias, Module}
 use Rattle.memory.specs.Sound.{Reads}
 
 -- The table that a form changes.
@@ -66,7 +66,7 @@ count-in way = getD way count-at 0
 
 -- The branches that the insertion at the host builds: of the id of a name into its bindings, of the key of an alias into its namespaces.
 -- The others insert nothing there.
-abbrev pub HostBuilds : {A : Type 0} → Kind → (other key : Str) → Trie A → ℕ → Type 0
+abbrev pub HostBuilds : {A : Type 0} → CallKind → (other key : Str) → Trie A → ℕ → Type 0
 HostBuilds (Name k n) other key tr count = count ≡ insert-branches (first-tree (bindings tr)) other
 HostBuilds Include other key tr count = Unit {0}
 HostBuilds Open other key tr count = Unit {0}
@@ -81,7 +81,7 @@ pub record StepNoted (ws txt : List ℕ) (w : Which) (x : ℕ) (n : NameList (It
   pub builds : count-in way ≡ insert-branches (first-tree n) s
 
 -- The way from the trie x down a query, to the branches at the host.
-module _ (ws txt : List ℕ) (w : Which) (k : Kind) (other key : Str) where
+module _ (ws txt : List ℕ) (w : Which) (k : CallKind) (other key : Str) where
   abbrev pub Way : List ℕ → ℕ → Query → Type 0
   Way way x [] = (step-size ≤ length way) × HostBuilds k other key (what w ws txt x trieˢ) (count-in way)
   Way way x (s ∷ q) = StepNoted ws txt w x (namespaces (what w ws txt x trieˢ)) s way × Way (drop step-size way) (below-in way) q
@@ -104,11 +104,11 @@ pub record NotesHost (way way′ : List ℕ) (steps count : ℕ) : Type 0 where
 -- and whatever is noted from here on, a way from here is a way from the root.
 pub record Leads (ws txt : List ℕ) (w : Which) (root : ℕ) (q : Query) (way way′ : List ℕ) (steps x : ℕ) (rest : Query) : Type 0 where
   pub kept : Keeps steps-at way way′
-  pub goes : (k : Kind) (other key : Str) (way″ : List ℕ) → Keeps (step-at steps) way′ way″ → Way ws txt w k other key (drop (step-at steps) way″) x rest
+  pub goes : (k : CallKind) (other key : Str) (way″ : List ℕ) → Keeps (step-at steps) way′ way″ → Way ws txt w k other key (drop (step-at steps) way″) x rest
       → Way ws txt w k other key (drop steps-at way″) root q
 
 -- The way of a registration is noted after the included trie, which stays.
-pub record WayNotedIn (k : Kind) (ws txt : List ℕ) (w : Which) (root : ℕ) (host other key : Str) (way way′ : List ℕ) : Type 0 where
+pub record WayNotedIn (k : CallKind) (ws txt : List ℕ) (w : Which) (root : ℕ) (host other key : Str) (way way′ : List ℕ) : Type 0 where
   pub kept : Keeps steps-at way way′
   pub leads : Way ws txt w k other key (drop steps-at way′) root (segments host)
 
@@ -121,9 +121,9 @@ abbrev pub AliasNoted : (ws txt : List ℕ) (root : ℕ) (key host : Str) (way w
 AliasNoted ws txt root key host way way′ = (other : Str) → WayNotedIn Alias ws txt names root host other key way way′
 
 -- Of a kind that inserts nothing at the host.
-abbrev pub PathNoted : (k : Kind) (ws txt : List ℕ) (w : Which) (root : ℕ) (host : Str) (way way′ : List ℕ) → Type 0
+abbrev pub PathNoted : (k : CallKind) (ws txt : List ℕ) (w : Which) (root : ℕ) (host : Str) (way way′ : List ℕ) → Type 0
 PathNoted k ws txt w root host way way′ = (other key : Str) → WayNotedIn k ws txt w root host other key way way′
 
 -- Of each kind, in its table.
-abbrev pub WayNoted : (k : Kind) (ws txt : List ℕ) (root : ℕ) (host other key : Str) (way way′ : List ℕ) → Type 0
+abbrev pub WayNoted : (k : CallKind) (ws txt : List ℕ) (root : ℕ) (host other key : Str) (way way′ : List ℕ) → Type 0
 WayNoted k ws txt root host other key way way′ = WayNotedIn k ws txt (which-by (shape-of k .form)) root host other key way way′

@@ -2,7 +2,7 @@
 // A slice passes as a pointer and a length. What the calls share is crate screen_calls.
 // Every exported call answers for whatever bytes are lent.
 use listing_ask::Request;
-use register_kind::Kind;
+use register_kind::CallKind;
 use screen_replies::CompleteReply;
 use screen_replies::ModuleReply;
 use screen_replies::NameReply;
@@ -33,7 +33,7 @@ pub extern "C" fn name_console_insert_item(
         (chosen (λ k. name (old host) (old id) (record { kind = k; number = number })) (kind-for kind)) r ⌝ }
 {
     if source_item::is_kind(kind) {
-        let kind = Kind::Name(source_item::kind_of(kind), number);
+        let kind = CallKind::Name(source_item::kind_of(kind), number);
         return screen_calls::register(state, words, text, kind, host, id, &host[..0]);
     }
     screen_calls::malformed(state, words, text)
@@ -50,7 +50,15 @@ pub extern "C" fn name_console_include(
 ) -> u32
     ensures { λ r. ⌜ Replies (old state) (old words) (old text) (new state) (new words) (new text) (some (include (old host) (old query))) r ⌝ }
 {
-    screen_calls::register(state, words, text, Kind::Include, host, query, &host[..0])
+    screen_calls::register(
+        state,
+        words,
+        text,
+        CallKind::Include,
+        host,
+        query,
+        &host[..0],
+    )
 }
 
 // Registers an open of a namespace.
@@ -64,7 +72,7 @@ pub extern "C" fn name_console_open_namespace(
 ) -> u32
     ensures { λ r. ⌜ Replies (old state) (old words) (old text) (new state) (new words) (new text) (some (opens false (old host) (old query))) r ⌝ }
 {
-    screen_calls::register(state, words, text, Kind::Open, host, query, &host[..0])
+    screen_calls::register(state, words, text, CallKind::Open, host, query, &host[..0])
 }
 
 // Registers an open of a module, which is an include.
@@ -78,7 +86,15 @@ pub extern "C" fn name_console_open_module(
 ) -> u32
     ensures { λ r. ⌜ Replies (old state) (old words) (old text) (new state) (new words) (new text) (some (opens true (old host) (old query))) r ⌝ }
 {
-    screen_calls::register(state, words, text, Kind::Include, host, query, &host[..0])
+    screen_calls::register(
+        state,
+        words,
+        text,
+        CallKind::Include,
+        host,
+        query,
+        &host[..0],
+    )
 }
 
 // Registers an alias.
@@ -93,7 +109,7 @@ pub extern "C" fn name_console_alias(
 ) -> u32
     ensures { λ r. ⌜ Replies (old state) (old words) (old text) (new state) (new words) (new text) (some (alias (old key) (old host) (old query))) r ⌝ }
 {
-    screen_calls::register(state, words, text, Kind::Alias, host, query, key)
+    screen_calls::register(state, words, text, CallKind::Alias, host, query, key)
 }
 
 // Registers a module path: loaded if `loaded` is 1, not loaded if it is 0; a loaded Module stays loaded.
@@ -114,7 +130,7 @@ pub extern "C" fn name_console_module(
             state,
             words,
             text,
-            Kind::Module(loaded == 1),
+            CallKind::Module(loaded == 1),
             query,
             path,
             &query[..0],

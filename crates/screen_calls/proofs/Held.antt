@@ -8,7 +8,7 @@ use Rattle.memory.specs.Sound.{Says}
 use Rattle.memory.proofs.Says.{says-iff}
 use Rattle.table.specs.Header.{IsSound}
 use Rattle.table.specs.declared.Table.{Table}
-use Rattle.table.proofs.Says.{decided}
+use Rattle.table.proofs.Says.{says-same}
 use Rattle.screen_memory.specs.Memory.{state-bytes, Spells, words-in}
 use Rattle.screen_calls.specs.Memory.{table-at, SoundBytes}
 
@@ -17,8 +17,8 @@ pub record Held (st bs m : List ℕ) (t : Table) : Type 0 where
   pub spelt : Spells st (t .header)
   pub lent : m ≡ words-in bs
 
-pub held : {st bs m : List ℕ} {t : Table} → length st ≡ state-bytes → t ≡ table-at st → m ≡ words-in bs → Held st bs m t
-held e p q = record { spelt = record { size = e; header = ap (λ (x : Table). x .header) (sym p) }; lent = q }
+pub held-is : {st bs m : List ℕ} {t : Table} → length st ≡ state-bytes → t ≡ table-at st → m ≡ words-in bs → Held st bs m t
+held-is e p q = record { spelt = record { size = e; header = ap (λ (x : Table). x .header) (sym p) }; lent = q }
 
 module _ {st bs m : List ℕ} {t : Table} (txt : List ℕ) (h : Held st bs m t) where
   sound-there : SoundBytes st bs txt → IsSound m txt t
@@ -39,4 +39,4 @@ pub unsound-short : {st bs txt : List ℕ} → (length st ≡ state-bytes → �
 unsound-short e s = e (s .size)
 
 pub says-unsound : {st bs txt : List ℕ} (b : Bool) → (SoundBytes st bs txt → ⊥) → Says b (SoundBytes st bs txt) → b ≡ false
-says-unsound b e h = decided _ b false h e
+says-unsound b e h = says-same _ b false h e

@@ -16,7 +16,7 @@ use Rattle.table.specs.Header.{IsSound, state, lent}
 use Rattle.table.specs.Registrations.{refusal-of, AnswersAs, Answers}
 use Rattle.table.specs.declared.Table.{Table}
 use Rattle.table.specs.declared.Registration.{Registration}
-use Rattle.table.proofs.Says.{decided}
+use Rattle.table.proofs.Says.{says-same}
 use Rattle.table.proofs.Answers.{register-unsound}
 use Rattle.memory_bytes.specs.Bytes.{Stored}
 use Rattle.screen_memory.specs.Memory.{header-in, words-lent, words-in, Saved}
@@ -39,7 +39,7 @@ reply-unsound {c = c} e = record {
 
 pub reply-none : {st bs m txt : List ℕ} {t : Table} {k : ℕ} (r : Bool) → Held st bs m t → Says r (IsSound m txt t) → C.refused k ≡ unchosen r → Replies st bs txt st bs txt none k
 reply-none {txt = txt} r h p e = record {
-  says = λ b i. rw (decided _ b r (says-memory txt h b i) p, ← e) (refl, record { state = refl; words = refl; text = refl });
+  says = λ b i. rw (says-same _ b r (says-memory txt h b i) p, ← e) (refl, record { state = refl; words = refl; text = refl });
 }
 
 -- ---- A choice by its number
@@ -83,7 +83,7 @@ module _ {st bs txt m ws txt′ : List ℕ} {t : Table} {c : Call} {r : Registra
 
   answers : (b : Bool) → Says b (SoundBytes st bs txt)
       → AnswersAs (register b (lent (words-in bs) txt) (state (words-in bs) txt (table-at st)) c) (words-in bs) txt ws txt′ (table-at st) r
-  answers b i = rw (decided _ b true (says-memory txt h b i) sound, ← h .lent, h .spelt .header) (a .says)
+  answers b i = rw (says-same _ b true (says-memory txt h b i) sound, ← h .lent, h .spelt .header) (a .says)
 
   -- It is accepted, and the new words and the new header are stored.
   module _ {st′ bs′ : List ℕ} (taken : refusal-of (r .answer) ≡ none) (saved : Saved ws (t .header .records) (r .table .header) bs bs′ st′) where

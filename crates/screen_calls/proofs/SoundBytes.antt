@@ -4,7 +4,7 @@ use mathlib.Core.Path.{_≡_, refl}
 use mathlib.Core.List.{List}
 use lib.ListN.{replicate}
 use Rattle.source.specs.Calls.{State, fresh}
-use Rattle.memory_table.proofs.Table.{fresh-sound}
+use Rattle.memory_table.proofs.Table.{fresh-memory-sound}
 use Rattle.memory_table.proofs.Table.{fresh-state}
 use Rattle.table.specs.Header.{state}
 use Rattle.memory_bytes.specs.Bytes.{word-at}
@@ -16,11 +16,11 @@ use Rattle.screen_calls.specs.Replies.{AcceptsBytes}
 module _ (bs txt : List ℕ) where
   pub zero-sound : SoundBytes (replicate state-bytes 0) bs txt
   unfolding header-in word-at
-  zero-sound = record { size = refl; sound = fresh-sound (words-in bs) txt }
+  zero-sound = record { size = refl; sound = fresh-memory-sound (words-in bs) txt }
 
   pub zero-fresh : state (words-in bs) txt (table-at (replicate state-bytes 0)) ≡ fresh
   unfolding header-in word-at
   zero-fresh = fresh-state (words-in bs) txt
 
-pub accepted-sound : {st bs txt st′ bs′ txt′ : List ℕ} {s : State} → AcceptsBytes st bs txt st′ bs′ txt′ s → SoundBytes st′ bs′ txt′
-accepted-sound a = record { size = a .size; sound = a .table .sound }
+pub bytes-accepted-sound : {st bs txt st′ bs′ txt′ : List ℕ} {s : State} → AcceptsBytes st bs txt st′ bs′ txt′ s → SoundBytes st′ bs′ txt′
+bytes-accepted-sound a = record { size = a .size; sound = a .table .sound }

@@ -2,7 +2,7 @@
 // State and words are bytes as crate memory_bytes reads them; a call copies the words in, tests them with little stack, calls crate table,
 // and copies out what an accepted registration has taken. Lines are written in place.
 use listing_ask::Request;
-use register_kind::Kind;
+use register_kind::CallKind;
 use screen_replies::CompleteReply;
 use screen_replies::ModuleReply;
 use screen_replies::NameReply;
@@ -39,7 +39,7 @@ fn enter(
     words: &mut [u8],
     text: &mut [u8],
     memory: &mut [u32],
-    kind: Kind,
+    kind: CallKind,
     host: &[u8],
     other: &[u8],
     key: &[u8],
@@ -69,7 +69,7 @@ pub fn register(
     state: &mut [u8],
     words: &mut [u8],
     text: &mut [u8],
-    kind: Kind,
+    kind: CallKind,
     host: &[u8],
     other: &[u8],
     key: &[u8],

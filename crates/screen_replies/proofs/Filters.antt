@@ -50,8 +50,8 @@ pub modules-below : (n : ℕ) → is-asked (modules-for n) ≡ true → n < 4
 modules-below n e = ltb-true n 4 (modules-test n ∙ e)
 
 -- The last of them.
-pub third : (n : ℕ) → n < 4 → (n ≡ 0 → ⊥) → (n ≡ 1 → ⊥) → (n ≡ 2 → ⊥) → n ≡ 3
-third n h a b c = omega (arith, a, b, c)
+pub filter-last : (n : ℕ) → n < 4 → (n ≡ 0 → ⊥) → (n ≡ 1 → ⊥) → (n ≡ 2 → ⊥) → n ≡ 3
+filter-last n h a b c = omega (arith, a, b, c)
 
 -- ---- The number of a kind asks for that kind
 

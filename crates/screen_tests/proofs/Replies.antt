@@ -15,7 +15,7 @@ use Rattle.table.specs.declared.Table.{Table}
 use Rattle.table.specs.declared.Registration.{Registration}
 use Rattle.table.specs.declared.Finding.{Finding}
 use Rattle.table.specs.declared.Listing.{Listing}
-use Rattle.table.proofs.Says.{decided}
+use Rattle.table.proofs.Says.{says-same}
 use Rattle.screen_replies.specs.Replies.{name-reply, lines-reply}
 use Rattle.screen_replies.specs.declared.NameReply.{NameReply}
 use Rattle.screen_replies.specs.declared.CompleteReply.{CompleteReply}
@@ -26,12 +26,12 @@ use Rattle.screen_tests.specs.Replies.{ask-of, reply-of, shared-of, Regi
 use Rattle.screen_tests.specs.declared.Reply.{Reply}
 
 module _ {ws txt ws′ txt′ : List ℕ} {t t′ : Table} {c : Call} {x : Registration} {r : Reply} where
-  pub replies : t ≡ t′ → Total ws txt ws′ txt′ t c x → r ≡ reply-of x → RegisterReplies ws txt ws′ txt′ t′ c r
-  replies e a f = record { answer = x; total = subst (λ u. Total ws txt ws′ txt′ u c x) e a; reply = f }
+  pub register-replies : t ≡ t′ → Total ws txt ws′ txt′ t c x → r ≡ reply-of x → RegisterReplies ws txt ws′ txt′ t′ c r
+  register-replies e a f = record { answer = x; total = subst (λ u. Total ws txt ws′ txt′ u c x) e a; reply = f }
 
   -- In a sound memory.
   pub replies-sound : t ≡ t′ → IsSound ws txt t′ → Answers true ws txt ws′ txt′ t c x → r ≡ reply-of x → RegisterReplies ws txt ws′ txt′ t′ c r
-  replies-sound e o a f = record { answer = x; total = λ b h. rw (decided _ b true h o) (subst (λ u. Answers true ws txt ws′ txt′ u c x) e a); reply = f }
+  replies-sound e o a f = record { answer = x; total = λ b h. rw (says-same _ b true h o) (subst (λ u. Answers true ws txt ws′ txt′ u c x) e a); reply = f }
 
 pub finds-replies : {ws txt : List ℕ} {t t′ : Table} {query : Str} {x : Finding} {r : NameReply} → t ≡ t′ → Finds ws txt t query x → r ≡ name-reply (name-found (x .answer)) → FindReplies ws txt t′ query r
 finds-replies {ws} {txt} {query = query} {x} e a f = record { answer = x; finds = subst (λ u. Finds ws txt u query x) e a; reply = f }

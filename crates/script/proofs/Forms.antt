@@ -15,7 +15,7 @@ use Rattle.script.specs.declared.Question.the-variants.{Find, Complete, 
 use Rattle.script.specs.declared.Key.{Key}
 use Rattle.script.specs.declared.Key.the-variants.{Name as NameKey, Alias as AliasKey, Import as ImportKey, Module as ModuleKey, Ask as AskKey}
 use Rattle.script_parts.specs.declared.Extent.{Extent}
-use Rattle.register_kind.specs.declared.Kind.the-variants as kind
+use Rattle.register_kind.specs.declared.CallKind.the-variants as kind
 use Rattle.script.specs.declared.LineForm.the-variants.{Register, Ask as AskForm}
 use Rattle.script_parts.specs.declared.Pair.the-variants.{At as AtPair}
 use Rattle.script_parts.specs.declared.Tail.the-variants.{At as AtTail}
@@ -62,12 +62,12 @@ key-right line (ask Complete q) r = ap key-of (r .spelled)
 key-right line (ask Modules q) r = ap key-of (r .spelled)
 
 -- A command that the line spells is of the one form that the line can be.
-pub keyed : (line : Str) (c : Command) → Reads line c → Keyed line c (key-of line)
-keyed line c r = subst (Keyed line c) (sym (key-right line c (r .spelled))) (spelled-keyed line c (r .spelled))
+pub reads-keyed : (line : Str) (c : Command) → Reads line c → Keyed line c (key-of line)
+reads-keyed line c r = subst (Keyed line c) (sym (key-right line c (r .spelled))) (spelled-keyed line c (r .spelled))
 
 -- No command is spelled where none of that form is.
-pub refused : {line : Str} {k : Key} → Only line k → ((c : Command) → Keyed line c k → ⊥) → (c : Command) → Reads line c → ⊥
-refused {line} o f c r = f c (subst (Keyed line c) (o .only) (keyed line c r))
+pub reads-refused : {line : Str} {k : Key} → Only line k → ((c : Command) → Keyed line c k → ⊥) → (c : Command) → Reads line c → ⊥
+reads-refused {line} o f c r = f c (subst (Keyed line c) (o .only) (reads-keyed line c r))
 
 -- What follows the form's first word.
 pub after-word : {line word rest : Str} {at : ℕ} → WordAt line word at → line ≡ word · rest → drop at line ≡ rest
@@ -75,7 +75,7 @@ after-word {line} {word} {rest} {at} w e = ap (drop at) e ∙ drop-at word rest 
 
 -- A line that does not begin with its form's first word is no command.
 pub word-none : {line : Str} {k : Key} → Only line k → ((rest : Str) → line ≡ key k · rest → ⊥) → (c : Command) → Reads line c → ⊥
-word-none {line} {k} o n = refused o (λ c r. begun k c n r)
+word-none {line} {k} o n = reads-refused o (λ c r. begun k c n r)
   where
     begun : (k : Key) (c : Command) → ((rest : Str) → line ≡ key k · rest → ⊥) → Keyed line c k → ⊥
     begun NameKey c n r = n _ (r .4 .spelled)
@@ -110,7 +110,7 @@ module-piece r e = record { ok = r .query-ok; spelled = e }
 pub ask-query : {what : Question} {line q s : Str} → AskLine what line q → s ≡ q · bytes "]]" → QueryEnd s q
 ask-query r e = record { query-ok = r .query-ok; spelled = e }
 
--- ---- Each form, found or refused
+-- ---- Each form, found or reads-refused
 
 -- A text that the kind has not.
 abbrev none : Extent
@@ -118,11 +118,11 @@ none = record { start = 0; len = 0 }
 
 module _ {line : Str} {at : ℕ} (o : Only line NameKey) (w : WordAt line (key NameKey) at) where
   pub name-none : ((part rest : Str) → Piece Query (93 ∷ 32 ∷ []) (drop at line) part rest → ⊥) → (c : Command) → Reads line c → ⊥
-  name-none n = refused o (λ c k. n _ _ (name-piece (k .4) (after-word w (k .4 .spelled))))
+  name-none n = reads-refused o (λ c k. n _ _ (name-piece (k .4) (after-word w (k .4 .spelled))))
 
   module _ {e : ℕ} (p : PieceAt Query (93 ∷ 32 ∷ []) line at e) where
     pub name-no : ((id : Str) (c : LidSymbol) → IdEnd (drop (e + 2) line) id c → ⊥) → (c : Command) → Reads line c → ⊥
-    name-no n = refused o (λ c k. n (k .1) (k .2) (name-id (k .4) (sym (rest-found p stops-query (name-piece (k .4) (after-word w (k .4 .spelled)))))))
+    name-no n = reads-refused o (λ c k. n (k .1) (k .2) (name-id (k .4) (sym (rest-found p stops-query (name-piece (k .4) (after-word w (k .4 .spelled)))))))
 
     pub name-yes : (id : Extent) (c : LidSymbol) → IdSays line (e + 2) (AtTail id c) → Parsed line (Register (kind.Name (c .kind) (c .number)) (record { start = at; len = e - at }) id none)
     unfolding bytes
@@ -147,7 +147,7 @@ module _ {line : Str} {at : ℕ} (o : Only line NameKey) (w : WordAt line (key N
 
 module _ {how : Import} {line : Str} {at : ℕ} (o : Only line (ImportKey how)) (w : WordAt line (key (ImportKey how)) at) where
   pub import-no : ((host q : Str) → PairEnd (drop at line) host q → ⊥) → (c : Command) → Reads line c → ⊥
-  import-no n = refused o (λ c k. n (k .0) (k .1) (import-pair (k .3) (after-word w (k .3 .spelled))))
+  import-no n = reads-refused o (λ c k. n (k .0) (k .1) (import-pair (k .3) (after-word w (k .3 .spelled))))
 
   pub import-yes : (host q : Extent) → PairSays line at (AtPair host q) → Parsed line (Register (import-kind how) host q none)
   import-yes host q r = record {
@@ -168,14 +168,14 @@ module _ {how : Import} {line : Str} {at : ℕ} (o : Only line (ImportKey how)) 
 
 module _ {line : Str} {at : ℕ} (o : Only line AliasKey) (w : WordAt line (key AliasKey) at) where
   pub alias-none : ((part rest : Str) → Piece Word (32 ∷ 91 ∷ []) (drop at line) part rest → ⊥) → (c : Command) → Reads line c → ⊥
-  alias-none n = refused o (λ c k. n _ _ (alias-piece (k .4) (after-word w (k .4 .spelled))))
+  alias-none n = reads-refused o (λ c k. n _ _ (alias-piece (k .4) (after-word w (k .4 .spelled))))
 
   module _ {e : ℕ} (p : PieceAt Word (32 ∷ 91 ∷ []) line at e) where
     pub alias-empty : e ≡ at → (c : Command) → Reads line c → ⊥
-    alias-empty h = refused o (λ c k. omega (arith, k .4 .word-some, h, cut-length p, ap length (part-found p stops-word (alias-piece (k .4) (after-word w (k .4 .spelled))))))
+    alias-empty h = reads-refused o (λ c k. omega (arith, k .4 .word-some, h, cut-length p, ap length (part-found p stops-word (alias-piece (k .4) (after-word w (k .4 .spelled))))))
 
     pub alias-no : ((host q : Str) → PairEnd (drop (e + 2) line) host q → ⊥) → (c : Command) → Reads line c → ⊥
-    alias-no n = refused o (λ c k. n (k .1) (k .2) (alias-pair (k .4) (sym (rest-found p stops-word (alias-piece (k .4) (after-word w (k .4 .spelled)))))))
+    alias-no n = reads-refused o (λ c k. n (k .1) (k .2) (alias-pair (k .4) (sym (rest-found p stops-word (alias-piece (k .4) (after-word w (k .4 .spelled)))))))
 
     pub alias-yes : (e ≡ at → ⊥) → (host q : Extent) → PairSays line (e + 2) (AtPair host q) → Parsed line (Register kind.Alias host q (record { start = at; len = e - at }))
     unfolding bytes
@@ -199,11 +199,11 @@ module _ {line : Str} {at : ℕ} (o : Only line AliasKey) (w : WordAt line (key 
 
 module _ {loaded : Bool} {line : Str} {at : ℕ} (o : Only line (ModuleKey loaded)) (w : WordAt line (key (ModuleKey loaded)) at) where
   pub module-none : ((part rest : Str) → Piece Query (93 ∷ 32 ∷ []) (drop at line) part rest → ⊥) → (c : Command) → Reads line c → ⊥
-  module-none n = refused o (λ c k. n _ _ (module-piece (k .3) (after-word w (k .3 .spelled))))
+  module-none n = reads-refused o (λ c k. n _ _ (module-piece (k .3) (after-word w (k .3 .spelled))))
 
   module _ {e : ℕ} (p : PieceAt Query (93 ∷ 32 ∷ []) line at e) where
     pub module-no : ((path : Str) → drop (e + 2) line ≡ path · bytes "]" → ⊥) → (c : Command) → Reads line c → ⊥
-    module-no n = refused o (λ c k. n (k .1) (sym (rest-found p stops-query (module-piece (k .3) (after-word w (k .3 .spelled))))))
+    module-no n = reads-refused o (λ c k. n (k .1) (sym (rest-found p stops-query (module-piece (k .3) (after-word w (k .3 .spelled))))))
 
     pub module-yes : {f : ℕ} → LastAt line (e + 2) f → Parsed line (Register (kind.Module loaded) (record { start = at; len = e - at }) (record { start = e + 2; len = f - (e + 2) }) none)
     unfolding bytes
@@ -224,7 +224,7 @@ module _ {loaded : Bool} {line : Str} {at : ℕ} (o : Only line (ModuleKey loade
 
 module _ {what : Question} {line : Str} {at : ℕ} (o : Only line (AskKey what)) (w : WordAt line (key (AskKey what)) at) where
   pub ask-no : ((q : Str) → QueryEnd (drop at line) q → ⊥) → (c : Command) → Reads line c → ⊥
-  ask-no n = refused o (λ c k. n (k .0) (ask-query (k .2) (after-word w (k .2 .spelled))))
+  ask-no n = reads-refused o (λ c k. n (k .0) (ask-query (k .2) (after-word w (k .2 .spelled))))
 
   pub ask-yes : {e : ℕ} → QueryAt line at e → Parsed line (AskForm what (record { start = at; len = e - at }))
   ask-yes q = (

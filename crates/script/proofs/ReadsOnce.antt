@@ -14,7 +14,7 @@ use Rattle.script_decimal.specs.Items.{written-kind, written-digits, ItemText}
 use Rattle.script_parts.specs.Parts.{IdEnd, PairEnd, QueryEnd}
 use Rattle.script_parts.proofs.Runs.{piece-once}
 use Rattle.script_parts.proofs.Parts.{last-once, stops-query, stops-word, query-piece, pair-piece, id-piece}
-use Rattle.script.proofs.Forms.{Keyed, keyed, name-piece, name-id, import-pair, alias-piece, alias-pair, module-piece, ask-query}
+use Rattle.script.proofs.Forms.{Keyed, reads-keyed, name-piece, name-id, import-pair, alias-piece, alias-pair, module-piece, ask-query}
 
 -- What follows one word in one line.
 after : {line : Str} (word : Str) {s t : Str} → line ≡ word · s → line ≡ word · t → s ≡ t
@@ -62,4 +62,4 @@ keyed-once line (AskKey what) c d a b =
 
 -- A line says one thing at most.
 pub reads-once : (line : Str) (c d : Command) → Reads line c → Reads line d → c ≡ d
-reads-once line c d a b = keyed-once line (key-of line) c d (keyed line c a) (keyed line d b)
+reads-once line c d a b = keyed-once line (key-of line) c d (reads-keyed line c a) (reads-keyed line d b)

@@ -9,8 +9,8 @@ use Rattle.script_decimal.specs.Bytes.{Str, bytes, _·_, All}
 use Rattle.script_decimal.specs.Items.{ItemText}
 use Rattle.script_parts.specs.Parts.{Within, part-of}
 use Rattle.script_parts.specs.declared.Extent.{Extent}
-use Rattle.register_kind.specs.declared.Kind.{Kind}
-use Rattle.register_kind.specs.declared.Kind.the-variants as kind
+use Rattle.register_kind.specs.declared.CallKind.{CallKind}
+use Rattle.register_kind.specs.declared.CallKind.the-variants as kind
 use Rattle.script.specs.declared.Import.{Import}
 use Rattle.script.specs.declared.Import.the-variants.{Include, OpenModule, OpenNamespace}
 use Rattle.script.specs.declared.Question.{Question}
@@ -92,13 +92,13 @@ pub record Reads (line : Str) (command : Command) : Type 0 where
 -- ---- What is answered
 
 -- The kind of an import: an open of a module is an include.
-abbrev pub import-kind : Import → Kind
+abbrev pub import-kind : Import → CallKind
 import-kind Include = kind.Include
 import-kind OpenModule = kind.Include
 import-kind OpenNamespace = kind.Open
 
 -- The command is a registration of this kind, of these texts, as `call-of` of crate register_kind orders them.
-abbrev pub OfKind : Command → Kind → (host other key : Str) → Type 0
+abbrev pub OfKind : Command → CallKind → (host other key : Str) → Type 0
 OfKind (name host id c) k h o y = (k ≡ kind.Name (c .kind) (c .number)) × (h ≡ host) × (o ≡ id)
 OfKind (import how host q) k h o y = (k ≡ import-kind how) × (h ≡ host) × (o ≡ q)
 OfKind (alias word host q) k h o y = (k ≡ kind.Alias) × (h ≡ host) × (o ≡ q) × (y ≡ word)
@@ -106,7 +106,7 @@ OfKind (module-path loaded q path) k h o y = (k ≡ kind.Module loaded) × (h �
 OfKind (ask what q) k h o y = ⊥
 
 -- The line says a registration of this kind, its texts spans of the line.
-pub record RegistrationLine (line : Str) (k : Kind) (host other key : Extent) : Type 0 where
+pub record RegistrationLine (line : Str) (k : CallKind) (host other key : Extent) : Type 0 where
   pub host-in : Within line host
   pub other-in : Within line other
   pub key-in : Within line key

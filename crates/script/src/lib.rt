@@ -1,5 +1,5 @@
 // The forms of a line of the program `console`. `parse` answers the form that spells a line, or that none does. Nothing is assumed.
-use register_kind::Kind;
+use register_kind::CallKind;
 use script_decimal::Sort;
 use script_parts::Extent;
 use script_parts::Pair;
@@ -36,7 +36,7 @@ pub enum Question {
 // kind has none); a question; or neither.
 pub enum LineForm {
     Register {
-        kind: Kind,
+        kind: CallKind,
         host: Extent,
         other: Extent,
         key: Extent,
@@ -131,13 +131,13 @@ fn ask_word(line: &[u8], what: Question) -> Part
 }
 
 // The kind of an import: an open of a module is an include.
-fn import_kind(how: Import) -> Kind
+fn import_kind(how: Import) -> CallKind
     ensures { λ r. ⌜ r ≡ import-kind how ⌝ }
 {
     match how {
-        Import::Include => Kind::Include,
-        Import::OpenModule => Kind::Include,
-        Import::OpenNamespace => Kind::Open,
+        Import::Include => CallKind::Include,
+        Import::OpenModule => CallKind::Include,
+        Import::OpenNamespace => CallKind::Open,
     }
 }
 
@@ -152,7 +152,7 @@ fn name_form(line: &[u8]) -> LineForm
                 Tail::At { id, item } => {
                     let kind = item.kind;
                     LineForm::Register {
-                        kind: Kind::Name(kind, item.number),
+                        kind: CallKind::Name(kind, item.number),
                         host: Extent {
                             start: at,
                             len: e - at,
@@ -201,7 +201,7 @@ fn alias_form(line: &[u8]) -> LineForm
                 }
                 match pair_end(line, e + 2) {
                     Pair::At { host, query } => LineForm::Register {
-                        kind: Kind::Alias,
+                        kind: CallKind::Alias,
                         host: host,
                         other: query,
                         key: Extent {
@@ -227,7 +227,7 @@ fn module_form(line: &[u8], loaded: bool) -> LineForm
         Part::At(at) => match piece(line, at, Sort::Query, b"] ") {
             Part::At(e) => match last_end(line, e + 2) {
                 Part::At(f) => LineForm::Register {
-                    kind: Kind::Module(loaded),
+                    kind: CallKind::Module(loaded),
                     host: Extent {
                         start: at,
                         len: e - at,

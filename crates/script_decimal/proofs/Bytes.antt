@@ -11,10 +11,10 @@ use Rattle.script_decimal.specs.Bytes.{Str, byte-ok, All}
 pub true-false : {b : Bool} → b ≡ true → b ≡ false → ⊥
 true-false t f = let z : _≡_ {A = ℕ} 0 1 = cc in omega arith
 
-pub all-at : (sort : Sort) (s : Str) (i : ℕ) → All sort s → i < length s → byte-ok sort (getD s i 0) ≡ true
-all-at sort [] i a l = absurd (omega arith)
-all-at sort (b ∷ s) zero a l = a .0
-all-at sort (b ∷ s) (suc i) a l = all-at sort s i (a .1) (omega arith)
+pub sort-at : (sort : Sort) (s : Str) (i : ℕ) → All sort s → i < length s → byte-ok sort (getD s i 0) ≡ true
+sort-at sort [] i a l = absurd (omega arith)
+sort-at sort (b ∷ s) zero a l = a .0
+sort-at sort (b ∷ s) (suc i) a l = sort-at sort s i (a .1) (omega arith)
 
 pub all-more : (sort : Sort) (s : Str) (i : ℕ) → i < length s → All sort (take i s) → byte-ok sort (getD s i 0) ≡ true → All sort (take (suc i) s)
 all-more sort [] i l a e = absurd (omega arith)

@@ -14,7 +14,7 @@ use Rattle.script_decimal.specs.declared.Number.{Number}
 use Rattle.script_decimal.specs.declared.Number.the-variants.{At, No}
 use Rattle.script_decimal.specs.Bytes.{Str, byte-ok, All}
 use Rattle.script_decimal.specs.Numerals.{value-from, Valued, ValueSays, NumberSays}
-use Rattle.script_decimal.proofs.Bytes.{true-false, all-at, all-more}
+use Rattle.script_decimal.proofs.Bytes.{true-false, sort-at, all-more}
 
 and-both : (a b : Bool) → a && b ≡ true → (a ≡ true) × (b ≡ true)
 and-both true b e = (refl, e)
@@ -58,7 +58,7 @@ module _ {ds : Str} {v i : ℕ} (k : Counted ds v i) where
 
   module _ (l : i < length ds) where
     pub counted-other : byte-ok Digit (getD ds i 0) ≡ false → (n : ℕ) → Valued ds n → ⊥
-    counted-other h n r = true-false (all-at Digit ds i (r .digits) l) h
+    counted-other h n r = true-false (sort-at Digit ds i (r .digits) l) h
 
     pub counted-over : 4294967295 < v * 10 + (getD ds i 0 - 48) → (n : ℕ) → Valued ds n → ⊥
     counted-over h n r = omega (arith, r .value, r .fits, k .value, value-step v ds i l, value-grows (v * 10 + (getD ds i 0 - 48)) (drop (i + 1) ds))

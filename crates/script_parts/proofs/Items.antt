@@ -16,9 +16,9 @@ use Rattle.script_parts.specs.declared.Item.{Item}
 use Rattle.script_parts.specs.declared.Item.the-variants.{At, No}
 
 -- A text that begins with a letter has a byte.
-pub lettered : (s : Str) {b : ℕ} → getD s 0 0 ≡ b → 0 < b → 0 < length s
-lettered [] e h = omega (arith, e)
-lettered (a ∷ s) e h = omega arith
+pub letter-inside : (s : Str) {b : ℕ} → getD s 0 0 ≡ b → 0 < b → 0 < length s
+letter-inside [] e h = omega (arith, e)
+letter-inside (a ∷ s) e h = omega arith
 
 -- What is read of the digits as of the kind is the item, where these are what is written.
 pub item-says : (s : Str) (k : ItemKind) (ds : Str) → written-kind s ≡ k → written-digits s ≡ ds → (r : Item) → NumberedSays k ds r → ItemSays s r

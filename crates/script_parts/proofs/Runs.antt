@@ -91,8 +91,8 @@ cut-all line at e h =
 -- ---- `starts`
 
 module _ (line : Str) (at : ℕ) (text : Str) where
-  pub starts-short : length line - at < length text → (rest : Str) → drop at line ≡ text · rest → ⊥
-  starts-short h rest e = omega (arith, simp length-append at (ap length e), length-drop at line)
+  pub run-starts-short : length line - at < length text → (rest : Str) → drop at line ≡ text · rest → ⊥
+  run-starts-short h rest e = omega (arith, simp length-append at (ap length e), length-drop at line)
 
   pub starts-differ : (i : ℕ) → i < length text → (getD line (at + i) 0 ≡ getD text i 0 → ⊥) → (rest : Str) → drop at line ≡ text · rest → ⊥
   starts-differ i h n rest e = n (sym (getD-drop at line i 0) ∙ ap (λ (s : Str). getD s i 0) e ∙ List·getD-append text rest 0 i h)
@@ -115,9 +115,9 @@ module _ (line : Str) (at : ℕ) where
   last-none h part e = omega (arith, simp length-append at (ap length e), length-drop at line)
 
   module _ (e : ℕ) (inside : at < length line) (end : e + 1 ≡ length line) where
-    pub last-is : getD line e 0 ≡ 93 → LastAt line at e
+    pub bracket-last : getD line e 0 ≡ 93 → LastAt line at e
     unfolding bytes
-    last-is b = record {
+    bracket-last b = record {
       start = omega arith;
       end = end;
       spelled = cut-all line at e (omega arith) ∙ ap (λ (s : Str). cut at e line · s) (drop-cons line e 0 (omega arith) ∙ rw (b, drop-of-length-le line {i = suc e} (omega arith)));

@@ -61,9 +61,9 @@ pub says-end : (b : Bool) {ws txt : List ℕ} {used l r : ℕ} {P : Str → Type
 says-end b i h = says-iff b h (i .to) (i .fro)
 
 module _ {ws txt : List ℕ} {used l : ℕ} (b : Before ws txt used l) where
-  pub falls : (s : Side) (from : ℕ) → from < l → (j : ℕ) → 0 < j → j ≤ from → word (record-at ws j) (toward s) < j
-  falls left from h j p q = links-earlier (b .rows j p (omega arith)) .1
-  falls right from h j p q = links-earlier (b .rows j p (omega arith)) .0
+  pub toward-falls : (s : Side) (from : ℕ) → from < l → (j : ℕ) → 0 < j → j ≤ from → word (record-at ws j) (toward s) < j
+  toward-falls left from h j p q = links-earlier (b .rows j p (omega arith)) .1
+  toward-falls right from h j p q = links-earlier (b .rows j p (omega arith)) .0
 
   module _ (w : Which) (v : Level) where
     abbrev the : ℕ → Tree (Item w) v
@@ -82,8 +82,8 @@ module _ {ws txt : List ℕ} {used l : ℕ} (b : Before ws txt used l) where
       is-some : Some (the x)
       is-some = rw seen tt
 
-      pub next : LinkOk ws x (word (record-at ws x) (toward s)) (kind w (tree v))
-      next = go s
+      pub toward-link : LinkOk ws x (word (record-at ws x) (toward s)) (kind w (tree v))
+      toward-link = go s
         where
           go : (s : Side) → LinkOk ws x (word (record-at ws x) (toward s)) (kind w (tree v))
           go left = branch-at ok w v e .right
@@ -115,21 +115,21 @@ module _ {ws txt : List ℕ} {used l : ℕ} (b : Before ws txt used l) where
       away-all : (k : Str) → On s (key-of txt (record-at ws x)) k → AllKeys (λ y. On s y k) (the (word (record-at ws x) (away s)))
       away-all k q = AllKeys-map (the (word (record-at ws x) (away s))) (λ y i. on-trans s y (key-of txt (record-at ws x)) k i q) (sides .0)
 
-    pub outermost : (s : Side) (k : Str) {x r : ℕ} → Far ws (toward s) x r → 0 < x → x < l → kind-word (record-at ws x) ≡ kind w (tree v)
+    pub far-outermost : (s : Side) (k : Str) {x r : ℕ} → Far ws (toward s) x r → 0 < x → x < l → kind-word (record-at ws x) ≡ kind w (tree v)
         → End ws txt used l r (λ y. On s y k) (AllKeys (λ y. On s y k) (the x))
-    outermost s k {x} (here z) p h e = record {
+    far-outermost s k {x} (here z) p h e = record {
       some = p;
       before = h;
       inside = branch-at (b .rows x p h) w v e .key .inside;
       to = λ q. all-at s x p h e (λ y. On s y k) q (away-all s x p h e k q) (none-all (λ y. On s y k) _ z);
       fro = λ a. at-all s x p h e (λ y. On s y k) a .0;
     }
-    outermost s k {x} {r} (on z f) p h e =
-        let n = next s x p h e in
+    far-outermost s k {x} {r} (on z f) p h e =
+        let n = toward-link s x p h e in
         let y = word (record-at ws x) (toward s) in
         let c : kind-word (record-at ws y) ≡ kind w (tree v) = n .of-kind (λ q. omega arith) in
         let m : y < l = omega (arith, n .earlier) in
-        let i : End ws txt used l r (λ y. On s y k) (AllKeys (λ y. On s y k) (the y)) = outermost s k f z m c in
+        let i : End ws txt used l r (λ y. On s y k) (AllKeys (λ y. On s y k) (the y)) = far-outermost s k f z m c in
         record {
           some = i .some;
           before = i .before;
@@ -151,7 +151,7 @@ module _ {ws txt : List ℕ} {used l k top start len : ℕ} (q : Subtree ws txt 
   pub subtree-end : {r : ℕ} → (w : Which) (v : Level) → k ≡ kind w (tree v) → (top ≡ 0 → ⊥) → Far ws (toward s) top r
       → End ws txt used l r (λ y. On s y (span txt start len)) (AllKeys (λ y. On s y (span txt start len)) (what w ws txt top (tree v)))
   subtree-end w v e n f =
-      outermost (q .before) w v s (span txt start len) f (zero-some top (λ z. absurd (n z)) (λ p. p)) (q .link .earlier) (q .link .of-kind n ∙ e)
+      far-outermost (q .before) w v s (span txt start len) f (zero-some top (λ z. absurd (n z)) (λ p. p)) (q .link .earlier) (q .link .of-kind n ∙ e)
 
   pub end-lent : {r : ℕ} → (top ≡ 0 → ⊥) → Far ws (toward s) top r → EndLent ws txt r
   end-lent n f =

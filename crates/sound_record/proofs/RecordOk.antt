@@ -15,27 +15,27 @@ use Rattle.memory.proofs.RecordOk.{as-earlier, record-as}
 use Rattle.memory.proofs.RecordAt.{record-length}
 use Rattle.sound_field.specs.Fields.{Before}
 
--- The table of a kind that is a sort's, and the kinds beside it.
+-- The table of a kind that is a sort's, and the kinds kind-beside it.
 pub known-as : (s : Sort) {k : ℕ} → (k ≡ kind names s) ⊎ (k ≡ kind modules s) → (w : Which) × (k ≡ kind w s)
 known-as s e = ⊎-elim (λ x. (names, x)) (λ x. (modules, x)) e
 
-pub beside : (w : Which) (s t : Sort) {k m : ℕ} → k ≡ kind w s → k + kind-in t ≡ m + kind-in s → m ≡ kind w t
-beside names s t e f = omega arith
-beside modules s t e f = omega arith
+pub kind-beside : (w : Which) (s t : Sort) {k m : ℕ} → k ≡ kind w s → k + kind-in t ≡ m + kind-in s → m ≡ kind w t
+kind-beside names s t e f = omega arith
+kind-beside modules s t e f = omega arith
 
 -- A number that is no kind.
-pub no-kind : {k : ℕ} (w : Which) (s : Sort) → k ≡ kind w s → (k ≡ 1 → ⊥) → (k ≡ 6 → ⊥)
+pub kind-none : {k : ℕ} (w : Which) (s : Sort) → k ≡ kind w s → (k ≡ 1 → ⊥) → (k ≡ 6 → ⊥)
     → ((k ≡ 2) ⊎ (k ≡ 7) → ⊥) → ((k ≡ 3) ⊎ (k ≡ 8) → ⊥) → ((k ≡ 4) ⊎ (k ≡ 9) → ⊥) → ((k ≡ 5) ⊎ (k ≡ 10) → ⊥) → ⊥
-no-kind names (tree bind) e a b c d f g = a e
-no-kind names (tree ns) e a b c d f g = c (inl e)
-no-kind names (list bind) e a b c d f g = d (inl e)
-no-kind names (list ns) e a b c d f g = f (inl e)
-no-kind names trieˢ e a b c d f g = g (inl e)
-no-kind modules (tree bind) e a b c d f g = b e
-no-kind modules (tree ns) e a b c d f g = c (inr e)
-no-kind modules (list bind) e a b c d f g = d (inr e)
-no-kind modules (list ns) e a b c d f g = f (inr e)
-no-kind modules trieˢ e a b c d f g = g (inr e)
+kind-none names (tree bind) e a b c d f g = a e
+kind-none names (tree ns) e a b c d f g = c (inl e)
+kind-none names (list bind) e a b c d f g = d (inl e)
+kind-none names (list ns) e a b c d f g = f (inl e)
+kind-none names trieˢ e a b c d f g = g (inl e)
+kind-none modules (tree bind) e a b c d f g = b e
+kind-none modules (tree ns) e a b c d f g = c (inr e)
+kind-none modules (list bind) e a b c d f g = d (inr e)
+kind-none modules (list ns) e a b c d f g = f (inr e)
+kind-none modules trieˢ e a b c d f g = g (inr e)
 
 -- The record r of link l, tested as what its words say, is tested as what the link reads as.
 module _ {ws txt : List ℕ} {used l : ℕ} (before : Before ws txt used l) {r : List ℕ} (at : r ≡ record-at ws l) (w : Which) (s : Sort) (known : kind-word r ≡ kind w s) where
@@ -57,5 +57,5 @@ module _ {ws txt : List ℕ} {used l : ℕ} (before : Before ws txt used l) {r :
       record { which = w; sort = s; known = rw at at known; right = subst Right (sym (same (row w txt (record-at ws l) (what w ws txt) s) c)) c })
       right-as
 
-pub twelve : {ws txt : List ℕ} {used l : ℕ} {r : List ℕ} → Before ws txt used l → r ≡ record-at ws l → length r ≡ 12
-twelve {ws} {l = l} b e = ap length e ∙ record-length ws l (b .some) (b .fits)
+pub before-length : {ws txt : List ℕ} {used l : ℕ} {r : List ℕ} → Before ws txt used l → r ≡ record-at ws l → length r ≡ 12
+before-length {ws} {l = l} b e = ap length e ∙ record-length ws l (b .some) (b .fits)

@@ -10,8 +10,8 @@ use Rattle.source.specs.Tries.{or-else, names-find-exact, names-insert}
 use Rattle.source.proofs.Order.{View, compare-strings, <ˢ-irrefl}
 
 -- two keys are equal or not
-pub same-key : (j k : Str) → (j ≡ k) ⊎ (j ≡ k → ⊥)
-same-key j k = go (string-compare j k) (compare-strings j k)
+pub key-same-or-not : (j k : Str) → (j ≡ k) ⊎ (j ≡ k → ⊥)
+key-same-or-not j k = go (string-compare j k) (compare-strings j k)
   where
     go : (o : Ordering) → View j k o → (j ≡ k) ⊎ (j ≡ k → ⊥)
     go Ordering·lt w = inr (λ e. <ˢ-irrefl k (rw e at w))

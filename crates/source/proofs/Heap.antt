@@ -9,7 +9,7 @@ use Rattle.source.specs.Heap.{Heap, Forest, EmptyHeap, HeapOf, []ᶠ, _�
 use Rattle.source.specs.Forward.{sum, sumᶠ}
 use Rattle.source.specs.Shared.{sumˡ}
 
--- something counted in one of two parts
+-- something sum-counted in one of two parts
 abbrev pick : {C : Type 0} (m n : ℕ) → 0 < m + n → (0 < m → C) → (0 < n → C) → C
 pick zero n l f g = g (omega arith)
 pick (suc m) n l f g = f (omega arith)
@@ -63,13 +63,13 @@ module _ {A : Type 0} where
 
   mutual
     -- something counted: an element that counts
-    pub counted : (P : A → Type 0) (f : A → ℕ) (h : Heap A) → 0 < sum f h → All P h → (a : A) × (0 < f a) × P a
-    counted P f EmptyHeap l p = absurd (omega arith)
-    counted P f (HeapOf v hh) l p = pick (f v) (sumᶠ f hh) l (λ k. (v, k, p .0)) (λ k. countedᶠ P f hh k (p .1))
+    pub sum-counted : (P : A → Type 0) (f : A → ℕ) (h : Heap A) → 0 < sum f h → All P h → (a : A) × (0 < f a) × P a
+    sum-counted P f EmptyHeap l p = absurd (omega arith)
+    sum-counted P f (HeapOf v hh) l p = pick (f v) (sumᶠ f hh) l (λ k. (v, k, p .0)) (λ k. countedᶠ P f hh k (p .1))
 
     pub countedᶠ : (P : A → Type 0) (f : A → ℕ) (hh : Forest A) → 0 < sumᶠ f hh → Allᶠ P hh → (a : A) × (0 < f a) × P a
     countedᶠ P f []ᶠ l p = absurd (omega arith)
-    countedᶠ P f (h ∷ᶠ hh) l p = pick (sum f h) (sumᶠ f hh) l (λ k. counted P f h k (p .0)) (λ k. countedᶠ P f hh k (p .1))
+    countedᶠ P f (h ∷ᶠ hh) l p = pick (sum f h) (sumᶠ f hh) l (λ k. sum-counted P f h k (p .0)) (λ k. countedᶠ P f hh k (p .1))
 
   module _ (cmp : A → A → Ordering) where
     pub insert-all-more : (h : Heap A) (l : List A) (a : A) → heap-insert-all cmp h (l ++ (a ∷ [])) ≡ heap-insert cmp (heap-insert-all cmp h l) a

@@ -17,7 +17,7 @@ use Rattle.source.proofs.Order.{View, Viewℕ, compare-view, compare-st
 use Rattle.source.specs.Heap.{Heap, Forest, EmptyHeap, HeapOf, []ᶠ, is-lt, heap-merge, heap-insert, heap-merge-pairs, heap-insert-all, heap-from-list}
 use Rattle.source.specs.Shared.{sumˡ}
 use Rattle.source.specs.Forward.{sum, sumᶠ}
-use Rattle.source.proofs.Heap.{All, Allᶠ, Heaped, All-map, Allᶠ-map, Allᶠ-zip, none-countedᶠ, counted, sum-merge, sum-pairs, All-merge, All-pairs, Heaped-merge, Heaped-pairs, sum-from-list, Heaped-from-list}
+use Rattle.source.proofs.Heap.{All, Allᶠ, Heaped, All-map, Allᶠ-map, Allᶠ-zip, none-countedᶠ, sum-counted, sum-merge, sum-pairs, All-merge, All-pairs, Heaped-merge, Heaped-pairs, sum-from-list, Heaped-from-list}
 use Rattle.source.specs.Lists.{Run, run, first, priority, nonempty, add-priorities, total, push-nodup, run-cmp, put-back, merge-aux, merge-nonempty, merge-increasing-lists-rev}
 use Rattle.source.specs.Shared.{same, Allˡ}
 use Rattle.source.proofs.Lookup.{Same, same-view, Allˡ-map, Allˡ-reverse, sumˡ-reverse, or-else-none, lt-ne, lookup, first-lookup, Above, Below, Increasing, Decreasing, lookup-hit, lookup-miss, lookup-above, lookup-below, decreasing-unique}
@@ -251,7 +251,7 @@ module _ {A : Type 0} (key : A → Str) where
         go [] e = refl
         go (w ∷ ws) e =
             let c : (r : Run A) × (0 < at q r) × Found r =
-            counted Found (at q) (HeapOf (run p v tl) hh) (omega (arith, inv .counts q, ap live e))
+            sum-counted Found (at q) (HeapOf (run p v tl) hh) (omega (arith, inv .counts q, ap live e))
             ((inv .sound .0, RLe-refl (run p v tl)), Allᶠ-zip hh (λ r a b. (a, b)) (inv .sound .1) (inv .heaped .0)) in
             use-found w ws e (c .0) (at-pos q (c .0) (c .1)) (c .2)
 

@@ -11,7 +11,7 @@ use Rattle.source.specs.Table.{ModSymbol, Module, Namespace, Table, ns-i
 use Rattle.source.specs.Plans.{host-of}
 use Rattle.source.proofs.Quoted.{bytes}
 use Rattle.source.proofs.Imports.{names-find-inserted}
-use Rattle.source.proofs.Elsewhere.{same-key, names-find-other}
+use Rattle.source.proofs.Elsewhere.{key-same-or-not, names-find-other}
 
 -- ---- look-up below a namespace
 module _ {A : Type 0} where
@@ -74,7 +74,7 @@ module _ (path : Str) (loaded : Bool) where
   changed-elsewhere tr (h ∷ q) rev [] d = refl
   changed-elsewhere tr (h ∷ q) rev (s ∷ []) d = ins-other h q rev (bindings tr) s (λ e. d q (cc))
   changed-elsewhere tr (h ∷ q) rev (s ∷ (t ∷ o)) d =
-      go (same-key s h) (λ n. changed-elsewhere (scope-of (namespaces tr) h) q (h ∷ rev) (t ∷ o) n)
+      go (key-same-or-not s h) (λ n. changed-elsewhere (scope-of (namespaces tr) h) q (h ∷ rev) (t ∷ o) n)
     where
       below : Trie ModSymbol
       below = trie-mutate (scope-of (namespaces tr) h) q (h ∷ rev) node leaf
@@ -172,10 +172,10 @@ module _ (tbl : Table) (path : Str) (p : Query) (s t : Str) (q : Query) where
   namespace-replaces name e = after tbl true path p s (t ∷ q) ∙ rw (sym (before tbl true path p s) ∙ e) (names-find-inserted _ s _ ∙ rw full-name)
 
 -- Annotations: with spaces when loaded, else in brackets.
-pub annotations : (name path : Str)
+pub mod-annotation-is : (name path : Str)
     → (mod-annotation (Module name path true) ≡ bytes " mod ")
     × (mod-annotation (Module name path false) ≡ bytes "(mod)")
     × (mod-annotation (Namespace name true) ≡ bytes " ns ")
     × (mod-annotation (Namespace name false) ≡ bytes "(ns)")
 unfolding mod-annotation bytes
-annotations name path = (refl, refl, refl, refl)
+mod-annotation-is name path = (refl, refl, refl, refl)

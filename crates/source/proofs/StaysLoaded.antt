@@ -1,4 +1,4 @@
--- Where the registration of a module departs from the source (departure), and what that leaves as it was.
+-- Where the registration of a module departs from the source (stays-loaded-departs), and what that leaves as it was.
 use Prim.Native.Nat.{ℕ, Ordering, Ordering·lt, Ordering·eq, Ordering·gt}
 use mathlib.Core.Path.{_≡_, refl}
 use mathlib.Core.Bool.{Bool, true, false, not, _&&_, _||_}
@@ -62,7 +62,7 @@ module _ (name path : Str) where
     same : (x : Trie ModSymbol) → Departs false x x
     one-flag : {x y : Trie ModSymbol} → OneFlag ns x y → Departs true x y
 
--- ---- The departure
+-- ---- The stays-loaded-departs
 
 module _ (path : Str) (loaded : Bool) where
   -- mut_node of either function
@@ -96,11 +96,11 @@ module _ (path : Str) (loaded : Bool) where
 
 -- For every table and call: where look-up of the query, which is by first holders, gives a loaded Module and the call is unloaded, the two tables
 -- differ in one flag; everywhere else they are the same.
-pub departure : (tbl : Table) (loaded : Bool) (path : Str) (q : Query)
+pub stays-loaded-departs : (tbl : Table) (loaded : Bool) (path : Str) (q : Query)
     → (register-module-stays-loaded tbl loaded path q .tbl-lids ≡ register-module-path tbl loaded path q .tbl-lids)
     × Departs (query-to-string q) path (loaded-module (find-module-or-ns tbl q) && not loaded) (register-module-path tbl loaded path q .tbl-mods) (register-module-stays-loaded tbl loaded path q .tbl-mods)
 unfolding register-module-path register-module-stays-loaded find-module-or-ns
-departure tbl loaded path q = (refl, departs path loaded (tbl .tbl-mods) q [])
+stays-loaded-departs tbl loaded path q = (refl, departs path loaded (tbl .tbl-mods) q [])
 
 -- ---- Weight and depth, so rows 5 and 6, are the source's
 module _ {name path : Str} where
@@ -142,7 +142,7 @@ module _ {name path : Str} where
 
 module _ (tbl : Table) (loaded : Bool) (path : Str) (q : Query) where
   pub stays-loaded-heaviest : heaviest (register-module-stays-loaded tbl loaded path q .tbl-mods) ≡ heaviest (register-module-path tbl loaded path q .tbl-mods)
-  stays-loaded-heaviest = same-measure heaviest (λ x y. one-heaviest) (departure tbl loaded path q .1)
+  stays-loaded-heaviest = same-measure heaviest (λ x y. one-heaviest) (stays-loaded-departs tbl loaded path q .1)
 
   pub stays-loaded-depth : depth (register-module-stays-loaded tbl loaded path q .tbl-mods) ≡ depth (register-module-path tbl loaded path q .tbl-mods)
-  stays-loaded-depth = same-measure depth (λ x y. one-depth) (departure tbl loaded path q .1)
+  stays-loaded-depth = same-measure depth (λ x y. one-depth) (stays-loaded-departs tbl loaded path q .1)

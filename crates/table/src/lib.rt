@@ -7,7 +7,7 @@ use listing_ask::Request;
 use memory_table::Header;
 use refusals::Refusal;
 use register::Checked;
-use register_kind::Kind;
+use register_kind::CallKind;
 use table_roots::Found;
 use table_roots::FoundModule;
 ghost use mathlib.Core.Bool.{true};
@@ -182,7 +182,7 @@ impl Table {
         self,
         words: &mut [u32],
         text: &mut [u8],
-        kind: Kind,
+        kind: CallKind,
         host: &[u8],
         other: &[u8],
         key: &[u8],
@@ -232,7 +232,7 @@ impl Table {
         self,
         words: &mut [u32],
         text: &mut [u8],
-        kind: Kind,
+        kind: CallKind,
         host: &[u8],
         other: &[u8],
         key: &[u8],

@@ -1,7 +1,7 @@
 // Registrations under the source's names.
 use crate::Registration;
 use crate::Table;
-use register_kind::Kind;
+use register_kind::CallKind;
 use source::LidSymbol;
 ghost use mathlib.Core.Bool.{true, false};
 ghost use Rattle.source.specs.Lent.{old, new};
@@ -25,7 +25,7 @@ impl Table {
         self.register(
             words,
             text,
-            Kind::Name(kind, item.number),
+            CallKind::Name(kind, item.number),
             host,
             id,
             &host[..0],
@@ -48,7 +48,7 @@ impl Table {
         self.register_sound(
             words,
             text,
-            Kind::Name(kind, item.number),
+            CallKind::Name(kind, item.number),
             host,
             id,
             &host[..0],
@@ -65,7 +65,7 @@ impl Table {
     ) -> Registration
         ensures { λ r. ⌜ Total (old words) (old text) (new words) (new text) self (include (old host) (old query)) r ⌝ }
     {
-        self.register(words, text, Kind::Include, host, query, &host[..0])
+        self.register(words, text, CallKind::Include, host, query, &host[..0])
     }
 
     // The same, in a sound memory.
@@ -79,7 +79,7 @@ impl Table {
         requires { ⌜ IsSound (now words) (now text) self ⌝ }
         ensures { λ r. ⌜ Answers true (old words) (old text) (new words) (new text) self (include (old host) (old query)) r ⌝ }
     {
-        self.register_sound(words, text, Kind::Include, host, query, &host[..0])
+        self.register_sound(words, text, CallKind::Include, host, query, &host[..0])
     }
 
     // The source's register_open of a namespace.
@@ -92,7 +92,7 @@ impl Table {
     ) -> Registration
         ensures { λ r. ⌜ Total (old words) (old text) (new words) (new text) self (opens false (old host) (old query)) r ⌝ }
     {
-        self.register(words, text, Kind::Open, host, query, &host[..0])
+        self.register(words, text, CallKind::Open, host, query, &host[..0])
     }
 
     // The same, in a sound memory.
@@ -106,7 +106,7 @@ impl Table {
         requires { ⌜ IsSound (now words) (now text) self ⌝ }
         ensures { λ r. ⌜ Answers true (old words) (old text) (new words) (new text) self (opens false (old host) (old query)) r ⌝ }
     {
-        self.register_sound(words, text, Kind::Open, host, query, &host[..0])
+        self.register_sound(words, text, CallKind::Open, host, query, &host[..0])
     }
 
     // The source's register_open of a module: what register_include does.
@@ -119,7 +119,7 @@ impl Table {
     ) -> Registration
         ensures { λ r. ⌜ Total (old words) (old text) (new words) (new text) self (opens true (old host) (old query)) r ⌝ }
     {
-        self.register(words, text, Kind::Include, host, query, &host[..0])
+        self.register(words, text, CallKind::Include, host, query, &host[..0])
     }
 
     // The same, in a sound memory.
@@ -133,7 +133,7 @@ impl Table {
         requires { ⌜ IsSound (now words) (now text) self ⌝ }
         ensures { λ r. ⌜ Answers true (old words) (old text) (new words) (new text) self (opens true (old host) (old query)) r ⌝ }
     {
-        self.register_sound(words, text, Kind::Include, host, query, &host[..0])
+        self.register_sound(words, text, CallKind::Include, host, query, &host[..0])
     }
 
     // The source's register_alias.
@@ -147,7 +147,7 @@ impl Table {
     ) -> Registration
         ensures { λ r. ⌜ Total (old words) (old text) (new words) (new text) self (alias (old key) (old host) (old query)) r ⌝ }
     {
-        self.register(words, text, Kind::Alias, host, query, key)
+        self.register(words, text, CallKind::Alias, host, query, key)
     }
 
     // The same, in a sound memory.
@@ -162,7 +162,7 @@ impl Table {
         requires { ⌜ IsSound (now words) (now text) self ⌝ }
         ensures { λ r. ⌜ Answers true (old words) (old text) (new words) (new text) self (alias (old key) (old host) (old query)) r ⌝ }
     {
-        self.register_sound(words, text, Kind::Alias, host, query, key)
+        self.register_sound(words, text, CallKind::Alias, host, query, key)
     }
 
     // The source's register_module_path, but a loaded Module stays loaded.
@@ -176,7 +176,14 @@ impl Table {
     ) -> Registration
         ensures { λ r. ⌜ Total (old words) (old text) (new words) (new text) self (module-path loaded (old query) (old path)) r ⌝ }
     {
-        self.register(words, text, Kind::Module(loaded), query, path, &query[..0])
+        self.register(
+            words,
+            text,
+            CallKind::Module(loaded),
+            query,
+            path,
+            &query[..0],
+        )
     }
 
     // The same, in a sound memory.
@@ -191,6 +198,13 @@ impl Table {
         requires { ⌜ IsSound (now words) (now text) self ⌝ }
         ensures { λ r. ⌜ Answers true (old words) (old text) (new words) (new text) self (module-path loaded (old query) (old path)) r ⌝ }
     {
-        self.register_sound(words, text, Kind::Module(loaded), query, path, &query[..0])
+        self.register_sound(
+            words,
+            text,
+            CallKind::Module(loaded),
+            query,
+            path,
+            &query[..0],
+        )
     }
 }

@@ -24,12 +24,12 @@ use Rattle.listing_row.specs.Rows.{SymbolInside}
 use Rattle.listing_row.proofs.Inside.{symbol-in-inside}
 
 module _ (query : Str) where
-  pub query-whole : lowest (argument-rows true (a-look-up query ∷ [])) ≡ none → ends-in-dot query ≡ true
-  query-whole e = look-up-whole true query (argument-rows-none true _ e)
+  pub look-up-query-whole : lowest (argument-rows true (a-look-up query ∷ [])) ≡ none → ends-in-dot query ≡ true
+  look-up-query-whole e = look-up-whole true query (argument-rows-none true _ e)
 
-  pub look-up-refused : {A : Type 0} (root : Trie A) {n : ℕ} → lowest (argument-rows true (a-look-up query ∷ [])) ≡ some n → refused n ≡ look-up true root query
+  pub look-up-rows-refused : {A : Type 0} (root : Trie A) {n : ℕ} → lowest (argument-rows true (a-look-up query ∷ [])) ≡ some n → refused n ≡ look-up true root query
   unfolding look-up
-  look-up-refused root e = rw (look-up, e)
+  look-up-rows-refused root e = rw (look-up, e)
 
   look-up-passed : {A : Type 0} (root : Trie A) → lowest (argument-rows true (a-look-up query ∷ [])) ≡ none → look-up true root query ≡ found-of (trie-find-exact root (segments query))
   unfolding look-up
@@ -45,8 +45,8 @@ module _ (query : Str) where
     look-up-found z = rw (look-up-passed _ e, h .says, ne-eqb r 0 z)
 
 -- The branch that is found is a record.
-pub branch-fits : {ws txt : List ℕ} {root r : ℕ} {q : Query} → AnyTrie ws txt root → T.FindsExact ws txt root q r → (r ≡ 0 → ⊥) → (0 < r) × (r * 12 ≤ length ws)
-branch-fits a h z = (omega arith, link-fits (a .trie .sound) (link-later (omega (arith, a .trie .link .earlier)) (h (a .which) (a .trie) .link)))
+pub found-fits : {ws txt : List ℕ} {root r : ℕ} {q : Query} → AnyTrie ws txt root → T.FindsExact ws txt root q r → (r ≡ 0 → ⊥) → (0 < r) × (r * 12 ≤ length ws)
+found-fits a h z = (omega arith, link-fits (a .trie .sound) (link-later (omega (arith, a .trie .link .earlier)) (h (a .which) (a .trie) .link)))
 
 -- The texts of a found symbol lie in the lent text.
 pub symbol-inside : {ws txt : List ℕ} {root l : ℕ} → At ws txt modules trieˢ root → LinkOk ws (root + 1) l (kind modules (tree bind)) → 0 < l

@@ -27,7 +27,7 @@ use Rattle.listing.specs.declared.Completed.{Completed}
 use Rattle.listing.specs.declared.Completed.the-variants.{Listed, Refused}
 use Rattle.listing_ask.specs.declared.Request.{Request}
 use Rattle.table.specs.declared.Listing.{Listing}
-use Rattle.table.proofs.Says.{decided}
+use Rattle.table.proofs.Says.{says-same}
 use Rattle.table_count.specs.LinesIn.{lines-in}
 use Rattle.table_typed.specs.Completions.{output, FlatCompletes}
 
@@ -72,7 +72,7 @@ module _ {ws txt : List ℕ} {t : Table} {q : Request} {query : Str} {room : ℕ
       let n : lines-in a * line-bytes ≤ k = omega (arith, part-fits ask ws txt flat f out out′ a k (completion true (table-in ws txt t) ask budget (F.output (take k flat) out) query) (c .says true o), length-take-le k flat h) in
       record {
         table = c .table;
-        says = λ b s. subst (λ x. CompletesAs ask ws txt flat (f ++ drop k flat) out out′ a (completion x (table-in ws txt t) ask budget (output room flat out) query)) (sym (decided _ b true s o))
+        says = λ b s. subst (λ x. CompletesAs ask ws txt flat (f ++ drop k flat) out out′ a (completion x (table-in ws txt t) ask budget (output room flat out) query)) (sym (says-same _ b true s o))
             (part-as ask ws txt flat f out out′ a k h (completion true (table-in ws txt t) ask budget (output room flat out) query) (subst (λ x. CompletesAs ask ws txt (take k flat) f out out′ a (completion true (table-in ws txt t) ask budget x query)) (output-part room k flat out h e) (c .says true o)));
         fit = omega (arith, n, e);
         lent = omega (arith, n, h);
@@ -83,7 +83,7 @@ module _ {ws txt : List ℕ} {t : Table} {q : Request} {query : Str} {room : ℕ
   unfolding complete complete-modules completed completion-rows lowest argument-rows
   flat-unsound o = record {
     table = refl;
-    says = λ b s. subst (λ x. CompletesAs (q .ask) ws txt flat flat out out (Refused Unsound) (completion x (table-in ws txt t) (q .ask) (q .budget) (output room flat out) query)) (sym (decided _ b false s o)) (go (q .ask));
+    says = λ b s. subst (λ x. CompletesAs (q .ask) ws txt flat flat out out (Refused Unsound) (completion x (table-in ws txt t) (q .ask) (q .budget) (output room flat out) query)) (sym (says-same _ b false s o)) (go (q .ask));
     fit = zero-le;
     lent = zero-le;
   }

@@ -96,8 +96,8 @@ module _ {a b : Str} {i : ℕ} (f : Comparing a b i) where
         record { order = e ∙ sym (bytes-say ∙ then-stands _ _ _ n); agree = omega (arith, f .counts, ap length none) }
 
   -- One of them ends at i.
-  pub ended : (n : ℕ) → n ≡ min (length a) (length b) → n ≤ i → (o : Order) → ordering o ≡ compare (length a) (length b) → Compares a b (record { order = o; agree = n })
-  ended n e h o p = record { order = p ∙ same-order ∙ sym (x .says) ∙ f .says; agree = omega (arith, f .counts, f .a-has, f .b-has, ap length (x .none)) }
+  pub compares-ended : (n : ℕ) → n ≡ min (length a) (length b) → n ≤ i → (o : Order) → ordering o ≡ compare (length a) (length b) → Compares a b (record { order = o; agree = n })
+  compares-ended n e h o p = record { order = p ∙ same-order ∙ sym (x .says) ∙ f .says; agree = omega (arith, f .counts, f .a-has, f .b-has, ap length (x .none)) }
     where
       x : Ended (drop i a) (drop i b)
       x = either-ends (drop i a) (drop i b) (omega (arith, length-drop i a, length-drop i b, f .a-has, f .b-has))

@@ -82,8 +82,8 @@ pub no-dot : (s : Str) → 0 < length s → before-dot s ≡ length s → segmen
 no-dot [] h e = absurd (omega arith)
 no-dot (b ∷ s) h e = let k : (eqb b dot ≡ false) × (before-dot s ≡ length s) = no-dot-cons b s e in segments-other b s (k .0) ∙ whole b s (k .1)
 
-pub undotted : (s : Str) → 0 < length s → before-dot s ≡ length s → ends-in-dot s ≡ false
-undotted s h e = go (ends-in-dot s) refl
+pub segment-undotted : (s : Str) → 0 < length s → before-dot s ≡ length s → ends-in-dot s ≡ false
+segment-undotted s h e = go (ends-in-dot s) refl
   where
     go : (t : Bool) → ends-in-dot s ≡ t → t ≡ false
     go true d = absurd (omega (arith, before-inside s d h))

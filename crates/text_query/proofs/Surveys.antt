@@ -13,7 +13,7 @@ use Rattle.text_query.specs.Queries.{before-dot}
 use Rattle.text_query.specs.Queries.{Surveyed}
 use Rattle.text.proofs.Texts.{other-byte, Passing, pass-byte, pass-end}
 use Rattle.text_query.specs.Queries.{Segment}
-use Rattle.text_query.proofs.Segments.{before-at-dot, before-at-other, before-end, no-dot, undotted, segments-end, segment-at}
+use Rattle.text_query.proofs.Segments.{before-at-dot, before-at-other, before-end, no-dot, segment-undotted, segments-end, segment-at}
 
 abbrev over : Str → Bool
 over g = ltb 31 (length g)
@@ -100,7 +100,7 @@ module _ {s : Str} {o e l : Bool} {n a i : ℕ} (f : Surveying s o e l n a i) wh
       let j : length (drop a s) ≡ i - a = simp length-drop (omega arith) in
       let b : before-dot (drop a s) ≡ length (drop a s) = omega (arith, before-end s i h) in
       let x : segments (drop a s) ≡ drop a s ∷ [] = no-dot (drop a s) (omega arith) b in
-      let w : ends-in-dot s ≡ false = sym (f .ends) ∙ undotted (drop a s) (omega arith) b in
+      let w : ends-in-dot s ≡ false = sym (f .ends) ∙ segment-undotted (drop a s) (omega arith) b in
       let c : length (segments s) ≡ n + 1 = omega (arith, ap length x) in
       record {
         malformed = rw w;

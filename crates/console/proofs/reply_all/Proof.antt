@@ -6,7 +6,7 @@ use Prim.Native.Nat.{_-_}
 use lib.ListN.{length}
 use lib.Seq.{length-take-le}
 use native.Mathlib.Omega.{arith}
-use Rattle.console.proofs.Steady.{off, on, laid-fits, Steady, steady-start, steady-on}
+use Rattle.console.proofs.Steady.{not-true, not-false, laid-fits, Steady, steady-start, steady-on}
 use Rattle.console.proofs.reply_all.Statement.{statement}
 use Rattle.console.proofs.reply_all.Tie as tie
 use borrow.Author.Needs.{needs}
@@ -59,8 +59,8 @@ reply-all-spec =
     {- same-length-12 -}
     (λ c. laid-length (c .before .before .before .before .before .before .before .before .before .before .before .before .before .before .before .before .before .before .step .ensures .laid) ∙ c .before .before .before .before .before .before .before .before .before .before .before .before .before .before .before .before .before .before .before .before .before .before .before .before .before .loop .inv .reply-size)
     {- returns-2 -}
-    (λ c. record { sound = c .before .before .before .before .before .before .before .before .before .before .before .before .before .before .before .before .before .before .step .ensures .sound; inside = c .before .before .before .before .before .before .before .before .before .before .before .before .before .before .before .before .before .before .step .ensures .inside; short = λ _. (c .before .before .before .before .before .before .before .before .before .before .before .before .before .before .before .before .before .before .step .ensures .stops (off _ (c .if2 .taken)) .0, c .before .before .before .before .before .before .before .before .before .before .before .before .before .before .before .before .before .before .step .ensures .stops (off _ (c .if2 .taken)) .1) })
+    (λ c. record { sound = c .before .before .before .before .before .before .before .before .before .before .before .before .before .before .before .before .before .before .step .ensures .sound; inside = c .before .before .before .before .before .before .before .before .before .before .before .before .before .before .before .before .before .before .step .ensures .inside; short = λ _. (c .before .before .before .before .before .before .before .before .before .before .before .before .before .before .before .before .before .before .step .ensures .stops (not-true _ (c .if2 .taken)) .0, c .before .before .before .before .before .before .before .before .before .before .before .before .before .before .before .before .before .before .step .ensures .stops (not-true _ (c .if2 .taken)) .1) })
     {- loop-less -}
-    (λ c. omega (arith, c .before .before .before .before .before .before .before .before .before .before .before .before .before .before .before .before .before .before .step .ensures .goes-on (on _ (c .if2 .left)) .0, c .before .before .before .before .before .before .before .before .before .before .before .before .before .before .before .before .before .before .step .ensures .inside .started, c .before .before .before .before .before .before .before .before .before .before .before .before .before .before .before .before .before .before .step .ensures .inside .ended))
+    (λ c. omega (arith, c .before .before .before .before .before .before .before .before .before .before .before .before .before .before .before .before .before .before .step .ensures .goes-on (not-false _ (c .if2 .left)) .0, c .before .before .before .before .before .before .before .before .before .before .before .before .before .before .before .before .before .before .step .ensures .inside .started, c .before .before .before .before .before .before .before .before .before .before .before .before .before .before .before .before .before .before .step .ensures .inside .ended))
     {- loop-again -}
     (λ c. steady-on (c .before .before .before .before .before .before .before .before .before .before .before .before .before .before .before .before .before .before .before .before .before .before .before .before .before .loop .inv) (c .before .before .before .before .before .before .before .before .before .before .before .before .before .before .before .before .before .before .step .ensures) (search needs) (search needs) (search needs)))

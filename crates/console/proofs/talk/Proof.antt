@@ -6,7 +6,7 @@ use native.Mathlib.Omega.{arith}
 use Rattle.table.specs.Header.{IsSound}
 use Rattle.console.proofs.talk.Statement.{statement}
 use Rattle.console.proofs.talk.Tie as tie
-use Rattle.console.proofs.Steady.{on}
+use Rattle.console.proofs.Steady.{not-false}
 use borrow.Author.Needs.{needs}
 
 abbrev Inv-loop : tie.InvT-loop
@@ -60,5 +60,5 @@ talk-spec =
     {- loop-less-2 -}
     (λ c. omega (arith, c .before .before .before .before .before .before .before .before .before .before .before .before .before .before .before .before .before .before .before .before .before .before .before .loop-test .taken))
     {- loop-again-2 -}
-    (λ c. (search needs, search needs, search needs, search needs, search needs, search needs, c .before .before .before .before .before .before .before .before .before .before .reply-all .ensures .short (on _ (c .before .before .if5 .left)) .1, c .before .before .before .before .before .before .before .before .before .before .reply-all .ensures .sound))
+    (λ c. (search needs, search needs, search needs, search needs, search needs, search needs, c .before .before .before .before .before .before .before .before .before .before .reply-all .ensures .short (not-false _ (c .before .before .if5 .left)) .1, c .before .before .before .before .before .before .before .before .before .before .reply-all .ensures .sound))
     (λ c. search needs))

@@ -1,5 +1,5 @@
 -- `answer_lines` meets its contract.
-use Rattle.console_answers.proofs.Talked.{Going, going-start, going-on, talked-out, talked-full}
+use Rattle.console_answers.proofs.Talked.{Going, talk-going-start, talk-going-on, talked-out, talked-full}
 use Rattle.console_questions.specs.RowReplies.{room}
 use lib.ListN.{length}
 use Prim.Native.Nat.{_-_}
@@ -16,7 +16,7 @@ abbrev μ-loop : tie.MeasureT-loop
 μ-loop words₀ text₀ input from flat₀ pane₀ reply₀ size t₀ at₀ i₀ words text flat pane reply t at i = length input - i
 
 loop-holds : tie.Need-loop-holds Inv-loop μ-loop
-loop-holds c = (refl, going-start (c .before .before .before .before .before .before .pre .0) (c .before .before .before .before .before .before .pre .1 .1))
+loop-holds c = (refl, talk-going-start (c .before .before .before .before .before .before .pre .0) (c .before .before .before .before .before .before .pre .1 .1))
 
 sub-loop : tie.Need-sub-loop Inv-loop μ-loop
 sub-loop c = omega (arith, (c .loop .inv .1) .fits, (c .loop .inv .1) .reply-size)
@@ -37,7 +37,7 @@ add-i : tie.Need-add-i Inv-loop μ-loop
 add-i c = omega (arith, (c .before .before .before .before .before .before .before .before .before .before .before .before .before .before .before .before .before .before .before .before .before .before .loop .inv .1) .inside, c .before .before .before .before .before .before .before .before .before .before .before .before .before .before .before .before .before .before .before .line-end .ensures .within, c .before .before .before .before .before .before .before .before .before .before .before .before .before .before .before .before .before .before .if1 .left, c .before .before .before .before .before .before .before .before .before .before .before .before .before .before .before .before .before .before .before .before .before .before .before .before .before .before .before .before .before .good .1 .1 .1 .0)
 
 loop-again : tie.Need-loop-again Inv-loop μ-loop
-loop-again c = (c .before .before .before .before .before .before .before .before .before .before .before .before .before .before .before .before .before .before .before .before .before .before .loop .inv .0, going-on (c .before .before .before .before .before .before .before .before .before .before .before .before .before .before .before .before .before .before .before .before .before .before .loop .inv .1) (c .before .before .before .before .before .before .before .before .before .before .before .before .before .before .before .before .before .before .before .line-end .ensures) (omega (arith, c .before .before .before .before .before .before .before .before .before .before .before .before .before .before .before .before .before .before .before .line-end .ensures .within)) (search needs) (search needs) (c .before .before .before .before .before .before .before .before .before .before .before .answer .ensures))
+loop-again c = (c .before .before .before .before .before .before .before .before .before .before .before .before .before .before .before .before .before .before .before .before .before .before .loop .inv .0, talk-going-on (c .before .before .before .before .before .before .before .before .before .before .before .before .before .before .before .before .before .before .before .before .before .before .loop .inv .1) (c .before .before .before .before .before .before .before .before .before .before .before .before .before .before .before .before .before .before .before .line-end .ensures) (omega (arith, c .before .before .before .before .before .before .before .before .before .before .before .before .before .before .before .before .before .before .before .line-end .ensures .within)) (search needs) (search needs) (c .before .before .before .before .before .before .before .before .before .before .before .answer .ensures))
 
 same-length : tie.Need-same-length Inv-loop μ-loop
 same-length c = (c .before .loop .inv .1) .words .size

@@ -1,7 +1,7 @@
 -- `last` meets its contract.
 use borrow.Author.Needs.{needs}
 use native.Mathlib.Omega.{arith}
-use Rattle.console_feed.proofs.Steps.{ends-some, ends-none}
+use Rattle.console_feed.proofs.Steps.{ends-some, feed-ends-none}
 use Rattle.console_feed.proofs.last.Statement.{statement}
 use Rattle.console_feed.proofs.last.Tie as tie
 
@@ -38,4 +38,4 @@ last-spec =
     {- returns -}
     (λ c. ends-some (rw (c .before .before .before .before .before .before .before .before .before .before .before .before .before .before .before .before .before .if1 .taken) at (c .before .before .before .before .before .before .before .before .before .before .before .before .before .before .before .before .before .before .is-line .ensures)) (c .before .before .before .before .before .before .before .before .before .before .answer .ensures))
     {- returns-2 -}
-    (λ c. ends-none (rw (c .if1 .left) at (c .before .is-line .ensures)) (c .before .before .before .before .before .before .before .before .before .before .pre .0)))
+    (λ c. feed-ends-none (rw (c .if1 .left) at (c .before .is-line .ensures)) (c .before .before .before .before .before .before .before .before .before .before .pre .0)))

@@ -3,7 +3,7 @@ use Prim.Native.Nat.{_-_, _<_}
 use native.Mathlib.Omega.{arith}
 use Rattle.text.proofs.Laid.{laid-length}
 use Rattle.listing_ask.specs.Ask.{asked}
-use Rattle.console_questions.proofs.RowReplies.{Going, going-start, going-texts, going-space, going-on, going-end}
+use Rattle.console_questions.proofs.RowReplies.{Going, rows-going-start, going-texts, going-space, rows-going-on, rows-going-end}
 use Rattle.console_questions.proofs.put_rows.Statement.{statement}
 use Rattle.console_questions.proofs.put_rows.Tie as tie
 
@@ -21,7 +21,7 @@ put-row-requires c κs =
 loop-again : tie.Need-loop-again Inv-loop μ-loop
 loop-again c =
     let l : c .before .before .before .before .before .before .loop .i < c .before .before .before .before .before .before .before .before .before .before .args .n = omega arith in
-    going-on (c .before .before .before .before .before .before .loop .inv) l (rw (c .before .before .before .before .row-at .ensures) at (c .before .before .put-row .ensures .0)) (rw (c .before .before .before .before .row-at .ensures) at (c .before .before .put-row .ensures .1))
+    rows-going-on (c .before .before .before .before .before .before .loop .inv) l (rw (c .before .before .before .before .row-at .ensures) at (c .before .before .put-row .ensures .0)) (rw (c .before .before .before .before .row-at .ensures) at (c .before .before .put-row .ensures .1))
 
 pub put-rows-spec : {M : Type 1} → statement M
 put-rows-spec =
@@ -30,7 +30,7 @@ put-rows-spec =
     Inv-loop
     μ-loop
     {- loop-holds -}
-    (λ c. going-start (c .before .before .before .pre .0) (omega (arith, c .before .before .before .pre .1)))
+    (λ c. rows-going-start (c .before .before .before .pre .0) (omega (arith, c .before .before .before .pre .1)))
     {- row-at-requires -}
     (λ c κs. omega (arith, c .before .before .before .before .before .pre .0 .whole))
     put-row-requires
@@ -40,4 +40,4 @@ put-rows-spec =
     {- same-length -}
     (λ c. laid-length (c .before .loop .inv .laid))
     {- returns -}
-    (λ c. going-end (c .before .loop .inv) (omega arith)))
+    (λ c. rows-going-end (c .before .loop .inv) (omega arith)))

@@ -1,11 +1,11 @@
 -- `register_line` meets its contract.
-use Rattle.console_registrations.proofs.Registers.{registers}
+use Rattle.console_registrations.proofs.Registers.{line-registers}
 use borrow.Author.Needs.{needs}
 use Rattle.console_registrations.proofs.register_line.Statement.{statement}
 use Rattle.console_registrations.proofs.register_line.Tie as tie
 
 returns : tie.Need-returns
-returns c = registers (c .before .before .finish .ensures) (c .before .before .before .before .before .before .before .before .before .before .before .before .before .before .before .before .before .before .pre .0) (c .before .before .before .before .before .before .before .before .register-sound .ensures)
+returns c = line-registers (c .before .before .finish .ensures) (c .before .before .before .before .before .before .before .before .before .before .before .before .before .before .before .before .before .before .pre .0) (c .before .before .before .before .before .before .before .before .register-sound .ensures)
 
 pub register-line-spec : {M : Type 1} → statement M
 register-line-spec =

@@ -4,7 +4,7 @@ use lib.ListN.{length}
 use Rattle.source.specs.Text.{segments}
 use Rattle.memory.specs.Layout.{Which, trieˢ, what}
 use Rattle.find_trie.proofs.Links.{any-namespaces}
-use Rattle.find_trie.proofs.Found.{Stands, stands-first, stands-next, scope-next, Descends, descends-all, descends-next, descended}
+use Rattle.find_trie.proofs.Found.{Stands, stands-first, stands-next, scope-next, Descends, descends-all, descends-next, descend-found}
 use borrow.Author.Needs.{needs}
 use Rattle.find_trie.proofs.trie_descend.Statement.{statement}
 use Rattle.find_trie.proofs.trie_descend.Tie as tie
@@ -44,4 +44,4 @@ trie-descend-spec =
     let g = c .before .before .before .before .before .loop .inv w t in
     stands-next g _ (c .before .before .before .segment-at .ensures) (scope-next (g .here) (c .before .before .before .segment-at .ensures) (c .before .before .trie-of .ensures) (c .scope-of .ensures)) descends-next)
     {- returns -}
-    (λ c w t. descended (c .before .loop .inv w t) (c .loop-test .left)))
+    (λ c w t. descend-found (c .before .loop .inv w t) (c .loop-test .left)))

@@ -1,5 +1,5 @@
 -- `listing_line::put_line` meets its contract.
-use Rattle.listing_line.proofs.Lines.{counted, line-counted}
+use Rattle.listing_line.proofs.Lines.{counts-kept, line-counted}
 use Rattle.listing_line.proofs.Run.{same-counted, tally-counted}
 use native.Mathlib.Omega.{arith}
 use Rattle.listing_line.proofs.put_line.Statement.{statement}
@@ -43,4 +43,4 @@ put-line-spec =
     {- same-length-2 -}
     (λ c. search needs)
     {- returns -}
-    (λ c. (same-counted (c .before .before .before .before .before .before .before .before .before .before .before .before .before .before .before .before .before .before .before .before .before .args .run .now) (c .before .add .result) (c .add2 .result) (c .before .before .before .before .before .before .before .before .before .before .before .before .before .before .before .before .before .before .before .before .before .pre .0 .path .few), rw (tally-counted (c .before .before .before .before .before .before .before .before .before .before .before .before .before .before .before .before .before .before .before .before .before .args .run .now) (c .before .add .result) (c .add2 .result) (c .before .before .before .before .before .before .before .before .before .before .before .before .before .before .before .before .before .before .before .before .before .pre .0 .path .sized)) (line-counted (c .before .before .before .before .before .before .before .before .before .before .before .before .before .before .before .before .before .before .before .before .before .pre .0) (counted (omega (arith, c .before .before .before .before .before .before .before .before .before .before .before .before .text-len .ensures)) (c .before .add .ensures) (c .add2 .ensures)) (c .before .before .before .before .before .before .before .before .try-line .ensures)))))
+    (λ c. (same-counted (c .before .before .before .before .before .before .before .before .before .before .before .before .before .before .before .before .before .before .before .before .before .args .run .now) (c .before .add .result) (c .add2 .result) (c .before .before .before .before .before .before .before .before .before .before .before .before .before .before .before .before .before .before .before .before .before .pre .0 .path .few), rw (tally-counted (c .before .before .before .before .before .before .before .before .before .before .before .before .before .before .before .before .before .before .before .before .before .args .run .now) (c .before .add .result) (c .add2 .result) (c .before .before .before .before .before .before .before .before .before .before .before .before .before .before .before .before .before .before .before .before .before .pre .0 .path .sized)) (line-counted (c .before .before .before .before .before .before .before .before .before .before .before .before .before .before .before .before .before .before .before .before .before .pre .0) (counts-kept (omega (arith, c .before .before .before .before .before .before .before .before .before .before .before .before .text-len .ensures)) (c .before .add .ensures) (c .add2 .ensures)) (c .before .before .before .before .before .before .before .before .try-line .ensures)))))

@@ -1,5 +1,5 @@
 -- `listing_line::try_line` meets its contract.
-use Rattle.listing_line.proofs.Lines.{tried-put, no-row, no-text, passed}
+use Rattle.listing_line.proofs.Lines.{tried-put, no-row, no-text, both-fit}
 use native.Mathlib.Omega.{arith}
 use Rattle.listing_line.proofs.try_line.Statement.{statement}
 use Rattle.listing_line.proofs.try_line.Tie as tie
@@ -36,7 +36,7 @@ try-line-spec =
     {- returns-2 -}
     (λ c. no-text (c .before .before .before .before .before .before .before .before .before .before .before .before .before .before .before .pre .0) (c .before .fits3 .result) (omega (arith, c .before .before .before .before .text-len .ensures)) (c .before .fits3 .ensures) (c .if2 .taken))
     {- write-line-requires -}
-    (λ c κs. (c .before .before .before .before .before .before .before .before .before .before .before .before .before .before .before .before .before .pre .0, passed (c .before .before .before .before .before .before .before .before .before .before .before .before .before .before .before .before .before .pre .0) (c .before .before .before .before .before .before .before .before .before .fits2 .result) (c .before .before .before .fits3 .result) (omega (arith, c .before .before .before .before .before .before .text-len .ensures)) (c .before .before .before .before .before .before .before .before .before .fits2 .ensures) (c .before .before .before .before .before .before .before .before .if1 .left) (c .before .before .before .fits3 .ensures) (c .before .before .if2 .left)))
+    (λ c κs. (c .before .before .before .before .before .before .before .before .before .before .before .before .before .before .before .before .before .pre .0, both-fit (c .before .before .before .before .before .before .before .before .before .before .before .before .before .before .before .before .before .pre .0) (c .before .before .before .before .before .before .before .before .before .fits2 .result) (c .before .before .before .fits3 .result) (omega (arith, c .before .before .before .before .before .before .text-len .ensures)) (c .before .before .before .before .before .before .before .before .before .fits2 .ensures) (c .before .before .before .before .before .before .before .before .if1 .left) (c .before .before .before .fits3 .ensures) (c .before .before .if2 .left)))
     {- same-length -}
     (λ c. search needs)
     {- same-length-2 -}

@@ -4,7 +4,7 @@ use mathlib.Core.Logic.{⊎-elim}
 use native.Mathlib.Omega.{arith}
 use borrow.Author.Needs.{needs}
 use borrow.Author.Tests.{eq-eqb, ne-eqb}
-use Rattle.listing_step.proofs.PathDown.{entered}
+use Rattle.listing_step.proofs.PathDown.{run-entered}
 use Rattle.listing_step.proofs.enter.Statement.{statement}
 use Rattle.listing_step.proofs.enter.Tie as tie
 
@@ -41,4 +41,4 @@ enter-spec =
     {- set-path-requires -}
     (λ c κs. search needs)
     {- returns -}
-    (λ c. (refl, entered (c .before .before .before .before .before .before .before .before .before .before .before .args .found) (c .before .before .before .before .before .before .before .before .before .before .before .pre .1) (c .set-path .ensures) (omega (arith, c .before .before .before .before .before .text-len .ensures)) (⊎-elim (λ z. z .2 ∙ rw (eq-eqb _ 0 (z .0 .taken))) (λ z. z .1 ∙ rw (ne-eqb _ 0 (z .0 .left))) (c .before .before .before .if1 .came)))))
+    (λ c. (refl, run-entered (c .before .before .before .before .before .before .before .before .before .before .before .args .found) (c .before .before .before .before .before .before .before .before .before .before .before .pre .1) (c .set-path .ensures) (omega (arith, c .before .before .before .before .before .text-len .ensures)) (⊎-elim (λ z. z .2 ∙ rw (eq-eqb _ 0 (z .0 .taken))) (λ z. z .1 ∙ rw (ne-eqb _ 0 (z .0 .left))) (c .before .before .before .if1 .came)))))

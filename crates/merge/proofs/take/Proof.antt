@@ -2,7 +2,7 @@
 use native.Mathlib.Omega.{arith}
 use borrow.Author.Needs.{needs}
 use Rattle.merge.proofs.Cells.{heads-of}
-use Rattle.merge.proofs.Takes.{takes-none, Least-cell, cell-small, branch-fits, next-asks, takes-last, next-in, insert-asks, takes-next}
+use Rattle.merge.proofs.Takes.{takes-none, Least-cell, cell-small, head-fits, next-asks, takes-last, next-in, insert-asks, takes-next}
 use Rattle.merge_heap.proofs.heap_pop.Reads as heap-pop-reads
 use Rattle.merge_heap.proofs.heap_insert.Reads as heap-insert-reads
 use Rattle.match_next.proofs.tree_next.Reads as tree-next-reads
@@ -35,7 +35,7 @@ take-spec =
     {- element-copy-out-branch -}
     (λ c. omega (arith, cell-small (least c)))
     {- cast-branch -}
-    (λ c. omega (arith, branch-fits (least (c .before))))
+    (λ c. omega (arith, head-fits (least (c .before))))
     {- mul-own -}
     (λ c. omega (arith, cell-small (least (c .before))))
     {- element-copy-out-own -}

@@ -6,7 +6,7 @@ use Rattle.source.specs.Heap.{Heap, Forest, heap-merge-pairs}
 use Rattle.merge_heads.specs.Compare.{cell-cmp}
 use Rattle.merge_heap.specs.Cells.{Repᶠ}
 use Rattle.merge_heap.proofs.CellCounts.{root-in}
-use Rattle.merge_heap.proofs.HeapMergePairs.{siblings, some-siblings, Pairing, Merging, small, inside, after, none-paired, odd-one, pair-up, all-paired, merge-on, all-merged}
+use Rattle.merge_heap.proofs.HeapMergePairs.{siblings, some-siblings, Pairing, Merging, held-small, held-inside, held-next, none-paired, odd-one, pair-up, all-paired, merge-on, all-merged}
 use Rattle.merge_heap.proofs.heap_merge_pairs.Statement.{statement}
 use Rattle.merge_heap.proofs.heap_merge_pairs.Tie as tie
 
@@ -37,25 +37,25 @@ heap-merge-pairs-spec =
     {- loop-holds -}
     (λ c. none-paired)
     {- element-copy-out-k -}
-    (λ c. let s = c .before .before .before .before in let f = s .pre .0 .few in let w = c .before .loop .inv (s .pre .1 .0) (s .pre .1 .1) in omega (arith, inside f (w .rest) (c .loop-test .taken)))
+    (λ c. let s = c .before .before .before .before in let f = s .pre .0 .few in let w = c .before .loop .inv (s .pre .1 .0) (s .pre .1 .1) in omega (arith, held-inside f (w .rest) (c .loop-test .taken)))
     {- cast-k -}
-    (λ c. let s = c .before .before .before .before .before in let f = s .pre .0 .few in let w = c .before .before .loop .inv (s .pre .1 .0) (s .pre .1 .1) in omega (arith, small f (after f (w .rest) (c .before .loop-test .taken))))
+    (λ c. let s = c .before .before .before .before .before in let f = s .pre .0 .few in let w = c .before .before .loop .inv (s .pre .1 .0) (s .pre .1 .1) in omega (arith, held-small f (held-next f (w .rest) (c .before .loop-test .taken))))
     {- cast-next -}
-    (λ c. let s = c .before .before .before .before .before .before in let f = s .pre .0 .few in let w = c .before .before .before .loop .inv (s .pre .1 .0) (s .pre .1 .1) in omega (arith, small f (w .stage .done)))
+    (λ c. let s = c .before .before .before .before .before .before in let f = s .pre .0 .few in let w = c .before .before .before .loop .inv (s .pre .1 .0) (s .pre .1 .1) in omega (arith, held-small f (w .stage .done)))
     {- element-write-next -}
-    (λ c. let s = c .before .before .before .before .before .before in let f = s .pre .0 .few in let w = c .before .before .before .loop .inv (s .pre .1 .0) (s .pre .1 .1) in omega (arith, inside f (w .rest) (c .before .before .loop-test .taken)))
+    (λ c. let s = c .before .before .before .before .before .before in let f = s .pre .0 .few in let w = c .before .before .before .loop .inv (s .pre .1 .0) (s .pre .1 .1) in omega (arith, held-inside f (w .rest) (c .before .before .loop-test .taken)))
     {- loop-less -}
     (λ c. some-siblings _ _ _ (c .before .before .loop-test .taken))
     {- loop-again -}
     (λ c hh p. let w = c .before .before .before .loop .inv hh p in odd-one (c .before .before .before .before .before .before .pre .0 .few) (w .rest .0) (w .rest .1) (w .stage) (c .before .before .loop-test .taken) (c .if1 .taken))
     {- element-copy-out-rest -}
-    (λ c. let s = c .before .before .before .before .before .before in let f = s .pre .0 .few in let w = c .before .before .before .loop .inv (s .pre .1 .0) (s .pre .1 .1) in omega (arith, inside f (after f (w .rest) (c .before .before .loop-test .taken)) (c .if1 .left)))
+    (λ c. let s = c .before .before .before .before .before .before in let f = s .pre .0 .few in let w = c .before .before .before .loop .inv (s .pre .1 .0) (s .pre .1 .1) in omega (arith, held-inside f (held-next f (w .rest) (c .before .before .loop-test .taken)) (c .if1 .left)))
     {- cast-rest -}
-    (λ c. let s = c .before .before .before .before .before .before .before in let f = s .pre .0 .few in let w = c .before .before .before .before .loop .inv (s .pre .1 .0) (s .pre .1 .1) in omega (arith, small f (after f (after f (w .rest) (c .before .before .before .loop-test .taken)) (c .before .if1 .left))))
+    (λ c. let s = c .before .before .before .before .before .before .before in let f = s .pre .0 .few in let w = c .before .before .before .before .loop .inv (s .pre .1 .0) (s .pre .1 .1) in omega (arith, held-small f (held-next f (held-next f (w .rest) (c .before .before .before .loop-test .taken)) (c .before .if1 .left))))
     {- heap-merge-requires -}
-    (λ c κs. let s = c .before .before .before .before .before .before .before .before .before in let f = s .pre .0 .few in let w = c .before .before .before .before .before .before .loop .inv (s .pre .1 .0) (s .pre .1 .1) in (s .pre .0, ((λ _. inside f (w .rest) (c .before .before .before .before .before .loop-test .taken)), inside f (after f (w .rest) (c .before .before .before .before .before .loop-test .taken)))))
+    (λ c κs. let s = c .before .before .before .before .before .before .before .before .before in let f = s .pre .0 .few in let w = c .before .before .before .before .before .before .loop .inv (s .pre .1 .0) (s .pre .1 .1) in (s .pre .0, ((λ _. held-inside f (w .rest) (c .before .before .before .before .before .loop-test .taken)), held-inside f (held-next f (w .rest) (c .before .before .before .before .before .loop-test .taken)))))
     {- cast-next-2 -}
-    (λ c. let s = c .before .before .before .before .before .before .before .before .before .before in let f = s .pre .0 .few in let w = c .before .before .before .before .before .before .before .loop .inv (s .pre .1 .0) (s .pre .1 .1) in omega (arith, small f (w .stage .done)))
+    (λ c. let s = c .before .before .before .before .before .before .before .before .before .before in let f = s .pre .0 .few in let w = c .before .before .before .before .before .before .before .loop .inv (s .pre .1 .0) (s .pre .1 .1) in omega (arith, held-small f (w .stage .done)))
     {- element-write-next-2 -}
     (λ c. let s = c .before .before .before .before .before .before .before .before .before .before in let f = s .pre .0 .few in let w = c .before .before .before .before .before .before .before .loop .inv (s .pre .1 .0) (s .pre .1 .1) in omega (arith, pair-up f (w .rest .0) (w .rest .1) (w .stage) (c .before .before .before .before .before .before .loop-test .taken) (c .before .before .before .before .if1 .left) (c .heap-merge .ensures) .0))
     {- loop-less-2 -}
@@ -65,11 +65,11 @@ heap-merge-pairs-spec =
     {- loop2-holds -}
     (λ c _ _ _ w. w)
     {- element-copy-out-below -}
-    (λ c. let s = c .before .before .before .before .before .before in let f = s .pre .0 .few in let v = c .before .loop2 .inv _ _ _ (all-paired f (c .before .before .before .loop .inv (s .pre .1 .0) (s .pre .1 .1)) (c .before .before .loop-test .left)) in omega (arith, inside f (v .stage .done) (c .loop2-test .taken)))
+    (λ c. let s = c .before .before .before .before .before .before in let f = s .pre .0 .few in let v = c .before .loop2 .inv _ _ _ (all-paired f (c .before .before .before .loop .inv (s .pre .1 .0) (s .pre .1 .1)) (c .before .before .loop-test .left)) in omega (arith, held-inside f (v .stage .done) (c .loop2-test .taken)))
     {- cast-below -}
-    (λ c. let s = c .before .before .before .before .before .before .before in let f = s .pre .0 .few in let v = c .before .before .loop2 .inv _ _ _ (all-paired f (c .before .before .before .before .loop .inv (s .pre .1 .0) (s .pre .1 .1)) (c .before .before .before .loop-test .left)) in omega (arith, small f (after f (v .stage .done) (c .before .loop2-test .taken))))
+    (λ c. let s = c .before .before .before .before .before .before .before in let f = s .pre .0 .few in let v = c .before .before .loop2 .inv _ _ _ (all-paired f (c .before .before .before .before .loop .inv (s .pre .1 .0) (s .pre .1 .1)) (c .before .before .before .loop-test .left)) in omega (arith, held-small f (held-next f (v .stage .done) (c .before .loop2-test .taken))))
     {- heap-merge-requires-2 -}
-    (λ c κs. let s = c .before .before .before .before .before .before .before .before .before in let f = s .pre .0 .few in let v = c .before .before .before .before .loop2 .inv _ _ _ (all-paired f (c .before .before .before .before .before .before .loop .inv (s .pre .1 .0) (s .pre .1 .1)) (c .before .before .before .before .before .loop-test .left)) in (s .pre .0, (inside f (v .stage .done), root-in _ _ _ f (v .root))))
+    (λ c κs. let s = c .before .before .before .before .before .before .before .before .before in let f = s .pre .0 .few in let v = c .before .before .before .before .loop2 .inv _ _ _ (all-paired f (c .before .before .before .before .before .before .loop .inv (s .pre .1 .0) (s .pre .1 .1)) (c .before .before .before .before .before .loop-test .left)) in (s .pre .0, (held-inside f (v .stage .done), root-in _ _ _ f (v .root))))
     {- loop2-less -}
     (λ c. let s = c .before .before .before .before .before .before .before .before .before .before in let f = s .pre .0 .few in let v = c .before .before .before .before .before .loop2 .inv _ _ _ (all-paired f (c .before .before .before .before .before .before .before .loop .inv (s .pre .1 .0) (s .pre .1 .1)) (c .before .before .before .before .before .before .loop-test .left)) in merge-on f v (c .before .before .before .before .loop2-test .taken) (c .heap-merge2 .ensures) .1)
     {- loop2-again -}

@@ -1,7 +1,7 @@
 -- `merge_heap::heap_pop` meets its contract.
 use native.Mathlib.Omega.{arith}
 use Rattle.merge_heap.proofs.CellCounts.{root-in}
-use Rattle.merge_heap.proofs.HeapPop.{kids, kids-small, pop-none, pop-least}
+use Rattle.merge_heap.proofs.HeapPop.{rep-kids, kids-small, pop-none, pop-rep}
 use Rattle.merge_heap.proofs.heap_pop.Statement.{statement}
 use Rattle.merge_heap.proofs.heap_pop.Tie as tie
 
@@ -17,10 +17,10 @@ cast-k c = let s = c .before .before .before .before in omega (arith, kids-small
 heap-merge-pairs-requires : tie.Need-heap-merge-pairs-requires
 heap-merge-pairs-requires c κs =
     let s = c .before .before .before .before .before .before in
-    (s .pre .0, kids _ _ _ (s .pre .0 .few) _ (s .pre .1 .0) (s .pre .1 .1) (c .before .before .before .if1 .left))
+    (s .pre .0, rep-kids _ _ _ (s .pre .0 .few) _ (s .pre .1 .0) (s .pre .1 .1) (c .before .before .before .if1 .left))
 
 returns-2 : tie.Need-returns-2
-returns-2 c = pop-least _ _ _ (c .before .before .before .before .before .before .before .pre .0 .few) _ _ _ _ _ (c .before .before .before .before .if1 .left) (c .heap-merge-pairs .ensures)
+returns-2 c = pop-rep _ _ _ (c .before .before .before .before .before .before .before .pre .0 .few) _ _ _ _ _ (c .before .before .before .before .if1 .left) (c .heap-merge-pairs .ensures)
 
 pub heap-pop-spec : {M : Type 1} → statement M
 heap-pop-spec =

@@ -1,5 +1,5 @@
 -- put_texts meets its contract.
-use Rattle.register.proofs.TextsLaid.{laid}
+use Rattle.register.proofs.TextsLaid.{texts-laid}
 use borrow.Author.Needs.{needs}
 use Rattle.register.proofs.put_texts.Statement.{statement}
 use Rattle.register.proofs.put_texts.Tie as tie
@@ -25,4 +25,4 @@ put-texts-spec =
     {- same-length -}
     (λ c. search needs)
     {- returns -}
-    (λ c. laid _ _ _ _ _ (c .before .before .before .before .before .before .before .before .before .before .before .before .before .before .before .before .pre .0) (c .before .before .before .before .before .before .before .before .before .before .put-text .ensures) (c .before .before .before .before .before .before .put-text2 .ensures) (c .before .before .put-text3 .ensures)))
+    (λ c. texts-laid _ _ _ _ _ (c .before .before .before .before .before .before .before .before .before .before .before .before .before .before .before .before .pre .0) (c .before .before .before .before .before .before .before .before .before .before .put-text .ensures) (c .before .before .before .before .before .before .put-text2 .ensures) (c .before .before .put-text3 .ensures)))

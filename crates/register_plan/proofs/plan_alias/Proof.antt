@@ -4,7 +4,7 @@ use Rattle.memory.proofs.Tries.{bindings-at}
 use Rattle.find_trie.proofs.Links.{any-namespaces}
 use Rattle.register_plan.proofs.Plans.{placed-small, namespaces-builds, alias-planned}
 use Rattle.register_way.proofs.Way.{noted-count}
-use Rattle.register_kind.specs.declared.Kind.the-variants.{Alias}
+use Rattle.register_kind.specs.declared.CallKind.the-variants.{Alias}
 use native.Mathlib.Omega.{arith}
 use borrow.Author.Needs.{needs}
 use Rattle.register_plan.proofs.plan_alias.Statement.{statement}

@@ -3,7 +3,7 @@ use Rattle.find_list.proofs.Collections.{list-light}
 use Rattle.memory.proofs.Tries.{bindings-at}
 use Rattle.register_plan.proofs.Plans.{include-planned}
 use Rattle.register_way.proofs.Way.{noted-path}
-use Rattle.register_kind.specs.declared.Kind.the-variants.{Include}
+use Rattle.register_kind.specs.declared.CallKind.the-variants.{Include}
 use native.Mathlib.Omega.{arith}
 use borrow.Author.Needs.{needs}
 use Rattle.register_plan.proofs.plan_include.Statement.{statement}

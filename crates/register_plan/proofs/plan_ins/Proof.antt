@@ -1,6 +1,6 @@
 -- plan_ins meets its contract.
 use Rattle.find_trie.proofs.Links.{any-bindings, holder-fits}
-use Rattle.register_plan.proofs.Plans.{placed-small, inserted, not-inserted}
+use Rattle.register_plan.proofs.Plans.{placed-small, step-inserted, not-inserted}
 use native.Mathlib.Omega.{arith}
 use Rattle.register_plan.proofs.plan_ins.Statement.{statement}
 use Rattle.register_plan.proofs.plan_ins.Tie as tie
@@ -19,6 +19,6 @@ plan-ins-spec =
     {- add-t11 -}
     (λ c. omega (arith, placed-small (any-bindings (c .before .before .before .before .before .before .before .before .pre) (c .before .before .before .before .trie-of .ensures)) (c .before .before .before .names-place .ensures)))
     {- returns -}
-    (λ c. inserted (c .before .before .before .before .before .before .before .before .before .pre) (c .before .before .before .before .before .trie-of .ensures) (c .before .before .before .before .names-place .ensures) (c .before .before .before .ns-inserts .ensures) (c .before .before .if1 .taken))
+    (λ c. step-inserted (c .before .before .before .before .before .before .before .before .before .pre) (c .before .before .before .before .before .trie-of .ensures) (c .before .before .before .before .names-place .ensures) (c .before .before .before .ns-inserts .ensures) (c .before .before .if1 .taken))
     {- returns-2 -}
     (λ c. not-inserted (c .before .before .before .before .before .before .before .pre) (c .before .before .before .trie-of .ensures) (c .before .before .names-place .ensures) (c .before .ns-inserts .ensures) (c .if1 .left)))

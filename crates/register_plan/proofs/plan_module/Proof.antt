@@ -7,7 +7,7 @@ use Rattle.memory.specs.Layout.{modules, trieˢ, what}
 use Rattle.register_plan.specs.Plans.{StepsDown}
 use Rattle.register_way.specs.Way.{Leads}
 use Rattle.register_way.proofs.Way.{leads-first, noted-path}
-use Rattle.register_kind.specs.declared.Kind.the-variants.{Module}
+use Rattle.register_kind.specs.declared.CallKind.the-variants.{Module}
 use Rattle.find_trie.proofs.Found.{Stands, stands-first, stands-last}
 use Rattle.register_plan.proofs.Plans.{steps-first, leads-next, leads-end, path-few, module-path-next, module-planned}
 use native.Mathlib.Omega.{arith}

@@ -2,7 +2,7 @@
 use Rattle.find_trie.proofs.Links.{any-bindings}
 use Rattle.register_plan.proofs.Plans.{placed-small, bindings-builds, name-planned}
 use Rattle.register_way.proofs.Way.{noted-count}
-use Rattle.register_kind.specs.declared.Kind.the-variants.{Name}
+use Rattle.register_kind.specs.declared.CallKind.the-variants.{Name}
 use native.Mathlib.Omega.{arith}
 use borrow.Author.Needs.{needs}
 use Rattle.register_plan.proofs.plan_name.Statement.{statement}

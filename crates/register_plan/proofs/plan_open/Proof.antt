@@ -3,7 +3,7 @@ use Rattle.find_list.proofs.Collections.{list-light}
 use Rattle.memory.proofs.Tries.{namespaces-at, lists-seen, trie-shallow}
 use Rattle.register_plan.proofs.Plans.{open-planned}
 use Rattle.register_way.proofs.Way.{noted-path}
-use Rattle.register_kind.specs.declared.Kind.the-variants.{Open}
+use Rattle.register_kind.specs.declared.CallKind.the-variants.{Open}
 use native.Mathlib.Omega.{arith}
 use borrow.Author.Needs.{needs}
 use Rattle.register_plan.proofs.plan_open.Statement.{statement}

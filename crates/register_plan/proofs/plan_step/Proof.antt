@@ -1,6 +1,6 @@
 -- plan_step meets its contract.
 use Rattle.find_trie.proofs.Links.{any-namespaces, holder-fits}
-use Rattle.register_plan.proofs.Plans.{placed-small, stepped}
+use Rattle.register_plan.proofs.Plans.{placed-small, path-stepped}
 use native.Mathlib.Omega.{arith}
 use Rattle.register_plan.proofs.plan_step.Statement.{statement}
 use Rattle.register_plan.proofs.plan_step.Tie as tie
@@ -21,4 +21,4 @@ plan-step-spec =
     {- add-t12 -}
     (λ c. omega (arith, placed-small (any-namespaces (c .before .before .before .before .before .before .before .before .before .pre .0 .trie) (c .before .before .before .before .before .trie-of .ensures)) (c .before .before .before .before .names-place .ensures)))
     {- returns -}
-    (λ c w t. stepped t (c .before .before .before .before .before .before .trie-of .ensures) (c .before .before .before .before .before .names-place .ensures) (c .before .before .before .before .trie-held .ensures) (c .before .before .note-step .ensures)))
+    (λ c w t. path-stepped t (c .before .before .before .before .before .before .trie-of .ensures) (c .before .before .before .before .before .names-place .ensures) (c .before .before .before .before .trie-held .ensures) (c .before .before .note-step .ensures)))

@@ -1,8 +1,8 @@
 -- complete meets its contract.
 use borrow.Author.Needs.{needs}
-use Rattle.memory.proofs.Says.{passes, refuses}
+use Rattle.memory.proofs.Says.{says-passes, says-refuses}
 use Rattle.screen_memory.proofs.Memory.{loaded-fits, loaded-count}
-use Rattle.screen_calls.proofs.Held.{held, unsound-memory, unsound-short}
+use Rattle.screen_calls.proofs.Held.{held-is, unsound-memory, unsound-short}
 use Rattle.screen_calls.proofs.RepliesLines.{lines-unsound, lines-replied}
 use Rattle.screen_calls.proofs.complete.Statement.{statement}
 use Rattle.screen_calls.proofs.complete.Tie as tie
@@ -30,13 +30,13 @@ complete-spec =
     {- no-lines-requires-2 -}
     (λ c κs. search needs)
     {- returns-2 -}
-    (λ c. lines-unsound (unsound-memory _ (held (c .before .before .before .before .before .before .before .before .if1 .left) (c .before .before .before .before .table-of .ensures) (c .before .before .before .before .before .before .load .ensures .words)) (refuses (c .before .before .is-sound-small .result) (c .before .before .is-sound-small .ensures) (c .before .if2 .taken))) (c .no-lines2 .ensures))
+    (λ c. lines-unsound (unsound-memory _ (held-is (c .before .before .before .before .before .before .before .before .if1 .left) (c .before .before .before .before .table-of .ensures) (c .before .before .before .before .before .before .load .ensures .words)) (says-refuses (c .before .before .is-sound-small .result) (c .before .before .is-sound-small .ensures) (c .before .if2 .taken))) (c .no-lines2 .ensures))
     {- array-share-prefix-memory-2 -}
     (λ c. loaded-fits (c .before .before .before .before .before .load .ensures))
     {- slice-aggregate-complete-sound -}
     (λ c. loaded-count (c .before .before .before .before .before .before .load .ensures))
     {- complete-sound-requires -}
-    (λ c κs. passes (c .before .before .before .before .is-sound-small .result) (c .before .before .before .before .is-sound-small .ensures) (c .before .before .before .if2 .left))
+    (λ c κs. says-passes (c .before .before .before .before .is-sound-small .result) (c .before .before .before .before .is-sound-small .ensures) (c .before .before .before .if2 .left))
     {- lines-reply-requires -}
     (λ c κs. search needs)
     {- same-length -}
@@ -44,4 +44,4 @@ complete-spec =
     {- same-length-2 -}
     (λ c. search needs)
     {- returns-3 -}
-    (λ c. lines-replied (c .before .before .before .before .before .complete-sound .result) (held (c .before .before .before .before .before .before .before .before .before .before .before .before .before .before .before .before .if1 .left) (c .before .before .before .before .before .before .before .before .before .before .before .before .table-of .ensures) (c .before .before .before .before .before .before .before .before .before .before .before .before .before .before .load .ensures .words)) (c .before .before .before .before .before .complete-sound .ensures) (c .lines-reply .ensures)))
+    (λ c. lines-replied (c .before .before .before .before .before .complete-sound .result) (held-is (c .before .before .before .before .before .before .before .before .before .before .before .before .before .before .before .before .if1 .left) (c .before .before .before .before .before .before .before .before .before .before .before .before .table-of .ensures) (c .before .before .before .before .before .before .before .before .before .before .before .before .before .before .load .ensures .words)) (c .before .before .before .before .before .complete-sound .ensures) (c .lines-reply .ensures)))

@@ -1,8 +1,8 @@
 -- find_item meets its contract.
 use borrow.Author.Needs.{needs}
-use Rattle.memory.proofs.Says.{passes, refuses}
+use Rattle.memory.proofs.Says.{says-passes, says-refuses}
 use Rattle.screen_memory.proofs.Memory.{loaded-fits, loaded-count}
-use Rattle.screen_calls.proofs.Held.{held, unsound-memory, unsound-short}
+use Rattle.screen_calls.proofs.Held.{held-is, unsound-memory, unsound-short}
 use Rattle.screen_calls.proofs.RepliesModule.{name-unsound, name-looked}
 use Rattle.screen_calls.proofs.find_item.Statement.{statement}
 use Rattle.screen_calls.proofs.find_item.Tie as tie
@@ -30,14 +30,14 @@ find-item-spec =
     {- no-name-requires-2 -}
     (λ c κs. search needs)
     {- returns-2 -}
-    (λ c. name-unsound (unsound-memory _ (held (c .before .before .before .before .before .before .before .before .if1 .left) (c .before .before .before .before .table-of .ensures) (c .before .before .before .before .before .before .load .ensures .words)) (refuses (c .before .before .is-sound-small .result) (c .before .before .is-sound-small .ensures) (c .before .if2 .taken))) (c .no-name2 .ensures))
+    (λ c. name-unsound (unsound-memory _ (held-is (c .before .before .before .before .before .before .before .before .if1 .left) (c .before .before .before .before .table-of .ensures) (c .before .before .before .before .before .before .load .ensures .words)) (says-refuses (c .before .before .is-sound-small .result) (c .before .before .is-sound-small .ensures) (c .before .if2 .taken))) (c .no-name2 .ensures))
     {- array-share-prefix-memory-2 -}
     (λ c. loaded-fits (c .before .before .before .before .before .load .ensures))
     {- slice-aggregate-find-sound -}
     (λ c. loaded-count (c .before .before .before .before .before .before .load .ensures))
     {- find-sound-requires -}
-    (λ c κs. passes (c .before .before .is-sound-small .result) (c .before .before .is-sound-small .ensures) (c .before .if2 .left))
+    (λ c κs. says-passes (c .before .before .is-sound-small .result) (c .before .before .is-sound-small .ensures) (c .before .if2 .left))
     {- name-reply-requires -}
     (λ c κs. search needs)
     {- returns-3 -}
-    (λ c. name-looked (held (c .before .before .before .before .before .before .before .before .before .before .if1 .left) (c .before .before .before .before .before .before .table-of .ensures) (c .before .before .before .before .before .before .before .before .load .ensures .words)) (c .before .find-sound .ensures) (c .name-reply .ensures)))
+    (λ c. name-looked (held-is (c .before .before .before .before .before .before .before .before .before .before .if1 .left) (c .before .before .before .before .before .before .table-of .ensures) (c .before .before .before .before .before .before .before .before .load .ensures .words)) (c .before .find-sound .ensures) (c .name-reply .ensures)))

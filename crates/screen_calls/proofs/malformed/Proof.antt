@@ -1,7 +1,7 @@
 -- malformed meets its contract.
 use borrow.Author.Needs.{needs}
 use Rattle.screen_memory.proofs.Memory.{loaded-fits, loaded-count}
-use Rattle.screen_calls.proofs.Held.{held, unsound-short}
+use Rattle.screen_calls.proofs.Held.{held-is, unsound-short}
 use Rattle.screen_calls.proofs.Replies.{reply-unsound, reply-none}
 use Rattle.screen_calls.proofs.malformed.Statement.{statement}
 use Rattle.screen_calls.proofs.malformed.Tie as tie
@@ -25,6 +25,6 @@ malformed-spec =
     {- is-sound-small-requires -}
     (λ c κs. search needs)
     {- returns-2 -}
-    (λ c. reply-none (c .before .is-sound-small .result) (held (c .before .before .before .before .before .before .before .if1 .left) (c .before .before .before .table-of .ensures) (c .before .before .before .before .before .load .ensures .words)) (c .before .is-sound-small .ensures) (rw (c .if2 .taken)))
+    (λ c. reply-none (c .before .is-sound-small .result) (held-is (c .before .before .before .before .before .before .before .if1 .left) (c .before .before .before .table-of .ensures) (c .before .before .before .before .before .load .ensures .words)) (c .before .is-sound-small .ensures) (rw (c .if2 .taken)))
     {- returns-3 -}
-    (λ c. reply-none (c .before .is-sound-small .result) (held (c .before .before .before .before .before .before .before .if1 .left) (c .before .before .before .table-of .ensures) (c .before .before .before .before .before .load .ensures .words)) (c .before .is-sound-small .ensures) (rw (c .if2 .left))))
+    (λ c. reply-none (c .before .is-sound-small .result) (held-is (c .before .before .before .before .before .before .before .if1 .left) (c .before .before .before .table-of .ensures) (c .before .before .before .before .before .load .ensures .words)) (c .before .is-sound-small .ensures) (rw (c .if2 .left))))

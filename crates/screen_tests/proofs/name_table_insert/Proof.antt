@@ -1,6 +1,6 @@
 -- `screen_tests::name_table_insert` meets its contract.
 use borrow.Author.Needs.{needs}
-use Rattle.screen_tests.proofs.Replies.{replies}
+use Rattle.screen_tests.proofs.Replies.{register-replies}
 use Rattle.screen_tests.proofs.name_table_insert.Statement.{statement}
 use Rattle.screen_tests.proofs.name_table_insert.Tie as tie
 
@@ -21,4 +21,4 @@ name-table-insert-spec =
     {- same-length-2 -}
     (λ c. search needs)
     {- returns -}
-    (λ c. replies (c .before .before .before .before .before .before .before .before .before .table-of .ensures) (rw (c .before .before .before .before .before .before .item-of .ensures) at (c .before .before .before .before .before .insert .ensures)) (c .reply-of .ensures)))
+    (λ c. register-replies (c .before .before .before .before .before .before .before .before .before .table-of .ensures) (rw (c .before .before .before .before .before .before .item-of .ensures) at (c .before .before .before .before .before .insert .ensures)) (c .reply-of .ensures)))

@@ -4,7 +4,7 @@ use native.Mathlib.Omega.{arith}
 use borrow.Author.Needs.{needs}
 use Rattle.source.specs.Items.{kind-letter}
 use Rattle.source.specs.declared.ItemKind.the-variants.{Timer, Port, Register}
-use Rattle.script_parts.proofs.Items.{lettered, item-says, letter-written, bare-written}
+use Rattle.script_parts.proofs.Items.{letter-inside, item-says, letter-written, bare-written}
 use Rattle.script_parts.proofs.item_of.Statement.{statement}
 use Rattle.script_parts.proofs.item_of.Tie as tie
 
@@ -16,9 +16,9 @@ item-of-spec =
     {- byte-at-requires -}
     (λ c κs. search needs)
     {- sub-numbered -}
-    (λ c. omega (arith, lettered (c .before .before .before .args .text .now) (sym (c .before .byte-at .ensures) ∙ c .if1 .taken) (omega arith)))
+    (λ c. omega (arith, letter-inside (c .before .before .before .args .text .now) (sym (c .before .byte-at .ensures) ∙ c .if1 .taken) (omega arith)))
     {- part-numbered-start -}
-    (λ c. omega (arith, lettered (c .before .before .before .args .text .now) (sym (c .before .byte-at .ensures) ∙ c .if1 .taken) (omega arith)))
+    (λ c. omega (arith, letter-inside (c .before .before .before .args .text .now) (sym (c .before .byte-at .ensures) ∙ c .if1 .taken) (omega arith)))
     {- part-numbered-end -}
     (λ c. search needs)
     {- numbered-requires -}
@@ -26,9 +26,9 @@ item-of-spec =
     {- returns -}
     (λ c. let w = letter-written (c .before .before .before .before .before .args .text .now) Timer (sym (c .before .before .before .byte-at .ensures) ∙ c .before .before .if1 .taken) in item-says (c .before .before .before .before .before .args .text .now) Timer _ (w .0) (w .1) (c .numbered .result) (c .numbered .ensures))
     {- sub-numbered-2 -}
-    (λ c. omega (arith, lettered (c .before .before .before .before .args .text .now) (sym (c .before .before .byte-at .ensures) ∙ c .if2 .taken) (omega arith)))
+    (λ c. omega (arith, letter-inside (c .before .before .before .before .args .text .now) (sym (c .before .before .byte-at .ensures) ∙ c .if2 .taken) (omega arith)))
     {- part-numbered-start-2 -}
-    (λ c. omega (arith, lettered (c .before .before .before .before .args .text .now) (sym (c .before .before .byte-at .ensures) ∙ c .if2 .taken) (omega arith)))
+    (λ c. omega (arith, letter-inside (c .before .before .before .before .args .text .now) (sym (c .before .before .byte-at .ensures) ∙ c .if2 .taken) (omega arith)))
     {- part-numbered-end-2 -}
     (λ c. search needs)
     {- numbered-requires-2 -}
@@ -36,9 +36,9 @@ item-of-spec =
     {- returns-2 -}
     (λ c. let w = letter-written (c .before .before .before .before .before .before .args .text .now) Port (sym (c .before .before .before .before .byte-at .ensures) ∙ c .before .before .if2 .taken) in item-says (c .before .before .before .before .before .before .args .text .now) Port _ (w .0) (w .1) (c .numbered2 .result) (c .numbered2 .ensures))
     {- sub-numbered-3 -}
-    (λ c. omega (arith, lettered (c .before .before .before .before .before .args .text .now) (sym (c .before .before .before .byte-at .ensures) ∙ c .if3 .taken) (omega arith)))
+    (λ c. omega (arith, letter-inside (c .before .before .before .before .before .args .text .now) (sym (c .before .before .before .byte-at .ensures) ∙ c .if3 .taken) (omega arith)))
     {- part-numbered-start-3 -}
-    (λ c. omega (arith, lettered (c .before .before .before .before .before .args .text .now) (sym (c .before .before .before .byte-at .ensures) ∙ c .if3 .taken) (omega arith)))
+    (λ c. omega (arith, letter-inside (c .before .before .before .before .before .args .text .now) (sym (c .before .before .before .byte-at .ensures) ∙ c .if3 .taken) (omega arith)))
     {- part-numbered-end-3 -}
     (λ c. search needs)
     {- numbered-requires-3 -}

@@ -1,6 +1,6 @@
 -- `last_end` answers by its definition.
 use native.Mathlib.Omega.{arith}
-use Rattle.script_parts.proofs.Runs.{last-is, last-none, last-other}
+use Rattle.script_parts.proofs.Runs.{bracket-last, last-none, last-other}
 use borrow.Author.Needs.{needs}
 use Rattle.script_parts.proofs.last_end.Statement.{statement}
 use Rattle.script_parts.proofs.last_end.Tie as tie
@@ -9,7 +9,7 @@ returns : tie.Need-returns
 returns c = last-none (c .before .args .line .now) (c .before .args .at) (c .if1 .taken)
 
 returns-2 : tie.Need-returns-2
-returns-2 c = last-is (c .before .before .before .args .line .now) (c .before .before .before .args .at) _ (c .before .before .if1 .left) (omega arith) (c .if2 .taken)
+returns-2 c = bracket-last (c .before .before .before .args .line .now) (c .before .before .before .args .at) _ (c .before .before .if1 .left) (omega arith) (c .if2 .taken)
 
 returns-3 : tie.Need-returns-3
 returns-3 c = last-other (c .before .before .before .args .line .now) (c .before .before .before .args .at) _ (c .before .before .if1 .left) (omega arith) (c .if2 .left)

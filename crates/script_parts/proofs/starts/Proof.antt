@@ -3,7 +3,7 @@ use mathlib.Core.Path.{_≡_, refl}
 use Prim.Native.Nat.{_-_, _≤_}
 use native.Mathlib.Omega.{arith}
 use lib.ListN.{length, take, drop}
-use Rattle.script_parts.proofs.Runs.{starts-short, starts-differ, starts-step, starts-done}
+use Rattle.script_parts.proofs.Runs.{run-starts-short, starts-differ, starts-step, starts-done}
 use borrow.Author.Needs.{needs}
 use Rattle.script_parts.proofs.starts.Statement.{statement}
 use Rattle.script_parts.proofs.starts.Tie as tie
@@ -15,7 +15,7 @@ abbrev μ-loop : tie.MeasureT-loop
 μ-loop line at text i₀ i = length text - i
 
 returns : tie.Need-returns Inv-loop μ-loop
-returns c = starts-short (c .before .args .line .now) (c .before .args .at) (c .before .args .text .now) (c .if1 .taken)
+returns c = run-starts-short (c .before .args .line .now) (c .before .args .at) (c .before .args .text .now) (c .if1 .taken)
 
 loop-holds : tie.Need-loop-holds Inv-loop μ-loop
 loop-holds c = (omega arith, omega arith, refl)

@@ -3,7 +3,7 @@ use Rattle.sound.proofs.pass.Statement.{statement}
 use Rattle.sound.proofs.pass.Tie as tie
 use Prim.Native.Nat.{_+_, _-_, _≤_, _<_}
 use native.Mathlib.Omega.{arith}
-use Rattle.memory.proofs.Says.{passes, refuses}
+use Rattle.memory.proofs.Says.{says-passes, says-refuses}
 use Rattle.sound.specs.Notes.{NotesOn}
 use Rattle.sound.proofs.Notes.{notes-start, notes-at, notes-next, can-note}
 use Rattle.sound.proofs.Rows.{part-record, Rows, rows-more}
@@ -40,13 +40,13 @@ pass-spec =
     {- link-ok-requires -}
     (λ c κs. omega arith)
     {- returns-5 -}
-    (λ c o. refuses (c .before .link-ok .result) (c .before .link-ok .ensures) (c .if5 .taken) (o .names-link))
+    (λ c o. says-refuses (c .before .link-ok .result) (c .before .link-ok .ensures) (c .if5 .taken) (o .names-link))
     {- add-link-ok-2 -}
     (λ c. omega arith)
     {- link-ok-requires-2 -}
     (λ c κs. omega arith)
     {- returns-6 -}
-    (λ c o. refuses (c .before .link-ok2 .result) (c .before .link-ok2 .ensures) (c .if6 .taken) (o .modules-link))
+    (λ c o. says-refuses (c .before .link-ok2 .result) (c .before .link-ok2 .ensures) (c .if6 .taken) (o .modules-link))
     {- loop-holds -}
     (λ c. (omega arith, omega arith, record { right = λ l p h. absurd (omega arith) }, notes-start))
     {- cast-at -}
@@ -74,15 +74,15 @@ pass-spec =
     {- same-length-2 -}
     (λ c. c .before .before .before .before .before .before .loop .inv .3 .greatest-size)
     {- returns-7 -}
-    (λ c o. refuses (c .before .record-ok .result) (c .before .record-ok .ensures) (c .if7 .taken) (o .right .rows (c .before .before .before .before .before .before .loop .link) (omega arith) (omega arith)))
+    (λ c o. says-refuses (c .before .record-ok .result) (c .before .record-ok .ensures) (c .if7 .taken) (o .right .rows (c .before .before .before .before .before .before .loop .link) (omega arith) (omega arith)))
     {- note-requires -}
-    (λ c κs. can-note (omega arith) (omega arith) (passes (c .before .before .before .record-ok .result) (c .before .before .before .record-ok .ensures) (c .before .before .if7 .left)) (notes-at (c .before .before .before .before .before .before .before .before .loop .inv .3)))
+    (λ c κs. can-note (omega arith) (omega arith) (says-passes (c .before .before .before .record-ok .result) (c .before .before .before .record-ok .ensures) (c .before .before .if7 .left)) (notes-at (c .before .before .before .before .before .before .before .before .loop .inv .3)))
     {- add-link -}
     (λ c. omega arith)
     {- loop-less -}
     (λ c. omega arith)
     {- loop-again -}
-    (λ c. (omega arith, omega arith, rows-more (c .before .before .before .before .before .before .before .before .before .before .before .before .before .loop .inv .2) (passes (c .before .before .before .before .before .before .before .before .record-ok .result) (c .before .before .before .before .before .before .before .before .record-ok .ensures) (c .before .before .before .before .before .before .before .if7 .left)), notes-next (c .before .before .before .before .before .before .before .before .before .before .before .before .before .loop .inv .3) (c .before .before .before .before .note .ensures)))
+    (λ c. (omega arith, omega arith, rows-more (c .before .before .before .before .before .before .before .before .before .before .before .before .before .loop .inv .2) (says-passes (c .before .before .before .before .before .before .before .before .record-ok .result) (c .before .before .before .before .before .before .before .before .record-ok .ensures) (c .before .before .before .before .before .before .before .if7 .left)), notes-next (c .before .before .before .before .before .before .before .before .before .before .before .before .before .loop .inv .3) (c .before .before .before .before .note .ensures)))
     {- same-length-3 -}
     (λ c. c .before .loop .inv .3 .least-size)
     {- same-length-4 -}
@@ -90,6 +90,6 @@ pass-spec =
     {- returns-8 -}
     (λ c. record {
       right = record { few = omega arith; short = omega arith; records-fit = omega arith; text-fits = omega arith; rows = λ l p h. c .before .loop .inv .2 .right l p (omega arith) };
-      names-link = (let u = c .before .before .before .before in passes (u .before .link-ok .result) (u .before .link-ok .ensures) (u .if5 .left));
-      modules-link = (let u = c .before .before in passes (u .before .link-ok2 .result) (u .before .link-ok2 .ensures) (u .if6 .left));
+      names-link = (let u = c .before .before .before .before in says-passes (u .before .link-ok .result) (u .before .link-ok .ensures) (u .if5 .left));
+      modules-link = (let u = c .before .before in says-passes (u .before .link-ok2 .result) (u .before .link-ok2 .ensures) (u .if6 .left));
     }))

@@ -3,7 +3,7 @@ use borrow.Author.Needs.{needs}
 use Rattle.sound_branch.proofs.branch_ok.Statement.{statement}
 use Rattle.sound_branch.proofs.branch_ok.Tie as tie
 use Rattle.memory.specs.Sound.{BranchOk}
-use Rattle.memory.proofs.Says.{passes, refuses, says-iff}
+use Rattle.memory.proofs.Says.{says-passes, says-refuses, says-iff}
 use Rattle.memory.proofs.RecordAs.{branch-ordered}
 
 pub branch-ok-spec : {M : Type 1} → statement M
@@ -21,29 +21,29 @@ branch-ok-spec =
     {- link-ok-requires -}
     (λ c κs. search needs)
     {- returns -}
-    (λ c w v e o. refuses (c .before .link-ok .result) (c .before .link-ok .ensures) (c .if1 .taken) (rw e (o .0 .left)))
+    (λ c w v e o. says-refuses (c .before .link-ok .result) (c .before .link-ok .ensures) (c .if1 .taken) (rw e (o .0 .left)))
     {- link-ok-requires-2 -}
     (λ c κs. search needs)
     {- returns-2 -}
-    (λ c w v e o. refuses (c .before .link-ok2 .result) (c .before .link-ok2 .ensures) (c .if2 .taken) (rw e (o .0 .right)))
+    (λ c w v e o. says-refuses (c .before .link-ok2 .result) (c .before .link-ok2 .ensures) (c .if2 .taken) (rw e (o .0 .right)))
     {- text-ok-requires -}
     (λ c κs. c .before .before .before .before .before .before .before .before .before .before .before .before .before .pre .0 .text)
     {- returns-3 -}
-    (λ c w v e o. refuses (c .before .text-ok .result) (c .before .text-ok .ensures) (c .if3 .taken) (o .0 .key))
+    (λ c w v e o. says-refuses (c .before .text-ok .result) (c .before .text-ok .ensures) (c .if3 .taken) (o .0 .key))
     {- left-ok-requires -}
     (λ c κs. let s = c .before .before .before .before .before .before .before .before .before .before .before .before .before .before .before in
-    (record { before = s .pre .0; branches = s .pre .1 .0; link = (let u = c .before .before .before .before in passes (u .before .link-ok .result) (u .before .link-ok .ensures) (u .if1 .left)); inside = (passes (c .before .text-ok .result) (c .before .text-ok .ensures) (c .if3 .left)) .inside }, s .pre .1 .1 .1 .greatest-noted))
+    (record { before = s .pre .0; branches = s .pre .1 .0; link = (let u = c .before .before .before .before in says-passes (u .before .link-ok .result) (u .before .link-ok .ensures) (u .if1 .left)); inside = (says-passes (c .before .text-ok .result) (c .before .text-ok .ensures) (c .if3 .left)) .inside }, s .pre .1 .1 .1 .greatest-noted))
     {- returns-4 -}
-    (λ c w v e o. refuses (c .before .left-ok .result) (c .before .left-ok .ensures w v e) (c .if4 .taken) (o .1 .0))
+    (λ c w v e o. says-refuses (c .before .left-ok .result) (c .before .left-ok .ensures w v e) (c .if4 .taken) (o .1 .0))
     {- right-ok-requires -}
     (λ c κs. let s = c .before .before .before .before .before .before .before .before .before .before .before .before .before .before .before .before .before in
-    (record { before = s .pre .0; branches = s .pre .1 .0; link = (let u = c .before .before .before .before in passes (u .before .link-ok2 .result) (u .before .link-ok2 .ensures) (u .if2 .left)); inside = (let u = c .before .before in passes (u .before .text-ok .result) (u .before .text-ok .ensures) (u .if3 .left)) .inside }, s .pre .1 .1 .1 .least-noted))
+    (record { before = s .pre .0; branches = s .pre .1 .0; link = (let u = c .before .before .before .before in says-passes (u .before .link-ok2 .result) (u .before .link-ok2 .ensures) (u .if2 .left)); inside = (let u = c .before .before in says-passes (u .before .text-ok .result) (u .before .text-ok .ensures) (u .if3 .left)) .inside }, s .pre .1 .1 .1 .least-noted))
     {- returns-5 -}
     (λ c w v e.
-    let i = rw e at (let u = c .before .before .before .before .before .before .before in passes (u .before .link-ok .result) (u .before .link-ok .ensures) (u .if1 .left)) in
-    let j = rw e at (let u = c .before .before .before .before .before in passes (u .before .link-ok2 .result) (u .before .link-ok2 .ensures) (u .if2 .left)) in
+    let i = rw e at (let u = c .before .before .before .before .before .before .before in says-passes (u .before .link-ok .result) (u .before .link-ok .ensures) (u .if1 .left)) in
+    let j = rw e at (let u = c .before .before .before .before .before in says-passes (u .before .link-ok2 .result) (u .before .link-ok2 .ensures) (u .if2 .left)) in
     says-iff (c .right-ok .result) (c .right-ok .ensures w v e)
     (λ a.
-    let o : BranchOk _ _ _ _ w _ v = record { key = (let u = c .before .before .before in passes (u .before .text-ok .result) (u .before .text-ok .ensures) (u .if3 .left)); left = i; right = j } in
-    (o, branch-ordered (c .before .before .before .before .before .before .before .before .before .before .before .before .before .before .before .before .before .before .pre .0 .rows) w o (passes (c .before .before .left-ok .result) (c .before .before .left-ok .ensures w v e) (c .before .if4 .left)) a))
+    let o : BranchOk _ _ _ _ w _ v = record { key = (let u = c .before .before .before in says-passes (u .before .text-ok .result) (u .before .text-ok .ensures) (u .if3 .left)); left = i; right = j } in
+    (o, branch-ordered (c .before .before .before .before .before .before .before .before .before .before .before .before .before .before .before .before .before .before .pre .0 .rows) w o (says-passes (c .before .before .left-ok .result) (c .before .before .left-ok .ensures w v e) (c .before .if4 .left)) a))
     (λ o. o .1 .1)))

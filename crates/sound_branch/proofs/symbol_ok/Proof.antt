@@ -3,7 +3,7 @@ use borrow.Author.Needs.{needs}
 use Rattle.sound_branch.proofs.symbol_ok.Statement.{statement}
 use Rattle.sound_branch.proofs.symbol_ok.Tie as tie
 use native.Mathlib.Omega.{arith}
-use Rattle.memory.proofs.Says.{passes, refuses, says-iff}
+use Rattle.memory.proofs.Says.{says-passes, says-refuses, says-iff}
 
 pub symbol-ok-spec : {M : Type 1} → statement M
 symbol-ok-spec =
@@ -24,11 +24,11 @@ symbol-ok-spec =
     {- text-ok-requires -}
     (λ c κs. search needs)
     {- returns-3 -}
-    (λ c o. refuses (c .before .text-ok .result) (c .before .text-ok .ensures) (c .if3 .taken) (o .name))
+    (λ c o. says-refuses (c .before .text-ok .result) (c .before .text-ok .ensures) (c .if3 .taken) (o .name))
     {- shared-slice-read-if4 -}
     (λ c. search needs)
     {- returns-4 -}
-    (λ c. record { sort = c .before .before .before .before .before .before .before .before .if1 .left; name = (let u = c .before .before in passes (u .before .text-ok .result) (u .before .text-ok .ensures) (u .if3 .left)); path = λ e. absurd (omega arith); loaded = c .before .before .before .before .before .before .if2 .left })
+    (λ c. record { sort = c .before .before .before .before .before .before .before .before .if1 .left; name = (let u = c .before .before in says-passes (u .before .text-ok .result) (u .before .text-ok .ensures) (u .if3 .left)); path = λ e. absurd (omega arith); loaded = c .before .before .before .before .before .before .if2 .left })
     {- shared-slice-read-text-ok-3 -}
     (λ c. search needs)
     {- shared-slice-read-text-ok-4 -}
@@ -39,7 +39,7 @@ symbol-ok-spec =
     (λ c. says-iff (c .text-ok2 .result) (c .text-ok2 .ensures)
     (λ q. record {
       sort = c .before .before .before .before .before .before .before .before .before .before .before .if1 .left;
-      name = (let u = c .before .before .before .before .before in passes (u .before .text-ok .result) (u .before .text-ok .ensures) (u .if3 .left));
+      name = (let u = c .before .before .before .before .before in says-passes (u .before .text-ok .result) (u .before .text-ok .ensures) (u .if3 .left));
       path = λ e. q;
       loaded = c .before .before .before .before .before .before .before .before .before .if2 .left;
     })

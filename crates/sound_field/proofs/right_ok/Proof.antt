@@ -3,7 +3,7 @@ use Rattle.sound_field.proofs.right_ok.Statement.{statement}
 use Rattle.sound_field.proofs.right_ok.Tie as tie
 use native.Mathlib.Omega.{arith}
 use Rattle.sound_field.proofs.Noted.{noted-upto}
-use Rattle.sound_field.proofs.Far.{right, falls, none-all, subtree-end, end-lent, says-end}
+use Rattle.sound_field.proofs.Far.{right, toward-falls, none-all, subtree-end, end-lent, says-end}
 
 pub right-ok-spec : {M : Type 1} → statement M
 right-ok-spec =
@@ -13,7 +13,7 @@ right-ok-spec =
     (λ c w v e. none-all (c .before .before .before .before .pre .0 .before) w v _ _ (c .if1 .taken))
     {- end-of-requires -}
     (λ c κs. let q = c .before .before .before .before .pre .0 in
-    record { some = omega arith; fits = omega (arith, q .link .earlier, q .before .fits); word-of = omega arith; falls = falls (q .before) right (c .before .before .before .before .args .top) (q .link .earlier); noted = noted-upto (c .before .before .before .before .pre .1) (q .link .earlier) })
+    record { some = omega arith; fits = omega (arith, q .link .earlier, q .before .fits); word-of = omega arith; falls = toward-falls (q .before) right (c .before .before .before .before .args .top) (q .link .earlier); noted = noted-upto (c .before .before .before .before .pre .1) (q .link .earlier) })
     {- word-of-requires -}
     (λ c κs. let i = end-lent (c .before .before .before .before .before .pre .0) right (c .before .if1 .left) (c .end-of .ensures) in omega arith)
     {- word-of-requires-2 -}

@@ -4,7 +4,7 @@ use Rattle.sound_list.proofs.trie_ok.Statement.{statement}
 use Rattle.sound_list.proofs.trie_ok.Tie as tie
 use mathlib.Core.Path.{_∙_}
 use native.Mathlib.Omega.{arith}
-use Rattle.memory.proofs.Says.{passes, refuses}
+use Rattle.memory.proofs.Says.{says-passes, says-refuses}
 use Rattle.memory.proofs.StoredSizes.{depth-trie}
 use Rattle.sound_list.proofs.Lists.{says-trie}
 
@@ -19,13 +19,13 @@ trie-ok-spec =
     {- link-ok-requires -}
     (λ c κs. search needs)
     {- returns -}
-    (λ c w e f r. refuses (c .before .link-ok .result) (c .before .link-ok .ensures) (c .if1 .taken) (rw e (r .0 .bindings)))
+    (λ c w e f r. says-refuses (c .before .link-ok .result) (c .before .link-ok .ensures) (c .if1 .taken) (rw e (r .0 .bindings)))
     {- link-ok-requires-2 -}
     (λ c κs. search needs)
     {- returns-2 -}
-    (λ c w e f r. refuses (c .before .link-ok2 .result) (c .before .link-ok2 .ensures) (c .if2 .taken) (rw f (r .0 .namespaces)))
+    (λ c w e f r. says-refuses (c .before .link-ok2 .result) (c .before .link-ok2 .ensures) (c .if2 .taken) (rw f (r .0 .namespaces)))
     {- depth-of-requires -}
-    (λ c κs. let h = (passes (c .before .link-ok2 .result) (c .before .link-ok2 .ensures) (c .if2 .left)) .earlier in omega (arith, c .before .before .before .before .before .before .before .before .before .pre .0 .fits))
+    (λ c κs. let h = (says-passes (c .before .link-ok2 .result) (c .before .link-ok2 .ensures) (c .if2 .left)) .earlier in omega (arith, c .before .before .before .before .before .before .before .before .before .pre .0 .fits))
     {- returns-3 -}
     (λ c w e f r. omega (arith, r .2, c .before .depth-of .ensures, depth-trie (c .before .before .before .before .before .before .before .before .before .before .before .pre .0 .rows) w (r .0)))
     {- shared-slice-read-wide -}
@@ -41,8 +41,8 @@ trie-ok-spec =
     let s = c .before .before .before .before .before .before .before .before .before .before .before .before .before .before .before in
     says-trie (c .same .result) (s .pre .0) w (s .args .r .now)
     (record {
-      bindings = rw e at (let u = c .before .before .before .before .before .before .before .before in passes (u .before .link-ok .result) (u .before .link-ok .ensures) (u .if1 .left));
-      namespaces = rw f at (let u = c .before .before .before .before .before .before in passes (u .before .link-ok2 .result) (u .before .link-ok2 .ensures) (u .if2 .left));
+      bindings = rw e at (let u = c .before .before .before .before .before .before .before .before in says-passes (u .before .link-ok .result) (u .before .link-ok .ensures) (u .if1 .left));
+      namespaces = rw f at (let u = c .before .before .before .before .before .before in says-passes (u .before .link-ok2 .result) (u .before .link-ok2 .ensures) (u .if2 .left));
     })
     (c .before .before .wide .ensures)
     (c .before .wide2 .ensures ∙ c .before .before .before .before .before .depth-of .ensures)

@@ -1,7 +1,7 @@
 -- look_up meets its contract.
 use borrow.Author.Needs.{needs}
-use Rattle.refusals.proofs.Rows.{one-flagged, passes, stops}
-use Rattle.table_roots.proofs.Finds.{query-whole, look-up-refused, look-up-none, look-up-found, branch-fits}
+use Rattle.refusals.proofs.Rows.{one-flagged, admitted-none, refused-lowest}
+use Rattle.table_roots.proofs.Finds.{look-up-query-whole, look-up-rows-refused, look-up-none, look-up-found, found-fits}
 use Rattle.table_roots.proofs.look_up.Statement.{statement}
 use Rattle.table_roots.proofs.look_up.Tie as tie
 
@@ -18,22 +18,22 @@ look-up-spec =
     {- enum-told -}
     (λ c. search needs)
     {- trie-find-exact-requires -}
-    (λ c κs. (c .before .before .before .before .before .before .before .pre, query-whole _ (passes (one-flagged (c .before .before .before .look-up-flags .ensures)) (c .before .before .admit .ensures) (c .enum-told .given .1))))
+    (λ c κs. (c .before .before .before .before .before .before .before .pre, look-up-query-whole _ (admitted-none (one-flagged (c .before .before .before .look-up-flags .ensures)) (c .before .before .admit .ensures) (c .enum-told .given .1))))
     {- returns -}
     (λ c. record {
       fits = tt;
       link = λ w t. tt;
-      says = λ w t. look-up-none _ (passes (one-flagged (c .before .before .before .before .before .look-up-flags .ensures)) (c .before .before .before .before .admit .ensures) (c .before .before .enum-told .given .1)) (c .before .trie-find-exact .ensures w t) (c .if1 .taken);
+      says = λ w t. look-up-none _ (admitted-none (one-flagged (c .before .before .before .before .before .look-up-flags .ensures)) (c .before .before .before .before .admit .ensures) (c .before .before .enum-told .given .1)) (c .before .trie-find-exact .ensures w t) (c .if1 .taken);
     })
     {- returns-2 -}
     (λ c. record {
       fits = tt;
       link = λ w t. tt;
-      says = λ w t. look-up-refused _ _ (stops (one-flagged (c .before .before .before .before .look-up-flags .ensures)) (c .before .before .before .admit .ensures) (c .before .a .given .1));
+      says = λ w t. look-up-rows-refused _ _ (refused-lowest (one-flagged (c .before .before .before .before .look-up-flags .ensures)) (c .before .before .before .admit .ensures) (c .before .a .given .1));
     })
     {- returns-3 -}
     (λ c. record {
-      fits = branch-fits (c .before .before .before .before .before .before .before .before .before .pre) (c .before .trie-find-exact .ensures) (c .if1 .left);
+      fits = found-fits (c .before .before .before .before .before .before .before .before .before .pre) (c .before .trie-find-exact .ensures) (c .if1 .left);
       link = λ w t. c .before .trie-find-exact .ensures w t .link;
-      says = λ w t. look-up-found _ (passes (one-flagged (c .before .before .before .before .before .look-up-flags .ensures)) (c .before .before .before .before .admit .ensures) (c .before .before .enum-told .given .1)) (c .before .trie-find-exact .ensures w t) (c .if1 .left);
+      says = λ w t. look-up-found _ (admitted-none (one-flagged (c .before .before .before .before .before .look-up-flags .ensures)) (c .before .before .before .before .admit .ensures) (c .before .before .enum-told .given .1)) (c .before .trie-find-exact .ensures w t) (c .if1 .left);
     }))

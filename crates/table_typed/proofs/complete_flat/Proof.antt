@@ -3,7 +3,7 @@ use mathlib.Core.Path.{sym}
 use native.Mathlib.Omega.{arith}
 use lib.Seq.{length-take-le}
 use borrow.Author.Needs.{needs}
-use Rattle.memory.proofs.Says.{holds, fails}
+use Rattle.memory.proofs.Says.{says-holds, says-fails}
 use Rattle.table_typed.proofs.FlatCompletes.{flat-completes, flat-unsound}
 use Rattle.table_typed.proofs.complete_flat.Statement.{statement}
 use Rattle.table_typed.proofs.complete_flat.Tie as tie
@@ -21,12 +21,12 @@ complete-flat-spec =
     {- slice-aggregate-complete-sound -}
     (λ c. sym (length-take-le (c .before .bytes-for .result) (c .before .before .before .before .before .before .before .before .before .args .flat .now) (omega (arith, c .before .bytes-for .ensures))))
     {- complete-sound-requires -}
-    (λ c κs. holds _ (c .before .before .before .before .is-sound .ensures) (c .before .before .before .if1 .taken))
+    (λ c κs. says-holds _ (c .before .before .before .before .is-sound .ensures) (c .before .before .before .if1 .taken))
     {- same-length -}
     (λ c. search needs)
     {- same-length-2 -}
     (λ c. search needs)
     {- returns -}
-    (λ c. let s = c .before .before .before .before in let s2 = s .before .before .before in flat-completes (holds _ (s2 .before .before .is-sound .ensures) (s2 .before .if1 .taken)) (s2 .bytes-for .ensures) (s .complete-sound .ensures))
+    (λ c. let s = c .before .before .before .before in let s2 = s .before .before .before in flat-completes (says-holds _ (s2 .before .before .is-sound .ensures) (s2 .before .if1 .taken)) (s2 .bytes-for .ensures) (s .complete-sound .ensures))
     {- returns-2 -}
-    (λ c. flat-unsound (fails _ (c .before .is-sound .ensures) (c .if1 .left))))
+    (λ c. flat-unsound (says-fails _ (c .before .is-sound .ensures) (c .if1 .left))))

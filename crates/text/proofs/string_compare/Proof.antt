@@ -3,7 +3,7 @@ use Prim.Native.Nat.{_-_}
 use mathlib.Core.Path.{refl}
 use native.Mathlib.Omega.{arith}
 use borrow.Author.Needs.{needs}
-use Rattle.text.proofs.Texts.{Comparing, bytes-same, bytes-differ, ended}
+use Rattle.text.proofs.Texts.{Comparing, bytes-same, bytes-differ, compares-ended}
 use Rattle.text.proofs.string_compare.Statement.{statement}
 use Rattle.text.proofs.string_compare.Tie as tie
 
@@ -38,4 +38,4 @@ string-compare-spec =
     {- order-of-requires-2 -}
     (λ c κs. search needs)
     {- returns-2 -}
-    (λ c. ended (c .before .before .loop .inv) _ (c .before .before .before .shorter .ensures) (omega arith) _ (c .order-of2 .ensures)))
+    (λ c. compares-ended (c .before .before .loop .inv) _ (c .before .before .before .shorter .ensures) (omega arith) _ (c .order-of2 .ensures)))

@@ -1,6 +1,6 @@
 -- Table::find meets its contract.
 use borrow.Author.Needs.{needs}
-use Rattle.memory.proofs.Says.{holds, fails}
+use Rattle.memory.proofs.Says.{says-holds, says-fails}
 use Rattle.table.proofs.Finds.{finds-unsound}
 use Rattle.table.proofs.Table.find.Statement.{statement}
 use Rattle.table.proofs.Table.find.Tie as tie
@@ -12,8 +12,8 @@ find-spec =
     {- is-sound-requires -}
     (λ c κs. search needs)
     {- find-sound-requires -}
-    (λ c κs. holds _ (c .before .is-sound .ensures) (c .if1 .taken))
+    (λ c κs. says-holds _ (c .before .is-sound .ensures) (c .if1 .taken))
     {- returns -}
     (λ c. c .find-sound .ensures)
     {- returns-2 -}
-    (λ c. finds-unsound (fails _ (c .before .is-sound .ensures) (c .if1 .left))))
+    (λ c. finds-unsound (says-fails _ (c .before .is-sound .ensures) (c .if1 .left))))

@@ -1,7 +1,7 @@
 -- Table::register meets its contract.
 use mathlib.Core.Path.{_∙_}
-use Rattle.memory.proofs.Says.{holds}
-use Rattle.table.proofs.Says.{decided}
+use Rattle.memory.proofs.Says.{says-holds}
+use Rattle.table.proofs.Says.{says-same}
 use Rattle.table.proofs.Answers.{answers-unsound}
 use borrow.Author.Needs.{needs}
 use Rattle.table.proofs.Table.register.Statement.{statement}
@@ -14,16 +14,16 @@ register-spec =
     {- is-sound-requires -}
     (λ c κs. search needs)
     {- register-sound-requires -}
-    (λ c κs. holds _ (c .before .before .before .is-sound .ensures) (c .before .before .if1 .taken))
+    (λ c κs. says-holds _ (c .before .before .before .is-sound .ensures) (c .before .before .if1 .taken))
     {- same-length -}
     (λ c. search needs)
     {- same-length-2 -}
     (λ c. search needs)
     {- returns -}
-    (λ c b h. rw (decided _ b (c .before .before .before .before .before .before .before .before .is-sound .result) h (c .before .before .before .before .before .before .before .before .is-sound .ensures) ∙ c .before .before .before .before .before .before .before .if1 .taken) (c .before .before .before .before .register-sound .ensures))
+    (λ c b h. rw (says-same _ b (c .before .before .before .before .before .before .before .before .is-sound .result) h (c .before .before .before .before .before .before .before .before .is-sound .ensures) ∙ c .before .before .before .before .before .before .before .if1 .taken) (c .before .before .before .before .register-sound .ensures))
     {- same-length-3 -}
     (λ c. search needs)
     {- same-length-4 -}
     (λ c. search needs)
     {- returns-2 -}
-    (λ c b h. rw (decided _ b (c .before .is-sound .result) h (c .before .is-sound .ensures) ∙ c .if1 .left) answers-unsound))
+    (λ c b h. rw (says-same _ b (c .before .is-sound .result) h (c .before .is-sound .ensures) ∙ c .if1 .left) answers-unsound))
