@@ -25,7 +25,8 @@ not-false false e = absurd (true≢false e)
 pub laid-fits : {d d′ s : List ℕ} {at r : ℕ} → Laid d d′ at r s → r ≤ length d′
 laid-fits x = omega (arith, x .fits, laid-length x)
 
-pub record Steady (words₀ text₀ input₀ flat₀ pane₀ reply₀ words text input flat pane reply : List ℕ) (g : Feed) : Type 0 where
+pub record Steady (words₀ text₀ input₀ flat₀ pane₀ reply₀ words text input flat pane reply : List ℕ)
+    (g : Feed) : Type 0 where
   pub sound : IsSound words text (g .table)
   pub inside : Inside g input
   pub words-size : length words ≡ length words₀
@@ -35,13 +36,25 @@ pub record Steady (words₀ text₀ input₀ flat₀ pane₀ reply₀ words text
   pub pane-size : length pane ≡ length pane₀
   pub reply-size : length reply ≡ length reply₀
 
-pub steady-start : {words text input : List ℕ} (flat pane reply : List ℕ) {g : Feed} → IsSound words text (g .table) → Inside g input
+pub steady-start : {words text input : List ℕ} (flat pane reply : List ℕ) {g : Feed} → IsSound words text (g .table)
+    → Inside g input
     → Steady words text input flat pane reply words text input flat pane reply g
 steady-start flat pane reply s i =
-    record { sound = s; inside = i; words-size = refl; text-size = refl; input-size = refl; flat-size = refl; pane-size = refl; reply-size = refl }
+    record {
+      sound = s;
+      inside = i;
+      words-size = refl;
+      text-size = refl;
+      input-size = refl;
+      flat-size = refl;
+      pane-size = refl;
+      reply-size = refl;
+    }
 
-pub steady-on : {words₀ text₀ input₀ flat₀ pane₀ reply₀ words text input flat pane reply words′ text′ input′ flat′ pane′ reply′ : List ℕ} {out : Output} {g : Feed} {r : Progress}
-    → Steady words₀ text₀ input₀ flat₀ pane₀ reply₀ words text input flat pane reply g → Feeds words text words′ text′ g input input′ out reply reply′ r
+pub steady-on : {words₀ text₀ input₀ flat₀ pane₀ reply₀ words text input flat pane reply
+    words′ text′ input′ flat′ pane′ reply′ : List ℕ} {out : Output} {g : Feed} {r : Progress}
+    → Steady words₀ text₀ input₀ flat₀ pane₀ reply₀ words text input flat pane reply g
+    → Feeds words text words′ text′ g input input′ out reply reply′ r
     → length input′ ≡ length input → length flat′ ≡ length flat → length pane′ ≡ length pane
     → Steady words₀ text₀ input₀ flat₀ pane₀ reply₀ words′ text′ input′ flat′ pane′ reply′ (r .feed)
 steady-on s x i f p = record {

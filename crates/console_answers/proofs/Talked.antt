@@ -22,14 +22,16 @@ use Rattle.console_questions.specs.RowReplies.{room}
 use Rattle.console_answers.specs.Outcomes.{Replied, Session, none, then, unlines}
 use Rattle.console_answers.specs.Answers.{Answered, Talked}
 
-session-on : {k : Lent} {out : Output} {s m : State} {lines : List Str} {text : Str} {line : Str} (o : Outcome) → Session k out s lines text m → Replied k out m line o
+session-on : {k : Lent} {out : Output} {s m : State} {lines : List Str} {text : Str} {line : Str} (o : Outcome)
+    → Session k out s lines text m → Replied k out m line o
     → Session k out s (lines ++ (line ∷ [])) (text · o .text) (o .after)
 session-on {k} {out} {s} {line = line} o none r =
     subst (λ (t : Str). Session k out s (line ∷ []) t (o .after)) (append-nil (o .text)) (then o r none)
 session-on {k} {out} {s} {line = line} o (then {line = l} {lines = ls} {text = t} o′ r′ rest) r =
     subst (λ (u : Str). Session k out s (l ∷ (ls ++ (line ∷ []))) u (o .after)) (sym (append-assoc (o′ .text) t (o .text))) (then o′ r′ (session-on o rest r))
 
-each-on : (lines : List Str) (line : Str) → Allˡ (All Line) lines → All Line line → Allˡ (All Line) (lines ++ (line ∷ []))
+each-on : (lines : List Str) (line : Str) → Allˡ (All Line) lines → All Line line
+    → Allˡ (All Line) (lines ++ (line ∷ []))
 each-on [] line a b = (b, tt)
 each-on (l ∷ ls) line a b = (a .0, each-on ls line (a .1) b)
 
@@ -39,7 +41,8 @@ unlines-on [] line = refl
 unlines-on (l ∷ ls) line = ap (λ (s : Str). l · (10 ∷ s)) (unlines-on ls line) ∙ sym (append-assoc l (10 ∷ unlines ls) (line · (10 ∷ [])))
 
 -- The lines up to i are answered.
-pub record Going (ws₀ txt₀ : List ℕ) (t₀ : Table) (input : Str) (from : ℕ) (flat₀ pane₀ reply₀ : List ℕ) (ws txt flat pane reply : List ℕ) (t : Table) (at i : ℕ) : Type 0 where
+pub record Going (ws₀ txt₀ : List ℕ) (t₀ : Table) (input : Str) (from : ℕ) (flat₀ pane₀ reply₀ : List ℕ)
+    (ws txt flat pane reply : List ℕ) (t : Table) (at i : ℕ) : Type 0 where
   pub lines : List Str
   pub each : Allˡ (All Line) lines
   pub cut : take (i - from) (drop from input) ≡ unlines lines
@@ -58,7 +61,8 @@ pub record Going (ws₀ txt₀ : List ℕ) (t₀ : Table) (input : Str) (from : 
   pub fits : at ≤ length reply₀
   pub started : i ≡ from → at ≡ 0
 
-pub talk-going-start : {ws txt flat pane reply : List ℕ} {t : Table} {input : Str} {from : ℕ} → IsSound ws txt t → from ≤ length input
+pub talk-going-start : {ws txt flat pane reply : List ℕ} {t : Table} {input : Str} {from : ℕ} → IsSound ws txt t
+    → from ≤ length input
     → Going ws txt t input from flat pane reply ws txt flat pane reply t 0 from
 unfolding unlines
 talk-going-start {ws} {txt} {reply = reply} {t} {from = from} s h =
@@ -96,7 +100,8 @@ module _ {ws₀ txt₀ flat₀ pane₀ reply₀ ws txt flat pane reply : List �
         take-suc (drop i input) r 0 h
         ∙ ap (λ (b : ℕ). take r (drop i input) · (b ∷ [])) (ap (λ (s : Str). getD s r 0) (sym rest-is) ∙ x .feed (rw rest-is h))
 
-    pub talk-going-on : {ws′ txt′ flat′ pane′ reply′ : List ℕ} {d : Done} → length flat′ ≡ length flat → length pane′ ≡ length pane
+    pub talk-going-on : {ws′ txt′ flat′ pane′ reply′ : List ℕ} {d : Done} → length flat′ ≡ length flat
+        → length pane′ ≡ length pane
         → Answered ws txt ws′ txt′ t (take (i + r - i) (drop i input)) (output flat pane) reply reply′ at d
         → Going ws₀ txt₀ t₀ input from flat₀ pane₀ reply₀ ws′ txt′ flat′ pane′ reply′ (d .table) (d .end) (i + r + 1)
     talk-going-on f p a =
@@ -107,12 +112,14 @@ module _ {ws₀ txt₀ flat₀ pane₀ reply₀ ws txt flat pane reply : List �
           lines = g .lines ++ (take r (drop i input) ∷ []);
           each = each-on (g .lines) (take r (drop i input)) (g .each) (rw rest-is at (x .line));
           cut = rw n (take-add (i - from) (suc r) (drop from input)
-              ∙ ap₂ (λ (u v : Str). u · take (suc r) v) (g .cut) (drop-drop (i - from) from input ∙ ap (λ (j : ℕ). drop j input) k)
+              ∙ ap₂ (λ (u v : Str). u · take (suc r) v) (g .cut)
+              (drop-drop (i - from) from input ∙ ap (λ (j : ℕ). drop j input) k)
               ∙ ap (λ (u : Str). unlines (g .lines) · u) line-cut
               ∙ sym (unlines-on (g .lines) (take r (drop i input))));
           text = g .text · a .text;
           laid = laid-more (g .laid) (a .laid);
-          session = session-on (record { text = a .text; after = _ }) (g .session) (rw (q, g .words .size, g .texts .size, g .flat-size, g .pane-size) at (a .replied));
+          session = session-on (record { text = a .text; after = _ }) (g .session)
+              (rw (q, g .words .size, g .texts .size, g .flat-size, g .pane-size) at (a .replied));
           sound = a .sound;
           words = outside-next (omega (arith, g .grows .0)) (omega (arith, a .grows .0)) (g .words) (a .words);
           texts = outside-next (g .grows .1) (a .grows .1) (g .texts) (a .texts);

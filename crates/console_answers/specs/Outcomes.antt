@@ -54,7 +54,8 @@ pub record Replied (lent : Lent) (out : Output) (s : State) (line : Str) (o : Ou
 -- Lines one after another: their replies together, and the table after the last.
 pub data Session (lent : Lent) (out : Output) : State → List Str → Str → State → Type 0 where
   none : {s : State} → Session lent out s [] [] s
-  then : {s s′ : State} {line : Str} {lines : List Str} {text : Str} (o : Outcome) → Replied lent out s line o → Session lent out (o .after) lines text s′
+  then : {s s′ : State} {line : Str} {lines : List Str} {text : Str} (o : Outcome) → Replied lent out s line o
+      → Session lent out (o .after) lines text s′
       → Session lent out s (line ∷ lines) (o .text · text) s′
 
 -- The bytes of lines, each with its line feed.

@@ -45,7 +45,8 @@ pub fn answer(
 ) -> Done
     requires { ⌜ IsSound (now words) (now text) table ⌝ }
     requires { ⌜ at + room (now flat) (now pane) ≤ length (now reply) ⌝ }
-    ensures { λ r. ⌜ Answered (old words) (old text) (new words) (new text) table (old line) (output (old flat) (old pane)) (old reply) (new reply) at r ⌝ }
+    ensures { λ r. ⌜ Answered (old words) (old text) (new words) (new text) table (old line)
+        (output (old flat) (old pane)) (old reply) (new reply) at r ⌝ }
 {
     let form = script::parse(line);
     match form {
@@ -115,7 +116,8 @@ pub fn answer_lines(
     requires { ⌜ IsSound (now words) (now text) table ⌝ }
     requires { ⌜ room (now flat) (now pane) ≤ length (now reply) ⌝ }
     requires { ⌜ from ≤ length (now input) ⌝ }
-    ensures { λ r. ⌜ Talked (old words) (old text) (new words) (new text) table (old input) from (output (old flat) (old pane)) (old reply) (new reply) r ⌝ }
+    ensures { λ r. ⌜ Talked (old words) (old text) (new words) (new text) table (old input) from
+        (output (old flat) (old pane)) (old reply) (new reply) r ⌝ }
 {
     let size = flat.len() / listing_output::LINE_BYTES * 40 + pane.len() + 40;
     let mut t = table;

@@ -39,11 +39,13 @@ take-least zero l = let e : min (length l) 0 ≡ 0 = omega arith in rw e refl
 take-least (suc n) [] = take-nil (min 0 (suc n))
 take-least (suc n) (x ∷ l) = let e : min (suc (length l)) (suc n) ≡ suc (min (length l) n) = omega arith in rw e (ap (_∷_ x) (take-least n l))
 
-part-length : (input : List ℕ) (from have : ℕ) → have ≤ length input → length (drop from (take have input)) ≡ have - from
+part-length : (input : List ℕ) (from have : ℕ) → have ≤ length input
+    → length (drop from (take have input)) ≡ have - from
 part-length input from have h = omega (arith, length-drop from (take have input), length-take-le have input h)
 
 -- What is moved is the start of what followed.
-moved-is : {input input′ : List ℕ} {from have n : ℕ} → have ≤ length input → Moves input input′ from have n → take bytes-kept (drop from (take have input)) ≡ take n input′
+moved-is : {input input′ : List ℕ} {from have n : ℕ} → have ≤ length input → Moves input input′ from have n
+    → take bytes-kept (drop from (take have input)) ≡ take n input′
 moved-is {input} {input′} {from} {have} {n} h m =
     let e : min (length (drop from (take have input))) bytes-kept ≡ n = omega (arith, part-length input from have h, m .size) in
     sym (take-least bytes-kept (drop from (take have input)))
@@ -67,7 +69,8 @@ module _ {ws txt ws′ txt′ input reply reply′ : List ℕ} {out : Output} {f
 
   -- Whole lines may be left.
   pub steps-on : f .from < r .next
-      → Feeds ws txt ws′ txt′ f input input out reply reply′ (record { feed = record { table = r .table; from = r .next; have = f .have }; end = r .end; more = true })
+      → Feeds ws txt ws′ txt′ f input input out reply reply′
+      (record { feed = record { table = r .table; from = r .next; have = f .have }; end = r .end; more = true })
   steps-on l = record {
     lines = x .lines;
     each = x .each;
@@ -86,7 +89,8 @@ module _ {ws txt ws′ txt′ input reply reply′ : List ℕ} {out : Output} {f
   }
 
   -- There is none left.
-  pub steps-out : {input′ : List ℕ} {n : ℕ} → r .next ≤ f .from → length input′ ≡ length input → Moves input input′ (f .from) (f .have) n
+  pub steps-out : {input′ : List ℕ} {n : ℕ} → r .next ≤ f .from → length input′ ≡ length input
+      → Moves input input′ (f .from) (f .have) n
       → Feeds ws txt ws′ txt′ f input input′ out reply reply′ (record { feed = record { table = r .table; from = 0; have = n }; end = r .end; more = false })
   steps-out {input′} {n} l size m =
       let e : r .next ≡ f .from = omega (arith, x .next-fits .0) in
@@ -112,20 +116,26 @@ module _ {ws txt ws′ txt′ input reply reply′ : List ℕ} {out : Output} {f
 -- ---- The end
 
 module _ {ws txt ws′ txt′ input reply reply′ : List ℕ} {out : Output} {f : Feed} where
-  pub ends-some : {r : Done} → LastLine true (take (f .have - f .from) (drop (f .from) input)) → Answered ws txt ws′ txt′ (f .table) (take (f .have - f .from) (drop (f .from) input)) out reply reply′ 0 r
+  pub ends-some : {r : Done} → LastLine true (take (f .have - f .from) (drop (f .from) input))
+      → Answered ws txt ws′ txt′ (f .table) (take (f .have - f .from) (drop (f .from) input)) out reply reply′ 0 r
       → Ends ws txt ws′ txt′ f input out reply reply′ r
   ends-some {r} e x =
       let p : pending f input ≡ take (f .have - f .from) (drop (f .from) input) = drop-take (f .from) (f .have) input in
       record {
         text = x .text;
-        session = rw (p, e) (subst (λ (t : Str). Session (lent ws txt) out (state ws txt (f .table)) _ t (state ws′ txt′ (r .table))) (append-nil (x .text)) (then (record { text = x .text; after = _ }) (x .replied) none));
+        session = rw (
+          p,
+          e,
+        ) (subst (λ (t : Str). Session (lent ws txt) out (state ws txt (f .table)) _ t (state ws′ txt′ (r .table)))
+            (append-nil (x .text)) (then (record { text = x .text; after = _ }) (x .replied) none));
         laid = x .laid;
         sound = x .sound;
         words = x .words;
         texts = x .texts;
       }
 
-pub feed-ends-none : {ws txt input reply : List ℕ} {out : Output} {f : Feed} → LastLine false (take (f .have - f .from) (drop (f .from) input)) → IsSound ws txt (f .table)
+pub feed-ends-none : {ws txt input reply : List ℕ} {out : Output} {f : Feed}
+    → LastLine false (take (f .have - f .from) (drop (f .from) input)) → IsSound ws txt (f .table)
     → Ends ws txt ws txt f input out reply reply (record { table = f .table; end = 0 })
 feed-ends-none {ws} {txt} {input} {reply} {out} {f} e sound =
     let p : pending f input ≡ take (f .have - f .from) (drop (f .from) input) = drop-take (f .from) (f .have) input in

@@ -34,7 +34,8 @@ pub data Kept : Str → Str → Type 0 where
   start : {s : Str} → All Line s → Kept s (take bytes-kept s)
 
 -- A step: the session of some whole lines, its replies at the start of the reply text, and what follows them kept.
-pub record Feeds (ws txt ws′ txt′ : List ℕ) (f : Feed) (input input′ : List ℕ) (out : Output) (reply reply′ : List ℕ) (r : Progress) : Type 0 where
+pub record Feeds (ws txt ws′ txt′ : List ℕ) (f : Feed) (input input′ : List ℕ) (out : Output) (reply reply′ : List ℕ)
+    (r : Progress) : Type 0 where
   pub lines : List Str
   pub each : Allˡ (All Line) lines
   pub rest : Str
@@ -51,9 +52,11 @@ pub record Feeds (ws txt ws′ txt′ : List ℕ) (f : Feed) (input input′ : L
   pub stops : r .more ≡ false → (r .feed .from ≡ 0) × (r .feed .have ≤ bytes-kept) × All Line (pending (r .feed) input′)
 
 -- The end of the input: the session of what is left, as a line.
-pub record Ends (ws txt ws′ txt′ : List ℕ) (f : Feed) (input : List ℕ) (out : Output) (reply reply′ : List ℕ) (r : Done) : Type 0 where
+pub record Ends (ws txt ws′ txt′ : List ℕ) (f : Feed) (input : List ℕ) (out : Output) (reply reply′ : List ℕ)
+    (r : Done) : Type 0 where
   pub text : Str
-  pub session : Session (lent ws txt) out (state ws txt (f .table)) (last-line (pending f input)) text (state ws′ txt′ (r .table))
+  pub session : Session (lent ws txt) out (state ws txt (f .table)) (last-line (pending f input)) text
+      (state ws′ txt′ (r .table))
   pub laid : Laid reply reply′ 0 (r .end) text
   pub sound : IsSound ws′ txt′ (r .table)
   pub words : Outside (f .table .header .records * record-words) (r .table .header .records * record-words) ws ws′

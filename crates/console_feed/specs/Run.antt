@@ -36,18 +36,27 @@ pub record Program : Type 0 where
 
 -- More bytes stand after those that it has.
 abbrev pub fed : Program → (input : List ℕ) → ℕ → Program
-fed p input n = record { words = p .words; text = p .text; input = input; feed = record { table = p .feed .table; from = p .feed .from; have = p .feed .have + n } }
+fed p input n = record {
+  words = p .words;
+  text = p .text;
+  input = input;
+  feed = record { table = p .feed .table; from = p .feed .from; have = p .feed .have + n };
+}
 
 -- From what it holds: the bytes of each read to come, what is handed to the writes to come put together, and the table after.
 pub data Run (out : Output) : Program → List Str → Str → State → Type 0 where
-  read : {p : Program} {reads : List Str} {written : Str} {s : State} (input : List ℕ) (n : ℕ) → Inside (p .feed) (p .input)
+  read : {p : Program} {reads : List Str} {written : Str} {s : State} (input : List ℕ) (n : ℕ)
+      → Inside (p .feed) (p .input)
       → take (p .feed .have) input ≡ take (p .feed .have) (p .input) → p .feed .have + n ≤ length input
       → Run out (fed p input n) reads written s → Run out p (take n (drop (p .feed .have) input) ∷ reads) written s
-  step : {p : Program} {reads : List Str} {written : Str} {s : State} {ws txt input reply reply′ : List ℕ} {r : Progress}
+  step : {p : Program} {reads : List Str} {written : Str} {s : State} {ws txt input reply reply′ : List ℕ}
+      {r : Progress}
       → Feeds (p .words) (p .text) ws txt (p .feed) (p .input) input out reply reply′ r
-      → Run out (record { words = ws; text = txt; input = input; feed = r .feed }) reads written s → Run out p reads (take (r .end) reply′ · written) s
+      → Run out (record { words = ws; text = txt; input = input; feed = r .feed }) reads written s
+      → Run out p reads (take (r .end) reply′ · written) s
   end : {p : Program} {ws txt reply reply′ : List ℕ} {r : Done} → All Line (pending (p .feed) (p .input))
-      → Ends (p .words) (p .text) ws txt (p .feed) (p .input) out reply reply′ r → Run out p [] (take (r .end) reply′) (state ws txt (r .table))
+      → Ends (p .words) (p .text) ws txt (p .feed) (p .input) out reply reply′ r
+      → Run out p [] (take (r .end) reply′) (state ws txt (r .table))
 
 -- Texts one after another.
 unfoldable pub joined : List Str → Str

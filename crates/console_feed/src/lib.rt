@@ -39,7 +39,8 @@ pub fn step(
     requires { ⌜ IsSound (now words) (now text) (f .table) ⌝ }
     requires { ⌜ room (now flat) (now pane) ≤ length (now reply) ⌝ }
     requires { ⌜ Inside f (now input) ⌝ }
-    ensures { λ r. ⌜ Feeds (old words) (old text) (new words) (new text) f (old input) (new input) (output (old flat) (old pane)) (old reply) (new reply) r ⌝ }
+    ensures { λ r. ⌜ Feeds (old words) (old text) (new words) (new text) f (old input) (new input)
+        (output (old flat) (old pane)) (old reply) (new reply) r ⌝ }
 {
     let t = f.table;
     let from = f.from;
@@ -84,7 +85,8 @@ pub fn last(
     requires { ⌜ IsSound (now words) (now text) (f .table) ⌝ }
     requires { ⌜ room (now flat) (now pane) ≤ length (now reply) ⌝ }
     requires { ⌜ Inside f (now input) ⌝ }
-    ensures { λ r. ⌜ Ends (old words) (old text) (new words) (new text) f (old input) (output (old flat) (old pane)) (old reply) (new reply) r ⌝ }
+    ensures { λ r. ⌜ Ends (old words) (old text) (new words) (new text) f (old input) (output (old flat) (old pane))
+        (old reply) (new reply) r ⌝ }
 {
     let t = f.table;
     let from = f.from;

@@ -26,7 +26,8 @@ same-item : (w : Which) (txt r : List ℕ) → item-shown (item-in w r) ≡ item
 same-item names txt r = refl
 same-item modules txt r = go (eqb (symbol-word r) 0) refl
   where
-    go : (b : Bool) → eqb (symbol-word r) 0 ≡ b → item-shown (item-in modules r) ≡ item-reply modules (item-of modules txt r)
+    go : (b : Bool) → eqb (symbol-word r) 0 ≡ b
+        → item-shown (item-in modules r) ≡ item-reply modules (item-of modules txt r)
     go true e = rw e refl
     go false e = rw e refl
 
@@ -82,26 +83,31 @@ module _ {w : Which} {flat pane reply₀ : List ℕ} {at n : ℕ} where
       }
 
   module _ {reply : List ℕ} {e i : ℕ} (g : Going w flat pane reply₀ reply at e i n) (l : i < n) where
-    pub going-texts : TextsIn pane (row-in w (words-at flat i)) × Allˡ (λ r. TextsIn pane (row-in w r)) (words-from flat (i + 1) (n - (i + 1)))
+    pub going-texts : TextsIn pane (row-in w (words-at flat i))
+        × Allˡ (λ r. TextsIn pane (row-in w r)) (words-from flat (i + 1) (n - (i + 1)))
     going-texts = rw (rows-left flat i n l) at (g .texts)
 
-    going-room : rows-room w (words-from flat i (n - i)) ≡ row-room (row-in w (words-at flat i)) + rows-room w (words-from flat (i + 1) (n - (i + 1)))
+    going-room : rows-room w (words-from flat i (n - i))
+        ≡ row-room (row-in w (words-at flat i)) + rows-room w (words-from flat (i + 1) (n - (i + 1)))
     unfolding rows-room
     going-room = rw (rows-left flat i n l) refl
 
-    going-text : rows-text w pane (words-from flat i (n - i)) ≡ row-text pane (row-in w (words-at flat i)) · rows-text w pane (words-from flat (i + 1) (n - (i + 1)))
+    going-text : rows-text w pane (words-from flat i (n - i))
+        ≡ row-text pane (row-in w (words-at flat i)) · rows-text w pane (words-from flat (i + 1) (n - (i + 1)))
     unfolding rows-text
     going-text = rw (rows-left flat i n l) refl
 
     pub going-space : e + row-room (row-in w (words-at flat i)) ≤ at + rows-room w (words-from flat 0 n)
     going-space = omega (arith, g .space, going-room)
 
-    pub rows-going-on : {reply′ : List ℕ} {e′ : ℕ} → Laid reply reply′ e e′ (row-text pane (row-in w (words-at flat i))) → e′ ≤ e + row-room (row-in w (words-at flat i)) → Going w flat pane reply₀ reply′ at e′ (i + 1) n
+    pub rows-going-on : {reply′ : List ℕ} {e′ : ℕ} → Laid reply reply′ e e′ (row-text pane (row-in w (words-at flat i)))
+        → e′ ≤ e + row-room (row-in w (words-at flat i)) → Going w flat pane reply₀ reply′ at e′ (i + 1) n
     rows-going-on x h = record {
       below = omega arith;
       done = g .done · row-text pane (row-in w (words-at flat i));
       laid = laid-more (g .laid) x;
-      rest = append-assoc (g .done) (row-text pane (row-in w (words-at flat i))) (rows-text w pane (words-from flat (i + 1) (n - (i + 1)))) ∙ ap (λ (s : Str). g .done · s) (sym going-text) ∙ g .rest;
+      rest = append-assoc (g .done) (row-text pane (row-in w (words-at flat i))) (rows-text w pane (words-from flat (i + 1) (n - (i + 1))))
+          ∙ ap (λ (s : Str). g .done · s) (sym going-text) ∙ g .rest;
       texts = going-texts .1;
       space = omega (arith, g .space, going-room);
     }

@@ -34,12 +34,14 @@ pub record Tells (ask : Ask) (flat′ out′ : List ℕ) (r : Completed) (v : C.
   pub shown : RowsShown (asked ask) flat′ out′ r
   pub text-is : shown-text (asked ask) flat′ out′ r ≡ completed-text (asked ask) v
 
-tells-refused : (ask : Ask) (flat′ out′ : List ℕ) (n : ℕ) (r : Completed) → refused-by r ≡ some n → Tells ask flat′ out′ r (C.refused n)
+tells-refused : (ask : Ask) (flat′ out′ : List ℕ) (n : ℕ) (r : Completed) → refused-by r ≡ some n
+    → Tells ask flat′ out′ r (C.refused n)
 tells-refused ask flat′ out′ n (Listed lines entered) e = let z : _≡_ {A = ℕ} 0 1 = cc in absurd (omega arith)
 tells-refused ask flat′ out′ n (Refused x) e = let z : number x ≡ n = cc in record { shown = tt; text-is = ap refused-reply z }
 
 module _ (ask : Ask) (ws txt flat flat′ out out′ : List ℕ) where
-  tells : (r : Completed) (v : C.Completed (Item (asked ask))) → CompletesAs ask ws txt flat flat′ out out′ r v → Tells ask flat′ out′ r v
+  tells : (r : Completed) (v : C.Completed (Item (asked ask))) → CompletesAs ask ws txt flat flat′ out out′ r v
+      → Tells ask flat′ out′ r v
   tells r (C.listed lines entered) (e, w) =
       let rows : List (List ℕ) = words-from flat′ 0 (length lines) in
       let seen : map (line-seen (asked ask) txt out′) rows ≡ lines = written-lines w in
@@ -48,13 +50,26 @@ module _ (ask : Ask) (ws txt flat flat′ out out′ : List ℕ) where
       rw e (record {
         shown = (
           record { whole = omega (arith, w .flat-laid .fits, laid-length (w .flat-laid)); texts = written-texts w },
-          omega (arith, rows-room-is (asked ask) txt out′ rows (written-texts w), count, size, w .flat-laid .fits, w .out-laid .end, w .out-laid .fits, laid-length (w .flat-laid), laid-length (w .out-laid)),
+          omega (
+            arith,
+            rows-room-is (asked ask) txt out′ rows (written-texts w),
+            count,
+            size,
+            w .flat-laid .fits,
+            w .out-laid .end,
+            w .out-laid .fits,
+            laid-length (w .flat-laid),
+            laid-length (w .out-laid),
+          ),
         );
         text-is = ap (λ (t : Str). t · end-reply (length lines) entered) (rows-text-is (asked ask) txt out′ rows ∙ ap (lines-text (asked ask)) seen);
       })
   tells r (C.refused n) (e, w, o) = tells-refused ask flat′ out′ n r e
 
-pub completes-tells : {ws txt flat flat′ out out′ query : List ℕ} {t : Table} {request : Request} {r : Listing} → IsSound ws txt t → Completes ws txt t request query flat flat′ out out′ r
-    → Tells (request .ask) flat′ out′ (r .answer) (completion true (table-in ws txt t) (request .ask) (request .budget) (output flat out) query)
+pub completes-tells : {ws txt flat flat′ out out′ query : List ℕ} {t : Table} {request : Request} {r : Listing}
+    → IsSound ws txt t → Completes ws txt t request query flat flat′ out out′ r
+    → Tells (request .ask) flat′ out′ (r .answer)
+    (completion true (table-in ws txt t) (request .ask) (request .budget) (output flat out) query)
 completes-tells {ws} {txt} {flat} {flat′} {out} {out′} {query} {t} {request} {r} o x =
-    tells (request .ask) ws txt flat flat′ out out′ (r .answer) (completion true (table-in ws txt t) (request .ask) (request .budget) (output flat out) query) (x .says true o)
+    tells (request .ask) ws txt flat flat′ out out′ (r .answer) (completion true (table-in ws txt t) (request .ask) (request .budget) (output flat out) query)
+    (x .says true o)

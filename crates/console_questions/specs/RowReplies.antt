@@ -29,7 +29,8 @@ item-shown (Symbol (M.Namespace name loaded)) = reply.Namespace
 
 -- Its reply, its texts in the pane.
 unfoldable pub row-text : List ℕ → Row → Str
-row-text pane r = line-reply (signed-word (r .matched)) (item-shown (r .item)) (text-of pane (r .annotation)) (text-of pane (r .candidate))
+row-text pane r = line-reply (signed-word (r .matched)) (item-shown (r .item)) (text-of pane (r .annotation))
+    (text-of pane (r .candidate))
 
 -- Room for it.
 abbrev pub row-room : Row → ℕ
@@ -58,7 +59,8 @@ room flat pane = length flat / line-bytes * reply-room + length pane + reply-roo
 
 -- The lines of a completion stand in flat and pane.
 abbrev pub RowsShown : (w : Which) (flat pane : List ℕ) → Completed → Type 0
-RowsShown w flat pane (Listed n entered) = RowsIn w flat pane n × (rows-room w (words-from flat 0 n) + reply-room ≤ room flat pane)
+RowsShown w flat pane (Listed n entered) =
+    RowsIn w flat pane n × (rows-room w (words-from flat 0 n) + reply-room ≤ room flat pane)
 RowsShown w flat pane (Refused x) = Unit {0}
 
 abbrev pub shown-text : (w : Which) (flat pane : List ℕ) → Completed → Str

@@ -140,7 +140,8 @@ fn complete_line(
     requires { ⌜ IsSound (now words) (now text) (start .table) ⌝ }
     requires { ⌜ start .at + room (now flat) (now pane) ≤ length (now reply) ⌝ }
     ensures { λ e. ⌜ Laid (old reply) (new reply) (start .at) e
-        (completed-text (asked ask) (completion true (table-in (old words) (old text) (start .table)) ask 4096 (output (old flat) (old pane))
+        (completed-text (asked ask)
+        (completion true (table-in (old words) (old text) (start .table)) ask 4096 (output (old flat) (old pane))
         (old query))) ⌝ }
 {
     let table = start.table;
@@ -167,7 +168,8 @@ pub fn ask_line(
     requires { ⌜ IsSound (now words) (now text) (start .table) ⌝ }
     requires { ⌜ start .at + room (now flat) (now pane) ≤ length (now reply) ⌝ }
     ensures { λ e. ⌜ Laid (old reply) (new reply) (start .at) e
-        (asked-text (output (old flat) (old pane)) (table-in (old words) (old text) (start .table)) what (old query)) ⌝ }
+        (asked-text (output (old flat) (old pane)) (table-in (old words) (old text) (start .table)) what
+        (old query)) ⌝ }
 {
     match what {
         script::Question::Find => {

@@ -41,8 +41,10 @@ register-grows k s c = go (lowest (registration-rows true k s c))
     go none = (omega arith, omega arith)
     go (some n) = tt
 
-module _ {ws txt ws′ txt′ reply reply′ : List ℕ} {t : Table} {at : ℕ} {r : Registration} {a : Done} (f : Finished reply reply′ at r a) where
-  leaves : IsSound ws txt t → (v : C.Registered) → Grows (state ws txt t) v → AnswersAs v ws txt ws′ txt′ t r → Leaves ws txt ws′ txt′ t reply reply′ at (registration (state ws txt t) v) a
+module _ {ws txt ws′ txt′ reply reply′ : List ℕ} {t : Table} {at : ℕ} {r : Registration} {a : Done}
+    (f : Finished reply reply′ at r a) where
+  leaves : IsSound ws txt t → (v : C.Registered) → Grows (state ws txt t) v → AnswersAs v ws txt ws′ txt′ t r
+      → Leaves ws txt ws′ txt′ t reply reply′ at (registration (state ws txt t) v) a
   unfolding Grows
   leaves sound (C.accepted s) g (e, x) =
       rw (f .table-is) (record {
@@ -51,7 +53,8 @@ module _ {ws txt ws′ txt′ reply reply′ : List ℕ} {t : Table} {at : ℕ} 
         words = x .words;
         texts = x .text;
         grows = (omega (arith, g .0, ap (λ (z : State). z .records-used) (x .reads)), omega (arith, g .1, ap (λ (z : State). z .text-used) (x .reads)));
-        laid = subst (Laid reply reply′ at (a .end)) (text-accepted (r .table .header .records) (r .answer) e ∙ ap (λ (s : State). ok-reply (s .records-used)) (x .reads)) (f .laid);
+        laid = subst (Laid reply reply′ at (a .end))
+            (text-accepted (r .table .header .records) (r .answer) e ∙ ap (λ (s : State). ok-reply (s .records-used)) (x .reads)) (f .laid);
       })
   leaves sound (C.refused n) g (e, x) =
       rw (f .table-is, x .table, x .words, x .text) (record {
@@ -63,11 +66,13 @@ module _ {ws txt ws′ txt′ reply reply′ : List ℕ} {t : Table} {at : ℕ} 
         laid = subst (Laid reply reply′ at (a .end)) (text-refused (r .table .header .records) n (r .answer) e) (f .laid);
       })
 
-  still : (v : C.Registered) → AnswersAs v ws txt ws′ txt′ t r → (n : ℕ) → v ≡ C.refused n → Unchanged ws txt ws′ txt′ t (a .table)
+  still : (v : C.Registered) → AnswersAs v ws txt ws′ txt′ t r → (n : ℕ) → v ≡ C.refused n
+      → Unchanged ws txt ws′ txt′ t (a .table)
   still (C.accepted s) x n e = let z : _≡_ {A = ℕ} 0 1 = cc in absurd (omega arith)
   still (C.refused m) (e, x) n p = rw (f .table-is) x
 
-  pub line-registers : {c : Call} → IsSound ws txt t → Answers true ws txt ws′ txt′ t c r → Registers ws txt ws′ txt′ t c reply reply′ at a
+  pub line-registers : {c : Call} → IsSound ws txt t → Answers true ws txt ws′ txt′ t c r
+      → Registers ws txt ws′ txt′ t c reply reply′ at a
   line-registers {c} s x = record {
     leaves = leaves s (register true (lent ws txt) (state ws txt t) c) (register-grows (lent ws txt) (state ws txt t) c) (x .says);
     still = still (register true (lent ws txt) (state ws txt t) c) (x .says);

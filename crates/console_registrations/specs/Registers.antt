@@ -31,7 +31,8 @@ registration s (C.refused n) = record { text = refused-reply n; after = s }
 
 -- The table has become one that reads as the outcome's and is sound, only the free part that was taken has changed, and the
 -- outcome's reply stands in the reply text from at on.
-pub record Leaves (ws txt ws′ txt′ : List ℕ) (t : Table) (reply reply′ : List ℕ) (at : ℕ) (o : Outcome) (r : Done) : Type 0 where
+pub record Leaves (ws txt ws′ txt′ : List ℕ) (t : Table) (reply reply′ : List ℕ) (at : ℕ) (o : Outcome)
+    (r : Done) : Type 0 where
   pub sound : IsSound ws′ txt′ (r .table)
   pub reads : state ws′ txt′ (r .table) ≡ o .after
   pub words : Outside (t .header .records * record-words) (r .table .header .records * record-words) ws ws′
@@ -40,9 +41,12 @@ pub record Leaves (ws txt ws′ txt′ : List ℕ) (t : Table) (reply reply′ :
   pub laid : Laid reply reply′ at (r .end) (o .text)
 
 -- A registration; a refused one leaves header, words and text as they were.
-pub record Registers (ws txt ws′ txt′ : List ℕ) (t : Table) (c : Call) (reply reply′ : List ℕ) (at : ℕ) (r : Done) : Type 0 where
-  pub leaves : Leaves ws txt ws′ txt′ t reply reply′ at (registration (state ws txt t) (register true (lent ws txt) (state ws txt t) c)) r
-  pub still : (n : ℕ) → register true (lent ws txt) (state ws txt t) c ≡ C.refused n → Unchanged ws txt ws′ txt′ t (r .table)
+pub record Registers (ws txt ws′ txt′ : List ℕ) (t : Table) (c : Call) (reply reply′ : List ℕ) (at : ℕ)
+    (r : Done) : Type 0 where
+  pub leaves : Leaves ws txt ws′ txt′ t reply reply′ at
+      (registration (state ws txt t) (register true (lent ws txt) (state ws txt t) c)) r
+  pub still : (n : ℕ) → register true (lent ws txt) (state ws txt t) c ≡ C.refused n
+      → Unchanged ws txt ws′ txt′ t (r .table)
 
 -- ---- From the answer of the call
 

@@ -45,7 +45,9 @@ module _ {ws txt : List ℕ} {w : Which} {v : Level} {x : ℕ} (t : At ws txt w 
     pub own-tree : At ws txt w (tree v) (own-link (record-at ws x))
     own-tree = at-of t (tree _) (omega arith) (collection-right .own e)
 
-    pub names-reads : what w ws txt x (list v) ≡ Names (what w ws txt (own-link (record-at ws x)) (tree v)) (what w ws txt (rest-link (record-at ws x)) (list v))
+    pub names-reads : what w ws txt x (list v)
+        ≡ Names (what w ws txt (own-link (record-at ws x)) (tree v))
+        (what w ws txt (rest-link (record-at ws x)) (list v))
     names-reads = link-what (t .sound) w (list v) (t .link) p ∙ rw e
 
   module _ (e : sort-word (record-at ws x) ≡ 1) where
@@ -53,7 +55,8 @@ module _ {ws txt : List ℕ} {w : Which} {v : Level} {x : ℕ} (t : At ws txt w 
     imported-list = at-of t (list _) (omega arith) (collection-right .imported e)
 
     pub imported-reads : what w ws txt x (list v)
-        ≡ ImportedNames (span txt (text-start (record-at ws x)) (text-len (record-at ws x))) (what w ws txt (own-link (record-at ws x)) (list v)) (what w ws txt (rest-link (record-at ws x)) (list v))
+        ≡ ImportedNames (span txt (text-start (record-at ws x)) (text-len (record-at ws x)))
+        (what w ws txt (own-link (record-at ws x)) (list v)) (what w ws txt (rest-link (record-at ws x)) (list v))
     imported-reads = link-what (t .sound) w (list v) (t .link) p ∙ rw e
 
     pub imported-lighter : weight-in ws (own-link (record-at ws x)) < weight-in ws x
@@ -102,7 +105,8 @@ module _ {ws : List ℕ} {x : ℕ} (p : 0 < x) where
     rest-reads = rw (imported-reads t p e);
   }
 
-  pub led-names : {a b : ℕ} → (sort-word (record-at ws x) ≡ 1 → ⊥) → a ≡ own-link (record-at ws x) → b ≡ rest-link (record-at ws x) → Led ws x a b
+  pub led-names : {a b : ℕ} → (sort-word (record-at ws x) ≡ 1 → ⊥) → a ≡ own-link (record-at ws x)
+      → b ≡ rest-link (record-at ws x) → Led ws x a b
   unfolding first-tree first-rest
   led-names n ea eb txt w v t =
       let o = collection-right t p in

@@ -16,7 +16,8 @@ use Rattle.memory.proofs.What.{what-none}
 use Rattle.memory.proofs.Seen.{link-later}
 use Rattle.find_tree.specs.Tree.{held, FindsBranch}
 use Rattle.find_list.specs.Names.{AnyList, Holder}
-use Rattle.find_list.proofs.Collections.{any-list, collection-right, sort-tree, rest-list, own-tree, names-reads, imported-list, imported-reads, rest-lighter}
+use Rattle.find_list.proofs.Collections.{any-list, collection-right, sort-tree, rest-list, own-tree, names-reads, imported-list, imported-reads}
+use Rattle.find_list.proofs.Collections.{rest-lighter}
 use Rattle.memory.proofs.At.{no-link}
 
 pub record FindIn (ws txt : List ℕ) (w : Which) (v : Level) (x : ℕ) (key : Str) (link : ℕ) : Type 0 where
@@ -35,7 +36,8 @@ pub record FirstIn (ws txt : List ℕ) (w : Which) (v : Level) (link : ℕ) (key
   pub found : LinkOk ws (link + 1) r (kind w (tree v))
   pub has-key : 0 < r → key-at ws txt r ≡ key
   pub says : names-find-exact (what w ws txt link (list v)) key
-      ≡ or-else (pick (eqb r 0) none (some (held w ws txt v r))) (names-find-exact (what w ws txt (rest-link (record-at ws link)) (list v)) key)
+      ≡ or-else (pick (eqb r 0) none (some (held w ws txt v r)))
+      (names-find-exact (what w ws txt (rest-link (record-at ws link)) (list v)) key)
 
 abbrev pub First : (ws txt : List ℕ) (link : ℕ) (key : Str) (r : ℕ) → Type 0
 First ws txt link key r = (w : Which) (v : Level) → At ws txt w (list v) link → FirstIn ws txt w v link key r
@@ -77,7 +79,8 @@ module _ {ws txt : List ℕ} {x : ℕ} {key : Str} {link : ℕ} (g : Find ws txt
         says = s .finds ∙ h .says ∙ rw (ne-eqb r 0 (λ z. omega arith));
       }
 
-  pub find-on : {r j : ℕ} → 0 < link → First ws txt link key r → r ≤ 0 → j ≡ rest-link (record-at ws link) → Find ws txt x key j
+  pub find-on : {r j : ℕ} → 0 < link → First ws txt link key r → r ≤ 0 → j ≡ rest-link (record-at ws link)
+      → Find ws txt x key j
   unfolding or-else
   find-on {r} {j} p f n q =
       let z : r ≡ 0 = omega arith in

@@ -19,23 +19,27 @@ use Rattle.memory.proofs.At.{at-of}
 use Rattle.memory.specs.Layout.{tree, list}
 
 module _ {A : Type 0} {l : Level} where
-  pub names-find-exact-first : (n : NameList A l) (k : Str) → names-find-exact n k ≡ or-else (btree-find-exact (first-tree n) k) (names-find-exact (first-rest n) k)
+  pub names-find-exact-first : (n : NameList A l) (k : Str)
+      → names-find-exact n k ≡ or-else (btree-find-exact (first-tree n) k) (names-find-exact (first-rest n) k)
   unfolding names-find-exact btree-find-exact or-else first-tree first-rest
   names-find-exact-first []ᴺ k = refl
   names-find-exact-first (Names bt tl) k = refl
   names-find-exact-first (ImportedNames label inner tl) k = refl
 
-  pub names-insert-first : (n : NameList A l) (k : Str) (v : Value A l) → names-insert n k v ≡ Names (btree-insert-replace (first-tree n) k v) (first-rest n)
+  pub names-insert-first : (n : NameList A l) (k : Str) (v : Value A l)
+      → names-insert n k v ≡ Names (btree-insert-replace (first-tree n) k v) (first-rest n)
   unfolding names-insert first-tree first-rest
   names-insert-first []ᴺ k v = refl
   names-insert-first (Names bt tl) k v = refl
   names-insert-first (ImportedNames label inner tl) k v = refl
 
-  pub names-insert-rest-weight : (n : NameList A l) (k : Str) (v : Value A l) → weight (names-insert n k v) ≡ suc (weight (first-rest n))
+  pub names-insert-rest-weight : (n : NameList A l) (k : Str) (v : Value A l)
+      → weight (names-insert n k v) ≡ suc (weight (first-rest n))
   unfolding weight
   names-insert-rest-weight n k v = rw names-insert-first
 
-module _ {ws txt : List ℕ} {x first rest : ℕ} {key : Str} (d : Led ws x first rest) {link : ℕ} (f : FindsBranch ws txt first key link) where
+module _ {ws txt : List ℕ} {x first rest : ℕ} {key : Str} (d : Led ws x first rest) {link : ℕ}
+    (f : FindsBranch ws txt first key link) where
   -- The first tree has the key.
   pub holder-first : 0 < link → Holder ws txt x key link
   unfolding or-else
@@ -61,8 +65,10 @@ module _ {ws txt : List ℕ} {x first rest : ℕ} {key : Str} (d : Led ws x firs
         says = names-find-exact-first _ key ∙ rw (e .first-reads, e .rest-reads, g .says, z, s .says);
       }
 
-pub names-placed : {ws txt : List ℕ} {x first rest : ℕ} {key : Str} {link holder count wt : ℕ} → AnyList ws txt x → Led ws x first rest
-    → Placed ws txt first key link count → Holder ws txt x key holder → wt ≡ weight-in ws rest + 1 → NamesPlaced ws txt x key holder count wt
+pub names-placed : {ws txt : List ℕ} {x first rest : ℕ} {key : Str} {link holder count wt : ℕ} → AnyList ws txt x
+    → Led ws x first rest
+    → Placed ws txt first key link count → Holder ws txt x key holder → wt ≡ weight-in ws rest + 1
+    → NamesPlaced ws txt x key holder count wt
 names-placed {ws} {txt} {x} {first} {rest} {key} a d p h q = record {
   found = h;
   small = omega (arith, p .builds .small, d txt _ _ (a .list) .first-link .earlier);

@@ -27,7 +27,8 @@ abbrev pub label-at : List ℕ → List ℕ → ℕ → Option Str
 label-at ws txt l = pick (eqb l 0) none (some (key-at ws txt l))
 
 -- What an entry shows: the outermost label, the segment with the prefix field q, the value.
-unfoldable pub shown : (w : Which) → List ℕ → List ℕ → (v : Level) → Option Str → Entry → Option Str × (PrefixMatch × Value (Item w) v)
+unfoldable pub shown : (w : Which) → List ℕ → List ℕ → (v : Level) → Option Str → Entry
+    → Option Str × (PrefixMatch × Value (Item w) v)
 shown w ws txt v q e = (label-at ws txt (e .label), row-at w ws txt v q (e .branch))
 
 -- The same of a path element and its value: of the imports the outermost counts.

@@ -25,7 +25,8 @@ module _ (key : ℕ → Str) where
   after-first x l i = rw (past-self (key x)) (after-all (key x) l (i .0))
 
   -- What is left after a key is nothing, or an element and what is left after its key.
-  pub after-next : (k : Str) (l : List ℕ) → Increasing key l → (x : ℕ) (tl : List ℕ) → after key k l ≡ x ∷ tl → tl ≡ after key (key x) l
+  pub after-next : (k : Str) (l : List ℕ) → Increasing key l → (x : ℕ) (tl : List ℕ) → after key k l ≡ x ∷ tl
+      → tl ≡ after key (key x) l
   unfolding keep
   after-next k [] i x tl e = absurd (nil≢cons e)
   after-next k (y ∷ l) i x tl e =
@@ -34,7 +35,8 @@ module _ (key : ℕ → Str) where
       let f : y ∷ after key k l ≡ x ∷ tl = rw z at e in
       let g : y ≡ x = cc in
       let h : after key k l ≡ tl = cc in
-      sym h ∙ after-all k l (Allˡ-map {P = λ u. key y <ˢ key u} {Q = λ u. k <ˢ key u} l (λ u. <ˢ-trans k (key y) (key u) (past-true k (key y) z)) (i .0)) ∙ rw (← g) (sym (after-first y l i)))
+      sym h ∙ after-all k l (Allˡ-map {P = λ u. key y <ˢ key u} {Q = λ u. k <ˢ key u} l (λ u. <ˢ-trans k (key y) (key u) (past-true k (key y) z)) (i .0))
+      ∙ rw (← g) (sym (after-first y l i)))
       (λ z.
       let f : after key k l ≡ x ∷ tl = rw z at e in
       let h : key y <ˢ key x = subst (λ (m : List ℕ). Allˡ (λ u. key y <ˢ key u) m) f (all-after (λ u. key y <ˢ key u) k l (i .0)) .0 in

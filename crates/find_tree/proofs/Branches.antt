@@ -25,7 +25,9 @@ module _ {ws txt : List ℕ} {w : Which} {v : Level} {x : ℕ} (t : At ws txt w 
     pub branch-tree-ordered : Ordered (what w ws txt x (tree v))
     branch-tree-ordered = ordered-at (link-ok (t .sound) (t .link) p) w v (t .link .of-kind (λ e. omega arith))
 
-    pub branch-reads : what w ws txt x (tree v) ≡ StrBranch (key-at ws txt x) (held w ws txt v x) (what w ws txt (left-link (record-at ws x)) (tree v)) (what w ws txt (right-link (record-at ws x)) (tree v))
+    pub branch-reads : what w ws txt x (tree v)
+        ≡ StrBranch (key-at ws txt x) (held w ws txt v x) (what w ws txt (left-link (record-at ws x)) (tree v))
+        (what w ws txt (right-link (record-at ws x)) (tree v))
     unfolding key-at held
     branch-reads = link-what (t .sound) w (tree v) (t .link) p
 

@@ -68,7 +68,8 @@ module _ (key : ℕ → Str) where
   keep-swap b c l = keep-keep b c l ∙ keep-ext (λ k. b k && c k) (λ k. c k && b k) (λ k. and-comm (b k) (c k)) l ∙ sym (keep-keep c b l)
 
   -- What holds of the elements that pass the test holds of those that are kept.
-  pub all-keep : (P : ℕ → Type 0) (b : Str → Bool) (l : List ℕ) → Allˡ (λ y. b (key y) ≡ true → P y) l → Allˡ P (keep key b l)
+  pub all-keep : (P : ℕ → Type 0) (b : Str → Bool) (l : List ℕ) → Allˡ (λ y. b (key y) ≡ true → P y) l
+      → Allˡ P (keep key b l)
   unfolding keep
   all-keep P b [] a = tt
   all-keep P b (x ∷ l) a = by-test (b (key x)) (λ e. rw e (a .0 e, all-keep P b l (a .1))) (λ e. rw e (all-keep P b l (a .1)))

@@ -42,13 +42,19 @@ module _ (ws : List ℕ) where
   unfolding branches branches-among
   branches-some zero p a b = absurd (omega arith)
   branches-some (suc n) p a b =
-      rw (eq-eqb (suc n) (suc n) refl, branches-own n (left-link (record-at ws (suc n))) (omega arith), branches-own n (right-link (record-at ws (suc n))) (omega arith))
+      rw (
+        eq-eqb (suc n) (suc n) refl,
+        branches-own n (left-link (record-at ws (suc n))) (omega arith),
+        branches-own n (right-link (record-at ws (suc n))) (omega arith),
+      )
 
-branch-later : {ws : List ℕ} {w : Which} {v : Level} {l root x : ℕ} → l < root → BranchOf ws w v l x → BranchOf ws w v root x
+branch-later : {ws : List ℕ} {w : Which} {v : Level} {l root x : ℕ} → l < root → BranchOf ws w v l x
+    → BranchOf ws w v root x
 branch-later h o = record { some = o .some; link = link-later (omega arith) (o .link) }
 
 module _ {ws txt : List ℕ} {w : Which} {v : Level} where
-  pub branches-at : {x : ℕ} → At ws txt w (tree v) x → 0 < x → branches ws x ≡ branches ws (left-link (record-at ws x)) ++ (x ∷ branches ws (right-link (record-at ws x)))
+  pub branches-at : {x : ℕ} → At ws txt w (tree v) x → 0 < x
+      → branches ws x ≡ branches ws (left-link (record-at ws x)) ++ (x ∷ branches ws (right-link (record-at ws x)))
   branches-at {x} t p = branches-some ws x p (branch-right t p .left .earlier) (branch-right t p .right .earlier)
 
   pub tree-ordered : {x : ℕ} → At ws txt w (tree v) x → Ordered (what w ws txt x (tree v))
@@ -56,7 +62,8 @@ module _ {ws txt : List ℕ} {w : Which} {v : Level} where
 
   -- What holds of none, and of a branch where it holds of its two sides, holds of every tree.
   module _ (P : ℕ → Type 0) (none : P 0)
-      (step : (x : ℕ) → At ws txt w (tree v) x → 0 < x → P (left-link (record-at ws x)) → P (right-link (record-at ws x)) → P x) where
+      (step : (x : ℕ) → At ws txt w (tree v) x → 0 < x → P (left-link (record-at ws x))
+      → P (right-link (record-at ws x)) → P x) where
     upto : (m x : ℕ) → x ≤ m → At ws txt w (tree v) x → P x
     upto zero x h t = subst P (let z : 0 ≡ x = omega arith in z) none
     upto (suc m) x h t =
@@ -70,11 +77,14 @@ module _ {ws txt : List ℕ} {w : Which} {v : Level} where
     pub by-sides : (x : ℕ) → At ws txt w (tree v) x → P x
     by-sides x = upto x x (omega arith)
 
-  branches-keys : (P : Str → Type 0) (x : ℕ) → At ws txt w (tree v) x → AllKeys P (what w ws txt x (tree v)) → Allˡ (λ y. P (key-at ws txt y)) (branches ws x)
+  branches-keys : (P : Str → Type 0) (x : ℕ) → At ws txt w (tree v) x → AllKeys P (what w ws txt x (tree v))
+      → Allˡ (λ y. P (key-at ws txt y)) (branches ws x)
   branches-keys P =
       by-sides (λ x. AllKeys P (what w ws txt x (tree v)) → Allˡ (λ y. P (key-at ws txt y)) (branches ws x))
       (λ a. rw (branches-none ws) tt)
-      (λ x t p f g a. let b = rw (branch-reads t p) at a in rw (branches-at t p) (allˡ-append (λ y. P (key-at ws txt y)) (branches ws (left-link (record-at ws x))) (x ∷ branches ws (right-link (record-at ws x))) (f (b .1)) (b .0, g (b .2))))
+      (λ x t p f g a. let b = rw (branch-reads t p) at a in
+      rw (branches-at t p) (allˡ-append (λ y. P (key-at ws txt y)) (branches ws (left-link (record-at ws x))) (x ∷ branches ws (right-link (record-at ws x)))
+      (f (b .1)) (b .0, g (b .2))))
 
   pub branches-of : (x : ℕ) → At ws txt w (tree v) x → Allˡ (BranchOf ws w v x) (branches ws x)
   branches-of =
@@ -93,16 +103,19 @@ module _ {ws txt : List ℕ} {w : Which} {v : Level} where
   -- The rows of all branches.
   module _ (q : Option Str) where
     rows-onto : (x : ℕ) → At ws txt w (tree v) x → (acc : List (PrefixMatch × Value (Item w) v))
-        → map (row-at w ws txt v q) (branches ws x) ++ acc ≡ btree-fold (what w ws txt x (tree v)) (λ k y acc. (record { prefix = q; completion = k }, y) ∷ acc) acc
+        → map (row-at w ws txt v q) (branches ws x) ++ acc
+        ≡ btree-fold (what w ws txt x (tree v)) (λ k y acc. (record { prefix = q; completion = k }, y) ∷ acc) acc
     unfolding btree-fold row-at
     rows-onto =
         by-sides
         (λ x. (acc : List (PrefixMatch × Value (Item w) v))
-        → map (row-at w ws txt v q) (branches ws x) ++ acc ≡ btree-fold (what w ws txt x (tree v)) (λ k y acc. (record { prefix = q; completion = k }, y) ∷ acc) acc)
+        → map (row-at w ws txt v q) (branches ws x) ++ acc
+        ≡ btree-fold (what w ws txt x (tree v)) (λ k y acc. (record { prefix = q; completion = k }, y) ∷ acc) acc)
         (λ acc. rw (branches-none ws, what-none w ws txt))
         (λ x t p f g acc. rw (branches-at t p, branch-reads t p, map-append, append-assoc, g acc) (f _))
 
-    pub branches-rows : (x : ℕ) → At ws txt w (tree v) x → map (row-at w ws txt v q) (branches ws x) ≡ btree-find-all q (what w ws txt x (tree v))
+    pub branches-rows : (x : ℕ) → At ws txt w (tree v) x
+        → map (row-at w ws txt v q) (branches ws x) ≡ btree-find-all q (what w ws txt x (tree v))
     unfolding btree-find-all
     branches-rows x t = sym (append-nil _) ∙ rows-onto x t []
 
@@ -114,19 +127,24 @@ module _ {ws txt : List ℕ} {w : Which} {v : Level} {root : ℕ} (t : At ws txt
   pub among-branch : {x : ℕ} → List·Memᴰ x (branches ws root) → BranchOf ws w v root x
   among-branch {x} m = allˡ-at (BranchOf ws w v root) (branches ws root) (branches-of root t) x m
 
-pub among-tree : {ws txt : List ℕ} {root x : ℕ} → AnyTree ws txt root → List·Memᴰ x (branches ws root) → (0 < x) × AnyTree ws txt x
+pub among-tree : {ws txt : List ℕ} {root x : ℕ} → AnyTree ws txt root → List·Memᴰ x (branches ws root)
+    → (0 < x) × AnyTree ws txt x
 among-tree a m = let o = among-branch (a .tree) m in (o .some, branch-tree (a .tree) o)
 
 module _ {ws txt : List ℕ} {x : ℕ} (a : AnyTree ws txt x) (q : 0 < x) where
   -- What holds of all that is before the key holds to its left, what of all that is after it to its right.
-  pub all-before : (P : Str → Type 0) → ((y : Str) → y <ˢ key-at ws txt x → P y) → Allˡ (λ y. P (key-at ws txt y)) (branches ws (left-link (record-at ws x)))
+  pub all-before : (P : Str → Type 0) → ((y : Str) → y <ˢ key-at ws txt x → P y)
+      → Allˡ (λ y. P (key-at ws txt y)) (branches ws (left-link (record-at ws x)))
   all-before P f =
       let left = left-link (record-at ws x) in
       branches-keys P left (left-tree (a .tree) q)
-      (AllKeys-map {P = λ y. y <ˢ key-at ws txt x} {Q = P} (what (a .which) ws txt left (tree (a .level))) f ((rw (branch-reads (a .tree) q) at (branch-tree-ordered (a .tree) q)) .0))
+      (AllKeys-map {P = λ y. y <ˢ key-at ws txt x} {Q = P} (what (a .which) ws txt left (tree (a .level))) f
+      ((rw (branch-reads (a .tree) q) at (branch-tree-ordered (a .tree) q)) .0))
 
-  pub all-beyond : (P : Str → Type 0) → ((y : Str) → key-at ws txt x <ˢ y → P y) → Allˡ (λ y. P (key-at ws txt y)) (branches ws (right-link (record-at ws x)))
+  pub all-beyond : (P : Str → Type 0) → ((y : Str) → key-at ws txt x <ˢ y → P y)
+      → Allˡ (λ y. P (key-at ws txt y)) (branches ws (right-link (record-at ws x)))
   all-beyond P f =
       let right = right-link (record-at ws x) in
       branches-keys P right (right-tree (a .tree) q)
-      (AllKeys-map {P = λ y. key-at ws txt x <ˢ y} {Q = P} (what (a .which) ws txt right (tree (a .level))) f ((rw (branch-reads (a .tree) q) at (branch-tree-ordered (a .tree) q)) .1))
+      (AllKeys-map {P = λ y. key-at ws txt x <ˢ y} {Q = P} (what (a .which) ws txt right (tree (a .level))) f
+      ((rw (branch-reads (a .tree) q) at (branch-tree-ordered (a .tree) q)) .1))

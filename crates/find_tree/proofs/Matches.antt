@@ -51,12 +51,15 @@ module _ (ws txt : List ℕ) (w : Which) (v : Level) (p : Str) where
     right = right-link (record-at ws x)
 
     none-left : ((y : Str) → y <ˢ key → y <ˢ p) → kept left ≡ []
-    none-left h = keep-none (key-at ws txt) (λ k. starts-with k p) (branches ws left) (all-before (any-tree t) q (λ y. starts-with y p ≡ false) (λ y z. before-prefix y p (h y z)))
+    none-left h = keep-none (key-at ws txt) (λ k. starts-with k p) (branches ws left)
+        (all-before (any-tree t) q (λ y. starts-with y p ≡ false) (λ y z. before-prefix y p (h y z)))
 
     none-right : p <ˢ key → starts-with key p ≡ false → kept right ≡ []
-    none-right h i = keep-none (key-at ws txt) (λ k. starts-with k p) (branches ws right) (all-beyond (any-tree t) q (λ y. starts-with y p ≡ false) (λ y z. past-prefix key y p h i z))
+    none-right h i = keep-none (key-at ws txt) (λ k. starts-with k p) (branches ws right)
+        (all-beyond (any-tree t) q (λ y. starts-with y p ≡ false) (λ y z. past-prefix key y p h i z))
 
-    here : (acc : Rows) → rows (kept x) ++ acc ≡ rows (kept left) ++ (rows (keep (key-at ws txt) (λ k. starts-with k p) (x ∷ branches ws right)) ++ acc)
+    here : (acc : Rows) → rows (kept x) ++ acc
+        ≡ rows (kept left) ++ (rows (keep (key-at ws txt) (λ k. starts-with k p) (x ∷ branches ws right)) ++ acc)
     here acc = rw (branches-at t q, keep-append (key-at ws txt) (λ k. starts-with k p) (branches ws left) (x ∷ branches ws right), map-append, append-assoc)
 
     prefix-step : Onto left → Onto right → Onto x
@@ -111,7 +114,8 @@ module _ {ws txt : List ℕ} {w : Which} {v : Level} {root : ℕ} (t : At ws txt
   matches-increasing p = keep-increasing (key-at ws txt) (λ k. starts-with k p) (branches ws root) branches-increasing
 
   -- With no prefix, the rows of btree_find_all.
-  pub all-rows : (q : Option Str) → map (row-at w ws txt v q) (matches ws txt root []) ≡ btree-find-all q (what w ws txt root (tree v))
+  pub all-rows : (q : Option Str)
+      → map (row-at w ws txt v q) (matches ws txt root []) ≡ btree-find-all q (what w ws txt root (tree v))
   unfolding matches starts-with
   all-rows q = rw (keep-all (key-at ws txt) (λ k. true) (branches ws root) (all-true (branches ws root))) (branches-rows q root t)
     where
@@ -120,14 +124,17 @@ module _ {ws txt : List ℕ} {w : Which} {v : Level} {root : ℕ} (t : At ws txt
       all-true (x ∷ l) = (refl, all-true l)
 
   -- The rows of btree_find_prefix.
-  pub prefix-rows : (p : Str) → map (row-at w ws txt v (some p)) (matches ws txt root p) ≡ btree-find-prefix (what w ws txt root (tree v)) p
+  pub prefix-rows : (p : Str)
+      → map (row-at w ws txt v (some p)) (matches ws txt root p) ≡ btree-find-prefix (what w ws txt root (tree v)) p
   unfolding matches btree-find-prefix
   prefix-rows p = sym (append-nil _) ∙ prefix-onto ws txt w v p root t []
 
 -- The matches are all past the prefix.
-pub matches-past : (ws txt : List ℕ) (p : Str) (x : ℕ) → keep (key-at ws txt) (past false p) (matches ws txt x p) ≡ matches ws txt x p
+pub matches-past : (ws txt : List ℕ) (p : Str) (x : ℕ)
+    → keep (key-at ws txt) (past false p) (matches ws txt x p) ≡ matches ws txt x p
 unfolding matches
 matches-past ws txt p x =
     keep-all (key-at ws txt) (past false p) (matches ws txt x p)
-    (Allˡ-map {P = λ y. starts-with (key-at ws txt y) p ≡ true} {Q = λ y. past false p (key-at ws txt y) ≡ true} (matches ws txt x p) (λ y. prefix-past p (key-at ws txt y))
+    (Allˡ-map {P = λ y. starts-with (key-at ws txt y) p ≡ true} {Q = λ y. past false p (key-at ws txt y) ≡ true} (matches ws txt x p)
+    (λ y. prefix-past p (key-at ws txt y))
     (kept-pass (key-at ws txt) (λ k. starts-with k p) (branches ws x)))

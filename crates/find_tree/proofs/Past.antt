@@ -9,7 +9,8 @@ use Rattle.source.proofs.Trees.{before-prefix, past-prefix}
 use Rattle.find_tree.specs.Links.{past-by, past}
 
 -- By cases on how two texts compare.
-pub by-order : {G : Type 0} (s t : Str) → (string-compare s t ≡ Ordering·lt → s <ˢ t → G) → (string-compare s t ≡ Ordering·eq → s ≡ t → G) → (string-compare s t ≡ Ordering·gt → t <ˢ s → G) → G
+pub by-order : {G : Type 0} (s t : Str) → (string-compare s t ≡ Ordering·lt → s <ˢ t → G)
+    → (string-compare s t ≡ Ordering·eq → s ≡ t → G) → (string-compare s t ≡ Ordering·gt → t <ˢ s → G) → G
 by-order {G} s t f g h = go (string-compare s t) refl (compare-strings s t)
   where
     go : (o : Ordering) → string-compare s t ≡ o → View s t o → G
@@ -19,7 +20,8 @@ by-order {G} s t f g h = go (string-compare s t) refl (compare-strings s t)
 
 -- ---- What is past a bound
 
-pub past-is : (strict : Bool) (low k : Str) {o : Ordering} → o ≡ string-compare low k → past-by strict o ≡ past strict low k
+pub past-is : (strict : Bool) (low k : Str) {o : Ordering} → o ≡ string-compare low k
+    → past-by strict o ≡ past strict low k
 unfolding past
 past-is strict low k e = ap (past-by strict) e
 
@@ -61,7 +63,8 @@ unfolding past past-by
 prefix-past p k s = by-order p k (λ o v. rw o) (λ o v. rw o) (λ o v. absurd (false≢true (sym (before-prefix k p v) ∙ s)))
 
 -- A key past a bound that begins with p is past p.
-pub past-of-prefix : (strict : Bool) (low p k : Str) → starts-with low p ≡ true → past strict low k ≡ true → past false p k ≡ true
+pub past-of-prefix : (strict : Bool) (low p k : Str) → starts-with low p ≡ true → past strict low k ≡ true
+    → past false p k ≡ true
 unfolding past past-by
 past-of-prefix strict low p k s e =
     by-order p k

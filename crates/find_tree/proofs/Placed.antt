@@ -23,7 +23,8 @@ compare-eq-same s t e = subst (View s t) (sym e) (compare-strings s t)
 pub record SearchIn (ws txt : List ℕ) (w : Which) (v : Level) (root : ℕ) (key : Str) (link count : ℕ) : Type 0 where
   pub here : At ws txt w (tree v) link
   pub finds : btree-find-exact (what w ws txt root (tree v)) key ≡ btree-find-exact (what w ws txt link (tree v)) key
-  pub builds : insert-branches (what w ws txt root (tree v)) key + 1 ≡ insert-branches (what w ws txt link (tree v)) key + count
+  pub builds : insert-branches (what w ws txt root (tree v)) key + 1
+      ≡ insert-branches (what w ws txt link (tree v)) key + count
 
 -- The search stands at link, and would build count branches if the key were there.
 pub record Search (ws txt : List ℕ) (root : ℕ) (key : Str) (link count : ℕ) : Type 0 where
@@ -54,14 +55,16 @@ module _ {ws txt : List ℕ} {root : ℕ} {key : Str} {link count : ℕ} (g : Se
           record { here = y .0; finds = s .finds ∙ y .1; builds = omega (arith, s .builds, y .2) };
     }
 
-    pub search-left : {j : ℕ} → Ordering·lt ≡ string-compare key (key-at ws txt link) → j ≡ left-link (record-at ws link) → Search ws txt root key j (count + 1)
+    pub search-left : {j : ℕ} → Ordering·lt ≡ string-compare key (key-at ws txt link)
+        → j ≡ left-link (record-at ws link) → Search ws txt root key j (count + 1)
     unfolding btree-find-exact insert-branches
     search-left e q =
         rw q
         (search-on (left-link (record-at ws link)) (sides-earlier (g .any) p .0) (any-left (g .any) p)
         (λ w v t. (left-tree t p, rw (branch-reads t p, ← e), rw (branch-reads t p, insert-branches, ← e) (sym (add-one _)))))
 
-    pub search-right : {j : ℕ} → Ordering·gt ≡ string-compare key (key-at ws txt link) → j ≡ right-link (record-at ws link) → Search ws txt root key j (count + 1)
+    pub search-right : {j : ℕ} → Ordering·gt ≡ string-compare key (key-at ws txt link)
+        → j ≡ right-link (record-at ws link) → Search ws txt root key j (count + 1)
     unfolding btree-find-exact insert-branches
     search-right e q =
         rw q

@@ -16,7 +16,8 @@ unfoldable pub branches-among : List ℕ → ℕ → ℕ → List ℕ
 branches-among ws zero l = []
 branches-among ws (suc n) l =
     cond (eqb l (suc n))
-    (branches-among ws n (left-link (record-at ws (suc n))) ++ (suc n ∷ branches-among ws n (right-link (record-at ws (suc n)))))
+    (branches-among ws n (left-link (record-at ws (suc n)))
+    ++ (suc n ∷ branches-among ws n (right-link (record-at ws (suc n)))))
     (branches-among ws n l)
 
 -- The links of the branches of the tree of link l, in order.

@@ -29,7 +29,8 @@ pub record FindsBranchIn (ws txt : List ℕ) (w : Which) (v : Level) (root : ℕ
 
 -- btree_find_exact, for any table and level that the tree is of.
 abbrev pub FindsBranch : (ws txt : List ℕ) (root : ℕ) (key : Str) (r : ℕ) → Type 0
-FindsBranch ws txt root key r = (w : Which) (v : Level) → At ws txt w (tree v) root → FindsBranchIn ws txt w v root key r
+FindsBranch ws txt root key r = (w : Which) (v : Level) → At ws txt w (tree v) root
+    → FindsBranchIn ws txt w v root key r
 
 -- How many branches btree_insert_replace builds, for any table and level that the tree is of.
 pub record Builds (ws txt : List ℕ) (root : ℕ) (key : Str) (r : ℕ) : Type 0 where

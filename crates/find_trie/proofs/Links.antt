@@ -24,14 +24,17 @@ use Rattle.memory.proofs.Tries.{lists-seen, bindings-at, namespaces-at, namespa
 
 module _ {ws txt : List ℕ} {w : Which} {x : ℕ} (t : At ws txt w trieˢ x) {p : Trie} (q : ReadTrie ws x p) where
   -- What its namespaces hold, as the trie's own.
-  pub scope-up : {y : ℕ} (s : Str) → Reads ws txt w (p .namespaces) y (scope-of (what w ws txt (p .namespaces) (list ns)) s)
+  pub scope-up : {y : ℕ} (s : Str)
+      → Reads ws txt w (p .namespaces) y (scope-of (what w ws txt (p .namespaces) (list ns)) s)
       → Reads ws txt w x y (scope-of (namespaces (what w ws txt x trieˢ)) s)
   scope-up s r = record { link = link-later (omega (arith, lists-seen t q .namespaces .earlier)) (r .link); says = r .says ∙ rw (namespaces-read t q) }
 
-pub any-bindings : {ws txt : List ℕ} {w : Which} {x : ℕ} {p : Trie} → At ws txt w trieˢ x → ReadTrie ws x p → AnyList ws txt (p .bindings)
+pub any-bindings : {ws txt : List ℕ} {w : Which} {x : ℕ} {p : Trie} → At ws txt w trieˢ x → ReadTrie ws x p
+    → AnyList ws txt (p .bindings)
 any-bindings t q = record { which = _; level = bind; list = bindings-at t q }
 
-pub any-namespaces : {ws txt : List ℕ} {w : Which} {x : ℕ} {p : Trie} → At ws txt w trieˢ x → ReadTrie ws x p → AnyList ws txt (p .namespaces)
+pub any-namespaces : {ws txt : List ℕ} {w : Which} {x : ℕ} {p : Trie} → At ws txt w trieˢ x → ReadTrie ws x p
+    → AnyList ws txt (p .namespaces)
 any-namespaces t q = record { which = _; level = ns; list = namespaces-at t q }
 
 module _ {ws txt : List ℕ} {x : ℕ} {s : Str} {r : ℕ} where

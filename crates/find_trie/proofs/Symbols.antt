@@ -25,7 +25,8 @@ held-symbol : (ws txt : List ℕ) (holder : ℕ) {m : ModSymbol} → (holder ≡
 unfolding held
 held-symbol ws txt holder h e = rw (ne-eqb holder 0 h, ← symbol-item txt (record-at ws holder), ← e)
 
-ns-inserts-seen : (name : Str) (seen loaded : Bool) → not seen && loaded ≡ ns-inserts (some (item (S.Namespace name seen))) loaded
+ns-inserts-seen : (name : Str) (seen loaded : Bool)
+    → not seen && loaded ≡ ns-inserts (some (item (S.Namespace name seen))) loaded
 unfolding ns-inserts
 ns-inserts-seen name true loaded = refl
 ns-inserts-seen name false loaded = refl

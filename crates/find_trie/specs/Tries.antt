@@ -24,7 +24,8 @@ Scope ws txt x s r = (w : Which) → At ws txt w (list ns) x → Reads ws txt w 
 
 -- The included trie of a query.
 abbrev pub Included : (ws txt : List ℕ) (root : ℕ) (q : Query) (r : ℕ) → Type 0
-Included ws txt root q r = (w : Which) → At ws txt w trieˢ root → Reads ws txt w root r (included (what w ws txt root trieˢ) q)
+Included ws txt root q r = (w : Which) → At ws txt w trieˢ root
+    → Reads ws txt w root r (included (what w ws txt root trieˢ) q)
 
 -- The link r is that of the branch that trie_find_exact ends at, 0 for none.
 pub record FindsExactIn (ws txt : List ℕ) (w : Which) (root : ℕ) (q : Query) (r : ℕ) : Type 0 where

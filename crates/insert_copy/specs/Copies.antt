@@ -48,8 +48,10 @@ pub record RaiseOk (ws : List ℕ) (n : ℕ) : Type 0 where
   pub room : n * record-words + record-words ≤ length ws
   pub some : 0 < noted-link ws n
   pub fits : noted-link ws n * record-words ≤ length ws
-  pub left : DepthOk ws (kind-word (record-at ws (noted-link ws n))) (trie-link (record-at ws (noted-link ws n))) n (right-link (record-at ws (noted-link ws n)))
-  pub right : DepthOk ws (kind-word (record-at ws (noted-link ws n))) (trie-link (record-at ws (noted-link ws n))) (left-link (record-at ws (noted-link ws n))) n
+  pub left : DepthOk ws (kind-word (record-at ws (noted-link ws n))) (trie-link (record-at ws (noted-link ws n))) n
+      (right-link (record-at ws (noted-link ws n)))
+  pub right : DepthOk ws (kind-word (record-at ws (noted-link ws n))) (trie-link (record-at ws (noted-link ws n)))
+      (left-link (record-at ws (noted-link ws n))) n
 
 -- The new branch r with the sides of the branch that record number n notes.
 unfoldable pub lowest-row : List ℕ → ℕ → List ℕ → List ℕ

@@ -48,7 +48,8 @@ module _ {ws txt : List ℕ} (key : Str) where
       let e = sym (t .link .of-kind (λ z. omega arith)) ∙ t′ .link .of-kind (λ z. omega arith) in
       ap (λ (q : Which × Sort). branches-into key (q .0) (q .1) (what (q .0) ws txt x (q .1))) (kind-one w (tree v) w′ (tree v′) e))
 
-  few-branches : {w : Which} {v : Level} (x : ℕ) → At ws txt w (tree v) x → insert-branches (what w ws txt x (tree v)) key ≤ x + 1
+  few-branches : {w : Which} {v : Level} (x : ℕ) → At ws txt w (tree v) x
+      → insert-branches (what w ws txt x (tree v)) key ≤ x + 1
   unfolding insert-branches
   few-branches {w} {v} =
       by-sides (λ x. insert-branches (what w ws txt x (tree v)) key ≤ x + 1)
@@ -61,20 +62,25 @@ module _ {ws txt : List ℕ} (key : Str) where
       (λ e _. rw (insert-branches, e) (omega arith))
       (λ e _. rw (insert-branches, e) (omega (arith, g, b .right .earlier)))))
 
-  pub builds-of : {w : Which} {v : Level} {x count : ℕ} → At ws txt w (tree v) x → count ≡ insert-branches (what w ws txt x (tree v)) key → Builds ws txt x key count
+  pub builds-of : {w : Which} {v : Level} {x count : ℕ} → At ws txt w (tree v) x
+      → count ≡ insert-branches (what w ws txt x (tree v)) key → Builds ws txt x key count
   builds-of {x = x} t e = record { small = omega (arith, e, few-branches x t); says = λ w′ v′ t′. e ∙ one-count x t t′ }
 
 -- The branches of an insertion, counted before other writes, are those after them. Any value serves: the weight is the same.
-pub insertion-after : {ws ws′ txt : List ℕ} {n n′ used : ℕ} {w : Which} {s : Sort} {y : ℕ} {t : Of (Item w) s} → Made ws ws′ txt n n′ used w s y t
-    → {v : Level} {x count : ℕ} → At ws txt w (list v) x → x ≤ n → (r : List ℕ) → count ≡ insert-branches (first-tree (what w ws txt x (list v))) (span txt (text-start r) (text-len r))
-    → (a : Value (Item w) v) → weight (names-insert (what w ws txt x (list v)) (span txt (text-start r) (text-len r)) a) ≤ 96
+pub insertion-after : {ws ws′ txt : List ℕ} {n n′ used : ℕ} {w : Which} {s : Sort} {y : ℕ} {t : Of (Item w) s}
+    → Made ws ws′ txt n n′ used w s y t
+    → {v : Level} {x count : ℕ} → At ws txt w (list v) x → x ≤ n → (r : List ℕ)
+    → count ≡ insert-branches (first-tree (what w ws txt x (list v))) (span txt (text-start r) (text-len r))
+    → (a : Value (Item w) v)
+    → weight (names-insert (what w ws txt x (list v)) (span txt (text-start r) (text-len r)) a) ≤ 96
     → Room ws′ n′ (count + 1) → NewBranch ws′ txt used (n′ + 1) w r v → NamesInsertion ws′ txt w v n′ used x count r
 insertion-after {ws} {txt = txt} {w = w} m {v} {x} l h r e a g o b = record {
   sound = m .sound;
   link = made-link m {l = x + 1} (omega arith) (record { earlier = omega arith; of-kind = l .link .of-kind });
   new = b;
   counted = e ∙ rw (made-what m w h);
-  light = rw (made-what m w h, names-insert-rest-weight) (omega (arith, g, names-insert-rest-weight (what w ws txt x (list v)) (span txt (text-start r) (text-len r)) a));
+  light = rw (made-what m w h, names-insert-rest-weight)
+      (omega (arith, g, names-insert-rest-weight (what w ws txt x (list v)) (span txt (text-start r) (text-len r)) a));
   room = o;
 }
 
@@ -92,7 +98,8 @@ kind-small names ns = omega arith
 kind-small modules bind = omega arith
 kind-small modules ns = omega arith
 
-module _ {ws txt : List ℕ} {w : Which} {v : Level} {records used x count : ℕ} {r : List ℕ} (i : NamesInsertion ws txt w v records used x count r) where
+module _ {ws txt : List ℕ} {w : Which} {v : Level} {records used x count : ℕ} {r : List ℕ}
+    (i : NamesInsertion ws txt w v records used x count r) where
   pub insertion-list : At ws txt w (list v) x
   insertion-list = record { records = records; used = used; sound = i .sound; link = i .link }
 
@@ -115,10 +122,18 @@ module _ {ws txt : List ℕ} {w : Which} {v : Level} {records used x count : ℕ
 
     rest-light : weight-in ws rest < 96
     rest-light =
-        omega (arith, list-weight (at-of insertion-list (list _) (omega arith) (led .rest-link)), ap weight (led .rest-reads), names-insert-rest-weight (what w ws txt x (list v)) (span txt (text-start r) (text-len r)) (value w txt r (what w ws txt) v), i .light)
+        omega (
+          arith,
+          list-weight (at-of insertion-list (list _) (omega arith) (led .rest-link)),
+          ap weight (led .rest-reads),
+          names-insert-rest-weight (what w ws txt x (list v)) (span txt (text-start r) (text-len r)) (value w txt r (what w ws txt) v),
+          i .light,
+        )
 
     module _ {ws′ : List ℕ} {root : ℕ} (h : Inserted ws ws′ txt w v records used first count r root) where
-      pub made-first : Made ws ws′ txt records (records + count) used w (tree v) root (btree-insert-replace (what w ws txt first (tree v)) (span txt (text-start r) (text-len r)) (value w txt r (what w ws txt) v))
+      pub made-first : Made ws ws′ txt records (records + count) used w (tree v) root
+          (btree-insert-replace (what w ws txt first (tree v)) (span txt (text-start r) (text-len r))
+          (value w txt r (what w ws txt) v))
       made-first = record {
         grows = omega arith;
         sound = h .sound;
@@ -129,13 +144,15 @@ module _ {ws txt : List ℕ} {w : Which} {v : Level} {records used x count : ℕ
       }
 
       -- What put_names asks.
-      pub rest-ready : Room ws′ (records + count) 1 × ((root ≤ records + count) × (rest ≤ records + count) × (weight-in ws′ rest < 96))
+      pub rest-ready : Room ws′ (records + count) 1
+          × ((root ≤ records + count) × (rest ≤ records + count) × (weight-in ws′ rest < 96))
       rest-ready = (
         made-room made-first count refl (i .room),
         (omega (arith, h .last), omega (arith, rest-within), rw (made-stored made-first rest 10 rest-within) rest-light),
       )
 
-      pub names-inserted : {ws″ : List ℕ} {kd link : ℕ} → kd ≡ kind-word r + 2 → MadeNames ws′ ws″ (records + count) kd root rest link
+      pub names-inserted : {ws″ : List ℕ} {kd link : ℕ} → kd ≡ kind-word r + 2
+          → MadeNames ws′ ws″ (records + count) kd root rest link
           → Made ws ws″ txt records (records + count + 1) used w (list v) link (inserted w ws txt v x r)
       names-inserted q m =
           made-as

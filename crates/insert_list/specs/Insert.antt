@@ -14,10 +14,12 @@ use Rattle.insert_record.specs.Made.{Room, Made}
 
 -- names_insert of the key and the value of a new branch r into the list of link x.
 abbrev pub inserted : (w : Which) (ws txt : List ℕ) (v : Level) (x : ℕ) (r : List ℕ) → NameList (Item w) v
-inserted w ws txt v x r = names-insert (what w ws txt x (list v)) (span txt (text-start r) (text-len r)) (value w txt r (what w ws txt) v)
+inserted w ws txt v x r =
+    names-insert (what w ws txt x (list v)) (span txt (text-start r) (text-len r)) (value w txt r (what w ws txt) v)
 
 -- The new branch r goes into the list of link x; count is that of the branches it builds, after which one collection is put.
-pub record NamesInsertion (ws txt : List ℕ) (w : Which) (v : Level) (records used x count : ℕ) (r : List ℕ) : Type 0 where
+pub record NamesInsertion (ws txt : List ℕ) (w : Which) (v : Level) (records used x count : ℕ)
+    (r : List ℕ) : Type 0 where
   pub sound : Used ws txt records used
   pub link : LinkOk ws (records + 1) x (kind w (list v))
   pub new : NewBranch ws txt used (records + 1) w r v

@@ -25,7 +25,8 @@ use Rattle.memory.proofs.At.{rows-before}
 
 module _ {ws txt : List ℕ} {n used : ℕ} {w : Which} where
   -- Nothing made.
-  pub made-none : (s : Sort) {r : ℕ} → Used ws txt n used → LinkOk ws (n + 1) r (kind w s) → Made ws ws txt n n used w s r (what w ws txt r s)
+  pub made-none : (s : Sort) {r : ℕ} → Used ws txt n used → LinkOk ws (n + 1) r (kind w s)
+      → Made ws ws txt n n used w s r (what w ws txt r s)
   made-none s o i = record { grows = omega arith; sound = o; stays = stays-same n ws; beyond = refl; link = i; reads = refl }
 
   module _ {ws′ : List ℕ} {n′ : ℕ} {s : Sort} {r : ℕ} {t : Of (Item w) s} (m : Made ws ws′ txt n n′ used w s r t) where
@@ -78,7 +79,8 @@ made-put {ws} {txt} {n} o m r z w s k a =
     }
 
 module _ {ws : List ℕ} {n : ℕ} (m : Room ws n 1) where
-  pub made-trie : (kd a b : ℕ) → depth-in ws b ≤ 16 → MadeTrie ws (put ws n (trie-row kd (record { bindings = a; namespaces = b; depth = depth-in ws b }))) n kd a b (n + 1)
+  pub made-trie : (kd a b : ℕ) → depth-in ws b ≤ 16
+      → MadeTrie ws (put ws n (trie-row kd (record { bindings = a; namespaces = b; depth = depth-in ws b }))) n kd a b (n + 1)
   made-trie kd a b h txt used w o k i j =
       let r = trie-row kd (record { bindings = a; namespaces = b; depth = depth-in ws b }) in
       let t : TrieOk ws txt used (n + 1) w r = record { bindings = i; namespaces = j } in
@@ -86,15 +88,18 @@ module _ {ws : List ℕ} {n : ℕ} (m : Room ws n 1) where
       made-put o m r refl w trieˢ k (t, d, omega arith)
 
   -- A collection whose weight and depth are by what its links store.
-  made-list : (r : List ℕ) → length r ≡ 12 → weight-word r ≡ weight-of ws r → weight-word r ≤ 96 → depth-word r ≡ depth-of ws r
-      → {txt : List ℕ} {used : ℕ} → Used ws txt n used → (w : Which) (v : Level) → kind-word r ≡ kind w (list v) → CollectionOk ws txt used (n + 1) w r v
+  made-list : (r : List ℕ) → length r ≡ 12 → weight-word r ≡ weight-of ws r → weight-word r ≤ 96
+      → depth-word r ≡ depth-of ws r
+      → {txt : List ℕ} {used : ℕ} → Used ws txt n used → (w : Which) (v : Level) → kind-word r ≡ kind w (list v)
+      → CollectionOk ws txt used (n + 1) w r v
       → Made ws (put ws n r) txt n (n + 1) used w (list v) (n + 1) (row w txt r (what w ws txt) (list v))
   made-list r z e h f {txt} {used} o w v k c = made-put o m r z w (list v) k (right v c)
     where
       weighed : (v : Level) → CollectionOk ws txt used (n + 1) w r v → WeightOk r (row w txt r (what w ws txt) (list v))
       weighed v c = let q = e ∙ weight-row (rows-before o) w c in record { weighs = q; light = omega (arith, q) }
 
-      right : (v : Level) → CollectionOk ws txt used (n + 1) w r v → RecordAs ws txt used (n + 1) w (list v) r (row w txt r (what w ws txt) (list v))
+      right : (v : Level) → CollectionOk ws txt used (n + 1) w r v
+          → RecordAs ws txt used (n + 1) w (list v) r (row w txt r (what w ws txt) (list v))
       right bind c = (c, weighed bind c)
       right ns c = (c, weighed ns c, f ∙ depth-collection (rows-before o) w c)
 
@@ -102,7 +107,8 @@ module _ {ws : List ℕ} {n : ℕ} (m : Room ws n 1) where
   abbrev names-of : (own rest : ℕ) → Collection
   names-of own rest = record { imported = false; label = record { start = 0; len = 0 }; own = own; rest = rest; weight = weight-in ws rest + 1 }
 
-  pub made-names : (kd own rest : ℕ) → weight-in ws rest < 96 → MadeNames ws (put ws n (collection-over ws kd (names-of own rest))) n kd own rest (n + 1)
+  pub made-names : (kd own rest : ℕ) → weight-in ws rest < 96
+      → MadeNames ws (put ws n (collection-over ws kd (names-of own rest))) n kd own rest (n + 1)
   unfolding weight-of depth-of
   made-names kd own rest h txt used w v o k i j =
       made-list (collection-over ws kd (names-of own rest)) refl (omega arith) (omega arith) refl o w v k
@@ -113,7 +119,8 @@ module _ {ws : List ℕ} {n : ℕ} (m : Room ws n 1) where
   import-of label own rest = record { imported = true; label = label; own = own; rest = rest; weight = weight-in ws own + weight-in ws rest + 1 }
 
   pub made-imported : (kd : ℕ) (label : Span) (own rest : ℕ) → weight-in ws own + weight-in ws rest < 96
-      → MadeImported ws (put ws n (collection-over ws kd (import-of label own rest))) n kd (label .start) (label .len) own rest (n + 1)
+      → MadeImported ws (put ws n (collection-over ws kd (import-of label own rest))) n kd (label .start)
+      (label .len) own rest (n + 1)
   unfolding weight-of depth-of
   made-imported kd label own rest h txt used w v o k x i j =
       made-list (collection-over ws kd (import-of label own rest)) refl (omega arith) (omega arith) refl o w v k
@@ -121,11 +128,14 @@ module _ {ws : List ℕ} {n : ℕ} (m : Room ws n 1) where
 
 -- ---- What the writers ask of weights and depths
 module _ {ws txt : List ℕ} {n used : ℕ} (o : Used ws txt n used) (w : Which) where
-  pub imported-light : (v : Level) {own rest : ℕ} (label : Str) → LinkOk ws (n + 1) own (kind w (list v)) → LinkOk ws (n + 1) rest (kind w (list v))
-      → weight (ImportedNames label (what w ws txt own (list v)) (what w ws txt rest (list v))) ≤ 96 → weight-in ws own + weight-in ws rest < 96
+  pub imported-light : (v : Level) {own rest : ℕ} (label : Str) → LinkOk ws (n + 1) own (kind w (list v))
+      → LinkOk ws (n + 1) rest (kind w (list v))
+      → weight (ImportedNames label (what w ws txt own (list v)) (what w ws txt rest (list v))) ≤ 96
+      → weight-in ws own + weight-in ws rest < 96
   unfolding weight
   imported-light v label i j h = omega (arith, stored-weight (rows-before o) w v _ i, stored-weight (rows-before o) w v _ j, h)
 
-  pub made-shallow : {y : ℕ} (t : NameList (Item w) bind) → LinkOk ws (n + 1) y (kind w (list ns)) → depth (trie t (what w ws txt y (list ns))) ≤ 16 → depth-in ws y ≤ 16
+  pub made-shallow : {y : ℕ} (t : NameList (Item w) bind) → LinkOk ws (n + 1) y (kind w (list ns))
+      → depth (trie t (what w ws txt y (list ns))) ≤ 16 → depth-in ws y ≤ 16
   unfolding depth
   made-shallow t i h = omega (arith, stored-list (rows-before o) w _ i, h)

@@ -41,9 +41,11 @@ MadeNames ws ws′ n kd own rest r =
 -- ImportedNames of a label and a list in front of a list, as the record after the first n.
 abbrev pub MadeImported : (ws ws′ : List ℕ) (n kd start len own rest r : ℕ) → Type 0
 MadeImported ws ws′ n kd start len own rest r =
-    (txt : List ℕ) (used : ℕ) (w : Which) (v : Level) → Used ws txt n used → kd ≡ kind w (list v) → TextOk IsLabel txt used start len
+    (txt : List ℕ) (used : ℕ) (w : Which) (v : Level) → Used ws txt n used → kd ≡ kind w (list v)
+    → TextOk IsLabel txt used start len
     → LinkOk ws (n + 1) own (kind w (list v)) → LinkOk ws (n + 1) rest (kind w (list v))
-    → Made ws ws′ txt n (n + 1) used w (list v) r (ImportedNames (span txt start len) (what w ws txt own (list v)) (what w ws txt rest (list v)))
+    → Made ws ws′ txt n (n + 1) used w (list v) r
+    (ImportedNames (span txt start len) (what w ws txt own (list v)) (what w ws txt rest (list v)))
 
 -- The trie of two lists, as the record after the first n.
 abbrev pub MadeTrie : (ws ws′ : List ℕ) (n kd a b r : ℕ) → Type 0

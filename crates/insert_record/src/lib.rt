@@ -55,7 +55,8 @@ pub fn imported(
     list: u32,
 ) -> u32
     requires { ⌜ Room (now words) records 1 ⌝ }
-    requires { ⌜ (inner ≤ records) × (list ≤ records) × (weight-in (now words) inner + weight-in (now words) list < heaviest-list) ⌝ }
+    requires { ⌜ (inner ≤ records) × (list ≤ records)
+        × (weight-in (now words) inner + weight-in (now words) list < heaviest-list) ⌝ }
     ensures { λ r. ⌜ r ≡ records + 1 ⌝ }
     ensures { λ r. ⌜ MadeImported (old words) (new words) records kind (label .start) (label .len) inner list r ⌝ }
 {

@@ -24,7 +24,8 @@ drop-more m n ws ws′ h e =
     let f : n ≡ m + (n - m) = omega arith in
     rw f (sym (drop-drop (n - m) m ws′) ∙ ap (drop (n - m)) e ∙ drop-drop (n - m) m ws)
 
-pub record-past : (m n : ℕ) (ws ws′ : List ℕ) → m ≤ n → drop (m * 12) ws′ ≡ drop (m * 12) ws → record-at ws′ (n + 1) ≡ record-at ws (n + 1)
+pub record-past : (m n : ℕ) (ws ws′ : List ℕ) → m ≤ n → drop (m * 12) ws′ ≡ drop (m * 12) ws
+    → record-at ws′ (n + 1) ≡ record-at ws (n + 1)
 unfolding record-at
 record-past m n ws ws′ h e = ap (take 12) (drop-more (m * 12) ((n + 1 - 1) * 12) ws ws′ (omega arith) e)
 
@@ -32,7 +33,8 @@ pub put-changes : (ws r : List ℕ) (n : ℕ) → n * 12 + 12 ≤ length ws → 
 unfolding put
 put-changes ws r n room twelve = record { stays = put-stays ws r n room twelve; rest = drop-paste ws (n * 12) r 12 (omega arith) (omega arith) }
 
-pub note-put : (ws : List ℕ) (n link side : ℕ) → n * 12 + 12 ≤ length ws → NotePut ws (set (set ws (n * 12) link) (n * 12 + 1) side) n link side
+pub note-put : (ws : List ℕ) (n link side : ℕ) → n * 12 + 12 ≤ length ws
+    → NotePut ws (set (set ws (n * 12) link) (n * 12 + 1) side) n link side
 note-put ws n link side room =
     let e : (n + 1 - 1) * 12 + 0 ≡ n * 12 = omega arith in
     let f : (n + 1 - 1) * 12 + 1 ≡ n * 12 + 1 = omega arith in
@@ -40,14 +42,17 @@ note-put ws n link side room =
     record {
       changed = record {
         stays = record {
-          same = take-set-le (n * 12) one (n * 12 + 1) side (omega arith) ∙ take-set-le (n * 12) ws (n * 12) link (omega arith);
+          same = take-set-le (n * 12) one (n * 12 + 1) side (omega arith)
+              ∙ take-set-le (n * 12) ws (n * 12) link (omega arith);
           size = length-set one (n * 12 + 1) side ∙ length-set ws (n * 12) link;
         };
-        rest = drop-set-lt (n * 12 + 12) one (n * 12 + 1) side (omega arith) ∙ drop-set-lt (n * 12 + 12) ws (n * 12) link (omega arith);
+        rest = drop-set-lt (n * 12 + 12) one (n * 12 + 1) side (omega arith)
+            ∙ drop-set-lt (n * 12 + 12) ws (n * 12) link (omega arith);
       };
       of-link =
           sym (word-at (set one (n * 12 + 1) side) (n + 1) 0 (omega arith))
-          ∙ rw e (getD-set-other one (n * 12 + 1) (n * 12) side 0 (λ q. omega arith) ∙ getD-set-same ws (n * 12) link 0 (omega arith));
+          ∙ rw e (getD-set-other one (n * 12 + 1) (n * 12) side 0 (λ q. omega arith)
+          ∙ getD-set-same ws (n * 12) link 0 (omega arith));
       of-side =
           sym (word-at (set one (n * 12 + 1) side) (n + 1) 1 (omega arith))
           ∙ rw f (getD-set-same one (n * 12 + 1) side 0 (omega (arith, length-set ws (n * 12) link)));
@@ -70,7 +75,8 @@ module _ {n : ℕ} {ws ws′ : List ℕ} (y : Stays n ws ws′) where
   }
 
   -- Only the records up to the link count.
-  pub tree-stays : {txt : List ℕ} {w : Which} {v : Level} {x : ℕ} → x ≤ n → At ws txt w (tree v) x → At ws′ txt w (tree v) x
+  pub tree-stays : {txt : List ℕ} {w : Which} {v : Level} {x : ℕ} → x ≤ n → At ws txt w (tree v) x
+      → At ws′ txt w (tree v) x
   tree-stays {x = x} h t = record {
     records = x;
     used = t .used;
@@ -87,9 +93,15 @@ module _ {n : ℕ} {ws ws′ : List ℕ} (y : Stays n ws ws′) where
     turn-stays {l} t =
         let k = key-stays txt l (t .some) (omega (arith, t .within)) in
         let r = record-stays y l (t .some) (omega (arith, t .within)) in
-        record { some = t .some; within = t .within; left = λ e. rw (k, r) (t .left e); right = λ e. rw (k, r) (t .right e) }
+        record {
+          some = t .some;
+          within = t .within;
+          left = λ e. rw (k, r) (t .left e);
+          right = λ e. rw (k, r) (t .right e);
+        }
 
-    pub trail-stays : {d m link : ℕ} (k : ℕ) → k ≤ m → drop (k * 12) ws′ ≡ drop (k * 12) ws → Trail ws txt key root d m link → Trail ws′ txt key root d m link
+    pub trail-stays : {d m link : ℕ} (k : ℕ) → k ≤ m → drop (k * 12) ws′ ≡ drop (k * 12) ws
+        → Trail ws txt key root d m link → Trail ws′ txt key root d m link
     trail-stays k g e top = top
     trail-stays {m = m} {link = link} k g e (turn {d = d} t r) =
         let q = record-past k m ws ws′ g e in

@@ -34,7 +34,8 @@ use Rattle.memory.proofs.At.{at-in, at-of}
 
 -- ---- Trails
 
-pub trail-link : {ws txt : List ℕ} {key : Str} {w : Which} {v : Level} {root d n link : ℕ} → At ws txt w (tree v) root → Trail ws txt key root d n link → LinkOk ws (root + 1) link (kind w (tree v))
+pub trail-link : {ws txt : List ℕ} {key : Str} {w : Which} {v : Level} {root d n link : ℕ} → At ws txt w (tree v) root
+    → Trail ws txt key root d n link → LinkOk ws (root + 1) link (kind w (tree v))
 trail-link t top = record { earlier = omega arith; of-kind = t .link .of-kind }
 trail-link {ws} {n = n} t (turn x r) =
     let y = branch-right (at-of t (tree _) (omega arith) (trail-link t r)) (x .some) in
@@ -44,7 +45,8 @@ trail-link {ws} {n = n} t (turn x r) =
 
 -- The next branch up.
 trail-up : {ws txt : List ℕ} {key : Str} {root d n link : ℕ} → Trail ws txt key root d n link → 0 < d
-    → SideTaken ws txt key root (noted-link ws n) (noted-side ws n) link × Trail ws txt key root (d - 1) (n + 1) (noted-link ws n)
+    → SideTaken ws txt key root (noted-link ws n) (noted-side ws n) link
+    × Trail ws txt key root (d - 1) (n + 1) (noted-link ws n)
 trail-up top p = absurd (omega arith)
 trail-up (turn {d = d} x r) p = let e : suc d - 1 ≡ d = omega arith in (x, rw e r)
 
@@ -55,7 +57,8 @@ trail-top (turn x r) e = absurd (omega arith)
 -- ---- The new branches before record number n are put
 
 -- What all of them rest on: the memory base before the call, and what is inserted.
-pub record Ready (base ws txt : List ℕ) (w : Which) (v : Level) (used : ℕ) (key : Str) (val : Value (Item w) v) (records root total n : ℕ) : Type 0 where
+pub record Ready (base ws txt : List ℕ) (w : Which) (v : Level) (used : ℕ) (key : Str) (val : Value (Item w) v)
+    (records root total n : ℕ) : Type 0 where
   pub sound : Used ws txt n used
   pub stays : Stays records base ws
   pub rest : drop (total * 12) ws ≡ drop (total * 12) base
@@ -68,7 +71,8 @@ pub record Ready (base ws txt : List ℕ) (w : Which) (v : Level) (used : ℕ) (
   pub fine : Formed IsKey IsLabel (IsItem w) val
 
 -- The last of them, link n, is the insertion into the tree of below, and the notes lead from there up to the root.
-pub record Risen (base ws txt : List ℕ) (w : Which) (v : Level) (used : ℕ) (key : Str) (val : Value (Item w) v) (records root total n : ℕ) : Type 0 where
+pub record Risen (base ws txt : List ℕ) (w : Which) (v : Level) (used : ℕ) (key : Str) (val : Value (Item w) v)
+    (records root total n : ℕ) : Type 0 where
   pub ready : Ready base ws txt w v used key val records root total n
   pub d : ℕ
   pub level : n + d ≡ total
@@ -77,7 +81,8 @@ pub record Risen (base ws txt : List ℕ) (w : Which) (v : Level) (used : ℕ) (
   pub link : LinkOk ws (n + 1) n (kind w (tree v))
   pub reads : what w ws txt n (tree v) ≡ btree-insert-replace (what w base txt below (tree v)) key val
 
-module _ {base ws txt : List ℕ} {w : Which} {v : Level} {used : ℕ} {key : Str} {val : Value (Item w) v} {records root total n : ℕ}
+module _ {base ws txt : List ℕ} {w : Which} {v : Level} {used : ℕ} {key : Str} {val : Value (Item w) v}
+    {records root total n : ℕ}
     (g : Ready base ws txt w v used key val records root total n) where
   root-tree : At ws txt w (tree v) root
   root-tree = at-in (g .sound) w (tree v) (g .root-link)
@@ -89,7 +94,8 @@ module _ {base ws txt : List ℕ} {w : Which} {v : Level} {used : ℕ} {key : St
   module _ (h : n < total) (r : List ℕ) (twelve : length r ≡ 12) (c : NewBranch ws txt used (n + 1) w r v) (a b : ℕ)
       (i : LinkOk ws (n + 1) a (kind w (tree v))) (j : LinkOk ws (n + 1) b (kind w (tree v)))
       (d x : ℕ) (level : n + 1 + d ≡ total) (t : Trail ws txt key root d (n + 1) x)
-      (e : StrBranch (span txt (text-start r) (text-len r)) (value w txt r (what w ws txt) v) (what w ws txt a (tree v)) (what w ws txt b (tree v)) ≡ btree-insert-replace (what w base txt x (tree v)) key val) where
+      (e : StrBranch (span txt (text-start r) (text-len r)) (value w txt r (what w ws txt) v) (what w ws txt a (tree v))
+      (what w ws txt b (tree v)) ≡ btree-insert-replace (what w base txt x (tree v)) key val) where
     abbrev new : List ℕ
     new = with-sides ws r a b
 
@@ -102,12 +108,14 @@ module _ {base ws txt : List ℕ} {w : Which} {v : Level} {used : ℕ} {key : St
     few : n < 65536
     few = omega (arith, g .few)
 
-    ordered : Ordered (StrBranch (span txt (text-start r) (text-len r)) (value w txt r (what w ws txt) v) (what w ws txt a (tree v)) (what w ws txt b (tree v)))
+    ordered : Ordered (StrBranch (span txt (text-start r) (text-len r)) (value w txt r (what w ws txt) v)
+        (what w ws txt a (tree v)) (what w ws txt b (tree v)))
     ordered =
         let x-link = trail-link root-tree t in
         subst (λ (t : Tree (Item w) v). Ordered t) (ap (λ t. btree-insert-replace t key val) (base-of x (omega (arith, x-link .earlier))) ∙ sym e)
         (formed-ordered IsKey IsLabel (IsItem w) (btree-insert-replace (what w ws txt x (tree v)) key val)
-        (btree-insert-replace-formed IsKey IsLabel (IsItem w) (what w ws txt x (tree v)) key val (g .is-key) (g .fine) (link-fine (g .sound) w (tree v) (omega (arith, g .root-link .earlier)) x-link .0)))
+        (btree-insert-replace-formed IsKey IsLabel (IsItem w) (what w ws txt x (tree v)) key val (g .is-key) (g .fine)
+        (link-fine (g .sound) w (tree v) (omega (arith, g .root-link .earlier)) x-link .0)))
 
     changed : Changed ws after n
     changed = put-changes ws new n room (sided-length ws r a b twelve)
@@ -139,7 +147,8 @@ module _ {base ws txt : List ℕ} {w : Which} {v : Level} {used : ℕ} {key : St
 
 -- ---- The next one up
 
-module _ {base ws txt : List ℕ} {w : Which} {v : Level} {used : ℕ} {key : Str} {val : Value (Item w) v} {records root total n : ℕ}
+module _ {base ws txt : List ℕ} {w : Which} {v : Level} {used : ℕ} {key : Str} {val : Value (Item w) v}
+    {records root total n : ℕ}
     (g : Risen base ws txt w v used key val records root total n) (h : n < total) where
   abbrev l : ℕ
   l = noted-link ws n
@@ -184,11 +193,13 @@ module _ {base ws txt : List ℕ} {w : Which} {v : Level} {used : ℕ} {key : St
   raised-right p = rw (ne-eqb (noted-side ws n) 0 (λ z. omega arith))
 
   with-copy : (a b : ℕ) → LinkOk ws (n + 1) a (kind w (tree v)) → LinkOk ws (n + 1) b (kind w (tree v))
-      → StrBranch (key-at ws txt l) (held w ws txt v l) (what w ws txt a (tree v)) (what w ws txt b (tree v)) ≡ btree-insert-replace (what w base txt l (tree v)) key val
+      → StrBranch (key-at ws txt l) (held w ws txt v l) (what w ws txt a (tree v)) (what w ws txt b (tree v))
+      ≡ btree-insert-replace (what w base txt l (tree v)) key val
       → Risen base (put ws n (with-sides ws r a b)) txt w v used key val records root total (n + 1)
   unfolding key-at held
   with-copy a b i j e =
-      put-risen (g .ready) h r (record-length ws l (up .0 .some) (link-fits (g .ready .sound) l-link)) old a b i j (g .d - 1) l (omega (arith, g .level)) (up .1) e
+      put-risen (g .ready) h r (record-length ws l (up .0 .some) (link-fits (g .ready .sound) l-link)) old a b i j (g .d - 1) l (omega (arith, g .level))
+      (up .1) e
 
   below-old : what w base txt (g .below) (tree v) ≡ what w ws txt (g .below) (tree v)
   below-old = sym (base-of (g .ready) (g .below) (omega (arith, trail-link (root-tree (g .ready)) (g .trail) .earlier)))
@@ -197,12 +208,14 @@ module _ {base ws txt : List ℕ} {w : Which} {v : Level} {used : ℕ} {key : St
   l-old = sym (base-of (g .ready) l (up .0 .within))
 
   into-left : Ordering·lt ≡ string-compare key (key-at ws txt l) → g .below ≡ left-link r
-      → StrBranch (key-at ws txt l) (held w ws txt v l) (what w ws txt n (tree v)) (what w ws txt (right-link r) (tree v)) ≡ btree-insert-replace (what w base txt l (tree v)) key val
+      → StrBranch (key-at ws txt l) (held w ws txt v l) (what w ws txt n (tree v))
+      (what w ws txt (right-link r) (tree v)) ≡ btree-insert-replace (what w base txt l (tree v)) key val
   unfolding btree-insert-replace
   into-left c q = rw (g .reads, below-old, l-old, branch-reads l-tree (up .0 .some), btree-insert-replace, ← c, q)
 
   into-right : Ordering·gt ≡ string-compare key (key-at ws txt l) → g .below ≡ right-link r
-      → StrBranch (key-at ws txt l) (held w ws txt v l) (what w ws txt (left-link r) (tree v)) (what w ws txt n (tree v)) ≡ btree-insert-replace (what w base txt l (tree v)) key val
+      → StrBranch (key-at ws txt l) (held w ws txt v l) (what w ws txt (left-link r) (tree v))
+      (what w ws txt n (tree v)) ≡ btree-insert-replace (what w base txt l (tree v)) key val
   unfolding btree-insert-replace
   into-right c q = rw (g .reads, below-old, l-old, branch-reads l-tree (up .0 .some), btree-insert-replace, ← c, q)
 
@@ -214,7 +227,8 @@ module _ {base ws txt : List ℕ} {w : Which} {v : Level} {used : ℕ} {key : St
 
 -- ---- The call
 
-module _ {ws txt : List ℕ} {w : Which} {v : Level} {records used root count : ℕ} {r : List ℕ} (g : Insertion ws txt w v records used root count r) where
+module _ {ws txt : List ℕ} {w : Which} {v : Level} {records used root count : ℕ} {r : List ℕ}
+    (g : Insertion ws txt w v records used root count r) where
   pub insertion-key : text-start r + text-len r ≤ length txt
   insertion-key = omega (arith, g .new .key .inside, g .sound .text-fits)
 
@@ -225,7 +239,8 @@ module _ {ws txt : List ℕ} {w : Which} {v : Level} {records used root count : 
   pub insertion-builds : Builds ws txt root cut count
   insertion-builds = rw (part-span txt (text-start r) (text-len r)) (g .counted)
 
-  pub insertion-marked : {ws′ : List ℕ} → Marked ws ws′ txt cut records root count → Marked ws ws′ txt (span txt (text-start r) (text-len r)) records root count
+  pub insertion-marked : {ws′ : List ℕ} → Marked ws ws′ txt cut records root count
+      → Marked ws ws′ txt (span txt (text-start r) (text-len r)) records root count
   insertion-marked m = rw (part-span txt (text-start r) (text-len r)) at m
 
   pub insertion-tree : AnyTree ws txt root
@@ -233,12 +248,14 @@ module _ {ws txt : List ℕ} {w : Which} {v : Level} {records used root count : 
 
 -- ---- The lowest one
 
-module _ {ws ws′ txt : List ℕ} {w : Which} {v : Level} {records used root count : ℕ} {r : List ℕ} (g : Insertion ws txt w v records used root count r) (twelve : length r ≡ 12)
+module _ {ws ws′ txt : List ℕ} {w : Which} {v : Level} {records used root count : ℕ} {r : List ℕ}
+    (g : Insertion ws txt w v records used root count r) (twelve : length r ≡ 12)
     (m : Marked ws ws′ txt (span txt (text-start r) (text-len r)) records root count) where
   abbrev x : ℕ
   x = noted-link ws′ records
 
-  ready : Ready ws ws′ txt w v used (span txt (text-start r) (text-len r)) (value w txt r (what w ws txt) v) records root (records + count) records
+  ready : Ready ws ws′ txt w v used (span txt (text-start r) (text-len r))
+      (value w txt r (what w ws txt) v) records root (records + count) records
   ready = record {
     sound = sound-stays (m .stays) (omega arith) (omega arith) (g .sound);
     stays = m .stays;
@@ -262,20 +279,23 @@ module _ {ws ws′ txt : List ℕ} {w : Which} {v : Level} {records used root co
   held-stays bind o = o
   held-stays ns o = link-stays (m .stays) (omega arith) (omega arith) o
 
-  value-stays : (v : Level) → HeldOk ws txt used (records + 1) w r v → value w txt r (what w ws′ txt) v ≡ value w txt r (what w ws txt) v
+  value-stays : (v : Level) → HeldOk ws txt used (records + 1) w r v
+      → value w txt r (what w ws′ txt) v ≡ value w txt r (what w ws txt) v
   value-stays bind o = refl
   value-stays ns o = ap (λ f. f trieˢ) (what-stays (m .stays) w txt (trie-link r) (omega (arith, o .earlier)))
 
   new-branch : NewBranch ws′ txt used (records + 1) w r v
   new-branch = record { known = g .new .known; key = g .new .key; holds = held-stays v (g .new .holds) }
 
-  sides : LinkOk ws′ (records + 1) (left-in ws′ x) (kind w (tree v)) × LinkOk ws′ (records + 1) (right-in ws′ x) (kind w (tree v))
+  sides : LinkOk ws′ (records + 1) (left-in ws′ x) (kind w (tree v))
+      × LinkOk ws′ (records + 1) (right-in ws′ x) (kind w (tree v))
   sides =
       zero-some x
       (λ z. rw (z, stored-none ws′ 3, stored-none ws′ 4) (none, none))
       (λ p.
       let o = branch-right x-tree p in
-      rw (stored-some ws′ x 3 p, stored-some ws′ x 4 p) (link-later (omega (arith, x-link .earlier)) (o .left), link-later (omega (arith, x-link .earlier)) (o .right)))
+      rw (stored-some ws′ x 3 p, stored-some ws′ x 4 p)
+      (link-later (omega (arith, x-link .earlier)) (o .left), link-later (omega (arith, x-link .earlier)) (o .right)))
     where
       none : LinkOk ws′ (records + 1) 0 (kind w (tree v))
       none = record { earlier = omega arith; of-kind = λ z. absurd (z refl) }
@@ -288,21 +308,34 @@ module _ {ws ws′ txt : List ℕ} {w : Which} {v : Level} {records used root co
     sides = depth-ok (ready .sound) w r v new-branch (sides .0) (sides .1);
   }
 
-  lowest-reads : StrBranch (span txt (text-start r) (text-len r)) (value w txt r (what w ws′ txt) v) (what w ws′ txt (left-in ws′ x) (tree v)) (what w ws′ txt (right-in ws′ x) (tree v))
-      ≡ btree-insert-replace (what w ws txt x (tree v)) (span txt (text-start r) (text-len r)) (value w txt r (what w ws txt) v)
+  lowest-reads : StrBranch (span txt (text-start r) (text-len r)) (value w txt r (what w ws′ txt) v)
+      (what w ws′ txt (left-in ws′ x) (tree v)) (what w ws′ txt (right-in ws′ x) (tree v))
+      ≡ btree-insert-replace (what w ws txt x (tree v)) (span txt (text-start r) (text-len r))
+      (value w txt r (what w ws txt) v)
   unfolding btree-insert-replace
   lowest-reads =
       zero-some x
       (λ z. rw (value-stays v (g .new .holds), z, stored-none ws′ 3, stored-none ws′ 4, what-none w ws′ txt, what-none w ws txt))
       (λ p.
-      rw (value-stays v (g .new .holds), stored-some ws′ x 3 p, stored-some ws′ x 4 p, ← base-of ready x (omega (arith, trail-link (root-tree ready) (m .trail) .earlier)), branch-reads x-tree p, btree-insert-replace, ← m .here p, ← compare-eq-same (span txt (text-start r) (text-len r)) (key-at ws′ txt x) (m .here p)))
+      rw (
+        value-stays v (g .new .holds),
+        stored-some ws′ x 3 p,
+        stored-some ws′ x 4 p,
+        ← base-of ready x (omega (arith, trail-link (root-tree ready) (m .trail) .earlier)),
+        branch-reads x-tree p,
+        btree-insert-replace,
+        ← m .here p,
+        ← compare-eq-same (span txt (text-start r) (text-len r)) (key-at ws′ txt x) (m .here p),
+      ))
 
   pub lowest-risen : {ws″ low : List ℕ} → low ≡ lowest-row ws′ records r → ws″ ≡ put ws′ records low
-      → Risen ws ws″ txt w v used (span txt (text-start r) (text-len r)) (value w txt r (what w ws txt) v) records root (records + count) (records + 1)
+      → Risen ws ws″ txt w v used (span txt (text-start r) (text-len r)) (value w txt r (what w ws txt) v) records root
+      (records + count) (records + 1)
   unfolding lowest-row
   lowest-risen e q =
       rw (q, e)
-      (put-risen ready (omega (arith, m .some)) r twelve new-branch (left-in ws′ x) (right-in ws′ x) (sides .0) (sides .1) (count - 1) x (omega (arith, m .some)) (m .trail) lowest-reads)
+      (put-risen ready (omega (arith, m .some)) r twelve new-branch (left-in ws′ x) (right-in ws′ x) (sides .0) (sides .1) (count - 1) x
+      (omega (arith, m .some)) (m .trail) lowest-reads)
 
 -- ---- The loop
 
@@ -320,16 +353,20 @@ pub record AnyRisen (ws txt : List ℕ) (records root total n : ℕ) : Type 0 wh
 pub record Rising (ws₀ txt : List ℕ) (records root total : ℕ) (ws : List ℕ) (n : ℕ) : Type 0 where
   pub any : AnyRisen ws txt records root total n
   pub says : (base : List ℕ) (w : Which) (v : Level) (used : ℕ) (key : Str) (val : Value (Item w) v)
-      → Risen base ws₀ txt w v used key val records root total (records + 1) → Risen base ws txt w v used key val records root total n
+      → Risen base ws₀ txt w v used key val records root total (records + 1)
+      → Risen base ws txt w v used key val records root total n
 
-pub rising-none : {base ws txt : List ℕ} {w : Which} {v : Level} {used : ℕ} {key : Str} {val : Value (Item w) v} {records root total : ℕ}
-    → Risen base ws txt w v used key val records root total (records + 1) → Rising ws txt records root total ws (records + 1)
+pub rising-none : {base ws txt : List ℕ} {w : Which} {v : Level} {used : ℕ} {key : Str} {val : Value (Item w) v}
+    {records root total : ℕ}
+    → Risen base ws txt w v used key val records root total (records + 1)
+    → Rising ws txt records root total ws (records + 1)
 rising-none {base} {w = w} {v} {used} {key} {val} g = record {
   any = record { base = base; which = w; level = v; used = used; key = key; val = val; risen = g };
   says = λ base w v used key val g. g;
 }
 
-pub rising-up : {ws₀ txt : List ℕ} {records root total : ℕ} {ws : List ℕ} {n : ℕ} → Rising ws₀ txt records root total ws n → n < total
+pub rising-up : {ws₀ txt : List ℕ} {records root total : ℕ} {ws : List ℕ} {n : ℕ}
+    → Rising ws₀ txt records root total ws n → n < total
     → {ws′ next : List ℕ} → next ≡ raised-row ws n → ws′ ≡ put ws n next → Rising ws₀ txt records root total ws′ (n + 1)
 rising-up g h e q = record {
   any = record {
@@ -346,7 +383,8 @@ rising-up g h e q = record {
 
 -- The last one is the new root.
 pub all-risen : {base ws txt : List ℕ} {w : Which} {v : Level} {used records root count n : ℕ} {r : List ℕ}
-    → Risen base ws txt w v used (span txt (text-start r) (text-len r)) (value w txt r (what w base txt) v) records root (records + count) n → records + count ≤ n
+    → Risen base ws txt w v used (span txt (text-start r) (text-len r)) (value w txt r (what w base txt) v) records root
+    (records + count) n → records + count ≤ n
     → Inserted base ws txt w v records used root count r (records + count)
 all-risen {records = records} {count = count} {n = n} g h =
     let e : records + count ≡ n = omega (arith, g .level) in

@@ -34,13 +34,19 @@ pub record Asked (ws txt : List ℕ) (key : Str) (records root count : ℕ) : Ty
 
 module _ {ws txt : List ℕ} {key : Str} {records root count : ℕ} (a : Asked ws txt key records root count) where
   pub some-count : 0 < count
-  some-count = omega (arith, a .builds .says (a .any .which) (a .any .level) (a .any .tree), some-branches (what (a .any .which) ws txt root (tree (a .any .level))) key)
+  some-count =
+      omega (arith, a .builds .says (a .any .which) (a .any .level) (a .any .tree), some-branches (what (a .any .which) ws txt root (tree (a .any .level))) key)
 
   -- A search that goes on has records left.
   search-room : {link c : ℕ} → Search ws txt root key link c → c ≤ count
   search-room {link} g =
       let s = g .says (a .any .which) (a .any .level) (a .any .tree) in
-      omega (arith, a .builds .says (a .any .which) (a .any .level) (a .any .tree), s .builds, some-branches (what (a .any .which) ws txt link (tree (a .any .level))) key)
+      omega (
+        arith,
+        a .builds .says (a .any .which) (a .any .level) (a .any .tree),
+        s .builds,
+        some-branches (what (a .any .which) ws txt link (tree (a .any .level))) key,
+      )
 
   same-count : {c : ℕ} → Builds ws txt root key c → c ≡ count
   same-count b = b .says (a .any .which) (a .any .level) (a .any .tree) ∙ sym (a .builds .says (a .any .which) (a .any .level) (a .any .tree))
@@ -55,7 +61,8 @@ pub record Marking (ws txt : List ℕ) (key : Str) (records root count : ℕ) (w
   pub search : Search ws txt root key link (d + 1)
   pub trail : Trail ws′ txt key root d (n + 1) link
 
-pub mark-all : {ws txt : List ℕ} {key : Str} {records root count : ℕ} → Asked ws txt key records root count → Marking ws txt key records root count ws (records + count - 1) root
+pub mark-all : {ws txt : List ℕ} {key : Str} {records root count : ℕ} → Asked ws txt key records root count
+    → Marking ws txt key records root count ws (records + count - 1) root
 mark-all {ws} {records = records} a = record {
   asked = a;
   d = 0;
@@ -66,7 +73,8 @@ mark-all {ws} {records = records} a = record {
   trail = top;
 }
 
-module _ {ws txt : List ℕ} {key : Str} {records root count : ℕ} {ws′ : List ℕ} {n link : ℕ} (g : Marking ws txt key records root count ws′ n link) where
+module _ {ws txt : List ℕ} {key : Str} {records root count : ℕ} {ws′ : List ℕ} {n link : ℕ}
+    (g : Marking ws txt key records root count ws′ n link) where
   pub mark-within : link ≤ records
   mark-within = omega (arith, g .search .small, g .asked .within)
 
@@ -94,7 +102,8 @@ module _ {ws txt : List ℕ} {key : Str} {records root count : ℕ} {ws′ : Lis
     trail-more = rw (q .of-link) (trail-stays (q .changed .stays) (omega (arith, mark-above, g .asked .within)) (n + 1) (omega arith) past (g .trail))
 
     -- The way goes on at j.
-    mark-more : (j : ℕ) → 0 < link → Search ws txt root key j (g .d + 1 + 1) → SideTaken ws″ txt key root link side j → Marking ws txt key records root count ws″ (n - 1) j
+    mark-more : (j : ℕ) → 0 < link → Search ws txt root key j (g .d + 1 + 1) → SideTaken ws″ txt key root link side j
+        → Marking ws txt key records root count ws″ (n - 1) j
     mark-more j p s t =
         let e : n - 1 + 1 ≡ n = omega (arith, search-room (g .asked) s, g .level) in
         record {
@@ -108,7 +117,8 @@ module _ {ws txt : List ℕ} {key : Str} {records root count : ℕ} {ws′ : Lis
         }
 
     -- The way ends.
-    pub mark-end : Builds ws txt root key (g .d + 1) → (0 < link → Ordering·eq ≡ string-compare key (key-at ws′ txt link)) → Marked ws ws″ txt key records root count
+    pub mark-end : Builds ws txt root key (g .d + 1)
+        → (0 < link → Ordering·eq ≡ string-compare key (key-at ws′ txt link)) → Marked ws ws″ txt key records root count
     mark-end b h =
         let c : g .d + 1 ≡ count = same-count (g .asked) b in
         let z : n ≡ records = omega (arith, g .level) in
@@ -118,7 +128,8 @@ module _ {ws txt : List ℕ} {key : Str} {records root count : ℕ} {ws′ : Lis
           rest = rest-more;
           some = some-count (g .asked);
           trail = rw (← z, ← f) trail-more;
-          here = rw (← z, q .of-link) (λ p. rw (key-stays (q .changed .stays) txt link p (omega (arith, mark-within))) (h p));
+          here = rw (← z, q .of-link)
+              (λ p. rw (key-stays (q .changed .stays) txt link p (omega (arith, mark-within))) (h p));
         }
 
   module _ (p : 0 < link) where
@@ -137,19 +148,29 @@ module _ {ws txt : List ℕ} {key : Str} {records root count : ℕ} {ws′ : Lis
     module _ {ws″ : List ℕ} {j : ℕ} where
       new-turn : {side : ℕ} → NotePut ws′ ws″ n link side
           → (side ≡ 0 → (Ordering·lt ≡ string-compare key (key-at ws′ txt link)) × (j ≡ left-link (record-at ws′ link)))
-          → ((side ≡ 0 → ⊥) → (Ordering·gt ≡ string-compare key (key-at ws′ txt link)) × (j ≡ right-link (record-at ws′ link))) → SideTaken ws″ txt key root link side j
+          → ((side ≡ 0 → ⊥) → (Ordering·gt ≡ string-compare key (key-at ws′ txt link))
+          × (j ≡ right-link (record-at ws′ link))) → SideTaken ws″ txt key root link side j
       new-turn q f h =
           let k = key-stays (q .changed .stays) txt link p (omega (arith, mark-within, mark-above)) in
           let r = record-stays (q .changed .stays) link p (omega (arith, mark-within, mark-above)) in
-          record { some = p; within = omega (arith, g .search .small); left = λ z. rw (k, r) (f z); right = λ z. rw (k, r) (h z) }
+          record {
+            some = p;
+            within = omega (arith, g .search .small);
+            left = λ z. rw (k, r) (f z);
+            right = λ z. rw (k, r) (h z);
+          }
 
-      pub mark-left : Ordering·lt ≡ string-compare key (key-at ws′ txt link) → j ≡ left-link (record-at ws′ link) → NotePut ws′ ws″ n link 0 → Marking ws txt key records root count ws″ (n - 1) j
+      pub mark-left : Ordering·lt ≡ string-compare key (key-at ws′ txt link) → j ≡ left-link (record-at ws′ link)
+          → NotePut ws′ ws″ n link 0 → Marking ws txt key records root count ws″ (n - 1) j
       mark-left e i q = mark-more q j p (search-left (g .search) p (rw old-key at e) (rw old-record at i)) (new-turn q (λ _. (e, i)) (λ z. absurd (z refl)))
 
-      pub mark-right : Ordering·gt ≡ string-compare key (key-at ws′ txt link) → j ≡ right-link (record-at ws′ link) → NotePut ws′ ws″ n link 1 → Marking ws txt key records root count ws″ (n - 1) j
-      mark-right e i q = mark-more q j p (search-right (g .search) p (rw old-key at e) (rw old-record at i)) (new-turn q (λ z. absurd (omega arith)) (λ _. (e, i)))
+      pub mark-right : Ordering·gt ≡ string-compare key (key-at ws′ txt link) → j ≡ right-link (record-at ws′ link)
+          → NotePut ws′ ws″ n link 1 → Marking ws txt key records root count ws″ (n - 1) j
+      mark-right e i q =
+          mark-more q j p (search-right (g .search) p (rw old-key at e) (rw old-record at i)) (new-turn q (λ z. absurd (omega arith)) (λ _. (e, i)))
 
-    pub mark-here : {ws″ : List ℕ} → Ordering·eq ≡ string-compare key (key-at ws′ txt link) → NotePut ws′ ws″ n link 0 → Marked ws ws″ txt key records root count
+    pub mark-here : {ws″ : List ℕ} → Ordering·eq ≡ string-compare key (key-at ws′ txt link) → NotePut ws′ ws″ n link 0
+        → Marked ws ws″ txt key records root count
     mark-here e q = mark-end q (search-here (g .search) p (rw old-key at e) .builds) (λ _. e)
 
   pub mark-none : {ws″ : List ℕ} → link ≤ 0 → NotePut ws′ ws″ n 0 0 → Marked ws ws″ txt key records root count

@@ -10,7 +10,8 @@ use lib.Seq.{getD-set-same, getD-set-other}
 use Rattle.source.specs.Types.{Level, bind, ns, Tree, StrBranch}
 use Rattle.source.specs.Terms.{depth-tree}
 use Rattle.source.specs.Rules.{IsKey, IsLabel, Ordered, Formed}
-use Rattle.memory.specs.Layout.{record-at, word, span, Which, names, modules, Item, tree, trieˢ, kind, Reading, value, row, what, depth-word, kind-word, left-link, right-link, text-len, text-start, trie-link}
+use Rattle.memory.specs.Layout.{record-at, word, span, Which, names, modules, Item, tree, trieˢ, kind, Reading, value, row, what, depth-word, kind-word}
+use Rattle.memory.specs.Layout.{left-link, right-link, text-len, text-start, trie-link}
 use Rattle.memory.specs.Stored.{depth-of, depth-in}
 use Rattle.memory.specs.Sound.{LinkOk, BranchOk, ItemOk, RecordAs, Used}
 use Rattle.memory.specs.Grown.{put}
@@ -42,7 +43,8 @@ module _ (ws r : List ℕ) (a b : ℕ) (twelve : length r ≡ 12) where
 
   sided-left : left-link s ≡ a
   unfolding with-sides
-  sided-left = getD-set-other (set (set r 3 a) 4 b) 11 3 _ 0 (λ e. omega arith) ∙ getD-set-other (set r 3 a) 4 3 b 0 (λ e. omega arith) ∙ getD-set-same r 3 a 0 (omega arith)
+  sided-left = getD-set-other (set (set r 3 a) 4 b) 11 3 _ 0 (λ e. omega arith) ∙ getD-set-other (set r 3 a) 4 3 b 0 (λ e. omega arith)
+      ∙ getD-set-same r 3 a 0 (omega arith)
 
   sided-right : right-link s ≡ b
   unfolding with-sides
@@ -79,12 +81,14 @@ bind-kind modules = refl
 
 module _ {ws txt : List ℕ} {n used : ℕ} (o : Used ws txt n used) (w : Which) (r : List ℕ) where
   -- What a right branch holds is formed.
-  pub held-fine : (v : Level) → HeldOk ws txt used (n + 1) w r v → Formed IsKey IsLabel (IsItem w) (value w txt r (what w ws txt) v)
+  pub held-fine : (v : Level) → HeldOk ws txt used (n + 1) w r v
+      → Formed IsKey IsLabel (IsItem w) (value w txt r (what w ws txt) v)
   held-fine bind h = item-fine txt used w r h
   held-fine ns h = link-fine o w trieˢ (omega arith) h .0
 
   module _ {a b : ℕ} where
-    pub depth-ok : (v : Level) → NewBranch ws txt used (n + 1) w r v → LinkOk ws (n + 1) a (kind w (tree v)) → LinkOk ws (n + 1) b (kind w (tree v)) → DepthOk ws (kind-word r) (trie-link r) a b
+    pub depth-ok : (v : Level) → NewBranch ws txt used (n + 1) w r v → LinkOk ws (n + 1) a (kind w (tree v))
+        → LinkOk ws (n + 1) b (kind w (tree v)) → DepthOk ws (kind-word r) (trie-link r) a b
     depth-ok bind g i j = record {
       left-fits = link-fits o i;
       right-fits = link-fits o j;
@@ -99,7 +103,8 @@ module _ {ws txt : List ℕ} {n used : ℕ} (o : Used ws txt n used) (w : Which)
     }
 
 -- An old branch as a new one.
-pub old-branch : {ws txt : List ℕ} {n used : ℕ} → Used ws txt n used → (w : Which) (v : Level) {x : ℕ} → LinkOk ws (n + 1) x (kind w (tree v)) → 0 < x
+pub old-branch : {ws txt : List ℕ} {n used : ℕ} → Used ws txt n used → (w : Which) (v : Level) {x : ℕ}
+    → LinkOk ws (n + 1) x (kind w (tree v)) → 0 < x
     → NewBranch ws txt used (n + 1) w (record-at ws x) v
 old-branch {ws} {txt} {n} {used} o w v {x} i p = record { known = k; key = branch-at (link-ok o i p) w v k .key; holds = holds v k }
   where
@@ -112,33 +117,50 @@ old-branch {ws} {txt} {n} {used} o w v {x} i p = record { known = k; key = branc
 
 -- ---- The branch r is put with the sides a and b
 
-module _ {ws txt : List ℕ} {n used : ℕ} (o : Used ws txt n used) (r : List ℕ) (twelve : length r ≡ 12) (w : Which) (a b : ℕ) where
-  deep : kind-word r ≡ kind w (tree ns) → BranchOk ws txt used (n + 1) w (with-sides ws r a b) ns → LinkOk ws (n + 1) (trie-link (with-sides ws r a b)) (kind w trieˢ)
+module _ {ws txt : List ℕ} {n used : ℕ} (o : Used ws txt n used) (r : List ℕ) (twelve : length r ≡ 12) (w : Which)
+    (a b : ℕ) where
+  deep : kind-word r ≡ kind w (tree ns) → BranchOk ws txt used (n + 1) w (with-sides ws r a b) ns
+      → LinkOk ws (n + 1) (trie-link (with-sides ws r a b)) (kind w trieˢ)
       → depth-word (with-sides ws r a b) ≡ depth-tree (row w txt (with-sides ws r a b) (what w ws txt) (tree ns))
   unfolding branch-depth depth-of
   deep k y h =
-      let e : branch-depth ws (kind-word r) (trie-link r) a b ≡ max (suc (depth-in ws (trie-link r))) (max (depth-in ws a) (depth-in ws b)) = rw (k, ns-kind w) in
-      let f : max (suc (depth-in ws (trie-link (with-sides ws r a b)))) (depth-of ws (with-sides ws r a b)) ≡ max (suc (depth-in ws (trie-link r))) (max (depth-in ws a) (depth-in ws b)) =
+      let e : branch-depth ws (kind-word r) (trie-link r) a b ≡ max (suc (depth-in ws (trie-link r))) (max (depth-in ws a) (depth-in ws b)) =
+      rw (k, ns-kind w) in
+      let f : max (suc (depth-in ws (trie-link (with-sides ws r a b)))) (depth-of ws (with-sides ws r a b))
+      ≡ max (suc (depth-in ws (trie-link r))) (max (depth-in ws a) (depth-in ws b)) =
       rw (sided-word ws r a b twelve 5 refl, sided-left ws r a b twelve, sided-right ws r a b twelve)
       in
       sided-depth ws r a b twelve ∙ e ∙ sym f ∙ depth-branch (λ j p h. o .rows j p (omega arith)) w y h
 
-  as-row : (v : Level) → NewBranch ws txt used (n + 1) w r v → BranchOk ws txt used (n + 1) w (with-sides ws r a b) v → Ordered (row w txt (with-sides ws r a b) (what w ws txt) (tree v))
-      → RecordAs ws txt used (n + 1) w (tree v) (with-sides ws r a b) (row w txt (with-sides ws r a b) (what w ws txt) (tree v))
+  as-row : (v : Level) → NewBranch ws txt used (n + 1) w r v → BranchOk ws txt used (n + 1) w (with-sides ws r a b) v
+      → Ordered (row w txt (with-sides ws r a b) (what w ws txt) (tree v))
+      → RecordAs ws txt used (n + 1) w (tree v) (with-sides ws r a b)
+      (row w txt (with-sides ws r a b) (what w ws txt) (tree v))
   as-row bind g y q = (y, q, sided-item ws r a b twelve w txt used (g .holds))
   as-row ns g y q =
       let h : LinkOk ws (n + 1) (trie-link (with-sides ws r a b)) (kind w trieˢ) = rw (sided-word ws r a b twelve 5 refl) (g .holds) in
       (y, q, h, deep (g .known) y h)
 
-module _ {ws txt : List ℕ} {n used : ℕ} (o : Used ws txt n used) (few : n < 65536) (room : n * 12 + 12 ≤ length ws) (r : List ℕ) (twelve : length r ≡ 12)
-    (w : Which) (v : Level) (g : NewBranch ws txt used (n + 1) w r v) (a b : ℕ) (i : LinkOk ws (n + 1) a (kind w (tree v))) (j : LinkOk ws (n + 1) b (kind w (tree v)))
-    (ordered : Ordered (StrBranch (span txt (text-start r) (text-len r)) (value w txt r (what w ws txt) v) (what w ws txt a (tree v)) (what w ws txt b (tree v)))) where
+module _ {ws txt : List ℕ} {n used : ℕ} (o : Used ws txt n used) (few : n < 65536) (room : n * 12 + 12 ≤ length ws)
+    (r : List ℕ) (twelve : length r ≡ 12)
+    (w : Which) (v : Level) (g : NewBranch ws txt used (n + 1) w r v) (a b : ℕ)
+    (i : LinkOk ws (n + 1) a (kind w (tree v))) (j : LinkOk ws (n + 1) b (kind w (tree v)))
+    (ordered : Ordered (StrBranch (span txt (text-start r) (text-len r)) (value w txt r (what w ws txt) v)
+    (what w ws txt a (tree v)) (what w ws txt b (tree v)))) where
   abbrev new : List ℕ
   new = with-sides ws r a b
 
-  row-is : row w txt new (what w ws txt) (tree v) ≡ StrBranch (span txt (text-start r) (text-len r)) (value w txt r (what w ws txt) v) (what w ws txt a (tree v)) (what w ws txt b (tree v))
+  row-is : row w txt new (what w ws txt) (tree v)
+      ≡ StrBranch (span txt (text-start r) (text-len r)) (value w txt r (what w ws txt) v) (what w ws txt a (tree v))
+      (what w ws txt b (tree v))
   row-is =
-      rw (sided-word ws r a b twelve 1 refl, sided-word ws r a b twelve 2 refl, sided-left ws r a b twelve, sided-right ws r a b twelve, sided-value ws r a b twelve w txt (what w ws txt) v)
+      rw (
+        sided-word ws r a b twelve 1 refl,
+        sided-word ws r a b twelve 2 refl,
+        sided-left ws r a b twelve,
+        sided-right ws r a b twelve,
+        sided-value ws r a b twelve w txt (what w ws txt) v,
+      )
 
   branch : BranchOk ws txt used (n + 1) w new v
   branch = record {
@@ -156,7 +178,9 @@ module _ {ws txt : List ℕ} {n used : ℕ} (o : Used ws txt n used) (few : n < 
   pub branch-sound : Used (put ws n new) txt (n + 1) used
   branch-sound = put-used o few room new (sided-length ws r a b twelve) w (tree v) known right
 
-  pub branch-what : what w (put ws n new) txt (n + 1) (tree v) ≡ StrBranch (span txt (text-start r) (text-len r)) (value w txt r (what w ws txt) v) (what w ws txt a (tree v)) (what w ws txt b (tree v))
+  pub branch-what : what w (put ws n new) txt (n + 1) (tree v)
+      ≡ StrBranch (span txt (text-start r) (text-len r)) (value w txt r (what w ws txt) v) (what w ws txt a (tree v))
+      (what w ws txt b (tree v))
   branch-what = put-what o few room new (sided-length ws r a b twelve) w (tree v) known right ∙ row-is
 
   pub branch-link : LinkOk (put ws n new) (n + 1 + 1) (n + 1) (kind w (tree v))

@@ -8,7 +8,8 @@ use Rattle.source.specs.Text.{Str, string-compare}
 use Rattle.source.specs.Types.{Level, bind, ns}
 use Rattle.source.specs.Trees.{btree-insert-replace}
 use Rattle.source.specs.Rules.{IsKey}
-use Rattle.memory.specs.Layout.{record-at, kind-word, text-start, text-len, left-link, right-link, trie-link, span, Which, tree, trieˢ, kind, value, what, key-at}
+use Rattle.memory.specs.Layout.{record-at, kind-word, text-start, text-len, left-link, right-link, trie-link, span, Which, tree, trieˢ, kind, value, what}
+use Rattle.memory.specs.Layout.{key-at}
 use Rattle.memory.specs.Sound.{LinkOk, TextOk, ItemOk, Used}
 use Rattle.memory.specs.Grown.{Stays}
 use Rattle.find_tree.specs.Tree.{Builds}
@@ -50,12 +51,14 @@ pub record SideTaken (ws txt : List ℕ) (key : Str) (root l side link : ℕ) : 
   pub some : 0 < l
   pub within : l ≤ root
   pub left : side ≡ 0 → (Ordering·lt ≡ string-compare key (key-at ws txt l)) × (link ≡ left-link (record-at ws l))
-  pub right : (side ≡ 0 → ⊥) → (Ordering·gt ≡ string-compare key (key-at ws txt l)) × (link ≡ right-link (record-at ws l))
+  pub right : (side ≡ 0 → ⊥)
+      → (Ordering·gt ≡ string-compare key (key-at ws txt l)) × (link ≡ right-link (record-at ws l))
 
 -- The records from number n on note the d branches on the way from link up to root, each with its side.
 pub data Trail (ws txt : List ℕ) (key : Str) (root : ℕ) : (d n link : ℕ) → Type 0 where
   top : {n : ℕ} → Trail ws txt key root zero n root
-  turn : {d n link : ℕ} → SideTaken ws txt key root (noted-link ws n) (noted-side ws n) link → Trail ws txt key root d (n + 1) (noted-link ws n) → Trail ws txt key root (suc d) n link
+  turn : {d n link : ℕ} → SideTaken ws txt key root (noted-link ws n) (noted-side ws n) link
+      → Trail ws txt key root d (n + 1) (noted-link ws n) → Trail ws txt key root (suc d) n link
 
 -- Only record number n changes.
 pub record Changed (ws ws′ : List ℕ) (n : ℕ) : Type 0 where
@@ -79,15 +82,19 @@ pub record Marked (ws ws′ txt : List ℕ) (key : Str) (records root count : �
 -- ---- What an insertion leaves
 
 -- The link root′ of the last new record names the tree with the new branch r; the used records and those after the new ones stay.
-pub record Inserted (ws ws′ txt : List ℕ) (w : Which) (v : Level) (records used root count : ℕ) (r : List ℕ) (root′ : ℕ) : Type 0 where
+pub record Inserted (ws ws′ txt : List ℕ) (w : Which) (v : Level) (records used root count : ℕ) (r : List ℕ)
+    (root′ : ℕ) : Type 0 where
   pub last : root′ ≡ records + count
   pub sound : Used ws′ txt (records + count) used
   pub stays : Stays records ws ws′
   pub rest : drop ((records + count) * record-words) ws′ ≡ drop ((records + count) * record-words) ws
   pub link : LinkOk ws′ (records + count + 1) root′ (kind w (tree v))
-  pub reads : what w ws′ txt root′ (tree v) ≡ btree-insert-replace (what w ws txt root (tree v)) (span txt (text-start r) (text-len r)) (value w txt r (what w ws txt) v)
+  pub reads : what w ws′ txt root′ (tree v)
+      ≡ btree-insert-replace (what w ws txt root (tree v)) (span txt (text-start r) (text-len r))
+      (value w txt r (what w ws txt) v)
 
 -- The same, for any table, level and text used that the insertion is of.
 abbrev pub Inserts : (ws ws′ txt : List ℕ) (records root count : ℕ) (r : List ℕ) (root′ : ℕ) → Type 0
 Inserts ws ws′ txt records root count r root′ =
-    (w : Which) (v : Level) (used : ℕ) → Insertion ws txt w v records used root count r → Inserted ws ws′ txt w v records used root count r root′
+    (w : Which) (v : Level) (used : ℕ) → Insertion ws txt w v records used root count r
+    → Inserted ws ws′ txt w v records used root count r root′

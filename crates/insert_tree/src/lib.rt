@@ -22,7 +22,8 @@ fn put_note(words: &mut [u32], at: u32, link: u32, side: u32)
 fn note_path(words: &mut [u32], text: &[u8], records: u32, root: u32, count: u32, key: &[u8])
     requires { ⌜ AnyTree (now words) (now text) root ⌝ }
     requires { ⌜ Builds (now words) (now text) root (now key) count ⌝ }
-    requires { ⌜ (root ≤ records) × ((records + count) * record-words ≤ length (now words)) × (records + count ≤ most-used) ⌝ }
+    requires { ⌜ (root ≤ records) × ((records + count) * record-words ≤ length (now words))
+        × (records + count ≤ most-used) ⌝ }
     ensures { λ _. ⌜ Marked (old words) (new words) (old text) (old key) records root count ⌝ }
 {
     let mut at = records + count - 1;

@@ -29,7 +29,13 @@ bounded-step n ih (b ∷ s) h e a =
     let f : First (b ∷ s) = first-segment (b ∷ s) i in
     let l : length (drop (suc k) (b ∷ s)) ≡ length (b ∷ s) - suc k = length-drop (suc k) (b ∷ s) in
     let p = or-parts (ltb 31 (length (take k (b ∷ s)))) _ (rw (f .splits) at a) in
-    omega (arith, ih (drop (suc k) (b ∷ s)) (omega arith) (f .ends ∙ e) (p .1), ap length (f .splits), ltb-false 31 (length (take k (b ∷ s))) (p .0), length-take-le k (b ∷ s) (omega arith))
+    omega (
+      arith,
+      ih (drop (suc k) (b ∷ s)) (omega arith) (f .ends ∙ e) (p .1),
+      ap length (f .splits),
+      ltb-false 31 (length (take k (b ∷ s))) (p .0),
+      length-take-le k (b ∷ s) (omega arith),
+    )
 
 bounded : (n : ℕ) (s : Str) → length s ≤ n → Bounded s
 bounded zero s h e a = omega arith

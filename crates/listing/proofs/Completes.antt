@@ -75,7 +75,8 @@ module _ (ws txt : List ℕ) (ask : Ask) (root : ℕ) (query : Str) where
     label-ok = no-label (t .sound);
   }
 
-  pub root-ready : {lim : Limits} → At ws txt (asked ask) trieˢ root → (ends-in-dot query ≡ true) × (length query ≤ 544) → Small lim
+  pub root-ready : {lim : Limits} → At ws txt (asked ask) trieˢ root → (ends-in-dot query ≡ true) × (length query ≤ 544)
+      → Small lim
       → TrieReady ws txt ask query (root-path lim) lim root
   root-ready {lim} t q s = record {
     ready = record { path-ok = root-ok lim t; ends = q .0; short = q .1; small = s };
@@ -96,7 +97,8 @@ module _ (ws txt : List ℕ) (ask : Ask) (root : ℕ) (query : Str) where
 
   module _ {lim : Limits} {a : Tally} {flat flat′ out out′ : List ℕ}
       (r : TrieRuns ws txt ask query (root-path lim) lim unmatched nothing-yet a flat flat′ out out′ root) where
-    run-goes : Goes (asked ask) ws txt lim nothing-yet a flat flat′ out out′ (trie-gives ask (suc (depth tr)) tr [] (segments query))
+    run-goes : Goes (asked ask) ws txt lim nothing-yet a flat flat′ out out′
+        (trie-gives ask (suc (depth tr)) tr [] (segments query))
     run-goes = r .goes [] (suc (depth tr)) (on-root lim) (root-matching (segments query)) (omega arith)
 
     none-shown : Shows lim 0 0 0 nothing-yet
@@ -118,7 +120,8 @@ module _ (ws txt : List ℕ) (ask : Ask) (root : ℕ) (query : Str) where
     out-kept d e = lent-nothing d out′ (run-goes .out-size ∙ e)
 
     -- What it has written.
-    root-writes : Fit lim flat out tries (length listed) (length (output-text listed)) → Written (asked ask) ws txt flat flat′ out out′ 0 0 listed
+    root-writes : Fit lim flat out tries (length listed) (length (output-text listed))
+        → Written (asked ask) ws txt flat flat′ out out′ 0 0 listed
     root-writes f = run-goes .writes 0 0 0 none-shown (record {
       entered-fit = omega (arith, f .entered-fit, tries-entered-count tr (segments query));
       lines-fit = omega (arith, f .lines-fit);
@@ -128,9 +131,11 @@ module _ (ws txt : List ℕ) (ask : Ask) (root : ℕ) (query : Str) where
     })
 
 -- What is written where the output is as it was.
-pub writes-then : (ws txt : List ℕ) (ask : Ask) (root : ℕ) (query : Str) {lim : Limits} {a : Tally} {flat flat₁ flat′ out out₁ out′ : List ℕ} → flat₁ ≡ flat → out₁ ≡ out
+pub writes-then : (ws txt : List ℕ) (ask : Ask) (root : ℕ) (query : Str) {lim : Limits} {a : Tally}
+    {flat flat₁ flat′ out out₁ out′ : List ℕ} → flat₁ ≡ flat → out₁ ≡ out
     → TrieRuns ws txt ask query (root-path lim) lim unmatched nothing-yet a flat₁ flat′ out₁ out′ root
-    → Fit lim flat out (tries ws txt ask root query) (length (listed ws txt ask root query)) (length (output-text (listed ws txt ask root query)))
+    → Fit lim flat out (tries ws txt ask root query) (length (listed ws txt ask root query))
+    (length (output-text (listed ws txt ask root query)))
     → Written (asked ask) ws txt flat flat′ out out′ 0 0 (listed ws txt ask root query)
 writes-then ws txt ask root query f o r = root-writes ws txt ask root query (rw (f, o) at r)
 
@@ -142,7 +147,12 @@ pub record Set (lim : Limits) (budget : ℕ) (flat out : List ℕ) : Type 0 wher
   pub bytes-are : lim .bytes ≡ min (length out) 4294967295
 
 pub set-small : {lim : Limits} {budget : ℕ} {flat out : List ℕ} → Set lim budget flat out → Small lim
-set-small s = record { budget-small = omega (arith, s .budget-is, s .budget-fits); lines-small = omega (arith, s .lines-are); bytes-small = omega (arith, s .bytes-are) }
+set-small s =
+    record {
+      budget-small = omega (arith, s .budget-is, s .budget-fits);
+      lines-small = omega (arith, s .lines-are);
+      bytes-small = omega (arith, s .bytes-are);
+    }
 
 -- What a tally says of the totals.
 module _ {lim : Limits} {e l b : ℕ} {a : Tally} (s : Shows lim e l b a) where
@@ -172,7 +182,8 @@ module _ {lim : Limits} {e l b : ℕ} {a : Tally} (s : Shows lim e l b a) where
       out-lent = omega (arith, set .bytes-are);
     }
 
-affordable : {lim : Limits} {budget : ℕ} {flat out : List ℕ} {e l b : ℕ} {a : Tally} → Set lim budget flat out → Shows lim e l b a → a .entered ≤ lim .budget → ltb budget e ≡ false
+affordable : {lim : Limits} {budget : ℕ} {flat out : List ℕ} {e l b : ℕ} {a : Tally} → Set lim budget flat out
+    → Shows lim e l b a → a .entered ≤ lim .budget → ltb budget e ≡ false
 affordable {budget = budget} {e = e} set s h = le-ltb budget e (omega (arith, within s h, set .budget-is))
 
 -- Rows 9 and 10.
@@ -180,37 +191,55 @@ abbrev output-rows : {A : Type 0} → (budget : ℕ) → Output → List (Line A
 output-rows budget out lines entered =
     (9 when ltb budget entered) ∷ (10 when ltb (out .lines) (length lines) || ltb (out .text) (length (output-text lines))) ∷ []
 
-module _ (ws txt : List ℕ) (request : Request) (root : ℕ) (query : Str) (flat flat′ out out′ : List ℕ) (r : Completed) where
+module _ (ws txt : List ℕ) (request : Request) (root : ℕ) (query : Str) (flat flat′ out out′ : List ℕ)
+    (r : Completed) where
   -- What rows 9 and 10 say.
   abbrev ByRows : Type 0
   ByRows = CompletesAs (request .ask) ws txt flat flat′ out out′ r
       (elim (lowest (output-rows (request .budget) (output flat out) (listed ws txt (request .ask) root query) (tries ws txt (request .ask) root query)))
       [ none ↦ C.listed (listed ws txt (request .ask) root query) (tries ws txt (request .ask) root query) | some n ↦ C.refused n ])
 
-  by-rows : lowest (argument-rows true (a-completion query ∷ [])) ≡ none → ByRows → CompletesOn ws txt request root query flat flat′ out out′ r
+  by-rows : lowest (argument-rows true (a-completion query ∷ [])) ≡ none → ByRows
+      → CompletesOn ws txt request root query flat flat′ out out′ r
   unfolding completed completion-rows
   by-rows e c = record { says = rw (completed, completion-rows, lowest-past (argument-rows true (a-completion query ∷ [])) _ e) c }
 
-module _ {ws txt : List ℕ} {request : Request} {root : ℕ} {query : Str} (e : lowest (argument-rows true (a-completion query ∷ [])) ≡ none) {flat flat′ out out′ : List ℕ} {lim : Limits} {a : Tally}
+module _ {ws txt : List ℕ} {request : Request} {root : ℕ} {query : Str}
+    (e : lowest (argument-rows true (a-completion query ∷ [])) ≡ none) {flat flat′ out out′ : List ℕ} {lim : Limits}
+    {a : Tally}
     (set : Set lim (request .budget) flat out)
-    (s : Shows lim (tries ws txt (request .ask) root query) (length (listed ws txt (request .ask) root query)) (length (output-text (listed ws txt (request .ask) root query))) a) where
-  pub completes-spent : lim .budget < a .entered → flat′ ≡ flat → out′ ≡ out → CompletesOn ws txt request root query flat flat′ out out′ (Refused Spent)
+    (s : Shows lim (tries ws txt (request .ask) root query) (length (listed ws txt (request .ask) root query))
+    (length (output-text (listed ws txt (request .ask) root query))) a) where
+  pub completes-spent : lim .budget < a .entered → flat′ ≡ flat → out′ ≡ out
+      → CompletesOn ws txt request root query flat flat′ out out′ (Refused Spent)
   unfolding lowest
-  completes-spent h f o = by-rows ws txt request root query flat flat′ out out′ _ e (rw (lt-ltb (request .budget) (tries ws txt (request .ask) root query) (omega (arith, passed s h, set .budget-is))) (refl, f, o))
+  completes-spent h f o = by-rows ws txt request root query flat flat′ out out′ _ e
+      (rw (lt-ltb (request .budget) (tries ws txt (request .ask) root query) (omega (arith, passed s h, set .budget-is))) (refl, f, o))
 
   module _ (h : a .entered ≤ lim .budget) where
     -- Lines or bytes past what is lent.
-    pub completes-past : Past lim (a .lines) (a .bytes) → flat′ ≡ flat → out′ ≡ out → CompletesOn ws txt request root query flat flat′ out out′ (Refused Lines)
+    pub completes-past : Past lim (a .lines) (a .bytes) → flat′ ≡ flat → out′ ≡ out
+        → CompletesOn ws txt request root query flat flat′ out out′ (Refused Lines)
     unfolding lowest
     completes-past p f o = by-rows ws txt request root query flat flat′ out out′ _ e (go (tells-past lim a p (s .counted (within s h))))
       where
-        go : Past lim (length (listed ws txt (request .ask) root query)) (length (output-text (listed ws txt (request .ask) root query))) → ByRows ws txt request root query flat flat′ out out′ (Refused Lines)
-        go (inl k) = rw (affordable set s h, lt-ltb (min (length flat / line-bytes) 4294967295) (length (listed ws txt (request .ask) root query)) (omega (arith, set .lines-are))) (refl, f, o)
+        go : Past lim (length (listed ws txt (request .ask) root query))
+            (length (output-text (listed ws txt (request .ask) root query)))
+            → ByRows ws txt request root query flat flat′ out out′ (Refused Lines)
+        go (inl k) = rw (
+          affordable set s h,
+          lt-ltb (min (length flat / line-bytes) 4294967295) (length (listed ws txt (request .ask) root query)) (omega (arith, set .lines-are)),
+        ) (refl, f, o)
         go (inr k) =
-            rw (affordable set s h, lt-ltb (min (length out) 4294967295) (length (output-text (listed ws txt (request .ask) root query))) (omega (arith, set .bytes-are)), or-true (ltb (output flat out .lines) (length (listed ws txt (request .ask) root query))))
+            rw (
+              affordable set s h,
+              lt-ltb (min (length out) 4294967295) (length (output-text (listed ws txt (request .ask) root query))) (omega (arith, set .bytes-are)),
+              or-true (ltb (output flat out .lines) (length (listed ws txt (request .ask) root query))),
+            )
             (refl, f, o)
 
-    pub completes-listed : a .lines ≤ lim .lines → a .bytes ≤ lim .bytes → Written (asked (request .ask)) ws txt flat flat′ out out′ 0 0 (listed ws txt (request .ask) root query)
+    pub completes-listed : a .lines ≤ lim .lines → a .bytes ≤ lim .bytes
+        → Written (asked (request .ask)) ws txt flat flat′ out out′ 0 0 (listed ws txt (request .ask) root query)
         → CompletesOn ws txt request root query flat flat′ out out′ (Listed (a .lines) (a .entered))
     unfolding lowest
     completes-listed l b w =

@@ -35,14 +35,18 @@ refused-by (Listed lines entered) = none
 refused-by (Refused r) = some (number r)
 
 -- Listed: so many lines, so many tries entered, and the lines are written from the start of what is lent. Refused: nothing has changed.
-abbrev pub CompletesAs : (ask : Ask) (ws txt flat flat′ out out′ : List ℕ) (r : Completed) → C.Completed (Item (asked ask)) → Type 0
-CompletesAs ask ws txt flat flat′ out out′ r (C.listed lines entered) = (r ≡ Listed (length lines) entered) × Written (asked ask) ws txt flat flat′ out out′ 0 0 lines
+abbrev pub CompletesAs : (ask : Ask) (ws txt flat flat′ out out′ : List ℕ) (r : Completed)
+    → C.Completed (Item (asked ask)) → Type 0
+CompletesAs ask ws txt flat flat′ out out′ r (C.listed lines entered) =
+    (r ≡ Listed (length lines) entered) × Written (asked ask) ws txt flat flat′ out out′ 0 0 lines
 CompletesAs ask ws txt flat flat′ out out′ r (C.refused n) = (refused-by r ≡ some n) × (flat′ ≡ flat) × (out′ ≡ out)
 
 -- A completion on a root of a sound memory.
-pub record CompletesOn (ws txt : List ℕ) (request : Request) (root : ℕ) (query : Str) (flat flat′ out out′ : List ℕ) (r : Completed) : Type 0 where
+pub record CompletesOn (ws txt : List ℕ) (request : Request) (root : ℕ) (query : Str) (flat flat′ out out′ : List ℕ)
+    (r : Completed) : Type 0 where
   pub says :
       let ask : Ask = request .ask in
       let tr : Trie (Item (asked ask)) = what (asked ask) ws txt root trieˢ in
       CompletesAs ask ws txt flat flat′ out out′ r
-      (completed true (request .budget) (output flat out) query (lines-of ask tr (segments query)) (tries-entered tr (segments query)))
+      (completed true (request .budget) (output flat out) query (lines-of ask tr (segments query))
+      (tries-entered tr (segments query)))

@@ -20,17 +20,20 @@ use Rattle.listing_annotation.specs.Annotations.{symbol-at, by-symbol, a
 use Rattle.listing_annotation.specs.declared.Labelled.{Labelled}
 use Rattle.listing_annotation.proofs.NoteAt.{note-short}
 
-pub module-at : (ws txt : List ℕ) (branch : ℕ) {x : Read} {name path : Span} {loaded : Bool} → x ≡ symbol-in (record-at ws branch) → x ≡ ReadModule name path loaded
+pub module-at : (ws txt : List ℕ) (branch : ℕ) {x : Read} {name path : Span} {loaded : Bool}
+    → x ≡ symbol-in (record-at ws branch) → x ≡ ReadModule name path loaded
     → symbol-at ws txt branch ≡ Module (text-of txt name) (text-of txt path) loaded
 module-at ws txt branch e f = sym (symbol-item txt (record-at ws branch)) ∙ ap (symbol-of txt) (sym e ∙ f)
 
-pub namespace-at : (ws txt : List ℕ) (branch : ℕ) {x : Read} {name : Span} {loaded : Bool} → x ≡ symbol-in (record-at ws branch) → x ≡ ReadNamespace name loaded
+pub namespace-at : (ws txt : List ℕ) (branch : ℕ) {x : Read} {name : Span} {loaded : Bool}
+    → x ≡ symbol-in (record-at ws branch) → x ≡ ReadNamespace name loaded
     → symbol-at ws txt branch ≡ Namespace (text-of txt name) loaded
 namespace-at ws txt branch e f = sym (symbol-item txt (record-at ws branch)) ∙ ap (symbol-of txt) (sym e ∙ f)
 
 -- With the source's four annotations of symbols.
 abbrev with-four : {A : Type 0} → (Str → Str → Str → Str → A) → A
-with-four f = f (mod-annotation (Module [] [] true)) (mod-annotation (Module [] [] false)) (mod-annotation (Namespace [] true)) (mod-annotation (Namespace [] false))
+with-four f =
+    f (mod-annotation (Module [] [] true)) (mod-annotation (Module [] [] false)) (mod-annotation (Namespace [] true)) (mod-annotation (Namespace [] false))
 
 abbrev pub noted : Ask → (ws txt : List ℕ) → Labelled → Str
 noted ask ws txt f = with-four (annotation ask ws txt f)
@@ -50,6 +53,7 @@ symbol-short (Namespace name true) = omega arith
 symbol-short (Namespace name false) = omega arith
 
 -- It is short.
-pub noted-short : (ask : Ask) (ws txt : List ℕ) (f : Labelled) → (0 < f .label → TextAt ws txt (f .label)) → length (noted ask ws txt f) ≤ 543
+pub noted-short : (ask : Ask) (ws txt : List ℕ) (f : Labelled) → (0 < f .label → TextAt ws txt (f .label))
+    → length (noted ask ws txt f) ≤ 543
 noted-short (Names g) ws txt f t = note-short ws txt (f .label) t
 noted-short (Modules g) ws txt f t = let m = symbol-at ws txt (f .link) in rw (noted-symbol m) (symbol-short m)

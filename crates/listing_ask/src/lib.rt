@@ -29,7 +29,8 @@ pub struct Request {
 
 // Whether the filter keeps a symbol: a module where `m`, else a namespace, loaded or not.
 pub fn keeps(f: Filter, m: bool, loaded: bool) -> bool
-    ensures { λ r. ⌜ ((name path : Str) → r ≡ C.keeps (filter-in f) (pick m (Module name path loaded) (Namespace name loaded))) ⌝ }
+    ensures { λ r. ⌜
+        ((name path : Str) → r ≡ C.keeps (filter-in f) (pick m (Module name path loaded) (Namespace name loaded))) ⌝ }
 {
     match f {
         Filter::All => true,

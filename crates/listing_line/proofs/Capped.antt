@@ -51,9 +51,11 @@ module _ (lim : Limits) where
     tells-past p (inr q) = q .0
 
   -- n lines and m bytes more.
-  module _ (n m : ℕ) (t t′ : Tally) (more-lines : (x : ℕ) → Capped (lim .lines) x (t .lines) → Capped (lim .lines) (x + n) (t′ .lines))
+  module _ (n m : ℕ) (t t′ : Tally)
+      (more-lines : (x : ℕ) → Capped (lim .lines) x (t .lines) → Capped (lim .lines) (x + n) (t′ .lines))
       (more-bytes : (x : ℕ) → Capped (lim .bytes) x (t .bytes) → Capped (lim .bytes) (x + m) (t′ .bytes)) where
-    both : (l b : ℕ) → Capped (lim .lines) (l + n) (t′ .lines) → Capped (lim .bytes) (b + m) (t′ .bytes) → Tells (l + n) (b + m) t′
+    both : (l b : ℕ) → Capped (lim .lines) (l + n) (t′ .lines) → Capped (lim .bytes) (b + m) (t′ .bytes)
+        → Tells (l + n) (b + m) t′
     both l b (inl e) (inl f) = inl (e, f)
     both l b (inr p) f = inr (inl (p .0), inl (p .1))
     both l b (inl e) (inr p) = inr (inr (p .0), inr (p .1))
@@ -66,7 +68,8 @@ module _ (lim : Limits) where
     tells-more l b (inl p) = both l b (more-lines l (inl (p .0))) (more-bytes b (inl (p .1)))
     tells-more l b (inr p) = inr (past-more n m (p .0), still (p .1))
 
-pub room-says : (at n limit lent : ℕ) → n ≤ limit - at → at ≤ limit → at ≤ lent → Says (leb n (lent - at)) ((at + n ≤ limit) × (at + n ≤ lent))
+pub room-says : (at n limit lent : ℕ) → n ≤ limit - at → at ≤ limit → at ≤ lent
+    → Says (leb n (lent - at)) ((at + n ≤ limit) × (at + n ≤ lent))
 room-says at n limit lent h k l = go (leb n (lent - at)) refl
   where
     go : (t : Bool) → leb n (lent - at) ≡ t → Says t ((at + n ≤ limit) × (at + n ≤ lent))

@@ -26,7 +26,8 @@ module _ {w : Which} {ws txt : List ℕ} {lim : Limits} where
 
   -- One part, then the next.
   pub goes-then : {a m t : Tally} {flat flat₁ flat₂ out out₁ out₂ : List ℕ} {r s : Result (Item w)}
-      → Goes w ws txt lim a m flat flat₁ out out₁ r → Goes w ws txt lim m t flat₁ flat₂ out₁ out₂ s → Goes w ws txt lim a t flat flat₂ out out₂ (r ⊕ s)
+      → Goes w ws txt lim a m flat flat₁ out out₁ r → Goes w ws txt lim m t flat₁ flat₂ out₁ out₂ s
+      → Goes w ws txt lim a t flat flat₂ out out₂ (r ⊕ s)
   unfolding _⊕_
   goes-then {a} {m} {t} {flat} {flat₁} {flat₂} {out} {out₁} {out₂} {r} {s} x y = record {
     flat-size = y .flat-size ∙ x .flat-size;
@@ -56,11 +57,13 @@ module _ {w : Which} {ws txt : List ℕ} {lim : Limits} where
       count : (l : ℕ) → l + length (r .lines ++ s .lines) ≡ l + length (r .lines) + length (s .lines)
       count l = omega (arith, length-append (r .lines) (s .lines))
 
-      bytes : (b : ℕ) → b + length (output-text (r .lines ++ s .lines)) ≡ b + length (output-text (r .lines)) + length (output-text (s .lines))
+      bytes : (b : ℕ) → b + length (output-text (r .lines ++ s .lines))
+          ≡ b + length (output-text (r .lines)) + length (output-text (s .lines))
       bytes b = omega (arith, ap length (output-text-append (r .lines) (s .lines)), length-append (output-text (r .lines)) (output-text (s .lines)))
 
   -- Past the budget nothing more is said.
-  pub goes-spent : {a : Tally} (flat out : List ℕ) (r : Result (Item w)) → lim .budget < a .entered → Goes w ws txt lim a a flat flat out out r
+  pub goes-spent : {a : Tally} (flat out : List ℕ) (r : Result (Item w)) → lim .budget < a .entered
+      → Goes w ws txt lim a a flat flat out out r
   goes-spent {a} flat out r p = record {
     flat-size = refl;
     out-size = refl;
@@ -75,7 +78,8 @@ module _ {w : Which} {ws txt : List ℕ} {lim : Limits} where
   }
 
   -- Past the lines or bytes, lines need no more counting.
-  pub goes-past : {a : Tally} (flat out : List ℕ) (r : Result (Item w)) → r .entered ≡ 0 → Past lim (a .lines) (a .bytes) → Goes w ws txt lim a a flat flat out out r
+  pub goes-past : {a : Tally} (flat out : List ℕ) (r : Result (Item w)) → r .entered ≡ 0
+      → Past lim (a .lines) (a .bytes) → Goes w ws txt lim a a flat flat out out r
   goes-past {a} flat out r z p = record {
     flat-size = refl;
     out-size = refl;
@@ -85,5 +89,6 @@ module _ {w : Which} {ws txt : List ℕ} {lim : Limits} where
       counted = λ h. inr (past-more lim (length (r .lines)) (length (output-text (r .lines))) (tells-past lim a p (s .counted (omega arith))), p);
     };
     writes = λ e l b s f.
-        not-past lim (f .lines-fit) (f .bytes-fit) (past-more lim (length (r .lines)) (length (output-text (r .lines))) (tells-past lim a p (s .counted (omega (arith, f .entered-fit)))));
+        not-past lim (f .lines-fit) (f .bytes-fit)
+        (past-more lim (length (r .lines)) (length (output-text (r .lines))) (tells-past lim a p (s .counted (omega (arith, f .entered-fit)))));
   }

@@ -25,8 +25,10 @@ pub record Counted (j : Job) (size : ℕ) (t : Tally) : Type 0 where
   pub lines-more : (x : ℕ) → Capped (j .lim .lines) x (j .tally .lines) → Capped (j .lim .lines) (x + 1) (t .lines)
   pub bytes-more : (x : ℕ) → Capped (j .lim .bytes) x (j .tally .bytes) → Capped (j .lim .bytes) (x + size) (t .bytes)
 
-pub counts-kept : {j : Job} {size n l b : ℕ} → n ≡ size → ((x : ℕ) → Capped (j .lim .lines) x (j .tally .lines) → Capped (j .lim .lines) (x + 1) l)
-    → ((x : ℕ) → Capped (j .lim .bytes) x (j .tally .bytes) → Capped (j .lim .bytes) (x + n) b) → Counted j size (record { entered = j .tally .entered; lines = l; bytes = b })
+pub counts-kept : {j : Job} {size n l b : ℕ} → n ≡ size
+    → ((x : ℕ) → Capped (j .lim .lines) x (j .tally .lines) → Capped (j .lim .lines) (x + 1) l)
+    → ((x : ℕ) → Capped (j .lim .bytes) x (j .tally .bytes) → Capped (j .lim .bytes) (x + n) b)
+    → Counted j size (record { entered = j .tally .entered; lines = l; bytes = b })
 counts-kept e f g = record { entered-same = refl; lines-more = f; bytes-more = rw e at g }
 
 -- What is tested before it is written.
@@ -40,7 +42,8 @@ module _ {ws txt : List ℕ} {j : Job} (ok : JobOk ws txt j) where
   module _ {note : Str} {t : Tally} (c : Counted j (size-of ws j note) t) where
     goes-line : {flat flat′ out out′ : List ℕ} → length flat′ ≡ length flat → length out′ ≡ length out
         → ((w : Which) (l : Line (Item w)) → Spells ws txt w (j .path) (j .branch) (j .matched) note l
-        → (e : ℕ) → Fit (j .lim) flat out e (j .tally .lines + 1) (j .tally .bytes + size-of ws j note) → Written w ws txt flat flat′ out out′ (j .tally .lines) (j .tally .bytes) (l ∷ []))
+        → (e : ℕ) → Fit (j .lim) flat out e (j .tally .lines + 1) (j .tally .bytes + size-of ws j note)
+        → Written w ws txt flat flat′ out out′ (j .tally .lines) (j .tally .bytes) (l ∷ []))
         → PutLine ws txt j note t flat flat′ out out′
     goes-line f o put w l s =
         let size = line-size ok s in
@@ -50,10 +53,12 @@ module _ {ws txt : List ℕ} {j : Job} (ok : JobOk ws txt j) where
           shows = λ e i b h. record {
             spent = λ k. omega (arith, c .entered-same, h .spent (omega arith));
             entered-is = λ k. omega (arith, c .entered-same, h .entered-is (omega arith));
-            counts-kept = λ k. rw size (tells-more (j .lim) 1 (size-of ws j note) (j .tally) t (c .lines-more) (c .bytes-more) i b (h .counted (omega arith)));
+            counts-kept = λ k. rw size (tells-more (j .lim) 1 (size-of ws j note) (j .tally) t (c .lines-more)
+                (c .bytes-more) i b (h .counted (omega arith)));
           };
           writes = λ e i b h k.
-              let is = tells-is (j .lim) (j .tally) (omega (arith, k .lines-fit)) (omega (arith, k .bytes-fit)) (h .counted (omega (arith, k .entered-fit))) in
+              let is = tells-is (j .lim) (j .tally) (omega (arith, k .lines-fit)) (omega (arith, k .bytes-fit))
+              (h .counted (omega (arith, k .entered-fit))) in
               let el = is .0 in
               let eb = is .1 in
               rw (← el, ← eb) (put w l s e (record {
@@ -66,25 +71,44 @@ module _ {ws txt : List ℕ} {j : Job} (ok : JobOk ws txt j) where
         }
 
     -- It is written where it fits.
-    pub line-counted : {flat flat′ out out′ : List ℕ} → TriedLine ws txt j note flat flat′ out out′ → PutLine ws txt j note t flat flat′ out out′
+    pub line-counted : {flat flat′ out out′ : List ℕ} → TriedLine ws txt j note flat flat′ out out′
+        → PutLine ws txt j note t flat flat′ out out′
     line-counted p = goes-line (p .flat-size) (p .out-size) (λ w l s e f. written-line ok s (p .put e f))
 
   module _ {note : Str} where
-    pub tried-put : {flat flat′ out out′ : List ℕ} → LinePut ws txt j note flat flat′ out out′ → TriedLine ws txt j note flat flat′ out out′
+    pub tried-put : {flat flat′ out out′ : List ℕ} → LinePut ws txt j note flat flat′ out out′
+        → TriedLine ws txt j note flat flat′ out out′
     tried-put p = record { flat-size = laid-length (p .flat-laid); out-size = laid-length (p .out-laid); put = λ e f. p }
 
     -- The test of room for the row, or for the texts, says-refuses it: nothing is written.
-    pub no-row : {flat out : List ℕ} (b : Bool) → Says b (RowFits j flat) → not b ≡ true → TriedLine ws txt j note flat flat out out
-    no-row b says e = record { flat-size = refl; out-size = refl; put = λ i f. absurd (says-refuses b says e (f .lines-fit, omega (arith, f .lines-fit, f .flat-lent))) }
+    pub no-row : {flat out : List ℕ} (b : Bool) → Says b (RowFits j flat) → not b ≡ true
+        → TriedLine ws txt j note flat flat out out
+    no-row b says e =
+        record {
+          flat-size = refl;
+          out-size = refl;
+          put = λ i f. absurd (says-refuses b says e (f .lines-fit, omega (arith, f .lines-fit, f .flat-lent)));
+        }
 
-    pub no-text : {flat out : List ℕ} {n : ℕ} (b : Bool) → n ≡ size-of ws j note → Says b (TextFits j n out) → not b ≡ true → TriedLine ws txt j note flat flat out out
+    pub no-text : {flat out : List ℕ} {n : ℕ} (b : Bool) → n ≡ size-of ws j note → Says b (TextFits j n out)
+        → not b ≡ true → TriedLine ws txt j note flat flat out out
     no-text b z says e =
-        record { flat-size = refl; out-size = refl; put = λ i f. absurd (says-refuses b says e (omega (arith, f .bytes-fit), omega (arith, f .bytes-fit, f .out-lent))) }
+        record {
+          flat-size = refl;
+          out-size = refl;
+          put = λ i f. absurd
+              (says-refuses b says e (omega (arith, f .bytes-fit), omega (arith, f .bytes-fit, f .out-lent)));
+        }
 
   -- Both let it pass.
-  pub both-fit : {note flat out : List ℕ} {n : ℕ} (a b : Bool) → n ≡ size-of ws j note → Says a (RowFits j flat) → not a ≡ false → Says b (TextFits j n out) → not b ≡ false
+  pub both-fit : {note flat out : List ℕ} {n : ℕ} (a b : Bool) → n ≡ size-of ws j note → Says a (RowFits j flat)
+      → not a ≡ false → Says b (TextFits j n out) → not b ≡ false
       → LineFits ws j note flat out
   both-fit {flat = flat} {out} {n} a b z says e tells f =
       let l : RowFits j flat = says-passes a says e in
       let k : TextFits j n out = says-passes b tells f in
-      record { flat-room = omega (arith, l .1); out-room = omega (arith, k .1); small = omega (arith, k .0, ok .small .bytes-small) }
+      record {
+        flat-room = omega (arith, l .1);
+        out-room = omega (arith, k .1);
+        small = omega (arith, k .0, ok .small .bytes-small);
+      }

@@ -37,12 +37,14 @@ use Rattle.listing_line.proofs.Run.{same-run}
 use Rattle.listing_annotation.proofs.Noted.{noted, noted-symbol}
 
 -- What a found element of bindings and its path say of its line.
-record Element (ws txt : List ℕ) (w : Which) (p : Path) (branch label : ℕ) (path : PathOf) (x : PathElem × Value (Item w) bind) : Type 0 where
+record Element (ws txt : List ℕ) (w : Which) (p : Path) (branch label : ℕ) (path : PathOf)
+    (x : PathElem × Value (Item w) bind) : Type 0 where
   pub candidate : string-of-path (reverse (x .0 ∷ path)) ≡ candidate-of ws txt p branch
   pub import : first-import-of-path (reverse (x .0 ∷ path)) ≡ label-at ws txt (outermost p label)
   pub item : the-item (x .1) ≡ item-of w txt (record-at ws branch)
 
-element : {ws txt : List ℕ} {p : Path} {path : PathOf} (w : Which) (branch label : ℕ) (x : PathElem × Value (Item w) bind) (q : Option Str) → OnPath ws txt p path
+element : {ws txt : List ℕ} {p : Path} {path : PathOf} (w : Which) (branch label : ℕ)
+    (x : PathElem × Value (Item w) bind) (q : Option Str) → OnPath ws txt p path
     → outer x ≡ shown w ws txt bind q (record { branch = branch; label = label }) → Element ws txt w p branch label path x
 unfolding outer shown row-at held the-item
 element {ws} {txt} {p} {path} w branch label x q o e = record {
@@ -57,13 +59,15 @@ element {ws} {txt} {p} {path} w branch label x q o e = record {
     go (el ∷ path) n i = rw (ne-eqb (p .n) 0 (λ z. omega arith)) (first-import-more (x .0) el path ∙ sym i)
 
 -- The line of an item a, where it passes.
-kept-is : {A : Type 0} (result : PathOf × A → Line A) (keep : A → Bool) (y : PathOf × A) (a : A) → y .1 ≡ a → kept-line result keep y ≡ cond (keep a) (result y ∷ []) []
+kept-is : {A : Type 0} (result : PathOf × A → Line A) (keep : A → Bool) (y : PathOf × A) (a : A) → y .1 ≡ a
+    → kept-line result keep y ≡ cond (keep a) (result y ∷ []) []
 unfolding kept-line
 kept-is result keep y a e = ap (λ a. cond (keep a) (result y ∷ []) []) e
 
 -- What line answers: nothing for an item that does not pass, else its line.
 module _ {ws txt : List ℕ} {f : Labelled} {run flat out : List ℕ} where
-  pub listed-none : (ask : Ask) → passes ask (item-of (asked ask) txt (record-at ws (f .link))) ≡ false → Listed ws txt ask f run run flat flat out out
+  pub listed-none : (ask : Ask) → passes ask (item-of (asked ask) txt (record-at ws (f .link))) ≡ false
+      → Listed ws txt ask f run run flat flat out out
   listed-none ask h = record {
     same = same-run run;
     goes = λ path x q o e m.
@@ -71,8 +75,10 @@ module _ {ws txt : List ℕ} {f : Labelled} {run flat out : List ℕ} where
         rw (kept-is (result-of ask) (passes ask) (line path x) _ (i .item), h) (goes-none (tally-in run) flat out);
   }
 
-  pub listed-one : {run′ flat′ out′ : List ℕ} (ask : Ask) → BranchAt ws txt (asked ask) bind (f .link) → SameRun run run′ → passes ask (item-of (asked ask) txt (record-at ws (f .link))) ≡ true
-      → PutLine ws txt (job-in (f .link) run) (noted ask ws txt (record { link = f .link; label = outermost (path-in run) (f .label) })) (tally-in run′) flat flat′ out out′
+  pub listed-one : {run′ flat′ out′ : List ℕ} (ask : Ask) → BranchAt ws txt (asked ask) bind (f .link)
+      → SameRun run run′ → passes ask (item-of (asked ask) txt (record-at ws (f .link))) ≡ true
+      → PutLine ws txt (job-in (f .link) run) (noted ask ws txt (record { link = f .link; label = outermost (path-in run) (f .label) }))
+      (tally-in run′) flat flat′ out out′
       → Listed ws txt ask f run run′ flat flat′ out out′
   unfolding completion-result-of-lid completion-result-of-ns-or-mod
   listed-one (Names g) b s h put = record {
@@ -89,5 +95,11 @@ module _ {ws txt : List ℕ} {f : Labelled} {run flat out : List ℕ} where
         let i = element modules (f .link) (f .label) x q o e in
         rw (kept-is completion-result-of-ns-or-mod (keeps (filter-in g)) (line path x) _ (i .item), h)
         (put modules (completion-result-of-ns-or-mod (line path x))
-        (record { branch-at = b; length-is = m; item-is = i .item; candidate-is = i .candidate; annotation-is = ap mod-annotation (i .item) ∙ sym (noted-symbol _) }));
+        (record {
+          branch-at = b;
+          length-is = m;
+          item-is = i .item;
+          candidate-is = i .candidate;
+          annotation-is = ap mod-annotation (i .item) ∙ sym (noted-symbol _);
+        }));
   }

@@ -32,7 +32,8 @@ pub same-then : {run run₁ run₂ : List ℕ} → SameRun run run₁ → SameRu
 same-then s t = record { path = path-then (s .path) (t .path); matched-same = t .matched-same ∙ s .matched-same }
 
 -- A number that is neither of the path nor a limit is set.
-module _ (run : List ℕ) (k v : ℕ) (few : getD run 16 0 ≤ 16) (h : 18 < k) (apart : (j : ℕ) → 21 < j → j < 25 → j ≡ k → ⊥) where
+module _ (run : List ℕ) (k v : ℕ) (few : getD run 16 0 ≤ 16) (h : 18 < k)
+    (apart : (j : ℕ) → 21 < j → j < 25 → j ≡ k → ⊥) where
   pub path-kept : SamePath run (set run k v)
   path-kept = record {
     size = length-set run k v;
@@ -59,7 +60,8 @@ module _ (run : List ℕ) (l b : ℕ) where
       let s = same-set run 20 l few (omega arith) (omega arith) in
       same-then s (same-set (set run 20 l) 21 b (omega (arith, s .path .count)) (omega arith) (omega arith))
 
-  pub tally-counted : length run ≡ run-size → tally-in (set (set run 20 l) 21 b) ≡ record { entered = getD run 19 0; lines = l; bytes = b }
+  pub tally-counted : length run ≡ run-size
+      → tally-in (set (set run 20 l) 21 b) ≡ record { entered = getD run 19 0; lines = l; bytes = b }
   tally-counted e = rw (
     getD-set-other (set run 20 l) 21 19 b 0 (λ z. omega arith),
     getD-set-other run 20 19 l 0 (λ z. omega arith),
@@ -69,8 +71,10 @@ module _ (run : List ℕ) (l b : ℕ) where
   )
 
 module _ (run : List ℕ) (l : ℕ) where
-  pub tally-entered : length run ≡ run-size → tally-in (set run 19 l) ≡ record { entered = l; lines = getD run 20 0; bytes = getD run 21 0 }
-  tally-entered e = rw (getD-set-same run 19 l 0 (omega arith), getD-set-other run 19 20 l 0 (λ z. omega arith), getD-set-other run 19 21 l 0 (λ z. omega arith))
+  pub tally-entered : length run ≡ run-size
+      → tally-in (set run 19 l) ≡ record { entered = l; lines = getD run 20 0; bytes = getD run 21 0 }
+  tally-entered e =
+      rw (getD-set-same run 19 l 0 (omega arith), getD-set-other run 19 20 l 0 (λ z. omega arith), getD-set-other run 19 21 l 0 (λ z. omega arith))
 
 -- The match length is set.
 module _ (run : List ℕ) (m : ℕ) where
@@ -109,7 +113,8 @@ module _ (run run′ : List ℕ) (s : (k : ℕ) → 18 < k → getD run′ k 0 �
 
 -- ---- What is known of a path
 
-pub joined-same : (ws txt links links′ : List ℕ) (n : ℕ) → ((j : ℕ) → j < n → getD links′ j 0 ≡ getD links j 0) → joined ws txt links′ n ≡ joined ws txt links n
+pub joined-same : (ws txt links links′ : List ℕ) (n : ℕ) → ((j : ℕ) → j < n → getD links′ j 0 ≡ getD links j 0)
+    → joined ws txt links′ n ≡ joined ws txt links n
 unfolding joined
 joined-same ws txt links links′ zero h = refl
 joined-same ws txt links links′ (suc n) h = rw (joined-same ws txt links links′ n (λ j i. h j (omega arith)), h n (omega arith))

@@ -28,7 +28,14 @@ module _ {ws txt : List ℕ} {n used x k : ℕ} (o : Used ws txt n used) (i : Li
   unfolding key-at
   text-at t h =
       let e = span-length txt (text-start (record-at ws x)) (text-len (record-at ws x)) (omega (arith, t .inside, o .text-fits)) in
-      record { some = p; within = link-fits o i; inside = omega (arith, t .inside, o .text-fits); size = e; short = omega arith; few = omega (arith, i .earlier, o .few) }
+      record {
+        some = p;
+        within = link-fits o i;
+        inside = omega (arith, t .inside, o .text-fits);
+        size = e;
+        short = omega arith;
+        few = omega (arith, i .earlier, o .few);
+      }
 
 module _ {ws txt : List ℕ} {w : Which} {v : Level} {x : ℕ} where
   pub branch-text : BranchAt ws txt w v x → TextAt ws txt x
@@ -52,6 +59,7 @@ module _ {ws txt : List ℕ} {ask : Ask} {f : Labelled} {run : List ℕ} (o : Ca
   pub outermost-text : {x : ℕ} → x ≡ outermost (path-in run) (f .label) → 0 < x → TextAt ws txt x
   outermost-text e h = rw e (go (eqb (path-in run .n) 0) (rw e at h))
     where
-      go : (b : Bool) → 0 < pick b (f .label) (path-in run .label) → TextAt ws txt (pick b (f .label) (path-in run .label))
+      go : (b : Bool) → 0 < pick b (f .label) (path-in run .label)
+          → TextAt ws txt (pick b (f .label) (path-in run .label))
       go true h = label-text (o .label-at) h
       go false h = label-text (o .path-ok .label-ok) h

@@ -43,9 +43,12 @@ pub record Fit (lim : Limits) (flat out : List ℕ) (e l b : ℕ) : Type 0 where
   pub out-lent : lim .bytes ≤ length out
 
 -- The run went on by the part r: it is counted, and where all fits it is written.
-pub record Goes (w : Which) (ws txt : List ℕ) (lim : Limits) (a t : Tally) (flat flat′ out out′ : List ℕ) (r : Result (Item w)) : Type 0 where
+pub record Goes (w : Which) (ws txt : List ℕ) (lim : Limits) (a t : Tally) (flat flat′ out out′ : List ℕ)
+    (r : Result (Item w)) : Type 0 where
   pub flat-size : length flat′ ≡ length flat
   pub out-size : length out′ ≡ length out
-  pub shows : (e l b : ℕ) → Shows lim e l b a → Shows lim (e + r .entered) (l + length (r .lines)) (b + length (output-text (r .lines))) t
-  pub writes : (e l b : ℕ) → Shows lim e l b a → Fit lim flat out (e + r .entered) (l + length (r .lines)) (b + length (output-text (r .lines)))
+  pub shows : (e l b : ℕ) → Shows lim e l b a
+      → Shows lim (e + r .entered) (l + length (r .lines)) (b + length (output-text (r .lines))) t
+  pub writes : (e l b : ℕ) → Shows lim e l b a
+      → Fit lim flat out (e + r .entered) (l + length (r .lines)) (b + length (output-text (r .lines)))
       → Written w ws txt flat flat′ out out′ l b (r .lines)

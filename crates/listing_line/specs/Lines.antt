@@ -36,7 +36,9 @@ pub record CanList (ws txt : List ℕ) (ask : Ask) (f : Labelled) (run : List �
 -- The run went on by what is asked of a found element of bindings, where the branch and the label show it and it ends a path.
 pub record Listed (ws txt : List ℕ) (ask : Ask) (f : Labelled) (run run′ flat flat′ out out′ : List ℕ) : Type 0 where
   pub same : SameRun run run′
-  pub goes : (path : PathOf) (x : PathElem × Value (Item (asked ask)) bind) (q : Option Str) → OnPath ws txt (path-in run) path
+  pub goes : (path : PathOf) (x : PathElem × Value (Item (asked ask)) bind) (q : Option Str)
+      → OnPath ws txt (path-in run) path
       → outer x ≡ shown (asked ask) ws txt bind q (record { branch = f .link; label = f .label })
       → match-length-of-path (reverse (x .0 ∷ path)) ≡ signed-word (matched-in run)
-      → Goes (asked ask) ws txt (limits-in run) (tally-in run) (tally-in run′) flat flat′ out out′ (only (line-for ask (line path x)))
+      → Goes (asked ask) ws txt (limits-in run) (tally-in run) (tally-in run′) flat flat′ out out′
+      (only (line-for ask (line path x)))

@@ -15,7 +15,8 @@ use Rattle.listing_line.specs.Lines.{only}
 pub record TriedLine (ws txt : List ℕ) (j : Job) (note flat flat′ out out′ : List ℕ) : Type 0 where
   pub flat-size : length flat′ ≡ length flat
   pub out-size : length out′ ≡ length out
-  pub put : (e : ℕ) → Fit (j .lim) flat out e (j .tally .lines + 1) (j .tally .bytes + size-of ws j note) → LinePut ws txt j note flat flat′ out out′
+  pub put : (e : ℕ) → Fit (j .lim) flat out e (j .tally .lines + 1) (j .tally .bytes + size-of ws j note)
+      → LinePut ws txt j note flat flat′ out out′
 
 -- The run went on by the line, whatever the table.
 abbrev pub PutLine : (ws txt : List ℕ) (j : Job) (note : Str) (t : Tally) (flat flat′ out out′ : List ℕ) → Type 0

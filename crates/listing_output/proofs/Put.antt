@@ -25,18 +25,21 @@ row-item names txt r m s n k = refl
 row-item modules txt r m s n k = refl
 
 module _ {ws txt : List ℕ} {j : Job} (ok : JobOk ws txt j) where
-  pub candidate-length : length (candidate-of ws txt (j .path) (j .branch)) ≡ j .path .len + text-len (record-at ws (j .branch))
+  pub candidate-length : length (candidate-of ws txt (j .path) (j .branch))
+      ≡ j .path .len + text-len (record-at ws (j .branch))
   candidate-length = omega (arith, length-append (joined ws txt (j .path .links) (j .path .n)) (key-at ws txt (j .branch)), ok .path .len-is, ok .branch .size)
 
   -- The texts and the row, written into lent parts.
-  module _ {note flat out out₁ : List ℕ} {end : ℕ} (room : LineFits ws j note flat out) (x : Laid out out₁ (j .tally .bytes) end (candidate-of ws txt (j .path) (j .branch))) where
+  module _ {note flat out out₁ : List ℕ} {end : ℕ} (room : LineFits ws j note flat out)
+      (x : Laid out out₁ (j .tally .bytes) end (candidate-of ws txt (j .path) (j .branch))) where
     pub note-room : length note ≤ length (midOf end (length out₁ - end) out₁)
     note-room = room-left out₁ end (length note) (omega (arith, x .end, laid-length x, candidate-length, room .out-room))
 
     pub line-put : {out₂ flat₁ row : List ℕ} → out₂ ≡ put-text (midOf end (length out₁ - end) out₁) 0 note
         → row ≡ line-row (record-at ws (j .branch)) (j .matched) (j .tally .bytes) (end - j .tally .bytes) (length note)
         → Stored row 0 12 (midOf (j .tally .lines * line-bytes) (length flat - j .tally .lines * line-bytes) flat) flat₁
-        → LinePut ws txt j note flat (putMid (j .tally .lines * line-bytes) (length flat - j .tally .lines * line-bytes) flat flat₁) out (putMid end (length out₁ - end) out₁ out₂)
+        → LinePut ws txt j note flat (putMid (j .tally .lines * line-bytes)
+        (length flat - j .tally .lines * line-bytes) flat flat₁) out (putMid end (length out₁ - end) out₁ out₂)
     line-put {flat₁ = flat₁} {row} p q r =
         let e : end - j .tally .bytes ≡ length (candidate-of ws txt (j .path) (j .branch)) = omega (arith, x .end) in
         let z : j .tally .bytes + length (candidate-of ws txt (j .path) (j .branch) ++ note) ≡ end + length note =
@@ -47,10 +50,12 @@ module _ {ws txt : List ℕ} {j : Job} (ok : JobOk ws txt j) where
           bytes = take line-bytes flat₁;
           spell = row-spelled size some r ∙ q ∙ rw e;
           flat-laid = lent-laid (j .tally .lines * line-bytes) (omega (arith, room .flat-room)) (row-laid size some r);
-          out-laid = rw z (laid-more x (lent-laid end (omega (arith, x .end, x .fits, laid-length x)) (text-laid refl note-room refl p)));
+          out-laid = rw z (laid-more x
+              (lent-laid end (omega (arith, x .end, x .fits, laid-length x)) (text-laid refl note-room refl p)));
         }
 
-  module _ {note : Str} {w : Which} {l : Line (Item w)} (s : Spells ws txt w (j .path) (j .branch) (j .matched) note l) where
+  module _ {note : Str} {w : Which} {l : Line (Item w)}
+      (s : Spells ws txt w (j .path) (j .branch) (j .matched) note l) where
     line-text : output-text (l ∷ []) ≡ candidate-of ws txt (j .path) (j .branch) ++ note
     unfolding output-text
     line-text = rw (s .candidate-is, s .annotation-is, append-nil note)
@@ -58,7 +63,8 @@ module _ {ws txt : List ℕ} {j : Job} (ok : JobOk ws txt j) where
     pub line-size : length (output-text (l ∷ [])) ≡ size-of ws j note
     line-size = omega (arith, ap length line-text, length-append (candidate-of ws txt (j .path) (j .branch)) note, candidate-length)
 
-    pub written-line : {flat flat′ out out′ : List ℕ} → LinePut ws txt j note flat flat′ out out′ → Written w ws txt flat flat′ out out′ (j .tally .lines) (j .tally .bytes) (l ∷ [])
+    pub written-line : {flat flat′ out out′ : List ℕ} → LinePut ws txt j note flat flat′ out out′
+        → Written w ws txt flat flat′ out out′ (j .tally .lines) (j .tally .bytes) (l ∷ [])
     unfolding output-lines line-of rows-flat flatMap
     written-line p =
         let e : (j .tally .lines + 1) * line-bytes ≡ j .tally .lines * line-bytes + line-bytes = omega arith in

@@ -42,11 +42,13 @@ module _ {d d′ t : List ℕ} (size : length t ≡ 12) (room : line-bytes ≤ l
 -- ---- The path of a candidate
 
 module _ (ws txt links : List ℕ) where
-  pub joined-more : (i : ℕ) → joined ws txt links (i + 1) ≡ joined ws txt links i ++ (key-at ws txt (getD links i 0) ++ (dot ∷ []))
+  pub joined-more : (i : ℕ)
+      → joined ws txt links (i + 1) ≡ joined ws txt links i ++ (key-at ws txt (getD links i 0) ++ (dot ∷ []))
   unfolding joined
   joined-more i = rw (add-one i)
 
-  pub joined-length : (i : ℕ) → length (joined ws txt links (i + 1)) ≡ length (joined ws txt links i) + length (key-at ws txt (getD links i 0)) + 1
+  pub joined-length : (i : ℕ) → length (joined ws txt links (i + 1))
+      ≡ length (joined ws txt links i) + length (key-at ws txt (getD links i 0)) + 1
   joined-length i = rw (joined-more i) (simp length-append (omega arith))
 
   joined-grows : (i k : ℕ) → length (joined ws txt links i) ≤ length (joined ws txt links (i + k))
@@ -65,12 +67,14 @@ module _ {ws txt links : List ℕ} {n : ℕ} {d : List ℕ} {at : ℕ} where
 
   module _ {out : List ℕ} {end i : ℕ} (g : Joining ws txt links n d out at end i) where
     -- The next key and its dot fit.
-    pub joining-room : i < n → at + length (joined ws txt links n) ≤ length d → end + length (key-at ws txt (getD links i 0)) < length out
+    pub joining-room : i < n → at + length (joined ws txt links n) ≤ length d
+        → end + length (key-at ws txt (getD links i 0)) < length out
     joining-room h room =
         let e : i + 1 + (n - (i + 1)) ≡ n = omega arith in
         omega (arith, g .written .end, laid-length (g .written), joined-length ws txt links i, (rw e at (joined-grows ws txt links (i + 1) (n - (i + 1)))))
 
-    pub joining-more : {out′ : List ℕ} {end′ : ℕ} → i < n → at + length (joined ws txt links n) ≤ length d → Laid out out′ end end′ (key-at ws txt (getD links i 0))
+    pub joining-more : {out′ : List ℕ} {end′ : ℕ} → i < n → at + length (joined ws txt links n) ≤ length d
+        → Laid out out′ end end′ (key-at ws txt (getD links i 0))
         → Joining ws txt links n d (set out′ end′ 46) at (end′ + 1) (i + 1)
     joining-more h room x = record {
       below = omega arith;

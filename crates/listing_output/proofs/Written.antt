@@ -21,7 +21,8 @@ unfolding rows-flat
 rows-append xs ys = flatMap-append (λ r. r) xs ys
 
 module _ {w : Which} {ws txt : List ℕ} where
-  pub written-none : (flat out : List ℕ) (l b : ℕ) → l * line-bytes ≤ length flat → b ≤ length out → Written w ws txt flat flat out out l b []
+  pub written-none : (flat out : List ℕ) (l b : ℕ) → l * line-bytes ≤ length flat → b ≤ length out
+      → Written w ws txt flat flat out out l b []
   unfolding output-text output-lines rows-flat flatMap
   written-none flat out l b h k = record {
     rows = [];
@@ -32,8 +33,10 @@ module _ {w : Which} {ws txt : List ℕ} where
     out-laid = laid-none out b (b + 0) (omega arith) (omega arith);
   }
 
-  pub written-then : {flat flat₁ flat₂ out out₁ out₂ : List ℕ} {l b : ℕ} {xs ys : List (Line (Item w))} → Written w ws txt flat flat₁ out out₁ l b xs
-      → Written w ws txt flat₁ flat₂ out₁ out₂ (l + length xs) (b + length (output-text xs)) ys → Written w ws txt flat flat₂ out out₂ l b (xs ++ ys)
+  pub written-then : {flat flat₁ flat₂ out out₁ out₂ : List ℕ} {l b : ℕ} {xs ys : List (Line (Item w))}
+      → Written w ws txt flat flat₁ out out₁ l b xs
+      → Written w ws txt flat₁ flat₂ out₁ out₂ (l + length xs) (b + length (output-text xs)) ys
+      → Written w ws txt flat flat₂ out out₂ l b (xs ++ ys)
   written-then {l = l} {b = b} {xs = xs} {ys = ys} x y =
       let el : (l + length (xs ++ ys)) * line-bytes ≡ (l + length xs + length ys) * line-bytes = omega (arith, length-append xs ys) in
       let eb : b + length (output-text (xs ++ ys)) ≡ b + length (output-text xs) + length (output-text ys) =
@@ -41,8 +44,10 @@ module _ {w : Which} {ws txt : List ℕ} where
       record {
         rows = x .rows ++ y .rows;
         sized = all-append _ (x .rows) (y .rows) (x .sized) (y .sized);
-        from = rw (map-append line-words (x .rows) (y .rows)) (all-append _ (map line-words (x .rows)) (map line-words (y .rows)) (x .from) (y .from));
-        reads = ap (map (line-of w txt)) (map-append line-words (x .rows) (y .rows)) ∙ map-append (line-of w txt) (map line-words (x .rows)) (map line-words (y .rows))
+        from = rw (map-append line-words (x .rows) (y .rows))
+            (all-append _ (map line-words (x .rows)) (map line-words (y .rows)) (x .from) (y .from));
+        reads = ap (map (line-of w txt)) (map-append line-words (x .rows) (y .rows))
+            ∙ map-append (line-of w txt) (map line-words (x .rows)) (map line-words (y .rows))
             ∙ rw (x .reads, y .reads) (sym (output-lines-append b xs ys));
         flat-laid = rw (el, rows-append (x .rows) (y .rows)) (laid-more (x .flat-laid) (y .flat-laid));
         out-laid = rw (eb, output-text-append xs ys) (laid-more (x .out-laid) (y .out-laid));

@@ -69,7 +69,8 @@ pub record RowFrom (ws txt : List ℕ) (w : Which) (r : List ℕ) : Type 0 where
   pub last : word r 11 ≡ 0
 
 -- The lines are written after the first l line records and the first b bytes, and nothing else changed; rows are the bytes of each line.
-pub record Written (w : Which) (ws txt flat flat′ out out′ : List ℕ) (l b : ℕ) (lines : List (Line (Item w))) : Type 0 where
+pub record Written (w : Which) (ws txt flat flat′ out out′ : List ℕ) (l b : ℕ)
+    (lines : List (Line (Item w))) : Type 0 where
   pub rows : List (List ℕ)
   pub sized : Allˡ (λ r. length r ≡ line-bytes) rows
   pub from : Allˡ (RowFrom ws txt w) (map line-words rows)

@@ -8,7 +8,8 @@ use Rattle.source.specs.Limits.{longest-full-name, deepest-trie, most-used, rec
 use Rattle.source.specs.Text.{Str}
 use Rattle.source.specs.Types.{bind}
 use Rattle.source.specs.Table.{Line}
-use Rattle.memory.specs.Layout.{record-at, Which, Item, item-of, key-at, text-start, text-len, number-word, name-start, name-len, path-start, path-len, loaded-word}
+use Rattle.memory.specs.Layout.{record-at, Which, Item, item-of, key-at, text-start, text-len, number-word, name-start, name-len, path-start, path-len}
+use Rattle.memory.specs.Layout.{loaded-word}
 use Rattle.text.specs.Laid.{Laid}
 use Rattle.listing_output.specs.Path.{Path, joined, BranchAt}
 use Rattle.listing_output.specs.Output.{line-bytes, line-words}
@@ -47,7 +48,8 @@ candidate-of ws txt p branch = joined ws txt (p .links) (p .n) ++ key-at ws txt 
 -- ---- What is written
 
 -- The line of a branch below a path.
-pub record Spells (ws txt : List ℕ) (w : Which) (p : Path) (branch matched : ℕ) (note : Str) (l : Line (Item w)) : Type 0 where
+pub record Spells (ws txt : List ℕ) (w : Which) (p : Path) (branch matched : ℕ) (note : Str)
+    (l : Line (Item w)) : Type 0 where
   pub branch-at : BranchAt ws txt w bind branch
   pub length-is : l .match-length ≡ signed-word matched
   pub item-is : l .item-of ≡ item-of w txt (record-at ws branch)
@@ -57,7 +59,8 @@ pub record Spells (ws txt : List ℕ) (w : Which) (p : Path) (branch matched : �
 -- The words of a line from the branch r.
 abbrev pub line-row : (r : List ℕ) (matched start len note : ℕ) → List ℕ
 line-row r matched start len note =
-    matched ∷ start ∷ len ∷ (start + len) ∷ note ∷ number-word r ∷ name-start r ∷ name-len r ∷ path-start r ∷ path-len r ∷ loaded-word r ∷ 0 ∷ []
+    matched ∷ start ∷ len ∷ (start + len) ∷ note ∷ number-word r ∷ name-start r ∷ name-len r ∷ path-start r
+    ∷ path-len r ∷ loaded-word r ∷ 0 ∷ []
 
 -- The bytes of a line.
 abbrev pub size-of : (ws : List ℕ) → Job → Str → ℕ
@@ -72,7 +75,9 @@ pub record LineFits (ws : List ℕ) (j : Job) (note flat out : List ℕ) : Type 
 -- A line is written after those of the tally.
 pub record LinePut (ws txt : List ℕ) (j : Job) (note flat flat′ out out′ : List ℕ) : Type 0 where
   pub bytes : List ℕ
-  pub spell : line-words bytes ≡ line-row (record-at ws (j .branch)) (j .matched) (j .tally .bytes) (length (candidate-of ws txt (j .path) (j .branch))) (length note)
+  pub spell : line-words bytes ≡ line-row (record-at ws (j .branch)) (j .matched) (j .tally .bytes)
+      (length (candidate-of ws txt (j .path) (j .branch))) (length note)
   pub flat-laid : Laid flat flat′ (j .tally .lines * line-bytes) (j .tally .lines * line-bytes + line-bytes) bytes
-  pub out-laid : Laid out out′ (j .tally .bytes) (j .tally .bytes + length (candidate-of ws txt (j .path) (j .branch) ++ note))
+  pub out-laid : Laid out out′ (j .tally .bytes)
+      (j .tally .bytes + length (candidate-of ws txt (j .path) (j .branch) ++ note))
       (candidate-of ws txt (j .path) (j .branch) ++ note)

@@ -56,4 +56,5 @@ pub record Job : Type 0 where
   pub tally : Tally
 
 abbrev pub job-in : ℕ → List ℕ → Job
-job-in branch run = record { path = path-in run; branch = branch; matched = matched-in run; lim = limits-in run; tally = tally-in run }
+job-in branch run =
+    record { path = path-in run; branch = branch; matched = matched-in run; lim = limits-in run; tally = tally-in run }

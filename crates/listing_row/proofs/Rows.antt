@@ -17,7 +17,8 @@ use Rattle.listing_output.specs.Output.{line-bytes, line-words}
 use Rattle.listing_row.specs.Rows.{words-at, words-from, item-in, item-seen}
 
 -- The words of the part from a row on.
-pub part-words : (flat : List ℕ) (k : ℕ) → line-words (take (length flat - k * line-bytes) (drop (k * line-bytes) flat)) ≡ words-at flat k
+pub part-words : (flat : List ℕ) (k : ℕ)
+    → line-words (take (length flat - k * line-bytes) (drop (k * line-bytes) flat)) ≡ words-at flat k
 unfolding words-at
 part-words flat k = ap line-words (take-all (length flat - k * line-bytes) (drop (k * line-bytes) flat) (omega (arith, length-drop (k * line-bytes) flat)))
 
@@ -30,10 +31,12 @@ word-in-row flat k j h = sym (words-getD (drop (k * line-bytes) flat) 12 j h ∙
     byte x = let e : k * line-bytes + (j * 4 + x) ≡ (k * 12 + j) * 4 + x = omega arith in getD-drop (k * line-bytes) flat (j * 4 + x) 0 ∙ rw e
 
     at : word-at (drop (k * line-bytes) flat) j ≡ word-at flat (k * 12 + j)
-    at = let z : j * 4 + 0 ≡ j * 4 = omega arith in let y : (k * 12 + j) * 4 + 0 ≡ (k * 12 + j) * 4 = omega arith in omega (arith, rw (z, y) at (byte 0), byte 1, byte 2, byte 3)
+    at = let z : j * 4 + 0 ≡ j * 4 = omega arith in let y : (k * 12 + j) * 4 + 0 ≡ (k * 12 + j) * 4 = omega arith in
+        omega (arith, rw (z, y) at (byte 0), byte 1, byte 2, byte 3)
 
 -- The rows that are left from i on, the first of them.
-pub rows-left : (flat : List ℕ) (i n : ℕ) → i < n → words-from flat i (n - i) ≡ words-at flat i ∷ words-from flat (i + 1) (n - (i + 1))
+pub rows-left : (flat : List ℕ) (i n : ℕ) → i < n
+    → words-from flat i (n - i) ≡ words-at flat i ∷ words-from flat (i + 1) (n - (i + 1))
 unfolding words-from
 rows-left flat i n l =
     let p : n - i ≡ suc (n - (i + 1)) = omega arith in
@@ -45,7 +48,8 @@ pub one-record : (bs : List ℕ) → record-at (line-words bs) 1 ≡ line-words 
 unfolding record-at
 one-record bs = take-all 12 (line-words bs) (omega (arith, words-length bs 12))
 
-symbol-pick : (txt : List ℕ) (b : Bool) (x y : ModSymbol) → symbol-of txt (pick b x y) ≡ pick b (symbol-of txt x) (symbol-of txt y)
+symbol-pick : (txt : List ℕ) (b : Bool) (x y : ModSymbol)
+    → symbol-of txt (pick b x y) ≡ pick b (symbol-of txt x) (symbol-of txt y)
 symbol-pick txt true x y = refl
 symbol-pick txt false x y = refl
 

@@ -12,7 +12,8 @@ use Rattle.source.proofs.Lines.{output-lines-length}
 use Rattle.memory.specs.Layout.{Which, Item, span}
 use Rattle.text.specs.Laid.{Laid}
 use Rattle.memory_bytes.proofs.Parts.{words-front}
-use Rattle.listing_output.specs.Output.{line-bytes, line-words, line-of, rows-flat, RowFrom, Written, candidate-start, candidate-len, annotation-start, annotation-len}
+use Rattle.listing_output.specs.Output.{line-bytes, line-words, line-of, rows-flat, RowFrom, Written, candidate-start, candidate-len, annotation-start}
+use Rattle.listing_output.specs.Output.{annotation-len}
 use Rattle.listing_row.specs.Rows.{words-at, words-from, item-in, row-in, ItemInside, line-seen, lines-seen, TextsIn}
 use Rattle.listing_row.proofs.Inside.{row-inside}
 
@@ -46,7 +47,8 @@ stands-laid {d} {d′} {s} {r} x = record { rest = drop r d; within = omega arit
 
 -- ---- The words
 
-words-are : (flat : List ℕ) (i : ℕ) (rows : List (List ℕ)) → Allˡ (λ r. length r ≡ line-bytes) rows → Stands flat (i * line-bytes) (rows-flat rows)
+words-are : (flat : List ℕ) (i : ℕ) (rows : List (List ℕ)) → Allˡ (λ r. length r ≡ line-bytes) rows
+    → Stands flat (i * line-bytes) (rows-flat rows)
     → words-from flat i (length rows) ≡ map line-words rows
 unfolding words-from words-at rows-flat flatMap
 words-are flat i [] a x = refl
@@ -68,7 +70,8 @@ record-from b l = record {
 }
 
 module _ (w : Which) (txt out : List ℕ) where
-  module _ (r : List ℕ) (b : ℕ) (l : Line (Item w)) (e : line-of w txt r ≡ record-from b l) (o : Stands out b (l .candidate ++ l .annotation)) where
+  module _ (r : List ℕ) (b : ℕ) (l : Line (Item w)) (e : line-of w txt r ≡ record-from b l)
+      (o : Stands out b (l .candidate ++ l .annotation)) where
     start-is : candidate-start r ≡ b
     unfolding line-of
     start-is = ap (λ (x : LineRecord (Item w)). x .candidate .start) e
@@ -105,7 +108,8 @@ module _ (w : Which) (txt out : List ℕ) where
       annotation = omega (arith, note-is, note-len-is, stands-size (stands-next (l .candidate) (l .annotation) o));
     }
 
-  lines-are : (rows : List (List ℕ)) (b : ℕ) (lines : List (Line (Item w))) → map (line-of w txt) rows ≡ output-lines b lines → Stands out b (output-text lines)
+  lines-are : (rows : List (List ℕ)) (b : ℕ) (lines : List (Line (Item w)))
+      → map (line-of w txt) rows ≡ output-lines b lines → Stands out b (output-text lines)
       → (map (line-seen w txt out) rows ≡ lines) × Allˡ (λ r. TextsIn out (row-in w r)) rows
   unfolding output-lines output-text
   lines-are [] b [] e o = (refl, tt)
@@ -116,11 +120,14 @@ module _ (w : Which) (txt out : List ℕ) where
       let others : map (line-of w txt) rows ≡ output-lines (b + length (l .candidate) + length (l .annotation)) ls = cc in
       let o′ : Stands out b ((l .candidate ++ l .annotation) ++ output-text ls) = rw append-assoc o in
       let first = stands-first (l .candidate ++ l .annotation) (output-text ls) o′ in
-      let q : b + length (l .candidate ++ l .annotation) ≡ b + length (l .candidate) + length (l .annotation) = omega (arith, length-append (l .candidate) (l .annotation)) in
-      let rest = lines-are rows (b + length (l .candidate) + length (l .annotation)) ls others (rw q at (stands-next (l .candidate ++ l .annotation) (output-text ls) o′)) in
+      let q : b + length (l .candidate ++ l .annotation) ≡ b + length (l .candidate) + length (l .annotation) =
+      omega (arith, length-append (l .candidate) (l .annotation)) in
+      let rest = lines-are rows (b + length (l .candidate) + length (l .annotation)) ls others
+      (rw q at (stands-next (l .candidate ++ l .annotation) (output-text ls) o′)) in
       (ap₂ (λ (x : Line (Item w)) (xs : List (Line (Item w))). x ∷ xs) (line-is r b l here first) (rest .0), (texts-in r b l here first, rest .1))
 
-module _ {w : Which} {ws txt flat flat′ out out′ : List ℕ} {lines : List (Line (Item w))} (x : Written w ws txt flat flat′ out out′ 0 0 lines) where
+module _ {w : Which} {ws txt flat flat′ out out′ : List ℕ} {lines : List (Line (Item w))}
+    (x : Written w ws txt flat flat′ out out′ 0 0 lines) where
   count : length (x .rows) ≡ length lines
   count = sym (length-map (map line-words (x .rows)) (line-of w txt) ∙ length-map (x .rows) line-words) ∙ ap length (x .reads) ∙ output-lines-length 0 lines
 
@@ -147,6 +154,7 @@ module _ {w : Which} {ws txt flat flat′ out out′ : List ℕ} {lines : List (
   pub written-items : Allˡ (λ r. ItemInside (length txt) (item-in w r)) (words-from flat′ 0 (length lines))
   written-items = rw written-words (go (map line-words (x .rows)) (x .from))
     where
-      go : (rows : List (List ℕ)) → Allˡ (RowFrom ws txt w) rows → Allˡ (λ r. ItemInside (length txt) (item-in w r)) rows
+      go : (rows : List (List ℕ)) → Allˡ (RowFrom ws txt w) rows
+          → Allˡ (λ r. ItemInside (length txt) (item-in w r)) rows
       go [] a = tt
       go (r ∷ rows) a = (row-inside w (a .0), go rows (a .1))

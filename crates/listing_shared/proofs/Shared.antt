@@ -53,16 +53,19 @@ pub record Narrowed (flat out : List ℕ) (n : ℕ) (first : Str) (shared i : �
   pub below : i ≤ n
   pub short : shared ≤ length first
   pub texts : Allˡ (CandidateIn out) (words-from flat i (n - i))
-  pub rest : fold-left common-prefix (take shared first) (map (candidate-seen out) (words-from flat i (n - i))) ≡ shared-beginning (map (candidate-seen out) (words-from flat 0 n))
+  pub rest : fold-left common-prefix (take shared first) (map (candidate-seen out) (words-from flat i (n - i)))
+      ≡ shared-beginning (map (candidate-seen out) (words-from flat 0 n))
 
 rows-first : (flat : List ℕ) (n : ℕ) → 0 < n → words-from flat 0 n ≡ words-at flat 0 ∷ words-from flat 1 (n - 1)
 rows-first flat n h = let e : n - 0 ≡ n = omega arith in rw e at (rows-left flat 0 n h)
 
 module _ {flat out : List ℕ} {n : ℕ} where
-  pub first-texts : CandidatesIn flat out n → 0 < n → CandidateIn out (words-at flat 0) × Allˡ (CandidateIn out) (words-from flat 1 (n - 1))
+  pub first-texts : CandidatesIn flat out n → 0 < n
+      → CandidateIn out (words-at flat 0) × Allˡ (CandidateIn out) (words-from flat 1 (n - 1))
   first-texts o h = rw (rows-first flat n h) at (o .texts)
 
-  module _ (o : CandidatesIn flat out n) (h : 0 < n) {first : Str} (e : first ≡ candidate-seen out (words-at flat 0)) where
+  module _ (o : CandidatesIn flat out n) (h : 0 < n) {first : Str}
+      (e : first ≡ candidate-seen out (words-at flat 0)) where
     pub first-length : candidate-len (words-at flat 0) ≡ length first
     first-length = sym (ap length e ∙ span-length out (candidate-start (words-at flat 0)) (candidate-len (words-at flat 0)) (first-texts o h .0))
 
@@ -80,7 +83,8 @@ module _ {flat out : List ℕ} {n : ℕ} where
       pub next-text : CandidateIn out (words-at flat i) × Allˡ (CandidateIn out) (words-from flat (i + 1) (n - (i + 1)))
       next-text = rw (rows-left flat i n l) at (g .texts)
 
-      pub narrowed-next : {m : ℕ} {t : Str} → t ≡ candidate-seen out (words-at flat i) → m ≡ length (common-prefix (take shared first) t) → Narrowed flat out n first m (i + 1)
+      pub narrowed-next : {m : ℕ} {t : Str} → t ≡ candidate-seen out (words-at flat i)
+          → m ≡ length (common-prefix (take shared first) t) → Narrowed flat out n first m (i + 1)
       unfolding fold-left
       narrowed-next {m} {t} d e =
           let p : Str = take shared first in
@@ -115,19 +119,27 @@ none-in flat out = record { whole = omega arith; texts = tt }
 
 -- ---- The lines that a completion wrote
 
-module _ {w : Which} {ws txt flat flat′ out out′ : List ℕ} {lines : List (Line (Item w))} (x : Written w ws txt flat flat′ out out′ 0 0 lines) where
+module _ {w : Which} {ws txt flat flat′ out out′ : List ℕ} {lines : List (Line (Item w))}
+    (x : Written w ws txt flat flat′ out out′ 0 0 lines) where
   written-candidates : CandidatesIn flat′ out′ (length lines)
-  written-candidates = record { whole = omega (arith, x .flat-laid .fits, laid-length (x .flat-laid)); texts = go (words-from flat′ 0 (length lines)) (written-texts x) }
+  written-candidates =
+      record {
+        whole = omega (arith, x .flat-laid .fits, laid-length (x .flat-laid));
+        texts = go (words-from flat′ 0 (length lines)) (written-texts x);
+      }
     where
       go : (rows : List (List ℕ)) → Allˡ (λ r. TextsIn out′ (row-in w r)) rows → Allˡ (CandidateIn out′) rows
       go [] a = tt
       go (r ∷ rows) a = (a .0 .candidate, go rows (a .1))
 
-  written-shared : shared-seen flat′ out′ (length lines) ≡ string-length (shared-beginning (map (λ l. l .candidate) lines))
+  written-shared : shared-seen flat′ out′ (length lines)
+      ≡ string-length (shared-beginning (map (λ l. l .candidate) lines))
   unfolding shared-seen line-seen
-  written-shared = ap (λ (ss : List Str). string-length (shared-beginning ss)) (go (words-from flat′ 0 (length lines)) ∙ ap (map (λ (l : Line (Item w)). l .candidate)) (written-lines x))
+  written-shared = ap (λ (ss : List Str). string-length (shared-beginning ss))
+      (go (words-from flat′ 0 (length lines)) ∙ ap (map (λ (l : Line (Item w)). l .candidate)) (written-lines x))
     where
-      go : (rows : List (List ℕ)) → map (candidate-seen out′) rows ≡ map (λ (l : Line (Item w)). l .candidate) (map (line-seen w txt out′) rows)
+      go : (rows : List (List ℕ))
+          → map (candidate-seen out′) rows ≡ map (λ (l : Line (Item w)). l .candidate) (map (line-seen w txt out′) rows)
       go [] = refl
       go (r ∷ rows) = ap (λ (ss : List Str). candidate-seen out′ r ∷ ss) (go rows)
 
@@ -152,14 +164,21 @@ module _ (w : Which) (ws txt flat flat′ out out′ : List ℕ) (k : ℕ) where
 le-stable : (a b : ℕ) → ((a ≤ b → ⊥) → ⊥) → a ≤ b
 le-stable a b h = elim (decLe a b) [ yes q ↦ q | no n ↦ absurd (h n) ]
 
-all-stable : (out : List ℕ) (rows : List (List ℕ)) → ((Allˡ (CandidateIn out) rows → ⊥) → ⊥) → Allˡ (CandidateIn out) rows
+all-stable : (out : List ℕ) (rows : List (List ℕ)) → ((Allˡ (CandidateIn out) rows → ⊥) → ⊥)
+    → Allˡ (CandidateIn out) rows
 all-stable out [] h = tt
 all-stable out (r ∷ rows) h = (le-stable _ _ (λ n. h (λ a. n (a .0))), all-stable out rows (λ n. h (λ a. n (a .1))))
 
 candidates-stable : (flat out : List ℕ) (n : ℕ) → ((CandidatesIn flat out n → ⊥) → ⊥) → CandidatesIn flat out n
-candidates-stable flat out n h = record { whole = le-stable _ _ (λ k. h (λ c. k (c .whole))); texts = all-stable out (words-from flat 0 n) (λ k. h (λ c. k (c .texts))) }
+candidates-stable flat out n h =
+    record {
+      whole = le-stable _ _ (λ k. h (λ c. k (c .whole)));
+      texts = all-stable out (words-from flat 0 n) (λ k. h (λ c. k (c .texts)));
+    }
 
 -- So it need not be known whether the memory was sound, to read what a completion left.
-pub left-candidates : {P : Type 0} (w : Which) (ws txt flat flat′ out out′ : List ℕ) (k : ℕ) (v : Bool → C.Completed (Item w))
+pub left-candidates : {P : Type 0} (w : Which) (ws txt flat flat′ out out′ : List ℕ) (k : ℕ)
+    (v : Bool → C.Completed (Item w))
     → ((b : Bool) → Says b P → Leaves w ws txt flat flat′ out out′ k (v b)) → CandidatesIn flat′ out′ k
-left-candidates w ws txt flat flat′ out out′ k v h = either-way (candidates-stable flat′ out′ k) (λ b s. leaves-candidates w ws txt flat flat′ out out′ k (v b) (h b s))
+left-candidates w ws txt flat flat′ out out′ k v h =
+    either-way (candidates-stable flat′ out′ k) (λ b s. leaves-candidates w ws txt flat flat′ out out′ k (v b) (h b s))

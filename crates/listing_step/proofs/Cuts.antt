@@ -24,7 +24,8 @@ unfolding signed-word
 signed-small m h = rw (ne-eqb m 4294967295 (λ e. omega arith))
 
 -- No segment left: an element that is not matched adds nothing.
-pub cuts-none : (query : Str) (len matched : ℕ) → length query ≡ 0 → Cuts query len matched (record { len = 0; next = 0; matched = matched })
+pub cuts-none : (query : Str) (len matched : ℕ) → length query ≡ 0
+    → Cuts query len matched (record { len = 0; next = 0; matched = matched })
 unfolding segments ns-search-term bindings-search-term ends-in-dot
 cuts-none [] len matched e = record {
   within = omega arith;
@@ -53,7 +54,8 @@ unfolding bindings-search-term
 two s x = rw (x .2)
 
 -- A segment: what it takes is matched.
-pub cuts-some : (query : Str) (len matched k m : ℕ) → ends-in-dot query ≡ true → (length query ≡ 0 → ⊥) → length query ≤ 544 → len ≤ 544
+pub cuts-some : (query : Str) (len matched k m : ℕ) → ends-in-dot query ≡ true → (length query ≡ 0 → ⊥)
+    → length query ≤ 544 → len ≤ 544
     → k ≡ before-dot query → m ≡ len + k → Cuts query len matched (record { len = k; next = k + 1; matched = m })
 unfolding ns-search-term bindings-search-term
 cuts-some query len matched k m d n short small e em =
@@ -69,12 +71,19 @@ cuts-some query len matched k m d n short small e em =
       asks = rw split by-prefix;
       rest = rw split;
       last-one = λ h. rw (split, no-rest (drop (k + 1) query) (omega arith)) refl;
-      more = λ h. rw split (two (take k query) (some-rest (drop (k + 1) query) (rw (add-one k, e) (f .ends ∙ d)) (omega arith)));
+      more = λ h. rw split
+          (two (take k query) (some-rest (drop (k + 1) query) (rw (add-one k, e) (f .ends ∙ d)) (omega arith)));
       steps = λ path l g el p.
           record {
             length-is =
                 match-length-some el path (take k query) p
-                ∙ ap pos (let q : _ ≡ m = omega (arith, so-far-is path (g .all-matched (λ z. nil≢cons (sym z ∙ split))), l, em, length-take-le k query (omega arith)) in q)
+                ∙ ap pos (let q : _ ≡ m = omega (
+                  arith,
+                  so-far-is path (g .all-matched (λ z. nil≢cons (sym z ∙ split))),
+                  l,
+                  em,
+                  length-take-le k query (omega arith),
+                ) in q)
                 ∙ sym (signed-small m (omega arith));
             all-matched = λ z. ((take k query, p), g .all-matched (λ z. nil≢cons (sym z ∙ split)));
           };

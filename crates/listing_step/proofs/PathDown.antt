@@ -44,7 +44,8 @@ module _ {ws txt : List ℕ} {w : Which} {v : Level} {x : ℕ} (b : BranchAt ws 
       span-length txt (text-start (record-at ws x)) (text-len (record-at ws x)) (key-inside (any-tree (b .at)) (b .some)) in
       (e, omega (arith, e, k .keeps .short))
 
-module _ {ws txt : List ℕ} {w : Which} {p r : Path} {branch label : ℕ} (ok : PathOk ws txt w p) (room : p .n < 16) (b : BranchAt ws txt w ns branch) (d : PathDown ws p branch label r) where
+module _ {ws txt : List ℕ} {w : Which} {p r : Path} {branch label : ℕ} (ok : PathOk ws txt w p) (room : p .n < 16)
+    (b : BranchAt ws txt w ns branch) (d : PathDown ws p branch label r) where
   text-more : joined ws txt (r .links) (r .n) ≡ joined ws txt (p .links) (p .n) ++ (key-at ws txt branch ++ (dot ∷ []))
   unfolding joined
   text-more = rw (d .count, add-one (p .n), d .last, joined-same ws txt (p .links) (r .links) (p .n) (d .before))
@@ -69,14 +70,23 @@ module _ {ws txt : List ℕ} {w : Which} {p r : Path} {branch label : ℕ} (ok :
     few = omega (arith, d .count);
     each = λ j h. each-down j (omega (arith, d .count));
     len-is =
-        omega (arith, d .len-is, ok .len-is, ap length text-more, length-append (joined ws txt (p .links) (p .n)) (key-at ws txt branch ++ (dot ∷ [])), length-append (key-at ws txt branch) (dot ∷ []), key-size b .0);
+        omega (
+          arith,
+          d .len-is,
+          ok .len-is,
+          ap length text-more,
+          length-append (joined ws txt (p .links) (p .n)) (key-at ws txt branch ++ (dot ∷ [])),
+          length-append (key-at ws txt branch) (dot ∷ []),
+          key-size b .0,
+        );
     short = omega (arith, d .len-is, d .count, ok .short, key-size b .1);
     label-level = label-down l .0;
     label-ok = label-down l .1;
   }
 
   -- The element that the branch and the label show goes onto the path.
-  pub on-path-down : (path : PathOf) (x : PathElem × Trie (Item w)) (o : Option Str) → OnPath ws txt p path → outer x ≡ shown w ws txt ns o (record { branch = branch; label = label })
+  pub on-path-down : (path : PathOf) (x : PathElem × Trie (Item w)) (o : Option Str) → OnPath ws txt p path
+      → outer x ≡ shown w ws txt ns o (record { branch = branch; label = label })
       → OnPath ws txt r (x .0 ∷ path)
   unfolding base outer shown row-at
   on-path-down path x o on e = record {
@@ -85,7 +95,8 @@ module _ {ws txt : List ℕ} {w : Which} {p r : Path} {branch label : ℕ} (ok :
     label-is = go path (on .count) (on .label-is);
   }
     where
-      go : (path : PathOf) → p .n ≡ length path → label-at ws txt (p .label) ≡ first-import-of-path (reverse path) → label-at ws txt (r .label) ≡ first-import-of-path (reverse (x .0 ∷ path))
+      go : (path : PathOf) → p .n ≡ length path → label-at ws txt (p .label) ≡ first-import-of-path (reverse path)
+          → label-at ws txt (r .label) ≡ first-import-of-path (reverse (x .0 ∷ path))
       go [] c l = rw (d .label-is, eq-eqb (p .n) 0 c) (sym (ap (λ y. y .0) e) ∙ sym (first-import-one (x .0)))
       go (y ∷ path) c l = rw (d .label-is, ne-eqb (p .n) 0 (λ z. omega arith)) (l ∙ sym (first-import-more (x .0) y path))
 
@@ -102,15 +113,19 @@ module _ (run : List ℕ) (n len label : ℕ) where
   path-set e = record {
     size = simp length-set;
     links = λ j h. kept j (λ z. omega arith) (λ z. omega arith) (λ z. omega arith);
-    count = getD-set-other (set (set run 16 n) 17 len) 18 16 label 0 (λ z. omega arith) ∙ getD-set-other (set run 16 n) 17 16 len 0 (λ z. omega arith) ∙ getD-set-same run 16 n 0 (omega arith);
-    len-is = getD-set-other (set (set run 16 n) 17 len) 18 17 label 0 (λ z. omega arith) ∙ getD-set-same (set run 16 n) 17 len 0 (omega (arith, length-set run 16 n));
+    count = getD-set-other (set (set run 16 n) 17 len) 18 16 label 0 (λ z. omega arith) ∙ getD-set-other (set run 16 n) 17 16 len 0 (λ z. omega arith)
+        ∙ getD-set-same run 16 n 0 (omega arith);
+    len-is = getD-set-other (set (set run 16 n) 17 len) 18 17 label 0 (λ z. omega arith)
+        ∙ getD-set-same (set run 16 n) 17 len 0 (omega (arith, length-set run 16 n));
     label-is = getD-set-same (set (set run 16 n) 17 len) 18 label 0 (omega (arith, length-set (set run 16 n) 17 len, length-set run 16 n));
     after = λ k h. kept k (λ z. omega arith) (λ z. omega arith) (λ z. omega arith);
   }
 
-pub run-entered : {ws : List ℕ} (f : Labelled) {run run′ : List ℕ} {len label : ℕ} → (length run ≡ run-size) × (getD run 16 0 < 16) × (getD run 17 0 ≤ 544)
+pub run-entered : {ws : List ℕ} (f : Labelled) {run run′ : List ℕ} {len label : ℕ}
+    → (length run ≡ run-size) × (getD run 16 0 < 16) × (getD run 17 0 ≤ 544)
     → PathSet (set run (getD run 16 0) (f .link)) run′ (getD run 16 0 + 1) len label
-    → len ≡ getD run 17 0 + text-len (record-at ws (f .link)) + 1 → label ≡ pick (eqb (getD run 16 0) 0) (f .label) (getD run 18 0) → Entered ws f run run′
+    → len ≡ getD run 17 0 + text-len (record-at ws (f .link)) + 1
+    → label ≡ pick (eqb (getD run 16 0) 0) (f .label) (getD run 18 0) → Entered ws f run run′
 run-entered f {run} r s l b = record {
   down = record {
     size = s .size ∙ length-set run (getD run 16 0) (f .link);

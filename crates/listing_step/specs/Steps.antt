@@ -45,7 +45,8 @@ pub record Cuts (query : Str) (len matched : ℕ) (c : Cut) : Type 0 where
   pub rest : segments (drop (c .next) query) ≡ tail (segments query)
   pub last-one : length query ≤ c .next → bindings-search-term (segments query) ≡ ns-search-term (segments query)
   pub more : c .next < length query → bindings-search-term (segments query) ≡ NSTNone
-  pub steps : (path : PathOf) → len ≡ length (base path) → Matching path (segments query) matched → MatchingOn path prefix-is (tail (segments query)) (c .matched)
+  pub steps : (path : PathOf) → len ≡ length (base path) → Matching path (segments query) matched
+      → MatchingOn path prefix-is (tail (segments query)) (c .matched)
   pub fits : matched ≤ 4294967295 → c .matched ≤ 4294967295
 
 -- Bindings are skipped only where more than one segment is left, or the tally is past the limits.
@@ -59,7 +60,8 @@ begun run m = set (set run 19 (getD run 19 0 + 1)) 25 m
 
 -- What a run has before it enters a namespace.
 abbrev pub before-of : List ℕ → Before
-before-of run = record { n = path-in run .n; len = path-in run .len; label = path-in run .label; matched = matched-in run }
+before-of run =
+    record { n = path-in run .n; len = path-in run .len; label = path-in run .label; matched = matched-in run }
 
 -- The run with that again.
 unfoldable pub left : List ℕ → Before → List ℕ

@@ -80,7 +80,8 @@ fn set_path(run: &mut [usize; listing_output::RUN], n: usize, len: usize, label:
 // Puts a branch of namespaces onto the path. The answer is for `leave`.
 pub fn enter(words: &[u32], found: Labelled, run: &mut [usize; listing_output::RUN]) -> Before
     requires { ⌜ (0 < found .link) × (found .link * record-words ≤ length (now words)) ⌝ }
-    requires { ⌜ (length (now run) ≡ run-size) × (path-in (now run) .n < deepest-trie) × (path-in (now run) .len ≤ longest-query) ⌝ }
+    requires { ⌜ (length (now run) ≡ run-size) × (path-in (now run) .n < deepest-trie)
+        × (path-in (now run) .len ≤ longest-query) ⌝ }
     ensures { λ r. ⌜ r ≡ before-of (old run) ⌝ }
     ensures { λ _. ⌜ Entered (old words) found (old run) (new run) ⌝ }
 {

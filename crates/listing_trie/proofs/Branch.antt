@@ -49,7 +49,8 @@ module _ {ws txt : List ℕ} {w : Which} {branch : ℕ} (b : BranchAt ws txt w n
   child-reads = refl
 
 -- What an element has that an entry shows.
-module _ (ws txt : List ℕ) (w : Which) (v : Level) (o : Option Str) (branch label : ℕ) (x : PathElem × Value (Item w) v) (e : outer x ≡ shown w ws txt v o (record { branch = branch; label = label })) where
+module _ (ws txt : List ℕ) (w : Which) (v : Level) (o : Option Str) (branch label : ℕ) (x : PathElem × Value (Item w) v)
+    (e : outer x ≡ shown w ws txt v o (record { branch = branch; label = label })) where
   pub shown-value : x .1 ≡ held w ws txt v branch
   unfolding outer shown row-at
   shown-value = ap (λ y. y .1 .1) e
@@ -59,13 +60,15 @@ module _ (ws txt : List ℕ) (w : Which) (v : Level) (o : Option Str) (branch la
   shown-prefix = ap (λ y. y .1 .0 .prefix) e
 
 -- The line of a branch of bindings.
-pub leaf-runs : {ws txt : List ℕ} {rest : Str} {ask : Ask} {leaf : Bool} {f : Labelled} {run run′ flat flat′ out out′ : List ℕ} → leaf ≡ true
+pub leaf-runs : {ws txt : List ℕ} {rest : Str} {ask : Ask} {leaf : Bool} {f : Labelled}
+    {run run′ flat flat′ out out′ : List ℕ} → leaf ≡ true
     → Listed ws txt ask f run run′ flat flat′ out out′
     → BranchListed ws txt rest ask leaf run run′ flat flat′ out out′ f
 leaf-runs {ws} {txt} {rest} {ask} {leaf} {f} {run} {run′} {flat} {flat′} {out} {out′} e l = record { same = l .same; runs = go leaf e }
   where
     go : (z : Bool) → z ≡ true
-        → BranchRuns ws txt ask rest (path-in run) (limits-in run) (matched-in run) (tally-in run) (tally-in run′) flat flat′ out out′ z (f .link) (f .label)
+        → BranchRuns ws txt ask rest (path-in run) (limits-in run) (matched-in run) (tally-in run)
+        (tally-in run′) flat flat′ out out′ z (f .link) (f .label)
     go false e = absurd (true≢false (sym e))
     go true e = record {
       goes = λ path x o n on st sh dp.
@@ -77,7 +80,8 @@ module _ {ws txt : List ℕ} {ask : Ask} {rest : Str} {p : Path} {lim : Limits} 
     pub leaf-at : leaf ≡ true → BranchAt ws txt (asked ask) bind branch × LabelAt ws txt (asked ask) bind label
     leaf-at e = go leaf e (r .branch-at) (r .label-at)
       where
-        go : (z : Bool) → z ≡ true → BranchAt ws txt (asked ask) (level-of z) branch → LabelAt ws txt (asked ask) (level-of z) label
+        go : (z : Bool) → z ≡ true → BranchAt ws txt (asked ask) (level-of z) branch
+            → LabelAt ws txt (asked ask) (level-of z) label
             → BranchAt ws txt (asked ask) bind branch × LabelAt ws txt (asked ask) bind label
         go true e b l = (b, l)
         go false e b l = absurd (true≢false (sym e))
@@ -89,7 +93,8 @@ module _ {ws txt : List ℕ} {ask : Ask} {rest : Str} {p : Path} {lim : Limits} 
       pub space-at : BranchAt ws txt (asked ask) ns branch × LabelAt ws txt (asked ask) ns label
       space-at = go leaf e (r .branch-at) (r .label-at)
         where
-          go : (z : Bool) → z ≡ false → BranchAt ws txt (asked ask) (level-of z) branch → LabelAt ws txt (asked ask) (level-of z) label
+          go : (z : Bool) → z ≡ false → BranchAt ws txt (asked ask) (level-of z) branch
+              → LabelAt ws txt (asked ask) (level-of z) label
               → BranchAt ws txt (asked ask) ns branch × LabelAt ws txt (asked ask) ns label
           go false e b l = (b, l)
           go true e b l = absurd (true≢false e)
@@ -97,7 +102,8 @@ module _ {ws txt : List ℕ} {ask : Ask} {rest : Str} {p : Path} {lim : Limits} 
       pub below-ready : (length (p .links) ≡ run-size) × (p .n < 16) × (p .len ≤ 544)
       below-ready = let ok = r .ready .path-ok in (ok .sized, omega (arith, r .room e), omega (arith, ok .short, ok .few))
 
-      module _ {longer : Path} {child : ℕ} (d : PathDown ws p branch label longer) (c : child ≡ trie-link (record-at ws branch)) where
+      module _ {longer : Path} {child : ℕ} (d : PathDown ws p branch label longer)
+          (c : child ≡ trie-link (record-at ws branch)) where
         pub child-ready : TrieReady ws txt ask rest longer lim child
         child-ready = record {
           ready = record {
@@ -110,20 +116,25 @@ module _ {ws txt : List ℕ} {ask : Ask} {rest : Str} {p : Path} {lim : Limits} 
           room = rw c (omega (arith, r .room e, d .count, ap depth (child-reads (space-at .0))));
         }
 
-        pub space-runs : {matched : ℕ} {a t : Tally} {flat flat′ out out′ : List ℕ} → TrieRuns ws txt ask rest longer lim matched a t flat flat′ out out′ child
+        pub space-runs : {matched : ℕ} {a t : Tally} {flat flat′ out out′ : List ℕ}
+            → TrieRuns ws txt ask rest longer lim matched a t flat flat′ out out′ child
             → BranchRuns ws txt ask rest p lim matched a t flat flat′ out out′ leaf branch label
         space-runs {matched} {a} {t} {flat} {flat′} {out} {out′} runs = go leaf e
           where
-            go : (z : Bool) → z ≡ false → BranchRuns ws txt ask rest p lim matched a t flat flat′ out out′ z branch label
+            go : (z : Bool) → z ≡ false
+                → BranchRuns ws txt ask rest p lim matched a t flat flat′ out out′ z branch label
             go true e = absurd (true≢false e)
             go false e = record {
               goes = λ path x o n on st sh dp.
-                  let v : x .1 ≡ what (asked ask) ws txt child trieˢ = shown-value ws txt (asked ask) ns o branch label x sh ∙ child-reads (space-at .0) ∙ rw (← c) in
-                  rw v (runs .goes (x .0 ∷ path) n (on-path-down (r .ready .path-ok) (below-ready .1) (space-at .0) d path x o on sh) (st (x .0) (shown-prefix ws txt (asked ask) ns o branch label x sh)) (rw v at (dp refl)));
+                  let v : x .1 ≡ what (asked ask) ws txt child trieˢ =
+                  shown-value ws txt (asked ask) ns o branch label x sh ∙ child-reads (space-at .0) ∙ rw (← c) in
+                  rw v (runs .goes (x .0 ∷ path) n (on-path-down (r .ready .path-ok) (below-ready .1) (space-at .0) d path x o on sh)
+                  (st (x .0) (shown-prefix ws txt (asked ask) ns o branch label x sh)) (rw v at (dp refl)));
             }
 
 -- A line can be listed.
-pub line-ready : {ws txt : List ℕ} {rest : Str} {ask : Ask} {leaf : Bool} {f : Labelled} {run : List ℕ} → BranchAsked ws txt rest ask leaf run f
+pub line-ready : {ws txt : List ℕ} {rest : Str} {ask : Ask} {leaf : Bool} {f : Labelled} {run : List ℕ}
+    → BranchAsked ws txt rest ask leaf run f
     → leaf ≡ true → CanList ws txt ask f run
 line-ready r e = record {
   path-ok = r .can .ready .path-ok;
@@ -143,7 +154,8 @@ module _ {ws txt : List ℕ} {rest : Str} {ask : Ask} {f : Labelled} {run run₁
     fits = omega (arith, d .after 25 (omega arith), r .fits);
   }
 
-  module _ {run₂ flat flat′ out out′ : List ℕ} (t : TrieListed ws txt rest ask run₁ run₂ flat flat′ out out′ child) where
+  module _ {run₂ flat flat′ out out′ : List ℕ}
+      (t : TrieListed ws txt rest ask run₁ run₂ flat flat′ out out′ child) where
     pub namespace-sized : length run₂ ≡ run-size
     namespace-sized = t .same .size ∙ d .down .size ∙ r .can .ready .path-ok .sized
 
@@ -164,7 +176,8 @@ module _ {ws txt : List ℕ} {rest : Str} {ask : Ask} {f : Labelled} {run run₁
       limits-same = limits-after run₂ back (set-back .after) ∙ t .same .limits-same ∙ limits-after run run₁ (d .after);
     }
 
-    pub namespace-runs : {b : Before} {run₃ : List ℕ} → b ≡ before-of run → run₃ ≡ left run₂ b → BranchListed ws txt rest ask false run run₃ flat flat′ out out′ f
+    pub namespace-runs : {b : Before} {run₃ : List ℕ} → b ≡ before-of run → run₃ ≡ left run₂ b
+        → BranchListed ws txt rest ask false run run₃ flat flat′ out out′ f
     unfolding left
     namespace-runs e k = rw (k, e) (record {
       same = record {

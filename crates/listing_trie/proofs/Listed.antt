@@ -44,7 +44,8 @@ use Rattle.listing_line.specs.SameRun.{SameRun}
 use Rattle.listing_ask.specs.declared.Ask.{Ask}
 use Rattle.listing_annotation.specs.declared.Labelled.{Labelled}
 use Rattle.listing_line.proofs.Run.{same-run, same-then}
-use Rattle.listing_trie.specs.Runs.{HasRoom, level-of, elements-give, tree-entries, BranchReady, BranchRuns, TreeReady, EntriesRun, ListReady, ListRuns, BranchAsked, BranchListed, TreeAsked, TreeListed, ListAsked, ListListed}
+use Rattle.listing_trie.specs.Runs.{HasRoom, level-of, elements-give, tree-entries, BranchReady, BranchRuns, TreeReady, EntriesRun, ListReady, ListRuns}
+use Rattle.listing_trie.specs.Runs.{BranchAsked, BranchListed, TreeAsked, TreeListed, ListAsked, ListListed}
 use Rattle.listing_trie.specs.declared.Search.{Search}
 use Rattle.listing_trie.proofs.Runs.{branch-ready-at, branch-runs-at}
 use Rattle.listing_trie.proofs.EntriesRun.{Left, left-all, left-none, left-spent, left-next}
@@ -53,7 +54,8 @@ use Rattle.memory.proofs.What.{what-none}
 use Rattle.listing_line.proofs.Goes.{goes-none}
 
 -- What is found in a list of namespaces is less deep than the list.
-found-deep : {A : Type 0} {v : Level} (n : NameList A v) (term : SearchTerm) → Allˡ (λ x. depth (x .1) < depth-names n) (found n term)
+found-deep : {A : Type 0} {v : Level} (n : NameList A v) (term : SearchTerm)
+    → Allˡ (λ x. depth (x .1) < depth-names n) (found n term)
 unfolding found
 found-deep n term = Allˡ-reverse _ (names-find-rev-first n term) [] (names-find-first-depth n term) tt
 
@@ -62,7 +64,8 @@ pub no-label : {ws txt : List ℕ} {w : Which} {v : Level} {n used : ℕ} → Us
 no-label {w = w} {v} o = record { at = at-in o w (list v) (no-link _ _); imports = λ h. absurd (omega arith) }
 
 -- A label no later than a list.
-label-here : {ws txt : List ℕ} {w : Which} {v : Level} {x label : ℕ} → At ws txt w (list v) x → LabelOk ws w v x label → LabelAt ws txt w v label
+label-here : {ws txt : List ℕ} {w : Which} {v : Level} {x label : ℕ} → At ws txt w (list v) x → LabelOk ws w v x label
+    → LabelAt ws txt w v label
 label-here {v = v} t o = record { at = at-of t (list v) (omega arith) (o .link); imports = o .imports }
 
 -- ---- A tree's branches
@@ -79,11 +82,13 @@ module _ {ws txt : List ℕ} {w : Which} {v : Level} {root : ℕ} (t : At ws txt
   pub record Standing (at : ℕ) : Type 0 where
     pub matching : (at ≡ 0 → ⊥) → MatchOf ws txt w v root prefix at
 
-  first-onward : (at : ℕ) → at ≡ head0 (matches ws txt root prefix) → (onward ws txt prefix root at ≡ matches ws txt root prefix) × Standing at
+  first-onward : (at : ℕ) → at ≡ head0 (matches ws txt root prefix)
+      → (onward ws txt prefix root at ≡ matches ws txt root prefix) × Standing at
   unfolding onward
   first-onward at e = go (matches ws txt root prefix) refl (matches-of t prefix) (matches-increasing t prefix) e
     where
-      go : (l : List ℕ) → matches ws txt root prefix ≡ l → Allˡ (MatchOf ws txt w v root prefix) l → Increasing (key-at ws txt) l → at ≡ head0 l
+      go : (l : List ℕ) → matches ws txt root prefix ≡ l → Allˡ (MatchOf ws txt w v root prefix) l
+          → Increasing (key-at ws txt) l → at ≡ head0 l
           → (cond (eqb at 0) [] (at ∷ later ws txt prefix root at) ≡ l) × Standing at
       go [] q a i e = (rw (eq-eqb at 0 e), record { matching = λ n. absurd (n e) })
       go (y ∷ l) q a i e = (
@@ -91,30 +96,41 @@ module _ {ws txt : List ℕ} {w : Which} {v : Level} {root : ℕ} (t : At ws txt
         record { matching = λ n. rw e (a .0) },
       )
 
-  next-onward : (at r : ℕ) → (at ≡ 0 → ⊥) → r ≡ head0 (later ws txt prefix root at) → (onward ws txt prefix root at ≡ at ∷ onward ws txt prefix root r) × Standing r
+  next-onward : (at r : ℕ) → (at ≡ 0 → ⊥) → r ≡ head0 (later ws txt prefix root at)
+      → (onward ws txt prefix root at ≡ at ∷ onward ws txt prefix root r) × Standing r
   unfolding onward
   next-onward at r n e = go (ℕ-discrete r 0)
     where
-      go : Dec (r ≡ 0) → (cond (eqb at 0) [] (at ∷ later ws txt prefix root at) ≡ at ∷ cond (eqb r 0) [] (r ∷ later ws txt prefix root r)) × Standing r
+      go : Dec (r ≡ 0) → (cond (eqb at 0) [] (at ∷ later ws txt prefix root at)
+          ≡ at ∷ cond (eqb r 0) [] (r ∷ later ws txt prefix root r)) × Standing r
       go (yes z) = (rw (ne-eqb at 0 n, eq-eqb r 0 z, later-end t prefix at (sym e ∙ z)), record { matching = λ m. absurd (m z) })
       go (no m) = let k = later-next t prefix at r e m in (rw (ne-eqb at 0 n, ne-eqb r 0 m, k .is-next), record { matching = λ m. k .match })
 
-module _ (ws txt : List ℕ) (ask : Ask) (rest : Str) (p : Path) (lim : Limits) (matched : ℕ) (leaf : Bool) (root label : ℕ) (prefix : Str) where
+module _ (ws txt : List ℕ) (ask : Ask) (rest : Str) (p : Path) (lim : Limits) (matched : ℕ) (leaf : Bool)
+    (root label : ℕ) (prefix : Str) where
   -- The run over a tree has come to the branch at.
   pub record Along (a t : Tally) (flat flat′ out out′ : List ℕ) (at : ℕ) : Type 0 where
     pub tree-at : At ws txt (asked ask) (tree (level-of leaf)) root
-    pub left : Left ws txt ask rest p lim matched leaf a t flat flat′ out out′ (tree-entries ws txt root label prefix) (labelled label (onward ws txt prefix root at))
+    pub left : Left ws txt ask rest p lim matched leaf a t flat flat′ out out′ (tree-entries ws txt root label prefix)
+        (labelled label (onward ws txt prefix root at))
     pub standing : Standing tree-at prefix at
 
-module _ {ws txt : List ℕ} {ask : Ask} {rest : Str} {p : Path} {lim : Limits} {matched : ℕ} {leaf : Bool} {root label : ℕ} {prefix : Str} where
-  pub along-first : {a : Tally} {flat out : List ℕ} {at : ℕ} → TreeReady ws txt ask rest p lim leaf root label prefix → at ≡ head0 (matches ws txt root prefix)
+module _ {ws txt : List ℕ} {ask : Ask} {rest : Str} {p : Path} {lim : Limits} {matched : ℕ} {leaf : Bool}
+    {root label : ℕ} {prefix : Str} where
+  pub along-first : {a : Tally} {flat out : List ℕ} {at : ℕ} → TreeReady ws txt ask rest p lim leaf root label prefix
+      → at ≡ head0 (matches ws txt root prefix)
       → Along ws txt ask rest p lim matched leaf root label prefix a a flat flat out out at
   unfolding tree-entries
   along-first {at = at} r e =
       let f = first-onward (r .tree-at) prefix at e in
-      record { tree-at = r .tree-at; left = rw (f .0) (left-all ws txt ask rest p lim matched leaf (r .room)); standing = f .1 }
+      record {
+        tree-at = r .tree-at;
+        left = rw (f .0) (left-all ws txt ask rest p lim matched leaf (r .room));
+        standing = f .1;
+      }
 
-  module _ {a t : Tally} {flat flat′ out out′ : List ℕ} {at : ℕ} (g : Along ws txt ask rest p lim matched leaf root label prefix a t flat flat′ out out′ at) where
+  module _ {a t : Tally} {flat flat′ out out′ : List ℕ} {at : ℕ}
+      (g : Along ws txt ask rest p lim matched leaf root label prefix a t flat flat′ out out′ at) where
     module _ (n : at ≡ 0 → ⊥) where
       here : MatchOf ws txt (asked ask) (level-of leaf) root prefix at
       here = g .standing .matching n
@@ -125,11 +141,13 @@ module _ {ws txt : List ℕ} {ask : Ask} {rest : Str} {p : Path} {lim : Limits} 
       branch-here : BranchAt ws txt (asked ask) (level-of leaf) at
       branch-here = record { some = here .branch .some; at = at-of (g .tree-at) (tree (level-of leaf)) (omega arith) (here .branch .link) }
 
-      split : labelled label (onward ws txt prefix root at) ≡ record { branch = at; label = label } ∷ labelled label (later ws txt prefix root at)
+      split : labelled label (onward ws txt prefix root at)
+          ≡ record { branch = at; label = label } ∷ labelled label (later ws txt prefix root at)
       unfolding onward
       split = rw (ne-eqb at 0 n)
 
-      pub along-branch : TreeReady ws txt ask rest p lim leaf root label prefix → BranchReady ws txt ask rest p lim leaf at label
+      pub along-branch : TreeReady ws txt ask rest p lim leaf root label prefix
+          → BranchReady ws txt ask rest p lim leaf at label
       along-branch r = record {
         ready = r .ready;
         branch-at = branch-here;
@@ -143,8 +161,12 @@ module _ {ws txt : List ℕ} {ask : Ask} {rest : Str} {p : Path} {lim : Limits} 
       pub along-begins : starts-with (key-at ws txt at) prefix ≡ true
       along-begins = here .begins
 
-      module _ {t′ : Tally} {flat″ out″ : List ℕ} (b : BranchRuns ws txt ask rest p lim matched t t′ flat′ flat″ out′ out″ leaf at label) (lf : length flat″ ≡ length flat′) (lo : length out″ ≡ length out′) where
-        pub along-spent : lim .budget < t′ .entered → EntriesRun ws txt ask rest p lim matched a t′ flat flat″ out out″ leaf (tree-entries ws txt root label prefix)
+      module _ {t′ : Tally} {flat″ out″ : List ℕ}
+          (b : BranchRuns ws txt ask rest p lim matched t t′ flat′ flat″ out′ out″ leaf at label)
+          (lf : length flat″ ≡ length flat′) (lo : length out″ ≡ length out′) where
+        pub along-spent : lim .budget < t′ .entered
+            → EntriesRun ws txt ask rest p lim matched a t′ flat flat″ out out″ leaf
+            (tree-entries ws txt root label prefix)
         along-spent s = left-spent ws txt ask rest p lim matched leaf (left-next ws txt ask rest p lim matched leaf (rw split at (g .left)) b lf lo) s
 
         module _ {r : ℕ} (e : r ≡ head0 (later ws txt prefix root at)) where
@@ -160,25 +182,31 @@ module _ {ws txt : List ℕ} {ask : Ask} {rest : Str} {p : Path} {lim : Limits} 
           pub along-less : length (onward ws txt prefix root r) < length (onward ws txt prefix root at)
           along-less = let f = next-onward (g .tree-at) prefix at r n e in omega (arith, ap length (f .0))
 
-    pub along-done : at ≡ 0 → EntriesRun ws txt ask rest p lim matched a t flat flat′ out out′ leaf (tree-entries ws txt root label prefix)
+    pub along-done : at ≡ 0
+        → EntriesRun ws txt ask rest p lim matched a t flat flat′ out out′ leaf (tree-entries ws txt root label prefix)
     unfolding onward
     along-done z = left-none ws txt ask rest p lim matched leaf (rw (eq-eqb at 0 z) at (g .left))
 
 -- The run, with notes of the branches after the one at hand.
-module _ (ws txt : List ℕ) (query : Str) (place : Search) (f : Labelled) (run run′ flat flat′ out out′ notes : List ℕ) (s : Next) where
+module _ (ws txt : List ℕ) (query : Str) (place : Search) (f : Labelled) (run run′ flat flat′ out out′ notes : List ℕ)
+    (s : Next) where
   pub record Stepping : Type 0 where
     pub same : SameRun run run′
-    pub along : Along ws txt (place .ask) (drop (place .next) query) (path-in run) (limits-in run) (matched-in run) (place .leaf)
+    pub along : Along ws txt (place .ask) (drop (place .next) query) (path-in run) (limits-in run) (matched-in run)
+        (place .leaf)
         (f .link) (f .label) (take (place .len) query) (tally-in run) (tally-in run′) flat flat′ out out′ (s .link)
-    pub noted : (s .link ≡ 0 → ⊥) → Noted ws txt (take (place .len) query) notes (s .n) (s .link) (later ws txt (take (place .len) query) (f .link) (s .link))
+    pub noted : (s .link ≡ 0 → ⊥) → Noted ws txt (take (place .len) query) notes (s .n) (s .link)
+        (later ws txt (take (place .len) query) (f .link) (s .link))
 
-noted-after : (ws txt : List ℕ) (prefix : Str) (root : ℕ) {notes : List ℕ} {l : List ℕ} {s : Next} → Matched ws txt prefix notes l s → onward ws txt prefix root (s .link) ≡ l → (s .link ≡ 0 → ⊥)
+noted-after : (ws txt : List ℕ) (prefix : Str) (root : ℕ) {notes : List ℕ} {l : List ℕ} {s : Next}
+    → Matched ws txt prefix notes l s → onward ws txt prefix root (s .link) ≡ l → (s .link ≡ 0 → ⊥)
     → Noted ws txt prefix notes (s .n) (s .link) (later ws txt prefix root (s .link))
 unfolding onward
 noted-after ws txt prefix root {s = s} w e n = w .noted (s .link) (later ws txt prefix root (s .link)) (sym e ∙ rw (ne-eqb (s .link) 0 n))
 
 module _ {ws txt : List ℕ} {query : Str} {place : Search} {f : Labelled} {run : List ℕ} where
-  pub stepping-first : {flat out notes : List ℕ} {s : Next} → TreeAsked ws txt query place run f → Matched ws txt (take (place .len) query) notes (matches ws txt (f .link) (take (place .len) query)) s
+  pub stepping-first : {flat out notes : List ℕ} {s : Next} → TreeAsked ws txt query place run f
+      → Matched ws txt (take (place .len) query) notes (matches ws txt (f .link) (take (place .len) query)) s
       → Stepping ws txt query place f run run flat flat out out notes s
   stepping-first {s = s} r w = record {
     same = same-run run;
@@ -186,7 +214,8 @@ module _ {ws txt : List ℕ} {query : Str} {place : Search} {f : Labelled} {run 
     noted = noted-after ws txt (take (place .len) query) (f .link) w (first-onward (r .can .tree-at) (take (place .len) query) (s .link) (w .head) .0);
   }
 
-  module _ {run′ flat flat′ out out′ notes : List ℕ} {s : Next} (g : Stepping ws txt query place f run run′ flat flat′ out out′ notes s) where
+  module _ {run′ flat flat′ out out′ notes : List ℕ} {s : Next}
+      (g : Stepping ws txt query place f run run′ flat flat′ out out′ notes s) where
     abbrev pub at-hand : Labelled
     at-hand = record { link = s .link; label = f .label }
 
@@ -194,41 +223,51 @@ module _ {ws txt : List ℕ} {query : Str} {place : Search} {f : Labelled} {run 
     stepping-done z = record { same = g .same; runs = along-done (g .along) z }
 
     module _ (n : s .link ≡ 0 → ⊥) where
-      pub stepping-branch : TreeAsked ws txt query place run f → BranchAsked ws txt (drop (place .next) query) (place .ask) (place .leaf) run′ at-hand
+      pub stepping-branch : TreeAsked ws txt query place run f
+          → BranchAsked ws txt (drop (place .next) query) (place .ask) (place .leaf) run′ at-hand
       stepping-branch r = record {
         can = branch-ready-at (g .same .path) (along-branch (g .along) n (r .can));
         fits = omega (arith, g .same .matched-same, r .place-ok .fits);
       }
 
       module _ {run″ flat″ out″ : List ℕ}
-          (b : BranchListed ws txt (drop (place .next) query) (place .ask) (place .leaf) run′ run″ flat′ flat″ out′ out″ at-hand)
+          (b : BranchListed ws txt (drop (place .next) query) (place .ask)
+          (place .leaf) run′ run″ flat′ flat″ out′ out″ at-hand)
           (lf : length flat″ ≡ length flat′) (lo : length out″ ≡ length out′) where
-        pub stepping-spent : getD run 22 0 < getD run″ 19 0 → TreeListed ws txt query place run run″ flat flat″ out out″ f
+        pub stepping-spent : getD run 22 0 < getD run″ 19 0
+            → TreeListed ws txt query place run run″ flat flat″ out out″ f
         stepping-spent k = record {
           same = same-then (g .same) (b .same);
           runs = along-spent (g .along) n (branch-runs-at (g .same .path) (g .same .matched-same) (b .runs)) lf lo k;
         }
 
-        module _ {notes′ : List ℕ} {s′ : Next} (w : Matched ws txt (take (place .len) query) notes′ (later ws txt (take (place .len) query) (f .link) (s .link)) s′) where
+        module _ {notes′ : List ℕ} {s′ : Next}
+            (w : Matched ws txt (take (place .len) query) notes′
+            (later ws txt (take (place .len) query) (f .link) (s .link)) s′) where
           pub stepping-next : Stepping ws txt query place f run run″ flat flat″ out out″ notes′ s′
           unfolding onward
           stepping-next = record {
             same = same-then (g .same) (b .same);
             along = along-next (g .along) n (branch-runs-at (g .same .path) (g .same .matched-same) (b .runs)) lf lo (w .head);
-            noted = noted-after ws txt (take (place .len) query) (f .link) w (let e = next-onward (g .along .tree-at) (take (place .len) query) (s .link) (s′ .link) n (w .head) .0 in tail-of (sym (rw (ne-eqb (s .link) 0 n) at e)));
+            noted = noted-after ws txt (take (place .len) query) (f .link) w
+                (let e = next-onward (g .along .tree-at) (take (place .len) query) (s .link) (s′ .link) n (w .head) .0 in
+                tail-of (sym (rw (ne-eqb (s .link) 0 n) at e)));
           }
             where
               tail-of : {x : ℕ} {l m : List ℕ} → x ∷ l ≡ x ∷ m → l ≡ m
               tail-of e = cc
 
-          pub stepping-less : length (onward ws txt (take (place .len) query) (f .link) (s′ .link)) < length (onward ws txt (take (place .len) query) (f .link) (s .link))
+          pub stepping-less : length (onward ws txt (take (place .len) query) (f .link) (s′ .link))
+              < length (onward ws txt (take (place .len) query) (f .link) (s .link))
           stepping-less = along-less (g .along) n (branch-runs-at (g .same .path) (g .same .matched-same) (b .runs)) lf lo (w .head)
 
 -- ---- A list
 
 -- Entries that show what is found in a list leave room, where the list does.
-all-shown : (ws txt : List ℕ) (w : Which) (v : Level) (o : Option Str) (P : Value (Item w) v → Type 0) (xs : List (PathElem × Value (Item w) v)) (es : List Entry)
-    → map outer xs ≡ map (shown w ws txt v o) es → Allˡ (λ x. P (x .1)) xs → Allˡ (λ e. P (held w ws txt v (e .branch))) es
+all-shown : (ws txt : List ℕ) (w : Which) (v : Level) (o : Option Str) (P : Value (Item w) v → Type 0)
+    (xs : List (PathElem × Value (Item w) v)) (es : List Entry)
+    → map outer xs ≡ map (shown w ws txt v o) es → Allˡ (λ x. P (x .1)) xs
+    → Allˡ (λ e. P (held w ws txt v (e .branch))) es
 unfolding outer shown row-at
 all-shown ws txt w v o P [] [] q a = tt
 all-shown ws txt w v o P [] (e ∷ es) q a = absurd (nil≢cons q)
@@ -238,27 +277,36 @@ all-shown ws txt w v o P (x ∷ xs) (e ∷ es) q a =
     let q′ : map outer xs ≡ map (shown w ws txt v o) es = cc in
     (subst P (ap (λ y. y .1 .1) h) (a .0), all-shown ws txt w v o P xs es q′ (a .1))
 
-module _ {ws txt : List ℕ} {ask : Ask} {rest : Str} {p : Path} {lim : Limits} {leaf : Bool} {x : ℕ} (r : ListReady ws txt ask rest p lim leaf x) where
+module _ {ws txt : List ℕ} {ask : Ask} {rest : Str} {p : Path} {lim : Limits} {leaf : Bool} {x : ℕ}
+    (r : ListReady ws txt ask rest p lim leaf x) where
   pub list-any : AnyList ws txt x
   list-any = record { which = asked ask; level = level-of leaf; list = r .list-at }
 
   pub list-room : (prefix : Str) (es : List Entry)
-      → ((term : SearchTerm) (o : Option Str) → Asks term prefix o → map outer (found (what (asked ask) ws txt x (list (level-of leaf))) term) ≡ map (shown (asked ask) ws txt (level-of leaf) o) es)
+      → ((term : SearchTerm) (o : Option Str) → Asks term prefix o
+      → map outer (found (what (asked ask) ws txt x (list (level-of leaf))) term)
+      ≡ map (shown (asked ask) ws txt (level-of leaf) o) es)
       → leaf ≡ false → Allˡ (HasRoom ws txt ask p) es
   list-room prefix es says e = go leaf e (says (NSTPrefix prefix) (some prefix) by-prefix)
     where
-      go : (z : Bool) → z ≡ false → map outer (found (what (asked ask) ws txt x (list (level-of z))) (NSTPrefix prefix)) ≡ map (shown (asked ask) ws txt (level-of z) (some prefix)) es
+      go : (z : Bool) → z ≡ false → map outer (found (what (asked ask) ws txt x (list (level-of z))) (NSTPrefix prefix))
+          ≡ map (shown (asked ask) ws txt (level-of z) (some prefix)) es
           → Allˡ (HasRoom ws txt ask p) es
       go true z q = absurd (true≢false z)
       go false z q =
           let n : NameList (Item (asked ask)) ns = what (asked ask) ws txt x (list ns) in
           all-shown ws txt (asked ask) ns (some prefix) (λ v. p .n + depth v < 16) (found n (NSTPrefix prefix)) es q
-          (Allˡ-map {P = λ y. depth (y .1) < depth-names n} {Q = λ y. p .n + depth (y .1) < 16} (found n (NSTPrefix prefix)) (λ y h. omega (arith, r .room e)) (found-deep n (NSTPrefix prefix)))
+          (Allˡ-map {P = λ y. depth (y .1) < depth-names n} {Q = λ y. p .n + depth (y .1) < 16} (found n (NSTPrefix prefix)) (λ y h. omega (arith, r .room e))
+          (found-deep n (NSTPrefix prefix)))
 
 -- What runs over entries that show what is found runs over the list.
-pub entries-list : {ws txt : List ℕ} {ask : Ask} {rest : Str} {p : Path} {lim : Limits} {matched : ℕ} {leaf : Bool} {x : ℕ} {prefix : Str} {es : List Entry} {a t : Tally} {flat flat′ out out′ : List ℕ}
-    → ((term : SearchTerm) (o : Option Str) → Asks term prefix o → map outer (found (what (asked ask) ws txt x (list (level-of leaf))) term) ≡ map (shown (asked ask) ws txt (level-of leaf) o) es)
-    → EntriesRun ws txt ask rest p lim matched a t flat flat′ out out′ leaf es → ListRuns ws txt ask rest p lim matched a t flat flat′ out out′ leaf x prefix
+pub entries-list : {ws txt : List ℕ} {ask : Ask} {rest : Str} {p : Path} {lim : Limits} {matched : ℕ} {leaf : Bool}
+    {x : ℕ} {prefix : Str} {es : List Entry} {a t : Tally} {flat flat′ out out′ : List ℕ}
+    → ((term : SearchTerm) (o : Option Str) → Asks term prefix o
+    → map outer (found (what (asked ask) ws txt x (list (level-of leaf))) term)
+    ≡ map (shown (asked ask) ws txt (level-of leaf) o) es)
+    → EntriesRun ws txt ask rest p lim matched a t flat flat′ out out′ leaf es
+    → ListRuns ws txt ask rest p lim matched a t flat flat′ out out′ leaf x prefix
 entries-list {ws} {txt} {ask} {leaf = leaf} {x} says runs = record {
   goes = λ path term o n on st asks dp.
       let l : NameList (Item (asked ask)) (level-of leaf) = what (asked ask) ws txt x (list (level-of leaf)) in
@@ -275,16 +323,21 @@ found-empty n e NSTNone = refl
 found-empty n e (NSTPrefix []) = rw e
 found-empty n e (NSTPrefix (b ∷ id)) = rw e
 
-pub none-runs : {ws txt : List ℕ} {query : Str} {place : Search} {run flat out : List ℕ} {x : ℕ} → x ≡ 0 → ListListed ws txt query place run run flat flat out out x
+pub none-runs : {ws txt : List ℕ} {query : Str} {place : Search} {run flat out : List ℕ} {x : ℕ} → x ≡ 0
+    → ListListed ws txt query place run run flat flat out out x
 unfolding elements-give
 none-runs {ws} {txt} {place = place} {run = run} {flat} {out} {x} e = record {
   same = same-run run;
-  runs = record { goes = λ path term o n on st asks dp. rw (found-empty (what (asked (place .ask)) ws txt x (list (level-of (place .leaf)))) (rw (e, what-none (asked (place .ask)) ws txt)) term) (goes-none (tally-in run) flat out) };
+  runs = record {
+    goes = λ path term o n on st asks dp. rw (found-empty (what (asked (place .ask)) ws txt x (list (level-of (place .leaf))))
+        (rw (e, what-none (asked (place .ask)) ws txt)) term) (goes-none (tally-in run) flat out);
+  };
 }
 
 -- ---- One tree
 
-module _ {ws txt : List ℕ} {query : Str} {place : Search} {run : List ℕ} {x root label : ℕ} (r : ListAsked ws txt query place run x)
+module _ {ws txt : List ℕ} {query : Str} {place : Search} {run : List ℕ} {x root label : ℕ}
+    (r : ListAsked ws txt query place run x)
     (o : OneTree ws txt (asked (place .ask)) (level-of (place .leaf)) x (take (place .len) query) root label) where
   abbrev pub alone : Labelled
   alone = record { link = root; label = label }
@@ -294,7 +347,8 @@ module _ {ws txt : List ℕ} {query : Str} {place : Search} {run : List ℕ} {x 
 
   one-says : (term : SearchTerm) (q : Option Str) → Asks term (take (place .len) query) q
       → map outer (found (what (asked (place .ask)) ws txt x (list (level-of (place .leaf)))) term)
-      ≡ map (shown (asked (place .ask)) ws txt (level-of (place .leaf)) q) (tree-entries ws txt root label (take (place .len) query))
+      ≡ map (shown (asked (place .ask)) ws txt (level-of (place .leaf)) q)
+      (tree-entries ws txt root label (take (place .len) query))
   unfolding tree-entries
   one-says term q asks = o .says term q asks
 
@@ -309,12 +363,14 @@ module _ {ws txt : List ℕ} {query : Str} {place : Search} {run : List ℕ} {x 
     };
   }
 
-  pub one-runs : {run′ flat flat′ out out′ : List ℕ} → TreeListed ws txt query place run run′ flat flat′ out out′ alone → ListListed ws txt query place run run′ flat flat′ out out′ x
+  pub one-runs : {run′ flat flat′ out out′ : List ℕ} → TreeListed ws txt query place run run′ flat flat′ out out′ alone
+      → ListListed ws txt query place run run′ flat flat′ out out′ x
   one-runs t = record { same = t .same; runs = entries-list one-says (t .runs) }
 
 -- ---- A merge
 
-module _ (ws txt : List ℕ) (query : Str) (place : Search) (x : ℕ) (run run′ flat flat′ out out′ : List ℕ) (m : Merge) where
+module _ (ws txt : List ℕ) (query : Str) (place : Search) (x : ℕ) (run run′ flat flat′ out out′ : List ℕ)
+    (m : Merge) where
   -- The run over a list has come to what the state m gives.
   pub record Merging : Type 0 where
     pub same : SameRun run run′
@@ -324,11 +380,13 @@ module _ (ws txt : List ℕ) (query : Str) (place : Search) (x : ℕ) (run run�
         ≡ map (shown (asked (place .ask)) ws txt (level-of (place .leaf)) o) all
     pub entries : List Entry
     pub gives : M.Rest ws txt (asked (place .ask)) (level-of (place .leaf)) x (take (place .len) query) m entries
-    pub left : Left ws txt (place .ask) (drop (place .next) query) (path-in run) (limits-in run) (matched-in run) (place .leaf)
+    pub left : Left ws txt (place .ask) (drop (place .next) query) (path-in run) (limits-in run) (matched-in run)
+        (place .leaf)
         (tally-in run) (tally-in run′) flat flat′ out out′ all entries
 
 module _ {ws txt : List ℕ} {query : Str} {place : Search} {x : ℕ} {run : List ℕ} where
-  pub merging-first : {flat out : List ℕ} {m : Merge} → ListAsked ws txt query place run x → Starts ws txt x (take (place .len) query) m → Merging ws txt query place x run run flat flat out out m
+  pub merging-first : {flat out : List ℕ} {m : Merge} → ListAsked ws txt query place run x
+      → Starts ws txt x (take (place .len) query) m → Merging ws txt query place x run run flat flat out out m
   merging-first r s =
       let k = s (asked (place .ask)) (level-of (place .leaf)) (r .can .list-at) in
       record {
@@ -337,11 +395,13 @@ module _ {ws txt : List ℕ} {query : Str} {place : Search} {x : ℕ} {run : Lis
         says = k .says;
         entries = k .entries;
         gives = k .rest;
-        left = left-all ws txt (place .ask) (drop (place .next) query) (path-in run) (limits-in run) (matched-in run) (place .leaf)
+        left = left-all ws txt (place .ask) (drop (place .next) query) (path-in run) (limits-in run) (matched-in run)
+            (place .leaf)
             (list-room (r .can) (take (place .len) query) (k .entries) (k .says));
       }
 
-  module _ {run′ flat flat′ out out′ : List ℕ} {m : Merge} (g : Merging ws txt query place x run run′ flat flat′ out out′ m) where
+  module _ {run′ flat flat′ out out′ : List ℕ} {m : Merge}
+      (g : Merging ws txt query place x run run′ flat flat′ out out′ m) where
     pub merging-any : AnyRest ws txt (take (place .len) query) m
     merging-any = rest-any (g .gives)
 
@@ -359,7 +419,8 @@ module _ {ws txt : List ℕ} {query : Str} {place : Search} {x : ℕ} {run : Lis
         pub merging-less : left-in ws txt (take (place .len) query) (s .m) < left-in ws txt (take (place .len) query) m
         merging-less = gives-more (g .gives) f n .given .fewer
 
-        pub merging-branch : ListAsked ws txt query place run x → BranchAsked ws txt (drop (place .next) query) (place .ask) (place .leaf) run′ given
+        pub merging-branch : ListAsked ws txt query place run x
+            → BranchAsked ws txt (drop (place .next) query) (place .ask) (place .leaf) run′ given
         merging-branch r =
             let k = gives-more (g .gives) f n in
             let t = r .can .list-at in
@@ -367,14 +428,21 @@ module _ {ws txt : List ℕ} {query : Str} {place : Search} {x : ℕ} {run : Lis
               fits = omega (arith, g .same .matched-same, r .place-ok .fits);
               can = branch-ready-at (g .same .path) (record {
                 ready = r .can .ready;
-                branch-at = record { some = k .given .branch .some; at = at-of t (tree _) (omega arith) (k .given .branch .link) };
-                label-at = record { at = at-of t (list _) (omega arith) (k .given .label-ok .link); imports = k .given .label-ok .imports };
+                branch-at = record {
+                  some = k .given .branch .some;
+                  at = at-of t (tree _) (omega arith) (k .given .branch .link);
+                };
+                label-at = record {
+                  at = at-of t (list _) (omega arith) (k .given .label-ok .link);
+                  imports = k .given .label-ok .imports;
+                };
                 room = λ z. (rw (k .is) at (g .left .room z)) .0;
               });
             }
 
         module _ {run″ flat″ out″ : List ℕ}
-            (b : BranchListed ws txt (drop (place .next) query) (place .ask) (place .leaf) run′ run″ flat′ flat″ out′ out″ given)
+            (b : BranchListed ws txt (drop (place .next) query) (place .ask)
+            (place .leaf) run′ run″ flat′ flat″ out′ out″ given)
             (lf : length flat″ ≡ length flat′) (lo : length out″ ≡ length out′) where
           pub merging-next : Merging ws txt query place x run run″ flat flat″ out out″ (s .m)
           merging-next =
@@ -385,8 +453,14 @@ module _ {ws txt : List ℕ} {query : Str} {place : Search} {x : ℕ} {run : Lis
                 says = g .says;
                 entries = k .after;
                 gives = k .given .rest;
-                left = left-next ws txt _ _ _ _ _ _ (rw (k .is) at (g .left)) (branch-runs-at (g .same .path) (g .same .matched-same) (b .runs)) lf lo;
+                left = left-next ws txt _ _ _ _ _ _ (rw (k .is) at (g .left))
+                    (branch-runs-at (g .same .path) (g .same .matched-same) (b .runs)) lf lo;
               }
 
-          pub merging-spent : getD run 22 0 < getD run″ 19 0 → ListListed ws txt query place run run″ flat flat″ out out″ x
-          merging-spent z = record { same = merging-next .same; runs = entries-list (merging-next .says) (left-spent ws txt _ _ _ _ _ _ (merging-next .left) z) }
+          pub merging-spent : getD run 22 0 < getD run″ 19 0
+              → ListListed ws txt query place run run″ flat flat″ out out″ x
+          merging-spent z =
+              record {
+                same = merging-next .same;
+                runs = entries-list (merging-next .says) (left-spent ws txt _ _ _ _ _ _ (merging-next .left) z);
+              }

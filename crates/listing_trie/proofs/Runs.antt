@@ -13,10 +13,12 @@ use Rattle.listing_trie.specs.declared.Search.{Search}
 use Rattle.listing_trie.specs.Runs.{PlaceOk, RunReady, BranchReady, BranchRuns, ListReady, ListRuns}
 
 module _ {ws txt : List ℕ} {ask : Ask} {rest : Str} {run run′ : List ℕ} (s : SamePath run run′) where
-  ready-at : RunReady ws txt ask rest (path-in run) (limits-in run) → RunReady ws txt ask rest (path-in run′) (limits-in run′)
+  ready-at : RunReady ws txt ask rest (path-in run) (limits-in run)
+      → RunReady ws txt ask rest (path-in run′) (limits-in run′)
   ready-at r = record { path-ok = path-ok-at s (r .path-ok); ends = r .ends; short = r .short; small = rw (s .limits-same) (r .small) }
 
-  pub branch-ready-at : {leaf : Bool} {branch label : ℕ} → BranchReady ws txt ask rest (path-in run) (limits-in run) leaf branch label
+  pub branch-ready-at : {leaf : Bool} {branch label : ℕ}
+      → BranchReady ws txt ask rest (path-in run) (limits-in run) leaf branch label
       → BranchReady ws txt ask rest (path-in run′) (limits-in run′) leaf branch label
   branch-ready-at r = record { ready = ready-at (r .ready); branch-at = r .branch-at; label-at = r .label-at; room = λ z. omega (arith, s .count, r .room z) }
 
@@ -26,19 +28,25 @@ module _ {ws txt : List ℕ} {ask : Ask} {rest : Str} {run run′ : List ℕ} (s
 
   module _ {m : ℕ} (e : matched-in run′ ≡ m) {a t : Tally} {flat flat′ out out′ : List ℕ} {leaf : Bool} where
     pub branch-runs-at : {branch label : ℕ}
-        → BranchRuns ws txt ask rest (path-in run′) (limits-in run′) (matched-in run′) a t flat flat′ out out′ leaf branch label
+        → BranchRuns ws txt ask rest (path-in run′) (limits-in run′)
+        (matched-in run′) a t flat flat′ out out′ leaf branch label
         → BranchRuns ws txt ask rest (path-in run) (limits-in run) m a t flat flat′ out out′ leaf branch label
     branch-runs-at {branch} {label} b = rw (s .limits-same, e) at b′
       where
-        b′ : BranchRuns ws txt ask rest (path-in run) (limits-in run′) (matched-in run′) a t flat flat′ out out′ leaf branch label
+        b′ : BranchRuns ws txt ask rest (path-in run) (limits-in run′)
+            (matched-in run′) a t flat flat′ out out′ leaf branch label
         b′ = record { goes = λ path x o n on. b .goes path x o n (on-path-at s on) }
 
-    pub list-runs-at : {x : ℕ} {prefix : Str} → ListRuns ws txt ask rest (path-in run′) (limits-in run′) (matched-in run′) a t flat flat′ out out′ leaf x prefix
+    pub list-runs-at : {x : ℕ} {prefix : Str}
+        → ListRuns ws txt ask rest (path-in run′) (limits-in run′)
+        (matched-in run′) a t flat flat′ out out′ leaf x prefix
         → ListRuns ws txt ask rest (path-in run) (limits-in run) m a t flat flat′ out out′ leaf x prefix
     list-runs-at {x} {prefix} b = rw (s .limits-same, e) at b′
       where
-        b′ : ListRuns ws txt ask rest (path-in run) (limits-in run′) (matched-in run′) a t flat flat′ out out′ leaf x prefix
+        b′ : ListRuns ws txt ask rest (path-in run) (limits-in run′)
+            (matched-in run′) a t flat flat′ out out′ leaf x prefix
         b′ = record { goes = λ path term o n on. b .goes path term o n (on-path-at s on) }
 
-pub place-ok-at : {query : Str} {place : Search} {run run′ : List ℕ} → SameRun run run′ → PlaceOk query place run → PlaceOk query place run′
+pub place-ok-at : {query : Str} {place : Search} {run run′ : List ℕ} → SameRun run run′ → PlaceOk query place run
+    → PlaceOk query place run′
 place-ok-at s p = record { len-inside = p .len-inside; next-inside = p .next-inside; fits = omega (arith, s .matched-same, p .fits) }

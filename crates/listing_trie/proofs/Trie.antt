@@ -31,7 +31,8 @@ use Rattle.listing_line.proofs.Run.{path-then, same-set, tally-entered, run-ins
 use Rattle.listing_output.proofs.Written.{written-none}
 use Rattle.listing_line.proofs.Goes.{goes-none, goes-then, goes-past}
 use Rattle.listing_step.specs.Steps.{Matching, Cuts}
-use Rattle.listing_trie.specs.Runs.{trie-gives, elements-give, RunReady, ListReady, ListRuns, TrieReady, TrieRuns, PlaceOk, ListAsked, ListListed, TrieAsked, TrieListed}
+use Rattle.listing_trie.specs.Runs.{trie-gives, elements-give, RunReady, ListReady, ListRuns, TrieReady, TrieRuns, PlaceOk, ListAsked, ListListed}
+use Rattle.listing_trie.specs.Runs.{TrieAsked, TrieListed}
 use Rattle.listing_trie.specs.declared.Search.{Search}
 use Rattle.listing_step.specs.declared.Cut.{Cut}
 use Rattle.listing_trie.proofs.Runs.{list-ready-at, list-runs-at, place-ok-at}
@@ -89,13 +90,15 @@ module _ {w : Which} {ws txt : List ℕ} {lim : Limits} where
     writes = λ e l b s f. absurd (omega (arith, s .entered-is (omega (arith, f .entered-fit)), f .entered-fit));
   }
 
-module _ {ws txt : List ℕ} {ask : Ask} {query : Str} {p : Path} {lim : Limits} {trie-link : ℕ} (r : TrieReady ws txt ask query p lim trie-link) where
+module _ {ws txt : List ℕ} {ask : Ask} {query : Str} {p : Path} {lim : Limits} {trie-link : ℕ}
+    (r : TrieReady ws txt ask query p lim trie-link) where
   pub trie-over : {matched : ℕ} {a : Tally} {flat out : List ℕ} → lim .budget ≤ a .entered
       → TrieRuns ws txt ask query p lim matched a (record { entered = lim .budget + 1; lines = a .lines; bytes = a .bytes }) flat flat out out trie-link
   unfolding entered
   trie-over {matched} {a} {flat} {out} h = record { goes = λ path n on m d. goes-over a flat out _ h (some-entered n d) }
     where
-      some-entered : (n : ℕ) → depth (what (asked ask) ws txt trie-link trieˢ) < n → 1 ≤ entered n (what (asked ask) ws txt trie-link trieˢ) (segments query)
+      some-entered : (n : ℕ) → depth (what (asked ask) ws txt trie-link trieˢ) < n
+          → 1 ≤ entered n (what (asked ask) ws txt trie-link trieˢ) (segments query)
       some-entered zero d = absurd (omega arith)
       some-entered (suc n) d = omega arith
 
@@ -105,7 +108,8 @@ module _ {ws txt : List ℕ} {ask : Ask} {query : Str} {p : Path} {lim : Limits}
   pub cut-ready : (ends-in-dot query ≡ true) × (length query ≤ 544) × (p .len ≤ 544)
   cut-ready = (r .ready .ends, r .ready .short, omega (arith, r .ready .path-ok .short, r .ready .path-ok .few))
 
-  module _ {t : Trie} (seen : ReadTrie ws trie-link t) {matched : ℕ} {c : Cut} (cut : Cuts query (p .len) matched c) where
+  module _ {t : Trie} (seen : ReadTrie ws trie-link t) {matched : ℕ} {c : Cut}
+      (cut : Cuts query (p .len) matched c) where
     pub bindings-earlier : t .bindings ≤ trie-link
     bindings-earlier = omega (arith, lists-seen (r .trie-at) seen .bindings .earlier)
 
@@ -113,16 +117,24 @@ module _ {ws txt : List ℕ} {ask : Ask} {query : Str} {p : Path} {lim : Limits}
     namespaces-earlier = omega (arith, lists-seen (r .trie-at) seen .namespaces .earlier)
 
     rest-ready : RunReady ws txt ask (drop (c .next) query) p lim
-    rest-ready = record { path-ok = r .ready .path-ok; ends = cut .ends; short = omega (arith, length-drop (c .next) query, r .ready .short); small = r .ready .small }
+    rest-ready =
+        record {
+          path-ok = r .ready .path-ok;
+          ends = cut .ends;
+          short = omega (arith, length-drop (c .next) query, r .ready .short);
+          small = r .ready .small;
+        }
 
     pub trie-bindings-ready : ListReady ws txt ask (drop (c .next) query) p lim true (t .bindings)
     trie-bindings-ready = record { ready = rest-ready; list-at = bindings-at (r .trie-at) seen; room = λ z. absurd (true≢false z) }
 
-    deep : depth (what (asked ask) ws txt trie-link trieˢ) ≡ depth-names (what (asked ask) ws txt (t .namespaces) (list ns))
+    deep : depth (what (asked ask) ws txt trie-link trieˢ)
+        ≡ depth-names (what (asked ask) ws txt (t .namespaces) (list ns))
     unfolding depth namespaces
     deep = go (what (asked ask) ws txt trie-link trieˢ) (namespaces-read (r .trie-at) seen)
       where
-        go : (tr : Value (Item (asked ask)) ns) → what (asked ask) ws txt (t .namespaces) (list ns) ≡ namespaces tr → depth tr ≡ depth-names (what (asked ask) ws txt (t .namespaces) (list ns))
+        go : (tr : Value (Item (asked ask)) ns) → what (asked ask) ws txt (t .namespaces) (list ns) ≡ namespaces tr
+            → depth tr ≡ depth-names (what (asked ask) ws txt (t .namespaces) (list ns))
         go (trie b n) e = rw e
 
     pub trie-namespaces-ready : ListReady ws txt ask (drop (c .next) query) p lim false (t .namespaces)
@@ -131,50 +143,78 @@ module _ {ws txt : List ℕ} {ask : Ask} {query : Str} {p : Path} {lim : Limits}
     -- Both lists, or where more segments are left only the namespaces.
     module _ {a : Tally} (h : a .entered < lim .budget) where
       pub trie-both : {m e : Tally} {flat flat₁ flat₂ out out₁ out₂ : List ℕ} → length query ≤ c .next
-          → ListRuns ws txt ask (drop (c .next) query) p lim (c .matched) (inside a) m flat flat₁ out out₁ true (t .bindings) (take (c .len) query)
-          → ListRuns ws txt ask (drop (c .next) query) p lim (c .matched) m e flat₁ flat₂ out₁ out₂ false (t .namespaces) (take (c .len) query)
+          → ListRuns ws txt ask (drop (c .next) query) p lim (c .matched) (inside a) m flat flat₁ out out₁ true
+          (t .bindings) (take (c .len) query)
+          → ListRuns ws txt ask (drop (c .next) query) p lim (c .matched) m e flat₁ flat₂ out₁ out₂ false
+          (t .namespaces) (take (c .len) query)
           → TrieRuns ws txt ask query p lim matched a e flat flat₂ out out₂ trie-link
       trie-both {m} {e} {flat} {flat₁} {flat₂} {out} {out₁} {out₂} last b n = record { goes = λ path k on mt d. go path k on mt d }
         where
-          go : (path : PathOf) (k : ℕ) → OnPath ws txt p path → Matching path (segments query) matched → depth (what (asked ask) ws txt trie-link trieˢ) < k
-              → Goes (asked ask) ws txt lim a e flat flat₂ out out₂ (trie-gives ask k (what (asked ask) ws txt trie-link trieˢ) path (segments query))
+          go : (path : PathOf) (k : ℕ) → OnPath ws txt p path → Matching path (segments query) matched
+              → depth (what (asked ask) ws txt trie-link trieˢ) < k
+              → Goes (asked ask) ws txt lim a e flat flat₂ out out₂
+              (trie-gives ask k (what (asked ask) ws txt trie-link trieˢ) path (segments query))
           go path zero on mt d = absurd (omega arith)
           go path (suc k) on mt d =
               let st = cut .steps path (r .ready .path-ok .len-is ∙ ap length (on .text)) mt in
-              rw (trie-gives-is ask k (what (asked ask) ws txt trie-link trieˢ) path (segments query), ← bindings-read (r .trie-at) seen, ← namespaces-read (r .trie-at) seen, ← cut .rest, cut .last-one last)
+              rw (
+                trie-gives-is ask k (what (asked ask) ws txt trie-link trieˢ) path (segments query),
+                ← bindings-read (r .trie-at) seen,
+                ← namespaces-read (r .trie-at) seen,
+                ← cut .rest,
+                cut .last-one last,
+              )
               (goes-then (goes-once a flat out h)
               (goes-then
               (b .goes path _ (cut .prefix-is) k on (rw (cut .rest) st) (cut .asks) (λ z. absurd (true≢false z)))
               (n .goes path _ (cut .prefix-is) k on (rw (cut .rest) st) (cut .asks) (λ z. omega (arith, deep)))))
 
       pub trie-spaces : {e : Tally} {flat flat₂ out out₂ : List ℕ} → c .next < length query
-          → ListRuns ws txt ask (drop (c .next) query) p lim (c .matched) (inside a) e flat flat₂ out out₂ false (t .namespaces) (take (c .len) query)
+          → ListRuns ws txt ask (drop (c .next) query) p lim (c .matched) (inside a) e flat flat₂ out out₂ false
+          (t .namespaces) (take (c .len) query)
           → TrieRuns ws txt ask query p lim matched a e flat flat₂ out out₂ trie-link
       unfolding elements-give
       trie-spaces {e} {flat} {flat₂} {out} {out₂} more n = record { goes = λ path k on mt d. go path k on mt d }
         where
-          go : (path : PathOf) (k : ℕ) → OnPath ws txt p path → Matching path (segments query) matched → depth (what (asked ask) ws txt trie-link trieˢ) < k
-              → Goes (asked ask) ws txt lim a e flat flat₂ out out₂ (trie-gives ask k (what (asked ask) ws txt trie-link trieˢ) path (segments query))
+          go : (path : PathOf) (k : ℕ) → OnPath ws txt p path → Matching path (segments query) matched
+              → depth (what (asked ask) ws txt trie-link trieˢ) < k
+              → Goes (asked ask) ws txt lim a e flat flat₂ out out₂
+              (trie-gives ask k (what (asked ask) ws txt trie-link trieˢ) path (segments query))
           go path zero on mt d = absurd (omega arith)
           go path (suc k) on mt d =
               let st = cut .steps path (r .ready .path-ok .len-is ∙ ap length (on .text)) mt in
-              rw (trie-gives-is ask k (what (asked ask) ws txt trie-link trieˢ) path (segments query), ← bindings-read (r .trie-at) seen, ← namespaces-read (r .trie-at) seen, ← cut .rest, cut .more more, found-none)
+              rw (
+                trie-gives-is ask k (what (asked ask) ws txt trie-link trieˢ) path (segments query),
+                ← bindings-read (r .trie-at) seen,
+                ← namespaces-read (r .trie-at) seen,
+                ← cut .rest,
+                cut .more more,
+                found-none,
+              )
               (goes-then (goes-once a flat out h)
               (goes-then (goes-none (inside a) flat out)
               (n .goes path _ (cut .prefix-is) k on (rw (cut .rest) st) (cut .asks) (λ z. omega (arith, deep)))))
 
       -- Where lines or bytes are past the limits the bindings need no counting.
       pub trie-past : {e : Tally} {flat flat₂ out out₂ : List ℕ} → Past lim (a .lines) (a .bytes)
-          → ListRuns ws txt ask (drop (c .next) query) p lim (c .matched) (inside a) e flat flat₂ out out₂ false (t .namespaces) (take (c .len) query)
+          → ListRuns ws txt ask (drop (c .next) query) p lim (c .matched) (inside a) e flat flat₂ out out₂ false
+          (t .namespaces) (take (c .len) query)
           → TrieRuns ws txt ask query p lim matched a e flat flat₂ out out₂ trie-link
       trie-past {e} {flat} {flat₂} {out} {out₂} past n = record { goes = λ path k on mt d. go path k on mt d }
         where
-          go : (path : PathOf) (k : ℕ) → OnPath ws txt p path → Matching path (segments query) matched → depth (what (asked ask) ws txt trie-link trieˢ) < k
-              → Goes (asked ask) ws txt lim a e flat flat₂ out out₂ (trie-gives ask k (what (asked ask) ws txt trie-link trieˢ) path (segments query))
+          go : (path : PathOf) (k : ℕ) → OnPath ws txt p path → Matching path (segments query) matched
+              → depth (what (asked ask) ws txt trie-link trieˢ) < k
+              → Goes (asked ask) ws txt lim a e flat flat₂ out out₂
+              (trie-gives ask k (what (asked ask) ws txt trie-link trieˢ) path (segments query))
           go path zero on mt d = absurd (omega arith)
           go path (suc k) on mt d =
               let st = cut .steps path (r .ready .path-ok .len-is ∙ ap length (on .text)) mt in
-              rw (trie-gives-is ask k (what (asked ask) ws txt trie-link trieˢ) path (segments query), ← bindings-read (r .trie-at) seen, ← namespaces-read (r .trie-at) seen, ← cut .rest)
+              rw (
+                trie-gives-is ask k (what (asked ask) ws txt trie-link trieˢ) path (segments query),
+                ← bindings-read (r .trie-at) seen,
+                ← namespaces-read (r .trie-at) seen,
+                ← cut .rest,
+              )
               (goes-then (goes-once a flat out h)
               (goes-then (goes-past flat out _ (bind-entered ask k path _ _) past)
               (n .goes path _ (cut .prefix-is) k on (rw (cut .rest) st) (cut .asks) (λ z. omega (arith, deep)))))
@@ -182,13 +222,15 @@ module _ {ws txt : List ℕ} {ask : Ask} {query : Str} {p : Path} {lim : Limits}
 -- ---- The lent run
 
 module _ {ws txt : List ℕ} {query : Str} {ask : Ask} {run : List ℕ} {x : ℕ} (r : TrieAsked ws txt query ask run x) where
-  pub trie-spent : {flat out : List ℕ} → getD run 22 0 ≤ getD run 19 0 → TrieListed ws txt query ask run (set run 19 (getD run 22 0 + 1)) flat flat out out x
+  pub trie-spent : {flat out : List ℕ} → getD run 22 0 ≤ getD run 19 0
+      → TrieListed ws txt query ask run (set run 19 (getD run 22 0 + 1)) flat flat out out x
   trie-spent h = record {
     same = same-set run 19 (getD run 22 0 + 1) (r .can .ready .path-ok .few) (omega arith) (omega arith) .path;
     runs = rw (tally-entered run (getD run 22 0 + 1) (r .can .ready .path-ok .sized)) (trie-over (r .can) h);
   }
 
-  module _ {t : Trie} (seen : ReadTrie ws x t) {c : Cut} (cut : Cuts query (getD run 17 0) (matched-in run) c) (h : getD run 19 0 < getD run 22 0) where
+  module _ {t : Trie} (seen : ReadTrie ws x t) {c : Cut} (cut : Cuts query (getD run 17 0) (matched-in run) c)
+      (h : getD run 19 0 < getD run 22 0) where
     abbrev pub down : Bool → Search
     down leaf = record { ask = ask; leaf = leaf; len = c .len; next = c .next }
 
@@ -214,7 +256,8 @@ module _ {ws txt : List ℕ} {query : Str} {ask : Ask} {run : List ℕ} {x : ℕ
     pub bindings-asked : ListAsked ws txt query (down true) run₁ (t .bindings)
     bindings-asked = record { place-ok = place-ok true; can = list-ready-at same₁ (trie-bindings-ready (r .can) seen cut) }
 
-    pub namespaces-asked : {run₂ : List ℕ} → SameRun run₁ run₂ → ListAsked ws txt query (down false) run₂ (t .namespaces)
+    pub namespaces-asked : {run₂ : List ℕ} → SameRun run₁ run₂
+        → ListAsked ws txt query (down false) run₂ (t .namespaces)
     namespaces-asked s = record {
       place-ok = place-ok-at s (place-ok false);
       can = list-ready-at (path-then same₁ (s .path)) (trie-namespaces-ready (r .can) seen cut);
@@ -222,18 +265,22 @@ module _ {ws txt : List ℕ} {query : Str} {ask : Ask} {run : List ℕ} {x : ℕ
 
     module _ {run₂ flat flat₁ out out₁ : List ℕ} where
       pub trie-few : (c .next < length query) ⊎ Past (limits-in run) (getD run 20 0) (getD run 21 0)
-          → ListListed ws txt query (down false) run₁ run₂ flat flat₁ out out₁ (t .namespaces) → TrieListed ws txt query ask run run₂ flat flat₁ out out₁ x
+          → ListListed ws txt query (down false) run₁ run₂ flat flat₁ out out₁ (t .namespaces)
+          → TrieListed ws txt query ask run run₂ flat flat₁ out out₁ x
       trie-few skip n = record { same = path-then same₁ (n .same .path); runs = go skip (rw tally₁ at (list-runs-at same₁ matched₁ (n .runs))) }
         where
           go : (c .next < length query) ⊎ Past (limits-in run) (getD run 20 0) (getD run 21 0)
               → ListRuns ws txt ask (drop (c .next) query) (path-in run) (limits-in run) (c .matched)
               (inside (tally-in run)) (tally-in run₂) flat flat₁ out out₁ false (t .namespaces) (take (c .len) query)
-              → TrieRuns ws txt ask query (path-in run) (limits-in run) (matched-in run) (tally-in run) (tally-in run₂) flat flat₁ out out₁ x
+              → TrieRuns ws txt ask query (path-in run) (limits-in run) (matched-in run) (tally-in run)
+              (tally-in run₂) flat flat₁ out out₁ x
           go (inl more) m = trie-spaces (r .can) seen cut h more m
           go (inr past) m = trie-past (r .can) seen cut h past m
 
-      pub trie-all : {run₃ flat₂ out₂ : List ℕ} → length query ≤ c .next → ListListed ws txt query (down true) run₁ run₂ flat flat₁ out out₁ (t .bindings)
-          → ListListed ws txt query (down false) run₂ run₃ flat₁ flat₂ out₁ out₂ (t .namespaces) → TrieListed ws txt query ask run run₃ flat flat₂ out out₂ x
+      pub trie-all : {run₃ flat₂ out₂ : List ℕ} → length query ≤ c .next
+          → ListListed ws txt query (down true) run₁ run₂ flat flat₁ out out₁ (t .bindings)
+          → ListListed ws txt query (down false) run₂ run₃ flat₁ flat₂ out₁ out₂ (t .namespaces)
+          → TrieListed ws txt query ask run run₃ flat flat₂ out out₂ x
       trie-all last b n = record {
         same = path-then same₁ (path-then (b .same .path) (n .same .path));
         runs = trie-both (r .can) seen cut h last (rw tally₁ at (list-runs-at same₁ matched₁ (b .runs)))

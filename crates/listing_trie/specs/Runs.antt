@@ -40,12 +40,14 @@ module _ (a : Ask) where
   trie-gives n tr path q = record { lines = made (line-for a) n tr path q; entered = entered n tr q }
 
   -- What an element found in a list gives: its line, or the listing of its trie.
-  abbrev pub element-gives : (v : Level) → ℕ → PathOf → Query → PathElem × Value (Item (asked a)) v → Result (Item (asked a))
+  abbrev pub element-gives : (v : Level) → ℕ → PathOf → Query → PathElem × Value (Item (asked a)) v
+      → Result (Item (asked a))
   element-gives bind n path q x = only (line-for a (line path x))
   element-gives ns n path q x = trie-gives n (x .1) (x .0 ∷ path) q
 
   -- One after another.
-  unfoldable pub elements-give : (v : Level) → ℕ → PathOf → Query → List (PathElem × Value (Item (asked a)) v) → Result (Item (asked a))
+  unfoldable pub elements-give : (v : Level) → ℕ → PathOf → Query → List (PathElem × Value (Item (asked a)) v)
+      → Result (Item (asked a))
   elements-give v n path q [] = only []
   elements-give v n path q (x ∷ xs) = element-gives v n path q x ⊕ elements-give v n path q xs
 
@@ -108,7 +110,8 @@ module _ (ws txt : List ℕ) (ask : Ask) (rest : Str) (p : Path) (lim : Limits) 
 
     -- By the elements that entries show.
     pub record EntriesRun (leaf : Bool) (es : List Entry) : Type 0 where
-      pub goes : (path : PathOf) (xs : List (PathElem × Value (Item (asked ask)) (level-of leaf))) (o : Option Str) (n : ℕ)
+      pub goes : (path : PathOf) (xs : List (PathElem × Value (Item (asked ask)) (level-of leaf))) (o : Option Str)
+          (n : ℕ)
           → OnPath ws txt p path → MatchingOn path o (segments rest) matched
           → map outer xs ≡ map (shown (asked ask) ws txt (level-of leaf) o) es
           → (leaf ≡ false → Allˡ (λ x. depth (x .1) < n) xs)
@@ -119,12 +122,14 @@ module _ (ws txt : List ℕ) (ask : Ask) (rest : Str) (p : Path) (lim : Limits) 
       pub goes : (path : PathOf) (term : SearchTerm) (o : Option Str) (n : ℕ)
           → OnPath ws txt p path → MatchingOn path o (segments rest) matched → Asks term prefix o
           → (leaf ≡ false → depth-names (what (asked ask) ws txt x (list (level-of leaf))) ≤ n)
-          → Went (elements-give ask (level-of leaf) n path (segments rest) (found (what (asked ask) ws txt x (list (level-of leaf))) term))
+          → Went (elements-give ask (level-of leaf) n path (segments rest)
+          (found (what (asked ask) ws txt x (list (level-of leaf))) term))
 
     -- By the listing of a trie.
     pub record TrieRuns (trie : ℕ) : Type 0 where
       pub goes : (path : PathOf) (n : ℕ)
-          → OnPath ws txt p path → Matching path (segments rest) matched → depth (what (asked ask) ws txt trie trieˢ) < n
+          → OnPath ws txt p path → Matching path (segments rest) matched
+          → depth (what (asked ask) ws txt trie trieˢ) < n
           → Went (trie-gives ask n (what (asked ask) ws txt trie trieˢ) path (segments rest))
 
 -- ---- The contracts: of a query that is cut, and the lent run
@@ -158,7 +163,8 @@ module _ (ws txt : List ℕ) (query : Str) (place : Search) (run : List ℕ) whe
   module _ (run′ flat flat′ out out′ : List ℕ) where
     pub record TreeListed (f : Labelled) : Type 0 where
       pub same : SameRun run run′
-      pub runs : EntriesRun ws txt (place .ask) (drop (place .next) query) (path-in run) (limits-in run) (matched-in run)
+      pub runs : EntriesRun ws txt (place .ask) (drop (place .next) query) (path-in run) (limits-in run)
+          (matched-in run)
           (tally-in run) (tally-in run′) flat flat′ out out′ (place .leaf)
           (tree-entries ws txt (f .link) (f .label) (take (place .len) query))
 
@@ -174,4 +180,5 @@ module _ (ws txt : List ℕ) (query : Str) (ask : Ask) (run : List ℕ) where
 
   pub record TrieListed (run′ flat flat′ out out′ : List ℕ) (x : ℕ) : Type 0 where
     pub same : SamePath run run′
-    pub runs : TrieRuns ws txt ask query (path-in run) (limits-in run) (matched-in run) (tally-in run) (tally-in run′) flat flat′ out out′ x
+    pub runs : TrieRuns ws txt ask query (path-in run) (limits-in run) (matched-in run) (tally-in run)
+        (tally-in run′) flat flat′ out out′ x

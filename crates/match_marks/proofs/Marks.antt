@@ -7,7 +7,8 @@ use native.Mathlib.Omega.{arith}
 use native.Mathlib.Decide.{ℕ-discrete}
 use lib.ListN.{length, getD, set, length-set}
 use lib.Seq.{getD-set-same, getD-set-other}
-use Rattle.match_marks.specs.Marks.{most-notes, most-near, most-far, near-start, far-start, near-count, far-count, dropped, note-words, Fits, Holds, PartOk, PutAt, Marks, Drops, MarkTaken}
+use Rattle.match_marks.specs.Marks.{most-notes, most-near, most-far, near-start, far-start, near-count, far-count, dropped, note-words, Fits, Holds}
+use Rattle.match_marks.specs.Marks.{PartOk, PutAt, Marks, Drops, MarkTaken}
 
 -- ---- Room
 
@@ -39,14 +40,16 @@ module _ {notes notes′ : List ℕ} {n x : ℕ} (f : Fits notes n) where
     sized = length-sets notes _ _ _ _ ∙ f .sized;
     few = f .few;
     few-near = omega (arith, set-second notes (near-start + t .k) near-count x (t .k + 1) (omega (arith, f .sized)), t .below);
-    few-far = omega (arith, set-apart notes (near-start + t .k) near-count far-count x (t .k + 1) (λ e. omega (arith, t .below)) (λ e. omega arith), f .few-far);
+    few-far =
+        omega (arith, set-apart notes (near-start + t .k) near-count far-count x (t .k + 1) (λ e. omega (arith, t .below)) (λ e. omega arith), f .few-far);
   })
 
   pub far-fits : PutAt notes notes′ far-start most-far far-count x → Fits notes′ n
   far-fits t = rw (t .is) (record {
     sized = length-sets notes _ _ _ _ ∙ f .sized;
     few = f .few;
-    few-near = omega (arith, set-apart notes (far-start + t .k) far-count near-count x (t .k + 1) (λ e. omega (arith, t .below)) (λ e. omega arith), f .few-near);
+    few-near =
+        omega (arith, set-apart notes (far-start + t .k) far-count near-count x (t .k + 1) (λ e. omega (arith, t .below)) (λ e. omega arith), f .few-near);
     few-far = omega (arith, set-second notes (far-start + t .k) far-count x (t .k + 1) (omega (arith, f .sized)), t .below);
   })
 
@@ -58,24 +61,30 @@ module _ {notes notes′ : List ℕ} {n x : ℕ} (f : Fits notes n) where
           let h′ : j < t .k + 1 = omega (arith, set-second notes (near-start + t .k) near-count x (t .k + 1) (omega (arith, f .sized))) in
           elim (ℕ-discrete j (t .k)) [
             | yes e ↦ rw (e, set-first notes (near-start + t .k) near-count x (t .k + 1) (omega (arith, f .sized, t .below)) (λ e. omega (arith, t .below))) m
-            | no ne ↦ rw (set-apart notes (near-start + t .k) near-count (near-start + j) x (t .k + 1) (λ e. omega (arith, ne)) (λ e. omega (arith, t .below))) (o .near j (omega (arith, t .among)))
+            | no ne ↦ rw (set-apart notes (near-start + t .k) near-count (near-start + j) x (t .k + 1) (λ e. omega (arith, ne)) (λ e. omega (arith, t .below)))
+                (o .near j (omega (arith, t .among)))
           ];
       far = λ j h.
-          let h′ : j < getD notes far-count 0 = omega (arith, set-apart notes (near-start + t .k) near-count far-count x (t .k + 1) (λ e. omega (arith, t .below)) (λ e. omega arith)) in
-          rw (set-apart notes (near-start + t .k) near-count (far-start + j) x (t .k + 1) (λ e. omega (arith, t .below)) (λ e. omega (arith, f .few-far))) (o .far j h′);
+          let h′ : j < getD notes far-count 0 =
+          omega (arith, set-apart notes (near-start + t .k) near-count far-count x (t .k + 1) (λ e. omega (arith, t .below)) (λ e. omega arith)) in
+          rw (set-apart notes (near-start + t .k) near-count (far-start + j) x (t .k + 1) (λ e. omega (arith, t .below)) (λ e. omega (arith, f .few-far)))
+          (o .far j h′);
     })
 
     pub far-holds : PutAt notes notes′ far-start most-far far-count x → Holds N M notes′ n
     far-holds t = rw (t .is) (record {
       note = λ j h. rw (set-apart notes (far-start + t .k) far-count j x (t .k + 1) (λ e. omega (arith, f .few)) (λ e. omega (arith, f .few))) (o .note j h);
       near = λ j h.
-          let h′ : j < getD notes near-count 0 = omega (arith, set-apart notes (far-start + t .k) far-count near-count x (t .k + 1) (λ e. omega (arith, t .below)) (λ e. omega arith)) in
-          rw (set-apart notes (far-start + t .k) far-count (near-start + j) x (t .k + 1) (λ e. omega (arith, f .few-near)) (λ e. omega (arith, f .few-near))) (o .near j h′);
+          let h′ : j < getD notes near-count 0 =
+          omega (arith, set-apart notes (far-start + t .k) far-count near-count x (t .k + 1) (λ e. omega (arith, t .below)) (λ e. omega arith)) in
+          rw (set-apart notes (far-start + t .k) far-count (near-start + j) x (t .k + 1) (λ e. omega (arith, f .few-near)) (λ e. omega (arith, f .few-near)))
+          (o .near j h′);
       far = λ j h.
           let h′ : j < t .k + 1 = omega (arith, set-second notes (far-start + t .k) far-count x (t .k + 1) (omega (arith, f .sized))) in
           elim (ℕ-discrete j (t .k)) [
             | yes e ↦ rw (e, set-first notes (far-start + t .k) far-count x (t .k + 1) (omega (arith, f .sized, t .below)) (λ e. omega (arith, t .below))) m
-            | no ne ↦ rw (set-apart notes (far-start + t .k) far-count (far-start + j) x (t .k + 1) (λ e. omega (arith, ne)) (λ e. omega (arith, t .below))) (o .far j (omega (arith, t .among)))
+            | no ne ↦ rw (set-apart notes (far-start + t .k) far-count (far-start + j) x (t .k + 1) (λ e. omega (arith, ne)) (λ e. omega (arith, t .below)))
+                (o .far j (omega (arith, t .among)))
           ];
     })
 
@@ -85,7 +94,8 @@ module _ {notes notes′ : List ℕ} {x : ℕ} (f : Fits notes 0) (t : Marks not
   between-fits : Fits (t .between) 0
   between-fits = go (t .first)
     where
-      go : (t .between ≡ notes) ⊎ ((0 < getD notes near-count 0) × PutAt notes (t .between) far-start most-far far-count (getD notes near-start 0)) → Fits (t .between) 0
+      go : (t .between ≡ notes) ⊎ ((0 < getD notes near-count 0)
+          × PutAt notes (t .between) far-start most-far far-count (getD notes near-start 0)) → Fits (t .between) 0
       go (inl e) = rw e f
       go (inr p) = far-fits f (p .1)
 
@@ -96,7 +106,9 @@ module _ {notes notes′ : List ℕ} {x : ℕ} (f : Fits notes 0) (t : Marks not
     between-holds : Holds N M (t .between) 0
     between-holds = go (t .first)
       where
-        go : (t .between ≡ notes) ⊎ ((0 < getD notes near-count 0) × PutAt notes (t .between) far-start most-far far-count (getD notes near-start 0)) → Holds N M (t .between) 0
+        go : (t .between ≡ notes) ⊎ ((0 < getD notes near-count 0)
+            × PutAt notes (t .between) far-start most-far far-count (getD notes near-start 0))
+            → Holds N M (t .between) 0
         go (inl e) = rw e o
         go (inr p) = far-holds f o (o .near 0 (p .0)) (p .1)
 
@@ -129,8 +141,12 @@ module _ {notes notes′ : List ℕ} {n : ℕ} (f : Fits notes n) (t : Drops not
         let k = marks-holds (fits-fewer f (omega arith)) (t .marks) without-notes m in
         rw (t .is) (record {
           note = λ j h. absurd (omega arith);
-          near = λ j h. rw (getD-set-other (t .between) dropped (near-start + j) 1 0 (λ e. omega (arith, getD-set-other (t .between) dropped near-count 1 0 (λ e. omega arith), marked-fits .few-near))) (k .near j (omega (arith, getD-set-other (t .between) dropped near-count 1 0 (λ e. omega arith))));
-          far = λ j h. rw (getD-set-other (t .between) dropped (far-start + j) 1 0 (λ e. omega (arith, getD-set-other (t .between) dropped far-count 1 0 (λ e. omega arith), marked-fits .few-far))) (k .far j (omega (arith, getD-set-other (t .between) dropped far-count 1 0 (λ e. omega arith))));
+          near = λ j h. rw (getD-set-other (t .between) dropped (near-start + j) 1 0
+              (λ e. omega (arith, getD-set-other (t .between) dropped near-count 1 0 (λ e. omega arith), marked-fits .few-near)))
+              (k .near j (omega (arith, getD-set-other (t .between) dropped near-count 1 0 (λ e. omega arith))));
+          far = λ j h. rw (getD-set-other (t .between) dropped (far-start + j) 1 0
+              (λ e. omega (arith, getD-set-other (t .between) dropped far-count 1 0 (λ e. omega arith), marked-fits .few-far)))
+              (k .far j (omega (arith, getD-set-other (t .between) dropped far-count 1 0 (λ e. omega arith))));
         })
 
 -- ---- A mark is taken
@@ -160,13 +176,21 @@ module _ {notes notes′ : List ℕ} {r : ℕ} (f : Fits notes 0) where
     pub taken-holds : MarkTaken notes notes′ r → Holds N M notes′ 0
     taken-holds (inl t) = rw (t .is) (record {
       note = λ j h. absurd (omega arith);
-      near = λ j h. rw (getD-set-other notes near-count (near-start + j) (getD notes near-count 0 - 1) 0 (λ e. omega (arith, getD-set-same notes near-count (getD notes near-count 0 - 1) 0 (omega (arith, f .sized)), f .few-near))) (o .near j (omega (arith, getD-set-same notes near-count (getD notes near-count 0 - 1) 0 (omega (arith, f .sized)))));
-      far = λ j h. rw (getD-set-other notes near-count (far-start + j) (getD notes near-count 0 - 1) 0 (λ e. omega (arith, getD-set-other notes near-count far-count (getD notes near-count 0 - 1) 0 (λ e. omega arith), f .few-far))) (o .far j (omega (arith, getD-set-other notes near-count far-count (getD notes near-count 0 - 1) 0 (λ e. omega arith))));
+      near = λ j h. rw (getD-set-other notes near-count (near-start + j) (getD notes near-count 0 - 1) 0
+          (λ e. omega (arith, getD-set-same notes near-count (getD notes near-count 0 - 1) 0 (omega (arith, f .sized)), f .few-near)))
+          (o .near j (omega (arith, getD-set-same notes near-count (getD notes near-count 0 - 1) 0 (omega (arith, f .sized)))));
+      far = λ j h. rw (getD-set-other notes near-count (far-start + j) (getD notes near-count 0 - 1) 0
+          (λ e. omega (arith, getD-set-other notes near-count far-count (getD notes near-count 0 - 1) 0 (λ e. omega arith), f .few-far)))
+          (o .far j (omega (arith, getD-set-other notes near-count far-count (getD notes near-count 0 - 1) 0 (λ e. omega arith))));
     })
     taken-holds (inr (inl t)) = rw (t .is) (record {
       note = λ j h. absurd (omega arith);
-      near = λ j h. rw (getD-set-other notes far-count (near-start + j) (getD notes far-count 0 - 1) 0 (λ e. omega (arith, getD-set-other notes far-count near-count (getD notes far-count 0 - 1) 0 (λ e. omega arith), f .few-near))) (o .near j (omega (arith, getD-set-other notes far-count near-count (getD notes far-count 0 - 1) 0 (λ e. omega arith))));
-      far = λ j h. rw (getD-set-other notes far-count (far-start + j) (getD notes far-count 0 - 1) 0 (λ e. omega (arith, getD-set-same notes far-count (getD notes far-count 0 - 1) 0 (omega (arith, f .sized)), f .few-far))) (o .far j (omega (arith, getD-set-same notes far-count (getD notes far-count 0 - 1) 0 (omega (arith, f .sized)))));
+      near = λ j h. rw (getD-set-other notes far-count (near-start + j) (getD notes far-count 0 - 1) 0
+          (λ e. omega (arith, getD-set-other notes far-count near-count (getD notes far-count 0 - 1) 0 (λ e. omega arith), f .few-near)))
+          (o .near j (omega (arith, getD-set-other notes far-count near-count (getD notes far-count 0 - 1) 0 (λ e. omega arith))));
+      far = λ j h. rw (getD-set-other notes far-count (far-start + j) (getD notes far-count 0 - 1) 0
+          (λ e. omega (arith, getD-set-same notes far-count (getD notes far-count 0 - 1) 0 (omega (arith, f .sized)), f .few-far)))
+          (o .far j (omega (arith, getD-set-same notes far-count (getD notes far-count 0 - 1) 0 (omega (arith, f .sized)))));
     })
     taken-holds (inr (inr t)) = rw (t .0) o
 
@@ -193,8 +217,10 @@ module _ {notes : List ℕ} {n : ℕ} (f : Fits notes n) where
         | yes e ↦ rw (e, getD-set-same notes n x 0 (omega (arith, f .sized))) p
         | no ne ↦ rw (getD-set-other notes n j x 0 ne) (o .note j (omega (arith, ne)))
       ];
-      near = λ j k. rw (getD-set-other notes n (near-start + j) x 0 (λ e. omega arith)) (o .near j (omega (arith, getD-set-other notes n near-count x 0 (λ e. omega arith))));
-      far = λ j k. rw (getD-set-other notes n (far-start + j) x 0 (λ e. omega arith)) (o .far j (omega (arith, getD-set-other notes n far-count x 0 (λ e. omega arith))));
+      near = λ j k. rw (getD-set-other notes n (near-start + j) x 0 (λ e. omega arith))
+          (o .near j (omega (arith, getD-set-other notes n near-count x 0 (λ e. omega arith))));
+      far = λ j k. rw (getD-set-other notes n (far-start + j) x 0 (λ e. omega arith))
+          (o .far j (omega (arith, getD-set-other notes n far-count x 0 (λ e. omega arith))));
     }
 
     pub holds-fewer : {m : ℕ} → m ≤ n → Holds N M notes m
@@ -207,10 +233,12 @@ module _ (notes : List ℕ) (s : length notes ≡ note-words) where
   cleared = set (set (set notes near-count 0) far-count 0) dropped 0
 
   no-near : getD cleared near-count 0 ≡ 0
-  no-near = getD-set-other (set (set notes near-count 0) far-count 0) dropped near-count 0 0 (λ e. omega arith) ∙ set-first notes near-count far-count 0 0 (omega (arith, s)) (λ e. omega arith)
+  no-near = getD-set-other (set (set notes near-count 0) far-count 0) dropped near-count 0 0 (λ e. omega arith)
+      ∙ set-first notes near-count far-count 0 0 (omega (arith, s)) (λ e. omega arith)
 
   no-far : getD cleared far-count 0 ≡ 0
-  no-far = getD-set-other (set (set notes near-count 0) far-count 0) dropped far-count 0 0 (λ e. omega arith) ∙ set-second notes near-count far-count 0 0 (omega (arith, s))
+  no-far = getD-set-other (set (set notes near-count 0) far-count 0) dropped far-count 0 0 (λ e. omega arith)
+      ∙ set-second notes near-count far-count 0 0 (omega (arith, s))
 
   pub clear-fits : Fits cleared 0
   clear-fits = record {

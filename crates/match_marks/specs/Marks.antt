@@ -68,7 +68,8 @@ pub record PutAt (notes notes′ : List ℕ) (start most count branch : ℕ) : T
 -- A branch is marked. Where the near marks are full their first becomes a far one.
 pub record Marks (notes notes′ : List ℕ) (branch : ℕ) : Type 0 where
   pub between : List ℕ
-  pub first : (between ≡ notes) ⊎ ((0 < getD notes near-count 0) × PutAt notes between far-start most-far far-count (getD notes near-start 0))
+  pub first : (between ≡ notes) ⊎
+      ((0 < getD notes near-count 0) × PutAt notes between far-start most-far far-count (getD notes near-start 0))
   pub last : PutAt between notes′ near-start most-near near-count branch
 
 -- The last mark of a part is taken.
@@ -79,7 +80,8 @@ pub record TakenOf (notes notes′ : List ℕ) (start count r : ℕ) : Type 0 wh
 
 -- The last mark is taken, a near one where there is one, 0 where there is none.
 abbrev pub MarkTaken : (notes notes′ : List ℕ) → ℕ → Type 0
-MarkTaken notes notes′ r = TakenOf notes notes′ near-start near-count r ⊎ (TakenOf notes notes′ far-start far-count r ⊎ ((notes′ ≡ notes) × (r ≡ 0)))
+MarkTaken notes notes′ r = TakenOf notes notes′ near-start near-count r ⊎
+    (TakenOf notes notes′ far-start far-count r ⊎ ((notes′ ≡ notes) × (r ≡ 0)))
 
 -- The notes are dropped: the first of them is marked.
 pub record Drops (notes notes′ : List ℕ) : Type 0 where

@@ -22,7 +22,9 @@ use Rattle.find_tree.proofs.Matches.{branches-increasing, matches-past}
 use Rattle.match_next.specs.Begun.{begun}
 
 -- Of ascending keys past p those that begin with it come first.
-first-begun : (key : ℕ → Str) (p : Str) (l : List ℕ) → Increasing key l → Allˡ (λ y. (0 < y) × (past false p (key y) ≡ true)) l → head0 (keep key (λ k. starts-with k p) l) ≡ begun key p (head0 l)
+first-begun : (key : ℕ → Str) (p : Str) (l : List ℕ) → Increasing key l
+    → Allˡ (λ y. (0 < y) × (past false p (key y) ≡ true)) l
+    → head0 (keep key (λ k. starts-with k p) l) ≡ begun key p (head0 l)
 unfolding keep begun
 first-begun key p [] i a = refl
 first-begun key p (x ∷ l) i a =
@@ -30,17 +32,21 @@ first-begun key p (x ∷ l) i a =
     (by-test (starts-with (key x) p)
     (λ e. rw e)
     (λ e. rw e
-    (ap head0 (keep-none key (λ k. starts-with k p) l (Allˡ-map {P = λ y. key x <ˢ key y} {Q = λ y. starts-with (key y) p ≡ false} l (λ y. past-begun p (key x) (key y) (a .0 .1) e) (i .0))))))
+    (ap head0 (keep-none key (λ k. starts-with k p) l
+    (Allˡ-map {P = λ y. key x <ˢ key y} {Q = λ y. starts-with (key y) p ≡ false} l (λ y. past-begun p (key x) (key y) (a .0 .1) e) (i .0))))))
 
 module _ {ws txt : List ℕ} {root : ℕ} (a : AnyTree ws txt root) where
   -- The branches past a bound are branches.
-  past-of : (strict : Bool) (low : Str) → Allˡ (BranchOf ws (a .which) (a .level) root) (keep (key-at ws txt) (past strict low) (branches ws root))
+  past-of : (strict : Bool) (low : Str)
+      → Allˡ (BranchOf ws (a .which) (a .level) root) (keep (key-at ws txt) (past strict low) (branches ws root))
   past-of strict low =
       all-keep (key-at ws txt) (BranchOf ws (a .which) (a .level) root) (past strict low) (branches ws root)
-      (Allˡ-map {P = BranchOf ws (a .which) (a .level) root} {Q = λ y. past strict low (key-at ws txt y) ≡ true → BranchOf ws (a .which) (a .level) root y} (branches ws root) (λ y o _. o) (branches-of root (a .tree)))
+      (Allˡ-map {P = BranchOf ws (a .which) (a .level) root} {Q = λ y. past strict low (key-at ws txt y) ≡ true → BranchOf ws (a .which) (a .level) root y}
+      (branches ws root) (λ y o _. o) (branches-of root (a .tree)))
 
   -- The first of them is a tree.
-  pub first-tree : (strict : Bool) (low : Str) {x : ℕ} → x ≡ head0 (keep (key-at ws txt) (past strict low) (branches ws root)) → AnyTree ws txt x
+  pub first-tree : (strict : Bool) (low : Str) {x : ℕ}
+      → x ≡ head0 (keep (key-at ws txt) (past strict low) (branches ws root)) → AnyTree ws txt x
   first-tree strict low e = rw e (go (keep (key-at ws txt) (past strict low) (branches ws root)) (past-of strict low))
     where
       go : (l : List ℕ) → Allˡ (BranchOf ws (a .which) (a .level) root) l → AnyTree ws txt (head0 l)
@@ -48,7 +54,8 @@ module _ {ws txt : List ℕ} {root : ℕ} (a : AnyTree ws txt root) where
       go (y ∷ l) o = branch-tree (a .tree) (o .0)
 
   -- The first match past a bound is the first branch past it, or there is none.
-  pub next-is : (strict : Bool) (low p : Str) → starts-with low p ≡ true → {x r : ℕ} → x ≡ head0 (keep (key-at ws txt) (past strict low) (branches ws root)) → r ≡ begun (key-at ws txt) p x
+  pub next-is : (strict : Bool) (low p : Str) → starts-with low p ≡ true → {x r : ℕ}
+      → x ≡ head0 (keep (key-at ws txt) (past strict low) (branches ws root)) → r ≡ begun (key-at ws txt) p x
       → r ≡ head0 (keep (key-at ws txt) (past strict low) (matches ws txt root p))
   unfolding matches
   next-is strict low p s e f =
@@ -57,10 +64,12 @@ module _ {ws txt : List ℕ} {root : ℕ} (a : AnyTree ws txt root) where
       f
       ∙ ap (begun (key-at ws txt) p) e
       ∙ sym (first-begun (key-at ws txt) p l (keep-increasing (key-at ws txt) b (branches ws root) (branches-increasing (a .tree)))
-      (Allˡ-zip {P = BranchOf ws (a .which) (a .level) root} {Q = λ y. b (key-at ws txt y) ≡ true} {R = λ y. (0 < y) × (past false p (key-at ws txt y) ≡ true)} l
+      (Allˡ-zip {P = BranchOf ws (a .which) (a .level) root} {Q = λ y. b (key-at ws txt y) ≡ true}
+      {R = λ y. (0 < y) × (past false p (key-at ws txt y) ≡ true)} l
       (λ y o h. (o .some, past-of-prefix strict low p (key-at ws txt y) s h)) (past-of strict low) (kept-pass (key-at ws txt) b (branches ws root))))
       ∙ ap head0 (keep-swap (key-at ws txt) (λ k. starts-with k p) b (branches ws root))
 
   -- The first match is the first branch past the prefix, or there is none.
-  pub first-is : (p : Str) {x r : ℕ} → x ≡ head0 (keep (key-at ws txt) (past false p) (branches ws root)) → r ≡ begun (key-at ws txt) p x → r ≡ head0 (matches ws txt root p)
+  pub first-is : (p : Str) {x r : ℕ} → x ≡ head0 (keep (key-at ws txt) (past false p) (branches ws root))
+      → r ≡ begun (key-at ws txt) p x → r ≡ head0 (matches ws txt root p)
   first-is p e f = next-is false p p (starts-self p) e f ∙ ap head0 (matches-past ws txt p root)

@@ -13,7 +13,8 @@ ghost use Rattle.match_next.specs.Begun.{begun};
 // The branch with the least key that is not before `low`, 0 for none.
 fn least_from(words: &[u32], text: &[u8], root: u32, low: &[u8]) -> u32
     requires { ⌜ AnyTree (now words) (now text) root ⌝ }
-    ensures { λ r. ⌜ r ≡ head0 (keep (key-at (old words) (old text)) (past false (old low)) (branches (old words) root)) ⌝ }
+    ensures { λ r. ⌜ r
+        ≡ head0 (keep (key-at (old words) (old text)) (past false (old low)) (branches (old words) root)) ⌝ }
 {
     let mut at = root;
     let mut found = 0;
@@ -64,7 +65,8 @@ fn branch_above(words: &[u32], text: &[u8], root: u32, at: u32) -> u32
     requires { ⌜ AnyTree (now words) (now text) root ⌝ }
     requires { ⌜ List·Memᴰ at (branches (now words) root) ⌝ }
     requires { ⌜ right-link (record-at (now words) at) ≡ 0 ⌝ }
-    ensures { λ r. ⌜ r ≡ head0 (after (key-at (old words) (old text)) (key-at (old words) (old text) at) (branches (old words) root)) ⌝ }
+    ensures { λ r. ⌜ r ≡ head0
+        (after (key-at (old words) (old text)) (key-at (old words) (old text) at) (branches (old words) root)) ⌝ }
 {
     let mut link = root;
     let mut found = 0;
@@ -83,7 +85,8 @@ fn branch_above(words: &[u32], text: &[u8], root: u32, at: u32) -> u32
 fn branch_after(words: &[u32], text: &[u8], root: u32, at: u32) -> u32
     requires { ⌜ AnyTree (now words) (now text) root ⌝ }
     requires { ⌜ List·Memᴰ at (branches (now words) root) ⌝ }
-    ensures { λ r. ⌜ r ≡ head0 (after (key-at (old words) (old text)) (key-at (old words) (old text) at) (branches (old words) root)) ⌝ }
+    ensures { λ r. ⌜ r ≡ head0
+        (after (key-at (old words) (old text)) (key-at (old words) (old text) at) (branches (old words) root)) ⌝ }
 {
     let right = memory_access::right_of(words, at);
     if 0 < right {
@@ -120,7 +123,8 @@ pub fn tree_next(words: &[u32], text: &[u8], root: u32, prefix: &[u8], at: u32) 
     requires { ⌜ AnyTree (now words) (now text) root ⌝ }
     requires { ⌜ List·Memᴰ at (branches (now words) root) ⌝ }
     requires { ⌜ starts-with (key-at (now words) (now text) at) (now prefix) ≡ true ⌝ }
-    ensures { λ r. ⌜ r ≡ head0 (after (key-at (old words) (old text)) (key-at (old words) (old text) at) (matches (old words) (old text) root (old prefix))) ⌝ }
+    ensures { λ r. ⌜ r ≡ head0 (after (key-at (old words) (old text)) (key-at (old words) (old text) at)
+        (matches (old words) (old text) root (old prefix))) ⌝ }
 {
     let next = branch_after(words, text, root, at);
     begun(words, text, next, prefix)

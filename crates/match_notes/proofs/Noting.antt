@@ -33,9 +33,11 @@ all-after-left P [] x m a = a .0
 all-after-left P (y ∷ l) x m a = all-after-left P l x m (a .1)
 
 -- ---- The matches of a tree by its root
-all-matches : (ws txt : List ℕ) (p : Str) (x : ℕ) (P : ℕ → Type 0) → Allˡ P (branches ws x) → Allˡ P (matches ws txt x p)
+all-matches : (ws txt : List ℕ) (p : Str) (x : ℕ) (P : ℕ → Type 0) → Allˡ P (branches ws x)
+    → Allˡ P (matches ws txt x p)
 unfolding matches
-all-matches ws txt p x P a = all-keep (key-at ws txt) P (λ k. starts-with k p) (branches ws x) (Allˡ-map {P = P} {Q = λ y. starts-with (key-at ws txt y) p ≡ true → P y} (branches ws x) (λ y v _. v) a)
+all-matches ws txt p x P a = all-keep (key-at ws txt) P (λ k. starts-with k p) (branches ws x)
+    (Allˡ-map {P = P} {Q = λ y. starts-with (key-at ws txt y) p ≡ true → P y} (branches ws x) (λ y v _. v) a)
 
 module _ {ws txt : List ℕ} {x : ℕ} (a : AnyTree ws txt x) (q : 0 < x) where
   abbrev key : Str
@@ -54,7 +56,8 @@ module _ {ws txt : List ℕ} {x : ℕ} (a : AnyTree ws txt x) (q : 0 < x) where
   all-here P h = all-after-left P (branches ws left) x (branches ws right) (subst (λ (l : List ℕ). Allˡ P l) (branches-at (a .tree) q) h)
 
   module _ (p : Str) where
-    split : matches ws txt x p ≡ matches ws txt left p ++ keep (key-at ws txt) (λ k. starts-with k p) (x ∷ branches ws right)
+    split : matches ws txt x p
+        ≡ matches ws txt left p ++ keep (key-at ws txt) (λ k. starts-with k p) (x ∷ branches ws right)
     unfolding matches
     split = rw (branches-at (a .tree) q) (keep-append (key-at ws txt) (λ k. starts-with k p) (branches ws left) (x ∷ branches ws right))
 
@@ -67,7 +70,8 @@ module _ {ws txt : List ℕ} {x : ℕ} (a : AnyTree ws txt x) (q : 0 < x) where
     match-left : past false p key ≡ true → starts-with key p ≡ false → matches ws txt x p ≡ matches ws txt left p
     unfolding matches keep
     match-left e f =
-        let no-right : matches ws txt right p ≡ [] = keep-none (key-at ws txt) (λ k. starts-with k p) (branches ws right) (all-beyond a q (λ y. starts-with y p ≡ false) (λ y. past-begun p key y e f)) in
+        let no-right : matches ws txt right p ≡ [] = keep-none (key-at ws txt) (λ k. starts-with k p) (branches ws right)
+        (all-beyond a q (λ y. starts-with y p ≡ false) (λ y. past-begun p key y e f)) in
         split ∙ rw (f, no-right) (append-nil (matches ws txt left p))
 
     -- The same of those that are past a bound.
@@ -75,13 +79,16 @@ module _ {ws txt : List ℕ} {x : ℕ} (a : AnyTree ws txt x) (q : 0 < x) where
       abbrev b : Str → Bool
       b = past strict low
 
-      pub pass-here : b key ≡ true → starts-with key p ≡ true → passing ws txt p b x ≡ passing ws txt p b left ++ (x ∷ matches ws txt right p)
+      pub pass-here : b key ≡ true → starts-with key p ≡ true
+          → passing ws txt p b x ≡ passing ws txt p b left ++ (x ∷ matches ws txt right p)
       unfolding keep
       pass-here e f =
           rw (match-here f, keep-append (key-at ws txt) b (matches ws txt left p) (x ∷ matches ws txt right p), e)
-          (rw (keep-all (key-at ws txt) b (matches ws txt right p) (all-matches ws txt p right (λ y. b (key-at ws txt y) ≡ true) (all-beyond a q (λ y. b y ≡ true) (λ y. past-up strict low key y e)))) refl)
+          (rw (keep-all (key-at ws txt) b (matches ws txt right p)
+          (all-matches ws txt p right (λ y. b (key-at ws txt y) ≡ true) (all-beyond a q (λ y. b y ≡ true) (λ y. past-up strict low key y e)))) refl)
 
-      pub pass-left : starts-with low p ≡ true → b key ≡ true → starts-with key p ≡ false → passing ws txt p b x ≡ passing ws txt p b left
+      pub pass-left : starts-with low p ≡ true → b key ≡ true → starts-with key p ≡ false
+          → passing ws txt p b x ≡ passing ws txt p b left
       pass-left s e f = ap (keep (key-at ws txt) b) (match-left (past-of-prefix strict low p key s e) f)
 
       pub pass-right : b key ≡ false → passing ws txt p b x ≡ passing ws txt p b right
@@ -89,7 +96,8 @@ module _ {ws txt : List ℕ} {x : ℕ} (a : AnyTree ws txt x) (q : 0 < x) where
       pass-right e =
           ap (keep (key-at ws txt) b) split
           ∙ keep-append (key-at ws txt) b (matches ws txt left p) (keep (key-at ws txt) (λ k. starts-with k p) (x ∷ branches ws right))
-          ∙ rw (keep-none (key-at ws txt) b (matches ws txt left p) (all-matches ws txt p left (λ y. b (key-at ws txt y) ≡ false) (all-before a q (λ y. b y ≡ false) (λ y. past-down strict low key y e))))
+          ∙ rw (keep-none (key-at ws txt) b (matches ws txt left p)
+          (all-matches ws txt p left (λ y. b (key-at ws txt y) ≡ false) (all-before a q (λ y. b y ≡ false) (λ y. past-down strict low key y e))))
           (by-test (starts-with key p) (λ f. rw (f, e)) (λ f. rw f))
 
 -- ---- Notes
@@ -105,23 +113,31 @@ module _ (ws txt : List ℕ) (p : Str) where
 
 module _ {ws txt : List ℕ} {p : Str} {b : Str → Bool} {l : List ℕ} where
   -- Notes are none.
-  pub noting-none : {notes h : List ℕ} → Fits notes 0 → Holds (NoteOk ws txt p b l) (Ahead ws txt p b l) notes 0 → (rest : List ℕ) → l ≡ h ++ rest → (getD notes dropped 0 ≡ 0 → rest ≡ []) → Noting ws txt p b notes 0 h l
+  pub noting-none : {notes h : List ℕ} → Fits notes 0 → Holds (NoteOk ws txt p b l) (Ahead ws txt p b l) notes 0
+      → (rest : List ℕ) → l ≡ h ++ rest → (getD notes dropped 0 ≡ 0 → rest ≡ []) → Noting ws txt p b notes 0 h l
   unfolding to-come
   noting-none f o rest e w = record { fits = f; holds = o; rest = rest; says = e; whole = w }
 
   module _ {notes : List ℕ} {n : ℕ} {h : List ℕ} (o : Noting ws txt p b notes n h l) where
     -- A note is added.
-    noting-more : (x : ℕ) {g : List ℕ} → h ≡ g ++ (x ∷ matches ws txt (right-link (record-at ws x)) p) → NoteOk ws txt p b l x → n < most-notes → Noting ws txt p b (set notes n x) (n + 1) g l
+    noting-more : (x : ℕ) {g : List ℕ} → h ≡ g ++ (x ∷ matches ws txt (right-link (record-at ws x)) p)
+        → NoteOk ws txt p b l x → n < most-notes → Noting ws txt p b (set notes n x) (n + 1) g l
     unfolding to-come
     noting-more x {g} e a k =
         let right = matches ws txt (right-link (record-at ws x)) p in
         let come = to-come ws txt p notes n in
-        let says : l ≡ g ++ (x ∷ ((right ++ come) ++ o .rest)) = o .says ∙ ap (λ (y : List ℕ). y ++ (come ++ o .rest)) e ∙ append-assoc g (x ∷ right) (come ++ o .rest) ∙ ap (λ (y : List ℕ). g ++ (x ∷ y)) (sym (append-assoc right come (o .rest))) in
+        let says : l ≡ g ++ (x ∷ ((right ++ come) ++ o .rest)) =
+        o .says ∙ ap (λ (y : List ℕ). y ++ (come ++ o .rest)) e ∙ append-assoc g (x ∷ right) (come ++ o .rest)
+        ∙ ap (λ (y : List ℕ). g ++ (x ∷ y)) (sym (append-assoc right come (o .rest))) in
         record {
           fits = more-fits (o .fits) x k;
           holds = more-holds (o .fits) (o .holds) x a k;
           rest = o .rest;
-          says = rw (add-one n, getD-set-same notes n x 0 (omega (arith, o .fits .sized)), come-before ws txt p notes n x n (omega arith)) says;
+          says = rw (
+            add-one n,
+            getD-set-same notes n x 0 (omega (arith, o .fits .sized)),
+            come-before ws txt p notes n x n (omega arith),
+          ) says;
           whole = λ z. o .whole (sym (getD-set-other notes n dropped x 0 (λ e. omega arith)) ∙ z);
         }
 
@@ -136,11 +152,14 @@ module _ {ws txt : List ℕ} {p : Str} {b : Str → Bool} {l : List ℕ} where
     ahead-here a e = record { any = a; rest = to-come ws txt p notes n ++ o .rest; says = o .says ∙ rw e }
 
 -- A branch is noted.
-noting-note : {ws txt : List ℕ} {p : Str} {b : Str → Bool} {l notes notes′ : List ℕ} {n x r : ℕ} {h g : List ℕ} → Noting ws txt p b notes n h l → h ≡ g ++ (x ∷ matches ws txt (right-link (record-at ws x)) p) → NoteOk ws txt p b l x
+noting-note : {ws txt : List ℕ} {p : Str} {b : Str → Bool} {l notes notes′ : List ℕ} {n x r : ℕ} {h g : List ℕ}
+    → Noting ws txt p b notes n h l → h ≡ g ++ (x ∷ matches ws txt (right-link (record-at ws x)) p)
+    → NoteOk ws txt p b l x
     → NotedAt notes notes′ n x r → Noting ws txt p b notes′ r g l
 noting-note {ws} {txt} {p} {b} {l} {notes} {n = n} {x} {g = g} o e a t = rw (t .is, t .count) (go (t .k) (t .between) (t .which) (t .below))
   where
-    go : (k : ℕ) (m : List ℕ) → ((k ≡ n) × (m ≡ notes)) ⊎ ((k ≡ 0) × (0 < n) × Drops notes m) → k < most-notes → Noting ws txt p b (set m k x) (k + 1) g l
+    go : (k : ℕ) (m : List ℕ) → ((k ≡ n) × (m ≡ notes)) ⊎ ((k ≡ 0) × (0 < n) × Drops notes m) → k < most-notes
+        → Noting ws txt p b (set m k x) (k + 1) g l
     go k m (inl z) i = rw (z .0, z .1) (noting-more o x e a (rw (z .0) at i))
     go k m (inr z) i = rw (z .0) (noting-more (noting-drops o (z .1) (z .2)) x e a (omega arith))
 
@@ -148,22 +167,26 @@ noting-note {ws} {txt} {p} {b} {l} {notes} {n = n} {x} {g = g} o e a t = rw (t .
 pub note-fits : {notes notes′ : List ℕ} {n x r : ℕ} → Fits notes n → NotedAt notes notes′ n x r → Fits notes′ r
 note-fits {notes} {n = n} {x} f t = rw (t .is, t .count) (go (t .k) (t .between) (t .which) (t .below))
   where
-    go : (k : ℕ) (m : List ℕ) → ((k ≡ n) × (m ≡ notes)) ⊎ ((k ≡ 0) × (0 < n) × Drops notes m) → k < most-notes → Fits (set m k x) (k + 1)
+    go : (k : ℕ) (m : List ℕ) → ((k ≡ n) × (m ≡ notes)) ⊎ ((k ≡ 0) × (0 < n) × Drops notes m) → k < most-notes
+        → Fits (set m k x) (k + 1)
     go k m (inl z) i = rw (z .0, z .1) (more-fits f x (rw (z .0) at i))
     go k m (inr z) i = rw (z .0) (more-fits (drops-fits f (z .2)) x (omega arith))
 
 -- ---- descend
 
 -- The matches of the tree from past the bound are those of the tree at before what is noted.
-pub record Descending (ws txt : List ℕ) (p low : Str) (strict : Bool) (from at : ℕ) (notes notes′ : List ℕ) (m : ℕ) : Type 0 where
+pub record Descending (ws txt : List ℕ) (p low : Str) (strict : Bool) (from at : ℕ) (notes notes′ : List ℕ)
+    (m : ℕ) : Type 0 where
   pub bound : starts-with low p ≡ true
   pub any : AnyTree ws txt at
   pub fits : Fits notes′ m
-  pub on : (l : List ℕ) → Noting ws txt p (past strict low) notes 0 (passing ws txt p (past strict low) from) l → Noting ws txt p (past strict low) notes′ m (passing ws txt p (past strict low) at) l
+  pub on : (l : List ℕ) → Noting ws txt p (past strict low) notes 0 (passing ws txt p (past strict low) from) l
+      → Noting ws txt p (past strict low) notes′ m (passing ws txt p (past strict low) at) l
   pub none : m ≡ 0 → passing ws txt p (past strict low) from ≡ passing ws txt p (past strict low) at
 
 module _ {ws txt : List ℕ} {p low : Str} {strict : Bool} {from : ℕ} {notes : List ℕ} where
-  pub descending-all : AnyTree ws txt from → starts-with low p ≡ true → Fits notes 0 → Descending ws txt p low strict from from notes notes 0
+  pub descending-all : AnyTree ws txt from → starts-with low p ≡ true → Fits notes 0
+      → Descending ws txt p low strict from from notes notes 0
   descending-all a s f = record { bound = s; any = a; fits = f; on = λ l o. o; none = λ e. refl }
 
   module _ {at : ℕ} {notes′ : List ℕ} {m : ℕ} (d : Descending ws txt p low strict from at notes notes′ m) where
@@ -175,22 +198,27 @@ module _ {ws txt : List ℕ} {p low : Str} {strict : Bool} {from : ℕ} {notes :
 
     module _ (q : 0 < at) where
       -- A match is noted, and the way goes left.
-      pub descending-note : {x r : ℕ} {notes″ : List ℕ} → past strict low (key-at ws txt at) ≡ true → starts-with (key-at ws txt at) p ≡ true → NotedAt notes′ notes″ m at r → x ≡ left-link (record-at ws at)
+      pub descending-note : {x r : ℕ} {notes″ : List ℕ} → past strict low (key-at ws txt at) ≡ true
+          → starts-with (key-at ws txt at) p ≡ true → NotedAt notes′ notes″ m at r → x ≡ left-link (record-at ws at)
           → Descending ws txt p low strict from x notes notes″ r
       descending-note e i t f = rw f (record {
         bound = d .bound;
         any = any-left (d .any) q;
         fits = note-fits (d .fits) t;
-        on = λ l o. noting-note (d .on l o) (pass-here (d .any) q p strict low e i) (record { some = q; begins = i; ahead = ahead-here (d .on l o) (d .any) refl }) t;
+        on = λ l o. noting-note (d .on l o) (pass-here (d .any) q p strict low e i)
+            (record { some = q; begins = i; ahead = ahead-here (d .on l o) (d .any) refl }) t;
         none = λ z. absurd (omega (arith, t .count));
       })
 
-      pub descending-left : {x : ℕ} → past strict low (key-at ws txt at) ≡ true → starts-with (key-at ws txt at) p ≡ false → x ≡ left-link (record-at ws at) → Descending ws txt p low strict from x notes notes′ m
+      pub descending-left : {x : ℕ} → past strict low (key-at ws txt at) ≡ true
+          → starts-with (key-at ws txt at) p ≡ false → x ≡ left-link (record-at ws at)
+          → Descending ws txt p low strict from x notes notes′ m
       descending-left e i f =
           let s = pass-left (d .any) q p strict low (d .bound) e i in
           rw f (record { bound = d .bound; any = any-left (d .any) q; fits = d .fits; on = λ l o. rw s at (d .on l o); none = λ z. d .none z ∙ s })
 
-      pub descending-right : {x : ℕ} → past strict low (key-at ws txt at) ≡ false → x ≡ right-link (record-at ws at) → Descending ws txt p low strict from x notes notes′ m
+      pub descending-right : {x : ℕ} → past strict low (key-at ws txt at) ≡ false → x ≡ right-link (record-at ws at)
+          → Descending ws txt p low strict from x notes notes′ m
       descending-right e f =
           let s = pass-right (d .any) q p strict low e in
           rw f (record { bound = d .bound; any = any-right (d .any) q; fits = d .fits; on = λ l o. rw s at (d .on l o); none = λ z. d .none z ∙ s })
@@ -202,11 +230,13 @@ pub record Lefting (ws txt : List ℕ) (p : Str) (from at : ℕ) (notes notes′
   pub any : AnyTree ws txt at
   pub later : AllAfter ws txt p at
   pub fits : Fits notes′ m
-  pub on : (b : Str → Bool) (l : List ℕ) → Allˡ (λ x. b (key-at ws txt x) ≡ true) (branches ws from) → Noting ws txt p b notes n (matches ws txt from p) l
+  pub on : (b : Str → Bool) (l : List ℕ) → Allˡ (λ x. b (key-at ws txt x) ≡ true) (branches ws from)
+      → Noting ws txt p b notes n (matches ws txt from p) l
       → Allˡ (λ x. b (key-at ws txt x) ≡ true) (branches ws at) × Noting ws txt p b notes′ m (matches ws txt at p) l
 
 module _ {ws txt : List ℕ} {p : Str} {from : ℕ} {notes : List ℕ} {n : ℕ} where
-  pub lefting-all : AnyTree ws txt from → AllAfter ws txt p from → Fits notes n → Lefting ws txt p from from notes notes n n
+  pub lefting-all : AnyTree ws txt from → AllAfter ws txt p from → Fits notes n
+      → Lefting ws txt p from from notes notes n n
   lefting-all a s f = record { any = a; later = s; fits = f; on = λ b l h o. (h, o) }
 
   module _ {at : ℕ} {notes′ : List ℕ} {m : ℕ} (d : Lefting ws txt p from at notes notes′ n m) where
@@ -217,20 +247,23 @@ module _ {ws txt : List ℕ} {p : Str} {from : ℕ} {notes : List ℕ} {n : ℕ}
         record { fits = d .fits; notes-on = λ b l a o. rw e at (d .on b l a o .1) }
 
     module _ (q : 0 < at) where
-      pub lefting-note : {x r : ℕ} {notes″ : List ℕ} → starts-with (key-at ws txt at) p ≡ true → NotedAt notes′ notes″ m at r → x ≡ left-link (record-at ws at) → Lefting ws txt p from x notes notes″ n r
+      pub lefting-note : {x r : ℕ} {notes″ : List ℕ} → starts-with (key-at ws txt at) p ≡ true
+          → NotedAt notes′ notes″ m at r → x ≡ left-link (record-at ws at) → Lefting ws txt p from x notes notes″ n r
       lefting-note i t f = rw f (record {
         any = any-left (d .any) q;
         later = all-of-left (d .any) q (λ y. p <ˢ key-at ws txt y) (d .later);
         fits = note-fits (d .fits) t;
         on = λ b l a o.
             let k = d .on b l a o in
-            let e : passing ws txt p b at ≡ matches ws txt at p = keep-all (key-at ws txt) b (matches ws txt at p) (all-matches ws txt p at (λ y. b (key-at ws txt y) ≡ true) (k .0)) in (
+            let e : passing ws txt p b at ≡ matches ws txt at p =
+            keep-all (key-at ws txt) b (matches ws txt at p) (all-matches ws txt p at (λ y. b (key-at ws txt y) ≡ true) (k .0)) in (
               all-of-left (d .any) q (λ y. b (key-at ws txt y) ≡ true) (k .0),
               noting-note (k .1) (match-here (d .any) q p i) (record { some = q; begins = i; ahead = ahead-here (k .1) (d .any) (sym e) }) t,
             );
       })
 
-      pub lefting-left : {x : ℕ} → starts-with (key-at ws txt at) p ≡ false → x ≡ left-link (record-at ws at) → Lefting ws txt p from x notes notes′ n m
+      pub lefting-left : {x : ℕ} → starts-with (key-at ws txt at) p ≡ false → x ≡ left-link (record-at ws at)
+          → Lefting ws txt p from x notes notes′ n m
       lefting-left i f =
           let e = match-left (d .any) q p (past-after false p (key-at ws txt at) (all-here (d .any) q (λ y. p <ˢ key-at ws txt y) (d .later))) i in
           rw f (record {

@@ -16,7 +16,8 @@ use Rattle.match_marks.specs.Marks.{dropped, Fits, Holds}
 unfoldable pub to-come : (ws txt : List ℕ) (prefix : Str) (notes : List ℕ) → ℕ → List ℕ
 to-come ws txt prefix notes zero = []
 to-come ws txt prefix notes (suc n) =
-    getD notes n 0 ∷ (matches ws txt (right-link (record-at ws (getD notes n 0))) prefix ++ to-come ws txt prefix notes n)
+    getD notes n 0
+    ∷ (matches ws txt (right-link (record-at ws (getD notes n 0))) prefix ++ to-come ws txt prefix notes n)
 
 -- The matches of the tree m whose keys pass the test b.
 abbrev pub passing : (ws txt : List ℕ) (prefix : Str) → (Str → Bool) → ℕ → List ℕ
@@ -35,7 +36,8 @@ pub record NoteOk (ws txt : List ℕ) (prefix : Str) (b : Str → Bool) (l : Lis
   pub ahead : Ahead ws txt prefix b l x
 
 -- The list l begins with h and what the first n notes say, and is that where no notes were dropped. Each note and each mark is ahead.
-pub record Noting (ws txt : List ℕ) (prefix : Str) (b : Str → Bool) (notes : List ℕ) (n : ℕ) (h l : List ℕ) : Type 0 where
+pub record Noting (ws txt : List ℕ) (prefix : Str) (b : Str → Bool) (notes : List ℕ) (n : ℕ)
+    (h l : List ℕ) : Type 0 where
   pub fits : Fits notes n
   pub holds : Holds (NoteOk ws txt prefix b l) (Ahead ws txt prefix b l) notes n
   pub rest : List ℕ
@@ -43,9 +45,11 @@ pub record Noting (ws txt : List ℕ) (prefix : Str) (b : Str → Bool) (notes :
   pub whole : getD notes dropped 0 ≡ 0 → rest ≡ []
 
 -- The matches of the tree from that are past low are noted. With none noted there are none.
-pub record Descends (ws txt : List ℕ) (prefix low : Str) (strict : Bool) (from : ℕ) (notes notes′ : List ℕ) (r : ℕ) : Type 0 where
+pub record Descends (ws txt : List ℕ) (prefix low : Str) (strict : Bool) (from : ℕ) (notes notes′ : List ℕ)
+    (r : ℕ) : Type 0 where
   pub fits : Fits notes′ r
-  pub notes-on : (l : List ℕ) → Noting ws txt prefix (past strict low) notes 0 (passing ws txt prefix (past strict low) from) l → Noting ws txt prefix (past strict low) notes′ r [] l
+  pub notes-on : (l : List ℕ) → Noting ws txt prefix (past strict low) notes 0
+      (passing ws txt prefix (past strict low) from) l → Noting ws txt prefix (past strict low) notes′ r [] l
   pub none : r ≡ 0 → passing ws txt prefix (past strict low) from ≡ []
 
 -- The branches of the tree from are all after the prefix.
@@ -55,4 +59,5 @@ AllAfter ws txt prefix from = Allˡ (λ x. prefix <ˢ key-at ws txt x) (branches
 -- The matches of the tree from are noted before what was noted already.
 pub record NotesLeft (ws txt : List ℕ) (prefix : Str) (from : ℕ) (notes notes′ : List ℕ) (n r : ℕ) : Type 0 where
   pub fits : Fits notes′ r
-  pub notes-on : (b : Str → Bool) (l : List ℕ) → Allˡ (λ x. b (key-at ws txt x) ≡ true) (branches ws from) → Noting ws txt prefix b notes n (matches ws txt from prefix) l → Noting ws txt prefix b notes′ r [] l
+  pub notes-on : (b : Str → Bool) (l : List ℕ) → Allˡ (λ x. b (key-at ws txt x) ≡ true) (branches ws from)
+      → Noting ws txt prefix b notes n (matches ws txt from prefix) l → Noting ws txt prefix b notes′ r [] l

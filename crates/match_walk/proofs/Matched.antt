@@ -40,7 +40,8 @@ module _ (key : ℕ → Str) where
 
   module _ (strict : Bool) (low : Str) where
     -- Where nothing is past the bound, nothing is after a key that is.
-    none-after : (k : Str) (l : List ℕ) → past strict low k ≡ true → keep key (past strict low) l ≡ [] → after key k l ≡ []
+    none-after : (k : Str) (l : List ℕ) → past strict low k ≡ true → keep key (past strict low) l ≡ []
+        → after key k l ≡ []
     none-after k l p e =
         keep-none key (past true k) l
         (Allˡ-map {P = λ y. past strict low (key y) ≡ false} {Q = λ y. past true k (key y) ≡ false} l
@@ -48,7 +49,8 @@ module _ (key : ℕ → Str) where
         (none-kept (past strict low) l e))
 
     -- What is past the bound, after the first: what is after the key of the first.
-    kept-next : (l : List ℕ) → Increasing key l → (x : ℕ) (tl : List ℕ) → keep key (past strict low) l ≡ x ∷ tl → tl ≡ after key (key x) l
+    kept-next : (l : List ℕ) → Increasing key l → (x : ℕ) (tl : List ℕ) → keep key (past strict low) l ≡ x ∷ tl
+        → tl ≡ after key (key x) l
     unfolding keep
     kept-next [] i x tl e = absurd (nil≢cons e)
     kept-next (y ∷ l) i x tl e =
@@ -57,31 +59,45 @@ module _ (key : ℕ → Str) where
         let f : y ∷ keep key (past strict low) l ≡ x ∷ tl = rw z at e in
         let g : y ≡ x = cc in
         let h : keep key (past strict low) l ≡ tl = cc in
-        sym h ∙ keep-all key (past strict low) l (Allˡ-map {P = λ u. key y <ˢ key u} {Q = λ u. past strict low (key u) ≡ true} l (λ u. past-up strict low (key y) (key u) z) (i .0)) ∙ rw (← g) (sym (after-first key y l i)))
+        sym h ∙ keep-all key (past strict low) l (Allˡ-map {P = λ u. key y <ˢ key u} {Q = λ u. past strict low (key u) ≡ true} l
+        (λ u. past-up strict low (key y) (key u) z) (i .0)) ∙ rw (← g) (sym (after-first key y l i)))
         (λ z.
         let f : keep key (past strict low) l ≡ x ∷ tl = rw z at e in
-        let h : key y <ˢ key x = subst (λ (m : List ℕ). Allˡ (λ u. key y <ˢ key u) m) f (all-keep key (λ u. key y <ˢ key u) (past strict low) l (Allˡ-map {P = λ u. key y <ˢ key u} {Q = λ u. past strict low (key u) ≡ true → key y <ˢ key u} l (λ u v _. v) (i .0))) .0 in
+        let h : key y <ˢ key x = subst (λ (m : List ℕ). Allˡ (λ u. key y <ˢ key u) m) f
+        (all-keep key (λ u. key y <ˢ key u) (past strict low) l
+        (Allˡ-map {P = λ u. key y <ˢ key u} {Q = λ u. past strict low (key u) ≡ true → key y <ˢ key u} l (λ u v _. v) (i .0))) .0 in
         kept-next l (i .1) x tl f ∙ rw (past-low true (key x) (key y) h))
 
 -- ---- The first of the list
 
 -- Once the first of the list is given, what is ahead is past its key.
-module _ {ws txt : List ℕ} {p : Str} (low : Str) (strict : Bool) {l l′ : List ℕ} {x : ℕ} (s : l ≡ x ∷ l′) (h : past strict low (key-at ws txt x) ≡ true) where
+module _ {ws txt : List ℕ} {p : Str} (low : Str) (strict : Bool) {l l′ : List ℕ} {x : ℕ} (s : l ≡ x ∷ l′)
+    (h : past strict low (key-at ws txt x) ≡ true) where
   ahead-next : {m : ℕ} → Ahead ws txt p (past strict low) l m → Ahead ws txt p (past true (key-at ws txt x)) l′ m
   ahead-next {m} a = go (passing ws txt p (past strict low) m) refl (sym s ∙ a .says)
     where
-      go : (k : List ℕ) → passing ws txt p (past strict low) m ≡ k → x ∷ l′ ≡ k ++ a .rest → Ahead ws txt p (past true (key-at ws txt x)) l′ m
+      go : (k : List ℕ) → passing ws txt p (past strict low) m ≡ k → x ∷ l′ ≡ k ++ a .rest
+          → Ahead ws txt p (past true (key-at ws txt x)) l′ m
       go [] e f = record { any = a .any; rest = l′; says = rw (none-after (key-at ws txt) strict low (key-at ws txt x) (matches ws txt m p) h e) }
       go (y ∷ k) e f =
           let same : x ≡ y = cc in
           let tail : l′ ≡ k ++ a .rest = cc in
-          record { any = a .any; rest = a .rest; says = tail ∙ rw (kept-next (key-at ws txt) strict low (matches ws txt m p) (matches-increasing (a .any .tree) p) y k e, same) }
+          record {
+            any = a .any;
+            rest = a .rest;
+            says = tail ∙ rw (
+              kept-next (key-at ws txt) strict low (matches ws txt m p) (matches-increasing (a .any .tree) p) y k e,
+              same,
+            );
+          }
 
   note-next : {y : ℕ} → NoteOk ws txt p (past strict low) l y → NoteOk ws txt p (past true (key-at ws txt x)) l′ y
   note-next a = record { some = a .some; begins = a .begins; ahead = ahead-next (a .ahead) }
 
 -- The last note is the first of the list.
-pub matched-top : {ws txt : List ℕ} {p : Str} (low : Str) (strict : Bool) {notes : List ℕ} {n : ℕ} {l : List ℕ} {r : Next} → Noting ws txt p (past strict low) notes n [] l → Allˡ (λ x. past strict low (key-at ws txt x) ≡ true) l → 0 < n
+pub matched-top : {ws txt : List ℕ} {p : Str} (low : Str) (strict : Bool) {notes : List ℕ} {n : ℕ} {l : List ℕ}
+    {r : Next} → Noting ws txt p (past strict low) notes n [] l → Allˡ (λ x. past strict low (key-at ws txt x) ≡ true) l
+    → 0 < n
     → LastNote notes n r → Matched ws txt p notes l r
 unfolding to-come
 matched-top {ws} {txt} {p} low strict {notes} {n} {l} {r} o a h t =
@@ -115,7 +131,8 @@ matched-top {ws} {txt} {p} low strict {notes} {n} {l} {r} o a h t =
     }
 
 -- There is none.
-pub matched-none : {ws txt : List ℕ} {p : Str} {notes l : List ℕ} → length notes ≡ note-words → l ≡ [] → Matched ws txt p notes l (record { link = 0; n = 0 })
+pub matched-none : {ws txt : List ℕ} {p : Str} {notes l : List ℕ} → length notes ≡ note-words → l ≡ []
+    → Matched ws txt p notes l (record { link = 0; n = 0 })
 matched-none f e = record { head = rw e; sized = f; noted = λ x after g. absurd (nil≢cons (sym e ∙ g)) }
 
 -- ---- The walk
@@ -123,56 +140,72 @@ matched-none f e = record { head = rw e; sized = f; noted = λ x after g. absurd
 -- The root's matches, before anything is noted.
 pub first-noting : (ws txt : List ℕ) (p : Str) (root : ℕ) (notes : List ℕ) (s : length notes ≡ note-words)
     → Noting ws txt p (past false p) (cleared notes s) 0 (passing ws txt p (past false p) root) (matches ws txt root p)
-first-noting ws txt p root notes s = noting-none (clear-fits notes s) (clear-holds notes s) [] (sym (matches-past ws txt p root) ∙ sym (append-nil (passing ws txt p (past false p) root))) (λ z. refl)
+first-noting ws txt p root notes s = noting-none (clear-fits notes s) (clear-holds notes s) []
+    (sym (matches-past ws txt p root) ∙ sym (append-nil (passing ws txt p (past false p) root))) (λ z. refl)
 
-pub first-pass : (ws txt : List ℕ) (p : Str) (root : ℕ) → Allˡ (λ x. past false p (key-at ws txt x) ≡ true) (matches ws txt root p)
-first-pass ws txt p root = subst (λ (l : List ℕ). Allˡ (λ x. past false p (key-at ws txt x) ≡ true) l) (matches-past ws txt p root) (kept-pass (key-at ws txt) (past false p) (matches ws txt root p))
+pub first-pass : (ws txt : List ℕ) (p : Str) (root : ℕ)
+    → Allˡ (λ x. past false p (key-at ws txt x) ≡ true) (matches ws txt root p)
+first-pass ws txt p root = subst (λ (l : List ℕ). Allˡ (λ x. past false p (key-at ws txt x) ≡ true) l) (matches-past ws txt p root)
+    (kept-pass (key-at ws txt) (past false p) (matches ws txt root p))
 
 -- The first, where nothing is noted.
-pub first-none : (ws txt : List ℕ) (p : Str) (root : ℕ) {notes notes′ : List ℕ} {r : ℕ} → Descends ws txt p p false root notes notes′ r → r ≤ 0
+pub first-none : (ws txt : List ℕ) (p : Str) (root : ℕ) {notes notes′ : List ℕ} {r : ℕ}
+    → Descends ws txt p p false root notes notes′ r → r ≤ 0
     → Matched ws txt p notes′ (matches ws txt root p) (record { link = 0; n = 0 })
 first-none ws txt p root d h = matched-none (d .fits .sized) (sym (matches-past ws txt p root) ∙ d .none (omega arith))
 
 -- What is to the right of a match.
-module _ {ws txt : List ℕ} (p : Str) {at : ℕ} (a : (0 < at) × AnyTree ws txt at) (s : starts-with (key-at ws txt at) p ≡ true) where
+module _ {ws txt : List ℕ} (p : Str) {at : ℕ} (a : (0 < at) × AnyTree ws txt at)
+    (s : starts-with (key-at ws txt at) p ≡ true) where
   pub right-after : AllAfter ws txt p (right-link (record-at ws at))
   right-after = all-beyond (a .1) (a .0) (λ y. p <ˢ y) (λ y. after-prefix p (key-at ws txt at) y s)
 
-  pub next-here : {notes notes′ l : List ℕ} {n x r : ℕ} → Noted ws txt p notes n at l → x ≡ right-link (record-at ws at) → NotesLeft ws txt p x notes notes′ n r → Noting ws txt p (past true (key-at ws txt at)) notes′ r [] l
+  pub next-here : {notes notes′ l : List ℕ} {n x r : ℕ} → Noted ws txt p notes n at l → x ≡ right-link (record-at ws at)
+      → NotesLeft ws txt p x notes notes′ n r → Noting ws txt p (past true (key-at ws txt at)) notes′ r [] l
   next-here {l = l} o e d =
-      (rw e at d) .notes-on (past true (key-at ws txt at)) l (all-beyond (a .1) (a .0) (λ y. past true (key-at ws txt at) y ≡ true) (λ y. past-after true (key-at ws txt at) y)) o
+      (rw e at d) .notes-on (past true (key-at ws txt at)) l
+      (all-beyond (a .1) (a .0) (λ y. past true (key-at ws txt at) y ≡ true) (λ y. past-after true (key-at ws txt at) y)) o
 
 -- With no note: what notes that were not dropped said was all.
-pub next-end : {ws txt : List ℕ} {p : Str} {b : Str → Bool} {notes l : List ℕ} {n : ℕ} → Noting ws txt p b notes n [] l → n ≤ 0 → getD notes dropped 0 ≡ 0 → Matched ws txt p notes l (record { link = 0; n = 0 })
+pub next-end : {ws txt : List ℕ} {p : Str} {b : Str → Bool} {notes l : List ℕ} {n : ℕ} → Noting ws txt p b notes n [] l
+    → n ≤ 0 → getD notes dropped 0 ≡ 0 → Matched ws txt p notes l (record { link = 0; n = 0 })
 unfolding to-come
 next-end {n = n} o h z = let e : n ≡ 0 = omega arith in matched-none (o .fits .sized) (o .says ∙ rw (e, o .whole z))
 
 -- Else a mark's tree, or the root.
-module _ {ws txt : List ℕ} {p : Str} (k : Str) {l notes : List ℕ} {n : ℕ} (o : Noting ws txt p (past true k) notes n [] l) (h : n ≤ 0) where
+module _ {ws txt : List ℕ} {p : Str} (k : Str) {l notes : List ℕ} {n : ℕ}
+    (o : Noting ws txt p (past true k) notes n [] l) (h : n ≤ 0) where
   pub none-fits : Fits notes 0
   none-fits = fits-fewer (o .fits) (omega arith)
 
   none-holds : Holds (NoteOk ws txt p (past true k) l) (Ahead ws txt p (past true k) l) notes 0
   none-holds = holds-fewer (o .fits) (o .holds) (omega arith)
 
-  root-noting : (root : ℕ) → l ≡ passing ws txt p (past true k) root → Noting ws txt p (past true k) notes 0 (passing ws txt p (past true k) root) l
+  root-noting : (root : ℕ) → l ≡ passing ws txt p (past true k) root
+      → Noting ws txt p (past true k) notes 0 (passing ws txt p (past true k) root) l
   root-noting root e = noting-none none-fits none-holds [] (e ∙ sym (append-nil (passing ws txt p (past true k) root))) (λ z. refl)
 
   module _ {notes′ : List ℕ} {m : ℕ} (a : AnyTree ws txt 0) (t : MarkTaken notes notes′ m) where
     pub mark-ahead : Ahead ws txt p (past true k) l m
     mark-ahead = taken-mark none-fits none-holds (record { any = a; rest = l; says = rw (pass-none ws txt p (past true k)) }) t
 
-    mark-noting : (getD notes dropped 0 ≡ 0 → ⊥) → Noting ws txt p (past true k) notes′ 0 (passing ws txt p (past true k) m) l
-    mark-noting z = noting-none (taken-fits none-fits t) (taken-holds none-fits none-holds t) (mark-ahead .rest) (mark-ahead .says) (λ y. absurd (z (sym (taken-told none-fits t) ∙ y)))
+    mark-noting : (getD notes dropped 0 ≡ 0 → ⊥)
+        → Noting ws txt p (past true k) notes′ 0 (passing ws txt p (past true k) m) l
+    mark-noting z = noting-none (taken-fits none-fits t) (taken-holds none-fits none-holds t) (mark-ahead .rest) (mark-ahead .says)
+        (λ y. absurd (z (sym (taken-told none-fits t) ∙ y)))
 
 module _ {ws txt : List ℕ} {p : Str} (k low : Str) {l notes notes′ : List ℕ} {r : ℕ} (same : low ≡ k) where
   -- The walk down from a mark, and from the root.
-  pub next-near : {notes₀ : List ℕ} {n m : ℕ} → Noting ws txt p (past true k) notes₀ n [] l → n ≤ 0 → (getD notes₀ dropped 0 ≡ 0 → ⊥) → AnyTree ws txt 0 → MarkTaken notes₀ notes m → Descends ws txt p low true m notes notes′ r
+  pub next-near : {notes₀ : List ℕ} {n m : ℕ} → Noting ws txt p (past true k) notes₀ n [] l → n ≤ 0
+      → (getD notes₀ dropped 0 ≡ 0 → ⊥) → AnyTree ws txt 0 → MarkTaken notes₀ notes m
+      → Descends ws txt p low true m notes notes′ r
       → Noting ws txt p (past true k) notes′ r [] l
   next-near o h z a t d = (rw same at d) .notes-on l (mark-noting k o h a t z)
 
-  module _ (root : ℕ) (e : l ≡ passing ws txt p (past true k) root) (d : Descends ws txt p low true root notes notes′ r) where
-    pub next-all : {n : ℕ} → Noting ws txt p (past true k) notes n [] l → n ≤ 0 → Noting ws txt p (past true k) notes′ r [] l
+  module _ (root : ℕ) (e : l ≡ passing ws txt p (past true k) root)
+      (d : Descends ws txt p low true root notes notes′ r) where
+    pub next-all : {n : ℕ} → Noting ws txt p (past true k) notes n [] l → n ≤ 0
+        → Noting ws txt p (past true k) notes′ r [] l
     next-all o h = (rw same at d) .notes-on l (root-noting k o h root e)
 
     pub next-none : r ≤ 0 → Matched ws txt p notes′ l (record { link = 0; n = 0 })

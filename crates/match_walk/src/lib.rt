@@ -24,7 +24,8 @@ pub fn first_match(
 ) -> Next
     requires { ⌜ AnyTree (now words) (now text) root ⌝ }
     requires { ⌜ length (now notes) ≡ note-words ⌝ }
-    ensures { λ r. ⌜ Matched (old words) (old text) (old prefix) (new notes) (matches (old words) (old text) root (old prefix)) r ⌝ }
+    ensures { λ r. ⌜ Matched (old words) (old text) (old prefix) (new notes)
+        (matches (old words) (old text) root (old prefix)) r ⌝ }
 {
     notes[match_marks::NEAR_COUNT] = 0;
     notes[match_marks::FAR_COUNT] = 0;
@@ -50,9 +51,11 @@ pub fn next_match(
     requires { ⌜ (0 < at) × AnyTree (now words) (now text) at ⌝ }
     requires { ⌜ starts-with (key-at (now words) (now text) at) (now prefix) ≡ true ⌝ }
     requires { ⌜ Noted (now words) (now text) (now prefix) (now notes) n at
-        (after (key-at (now words) (now text)) (key-at (now words) (now text) at) (matches (now words) (now text) root (now prefix))) ⌝ }
+        (after (key-at (now words) (now text)) (key-at (now words) (now text) at)
+        (matches (now words) (now text) root (now prefix))) ⌝ }
     ensures { λ r. ⌜ Matched (old words) (old text) (old prefix) (new notes)
-        (after (key-at (old words) (old text)) (key-at (old words) (old text) at) (matches (old words) (old text) root (old prefix))) r ⌝ }
+        (after (key-at (old words) (old text)) (key-at (old words) (old text) at)
+        (matches (old words) (old text) root (old prefix))) r ⌝ }
 {
     let right = memory_access::right_of(words, at);
     let here = match_notes::note_left(words, text, prefix, right, notes, n);

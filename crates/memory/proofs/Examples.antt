@@ -24,7 +24,8 @@ tick-words =
     ++ (5 ∷ 0 ∷ 0 ∷ 2 ∷ 0 ∷ 0 ∷ 0 ∷ 0 ∷ 0 ∷ 0 ∷ 0 ∷ 0 ∷ [])
 
 case-1 : what names tick-words tick 3 trieˢ ≡ insert empty [] tick (record { kind = Register; number = 5 }) .tbl-lids
-unfolding kind-for read-kind tick tick-words what among record-at span then string-compare bindings namespaces trie-empty btree-insert-replace btree-find-exact or-else dflt names-find-exact names-insert trie-mutate trie-mutate-leaf trie-insert empty insert
+unfolding kind-for read-kind tick tick-words what among record-at span then string-compare bindings namespaces trie-empty btree-insert-replace btree-find-exact
+    or-else dflt names-find-exact names-insert trie-mutate trie-mutate-leaf trie-insert empty insert
 case-1 = refl
 
 -- IO.Bus.
@@ -49,6 +50,9 @@ bus-words =
     ++ (8 ∷ 0 ∷ 0 ∷ 8 ∷ 0 ∷ 0 ∷ 0 ∷ 0 ∷ 0 ∷ 0 ∷ 1 ∷ 0 ∷ [])
     ++ (10 ∷ 0 ∷ 0 ∷ 9 ∷ 7 ∷ 0 ∷ 0 ∷ 0 ∷ 0 ∷ 0 ∷ 0 ∷ 2 ∷ [])
 
-case-10 : what modules bus-words (query ++ path) 10 trieˢ ≡ register-module-path empty false path (segments query) .tbl-mods
-unfolding query path bus-words what among record-at span then string-compare query-to-string onto-first segments bindings namespaces trie-empty btree-insert-replace btree-find-exact or-else dflt names-find-exact names-insert scope-of trie-mutate empty ns-inserts name-of-revq ins-ns ins-mod ins register-module-path
+case-10 : what modules bus-words (query ++ path) 10 trieˢ
+    ≡ register-module-path empty false path (segments query) .tbl-mods
+unfolding query path bus-words what among record-at span then string-compare query-to-string onto-first segments bindings namespaces trie-empty
+    btree-insert-replace btree-find-exact or-else dflt names-find-exact names-insert scope-of trie-mutate empty ns-inserts name-of-revq ins-ns ins-mod ins
+    register-module-path
 case-10 = refl

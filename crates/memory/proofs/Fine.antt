@@ -33,16 +33,19 @@ item-fine txt used names r o = tt
 item-fine txt used modules r o =
     zero-one (word r 5) (o .sort) (λ z. rw z (o .name .keeps, o .path z .keeps)) (λ z. rw z (o .name .keeps))
 
-module _ (ws txt : List ℕ) (used l : ℕ) (w : Which) (r : List ℕ) (ih : (x : ℕ) (t : Sort) → LinkOk ws l x (kind w t) → Fine w t (what w ws txt x t)) where
+module _ (ws txt : List ℕ) (used l : ℕ) (w : Which) (r : List ℕ)
+    (ih : (x : ℕ) (t : Sort) → LinkOk ws l x (kind w t) → Fine w t (what w ws txt x t)) where
   branch-fine : (v : Level) → BranchOk ws txt used l w r v → Ordered (row w txt r (what w ws txt) (tree v))
-      → Formed IsKey IsLabel (IsItem w) (value w txt r (what w ws txt) v) → heaviest (value w txt r (what w ws txt) v) ≤ 96 → Fine w (tree v) (row w txt r (what w ws txt) (tree v))
+      → Formed IsKey IsLabel (IsItem w) (value w txt r (what w ws txt) v)
+      → heaviest (value w txt r (what w ws txt) v) ≤ 96 → Fine w (tree v) (row w txt r (what w ws txt) (tree v))
   unfolding heaviest-tree
   branch-fine v o a f h =
       let i = ih (word r 3) (tree v) (o .left) in
       let j = ih (word r 4) (tree v) (o .right) in
       ((o .key .keeps, f, a .0, a .1, i .0, j .0), max-le h (max-le (i .1) (j .1)))
 
-  collection-fine : (v : Level) → CollectionOk ws txt used l w r v → weight (row w txt r (what w ws txt) (list v)) ≤ 96 → Fine w (list v) (row w txt r (what w ws txt) (list v))
+  collection-fine : (v : Level) → CollectionOk ws txt used l w r v → weight (row w txt r (what w ws txt) (list v)) ≤ 96
+      → Fine w (list v) (row w txt r (what w ws txt) (list v))
   unfolding heaviest-names
   collection-fine v o h =
       let j = ih (word r 4) (list v) (o .rest) in
@@ -50,7 +53,8 @@ module _ (ws txt : List ℕ) (used l : ℕ) (w : Which) (r : List ℕ) (ih : (x 
       (λ z. let i = ih (word r 3) (tree v) (o .own z) in rw z ((i .0, j .0), max-le (rw z at h) (max-le (i .1) (j .1))))
       (λ z. let i = ih (word r 3) (list v) (o .imported z) in rw z ((o .label z .keeps, i .0, j .0), max-le (rw z at h) (max-le (i .1) (j .1))))
 
-  row-fine : (s : Sort) → RecordAs ws txt used l w s r (row w txt r (what w ws txt) s) → Fine w s (row w txt r (what w ws txt) s)
+  row-fine : (s : Sort) → RecordAs ws txt used l w s r (row w txt r (what w ws txt) s)
+      → Fine w s (row w txt r (what w ws txt) s)
   unfolding heaviest
   row-fine (tree bind) a = branch-fine bind (a .0) (a .1) (item-fine txt used w r (a .2)) (omega arith)
   row-fine (tree ns) a = let h = ih (word r 5) trieˢ (a .2) in branch-fine ns (a .0) (a .1) (h .0) (h .1)
@@ -71,7 +75,8 @@ module _ {ws txt : List ℕ} {n used : ℕ} (o : Used ws txt n used) where
       subst (Fine w s) (sym e)
       (row-fine ws txt used l w (record-at ws l) ih s (subst (λ (t : Of (Item w) s). RecordAs ws txt used l w s (record-at ws l) t) e r)))
 
-  pub link-shallow : (w : Which) {l x : ℕ} → l ≤ n + 1 → LinkOk ws l x (kind w trieˢ) → depth (what w ws txt x trieˢ) ≤ 16
+  pub link-shallow : (w : Which) {l x : ℕ} → l ≤ n + 1 → LinkOk ws l x (kind w trieˢ)
+      → depth (what w ws txt x trieˢ) ≤ 16
   unfolding depth depth-names
   link-shallow w {x = x} h i =
       zero-some x

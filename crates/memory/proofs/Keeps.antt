@@ -42,7 +42,8 @@ module _ {txt txt′ : List ℕ} {used : ℕ} (y : Keeps used txt txt′) where
   unfolding span
   span-keeps s n h = part-stays used txt txt′ (y .same) n s h
 
-  pub text-keeps : {used′ : ℕ} → used ≤ used′ → (Rule : Str → Type 0) (s n : ℕ) → TextOk Rule txt used s n → TextOk Rule txt′ used′ s n
+  pub text-keeps : {used′ : ℕ} → used ≤ used′ → (Rule : Str → Type 0) (s n : ℕ) → TextOk Rule txt used s n
+      → TextOk Rule txt′ used′ s n
   text-keeps u Rule s n o = record { inside = omega (arith, o .inside); keeps = rw (span-keeps s n (o .inside)) (o .keeps) }
 
   item-keeps : (w : Which) (r : List ℕ) → ItemOk txt used w r → item-of w txt′ r ≡ item-of w txt r
@@ -53,24 +54,38 @@ module _ {txt txt′ : List ℕ} {used : ℕ} (y : Keeps used txt txt′) where
       (λ z. rw (z, span-keeps (word r 6) (word r 7) (o .name .inside)))
 
   -- A right record, where its links read the same.
-  module _ (ws : List ℕ) (l : ℕ) (w : Which) (r : List ℕ) (ih : (x : ℕ) (t : Sort) → LinkOk ws l x (kind w t) → what w ws txt′ x t ≡ what w ws txt x t) where
-    collection-keeps : (v : Level) → CollectionOk ws txt used l w r v → row w txt′ r (what w ws txt′) (list v) ≡ row w txt r (what w ws txt) (list v)
+  module _ (ws : List ℕ) (l : ℕ) (w : Which) (r : List ℕ)
+      (ih : (x : ℕ) (t : Sort) → LinkOk ws l x (kind w t) → what w ws txt′ x t ≡ what w ws txt x t) where
+    collection-keeps : (v : Level) → CollectionOk ws txt used l w r v
+        → row w txt′ r (what w ws txt′) (list v) ≡ row w txt r (what w ws txt) (list v)
     collection-keeps v o =
         zero-one (word r 5) (o .sort)
         (λ z. rw (z, ih (word r 3) (tree v) (o .own z), ih (word r 4) (list v) (o .rest)))
         (λ z. rw (z, span-keeps (word r 1) (word r 2) (o .label z .inside), ih (word r 3) (list v) (o .imported z), ih (word r 4) (list v) (o .rest)))
 
-    row-keeps : (s : Sort) → RecordAs ws txt used l w s r (what w ws txt l s) → row w txt′ r (what w ws txt′) s ≡ row w txt r (what w ws txt) s
+    row-keeps : (s : Sort) → RecordAs ws txt used l w s r (what w ws txt l s)
+        → row w txt′ r (what w ws txt′) s ≡ row w txt r (what w ws txt) s
     row-keeps (tree bind) a =
-        rw (span-keeps (word r 1) (word r 2) (a .0 .key .inside), item-keeps w r (a .2), ih (word r 3) (tree bind) (a .0 .left), ih (word r 4) (tree bind) (a .0 .right))
+        rw (
+          span-keeps (word r 1) (word r 2) (a .0 .key .inside),
+          item-keeps w r (a .2),
+          ih (word r 3) (tree bind) (a .0 .left),
+          ih (word r 4) (tree bind) (a .0 .right),
+        )
     row-keeps (tree ns) a =
-        rw (span-keeps (word r 1) (word r 2) (a .0 .key .inside), ih (word r 5) trieˢ (a .2), ih (word r 3) (tree ns) (a .0 .left), ih (word r 4) (tree ns) (a .0 .right))
+        rw (
+          span-keeps (word r 1) (word r 2) (a .0 .key .inside),
+          ih (word r 5) trieˢ (a .2),
+          ih (word r 3) (tree ns) (a .0 .left),
+          ih (word r 4) (tree ns) (a .0 .right),
+        )
     row-keeps (list bind) a = collection-keeps bind (a .0)
     row-keeps (list ns) a = collection-keeps ns (a .0)
     row-keeps trieˢ a = rw (ih (word r 3) (list bind) (a .0 .bindings), ih (word r 4) (list ns) (a .0 .namespaces))
 
 module _ {ws txt txt′ : List ℕ} {n used : ℕ} (o : Used ws txt n used) (y : Keeps used txt txt′) where
-  pub what-keeps : (w : Which) (s : Sort) {l x : ℕ} → l ≤ n + 1 → LinkOk ws l x (kind w s) → what w ws txt′ x s ≡ what w ws txt x s
+  pub what-keeps : (w : Which) (s : Sort) {l x : ℕ} → l ≤ n + 1 → LinkOk ws l x (kind w s)
+      → what w ws txt′ x s ≡ what w ws txt x s
   what-keeps =
       by-links (o .rows) (λ w s x. what w ws txt′ x s ≡ what w ws txt x s)
       (λ w s. rw (what-none w ws txt′, what-none w ws txt))
@@ -91,6 +106,7 @@ module _ {ws txt txt′ : List ℕ} {n used : ℕ} (o : Used ws txt n used) (y :
           sort = r .sort;
           known = r .known;
           right = rw (what-keeps (r .which) (r .sort) {l = n + 1} {x = l} (omega arith) (record { earlier = omega arith; of-kind = λ _. r .known }))
-              (as-map {ws = ws} {ws′ = ws} {txt = txt} {txt′ = txt′} {used = used} {used′ = used′} {l = l} {l′ = l} (λ x k i. i) (text-keeps y more) (r .which) (r .sort) _ _ (r .right));
+              (as-map {ws = ws} {ws′ = ws} {txt = txt} {txt′ = txt′} {used = used} {used′ = used′} {l = l} {l′ = l} (λ x k i. i) (text-keeps y more) (r .which)
+              (r .sort) _ _ (r .right));
         };
   }

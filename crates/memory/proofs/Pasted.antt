@@ -14,7 +14,8 @@ cut n zero t = ap (λ (k : ℕ). take k t) (sym (zero-add n))
 cut n (suc s) [] = take-nil n ∙ sym (ap (drop (suc s)) (take-nil (suc s + n)) ∙ drop-nil (suc s))
 cut n (suc s) (x ∷ t) = cut n s t ∙ ap (λ (k : ℕ). drop (suc s) (take k (x ∷ t))) (sym (suc-add s n))
 
-pub part-stays : (m : ℕ) (t t′ : List ℕ) → take m t′ ≡ take m t → (n s : ℕ) → s + n ≤ m → take n (drop s t′) ≡ take n (drop s t)
+pub part-stays : (m : ℕ) (t t′ : List ℕ) → take m t′ ≡ take m t → (n s : ℕ) → s + n ≤ m
+    → take n (drop s t′) ≡ take n (drop s t)
 part-stays m t t′ e n s h =
     cut n s t′ ∙ ap (drop s) (sym (take-take (s + n) m t′ h) ∙ ap (take (s + n)) e ∙ take-take (s + n) m t h) ∙ sym (cut n s t)
 
@@ -46,7 +47,8 @@ pub record Pasting (d s e : List ℕ) (at i n : ℕ) : Type 0 where
 pub pasting-none : (d s : List ℕ) (at n : ℕ) → Pasting d s d at 0 n
 pasting-none d s at n = record { below = omega arith; says = paste-zero d at s; size = refl }
 
-pub pasting-more : {d s e : List ℕ} {at i n : ℕ} → n ≤ length s → at + n ≤ length d → i < n → Pasting d s e at i n → Pasting d s (set e (at + i) (getD s i 0)) at (i + 1) n
+pub pasting-more : {d s e : List ℕ} {at i n : ℕ} → n ≤ length s → at + n ≤ length d → i < n → Pasting d s e at i n
+    → Pasting d s (set e (at + i) (getD s i 0)) at (i + 1) n
 pasting-more {d} {s} {e} {at} {i} m room h g = record {
   below = omega arith;
   says = rw (add-one, g .says) (paste-suc d at s i 0 (omega arith) (omega arith));

@@ -26,7 +26,8 @@ module _ (ws r : List ℕ) (n : ℕ) (room : n * 12 + 12 ≤ length ws) (twelve 
       rw e (paste-part ws (n * 12) r 12 room (omega arith) ∙ take-all 12 r (omega arith))
 
 -- Readings that agree on earlier links.
-row-agrees : (w : Which) (txt r : List ℕ) (l : ℕ) (f g : ℕ → Reading w) → ((x : ℕ) → x < l → f x ≡ g x) → (s : Sort) → Earlier s r l → row w txt r f s ≡ row w txt r g s
+row-agrees : (w : Which) (txt r : List ℕ) (l : ℕ) (f g : ℕ → Reading w) → ((x : ℕ) → x < l → f x ≡ g x) → (s : Sort)
+    → Earlier s r l → row w txt r f s ≡ row w txt r g s
 row-agrees w txt r l f g h (tree bind) e = rw (h (word r 3) (e .first), h (word r 4) (e .second))
 row-agrees w txt r l f g h (tree ns) e = rw (h (word r 3) (e .first), h (word r 4) (e .second), h (word r 5) (e .held))
 row-agrees w txt r l f g h (list v) e = rw (h (word r 3) (e .first), h (word r 4) (e .second))
@@ -60,7 +61,8 @@ module _ {ws txt : List ℕ} {n used : ℕ} (o : Used ws txt n used) (few : n < 
     sort = s;
     known = rw new known;
     right = rw (new, put-what)
-        (as-map {ws = ws} {ws′ = after} {txt = txt} {txt′ = txt} {used = used} {used′ = used} {l = n + 1} {l′ = n + 1} (λ x k i. link-stays stays (omega arith) (omega arith) i) (λ Rule x k i. i) w s r _ right);
+        (as-map {ws = ws} {ws′ = after} {txt = txt} {txt′ = txt} {used = used} {used′ = used} {l = n + 1} {l′ = n + 1}
+        (λ x k i. link-stays stays (omega arith) (omega arith) i) (λ Rule x k i. i) w s r _ right);
   }
 
   pub put-used : Used after txt (n + 1) used

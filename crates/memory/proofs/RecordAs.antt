@@ -18,6 +18,8 @@ module _ {ws txt : List ℕ} {used l : ℕ} (rows : (j : ℕ) → 0 < j → j < 
       (λ p. ordered-at (rows x p (h .earlier)) w v (h .of-kind (λ q. omega arith)))
 
   module _ {r : List ℕ} where
-    pub branch-ordered : {v : Level} → BranchOk ws txt used l w r v → AllKeys (λ x. x <ˢ key-of txt r) (what w ws txt (word r 3) (tree v)) → AllKeys (λ x. key-of txt r <ˢ x) (what w ws txt (word r 4) (tree v))
+    pub branch-ordered : {v : Level} → BranchOk ws txt used l w r v
+        → AllKeys (λ x. x <ˢ key-of txt r) (what w ws txt (word r 3) (tree v))
+        → AllKeys (λ x. key-of txt r <ˢ x) (what w ws txt (word r 4) (tree v))
         → Ordered (row w txt r (what w ws txt) (tree v))
     branch-ordered {v} o a b = (a, b, link-ordered v (word r 3) (o .left), link-ordered v (word r 4) (o .right))

@@ -22,7 +22,8 @@ pub record Copied (r row : List ℕ) (i : ℕ) : Type 0 where
   pub size : length row ≡ 12
   pub same : take i row ≡ take i r
 
-pub copied-more : {r row : List ℕ} {i x : ℕ} → length r ≡ 12 → i < 12 → x ≡ word r i → Copied r row i → Copied r (set row i x) (i + 1)
+pub copied-more : {r row : List ℕ} {i x : ℕ} → length r ≡ 12 → i < 12 → x ≡ word r i → Copied r row i
+    → Copied r (set row i x) (i + 1)
 copied-more {r} {row} {i} {x} n h e g = record {
   below = omega arith;
   size = length-set row i x ∙ g .size;

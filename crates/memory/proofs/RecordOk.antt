@@ -42,14 +42,17 @@ of-kind-is modules (list bind) = refl
 of-kind-is modules (list ns) = refl
 of-kind-is modules trieˢ = refl
 
-pub kind-one : (w : Which) (s : Sort) (w′ : Which) (s′ : Sort) → kind w s ≡ kind w′ s′ → _≡_ {A = Which × Sort} (w, s) (w′, s′)
+pub kind-one : (w : Which) (s : Sort) (w′ : Which) (s′ : Sort) → kind w s ≡ kind w′ s′
+    → _≡_ {A = Which × Sort} (w, s) (w′, s′)
 kind-one w s w′ s′ e = sym (of-kind-is w s) ∙ ap of-kind e ∙ of-kind-is w′ s′
 
 -- A collection's own link is earlier.
-pub own-earlier : {ws txt : List ℕ} {used l : ℕ} {w : Which} {v : Level} {r : List ℕ} → CollectionOk ws txt used l w r v → word r 3 < l
+pub own-earlier : {ws txt : List ℕ} {used l : ℕ} {w : Which} {v : Level} {r : List ℕ} → CollectionOk ws txt used l w r v
+    → word r 3 < l
 own-earlier {r = r} o = zero-one (word r 5) (o .sort) (λ e. o .own e .earlier) (λ e. o .imported e .earlier)
 
-pub as-earlier : (ws txt : List ℕ) (used l : ℕ) (w : Which) (s : Sort) (r : List ℕ) (t : Of (Item w) s) → RecordAs ws txt used l w s r t → Earlier s r l
+pub as-earlier : (ws txt : List ℕ) (used l : ℕ) (w : Which) (s : Sort) (r : List ℕ) (t : Of (Item w) s)
+    → RecordAs ws txt used l w s r t → Earlier s r l
 as-earlier ws txt used l w (tree bind) r t a = record { first = a .0 .left .earlier; second = a .0 .right .earlier; held = tt }
 as-earlier ws txt used l w (tree ns) r t a = record { first = a .0 .left .earlier; second = a .0 .right .earlier; held = a .2 .earlier }
 as-earlier ws txt used l w (list bind) r t a = record { first = own-earlier (a .0); second = a .0 .rest .earlier; held = tt }
@@ -61,28 +64,34 @@ module _ {ws txt : List ℕ} {used l : ℕ} (o : RecordOk ws txt used l) where
   pub links-earlier : (word (record-at ws l) 3 < l) × (word (record-at ws l) 4 < l)
   links-earlier = let e = as-earlier ws txt used l (o .which) (o .sort) _ _ (o .right) in (e .first, e .second)
 
-  pub record-as : (w : Which) (s : Sort) → word (record-at ws l) 0 ≡ kind w s → RecordAs ws txt used l w s (record-at ws l) (what w ws txt l s)
+  pub record-as : (w : Which) (s : Sort) → word (record-at ws l) 0 ≡ kind w s
+      → RecordAs ws txt used l w s (record-at ws l) (what w ws txt l s)
   record-as w s e =
       subst (λ (p : Which × Sort). RecordAs ws txt used l (p .0) (p .1) (record-at ws l) (what (p .0) ws txt l (p .1)))
       (kind-one (o .which) (o .sort) w s (sym (o .known) ∙ e)) (o .right)
 
   -- It reads as its words say.
-  pub record-what : (w : Which) (s : Sort) → word (record-at ws l) 0 ≡ kind w s → 0 < l → what w ws txt l s ≡ row w txt (record-at ws l) (what w ws txt) s
+  pub record-what : (w : Which) (s : Sort) → word (record-at ws l) 0 ≡ kind w s → 0 < l
+      → what w ws txt l s ≡ row w txt (record-at ws l) (what w ws txt) s
   record-what w s e p = what-row w ws txt s l p (as-earlier ws txt used l w s _ _ (record-as w s e))
 
-  pub branch-at : (w : Which) (v : Level) → word (record-at ws l) 0 ≡ kind w (tree v) → BranchOk ws txt used l w (record-at ws l) v
+  pub branch-at : (w : Which) (v : Level) → word (record-at ws l) 0 ≡ kind w (tree v)
+      → BranchOk ws txt used l w (record-at ws l) v
   branch-at w bind e = record-as w (tree bind) e .0
   branch-at w ns e = record-as w (tree ns) e .0
 
-  pub ordered-at : (w : Which) (v : Level) → word (record-at ws l) 0 ≡ kind w (tree v) → Ordered (what w ws txt l (tree v))
+  pub ordered-at : (w : Which) (v : Level) → word (record-at ws l) 0 ≡ kind w (tree v)
+      → Ordered (what w ws txt l (tree v))
   ordered-at w bind e = record-as w (tree bind) e .1
   ordered-at w ns e = record-as w (tree ns) e .1
 
-  pub collection-at : (w : Which) (v : Level) → word (record-at ws l) 0 ≡ kind w (list v) → CollectionOk ws txt used l w (record-at ws l) v
+  pub collection-at : (w : Which) (v : Level) → word (record-at ws l) 0 ≡ kind w (list v)
+      → CollectionOk ws txt used l w (record-at ws l) v
   collection-at w bind e = record-as w (list bind) e .0
   collection-at w ns e = record-as w (list ns) e .0
 
-  pub weight-at : (w : Which) (v : Level) → word (record-at ws l) 0 ≡ kind w (list v) → WeightOk (record-at ws l) (what w ws txt l (list v))
+  pub weight-at : (w : Which) (v : Level) → word (record-at ws l) 0 ≡ kind w (list v)
+      → WeightOk (record-at ws l) (what w ws txt l (list v))
   weight-at w bind e = record-as w (list bind) e .1
   weight-at w ns e = record-as w (list ns) e .1
 
@@ -92,7 +101,8 @@ module _ {ws ws′ txt txt′ : List ℕ} {used used′ l l′ : ℕ} (link : (x
   branch-map : (w : Which) (v : Level) {r : List ℕ} → BranchOk ws txt used l w r v → BranchOk ws′ txt′ used′ l′ w r v
   branch-map w v o = record { key = text _ _ _ (o .key); left = link _ _ (o .left); right = link _ _ (o .right) }
 
-  collection-map : (w : Which) (v : Level) {r : List ℕ} → CollectionOk ws txt used l w r v → CollectionOk ws′ txt′ used′ l′ w r v
+  collection-map : (w : Which) (v : Level) {r : List ℕ} → CollectionOk ws txt used l w r v
+      → CollectionOk ws′ txt′ used′ l′ w r v
   collection-map w v o = record {
     sort = o .sort;
     own = λ e. link _ _ (o .own e);
@@ -105,7 +115,8 @@ module _ {ws ws′ txt txt′ : List ℕ} {used used′ l l′ : ℕ} (link : (x
   item-map names r o = o
   item-map modules r o = record { sort = o .sort; name = text _ _ _ (o .name); path = λ e. text _ _ _ (o .path e); loaded = o .loaded }
 
-  pub as-map : (w : Which) (s : Sort) (r : List ℕ) (t : Of (Item w) s) → RecordAs ws txt used l w s r t → RecordAs ws′ txt′ used′ l′ w s r t
+  pub as-map : (w : Which) (s : Sort) (r : List ℕ) (t : Of (Item w) s) → RecordAs ws txt used l w s r t
+      → RecordAs ws′ txt′ used′ l′ w s r t
   as-map w (tree bind) r t a = (branch-map w bind (a .0), a .1, item-map w r (a .2))
   as-map w (tree ns) r t a = (branch-map w ns (a .0), a .1, link _ _ (a .2), a .3)
   as-map w (list bind) r t a = (collection-map w bind (a .0), a .1)
@@ -117,12 +128,14 @@ module _ {ws txt : List ℕ} {used n : ℕ} (rows : (l : ℕ) → 0 < l → l �
     (P : Which → Sort → ℕ → Type 0) (none : (w : Which) (s : Sort) → P w s 0)
     (step : (w : Which) (s : Sort) (l : ℕ) → 0 < l → RecordAs ws txt used l w s (record-at ws l) (what w ws txt l s)
     → ((x : ℕ) (t : Sort) → LinkOk ws l x (kind w t) → P w t x) → P w s l) where
-  upto : (m : ℕ) (w : Which) (s : Sort) (x : ℕ) → x ≤ m → x ≤ n → ((x ≡ 0 → ⊥) → word (record-at ws x) 0 ≡ kind w s) → P w s x
+  upto : (m : ℕ) (w : Which) (s : Sort) (x : ℕ) → x ≤ m → x ≤ n → ((x ≡ 0 → ⊥) → word (record-at ws x) 0 ≡ kind w s)
+      → P w s x
   upto zero w s x h k e = subst (P w s) (let z : 0 ≡ x = omega arith in z) (none w s)
   upto (suc m) w s x h k e =
       zero-some x
       (λ z. subst (P w s) (sym z) (none w s))
-      (λ p. step w s x p (record-as (rows x p k) w s (e (λ z. omega arith))) (λ j t o. upto m w t j (omega (arith, o .earlier)) (omega (arith, o .earlier)) (o .of-kind)))
+      (λ p. step w s x p (record-as (rows x p k) w s (e (λ z. omega arith)))
+      (λ j t o. upto m w t j (omega (arith, o .earlier)) (omega (arith, o .earlier)) (o .of-kind)))
 
   pub by-links : (w : Which) (s : Sort) {l x : ℕ} → l ≤ n + 1 → LinkOk ws l x (kind w s) → P w s x
   by-links w s {x = x} h o = upto x w s x (omega arith) (omega (arith, o .earlier)) (o .of-kind)

@@ -24,7 +24,8 @@ pub link-later : {ws : List ℕ} {l l′ x k : ℕ} → l ≤ l′ → LinkOk ws
 link-later h o = record { earlier = omega (arith, o .earlier); of-kind = o .of-kind }
 
 pub record SeenTrie (ws txt : List ℕ) (n x : ℕ) (w : Which) (t : Trie) : Type 0 where
-  pub reads : what w ws txt x trieˢ ≡ trie (what w ws txt (t .bindings) (list bind)) (what w ws txt (t .namespaces) (list ns))
+  pub reads : what w ws txt x trieˢ
+      ≡ trie (what w ws txt (t .bindings) (list bind)) (what w ws txt (t .namespaces) (list ns))
   pub bindings : LinkOk ws (n + 1) (t .bindings) (kind w (list bind))
   pub namespaces : LinkOk ws (n + 1) (t .namespaces) (kind w (list ns))
   pub deep : t .depth ≡ depth (what w ws txt x trieˢ)
@@ -36,10 +37,12 @@ module _ {ws txt : List ℕ} {n used : ℕ} (o : Used ws txt n used) where
   pub link-ok : {x k : ℕ} → LinkOk ws (n + 1) x k → 0 < x → RecordOk ws txt used x
   link-ok i p = o .rows _ p (omega (arith, i .earlier))
 
-  pub link-what : (w : Which) (s : Sort) {x : ℕ} → LinkOk ws (n + 1) x (kind w s) → 0 < x → what w ws txt x s ≡ row w txt (record-at ws x) (what w ws txt) s
+  pub link-what : (w : Which) (s : Sort) {x : ℕ} → LinkOk ws (n + 1) x (kind w s) → 0 < x
+      → what w ws txt x s ≡ row w txt (record-at ws x) (what w ws txt) s
   link-what w s i p = record-what (link-ok i p) w s (i .of-kind (λ e. omega arith)) p
 
-  pub trie-seen : (w : Which) {x : ℕ} {t : Trie} → LinkOk ws (n + 1) x (kind w trieˢ) → ReadTrie ws x t → SeenTrie ws txt n x w t
+  pub trie-seen : (w : Which) {x : ℕ} {t : Trie} → LinkOk ws (n + 1) x (kind w trieˢ) → ReadTrie ws x t
+      → SeenTrie ws txt n x w t
   trie-seen w {x} i q = record {
     reads = rw (q .bindings, q .namespaces) (links .0);
     bindings = rw (q .bindings) (links .1);
@@ -50,8 +53,10 @@ module _ {ws txt : List ℕ} {n used : ℕ} (o : Used ws txt n used) where
       none : (k : ℕ) → LinkOk ws (n + 1) 0 k
       none k = record { earlier = omega arith; of-kind = λ z. absurd (z refl) }
 
-      links : (what w ws txt x trieˢ ≡ trie (what w ws txt (stored ws x 3) (list bind)) (what w ws txt (stored ws x 4) (list ns)))
-          × LinkOk ws (n + 1) (stored ws x 3) (kind w (list bind)) × LinkOk ws (n + 1) (stored ws x 4) (kind w (list ns))
+      links : (what w ws txt x trieˢ
+          ≡ trie (what w ws txt (stored ws x 3) (list bind)) (what w ws txt (stored ws x 4) (list ns)))
+          × LinkOk ws (n + 1) (stored ws x 3) (kind w (list bind))
+          × LinkOk ws (n + 1) (stored ws x 4) (kind w (list ns))
       links =
           zero-some x
           (λ e. rw (e, stored-none ws 3, stored-none ws 4, what-none w ws txt) (refl, none _, none _))

@@ -54,11 +54,13 @@ module _ {n : ℕ} {ws ws′ : List ℕ} (y : Stays n ws ws′) where
     sort = o .sort;
     known = rw (record-stays l p h) (o .known);
     right = rw (record-stays l p h, what-stays (o .which) txt l h)
-        (as-map {ws = ws} {ws′ = ws′} {txt = txt} {txt′ = txt} {used = used} {used′ = used} {l = l} {l′ = l} (λ x k a. link-stays (omega arith) (omega arith) a) (λ Rule s m a. a) (o .which) (o .sort) _ _ (o .right));
+        (as-map {ws = ws} {ws′ = ws′} {txt = txt} {txt′ = txt} {used = used} {used′ = used} {l = l} {l′ = l} (λ x k a. link-stays (omega arith) (omega arith) a)
+        (λ Rule s m a. a) (o .which) (o .sort) _ _ (o .right));
   }
 
 -- A right record after the used ones.
-pub used-more : {ws ws′ txt : List ℕ} {n used : ℕ} → Used ws txt n used → Stays n ws ws′ → n < 65536 → n * 12 + 12 ≤ length ws → RecordOk ws′ txt used (n + 1)
+pub used-more : {ws ws′ txt : List ℕ} {n used : ℕ} → Used ws txt n used → Stays n ws ws′ → n < 65536
+    → n * 12 + 12 ≤ length ws → RecordOk ws′ txt used (n + 1)
     → Used ws′ txt (n + 1) used
 used-more o y few room r = record {
   few = omega arith;

@@ -22,14 +22,16 @@ stored-some ws x k p = rw (ne-eqb x 0 (λ e. omega arith))
 
 module _ {ws txt : List ℕ} {used l : ℕ} (rows : (j : ℕ) → 0 < j → j < l → RecordOk ws txt used j) (w : Which) where
   through : (k : ℕ) (s : Sort) (f : Of (Item w) s → ℕ) → f (nothing w s) ≡ 0
-      → ((x : ℕ) → RecordOk ws txt used x → word (record-at ws x) 0 ≡ kind w s → word (record-at ws x) k ≡ f (what w ws txt x s))
+      → ((x : ℕ) → RecordOk ws txt used x → word (record-at ws x) 0 ≡ kind w s
+      → word (record-at ws x) k ≡ f (what w ws txt x s))
       → (x : ℕ) → LinkOk ws l x (kind w s) → stored ws x k ≡ f (what w ws txt x s)
   through k s f z g x h =
       zero-some x
       (λ e. rw (e, stored-none ws k, what-none w ws txt) (sym z))
       (λ p. stored-some ws x k p ∙ g x (rows x p (h .earlier)) (h .of-kind (λ q. omega arith)))
 
-  pub stored-weight : (v : Level) (x : ℕ) → LinkOk ws l x (kind w (list v)) → stored ws x 10 ≡ weight (what w ws txt x (list v))
+  pub stored-weight : (v : Level) (x : ℕ) → LinkOk ws l x (kind w (list v))
+      → stored ws x 10 ≡ weight (what w ws txt x (list v))
   unfolding weight
   stored-weight v = through 10 (list v) weight refl (λ x o e. weight-at o w v e .weighs)
 
@@ -37,7 +39,8 @@ module _ {ws txt : List ℕ} {used l : ℕ} (rows : (j : ℕ) → 0 < j → j < 
   unfolding depth-tree
   stored-tree = through 11 (tree ns) depth-tree refl (λ x o e. record-as o w (tree ns) e .3)
 
-  pub stored-list : (x : ℕ) → LinkOk ws l x (kind w (list ns)) → stored ws x 11 ≡ depth-names (what w ws txt x (list ns))
+  pub stored-list : (x : ℕ) → LinkOk ws l x (kind w (list ns))
+      → stored ws x 11 ≡ depth-names (what w ws txt x (list ns))
   unfolding depth-names
   stored-list = through 11 (list ns) depth-names refl (λ x o e. record-as o w (list ns) e .2)
 
@@ -47,14 +50,16 @@ module _ {ws txt : List ℕ} {used l : ℕ} (rows : (j : ℕ) → 0 < j → j < 
 
   -- Of the record r of link l, whose links are right.
   module _ {r : List ℕ} where
-    pub weight-row : {v : Level} → CollectionOk ws txt used l w r v → weight-of ws r ≡ weight (row w txt r (what w ws txt) (list v))
+    pub weight-row : {v : Level} → CollectionOk ws txt used l w r v
+        → weight-of ws r ≡ weight (row w txt r (what w ws txt) (list v))
     unfolding weight-of weight
     weight-row {v} o =
         zero-one (word r 5) (o .sort)
         (λ e. rw (e, stored-weight v (word r 4) (o .rest)) (omega arith))
         (λ e. rw (e, stored-weight v (word r 4) (o .rest), stored-weight v (word r 3) (o .imported e)))
 
-    pub depth-collection : CollectionOk ws txt used l w r ns → depth-of ws r ≡ depth-names (row w txt r (what w ws txt) (list ns))
+    pub depth-collection : CollectionOk ws txt used l w r ns
+        → depth-of ws r ≡ depth-names (row w txt r (what w ws txt) (list ns))
     unfolding depth-of depth-names
     depth-collection o =
         zero-one (word r 5) (o .sort)

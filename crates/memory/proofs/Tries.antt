@@ -45,7 +45,8 @@ pub record Lists (ws txt : List ℕ) (n : ℕ) (w : Which) (x : ℕ) (p : Trie) 
   pub b-reads : what w ws txt (p .bindings) (list bind) ≡ bindings (what w ws txt x trieˢ)
   pub n-reads : what w ws txt (p .namespaces) (list ns) ≡ namespaces (what w ws txt x trieˢ)
 
-pub lists-in : {ws txt : List ℕ} {n used x : ℕ} {w : Which} {p : Trie} → Used ws txt n used → LinkOk ws (n + 1) x (kind w trieˢ) → ReadTrie ws x p → Lists ws txt n w x p
+pub lists-in : {ws txt : List ℕ} {n used x : ℕ} {w : Which} {p : Trie} → Used ws txt n used
+    → LinkOk ws (n + 1) x (kind w trieˢ) → ReadTrie ws x p → Lists ws txt n w x p
 lists-in {ws} {txt} {n} {used} {x} {w} o i q =
     let t : At ws txt w trieˢ x = record { records = n; used = used; sound = o; link = i } in
     let s = trie-seen o w i q in

@@ -36,13 +36,15 @@ module _ (w : Which) (ws txt : List ℕ) where
   unfolding what among
   what-among n = rw (eq-eqb (suc n) (suc n) refl)
 
-  row-own : (n : ℕ) (r : List ℕ) (s : Sort) → Earlier s r (suc n) → row w txt r (among w ws txt n) s ≡ row w txt r (what w ws txt) s
+  row-own : (n : ℕ) (r : List ℕ) (s : Sort) → Earlier s r (suc n)
+      → row w txt r (among w ws txt n) s ≡ row w txt r (what w ws txt) s
   row-own n r (tree bind) e = rw (among-own n (word r 3) (omega arith), among-own n (word r 4) (omega arith))
   row-own n r (tree ns) e = rw (among-own n (word r 3) (omega arith), among-own n (word r 4) (omega arith), among-own n (word r 5) (omega (arith, e .held)))
   row-own n r (list v) e = rw (among-own n (word r 3) (omega arith), among-own n (word r 4) (omega arith))
   row-own n r trieˢ e = rw (among-own n (word r 3) (omega arith), among-own n (word r 4) (omega arith))
 
   -- The record of a link, where its own links are earlier.
-  pub what-row : (s : Sort) (l : ℕ) → 0 < l → Earlier s (record-at ws l) l → what w ws txt l s ≡ row w txt (record-at ws l) (what w ws txt) s
+  pub what-row : (s : Sort) (l : ℕ) → 0 < l → Earlier s (record-at ws l) l
+      → what w ws txt l s ≡ row w txt (record-at ws l) (what w ws txt) s
   what-row s zero p e = absurd (omega arith)
   what-row s (suc n) p e = rw (what-among n) (row-own n (record-at ws (suc n)) s e)

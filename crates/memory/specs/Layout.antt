@@ -200,7 +200,8 @@ row w txt r f trieˢ = trie (f (word r 3) (list bind)) (f (word r 4) (list ns))
 -- What link l reads as among the first n records: link 0 and a link past n read as nothing.
 unfoldable pub among : (w : Which) → List ℕ → List ℕ → ℕ → ℕ → Reading w
 among w ws txt zero l = nothing w
-among w ws txt (suc n) l = pick (eqb l (suc n)) (row w txt (record-at ws (suc n)) (among w ws txt n)) (among w ws txt n l)
+among w ws txt (suc n) l =
+    pick (eqb l (suc n)) (row w txt (record-at ws (suc n)) (among w ws txt n)) (among w ws txt n l)
 
 -- What link l reads as. Its record's links are read among the records before it.
 unfoldable pub what : (w : Which) → List ℕ → List ℕ → ℕ → Reading w

@@ -19,7 +19,8 @@ binding-row key c = 1 ∷ key .start ∷ key .len ∷ 0 ∷ 0 ∷ c .number ∷ 
 abbrev pub symbol-row : Span → ModSymbol → List ℕ
 symbol-row key (Module name path loaded) =
     6 ∷ key .start ∷ key .len ∷ 0 ∷ 0 ∷ 0 ∷ name .start ∷ name .len ∷ path .start ∷ path .len ∷ cond loaded 1 0 ∷ 0 ∷ []
-symbol-row key (Namespace name loaded) = 6 ∷ key .start ∷ key .len ∷ 0 ∷ 0 ∷ 1 ∷ name .start ∷ name .len ∷ 0 ∷ 0 ∷ cond loaded 1 0 ∷ 0 ∷ []
+symbol-row key (Namespace name loaded) =
+    6 ∷ key .start ∷ key .len ∷ 0 ∷ 0 ∷ 1 ∷ name .start ∷ name .len ∷ 0 ∷ 0 ∷ cond loaded 1 0 ∷ 0 ∷ []
 
 -- A branch of namespaces.
 abbrev pub namespace-row : ℕ → Span → ℕ → List ℕ
@@ -32,7 +33,8 @@ sided-row r left right depth = set (set (set r 3 left) 4 right) 11 depth
 -- A collection.
 abbrev pub collection-row : ℕ → Collection → ℕ → List ℕ
 collection-row kind c depth =
-    kind ∷ c .label .start ∷ c .label .len ∷ c .own ∷ c .rest ∷ cond (c .imported) 1 0 ∷ 0 ∷ 0 ∷ 0 ∷ 0 ∷ c .weight ∷ depth ∷ []
+    kind ∷ c .label .start ∷ c .label .len ∷ c .own ∷ c .rest ∷ cond (c .imported) 1 0 ∷ 0 ∷ 0 ∷ 0 ∷ 0 ∷ c .weight
+    ∷ depth ∷ []
 
 -- A trie.
 abbrev pub trie-row : ℕ → Trie → List ℕ

@@ -30,7 +30,8 @@ pub record TextIn (ws txt : List ℕ) (x : ℕ) : Type 0 where
 abbrev pub symbol-in : List ℕ → ModSymbol
 symbol-in r =
     pick (eqb (word r 5) 0)
-    (Module (record { start = word r 6; len = word r 7 }) (record { start = word r 8; len = word r 9 }) (eqb (word r 10) 1))
+    (Module (record { start = word r 6; len = word r 7 }) (record { start = word r 8; len = word r 9 })
+    (eqb (word r 10) 1))
     (Namespace (record { start = word r 6; len = word r 7 }) (eqb (word r 10) 1))
 
 -- The source's mod_symbol, with its texts.

@@ -68,7 +68,8 @@ pub record WeightOk {A : Type 0} {v : Level} (r : List ℕ) (t : NameList A v) :
 -- The record r of link l, which reads as t: links and texts; keys ascend strictly; weights and depths.
 abbrev pub RecordAs : (ws txt : List ℕ) (used l : ℕ) (w : Which) (s : Sort) (r : List ℕ) (t : Of (Item w) s) → Type 0
 RecordAs ws txt used l w (tree bind) r t = BranchOk ws txt used l w r bind × Ordered t × ItemOk txt used w r
-RecordAs ws txt used l w (tree ns) r t = BranchOk ws txt used l w r ns × Ordered t × LinkOk ws l (word r 5) (kind w trieˢ) × (word r 11 ≡ depth-tree t)
+RecordAs ws txt used l w (tree ns) r t =
+    BranchOk ws txt used l w r ns × Ordered t × LinkOk ws l (word r 5) (kind w trieˢ) × (word r 11 ≡ depth-tree t)
 RecordAs ws txt used l w (list bind) r t = CollectionOk ws txt used l w r bind × WeightOk r t
 RecordAs ws txt used l w (list ns) r t = CollectionOk ws txt used l w r ns × WeightOk r t × (word r 11 ≡ depth-names t)
 RecordAs ws txt used l w trieˢ r t = TrieOk ws txt used l w r × (word r 11 ≡ depth t) × (depth t ≤ deepest-trie)

@@ -8,7 +8,8 @@ use Rattle.memory.specs.Layout.{record-at, word, pick}
 unfoldable pub stored : List ℕ → ℕ → ℕ → ℕ
 stored ws x k = pick (eqb x 0) 0 (word (record-at ws x) k)
 
--- What the record of a link stores, 0 where it names none: the weight of a list; a depth; the trie that a branch of namespaces holds; the sides of a branch; the lists of a trie.
+-- What the record of a link stores, 0 where it names none: the weight of a list; a depth; the trie that a branch of namespaces holds; the sides of a branch;
+-- the lists of a trie.
 abbrev pub weight-in : List ℕ → ℕ → ℕ
 weight-in ws x = stored ws x 10
 

@@ -17,7 +17,8 @@ use Rattle.source.proofs.Outside.{outside-none, outside-set, outside-then, outs
 
 -- ---- One word
 
-word-same : (k : ℕ) (bs bs′ : List ℕ) → ((j : ℕ) → j < 4 → getD bs′ (k * 4 + j) 0 ≡ getD bs (k * 4 + j) 0) → word-at bs′ k ≡ word-at bs k
+word-same : (k : ℕ) (bs bs′ : List ℕ) → ((j : ℕ) → j < 4 → getD bs′ (k * 4 + j) 0 ≡ getD bs (k * 4 + j) 0)
+    → word-at bs′ k ≡ word-at bs k
 unfolding word-at
 word-same k bs bs′ h =
     let z : k * 4 + 0 ≡ k * 4 = omega arith in
@@ -114,7 +115,8 @@ pub loading-none : (bs ws : List ℕ) (n : ℕ) → Loading bs ws ws 0 n
 unfolding words-at
 loading-none bs ws n = record { below = omega arith; words = refl; size = refl }
 
-pub loading-more : {bs ws ws′ : List ℕ} {i n w : ℕ} → i < length ws′ → i < n → w ≡ word-at bs i → Loading bs ws ws′ i n → Loading bs ws (set ws′ i w) (i + 1) n
+pub loading-more : {bs ws ws′ : List ℕ} {i n w : ℕ} → i < length ws′ → i < n → w ≡ word-at bs i → Loading bs ws ws′ i n
+    → Loading bs ws (set ws′ i w) (i + 1) n
 unfolding words-at
 loading-more {bs} {ws} {ws′} {i} {n} {w} h g e p = record {
   below = omega arith;
@@ -134,7 +136,8 @@ pub record Storing (ws : List ℕ) (from to : ℕ) (bs bs′ : List ℕ) (i : �
 pub storing-none : (ws : List ℕ) (from to : ℕ) (bs : List ℕ) → Storing ws from to bs bs from
 storing-none ws from to bs = record { above = omega arith; words = λ k h g. absurd (omega arith); rest = outside-none bs }
 
-pub storing-more : {ws bs bs′ bs″ : List ℕ} {from to i : ℕ} → i < to → Put i (getD ws i 0) bs′ bs″ → Storing ws from to bs bs′ i → Storing ws from to bs bs″ (i + 1)
+pub storing-more : {ws bs bs′ bs″ : List ℕ} {from to i : ℕ} → i < to → Put i (getD ws i 0) bs′ bs″
+    → Storing ws from to bs bs′ i → Storing ws from to bs bs″ (i + 1)
 storing-more {ws} {bs} {bs′} {bs″} {from} {to} {i} h p s = record {
   above = omega (arith, s .above);
   words = λ k g l. ⊎-elim (last k) (earlier k g) (eq-or-lt-of-le {n = k} {m = i} (omega arith));
@@ -146,11 +149,13 @@ storing-more {ws} {bs} {bs′} {bs″} {from} {to} {i} h p s = record {
   earlier : (k : ℕ) → from ≤ k → k < i → word-at bs″ k ≡ getD ws k 0
   earlier k g l = word-before (p .rest) k (omega arith) ∙ s .words k g l
 
-pub storing-done : {ws bs bs′ : List ℕ} {from to i : ℕ} → to ≤ i → Storing ws from to bs bs′ i → Stored ws from to bs bs′
+pub storing-done : {ws bs bs′ : List ℕ} {from to i : ℕ} → to ≤ i → Storing ws from to bs bs′ i
+    → Stored ws from to bs bs′
 storing-done h s = record { words = λ k g l. s .words k g (omega arith); rest = s .rest }
 
 -- Words that were changed from a place up to another, and stored there, are read back.
-module _ {bs bs′ ws new : List ℕ} (n : ℕ) {from to : ℕ} (changed : Outside from to (words-at bs n) new) (lent : take n ws ≡ new) (stored : Stored ws from to bs bs′) where
+module _ {bs bs′ ws new : List ℕ} (n : ℕ) {from to : ℕ} (changed : Outside from to (words-at bs n) new)
+    (lent : take n ws ≡ new) (stored : Stored ws from to bs bs′) where
   below : (k : ℕ) → k < n → k < from → word-at bs′ k ≡ getD new k 0
   below k h g = word-before (stored .rest) k (omega arith) ∙ sym (getD-before changed k g ∙ words-getD bs n k h)
 

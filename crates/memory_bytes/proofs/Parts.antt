@@ -12,7 +12,13 @@ module _ (s t : List ℕ) where
   word-front : (k : ℕ) → k * 4 + 4 ≤ length s → word-at (s ++ t) k ≡ word-at s k
   unfolding word-at
   word-front k h =
-      omega (arith, List·getD-append s t 0 (k * 4) (omega arith), List·getD-append s t 0 (k * 4 + 1) (omega arith), List·getD-append s t 0 (k * 4 + 2) (omega arith), List·getD-append s t 0 (k * 4 + 3) (omega arith))
+      omega (
+        arith,
+        List·getD-append s t 0 (k * 4) (omega arith),
+        List·getD-append s t 0 (k * 4 + 1) (omega arith),
+        List·getD-append s t 0 (k * 4 + 2) (omega arith),
+        List·getD-append s t 0 (k * 4 + 3) (omega arith),
+      )
 
   -- The words of the bytes in front.
   pub words-front : (n : ℕ) → n * 4 ≤ length s → words-at (s ++ t) n ≡ words-at s n

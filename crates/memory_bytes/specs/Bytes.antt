@@ -7,7 +7,8 @@ use Rattle.source.specs.Lent.{Outside}
 
 -- Word k: the bytes from k * 4 on.
 unfoldable pub word-at : List ℕ → ℕ → ℕ
-word-at bs k = getD bs (k * 4) 0 + 256 * getD bs (k * 4 + 1) 0 + 65536 * getD bs (k * 4 + 2) 0 + 16777216 * getD bs (k * 4 + 3) 0
+word-at bs k =
+    getD bs (k * 4) 0 + 256 * getD bs (k * 4 + 1) 0 + 65536 * getD bs (k * 4 + 2) 0 + 16777216 * getD bs (k * 4 + 3) 0
 
 -- The first n words.
 unfoldable pub words-at : List ℕ → ℕ → List ℕ

@@ -30,7 +30,8 @@ module _ {ws txt : List ℕ} {h : Header} (o : Sound ws txt h) where
   either-trie names = names-trie
   either-trie modules = modules-trie
 
-trie-sound : {ws txt : List ℕ} {n used : ℕ} → Used ws txt n used → (w : Which) {x : ℕ} → LinkOk ws (n + 1) x (kind w trieˢ) → SoundTrie (IsItem w) (what w ws txt x trieˢ)
+trie-sound : {ws txt : List ℕ} {n used : ℕ} → Used ws txt n used → (w : Which) {x : ℕ}
+    → LinkOk ws (n + 1) x (kind w trieˢ) → SoundTrie (IsItem w) (what w ws txt x trieˢ)
 trie-sound o w i = let f = link-fine o w trieˢ (omega arith) i in record { formed = f .0; light = f .1; shallow = link-shallow o w (omega arith) i }
 
 -- The table of the two roots.
@@ -45,7 +46,8 @@ module _ {ws txt txt′ : List ℕ} {h : Header} (o : Sound ws txt h) (y : Keeps
   table-keeps = rw (what-keeps (o .right) y names trieˢ (omega arith) (o .names-link), what-keeps (o .right) y modules trieˢ (omega arith) (o .modules-link))
 
 -- A table of which only later records change.
-pub table-stays : {n : ℕ} {ws ws′ : List ℕ} → Stays n ws ws′ → (txt : List ℕ) (h : Header) → h .names ≤ n → h .modules ≤ n → table-of ws′ txt h ≡ table-of ws txt h
+pub table-stays : {n : ℕ} {ws ws′ : List ℕ} → Stays n ws ws′ → (txt : List ℕ) (h : Header) → h .names ≤ n
+    → h .modules ≤ n → table-of ws′ txt h ≡ table-of ws txt h
 table-stays y txt h k m = rw (what-stays y names txt (h .names) k, what-stays y modules txt (h .modules) m)
 
 -- ---- The fresh table

@@ -20,7 +20,8 @@ pub record Sound (ws txt : List ℕ) (h : Header) : Type 0 where
 
 -- The source's table, by the header.
 abbrev pub table-of : List ℕ → List ℕ → Header → Table
-table-of ws txt h = record { tbl-lids = what names ws txt (h .names) trieˢ; tbl-mods = what modules ws txt (h .modules) trieˢ }
+table-of ws txt h =
+    record { tbl-lids = what names ws txt (h .names) trieˢ; tbl-mods = what modules ws txt (h .modules) trieˢ }
 
 -- The table by value, as the source's table and what is used.
 abbrev pub state-of : List ℕ → List ℕ → Header → State

@@ -61,15 +61,22 @@ module _ {ws txt : List ℕ} {w : Which} {v : Level} {x : ℕ} (here : At ws txt
   pub branch-few : {y : ℕ} → BranchOf ws w v x y → y ≤ 65536
   branch-few o = omega (arith, o .link .earlier, here .link .earlier, here .sound .few)
 
-module _ {ws txt : List ℕ} {w : Which} {v : Level} {x : ℕ} {p : Str} {m : Merge} {h : Heap ℕ} (g : Holding ws txt w v x p m h) where
+module _ {ws txt : List ℕ} {w : Which} {v : Level} {x : ℕ} {p : Str} {m : Merge} {h : Heap ℕ}
+    (g : Holding ws txt w v x p m h) where
   pub cell-tree : (j : ℕ) → j < m .n → At ws txt w (tree v) (getD (m .roots) j 0)
   cell-tree j l = at-of (g .here) (tree _) (omega arith) (g .cells j l .root-link)
 
   pub heads-of : Heads ws txt (m .heads) (m .n)
-  heads-of = record { few = g .few; each = λ j l. branch-head (g .here) (g .cells j l .branch); small = λ j l. branch-few (g .here) (g .cells j l .branch); begun = g .begun }
+  heads-of = record {
+    few = g .few;
+    each = λ j l. branch-head (g .here) (g .cells j l .branch);
+    small = λ j l. branch-few (g .here) (g .cells j l .branch);
+    begun = g .begun;
+  }
 
 -- The next match of a cell is a branch of the list's trees.
-pub next-branch : {ws txt : List ℕ} {w : Which} {v : Level} {x : ℕ} {p : Str} {m : Merge} {h : Heap ℕ} (g : Holding ws txt w v x p m h) {j r : ℕ} (l : j < m .n)
+pub next-branch : {ws txt : List ℕ} {w : Which} {v : Level} {x : ℕ} {p : Str} {m : Merge} {h : Heap ℕ}
+    (g : Holding ws txt w v x p m h) {j r : ℕ} (l : j < m .n)
     → Next (cell-tree g j l) p (getD (m .heads) j 0) r → BranchOf ws w v x r
 next-branch g {j} l m = record { some = m .match .branch .some; link = link-later (omega (arith, g .cells j l .root-link .earlier)) (m .match .branch .link) }
 
@@ -80,8 +87,10 @@ cell-stands ws txt p roots heads labels j = record { key-is = refl; priority-is 
 
 -- ---- How many are left
 module _ (ws txt : List ℕ) (p : Str) (roots heads roots′ heads′ : List ℕ) (c : ℕ)
-    (others : (j : ℕ) → j < 96 → (j ≡ c → ⊥) → (getD roots′ j 0 ≡ getD roots j 0) × (getD heads′ j 0 ≡ getD heads j 0)) where
-  left-other : (j : ℕ) → j < 96 → (j ≡ c → ⊥) → left ws txt p (getD roots′ j 0) (getD heads′ j 0) ≡ left ws txt p (getD roots j 0) (getD heads j 0)
+    (others : (j : ℕ) → j < 96 → (j ≡ c → ⊥)
+    → (getD roots′ j 0 ≡ getD roots j 0) × (getD heads′ j 0 ≡ getD heads j 0)) where
+  left-other : (j : ℕ) → j < 96 → (j ≡ c → ⊥)
+      → left ws txt p (getD roots′ j 0) (getD heads′ j 0) ≡ left ws txt p (getD roots j 0) (getD heads j 0)
   left-other j l n = rw (others j l n .0, others j l n .1)
 
   remaining-before : (n : ℕ) → n ≤ 96 → n ≤ c → remaining ws txt p roots′ heads′ n ≡ remaining ws txt p roots heads n
@@ -89,7 +98,8 @@ module _ (ws txt : List ℕ) (p : Str) (roots heads roots′ heads′ : List ℕ
   remaining-before zero k h = refl
   remaining-before (suc n) k h = omega (arith, left-other n (omega arith) (λ e. omega arith), remaining-before n (omega arith) (omega arith))
 
-  pub remaining-less : (n : ℕ) → n ≤ 96 → c < n → left ws txt p (getD roots′ c 0) (getD heads′ c 0) < left ws txt p (getD roots c 0) (getD heads c 0)
+  pub remaining-less : (n : ℕ) → n ≤ 96 → c < n
+      → left ws txt p (getD roots′ c 0) (getD heads′ c 0) < left ws txt p (getD roots c 0) (getD heads c 0)
       → remaining ws txt p roots′ heads′ n < remaining ws txt p roots heads n
   unfolding remaining
   remaining-less zero k l f = absurd (omega arith)

@@ -28,7 +28,8 @@ use Rattle.memory.proofs.At.{no-link, at-of}
 pub single-none : {ws : List ℕ} {x : ℕ} → Single ws x 0
 single-none txt w v t p = absurd (omega arith)
 
-pub single-tree : {ws : List ℕ} {x r : ℕ} → 0 < x → (sort-word (record-at ws x) ≡ 1 → ⊥) → rest-link (record-at ws x) ≤ 0 → r ≡ own-link (record-at ws x) → Single ws x r
+pub single-tree : {ws : List ℕ} {x r : ℕ} → 0 < x → (sort-word (record-at ws x) ≡ 1 → ⊥)
+    → rest-link (record-at ws x) ≤ 0 → r ≡ own-link (record-at ws x) → Single ws x r
 single-tree {ws} {x} {r} p n z e txt w v t q =
     let f : rest-link (record-at ws x) ≡ 0 = omega arith in
     record {
@@ -36,28 +37,38 @@ single-tree {ws} {x} {r} p n z e txt w v t q =
       reads = names-reads t p (sort-tree t p n) ∙ rw (f, e, what-none w ws txt);
     }
 
-module _ {ws txt : List ℕ} {w : Which} {v : Level} {x r : ℕ} (t : At ws txt w (list v) x) (o : SingleIn ws txt w v x r) {term : SearchTerm} {p : Str} {q : Option Str} (asks : Asks term p q) where
-  lists-single : match-lists term (what w ws txt x (list v)) ≡ with-imports ([], map (row-at w ws txt v q) (matches ws txt r p)) ∷ []
+module _ {ws txt : List ℕ} {w : Which} {v : Level} {x r : ℕ} (t : At ws txt w (list v) x) (o : SingleIn ws txt w v x r)
+    {term : SearchTerm} {p : Str} {q : Option Str} (asks : Asks term p q) where
+  lists-single : match-lists term (what w ws txt x (list v))
+      ≡ with-imports ([], map (row-at w ws txt v q) (matches ws txt r p)) ∷ []
   unfolding match-lists flat-in
   lists-single = rw (o .reads, term-rows (at-of t (tree _) (omega arith) (o .link)) asks)
 
   -- The entries of the tree's matches show what is found.
-  pub single-found : map outer (found (what w ws txt x (list v)) term) ≡ map (shown w ws txt v q) (map (λ b. record { branch = b; label = 0 }) (matches ws txt r p))
+  pub single-found : map outer (found (what w ws txt x (list v)) term)
+      ≡ map (shown w ws txt v q) (map (λ b. record { branch = b; label = 0 }) (matches ws txt r p))
   unfolding nonempty with-imports outer shown last-opt row-at
   single-found = go (matches ws txt r p) lists-single ∙ shows (matches ws txt r p)
     where
       rows : List ℕ → List (PathElem × Value (Item w) v)
       rows l = with-imports ([], map (row-at w ws txt v q) l)
 
-      go : (l : List ℕ) → match-lists term (what w ws txt x (list v)) ≡ rows l ∷ [] → map outer (found (what w ws txt x (list v)) term) ≡ map outer (rows l)
+      go : (l : List ℕ) → match-lists term (what w ws txt x (list v)) ≡ rows l ∷ []
+          → map outer (found (what w ws txt x (list v)) term) ≡ map outer (rows l)
       go [] e = ap (map outer) (found-empty (what w ws txt x (list v)) term (ap nonempty e))
       go (b ∷ l) e = ap (map outer) (found-one (what w ws txt x (list v)) term (rows (b ∷ l)) (ap nonempty e))
 
-      shows : (l : List ℕ) → map outer (rows l) ≡ map (shown w ws txt v q) (map (λ b. record { branch = b; label = 0 }) l)
+      shows : (l : List ℕ)
+          → map outer (rows l) ≡ map (shown w ws txt v q) (map (λ b. record { branch = b; label = 0 }) l)
       shows [] = refl
       shows (b ∷ l) = ap (_∷_ (shown w ws txt v q (record { branch = b; label = 0 }))) (shows l)
 
-pub single-one : {ws txt : List ℕ} {w : Which} {v : Level} {x r : ℕ} (p : Str) → At ws txt w (list v) x → Single ws x r → 0 < r → OneTree ws txt w v x p r 0
+pub single-one : {ws txt : List ℕ} {w : Which} {v : Level} {x r : ℕ} (p : Str) → At ws txt w (list v) x → Single ws x r
+    → 0 < r → OneTree ws txt w v x p r 0
 single-one {txt = txt} {w} {v} p t s h =
     let o = s txt w v t h in
-    record { root-link = o .link; label-ok = record { link = no-link _ _; imports = λ i. absurd (omega arith) }; says = λ term q asks. single-found t o asks }
+    record {
+      root-link = o .link;
+      label-ok = record { link = no-link _ _; imports = λ i. absurd (omega arith) };
+      says = λ term q asks. single-found t o asks;
+    }

@@ -9,7 +9,8 @@ use Rattle.memory.specs.Layout.{Which}
 use Rattle.find_list.specs.Entries.{Entry}
 use Rattle.merge.specs.Stream.{Merge, Step, Rest, AnyRest, GivenIn, GivesIn, Gives}
 
-module _ {ws txt : List ℕ} {w : Which} {v : Level} {x : ℕ} {p : Str} {m : Merge} {s : List Entry} (g : Rest ws txt w v x p m s) where
+module _ {ws txt : List ℕ} {w : Which} {v : Level} {x : ℕ} {p : Str} {m : Merge} {s : List Entry}
+    (g : Rest ws txt w v x p m s) where
   -- What merge_next requires.
   pub rest-any : AnyRest ws txt p m
   rest-any = record { which = w; level = v; link = x; entries = s; rest = g }
@@ -36,5 +37,6 @@ module _ {ws txt : List ℕ} {w : Which} {v : Level} {x : ℕ} {p : Str} {m : Me
         go (y ∷ l) e d = record {
           after = l;
           is = e ∙ rw (d .branch-is, d .label-is);
-          given = record { branch-is = refl; label-is = refl; branch = d .branch; begins = d .begins; label-ok = d .label-ok; rest = d .rest; fewer = d .fewer };
+          given =
+              record { branch-is = refl; label-is = refl; branch = d .branch; begins = d .begins; label-ok = d .label-ok; rest = d .rest; fewer = d .fewer };
         }

@@ -39,7 +39,8 @@ use Rattle.merge.proofs.Cells.{branch-head, branch-few, cell-stands}
 use Rattle.memory.specs.Sound.{At}
 use Rattle.memory.proofs.At.{no-link, at-of}
 
-getD-map : {A B : Type 0} (f : A → B) (l : List A) (k : ℕ) (a : A) (b : B) → k < length l → getD (map f l) k b ≡ f (getD l k a)
+getD-map : {A B : Type 0} (f : A → B) (l : List A) (k : ℕ) (a : A) (b : B) → k < length l
+    → getD (map f l) k b ≡ f (getD l k a)
 getD-map f [] k a b h = absurd (omega arith)
 getD-map f (y ∷ l) zero a b h = refl
 getD-map f (y ∷ l) (suc k) a b h = getD-map f l k a b (omega arith)
@@ -49,7 +50,8 @@ map-ext f g e [] = refl
 map-ext f g e (y ∷ l) = ap₂ _∷_ (e y) (map-ext f g e l)
 
 -- ---- The heap of the first cells
-built-ext : {A : Type 0} (key : A → Str) (r r′ : ℕ → Run A) (k : ℕ) → ((j : ℕ) → j < k → r j ≡ r′ j) → built key r k ≡ built key r′ k
+built-ext : {A : Type 0} (key : A → Str) (r r′ : ℕ → Run A) (k : ℕ) → ((j : ℕ) → j < k → r j ≡ r′ j)
+    → built key r k ≡ built key r′ k
 unfolding built
 built-ext key r r′ zero e = refl
 built-ext key r r′ (suc k) e = ap₂ (heap-insert (run-cmp key)) (built-ext key r r′ k (λ j l. e j (omega arith))) (e k (omega arith))
@@ -61,11 +63,13 @@ module _ (ws txt : List ℕ) (p : Str) (roots heads labels : List ℕ) (n : ℕ)
   abbrev cells-heap : ℕ → Heap ℕ
   cells-heap k = heap-from-list (cell-cmp ws txt heads) (first-cells k)
 
-  insert-below : (g : Heap ℕ) (k : ℕ) → k < n → All (λ j. j < n) g → All (λ j. j < n) (heap-insert (cell-cmp ws txt heads) g k)
+  insert-below : (g : Heap ℕ) (k : ℕ) → k < n → All (λ j. j < n) g
+      → All (λ j. j < n) (heap-insert (cell-cmp ws txt heads) g k)
   unfolding heap-insert
   insert-below g k l a = All-merge (cell-cmp ws txt heads) (λ j. j < n) (HeapOf k []ᶠ) g (l, tt) a
 
-  built-cells : (k : ℕ) → k ≤ n → All (λ j. j < n) (cells-heap k) × (built (entry-key ws txt) val k ≡ heap-map val (cells-heap k))
+  built-cells : (k : ℕ) → k ≤ n
+      → All (λ j. j < n) (cells-heap k) × (built (entry-key ws txt) val k ≡ heap-map val (cells-heap k))
   unfolding built heap-from-list first-cells heap-insert-all
   built-cells zero h = (tt, refl)
   built-cells (suc k) h =
@@ -74,7 +78,8 @@ module _ (ws txt : List ℕ) (p : Str) (roots heads labels : List ℕ) (n : ℕ)
         insert-below (cells-heap k) k (omega arith) (b .0),
         ap (λ (g : Heap (Run Entry)). heap-insert (run-cmp (entry-key ws txt)) g (val k)) (b .1)
             ∙ map-insert val (cell-cmp ws txt heads) (run-cmp (entry-key ws txt)) (λ j. j < n)
-            (λ i j a c. cell-cmp-run (entry-key ws txt) ws txt heads i j (cell-stands ws txt p roots heads labels i) (cell-stands ws txt p roots heads labels j))
+            (λ i j a c. cell-cmp-run (entry-key ws txt) ws txt heads i j (cell-stands ws txt p roots heads labels i)
+            (cell-stands ws txt p roots heads labels j))
             (cells-heap k) k (b .0) (omega arith),
       )
 
@@ -115,7 +120,8 @@ module _ (ws txt : List ℕ) where
     unfolding elem-key row-at
     element-key m = refl
 
-    part-elements : (c : TreePart ws txt) (l : List ℕ) → with-imports (c .imports, map (row-at w ws txt v q) l) ≡ map element (map (match-of c) l)
+    part-elements : (c : TreePart ws txt) (l : List ℕ)
+        → with-imports (c .imports, map (row-at w ws txt v q) l) ≡ map element (map (match-of c) l)
     unfolding with-imports
     part-elements c [] = refl
     part-elements c (b ∷ l) = ap (_∷_ (element (match-of c b))) (part-elements c l)
@@ -124,8 +130,10 @@ module _ (ws txt : List ℕ) where
     unfolding outer shown row-at
     element-shows m = rw (m .labelled)
 
-module _ {ws txt : List ℕ} {w : Which} {v : Level} {x : ℕ} {p : Str} {roots heads labels : List ℕ} (here : At ws txt w (list v) x) where
-  part-at : (i : ℕ) (parts : List (TreePart ws txt)) → HasParts ws txt w v x p roots heads labels i parts → (k j : ℕ) → j ≡ i + k → k < length parts
+module _ {ws txt : List ℕ} {w : Which} {v : Level} {x : ℕ} {p : Str} {roots heads labels : List ℕ}
+    (here : At ws txt w (list v) x) where
+  part-at : (i : ℕ) (parts : List (TreePart ws txt)) → HasParts ws txt w v x p roots heads labels i parts → (k j : ℕ)
+      → j ≡ i + k → k < length parts
       → HasPart ws txt w v x p roots heads labels j (getD parts k (no-part ws txt))
   part-at i [] a k j e h = absurd (omega arith)
   part-at i (c ∷ parts) (more b a) zero j e h = let f : i ≡ j = omega arith in rw f at b
@@ -146,7 +154,10 @@ module _ {ws txt : List ℕ} {w : Which} {v : Level} {x : ℕ} {p : Str} {roots 
         let m = (rw (o .first-is) at (matches-of part-tree p)) .0 in
         record {
           root-link = rw (o .root-is) (o .root-link);
-          branch = record { some = m .branch .some; link = link-later (omega (arith, o .root-link .earlier)) (m .branch .link) };
+          branch = record {
+            some = m .branch .some;
+            link = link-later (omega (arith, o .root-link .earlier)) (m .branch .link);
+          };
           among = λ l. rw (o .root-is) (m .among);
           begins = m .begins;
           label-ok = rw (o .label-is) (o .label-ok);
@@ -155,13 +166,15 @@ module _ {ws txt : List ℕ} {w : Which} {v : Level} {x : ℕ} {p : Str} {roots 
     part-live : 0 < getD roots j 0
     part-live = go (c .root) (o .first-is) (o .root-is)
       where
-        go : (root : ℕ) → matches ws txt root p ≡ getD heads j 0 ∷ o .others → getD roots j 0 ≡ root → 0 < getD roots j 0
+        go : (root : ℕ) → matches ws txt root p ≡ getD heads j 0 ∷ o .others → getD roots j 0 ≡ root
+            → 0 < getD roots j 0
         go zero e f = absurd (nil≢cons (sym (matches-none ws txt p) ∙ e))
         go (suc r) e f = omega arith
 
   module _ (parts : List (TreePart ws txt)) (a : HasParts ws txt w v x p roots heads labels 0 parts) where
     -- The cells stand for what is merged.
-    cells-are : (q : Option Str) → AreRuns (map (elements w ws txt v q p) parts) (λ k. map-run (element ws txt w v q) (run-of ws txt p heads parts k))
+    cells-are : (q : Option Str) → AreRuns (map (elements w ws txt v q p) parts)
+        (λ k. map-run (element ws txt w v q) (run-of ws txt p heads parts k))
     unfolding priority first rest elements with-imports run-of
     cells-are q k h =
         let l : k < length parts = omega (arith, length-map parts (elements w ws txt v q p)) in
@@ -173,23 +186,29 @@ module _ {ws txt : List ℕ} {w : Which} {v : Level} {x : ℕ} {p : Str} {roots 
               ∙ part-elements ws txt w v q c (getD heads k 0 ∷ later ws txt p (c .root) (getD heads k 0))),
         )
 
-    runs-same : (n : ℕ) → n ≡ length parts → (k : ℕ) → k < n → map-run (entry-of ws txt) (run-of ws txt p heads parts k) ≡ val ws txt p roots heads labels n k
+    runs-same : (n : ℕ) → n ≡ length parts → (k : ℕ) → k < n
+        → map-run (entry-of ws txt) (run-of ws txt p heads parts k) ≡ val ws txt p roots heads labels n k
     unfolding run-at run-of
     runs-same n e k l =
         let o = part-at 0 parts a k k (omega arith) (omega arith) in
         rw (o .root-is, o .label-is, map-map)
 
 -- ---- merge_start
-ordered : {ws txt : List ℕ} {w : Which} {v : Level} {x : ℕ} (t : At ws txt w (list v) x) → OrderedN (what w ws txt x (list v))
-ordered {ws} {txt} {w} {v} {x} t = formed-orderedN IsKey IsLabel (IsItem w) {l = v} (what w ws txt x (list v)) (link-fine (t .sound) w (list v) (omega arith) (t .link) .0)
+ordered : {ws txt : List ℕ} {w : Which} {v : Level} {x : ℕ} (t : At ws txt w (list v) x)
+    → OrderedN (what w ws txt x (list v))
+ordered {ws} {txt} {w} {v} {x} t =
+    formed-orderedN IsKey IsLabel (IsItem w) {l = v} (what w ws txt x (list v)) (link-fine (t .sound) w (list v) (omega arith) (t .link) .0)
 
-module _ {ws txt : List ℕ} {p : Str} {x n : ℕ} {roots₀ heads₀ labels₀ roots heads labels : List ℕ} (d : Collected ws txt p x 0 0 n roots₀ heads₀ labels₀ roots heads labels) where
-  collected : (w : Which) (v : Level) → At ws txt w (list v) x → CollectedIn ws txt p x 0 0 n roots₀ heads₀ labels₀ roots heads labels w v x []
+module _ {ws txt : List ℕ} {p : Str} {x n : ℕ} {roots₀ heads₀ labels₀ roots heads labels : List ℕ}
+    (d : Collected ws txt p x 0 0 n roots₀ heads₀ labels₀ roots heads labels) where
+  collected : (w : Which) (v : Level) → At ws txt w (list v) x
+      → CollectedIn ws txt p x 0 0 n roots₀ heads₀ labels₀ roots heads labels w v x []
   unfolding last-opt
   collected w v t = d .says w v x [] t (omega arith) (record { link = no-link x _; imports = λ l. absurd (omega arith) }) refl
 
   module _ {w : Which} {v : Level} (t : At ws txt w (list v) x) where
-    has-cell : (j : ℕ) → j < n → HasPart ws txt w v x p roots heads labels j (getD (collected w v t .parts) j (no-part ws txt))
+    has-cell : (j : ℕ) → j < n
+        → HasPart ws txt w v x p roots heads labels j (getD (collected w v t .parts) j (no-part ws txt))
     has-cell j l = part-at t 0 (collected w v t .parts) (collected w v t .has) j j (omega arith) (omega (arith, collected w v t .count))
 
     pub start-heads : n ≤ 96 → Heads ws txt heads n
@@ -200,7 +219,8 @@ module _ {ws txt : List ℕ} {p : Str} {x n : ℕ} {roots₀ heads₀ labels₀ 
       begun = λ j l. has-cell j l .begun;
     }
 
-  pub merge-starts : {child next : List ℕ} {root : ℕ} → n ≤ 96 → Rep n child next root (heap-from-list (cell-cmp ws txt heads) (first-cells n))
+  pub merge-starts : {child next : List ℕ} {root : ℕ} → n ≤ 96
+      → Rep n child next root (heap-from-list (cell-cmp ws txt heads) (first-cells n))
       → Starts ws txt x p (state roots heads labels child next n root 0)
   unfolding match-lists
   merge-starts {child} {next} {root} few rep w v t =
@@ -233,33 +253,42 @@ module _ {ws txt : List ℕ} {p : Str} {x n : ℕ} {roots₀ heads₀ labels₀ 
         };
         says = λ term q asks.
             ap (map outer)
-            (found-read (what w ws txt x (list v)) term (element ws txt w v q) (match-key ws txt) r n fuel (ordered t) (element-key ws txt w v q)
+            (found-read (what w ws txt x (list v)) term (element ws txt w v q) (match-key ws txt) r n fuel (ordered t)
+            (element-key ws txt w v q)
             (omega (arith, s .count, ap length (s .lists term q asks), length-map (s .parts) (elements w ws txt v q p)))
             (rw (s .lists term q asks) (cells-are t (s .parts) (s .has) q))
             (omega arith))
             ∙ map-map outer (element ws txt w v q) (forward (match-key ws txt) fuel (built (match-key ws txt) r n) none)
-            ∙ map-ext _ _ (element-shows ws txt w v q) (forward (match-key ws txt) fuel (built (match-key ws txt) r n) none)
-            ∙ sym (map-map (shown w ws txt v q) (entry-of ws txt) (forward (match-key ws txt) fuel (built (match-key ws txt) r n) none))
-            ∙ ap (map (shown w ws txt v q)) (sym (forward-map (entry-of ws txt) (match-key ws txt) (entry-key ws txt) (λ m. refl) fuel (built (match-key ws txt) r n) none)
+            ∙ map-ext _ _ (element-shows ws txt w v q)
+            (forward (match-key ws txt) fuel (built (match-key ws txt) r n) none)
+            ∙ sym (map-map (shown w ws txt v q) (entry-of ws txt)
+            (forward (match-key ws txt) fuel (built (match-key ws txt) r n) none))
+            ∙ ap (map (shown w ws txt v q)) (sym
+            (forward-map (entry-of ws txt) (match-key ws txt) (entry-key ws txt) (λ m. refl) fuel
+            (built (match-key ws txt) r n) none)
             ∙ ap (λ (g : Heap (Run Entry)). forward (entry-key ws txt) fuel g none) (sym same-heap));
       }
 
   -- One cell: what is found are its tree's matches.
-  pub starts-one : n ≡ 1 → (w : Which) (v : Level) → At ws txt w (list v) x → OneTree ws txt w v x p (getD roots 0 0) (getD labels 0 0)
+  pub starts-one : n ≡ 1 → (w : Which) (v : Level) → At ws txt w (list v) x
+      → OneTree ws txt w v x p (getD roots 0 0) (getD labels 0 0)
   unfolding match-lists nonempty elements with-imports outer shown row-at
   starts-one e w v t = go (collected w v t .parts) (omega (arith, collected w v t .count)) (collected w v t .has) (collected w v t .lists)
     where
-      shows : (q : Option Str) (c : TreePart ws txt) (l : List ℕ) → map outer (with-imports (c .imports, map (row-at w ws txt v q) l)) ≡ map (shown w ws txt v q) (map (λ b. record { branch = b; label = c .label }) l)
+      shows : (q : Option Str) (c : TreePart ws txt) (l : List ℕ)
+          → map outer (with-imports (c .imports, map (row-at w ws txt v q) l)) ≡ map (shown w ws txt v q) (map (λ b. record { branch = b; label = c .label }) l)
       shows q c [] = refl
       shows q c (b ∷ l) = ap₂ _∷_ (rw (c .labelled)) (shows q c l)
 
       go : (parts : List (TreePart ws txt)) → length parts ≡ 1 → HasParts ws txt w v x p roots heads labels 0 parts
-          → ((term : SearchTerm) (q : Option Str) → Asks term p q → match-lists-in w ws txt v term [] x ≡ map (elements w ws txt v q p) parts)
+          → ((term : SearchTerm) (q : Option Str) → Asks term p q
+          → match-lists-in w ws txt v term [] x ≡ map (elements w ws txt v q p) parts)
           → OneTree ws txt w v x p (getD roots 0 0) (getD labels 0 0)
       go [] k a f = absurd (omega arith)
       go (c ∷ d ∷ parts) k a f = absurd (omega arith)
       go (c ∷ []) k (more o a) f = rw (o .root-is, o .label-is) (record {
         root-link = o .root-link;
         label-ok = o .label-ok;
-        says = λ term q asks. ap (map outer) (found-one (what w ws txt x (list v)) term (elements w ws txt v q p c) (f term q asks)) ∙ shows q c (matches ws txt (c .root) p);
+        says = λ term q asks. ap (map outer) (found-one (what w ws txt x (list v)) term (elements w ws txt v q p c) (f term q asks))
+            ∙ shows q c (matches ws txt (c .root) p);
       })

@@ -19,34 +19,42 @@ use Rattle.find_tree.specs.Tree.{AnyTree}
 use Rattle.find_tree.specs.Links.{BranchOf}
 use Rattle.find_list.specs.Entries.{Entry, entry-key}
 use Rattle.find_list.specs.Entries.{LabelOk}
-use Rattle.merge.specs.Stream.{Merge, Step, run-at, remaining, Holding, heap-of, Last, Rest, AnyRest, left-in, GivenIn, GivesIn, Gives, state, Takes, CellsReady}
+use Rattle.merge.specs.Stream.{Merge, Step, run-at, remaining, Holding, heap-of, Last, Rest, AnyRest, left-in, GivenIn, GivesIn, Gives, state, Takes}
+use Rattle.merge.specs.Stream.{CellsReady}
 use Rattle.merge.specs.declared.Taken.{Taken}
 use Rattle.merge.proofs.Cells.{cell-branch-tree}
 
 -- Whether an entry has the key of the last one.
 module _ (ws txt : List ℕ) (w : Which) (v : Level) (x l : ℕ) (e : Entry) where
-  again-new : (given : Option Entry) → Last ws w v x l given → ((l ≡ 0 → ⊥) → same (key-at ws txt (e .branch)) (key-at ws txt l) ≡ false) → again (entry-key ws txt) e given ≡ false
+  again-new : (given : Option Entry) → Last ws w v x l given
+      → ((l ≡ 0 → ⊥) → same (key-at ws txt (e .branch)) (key-at ws txt l) ≡ false)
+      → again (entry-key ws txt) e given ≡ false
   unfolding again
   again-new none g f = refl
   again-new (some y) g f = rw (g .0) (f (λ z. omega (arith, g .1 .some)))
 
-  again-same : (given : Option Entry) → Last ws w v x l given → (l ≡ 0 → ⊥) → same (key-at ws txt (e .branch)) (key-at ws txt l) ≡ true → again (entry-key ws txt) e given ≡ true
+  again-same : (given : Option Entry) → Last ws w v x l given → (l ≡ 0 → ⊥)
+      → same (key-at ws txt (e .branch)) (key-at ws txt l) ≡ true → again (entry-key ws txt) e given ≡ true
   unfolding again
   again-same none g n f = absurd (n g)
   again-same (some y) g n f = rw (g .0) f
 
-last-branch : (ws : List ℕ) (w : Which) (v : Level) (x l : ℕ) (given : Option Entry) → Last ws w v x l given → (l ≡ 0 → ⊥) → BranchOf ws w v x l
+last-branch : (ws : List ℕ) (w : Which) (v : Level) (x l : ℕ) (given : Option Entry) → Last ws w v x l given
+    → (l ≡ 0 → ⊥) → BranchOf ws w v x l
 last-branch ws w v x l none g n = absurd (n g)
 last-branch ws w v x l (some y) g n = g .1
 
-module _ {ws txt : List ℕ} {p : Str} {n root last : ℕ} {roots heads labels child next roots′ heads′ child′ next′ : List ℕ} {t : Taken}
-    (takes : Takes ws txt p n root roots heads child next roots′ heads′ child′ next′ t) {w : Which} {v : Level} {x : ℕ} {s : List Entry}
+module _ {ws txt : List ℕ} {p : Str} {n root last : ℕ}
+    {roots heads labels child next roots′ heads′ child′ next′ : List ℕ} {t : Taken}
+    (takes : Takes ws txt p n root roots heads child next roots′ heads′ child′ next′ t) {w : Which} {v : Level} {x : ℕ}
+    {s : List Entry}
     (g : Rest ws txt w v x p (state roots heads labels child next n root last) s) where
   pub step-end : t .cell ≡ 96 → s ≡ []
   step-end e = go (g .heap) (g .holding) (g .says)
     where
       go : (h : Heap ℕ) → Holding ws txt w v x p (state roots heads labels child next n root last) h
-          → s ≡ forward (entry-key ws txt) (g .fuel) (heap-of ws txt p (state roots heads labels child next n root last) h) (g .given) → s ≡ []
+          → s ≡ forward (entry-key ws txt) (g .fuel)
+          (heap-of ws txt p (state roots heads labels child next n root last) h) (g .given) → s ≡ []
       go EmptyHeap o q = q ∙ forward-empty (entry-key ws txt) (g .fuel) (g .given)
       go (HeapOf c hh) o q = let k = takes .took labels last w v x (HeapOf c hh) o in absurd (omega (arith, k .cell-is, k .below, o .few))
 
@@ -94,9 +102,19 @@ module _ {ws txt : List ℕ} {p : Str} {n root last : ℕ} {roots heads labels c
             begins = rw (k .branch-is) (a .begins);
             label-ok = rw (k .cell-is) (a .label-ok);
             passed = forward (entry-key ws txt) (g .fuel) (heap-of ws txt p m′ (k .heap)) (g .given);
-            after = forward (entry-key ws txt) (g .fuel) (heap-of ws txt p m′ (k .heap)) (some (record { branch = getD heads c 0; label = getD labels c 0 }));
-            splits = q ∙ forward-step (entry-key ws txt) (g .fuel) (val c) (forest-map val hh) (g .given) h ∙ rw (k .heap-is);
-            passed-rest = record { heap = k .heap; holding = k .holding; given = g .given; last = g .last; fuel = g .fuel; enough = few; says = refl };
+            after = forward (entry-key ws txt) (g .fuel) (heap-of ws txt p m′ (k .heap))
+                (some (record { branch = getD heads c 0; label = getD labels c 0 }));
+            splits = q ∙ forward-step (entry-key ws txt) (g .fuel) (val c) (forest-map val hh) (g .given) h
+                ∙ rw (k .heap-is);
+            passed-rest = record {
+              heap = k .heap;
+              holding = k .holding;
+              given = g .given;
+              last = g .last;
+              fuel = g .fuel;
+              enough = few;
+              says = refl;
+            };
             after-rest = record {
               heap = k .heap;
               holding = relast (k .holding);
@@ -109,7 +127,8 @@ module _ {ws txt : List ℕ} {p : Str} {n root last : ℕ} {roots heads labels c
             fewer = k .fewer;
           }
         where
-          relast : {h : Heap ℕ} {l : ℕ} → Holding ws txt w v x p (state roots′ heads′ labels child′ next′ n (t .root) last) h
+          relast : {h : Heap ℕ} {l : ℕ}
+              → Holding ws txt w v x p (state roots′ heads′ labels child′ next′ n (t .root) last) h
               → Holding ws txt w v x p (state roots′ heads′ labels child′ next′ n (t .root) l) h
           relast o = record { here = o .here; few = o .few; full = o .full; cells = o .cells; begun = o .begun; rep = o .rep; live = o .live }
 
@@ -117,14 +136,18 @@ module _ {ws txt : List ℕ} {p : Str} {n root last : ℕ} {roots heads labels c
 
 -- What is left of the entries of m after those passed over.
 pub record Passing (ws txt : List ℕ) (p : Str) (m : Merge) (roots heads child next : List ℕ) (root : ℕ) : Type 0 where
-  pub says : (w : Which) (v : Level) (x : ℕ) (s : List Entry) → Rest ws txt w v x p m s → Rest ws txt w v x p (state roots heads (m .labels) child next (m .n) root (m .last)) s
+  pub says : (w : Which) (v : Level) (x : ℕ) (s : List Entry) → Rest ws txt w v x p m s
+      → Rest ws txt w v x p (state roots heads (m .labels) child next (m .n) root (m .last)) s
   pub fewer : remaining ws txt p roots heads (m .n) ≤ left-in ws txt p m
 
-pub passing-none : {ws txt : List ℕ} {p : Str} (m : Merge) → Passing ws txt p m (m .roots) (m .heads) (m .child) (m .next) (m .root)
+pub passing-none : {ws txt : List ℕ} {p : Str} (m : Merge)
+    → Passing ws txt p m (m .roots) (m .heads) (m .child) (m .next) (m .root)
 passing-none m = record { says = λ w v x s g. g; fewer = omega arith }
 
-module _ {ws txt : List ℕ} {p : Str} {m : Merge} {roots heads child next : List ℕ} {root : ℕ} (o : Passing ws txt p m roots heads child next root) (y : AnyRest ws txt p m) where
-  abbrev now-rest : Rest ws txt (y .which) (y .level) (y .link) p (state roots heads (m .labels) child next (m .n) root (m .last)) (y .entries)
+module _ {ws txt : List ℕ} {p : Str} {m : Merge} {roots heads child next : List ℕ} {root : ℕ}
+    (o : Passing ws txt p m roots heads child next root) (y : AnyRest ws txt p m) where
+  abbrev now-rest : Rest ws txt (y .which) (y .level) (y .link) p
+      (state roots heads (m .labels) child next (m .n) root (m .last)) (y .entries)
   now-rest = o .says (y .which) (y .level) (y .link) (y .entries) (y .rest)
 
   pub passing-ready : CellsReady ws txt p (m .n) root roots heads child next
@@ -138,7 +161,9 @@ module _ {ws txt : List ℕ} {p : Str} {m : Merge} {roots heads child next : Lis
     holding = now-rest .holding;
   }
 
-  module _ {roots′ heads′ child′ next′ : List ℕ} {t : Taken} (takes : Takes ws txt p (m .n) root roots heads child next roots′ heads′ child′ next′ t) (ne : t .cell ≡ 96 → ⊥) where
+  module _ {roots′ heads′ child′ next′ : List ℕ} {t : Taken}
+      (takes : Takes ws txt p (m .n) root roots heads child next roots′ heads′ child′ next′ t)
+      (ne : t .cell ≡ 96 → ⊥) where
     pub passing-small : t .cell < 96
     passing-small = omega (arith, merge-steps takes now-rest ne .below, now-rest .holding .few)
 
@@ -151,13 +176,16 @@ module _ {ws txt : List ℕ} {p : Str} {m : Merge} {roots heads child next : Lis
     pub passing-last : (m .last ≡ 0 → ⊥) → (0 < m .last) × AnyTree ws txt (m .last)
     passing-last n = cell-branch-tree (now-rest .holding .here) (last-branch ws (y .which) (y .level) (y .link) (m .last) (now-rest .given) (now-rest .last) n)
 
-module _ {ws txt : List ℕ} {p : Str} {m : Merge} {roots heads child next : List ℕ} {root : ℕ} (o : Passing ws txt p m roots heads child next root)
-    {roots′ heads′ child′ next′ : List ℕ} {t : Taken} (takes : Takes ws txt p (m .n) root roots heads child next roots′ heads′ child′ next′ t) where
+module _ {ws txt : List ℕ} {p : Str} {m : Merge} {roots heads child next : List ℕ} {root : ℕ}
+    (o : Passing ws txt p m roots heads child next root)
+    {roots′ heads′ child′ next′ : List ℕ} {t : Taken}
+    (takes : Takes ws txt p (m .n) root roots heads child next roots′ heads′ child′ next′ t) where
   pub passing-end : (r : Step) → r .branch ≡ 0 → t .cell ≡ 96 → Gives ws txt p m r
   passing-end r z e w v x s g = subst (λ (s : List Entry). GivesIn ws txt w v x p m s r) (sym (step-end takes (o .says w v x s g) e)) z
 
   module _ (ne : t .cell ≡ 96 → ⊥) where
-    pub passing-on : remaining ws txt p roots′ heads′ (m .n) < remaining ws txt p roots heads (m .n) → (m .last ≡ 0 → ⊥) → same (key-at ws txt (t .branch)) (key-at ws txt (m .last)) ≡ true
+    pub passing-on : remaining ws txt p roots′ heads′ (m .n) < remaining ws txt p roots heads (m .n) → (m .last ≡ 0 → ⊥)
+        → same (key-at ws txt (t .branch)) (key-at ws txt (m .last)) ≡ true
         → Passing ws txt p m roots′ heads′ child′ next′ (t .root)
     passing-on f n e = record {
       says = λ w v x s g.

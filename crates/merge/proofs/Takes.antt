@@ -39,7 +39,8 @@ run-same : (ws txt : List ℕ) (p : Str) (roots heads roots′ heads′ labels :
 unfolding run-at
 run-same ws txt p roots heads roots′ heads′ labels j e f = rw (e, f)
 
-module _ {ws txt : List ℕ} {w : Which} {v : Level} {x : ℕ} {p : Str} {n root last c : ℕ} {roots heads labels child next : List ℕ} {hh : Forest ℕ}
+module _ {ws txt : List ℕ} {w : Which} {v : Level} {x : ℕ} {p : Str} {n root last c : ℕ}
+    {roots heads labels child next : List ℕ} {hh : Forest ℕ}
     (g : Holding ws txt w v x p (state roots heads labels child next n root last) (HeapOf c hh)) where
   abbrev val : ℕ → Run Entry
   val = run-at ws txt p roots heads labels
@@ -59,7 +60,8 @@ module _ {ws txt : List ℕ} {w : Which} {v : Level} {x : ℕ} {p : Str} {n root
   live-still : (j : ℕ) → 0 < count j others → 0 < getD roots j 0
   live-still j l = g .live j (omega (arith, sum-pairs (cell-cmp ws txt heads) (is j) hh))
 
-  popped-is : popped (entry-key ws txt) (val c) (forest-map val hh) ≡ put-back (entry-key ws txt) (val c) (heap-map val others)
+  popped-is : popped (entry-key ws txt) (val c) (forest-map val hh)
+      ≡ put-back (entry-key ws txt) (val c) (heap-map val others)
   popped-is =
       ap (put-back (entry-key ws txt) (val c))
       (stands-pairs (entry-key ws txt) ws txt heads n val (λ j l. cell-stands ws txt p roots heads labels j) hh (rep-below n child next (g .few) (g .rep) .1))
@@ -71,7 +73,8 @@ module _ {ws txt : List ℕ} {w : Which} {v : Level} {x : ℕ} {p : Str} {n root
     unfolding run-at put-back
     val-end = rw e
 
-    took-last : TookCell ws txt w v x p (state roots heads labels child next n root last) (state (set roots c 0) heads labels child′ next′ n rest last)
+    took-last : TookCell ws txt w v x p (state roots heads labels child next n root last)
+        (state (set roots c 0) heads labels child′ next′ n rest last)
         (record { cell = c; branch = getD heads c 0; root = rest }) c hh
     unfolding left
     took-last = record {
@@ -92,7 +95,8 @@ module _ {ws txt : List ℕ} {w : Which} {v : Level} {x : ℕ} {p : Str} {n root
               ];
               branch = k .branch;
               among = elim (ℕ-discrete j c) [
-                | yes q ↦ λ z. absurd (omega (arith, getD-set-same roots c 0 0 (omega (arith, g .few, g .full .of-roots)), ap (λ (i : ℕ). getD (set roots c 0) i 0) q))
+                | yes q ↦ λ z. absurd
+                    (omega (arith, getD-set-same roots c 0 0 (omega (arith, g .few, g .full .of-roots)), ap (λ (i : ℕ). getD (set roots c 0) i 0) q))
                 | no ne ↦ rw (getD-set-other roots c j 0 0 ne) (k .among)
               ];
               begins = k .begins;
@@ -107,12 +111,16 @@ module _ {ws txt : List ℕ} {w : Which} {v : Level} {x : ℕ} {p : Str} {n root
           (λ j ne. run-same ws txt p roots heads (set roots c 0) heads labels j (sym (getD-set-other roots c j 0 0 ne)) refl)
           others (all-counted (λ j. j ≡ c → ⊥) others not-c));
       fewer = remaining-less ws txt p roots heads (set roots c 0) heads c (λ j l ne. (getD-set-other roots c j 0 0 ne, refl)) n (g .few) below
-          (rw (getD-set-same roots c 0 0 (omega (arith, below, g .few, g .full .of-roots)), ne-eqb (getD roots c 0) 0 (λ z. omega (arith, g .live c (omega (arith, is-self c)))))
+          (rw (
+            getD-set-same roots c 0 0 (omega (arith, below, g .few, g .full .of-roots)),
+            ne-eqb (getD roots c 0) 0 (λ z. omega (arith, g .live c (omega (arith, is-self c)))),
+          )
           (omega arith));
     }
 
   -- It goes on with the branch r.
-  module _ (r : ℕ) (next-match : Next (cell-tree g c below) p (getD heads c 0) r) (rest top : ℕ) (child′ next′ child″ next″ : List ℕ) (made : Makes n child next child′ next′ rest others)
+  module _ (r : ℕ) (next-match : Next (cell-tree g c below) p (getD heads c 0) r) (rest top : ℕ)
+      (child′ next′ child″ next″ : List ℕ) (made : Makes n child next child′ next′ rest others)
       (inserted : Inserts (cell-cmp ws txt (with-head ws txt heads c r)) n child′ next′ child″ next″ top rest c) where
     abbrev val′ : ℕ → Run Entry
     val′ = run-at ws txt p roots (with-head ws txt heads c r) labels
@@ -126,11 +134,13 @@ module _ {ws txt : List ℕ} {w : Which} {v : Level} {x : ℕ} {p : Str} {n root
     head-other : (j : ℕ) → j < n → (j ≡ c → ⊥) → getD (with-head ws txt heads c r) j 0 ≡ getD heads j 0
     head-other j l ne = other-head ws txt heads c r small j (omega (arith, g .few)) ne
 
-    val-next : put-back (entry-key ws txt) (val c) (heap-map val others) ≡ heap-insert (run-cmp (entry-key ws txt)) (heap-map val others) (val′ c)
+    val-next : put-back (entry-key ws txt) (val c) (heap-map val others)
+        ≡ heap-insert (run-cmp (entry-key ws txt)) (heap-map val others) (val′ c)
     unfolding run-at put-back
     val-next = rw (next-match .is-next, head-set)
 
-    took-next : TookCell ws txt w v x p (state roots heads labels child next n root last) (state roots (with-head ws txt heads c r) labels child″ next″ n top last)
+    took-next : TookCell ws txt w v x p (state roots heads labels child next n root last)
+        (state roots (with-head ws txt heads c r) labels child″ next″ n top last)
         (record { cell = c; branch = getD heads c 0; root = top }) c hh
     unfolding left heap-insert
     took-next =
@@ -143,7 +153,11 @@ module _ {ws txt : List ℕ} {w : Which} {v : Level} {x : ℕ} {p : Str} {n root
           holding = record {
             here = g .here;
             few = g .few;
-            full = record { of-roots = g .full .of-roots; of-heads = head-length ws txt heads c r ∙ g .full .of-heads; of-labels = g .full .of-labels };
+            full = record {
+              of-roots = g .full .of-roots;
+              of-heads = head-length ws txt heads c r ∙ g .full .of-heads;
+              of-labels = g .full .of-labels;
+            };
             cells = λ j l.
                 let k = g .cells j l in
                 record {
@@ -162,19 +176,28 @@ module _ {ws txt : List ℕ} {w : Which} {v : Level} {x : ℕ} {p : Str} {n root
                   ];
                   label-ok = k .label-ok;
                 };
-            begun = λ j l. head-begun ws txt heads c r small (g .full .of-heads) j (omega (arith, g .few)) (λ ne. g .begun j l);
+            begun = λ j l. head-begun ws txt heads c r small (g .full .of-heads) j (omega (arith, g .few))
+                (λ ne. g .begun j l);
             rep = m .rep;
             live = λ j l. elim (ℕ-discrete j c) [
               | yes q ↦ rw q (g .live c (omega (arith, is-self c)))
-              | no ne ↦ live-still j (omega (arith, sum-merge (cell-cmp ws txt (with-head ws txt heads c r)) (is j) (HeapOf c []ᶠ) others, is-other j c ne))
+              | no ne ↦ live-still j (omega (
+                arith,
+                sum-merge (cell-cmp ws txt (with-head ws txt heads c r)) (is j) (HeapOf c []ᶠ) others,
+                is-other j c ne,
+              ))
             ];
           };
           heap-is = sym (popped-is ∙ val-next
-              ∙ stands-insert (entry-key ws txt) ws txt (with-head ws txt heads c r) n val′ (λ j l. cell-stands ws txt p roots (with-head ws txt heads c r) labels j) val c below
-              (λ j l ne. run-same ws txt p roots heads roots (with-head ws txt heads c r) labels j refl (sym (head-other j l ne)))
+              ∙ stands-insert (entry-key ws txt) ws txt (with-head ws txt heads c r) n val′
+              (λ j l. cell-stands ws txt p roots (with-head ws txt heads c r) labels j) val c below
+              (λ j l ne. run-same ws txt p roots heads roots (with-head ws txt heads c r) labels j refl
+              (sym (head-other j l ne)))
               others (rep-below n child′ next′ (g .few) (made .rep)) free);
-          fewer = remaining-less ws txt p roots heads roots (with-head ws txt heads c r) c (λ j l ne. (refl, other-head ws txt heads c r small j l ne)) n (g .few) below
-              (rw (head-set, ne-eqb (getD roots c 0) 0 (λ z. omega (arith, g .live c (omega (arith, is-self c))))) (omega (arith, ap length (next-match .is-next))));
+          fewer = remaining-less ws txt p roots heads roots (with-head ws txt heads c r) c
+              (λ j l ne. (refl, other-head ws txt heads c r small j l ne)) n (g .few) below
+              (rw (head-set, ne-eqb (getD roots c 0) 0 (λ z. omega (arith, g .live c (omega (arith, is-self c)))))
+              (omega (arith, ap length (next-match .is-next))));
         }
 
 -- ---- What take answers
@@ -185,43 +208,55 @@ module _ {ws txt : List ℕ} {p : Str} {n root : ℕ} {roots heads child next ch
   takes-none {b} {r} pop = record { took = λ labels last w v x h g. go labels last w v x h (g .rep) }
     where
       go : (labels : List ℕ) (last : ℕ) (w : Which) (v : Level) (x : ℕ) (h : Heap ℕ) → Rep n child next root h
-          → TookIn ws txt w v x p (state roots heads labels child next n root last) (state roots heads labels child′ next′ n r last) (record { cell = 96; branch = b; root = r }) h
+          → TookIn ws txt w v x p (state roots heads labels child next n root last)
+          (state roots heads labels child′ next′ n r last)
+          (record { cell = 96; branch = b; root = r }) h
       go labels last w v x EmptyHeap s = refl
       go labels last w v x (HeapOf c hh) s = absurd (pop (HeapOf c hh) s)
 
-  module _ {cell rest : ℕ} {roots′ heads′ child″ next″ : List ℕ} {t : Taken} (pop : Pops (cell-cmp ws txt heads) n child next child′ next′ (Least cell rest) root) where
-    takes-some : ((labels : List ℕ) (last : ℕ) (w : Which) (v : Level) (x c : ℕ) (hh : Forest ℕ) (g : Holding ws txt w v x p (state roots heads labels child next n root last) (HeapOf c hh))
+  module _ {cell rest : ℕ} {roots′ heads′ child″ next″ : List ℕ} {t : Taken}
+      (pop : Pops (cell-cmp ws txt heads) n child next child′ next′ (Least cell rest) root) where
+    takes-some : ((labels : List ℕ) (last : ℕ) (w : Which) (v : Level) (x c : ℕ) (hh : Forest ℕ)
+        (g : Holding ws txt w v x p (state roots heads labels child next n root last) (HeapOf c hh))
         → cell ≡ c → Makes n child next child′ next′ rest (others g)
-        → TookCell ws txt w v x p (state roots heads labels child next n root last) (state roots′ heads′ labels child″ next″ n (t .root) last) t c hh)
+        → TookCell ws txt w v x p (state roots heads labels child next n root last)
+        (state roots′ heads′ labels child″ next″ n (t .root) last) t c hh)
         → Takes ws txt p n root roots heads child next roots′ heads′ child″ next″ t
     unfolding heap-pop
     takes-some f = record { took = go }
       where
-        go : (labels : List ℕ) (last : ℕ) (w : Which) (v : Level) (x : ℕ) (h : Heap ℕ) → Holding ws txt w v x p (state roots heads labels child next n root last) h
-            → TookIn ws txt w v x p (state roots heads labels child next n root last) (state roots′ heads′ labels child″ next″ n (t .root) last) t h
+        go : (labels : List ℕ) (last : ℕ) (w : Which) (v : Level) (x : ℕ) (h : Heap ℕ)
+            → Holding ws txt w v x p (state roots heads labels child next n root last) h
+            → TookIn ws txt w v x p (state roots heads labels child next n root last)
+            (state roots′ heads′ labels child″ next″ n (t .root) last) t h
         go labels last w v x EmptyHeap g = absurd (pop EmptyHeap (g .rep))
         go labels last w v x (HeapOf c hh) g = let q = pop (HeapOf c hh) (g .rep) in f labels last w v x c hh g (q .0) (q .1)
 
 -- ---- What take answers, and what its calls ask, once heap_pop gave the cell
 
-pub record Least-cell (ws txt : List ℕ) (p : Str) (n root : ℕ) (roots heads child next child′ next′ : List ℕ) (cell rest : ℕ) : Type 0 where
+pub record Least-cell (ws txt : List ℕ) (p : Str) (n root : ℕ) (roots heads child next child′ next′ : List ℕ)
+    (cell rest : ℕ) : Type 0 where
   pub ready : CellsReady ws txt p n root roots heads child next
   pub pops : Pops (cell-cmp ws txt heads) n child next child′ next′ (Least cell rest) root
 
-module _ {ws txt : List ℕ} {p : Str} {n root cell rest : ℕ} {roots heads child next child′ next′ : List ℕ} (k : Least-cell ws txt p n root roots heads child next child′ next′ cell rest) where
+module _ {ws txt : List ℕ} {p : Str} {n root cell rest : ℕ} {roots heads child next child′ next′ : List ℕ}
+    (k : Least-cell ws txt p n root roots heads child next child′ next′ cell rest) where
   abbrev y : CellsReady ws txt p n root roots heads child next
   y = k .ready
 
-  abbrev g : Holding ws txt (y .which) (y .level) (y .link) p (state roots heads (y .labels) child next n root (y .last)) (y .heap)
+  abbrev g : Holding ws txt (y .which) (y .level) (y .link) p
+      (state roots heads (y .labels) child next n root (y .last)) (y .heap)
   g = y .holding
 
   popped-cell : (cell < n) × Root n rest × (0 < getD roots cell 0)
   unfolding heap-pop
   popped-cell = go (y .heap) (g .rep) (g .live)
     where
-      go : (h : Heap ℕ) → Rep n child next root h → ((j : ℕ) → 0 < count j h → 0 < getD roots j 0) → (cell < n) × Root n rest × (0 < getD roots cell 0)
+      go : (h : Heap ℕ) → Rep n child next root h → ((j : ℕ) → 0 < count j h → 0 < getD roots j 0)
+          → (cell < n) × Root n rest × (0 < getD roots cell 0)
       go EmptyHeap s l = absurd (k .pops EmptyHeap s)
-      go (HeapOf c hh) s l = let q = k .pops (HeapOf c hh) s in rw (q .0) (s .holds .1, root-in n child′ next′ (g .few) (q .1 .rep), l c (omega (arith, is-self c)))
+      go (HeapOf c hh) s l = let q = k .pops (HeapOf c hh) s in
+          rw (q .0) (s .holds .1, root-in n child′ next′ (g .few) (q .1 .rep), l c (omega (arith, is-self c)))
 
   pub cell-small : cell < 96
   cell-small = omega (arith, popped-cell .0, g .few)
@@ -229,16 +264,20 @@ module _ {ws txt : List ℕ} {p : Str} {n root cell rest : ℕ} {roots heads chi
   pub head-fits : getD heads cell 0 ≤ 65536
   head-fits = branch-few (g .here) (g .cells cell (popped-cell .0) .branch)
 
-  pub next-asks : AnyTree ws txt (getD roots cell 0) × (List·Memᴰ (getD heads cell 0) (branches ws (getD roots cell 0)) × (starts-with (key-at ws txt (getD heads cell 0)) p ≡ true))
+  pub next-asks : AnyTree ws txt (getD roots cell 0)
+      × (List·Memᴰ (getD heads cell 0) (branches ws (getD roots cell 0))
+      × (starts-with (key-at ws txt (getD heads cell 0)) p ≡ true))
   next-asks =
       let j = g .cells cell (popped-cell .0) in
       (record { which = y .which; level = y .level; tree = cell-tree g cell (popped-cell .0) }, (j .among (popped-cell .2), j .begins))
 
   module _ {r : ℕ} (e : r ≡ head0 (later ws txt p (getD roots cell 0) (getD heads cell 0))) where
-    pub takes-last : r ≡ 0 → Takes ws txt p n root roots heads child next (set roots cell 0) heads child′ next′ (record { cell = cell; branch = getD heads cell 0; root = rest })
+    pub takes-last : r ≡ 0 → Takes ws txt p n root roots heads child next (set roots cell 0) heads child′ next′
+        (record { cell = cell; branch = getD heads cell 0; root = rest })
     takes-last z =
         takes-some (k .pops)
-        (λ labels last w v x c hh g q made. rw q (took-last g rest child′ next′ made (later-end (cell-tree g c (below g)) p (getD heads c 0) (sym (rw q at e) ∙ z))))
+        (λ labels last w v x c hh g q made. rw q
+        (took-last g rest child′ next′ made (later-end (cell-tree g c (below g)) p (getD heads c 0) (sym (rw q at e) ∙ z))))
 
     module _ (ne : r ≡ 0 → ⊥) where
       pub next-in : TextIn ws txt r × (cell < 96)
@@ -262,9 +301,12 @@ module _ {ws txt : List ℕ} {p : Str} {n root cell rest : ℕ} {roots heads chi
             (popped-cell .1, l),
           )
 
-      pub takes-next : {top : ℕ} {child″ next″ : List ℕ} → Inserts (cell-cmp ws txt (with-head ws txt heads cell r)) n child′ next′ child″ next″ top rest cell
-          → Takes ws txt p n root roots heads child next roots (with-head ws txt heads cell r) child″ next″ (record { cell = cell; branch = getD heads cell 0; root = top })
+      pub takes-next : {top : ℕ} {child″ next″ : List ℕ}
+          → Inserts (cell-cmp ws txt (with-head ws txt heads cell r)) n child′ next′ child″ next″ top rest cell
+          → Takes ws txt p n root roots heads child next roots (with-head ws txt heads cell r) child″ next″
+          (record { cell = cell; branch = getD heads cell 0; root = top })
       takes-next {top} {child″} {next″} inserted =
           takes-some (k .pops)
           (λ labels last w v x c hh g q made.
-          rw q (took-next g r (later-next (cell-tree g c (below g)) p (getD heads c 0) r (rw q at e) ne) rest top child′ next′ child″ next″ made (rw q at inserted)))
+          rw q (took-next g r (later-next (cell-tree g c (below g)) p (getD heads c 0) r (rw q at e) ne) rest top child′ next′ child″ next″ made
+          (rw q at inserted)))

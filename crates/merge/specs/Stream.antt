@@ -41,7 +41,16 @@ pub record Merge : Type 0 where
 -- The state of these cells.
 abbrev pub state : (roots heads labels child next : List ℕ) (n root last : ℕ) → Merge
 state roots heads labels child next n root last =
-    record { roots = roots; heads = heads; labels = labels; child = child; next = next; n = n; root = root; last = last }
+    record {
+      roots = roots;
+      heads = heads;
+      labels = labels;
+      child = child;
+      next = next;
+      n = n;
+      root = root;
+      last = last;
+    }
 
 -- A branch, 0 at the end, the collection of its outermost label, and the state after it.
 pub record Step : Type 0 where
@@ -66,7 +75,8 @@ left ws txt p root head = cond (eqb root 0) 0 (suc (length (later ws txt p root 
 -- How many the first n cells have left.
 unfoldable pub remaining : (ws txt : List ℕ) (p : Str) (roots heads : List ℕ) → ℕ → ℕ
 remaining ws txt p roots heads zero = 0
-remaining ws txt p roots heads (suc n) = left ws txt p (getD roots n 0) (getD heads n 0) + remaining ws txt p roots heads n
+remaining ws txt p roots heads (suc n) =
+    left ws txt p (getD roots n 0) (getD heads n 0) + remaining ws txt p roots heads n
 
 -- A cell's tree, head and label, no later than the list x. The head is a branch of the tree, unless that is 0.
 pub record CellOk (ws txt : List ℕ) (w : Which) (v : Level) (x : ℕ) (p : Str) (root head label : ℕ) : Type 0 where
@@ -81,7 +91,8 @@ pub record Holding (ws txt : List ℕ) (w : Which) (v : Level) (x : ℕ) (p : St
   pub here : At ws txt w (list v) x
   pub few : m .n ≤ heaviest-list
   pub full : Full (m .roots) (m .heads) (m .labels)
-  pub cells : (j : ℕ) → j < m .n → CellOk ws txt w v x p (getD (m .roots) j 0) (getD (m .heads) j 0) (getD (m .labels) j 0)
+  pub cells : (j : ℕ) → j < m .n
+      → CellOk ws txt w v x p (getD (m .roots) j 0) (getD (m .heads) j 0) (getD (m .labels) j 0)
   pub begun : (j : ℕ) → j < m .n → Begun ws txt (m .heads) j
   pub rep : Rep (m .n) (m .child) (m .next) (m .root) h
   pub live : (j : ℕ) → 0 < count j h → 0 < getD (m .roots) j 0
@@ -117,7 +128,8 @@ pub record AnyRest (ws txt : List ℕ) (p : Str) (m : Merge) : Type 0 where
 pub record StartIn (ws txt : List ℕ) (w : Which) (v : Level) (x : ℕ) (p : Str) (m : Merge) : Type 0 where
   pub entries : List Entry
   pub rest : Rest ws txt w v x p m entries
-  pub says : (term : SearchTerm) (q : Option Str) → Asks term p q → map outer (found (what w ws txt x (list v)) term) ≡ map (shown w ws txt v q) entries
+  pub says : (term : SearchTerm) (q : Option Str) → Asks term p q
+      → map outer (found (what w ws txt x (list v)) term) ≡ map (shown w ws txt v q) entries
 
 -- The same, for any table and level that the list is of.
 abbrev pub Starts : (ws txt : List ℕ) (x : ℕ) (p : Str) (m : Merge) → Type 0
@@ -128,7 +140,8 @@ abbrev pub left-in : (ws txt : List ℕ) (p : Str) (m : Merge) → ℕ
 left-in ws txt p m = remaining ws txt p (m .roots) (m .heads) (m .n)
 
 -- The first entry is given, a branch of a tree of the list, and the state gives the rest.
-pub record GivenIn (ws txt : List ℕ) (w : Which) (v : Level) (x : ℕ) (p : Str) (m : Merge) (e : Entry) (s : List Entry) (r : Step) : Type 0 where
+pub record GivenIn (ws txt : List ℕ) (w : Which) (v : Level) (x : ℕ) (p : Str) (m : Merge) (e : Entry) (s : List Entry)
+    (r : Step) : Type 0 where
   pub branch-is : r .branch ≡ e .branch
   pub label-is : r .label ≡ e .label
   pub branch : BranchOf ws w v x (r .branch)
@@ -138,36 +151,44 @@ pub record GivenIn (ws txt : List ℕ) (w : Which) (v : Level) (x : ℕ) (p : St
   pub fewer : left-in ws txt p (r .m) < left-in ws txt p m
 
 -- What a step gives of the entries: branch 0 at the end.
-abbrev pub GivesIn : (ws txt : List ℕ) (w : Which) (v : Level) (x : ℕ) (p : Str) (m : Merge) → List Entry → Step → Type 0
+abbrev pub GivesIn : (ws txt : List ℕ) (w : Which) (v : Level) (x : ℕ) (p : Str) (m : Merge) → List Entry → Step
+    → Type 0
 GivesIn ws txt w v x p m [] r = r .branch ≡ 0
 GivesIn ws txt w v x p m (e ∷ s) r = GivenIn ws txt w v x p m e s r
 
 -- The same, of whatever the state gives.
 abbrev pub Gives : (ws txt : List ℕ) (p : Str) (m : Merge) (r : Step) → Type 0
-Gives ws txt p m r = (w : Which) (v : Level) (x : ℕ) (s : List Entry) → Rest ws txt w v x p m s → GivesIn ws txt w v x p m s r
+Gives ws txt p m r = (w : Which) (v : Level) (x : ℕ) (s : List Entry) → Rest ws txt w v x p m s
+    → GivesIn ws txt w v x p m s r
 
 -- ---- One cell taken from the heap
 
 -- The least cell c is taken, and the rest of its list put back.
-pub record TookCell (ws txt : List ℕ) (w : Which) (v : Level) (x : ℕ) (p : Str) (m m′ : Merge) (t : Taken) (c : ℕ) (hh : Forest ℕ) : Type 0 where
+pub record TookCell (ws txt : List ℕ) (w : Which) (v : Level) (x : ℕ) (p : Str) (m m′ : Merge) (t : Taken) (c : ℕ)
+    (hh : Forest ℕ) : Type 0 where
   pub cell-is : t .cell ≡ c
   pub below : c < m .n
   pub branch-is : t .branch ≡ getD (m .heads) c 0
   pub heap : Heap ℕ
   pub holding : Holding ws txt w v x p m′ heap
-  pub heap-is : heap-of ws txt p m′ heap ≡ popped (entry-key ws txt) (run-at ws txt p (m .roots) (m .heads) (m .labels) c)
+  pub heap-is : heap-of ws txt p m′ heap
+      ≡ popped (entry-key ws txt) (run-at ws txt p (m .roots) (m .heads) (m .labels) c)
       (forest-map (run-at ws txt p (m .roots) (m .heads) (m .labels)) hh)
   pub fewer : remaining ws txt p (m′ .roots) (m′ .heads) (m .n) < remaining ws txt p (m .roots) (m .heads) (m .n)
 
 -- What is taken of a heap: cell 96 of the empty one.
-abbrev pub TookIn : (ws txt : List ℕ) (w : Which) (v : Level) (x : ℕ) (p : Str) (m m′ : Merge) (t : Taken) → Heap ℕ → Type 0
+abbrev pub TookIn : (ws txt : List ℕ) (w : Which) (v : Level) (x : ℕ) (p : Str) (m m′ : Merge) (t : Taken) → Heap ℕ
+    → Type 0
 TookIn ws txt w v x p m m′ t EmptyHeap = t .cell ≡ heaviest-list
 TookIn ws txt w v x p m m′ t (HeapOf c hh) = TookCell ws txt w v x p m m′ t c hh
 
 -- The same, for any labels and whatever heap the cells have.
-pub record Takes (ws txt : List ℕ) (p : Str) (n root : ℕ) (roots heads child next roots′ heads′ child′ next′ : List ℕ) (t : Taken) : Type 0 where
-  pub took : (labels : List ℕ) (last : ℕ) (w : Which) (v : Level) (x : ℕ) (h : Heap ℕ) → Holding ws txt w v x p (state roots heads labels child next n root last) h
-      → TookIn ws txt w v x p (state roots heads labels child next n root last) (state roots′ heads′ labels child′ next′ n (t .root) last) t h
+pub record Takes (ws txt : List ℕ) (p : Str) (n root : ℕ) (roots heads child next roots′ heads′ child′ next′ : List ℕ)
+    (t : Taken) : Type 0 where
+  pub took : (labels : List ℕ) (last : ℕ) (w : Which) (v : Level) (x : ℕ) (h : Heap ℕ)
+      → Holding ws txt w v x p (state roots heads labels child next n root last) h
+      → TookIn ws txt w v x p (state roots heads labels child next n root last)
+      (state roots′ heads′ labels child′ next′ n (t .root) last) t h
 
 -- The cells have some heap.
 pub record CellsReady (ws txt : List ℕ) (p : Str) (n root : ℕ) (roots heads child next : List ℕ) : Type 0 where
@@ -186,11 +207,13 @@ pub record OneTree (ws txt : List ℕ) (w : Which) (v : Level) (x : ℕ) (p : St
   pub root-link : LinkOk ws (x + 1) root (kind w (tree v))
   pub label-ok : LabelOk ws w v x label
   pub says : (term : SearchTerm) (q : Option Str) → Asks term p q
-      → map outer (found (what w ws txt x (list v)) term) ≡ map (shown w ws txt v q) (map (λ b. record { branch = b; label = label }) (matches ws txt root p))
+      → map outer (found (what w ws txt x (list v)) term)
+      ≡ map (shown w ws txt v q) (map (λ b. record { branch = b; label = label }) (matches ws txt root p))
 
 pub record Begins (ws txt : List ℕ) (p : Str) (x : ℕ) (roots heads labels : List ℕ) (r : Start) : Type 0 where
   pub starts : Starts ws txt x p (state roots heads labels (r .child) (r .next) (r .n) (r .root) 0)
-  pub one : r .n ≡ 1 → (w : Which) (v : Level) → At ws txt w (list v) x → OneTree ws txt w v x p (getD roots 0 0) (getD labels 0 0)
+  pub one : r .n ≡ 1 → (w : Which) (v : Level) → At ws txt w (list v) x
+      → OneTree ws txt w v x p (getD roots 0 0) (getD labels 0 0)
 
 -- The cells, with some labels, still give some entries.
 pub record Stands (ws txt : List ℕ) (p : Str) (roots heads child next : List ℕ) (t : Cursor) : Type 0 where
@@ -198,7 +221,12 @@ pub record Stands (ws txt : List ℕ) (p : Str) (roots heads child next : List �
   pub any : AnyRest ws txt p (state roots heads labels child next (t .n) (t .root) (t .last))
 
 -- The next entry is given, whatever the labels.
-pub record Steps (ws txt : List ℕ) (p : Str) (roots heads child next : List ℕ) (t : Cursor) (roots′ heads′ child′ next′ : List ℕ) (r : Taken) : Type 0 where
+pub record Steps (ws txt : List ℕ) (p : Str) (roots heads child next : List ℕ) (t : Cursor)
+    (roots′ heads′ child′ next′ : List ℕ) (r : Taken) : Type 0 where
   pub small : (r .branch ≡ 0 → ⊥) → r .cell < heaviest-list
   pub gives : (labels : List ℕ) → Gives ws txt p (state roots heads labels child next (t .n) (t .root) (t .last))
-      (record { branch = r .branch; label = getD labels (r .cell) 0; m = state roots′ heads′ labels child′ next′ (t .n) (r .root) (r .branch) })
+      (record {
+        branch = r .branch;
+        label = getD labels (r .cell) 0;
+        m = state roots′ heads′ labels child′ next′ (t .n) (r .root) (r .branch);
+      })

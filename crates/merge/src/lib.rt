@@ -84,8 +84,10 @@ fn take(
     next: &mut [u8; CELLS],
     turn: Cursor,
 ) -> Taken
-    requires { ⌜ CellsReady (now words) (now text) (now prefix) (turn .n) (turn .root) (now roots) (now heads) (now child) (now next) ⌝ }
-    ensures { λ r. ⌜ Takes (old words) (old text) (old prefix) (turn .n) (turn .root) (old roots) (old heads) (old child) (old next) (new roots)
+    requires { ⌜ CellsReady (now words) (now text) (now prefix) (turn .n) (turn .root) (now roots) (now heads)
+        (now child) (now next) ⌝ }
+    ensures { λ r. ⌜ Takes (old words) (old text) (old prefix) (turn .n) (turn .root) (old roots) (old heads)
+        (old child) (old next) (new roots)
         (new heads) (new child) (new next) r ⌝ }
 {
     let n = turn.n;
@@ -160,7 +162,8 @@ pub fn merge_next(
     turn: Cursor,
 ) -> Taken
     requires { ⌜ Stands (now words) (now text) (now prefix) (now roots) (now heads) (now child) (now next) turn ⌝ }
-    ensures { λ r. ⌜ Steps (old words) (old text) (old prefix) (old roots) (old heads) (old child) (old next) turn (new roots) (new heads) (new child)
+    ensures { λ r. ⌜ Steps (old words) (old text) (old prefix) (old roots) (old heads) (old child) (old next) turn
+        (new roots) (new heads) (new child)
         (new next) r ⌝ }
 {
     let n = turn.n;

@@ -33,7 +33,8 @@ use Rattle.find_tree.specs.Links.{matches, head0, row-at}
 use Rattle.find_tree.proofs.Branches.{text-in}
 use Rattle.find_tree.proofs.Matches.{MatchOf, matches-of, prefix-rows, all-rows}
 use Rattle.find_list.specs.Names.{AnyList}
-use Rattle.find_list.proofs.Collections.{any-imported, any-own, collection-right, sort-tree, rest-list, own-tree, names-reads, imported-list, imported-reads, list-weight, rest-lighter}
+use Rattle.find_list.proofs.Collections.{any-imported, any-own, collection-right, sort-tree, rest-list, own-tree, names-reads, imported-list, imported-reads}
+use Rattle.find_list.proofs.Collections.{list-weight, rest-lighter}
 use Rattle.find_list.specs.Entries.{label-at, Asks, by-prefix, by-all}
 use Rattle.find_list.specs.Entries.{LabelOk}
 use Rattle.merge_collect.specs.Lists.{TreePart, elements, Full, SameCell, HasParts, no-more, more, match-lists-in, CollectedIn, Collected}
@@ -42,7 +43,8 @@ use Rattle.memory.proofs.At.{at-of}
 
 -- ---- What a tree's matches are
 module _ {ws txt : List ℕ} {w : Which} {v : Level} {root : ℕ} (t : At ws txt w (tree v) root) where
-  rows-prefix : (p : Str) → tree-matches (NSTPrefix p) (what w ws txt root (tree v)) ≡ map (row-at w ws txt v (some p)) (matches ws txt root p)
+  rows-prefix : (p : Str) → tree-matches (NSTPrefix p) (what w ws txt root (tree v))
+      ≡ map (row-at w ws txt v (some p)) (matches ws txt root p)
   unfolding tree-matches
   rows-prefix [] = sym (all-rows t (some []))
   rows-prefix (b ∷ p) = sym (prefix-rows t (b ∷ p))
@@ -69,13 +71,15 @@ abbrev pub outermost : (label x : ℕ) → ℕ
 outermost zero x = x
 outermost (suc l) x = suc l
 
-module _ {ws txt : List ℕ} {w : Which} {v : Level} {l x : ℕ} (t : At ws txt w (list v) x) (p : 0 < x) (h : x ≤ l) (e : sort-word (record-at ws x) ≡ 1) where
+module _ {ws txt : List ℕ} {w : Which} {v : Level} {l x : ℕ} (t : At ws txt w (list v) x) (p : 0 < x) (h : x ≤ l)
+    (e : sort-word (record-at ws x) ≡ 1) where
   outermost-ok : (label : ℕ) → LabelOk ws w v l label → LabelOk ws w v l (outermost label x)
   outermost-ok zero o = record { link = record { earlier = omega arith; of-kind = t .link .of-kind }; imports = λ _. e }
   outermost-ok (suc label) o = o
 
   outermost-at : (label : ℕ) (imports : List Str) → label-at ws txt label ≡ last-opt imports
-      → label-at ws txt (outermost label x) ≡ last-opt (span txt (text-start (record-at ws x)) (text-len (record-at ws x)) ∷ imports)
+      → label-at ws txt (outermost label x)
+      ≡ last-opt (span txt (text-start (record-at ws x)) (text-len (record-at ws x)) ∷ imports)
   unfolding dflt key-at
   outermost-at zero imports q = rw (last-import _ imports, ← q, ne-eqb x 0 (λ z. omega arith))
   outermost-at (suc label) imports q = rw (last-import _ imports, ← q, ne-eqb (suc label) 0 (λ z. omega arith))
@@ -113,13 +117,21 @@ module _ {ws txt : List ℕ} {x own rest sort : ℕ} (s : Seen ws txt x own rest
     unfolding weight
     both-less =
         let t = s .any .list in
-        rw (s .own-is, s .rest-is, list-weight t, imported-reads t (s .some) of-list, list-weight (imported-list t (s .some) of-list), list-weight (rest-list t (s .some))) (omega arith)
+        rw (
+          s .own-is,
+          s .rest-is,
+          list-weight t,
+          imported-reads t (s .some) of-list,
+          list-weight (imported-list t (s .some) of-list),
+          list-weight (rest-list t (s .some)),
+        ) (omega arith)
 
   pub seen-tree : (sort ≡ 1 → ⊥) → AnyTree ws txt own
   seen-tree n = any-own (s .any) (s .some) (s .own-is) (λ e. n (s .sort-is ∙ e))
 
   -- The first match of the tree has its key in the text.
-  pub first-in : (sort ≡ 1 → ⊥) → (p : Str) {first : ℕ} → first ≡ head0 (matches ws txt own p) → (first ≡ 0 → ⊥) → TextIn ws txt first
+  pub first-in : (sort ≡ 1 → ⊥) → (p : Str) {first : ℕ} → first ≡ head0 (matches ws txt own p) → (first ≡ 0 → ⊥)
+      → TextIn ws txt first
   first-in n p {first} e z =
       let a = seen-tree n in
       let b = (rw (head-tail (matches ws txt own p) first e z .1) at (matches-of (a .tree) p)) .0 .branch in
@@ -141,8 +153,10 @@ module _ {ws txt : List ℕ} {x own rest sort : ℕ} (s : Seen ws txt x own rest
       own-at = rw (s .own-is) (own-tree t (s .some) of-tree)
 
 -- ---- Cells that have parts
-module _ {ws txt : List ℕ} {w : Which} {v : Level} {l : ℕ} {p : Str} {roots heads labels roots′ heads′ labels′ : List ℕ} where
-  has-kept : (i r : ℕ) (cs : List (TreePart ws txt)) → r ≡ i + length cs → ((j : ℕ) → j < r → SameCell roots heads labels roots′ heads′ labels′ j)
+module _ {ws txt : List ℕ} {w : Which} {v : Level} {l : ℕ} {p : Str}
+    {roots heads labels roots′ heads′ labels′ : List ℕ} where
+  has-kept : (i r : ℕ) (cs : List (TreePart ws txt)) → r ≡ i + length cs
+      → ((j : ℕ) → j < r → SameCell roots heads labels roots′ heads′ labels′ j)
       → HasParts ws txt w v l p roots heads labels i cs → HasParts ws txt w v l p roots′ heads′ labels′ i cs
   has-kept i r [] e k no-more = no-more
   has-kept i r (c ∷ cs) e k (more b a) =
@@ -159,17 +173,25 @@ module _ {ws txt : List ℕ} {w : Which} {v : Level} {l : ℕ} {p : Str} {roots 
       })
       (has-kept (suc i) r cs (omega arith) k a)
 
-has-append : {ws txt : List ℕ} {w : Which} {v : Level} {l : ℕ} {p : Str} {roots heads labels : List ℕ} (i j : ℕ) (cs ds : List (TreePart ws txt)) → j ≡ i + length cs
-    → HasParts ws txt w v l p roots heads labels i cs → HasParts ws txt w v l p roots heads labels j ds → HasParts ws txt w v l p roots heads labels i (cs ++ ds)
+has-append : {ws txt : List ℕ} {w : Which} {v : Level} {l : ℕ} {p : Str} {roots heads labels : List ℕ} (i j : ℕ)
+    (cs ds : List (TreePart ws txt)) → j ≡ i + length cs
+    → HasParts ws txt w v l p roots heads labels i cs → HasParts ws txt w v l p roots heads labels j ds
+    → HasParts ws txt w v l p roots heads labels i (cs ++ ds)
 has-append i j [] ds e no-more b = let f : j ≡ i = omega arith in rw f at b
 has-append i j (c ∷ cs) ds e (more h a) b = more h (has-append (suc i) j cs ds (omega arith) a b)
 
-pub full-set : (ws txt : List ℕ) {roots heads labels : List ℕ} (i a b c : ℕ) → Full roots heads labels → Full (set roots i a) (with-head ws txt heads i b) (set labels i c)
+pub full-set : (ws txt : List ℕ) {roots heads labels : List ℕ} (i a b c : ℕ) → Full roots heads labels
+    → Full (set roots i a) (with-head ws txt heads i b) (set labels i c)
 full-set ws txt {roots} {heads} {labels} i a b c f =
-    record { of-roots = length-set roots i a ∙ f .of-roots; of-heads = head-length ws txt heads i b ∙ f .of-heads; of-labels = length-set labels i c ∙ f .of-labels }
+    record {
+      of-roots = length-set roots i a ∙ f .of-roots;
+      of-heads = head-length ws txt heads i b ∙ f .of-heads;
+      of-labels = length-set labels i c ∙ f .of-labels;
+    }
 
 -- ---- One collection
-pub collected-none : {ws txt : List ℕ} {p : Str} {x label i : ℕ} {roots heads labels : List ℕ} → x ≡ 0 → Full roots heads labels
+pub collected-none : {ws txt : List ℕ} {p : Str} {x label i : ℕ} {roots heads labels : List ℕ} → x ≡ 0
+    → Full roots heads labels
     → Collected ws txt p x label i i roots heads labels roots heads labels
 unfolding flat-in nonempty
 collected-none {ws} {txt} e f = record {
@@ -180,29 +202,38 @@ collected-none {ws} {txt} e f = record {
 }
 
 -- What the first collection adds.
-module _ {ws txt : List ℕ} {w : Which} {v : Level} {x own rest sort : ℕ} (s : Seen ws txt x own rest sort) (t : At ws txt w (list v) x) (imports : List Str) where
+module _ {ws txt : List ℕ} {w : Which} {v : Level} {x own rest sort : ℕ} (s : Seen ws txt x own rest sort)
+    (t : At ws txt w (list v) x) (imports : List Str) where
   lists-imported : sort-word (record-at ws x) ≡ 1 → (term : SearchTerm) → match-lists-in w ws txt v term imports x
-      ≡ match-lists-in w ws txt v term (span txt (text-start (record-at ws x)) (text-len (record-at ws x)) ∷ imports) own ++ match-lists-in w ws txt v term imports rest
+      ≡ match-lists-in w ws txt v term (span txt (text-start (record-at ws x)) (text-len (record-at ws x)) ∷ imports)
+      own ++ match-lists-in w ws txt v term imports rest
   unfolding flat-in
   lists-imported e term =
       rw (imported-reads t (s .some) e, s .own-is, s .rest-is)
-      (ap nonempty (map-append (λ c. with-imports (c .0, tree-matches term (c .1))) (flat-in _ (what w ws txt _ (list v))) (flat-in imports (what w ws txt _ (list v)))) ∙ nonempty-append _ _)
+      (ap nonempty (map-append (λ c. with-imports (c .0, tree-matches term (c .1))) (flat-in _ (what w ws txt _ (list v)))
+      (flat-in imports (what w ws txt _ (list v)))) ∙ nonempty-append _ _)
 
   module _ (n : sort ≡ 1 → ⊥) {term : SearchTerm} {p : Str} {q : Option Str} (asks : Asks term p q) where
-    lists-skip : matches ws txt own p ≡ [] → match-lists-in w ws txt v term imports x ≡ match-lists-in w ws txt v term imports rest
+    lists-skip : matches ws txt own p ≡ []
+        → match-lists-in w ws txt v term imports x ≡ match-lists-in w ws txt v term imports rest
     unfolding flat-in nonempty with-imports
     lists-skip e = rw (names-reads t (s .some) (of-tree s t n), ← s .own-is, ← s .rest-is, term-rows (own-at s t n) asks, e)
 
     lists-cell : {first : ℕ} {others : List ℕ} → matches ws txt own p ≡ first ∷ others
-        → match-lists-in w ws txt v term imports x ≡ with-imports (imports, map (row-at w ws txt v q) (matches ws txt own p)) ∷ match-lists-in w ws txt v term imports rest
+        → match-lists-in w ws txt v term imports x
+        ≡ with-imports (imports, map (row-at w ws txt v q) (matches ws txt own p))
+        ∷ match-lists-in w ws txt v term imports rest
     unfolding flat-in nonempty with-imports
     lists-cell e = rw (names-reads t (s .some) (of-tree s t n), ← s .own-is, ← s .rest-is, term-rows (own-at s t n) asks, e)
 
-module _ {ws txt : List ℕ} {p : Str} {x own rest sort label i r : ℕ} {roots heads labels roots′ heads′ labels′ : List ℕ} (s : Seen ws txt x own rest sort) where
+module _ {ws txt : List ℕ} {p : Str} {x own rest sort label i r : ℕ} {roots heads labels roots′ heads′ labels′ : List ℕ}
+    (s : Seen ws txt x own rest sort) where
   -- An imported list, and then the rest.
   module _ {mid inner : ℕ} {roots₁ heads₁ labels₁ : List ℕ} (e : sort ≡ 1) where
-    imported-in : {w : Which} {v : Level} {l : ℕ} {imports : List Str} → At ws txt w (list v) x → ((j : ℕ) → j < mid → SameCell roots₁ heads₁ labels₁ roots′ heads′ labels′ j)
-        → CollectedIn ws txt p own inner i mid roots heads labels roots₁ heads₁ labels₁ w v l (span txt (text-start (record-at ws x)) (text-len (record-at ws x)) ∷ imports)
+    imported-in : {w : Which} {v : Level} {l : ℕ} {imports : List Str} → At ws txt w (list v) x
+        → ((j : ℕ) → j < mid → SameCell roots₁ heads₁ labels₁ roots′ heads′ labels′ j)
+        → CollectedIn ws txt p own inner i mid roots heads labels roots₁ heads₁ labels₁ w v l
+        (span txt (text-start (record-at ws x)) (text-len (record-at ws x)) ∷ imports)
         → CollectedIn ws txt p rest label mid r roots₁ heads₁ labels₁ roots′ heads′ labels′ w v l imports
         → CollectedIn ws txt p x label i r roots heads labels roots′ heads′ labels′ w v l imports
     imported-in {w} {v} {l} {imports} t kept a b = record {
@@ -210,11 +241,13 @@ module _ {ws txt : List ℕ} {p : Str} {x own rest sort label i r : ℕ} {roots 
       count = omega (arith, a .count, b .count, length-append (a .parts) (b .parts));
       has = has-append i mid (a .parts) (b .parts) (a .count) (has-kept i mid (a .parts) (a .count) kept (a .has)) (b .has);
       lists = λ term q asks.
-          lists-imported s t imports (of-list s e) term ∙ ap₂ _++_ (a .lists term q asks) (b .lists term q asks) ∙ sym (map-append (elements w ws txt v q p) (a .parts) (b .parts));
+          lists-imported s t imports (of-list s e) term ∙ ap₂ _++_ (a .lists term q asks) (b .lists term q asks)
+          ∙ sym (map-append (elements w ws txt v q p) (a .parts) (b .parts));
     }
 
     pub collected-imported : inner ≡ outermost label x
-        → Collected ws txt p own inner i mid roots heads labels roots₁ heads₁ labels₁ → Collected ws txt p rest label mid r roots₁ heads₁ labels₁ roots′ heads′ labels′
+        → Collected ws txt p own inner i mid roots heads labels roots₁ heads₁ labels₁
+        → Collected ws txt p rest label mid r roots₁ heads₁ labels₁ roots′ heads′ labels′
         → Collected ws txt p x label i r roots heads labels roots′ heads′ labels′
     collected-imported f a b = record {
       from = omega (arith, a .from, b .from);
@@ -225,7 +258,8 @@ module _ {ws txt : List ℕ} {p : Str} {x own rest sort label i r : ℕ} {roots 
           record { root = t .root ∙ k .root; head = t .head ∙ k .head; beginning = t .beginning ∙ k .beginning; label = t .label ∙ k .label };
       says = λ w v l imports t h o q.
           imported-in t (b .kept)
-          (a .says w v l (_ ∷ imports) (rw (s .own-is) (imported-list t (s .some) (of-list s e))) (omega (arith, s .own-is, collection-right t (s .some) .imported (of-list s e) .earlier))
+          (a .says w v l (_ ∷ imports) (rw (s .own-is) (imported-list t (s .some) (of-list s e)))
+          (omega (arith, s .own-is, collection-right t (s .some) .imported (of-list s e) .earlier))
           (rw f (outermost-ok t (s .some) h (of-list s e) label o)) (rw f (outermost-at t (s .some) h (of-list s e) label imports q)))
           (b .says w v l imports (rest-at s t) (omega (arith, rest-before s t)) o q);
     }
@@ -242,19 +276,23 @@ module _ {ws txt : List ℕ} {p : Str} {x own rest sort label i r : ℕ} {roots 
     }
       where
         skip-in : {w : Which} {v : Level} {l : ℕ} {imports : List Str} → At ws txt w (list v) x
-            → CollectedIn ws txt p rest label i r roots heads labels roots′ heads′ labels′ w v l imports → CollectedIn ws txt p x label i r roots heads labels roots′ heads′ labels′ w v l imports
+            → CollectedIn ws txt p rest label i r roots heads labels roots′ heads′ labels′ w v l imports
+            → CollectedIn ws txt p x label i r roots heads labels roots′ heads′ labels′ w v l imports
         skip-in {imports = imports} t b = record {
           parts = b .parts;
           count = b .count;
           has = b .has;
-          lists = λ term q asks. lists-skip s t imports n asks (no-match (own-at s t n) p (matches ws txt own p) (matches-of (own-at s t n) p) (sym e ∙ z)) ∙ b .lists term q asks;
+          lists = λ term q asks. lists-skip s t imports n asks (no-match (own-at s t n) p (matches ws txt own p) (matches-of (own-at s t n) p) (sym e ∙ z))
+              ∙ b .lists term q asks;
         }
 
     -- A tree with one.
     module _ (z : first ≡ 0 → ⊥) (f : Full roots heads labels) (small : i < 96) where
-      cell-in : {w : Which} {v : Level} {l : ℕ} {imports : List Str} → At ws txt w (list v) x → x ≤ l → LabelOk ws w v l label → label-at ws txt label ≡ last-opt imports
+      cell-in : {w : Which} {v : Level} {l : ℕ} {imports : List Str} → At ws txt w (list v) x → x ≤ l
+          → LabelOk ws w v l label → label-at ws txt label ≡ last-opt imports
           → SameCell (set roots i own) (with-head ws txt heads i first) (set labels i label) roots′ heads′ labels′ i
-          → CollectedIn ws txt p rest label (i + 1) r (set roots i own) (with-head ws txt heads i first) (set labels i label) roots′ heads′ labels′ w v l imports
+          → CollectedIn ws txt p rest label (i + 1) r (set roots i own) (with-head ws txt heads i first)
+          (set labels i label) roots′ heads′ labels′ w v l imports
           → CollectedIn ws txt p x label i r roots heads labels roots′ heads′ labels′ w v l imports
       unfolding elements
       cell-in {w} {v} {l} {imports} t h o labelled y b =
@@ -268,17 +306,21 @@ module _ {ws txt : List ℕ} {p : Str} {x own rest sort label i r : ℕ} {roots 
                   label-is = y .label ∙ getD-set-same labels i label 0 (omega (arith, f .of-labels));
                   others = m .0;
                   first-is = m .1 ∙ rw (y .head, own-head ws txt heads i first small (f .of-heads));
-                  begun = rw (y .beginning, y .head) (head-begun ws txt heads i first small (f .of-heads) i small (λ n. absurd (n refl)));
-                  root-link = rw (s .own-is) (link-later (omega arith) (collection-right t (s .some) .own (of-tree s t n)));
+                  begun = rw (y .beginning, y .head)
+                      (head-begun ws txt heads i first small (f .of-heads) i small (λ n. absurd (n refl)));
+                  root-link =
+                      rw (s .own-is) (link-later (omega arith) (collection-right t (s .some) .own (of-tree s t n)));
                   label-ok = o;
                 })
                 (rw (add-one i) at (b .has));
             lists = λ term q asks.
                 lists-cell s t imports n asks (m .1)
-                ∙ ap (λ (ls : List (List (PathElem × Value (Item w) v))). with-imports (imports, map (row-at w ws txt v q) (matches ws txt own p)) ∷ ls) (b .lists term q asks);
+                ∙ ap (λ (ls : List (List (PathElem × Value (Item w) v))). with-imports
+                (imports, map (row-at w ws txt v q) (matches ws txt own p)) ∷ ls) (b .lists term q asks);
           }
 
-      pub collected-cell : Collected ws txt p rest label (i + 1) r (set roots i own) (with-head ws txt heads i first) (set labels i label) roots′ heads′ labels′
+      pub collected-cell : Collected ws txt p rest label (i + 1) r (set roots i own) (with-head ws txt heads i first)
+          (set labels i label) roots′ heads′ labels′
           → Collected ws txt p x label i r roots heads labels roots′ heads′ labels′
       collected-cell b = record {
         from = omega (arith, b .from);

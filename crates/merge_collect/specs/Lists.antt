@@ -27,7 +27,8 @@ pub record TreePart (ws txt : List ℕ) : Type 0 where
   pub labelled : label-at ws txt label ≡ last-opt imports
 
 -- The tree's matches with its imports.
-unfoldable pub elements : (w : Which) (ws txt : List ℕ) (v : Level) → Option Str → Str → TreePart ws txt → List (PathElem × Value (Item w) v)
+unfoldable pub elements : (w : Which) (ws txt : List ℕ) (v : Level) → Option Str → Str → TreePart ws txt
+    → List (PathElem × Value (Item w) v)
 elements w ws txt v q p c = with-imports (c .imports, map (row-at w ws txt v q) (matches ws txt (c .root) p))
 
 -- There are 96 of each, with a beginning for each head.
@@ -57,10 +58,12 @@ module _ (ws txt : List ℕ) (w : Which) (v : Level) (l : ℕ) (p : Str) (roots 
   -- The cells from i on have these parts.
   pub data HasParts : ℕ → List (TreePart ws txt) → Type 0 where
     no-more : {i : ℕ} → HasParts i []
-    more : {i : ℕ} {c : TreePart ws txt} {cs : List (TreePart ws txt)} → HasPart i c → HasParts (suc i) cs → HasParts i (c ∷ cs)
+    more : {i : ℕ} {c : TreePart ws txt} {cs : List (TreePart ws txt)} → HasPart i c → HasParts (suc i) cs
+        → HasParts i (c ∷ cs)
 
 -- Each tree's matches below some imports, the empty ones left out.
-abbrev pub match-lists-in : (w : Which) (ws txt : List ℕ) (v : Level) → SearchTerm → List Str → ℕ → List (List (PathElem × Value (Item w) v))
+abbrev pub match-lists-in : (w : Which) (ws txt : List ℕ) (v : Level) → SearchTerm → List Str → ℕ
+    → List (List (PathElem × Value (Item w) v))
 match-lists-in w ws txt v term imports x =
     nonempty (map (λ t. with-imports (t .0, tree-matches term (t .1))) (flat-in imports (what w ws txt x (list v))))
 
@@ -70,12 +73,14 @@ module _ (ws txt : List ℕ) (p : Str) (x label i r : ℕ) (roots heads labels r
     pub parts : List (TreePart ws txt)
     pub count : r ≡ i + length parts
     pub has : HasParts ws txt w v l p roots′ heads′ labels′ i parts
-    pub lists : (term : SearchTerm) (q : Option Str) → Asks term p q → match-lists-in w ws txt v term imports x ≡ map (elements w ws txt v q p) parts
+    pub lists : (term : SearchTerm) (q : Option Str) → Asks term p q
+        → match-lists-in w ws txt v term imports x ≡ map (elements w ws txt v q p) parts
 
   -- The same for any table, level, imports with that label, and later link.
   pub record Collected : Type 0 where
     pub from : i ≤ r
     pub full : Full roots′ heads′ labels′
     pub kept : (j : ℕ) → j < i → SameCell roots heads labels roots′ heads′ labels′ j
-    pub says : (w : Which) (v : Level) (l : ℕ) (imports : List Str) → At ws txt w (list v) x → x ≤ l → LabelOk ws w v l label
+    pub says : (w : Which) (v : Level) (l : ℕ) (imports : List Str) → At ws txt w (list v) x → x ≤ l
+        → LabelOk ws w v l label
         → label-at ws txt label ≡ last-opt imports → CollectedIn w v l imports

@@ -30,7 +30,8 @@ pub fn collect(
     requires { ⌜ at + weight-in (now words) (part .list) ≤ heaviest-list ⌝ }
     requires { ⌜ Full (now roots) (now heads) (now labels) ⌝ }
     ensures { λ r. ⌜ r ≤ at + weight-in (old words) (part .list) ⌝ }
-    ensures { λ r. ⌜ Collected (old words) (old text) (old prefix) (part .list) (part .label) at r (old roots) (old heads) (old labels) (new roots)
+    ensures { λ r. ⌜ Collected (old words) (old text) (old prefix) (part .list) (part .label) at r (old roots)
+        (old heads) (old labels) (new roots)
         (new heads) (new labels) ⌝ }
 {
     let list = part.list;

@@ -65,7 +65,8 @@ is-lt-sign (pos zero) = refl
 is-lt-sign (pos (suc k)) = le-ltb (suc k) 0 zero-le
 
 -- What the test that an answer is below 0 says.
-pub is-lt-test : (z : ℤ) {o : Ordering} {t : Bool} → mag z < 2 ^ hbits w32 → sign z ≡ o → ltZ (toZ w32 (ofZ w32 z)) (pos 0) ≡ t → is-lt o ≡ t
+pub is-lt-test : (z : ℤ) {o : Ordering} {t : Bool} → mag z < 2 ^ hbits w32 → sign z ≡ o
+    → ltZ (toZ w32 (ofZ w32 z)) (pos 0) ≡ t → is-lt o ≡ t
 is-lt-test z f e g = ap is-lt (sym e) ∙ sym (is-lt-sign z) ∙ ap (λ (x : ℤ). ltZ x (pos 0)) (sym (toZ-ofZ w32 z (sfits-of f))) ∙ g
 
 -- ---- The comparator
@@ -84,16 +85,19 @@ key-bytes ws txt x b =
     take-bytes (text-len (record-at ws x)) (drop at txt) (λ j. rw (getD-drop at txt j 0) (b (at + j)))
 
 -- The cell with the smaller beginning comes first.
-pub by-beginning : {ws txt heads : List ℕ} {n a b : ℕ} → Bytes txt → Heads ws txt heads n → a < n → b < n → getD heads (96 + a) 0 < getD heads (96 + b) 0
+pub by-beginning : {ws txt heads : List ℕ} {n a b : ℕ} → Bytes txt → Heads ws txt heads n → a < n → b < n
+    → getD heads (96 + a) 0 < getD heads (96 + b) 0
     → (Ordering·lt ≡ cell-cmp ws txt heads a b) × (Ordering·gt ≡ cell-cmp ws txt heads b a)
 unfolding cell-cmp then
 by-beginning {ws} {txt} {heads} {n} {a} {b} f o h k l =
     let x = key-at ws txt (getD heads a 0) in
     let y = key-at ws txt (getD heads b 0) in
-    let r : Before x y = beginning-says x y (key-bytes ws txt (getD heads a 0) f) (key-bytes ws txt (getD heads b 0) f) (omega (arith, o .begun a h, o .begun b k)) in
+    let r : Before x y =
+    beginning-says x y (key-bytes ws txt (getD heads a 0) f) (key-bytes ws txt (getD heads b 0) f) (omega (arith, o .begun a h, o .begun b k)) in
     (rw (r .is-less), rw (r .is-more))
 
-module _ (ws txt heads : List ℕ) (a b : ℕ) {o : Order} (e : ordering o ≡ string-compare (key-at ws txt (getD heads a 0)) (key-at ws txt (getD heads b 0))) where
+module _ (ws txt heads : List ℕ) (a b : ℕ) {o : Order}
+    (e : ordering o ≡ string-compare (key-at ws txt (getD heads a 0)) (key-at ws txt (getD heads b 0))) where
   pub by-key : (s : Order) → o ≡ s → then (ordering s) (compare a b) ≡ cell-cmp ws txt heads a b
   unfolding cell-cmp
   by-key s f = ap (λ (x : Ordering). then x (compare a b)) (ap ordering (sym f) ∙ e)

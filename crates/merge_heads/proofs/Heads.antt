@@ -38,7 +38,8 @@ module _ (ws txt heads : List ℕ) (c x : ℕ) where
       own-beginning = getD-set-same (set heads c x) (96 + c) b 0 (omega (arith, length-set heads c x))
 
       -- Each beginning is that of its cell's key.
-      pub head-begun : (j : ℕ) → j < 96 → ((j ≡ c → ⊥) → Begun ws txt heads j) → Begun ws txt (with-head ws txt heads c x) j
+      pub head-begun : (j : ℕ) → j < 96 → ((j ≡ c → ⊥) → Begun ws txt heads j)
+          → Begun ws txt (with-head ws txt heads c x) j
       head-begun j h f =
           elim (ℕ-discrete j c) [
             | yes q ↦ rw (q, own-head, own-beginning) refl

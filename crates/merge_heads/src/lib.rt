@@ -39,7 +39,8 @@ fn compare_keys(words: &[u32], text: &[u8], x: u32, y: u32) -> Order
     c.order
 }
 
-// The comparator of merge_increasing_lists_rev: by the keys of the heads, then by priority, which is a cell's place: the first holder comes first. Its sign is the answer.
+// The comparator of merge_increasing_lists_rev: by the keys of the heads, then by priority, which is a cell's place: the first holder comes first.
+// Its sign is the answer.
 // The keys are read only where their beginnings are the same. `n`, how many cells have a head, is for the contract alone.
 pub fn cell_cmp(
     words: &[u32],

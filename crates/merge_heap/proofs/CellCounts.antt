@@ -48,14 +48,17 @@ module _ (n : ℕ) (child next : List ℕ) (few : n ≤ 96) where
   root-counted i (HeapOf v hh) l s = omega (arith, is-self v, ap (λ (k : ℕ). is k v) (s .0))
 
   -- What holds of every heap whose root is the cell i.
-  pub by-root : (P : Heap ℕ → Type 0) (i : ℕ) → i < n → ((hh : Forest ℕ) → Rep n child next i (HeapOf i hh) → P (HeapOf i hh)) → (h : Heap ℕ) → Rep n child next i h → P h
+  pub by-root : (P : Heap ℕ → Type 0) (i : ℕ) → i < n
+      → ((hh : Forest ℕ) → Rep n child next i (HeapOf i hh) → P (HeapOf i hh)) → (h : Heap ℕ) → Rep n child next i h
+      → P h
   by-root P i l f EmptyHeap r = absurd (omega (arith, r .holds))
   by-root P i l f (HeapOf v hh) r = subst (λ (x : ℕ). Rep n child next i (HeapOf x hh) → P (HeapOf x hh)) (r .holds .0) (f hh) r
 
   module _ (child′ next′ : List ℕ) where
     mutual
       -- Where the heap's cells are as they were, so is the heap.
-      pub holds-kept : (h : Heap ℕ) (i : ℕ) → ((j : ℕ) → 0 < count j h → Same child next child′ next′ j) → Holds n child next i h → Holds n child′ next′ i h
+      pub holds-kept : (h : Heap ℕ) (i : ℕ) → ((j : ℕ) → 0 < count j h → Same child next child′ next′ j)
+          → Holds n child next i h → Holds n child′ next′ i h
       holds-kept EmptyHeap i f s = s
       holds-kept (HeapOf v hh) i f s = (
         s .0,
@@ -64,7 +67,8 @@ module _ (n : ℕ) (child next : List ℕ) (few : n ≤ 96) where
             (holds-keptᶠ hh (getD child v 0) (λ j l. f j (omega arith)) (s .2)),
       )
 
-      pub holds-keptᶠ : (hh : Forest ℕ) (i : ℕ) → ((j : ℕ) → 0 < sumᶠ (is j) hh → Same child next child′ next′ j) → Holdsᶠ n child next i hh → Holdsᶠ n child′ next′ i hh
+      pub holds-keptᶠ : (hh : Forest ℕ) (i : ℕ) → ((j : ℕ) → 0 < sumᶠ (is j) hh → Same child next child′ next′ j)
+          → Holdsᶠ n child next i hh → Holdsᶠ n child′ next′ i hh
       holds-keptᶠ []ᶠ i f s = s
       holds-keptᶠ (h ∷ᶠ hh) i f s = (
         s .0,
@@ -73,11 +77,13 @@ module _ (n : ℕ) (child next : List ℕ) (few : n ≤ 96) where
             (holds-keptᶠ hh (getD next i 0) (λ j l. f j (omega arith)) (s .2)),
       )
 
-    pub rep-kept : {i : ℕ} {h : Heap ℕ} → Sized child′ next′ → ((j : ℕ) → 0 < count j h → Same child next child′ next′ j)
+    pub rep-kept : {i : ℕ} {h : Heap ℕ} → Sized child′ next′
+        → ((j : ℕ) → 0 < count j h → Same child next child′ next′ j)
         → Rep n child next i h → Rep n child′ next′ i h
     rep-kept {i} {h} z f r = record { sized = z; holds = holds-kept h i f (r .holds); once = r .once }
 
-    pub rep-keptᶠ : {i : ℕ} {hh : Forest ℕ} → Sized child′ next′ → ((j : ℕ) → 0 < sumᶠ (is j) hh → Same child next child′ next′ j)
+    pub rep-keptᶠ : {i : ℕ} {hh : Forest ℕ} → Sized child′ next′
+        → ((j : ℕ) → 0 < sumᶠ (is j) hh → Same child next child′ next′ j)
         → Repᶠ n child next i hh → Repᶠ n child′ next′ i hh
     rep-keptᶠ {i} {hh} z f r = record { sized = z; holds = holds-keptᶠ hh i f (r .holds); once = r .once }
 

@@ -24,7 +24,8 @@ module _ (n : ℕ) (child next : List ℕ) (few : n ≤ 96) where
     others : (j : ℕ) → (j ≡ v → ⊥) → (j ≡ w → ⊥) → Same child next child′ next′ j
     others j p q = record { first-child = getD-set-other child v j w 0 p; next-sibling = getD-set-other next w j (getD child v 0) 0 q }
 
-    link-makes : (hh gg : Forest ℕ) → Rep n child next v (HeapOf v hh) → Rep n child next w (HeapOf w gg) → Apart (HeapOf v hh) (HeapOf w gg)
+    link-makes : (hh gg : Forest ℕ) → Rep n child next v (HeapOf v hh) → Rep n child next w (HeapOf w gg)
+        → Apart (HeapOf v hh) (HeapOf w gg)
         → Makes n child next child′ next′ v (HeapOf v (HeapOf w gg ∷ᶠ hh))
     link-makes hh gg p q a = record {
       rep = record {
@@ -55,20 +56,24 @@ module _ (n : ℕ) (child next : List ℕ) (few : n ≤ 96) where
 
   module _ (cmp : ℕ → ℕ → Ordering) (a b : ℕ) (child′ next′ : List ℕ) (r : ℕ) where
     by-roots : a < n → b < n
-        → ((hh gg : Forest ℕ) → Rep n child next a (HeapOf a hh) → Rep n child next b (HeapOf b gg) → Apart (HeapOf a hh) (HeapOf b gg)
+        → ((hh gg : Forest ℕ) → Rep n child next a (HeapOf a hh) → Rep n child next b (HeapOf b gg)
+        → Apart (HeapOf a hh) (HeapOf b gg)
         → Makes n child next child′ next′ r (heap-merge cmp (HeapOf a hh) (HeapOf b gg)))
         → Merges cmp n child next child′ next′ r a b
     by-roots la lb f h g p q =
         by-root n child next few (λ (h : Heap ℕ). Apart h g → Makes n child next child′ next′ r (heap-merge cmp h g)) a la
-        (λ hh p. by-root n child next few (λ (g : Heap ℕ). Apart (HeapOf a hh) g → Makes n child next child′ next′ r (heap-merge cmp (HeapOf a hh) g)) b lb (λ gg q. f hh gg p q) g q) h p
+        (λ hh p. by-root n child next few (λ (g : Heap ℕ). Apart (HeapOf a hh) g → Makes n child next child′ next′ r (heap-merge cmp (HeapOf a hh) g)) b lb
+        (λ gg q. f hh gg p q) g q) h p
 
     pub merge-first : a < n → b < n → is-lt (cmp a b) ≡ true
-        → (r ≡ a) × (child′ ≡ set child a b) × (next′ ≡ set next b (getD child a 0)) → Merges cmp n child next child′ next′ r a b
+        → (r ≡ a) × (child′ ≡ set child a b) × (next′ ≡ set next b (getD child a 0))
+        → Merges cmp n child next child′ next′ r a b
     unfolding heap-merge
     merge-first la lb t e = by-roots la lb λ hh gg p q s. rw (t, e .0, e .1, e .2) (link-makes a b hh gg p q s)
 
     pub merge-second : a < n → b < n → is-lt (cmp a b) ≡ false
-        → (r ≡ b) × (child′ ≡ set child b a) × (next′ ≡ set next a (getD child b 0)) → Merges cmp n child next child′ next′ r a b
+        → (r ≡ b) × (child′ ≡ set child b a) × (next′ ≡ set next a (getD child b 0))
+        → Merges cmp n child next child′ next′ r a b
     unfolding heap-merge
     merge-second la lb t e = by-roots la lb λ hh gg p q s. rw (t, e .0, e .1, e .2) (link-makes b a gg hh q p (λ j. omega (arith, s j)))
 

@@ -65,7 +65,8 @@ module _ (n : ℕ) (child next : List ℕ) (few : n ≤ 96) where
         width-cells hh (getD next i 0) (s .2),
       )
 
-  siblings-from : (f : ℕ) (hh : Forest ℕ) (i : ℕ) → Holdsᶠ n child next i hh → width hh ≤ f → siblings f next i ≡ width hh
+  siblings-from : (f : ℕ) (hh : Forest ℕ) (i : ℕ) → Holdsᶠ n child next i hh → width hh ≤ f
+      → siblings f next i ≡ width hh
   unfolding siblings width
   siblings-from zero []ᶠ i s l = refl
   siblings-from (suc f) []ᶠ i s l = rw (eq-eqb i 96 s)
@@ -143,7 +144,8 @@ unfoldable pub merged-onto : (ℕ → ℕ → Ordering) → Forest ℕ → Heap 
 merged-onto cmp []ᶠ g = g
 merged-onto cmp (h ∷ᶠ hh) g = merged-onto cmp hh (heap-merge cmp h g)
 
-sum-onto : (cmp : ℕ → ℕ → Ordering) (f : ℕ → ℕ) (hh : Forest ℕ) (g : Heap ℕ) → sum f (merged-onto cmp hh g) ≡ sumᶠ f hh + sum f g
+sum-onto : (cmp : ℕ → ℕ → Ordering) (f : ℕ → ℕ) (hh : Forest ℕ) (g : Heap ℕ)
+    → sum f (merged-onto cmp hh g) ≡ sumᶠ f hh + sum f g
 unfolding merged-onto
 sum-onto cmp f []ᶠ g = omega arith
 sum-onto cmp f (h ∷ᶠ hh) g = omega (arith, sum-onto cmp f hh (heap-merge cmp h g), sum-merge cmp f h g)
@@ -172,13 +174,16 @@ module _ (cmp : ℕ → ℕ → Ordering) (n : ℕ) (child next : List ℕ) (all
     pub root : Rep n child′ next′ r merged
     pub stage : Stage child′ next′ stack merged
 
-module _ {cmp : ℕ → ℕ → Ordering} {n : ℕ} {child next : List ℕ} {all : Heap ℕ} (few : n ≤ 96) {child′ next′ : List ℕ} {stack : ℕ} where
-  parts : {g : Heap ℕ} (s : Stage cmp n child next all child′ next′ stack g) (j : ℕ) → sumᶠ (is j) (s .done .0) + count j g ≡ count j all
+module _ {cmp : ℕ → ℕ → Ordering} {n : ℕ} {child next : List ℕ} {all : Heap ℕ} (few : n ≤ 96) {child′ next′ : List ℕ}
+    {stack : ℕ} where
+  parts : {g : Heap ℕ} (s : Stage cmp n child next all child′ next′ stack g) (j : ℕ)
+      → sumᶠ (is j) (s .done .0) + count j g ≡ count j all
   parts {g} s j = omega (arith, sum-onto cmp (is j) (s .done .0) g, ap (count j) (s .comes))
 
   -- Cells of g are changed.
   moved : {g h : Heap ℕ} {child₁ next₁ : List ℕ} {m : ℕ} → Stage cmp n child next all child′ next′ stack g
-      → Makes n child′ next′ child₁ next₁ m h → ((j : ℕ) → count j h ≤ count j g) → Stage cmp n child next all child₁ next₁ stack g
+      → Makes n child′ next′ child₁ next₁ m h → ((j : ℕ) → count j h ≤ count j g)
+      → Stage cmp n child next all child₁ next₁ stack g
   moved {child₁ = child₁} {next₁ = next₁} s made within = record {
     done = (
       s .done .0,
@@ -191,7 +196,8 @@ module _ {cmp : ℕ → ℕ → Ordering} {n : ℕ} {child next : List ℕ} {all
 
   -- The heap of root m goes onto the stack.
   push : {h g : Heap ℕ} {m : ℕ} → m < n → Rep n child′ next′ m h
-      → Stage cmp n child next all child′ next′ stack (heap-merge cmp h g) → Stage cmp n child next all child′ (set next′ m stack) m g
+      → Stage cmp n child next all child′ next′ stack (heap-merge cmp h g)
+      → Stage cmp n child next all child′ (set next′ m stack) m g
   unfolding merged-onto
   push {h} {g} {m} l p s = record {
     done = (h ∷ᶠ s .done .0, put-before few m stack h (s .done .0) l p (s .done .1) (λ j. omega (arith, parts s j, s .once j, sum-merge cmp (is j) h g)));
@@ -203,7 +209,8 @@ module _ {cmp : ℕ → ℕ → Ordering} {n : ℕ} {child next : List ℕ} {all
 
 -- ---- The turns of the loops
 -- None is paired.
-pub none-paired : {cmp : ℕ → ℕ → Ordering} {n : ℕ} {child next : List ℕ} {i : ℕ} (hh : Forest ℕ) → Repᶠ n child next i hh
+pub none-paired : {cmp : ℕ → ℕ → Ordering} {n : ℕ} {child next : List ℕ} {i : ℕ} (hh : Forest ℕ)
+    → Repᶠ n child next i hh
     → Pairing cmp n child next (heap-merge-pairs cmp hh) child next 96 i
 unfolding merged-onto
 none-paired {cmp} hh p = record {
@@ -216,9 +223,11 @@ none-paired {cmp} hh p = record {
   };
 }
 
-module _ {cmp : ℕ → ℕ → Ordering} {n : ℕ} {child next : List ℕ} {all : Heap ℕ} (few : n ≤ 96) {child′ next′ : List ℕ} {stack : ℕ} where
+module _ {cmp : ℕ → ℕ → Ordering} {n : ℕ} {child next : List ℕ} {all : Heap ℕ} (few : n ≤ 96) {child′ next′ : List ℕ}
+    {stack : ℕ} where
   -- An odd one is the last.
-  pub odd-one : {at : ℕ} (hh : Forest ℕ) → Repᶠ n child′ next′ at hh → Stage cmp n child next all child′ next′ stack (heap-merge-pairs cmp hh)
+  pub odd-one : {at : ℕ} (hh : Forest ℕ) → Repᶠ n child′ next′ at hh
+      → Stage cmp n child next all child′ next′ stack (heap-merge-pairs cmp hh)
       → (at ≡ 96 → ⊥) → getD next′ at 0 ≡ 96 → Pairing cmp n child next all child′ (set next′ at stack) at 96
   unfolding heap-merge-pairs
   odd-one []ᶠ p s ne e = absurd (ne (p .holds))
@@ -229,27 +238,32 @@ module _ {cmp : ℕ → ℕ → Ordering} {n : ℕ} {child next : List ℕ} {all
   odd-one (h ∷ᶠ (g ∷ᶠ hh)) p s ne e = absurd (omega (arith, p .holds .2 .0))
 
   -- All are paired.
-  pub all-paired : {at : ℕ} → Pairing cmp n child next all child′ next′ stack at → at ≡ 96 → Merging cmp n child next all child′ next′ stack 96
+  pub all-paired : {at : ℕ} → Pairing cmp n child next all child′ next′ stack at → at ≡ 96
+      → Merging cmp n child next all child′ next′ stack 96
   unfolding heap-merge-pairs
   all-paired {at} w e = go (w .rest .0) (w .rest .1) (w .stage)
     where
-      go : (hh : Forest ℕ) → Repᶠ n child′ next′ at hh → Stage cmp n child next all child′ next′ stack (heap-merge-pairs cmp hh)
+      go : (hh : Forest ℕ) → Repᶠ n child′ next′ at hh
+          → Stage cmp n child next all child′ next′ stack (heap-merge-pairs cmp hh)
           → Merging cmp n child next all child′ next′ stack 96
       go []ᶠ p s = record { merged = EmptyHeap; root = record { sized = p .sized; holds = refl; once = λ j. omega arith }; stage = s }
       go (h ∷ᶠ hh) p s = absurd (omega (arith, p .holds .0))
 
   -- All are merged.
-  pub all-merged : {r : ℕ} → Merging cmp n child next all child′ next′ stack r → stack ≡ 96 → Makes n child next child′ next′ r all
+  pub all-merged : {r : ℕ} → Merging cmp n child next all child′ next′ stack r → stack ≡ 96
+      → Makes n child next child′ next′ r all
   unfolding merged-onto
   all-merged {r} w e = record { rep = go (w .stage .done .0) (w .stage .done .1 .holds) (w .stage .comes); kept = w .stage .kept }
     where
-      go : (hh : Forest ℕ) → Holdsᶠ n child′ next′ stack hh → merged-onto cmp hh (w .merged) ≡ all → Rep n child′ next′ r all
+      go : (hh : Forest ℕ) → Holdsᶠ n child′ next′ stack hh → merged-onto cmp hh (w .merged) ≡ all
+          → Rep n child′ next′ r all
       go []ᶠ p x = rw x at (w .root)
       go (h ∷ᶠ hh) p x = absurd (omega (arith, p .0))
 
   module _ {child₁ next₁ : List ℕ} {m : ℕ} where
     -- Two are merged, and what comes of them goes onto the stack.
-    pub pair-up : {at : ℕ} (hh : Forest ℕ) → Repᶠ n child′ next′ at hh → Stage cmp n child next all child′ next′ stack (heap-merge-pairs cmp hh)
+    pub pair-up : {at : ℕ} (hh : Forest ℕ) → Repᶠ n child′ next′ at hh
+        → Stage cmp n child next all child′ next′ stack (heap-merge-pairs cmp hh)
         → (at ≡ 96 → ⊥) → (getD next′ at 0 ≡ 96 → ⊥) → Merges cmp n child′ next′ child₁ next₁ m at (getD next′ at 0)
         → (m < n) × Pairing cmp n child next all child₁ (set next₁ m stack) m (getD next′ (getD next′ at 0) 0)
         × (siblings 96 (set next₁ m stack) (getD next′ (getD next′ at 0) 0) < siblings 96 next′ at)
@@ -269,7 +283,8 @@ module _ {cmp : ℕ → ℕ → Ordering} {n : ℕ} {child next : List ℕ} {all
         made = merges h g (first few p) (first few (then few p)) (λ j. omega (arith, p .once j))
 
         root-in-m : m < n
-        root-in-m = filled (heap-merge cmp h g) (made .rep .holds) at (omega (arith, sum-merge cmp (is at) h g, root-counted n child′ next′ few at h (p .holds .0) (p .holds .1)))
+        root-in-m = filled (heap-merge cmp h g) (made .rep .holds) at
+            (omega (arith, sum-merge cmp (is at) h g, root-counted n child′ next′ few at h (p .holds .0) (p .holds .1)))
           where
             filled : (h : Heap ℕ) → Holds n child₁ next₁ m h → (j : ℕ) → 0 < count j h → m < n
             filled EmptyHeap s j l = absurd (omega arith)
@@ -279,20 +294,26 @@ module _ {cmp : ℕ → ℕ → Ordering} {n : ℕ} {child next : List ℕ} {all
         rest =
             aside few m stack hh
             (omega (arith, p .once m, sum-merge cmp (is m) h g, root-counted n child₁ next₁ few m (heap-merge cmp h g) root-in-m (made .rep .holds)))
-            (rep-keptᶠ n child′ next′ few child₁ next₁ (made .rep .sized) (λ j l. made .kept j (omega (arith, p .once j, sum-merge cmp (is j) h g))) (then few (then few p)))
+            (rep-keptᶠ n child′ next′ few child₁ next₁ (made .rep .sized) (λ j l. made .kept j (omega (arith, p .once j, sum-merge cmp (is j) h g)))
+            (then few (then few p)))
 
     -- The heap of the stack's root is merged with what is merged.
-    pub merge-on : {r : ℕ} → Merging cmp n child next all child′ next′ stack r → (stack ≡ 96 → ⊥) → Merges cmp n child′ next′ child₁ next₁ m stack r
-        → Merging cmp n child next all child₁ next₁ (getD next′ stack 0) m × (siblings 96 next₁ (getD next′ stack 0) < siblings 96 next′ stack)
+    pub merge-on : {r : ℕ} → Merging cmp n child next all child′ next′ stack r → (stack ≡ 96 → ⊥)
+        → Merges cmp n child′ next′ child₁ next₁ m stack r
+        → Merging cmp n child next all child₁ next₁ (getD next′ stack 0) m
+        × (siblings 96 next₁ (getD next′ stack 0) < siblings 96 next′ stack)
     unfolding merged-onto width moved
     merge-on w ne merges = let s = w .stage in go (s .done .0) (s .done .1) (s .comes) (parts few s)
       where
-        go : (hh : Forest ℕ) → Repᶠ n child′ next′ stack hh → merged-onto cmp hh (w .merged) ≡ all → ((j : ℕ) → sumᶠ (is j) hh + count j (w .merged) ≡ count j all)
-            → Merging cmp n child next all child₁ next₁ (getD next′ stack 0) m × (siblings 96 next₁ (getD next′ stack 0) < siblings 96 next′ stack)
+        go : (hh : Forest ℕ) → Repᶠ n child′ next′ stack hh → merged-onto cmp hh (w .merged) ≡ all
+            → ((j : ℕ) → sumᶠ (is j) hh + count j (w .merged) ≡ count j all)
+            → Merging cmp n child next all child₁ next₁ (getD next′ stack 0) m
+            × (siblings 96 next₁ (getD next′ stack 0) < siblings 96 next′ stack)
         go []ᶠ p e a = absurd (ne (p .holds))
         go (h ∷ᶠ hh) p e a =
             let made = merges h (w .merged) (first few p) (w .root) (λ j. omega (arith, a j, w .stage .once j)) in
-            let on = moved few {stack = getD next′ stack 0} (record { done = (hh, then few p); comes = e; once = w .stage .once; kept = w .stage .kept }) made (λ j. omega arith) in (
+            let on = moved few {stack = getD next′ stack 0} (record { done = (hh, then few p); comes = e; once = w .stage .once; kept = w .stage .kept }) made
+            (λ j. omega arith) in (
               record { merged = heap-merge cmp h (w .merged); root = made .rep; stage = on },
               omega (arith, siblings-width n child₁ next₁ few hh (on .done .1), siblings-width n child′ next′ few (h ∷ᶠ hh) p),
             )

@@ -14,7 +14,8 @@ use Rattle.merge_heap.proofs.CellCounts.{root-small, is-other}
 -- ---- heap_pop
 module _ (n : ℕ) (child next : List ℕ) (few : n ≤ 96) (i : ℕ) where
   -- The heaps under a root.
-  pub rep-kids : (h : Heap ℕ) → Rep n child next i h → (i ≡ 96 → ⊥) → (hh : Forest ℕ) × Repᶠ n child next (getD child i 0) hh
+  pub rep-kids : (h : Heap ℕ) → Rep n child next i h → (i ≡ 96 → ⊥)
+      → (hh : Forest ℕ) × Repᶠ n child next (getD child i 0) hh
   rep-kids EmptyHeap p ne = absurd (ne (p .holds))
   rep-kids (HeapOf v hh) p ne = (
     hh,
@@ -53,7 +54,8 @@ module _ (cmp : ℕ → ℕ → Ordering) where
   built-none n child next z = record { below = omega arith; rep = record { sized = z; holds = refl; once = λ j. omega arith }; fresh = λ j l. refl }
 
   pub built-more : (n : ℕ) (child next : List ℕ) (root v : ℕ) → Built n child next root v → v < n
-      → (child′ next′ : List ℕ) (r : ℕ) → Inserts cmp n child next child′ next′ r root v → Built n child′ next′ r (v + 1)
+      → (child′ next′ : List ℕ) (r : ℕ) → Inserts cmp n child next child′ next′ r root v
+      → Built n child′ next′ r (v + 1)
   unfolding heap-from-list first-cells heap-insert
   built-more n child next root v b l child′ next′ r inserted =
       rw (add-one v) (record {
@@ -67,6 +69,7 @@ module _ (cmp : ℕ → ℕ → Ordering) where
         ));
       })
 
-  pub built-all : (n : ℕ) (child next : List ℕ) (root v : ℕ) → Built n child next root v → n ≤ v → Rep n child next root (heap-from-list cmp (first-cells n))
+  pub built-all : (n : ℕ) (child next : List ℕ) (root v : ℕ) → Built n child next root v → n ≤ v
+      → Rep n child next root (heap-from-list cmp (first-cells n))
   built-all n child next root v b l =
       let e : v ≡ n = omega (arith, b .below) in subst (λ (k : ℕ). Rep n child next root (heap-from-list cmp (first-cells k))) e (b .rep)

@@ -14,7 +14,8 @@ use Rattle.merge_heads.proofs.Compare.{cell-cmp-run}
 use Rattle.merge_heap.proofs.CellCounts.{all-counted, counted-all}
 use Rattle.merge_heap.proofs.HeapMap.{map-insert, map-pairs, map-same}
 
-module _ {A : Type 0} (key : A → Str) (ws txt heads : List ℕ) (n : ℕ) (val : ℕ → Run A) (stands : (j : ℕ) → j < n → Stands key ws txt heads j (val j)) where
+module _ {A : Type 0} (key : A → Str) (ws txt heads : List ℕ) (n : ℕ) (val : ℕ → Run A)
+    (stands : (j : ℕ) → j < n → Stands key ws txt heads j (val j)) where
   agree : (a b : ℕ) → a < n → b < n → run-cmp key (val a) (val b) ≡ cell-cmp ws txt heads a b
   agree a b p q = cell-cmp-run key ws txt heads a b (stands a p) (stands b q)
 

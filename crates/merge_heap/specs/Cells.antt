@@ -71,11 +71,13 @@ pub record Makes (n : ℕ) (child next child′ next′ : List ℕ) (r : ℕ) (h
 module _ (cmp : ℕ → ℕ → Ordering) (n : ℕ) (child next child′ next′ : List ℕ) (r : ℕ) where
   -- heap_merge, of two heaps with no cell in common.
   abbrev pub Merges : (a b : ℕ) → Type 0
-  Merges a b = (h g : Heap ℕ) → Rep n child next a h → Rep n child next b g → Apart h g → Makes n child next child′ next′ r (heap-merge cmp h g)
+  Merges a b = (h g : Heap ℕ) → Rep n child next a h → Rep n child next b g → Apart h g
+      → Makes n child next child′ next′ r (heap-merge cmp h g)
 
   -- heap_insert, of a cell that is not in the heap.
   abbrev pub Inserts : (i v : ℕ) → Type 0
-  Inserts i v = (h : Heap ℕ) → Rep n child next i h → count v h ≡ 0 → Makes n child next child′ next′ r (heap-insert cmp h v)
+  Inserts i v = (h : Heap ℕ) → Rep n child next i h → count v h ≡ 0
+      → Makes n child next child′ next′ r (heap-insert cmp h v)
 
   -- heap_merge_pairs.
   abbrev pub Pairs : (i : ℕ) → Type 0
@@ -90,7 +92,8 @@ Gives n child next child′ next′ (some vh) (Least w r) = (w ≡ vh .0) × Mak
 
 -- heap_pop.
 abbrev pub Pops : (ℕ → ℕ → Ordering) → (n : ℕ) (child next child′ next′ : List ℕ) → Popped → (i : ℕ) → Type 0
-Pops cmp n child next child′ next′ p i = (h : Heap ℕ) → Rep n child next i h → Gives n child next child′ next′ (heap-pop cmp h) p
+Pops cmp n child next child′ next′ p i = (h : Heap ℕ) → Rep n child next i h
+    → Gives n child next child′ next′ (heap-pop cmp h) p
 
 -- The cells below k, the first one first.
 unfoldable pub first-cells : ℕ → List ℕ

@@ -29,7 +29,8 @@ pub struct Cells {
 // Puts the heap of root `w` before the children of `v`.
 fn link(child: &mut [u8; CELLS], next: &mut [u8; CELLS], v: usize, w: usize) -> usize
     requires { ⌜ (v < heaviest-list) × (w < heaviest-list) ⌝ }
-    ensures { λ r. ⌜ (r ≡ v) × (new child ≡ set (old child) v w) × (new next ≡ set (old next) w (getD (old child) v 0)) ⌝ }
+    ensures { λ r. ⌜ (r ≡ v) × (new child ≡ set (old child) v w)
+        × (new next ≡ set (old next) w (getD (old child) v 0)) ⌝ }
 {
     next[w] = child[v];
     child[v] = w as u8;
@@ -49,7 +50,8 @@ pub fn heap_merge(
 ) -> usize
     requires { ⌜ Heads (now words) (now text) (now heads) n ⌝ }
     requires { ⌜ Root n a × Root n b ⌝ }
-    ensures { λ r. ⌜ Merges (cell-cmp (old words) (old text) (old heads)) n (old child) (old next) (new child) (new next) r a b ⌝ }
+    ensures { λ r. ⌜ Merges (cell-cmp (old words) (old text) (old heads)) n (old child) (old next) (new child)
+        (new next) r a b ⌝ }
 {
     if a == CELLS {
         return b;
@@ -77,7 +79,8 @@ pub fn heap_insert(
 ) -> usize
     requires { ⌜ Heads (now words) (now text) (now heads) n ⌝ }
     requires { ⌜ Root n i × (v < n) ⌝ }
-    ensures { λ r. ⌜ Inserts (cell-cmp (old words) (old text) (old heads)) n (old child) (old next) (new child) (new next) r i v ⌝ }
+    ensures { λ r. ⌜ Inserts (cell-cmp (old words) (old text) (old heads)) n (old child) (old next) (new child)
+        (new next) r i v ⌝ }
 {
     child[v] = NO_CELL;
     heap_merge(child, next, words, text, heads, n, v, i)
@@ -96,7 +99,8 @@ pub fn heap_merge_pairs(
 ) -> usize
     requires { ⌜ Heads (now words) (now text) (now heads) n ⌝ }
     requires { ⌜ ((hh : Forest ℕ) × Repᶠ n (now child) (now next) i hh) ⌝ }
-    ensures { λ r. ⌜ Pairs (cell-cmp (old words) (old text) (old heads)) n (old child) (old next) (new child) (new next) r i ⌝ }
+    ensures { λ r. ⌜ Pairs (cell-cmp (old words) (old text) (old heads)) n (old child) (old next) (new child)
+        (new next) r i ⌝ }
 {
     let mut stack = CELLS;
     let mut at = i;
@@ -135,7 +139,8 @@ pub fn heap_pop(
 ) -> Popped
     requires { ⌜ Heads (now words) (now text) (now heads) n ⌝ }
     requires { ⌜ ((h : Heap ℕ) × Rep n (now child) (now next) i h) ⌝ }
-    ensures { λ r. ⌜ Pops (cell-cmp (old words) (old text) (old heads)) n (old child) (old next) (new child) (new next) r i ⌝ }
+    ensures { λ r. ⌜ Pops (cell-cmp (old words) (old text) (old heads)) n (old child) (old next) (new child)
+        (new next) r i ⌝ }
 {
     if i == CELLS {
         return Popped::Nothing;
@@ -148,7 +153,8 @@ pub fn heap_pop(
 // heap_from_list, of the cells below `n`, the first one first.
 pub fn heap_from_list(words: &[u32], text: &[u8], heads: &[u64; HEADS], n: usize) -> Cells
     requires { ⌜ Heads (now words) (now text) (now heads) n ⌝ }
-    ensures { λ r. ⌜ Rep n (r .child) (r .next) (r .root) (heap-from-list (cell-cmp (old words) (old text) (old heads)) (first-cells n)) ⌝ }
+    ensures { λ r. ⌜ Rep n (r .child) (r .next) (r .root)
+        (heap-from-list (cell-cmp (old words) (old text) (old heads)) (first-cells n)) ⌝ }
 {
     let mut child = [NO_CELL; CELLS];
     let mut next = [NO_CELL; CELLS];

@@ -15,7 +15,8 @@ use Rattle.source.specs.Terms.{walk-first}
 use Rattle.source.specs.Listing.{PathOf, Finder, by-first, trie-find-prefix′, trie-find-prefix-first}
 use Rattle.source.specs.Table.{Line, string-of-path, completion-result-of-lid, completion-result-of-ns-or-mod, autocomplete-lid-first}
 use Rattle.source.specs.Rules.{Formed, IsKey, IsLabel, NameItem, ModItem, SoundTrie, all}
-use Rattle.source.specs.Calls.{Found, found, not-found, refused, found-of, look-up, Completed, listed, Output, All, kept, keeps, keeps-kind, completed, complete, complete-modules, lowest, argument-rows, completion-rows, a-look-up, is-empty}
+use Rattle.source.specs.Calls.{Found, found, not-found, refused, found-of, look-up, Completed, listed, Output, All, kept, keeps, keeps-kind, completed}
+use Rattle.source.specs.Calls.{complete, complete-modules, lowest, argument-rows, completion-rows, a-look-up, is-empty}
 use Rattle.promises.specs.Agreement.{Covers, without-last, NotRefused, lines-of-text, Shows, passing, Agree, Demand3, FilteredAgree}
 use Rattle.source.specs.Shared.{same, Allˡ}
 use Rattle.source.specs.declared.KindFilter.the-variants.{Every}
@@ -47,7 +48,8 @@ unfolding segments
 segments-no-dot [] = tt
 segments-no-dot (b ∷ s) = go (eqb b dot) refl (segments-no-dot s)
   where
-    go : (i : Bool) → eqb b dot ≡ i → Allˡ NoDot (segments s) → Allˡ NoDot (elim i as (λ _. Query) [ true ↦ [] ∷ segments s | false ↦ onto-first b (segments s) ])
+    go : (i : Bool) → eqb b dot ≡ i → Allˡ NoDot (segments s)
+        → Allˡ NoDot (elim i as (λ _. Query) [ true ↦ [] ∷ segments s | false ↦ onto-first b (segments s) ])
     go true e a = (tt, a)
     go false e a = onto-no-dot b (segments s) (eqb-false b dot e) a
 
@@ -65,28 +67,34 @@ module _ {A : Type 0} where
   shown (l ∷ (m ∷ ls)) (some v) e = absurd (nil≢cons (sym (tail-eq-of-cons-eq e)))
 
 -- ---- calls that are not refused
-not-refused : {A : Type 0} (rows : Option ℕ) (o : Found A) → NotRefused {A = A} (elim rows [ none ↦ o | some n ↦ refused n ]) → rows ≡ none
+not-refused : {A : Type 0} (rows : Option ℕ) (o : Found A)
+    → NotRefused {A = A} (elim rows [ none ↦ o | some n ↦ refused n ]) → rows ≡ none
 not-refused none o h = refl
 not-refused (some n) o h = absurd h
 
-look-up-passes : {A : Type 0} (tr : Trie A) (name : Str) → NotRefused (look-up true tr name) → lowest (argument-rows true (a-look-up name ∷ [])) ≡ none
+look-up-passes : {A : Type 0} (tr : Trie A) (name : Str) → NotRefused (look-up true tr name)
+    → lowest (argument-rows true (a-look-up name ∷ [])) ≡ none
 unfolding look-up
 look-up-passes tr name asked = not-refused (lowest (argument-rows true (a-look-up name ∷ []))) (found-of (trie-find-exact tr (segments name))) asked
 
-pub look-up-admitted : {A : Type 0} (tr : Trie A) (name : Str) → NotRefused (look-up true tr name) → Admitted true (a-look-up name ∷ [])
+pub look-up-admitted : {A : Type 0} (tr : Trie A) (name : Str) → NotRefused (look-up true tr name)
+    → Admitted true (a-look-up name ∷ [])
 look-up-admitted tr name asked = argument-rows-none true (a-look-up name ∷ []) (look-up-passes tr name asked)
 
-completed-lines : {A : Type 0} (sound : Bool) (budget : ℕ) (out : Output) (query : Str) (lines lines′ : List (Line A)) (entered entered′ : ℕ)
+completed-lines : {A : Type 0} (sound : Bool) (budget : ℕ) (out : Output) (query : Str) (lines lines′ : List (Line A))
+    (entered entered′ : ℕ)
     → completed sound budget out query lines entered ≡ listed lines′ entered′ → lines ≡ lines′
 unfolding completed
 completed-lines {A} sound budget out query lines lines′ entered entered′ e = go (lowest (completion-rows sound budget out query lines entered)) e
   where
-    go : (o : Option ℕ) → _≡_ {A = Completed A} (elim o [ none ↦ listed lines entered | some n ↦ refused n ]) (listed lines′ entered′) → lines ≡ lines′
+    go : (o : Option ℕ) → _≡_ {A = Completed A} (elim o [ none ↦ listed lines entered | some n ↦ refused n ])
+        (listed lines′ entered′) → lines ≡ lines′
     go none e = cc
     go (some n) e = let z : _≡_ {A = ℕ} 0 1 = cc in absurd (omega arith)
 
 -- ---- a root whose lines are made of what its listing gives, by a function that keeps the text and the item
-module _ {A : Type 0} (Item : A → Type 0) (f : PathOf × A → Line A) (text : (x : PathOf × A) → f x .candidate ≡ string-of-path (x .0)) where
+module _ {A : Type 0} (Item : A → Type 0) (f : PathOf × A → Line A)
+    (text : (x : PathOf × A) → f x .candidate ≡ string-of-path (x .0)) where
   lines-made : (t : Str) (ls : List (PathOf × A)) → lines-of-text t (map f ls) ≡ map f (with-text t ls)
   unfolding lines-of-text with-text
   lines-made t [] = refl
@@ -94,27 +102,35 @@ module _ {A : Type 0} (Item : A → Type 0) (f : PathOf × A → Line A) (text :
       ∙ ap (λ c. map f (cond (same c t) (x ∷ with-text t ls) (with-text t ls))) (text x)
     where
       go : (b : Bool) → lines-of-text t (map f ls) ≡ map f (with-text t ls)
-          → elim b as (λ _. List (Line A)) [ true ↦ f x ∷ lines-of-text t (map f ls) | false ↦ lines-of-text t (map f ls) ] ≡ map f (cond b (x ∷ with-text t ls) (with-text t ls))
+          → elim b as (λ _. List (Line A)) [
+            | true ↦ f x ∷ lines-of-text t (map f ls)
+            | false ↦ lines-of-text t (map f ls)
+          ] ≡ map f (cond b (x ∷ with-text t ls) (with-text t ls))
       go true e = ap (_∷_ (f x)) e
       go false e = e
 
   -- The line of a full name is the one along its segments.
-  module _ (find : Finder A) (finds : Finds IsKey IsLabel Item find) (tr : Trie A) (formed : Formed IsKey IsLabel Item tr) where
+  module _ (find : Finder A) (finds : Finds IsKey IsLabel Item find) (tr : Trie A)
+      (formed : Formed IsKey IsLabel Item tr) where
     pub line-along : (name query : Str) (s : Str) (q : Query) → segments name ≡ s ∷ q → ends-in-dot name ≡ true
-        → lines-of-text (without-last name) (map f (trie-find-prefix′ find tr [] (segments query) [])) ≡ map f (along find tr [] (segments query) s q)
+        → lines-of-text (without-last name) (map f (trie-find-prefix′ find tr [] (segments query) []))
+        ≡ map f (along find tr [] (segments query) s q)
     unfolding without-last
     line-along name query s q e whole =
         lines-made (without-last name) (trie-find-prefix′ find tr [] (segments query) [])
         ∙ ap (λ t. map f (with-text t (trie-find-prefix′ find tr [] (segments query) []))) (sym (string-is name whole) ∙ ap query-to-string e)
-        ∙ ap (map f) (listed-text IsKey IsLabel Item (λ k h. key-no-dot k (h .bytes)) find finds tr (segments query) s q formed (subst (Allˡ NoDot) e (segments-no-dot name)))
+        ∙ ap (map f) (listed-text IsKey IsLabel Item (λ k h. key-no-dot k (h .bytes)) find finds tr (segments query) s q formed
+        (subst (Allˡ NoDot) e (segments-no-dot name)))
 
   module _ (same-item : (x : PathOf × A) → f x .item-of ≡ x .1) where
     same-items : (ls : List (PathOf × A)) → items-in (map f ls) ≡ map (λ (x : PathOf × A). x .1) ls
     same-items [] = refl
     same-items (x ∷ ls) = ap₂ _∷_ (same-item x) (same-items ls)
 
-    root-agreement : (tr : Trie A) → SoundTrie Item tr → (name query : Str) → NotRefused (look-up true tr name) → Covers (segments query) (segments name)
-        → Shows (lines-of-text (without-last name) (map f (trie-find-prefix-first tr (segments query)))) (look-up true tr name)
+    root-agreement : (tr : Trie A) → SoundTrie Item tr → (name query : Str) → NotRefused (look-up true tr name)
+        → Covers (segments query) (segments name)
+        → Shows (lines-of-text (without-last name) (map f (trie-find-prefix-first tr (segments query))))
+        (look-up true tr name)
     unfolding look-up trie-find-prefix-first is-empty
     root-agreement tr sound name query asked covers = go (segments name) refl (look-up-segment true name passed) covers
       where
@@ -124,7 +140,8 @@ module _ {A : Type 0} (Item : A → Type 0) (f : PathOf × A → Line A) (text :
         lines : List (Line A)
         lines = lines-of-text (without-last name) (map f (trie-find-prefix′ by-first tr [] (segments query) []))
 
-        go : (n : Query) → segments name ≡ n → is-empty n ≡ false → Covers (segments query) n → Shows lines (look-up true tr name)
+        go : (n : Query) → segments name ≡ n → is-empty n ≡ false → Covers (segments query) n
+            → Shows lines (look-up true tr name)
         go [] e h c = absurd (true≢false h)
         go (s ∷ q) e h c =
             rw (look-up-passes tr name asked, look-up)
@@ -141,8 +158,10 @@ module _ {A : Type 0} (keep : A → Bool) where
   text-kept t [] = refl
   text-kept t (l ∷ ls) = go (keep (l .item-of)) refl (same (l .candidate) t) refl (text-kept t ls)
     where
-      go : (k : Bool) → keep (l .item-of) ≡ k → (b : Bool) → same (l .candidate) t ≡ b → lines-of-text t (kept keep ls) ≡ kept keep (lines-of-text t ls)
-          → lines-of-text t (cond k (l ∷ kept keep ls) (kept keep ls)) ≡ kept keep (elim b [ true ↦ l ∷ lines-of-text t ls | false ↦ lines-of-text t ls ])
+      go : (k : Bool) → keep (l .item-of) ≡ k → (b : Bool) → same (l .candidate) t ≡ b
+          → lines-of-text t (kept keep ls) ≡ kept keep (lines-of-text t ls)
+          → lines-of-text t (cond k (l ∷ kept keep ls) (kept keep ls))
+          ≡ kept keep (elim b [ true ↦ l ∷ lines-of-text t ls | false ↦ lines-of-text t ls ])
       go true e true f h = rw (f, lines-of-text, e, kept) (ap (_∷_ l) h)
       go true e false f h = rw (f, lines-of-text) h
       go false e true f h = rw (e, kept) h

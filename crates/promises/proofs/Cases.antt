@@ -6,17 +6,29 @@ use mathlib.Core.Bool.{true, false}
 use mathlib.Core.List.{List, [], _∷_, _++_}
 use mathlib.Core.Option.{Option, none, some}
 use lib.IntN.{ℤ, pos, negsuc}
-use Rattle.source.specs.Text.{Str, then, string-compare, starts-with, string-length, query-to-string, onto-first, segments, ends-in-dot, name-byte, query-byte, path-byte}
+use Rattle.source.specs.Text.{Str, then, string-compare, starts-with, string-length, query-to-string, onto-first, segments, ends-in-dot, name-byte, query-byte}
+use Rattle.source.specs.Text.{path-byte}
 use Rattle.source.specs.Heap.{is-lt, heap-merge, heap-insert, heap-insert-all, heap-from-list, heap-merge-pairs, heap-pair-up}
-use Rattle.source.specs.Lists.{first, priority, nonempty, add-priorities, total, push-nodup, run-cmp, put-back, merge-aux, merge-nonempty, merge-increasing-lists-rev}
+use Rattle.source.specs.Lists.{first, priority, nonempty, add-priorities, total, push-nodup, run-cmp, put-back, merge-aux, merge-nonempty}
+use Rattle.source.specs.Lists.{merge-increasing-lists-rev}
 use Rattle.source.specs.Types.{the-item, bindings, namespaces, trie-empty}
 use Rattle.source.specs.Trees.{btree-insert-replace, btree-find-exact, find-prefix-onto, btree-find-prefix, btree-fold, btree-find-all}
-use Rattle.source.specs.Tries.{or-else, dflt, bind-option, names-find-exact, trie-descend-exact, trie-find-exact, names-insert, scope-of, trie-mutate, trie-mutate-leaf, trie-insert, included, trie-import, trie-include, trie-open-namespace, trie-add-alias}
+use Rattle.source.specs.Tries.{or-else, dflt, bind-option, names-find-exact, trie-descend-exact, trie-find-exact, names-insert, scope-of, trie-mutate}
+use Rattle.source.specs.Tries.{trie-mutate-leaf, trie-insert, included, trie-import, trie-include, trie-open-namespace, trie-add-alias}
 use Rattle.source.specs.Terms.{weight, heaviest, heaviest-tree, heaviest-names, depth, depth-tree, depth-names}
-use Rattle.source.specs.Listing.{fold-left, rev-map-onto, ns-search-term, bindings-search-term, revmap-onto, names-revmap, matching-values, with-imports, elem-key, names-find-rev-first, find-prefix-fuel, trie-find-prefix′, trie-find-prefix-first}
-use Rattle.source.specs.Table.{Line, ModSymbol, Module, Namespace, empty, insert, register-alias, register-include, register-open, ns-inserts, ins-ns, ins-mod, name-of-revq, loaded-module, ins-stays-loaded, register-module-stays-loaded, string-of-path, match-elem, match-length-of-path, last-opt, first-import-of-path, completion-result-of-lid, mod-annotation, completion-result-of-ns-or-mod, autocomplete-lid-first, filter-map, autocomplete-mod-or-ns-first}
-use Rattle.source.specs.Counted.{pure, one, _>>=_, btree-insert-replaceᶜ, names-insertᶜ, trie-mutateᶜ, trie-mutate-leafᶜ, trie-insertᶜ, trie-importᶜ, trie-includeᶜ, trie-open-namespaceᶜ, trie-add-aliasᶜ, lids, insertᶜ, register-aliasᶜ, register-includeᶜ, register-openᶜ, ins-nsᶜ, ins-modᶜ, insᶜ, register-module-pathᶜ, fold-leftᶜ, find-prefix-fuelᶜ, trie-find-prefix′ᶜ}
-use Rattle.source.specs.Calls.{Lent, Output, State, Call, name, include, opens, alias, module-path, Registered, accepted, refused, Found, found, not-found, Completed, listed, All, text-of, is-empty, any, bad-query, malformed, empty-name, long-query, too-long, lowest, argument-rows, fresh, whole-records, free, arguments, registered, records, text-taken, crowded, deep, registration-rows, after, register, found-of, look-up, output-text, completion-rows, completed, tries-entered, kept, keeps-kind, keeps, complete, complete-modules}
+use Rattle.source.specs.Listing.{fold-left, rev-map-onto, ns-search-term, bindings-search-term, revmap-onto, names-revmap, matching-values, with-imports}
+use Rattle.source.specs.Listing.{elem-key, names-find-rev-first, find-prefix-fuel, trie-find-prefix′, trie-find-prefix-first}
+use Rattle.source.specs.Table.{Line, ModSymbol, Module, Namespace, empty, insert, register-alias, register-include, register-open, ns-inserts, ins-ns, ins-mod}
+use Rattle.source.specs.Table.{name-of-revq, loaded-module, ins-stays-loaded, register-module-stays-loaded, string-of-path, match-elem, match-length-of-path}
+use Rattle.source.specs.Table.{last-opt, first-import-of-path, completion-result-of-lid, mod-annotation, completion-result-of-ns-or-mod, autocomplete-lid-first}
+use Rattle.source.specs.Table.{filter-map, autocomplete-mod-or-ns-first}
+use Rattle.source.specs.Counted.{pure, one, _>>=_, btree-insert-replaceᶜ, names-insertᶜ, trie-mutateᶜ, trie-mutate-leafᶜ, trie-insertᶜ, trie-importᶜ}
+use Rattle.source.specs.Counted.{trie-includeᶜ, trie-open-namespaceᶜ, trie-add-aliasᶜ, lids, insertᶜ, register-aliasᶜ, register-includeᶜ, register-openᶜ}
+use Rattle.source.specs.Counted.{ins-nsᶜ, ins-modᶜ, insᶜ, register-module-pathᶜ, fold-leftᶜ, find-prefix-fuelᶜ, trie-find-prefix′ᶜ}
+use Rattle.source.specs.Calls.{Lent, Output, State, Call, name, include, opens, alias, module-path, Registered, accepted, refused, Found, found, not-found}
+use Rattle.source.specs.Calls.{Completed, listed, All, text-of, is-empty, any, bad-query, malformed, empty-name, long-query, too-long, lowest, argument-rows}
+use Rattle.source.specs.Calls.{fresh, whole-records, free, arguments, registered, records, text-taken, crowded, deep, registration-rows, after, register}
+use Rattle.source.specs.Calls.{found-of, look-up, output-text, completion-rows, completed, tries-entered, kept, keeps-kind, keeps, complete, complete-modules}
 use Rattle.source.specs.Rules.{all}
 use Rattle.source.specs.Items.{kind-number, same-kind}
 use Rattle.source.specs.declared.ItemKind.the-variants.{Timer, Port, Register}
@@ -129,13 +141,21 @@ unfolding bytes console pane then-call ask records-of find names modules line r 
     first priority nonempty add-priorities total push-nodup run-cmp put-back merge-aux merge-nonempty merge-increasing-lists-rev
     the-item bindings namespaces trie-empty
     btree-insert-replace btree-find-exact find-prefix-onto btree-find-prefix btree-fold btree-find-all
-    or-else dflt bind-option names-find-exact trie-descend-exact trie-find-exact names-insert scope-of trie-mutate trie-mutate-leaf trie-insert included trie-import trie-include trie-open-namespace trie-add-alias
+    or-else dflt bind-option names-find-exact trie-descend-exact trie-find-exact names-insert scope-of trie-mutate trie-mutate-leaf trie-insert included
+    trie-import trie-include trie-open-namespace trie-add-alias
     weight heaviest heaviest-tree heaviest-names depth depth-tree depth-names
-    fold-left rev-map-onto ns-search-term bindings-search-term revmap-onto names-revmap matching-values with-imports elem-key names-find-rev-first find-prefix-fuel trie-find-prefix′ trie-find-prefix-first
-    empty insert register-alias register-include register-open ns-inserts ins-ns ins-mod name-of-revq loaded-module ins-stays-loaded register-module-stays-loaded string-of-path match-elem match-length-of-path last-opt first-import-of-path completion-result-of-lid mod-annotation completion-result-of-ns-or-mod autocomplete-lid-first filter-map autocomplete-mod-or-ns-first
-    pure one _>>=_ btree-insert-replaceᶜ names-insertᶜ trie-mutateᶜ trie-mutate-leafᶜ trie-insertᶜ trie-importᶜ trie-includeᶜ trie-open-namespaceᶜ trie-add-aliasᶜ lids insertᶜ register-aliasᶜ register-includeᶜ register-openᶜ ins-nsᶜ ins-modᶜ insᶜ register-module-pathᶜ fold-leftᶜ find-prefix-fuelᶜ trie-find-prefix′ᶜ
+    fold-left rev-map-onto ns-search-term bindings-search-term revmap-onto names-revmap matching-values with-imports elem-key names-find-rev-first
+    find-prefix-fuel trie-find-prefix′ trie-find-prefix-first
+    empty insert register-alias register-include register-open ns-inserts ins-ns ins-mod name-of-revq loaded-module ins-stays-loaded
+    register-module-stays-loaded string-of-path match-elem match-length-of-path last-opt first-import-of-path completion-result-of-lid mod-annotation
+    completion-result-of-ns-or-mod autocomplete-lid-first filter-map autocomplete-mod-or-ns-first
+    pure one _>>=_ btree-insert-replaceᶜ names-insertᶜ trie-mutateᶜ trie-mutate-leafᶜ trie-insertᶜ trie-importᶜ trie-includeᶜ trie-open-namespaceᶜ
+    trie-add-aliasᶜ lids insertᶜ register-aliasᶜ register-includeᶜ register-openᶜ ins-nsᶜ ins-modᶜ insᶜ register-module-pathᶜ fold-leftᶜ find-prefix-fuelᶜ
+    trie-find-prefix′ᶜ
     kind-number same-kind
-    text-of is-empty any bad-query malformed empty-name long-query too-long lowest argument-rows fresh whole-records free arguments registered records text-taken crowded deep registration-rows after register found-of look-up output-text completion-rows completed tries-entered kept keeps-kind keeps complete complete-modules
+    text-of is-empty any bad-query malformed empty-name long-query too-long lowest argument-rows fresh whole-records free arguments registered records
+    text-taken crowded deep registration-rows after register found-of look-up output-text completion-rows completed tries-entered kept keeps-kind keeps complete
+    complete-modules
     all
 compute = tt
 
@@ -161,22 +181,26 @@ pub record OtherCases : Type 0 where
       × (records-of (then-call (accepted fresh) (name (repeated 16 "x.") (bytes "x") (r 5))) ≡ some 51)
       × (then-call (accepted fresh) (name (repeated 17 "x.") (bytes "x") (r 5)) ≡ refused 6)
       × (then-call (accepted fresh) (name (repeated 18 "x.") (bytes "x") (r 5)) ≡ refused 4)
-  pub case-12 : (register true (record { words = 35; text = 4 }) fresh (name (bytes "") (bytes "tick") (r 5)) ≡ refused 7)
+  pub case-12 :
+      (register true (record { words = 35; text = 4 }) fresh (name (bytes "") (bytes "tick") (r 5)) ≡ refused 7)
       × (records-of (register true (record { words = 36; text = 4 }) fresh (name (bytes "") (bytes "tick") (r 5))) ≡ some 3)
       × (register true (record { words = 36; text = 3 }) fresh (name (bytes "") (bytes "tick") (r 5)) ≡ refused 8)
   pub case-13 : (ask T (λ s. complete true (s .table) Every 1 pane (bytes "Live.off.")) ≡ some (refused 9))
-      × (ask T (λ s. complete true (s .table) Every 2 pane (bytes "Live.off.")) ≡ some (listed (line (pos 8) (r 3) "Live.offset" "" ∷ []) 2))
+      × (ask T (λ s. complete true (s .table) Every 2 pane (bytes "Live.off."))
+      ≡ some (listed (line (pos 8) (r 3) "Live.offset" "" ∷ []) 2))
       × (ask T (λ s. complete true (s .table) Every 2 (record { lines = 0; text = 32768 }) (bytes "Live.off.")) ≡ some (refused 10))
   -- A file path may be empty, and has at most 120 bytes.
   pub paths : (records-of (then-call (accepted fresh) (module-path true (bytes "M.") (bytes ""))) ≡ some 5)
       × (records-of (then-call (accepted fresh) (module-path true (bytes "M.") (repeated 120 "x"))) ≡ some 5)
       × (then-call (accepted fresh) (module-path true (bytes "M.") (repeated 121 "x")) ≡ refused 4)
   -- A Timer and a Port of one number: asked for one kind, a completion enters what it enters of all, and a dropped line takes no output.
-  pub kinds : (of-kind two-kinds Every 2 ≡ some (listed (line (pos 1) tick "tick" "" ∷ line (pos 1) tock "tock" "" ∷ []) 1))
+  pub kinds :
+      (of-kind two-kinds Every 2 ≡ some (listed (line (pos 1) tick "tick" "" ∷ line (pos 1) tock "tock" "" ∷ []) 1))
       × (of-kind two-kinds Ports 1 ≡ some (listed (line (pos 1) tock "tock" "" ∷ []) 1))
       × (of-kind two-kinds Registers 0 ≡ some (listed [] 1))
   -- Two holders of a key: the first one's item and label, of a binding; of a namespace its trie and label. The source lists r1 with Saved, and Live.offset.
-  pub holders : (names (then-call included-here (name (bytes "") (bytes "offset") (r 4))) "off." ≡ some (listed (line (pos 3) (r 4) "offset" "" ∷ []) 1))
+  pub holders : (names (then-call included-here (name (bytes "") (bytes "offset") (r 4))) "off."
+      ≡ some (listed (line (pos 3) (r 4) "offset" "" ∷ []) 1))
       × (names shadow "Live." ≡ some (listed (line (pos 4) (r 7) "Live.late" "Lib" ∷ []) 2))
 
 pub other-cases : OtherCases

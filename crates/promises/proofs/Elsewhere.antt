@@ -17,18 +17,22 @@ module _ {A : Type 0} where
   find-empty (s ∷ []) = refl
   find-empty (s ∷ (t ∷ q)) = refl
 
-  pub find-scope : (n : NameList A ns) (s : Str) (q : Query) → trie-find-exact (scope-of n s) q ≡ bind-option (names-find-exact n s) (λ scope. trie-find-exact scope q)
+  pub find-scope : (n : NameList A ns) (s : Str) (q : Query)
+      → trie-find-exact (scope-of n s) q ≡ bind-option (names-find-exact n s) (λ scope. trie-find-exact scope q)
   unfolding scope-of dflt bind-option
   find-scope n s q = go (names-find-exact n s)
     where
-      go : (o : Option (Trie A)) → trie-find-exact (dflt trie-empty o) q ≡ bind-option o (λ scope. trie-find-exact scope q)
+      go : (o : Option (Trie A))
+          → trie-find-exact (dflt trie-empty o) q ≡ bind-option o (λ scope. trie-find-exact scope q)
       go none = find-empty q
       go (some scope) = refl
 
   -- Where the change at the host leaves the rest of the look-up alone, it leaves the look-up alone.
   elsewhere : (leaf : Trie A → Trie A) (tr : Trie A) (host rev q : Query)
-      → ((rest : Query) → q ≡ host ++ rest → trie-find-exact (leaf (host-of tr host)) rest ≡ trie-find-exact (host-of tr host) rest)
-      → trie-find-exact (trie-mutate tr host rev (λ tr _ _ _ n. trie (bindings tr) n) (λ at _. leaf at)) q ≡ trie-find-exact tr q
+      → ((rest : Query) → q ≡ host ++ rest
+      → trie-find-exact (leaf (host-of tr host)) rest ≡ trie-find-exact (host-of tr host) rest)
+      → trie-find-exact (trie-mutate tr host rev (λ tr _ _ _ n. trie (bindings tr) n) (λ at _. leaf at)) q
+      ≡ trie-find-exact tr q
   unfolding trie-mutate trie-find-exact host-of bindings namespaces bind-option
   elsewhere leaf tr [] rev q d = d q refl
   elsewhere leaf tr (h ∷ host) rev [] d = refl
@@ -46,7 +50,9 @@ module _ {A : Type 0} where
       new = names-insert (namespaces tr) h below
 
       go : (s ≡ h) ⊎ (s ≡ h → ⊥)
-          → (((rest : Query) → t ∷ q ≡ host ++ rest → trie-find-exact (leaf (host-of tr (h ∷ host))) rest ≡ trie-find-exact (host-of tr (h ∷ host)) rest) → on below ≡ on (scope-of (namespaces tr) h))
+          → (((rest : Query) → t ∷ q ≡ host ++ rest
+          → trie-find-exact (leaf (host-of tr (h ∷ host))) rest ≡ trie-find-exact (host-of tr (h ∷ host)) rest)
+          → on below ≡ on (scope-of (namespaces tr) h))
           → bind-option (names-find-exact new s) on ≡ bind-option (names-find-exact (namespaces tr) s) on
       go (inl e) ih =
           ap (λ k. bind-option (names-find-exact new k) on) e
@@ -55,7 +61,8 @@ module _ {A : Type 0} where
       go (inr n) ih = ap (λ o. bind-option o on) (names-find-other (namespaces tr) h s below n)
 
   pub leaf-elsewhere : (leaf : Trie A → Trie A) (tr : Trie A) (host q : Query)
-      → ((rest : Query) → q ≡ host ++ rest → trie-find-exact (leaf (host-of tr host)) rest ≡ trie-find-exact (host-of tr host) rest)
+      → ((rest : Query) → q ≡ host ++ rest
+      → trie-find-exact (leaf (host-of tr host)) rest ≡ trie-find-exact (host-of tr host) rest)
       → trie-find-exact (trie-mutate-leaf tr host (λ at _. leaf at)) q ≡ trie-find-exact tr q
   unfolding trie-mutate-leaf
   leaf-elsewhere leaf tr host q d = elsewhere leaf tr host [] q d

@@ -7,12 +7,14 @@ use mathlib.Core.Option.{Option, none, some}
 use Rattle.source.specs.Text.{Str, Query, segments}
 use Rattle.source.specs.Types.{Value, bind, item, bindings, namespaces, trie-empty}
 use Rattle.source.specs.Tries.{bind-option, names-find-exact, trie-find-exact}
-use Rattle.source.specs.Table.{ModSymbol, Module, Namespace, Table, empty, insert, register-alias, register-include, register-open, loaded-module, register-module-stays-loaded, find-module-or-ns}
+use Rattle.source.specs.Table.{ModSymbol, Module, Namespace, Table, empty, insert, register-alias, register-include, register-open, loaded-module}
+use Rattle.source.specs.Table.{register-module-stays-loaded, find-module-or-ns}
 use Rattle.source.specs.Calls.{State, Call, name, include, opens, alias, module-path, fresh, registered, after}
 use Rattle.source.proofs.Refusals.{accepted-is}
 use Rattle.source.proofs.Elsewhere.{key-same-or-not}
 use Rattle.promises.proofs.Keeps.{Made, made-fresh, made-by}
-use Rattle.source.proofs.ModuleRules.{namespace-unloaded, module-replaces, namespace-first, namespace-keeps, namespace-replaces, unloaded-keeps, module-elsewhere}
+use Rattle.source.proofs.ModuleRules.{namespace-unloaded, module-replaces, namespace-first, namespace-keeps, namespace-replaces, unloaded-keeps}
+use Rattle.source.proofs.ModuleRules.{module-elsewhere}
 
 -- The call registers the query as a loaded Module.
 abbrev pub Loads : Query → Call → Type 0
@@ -79,7 +81,8 @@ module _ (p : Query) (s : Str) where
     unfolding loaded-module
     same-loaded = rw (module-replaces tbl loaded path p s)
 
-    module-step : (q : Query) → (is-loaded (new q) ≡ true) ↔ (((loaded ≡ true) × (q ≡ p ++ (s ∷ []))) ⊎ (is-loaded tbl ≡ true))
+    module-step : (q : Query)
+        → (is-loaded (new q) ≡ true) ↔ (((loaded ≡ true) × (q ≡ p ++ (s ∷ []))) ⊎ (is-loaded tbl ≡ true))
     module-step q = go (other-loaded q)
       where
         or-parts : (a b : Bool) → a || b ≡ true → (a ≡ true) ⊎ (b ≡ true)
@@ -92,11 +95,15 @@ module _ (p : Query) (s : Str) where
 
         go : (q ≡ p ++ (s ∷ [])) ⊎ (is-loaded (new q) ≡ is-loaded tbl)
             → (is-loaded (new q) ≡ true) ↔ (((loaded ≡ true) × (q ≡ p ++ (s ∷ []))) ⊎ (is-loaded tbl ≡ true))
-        go (inl e) = rw e (λ h. ⊎-elim inr (λ l. inl (l, refl)) (or-parts (is-loaded tbl) loaded (sym same-loaded ∙ h)), ⊎-elim (λ l. same-loaded ∙ or-right (is-loaded tbl) loaded (l .0)) (λ h. same-loaded ∙ rw h))
+        go (inl e) = rw e (
+          λ h. ⊎-elim inr (λ l. inl (l, refl)) (or-parts (is-loaded tbl) loaded (sym same-loaded ∙ h)),
+          ⊎-elim (λ l. same-loaded ∙ or-right (is-loaded tbl) loaded (l .0)) (λ h. same-loaded ∙ rw h),
+        )
         go (inr e) = (λ h. inr (sym e ∙ h), ⊎-elim (λ l. rw (l .1) (same-loaded ∙ or-right (is-loaded tbl) loaded (l .0))) (λ h. e ∙ h))
 
   -- Of one call, for every table: loaded is what the call registers so, and what was loaded.
-  pub loaded-after : (tbl : Table) (c : Call) → (is-loaded (registered tbl c) ≡ true) ↔ (Loads (p ++ (s ∷ [])) c ⊎ (is-loaded tbl ≡ true))
+  pub loaded-after : (tbl : Table) (c : Call)
+      → (is-loaded (registered tbl c) ≡ true) ↔ (Loads (p ++ (s ∷ [])) c ⊎ (is-loaded tbl ≡ true))
   unfolding registered insert register-include register-open register-alias find-module-or-ns
   loaded-after tbl (name host id number) = (inr, ⊎-elim absurd (λ e. e))
   loaded-after tbl (include host q) = (inr, ⊎-elim absurd (λ e. e))
@@ -111,7 +118,8 @@ module _ (p : Query) (s : Str) where
   fresh-none (h ∷ []) = refl
   fresh-none (h ∷ (k ∷ p)) = refl
 
-  pub ever-loaded : {x : State} (m : Made x) → (loaded-module (find-module-or-ns (x .table) (p ++ (s ∷ []))) ≡ true) ↔ EverLoads (p ++ (s ∷ [])) m
+  pub ever-loaded : {x : State} (m : Made x)
+      → (loaded-module (find-module-or-ns (x .table) (p ++ (s ∷ []))) ≡ true) ↔ EverLoads (p ++ (s ∷ [])) m
   unfolding loaded-module after
   ever-loaded made-fresh = (λ h. false≢true (rw (fresh-none p) at h), absurd)
   ever-loaded (made-by sound lent c m e) =

@@ -10,7 +10,8 @@ use Rattle.source.specs.Lists.{Run, run, first, add-priorities, push-nodup, run
 use Rattle.source.specs.Types.{Trie, NameList, bind, ns, trie, the-item, bindings, namespaces}
 use Rattle.source.specs.Trees.{PathElem}
 use Rattle.source.specs.Terms.{depth, depth-names}
-use Rattle.source.specs.Listing.{PathOf, SearchTerm, fold-left, rev-map-onto, ns-search-term, bindings-search-term, names-find-rev, names-find-rev-first, Finder, of-source, by-first, find-prefix-fuel, trie-find-prefix′}
+use Rattle.source.specs.Listing.{PathOf, SearchTerm, fold-left, rev-map-onto, ns-search-term, bindings-search-term, names-find-rev, names-find-rev-first}
+use Rattle.source.specs.Listing.{Finder, of-source, by-first, find-prefix-fuel, trie-find-prefix′}
 use Rattle.source.specs.Counted.{Counted, one, _>>=_, fold-leftᶜ, find-prefix-fuelᶜ, trie-find-prefix′ᶜ}
 use Rattle.source.specs.Calls.{tries-entered}
 use Rattle.source.specs.Forward.{sum}
@@ -23,7 +24,8 @@ use Rattle.source.proofs.Counted.{fold-left-value, fold-left-count, find-prefix
 
 -- ---- The merge
 module _ {A : Type 0} (key : A → Str) where
-  pub merge-aux-fuel : (n m : ℕ) (h : Heap (Run A)) (acc : List A) → sum size h ≤ n → sum size h ≤ m → merge-aux key n h acc ≡ merge-aux key m h acc
+  pub merge-aux-fuel : (n m : ℕ) (h : Heap (Run A)) (acc : List A) → sum size h ≤ n → sum size h ≤ m
+      → merge-aux key n h acc ≡ merge-aux key m h acc
   unfolding merge-aux size
   merge-aux-fuel zero zero h acc l k = refl
   merge-aux-fuel zero (suc m) EmptyHeap acc l k = refl
@@ -67,7 +69,8 @@ module _ {A : Type 0} (key : A → Str) where
       ap (λ n. merge-aux key n (heap-from-list (run-cmp key) (add-priorities 0 [] (l ∷ (m ∷ ls)))) []) (sym (from-list-size key (l ∷ (m ∷ ls))))
 
 -- ---- The listing
-pub fold-leftᶜ-same : {B C : Type 0} (P : B → Type 0) (f g : C → B → Counted C) → ((c : C) (b : B) → P b → f c b ≡ g c b) → (c : C) (l : List B) → Allˡ P l
+pub fold-leftᶜ-same : {B C : Type 0} (P : B → Type 0) (f g : C → B → Counted C)
+    → ((c : C) (b : B) → P b → f c b ≡ g c b) → (c : C) (l : List B) → Allˡ P l
     → fold-leftᶜ f c l ≡ fold-leftᶜ g c l
 unfolding fold-leftᶜ
 fold-leftᶜ-same P f g h c [] a = refl
@@ -75,7 +78,9 @@ fold-leftᶜ-same P f g h c (b ∷ l) a =
     ap (λ m. m >>= λ c. fold-leftᶜ f c l) (h c b (a .0)) ∙ ap (λ k. g c b >>= k) (fun-ext (λ c. fold-leftᶜ-same P f g h c l (a .1)))
 
 -- Of either way to find the rows of a list, whose values have less depth than the list.
-module _ {A : Type 0} (find : Finder A) (shallow : (n : NameList A ns) (term : SearchTerm) → Allˡ (λ x. depth (x .1) < depth-names n) (find ns n term)) where
+module _ {A : Type 0} (find : Finder A)
+    (shallow : (n : NameList A ns) (term : SearchTerm)
+    → Allˡ (λ x. depth (x .1) < depth-names n) (find ns n term)) where
   -- The namespaces listed for a query, and what is put onto acc for the bindings.
   abbrev rows : Trie A → Query → List (PathElem × Trie A)
   rows tr q = find ns (namespaces tr) (ns-search-term q)
@@ -87,7 +92,8 @@ module _ {A : Type 0} (find : Finder A) (shallow : (n : NameList A ns) (term : S
   unfolding depth namespaces
   rows-depth (trie b n) q = shallow n (ns-search-term q)
 
-  pub find-prefix-fuelᶜ-enough : (n m : ℕ) (tr : Trie A) (path : PathOf) (q : Query) (acc : List (PathOf × A)) → depth tr < n → depth tr < m
+  pub find-prefix-fuelᶜ-enough : (n m : ℕ) (tr : Trie A) (path : PathOf) (q : Query) (acc : List (PathOf × A))
+      → depth tr < n → depth tr < m
       → find-prefix-fuelᶜ find n tr path q acc ≡ find-prefix-fuelᶜ find m tr path q acc
   unfolding find-prefix-fuelᶜ
   find-prefix-fuelᶜ-enough zero m tr path q acc h k = absurd (omega arith)
@@ -97,7 +103,8 @@ module _ {A : Type 0} (find : Finder A) (shallow : (n : NameList A ns) (term : S
       (fold-leftᶜ-same (λ x. depth (x .1) < depth tr) _ _
       (λ acc x d. find-prefix-fuelᶜ-enough n m (x .1) (x .0 ∷ path) (tail q) acc (omega arith) (omega arith)) acc (rows tr q) (rows-depth tr q))
 
-  pub find-prefix-fuel-enough : (n m : ℕ) (tr : Trie A) (path : PathOf) (q : Query) (acc : List (PathOf × A)) → depth tr < n → depth tr < m
+  pub find-prefix-fuel-enough : (n m : ℕ) (tr : Trie A) (path : PathOf) (q : Query) (acc : List (PathOf × A))
+      → depth tr < n → depth tr < m
       → find-prefix-fuel find n tr path q acc ≡ find-prefix-fuel find m tr path q acc
   find-prefix-fuel-enough n m tr path q acc h k =
       sym (find-prefix-fuel-value find n tr path q acc)
@@ -107,8 +114,10 @@ module _ {A : Type 0} (find : Finder A) (shallow : (n : NameList A ns) (term : S
   -- The source's equation for trie_find_prefix', counted and plain.
   pub trie-find-prefix′ᶜ-step : (tr : Trie A) (path : PathOf) (q : Query) (acc : List (PathOf × A))
       → trie-find-prefix′ᶜ find tr path q acc
-      ≡ (fold-leftᶜ (λ acc x. trie-find-prefix′ᶜ find (x .1) (x .0 ∷ path) (tail q) acc) acc (find ns (namespaces tr) (ns-search-term q))
-      >>= λ acc. one (rev-map-onto (λ x. (reverse (x .0 ∷ path), the-item (x .1))) (find bind (bindings tr) (bindings-search-term q)) acc))
+      ≡ (fold-leftᶜ (λ acc x. trie-find-prefix′ᶜ find (x .1) (x .0 ∷ path) (tail q) acc) acc
+      (find ns (namespaces tr) (ns-search-term q))
+      >>= λ acc. one (rev-map-onto (λ x. (reverse (x .0 ∷ path), the-item (x .1)))
+      (find bind (bindings tr) (bindings-search-term q)) acc))
   unfolding trie-find-prefix′ᶜ find-prefix-fuelᶜ
   trie-find-prefix′ᶜ-step tr path q acc =
       ap (λ l. l >>= λ acc. one (own tr path q acc))
@@ -119,7 +128,8 @@ module _ {A : Type 0} (find : Finder A) (shallow : (n : NameList A ns) (term : S
   pub trie-find-prefix′-step : (tr : Trie A) (path : PathOf) (q : Query) (acc : List (PathOf × A))
       → trie-find-prefix′ find tr path q acc
       ≡ rev-map-onto (λ x. (reverse (x .0 ∷ path), the-item (x .1))) (find bind (bindings tr) (bindings-search-term q))
-      (fold-left (λ acc x. trie-find-prefix′ find (x .1) (x .0 ∷ path) (tail q) acc) acc (find ns (namespaces tr) (ns-search-term q)))
+      (fold-left (λ acc x. trie-find-prefix′ find (x .1) (x .0 ∷ path) (tail q) acc) acc
+      (find ns (namespaces tr) (ns-search-term q)))
   unfolding trie-find-prefix′ trie-find-prefix′ᶜ _>>=_ one
   trie-find-prefix′-step tr path q acc =
       sym (find-prefix-fuel-value find (suc (depth tr)) tr path q acc)
@@ -131,13 +141,16 @@ module _ {A : Type 0} where
   -- The source's listing, by its own equation.
   pub source-step : (tr : Trie A) (path : PathOf) (q : Query) (acc : List (PathOf × A))
       → trie-find-prefix′ of-source tr path q acc
-      ≡ rev-map-onto (λ x. (reverse (x .0 ∷ path), the-item (x .1))) (names-find-rev (bindings tr) (bindings-search-term q))
-      (fold-left (λ acc x. trie-find-prefix′ of-source (x .1) (x .0 ∷ path) (tail q) acc) acc (names-find-rev (namespaces tr) (ns-search-term q)))
+      ≡ rev-map-onto (λ x. (reverse (x .0 ∷ path), the-item (x .1)))
+      (names-find-rev (bindings tr) (bindings-search-term q))
+      (fold-left (λ acc x. trie-find-prefix′ of-source (x .1) (x .0 ∷ path) (tail q) acc) acc
+      (names-find-rev (namespaces tr) (ns-search-term q)))
   source-step tr path q acc = trie-find-prefix′-step of-source names-find-rev-depth tr path q acc
 
   -- Tries entered: the trie, and those entered from each row of its namespaces.
   pub tries-entered-step : (tr : Trie A) (q : Query)
-      → tries-entered tr q ≡ suc (sumˡ (λ x. tries-entered (x .1) (tail q)) (names-find-rev-first (namespaces tr) (ns-search-term q)))
+      → tries-entered tr q
+      ≡ suc (sumˡ (λ x. tries-entered (x .1) (tail q)) (names-find-rev-first (namespaces tr) (ns-search-term q)))
   unfolding tries-entered trie-find-prefix′ᶜ _>>=_ one
   tries-entered-step tr q =
       ap (λ m. m .count) (trie-find-prefix′ᶜ-step by-first names-find-first-depth tr [] q [])

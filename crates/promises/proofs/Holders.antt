@@ -22,7 +22,8 @@ module _ {A : Type 0} {l : Level} where
   abbrev rows-in : SearchTerm → List Str → NameList A l → List (PathElem × Value A l)
   rows-in term imports n = flatMap (λ x. with-imports (x .0, tree-matches term (x .1))) (flat-in imports n)
 
-  turned-rows : (term : SearchTerm) (n : NameList A l) → matching-values n term ≡ reverse (map (λ x. (x .0, tree-matches term (x .1))) (flat n))
+  turned-rows : (term : SearchTerm) (n : NameList A l)
+      → matching-values n term ≡ reverse (map (λ x. (x .0, tree-matches term (x .1))) (flat n))
       → flatMap with-imports (reverse (matching-values n term)) ≡ rows-in term [] n
   turned-rows term n e =
       ap (λ ms. flatMap with-imports (reverse ms)) e ∙ ap (flatMap with-imports) (reverse-reverse (map (λ x. (x .0, tree-matches term (x .1))) (flat n)))
@@ -55,26 +56,31 @@ module _ {A : Type 0} {l : Level} where
       ∙ map-append (λ x. x .1) (with-key k (with-imports (imports, tree-matches term bt))) (with-key k (rows-in term imports tl))
       ∙ ap₂ _++_ (tree-row term k imports bt (o .0)) (hold-in term k imports tl (o .1)) ∙ go (accepts term k) (btree-find-exact bt k)
     where
-      go : (b : Bool) (v : Option (Value A l)) → to-list (gate b v) ++ cond b (holders (flatten tl) k) [] ≡ cond b (found-onto v (holders (flatten tl) k)) []
+      go : (b : Bool) (v : Option (Value A l))
+          → to-list (gate b v) ++ cond b (holders (flatten tl) k) [] ≡ cond b (found-onto v (holders (flatten tl) k)) []
       go true none = refl
       go true (some v) = refl
       go false v = refl
   hold-in term k imports (ImportedNames label inner tl) o =
-      ap (λ xs. map (λ x. x .1) (with-key k xs)) (flatMap-append (λ x. with-imports (x .0, tree-matches term (x .1))) (flat-in (label ∷ imports) inner) (flat-in imports tl))
+      ap (λ xs. map (λ x. x .1) (with-key k xs))
+      (flatMap-append (λ x. with-imports (x .0, tree-matches term (x .1))) (flat-in (label ∷ imports) inner) (flat-in imports tl))
       ∙ ap (map (λ x. x .1)) (key-append k (rows-in term (label ∷ imports) inner) (rows-in term imports tl))
       ∙ map-append (λ x. x .1) (with-key k (rows-in term (label ∷ imports) inner)) (with-key k (rows-in term imports tl))
       ∙ ap₂ _++_ (hold-in term k (label ∷ imports) inner (o .0)) (hold-in term k imports tl (o .1))
       ∙ go (accepts term k) ∙ ap (accepted term k) (sym (holders-append (flatten inner) (flatten tl) k))
     where
-      go : (b : Bool) → cond b (holders (flatten inner) k) [] ++ cond b (holders (flatten tl) k) [] ≡ cond b (holders (flatten inner) k ++ holders (flatten tl) k) []
+      go : (b : Bool) → cond b (holders (flatten inner) k) [] ++ cond b (holders (flatten tl) k) []
+          ≡ cond b (holders (flatten inner) k ++ holders (flatten tl) k) []
       go true = refl
       go false = refl
 
-  pub rows-hold : (n : NameList A l) (term : SearchTerm) (k : Str) → OrderedN n → map (λ x. x .1) (rows-of n term k) ≡ cond (accepts term k) (holders (flatten n) k) []
+  pub rows-hold : (n : NameList A l) (term : SearchTerm) (k : Str) → OrderedN n
+      → map (λ x. x .1) (rows-of n term k) ≡ cond (accepts term k) (holders (flatten n) k) []
   rows-hold n term k o = ap (map (λ x. x .1)) (rows-are n term k) ∙ hold-in term k [] n o
 
   -- What the listing finds of a key that the term accepts.
   pub first-found : (n : NameList A l) (term : SearchTerm) (k : Str) → OrderedN n → accepts term k ≡ true
       → valof (lookup elem-key k (names-find-rev-first n term)) ≡ first-of (holders (flatten n) k)
   first-found n term k o e =
-      ap valof (find-first-at n term k o) ∙ value-of-first (rows-of n term k) ∙ ap first-of (rows-hold n term k o ∙ ap (λ b. cond b (holders (flatten n) k) []) e)
+      ap valof (find-first-at n term k o) ∙ value-of-first (rows-of n term k)
+      ∙ ap first-of (rows-hold n term k o ∙ ap (λ b. cond b (holders (flatten n) k) []) e)

@@ -6,8 +6,10 @@ use mathlib.Core.List.{List, [], _∷_, map, reverse}
 use mathlib.Core.Option.{Option, none, some}
 use native.Mathlib.Omega.{arith}
 use Rattle.source.specs.Text.{Str, Query, then, string-compare, segments}
-use Rattle.source.specs.Heap.{Heap, Forest, EmptyHeap, HeapOf, []ᶠ, _∷ᶠ_, is-lt, heap-merge, heap-insert, heap-merge-pairs, heap-pair-up, heap-insert-all, heap-from-list}
-use Rattle.source.specs.Lists.{Run, run, first, priority, nonempty, add-priorities, total, push-nodup, run-cmp, put-back, merge-aux, merge-nonempty, merge-increasing-lists-rev}
+use Rattle.source.specs.Heap.{Heap, Forest, EmptyHeap, HeapOf, []ᶠ, _∷ᶠ_, is-lt, heap-merge, heap-insert, heap-merge-pairs, heap-pair-up, heap-insert-all}
+use Rattle.source.specs.Heap.{heap-from-list}
+use Rattle.source.specs.Lists.{Run, run, first, priority, nonempty, add-priorities, total, push-nodup, run-cmp, put-back, merge-aux, merge-nonempty}
+use Rattle.source.specs.Lists.{merge-increasing-lists-rev}
 use Rattle.source.specs.Types.{Value, Trie, bind, bindings, namespaces}
 use Rattle.source.specs.Tries.{bind-option as _>>=_, names-find-exact, trie-find-exact}
 use Rattle.source.specs.Calls.{a-look-up, is-empty}
@@ -75,7 +77,8 @@ module _ {A : Type 0} (key-fn : A → Str) where
   cmp? (pr₁, h₁ ∷ t₁) (pr₂, h₂ ∷ t₂) = some (then (string-compare (key-fn h₁) (key-fn h₂)) (compare pr₁ pr₂))
 
   -- The arms of aux, given aux and what heap_pop gives.
-  aux-arms? : (Heap (ℕ × List A) → List A → Option (List A)) → Option ((ℕ × List A) × Heap (ℕ × List A)) → List A → Option (List A)
+  aux-arms? : (Heap (ℕ × List A) → List A → Option (List A)) → Option ((ℕ × List A) × Heap (ℕ × List A)) → List A
+      → Option (List A)
   aux-arms? aux none acc = some acc
   aux-arms? aux (some ((pr, []), lists)) acc = none
   aux-arms? aux (some ((pr, v ∷ []), lists)) acc = aux lists (push-nodup key-fn v acc)
@@ -111,15 +114,18 @@ find-exact-literal tr (s ∷ (t ∷ q)) =
 
 -- ---- Heaps: where the comparison does not fail, nothing does
 module _ {A B : Type 0} (f : A → B) where
-  module _ (cmp : A → A → Ordering) (cmpᵒ : B → B → Option Ordering) (agree : (a b : A) → cmpᵒ (f a) (f b) ≡ some (cmp a b)) where
-    merge-agrees : (a b : Heap A) → heap-merge? cmpᵒ (heap-map f a) (heap-map f b) ≡ some (heap-map f (heap-merge cmp a b))
+  module _ (cmp : A → A → Ordering) (cmpᵒ : B → B → Option Ordering)
+      (agree : (a b : A) → cmpᵒ (f a) (f b) ≡ some (cmp a b)) where
+    merge-agrees : (a b : Heap A)
+        → heap-merge? cmpᵒ (heap-map f a) (heap-map f b) ≡ some (heap-map f (heap-merge cmp a b))
     unfolding heap-merge? heap-merge _>>=_
     merge-agrees EmptyHeap b = refl
     merge-agrees (HeapOf v hh) EmptyHeap = refl
     merge-agrees (HeapOf v hh) (HeapOf w gg) = rw (agree v w) (go (is-lt (cmp v w)))
       where
         go : (t : Bool)
-            → some (cond t (HeapOf (f v) (HeapOf (f w) (forest-map f gg) ∷ᶠ forest-map f hh)) (HeapOf (f w) (HeapOf (f v) (forest-map f hh) ∷ᶠ forest-map f gg)))
+            → some (cond t (HeapOf (f v) (HeapOf (f w) (forest-map f gg) ∷ᶠ forest-map f hh))
+            (HeapOf (f w) (HeapOf (f v) (forest-map f hh) ∷ᶠ forest-map f gg)))
             ≡ some (heap-map f (cond t (HeapOf v (HeapOf w gg ∷ᶠ hh)) (HeapOf w (HeapOf v hh ∷ᶠ gg))))
         go true = refl
         go false = refl
@@ -127,19 +133,23 @@ module _ {A B : Type 0} (f : A → B) where
     mutual
       unfolding heap-merge-pairs? heap-merge-pairs _>>=_
 
-      pairs-agree : (hh : Forest A) → heap-merge-pairs? cmpᵒ (forest-map f hh) ≡ some (heap-map f (heap-merge-pairs cmp hh))
+      pairs-agree : (hh : Forest A)
+          → heap-merge-pairs? cmpᵒ (forest-map f hh) ≡ some (heap-map f (heap-merge-pairs cmp hh))
       pairs-agree []ᶠ = refl
       pairs-agree (h ∷ᶠ hh) = pair-up-agrees h hh
 
-      pair-up-agrees : (h : Heap A) (hh : Forest A) → heap-pair-up? cmpᵒ (heap-map f h) (forest-map f hh) ≡ some (heap-map f (heap-pair-up cmp h hh))
+      pair-up-agrees : (h : Heap A) (hh : Forest A)
+          → heap-pair-up? cmpᵒ (heap-map f h) (forest-map f hh) ≡ some (heap-map f (heap-pair-up cmp h hh))
       pair-up-agrees h []ᶠ = refl
       pair-up-agrees h (h₂ ∷ᶠ hh) = rw (merge-agrees h h₂, pairs-agree hh) (merge-agrees (heap-merge cmp h h₂) (heap-merge-pairs cmp hh))
 
-    insert-agrees : (h : Heap A) (v : A) → heap-insert? cmpᵒ (heap-map f h) (f v) ≡ some (heap-map f (heap-insert cmp h v))
+    insert-agrees : (h : Heap A) (v : A)
+        → heap-insert? cmpᵒ (heap-map f h) (f v) ≡ some (heap-map f (heap-insert cmp h v))
     unfolding heap-insert? heap-insert
     insert-agrees h v = merge-agrees (HeapOf v []ᶠ) h
 
-    insert-all-agrees : (h : Heap A) (l : List A) → heap-insert-all? cmpᵒ (heap-map f h) (map f l) ≡ some (heap-map f (heap-insert-all cmp h l))
+    insert-all-agrees : (h : Heap A) (l : List A)
+        → heap-insert-all? cmpᵒ (heap-map f h) (map f l) ≡ some (heap-map f (heap-insert-all cmp h l))
     unfolding heap-insert-all? heap-insert-all _>>=_
     insert-all-agrees h [] = refl
     insert-all-agrees h (v ∷ l) = rw (insert-agrees h v) (insert-all-agrees (heap-insert cmp h v) l)
@@ -154,7 +164,8 @@ module _ {A : Type 0} (key : A → Str) where
   unfolding cmp? pair run-cmp first priority
   cmp-agrees (run pr v tl) (run pr′ v′ tl′) = refl
 
-  aux-agrees : (n : ℕ) (h : Heap (Run A)) (acc : List A) → sum size h < n → aux? key n (heap-map pair h) acc ≡ some (merge-aux key n h acc)
+  aux-agrees : (n : ℕ) (h : Heap (Run A)) (acc : List A) → sum size h < n
+      → aux? key n (heap-map pair h) acc ≡ some (merge-aux key n h acc)
   unfolding aux? aux-arms? heap-pop? pair merge-aux put-back first _>>=_
   aux-agrees zero h acc l = absurd (omega arith)
   aux-agrees (suc n) EmptyHeap acc l = refl
@@ -196,12 +207,14 @@ module _ {A : Type 0} (key : A → Str) where
 -- ---- Look-ups
 
 -- trie_find_exact fails on no query that has a segment.
-pub find-exact-never-fails : {A : Type 0} (tr : Trie A) (s : Str) (q : Query) → find-exact-literal tr (s ∷ q) ≡ some (trie-find-exact tr (s ∷ q))
+pub find-exact-never-fails : {A : Type 0} (tr : Trie A) (s : Str) (q : Query)
+    → find-exact-literal tr (s ∷ q) ≡ some (trie-find-exact tr (s ∷ q))
 unfolding find-exact-literal trie-find-exact _>>=_
 find-exact-never-fails tr s [] = refl
 find-exact-never-fails {A} tr s (t ∷ q) = go (names-find-exact (namespaces tr) s) (λ scope. find-exact-never-fails scope t q)
   where
-    go : (o : Option (Trie A)) → ((scope : Trie A) → find-exact-literal scope (t ∷ q) ≡ some (trie-find-exact scope (t ∷ q)))
+    go : (o : Option (Trie A))
+        → ((scope : Trie A) → find-exact-literal scope (t ∷ q) ≡ some (trie-find-exact scope (t ∷ q)))
         → _≡_ {A = Option (Option (Value A bind))}
         (elim o [ none ↦ some none | some scope ↦ find-exact-literal scope (t ∷ q) ])
         (some (_>>=_ o (λ scope. trie-find-exact scope (t ∷ q))))
@@ -209,7 +222,8 @@ find-exact-never-fails {A} tr s (t ∷ q) = go (names-find-exact (namespaces tr)
     go (some scope) h = h scope
 
 -- A look-up that is not refused has a segment, so it does not fail.
-pub look-up-never-fails : {A : Type 0} (sound : Bool) (tr : Trie A) (query : Str) → Admitted sound (a-look-up query ∷ [])
+pub look-up-never-fails : {A : Type 0} (sound : Bool) (tr : Trie A) (query : Str)
+    → Admitted sound (a-look-up query ∷ [])
     → find-exact-literal tr (segments query) ≡ some (trie-find-exact tr (segments query))
 unfolding is-empty
 look-up-never-fails sound tr query h = go (segments query) (look-up-segment sound query h)

@@ -7,13 +7,17 @@ use mathlib.Core.Option.{Option, none, some}
 use native.Mathlib.Omega.{arith}
 use borrow.Author.Tests.{ltb-false}
 use Rattle.source.specs.Text.{Str, Query, string-compare, query-to-string, segments}
-use Rattle.source.specs.Types.{Level, Value, Trie, Tree, NameList, bind, ns, item, trie, StrEmpty, StrBranch, []ᴺ, Names, ImportedNames, bindings, namespaces, trie-empty}
+use Rattle.source.specs.Types.{Level, Value, Trie, Tree, NameList, bind, ns, item, trie, StrEmpty, StrBranch, []ᴺ, Names, ImportedNames, bindings, namespaces}
+use Rattle.source.specs.Types.{trie-empty}
 use Rattle.source.specs.Trees.{btree-find-exact}
-use Rattle.source.specs.Tries.{or-else, dflt, bind-option, MutNode, MutLeaf, names-find-exact, trie-descend-exact, names-insert, scope-of, trie-mutate, trie-mutate-leaf, trie-insert, included, trie-import, trie-include, trie-open-namespace, trie-add-alias}
+use Rattle.source.specs.Tries.{or-else, dflt, bind-option, MutNode, MutLeaf, names-find-exact, trie-descend-exact, names-insert, scope-of, trie-mutate}
+use Rattle.source.specs.Tries.{trie-mutate-leaf, trie-insert, included, trie-import, trie-include, trie-open-namespace, trie-add-alias}
 use Rattle.source.specs.Terms.{heaviest, heaviest-names, depth, depth-names}
-use Rattle.source.specs.Table.{ModSymbol, Namespace, Table, empty, insert, register-alias, register-include, register-open, ns-inserts, ins-ns, ins-mod, name-of-revq, ins-stays-loaded, register-module-stays-loaded}
+use Rattle.source.specs.Table.{ModSymbol, Namespace, Table, empty, insert, register-alias, register-include, register-open, ns-inserts, ins-ns, ins-mod}
+use Rattle.source.specs.Table.{name-of-revq, ins-stays-loaded, register-module-stays-loaded}
 use Rattle.source.specs.Rules.{IsKey, IsLabel, IsFullName, IsPath, NameItem, ModItem, Formed, FormedTree, FormedNames, SoundTable}
-use Rattle.source.specs.Calls.{State, fresh, Lent, Call, name, include, opens, alias, module-path, arguments, registered, crowded, deep, after, accepted, register}
+use Rattle.source.specs.Calls.{State, fresh, Lent, Call, name, include, opens, alias, module-path, arguments, registered, crowded, deep, after, accepted}
+use Rattle.source.specs.Calls.{register}
 use Rattle.source.specs.Shared.{Allˡ}
 use Rattle.source.specs.Queries.{IsQuery}
 use Rattle.source.proofs.Queries.{query-to-string-label, name-of-revq-full-name}
@@ -95,7 +99,8 @@ module _ {A : Type 0} (Key Label : Str → Type 0) (Item : A → Type 0) where
   included-formed tr q g = dflt-formed _ (trie-descend-exact-formed tr q g)
 
   -- ---- inserts
-  pub names-insert-formed : {l : Level} (n : NameList A l) (k : Str) (v : Value A l) → Key k → Ok v → OkNames n → OkNames (names-insert n k v)
+  pub names-insert-formed : {l : Level} (n : NameList A l) (k : Str) (v : Value A l) → Key k → Ok v → OkNames n
+      → OkNames (names-insert n k v)
   unfolding names-insert
   names-insert-formed []ᴺ k v o g t = (btree-insert-replace-formed Key Label Item StrEmpty k v o g tt, tt)
   names-insert-formed (Names bt tl) k v o g t = (btree-insert-replace-formed Key Label Item bt k v o g (t .0), t .1)
@@ -104,8 +109,10 @@ module _ {A : Type 0} (Key Label : Str → Type 0) (Item : A → Type 0) where
   -- ---- changes
 
   -- The whole query, reverseAux rev-acc q, is the same at each step: node may use what is known of it.
-  pub trie-mutate-formed : (Whole : Query → Type 0) (tr : Trie A) (q rev-acc : Query) (node : MutNode A) (leaf : MutLeaf A)
-      → ((tr : Trie A) (id : Str) (q r : Query) (n : NameList A ns) → Whole (reverseAux r (id ∷ q)) → Key id → Ok tr → OkNames n → Ok (node tr id q r n))
+  pub trie-mutate-formed : (Whole : Query → Type 0) (tr : Trie A) (q rev-acc : Query) (node : MutNode A)
+      (leaf : MutLeaf A)
+      → ((tr : Trie A) (id : Str) (q r : Query) (n : NameList A ns) → Whole (reverseAux r (id ∷ q)) → Key id → Ok tr
+      → OkNames n → Ok (node tr id q r n))
       → ((tr : Trie A) (r : Query) → Ok tr → Ok (leaf tr r))
       → Whole (reverseAux rev-acc q) → Allˡ Key q → Ok tr → Ok (trie-mutate tr q rev-acc node leaf)
   unfolding trie-mutate
@@ -122,13 +129,15 @@ module _ {A : Type 0} (Key Label : Str → Type 0) (Item : A → Type 0) where
   trie-mutate-leaf-formed tr q leaf hl a g =
       trie-mutate-formed (λ _. Unit {0}) tr q [] _ leaf (λ tr id q r n w o t h. (bindings-formed tr t, h)) hl tt a g
 
-  pub trie-insert-formed : (tr : Trie A) (host : Query) (id : Str) (v : A) → Allˡ Key host → Key id → Item v → Ok tr → Ok (trie-insert tr host id v)
+  pub trie-insert-formed : (tr : Trie A) (host : Query) (id : Str) (v : A) → Allˡ Key host → Key id → Item v → Ok tr
+      → Ok (trie-insert tr host id v)
   unfolding trie-insert
   trie-insert-formed tr host id v a o i g =
       trie-mutate-leaf-formed tr host _
       (λ tr r t. (names-insert-formed (bindings tr) id (item v) o i (bindings-formed tr t), namespaces-formed tr t)) a g
 
-  pub trie-include-formed : (tr : Trie A) (host q : Query) → Allˡ Key host → Label (query-to-string q) → Ok tr → Ok (trie-include tr host q)
+  pub trie-include-formed : (tr : Trie A) (host q : Query) → Allˡ Key host → Label (query-to-string q) → Ok tr
+      → Ok (trie-include tr host q)
   unfolding trie-include trie-import
   trie-include-formed tr host q a o g =
       trie-mutate-leaf-formed tr host _
@@ -151,18 +160,22 @@ module _ {A : Type 0} (Key Label : Str → Type 0) (Item : A → Type 0) where
 
 -- ---- the module table
 module _ (path : Str) (loaded : Bool) (p : IsPath path) where
-  ins-formed : (id : Str) (q revq : Query) (b : NameList ModSymbol bind) → IsKey id → IsFullName (name-of-revq (id ∷ revq))
-      → FormedNames IsKey IsLabel ModItem b → FormedNames IsKey IsLabel ModItem (ins-stays-loaded path id q revq b loaded)
+  ins-formed : (id : Str) (q revq : Query) (b : NameList ModSymbol bind) → IsKey id
+      → IsFullName (name-of-revq (id ∷ revq))
+      → FormedNames IsKey IsLabel ModItem b
+      → FormedNames IsKey IsLabel ModItem (ins-stays-loaded path id q revq b loaded)
   unfolding ins-stays-loaded ins-mod ins-ns
   ins-formed id [] revq b k n g = names-insert-formed IsKey IsLabel ModItem b id _ k (n, p) g
   ins-formed id (s ∷ q) revq b k n g = go (ns-inserts (names-find-exact b id) loaded)
     where
-      go : (c : Bool) → FormedNames IsKey IsLabel ModItem (cond c (names-insert b id (item (Namespace (name-of-revq (id ∷ revq)) loaded))) b)
+      go : (c : Bool) → FormedNames IsKey IsLabel ModItem
+          (cond c (names-insert b id (item (Namespace (name-of-revq (id ∷ revq)) loaded))) b)
       go true = names-insert-formed IsKey IsLabel ModItem b id _ k n g
       go false = g
 
   pub register-module-stays-loaded-formed : (tbl : Table) (q : Query) → IsQuery q
-      → Formed IsKey IsLabel ModItem (tbl .tbl-mods) → Formed IsKey IsLabel ModItem (register-module-stays-loaded tbl loaded path q .tbl-mods)
+      → Formed IsKey IsLabel ModItem (tbl .tbl-mods)
+      → Formed IsKey IsLabel ModItem (register-module-stays-loaded tbl loaded path q .tbl-mods)
   unfolding register-module-stays-loaded
   register-module-stays-loaded-formed tbl q i g =
       trie-mutate-formed IsKey IsLabel ModItem IsQuery (tbl .tbl-mods) q [] _ _
@@ -176,14 +189,16 @@ pub record FormedTable (tbl : Table) : Type 0 where
   pub lids : Formed IsKey IsLabel NameItem (tbl .tbl-lids)
   pub mods : Formed IsKey IsLabel ModItem (tbl .tbl-mods)
 
-register-include-formed : (tbl : Table) (host q : Query) → IsQuery host → IsQuery q → FormedTable tbl → FormedTable (register-include tbl host q)
+register-include-formed : (tbl : Table) (host q : Query) → IsQuery host → IsQuery q → FormedTable tbl
+    → FormedTable (register-include tbl host q)
 unfolding register-include
 register-include-formed tbl host q h i f = record {
   lids = trie-include-formed IsKey IsLabel NameItem (tbl .tbl-lids) host q (h .keys) (query-to-string-label q i) (f .lids);
   mods = f .mods;
 }
 
-pub registered-formed : (tbl : Table) (c : Call) → Allˡ Keeps (arguments c) → FormedTable tbl → FormedTable (registered tbl c)
+pub registered-formed : (tbl : Table) (c : Call) → Allˡ Keeps (arguments c) → FormedTable tbl
+    → FormedTable (registered tbl c)
 unfolding registered arguments insert register-open register-alias register-module-stays-loaded
 registered-formed tbl (name host id number) k f = record {
   lids = trie-insert-formed IsKey IsLabel NameItem (tbl .tbl-lids) (segments host) id number (k .0 .keys) (k .1 .0) tt (f .lids);
@@ -236,7 +251,8 @@ fresh-sound =
 -- The states that accepted calls make from the fresh one.
 pub data Made : State → Type 0 where
   made-fresh : Made fresh
-  made-by : {s s′ : State} (sound : Bool) (lent : Lent) (c : Call) → Made s → register sound lent s c ≡ accepted s′ → Made s′
+  made-by : {s s′ : State} (sound : Bool) (lent : Lent) (c : Call) → Made s → register sound lent s c ≡ accepted s′
+      → Made s′
 
 pub made-sound : {s : State} → Made s → SoundTable (s .table)
 made-sound made-fresh = fresh-sound

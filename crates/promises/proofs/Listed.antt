@@ -11,7 +11,8 @@ use Rattle.source.specs.Types.{Level, Value, Trie, NameList, bind, ns, the-item
 use Rattle.source.specs.Trees.{PathElem}
 use Rattle.source.specs.Tries.{bind-option, trie-find-exact}
 use Rattle.source.specs.Terms.{flatten, holders, first-of, depth, depth-names, walk-first}
-use Rattle.source.specs.Listing.{PathOf, SearchTerm, Finder, of-source, by-first, fold-left, rev-map-onto, elem-key, names-find-rev-first, ns-search-term, bindings-search-term, find-prefix-fuel, trie-find-prefix′}
+use Rattle.source.specs.Listing.{PathOf, SearchTerm, Finder, of-source, by-first, fold-left, rev-map-onto, elem-key, names-find-rev-first, ns-search-term}
+use Rattle.source.specs.Listing.{bindings-search-term, find-prefix-fuel, trie-find-prefix′}
 use Rattle.source.specs.Rules.{Formed, FormedNames}
 use Rattle.promises.specs.Agreement.{Covers}
 use Rattle.source.proofs.Order.{<ˢ-irrefl}
@@ -23,7 +24,7 @@ use Rattle.promises.proofs.Names.{accepts}
 use Rattle.source.proofs.Names.{OrderedN}
 use Rattle.promises.proofs.Names.{find-exact-is-first, find-rev-decreasing, find-first-decreasing}
 use Rattle.promises.proofs.Holders.{first-found}
-use Rattle.source.proofs.Formed.{formed-orderedN, formed-named, parts, rows-formed}
+use Rattle.source.proofs.Formed.{formed-orderedN, formed-named, formed-parts, rows-formed}
 use Rattle.source.proofs.Paths.{keys}
 
 -- ---- look-up is the walk
@@ -46,7 +47,8 @@ module _ {A : Type 0} (Key Label : Str → Type 0) (Item : A → Type 0) where
   -- What a listing asks of the rows of a list.
   pub record Finds (find : Finder A) : Type 0 where
     pub descends : (l : Level) (n : NameList A l) (term : SearchTerm) → OrderedN n → Decreasing elem-key (find l n term)
-    pub formed : (l : Level) (n : NameList A l) (term : SearchTerm) → FormedNames Key Label Item n → Allˡ (λ y. Key (elem-key y) × Formed Key Label Item (y .1)) (find l n term)
+    pub formed : (l : Level) (n : NameList A l) (term : SearchTerm) → FormedNames Key Label Item n
+        → Allˡ (λ y. Key (elem-key y) × Formed Key Label Item (y .1)) (find l n term)
     pub shallow : (n : NameList A ns) (term : SearchTerm) → Allˡ (λ y. depth (y .1) < depth-names n) (find ns n term)
 
   pub source-finds : Finds of-source
@@ -63,7 +65,8 @@ module _ {A : Type 0} (Key Label : Str → Type 0) (Item : A → Type 0) where
     shallow = λ n term. names-find-first-depth n term;
   }
 
-pub lookup-all : {B : Type 0} (key : B → Str) (P : B → Type 0) (k : Str) (m : List B) (y : B) → Allˡ P m → lookup key k m ≡ some y → P y
+pub lookup-all : {B : Type 0} (key : B → Str) (P : B → Type 0) (k : Str) (m : List B) (y : B) → Allˡ P m
+    → lookup key k m ≡ some y → P y
 unfolding lookup
 lookup-all key P k [] y a e = absurd (Option·none-ne-some y e)
 lookup-all key P k (x ∷ m) y a e = go (same k (key x)) (lookup-all key P k m y (a .1)) e
@@ -124,11 +127,13 @@ module _ {A : Type 0} where
   named T [] = []
   named T (x ∷ ls) = cond (same-names (keys (x .0)) T) (x ∷ named T ls) (named T ls)
 
-  named-hit : (T : List Str) (x : PathOf × A) (ls : List (PathOf × A)) → keys (x .0) ≡ T → named T (x ∷ ls) ≡ x ∷ named T ls
+  named-hit : (T : List Str) (x : PathOf × A) (ls : List (PathOf × A)) → keys (x .0) ≡ T
+      → named T (x ∷ ls) ≡ x ∷ named T ls
   unfolding named
   named-hit T x ls e = rw (ap (λ k. same-names k T) e ∙ same-names-self T)
 
-  named-miss : (T : List Str) (x : PathOf × A) (ls : List (PathOf × A)) → (keys (x .0) ≡ T → ⊥) → named T (x ∷ ls) ≡ named T ls
+  named-miss : (T : List Str) (x : PathOf × A) (ls : List (PathOf × A)) → (keys (x .0) ≡ T → ⊥)
+      → named T (x ∷ ls) ≡ named T ls
   unfolding named
   named-miss T x ls n = go (same-names (keys (x .0)) T) refl
     where
@@ -136,38 +141,47 @@ module _ {A : Type 0} where
       go true e = absurd (n (same-names-eq (keys (x .0)) T e))
       go false e = refl
 
-  rev-map-is : {B : Type 0} (g : B → PathOf × A) (l : List B) (acc : List (PathOf × A)) → rev-map-onto g l acc ≡ fold-left (λ acc x. g x ∷ acc) acc l
+  rev-map-is : {B : Type 0} (g : B → PathOf × A) (l : List B) (acc : List (PathOf × A))
+      → rev-map-onto g l acc ≡ fold-left (λ acc x. g x ∷ acc) acc l
   unfolding rev-map-onto fold-left
   rev-map-is g [] acc = refl
   rev-map-is g (x ∷ l) acc = rev-map-is g l (g x ∷ acc)
 
-  fold-foreign : {B : Type 0} (T : List Str) (f : List (PathOf × A) → B → List (PathOf × A)) → ((acc : List (PathOf × A)) (x : B) → named T (f acc x) ≡ named T acc)
+  fold-foreign : {B : Type 0} (T : List Str) (f : List (PathOf × A) → B → List (PathOf × A))
+      → ((acc : List (PathOf × A)) (x : B) → named T (f acc x) ≡ named T acc)
       → (l : List B) (acc : List (PathOf × A)) → named T (fold-left f acc l) ≡ named T acc
   unfolding fold-left
   fold-foreign T f h [] acc = refl
   fold-foreign T f h (x ∷ l) acc = fold-foreign T f h l (f acc x) ∙ h acc x
 
   -- a fold over a decreasing list, where only the row with key s adds lines of that name
-  module _ {l : Level} (T : List Str) (f : List (PathOf × A) → PathElem × Value A l → List (PathOf × A)) (s : Str) (c : PathElem × Value A l → List (PathOf × A)) (P : PathElem × Value A l → Type 0)
-      (on : (acc : List (PathOf × A)) (y : PathElem × Value A l) → P y → elem-key y ≡ s → named T (f acc y) ≡ c y ++ named T acc)
-      (off : (acc : List (PathOf × A)) (y : PathElem × Value A l) → (elem-key y ≡ s → ⊥) → named T (f acc y) ≡ named T acc) where
-    fold-off : (m : List (PathElem × Value A l)) (acc : List (PathOf × A)) → Below elem-key s m → named T (fold-left f acc m) ≡ named T acc
+  module _ {l : Level} (T : List Str) (f : List (PathOf × A) → PathElem × Value A l → List (PathOf × A)) (s : Str)
+      (c : PathElem × Value A l → List (PathOf × A)) (P : PathElem × Value A l → Type 0)
+      (on : (acc : List (PathOf × A)) (y : PathElem × Value A l) → P y → elem-key y ≡ s
+      → named T (f acc y) ≡ c y ++ named T acc)
+      (off : (acc : List (PathOf × A)) (y : PathElem × Value A l) → (elem-key y ≡ s → ⊥)
+      → named T (f acc y) ≡ named T acc) where
+    fold-off : (m : List (PathElem × Value A l)) (acc : List (PathOf × A)) → Below elem-key s m
+        → named T (fold-left f acc m) ≡ named T acc
     unfolding fold-left
     fold-off [] acc b = refl
     fold-off (y ∷ m) acc b = fold-off m (f acc y) (b .1) ∙ off acc y (λ e. <ˢ-irrefl s (rw e at (b .0)))
 
-    fold-at : (m : List (PathElem × Value A l)) (acc : List (PathOf × A)) → Decreasing elem-key m → ((y : PathElem × Value A l) → lookup elem-key s m ≡ some y → P y)
+    fold-at : (m : List (PathElem × Value A l)) (acc : List (PathOf × A)) → Decreasing elem-key m
+        → ((y : PathElem × Value A l) → lookup elem-key s m ≡ some y → P y)
         → named T (fold-left f acc m) ≡ from c (lookup elem-key s m) ++ named T acc
     unfolding fold-left lookup Same
     fold-at [] acc d h = refl
     fold-at (y ∷ m) acc d h = go (same-view s (elem-key y)) (λ g. fold-at m (f acc y) (d .1) g)
       where
-        skip : (s ≡ elem-key y → ⊥) → (((z : PathElem × Value A l) → lookup elem-key s m ≡ some z → P z) → named T (fold-left f (f acc y) m) ≡ from c (lookup elem-key s m) ++ named T (f acc y))
+        skip : (s ≡ elem-key y → ⊥) → (((z : PathElem × Value A l) → lookup elem-key s m ≡ some z → P z)
+            → named T (fold-left f (f acc y) m) ≡ from c (lookup elem-key s m) ++ named T (f acc y))
             → named T (fold-left f (f acc y) m) ≡ from c (lookup elem-key s (y ∷ m)) ++ named T acc
         skip n ih = let e : lookup elem-key s (y ∷ m) ≡ lookup elem-key s m = lookup-miss elem-key s y m n in
             ih (λ z g. h z (e ∙ g)) ∙ ap (λ r. from c (lookup elem-key s m) ++ r) (off acc y (λ e. n (sym e))) ∙ ap (λ o. from c o ++ named T acc) (sym e)
 
-        go : Same s (elem-key y) → (((z : PathElem × Value A l) → lookup elem-key s m ≡ some z → P z) → named T (fold-left f (f acc y) m) ≡ from c (lookup elem-key s m) ++ named T (f acc y))
+        go : Same s (elem-key y) → (((z : PathElem × Value A l) → lookup elem-key s m ≡ some z → P z)
+            → named T (fold-left f (f acc y) m) ≡ from c (lookup elem-key s m) ++ named T (f acc y))
             → named T (fold-left f (f acc y) m) ≡ from c (lookup elem-key s (y ∷ m)) ++ named T acc
         go (inl (t, e)) ih =
             let g : lookup elem-key s (y ∷ m) ≡ some y = ap (λ k. lookup elem-key k (y ∷ m)) e ∙ lookup-hit elem-key y m in
@@ -179,7 +193,8 @@ module _ {A : Type 0} where
 module _ {A : Type 0} (find : Finder A) where
   -- a listing adds only names below its path
   foreign : (n : ℕ) (tr : Trie A) (path : PathOf) (q : Query) (acc : List (PathOf × A)) (T : List Str)
-      → ((s : Str) (m : List Str) → reverseAux (keys path) (s ∷ m) ≡ T → ⊥) → named T (find-prefix-fuel find n tr path q acc) ≡ named T acc
+      → ((s : Str) (m : List Str) → reverseAux (keys path) (s ∷ m) ≡ T → ⊥)
+      → named T (find-prefix-fuel find n tr path q acc) ≡ named T acc
   unfolding find-prefix-fuel
   foreign zero tr path q acc T nope = refl
   foreign (suc n) tr path q acc T nope =
@@ -195,8 +210,10 @@ module _ {A : Type 0} (find : Finder A) where
   along tr path q s (t ∷ name) = from (λ y. along (y .1) (y .0 ∷ path) (tail q) t name) (lookup elem-key s (find ns (namespaces tr) (ns-search-term q)))
 
   module _ (Key Label : Str → Type 0) (Item : A → Type 0) (finds : Finds Key Label Item find) where
-    last-segment : (n : ℕ) (tr : Trie A) (path : PathOf) (q : Query) (acc : List (PathOf × A)) (s : Str) → OrderedN (bindings tr)
-        → named (reverseAux (keys path) (s ∷ [])) (find-prefix-fuel find (suc n) tr path q acc) ≡ along tr path q s [] ++ named (reverseAux (keys path) (s ∷ [])) acc
+    last-segment : (n : ℕ) (tr : Trie A) (path : PathOf) (q : Query) (acc : List (PathOf × A)) (s : Str)
+        → OrderedN (bindings tr)
+        → named (reverseAux (keys path) (s ∷ [])) (find-prefix-fuel find (suc n) tr path q acc)
+        ≡ along tr path q s [] ++ named (reverseAux (keys path) (s ∷ [])) acc
     unfolding find-prefix-fuel elem-key along
     last-segment n tr path q acc s o =
         ap (named T) (rev-map-is g rows below)
@@ -220,19 +237,24 @@ module _ {A : Type 0} (find : Finder A) where
         below : List (PathOf × A)
         below = fold-left (λ acc x. find-prefix-fuel find n (x .1) (x .0 ∷ path) (tail q) acc) acc (find ns (namespaces tr) (ns-search-term q))
 
-    earlier-segment : (n : ℕ) (tr : Trie A) (path : PathOf) (q : Query) (acc : List (PathOf × A)) (s t : Str) (name : Query)
+    earlier-segment : (n : ℕ) (tr : Trie A) (path : PathOf) (q : Query) (acc : List (PathOf × A)) (s t : Str)
+        (name : Query)
         → FormedNames Key Label Item (namespaces tr) → depth-names (namespaces tr) ≤ n
         → ((child : Trie A) (el : PathElem) (acc : List (PathOf × A)) → Formed Key Label Item child → depth child < n
-        → named (reverseAux (keys path) (el .segment .completion ∷ (t ∷ name))) (find-prefix-fuel find n child (el ∷ path) (tail q) acc)
-        ≡ along child (el ∷ path) (tail q) t name ++ named (reverseAux (keys path) (el .segment .completion ∷ (t ∷ name))) acc)
+        → named (reverseAux (keys path) (el .segment .completion ∷ (t ∷ name)))
+        (find-prefix-fuel find n child (el ∷ path) (tail q) acc)
+        ≡ along child (el ∷ path) (tail q) t name
+        ++ named (reverseAux (keys path) (el .segment .completion ∷ (t ∷ name))) acc)
         → named (reverseAux (keys path) (s ∷ (t ∷ name))) (find-prefix-fuel find (suc n) tr path q acc)
         ≡ along tr path q s (t ∷ name) ++ named (reverseAux (keys path) (s ∷ (t ∷ name))) acc
     unfolding find-prefix-fuel elem-key along
     earlier-segment n tr path q acc s t name gd dp ih =
         ap (named T) (rev-map-is _ (find bind (bindings tr) (bindings-search-term q)) _)
-        ∙ fold-foreign T _ (λ acc x. named-miss T _ acc (λ e. nil≢cons (tail-eq-of-cons-eq (onto-inj (keys path) _ _ (sym (keys-reverse path (x .0 ∷ [])) ∙ e)))))
+        ∙ fold-foreign T _
+        (λ acc x. named-miss T _ acc (λ e. nil≢cons (tail-eq-of-cons-eq (onto-inj (keys path) _ _ (sym (keys-reverse path (x .0 ∷ [])) ∙ e)))))
         (find bind (bindings tr) (bindings-search-term q)) _
-        ∙ fold-at T (λ acc x. find-prefix-fuel find n (x .1) (x .0 ∷ path) (tail q) acc) s (λ y. along (y .1) (y .0 ∷ path) (tail q) t name) (λ y. Formed Key Label Item (y .1) × (depth (y .1) < n))
+        ∙ fold-at T (λ acc x. find-prefix-fuel find n (x .1) (x .0 ∷ path) (tail q) acc) s (λ y. along (y .1) (y .0 ∷ path) (tail q) t name)
+        (λ y. Formed Key Label Item (y .1) × (depth (y .1) < n))
         (λ acc y p e. subst (λ k. named (reverseAux (keys path) (k ∷ (t ∷ name))) (find-prefix-fuel find n (y .1) (y .0 ∷ path) (tail q) acc)
         ≡ along (y .1) (y .0 ∷ path) (tail q) t name ++ named (reverseAux (keys path) (k ∷ (t ∷ name))) acc) e (ih (y .1) (y .0) acc (p .0) (p .1)))
         (λ acc y ne. foreign n (y .1) (y .0 ∷ path) (tail q) acc T (λ u m e. ne (head-eq-of-cons-eq (onto-inj (keys path) _ _ e))))
@@ -246,16 +268,19 @@ module _ {A : Type 0} (find : Finder A) where
         rows = find ns (namespaces tr) (ns-search-term q)
 
         fine : Allˡ (λ y. Formed Key Label Item (y .1) × (depth (y .1) < n)) rows
-        fine = Allˡ-zip rows (λ y f d. (f .1, omega arith)) (finds .formed ns (namespaces tr) (ns-search-term q) gd) (finds .shallow (namespaces tr) (ns-search-term q))
+        fine = Allˡ-zip rows (λ y f d. (f .1, omega arith)) (finds .formed ns (namespaces tr) (ns-search-term q) gd)
+            (finds .shallow (namespaces tr) (ns-search-term q))
 
     listed : (n : ℕ) (tr : Trie A) (path : PathOf) (q : Query) (acc : List (PathOf × A)) (s : Str) (name : Query)
         → Formed Key Label Item tr → depth tr < n
-        → named (reverseAux (keys path) (s ∷ name)) (find-prefix-fuel find n tr path q acc) ≡ along tr path q s name ++ named (reverseAux (keys path) (s ∷ name)) acc
+        → named (reverseAux (keys path) (s ∷ name)) (find-prefix-fuel find n tr path q acc)
+        ≡ along tr path q s name ++ named (reverseAux (keys path) (s ∷ name)) acc
     unfolding depth
     listed zero tr path q acc s name gd dp = absurd (omega arith)
-    listed (suc n) tr path q acc s [] gd dp = last-segment n tr path q acc s (formed-orderedN Key Label Item (bindings tr) (parts Key Label Item tr gd .0))
+    listed (suc n) tr path q acc s [] gd dp =
+        last-segment n tr path q acc s (formed-orderedN Key Label Item (bindings tr) (formed-parts Key Label Item tr gd .0))
     listed (suc n) tr path q acc s (t ∷ name) gd dp =
-        earlier-segment n tr path q acc s t name (parts Key Label Item tr gd .1) (omega (arith, parts Key Label Item tr gd .2))
+        earlier-segment n tr path q acc s t name (formed-parts Key Label Item tr gd .1) (omega (arith, formed-parts Key Label Item tr gd .2))
         (λ child el acc g d. listed n child (el ∷ path) (tail q) acc t name g d)
 
     -- by names: the lines that have the name
@@ -286,14 +311,18 @@ item-list none = []
 item-list (some v) = the-item v ∷ []
 
 module _ {A : Type 0} (Key Label : Str → Type 0) (Item : A → Type 0) where
-  pub along-items : (tr : Trie A) (path : PathOf) (q : Query) (s : Str) (name : Query) → Formed Key Label Item tr → Covers q (s ∷ name)
+  pub along-items : (tr : Trie A) (path : PathOf) (q : Query) (s : Str) (name : Query) → Formed Key Label Item tr
+      → Covers q (s ∷ name)
       → map (λ (x : PathOf × A). x .1) (along by-first tr path q s name) ≡ item-list (walk-first tr (s ∷ name))
   unfolding along walk-first bind-option
   along-items tr path q s [] g c =
       go (lookup elem-key s (names-find-rev-first (bindings tr) (bindings-search-term q)))
-      ∙ ap item-list (first-found (bindings tr) (bindings-search-term q) s (formed-orderedN Key Label Item (bindings tr) (parts Key Label Item tr g .0)) (covers-binding q s c))
+      ∙ ap item-list (first-found (bindings tr) (bindings-search-term q) s (formed-orderedN Key Label Item (bindings tr) (formed-parts Key Label Item tr g .0))
+      (covers-binding q s c))
     where
-      go : (o : Option (PathElem × Value A bind)) → map (λ (x : PathOf × A). x .1) (from (λ y. (reverse (y .0 ∷ path), the-item (y .1)) ∷ []) o) ≡ item-list (valof o)
+      go : (o : Option (PathElem × Value A bind))
+          → map (λ (x : PathOf × A). x .1) (from (λ y. (reverse (y .0 ∷ path), the-item (y .1)) ∷ []) o)
+          ≡ item-list (valof o)
       go none = refl
       go (some y) = refl
   along-items tr path q s (t ∷ name) g c =
@@ -302,13 +331,17 @@ module _ {A : Type 0} (Key Label : Str → Type 0) (Item : A → Type 0) where
       (first-found (namespaces tr) (ns-search-term q) s (formed-orderedN Key Label Item (namespaces tr) gd) (covers-namespace q s (t ∷ name) c))
     where
       gd : FormedNames Key Label Item (namespaces tr)
-      gd = parts Key Label Item tr g .1
+      gd = formed-parts Key Label Item tr g .1
 
       rows : List (PathElem × Trie A)
       rows = names-find-rev-first (namespaces tr) (ns-search-term q)
 
       go : (o : Option (PathElem × Trie A)) → lookup elem-key s rows ≡ o
-          → ((y : PathElem × Trie A) → Formed Key Label Item (y .1) → map (λ (x : PathOf × A). x .1) (along by-first (y .1) (y .0 ∷ path) (tail q) t name) ≡ item-list (walk-first (y .1) (t ∷ name)))
-          → map (λ (x : PathOf × A). x .1) (from (λ y. along by-first (y .1) (y .0 ∷ path) (tail q) t name) o) ≡ item-list (bind-option (valof o) (λ scope. walk-first scope (t ∷ name)))
+          → ((y : PathElem × Trie A) → Formed Key Label Item (y .1)
+          → map (λ (x : PathOf × A). x .1) (along by-first (y .1) (y .0 ∷ path) (tail q) t name)
+          ≡ item-list (walk-first (y .1) (t ∷ name)))
+          → map (λ (x : PathOf × A). x .1) (from (λ y. along by-first (y .1) (y .0 ∷ path) (tail q) t name) o)
+          ≡ item-list (bind-option (valof o) (λ scope. walk-first scope (t ∷ name)))
       go none e ih = refl
-      go (some y) e ih = ih y (lookup-all elem-key (λ y. Key (elem-key y) × Formed Key Label Item (y .1)) s rows y (rows-formed Key Label Item (namespaces tr) (ns-search-term q) gd) e .1)
+      go (some y) e ih = ih y (lookup-all elem-key (λ y. Key (elem-key y) × Formed Key Label Item (y .1)) s rows y
+          (rows-formed Key Label Item (namespaces tr) (ns-search-term q) gd) e .1)

@@ -15,7 +15,7 @@ use Rattle.source.specs.Shared.{same, Allˡ}
 use Rattle.source.proofs.Lookup.{same-self, same-ne, Allˡ-map}
 use Rattle.promises.proofs.Listed.{Finds, same-names, same-names-eq, same-names-self, keys-reverse, named, along, listed-named}
 use Rattle.source.proofs.Paths.{keys}
-use Rattle.source.proofs.Formed.{parts}
+use Rattle.source.proofs.Formed.{formed-parts}
 
 -- ---- names without dots: the text tells the segments
 abbrev pub NoDot : Str → Type 0
@@ -56,36 +56,44 @@ onto-all : (P : Str → Type 0) (p : List Str) (k : Str) (m : List Str) → All�
 onto-all P [] k m a b = (k, m, refl, b)
 onto-all P (x ∷ p) k m a b = onto-all P p x (k ∷ m) (a .1) (a .0, b)
 
-module _ {A : Type 0} (Key Label : Str → Type 0) (Item : A → Type 0) (find : Finder A) (finds : Finds Key Label Item find) where
+module _ {A : Type 0} (Key Label : Str → Type 0) (Item : A → Type 0) (find : Finder A)
+    (finds : Finds Key Label Item find) where
   -- a line's path: not empty, each key fine
   abbrev LineOk : PathOf × A → Type 0
   LineOk x = (k : Str) × (m : List Str) × (keys (x .0) ≡ k ∷ m) × Allˡ Key (k ∷ m)
 
-  rev-map-ok : {l : Level} (g : PathElem × Value A l → PathOf × A) (m : List (PathElem × Value A l)) (acc : List (PathOf × A))
+  rev-map-ok : {l : Level} (g : PathElem × Value A l → PathOf × A) (m : List (PathElem × Value A l))
+      (acc : List (PathOf × A))
       → Allˡ (λ y. LineOk (g y)) m → Allˡ LineOk acc → Allˡ LineOk (rev-map-onto g m acc)
   unfolding rev-map-onto
   rev-map-ok g [] acc a b = b
   rev-map-ok g (y ∷ m) acc a b = rev-map-ok g m (g y ∷ acc) (a .1) (a .0, b)
 
-  fold-ok : {B : Type 0} (f : List (PathOf × A) → B → List (PathOf × A)) (Q : B → Type 0) (m : List B) (acc : List (PathOf × A))
-      → ((acc : List (PathOf × A)) (y : B) → Q y → Allˡ LineOk acc → Allˡ LineOk (f acc y)) → Allˡ Q m → Allˡ LineOk acc → Allˡ LineOk (fold-left f acc m)
+  fold-ok : {B : Type 0} (f : List (PathOf × A) → B → List (PathOf × A)) (Q : B → Type 0) (m : List B)
+      (acc : List (PathOf × A))
+      → ((acc : List (PathOf × A)) (y : B) → Q y → Allˡ LineOk acc → Allˡ LineOk (f acc y)) → Allˡ Q m → Allˡ LineOk acc
+      → Allˡ LineOk (fold-left f acc m)
   unfolding fold-left
   fold-ok f Q [] acc h a b = b
   fold-ok f Q (y ∷ m) acc h a b = fold-ok f Q m (f acc y) h (a .1) (h acc y (a .0) b)
 
-  lines-ok : (n : ℕ) (tr : Trie A) (path : PathOf) (q : Query) (acc : List (PathOf × A)) → Formed Key Label Item tr → Allˡ Key (keys path) → Allˡ LineOk acc
+  lines-ok : (n : ℕ) (tr : Trie A) (path : PathOf) (q : Query) (acc : List (PathOf × A)) → Formed Key Label Item tr
+      → Allˡ Key (keys path) → Allˡ LineOk acc
       → Allˡ LineOk (find-prefix-fuel find n tr path q acc)
   unfolding find-prefix-fuel elem-key
   lines-ok zero tr path q acc g p a = a
   lines-ok (suc n) tr path q acc g p a =
       rev-map-ok _ (find bind (bindings tr) (bindings-search-term q)) _
-      (Allˡ-map (find bind (bindings tr) (bindings-search-term q)) line (finds .formed bind (bindings tr) (bindings-search-term q) (parts Key Label Item tr g .0)))
+      (Allˡ-map (find bind (bindings tr) (bindings-search-term q)) line
+      (finds .formed bind (bindings tr) (bindings-search-term q) (formed-parts Key Label Item tr g .0)))
       (fold-ok _ (λ y. Key (elem-key y) × Formed Key Label Item (y .1)) (find ns (namespaces tr) (ns-search-term q)) acc
       (λ acc y f b. lines-ok n (y .1) (y .0 ∷ path) (tail q) acc (f .1) (f .0, p) b)
-      (finds .formed ns (namespaces tr) (ns-search-term q) (parts Key Label Item tr g .1)) a)
+      (finds .formed ns (namespaces tr) (ns-search-term q) (formed-parts Key Label Item tr g .1)) a)
     where
-      line : (y : PathElem × Value A bind) → Key (elem-key y) × Formed Key Label Item (y .1) → LineOk (reverse (y .0 ∷ path), the-item (y .1))
-      line y f = let r : (k′ : Str) × (m′ : List Str) × (reverseAux (keys path) (elem-key y ∷ []) ≡ k′ ∷ m′) × Allˡ Key (k′ ∷ m′) = onto-all Key (keys path) (elem-key y) [] p (f .0, tt) in
+      line : (y : PathElem × Value A bind) → Key (elem-key y) × Formed Key Label Item (y .1)
+          → LineOk (reverse (y .0 ∷ path), the-item (y .1))
+      line y f = let r : (k′ : Str) × (m′ : List Str) × (reverseAux (keys path) (elem-key y ∷ []) ≡ k′ ∷ m′)
+          × Allˡ Key (k′ ∷ m′) = onto-all Key (keys path) (elem-key y) [] p (f .0, tt) in
           (r .0, r .1, keys-reverse path (y .0 ∷ []) ∙ r .2, r .3)
 
 module _ {A : Type 0} where
@@ -94,25 +102,29 @@ module _ {A : Type 0} where
   with-text t [] = []
   with-text t (x ∷ ls) = cond (same (string-of-path (x .0)) t) (x ∷ with-text t ls) (with-text t ls)
 
-module _ {A : Type 0} (Key Label : Str → Type 0) (Item : A → Type 0) (no-dots : (k : Str) → Key k → NoDot k) (find : Finder A) (finds : Finds Key Label Item find) where
+module _ {A : Type 0} (Key Label : Str → Type 0) (Item : A → Type 0) (no-dots : (k : Str) → Key k → NoDot k)
+    (find : Finder A) (finds : Finds Key Label Item find) where
   same-test : (s : Str) (name : Query) (x : PathOf × A) → Allˡ NoDot (s ∷ name) → LineOk Key Label Item find finds x
       → same (string-of-path (x .0)) (query-to-string (s ∷ name)) ≡ same-names (keys (x .0)) (s ∷ name)
   unfolding string-of-path
   same-test s name x a o = go (same-names (keys (x .0)) (s ∷ name)) refl
     where
-      go : (b : Bool) → same-names (keys (x .0)) (s ∷ name) ≡ b → same (query-to-string (keys (x .0))) (query-to-string (s ∷ name)) ≡ b
+      go : (b : Bool) → same-names (keys (x .0)) (s ∷ name) ≡ b
+          → same (query-to-string (keys (x .0))) (query-to-string (s ∷ name)) ≡ b
       go true e = rw (same-names-eq (keys (x .0)) (s ∷ name) e) (same-self (query-to-string (s ∷ name)))
       go false e = same-ne _ _ (λ i. true≢false (sym (ap (λ k. same-names k (s ∷ name))
           (o .2 ∙ text-injective (o .0) (o .1) s name (Allˡ-map (o .0 ∷ o .1) no-dots (o .3)) a (ap query-to-string (sym (o .2)) ∙ i))
           ∙ same-names-self (s ∷ name)) ∙ e))
 
-  by-text : (s : Str) (name : Query) (ls : List (PathOf × A)) → Allˡ NoDot (s ∷ name) → Allˡ (LineOk Key Label Item find finds) ls
+  by-text : (s : Str) (name : Query) (ls : List (PathOf × A)) → Allˡ NoDot (s ∷ name)
+      → Allˡ (LineOk Key Label Item find finds) ls
       → with-text (query-to-string (s ∷ name)) ls ≡ named (s ∷ name) ls
   unfolding with-text named
   by-text s name [] a o = refl
   by-text s name (x ∷ ls) a o = rw (same-test s name x a (o .0), by-text s name ls a (o .1))
 
-  pub listed-text : (tr : Trie A) (q : Query) (s : Str) (name : Query) → Formed Key Label Item tr → Allˡ NoDot (s ∷ name)
+  pub listed-text : (tr : Trie A) (q : Query) (s : Str) (name : Query) → Formed Key Label Item tr
+      → Allˡ NoDot (s ∷ name)
       → with-text (query-to-string (s ∷ name)) (trie-find-prefix′ find tr [] q []) ≡ along find tr [] q s name
   unfolding trie-find-prefix′
   listed-text tr q s name g a =

@@ -47,7 +47,8 @@ module _ {A : Type 0} where
   unfolding last-opt
   last-append [] m = sym (or-else-none (last-opt m))
   last-append (a ∷ l) m =
-      last-cons a (l ++ m) ∙ ap (λ o. or-else o (some a)) (last-append l m) ∙ or-assoc (last-opt m) (last-opt l) (some a) ∙ ap (or-else (last-opt m)) (sym (last-cons a l))
+      last-cons a (l ++ m) ∙ ap (λ o. or-else o (some a)) (last-append l m) ∙ or-assoc (last-opt m) (last-opt l) (some a)
+      ∙ ap (or-else (last-opt m)) (sym (last-cons a l))
 
 ends-of : {B : Type 0} (o : Option B) → (first-of (to-list o) ≡ o) × (last-opt (to-list o) ≡ o)
 unfolding first-of last-opt
@@ -65,24 +66,29 @@ value-of-first (x ∷ l) = refl
 
 -- ---- look-up takes the first holder
 module _ {A : Type 0} where
-  first-onto : {l : Level} (o : Option (Value A l)) (vs : List (Value A l)) → first-of (found-onto o vs) ≡ or-else o (first-of vs)
+  first-onto : {l : Level} (o : Option (Value A l)) (vs : List (Value A l))
+      → first-of (found-onto o vs) ≡ or-else o (first-of vs)
   unfolding found-onto first-of or-else
   first-onto none vs = refl
   first-onto (some v) vs = refl
 
-  pub holders-append : {l : Level} (xs ys : List (Tree A l)) (k : Str) → holders (xs ++ ys) k ≡ holders xs k ++ holders ys k
+  pub holders-append : {l : Level} (xs ys : List (Tree A l)) (k : Str)
+      → holders (xs ++ ys) k ≡ holders xs k ++ holders ys k
   unfolding holders found-onto
   holders-append [] ys k = refl
   holders-append (t ∷ xs) ys k = rw (holders-append xs ys k) (go (btree-find-exact t k))
     where
-      go : (o : Option (Value A _)) → found-onto o (holders xs k ++ holders ys k) ≡ found-onto o (holders xs k) ++ holders ys k
+      go : (o : Option (Value A _))
+          → found-onto o (holders xs k ++ holders ys k) ≡ found-onto o (holders xs k) ++ holders ys k
       go none = refl
       go (some v) = refl
 
-  pub find-exact-is-first : {l : Level} (n : NameList A l) (k : Str) → names-find-exact n k ≡ first-of (holders (flatten n) k)
+  pub find-exact-is-first : {l : Level} (n : NameList A l) (k : Str)
+      → names-find-exact n k ≡ first-of (holders (flatten n) k)
   unfolding names-find-exact flatten holders first-of
   find-exact-is-first []ᴺ k = refl
-  find-exact-is-first (Names bt tl) k = ap (or-else (btree-find-exact bt k)) (find-exact-is-first tl k) ∙ sym (first-onto (btree-find-exact bt k) (holders (flatten tl) k))
+  find-exact-is-first (Names bt tl) k =
+      ap (or-else (btree-find-exact bt k)) (find-exact-is-first tl k) ∙ sym (first-onto (btree-find-exact bt k) (holders (flatten tl) k))
   find-exact-is-first (ImportedNames label inner tl) k =
       rw (find-exact-is-first inner k, find-exact-is-first tl k)
       (sym (ap first-of (holders-append (flatten inner) (flatten tl) k) ∙ first-append (holders (flatten inner) k) (holders (flatten tl) k)))
@@ -96,17 +102,20 @@ module _ {A : Type 0} where
     where
       go : (b : Bool)
           → valof (lookup elem-key k (map (λ x. (record { imports = i; segment = x .0 }, x .1)) m)) ≡ valof (lookup entry-key k m)
-          → valof (cond b (some (record { imports = i; segment = x .0 }, x .1)) (lookup elem-key k (map (λ x. (record { imports = i; segment = x .0 }, x .1)) m)))
+          → valof
+          (cond b (some (record { imports = i; segment = x .0 }, x .1)) (lookup elem-key k (map (λ x. (record { imports = i; segment = x .0 }, x .1)) m)))
           ≡ valof (cond b (some x) (lookup entry-key k m))
       go true e = refl
       go false e = e
 
-  pub key-append : {l : Level} (k : Str) (xs ys : List (PathElem × Value A l)) → with-key k (xs ++ ys) ≡ with-key k xs ++ with-key k ys
+  pub key-append : {l : Level} (k : Str) (xs ys : List (PathElem × Value A l))
+      → with-key k (xs ++ ys) ≡ with-key k xs ++ with-key k ys
   unfolding with-key
   key-append k [] ys = refl
   key-append k (x ∷ xs) ys = rw (key-append k xs ys) (go (same k (elem-key x)))
     where
-      go : (b : Bool) → cond b (x ∷ (with-key k xs ++ with-key k ys)) (with-key k xs ++ with-key k ys) ≡ cond b (x ∷ with-key k xs) (with-key k xs) ++ with-key k ys
+      go : (b : Bool) → cond b (x ∷ (with-key k xs ++ with-key k ys)) (with-key k xs ++ with-key k ys)
+          ≡ cond b (x ∷ with-key k xs) (with-key k xs) ++ with-key k ys
       go true = refl
       go false = refl
 
@@ -115,12 +124,14 @@ module _ {A : Type 0} where
   Once [] = Unit {0}
   Once (x ∷ xs) = (lookup elem-key (elem-key x) xs ≡ none) × Once xs
 
-  key-once : {l : Level} (k : Str) (xs : List (PathElem × Value A l)) → Once xs → with-key k xs ≡ to-list (lookup elem-key k xs)
+  key-once : {l : Level} (k : Str) (xs : List (PathElem × Value A l)) → Once xs
+      → with-key k xs ≡ to-list (lookup elem-key k xs)
   unfolding with-key lookup Same
   key-once k [] o = refl
   key-once k (x ∷ xs) o = go (same-view k (elem-key x)) (key-once k xs (o .1))
     where
-      go : Same k (elem-key x) → with-key k xs ≡ to-list (lookup elem-key k xs) → with-key k (x ∷ xs) ≡ to-list (lookup elem-key k (x ∷ xs))
+      go : Same k (elem-key x) → with-key k xs ≡ to-list (lookup elem-key k xs)
+          → with-key k (x ∷ xs) ≡ to-list (lookup elem-key k (x ∷ xs))
       go (inl (t, e)) h = rw t (ap (_∷_ x) (h ∙ ap to-list (ap (λ k. lookup elem-key k xs) e ∙ o .0)))
       go (inr (f, _)) h = rw f h
 
@@ -133,51 +144,65 @@ module _ {A : Type 0} where
   descending-once (x ∷ xs) i = (lookup-below elem-key (elem-key x) xs (i .0), descending-once xs (i .1))
 
   -- Of an ascending or descending list at most one row has a key.
-  key-ascending : {l : Level} (k : Str) (xs : List (PathElem × Value A l)) → Increasing elem-key xs → with-key k xs ≡ to-list (lookup elem-key k xs)
+  key-ascending : {l : Level} (k : Str) (xs : List (PathElem × Value A l)) → Increasing elem-key xs
+      → with-key k xs ≡ to-list (lookup elem-key k xs)
   key-ascending k xs i = key-once k xs (ascending-once xs i)
 
-  pub key-descending : {l : Level} (k : Str) (xs : List (PathElem × Value A l)) → Decreasing elem-key xs → with-key k xs ≡ to-list (lookup elem-key k xs)
+  pub key-descending : {l : Level} (k : Str) (xs : List (PathElem × Value A l)) → Decreasing elem-key xs
+      → with-key k xs ≡ to-list (lookup elem-key k xs)
   key-descending k xs i = key-once k xs (descending-once xs i)
 
   -- The first list with the key has the first row, and the last of the turned ones.
-  first-row : {l : Level} (k : Str) (ms : List (List Str × List (PrefixMatch × Value A l))) → Allˡ (Increasing elem-key) (map with-imports ms)
+  first-row : {l : Level} (k : Str) (ms : List (List Str × List (PrefixMatch × Value A l)))
+      → Allˡ (Increasing elem-key) (map with-imports ms)
       → first-lookup elem-key k (map with-imports ms) ≡ first-of (with-key k (flatMap with-imports ms))
   unfolding first-lookup flatMap with-key first-of
   first-row k [] i = refl
   first-row k (m ∷ ms) i =
       ap₂ or-else (sym (ap first-of (key-ascending k (with-imports m) (i .0)) ∙ ends-of (lookup elem-key k (with-imports m)) .0)) (first-row k ms (i .1))
-      ∙ sym (ap first-of (key-append k (with-imports m) (flatMap with-imports ms)) ∙ first-append (with-key k (with-imports m)) (with-key k (flatMap with-imports ms)))
+      ∙ sym (ap first-of (key-append k (with-imports m) (flatMap with-imports ms))
+      ∙ first-append (with-key k (with-imports m)) (with-key k (flatMap with-imports ms)))
 
-  last-row : {l : Level} (k : Str) (ms : List (List Str × List (PrefixMatch × Value A l))) → Allˡ (Increasing elem-key) (map with-imports ms)
+  last-row : {l : Level} (k : Str) (ms : List (List Str × List (PrefixMatch × Value A l)))
+      → Allˡ (Increasing elem-key) (map with-imports ms)
       → first-lookup elem-key k (map with-imports ms) ≡ last-opt (with-key k (flatMap with-imports (reverse ms)))
   unfolding first-lookup flatMap with-key last-opt
   last-row k [] i = refl
   last-row k (m ∷ ms) i =
       ap₂ or-else (sym (ap last-opt (key-ascending k (with-imports m) (i .0)) ∙ ends-of (lookup elem-key k (with-imports m)) .1)) (last-row k ms (i .1))
-      ∙ sym (ap (λ l. last-opt (with-key k l)) (ap (flatMap with-imports) (reverse-cons m ms) ∙ flatMap-append with-imports (reverse ms) (m ∷ []) ∙ ap (λ r. flatMap with-imports (reverse ms) ++ r) (append-nil (with-imports m)))
-      ∙ ap last-opt (key-append k (flatMap with-imports (reverse ms)) (with-imports m)) ∙ last-append (with-key k (flatMap with-imports (reverse ms))) (with-key k (with-imports m)))
+      ∙ sym (ap (λ l. last-opt (with-key k l)) (ap (flatMap with-imports) (reverse-cons m ms) ∙ flatMap-append with-imports (reverse ms) (m ∷ [])
+      ∙ ap (λ r. flatMap with-imports (reverse ms) ++ r) (append-nil (with-imports m)))
+      ∙ ap last-opt (key-append k (flatMap with-imports (reverse ms)) (with-imports m))
+      ∙ last-append (with-key k (flatMap with-imports (reverse ms))) (with-key k (with-imports m)))
 
   -- ---- what a search gives: descending, and at each key the last row or the first
-  pub find-rev-decreasing : {l : Level} (n : NameList A l) (term : SearchTerm) → OrderedN n → Decreasing elem-key (names-find-rev n term)
+  pub find-rev-decreasing : {l : Level} (n : NameList A l) (term : SearchTerm) → OrderedN n
+      → Decreasing elem-key (names-find-rev n term)
   unfolding names-find-rev
   find-rev-decreasing n term o = merge-decreasing elem-key (map with-imports (matching-values n term)) (values-increasing term n o)
 
-  pub find-rev-at : {l : Level} (n : NameList A l) (term : SearchTerm) (k : Str) → OrderedN n → lookup elem-key k (names-find-rev n term) ≡ last-opt (rows-of n term k)
+  pub find-rev-at : {l : Level} (n : NameList A l) (term : SearchTerm) (k : Str) → OrderedN n
+      → lookup elem-key k (names-find-rev n term) ≡ last-opt (rows-of n term k)
   unfolding names-find-rev rows-of
   find-rev-at n term k o =
-      merge-at elem-key (map with-imports (matching-values n term)) (values-increasing term n o) k ∙ last-row k (matching-values n term) (values-increasing term n o)
+      merge-at elem-key (map with-imports (matching-values n term)) (values-increasing term n o) k
+      ∙ last-row k (matching-values n term) (values-increasing term n o)
 
-  pub find-first-decreasing : {l : Level} (n : NameList A l) (term : SearchTerm) → OrderedN n → Decreasing elem-key (names-find-rev-first n term)
+  pub find-first-decreasing : {l : Level} (n : NameList A l) (term : SearchTerm) → OrderedN n
+      → Decreasing elem-key (names-find-rev-first n term)
   unfolding names-find-rev-first
   find-first-decreasing n term o = merge-decreasing elem-key (map with-imports (reverse (matching-values n term))) (turned-increasing term n o)
 
-  pub find-first-at : {l : Level} (n : NameList A l) (term : SearchTerm) (k : Str) → OrderedN n → lookup elem-key k (names-find-rev-first n term) ≡ first-of (rows-of n term k)
+  pub find-first-at : {l : Level} (n : NameList A l) (term : SearchTerm) (k : Str) → OrderedN n
+      → lookup elem-key k (names-find-rev-first n term) ≡ first-of (rows-of n term k)
   unfolding names-find-rev-first rows-of
   find-first-at n term k o =
-      merge-at elem-key (map with-imports (reverse (matching-values n term))) (turned-increasing term n o) k ∙ first-row k (reverse (matching-values n term)) (turned-increasing term n o)
+      merge-at elem-key (map with-imports (reverse (matching-values n term))) (turned-increasing term n o) k
+      ∙ first-row k (reverse (matching-values n term)) (turned-increasing term n o)
 
   -- ---- the row of a key in one tree
-  tree-at : {l : Level} (term : SearchTerm) (t : Tree A l) (k : Str) → Ordered t → valof (lookup entry-key k (tree-matches term t)) ≡ gate (accepts term k) (btree-find-exact t k)
+  tree-at : {l : Level} (term : SearchTerm) (t : Tree A l) (k : Str) → Ordered t
+      → valof (lookup entry-key k (tree-matches term t)) ≡ gate (accepts term k) (btree-find-exact t k)
   unfolding tree-matches lookup starts-with
   tree-at NSTAll t k o = find-all-exactly none t k o
   tree-at NSTNone t k o = refl
@@ -185,8 +210,10 @@ module _ {A : Type 0} where
   tree-at (NSTPrefix (c ∷ p)) t k o = find-prefix-exactly t (c ∷ p) k o
 
   pub tree-row : {l : Level} (term : SearchTerm) (k : Str) (i : List Str) (bt : Tree A l) → Ordered bt
-      → map (λ x. x .1) (with-key k (with-imports (i, tree-matches term bt))) ≡ to-list (gate (accepts term k) (btree-find-exact bt k))
+      → map (λ x. x .1) (with-key k (with-imports (i, tree-matches term bt)))
+      ≡ to-list (gate (accepts term k) (btree-find-exact bt k))
   unfolding with-imports
   tree-row term k i bt o =
       let m = tree-matches term bt in
-      ap (map (λ x. x .1)) (key-ascending k (with-imports (i, m)) (labelled-increasing i m (tree-ascends term bt o))) ∙ map-to-list (lookup elem-key k (with-imports (i, m))) ∙ ap to-list (labelled-at i k m ∙ tree-at term bt k o)
+      ap (map (λ x. x .1)) (key-ascending k (with-imports (i, m)) (labelled-increasing i m (tree-ascends term bt o)))
+      ∙ map-to-list (lookup elem-key k (with-imports (i, m))) ∙ ap to-list (labelled-at i k m ∙ tree-at term bt k o)

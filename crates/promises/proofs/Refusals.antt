@@ -29,7 +29,8 @@ lowest-above m ((k when true) ∷ rows) n a e = let q : k ≡ n = cc in omega ar
 lowest-above m ((k when false) ∷ rows) n a e = omega (arith, lowest-above k rows n (a .1) e)
 
 -- The row of that number holds, and none of a lower number.
-pub lowest-holds : (m : ℕ) (rows : List Row) (n : ℕ) → Ascending m rows → lowest rows ≡ some n → Allˡ (λ r. number r ≡ n → holds r ≡ true) rows
+pub lowest-holds : (m : ℕ) (rows : List Row) (n : ℕ) → Ascending m rows → lowest rows ≡ some n
+    → Allˡ (λ r. number r ≡ n → holds r ≡ true) rows
 unfolding lowest
 lowest-holds m [] n a e = tt
 lowest-holds m ((k when true) ∷ rows) n a e =
@@ -39,7 +40,8 @@ lowest-holds m ((k when false) ∷ rows) n a e =
     let h : k < n = lowest-above k rows n (a .1) e in
     (λ i. absurd (omega arith), lowest-holds k rows n (a .1) e)
 
-pub lowest-below : (m : ℕ) (rows : List Row) (n : ℕ) → Ascending m rows → lowest rows ≡ some n → Allˡ (λ r. number r < n → holds r ≡ false) rows
+pub lowest-below : (m : ℕ) (rows : List Row) (n : ℕ) → Ascending m rows → lowest rows ≡ some n
+    → Allˡ (λ r. number r < n → holds r ≡ false) rows
 unfolding lowest
 lowest-below m [] n a e = tt
 lowest-below m ((k when true) ∷ rows) n a e =
@@ -52,11 +54,13 @@ pub argument-rows-ascend : (sound : Bool) (args : List Argument) → Ascending 0
 unfolding argument-rows
 argument-rows-ascend sound args = omega arith
 
-pub registration-rows-ascend : (sound : Bool) (lent : Lent) (s : State) (c : Call) → Ascending 0 (registration-rows sound lent s c)
+pub registration-rows-ascend : (sound : Bool) (lent : Lent) (s : State) (c : Call)
+    → Ascending 0 (registration-rows sound lent s c)
 unfolding argument-rows registration-rows
 registration-rows-ascend sound lent s c = omega arith
 
-pub completion-rows-ascend : {A : Type 0} (sound : Bool) (budget : ℕ) (out : Output) (query : Str) (lines : List (Line A)) (entered : ℕ)
+pub completion-rows-ascend : {A : Type 0} (sound : Bool) (budget : ℕ) (out : Output) (query : Str)
+    (lines : List (Line A)) (entered : ℕ)
     → Ascending 0 (completion-rows sound budget out query lines entered)
 unfolding argument-rows completion-rows
 completion-rows-ascend sound budget out query lines entered = omega arith

@@ -49,7 +49,8 @@ narrowed-begins s (t ∷ ss) =
     let p : Str = fold-left common-prefix (common-prefix s t) ss in
     (begins-whole p (common-prefix s t) s (r .0) (common-begins s t .0), (begins-whole p (common-prefix s t) t (r .0) (common-begins s t .1), r .1))
 
-narrowed-longest : (p s : Str) (ss : List Str) → Begins p s → Allˡ (Begins p) ss → Begins p (fold-left common-prefix s ss)
+narrowed-longest : (p s : Str) (ss : List Str) → Begins p s → Allˡ (Begins p) ss
+    → Begins p (fold-left common-prefix s ss)
 unfolding fold-left
 narrowed-longest p s [] h a = h
 narrowed-longest p s (t ∷ ss) h a = narrowed-longest p (common-prefix s t) ss (common-longest p s t h (a .0)) (a .1)

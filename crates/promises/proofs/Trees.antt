@@ -38,7 +38,8 @@ module _ {A : Type 0} {l : Level} where
   find-absent k StrEmpty a = refl
   find-absent k (StrBranch k′ v lbt rbt) a = go (find-absent k lbt (a .1)) (find-absent k rbt (a .2)) (string-compare k k′) (compare-strings k k′)
     where
-      go : btree-find-exact lbt k ≡ none → btree-find-exact rbt k ≡ none → (o : Ordering) → View k k′ o → _≡_ {A = Option (Value A l)} (elim o [ Ordering·lt ↦ btree-find-exact lbt k | Ordering·eq ↦ some v | Ordering·gt ↦ btree-find-exact rbt k ]) none
+      go : btree-find-exact lbt k ≡ none → btree-find-exact rbt k ≡ none → (o : Ordering) → View k k′ o
+          → _≡_ {A = Option (Value A l)} (elim o [ Ordering·lt ↦ btree-find-exact lbt k | Ordering·eq ↦ some v | Ordering·gt ↦ btree-find-exact rbt k ]) none
       go i j Ordering·lt w = i
       go i j Ordering·eq w = absurd (a .0 w)
       go i j Ordering·gt w = j
@@ -53,7 +54,8 @@ module _ {A : Type 0} {l : Level} where
   above-ne : (k k′ : Str) (t : Tree A l) → k′ <ˢ k → AllKeys (λ x. x <ˢ k′) t → AllKeys (λ x. k ≡ x → ⊥) t
   above-ne k k′ t h a = AllKeys-map t (λ x y e. <ˢ-irrefl x (rw e at (<ˢ-trans x k′ k y h))) a
 
-  pub select-at : (p : Option Str) (b : Str → Bool) (k : Str) (t : Tree A l) (acc : List (PrefixMatch × Value A l)) → Ordered t
+  pub select-at : (p : Option Str) (b : Str → Bool) (k : Str) (t : Tree A l) (acc : List (PrefixMatch × Value A l))
+      → Ordered t
       → at-key k (select p b t acc) ≡ or-else (gate (b k) (btree-find-exact t k)) (at-key k acc)
   unfolding select btree-find-exact or-else entry-key
   select-at p b k StrEmpty acc o = rw (gate-none (b k))
@@ -63,7 +65,8 @@ module _ {A : Type 0} {l : Level} where
       m : PrefixMatch × Value A l
       m = (record { prefix = p; completion = k′ }, v)
 
-      mid : (i : Bool) → (k ≡ k′ → ⊥) → at-key k (cond i (m ∷ select p b rbt acc) (select p b rbt acc)) ≡ at-key k (select p b rbt acc)
+      mid : (i : Bool) → (k ≡ k′ → ⊥)
+          → at-key k (cond i (m ∷ select p b rbt acc) (select p b rbt acc)) ≡ at-key k (select p b rbt acc)
       mid true n = ap valof (lookup-miss entry-key k m (select p b rbt acc) n)
       mid false n = refl
 
@@ -75,8 +78,13 @@ module _ {A : Type 0} {l : Level} where
 
       go : at-key k (select p b rbt acc) ≡ or-else (gate (b k) (btree-find-exact rbt k)) (at-key k acc)
           → (c : Ordering) → string-compare k k′ ≡ c → View k k′ c → (i : Bool) → b k′ ≡ i
-          → or-else (gate (b k) (btree-find-exact lbt k)) (at-key k (cond i (m ∷ select p b rbt acc) (select p b rbt acc)))
-          ≡ or-else (gate (b k) (elim c [ Ordering·lt ↦ btree-find-exact lbt k | Ordering·eq ↦ some v | Ordering·gt ↦ btree-find-exact rbt k ])) (at-key k acc)
+          → or-else (gate (b k) (btree-find-exact lbt k))
+          (at-key k (cond i (m ∷ select p b rbt acc) (select p b rbt acc)))
+          ≡ or-else (gate (b k) (elim c [
+            | Ordering·lt ↦ btree-find-exact lbt k
+            | Ordering·eq ↦ some v
+            | Ordering·gt ↦ btree-find-exact rbt k
+          ])) (at-key k acc)
       go r Ordering·lt e w i f =
           ap (or-else (gate (b k) (btree-find-exact lbt k)))
           (mid i (λ d. <ˢ-irrefl k′ (rw d at w)) ∙ r ∙ ap (λ x. or-else x (at-key k acc)) (no-right (find-absent k rbt (below-ne k k′ rbt w (o .1)))))

@@ -10,7 +10,8 @@ use Rattle.source.specs.Types.{Trie, item, trie, []ᴺ, ImportedNames, bindings
 use Rattle.source.specs.Tries.{names-insert, trie-find-exact, trie-insert, included, trie-import, trie-include, trie-open-namespace, trie-add-alias}
 use Rattle.source.specs.Table.{Table, Line, insert, register-alias, register-include, register-open, register-module-stays-loaded}
 use Rattle.source.specs.Rules.{SoundTable}
-use Rattle.source.specs.Calls.{State, Lent, Call, name, include, opens, alias, module-path, accepted, register, registered, after, look-up, lowest, argument-rows, a-look-up, Found, found-of, refused, Output, listed, complete}
+use Rattle.source.specs.Calls.{State, Lent, Call, name, include, opens, alias, module-path, accepted, register, registered, after, look-up, lowest}
+use Rattle.source.specs.Calls.{argument-rows, a-look-up, Found, found-of, refused, Output, listed, complete}
 use Rattle.promises.specs.Agreement.{Covers, without-last, NotRefused, lines-of-text, Shows}
 use Rattle.source.specs.Plans.{host-of}
 use Rattle.source.specs.declared.LidSymbol.{LidSymbol}
@@ -31,37 +32,45 @@ Touches (alias key host q) n = (y : Str) × (r : Query) × (n ≡ segments host 
 Touches (module-path loaded query path) n = ⊥
 
 module _ {A : Type 0} where
-  name-walk : (tr : Trie A) (host : Query) (id : Str) (v : A) (n : Query) → (n ≡ host ++ (id ∷ []) → ⊥) → trie-find-exact (trie-insert tr host id v) n ≡ trie-find-exact tr n
+  name-walk : (tr : Trie A) (host : Query) (id : Str) (v : A) (n : Query) → (n ≡ host ++ (id ∷ []) → ⊥)
+      → trie-find-exact (trie-insert tr host id v) n ≡ trie-find-exact tr n
   unfolding trie-insert trie-find-exact bindings namespaces
   name-walk tr host id v n d = leaf-elsewhere _ tr host n (λ rest e. go (host-of tr host) rest (λ f. d (e ∙ ap (λ r. host ++ r) f)))
     where
       go : (at : Trie A) (rest : Query) → (rest ≡ id ∷ [] → ⊥)
-          → trie-find-exact (trie (names-insert (bindings at) id (item v)) (namespaces at)) rest ≡ trie-find-exact at rest
+          → trie-find-exact (trie (names-insert (bindings at) id (item v)) (namespaces at)) rest
+          ≡ trie-find-exact at rest
       go at [] d = refl
       go at (x ∷ []) d = names-find-other (bindings at) id x (item v) (λ e. d (cc))
       go at (x ∷ (y ∷ r)) d = refl
 
-  include-walk : (tr : Trie A) (host q n : Query) → ((x : Str) → n ≡ host ++ (x ∷ []) → ⊥) → trie-find-exact (trie-include tr host q) n ≡ trie-find-exact tr n
+  include-walk : (tr : Trie A) (host q n : Query) → ((x : Str) → n ≡ host ++ (x ∷ []) → ⊥)
+      → trie-find-exact (trie-include tr host q) n ≡ trie-find-exact tr n
   unfolding trie-include trie-import trie-find-exact bindings namespaces
   include-walk tr host q n d = leaf-elsewhere _ tr host n (λ rest e. go (host-of tr host) rest (λ x f. d x (e ∙ ap (λ r. host ++ r) f)))
     where
       go : (at : Trie A) (rest : Query) → ((x : Str) → rest ≡ x ∷ [] → ⊥)
-          → trie-find-exact (trie (ImportedNames (query-to-string q) (bindings (included tr q)) (bindings at)) (namespaces at)) rest ≡ trie-find-exact at rest
+          → trie-find-exact (trie (ImportedNames (query-to-string q) (bindings (included tr q)) (bindings at))
+          (namespaces at)) rest ≡ trie-find-exact at rest
       go at [] d = refl
       go at (x ∷ []) d = absurd (d x refl)
       go at (x ∷ (y ∷ r)) d = refl
 
-  open-walk : (tr : Trie A) (host q n : Query) → ((x y : Str) (r : Query) → n ≡ host ++ (x ∷ (y ∷ r)) → ⊥) → trie-find-exact (trie-open-namespace tr host q) n ≡ trie-find-exact tr n
+  open-walk : (tr : Trie A) (host q n : Query) → ((x y : Str) (r : Query) → n ≡ host ++ (x ∷ (y ∷ r)) → ⊥)
+      → trie-find-exact (trie-open-namespace tr host q) n ≡ trie-find-exact tr n
   unfolding trie-open-namespace trie-import trie-find-exact bindings namespaces
   open-walk tr host q n d = leaf-elsewhere _ tr host n (λ rest e. go (host-of tr host) rest (λ x y r f. d x y r (e ∙ ap (λ r. host ++ r) f)))
     where
       go : (at : Trie A) (rest : Query) → ((x y : Str) (r : Query) → rest ≡ x ∷ (y ∷ r) → ⊥)
-          → trie-find-exact (trie (bindings at) (ImportedNames (query-to-string q) (namespaces (included tr q)) (namespaces at))) rest ≡ trie-find-exact at rest
+          → trie-find-exact (trie (bindings at)
+          (ImportedNames (query-to-string q) (namespaces (included tr q)) (namespaces at))) rest
+          ≡ trie-find-exact at rest
       go at [] d = refl
       go at (x ∷ []) d = refl
       go at (x ∷ (y ∷ r)) d = absurd (d x y r refl)
 
-  alias-walk : (tr : Trie A) (key : Str) (host q n : Query) → ((y : Str) (r : Query) → n ≡ host ++ (key ∷ (y ∷ r)) → ⊥) → trie-find-exact (trie-add-alias tr key host q) n ≡ trie-find-exact tr n
+  alias-walk : (tr : Trie A) (key : Str) (host q n : Query) → ((y : Str) (r : Query) → n ≡ host ++ (key ∷ (y ∷ r)) → ⊥)
+      → trie-find-exact (trie-add-alias tr key host q) n ≡ trie-find-exact tr n
   unfolding trie-add-alias trie-import trie-find-exact
   alias-walk tr key host q n d =
       leaf-elsewhere _ tr host n (λ rest e. leaf-elsewhere (λ _. put) (host-of tr host) (key ∷ []) rest (λ r f. go rest r e f))
@@ -69,12 +78,14 @@ module _ {A : Type 0} where
       put : Trie A
       put = trie (ImportedNames (query-to-string q) (bindings (included tr q)) []ᴺ) []ᴺ
 
-      go : (rest r : Query) → n ≡ host ++ rest → rest ≡ (key ∷ []) ++ r → trie-find-exact put r ≡ trie-find-exact (host-of (host-of tr host) (key ∷ [])) r
+      go : (rest r : Query) → n ≡ host ++ rest → rest ≡ (key ∷ []) ++ r
+          → trie-find-exact put r ≡ trie-find-exact (host-of (host-of tr host) (key ∷ [])) r
       go rest [] e f = refl
       go rest (y ∷ r) e f = absurd (d y r (e ∙ ap (λ r. host ++ r) f))
 
 -- Look-up of a name that the call does not touch.
-pub find-unchanged : (tbl : Table) (c : Call) (n : Query) → (Touches c n → ⊥) → trie-find-exact (registered tbl c .tbl-lids) n ≡ trie-find-exact (tbl .tbl-lids) n
+pub find-unchanged : (tbl : Table) (c : Call) (n : Query) → (Touches c n → ⊥)
+    → trie-find-exact (registered tbl c .tbl-lids) n ≡ trie-find-exact (tbl .tbl-lids) n
 unfolding registered insert register-include register-open register-alias register-module-stays-loaded
 find-unchanged tbl (name host id number) n d = name-walk (tbl .tbl-lids) (segments host) id number n d
 find-unchanged tbl (include host q) n d = include-walk (tbl .tbl-lids) (segments host) (segments q) n (λ x e. d (x, e))
@@ -84,7 +95,8 @@ find-unchanged tbl (alias key host q) n d = alias-walk (tbl .tbl-lids) key (segm
 find-unchanged tbl (module-path loaded query path) n d = refl
 
 -- ---- the calls
-module _ (sound : Bool) (lent : Lent) (s s′ : State) (c : Call) (e : register sound lent s c ≡ accepted s′) (query : Str) (d : Touches c (segments query) → ⊥) where
+module _ (sound : Bool) (lent : Lent) (s s′ : State) (c : Call) (e : register sound lent s c ≡ accepted s′)
+    (query : Str) (d : Touches c (segments query) → ⊥) where
   -- An accepted registration changes no look-up on the names root but of the names that it touches.
   pub look-up-unchanged : look-up true (s′ .table .tbl-lids) query ≡ look-up true (s .table .tbl-lids) query
   unfolding look-up after
@@ -95,13 +107,16 @@ module _ (sound : Bool) (lent : Lent) (s s′ : State) (c : Call) (e : register 
 
   -- Nor does it change the lines of other names: completions before and after, of one query that covers the name, both show what look-up finds.
   pub lines-unchanged : SoundTable (s .table) → NotRefused (look-up true (s .table .tbl-lids) query)
-      → (typed : Str) → Covers (segments typed) (segments query) → (budget budget′ : ℕ) (out out′ : Output) (lines lines′ : List (Line LidSymbol)) (entered entered′ : ℕ)
-      → complete true (s .table) Every budget out typed ≡ listed lines entered → complete true (s′ .table) Every budget′ out′ typed ≡ listed lines′ entered′
+      → (typed : Str) → Covers (segments typed) (segments query)
+      → (budget budget′ : ℕ) (out out′ : Output) (lines lines′ : List (Line LidSymbol)) (entered entered′ : ℕ)
+      → complete true (s .table) Every budget out typed ≡ listed lines entered
+      → complete true (s′ .table) Every budget′ out′ typed ≡ listed lines′ entered′
       → Shows (lines-of-text (without-last query) lines) (look-up true (s .table .tbl-lids) query)
       × Shows (lines-of-text (without-last query) lines′) (look-up true (s .table .tbl-lids) query)
   lines-unchanged t asked typed covers budget budget′ out out′ lines lines′ entered entered′ f f′ = (
     agreement .names (s .table) t .shows query typed _ lines refl asked (budget, out, entered, f) covers,
-    agreement .names (s′ .table) (accepted-sound sound lent s s′ c t e) .shows query typed _ lines′ look-up-unchanged asked (budget′, out′, entered′, f′) covers,
+    agreement .names (s′ .table) (accepted-sound sound lent s s′ c t e) .shows query typed _ lines′ look-up-unchanged asked
+        (budget′, out′, entered′, f′) covers,
   )
 
 -- An accepted name changes no look-up on the names root but that of its own full name.
@@ -132,7 +147,8 @@ same-host [] (k ∷ q) x y e = absurd (not-empty q y [] (tail-eq-of-cons-eq e))
 same-host (h ∷ p) [] x y e = absurd (not-empty p x [] (sym (tail-eq-of-cons-eq e)))
 same-host (h ∷ p) (k ∷ q) x y e = let f : p ≡ q = same-host p q x y (tail-eq-of-cons-eq e) in cc
 
-beginning : (p q : Query) (x y z : Str) (r : Query) → p ++ (x ∷ []) ≡ q ++ (y ∷ (z ∷ r)) → (t : Query) × (p ≡ q ++ (y ∷ t))
+beginning : (p q : Query) (x y z : Str) (r : Query) → p ++ (x ∷ []) ≡ q ++ (y ∷ (z ∷ r))
+    → (t : Query) × (p ≡ q ++ (y ∷ t))
 beginning [] [] x y z r e = absurd (nil≢cons (tail-eq-of-cons-eq e))
 beginning [] (k ∷ q) x y z r e = absurd (not-empty q y (z ∷ r) (tail-eq-of-cons-eq e))
 beginning (h ∷ p) [] x y z r e = (p, cc)
@@ -150,18 +166,25 @@ apart-untouched host x (module-path loaded query path) a t = t
 pub record Copied (s s′ : State) (query : Str) : Type 0 where
   pub found : look-up true (s′ .table .tbl-lids) query ≡ look-up true (s .table .tbl-lids) query
   pub shown : SoundTable (s .table) → NotRefused (look-up true (s .table .tbl-lids) query)
-      → (typed : Str) → Covers (segments typed) (segments query) → (budget budget′ : ℕ) (out out′ : Output) (lines lines′ : List (Line LidSymbol)) (entered entered′ : ℕ)
-      → complete true (s .table) Every budget out typed ≡ listed lines entered → complete true (s′ .table) Every budget′ out′ typed ≡ listed lines′ entered′
+      → (typed : Str) → Covers (segments typed) (segments query)
+      → (budget budget′ : ℕ) (out out′ : Output) (lines lines′ : List (Line LidSymbol)) (entered entered′ : ℕ)
+      → complete true (s .table) Every budget out typed ≡ listed lines entered
+      → complete true (s′ .table) Every budget′ out′ typed ≡ listed lines′ entered′
       → Shows (lines-of-text (without-last query) lines) (look-up true (s .table .tbl-lids) query)
       × Shows (lines-of-text (without-last query) lines′) (look-up true (s .table .tbl-lids) query)
 
--- An include copies the names as they are at that moment: no later registration apart from the including host, in the included module or elsewhere, changes a name right there.
--- For every registration at another host it would be false: after `include [Live.] [Saved.]`, `open n [] [Lib.]` makes `Live.` lead to `Lib.Live.` (`shadowed` in Cases).
+-- An include copies the names as they are at that moment: no later registration apart from the including host, in the included module or elsewhere,
+-- changes a name right there.
+-- For every registration at another host it would be false: after `include [Live.] [Saved.]`, `open n [] [Lib.]` makes `Live.` lead to `Lib.Live.` (`shadowed`
+-- in Cases).
 pub include-copies : (sound : Bool) (lent : Lent) (s s′ : State) (c : Call) (host : Query) (x : Str) (query : Str)
     → register sound lent s c ≡ accepted s′ → Apart host c → segments query ≡ host ++ (x ∷ []) → Copied s s′ query
 include-copies sound lent s s′ c host x query e a i =
     let d : Touches c (segments query) → ⊥ = rw i (apart-untouched host x c a) in
-    record { found = look-up-unchanged sound lent s s′ c e query d; shown = lines-unchanged sound lent s s′ c e query d }
+    record {
+      found = look-up-unchanged sound lent s s′ c e query d;
+      shown = lines-unchanged sound lent s s′ c e query d;
+    }
 
 -- ---- all below a host
 
@@ -195,4 +218,7 @@ pub beside-copies : (sound : Bool) (lent : Lent) (s s′ : State) (c : Call) (ho
     → register sound lent s c ≡ accepted s′ → Beside host c → segments query ≡ host ++ r → Copied s s′ query
 beside-copies sound lent s s′ c host r query e b i =
     let d : Touches c (segments query) → ⊥ = rw i (beside-untouched host r c b) in
-    record { found = look-up-unchanged sound lent s s′ c e query d; shown = lines-unchanged sound lent s s′ c e query d }
+    record {
+      found = look-up-unchanged sound lent s s′ c e query d;
+      shown = lines-unchanged sound lent s s′ c e query d;
+    }

@@ -18,7 +18,8 @@ not-refused-exactly (refused n) = (λ h. absurd h, λ h. h n refl)
 
 -- At least as many segments, and each segment of the query begins the name's segment at its place.
 pub covers-exactly : (query name : Query)
-    → Covers query name ↔ ((length query ≤ length name) × ((i : ℕ) → i < length query → starts-with (getD name i []) (getD query i []) ≡ true))
+    → Covers query name ↔ ((length query ≤ length name)
+    × ((i : ℕ) → i < length query → starts-with (getD name i []) (getD query i []) ≡ true))
 covers-exactly [] name = (λ _. (omega arith, λ i h. absurd (omega arith)), λ _. tt)
 covers-exactly (p ∷ query) [] = (λ h. absurd h, λ h. absurd (omega (arith, h .0)))
 covers-exactly (p ∷ query) (s ∷ name) = go (covers-exactly query name)
@@ -28,9 +29,11 @@ covers-exactly (p ∷ query) (s ∷ name) = go (covers-exactly query name)
     at h f zero l = h
     at h f (suc i) l = f i (omega arith)
 
-    go : Covers query name ↔ ((length query ≤ length name) × ((i : ℕ) → i < length query → starts-with (getD name i []) (getD query i []) ≡ true))
+    go : Covers query name ↔ ((length query ≤ length name)
+        × ((i : ℕ) → i < length query → starts-with (getD name i []) (getD query i []) ≡ true))
         → Covers (p ∷ query) (s ∷ name)
-        ↔ ((suc (length query) ≤ suc (length name)) × ((i : ℕ) → i < suc (length query) → starts-with (getD (s ∷ name) i []) (getD (p ∷ query) i []) ≡ true))
+        ↔ ((suc (length query) ≤ suc (length name))
+        × ((i : ℕ) → i < suc (length query) → starts-with (getD (s ∷ name) i []) (getD (p ∷ query) i []) ≡ true))
     go e = (
       λ h. let r = e .0 (h .1) in (omega (arith, r .0), at (h .0) (r .1)),
       λ h. (h .1 0 (omega arith), e .1 (omega (arith, h .0), λ i l. h .1 (suc i) (omega arith))),

@@ -32,7 +32,8 @@ module _ {A : Type 0} where
   -- The lines with that text. A line's text is its candidate.
   unfoldable pub lines-of-text : Str → List (Line A) → List (Line A)
   lines-of-text t [] = []
-  lines-of-text t (l ∷ ls) = elim (isEq (string-compare (l .candidate) t)) [ true ↦ l ∷ lines-of-text t ls | false ↦ lines-of-text t ls ]
+  lines-of-text t (l ∷ ls) =
+      elim (isEq (string-compare (l .candidate) t)) [ true ↦ l ∷ lines-of-text t ls | false ↦ lines-of-text t ls ]
 
   -- Exactly one line, which carries the item; or no line, and none.
   abbrev pub Shows : List (Line A) → Found A → Type 0
@@ -63,12 +64,15 @@ ListsNames tbl f query lines =
 
 abbrev pub ListsModules : Table → Filter → Str → List (Line ModSymbol) → Type 0
 ListsModules tbl f query lines =
-    (budget : ℕ) × (out : Output) × (entered : ℕ) × (complete-modules true tbl f budget out query ≡ listed lines entered)
+    (budget : ℕ) × (out : Output) × (entered : ℕ)
+    × (complete-modules true tbl f budget out query ≡ listed lines entered)
 
 -- On either root of every sound table, in completions of all kinds and unfiltered.
 pub record Demand3 : Type 0 where
-  pub names : (tbl : Table) → SoundTable tbl → Agree (λ name a. look-up true (tbl .tbl-lids) name ≡ a) (ListsNames tbl Every)
-  pub modules : (tbl : Table) → SoundTable tbl → Agree (λ name a. look-up true (tbl .tbl-mods) name ≡ a) (ListsModules tbl All)
+  pub names : (tbl : Table) → SoundTable tbl
+      → Agree (λ name a. look-up true (tbl .tbl-lids) name ≡ a) (ListsNames tbl Every)
+  pub modules : (tbl : Table) → SoundTable tbl
+      → Agree (λ name a. look-up true (tbl .tbl-mods) name ≡ a) (ListsModules tbl All)
 
 -- The same of a listing of one kind, or filtered, and of what passes of what look-up finds.
 pub record FilteredAgree : Type 0 where

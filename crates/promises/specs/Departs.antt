@@ -10,7 +10,8 @@ use Rattle.source.specs.Text.{Str, Query, segments}
 use Rattle.source.specs.Types.{Level, Value, Trie, NameList, bindings, namespaces}
 use Rattle.source.specs.Trees.{PathElem}
 use Rattle.source.specs.Terms.{flatten, holders, first-of, depth}
-use Rattle.source.specs.Listing.{SearchTerm, ns-search-term, bindings-search-term, matching-values, with-imports, elem-key, names-find-rev, names-find-rev-first, of-source, by-first}
+use Rattle.source.specs.Listing.{SearchTerm, ns-search-term, bindings-search-term, matching-values, with-imports, elem-key, names-find-rev}
+use Rattle.source.specs.Listing.{names-find-rev-first, of-source, by-first}
 use Rattle.source.specs.Table.{Table, Line, last-opt, autocomplete-lid, autocomplete-lid-first, autocomplete-mod-or-ns, autocomplete-mod-or-ns-first}
 use Rattle.source.specs.Counted.{trie-find-prefix′ᶜ}
 use Rattle.source.specs.Calls.{look-up}
@@ -31,7 +32,8 @@ module _ {A : Type 0} {l : Level} where
   unfoldable pub rows-of : NameList A l → SearchTerm → Str → List (PathElem × Value A l)
   rows-of n term k = with-key k (flatMap with-imports (reverse (matching-values n term)))
 
-  -- In a list: the same keys in the same order; of each the last row by the source, the first by the listing. The rows are those of the holders, or none where the term does not match.
+  -- In a list: the same keys in the same order; of each the last row by the source, the first by the listing. The rows are those of the holders,
+  -- or none where the term does not match.
   pub record ListDeparts (n : NameList A l) (term : SearchTerm) : Type 0 where
     pub same-keys : map elem-key (names-find-rev-first n term) ≡ map elem-key (names-find-rev n term)
     pub by-source : (k : Str) → with-key k (names-find-rev n term) ≡ to-list (last-opt (rows-of n term k))
@@ -49,7 +51,8 @@ module _ {A : Type 0} where
 
   -- Then both list the same and enter as many tries.
   abbrev pub SameRun : Trie A → Query → Type 0
-  SameRun tr q = OneHolderEach (suc (depth tr)) tr q → trie-find-prefix′ᶜ by-first tr [] q [] ≡ trie-find-prefix′ᶜ of-source tr [] q []
+  SameRun tr q = OneHolderEach (suc (depth tr)) tr q
+      → trie-find-prefix′ᶜ by-first tr [] q [] ≡ trie-find-prefix′ᶜ of-source tr [] q []
 
   -- No step of the walk for a name meets more than one holder.
   abbrev pub OneHolder : Trie A → Query → Type 0
@@ -69,5 +72,9 @@ module _ {A : Type 0} where
 pub record Departs (tbl : Table) : Type 0 where
   pub names-run : (q : Query) → SameRun (tbl .tbl-lids) q
   pub modules-run : (q : Query) → SameRun (tbl .tbl-mods) q
-  pub names-line : (name query : Str) → SameLine (tbl .tbl-lids) (autocomplete-lid-first tbl (segments query)) (autocomplete-lid tbl (segments query)) name query
-  pub modules-line : (name query : Str) → SameLine (tbl .tbl-mods) (autocomplete-mod-or-ns-first tbl (segments query) some) (autocomplete-mod-or-ns tbl (segments query) some) name query
+  pub names-line : (name query : Str)
+      → SameLine (tbl .tbl-lids) (autocomplete-lid-first tbl (segments query))
+      (autocomplete-lid tbl (segments query)) name query
+  pub modules-line : (name query : Str)
+      → SameLine (tbl .tbl-mods) (autocomplete-mod-or-ns-first tbl (segments query) some)
+      (autocomplete-mod-or-ns tbl (segments query) some) name query

@@ -23,7 +23,8 @@ pub none-flagged : AllFlagged [] no-flags
 unfolding any
 none-flagged = record { malformed = refl; empty = refl; long = refl }
 
-pub both-flagged : {xs ys : List Argument} {f g : Flags} → AllFlagged xs f → AllFlagged ys g → AllFlagged (xs ++ ys) (both-flags f g)
+pub both-flagged : {xs ys : List Argument} {f g : Flags} → AllFlagged xs f → AllFlagged ys g
+    → AllFlagged (xs ++ ys) (both-flags f g)
 both-flagged {xs} {ys} h i = record {
   malformed = rw (any-append malformed xs ys, h .malformed, i .malformed);
   empty = rw (any-append empty-name xs ys, h .empty, i .empty);
@@ -35,16 +36,19 @@ pub query-ends : (s : Str) → malformed (a-query s) ≡ false → ends-in-dot s
 unfolding malformed bad-query
 query-ends s h = not-false (ends-in-dot s) (or-parts (not (ends-in-dot s)) _ h .0)
 
-rows-by-flags : {args : List Argument} {f : Flags} → AllFlagged args f → _≡_ {A = List Row} ((2 when any malformed args) ∷ (3 when any empty-name args) ∷ (4 when any too-long args) ∷ []) (flag-rows f)
+rows-by-flags : {args : List Argument} {f : Flags} → AllFlagged args f
+    → _≡_ {A = List Row} ((2 when any malformed args) ∷ (3 when any empty-name args) ∷ (4 when any too-long args) ∷ []) (flag-rows f)
 rows-by-flags h = rw (h .malformed, h .empty, h .long)
 
 -- Rows 1 to 4 of a sound memory.
-pub rows-of : {args : List Argument} {f : Flags} → AllFlagged args f → lowest (argument-rows true args) ≡ lowest (flag-rows f)
+pub rows-of : {args : List Argument} {f : Flags} → AllFlagged args f
+    → lowest (argument-rows true args) ≡ lowest (flag-rows f)
 unfolding lowest argument-rows
 rows-of h = ap lowest (rows-by-flags h)
 
 -- A call that admit lets through, and one that it refuses.
-module _ {args : List Argument} {f : Flags} {a : Admission} (h : AllFlagged args f) (e : row-of a ≡ lowest (flag-rows f)) where
+module _ {args : List Argument} {f : Flags} {a : Admission} (h : AllFlagged args f)
+    (e : row-of a ≡ lowest (flag-rows f)) where
   pub admitted-none : a ≡ Admitted → lowest (argument-rows true args) ≡ none
   admitted-none k = rows-of h ∙ sym (rw k at e)
 

@@ -28,7 +28,8 @@ no-flags = record { malformed = false; empty = false; long = false }
 
 -- Of two lots of flags, those that either has.
 abbrev pub both-flags : Flags → Flags → Flags
-both-flags a b = record { malformed = a .malformed || b .malformed; empty = a .empty || b .empty; long = a .long || b .long }
+both-flags a b =
+    record { malformed = a .malformed || b .malformed; empty = a .empty || b .empty; long = a .long || b .long }
 
 -- Rows 2 to 4, by the flags of the arguments.
 abbrev pub flag-rows : Flags → List Row

@@ -47,18 +47,26 @@ text-after h host other key = h .text + length host + length other + length key
 -- ---- A new root
 -- The header h′ after a call, where the text is txt and used bytes of it are taken.
 record Settled (ws ws′ txt : List ℕ) (h h′ : Header) (used : ℕ) (c : Call) : Type 0 where
-  reads : state-of ws′ txt h′ ≡ record { table = registered (table-of ws txt h) c; records-used = h .records + records (table-of ws txt h) c; text-used = used }
+  reads : state-of ws′ txt h′ ≡ record {
+    table = registered (table-of ws txt h) c;
+    records-used = h .records + records (table-of ws txt h) c;
+    text-used = used;
+  }
   sound : Sound ws′ txt h′
   words : Outside (h .records * 12) (h′ .records * 12) ws ws′
   text : h′ .text ≡ used
 
-state-is : {a : Trie LidSymbol} {b : Trie ModSymbol} {n m used : ℕ} (x : S.Table) → a ≡ x .tbl-lids → b ≡ x .tbl-mods → n ≡ m
-    → _≡_ {A = State} (record { table = record { tbl-lids = a; tbl-mods = b }; records-used = n; text-used = used }) (record { table = x; records-used = m; text-used = used })
+state-is : {a : Trie LidSymbol} {b : Trie ModSymbol} {n m used : ℕ} (x : S.Table) → a ≡ x .tbl-lids → b ≡ x .tbl-mods
+    → n ≡ m
+    → _≡_ {A = State} (record { table = record { tbl-lids = a; tbl-mods = b }; records-used = n; text-used = used })
+    (record { table = x; records-used = m; text-used = used })
 state-is x e f g = rw (e, f, g)
 
 -- By the table that is changed: the other root stays.
-settled : {ws ws′ txt : List ℕ} (h : Header) {used : ℕ} (o : Sound ws txt (with-text h used)) {c : Call} {link n : ℕ} (w : Which) {m : Counted (Trie (Item w))}
-    → Registers (table-of ws txt h) c w m → Stays w (table-of ws txt h) c → Builds ws ws′ txt (h .records) used w trieˢ m link n
+settled : {ws ws′ txt : List ℕ} (h : Header) {used : ℕ} (o : Sound ws txt (with-text h used)) {c : Call} {link n : ℕ}
+    (w : Which) {m : Counted (Trie (Item w))}
+    → Registers (table-of ws txt h) c w m → Stays w (table-of ws txt h) c
+    → Builds ws ws′ txt (h .records) used w trieˢ m link n
     → Settled ws ws′ txt h (with-root w h link n used) used c
 settled h o names r e b = record {
   reads =
@@ -81,17 +89,20 @@ settled h o modules r e b = record {
 
 -- ---- Texts put
 -- The included trie reads the same.
-carries-keeps : {ws txt txt′ : List ℕ} {h : Header} → Sound ws txt h → Keeps (h .text) txt txt′ → (f : Form) (inc : ℕ) (s : Str)
+carries-keeps : {ws txt txt′ : List ℕ} {h : Header} → Sound ws txt h → Keeps (h .text) txt txt′
+    → (f : Form) (inc : ℕ) (s : Str)
     → Carries f ws txt (h .names) s inc → Carries f ws txt′ (h .names) s inc
 carries-keeps o y form.Name inc s r = r
 carries-keeps {txt = txt} {txt′} o y form.Import inc s r = record {
   link = r .link;
-  says = what-keeps (o .right) y names trieˢ (omega (arith, o .names-link .earlier)) (r .link) ∙ r .says ∙ rw (what-keeps (o .right) y names trieˢ (omega arith) (o .names-link));
+  says = what-keeps (o .right) y names trieˢ (omega (arith, o .names-link .earlier)) (r .link) ∙ r .says
+      ∙ rw (what-keeps (o .right) y names trieˢ (omega arith) (o .names-link));
 }
 carries-keeps o y (form.Module loaded) inc s r = r
 
 -- And so does the way.
-way-keeps : {ws txt txt′ : List ℕ} {n used : ℕ} → Used ws txt n used → Keeps used txt txt′ → (w : Which) (k : CallKind) (other key : Str) (way : List ℕ) (x : ℕ) (q : Query)
+way-keeps : {ws txt txt′ : List ℕ} {n used : ℕ} → Used ws txt n used → Keeps used txt txt′
+    → (w : Which) (k : CallKind) (other key : Str) (way : List ℕ) (x : ℕ) (q : Query)
     → LinkOk ws (n + 1) x (kind w trieˢ) → Way ws txt w k other key way x q → Way ws txt′ w k other key way x q
 way-keeps o y w k other key way x [] i z = rw (what-keeps o y w trieˢ (omega arith) i) z
 way-keeps {ws} {n = n} o y w k other key way x (s ∷ q) i z =
@@ -106,7 +117,8 @@ way-keeps {ws} {n = n} o y w k other key way x (s ∷ q) i z =
     )
 
 -- ---- Whole
-module _ {ws txt : List ℕ} {h : Header} {k : CallKind} {host other key : Str} {way : List ℕ} (p : Passes ws txt h k host other key way) where
+module _ {ws txt : List ℕ} {h : Header} {k : CallKind} {host other key : Str} {way : List ℕ}
+    (p : Passes ws txt h k host other key way) where
   passed : Acceptable true (lent ws txt) (state-of ws txt h) (call-of k host other key)
   passed = registration-rows-none true _ _ _ (p .rows)
 
@@ -117,7 +129,8 @@ module _ {ws txt : List ℕ} {h : Header} {k : CallKind} {host other key : Str} 
   taken : text-taken (arguments (call-of k host other key)) ≡ length host + length other + length key
   taken = taken-all k host other key (p .no-key)
 
-  pub text-room : (h .text + length host + length other + length key ≤ length txt) × (h .text + length host + length other + length key ≤ 65536)
+  pub text-room : (h .text + length host + length other + length key ≤ length txt)
+      × (h .text + length host + length other + length key ≤ 65536)
   unfolding free
   text-room =
       let f = ltb-false (free (length txt) (h .text)) (text-taken (arguments (call-of k host other key))) (passed .text-fits) in
@@ -127,24 +140,38 @@ module _ {ws txt : List ℕ} {h : Header} {k : CallKind} {host other key : Str} 
   unfolding free whole-records
   records-room =
       let f = ltb-false (free (whole-records (length ws)) (h .records)) (records (table-of ws txt h) (call-of k host other key)) (passed .records-fit) in
-      record { few = omega (arith, p .sound .right .few, p .sound .right .records-fit); fits = omega (arith, p .sound .right .few, p .sound .right .records-fit) }
+      record {
+        few = omega (arith, p .sound .right .few, p .sound .right .records-fit);
+        fits = omega (arith, p .sound .right .few, p .sound .right .records-fit);
+      }
 
   module _ {txt′ : List ℕ} (l : TextsLaid txt txt′ (h .text) host other key) where
     sound-after : Sound ws txt′ (with-text h (text-after h host other key))
-    sound-after = record { right = used-text (p .sound .right) (l .keeps) (omega arith) (text-room .1) (omega (arith, text-room, l .keeps .size)); names-link = p .sound .names-link; modules-link = p .sound .modules-link }
+    sound-after = record {
+      right = used-text (p .sound .right) (l .keeps) (omega arith) (text-room .1) (omega (arith, text-room, l .keeps .size));
+      names-link = p .sound .names-link;
+      modules-link = p .sound .modules-link;
+    }
 
     abbrev change : Change
     change = change-at k (included-in way) (h .text) host other key
 
-    right : Right h sound-after (h .text) (h .text + length host) (call-of k host other key) change (root-at (which-of change) h)
-    right = change-right h sound-after (h .text) host other key (l .stand) (omega arith) k (included-in way) is-ready (carries-keeps (p .sound) (l .keeps) (shape-of k .form) (included-in way) other (p .carries))
+    right : Right h sound-after (h .text) (h .text + length host) (call-of k host other key) change
+        (root-at (which-of change) h)
+    right = change-right h sound-after (h .text) host other key (l .stand) (omega arith) k (included-in way) is-ready
+        (carries-keeps (p .sound) (l .keeps) (shape-of k .form) (included-in way) other (p .carries))
 
-    pub write-mutation : Mutation ws txt′ (h .records) (text-after h host other key) (root-at (which-by (shape-of k .form)) h) (h .text) (descent (h .text) (h .text + length host) (change-at k (included-in way) (h .text) host other key))
+    pub write-mutation : Mutation ws txt′ (h .records) (text-after h host other key)
+        (root-at (which-by (shape-of k .form)) h) (h .text)
+        (descent (h .text) (h .text + length host) (change-at k (included-in way) (h .text) host other key))
     write-mutation =
         right-mutation h sound-after (h .text) host other key (l .stand) (omega arith) right (is-ready .host-ends) (is-ready .host-keeps)
-        (rw (table-keeps (p .sound) (l .keeps)) (passed .light)) (rw (table-keeps (p .sound) (l .keeps)) (passed .shallow)) (rw (table-keeps (p .sound) (l .keeps)) records-room)
+        (rw (table-keeps (p .sound) (l .keeps)) (passed .light)) (rw (table-keeps (p .sound) (l .keeps)) (passed .shallow))
+        (rw (table-keeps (p .sound) (l .keeps)) records-room)
 
-    pub write-way : TrieWay ws txt′ (root-at (which-by (shape-of k .form)) h) (h .text) (descent (h .text) (h .text + length host) (change-at k (included-in way) (h .text) host other key)) (drop steps-at way)
+    pub write-way : TrieWay ws txt′ (root-at (which-by (shape-of k .form)) h) (h .text)
+        (descent (h .text) (h .text + length host) (change-at k (included-in way) (h .text) host other key))
+        (drop steps-at way)
     write-way = record {
       leads =
           rw (host-is h sound-after (h .text) host other key (l .stand) (omega arith), l .stand .other-at, l .stand .key-at)
@@ -153,8 +180,10 @@ module _ {ws txt : List ℕ} {h : Header} {k : CallKind} {host other key : Str} 
 
     built-accepts : {ws′ : List ℕ} {link m : ℕ}
         → Builds ws ws′ txt′ (h .records) (text-after h host other key) (which-of change) trieˢ
-        (mutated ws txt′ change (what (which-of change) ws txt′ (root-at (which-of change) h) trieˢ) (h .text) (h .text) (h .text + length host)) link m
-        → Accepts ws txt ws′ txt′ h (with-root (which-of change) h link m (text-after h host other key)) (after (state-of ws txt h) (call-of k host other key))
+        (mutated ws txt′ change (what (which-of change) ws txt′ (root-at (which-of change) h) trieˢ) (h .text) (h .text)
+        (h .text + length host)) link m
+        → Accepts ws txt ws′ txt′ h (with-root (which-of change) h link m (text-after h host other key))
+        (after (state-of ws txt h) (call-of k host other key))
     unfolding after
     built-accepts b =
         let s = settled h sound-after (which-of change) (right .registers) (right .stays) b in
@@ -167,7 +196,8 @@ module _ {ws txt : List ℕ} {h : Header} {k : CallKind} {host other key : Str} 
         }
 
     pub write-accepts : {ws′ : List ℕ} {x link m : ℕ} {r : Header} → x ≡ root-at (which-by (shape-of k .form)) h
-        → Mutated ws ws′ txt′ (h .records) x (h .text) (descent (h .text) (h .text + length host) (change-at k (included-in way) (h .text) host other key)) link m
+        → Mutated ws ws′ txt′ (h .records) x (h .text)
+        (descent (h .text) (h .text + length host) (change-at k (included-in way) (h .text) host other key)) link m
         → r ≡ with-root (which-by (shape-of k .form)) h link m (text-after h host other key)
         → Accepts ws txt ws′ txt′ h r (after (state-of ws txt h) (call-of k host other key))
     write-accepts e g f = rw f (built-accepts ((rw e at g) _ write-mutation))

@@ -62,15 +62,19 @@ module _ {ws txt : List ℕ} (h : Header) {used : ℕ} (o : Sound ws txt (with-t
   pub record Right (at mid : ℕ) (c : Call) (ch : Change) (x : ℕ) : Type 0 where
     pub change : ChangeOk ws txt (h .records) used ch
     pub link : LinkOk ws (h .records + 1) x (kind (which-of ch) trieˢ)
-    pub registers : Registers (table-of ws txt h) c (which-of ch) (mutated ws txt ch (what (which-of ch) ws txt x trieˢ) at at mid)
+    pub registers : Registers (table-of ws txt h) c (which-of ch)
+        (mutated ws txt ch (what (which-of ch) ws txt x trieˢ) at at mid)
     pub stays : Stays (which-of ch) (table-of ws txt h) c
 
-  module _ (at : ℕ) (host other key : Str) (p : Stand txt at host other key) (room : at + length host + length other + length key ≤ used) where
+  module _ (at : ℕ) (host other key : Str) (p : Stand txt at host other key)
+      (room : at + length host + length other + length key ≤ used) where
     pub host-is : between txt at (at + length host) ≡ segments host
     host-is = let z : at + length host - at ≡ length host = omega arith in rw (z, p .host-at)
 
-    pub change-right : (k : CallKind) (inc : ℕ) → Ready k host other key → Carries (shape-of k .form) ws txt (h .names) other inc
-        → Right at (at + length host) (call-of k host other key) (change-at k inc at host other key) (root-at (which-by (shape-of k .form)) h)
+    pub change-right : (k : CallKind) (inc : ℕ) → Ready k host other key
+        → Carries (shape-of k .form) ws txt (h .names) other inc
+        → Right at (at + length host) (call-of k host other key) (change-at k inc at host other key)
+        (root-at (which-by (shape-of k .form)) h)
     unfolding registered insert register-alias register-include register-open register-module-stays-loaded
     change-right (Name k n) inc r i = record {
       change = record { sound = o .right; text = record { inside = omega arith; keeps = rw (p .other-at) (r .other-keeps) }; key = tt; inc = tt };
@@ -79,15 +83,27 @@ module _ {ws txt : List ℕ} (h : Header) {used : ℕ} (o : Sound ws txt (with-t
       stays = refl;
     }
     change-right Include inc r i = record {
-      change = record { sound = o .right; text = label-right txt _ other (p .other-at) (query-ends other (r .other-fine)) (omega arith) (r .other-keeps); key = tt; inc = link-later (omega (arith, o .names-link .earlier)) (i .link) };
+      change = record {
+        sound = o .right;
+        text = label-right txt _ other (p .other-at) (query-ends other (r .other-fine)) (omega arith) (r .other-keeps);
+        key = tt;
+        inc = link-later (omega (arith, o .names-link .earlier)) (i .link);
+      };
       link = o .names-link;
-      registers = include-registers ws txt at _ _ host host-is (change-at Include inc at host other key) other (label-is txt _ other (p .other-at) (query-ends other (r .other-fine))) (i .says);
+      registers = include-registers ws txt at _ _ host host-is (change-at Include inc at host other key) other
+          (label-is txt _ other (p .other-at) (query-ends other (r .other-fine))) (i .says);
       stays = refl;
     }
     change-right Open inc r i = record {
-      change = record { sound = o .right; text = label-right txt _ other (p .other-at) (query-ends other (r .other-fine)) (omega arith) (r .other-keeps); key = tt; inc = link-later (omega (arith, o .names-link .earlier)) (i .link) };
+      change = record {
+        sound = o .right;
+        text = label-right txt _ other (p .other-at) (query-ends other (r .other-fine)) (omega arith) (r .other-keeps);
+        key = tt;
+        inc = link-later (omega (arith, o .names-link .earlier)) (i .link);
+      };
       link = o .names-link;
-      registers = open-registers ws txt at _ _ host host-is (change-at Open inc at host other key) other (label-is txt _ other (p .other-at) (query-ends other (r .other-fine))) (i .says);
+      registers = open-registers ws txt at _ _ host host-is (change-at Open inc at host other key) other
+          (label-is txt _ other (p .other-at) (query-ends other (r .other-fine))) (i .says);
       stays = refl;
     }
     change-right Alias inc r i = record {
@@ -98,7 +114,8 @@ module _ {ws txt : List ℕ} (h : Header) {used : ℕ} (o : Sound ws txt (with-t
         inc = link-later (omega (arith, o .names-link .earlier)) (i .link);
       };
       link = o .names-link;
-      registers = alias-registers ws txt at _ _ host host-is (change-at Alias inc at host other key) other (label-is txt _ other (p .other-at) (query-ends other (r .other-fine))) (i .says) key (p .key-at);
+      registers = alias-registers ws txt at _ _ host host-is (change-at Alias inc at host other key) other
+          (label-is txt _ other (p .other-at) (query-ends other (r .other-fine))) (i .says) key (p .key-at);
       stays = refl;
     }
     change-right (Module loaded) inc r i = record {
@@ -109,8 +126,10 @@ module _ {ws txt : List ℕ} (h : Header) {used : ℕ} (o : Sound ws txt (with-t
     }
 
     -- What trie_mutate asks.
-    pub right-mutation : {c : Call} {ch : Change} {x : ℕ} → Right at (at + length host) c ch x → ends-in-dot host ≡ true → IsQuery (segments host)
-        → crowded (registered (table-of ws txt h) c) ≡ false → deep (registered (table-of ws txt h) c) ≡ false → Room ws (h .records) (records (table-of ws txt h) c)
+    pub right-mutation : {c : Call} {ch : Change} {x : ℕ} → Right at (at + length host) c ch x → ends-in-dot host ≡ true
+        → IsQuery (segments host)
+        → crowded (registered (table-of ws txt h) c) ≡ false → deep (registered (table-of ws txt h) c) ≡ false
+        → Room ws (h .records) (records (table-of ws txt h) c)
         → Mutation ws txt (h .records) used x at (descent at (at + length host) ch)
     right-mutation {ch = ch} r d q light shallow free = let z : at + length host - at ≡ length host = omega arith in record {
       change = r .change;

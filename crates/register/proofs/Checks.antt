@@ -33,7 +33,8 @@ use Rattle.register_plan.specs.declared.Plan.{Plan}
 use Rattle.register.specs.Checks.{NoKey, Ready}
 
 -- ---- Texts
-pub call-ready : (k : CallKind) (host other key : Str) → Admitted true (arguments (call-of k host other key)) → Ready k host other key
+pub call-ready : (k : CallKind) (host other key : Str) → Admitted true (arguments (call-of k host other key))
+    → Ready k host other key
 unfolding any
 call-ready k host other key a =
     let m = or-parts (any malformed (key-argument k key)) _ (rw (arguments-of k host other key, any-append) at (a .well-formed)) in
@@ -69,14 +70,16 @@ ready-short k host other key r n = record {
 }
 
 -- The text that a call takes.
-pub taken-all : (k : CallKind) (host other key : Str) → NoKey k key → text-taken (arguments (call-of k host other key)) ≡ length host + length other + length key
+pub taken-all : (k : CallKind) (host other key : Str) → NoKey k key
+    → text-taken (arguments (call-of k host other key)) ≡ length host + length other + length key
 taken-all k host other key n = taken-is k host other key ∙ rw n
 
 -- ---- The root
 
 module _ (ws txt : List ℕ) (h : Header) where
   -- Only a form that changes the names includes a trie.
-  pub carries-root : (f : Form) (other : Str) (r : ℕ) → Carries f ws txt (h .names) other r → Carries f ws txt (root-at (which-by f) h) other r
+  pub carries-root : (f : Form) (other : Str) (r : ℕ) → Carries f ws txt (h .names) other r
+      → Carries f ws txt (root-at (which-by f) h) other r
   carries-root form.Name other r c = c
   carries-root form.Import other r c = c
   carries-root (form.Module loaded) other r c = c
@@ -87,11 +90,13 @@ module _ (ws txt : List ℕ) (h : Header) where
 
 -- ---- Rows
 module _ (lent : Lent) (s : State) (c : Call) where
-  pub rows-refused : {n : ℕ} → lowest (argument-rows true (arguments c)) ≡ some n → lowest (registration-rows true lent s c) ≡ some n
+  pub rows-refused : {n : ℕ} → lowest (argument-rows true (arguments c)) ≡ some n
+      → lowest (registration-rows true lent s c) ≡ some n
   unfolding registration-rows
   rows-refused e = lowest-stops (argument-rows true (arguments c)) _ e
 
-  pub rows-planned : {p : Plan} {taken : ℕ} → SoundTable (s .table) → Planned (s .table) c p → taken ≡ text-taken (arguments c) → lowest (argument-rows true (arguments c)) ≡ none
+  pub rows-planned : {p : Plan} {taken : ℕ} → SoundTable (s .table) → Planned (s .table) c p
+      → taken ≡ text-taken (arguments c) → lowest (argument-rows true (arguments c)) ≡ none
       → lowest (registration-rows true lent s c) ≡ lowest (capacity-rows
       (record { crowded = p .crowded; deep = p .deep; records = p .records; text = taken })
       (record { words = lent .words; records = s .records-used; text = lent .text; used = s .text-used }))

@@ -11,13 +11,17 @@ use Rattle.memory.proofs.Keeps.{put-text-keeps, put-text-span, span-keeps}
 use Rattle.memory.proofs.Keeps.{keeps-then}
 use Rattle.register.specs.Writes.{TextsLaid}
 
-put-text-beyond : (t : List ℕ) (at : ℕ) (s : Str) (m : ℕ) → at + length s ≤ length t → drop (at + length s + m) (put-text t at s) ≡ drop (at + length s + m) t
+put-text-beyond : (t : List ℕ) (at : ℕ) (s : Str) (m : ℕ) → at + length s ≤ length t
+    → drop (at + length s + m) (put-text t at s) ≡ drop (at + length s + m) t
 unfolding put-text
 put-text-beyond t at s m h =
-    sym (drop-drop m (at + length s) _) ∙ ap (λ (l : List ℕ). drop m l) (drop-paste t at s (length s) (omega arith) (omega arith)) ∙ drop-drop m (at + length s) t
+    sym (drop-drop m (at + length s) _) ∙ ap (λ (l : List ℕ). drop m l) (drop-paste t at s (length s) (omega arith) (omega arith))
+    ∙ drop-drop m (at + length s) t
 
-module _ (txt : List ℕ) (at : ℕ) (host other key : Str) (room : at + length host + length other + length key ≤ length txt) where
-  laid-put : TextsLaid txt (put-text (put-text (put-text txt at host) (at + length host) other) (at + length host + length other) key) at host other key
+module _ (txt : List ℕ) (at : ℕ) (host other key : Str)
+    (room : at + length host + length other + length key ≤ length txt) where
+  laid-put : TextsLaid txt (put-text (put-text (put-text txt at host) (at + length host) other)
+      (at + length host + length other) key) at host other key
   laid-put =
       let one = put-text txt at host in
       let two = put-text one (at + length host) other in
@@ -33,11 +37,14 @@ module _ (txt : List ℕ) (at : ℕ) (host other key : Str) (room : at + length 
             ∙ put-text-beyond one (at + length host) other (length key) (omega (arith, h .size))
             ∙ rw y at (put-text-beyond txt at host (length other + length key) (omega arith));
         stand = record {
-          host-at = span-keeps (keeps-then (omega arith) i j) at (length host) (omega arith) ∙ put-text-span txt at host (omega arith);
-          other-at = span-keeps j (at + length host) (length other) (omega arith) ∙ put-text-span one (at + length host) other (omega (arith, h .size));
+          host-at = span-keeps (keeps-then (omega arith) i j) at (length host) (omega arith)
+              ∙ put-text-span txt at host (omega arith);
+          other-at = span-keeps j (at + length host) (length other) (omega arith)
+              ∙ put-text-span one (at + length host) other (omega (arith, h .size));
           key-at = put-text-span two (at + length host + length other) key (omega (arith, h .size, i .size));
         };
       }
 
-  pub texts-laid : {a b c : List ℕ} → a ≡ put-text txt at host → b ≡ put-text a (at + length host) other → c ≡ put-text b (at + length host + length other) key → TextsLaid txt c at host other key
+  pub texts-laid : {a b c : List ℕ} → a ≡ put-text txt at host → b ≡ put-text a (at + length host) other
+      → c ≡ put-text b (at + length host + length other) key → TextsLaid txt c at host other key
   texts-laid e f g = rw (g, f, e) laid-put

@@ -42,9 +42,12 @@ pub record Passes (ws txt : List ℕ) (h : Header) (k : CallKind) (host other ke
   pub rows : lowest (registration-rows true (lent ws txt) (state-of ws txt h) (call-of k host other key)) ≡ none
   pub size : length way ≡ way-size
   pub carries : Carries (shape-of k .form) ws txt (h .names) other (included-in way)
-  pub leads : Way ws txt (which-by (shape-of k .form)) k other key (drop steps-at way) (root-at (which-by (shape-of k .form)) h) (segments host)
+  pub leads : Way ws txt (which-by (shape-of k .form)) k other key (drop steps-at way)
+      (root-at (which-by (shape-of k .form)) h) (segments host)
 
 -- The answer of a check: that it passes, or the first row that it meets.
-abbrev pub Checks : (ws txt : List ℕ) (h : Header) (k : CallKind) (host other key : Str) (way : List ℕ) → Checked → Type 0
+abbrev pub Checks : (ws txt : List ℕ) (h : Header) (k : CallKind) (host other key : Str) (way : List ℕ) → Checked
+    → Type 0
 Checks ws txt h k host other key way Passed = Passes ws txt h k host other key way
-Checks ws txt h k host other key way (Refused x) = lowest (registration-rows true (lent ws txt) (state-of ws txt h) (call-of k host other key)) ≡ some (number x)
+Checks ws txt h k host other key way (Refused x) =
+    lowest (registration-rows true (lent ws txt) (state-of ws txt h) (call-of k host other key)) ≡ some (number x)

@@ -21,7 +21,8 @@ pub record Stand (txt : List ℕ) (at : ℕ) (host other key : Str) : Type 0 whe
 -- They have been put there, and no other byte has changed.
 pub record TextsLaid (txt txt′ : List ℕ) (at : ℕ) (host other key : Str) : Type 0 where
   pub keeps : Keeps at txt txt′
-  pub beyond : drop (at + length host + length other + length key) txt′ ≡ drop (at + length host + length other + length key) txt
+  pub beyond : drop (at + length host + length other + length key) txt′
+      ≡ drop (at + length host + length other + length key) txt
   pub stand : Stand txt′ at host other key
 
 -- The header with so much text used.

@@ -28,7 +28,8 @@ use Rattle.register_kind.specs.declared.Form.the-variants as form
 use Rattle.register_leaf.specs.declared.Change.{Change}
 use Rattle.register_change.specs.declared.Descent.{Descent}
 use Rattle.register_leaf.specs.Leaves.{which-of, leaf-of, Included, ChangeOk, Leaf, LeafBuilds, Builds, LeafBuilt}
-use Rattle.register_change.specs.Changes.{between, passed, Kinds, node-of, mutated, namespaces-mutated, SegmentCut, Node, NamespacesMutation, Mutation, TrieWay, NamespacesWay, NodeBuilt, NamespacesMutated, Mutated}
+use Rattle.register_change.specs.Changes.{between, passed, Kinds, node-of, mutated, namespaces-mutated, SegmentCut, Node, NamespacesMutation, Mutation}
+use Rattle.register_change.specs.Changes.{TrieWay, NamespacesWay, NodeBuilt, NamespacesMutated, Mutated}
 use Rattle.memory.proofs.Tries.{Lists, lists-in}
 use Rattle.register_change.proofs.QueryPlace.{place-next, passed-next, key-in}
 use Rattle.register_leaf.proofs.Builds.{inserted-within, scope-insertion, scope-built}
@@ -59,8 +60,11 @@ module _ {ws txt : List ℕ} {n used x at len : ℕ} {d : Descent} (g : Namespac
           });
         }
 
-    module _ {ws₁ : List ℕ} {s n₁ k : ℕ} (S : Mutated ws ws₁ txt n (below-in way) (at + len + 1) d s n₁) (h : Kinds (d .change) k) where
-      scope-builds : Builds ws ws₁ txt n used (which-of (d .change)) trieˢ (mutated ws txt (d .change) (scope-of (what (which-of (d .change)) ws txt x (list ns)) (span txt at len)) (d .from) (at + len + 1) (d .end)) s n₁
+    module _ {ws₁ : List ℕ} {s n₁ k : ℕ} (S : Mutated ws ws₁ txt n (below-in way) (at + len + 1) d s n₁)
+        (h : Kinds (d .change) k) where
+      scope-builds : Builds ws ws₁ txt n used (which-of (d .change)) trieˢ
+          (mutated ws txt (d .change) (scope-of (what (which-of (d .change)) ws txt x (list ns)) (span txt at len))
+          (d .from) (at + len + 1) (d .end)) s n₁
       scope-builds = rw (z .first .next .says) at (S used spaces-mutation)
 
       kind-is : k + kind-in (tree ns) ≡ kind (which-of (d .change)) (tree ns)
@@ -76,30 +80,37 @@ module _ {ws txt : List ℕ} {n used x at len : ℕ} {d : Descent} (g : Namespac
       pub spaces-any : AnyNamesInsertion ws₁ txt n₁ x (count-in way) spaces-row
       spaces-any = record { which = which-of (d .change); level = ns; used = used; insertion = spaces-insertion }
 
-      pub spaces-built : {ws₂ : List ℕ} {y : ℕ} → y ≡ n₁ + count-in way + 1 → NamesInserts ws₁ ws₂ txt n₁ x (count-in way) spaces-row y
-          → Builds ws ws₂ txt n used (which-of (d .change)) (list ns) (namespaces-mutated ws txt (d .change) (what (which-of (d .change)) ws txt x (list ns)) (d .from) at len (d .end)) y y
+      pub spaces-built : {ws₂ : List ℕ} {y : ℕ} → y ≡ n₁ + count-in way + 1
+          → NamesInserts ws₁ ws₂ txt n₁ x (count-in way) spaces-row y
+          → Builds ws ws₂ txt n used (which-of (d .change)) (list ns)
+          (namespaces-mutated ws txt (d .change) (what (which-of (d .change)) ws txt x (list ns)) (d .from) at len
+          (d .end)) y y
       spaces-built f m = scope-built scope-builds (g .change .sound) (g .link) k kind-is _ spaces-key (z .first .builds) spaces-insertion f m
 
 -- ---- trie_mutate at the host
 module _ (ws txt : List ℕ) (at : ℕ) (d : Descent) (e : at ≡ d .end) where
-  mutated-leaf : (tr : Trie (Item (which-of (d .change)))) → mutated ws txt (d .change) tr (d .from) at (d .end) ≡ leaf-of ws txt (d .change) tr
+  mutated-leaf : (tr : Trie (Item (which-of (d .change))))
+      → mutated ws txt (d .change) tr (d .from) at (d .end) ≡ leaf-of ws txt (d .change) tr
   unfolding trie-mutateᶜ span segments
   mutated-leaf tr = let z : d .end - at ≡ 0 = omega arith in rw z
 
   pub leaf-mutation : {n used x : ℕ} → Mutation ws txt n used x at d → Leaf ws txt n used x (d .change)
   leaf-mutation m = record { change = m .change; link = m .link; fits = rw mutated-leaf at (m .fits) }
 
-  pub leaf-way : {x : ℕ} {way : List ℕ} → TrieWay ws txt x at d way → (step-size ≤ length way) × LeafBuilds ws txt x (d .change) (count-in way)
+  pub leaf-way : {x : ℕ} {way : List ℕ} → TrieWay ws txt x at d way
+      → (step-size ≤ length way) × LeafBuilds ws txt x (d .change) (count-in way)
   unfolding span segments
   leaf-way y = let z : d .end - at ≡ 0 = omega arith in rw z at (y .leads)
 
-  pub leaf-mutated : {ws′ : List ℕ} {n x link n′ : ℕ} → LeafBuilt ws ws′ txt n x (d .change) link n′ → Mutated ws ws′ txt n x at d link n′
+  pub leaf-mutated : {ws′ : List ℕ} {n x link n′ : ℕ} → LeafBuilt ws ws′ txt n x (d .change) link n′
+      → Mutated ws ws′ txt n x at d link n′
   leaf-mutated b used m = rw mutated-leaf (b used (leaf-mutation m))
 
 -- ---- trie_mutate above it
 
 -- What segment_in asks.
-pub segment-ready : {ws txt : List ℕ} {n used x at : ℕ} {d : Descent} → Mutation ws txt n used x at d → (at ≡ d .end → ⊥)
+pub segment-ready : {ws txt : List ℕ} {n used x at : ℕ} {d : Descent} → Mutation ws txt n used x at d
+    → (at ≡ d .end → ⊥)
     → (at < d .end) × (d .end ≤ length txt) × (d .end ≤ 65536) × (ends-in-dot (span txt at (d .end - at)) ≡ true)
 segment-ready m h = (
   omega (arith, m .place .inside),
@@ -109,7 +120,8 @@ segment-ready m h = (
 )
 
 -- The links of a change stay.
-change-stays : {ch : Change} {ws ws′ txt : List ℕ} {n n′ used : ℕ} {w : Which} {s : Sort} {r : ℕ} {t : Of (Item w) s} → Made ws ws′ txt n n′ used w s r t → ChangeOk ws txt n used ch → ChangeOk ws′ txt n′ used ch
+change-stays : {ch : Change} {ws ws′ txt : List ℕ} {n n′ used : ℕ} {w : Which} {s : Sort} {r : ℕ} {t : Of (Item w) s}
+    → Made ws ws′ txt n n′ used w s r t → ChangeOk ws txt n used ch → ChangeOk ws′ txt n′ used ch
 change-stays {ch} {ws} {ws′} {n = n} {n′} m c = record { sound = m .sound; text = c .text; key = c .key; inc = stays (shape-of (ch .kind) .form) (c .inc) }
   where
     stays : (f : Form) → Included f ws n (ch .inc) → Included f ws′ n′ (ch .inc)
@@ -117,7 +129,8 @@ change-stays {ch} {ws} {ws′} {n = n} {n′} m c = record { sound = m .sound; t
     stays form.Import i = made-link m (omega arith) i
     stays (form.Module loaded) i = i
 
-module _ {ws txt : List ℕ} {n used x at len : ℕ} {d : Descent} {p : M.Trie} (m : Mutation ws txt n used x at d) (c : SegmentCut txt at len (d .end)) (q : ReadTrie ws x p) where
+module _ {ws txt : List ℕ} {n used x at len : ℕ} {d : Descent} {p : M.Trie} (m : Mutation ws txt n used x at d)
+    (c : SegmentCut txt at len (d .end)) (q : ReadTrie ws x p) where
   mutation-lists : Lists ws txt n (which-of (d .change)) x p
   mutation-lists = lists-in (m .change .sound) (m .link) q
 
@@ -132,7 +145,8 @@ module _ {ws txt : List ℕ} {n used x at len : ℕ} {d : Descent} {p : M.Trie} 
 
   -- One step of trie_mutate.
   step : mutated ws txt (d .change) tr (d .from) at (d .end)
-      ≡ (mutated ws txt (d .change) (scope-of (namespaces tr) (span txt at len)) (d .from) (at + len + 1) (d .end) >>= λ scope. names-insertᶜ (namespaces tr) (span txt at len) scope >>= node)
+      ≡ (mutated ws txt (d .change) (scope-of (namespaces tr) (span txt at len)) (d .from) (at + len + 1) (d .end) >>=
+      λ scope. names-insertᶜ (namespaces tr) (span txt at len) scope >>= node)
   unfolding trie-mutateᶜ
   step = rw (passed-next (m .place) c, c .splits)
 
@@ -164,7 +178,10 @@ module _ {ws txt : List ℕ} {n used x at len : ℕ} {d : Descent} {p : M.Trie} 
       record {
         first = rw (mutation-lists .n-reads) (record {
           long = z .0 .long;
-          next = record { link = link-later (omega (arith, m .link .earlier)) (z .0 .next .link); says = z .0 .next .says };
+          next = record {
+            link = link-later (omega (arith, m .link .earlier)) (z .0 .next .link);
+            says = z .0 .next .says;
+          };
           builds = z .0 .builds;
         });
         rest = record { leads = z .1 };
@@ -191,9 +208,12 @@ module _ {ws txt : List ℕ} {n used x at len : ℕ} {d : Descent} {p : M.Trie} 
       });
     }
 
-    pub mutation-built : {ws₂ : List ℕ} {r n₂ : ℕ} → NodeBuilt ws₁ ws₂ txt n₁ x y at len d r n₂ → Builds ws ws₂ txt n used (which-of (d .change)) trieˢ (mutated ws txt (d .change) tr (d .from) at (d .end)) r n₂
+    pub mutation-built : {ws₂ : List ℕ} {r n₂ : ℕ} → NodeBuilt ws₁ ws₂ txt n₁ x y at len d r n₂
+        → Builds ws ws₂ txt n used (which-of (d .change)) trieˢ
+        (mutated ws txt (d .change) tr (d .from) at (d .end)) r n₂
     mutation-built f =
-        let b : Builds ws₁ _ txt n₁ used (which-of (d .change)) trieˢ (node (spaces .value)) _ _ = rw (same, spaces-builds .made .reads) at (f used mutation-node) in
+        let b : Builds ws₁ _ txt n₁ used (which-of (d .change)) trieˢ (node (spaces .value)) _ _ =
+        rw (same, spaces-builds .made .reads) at (f used mutation-node) in
         record {
           number = omega (arith, step-count, b .number, spaces-builds .number);
           made = rw step-value (made-then (spaces-builds .made) (b .made));

@@ -36,7 +36,8 @@ use Rattle.insert_record.proofs.Made.{made-none}
 use Rattle.insert_list.proofs.NamesInsertion.{insertion-after}
 use Rattle.find_trie.specs.Tries.{NsInserts, LoadedModule}
 use Rattle.register_leaf.specs.Leaves.{which-of, Some, Builds}
-use Rattle.register_change.specs.Changes.{between, passed, of-modules, Kinds, bindings-by, node-of, symbol-row, form-of, bindings-at, node-at, Bindings, Node, BindingsBuilt}
+use Rattle.register_change.specs.Changes.{between, passed, of-modules, Kinds, bindings-by, node-of, symbol-row, form-of, bindings-at, node-at, Bindings}
+use Rattle.register_change.specs.Changes.{Node, BindingsBuilt}
 use Rattle.find_trie.proofs.Found.{some-left}
 use Rattle.memory.proofs.Pasted.{span-length}
 use Rattle.register_change.proofs.QueryPlace.{place-next, key-in, full-name-is, full-name-in}
@@ -56,11 +57,14 @@ module _ (ch : Change) where
   kinds-module e = rw e (omega arith, λ s. refl)
 
 -- ---- ins
-pub placed-part : {ws txt : List ℕ} {x holder count wt : ℕ} (s l : ℕ) → NamesPlaced ws txt x (take (s + l - s) (drop s txt)) holder count wt → NamesPlaced ws txt x (span txt s l) holder count wt
+pub placed-part : {ws txt : List ℕ} {x holder count wt : ℕ} (s l : ℕ)
+    → NamesPlaced ws txt x (take (s + l - s) (drop s txt)) holder count wt
+    → NamesPlaced ws txt x (span txt s l) holder count wt
 unfolding span
 placed-part {txt = txt} s l z = rw (part-is txt s l) at z
 
-last-in : (s : Str) → ends-in-dot s ≡ true → (last : Bool) → (last ≡ true → length s ≡ 0) → (last ≡ false → 0 < length s) → last ≡ is-empty (segments s)
+last-in : (s : Str) → ends-in-dot s ≡ true → (last : Bool) → (last ≡ true → length s ≡ 0)
+    → (last ≡ false → 0 < length s) → last ≡ is-empty (segments s)
 unfolding is-empty segments
 last-in [] e true h g = refl
 last-in (b ∷ s) e true h g = absurd (omega (arith, h refl))
@@ -72,9 +76,13 @@ last-in (b ∷ s) e false h g = some-is (segments (b ∷ s)) (some-left (b ∷ s
     some-is (g ∷ q) h = refl
 
 -- ins-stays-loaded, by whether it inserts.
-ins-is : (p id : Str) (q revq : Query) (b : NameList S.ModSymbol bind) (last loaded inserts m : Bool) → last ≡ is-empty q → inserts ≡ ns-inserts (names-find-exact b id) loaded → m ≡ loaded-module (names-find-exact b id)
+ins-is : (p id : Str) (q revq : Query) (b : NameList S.ModSymbol bind) (last loaded inserts m : Bool)
+    → last ≡ is-empty q → inserts ≡ ns-inserts (names-find-exact b id) loaded
+    → m ≡ loaded-module (names-find-exact b id)
     → ins-stays-loadedᶜ p id q revq b loaded
-    ≡ cond (last || inserts) (names-insertᶜ b id (item (cond last (S.Module (name-of-revq (id ∷ revq)) p (last && m || loaded)) (S.Namespace (name-of-revq (id ∷ revq)) (last && m || loaded))))) (pure b)
+    ≡ cond (last || inserts) (names-insertᶜ b id
+    (item (cond last (S.Module (name-of-revq (id ∷ revq)) p (last && m || loaded))
+    (S.Namespace (name-of-revq (id ∷ revq)) (last && m || loaded))))) (pure b)
 unfolding is-empty ins-stays-loadedᶜ ins-modᶜ ins-nsᶜ
 ins-is p id [] revq b last loaded inserts m e f g = rw (e, g)
 ins-is p id (s ∷ q) revq b last loaded inserts m e f g = rw (e, f) (go (ns-inserts (names-find-exact b id) loaded))
@@ -82,12 +90,14 @@ ins-is p id (s ∷ q) revq b last loaded inserts m e f g = rw (e, f) (go (ns-ins
     new : Counted (NameList S.ModSymbol bind)
     new = names-insertᶜ b id (item (S.Namespace (name-of-revq (id ∷ revq)) loaded))
 
-    go : (t : Bool) → (elim t as (λ _. Counted (NameList S.ModSymbol bind)) [ true ↦ new | false ↦ pure b ]) ≡ cond t new (pure b)
+    go : (t : Bool)
+        → (elim t as (λ _. Counted (NameList S.ModSymbol bind)) [ true ↦ new | false ↦ pure b ]) ≡ cond t new (pure b)
     go true = refl
     go false = refl
 
 -- The row of a module or of a namespace.
-module _ {txt : List ℕ} {used from at len : ℕ} {path : Span} (name : TextOk IsFullName txt used from (at + len - from)) (file : TextOk IsPath txt used (path .start) (path .len)) where
+module _ {txt : List ℕ} {used from at len : ℕ} {path : Span} (name : TextOk IsFullName txt used from (at + len - from))
+    (file : TextOk IsPath txt used (path .start) (path .len)) where
   symbol-ok : (last loaded : Bool) → SymbolOk txt used (symbol-row last at len from loaded path)
   symbol-ok last loaded = record { sort = sort-bit last; name = name; path = of-path last; loaded = bit loaded }
     where
@@ -99,26 +109,30 @@ module _ {txt : List ℕ} {used from at len : ℕ} {path : Span} (name : TextOk 
       sort-bit true = omega arith
       sort-bit false = omega arith
 
-      of-path : (b : Bool) → _≡_ {A = ℕ} (cond b 0 1) 0 → TextOk IsPath txt used (cond b (path .start) 0) (cond b (path .len) 0)
+      of-path : (b : Bool) → _≡_ {A = ℕ} (cond b 0 1) 0
+          → TextOk IsPath txt used (cond b (path .start) 0) (cond b (path .len) 0)
       of-path true e = file
       of-path false e = absurd (omega arith)
 
 symbol-reads : (txt : List ℕ) (at len from : ℕ) (path : Span) (last loaded : Bool)
     → item-of modules txt (symbol-row last at len from loaded path)
-    ≡ cond last (S.Module (span txt from (at + len - from)) (span txt (path .start) (path .len)) loaded) (S.Namespace (span txt from (at + len - from)) loaded)
+    ≡ cond last (S.Module (span txt from (at + len - from)) (span txt (path .start) (path .len)) loaded)
+    (S.Namespace (span txt from (at + len - from)) loaded)
 symbol-reads txt at len from path true true = refl
 symbol-reads txt at len from path true false = refl
 symbol-reads txt at len from path false true = refl
 symbol-reads txt at len from path false false = refl
 
-module _ {ws txt : List ℕ} {n used x at len : ℕ} {d : Descent} {loaded : Bool} (i : Bindings ws txt n used x at len d (form.Module loaded)) where
+module _ {ws txt : List ℕ} {n used x at len : ℕ} {d : Descent} {loaded : Bool}
+    (i : Bindings ws txt n used x at len d (form.Module loaded)) where
   pub ins-list : At ws txt modules (list bind) x
   ins-list = record { records = n; used = used; sound = i .sound; link = i .link }
 
   pub ins-key : TextOk IsKey txt used at len
   ins-key = key-in (i .place) (i .cut)
 
-  module _ {holder count wt : ℕ} {b : Bool} (z : NamesPlaced ws txt x (span txt at len) holder count wt) (f : NsInserts ws holder loaded b) where
+  module _ {holder count wt : ℕ} {b : Bool} (z : NamesPlaced ws txt x (span txt at len) holder count wt)
+      (f : NsInserts ws holder loaded b) where
     abbrev ins-last : Bool
     ins-last = eqb (at + len + 1) (d .end)
 
@@ -126,7 +140,8 @@ module _ {ws txt : List ℕ} {n used x at len : ℕ} {d : Descent} {loaded : Boo
     ins-last-is =
         let pl = place-next (i .place) (i .cut) in
         let h = span-length txt (at + len + 1) (d .end - (at + len + 1)) (omega (arith, pl .inside, pl .within, i .sound .text-fits)) in
-        last-in (span txt (at + len + 1) (d .end - (at + len + 1))) (pl .ends) ins-last (λ e. omega (arith, h, eqb-true (at + len + 1) (d .end) e)) (λ e. omega (arith, h, pl .inside, eqb-false (at + len + 1) (d .end) e))
+        last-in (span txt (at + len + 1) (d .end - (at + len + 1))) (pl .ends) ins-last (λ e. omega (arith, h, eqb-true (at + len + 1) (d .end) e))
+        (λ e. omega (arith, h, pl .inside, eqb-false (at + len + 1) (d .end) e))
 
     -- The row that is put, where m says whether the holder is a loaded Module.
     abbrev ins-row : Bool → List ℕ
@@ -139,7 +154,8 @@ module _ {ws txt : List ℕ} {n used x at len : ℕ} {d : Descent} {loaded : Boo
         (pure (what modules ws txt x (list bind)))
     unfolding bindings-by
     ins-of m k =
-        ins-is (span txt (d .change .text .start) (d .change .text .len)) (span txt at len) (between txt (at + len + 1) (d .end)) (passed txt (d .from) at) (what modules ws txt x (list bind)) ins-last loaded b m ins-last-is
+        ins-is (span txt (d .change .text .start) (d .change .text .len)) (span txt at len) (between txt (at + len + 1) (d .end)) (passed txt (d .from) at)
+        (what modules ws txt x (list bind)) ins-last loaded b m ins-last-is
         (rw (z .found modules bind ins-list .says) (f .says txt)) k
         ∙ rw (symbol-reads txt at len (d .from) (d .change .text) ins-last (ins-last && m || loaded), full-name-is (i .place) (i .cut) (i .sound .text-fits))
 
@@ -162,19 +178,23 @@ module _ {ws txt : List ℕ} {n used x at len : ℕ} {d : Descent} {loaded : Boo
           })
 
       ins-built : {ws′ : List ℕ} {y : ℕ} → y ≡ n + count + 1 → NamesInserts ws ws′ txt n x count (ins-row m) y
-          → Builds ws ws′ txt n used modules (list bind) (bindings-at txt at len d (form.Module loaded) (what modules ws txt x (list bind))) y y
+          → Builds ws ws′ txt n used modules (list bind)
+          (bindings-at txt at len d (form.Module loaded) (what modules ws txt x (list bind))) y y
       ins-built e m = rw ins-is-row (builds-insert ins-insertion m e)
 
       -- As the code has the row.
       pub ins-any : {r : List ℕ} → r ≡ ins-row m → AnyNamesInsertion ws txt n x count r
       ins-any e = rw e (record { which = modules; level = bind; used = used; insertion = ins-insertion })
 
-      pub ins-made : {ws′ : List ℕ} {y : ℕ} {r : List ℕ} → r ≡ ins-row m → y ≡ n + count + 1 → NamesInserts ws ws′ txt n x count r y
-          → Builds ws ws′ txt n used modules (list bind) (bindings-at txt at len d (form.Module loaded) (what modules ws txt x (list bind))) y y
+      pub ins-made : {ws′ : List ℕ} {y : ℕ} {r : List ℕ} → r ≡ ins-row m → y ≡ n + count + 1
+          → NamesInserts ws ws′ txt n x count r y
+          → Builds ws ws′ txt n used modules (list bind)
+          (bindings-at txt at len d (form.Module loaded) (what modules ws txt x (list bind))) y y
       ins-made e f m = ins-built f (rw e at m)
 
     pub ins-none : ins-last || b ≡ false
-        → Builds ws ws txt n used modules (list bind) (bindings-at txt at len d (form.Module loaded) (what modules ws txt x (list bind))) x n
+        → Builds ws ws txt n used modules (list bind)
+        (bindings-at txt at len d (form.Module loaded) (what modules ws txt x (list bind))) x n
     ins-none g = rw (ins-of _ refl, g) (builds-none (list bind) (i .sound) (i .link))
 
 -- ---- the bindings of each form
@@ -188,14 +208,17 @@ module _ {ws txt : List ℕ} {n x at len : ℕ} {d : Descent} {f : Form} where
   keeps-import e = rw e (λ used i. builds-none (list bind) (i .sound) (i .link))
 
   module _ {g : Form} (e : f ≡ g) where
-    pub bindings-as : Some (λ used. Bindings ws txt n used x at len d f) → Some (λ used. Bindings ws txt n used x at len d g)
+    pub bindings-as : Some (λ used. Bindings ws txt n used x at len d f)
+        → Some (λ used. Bindings ws txt n used x at len d g)
     bindings-as i = rw e at i
 
-    pub bindings-to : {ws′ : List ℕ} {link n′ : ℕ} → BindingsBuilt ws ws′ txt n x at len d g link n′ → BindingsBuilt ws ws′ txt n x at len d f link n′
+    pub bindings-to : {ws′ : List ℕ} {link n′ : ℕ} → BindingsBuilt ws ws′ txt n x at len d g link n′
+        → BindingsBuilt ws ws′ txt n x at len d f link n′
     bindings-to b = rw e b
 
 -- ---- mut_node
-module _ {ws txt : List ℕ} {n used x y at len : ℕ} {d : Descent} {p : M.Trie} (i : Node ws txt n used x y at len d) (q : ReadTrie ws x p) where
+module _ {ws txt : List ℕ} {n used x y at len : ℕ} {d : Descent} {p : M.Trie} (i : Node ws txt n used x y at len d)
+    (q : ReadTrie ws x p) where
   node-lists : Lists ws txt n (which-of (d .change)) x p
   node-lists = lists-in (i .change .sound) (i .link) q
 
@@ -216,7 +239,8 @@ module _ {ws txt : List ℕ} {n used x y at len : ℕ} {d : Descent} {p : M.Trie
     unfolding node-of _>>=_ one depth
     node-ready = bindings-ready (B used node-bindings) (i .list-link) (rw (node-lists .b-reads) (i .fits .room)) (i .fits .shallow)
 
-    pub node-built : {ws₂ : List ℕ} {k r : ℕ} → Kinds (d .change) k → r ≡ n₁ + 1 → MadeTrie ws₁ ws₂ n₁ (k + kind-in trieˢ) b y r
+    pub node-built : {ws₂ : List ℕ} {k r : ℕ} → Kinds (d .change) k → r ≡ n₁ + 1
+        → MadeTrie ws₁ ws₂ n₁ (k + kind-in trieˢ) b y r
         → Builds ws ws₂ txt n used (which-of (d .change)) trieˢ
         (node-at ws txt x y at len d) r r
     unfolding node-of

@@ -22,7 +22,8 @@ use Rattle.memory.specs.Sound.{TextOk}
 use Rattle.register_change.specs.Changes.{between, passed, QueryPlace, SegmentCut}
 
 -- ---- Parts of the text
-pub span-join : (txt : List ℕ) (a b c : ℕ) → a ≤ b → b ≤ c → span txt a (c - a) ≡ span txt a (b - a) ++ span txt b (c - b)
+pub span-join : (txt : List ℕ) (a b c : ℕ) → a ≤ b → b ≤ c
+    → span txt a (c - a) ≡ span txt a (b - a) ++ span txt b (c - b)
 unfolding span
 span-join txt a b c h k =
     let e : c - a ≡ b - a + (c - b) = omega arith in
@@ -35,7 +36,8 @@ unfolding before-dot
 before-take [] n h = refl
 before-take (b ∷ s) n h = go (eqb b dot) n h (before-take s)
   where
-    go : (t : Bool) (n : ℕ) → cond t 0 (suc (before-dot s)) ≤ n → ((m : ℕ) → before-dot s ≤ m → before-dot (take (suc m) s) ≡ before-dot s)
+    go : (t : Bool) (n : ℕ) → cond t 0 (suc (before-dot s)) ≤ n
+        → ((m : ℕ) → before-dot s ≤ m → before-dot (take (suc m) s) ≡ before-dot s)
         → cond t 0 (suc (before-dot (take n s))) ≡ cond t 0 (suc (before-dot s))
     go true n h f = refl
     go false zero h f = absurd (omega arith)
@@ -45,35 +47,56 @@ part-drop : (txt : List ℕ) (a b : ℕ) → a ≤ b → b ≤ length txt → dr
 unfolding span
 part-drop txt a b h k =
     let e : b ≡ a + (b - a) = omega arith in
-    ap (λ (n : ℕ). drop a (take n txt)) e ∙ rw (take-add a (b - a) txt) (drop-at (take a txt) (take (b - a) (drop a txt)) a (length-take-le a txt (omega arith)))
+    ap (λ (n : ℕ). drop a (take n txt)) e
+    ∙ rw (take-add a (b - a) txt) (drop-at (take a txt) (take (b - a) (drop a txt)) a (length-take-le a txt (omega arith)))
 
 -- The next segment, where n is what segment_length answers.
-pub cut-in : (txt : List ℕ) (at end n : ℕ) → n ≡ before-dot (span txt at (end - at)) → ends-in-dot (span txt at (end - at)) ≡ true → at < end → end ≤ length txt
+pub cut-in : (txt : List ℕ) (at end n : ℕ) → n ≡ before-dot (span txt at (end - at))
+    → ends-in-dot (span txt at (end - at)) ≡ true → at < end → end ≤ length txt
     → SegmentCut txt at n end
 unfolding segments span ends-in-dot
 cut-in txt at end n e d h k =
-    let i : at + n < end = omega (arith, before-inside (span txt at (end - at)) d (omega (arith, span-length txt at (end - at) (omega arith))), span-length txt at (end - at) (omega arith)) in
-    let whole : Segment (take end txt) at n = segment-at (take end txt) at n (rw (part-drop txt at end (omega arith) k) e) (omega (arith, length-take-le end txt k)) in
+    let i : at + n < end = omega (
+      arith,
+      before-inside (span txt at (end - at)) d (omega (arith, span-length txt at (end - at) (omega arith))),
+      span-length txt at (end - at) (omega arith),
+    ) in
+    let whole : Segment (take end txt) at n =
+    segment-at (take end txt) at n (rw (part-drop txt at end (omega arith) k) e) (omega (arith, length-take-le end txt k)) in
     let j : at + n + 1 - at ≡ suc n = omega arith in
     let short : span txt at (at + n + 1 - at) ≡ take (suc n) (span txt at (end - at)) = rw j (sym (take-take (suc n) (end - at) (drop at txt) (omega arith))) in
-    let m : n ≡ before-dot (drop at (take (at + n + 1) txt)) = rw (part-drop txt at (at + n + 1) (omega arith) (omega arith), short, before-take (span txt at (end - at)) n (omega arith)) e in
-    let first : Segment (take (at + n + 1) txt) at n = segment-at (take (at + n + 1) txt) at n m (omega (arith, length-take-le (at + n + 1) txt (omega arith))) in
-    let none : drop (at + n + 1) (take (at + n + 1) txt) ≡ [] = drop-of-length-le (take (at + n + 1) txt) {i = at + n + 1} (omega (arith, length-take-le (at + n + 1) txt (omega arith))) in
+    let m : n ≡ before-dot (drop at (take (at + n + 1) txt)) =
+    rw (part-drop txt at (at + n + 1) (omega arith) (omega arith), short, before-take (span txt at (end - at)) n (omega arith)) e in
+    let first : Segment (take (at + n + 1) txt) at n =
+    segment-at (take (at + n + 1) txt) at n m (omega (arith, length-take-le (at + n + 1) txt (omega arith))) in
+    let none : drop (at + n + 1) (take (at + n + 1) txt) ≡ [] =
+    drop-of-length-le (take (at + n + 1) txt) {i = at + n + 1} (omega (arith, length-take-le (at + n + 1) txt (omega arith))) in
     record {
       inside = i;
-      alone = rw (part-drop txt at (at + n + 1) (omega arith) (omega arith), none, take-take n (at + n + 1 - at) (drop at txt) (omega arith)) at (first .splits);
-      splits = rw (part-drop txt at end (omega arith) k, part-drop txt (at + n + 1) end (omega arith) k, take-take n (end - at) (drop at txt) (omega arith)) at (whole .splits);
+      alone = rw (
+        part-drop txt at (at + n + 1) (omega arith) (omega arith),
+        none,
+        take-take n (at + n + 1 - at) (drop at txt) (omega arith),
+      ) at (first .splits);
+      splits = rw (
+        part-drop txt at end (omega arith) k,
+        part-drop txt (at + n + 1) end (omega arith) k,
+        take-take n (end - at) (drop at txt) (omega arith),
+      ) at (whole .splits);
       passes = sym (rw (part-drop txt at (at + n + 1) (omega arith) (omega arith), none) at (first .ends));
-      ends = rw (part-drop txt at end (omega arith) k, part-drop txt (at + n + 1) end (omega arith) k) at (whole .ends) ∙ d;
+      ends = rw (part-drop txt at end (omega arith) k, part-drop txt (at + n + 1) end (omega arith) k) at (whole .ends)
+          ∙ d;
     }
 
 -- The same, as the code cuts the text.
-pub cut-part : (txt : List ℕ) (at end n : ℕ) → n ≡ before-dot (take (end - at) (drop at txt)) → ends-in-dot (span txt at (end - at)) ≡ true → at < end → end ≤ length txt → SegmentCut txt at n end
+pub cut-part : (txt : List ℕ) (at end n : ℕ) → n ≡ before-dot (take (end - at) (drop at txt))
+    → ends-in-dot (span txt at (end - at)) ≡ true → at < end → end ≤ length txt → SegmentCut txt at n end
 unfolding span
 cut-part = cut-in
 
 -- ---- One segment on
-module _ {txt : List ℕ} {used from at len end : ℕ} (p : QueryPlace txt used from at end) (c : SegmentCut txt at len end) where
+module _ {txt : List ℕ} {used from at len end : ℕ} (p : QueryPlace txt used from at end)
+    (c : SegmentCut txt at len end) where
   ends-append : (s t : Str) → ends-in-dot s ≡ true → ends-in-dot t ≡ true → ends-in-dot (s ++ t) ≡ true
   unfolding ends-in-dot
   ends-append [] t d e = e
@@ -113,7 +136,8 @@ module _ {txt : List ℕ} {used from at len end : ℕ} (p : QueryPlace txt used 
   key-in = record { inside = omega (arith, c .inside, p .within); keeps = middle (between txt from at) _ _ (rw whole-is at (p .query .keys)) }
 
   -- The full name down to the segment.
-  pub full-name-is : used ≤ length txt → name-of-revq (span txt at len ∷ passed txt from at) ≡ span txt from (at + len - from)
+  pub full-name-is : used ≤ length txt
+      → name-of-revq (span txt at len ∷ passed txt from at) ≡ span txt from (at + len - from)
   unfolding name-of-revq span
   full-name-is h =
       let e : at + len + 1 - from - 1 ≡ at + len - from = omega (arith, p .early) in
@@ -130,7 +154,8 @@ module _ {txt : List ℕ} {used from at len end : ℕ} (p : QueryPlace txt used 
   }
 
 -- The first place of a query.
-pub place-first : {txt : List ℕ} {used at end : ℕ} → at ≤ end → end ≤ used → ends-in-dot (span txt at (end - at)) ≡ true → IsQuery (between txt at end) → QueryPlace txt used at at end
+pub place-first : {txt : List ℕ} {used at end : ℕ} → at ≤ end → end ≤ used → ends-in-dot (span txt at (end - at)) ≡ true
+    → IsQuery (between txt at end) → QueryPlace txt used at at end
 unfolding span ends-in-dot
 place-first {at = at} h k d q =
     let z : at - at ≡ 0 = omega arith in

@@ -62,7 +62,8 @@ abbrev pub Kinds : Change → ℕ → Type 0
 Kinds ch r = (r ≤ of-modules) × ((s : Sort) → kind (which-of ch) s ≡ kind-in s + r)
 
 -- The bindings that mut_node gives a trie: a module path's alone are changed.
-unfoldable pub bindings-by : List ℕ → (f : Form) → Span → NameList (Item (which-by f)) bind → Str → Query → Query → Counted (NameList (Item (which-by f)) bind)
+unfoldable pub bindings-by : List ℕ → (f : Form) → Span → NameList (Item (which-by f)) bind → Str → Query → Query
+    → Counted (NameList (Item (which-by f)) bind)
 bindings-by txt form.Name text b s q revq = pure b
 bindings-by txt form.Import text b s q revq = pure b
 bindings-by txt (form.Module loaded) text b s q revq = ins-stays-loadedᶜ (text-of txt text) s q revq b loaded
@@ -74,11 +75,14 @@ node-of txt ch tr s q revq n = do
   one (trie b n)
 
 -- trie_mutate of a change.
-abbrev pub mutated : (ws txt : List ℕ) (ch : Change) → Trie (Item (which-of ch)) → (from at end : ℕ) → Counted (Trie (Item (which-of ch)))
-mutated ws txt ch tr from at end = trie-mutateᶜ tr (between txt at end) (passed txt from at) (node-of txt ch) (λ tr _. leaf-of ws txt ch tr)
+abbrev pub mutated : (ws txt : List ℕ) (ch : Change) → Trie (Item (which-of ch)) → (from at end : ℕ)
+    → Counted (Trie (Item (which-of ch)))
+mutated ws txt ch tr from at end =
+    trie-mutateᶜ tr (between txt at end) (passed txt from at) (node-of txt ch) (λ tr _. leaf-of ws txt ch tr)
 
 -- namespaces_mutate of a change.
-abbrev pub namespaces-mutated : (ws txt : List ℕ) (ch : Change) → NameList (Item (which-of ch)) ns → (from at len end : ℕ) → Counted (NameList (Item (which-of ch)) ns)
+abbrev pub namespaces-mutated : (ws txt : List ℕ) (ch : Change) → NameList (Item (which-of ch)) ns
+    → (from at len end : ℕ) → Counted (NameList (Item (which-of ch)) ns)
 namespaces-mutated ws txt ch n from at len end = do
   scope ← mutated ws txt ch (scope-of n (span txt at len)) from (at + len + 1) end
   names-insertᶜ n (span txt at len) scope
@@ -94,13 +98,16 @@ abbrev pub form-of : Descent → Form
 form-of d = shape-of (d .change .kind) .form
 
 -- The bindings that mut_node gives a trie at the segment of len bytes from at on, where the form is f.
-abbrev pub bindings-at : (txt : List ℕ) (at len : ℕ) (d : Descent) (f : Form) → NameList (Item (which-by f)) bind → Counted (NameList (Item (which-by f)) bind)
-bindings-at txt at len d f b = bindings-by txt f (d .change .text) b (span txt at len) (between txt (at + len + 1) (d .end)) (passed txt (d .from) at)
+abbrev pub bindings-at : (txt : List ℕ) (at len : ℕ) (d : Descent) (f : Form) → NameList (Item (which-by f)) bind
+    → Counted (NameList (Item (which-by f)) bind)
+bindings-at txt at len d f b = bindings-by txt f (d .change .text) b (span txt at len)
+    (between txt (at + len + 1) (d .end)) (passed txt (d .from) at)
 
 -- mut_node there, of the trie x with the list y of namespaces.
 abbrev pub node-at : (ws txt : List ℕ) (x y at len : ℕ) (d : Descent) → Counted (Trie (Item (which-of (d .change))))
 node-at ws txt x y at len d =
-    node-of txt (d .change) (what (which-of (d .change)) ws txt x trieˢ) (span txt at len) (between txt (at + len + 1) (d .end)) (passed txt (d .from) at) (what (which-of (d .change)) ws txt y (list ns))
+    node-of txt (d .change) (what (which-of (d .change)) ws txt x trieˢ) (span txt at len)
+    (between txt (at + len + 1) (d .end)) (passed txt (d .from) at) (what (which-of (d .change)) ws txt y (list ns))
 
 -- ---- What a change asks
 
@@ -118,7 +125,8 @@ pub record Bindings (ws txt : List ℕ) (n used x at len : ℕ) (d : Descent) (f
   pub place : QueryPlace txt used (d .from) at (d .end)
   pub cut : SegmentCut txt at len (d .end)
   pub room : Room ws n (bindings-at txt at len d f (what (which-by f) ws txt x (list bind)) .count)
-  pub light : heaviest-names (bindings-at txt at len d f (what (which-by f) ws txt x (list bind)) .value) ≤ heaviest-list
+  pub light : heaviest-names (bindings-at txt at len d f (what (which-by f) ws txt x (list bind)) .value)
+      ≤ heaviest-list
 
 -- What mut_node asks, where y is the new list of namespaces.
 pub record Node (ws txt : List ℕ) (n used x y at len : ℕ) (d : Descent) : Type 0 where
@@ -135,7 +143,8 @@ pub record NamespacesMutation (ws txt : List ℕ) (n used x at len : ℕ) (d : D
   pub link : LinkOk ws (n + 1) x (kind (which-of (d .change)) (list ns))
   pub place : QueryPlace txt used (d .from) at (d .end)
   pub cut : SegmentCut txt at len (d .end)
-  pub fits : FitsNames ws n (namespaces-mutated ws txt (d .change) (what (which-of (d .change)) ws txt x (list ns)) (d .from) at len (d .end))
+  pub fits : FitsNames ws n
+      (namespaces-mutated ws txt (d .change) (what (which-of (d .change)) ws txt x (list ns)) (d .from) at len (d .end))
 
 -- What trie_mutate asks.
 pub record Mutation (ws txt : List ℕ) (n used x at : ℕ) (d : Descent) : Type 0 where
@@ -146,11 +155,13 @@ pub record Mutation (ws txt : List ℕ) (n used x at : ℕ) (d : Descent) : Type
 
 -- The way from the trie x down what is left of the query, to what the change inserts.
 pub record TrieWay (ws txt : List ℕ) (x at : ℕ) (d : Descent) (way : List ℕ) : Type 0 where
-  pub leads : Way ws txt (which-of (d .change)) (d .change .kind) (text-of txt (d .change .text)) (text-of txt (d .change .key)) way x (between txt at (d .end))
+  pub leads : Way ws txt (which-of (d .change)) (d .change .kind) (text-of txt (d .change .text))
+      (text-of txt (d .change .key)) way x (between txt at (d .end))
 
 -- The way from the list x of namespaces down the segment of len bytes from at on, and what is left after it; n records are used.
 pub record NamespacesWay (ws txt : List ℕ) (n x at len : ℕ) (d : Descent) (way : List ℕ) : Type 0 where
-  pub first : StepNoted ws txt (which-of (d .change)) n (what (which-of (d .change)) ws txt x (list ns)) (span txt at len) way
+  pub first : StepNoted ws txt (which-of (d .change)) n (what (which-of (d .change)) ws txt x (list ns))
+      (span txt at len) way
   pub rest : TrieWay ws txt (below-in way) (at + len + 1) d (drop step-size way)
 
 -- ---- What a change makes
@@ -158,26 +169,33 @@ pub record NamespacesWay (ws txt : List ℕ) (n x at len : ℕ) (d : Descent) (w
 -- The change of the bindings.
 abbrev pub BindingsBuilt : (ws ws′ txt : List ℕ) (n x at len : ℕ) (d : Descent) (f : Form) (link n′ : ℕ) → Type 0
 BindingsBuilt ws ws′ txt n x at len d f link n′ =
-    (used : ℕ) → Bindings ws txt n used x at len d f → Builds ws ws′ txt n used (which-by f) (list bind) (bindings-at txt at len d f (what (which-by f) ws txt x (list bind))) link n′
+    (used : ℕ) → Bindings ws txt n used x at len d f
+    → Builds ws ws′ txt n used (which-by f) (list bind)
+    (bindings-at txt at len d f (what (which-by f) ws txt x (list bind))) link n′
 
 -- mut_node.
 abbrev pub NodeBuilt : (ws ws′ txt : List ℕ) (n x y at len : ℕ) (d : Descent) (link n′ : ℕ) → Type 0
 NodeBuilt ws ws′ txt n x y at len d link n′ =
-    (used : ℕ) → Node ws txt n used x y at len d → Builds ws ws′ txt n used (which-of (d .change)) trieˢ (node-at ws txt x y at len d) link n′
+    (used : ℕ) → Node ws txt n used x y at len d
+    → Builds ws ws′ txt n used (which-of (d .change)) trieˢ (node-at ws txt x y at len d) link n′
 
 -- namespaces_mutate.
 abbrev pub NamespacesMutated : (ws ws′ txt : List ℕ) (n x at len : ℕ) (d : Descent) (link n′ : ℕ) → Type 0
 NamespacesMutated ws ws′ txt n x at len d link n′ =
     (used : ℕ) → NamespacesMutation ws txt n used x at len d
-    → Builds ws ws′ txt n used (which-of (d .change)) (list ns) (namespaces-mutated ws txt (d .change) (what (which-of (d .change)) ws txt x (list ns)) (d .from) at len (d .end)) link n′
+    → Builds ws ws′ txt n used (which-of (d .change)) (list ns)
+    (namespaces-mutated ws txt (d .change) (what (which-of (d .change)) ws txt x (list ns)) (d .from) at len (d .end))
+    link n′
 
 -- trie_mutate.
 abbrev pub Mutated : (ws ws′ txt : List ℕ) (n x at : ℕ) (d : Descent) (link n′ : ℕ) → Type 0
 Mutated ws ws′ txt n x at d link n′ =
     (used : ℕ) → Mutation ws txt n used x at d
-    → Builds ws ws′ txt n used (which-of (d .change)) trieˢ (mutated ws txt (d .change) (what (which-of (d .change)) ws txt x trieˢ) (d .from) at (d .end)) link n′
+    → Builds ws ws′ txt n used (which-of (d .change)) trieˢ
+    (mutated ws txt (d .change) (what (which-of (d .change)) ws txt x trieˢ) (d .from) at (d .end)) link n′
 
 -- The words of a branch that holds a Module, or a Namespace: key, full name, path, whether it is loaded.
 abbrev pub symbol-row : (last : Bool) (at len from : ℕ) (loaded : Bool) (path : Span) → List ℕ
 symbol-row last at len from loaded path =
-    kind modules (tree bind) ∷ at ∷ len ∷ 0 ∷ 0 ∷ cond last 0 1 ∷ from ∷ (at + len - from) ∷ cond last (path .start) 0 ∷ cond last (path .len) 0 ∷ cond loaded 1 0 ∷ 0 ∷ []
+    kind modules (tree bind) ∷ at ∷ len ∷ 0 ∷ 0 ∷ cond last 0 1 ∷ from ∷ (at + len - from) ∷ cond last (path .start) 0
+    ∷ cond last (path .len) 0 ∷ cond loaded 1 0 ∷ 0 ∷ []

@@ -20,7 +20,8 @@ ghost use Rattle.source.specs.Text.{ends-in-dot};
 ghost use Rattle.memory.specs.Layout.{span};
 ghost use Rattle.register_kind.specs.declared.Form.the-variants as form;
 ghost use Rattle.register_leaf.specs.Leaves.{Some};
-ghost use Rattle.register_change.specs.Changes.{form-of, Kinds, symbol-row, SegmentCut, Bindings, Node, NamespacesMutation, Mutation, NamespacesWay, TrieWay, BindingsBuilt, NodeBuilt, NamespacesMutated, Mutated};
+ghost use Rattle.register_change.specs.Changes.{form-of, Kinds, symbol-row, SegmentCut, Bindings, Node, NamespacesMutation, Mutation, NamespacesWay};
+ghost use Rattle.register_change.specs.Changes.{TrieWay, BindingsBuilt, NodeBuilt, NamespacesMutated, Mutated};
 
 // What stays the same on the way down a query: where the query begins and ends in the text, and the change at its end.
 pub struct Descent {
@@ -31,7 +32,8 @@ pub struct Descent {
 
 // The length of the segment of the text that begins at `at`.
 fn segment_in(text: &[u8], at: u32, end: u32) -> u32
-    requires { ⌜ (at < end) × (end ≤ length (now text)) × (end ≤ most-used) × (ends-in-dot (span (now text) at (end - at)) ≡ true) ⌝ }
+    requires { ⌜ (at < end) × (end ≤ length (now text)) × (end ≤ most-used)
+        × (ends-in-dot (span (now text) at (end - at)) ≡ true) ⌝ }
     ensures { λ r. ⌜ SegmentCut (old text) at r end ⌝ }
 {
     let first = at as usize;
@@ -91,7 +93,8 @@ fn ins(
     loaded: bool,
 ) -> Built
     requires { ⌜ Some (λ used. Bindings (now words) (now text) records used bindings at len d (form.Module loaded)) ⌝ }
-    ensures { λ r. ⌜ BindingsBuilt (old words) (new words) (old text) records bindings at len d (form.Module loaded) (r .link) (r .records) ⌝ }
+    ensures { λ r. ⌜ BindingsBuilt (old words) (new words) (old text) records bindings at len d (form.Module loaded)
+        (r .link) (r .records) ⌝ }
 {
     let first = at as usize;
     let size = len as usize;
@@ -124,7 +127,8 @@ fn mut_bindings(
     d: Descent,
 ) -> Built
     requires { ⌜ Some (λ used. Bindings (now words) (now text) records used bindings at len d (form-of d)) ⌝ }
-    ensures { λ r. ⌜ BindingsBuilt (old words) (new words) (old text) records bindings at len d (form-of d) (r .link) (r .records) ⌝ }
+    ensures { λ r. ⌜ BindingsBuilt (old words) (new words) (old text) records bindings at len d (form-of d) (r .link)
+        (r .records) ⌝ }
 {
     let change = d.change;
     let kind = change.kind;
@@ -155,7 +159,8 @@ fn mut_node(
     d: Descent,
 ) -> Built
     requires { ⌜ Some (λ used. Node (now words) (now text) records used trie namespaces at len d) ⌝ }
-    ensures { λ r. ⌜ NodeBuilt (old words) (new words) (old text) records trie namespaces at len d (r .link) (r .records) ⌝ }
+    ensures { λ r. ⌜ NodeBuilt (old words) (new words) (old text) records trie namespaces at len d (r .link)
+        (r .records) ⌝ }
 {
     let t = memory_access::trie_of(words, trie);
     let b = mut_bindings(words, text, records, t.bindings, at, len, d);
@@ -181,7 +186,8 @@ fn namespaces_mutate(
 ) -> Built
     requires { ⌜ Some (λ used. NamespacesMutation (now words) (now text) records used namespaces at len d) ⌝ }
     requires { ⌜ NamespacesWay (now words) (now text) records namespaces at len d (now way) ⌝ }
-    ensures { λ r. ⌜ NamespacesMutated (old words) (new words) (old text) records namespaces at len d (r .link) (r .records) ⌝ }
+    ensures { λ r. ⌜ NamespacesMutated (old words) (new words) (old text) records namespaces at len d (r .link)
+        (r .records) ⌝ }
 {
     let kinds = kinds_of(d.change);
     let m = trie_mutate(

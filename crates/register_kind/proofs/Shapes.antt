@@ -9,14 +9,16 @@ use lib.Seq.{take-length}
 use Rattle.source.specs.Text.{Str}
 use Rattle.source.specs.Table.{register-open}
 use Rattle.source.specs.Counted.{register-openᶜ}
-use Rattle.source.specs.Calls.{Lent, State, a-query, a-name, arguments, text-of, text-taken, registered, records, registration-rows, after, register, include, opens}
+use Rattle.source.specs.Calls.{Lent, State, a-query, a-name, arguments, text-of, text-taken, registered, records, registration-rows, after, register, include}
+use Rattle.source.specs.Calls.{opens}
 use Rattle.register_kind.specs.Shapes.{shape-of, used-key, key-size, call-of, argument-as, other-argument, key-argument}
 use Rattle.register_kind.specs.declared.CallKind.{CallKind}
 use Rattle.register_kind.specs.declared.CallKind.the-variants.{Name, Include, Open, Alias, Module}
 use Rattle.register_kind.specs.declared.Form.{Form}
 use Rattle.register_kind.specs.declared.Form.the-variants as form
 
-pub arguments-of : (k : CallKind) (host other key : Str) → arguments (call-of k host other key) ≡ key-argument k key ++ (a-query host ∷ other-argument k other ∷ [])
+pub arguments-of : (k : CallKind) (host other key : Str)
+    → arguments (call-of k host other key) ≡ key-argument k key ++ (a-query host ∷ other-argument k other ∷ [])
 unfolding arguments
 arguments-of (Name k n) host other key = refl
 arguments-of Include host other key = refl
@@ -25,11 +27,13 @@ arguments-of Alias host other key = refl
 arguments-of (Module loaded) host other key = refl
 
 -- The text that a call takes.
-pub taken-is : (k : CallKind) (host other key : Str) → text-taken (arguments (call-of k host other key)) ≡ length host + length other + length (used-key k key)
+pub taken-is : (k : CallKind) (host other key : Str)
+    → text-taken (arguments (call-of k host other key)) ≡ length host + length other + length (used-key k key)
 unfolding text-taken text-of
 taken-is k host other key = rw arguments-of (by (shape-of k .form) (shape-of k .keyed))
   where
-    by : (f : Form) (b : Bool) → text-taken (cond b (a-name key ∷ []) [] ++ (a-query host ∷ argument-as f other ∷ [])) ≡ length host + length other + length (cond b key [])
+    by : (f : Form) (b : Bool) → text-taken (cond b (a-name key ∷ []) [] ++ (a-query host ∷ argument-as f other ∷ []))
+        ≡ length host + length other + length (cond b key [])
     by form.Name true = omega arith
     by form.Name false = omega arith
     by form.Import true = omega arith
@@ -61,6 +65,7 @@ module _ (k : CallKind) (key : Str) {n : ℕ} (e : n ≡ key-size k (length key)
   cut-call host other = rw (e, used-taken, used-twice)
 
 -- An open of a module is an include: the same answer and the same state after it, whatever is lent.
-pub open-module-is-include : (sound : Bool) (l : Lent) (s : State) (host query : Str) → register sound l s (opens true host query) ≡ register sound l s (include host query)
+pub open-module-is-include : (sound : Bool) (l : Lent) (s : State) (host query : Str)
+    → register sound l s (opens true host query) ≡ register sound l s (include host query)
 unfolding register registration-rows after arguments registered register-open records register-openᶜ
 open-module-is-include sound l s host query = refl

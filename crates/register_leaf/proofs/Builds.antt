@@ -24,35 +24,43 @@ use Rattle.insert_list.proofs.NamesInsertion.{insertion-after}
 use Rattle.register_leaf.specs.Leaves.{Builds}
 
 -- ---- One after another
-module _ {ws ws′ txt : List ℕ} {n n′ used : ℕ} {w : Which} {s : Sort} {c : Counted (Of (Item w) s)} {x : ℕ} (b : Builds ws ws′ txt n used w s c x n′) where
-  pub builds-then : {ws″ : List ℕ} {n″ : ℕ} {t : Sort} (f : Of (Item w) s → Counted (Of (Item w) t)) {y : ℕ} → Builds ws′ ws″ txt n′ used w t (f (c .value)) y n″
+module _ {ws ws′ txt : List ℕ} {n n′ used : ℕ} {w : Which} {s : Sort} {c : Counted (Of (Item w) s)} {x : ℕ}
+    (b : Builds ws ws′ txt n used w s c x n′) where
+  pub builds-then : {ws″ : List ℕ} {n″ : ℕ} {t : Sort} (f : Of (Item w) s → Counted (Of (Item w) t)) {y : ℕ}
+      → Builds ws′ ws″ txt n′ used w t (f (c .value)) y n″
       → Builds ws ws″ txt n used w t (c >>= f) y n″
   unfolding _>>=_
   builds-then f d = record { number = omega (arith, b .number, d .number); made = made-then (b .made) (d .made) }
 
 -- Nothing is built.
-pub builds-none : {ws txt : List ℕ} {n used : ℕ} {w : Which} (s : Sort) {x : ℕ} → Used ws txt n used → LinkOk ws (n + 1) x (kind w s)
+pub builds-none : {ws txt : List ℕ} {n used : ℕ} {w : Which} (s : Sort) {x : ℕ} → Used ws txt n used
+    → LinkOk ws (n + 1) x (kind w s)
     → Builds ws ws txt n used w s (pure (what w ws txt x s)) x n
 unfolding pure
 builds-none s o i = record { number = omega arith; made = made-none s o i }
 
 -- One record.
-pub builds-one : {ws ws′ txt : List ℕ} {n n′ used : ℕ} {w : Which} {s : Sort} {t : Of (Item w) s} {x : ℕ} → Made ws ws′ txt n (n + 1) used w s x t → n′ ≡ n + 1
+pub builds-one : {ws ws′ txt : List ℕ} {n n′ used : ℕ} {w : Which} {s : Sort} {t : Of (Item w) s} {x : ℕ}
+    → Made ws ws′ txt n (n + 1) used w s x t → n′ ≡ n + 1
     → Builds ws ws′ txt n used w s (one t) x n′
 unfolding one
 builds-one m e = record { number = e; made = rw e m }
 
 -- An insertion.
-pub builds-insert : {ws ws′ txt : List ℕ} {w : Which} {v : Level} {n n′ used x count y : ℕ} {r : List ℕ} → NamesInsertion ws txt w v n used x count r
+pub builds-insert : {ws ws′ txt : List ℕ} {w : Which} {v : Level} {n n′ used x count y : ℕ} {r : List ℕ}
+    → NamesInsertion ws txt w v n used x count r
     → NamesInserts ws ws′ txt n x count r y → n′ ≡ n + count + 1
-    → Builds ws ws′ txt n used w (list v) (names-insertᶜ (what w ws txt x (list v)) (span txt (text-start r) (text-len r)) (value w txt r (what w ws txt) v)) y n′
+    → Builds ws ws′ txt n used w (list v)
+    (names-insertᶜ (what w ws txt x (list v)) (span txt (text-start r) (text-len r)) (value w txt r (what w ws txt) v))
+    y n′
 builds-insert {w = w} {v} {used = used} i m e = record {
   number = rw names-insert-count (omega (arith, e, i .counted));
   made = rw (e, names-insert-value) (m w v used i);
 }
 
 -- ---- What fits
-by-order : {B : Type 0} (P : B → Type 0) (o : Ordering) {x y z : B} → P x → P y → P z → P (elim o [ Ordering·lt ↦ x | Ordering·eq ↦ y | Ordering·gt ↦ z ])
+by-order : {B : Type 0} (P : B → Type 0) (o : Ordering) {x y z : B} → P x → P y → P z
+    → P (elim o [ Ordering·lt ↦ x | Ordering·eq ↦ y | Ordering·gt ↦ z ])
 by-order P Ordering·lt p q r = p
 by-order P Ordering·eq p q r = q
 by-order P Ordering·gt p q r = r
@@ -82,17 +90,22 @@ module _ {A : Type 0} where
   pub inserted-within : {l : Level} (n : NameList A l) (k : Str) (v : Value A l) → Inserted n k v
   unfolding names-insert heaviest-names depth-names
   inserted-within []ᴺ k v = let t = tree-within StrEmpty k v in record { weighs = omega arith; heavy = omega (arith, t .heavy); high = omega (arith, t .high) }
-  inserted-within (Names bt tl) k v = let t = tree-within bt k v in record { weighs = omega arith; heavy = omega (arith, t .heavy); high = omega (arith, t .high) }
-  inserted-within (ImportedNames label inner tl) k v = let t = tree-within StrEmpty k v in record { weighs = omega arith; heavy = omega (arith, t .heavy); high = omega (arith, t .high) }
+  inserted-within (Names bt tl) k v = let t = tree-within bt k v in
+      record { weighs = omega arith; heavy = omega (arith, t .heavy); high = omega (arith, t .high) }
+  inserted-within (ImportedNames label inner tl) k v = let t = tree-within StrEmpty k v in
+      record { weighs = omega arith; heavy = omega (arith, t .heavy); high = omega (arith, t .high) }
 
-pub insert-light : {A : Type 0} {l : Level} (n : NameList A l) (k : Str) (v : Value A l) → heaviest-names (names-insert n k v) ≤ 96 → weight (names-insert n k v) ≤ 96
+pub insert-light : {A : Type 0} {l : Level} (n : NameList A l) (k : Str) (v : Value A l)
+    → heaviest-names (names-insert n k v) ≤ 96 → weight (names-insert n k v) ≤ 96
 insert-light n k v h = omega (arith, inserted-within n k v .weighs)
 
 -- ---- A trie of a new list
 module _ {ws ws₁ txt : List ℕ} {n n₁ used : ℕ} {w : Which} where
   -- The bindings are new, and the namespaces stood.
-  module _ {c : Counted (NameList (Item w) bind)} {b : ℕ} (B : Builds ws ws₁ txt n used w (list bind) c b n₁) {y : ℕ} (j : LinkOk ws (n + 1) y (kind w (list ns))) where
-    pub bindings-ready : Room ws n (c .count + 1) → depth-names (what w ws txt y (list ns)) ≤ 16 → Room ws₁ n₁ 1 × ((y ≤ n₁) × (depth-in ws₁ y ≤ 16))
+  module _ {c : Counted (NameList (Item w) bind)} {b : ℕ} (B : Builds ws ws₁ txt n used w (list bind) c b n₁) {y : ℕ}
+      (j : LinkOk ws (n + 1) y (kind w (list ns))) where
+    pub bindings-ready : Room ws n (c .count + 1) → depth-names (what w ws txt y (list ns)) ≤ 16
+        → Room ws₁ n₁ 1 × ((y ≤ n₁) × (depth-in ws₁ y ≤ 16))
     unfolding depth
     bindings-ready o h = (
       made-room (B .made) (c .count) (B .number) o,
@@ -110,8 +123,10 @@ module _ {ws ws₁ txt : List ℕ} {n n₁ used : ℕ} {w : Which} where
         (rw (B .made .reads, made-what (B .made) w {x = y} (omega (arith, j .earlier))))) e)
 
   -- The namespaces are new, and the bindings stood.
-  module _ {c : Counted (NameList (Item w) ns)} {y : ℕ} (C : Builds ws ws₁ txt n used w (list ns) c y n₁) {b : ℕ} (j : LinkOk ws (n + 1) b (kind w (list bind))) where
-    pub namespaces-ready : Room ws n (c .count + 1) → depth-names (c .value) ≤ 16 → Room ws₁ n₁ 1 × ((y ≤ n₁) × (depth-in ws₁ y ≤ 16))
+  module _ {c : Counted (NameList (Item w) ns)} {y : ℕ} (C : Builds ws ws₁ txt n used w (list ns) c y n₁) {b : ℕ}
+      (j : LinkOk ws (n + 1) b (kind w (list bind))) where
+    pub namespaces-ready : Room ws n (c .count + 1) → depth-names (c .value) ≤ 16
+        → Room ws₁ n₁ 1 × ((y ≤ n₁) × (depth-in ws₁ y ≤ 16))
     unfolding depth
     namespaces-ready o h = (
       made-room (C .made) (c .count) (C .number) o,
@@ -130,15 +145,21 @@ module _ {ws ws₁ txt : List ℕ} {n n₁ used : ℕ} {w : Which} where
 
 -- ---- Insertions
 -- An insertion of so many branches.
-pub insert-count : {A : Type 0} {v : Level} (n : NameList A v) (key : Str) (t : Value A v) {count : ℕ} → count ≡ insert-branches (first-tree n) key → names-insertᶜ n key t .count ≡ count + 1
+pub insert-count : {A : Type 0} {v : Level} (n : NameList A v) (key : Str) (t : Value A v) {count : ℕ}
+    → count ≡ insert-branches (first-tree n) key → names-insertᶜ n key t .count ≡ count + 1
 insert-count n key t e = rw names-insert-count (omega (arith, e))
 
 -- A trie, built before, goes into a list of namespaces that stood.
-module _ {ws ws₁ txt : List ℕ} {n n₁ used : ℕ} {w : Which} {c : Counted (Trie (Item w))} {s : ℕ} (S : Builds ws ws₁ txt n used w trieˢ c s n₁)
-    (o : Used ws txt n used) {x count : ℕ} (j : LinkOk ws (n + 1) x (kind w (list ns))) (of : ℕ) (k : of + kind-in (tree ns) ≡ kind w (tree ns))
-    (key : Span) (i : TextOk IsKey txt used (key .start) (key .len)) (e : count ≡ insert-branches (first-tree (what w ws txt x (list ns))) (span txt (key .start) (key .len))) where
-  pub scope-insertion : Room ws n ((c >>= λ scope. names-insertᶜ (what w ws txt x (list ns)) (span txt (key .start) (key .len)) scope) .count)
-      → heaviest-names ((c >>= λ scope. names-insertᶜ (what w ws txt x (list ns)) (span txt (key .start) (key .len)) scope) .value) ≤ 96
+module _ {ws ws₁ txt : List ℕ} {n n₁ used : ℕ} {w : Which} {c : Counted (Trie (Item w))} {s : ℕ}
+    (S : Builds ws ws₁ txt n used w trieˢ c s n₁)
+    (o : Used ws txt n used) {x count : ℕ} (j : LinkOk ws (n + 1) x (kind w (list ns))) (of : ℕ)
+    (k : of + kind-in (tree ns) ≡ kind w (tree ns))
+    (key : Span) (i : TextOk IsKey txt used (key .start) (key .len))
+    (e : count ≡ insert-branches (first-tree (what w ws txt x (list ns))) (span txt (key .start) (key .len))) where
+  pub scope-insertion : Room ws n
+      ((c >>= λ scope. names-insertᶜ (what w ws txt x (list ns)) (span txt (key .start) (key .len)) scope) .count)
+      → heaviest-names ((c >>= λ scope. names-insertᶜ (what w ws txt x (list ns))
+      (span txt (key .start) (key .len)) scope) .value) ≤ 96
       → NamesInsertion ws₁ txt w ns n₁ used x count (namespace-row of key s)
   unfolding _>>=_
   scope-insertion room light =
@@ -147,9 +168,11 @@ module _ {ws ws₁ txt : List ℕ} {n n₁ used : ℕ} {w : Which} {c : Counted 
       (made-room (S .made) (c .count) (S .number) (rw (insert-count (what w ws txt x (list ns)) (span txt (key .start) (key .len)) (c .value) e) at room))
       (record { known = k; key = i; holds = S .made .link })
 
-  pub scope-built : {ws₂ : List ℕ} {y : ℕ} → NamesInsertion ws₁ txt w ns n₁ used x count (namespace-row of key s) → y ≡ n₁ + count + 1
+  pub scope-built : {ws₂ : List ℕ} {y : ℕ} → NamesInsertion ws₁ txt w ns n₁ used x count (namespace-row of key s)
+      → y ≡ n₁ + count + 1
       → NamesInserts ws₁ ws₂ txt n₁ x count (namespace-row of key s) y
-      → Builds ws ws₂ txt n used w (list ns) (c >>= λ scope. names-insertᶜ (what w ws txt x (list ns)) (span txt (key .start) (key .len)) scope) y y
+      → Builds ws ws₂ txt n used w (list ns)
+      (c >>= λ scope. names-insertᶜ (what w ws txt x (list ns)) (span txt (key .start) (key .len)) scope) y y
   scope-built g f m =
       builds-then S (λ scope. names-insertᶜ (what w ws txt x (list ns)) (span txt (key .start) (key .len)) scope)
       (rw (S .made .reads, made-what (S .made) w {x = x} (omega (arith, j .earlier))) at (builds-insert g m f))

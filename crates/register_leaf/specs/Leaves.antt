@@ -40,7 +40,8 @@ abbrev pub label-in : Span → Span
 label-in text = record { start = text .start; len = text .len - 1 }
 
 -- mut_leaf of each kind: inc is the included trie.
-unfoldable pub leaf-by : (ws txt : List ℕ) (k : CallKind) (text key : Span) (inc : ℕ) → Trie (Item (which-by (shape-of k .form))) → Counted (Trie (Item (which-by (shape-of k .form))))
+unfoldable pub leaf-by : (ws txt : List ℕ) (k : CallKind) (text key : Span) (inc : ℕ)
+    → Trie (Item (which-by (shape-of k .form))) → Counted (Trie (Item (which-by (shape-of k .form))))
 leaf-by ws txt (Name k n) text key inc tr = do
   b ← names-insertᶜ (bindings tr) (text-of txt text) (item (record { kind = k; number = n }))
   one (trie b (namespaces tr))
@@ -101,7 +102,8 @@ pub record Leaf (ws txt : List ℕ) (n used x : ℕ) (ch : Change) : Type 0 wher
 
 -- The branches that mut_leaf's insertion builds.
 abbrev pub LeafBuilds : (ws txt : List ℕ) (x : ℕ) (ch : Change) (count : ℕ) → Type 0
-LeafBuilds ws txt x ch count = HostBuilds (ch .kind) (text-of txt (ch .text)) (text-of txt (ch .key)) (what (which-of ch) ws txt x trieˢ) count
+LeafBuilds ws txt x ch count =
+    HostBuilds (ch .kind) (text-of txt (ch .text)) (text-of txt (ch .key)) (what (which-of ch) ws txt x trieˢ) count
 
 -- Of some text used.
 pub record Some (P : ℕ → Type 0) : Type 0 where
@@ -111,11 +113,13 @@ pub record Some (P : ℕ → Type 0) : Type 0 where
 -- ---- What a change makes
 
 -- The records of a counted value are made, and no other: link reads as the value, and n′ records are used.
-pub record Builds (ws ws′ txt : List ℕ) (n used : ℕ) (w : Which) (s : Sort) (c : Counted (Of (Item w) s)) (link n′ : ℕ) : Type 0 where
+pub record Builds (ws ws′ txt : List ℕ) (n used : ℕ) (w : Which) (s : Sort) (c : Counted (Of (Item w) s))
+    (link n′ : ℕ) : Type 0 where
   pub number : n′ ≡ n + c .count
   pub made : Made ws ws′ txt n n′ used w s link (c .value)
 
 -- mut_leaf, for any text used.
 abbrev pub LeafBuilt : (ws ws′ txt : List ℕ) (n x : ℕ) (ch : Change) (link n′ : ℕ) → Type 0
 LeafBuilt ws ws′ txt n x ch link n′ =
-    (used : ℕ) → Leaf ws txt n used x ch → Builds ws ws′ txt n used (which-of ch) trieˢ (leaf-of ws txt ch (what (which-of ch) ws txt x trieˢ)) link n′
+    (used : ℕ) → Leaf ws txt n used x ch
+    → Builds ws ws′ txt n used (which-of ch) trieˢ (leaf-of ws txt ch (what (which-of ch) ws txt x trieˢ)) link n′

@@ -56,9 +56,11 @@ fn insert_leaf(
     item: LidSymbol,
     count: u32,
 ) -> Built
-    requires { ⌜ Some (λ used. Leaf (now words) (now text) records used trie (with-kind (Name (item .kind) (item .number)) change)) ⌝ }
+    requires { ⌜ Some (λ used. Leaf (now words) (now text) records used trie
+        (with-kind (Name (item .kind) (item .number)) change)) ⌝ }
     requires { ⌜ LeafBuilds (now words) (now text) trie (with-kind (Name (item .kind) (item .number)) change) count ⌝ }
-    ensures { λ r. ⌜ LeafBuilt (old words) (new words) (old text) records trie (with-kind (Name (item .kind) (item .number)) change) (r .link) (r .records) ⌝ }
+    ensures { λ r. ⌜ LeafBuilt (old words) (new words) (old text) records trie
+        (with-kind (Name (item .kind) (item .number)) change) (r .link) (r .records) ⌝ }
 {
     let t = memory_access::trie_of(words, trie);
     let row = memory_access::make::binding_row(change.text, item);
@@ -73,7 +75,8 @@ fn insert_leaf(
 // trie_include's.
 fn include_leaf(words: &mut [u32], text: &[u8], records: u32, trie: u32, change: Change) -> Built
     requires { ⌜ Some (λ used. Leaf (now words) (now text) records used trie (with-kind Include change)) ⌝ }
-    ensures { λ r. ⌜ LeafBuilt (old words) (new words) (old text) records trie (with-kind Include change) (r .link) (r .records) ⌝ }
+    ensures { λ r. ⌜ LeafBuilt (old words) (new words) (old text) records trie (with-kind Include change) (r .link)
+        (r .records) ⌝ }
 {
     let t = memory_access::trie_of(words, trie);
     let i = memory_access::trie_of(words, change.inc);
@@ -89,7 +92,8 @@ fn include_leaf(words: &mut [u32], text: &[u8], records: u32, trie: u32, change:
 // trie_open_namespace's.
 fn open_leaf(words: &mut [u32], text: &[u8], records: u32, trie: u32, change: Change) -> Built
     requires { ⌜ Some (λ used. Leaf (now words) (now text) records used trie (with-kind Open change)) ⌝ }
-    ensures { λ r. ⌜ LeafBuilt (old words) (new words) (old text) records trie (with-kind Open change) (r .link) (r .records) ⌝ }
+    ensures { λ r. ⌜ LeafBuilt (old words) (new words) (old text) records trie (with-kind Open change) (r .link)
+        (r .records) ⌝ }
 {
     let t = memory_access::trie_of(words, trie);
     let i = memory_access::trie_of(words, change.inc);
@@ -120,7 +124,8 @@ fn alias_leaf(
 ) -> Built
     requires { ⌜ Some (λ used. Leaf (now words) (now text) records used trie (with-kind Alias change)) ⌝ }
     requires { ⌜ LeafBuilds (now words) (now text) trie (with-kind Alias change) count ⌝ }
-    ensures { λ r. ⌜ LeafBuilt (old words) (new words) (old text) records trie (with-kind Alias change) (r .link) (r .records) ⌝ }
+    ensures { λ r. ⌜ LeafBuilt (old words) (new words) (old text) records trie (with-kind Alias change) (r .link)
+        (r .records) ⌝ }
 {
     let t = memory_access::trie_of(words, trie);
     let i = memory_access::trie_of(words, change.inc);

@@ -15,7 +15,8 @@ ghost use Rattle.register_kind.specs.declared.Kind.the-variants.{Include, Open,
 ghost use Rattle.memory.specs.Layout.{names, modules, trieˢ};
 ghost use Rattle.memory.specs.Sound.{At};
 ghost use Rattle.find_trie.specs.Tries.{AnyTrie};
-ghost use Rattle.register_plan.specs.Plans.{Stepped, Inserted, Path, Carries, KindPlanned, NamePlanned, IncludePlanned, OpenPlanned, AliasPlanned, ModulePlanned};
+ghost use Rattle.register_plan.specs.Plans.{Stepped, Inserted, Path, Carries, KindPlanned, NamePlanned, IncludePlanned, OpenPlanned, AliasPlanned};
+ghost use Rattle.register_plan.specs.Plans.{ModulePlanned};
 ghost use Rattle.register_way.specs.Way.{which-by, way-size, included-in, Leads, NameNoted, AliasNoted, PathNoted, WayNoted};
 
 // One step down the path of a host: the trie that it goes to, the records that it builds, whether its new list weighs over 96.
@@ -35,7 +36,8 @@ fn plan_step(
     steps: u32,
 ) -> StepDown
     requires { ⌜ AnyTrie (now words) (now text) trie × (steps < most-segments) × (length (now way) ≡ way-size) ⌝ }
-    ensures { λ r. ⌜ Stepped (old words) (old text) trie (old s) (old way) (new way) steps (r .link) (r .records) (r .crowded) ⌝ }
+    ensures { λ r. ⌜ Stepped (old words) (old text) trie (old s) (old way) (new way) steps (r .link) (r .records)
+        (r .crowded) ⌝ }
 {
     let t = memory_access::trie_of(words, trie);
     let p = find_list::names_place(words, text, t.namespaces, s);
@@ -58,9 +60,12 @@ struct Walk {
 
 fn plan_path(words: &[u32], text: &[u8], root: u32, host: &[u8], way: &mut [u32; WAY]) -> Walk
     requires { ⌜ At (now words) (now text) names trieˢ root ⌝ }
-    requires { ⌜ (ends-in-dot (now host) ≡ true) × (length (segments (now host)) ≤ most-segments) × (length (now way) ≡ way-size) ⌝ }
-    ensures { λ r. ⌜ Path (old words) (old text) root (segments (old host)) (r .link) (r .segments) (r .records) (r .crowded) ⌝ }
-    ensures { λ r. ⌜ Leads (old words) (old text) names root (segments (old host)) (old way) (new way) (r .segments) (r .link) [] ⌝ }
+    requires { ⌜ (ends-in-dot (now host) ≡ true) × (length (segments (now host)) ≤ most-segments)
+        × (length (now way) ≡ way-size) ⌝ }
+    ensures { λ r. ⌜ Path (old words) (old text) root (segments (old host)) (r .link) (r .segments) (r .records)
+        (r .crowded) ⌝ }
+    ensures { λ r. ⌜ Leads (old words) (old text) names root (segments (old host)) (old way) (new way) (r .segments)
+        (r .link) [] ⌝ }
 {
     let mut link = root;
     let mut at = 0;
@@ -101,7 +106,8 @@ fn plan_name(
     way: &mut [u32; WAY],
 ) -> Plan
     requires { ⌜ At (now words) (now text) names trieˢ root ⌝ }
-    requires { ⌜ (ends-in-dot (now host) ≡ true) × (length (segments (now host)) ≤ most-segments) × (length (now way) ≡ way-size) ⌝ }
+    requires { ⌜ (ends-in-dot (now host) ≡ true) × (length (segments (now host)) ≤ most-segments)
+        × (length (now way) ≡ way-size) ⌝ }
     ensures { λ r. ⌜ NamePlanned (old words) (old text) root (old host) (old id) r ⌝ }
     ensures { λ _. ⌜ NameNoted (old words) (old text) root (old host) (old id) (old way) (new way) ⌝ }
 {
@@ -126,7 +132,8 @@ fn plan_include(
     way: &mut [u32; WAY],
 ) -> Plan
     requires { ⌜ At (now words) (now text) names trieˢ root × At (now words) (now text) names trieˢ inc ⌝ }
-    requires { ⌜ (ends-in-dot (now host) ≡ true) × (length (segments (now host)) ≤ most-segments) × (length (now way) ≡ way-size) ⌝ }
+    requires { ⌜ (ends-in-dot (now host) ≡ true) × (length (segments (now host)) ≤ most-segments)
+        × (length (now way) ≡ way-size) ⌝ }
     ensures { λ r. ⌜ IncludePlanned (old words) (old text) root inc (old host) r ⌝ }
     ensures { λ _. ⌜ PathNoted Include (old words) (old text) names root (old host) (old way) (new way) ⌝ }
 {
@@ -153,7 +160,8 @@ fn plan_open(
     way: &mut [u32; WAY],
 ) -> Plan
     requires { ⌜ At (now words) (now text) names trieˢ root × At (now words) (now text) names trieˢ inc ⌝ }
-    requires { ⌜ (ends-in-dot (now host) ≡ true) × (length (segments (now host)) ≤ most-segments) × (length (now way) ≡ way-size) ⌝ }
+    requires { ⌜ (ends-in-dot (now host) ≡ true) × (length (segments (now host)) ≤ most-segments)
+        × (length (now way) ≡ way-size) ⌝ }
     ensures { λ r. ⌜ OpenPlanned (old words) (old text) root inc (old host) r ⌝ }
     ensures { λ _. ⌜ PathNoted Open (old words) (old text) names root (old host) (old way) (new way) ⌝ }
 {
@@ -181,7 +189,8 @@ fn plan_alias(
     way: &mut [u32; WAY],
 ) -> Plan
     requires { ⌜ At (now words) (now text) names trieˢ root × At (now words) (now text) names trieˢ inc ⌝ }
-    requires { ⌜ (ends-in-dot (now host) ≡ true) × (length (segments (now host)) ≤ most-segments) × (length (now way) ≡ way-size) ⌝ }
+    requires { ⌜ (ends-in-dot (now host) ≡ true) × (length (segments (now host)) ≤ most-segments)
+        × (length (now way) ≡ way-size) ⌝ }
     ensures { λ r. ⌜ AliasPlanned (old words) (old text) root inc (old key) (old host) r ⌝ }
     ensures { λ _. ⌜ AliasNoted (old words) (old text) root (old key) (old host) (old way) (new way) ⌝ }
 {
@@ -232,7 +241,8 @@ fn plan_module(
     way: &mut [u32; WAY],
 ) -> Plan
     requires { ⌜ At (now words) (now text) modules trieˢ root ⌝ }
-    requires { ⌜ (ends-in-dot (now query) ≡ true) × (length (segments (now query)) ≤ most-segments) × (length (now way) ≡ way-size) ⌝ }
+    requires { ⌜ (ends-in-dot (now query) ≡ true) × (length (segments (now query)) ≤ most-segments)
+        × (length (now way) ≡ way-size) ⌝ }
     ensures { λ r. ⌜ ModulePlanned (old words) (old text) root loaded (old query) r ⌝ }
     ensures { λ _. ⌜ PathNoted (Module loaded) (old words) (old text) modules root (old query) (old way) (new way) ⌝ }
 {
@@ -271,7 +281,8 @@ pub fn plan_of(
     way: &mut [u32; WAY],
 ) -> Plan
     requires { ⌜ At (now words) (now text) (which-by (shape-of kind .form)) trieˢ root ⌝ }
-    requires { ⌜ (ends-in-dot (now host) ≡ true) × (length (segments (now host)) ≤ most-segments) × (length (now way) ≡ way-size) ⌝ }
+    requires { ⌜ (ends-in-dot (now host) ≡ true) × (length (segments (now host)) ≤ most-segments)
+        × (length (now way) ≡ way-size) ⌝ }
     requires { ⌜ Carries (shape-of kind .form) (now words) (now text) root (now other) (included-in (now way)) ⌝ }
     ensures { λ r. ⌜ KindPlanned kind (old words) (old text) root (old host) (old other) (old key) r ⌝ }
     ensures { λ _. ⌜ WayNoted kind (old words) (old text) root (old host) (old other) (old key) (old way) (new way) ⌝ }

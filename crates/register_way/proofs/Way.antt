@@ -14,23 +14,29 @@ use Rattle.memory.specs.Layout.{Which, trieˢ, what}
 use Rattle.memory.specs.Sound.{Reads}
 use Rattle.memory.specs.Grown.{Keeps}
 use Rattle.memory.proofs.Keeps.{keeps-then, keeps-at, keeps-set}
-use Rattle.register_way.specs.Way.{included-at, steps-at, below-at, count-at, step-size, step-at, way-size, included-in, HostBuilds, NotesStep, NotesHost, Leads, WayNotedIn}
+use Rattle.register_way.specs.Way.{included-at, steps-at, below-at, count-at, step-size, step-at, way-size, included-in, HostBuilds, NotesStep, NotesHost}
+use Rattle.register_way.specs.Way.{Leads, WayNotedIn}
 
 -- ---- Arrays
 module _ (way : List ℕ) (steps : ℕ) where
-  pub notes-step : (link count : ℕ) → step-at steps + step-size ≤ length way → NotesStep way (set (set way (step-at steps + below-at) link) (step-at steps + count-at) count) steps link count
+  pub notes-step : (link count : ℕ) → step-at steps + step-size ≤ length way
+      → NotesStep way (set (set way (step-at steps + below-at) link) (step-at steps + count-at) count) steps link count
   notes-step link count h =
       let one = set way (step-at steps + below-at) link in
       record {
-        kept = keeps-then (omega arith) (keeps-set way link (omega arith)) (keeps-set one {n = step-at steps + count-at} count (omega arith));
-        room = omega (arith, length-set way (step-at steps + below-at) link, length-set one (step-at steps + count-at) count);
+        kept = keeps-then (omega arith) (keeps-set way link (omega arith))
+            (keeps-set one {n = step-at steps + count-at} count (omega arith));
+        room = omega
+            (arith, length-set way (step-at steps + below-at) link, length-set one (step-at steps + count-at) count);
         link-noted =
             getD-set-other one (step-at steps + count-at) (step-at steps + below-at) count 0 (λ g. omega arith)
             ∙ getD-set-same way (step-at steps + below-at) link 0 (omega arith);
-        count-noted = getD-set-same one (step-at steps + count-at) count 0 (omega (arith, length-set way (step-at steps + below-at) link));
+        count-noted = getD-set-same one (step-at steps + count-at) count 0
+            (omega (arith, length-set way (step-at steps + below-at) link));
       }
 
-  pub notes-host : (count : ℕ) → step-at steps + step-size ≤ length way → NotesHost way (set way (step-at steps + count-at) count) steps count
+  pub notes-host : (count : ℕ) → step-at steps + step-size ≤ length way
+      → NotesHost way (set way (step-at steps + count-at) count) steps count
   notes-host count h = record { kept = keeps-set way count (omega arith); count-noted = getD-set-same way (step-at steps + count-at) count 0 (omega arith) }
 
 -- The included trie is written first, and stays.
@@ -38,7 +44,8 @@ module _ (way : List ℕ) (inc : ℕ) (e : length way ≡ way-size) where
   pub included-written : (included-in (set way included-at inc) ≡ inc) × (length (set way included-at inc) ≡ way-size)
   included-written = (getD-set-same way included-at inc 0 (omega arith), length-set way included-at inc ∙ e)
 
-  pub included-stays : {way′ : List ℕ} → Keeps steps-at (set way included-at inc) way′ → (included-in way′ ≡ inc) × (length way′ ≡ way-size)
+  pub included-stays : {way′ : List ℕ} → Keeps steps-at (set way included-at inc) way′
+      → (included-in way′ ≡ inc) × (length way′ ≡ way-size)
   included-stays k = (keeps-at k included-at (omega arith) ∙ included-written .0, k .size ∙ included-written .1)
 
 -- ---- The steps
@@ -46,8 +53,10 @@ module _ {ws txt : List ℕ} {w : Which} {root : ℕ} {q : Query} where
   pub leads-first : (way : List ℕ) → Leads ws txt w root q way way 0 root q
   leads-first way = record { kept = record { same = refl; size = refl }; goes = λ k other key way″ _ z. z }
 
-  pub leads-step : {way way′ way″ : List ℕ} {steps x y : ℕ} {s : Str} {rest : Query} → Leads ws txt w root q way way′ steps x (s ∷ rest)
-      → Reads ws txt w x y (scope-of (namespaces (what w ws txt x trieˢ)) s) → NotesStep way′ way″ steps y (insert-branches (first-tree (namespaces (what w ws txt x trieˢ))) s)
+  pub leads-step : {way way′ way″ : List ℕ} {steps x y : ℕ} {s : Str} {rest : Query}
+      → Leads ws txt w root q way way′ steps x (s ∷ rest)
+      → Reads ws txt w x y (scope-of (namespaces (what w ws txt x trieˢ)) s)
+      → NotesStep way′ way″ steps y (insert-branches (first-tree (namespaces (what w ws txt x trieˢ))) s)
       → Leads ws txt w root q way way″ (steps + 1) y rest
   leads-step {steps = steps} l r i = record {
     kept = keeps-then (omega arith) (l .kept) (i .kept);
@@ -62,8 +71,10 @@ module _ {ws txt : List ℕ} {w : Which} {root : ℕ} {q : Query} where
   }
 
 -- ---- At the host
-module _ {ws txt : List ℕ} {w : Which} {root : ℕ} {host : Str} {way way′ : List ℕ} {steps x : ℕ} (l : Leads ws txt w root (segments host) way way′ steps x []) (h : step-at steps + step-size ≤ length way′) where
-  noted-at : (k : CallKind) (other key : Str) {t : List ℕ} → Keeps (step-at steps) way′ t → HostBuilds k other key (what w ws txt x trieˢ) (getD t (step-at steps + count-at) 0)
+module _ {ws txt : List ℕ} {w : Which} {root : ℕ} {host : Str} {way way′ : List ℕ} {steps x : ℕ}
+    (l : Leads ws txt w root (segments host) way way′ steps x []) (h : step-at steps + step-size ≤ length way′) where
+  noted-at : (k : CallKind) (other key : Str) {t : List ℕ} → Keeps (step-at steps) way′ t
+      → HostBuilds k other key (what w ws txt x trieˢ) (getD t (step-at steps + count-at) 0)
       → WayNotedIn k ws txt w root host other key way t
   noted-at k other key {t} v b = record {
     kept = keeps-then (omega arith) (l .kept) v;
@@ -71,9 +82,12 @@ module _ {ws txt : List ℕ} {w : Which} {root : ℕ} {host : Str} {way way′ :
   }
 
   -- Nothing is inserted there.
-  pub noted-path : (k : CallKind) (other key : Str) → HostBuilds k other key (what w ws txt x trieˢ) (getD way′ (step-at steps + count-at) 0) → WayNotedIn k ws txt w root host other key way way′
+  pub noted-path : (k : CallKind) (other key : Str)
+      → HostBuilds k other key (what w ws txt x trieˢ) (getD way′ (step-at steps + count-at) 0)
+      → WayNotedIn k ws txt w root host other key way way′
   noted-path k other key b = noted-at k other key (record { same = refl; size = refl }) b
 
   -- The count is noted.
-  pub noted-count : (k : CallKind) (other key : Str) {count : ℕ} {t : List ℕ} → NotesHost way′ t steps count → HostBuilds k other key (what w ws txt x trieˢ) count → WayNotedIn k ws txt w root host other key way t
+  pub noted-count : (k : CallKind) (other key : Str) {count : ℕ} {t : List ℕ} → NotesHost way′ t steps count
+      → HostBuilds k other key (what w ws txt x trieˢ) count → WayNotedIn k ws txt w root host other key way t
   noted-count k other key n b = noted-at k other key (n .kept) (rw (n .count-noted) b)

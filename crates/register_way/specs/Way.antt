@@ -75,7 +75,8 @@ HostBuilds (Module loaded) other key tr count = Unit {0}
 
 -- What the first step of a way says of a step by the segment s from the list n of namespaces:
 -- the trie below it, no later than x, and the branches that the insertion of s builds.
-pub record StepNoted (ws txt : List ℕ) (w : Which) (x : ℕ) (n : NameList (Item w) ns) (s : Str) (way : List ℕ) : Type 0 where
+pub record StepNoted (ws txt : List ℕ) (w : Which) (x : ℕ) (n : NameList (Item w) ns) (s : Str)
+    (way : List ℕ) : Type 0 where
   pub long : step-size ≤ length way
   pub next : Reads ws txt w x (below-in way) (scope-of n s)
   pub builds : count-in way ≡ insert-branches (first-tree n) s
@@ -84,7 +85,8 @@ pub record StepNoted (ws txt : List ℕ) (w : Which) (x : ℕ) (n : NameList (It
 module _ (ws txt : List ℕ) (w : Which) (k : CallKind) (other key : Str) where
   abbrev pub Way : List ℕ → ℕ → Query → Type 0
   Way way x [] = (step-size ≤ length way) × HostBuilds k other key (what w ws txt x trieˢ) (count-in way)
-  Way way x (s ∷ q) = StepNoted ws txt w x (namespaces (what w ws txt x trieˢ)) s way × Way (drop step-size way) (below-in way) q
+  Way way x (s ∷ q) =
+      StepNoted ws txt w x (namespaces (what w ws txt x trieˢ)) s way × Way (drop step-size way) (below-in way) q
 
 -- ---- What planning notes
 
@@ -102,19 +104,23 @@ pub record NotesHost (way way′ : List ℕ) (steps count : ℕ) : Type 0 where
 
 -- After some steps of the query q from the root, down to the trie x with the segments rest left: the included trie is noted as it was,
 -- and whatever is noted from here on, a way from here is a way from the root.
-pub record Leads (ws txt : List ℕ) (w : Which) (root : ℕ) (q : Query) (way way′ : List ℕ) (steps x : ℕ) (rest : Query) : Type 0 where
+pub record Leads (ws txt : List ℕ) (w : Which) (root : ℕ) (q : Query) (way way′ : List ℕ) (steps x : ℕ)
+    (rest : Query) : Type 0 where
   pub kept : Keeps steps-at way way′
-  pub goes : (k : CallKind) (other key : Str) (way″ : List ℕ) → Keeps (step-at steps) way′ way″ → Way ws txt w k other key (drop (step-at steps) way″) x rest
+  pub goes : (k : CallKind) (other key : Str) (way″ : List ℕ) → Keeps (step-at steps) way′ way″
+      → Way ws txt w k other key (drop (step-at steps) way″) x rest
       → Way ws txt w k other key (drop steps-at way″) root q
 
 -- The way of a registration is noted after the included trie, which stays.
-pub record WayNotedIn (k : CallKind) (ws txt : List ℕ) (w : Which) (root : ℕ) (host other key : Str) (way way′ : List ℕ) : Type 0 where
+pub record WayNotedIn (k : CallKind) (ws txt : List ℕ) (w : Which) (root : ℕ) (host other key : Str)
+    (way way′ : List ℕ) : Type 0 where
   pub kept : Keeps steps-at way way′
   pub leads : Way ws txt w k other key (drop steps-at way′) root (segments host)
 
 -- Of a name, whatever its item.
 abbrev pub NameNoted : (ws txt : List ℕ) (root : ℕ) (host id : Str) (way way′ : List ℕ) → Type 0
-NameNoted ws txt root host id way way′ = (c : LidSymbol) (key : Str) → WayNotedIn (Name (c .kind) (c .number)) ws txt names root host id key way way′
+NameNoted ws txt root host id way way′ = (c : LidSymbol) (key : Str)
+    → WayNotedIn (Name (c .kind) (c .number)) ws txt names root host id key way way′
 
 -- Of an alias.
 abbrev pub AliasNoted : (ws txt : List ℕ) (root : ℕ) (key host : Str) (way way′ : List ℕ) → Type 0
@@ -126,4 +132,5 @@ PathNoted k ws txt w root host way way′ = (other key : Str) → WayNotedIn k w
 
 -- Of each kind, in its table.
 abbrev pub WayNoted : (k : CallKind) (ws txt : List ℕ) (root : ℕ) (host other key : Str) (way way′ : List ℕ) → Type 0
-WayNoted k ws txt root host other key way way′ = WayNotedIn k ws txt (which-by (shape-of k .form)) root host other key way way′
+WayNoted k ws txt root host other key way way′ =
+    WayNotedIn k ws txt (which-by (shape-of k .form)) root host other key way way′

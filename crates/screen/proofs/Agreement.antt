@@ -49,37 +49,54 @@ module _ (b : Bool) (tbl : S.Table) (budget : ℕ) (o : Output) (q : Str) {n : �
 
 -- ---- A listing that was not refused
 
-listed-bytes : (ask : Ask) (ws txt ls ls′ out out′ : List ℕ) (r : CompleteReply) (o : C.Completed (Item (asked ask))) → ListsAs ask ws txt ls ls′ out out′ r o → r .answer ≡ 0
+listed-bytes : (ask : Ask) (ws txt ls ls′ out out′ : List ℕ) (r : CompleteReply) (o : C.Completed (Item (asked ask)))
+    → ListsAs ask ws txt ls ls′ out out′ r o → r .answer ≡ 0
     → ((n : ℕ) → o ≡ C.refused n → 0 < n)
-    → (lines : List (Line (Item (asked ask)))) × (entered : ℕ) × (o ≡ C.listed lines entered) × (lines-seen (asked ask) txt ls′ out′ (r .lines) ≡ lines)
-listed-bytes ask ws txt ls ls′ out out′ r (C.listed lines e) h z k = (lines, e, refl, rw (ap (λ (x : CompleteReply). x .lines) (h .reply)) (written-seen (h .written)))
+    → (lines : List (Line (Item (asked ask)))) × (entered : ℕ) × (o ≡ C.listed lines entered)
+    × (lines-seen (asked ask) txt ls′ out′ (r .lines) ≡ lines)
+listed-bytes ask ws txt ls ls′ out out′ r (C.listed lines e) h z k =
+    (lines, e, refl, rw (ap (λ (x : CompleteReply). x .lines) (h .reply)) (written-seen (h .written)))
 listed-bytes ask ws txt ls ls′ out out′ r (C.refused n) h z k = absurd (omega (arith, k n refl, ap (λ (x : CompleteReply). x .answer) (h .reply)))
 
 -- ---- Both
 
-module _ (st bs txt : List ℕ) (name query : Str) (budget : ℕ) (ls ls′ out out′ : List ℕ) (l : CompleteReply) (cover : Covers (segments query) (segments name)) where
+module _ (st bs txt : List ℕ) (name query : Str) (budget : ℕ) (ls ls′ out out′ : List ℕ) (l : CompleteReply)
+    (cover : Covers (segments query) (segments name)) where
   abbrev tbl : S.Table
   tbl = table-in (words-in bs) txt (table-at st)
 
-  names-agree : (b : Bool) → Says b (SoundBytes st bs txt) → (f : NameReply) → f ≡ name-reply (look-up b (names-in (words-in bs) txt (table-at st)) name) → Answered (f .answer)
-      → ListsAs (Names Every) (words-in bs) txt ls ls′ out out′ l (complete b tbl Every budget (output ls out) query) → l .answer ≡ 0
-      → (a : C.Found LidSymbol) × (f ≡ name-reply a) × Shows (lines-of-text (without-last name) (lines-seen names txt ls′ out′ (l .lines))) a
+  names-agree : (b : Bool) → Says b (SoundBytes st bs txt) → (f : NameReply)
+      → f ≡ name-reply (look-up b (names-in (words-in bs) txt (table-at st)) name) → Answered (f .answer)
+      → ListsAs (Names Every) (words-in bs) txt ls ls′ out out′ l (complete b tbl Every budget (output ls out) query)
+      → l .answer ≡ 0
+      → (a : C.Found LidSymbol) × (f ≡ name-reply a)
+      × Shows (lines-of-text (without-last name) (lines-seen names txt ls′ out′ (l .lines))) a
   unfolding look-up lowest argument-rows
   names-agree false s f e h c z = absurd (name-answered (C.refused 1) e h (λ n i. let j : 1 ≡ n = cc in (omega arith, omega arith)))
   names-agree true s f e h c z =
       let ok = name-answered _ e h (λ n. look-up-refused true (names-in (words-in bs) txt (table-at st)) name) in
-      let k = listed-bytes (Names Every) (words-in bs) txt ls ls′ out out′ l _ c z (λ n. names-refused true tbl budget (output ls out) query) in
-      (look-up true (names-in (words-in bs) txt (table-at st)) name, e, rw (k .3) (agreement .names tbl (sound-table (s .sound)) .shows name query _ (k .0) refl ok (budget, output ls out, k .1, k .2) cover))
+      let k = listed-bytes (Names Every) (words-in bs) txt ls ls′ out out′ l _ c z (λ n. names-refused true tbl budget (output ls out) query) in (
+        look-up true (names-in (words-in bs) txt (table-at st)) name,
+        e,
+        rw (k .3) (agreement .names tbl (sound-table (s .sound)) .shows name query _ (k .0) refl ok (budget, output ls out, k .1, k .2) cover),
+      )
 
-  modules-agree : (b : Bool) → Says b (SoundBytes st bs txt) → (f : ModuleReply) → SaysModule txt (look-up b (modules-in (words-in bs) txt (table-at st)) name) f → Answered (f .answer)
-      → ListsAs (Modules All) (words-in bs) txt ls ls′ out out′ l (complete-modules b tbl C.All budget (output ls out) query) → l .answer ≡ 0
-      → (a : C.Found S.ModSymbol) × SaysModule txt a f × Shows (lines-of-text (without-last name) (lines-seen modules txt ls′ out′ (l .lines))) a
+  modules-agree : (b : Bool) → Says b (SoundBytes st bs txt) → (f : ModuleReply)
+      → SaysModule txt (look-up b (modules-in (words-in bs) txt (table-at st)) name) f → Answered (f .answer)
+      → ListsAs (Modules All) (words-in bs) txt ls ls′ out out′ l
+      (complete-modules b tbl C.All budget (output ls out) query) → l .answer ≡ 0
+      → (a : C.Found S.ModSymbol) × SaysModule txt a f
+      × Shows (lines-of-text (without-last name) (lines-seen modules txt ls′ out′ (l .lines))) a
   unfolding look-up lowest argument-rows
-  modules-agree false s f e h c z = absurd (module-answered txt (e .found) {a = C.refused 1} (e .reply) (e .says) h (λ n i. let j : 1 ≡ n = cc in (omega arith, omega arith)))
+  modules-agree false s f e h c z =
+      absurd (module-answered txt (e .found) {a = C.refused 1} (e .reply) (e .says) h (λ n i. let j : 1 ≡ n = cc in (omega arith, omega arith)))
   modules-agree true s f e h c z =
       let ok = module-answered txt (e .found) (e .reply) (e .says) h (λ n. look-up-refused true (modules-in (words-in bs) txt (table-at st)) name) in
-      let k = listed-bytes (Modules All) (words-in bs) txt ls ls′ out out′ l _ c z (λ n. modules-refused true tbl budget (output ls out) query) in
-      (look-up true (modules-in (words-in bs) txt (table-at st)) name, e, rw (k .3) (agreement .modules tbl (sound-table (s .sound)) .shows name query _ (k .0) refl ok (budget, output ls out, k .1, k .2) cover))
+      let k = listed-bytes (Modules All) (words-in bs) txt ls ls′ out out′ l _ c z (λ n. modules-refused true tbl budget (output ls out) query) in (
+        look-up true (modules-in (words-in bs) txt (table-at st)) name,
+        e,
+        rw (k .3) (agreement .modules tbl (sound-table (s .sound)) .shows name query _ (k .0) refl ok (budget, output ls out, k .1, k .2) cover),
+      )
 
 -- Demand 3, of the exported calls.
 pub bytes-agree : BytesAgree

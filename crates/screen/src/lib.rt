@@ -48,7 +48,8 @@ pub extern "C" fn name_console_include(
     host: &[u8],
     query: &[u8],
 ) -> u32
-    ensures { λ r. ⌜ Replies (old state) (old words) (old text) (new state) (new words) (new text) (some (include (old host) (old query))) r ⌝ }
+    ensures { λ r. ⌜ Replies (old state) (old words) (old text) (new state) (new words) (new text)
+        (some (include (old host) (old query))) r ⌝ }
 {
     screen_calls::register(
         state,
@@ -70,7 +71,8 @@ pub extern "C" fn name_console_open_namespace(
     host: &[u8],
     query: &[u8],
 ) -> u32
-    ensures { λ r. ⌜ Replies (old state) (old words) (old text) (new state) (new words) (new text) (some (opens false (old host) (old query))) r ⌝ }
+    ensures { λ r. ⌜ Replies (old state) (old words) (old text) (new state) (new words) (new text)
+        (some (opens false (old host) (old query))) r ⌝ }
 {
     screen_calls::register(state, words, text, CallKind::Open, host, query, &host[..0])
 }
@@ -84,7 +86,8 @@ pub extern "C" fn name_console_open_module(
     host: &[u8],
     query: &[u8],
 ) -> u32
-    ensures { λ r. ⌜ Replies (old state) (old words) (old text) (new state) (new words) (new text) (some (opens true (old host) (old query))) r ⌝ }
+    ensures { λ r. ⌜ Replies (old state) (old words) (old text) (new state) (new words) (new text)
+        (some (opens true (old host) (old query))) r ⌝ }
 {
     screen_calls::register(
         state,
@@ -107,7 +110,8 @@ pub extern "C" fn name_console_alias(
     host: &[u8],
     query: &[u8],
 ) -> u32
-    ensures { λ r. ⌜ Replies (old state) (old words) (old text) (new state) (new words) (new text) (some (alias (old key) (old host) (old query))) r ⌝ }
+    ensures { λ r. ⌜ Replies (old state) (old words) (old text) (new state) (new words) (new text)
+        (some (alias (old key) (old host) (old query))) r ⌝ }
 {
     screen_calls::register(state, words, text, CallKind::Alias, host, query, key)
 }
@@ -181,7 +185,8 @@ pub extern "C" fn name_console_complete_names(
     lines: &mut [u8],
     out: &mut [u8],
 ) -> CompleteReply
-    ensures { λ r. ⌜ RepliesLines (old state) (old words) (old text) (names-for kind) (old query) budget (old lines) (new lines) (old out) (new out) r ⌝ }
+    ensures { λ r. ⌜ RepliesLines (old state) (old words) (old text) (names-for kind) (old query) budget (old lines)
+        (new lines) (old out) (new out) r ⌝ }
 {
     if screen_replies::is_filter(kind) {
         let request = Request {
@@ -205,7 +210,8 @@ pub extern "C" fn name_console_complete_modules(
     lines: &mut [u8],
     out: &mut [u8],
 ) -> CompleteReply
-    ensures { λ r. ⌜ RepliesLines (old state) (old words) (old text) (modules-for filter) (old query) budget (old lines) (new lines) (old out) (new out) r ⌝ }
+    ensures { λ r. ⌜ RepliesLines (old state) (old words) (old text) (modules-for filter) (old query) budget (old lines)
+        (new lines) (old out) (new out) r ⌝ }
 {
     if screen_replies::is_filter(filter) {
         let request = Request {
@@ -231,7 +237,8 @@ pub extern "C" fn name_console_complete_names_shared(
     lines: &mut [u8],
     out: &mut [u8],
 ) -> SharedReply
-    ensures { λ r. ⌜ RepliesShared (old state) (old words) (old text) (names-for kind) (old query) budget (old lines) (new lines) (old out) (new out) r ⌝ }
+    ensures { λ r. ⌜ RepliesShared (old state) (old words) (old text) (names-for kind) (old query) budget (old lines)
+        (new lines) (old out) (new out) r ⌝ }
 {
     let r = name_console_complete_names(state, words, text, kind, query, budget, lines, out);
     screen_calls::with_shared(r, lines, out)
@@ -249,7 +256,8 @@ pub extern "C" fn name_console_complete_modules_shared(
     lines: &mut [u8],
     out: &mut [u8],
 ) -> SharedReply
-    ensures { λ r. ⌜ RepliesShared (old state) (old words) (old text) (modules-for filter) (old query) budget (old lines) (new lines) (old out) (new out) r ⌝ }
+    ensures { λ r. ⌜ RepliesShared (old state) (old words) (old text) (modules-for filter) (old query) budget
+        (old lines) (new lines) (old out) (new out) r ⌝ }
 {
     let r = name_console_complete_modules(state, words, text, filter, query, budget, lines, out);
     screen_calls::with_shared(r, lines, out)

@@ -17,7 +17,8 @@ pub record Held (st bs m : List ℕ) (t : Table) : Type 0 where
   pub spelt : Spells st (t .header)
   pub lent : m ≡ words-in bs
 
-pub held-is : {st bs m : List ℕ} {t : Table} → length st ≡ state-bytes → t ≡ table-at st → m ≡ words-in bs → Held st bs m t
+pub held-is : {st bs m : List ℕ} {t : Table} → length st ≡ state-bytes → t ≡ table-at st → m ≡ words-in bs
+    → Held st bs m t
 held-is e p q = record { spelt = record { size = e; header = ap (λ (x : Table). x .header) (sym p) }; lent = q }
 
 module _ {st bs m : List ℕ} {t : Table} (txt : List ℕ) (h : Held st bs m t) where
@@ -38,5 +39,6 @@ module _ {st bs m : List ℕ} {t : Table} (txt : List ℕ) (h : Held st bs m t) 
 pub unsound-short : {st bs txt : List ℕ} → (length st ≡ state-bytes → ⊥) → SoundBytes st bs txt → ⊥
 unsound-short e s = e (s .size)
 
-pub says-unsound : {st bs txt : List ℕ} (b : Bool) → (SoundBytes st bs txt → ⊥) → Says b (SoundBytes st bs txt) → b ≡ false
+pub says-unsound : {st bs txt : List ℕ} (b : Bool) → (SoundBytes st bs txt → ⊥) → Says b (SoundBytes st bs txt)
+    → b ≡ false
 says-unsound b e h = says-same _ b false h e

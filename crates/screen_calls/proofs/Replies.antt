@@ -30,14 +30,16 @@ answer-unsound : (l : Lent) (s : State) (c : Option Call) → answer-to false l 
 answer-unsound l s (some c) = register-unsound l s c
 answer-unsound l s none = refl
 
-pub reply-unsound : {st bs txt : List ℕ} {c : Option Call} → (SoundBytes st bs txt → ⊥) → Replies st bs txt st bs txt c 1
+pub reply-unsound : {st bs txt : List ℕ} {c : Option Call} → (SoundBytes st bs txt → ⊥)
+    → Replies st bs txt st bs txt c 1
 reply-unsound {c = c} e = record {
   says = λ b h. rw (says-unsound b e h, answer-unsound _ _ c) (refl, record { state = refl; words = refl; text = refl });
 }
 
 -- ---- No call
 
-pub reply-none : {st bs m txt : List ℕ} {t : Table} {k : ℕ} (r : Bool) → Held st bs m t → Says r (IsSound m txt t) → C.refused k ≡ unchosen r → Replies st bs txt st bs txt none k
+pub reply-none : {st bs m txt : List ℕ} {t : Table} {k : ℕ} (r : Bool) → Held st bs m t → Says r (IsSound m txt t)
+    → C.refused k ≡ unchosen r → Replies st bs txt st bs txt none k
 reply-none {txt = txt} r h p e = record {
   says = λ b i. rw (says-same _ b r (says-memory txt h b i) p, ← e) (refl, record { state = refl; words = refl; text = refl });
 }
@@ -57,7 +59,8 @@ flag-none (suc zero) h = absurd (omega arith)
 flag-none (suc (suc n)) h = refl
 
 module _ {A : Type 0} {st bs txt st′ bs′ txt′ : List ℕ} {r : ℕ} (f : A → Call) {o : Option A} where
-  pub reply-chosen : {a : A} → o ≡ some a → Replies st bs txt st′ bs′ txt′ (some (f a)) r → Replies st bs txt st′ bs′ txt′ (chosen f o) r
+  pub reply-chosen : {a : A} → o ≡ some a → Replies st bs txt st′ bs′ txt′ (some (f a)) r
+      → Replies st bs txt st′ bs′ txt′ (chosen f o) r
   reply-chosen e p = rw e p
 
   pub reply-unchosen : o ≡ none → Replies st bs txt st′ bs′ txt′ none r → Replies st bs txt st′ bs′ txt′ (chosen f o) r
@@ -74,29 +77,35 @@ module _ (ws txt ws′ txt′ : List ℕ) (t : Table) (r : Registration) (taken 
 by-bytes : (n : ℕ) → n * 12 * 4 ≡ n * 48
 by-bytes n = omega arith
 
-module _ {st bs txt m ws txt′ : List ℕ} {t : Table} {c : Call} {r : Registration} (h : Held st bs m t) (sound : IsSound m txt t) (a : Answers true m txt ws txt′ t c r) where
+module _ {st bs txt m ws txt′ : List ℕ} {t : Table} {c : Call} {r : Registration} (h : Held st bs m t)
+    (sound : IsSound m txt t) (a : Answers true m txt ws txt′ t c r) where
   accepted-fits : refusal-of (r .answer) ≡ none → r .table .header .records * 12 ≤ length (words-in bs)
   accepted-fits taken = rw (h .lent) at (fit-as m txt ws txt′ t r taken (register true (lent m txt) (state m txt t) c) (a .says))
 
-  pub store-fits : refusal-of (r .answer) ≡ none → length ws ≡ length m → (r .table .header .records * 12 * 4 ≤ length bs) × (r .table .header .records * 12 ≤ length ws)
+  pub store-fits : refusal-of (r .answer) ≡ none → length ws ≡ length m
+      → (r .table .header .records * 12 * 4 ≤ length bs) × (r .table .header .records * 12 ≤ length ws)
   store-fits taken e = let f = accepted-fits taken in (omega (arith, words-in-fit bs), omega (arith, ap length (h .lent)))
 
   answers : (b : Bool) → Says b (SoundBytes st bs txt)
-      → AnswersAs (register b (lent (words-in bs) txt) (state (words-in bs) txt (table-at st)) c) (words-in bs) txt ws txt′ (table-at st) r
+      → AnswersAs (register b (lent (words-in bs) txt) (state (words-in bs) txt (table-at st)) c)
+      (words-in bs) txt ws txt′ (table-at st) r
   answers b i = rw (says-same _ b true (says-memory txt h b i) sound, ← h .lent, h .spelt .header) (a .says)
 
   -- It is accepted, and the new words and the new header are stored.
-  module _ {st′ bs′ : List ℕ} (taken : refusal-of (r .answer) ≡ none) (saved : Saved ws (t .header .records) (r .table .header) bs bs′ st′) where
+  module _ {st′ bs′ : List ℕ} (taken : refusal-of (r .answer) ≡ none)
+      (saved : Saved ws (t .header .records) (r .table .header) bs bs′ st′) where
     kept : Stored ws (header-in st .records * 12) (r .table .header .records * 12) bs bs′
     kept = rw (h .spelt .header) (saved .stored)
 
-    words-back : Outside (header-in st .records * 12) (r .table .header .records * 12) (words-in bs) ws → words-in bs′ ≡ ws
+    words-back : Outside (header-in st .records * 12) (r .table .header .records * 12) (words-in bs) ws
+        → words-in bs′ ≡ ws
     unfolding words-in
     words-back o =
         rw (kept .rest .size)
         (read-back (words-lent (length bs)) o (take-all (words-lent (length bs)) ws (omega (arith, o .size, words-in-length bs))) kept)
 
-    accepted-as : (x : C.Registered) → AnswersAs x (words-in bs) txt ws txt′ (table-at st) r → RepliesAs x st bs txt st′ bs′ txt′ 0
+    accepted-as : (x : C.Registered) → AnswersAs x (words-in bs) txt ws txt′ (table-at st) r
+        → RepliesAs x st bs txt st′ bs′ txt′ 0
     accepted-as (C.accepted s) a = (
       refl,
       record {
@@ -112,7 +121,8 @@ module _ {st bs txt m ws txt′ : List ℕ} {t : Table} {c : Call} {r : Registra
 
   -- It is refused.
   module _ {x k : ℕ} (no : refusal-of (r .answer) ≡ some x) (told : k ≡ x) where
-    refused-as : (y : C.Registered) → AnswersAs y (words-in bs) txt ws txt′ (table-at st) r → RepliesAs y st bs txt st bs txt′ k
+    refused-as : (y : C.Registered) → AnswersAs y (words-in bs) txt ws txt′ (table-at st) r
+        → RepliesAs y st bs txt st bs txt′ k
     refused-as (C.accepted s) a = absurd (Option·none-ne-some x (sym (a .0) ∙ no))
     refused-as (C.refused n) a = (let e = a .0 in cc, record { state = refl; words = refl; text = a .1 .text })
 

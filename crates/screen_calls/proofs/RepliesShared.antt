@@ -23,7 +23,8 @@ use Rattle.screen_calls.specs.Memory.{table-at, SoundBytes}
 use Rattle.screen_calls.specs.Completions.{ListsAs, unasked, RepliesLines, shared-for, RepliesShared}
 
 module _ (ask : Ask) (ws txt ls ls′ out out′ : List ℕ) (r : CompleteReply) where
-  leaves : (v : C.Completed (Item (asked ask))) → ListsAs ask ws txt ls ls′ out out′ r v → Leaves (asked ask) ws txt ls ls′ out out′ (r .lines) v
+  leaves : (v : C.Completed (Item (asked ask))) → ListsAs ask ws txt ls ls′ out out′ r v
+      → Leaves (asked ask) ws txt ls ls′ out out′ (r .lines) v
   leaves (C.listed lines entered) a = (ap (λ (c : CompleteReply). c .lines) (a .reply), a .written)
   leaves (C.refused n) a = ap (λ (c : CompleteReply). c .lines) (a .reply)
 
@@ -37,23 +38,30 @@ module _ (st bs txt : List ℕ) (query : Str) (budget : ℕ) (ls out : List ℕ)
   answer (some ask) b = completion b (table-in (words-in bs) txt (table-at st)) ask budget (output ls out) query
   answer none b = C.refused (unasked b)
 
-  answer-shared : (ask : Option Ask) (b : Bool) → C.shared-length (answer ask b) ≡ shared-for b (table-in (words-in bs) txt (table-at st)) ask budget (output ls out) query
+  answer-shared : (ask : Option Ask) (b : Bool)
+      → C.shared-length (answer ask b)
+      ≡ shared-for b (table-in (words-in bs) txt (table-at st)) ask budget (output ls out) query
   unfolding C.shared-length
   answer-shared (some ask) b = refl
   answer-shared none b = refl
 
-  left : (ls′ out′ : List ℕ) (r : CompleteReply) (ask : Option Ask) → RepliesLines st bs txt ask query budget ls ls′ out out′ r → (b : Bool) → Says b (SoundBytes st bs txt)
+  left : (ls′ out′ : List ℕ) (r : CompleteReply) (ask : Option Ask)
+      → RepliesLines st bs txt ask query budget ls ls′ out out′ r → (b : Bool) → Says b (SoundBytes st bs txt)
       → Leaves (which ask) (words-in bs) txt ls ls′ out out′ (r .lines) (answer ask b)
   left ls′ out′ r (some ask) x b h = leaves ask (words-in bs) txt ls ls′ out out′ r (answer (some ask) b) (x .says b h)
   left ls′ out′ r none x b h = ap (λ (c : CompleteReply). c .lines) (x .says b h .reply)
 
-module _ {st bs txt : List ℕ} {ask : Option Ask} {query : Str} {budget : ℕ} {ls ls′ out out′ : List ℕ} {r : CompleteReply} (x : RepliesLines st bs txt ask query budget ls ls′ out out′ r) where
+module _ {st bs txt : List ℕ} {ask : Option Ask} {query : Str} {budget : ℕ} {ls ls′ out out′ : List ℕ}
+    {r : CompleteReply} (x : RepliesLines st bs txt ask query budget ls ls′ out out′ r) where
   pub replies-candidates : CandidatesIn ls′ out′ (r .lines)
-  replies-candidates = left-candidates (which ask) (words-in bs) txt ls ls′ out out′ (r .lines) (answer st bs txt query budget ls out ask) (left st bs txt query budget ls out ls′ out′ r ask x)
+  replies-candidates = left-candidates (which ask) (words-in bs) txt ls ls′ out out′ (r .lines) (answer st bs txt query budget ls out ask)
+      (left st bs txt query budget ls out ls′ out′ r ask x)
 
-  pub replies-shared : {s : SharedReply} → s ≡ shared-reply r (shared-seen ls′ out′ (r .lines)) → RepliesShared st bs txt ask query budget ls ls′ out out′ s
+  pub replies-shared : {s : SharedReply} → s ≡ shared-reply r (shared-seen ls′ out′ (r .lines))
+      → RepliesShared st bs txt ask query budget ls ls′ out out′ s
   replies-shared e = rw e (record {
     lines = x;
-    shared = λ b h. leaves-shared (which ask) (words-in bs) txt ls ls′ out out′ (r .lines) (answer st bs txt query budget ls out ask b) (left st bs txt query budget ls out ls′ out′ r ask x b h)
+    shared = λ b h. leaves-shared (which ask) (words-in bs) txt ls ls′ out out′ (r .lines) (answer st bs txt query budget ls out ask b)
+        (left st bs txt query budget ls out ls′ out′ r ask x b h)
         ∙ answer-shared st bs txt query budget ls out ask b;
   })

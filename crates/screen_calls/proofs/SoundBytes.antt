@@ -22,5 +22,6 @@ module _ (bs txt : List ℕ) where
   unfolding header-in word-at
   zero-fresh = fresh-state (words-in bs) txt
 
-pub bytes-accepted-sound : {st bs txt st′ bs′ txt′ : List ℕ} {s : State} → AcceptsBytes st bs txt st′ bs′ txt′ s → SoundBytes st′ bs′ txt′
+pub bytes-accepted-sound : {st bs txt st′ bs′ txt′ : List ℕ} {s : State} → AcceptsBytes st bs txt st′ bs′ txt′ s
+    → SoundBytes st′ bs′ txt′
 bytes-accepted-sound a = record { size = a .size; sound = a .table .sound }

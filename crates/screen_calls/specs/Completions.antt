@@ -24,7 +24,8 @@ use Rattle.screen_memory.specs.Memory.{words-in}
 use Rattle.screen_calls.specs.Memory.{table-at, SoundBytes}
 
 -- Listed: the lines are written from the start of the lent bytes, their texts from the start of the output text, and every other byte is as it was.
-pub record Lists (ask : Ask) (ws txt ls ls′ out out′ : List ℕ) (lines : List (Line (Item (asked ask)))) (entered : ℕ) (r : CompleteReply) : Type 0 where
+pub record Lists (ask : Ask) (ws txt ls ls′ out out′ : List ℕ) (lines : List (Line (Item (asked ask)))) (entered : ℕ)
+    (r : CompleteReply) : Type 0 where
   pub reply : r ≡ record { answer = 0; lines = length lines; entered = entered }
   pub written : Written (asked ask) ws txt ls ls′ out out′ 0 0 lines
 
@@ -35,7 +36,8 @@ pub record Refuses (n : ℕ) (ls ls′ out out′ : List ℕ) (r : CompleteReply
   pub text : out′ ≡ out
 
 -- The reply r, by what the definition hands back.
-abbrev pub ListsAs : (ask : Ask) (ws txt ls ls′ out out′ : List ℕ) (r : CompleteReply) → C.Completed (Item (asked ask)) → Type 0
+abbrev pub ListsAs : (ask : Ask) (ws txt ls ls′ out out′ : List ℕ) (r : CompleteReply) → C.Completed (Item (asked ask))
+    → Type 0
 ListsAs ask ws txt ls ls′ out out′ r (C.listed lines entered) = Lists ask ws txt ls ls′ out out′ lines entered r
 ListsAs ask ws txt ls ls′ out out′ r (C.refused n) = Refuses n ls ls′ out out′ r
 
@@ -47,12 +49,15 @@ unasked false = 1
 module _ (ws txt : List ℕ) (query : Str) (budget : ℕ) (ls ls′ out out′ : List ℕ) (r : CompleteReply) where
   -- The reply r to what is asked of the table.
   abbrev pub ListsFor : (sound : Bool) → S.Table → Option Ask → Type 0
-  ListsFor sound tbl (some ask) = ListsAs ask ws txt ls ls′ out out′ r (completion sound tbl ask budget (output ls out) query)
+  ListsFor sound tbl (some ask) =
+      ListsAs ask ws txt ls ls′ out out′ r (completion sound tbl ask budget (output ls out) query)
   ListsFor sound tbl none = Refuses (unasked sound) ls ls′ out out′ r
 
 -- The reply r to a completion; b says whether the bytes are a sound table.
-pub record RepliesLines (st bs txt : List ℕ) (ask : Option Ask) (query : Str) (budget : ℕ) (ls ls′ out out′ : List ℕ) (r : CompleteReply) : Type 0 where
-  pub says : (b : Bool) → Says b (SoundBytes st bs txt) → ListsFor (words-in bs) txt query budget ls ls′ out out′ r b (table-in (words-in bs) txt (table-at st)) ask
+pub record RepliesLines (st bs txt : List ℕ) (ask : Option Ask) (query : Str) (budget : ℕ) (ls ls′ out out′ : List ℕ)
+    (r : CompleteReply) : Type 0 where
+  pub says : (b : Bool) → Says b (SoundBytes st bs txt)
+      → ListsFor (words-in bs) txt query budget ls ls′ out out′ r b (table-in (words-in bs) txt (table-at st)) ask
 
 -- The shared length of what is asked of the table; 0 where nothing is asked.
 abbrev pub shared-for : (sound : Bool) → S.Table → Option Ask → (budget : ℕ) → C.Output → Str → ℕ
@@ -60,6 +65,8 @@ shared-for sound tbl (some ask) budget out query = C.shared-length (completion s
 shared-for sound tbl none budget out query = 0
 
 -- The reply r to a completion with its shared length: all that a completion replies and writes, and that length; b says whether the bytes are a sound table.
-pub record RepliesShared (st bs txt : List ℕ) (ask : Option Ask) (query : Str) (budget : ℕ) (ls ls′ out out′ : List ℕ) (r : SharedReply) : Type 0 where
+pub record RepliesShared (st bs txt : List ℕ) (ask : Option Ask) (query : Str) (budget : ℕ) (ls ls′ out out′ : List ℕ)
+    (r : SharedReply) : Type 0 where
   pub lines : RepliesLines st bs txt ask query budget ls ls′ out out′ (lines-part r)
-  pub shared : (b : Bool) → Says b (SoundBytes st bs txt) → r .shared ≡ shared-for b (table-in (words-in bs) txt (table-at st)) ask budget (output ls out) query
+  pub shared : (b : Bool) → Says b (SoundBytes st bs txt)
+      → r .shared ≡ shared-for b (table-in (words-in bs) txt (table-at st)) ask budget (output ls out) query

@@ -64,13 +64,15 @@ RepliesAs (C.refused n) st bs txt st′ bs′ txt′ r = (r ≡ n) × SameBytes 
 -- The reply r to a registration; b says whether the bytes are a sound table.
 pub record Replies (st bs txt st′ bs′ txt′ : List ℕ) (c : Option Call) (r : ℕ) : Type 0 where
   pub says : (b : Bool) → Says b (SoundBytes st bs txt)
-      → RepliesAs (answer-to b (lent (words-in bs) txt) (state (words-in bs) txt (table-at st)) c) st bs txt st′ bs′ txt′ r
+      → RepliesAs
+      (answer-to b (lent (words-in bs) txt) (state (words-in bs) txt (table-at st)) c) st bs txt st′ bs′ txt′ r
 
 -- ---- Look-ups
 
 -- The reply r to a look-up of a name; b says whether the bytes are a sound table.
 pub record RepliesName (st bs txt : List ℕ) (query : Str) (r : NameReply) : Type 0 where
-  pub says : (b : Bool) → Says b (SoundBytes st bs txt) → r ≡ name-reply (look-up b (names-in (words-in bs) txt (table-at st)) query)
+  pub says : (b : Bool) → Says b (SoundBytes st bs txt)
+      → r ≡ name-reply (look-up b (names-in (words-in bs) txt (table-at st)) query)
 
 -- The reply r says the answer a, its texts being spans of the lent text.
 pub record SaysModule (txt : List ℕ) (a : C.Found S.ModSymbol) (r : ModuleReply) : Type 0 where
@@ -81,4 +83,5 @@ pub record SaysModule (txt : List ℕ) (a : C.Found S.ModSymbol) (r : ModuleRepl
 
 -- The reply r to a look-up of a module or namespace; b says whether the bytes are a sound table.
 pub record RepliesModule (st bs txt : List ℕ) (query : Str) (r : ModuleReply) : Type 0 where
-  pub says : (b : Bool) → Says b (SoundBytes st bs txt) → SaysModule txt (look-up b (modules-in (words-in bs) txt (table-at st)) query) r
+  pub says : (b : Bool) → Says b (SoundBytes st bs txt)
+      → SaysModule txt (look-up b (modules-in (words-in bs) txt (table-at st)) query) r

@@ -46,7 +46,8 @@ fn enter(
 ) -> u32
     requires { ⌜ length (now state) ≡ state-bytes ⌝ }
     requires { ⌜ now memory ≡ words-in (now words) ⌝ }
-    ensures { λ r. ⌜ Replies (old state) (old words) (old text) (new state) (new words) (new text) (some (call-of kind (old host) (old other) (old key))) r ⌝ }
+    ensures { λ r. ⌜ Replies (old state) (old words) (old text) (new state) (new words) (new text)
+        (some (call-of kind (old host) (old other) (old key))) r ⌝ }
 {
     let t = table_of(state);
     if !t.is_sound_small(memory, text) {
@@ -74,7 +75,8 @@ pub fn register(
     other: &[u8],
     key: &[u8],
 ) -> u32
-    ensures { λ r. ⌜ Replies (old state) (old words) (old text) (new state) (new words) (new text) (some (call-of kind (old host) (old other) (old key))) r ⌝ }
+    ensures { λ r. ⌜ Replies (old state) (old words) (old text) (new state) (new words) (new text)
+        (some (call-of kind (old host) (old other) (old key))) r ⌝ }
 {
     if state.len() != screen_memory::STATE_BYTES {
         return 1;

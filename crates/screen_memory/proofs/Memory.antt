@@ -10,7 +10,8 @@ use Rattle.screen_memory.specs.Memory.{state-bytes, record-bytes, record
 use Rattle.memory_bytes.proofs.Bytes.{word-before, words-length}
 
 -- A header put word by word.
-pub header-put : {s s₁ s₂ s₃ s₄ : List ℕ} {a b c d : ℕ} → length s ≡ state-bytes → Put 0 a s s₁ → Put 1 b s₁ s₂ → Put 2 c s₂ s₃ → Put 3 d s₃ s₄
+pub header-put : {s s₁ s₂ s₃ s₄ : List ℕ} {a b c d : ℕ} → length s ≡ state-bytes → Put 0 a s s₁ → Put 1 b s₁ s₂
+    → Put 2 c s₂ s₃ → Put 3 d s₃ s₄
     → Spells s₄ (record { names = a; modules = b; records = c; text = d })
 unfolding header-in
 header-put h p q r t = record {
@@ -33,7 +34,8 @@ unfolding words-lent
 words-in-fit bs = omega (arith, words-in-length bs)
 
 -- The records lent: whole ones of 48 bytes, up to 1,024.
-pub records-lent : (bs : List ℕ) → whole-records (length (words-in bs)) ≡ min (length bs / record-bytes) records-lent-most
+pub records-lent : (bs : List ℕ)
+    → whole-records (length (words-in bs)) ≡ min (length bs / record-bytes) records-lent-most
 unfolding words-lent whole-records
 records-lent bs = omega (arith, words-in-length bs)
 

@@ -67,7 +67,8 @@ pub fn put_header(state: &mut [u8], h: Header)
 // Stores what an accepted call has taken: the words of the records past `records`, as many as the header says, and the header.
 pub fn save(state: &mut [u8], bytes: &mut [u8], words: &[u32], records: u32, h: Header)
     requires { ⌜ length (now state) ≡ state-bytes ⌝ }
-    requires { ⌜ (h .records * record-words * 4 ≤ length (now bytes)) × (h .records * record-words ≤ length (now words)) ⌝ }
+    requires { ⌜ (h .records * record-words * 4 ≤ length (now bytes))
+        × (h .records * record-words ≤ length (now words)) ⌝ }
     ensures { λ _. ⌜ Saved (old words) records h (old bytes) (new bytes) (new state) ⌝ }
 {
     let from = records as usize * memory::ROW;

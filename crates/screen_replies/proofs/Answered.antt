@@ -20,12 +20,14 @@ use Rattle.screen_replies.specs.declared.ModuleReply.{ModuleReply}
 not-answered : {n a : ℕ} → (0 < n) × (n ≤ 10) → a ≡ n → Answered a → ⊥
 not-answered p e h = ⊎-elim (λ z. omega (arith, p .0)) (λ z. omega (arith, p .1)) h
 
-pub name-answered : (a : C.Found LidSymbol) {f : NameReply} → f ≡ name-reply a → Answered (f .answer) → ((n : ℕ) → a ≡ C.refused n → (0 < n) × (n ≤ 10)) → NotRefused a
+pub name-answered : (a : C.Found LidSymbol) {f : NameReply} → f ≡ name-reply a → Answered (f .answer)
+    → ((n : ℕ) → a ≡ C.refused n → (0 < n) × (n ≤ 10)) → NotRefused a
 name-answered (C.found v) e h k = tt
 name-answered C.not-found e h k = tt
 name-answered (C.refused n) e h k = not-answered (k n refl) (ap (λ (x : NameReply). x .answer) e) h
 
-pub module-answered : (txt : List ℕ) (g : FoundModule) {a : C.Found ModSymbol} {f : ModuleReply} → f ≡ module-reply g → module-found txt g ≡ a → Answered (f .answer)
+pub module-answered : (txt : List ℕ) (g : FoundModule) {a : C.Found ModSymbol} {f : ModuleReply} → f ≡ module-reply g
+    → module-found txt g ≡ a → Answered (f .answer)
     → ((n : ℕ) → a ≡ C.refused n → (0 < n) × (n ≤ 10)) → NotRefused a
 module-answered txt (Symbol s) e p h k = rw (← p) tt
 module-answered txt Nothing e p h k = rw (← p) tt

@@ -18,7 +18,8 @@ use Rattle.listing_ask.specs.declared.Ask.the-variants.{Names}
 use Rattle.screen_replies.specs.Filters.{names-for, modules-for, is-asked}
 
 -- What asks at 0 to 3 and at no other number.
-four : (ask : ℕ → Option Ask) → is-asked (ask 0) ≡ true → is-asked (ask 1) ≡ true → is-asked (ask 2) ≡ true → is-asked (ask 3) ≡ true
+four : (ask : ℕ → Option Ask) → is-asked (ask 0) ≡ true → is-asked (ask 1) ≡ true → is-asked (ask 2) ≡ true
+    → is-asked (ask 3) ≡ true
     → ((n : ℕ) → is-asked (ask (suc (suc (suc (suc n))))) ≡ false) → (n : ℕ) → ltb n 4 ≡ is-asked (ask n)
 four ask a b c d e zero = sym a
 four ask a b c d e (suc zero) = sym b

@@ -41,14 +41,31 @@ flag false = 0
 
 -- The reply of a number alone.
 abbrev pub no-module : ℕ → ModuleReply
-no-module n = record { answer = n; sort = 0; «name_start» = 0; «name_len» = 0; «path_start» = 0; «path_len» = 0; loaded = 0 }
+no-module n =
+    record { answer = n; sort = 0; «name_start» = 0; «name_len» = 0; «path_start» = 0; «path_len» = 0; loaded = 0 }
 
 -- The reply of a module or namespace, by the spans of its texts. A namespace has no path.
 abbrev pub symbol-reply : ModSymbol → ModuleReply
 symbol-reply (Module name path loaded) =
-    record { answer = 0; sort = 0; «name_start» = name .start; «name_len» = name .len; «path_start» = path .start; «path_len» = path .len; loaded = flag loaded }
+    record {
+      answer = 0;
+      sort = 0;
+      «name_start» = name .start;
+      «name_len» = name .len;
+      «path_start» = path .start;
+      «path_len» = path .len;
+      loaded = flag loaded;
+    }
 symbol-reply (Namespace name loaded) =
-    record { answer = 0; sort = 1; «name_start» = name .start; «name_len» = name .len; «path_start» = 0; «path_len» = 0; loaded = flag loaded }
+    record {
+      answer = 0;
+      sort = 1;
+      «name_start» = name .start;
+      «name_len» = name .len;
+      «path_start» = 0;
+      «path_len» = 0;
+      loaded = flag loaded;
+    }
 
 -- The reply to a look-up of a module or namespace: 0 with its symbol, no-answer, else the number of the refusal.
 abbrev pub module-reply : FoundModule → ModuleReply

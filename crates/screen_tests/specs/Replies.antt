@@ -34,7 +34,8 @@ use Rattle.screen_tests.specs.declared.Reply.{Reply}
 
 -- The table of four numbers.
 abbrev pub table-of : (names modules records used : ℕ) → Table
-table-of names modules records used = record { header = record { names = names; modules = modules; records = records; text = used } }
+table-of names modules records used =
+    record { header = record { names = names; modules = modules; records = records; text = used } }
 
 -- What a number asks: below four names, by the number of a filter; below eight modules; else NamespacesOnly.
 abbrev pub ask-of : ℕ → Ask
@@ -77,7 +78,8 @@ pub record FindReplies (ws txt : List ℕ) (t : Table) (query : Str) (r : NameRe
 -- ---- Completions
 
 -- The reply to a completion: that of what table's contract says.
-pub record ListReplies (ws txt : List ℕ) (t : Table) (ask : ℕ) (query : Str) (budget : ℕ) (flat flat′ out out′ : List ℕ) (r : CompleteReply) : Type 0 where
+pub record ListReplies (ws txt : List ℕ) (t : Table) (ask : ℕ) (query : Str) (budget : ℕ) (flat flat′ out out′ : List ℕ)
+    (r : CompleteReply) : Type 0 where
   pub answer : Listing
   pub completes : Completes ws txt t (record { ask = ask-of ask; budget = budget }) query flat flat′ out out′ answer
   pub reply : r ≡ lines-reply (answer .answer)
@@ -86,7 +88,9 @@ abbrev pub shared-of : Sharing → SharedReply
 shared-of x = shared-reply (lines-reply (x .listing .answer)) (x .shared)
 
 -- The reply to a completion with its shared length: that of what sharing's contract says.
-pub record SharedReplies (ws txt : List ℕ) (t : Table) (ask : ℕ) (query : Str) (budget : ℕ) (flat flat′ out out′ : List ℕ) (r : SharedReply) : Type 0 where
+pub record SharedReplies (ws txt : List ℕ) (t : Table) (ask : ℕ) (query : Str) (budget : ℕ)
+    (flat flat′ out out′ : List ℕ) (r : SharedReply) : Type 0 where
   pub answer : Sharing
-  pub completes : CompletesShared ws txt t (record { ask = ask-of ask; budget = budget }) query flat flat′ out out′ answer
+  pub completes : CompletesShared ws txt t
+      (record { ask = ask-of ask; budget = budget }) query flat flat′ out out′ answer
   pub reply : r ≡ shared-of answer

@@ -18,7 +18,8 @@ ghost use Rattle.source.specs.Lent.{old, new};
 ghost use Rattle.source.specs.Calls.{name, include, opens, alias, module-path};
 ghost use Rattle.memory.specs.Sound.{Says};
 ghost use Rattle.table.specs.Header.{IsSound};
-ghost use Rattle.screen_tests.specs.Replies.{table-of, ask-of, item-of, refusal-of, reply-of, shared-of, RegisterReplies, FindReplies, ListReplies, SharedReplies};
+ghost use Rattle.screen_tests.specs.Replies.{table-of, ask-of, item-of, refusal-of, reply-of, shared-of, RegisterReplies, FindReplies, ListReplies};
+ghost use Rattle.screen_tests.specs.Replies.{SharedReplies};
 
 // A registration's reply: 0 or the number of the refusal, and the table.
 #[repr(C)]

@@ -15,7 +15,8 @@ use Rattle.script.specs.declared.Question.the-variants.{Complete}
 use Rattle.script.specs.Script.{key, name, import, module-path, ask, Reads}
 
 -- A number alone is a Register's.
-name-line : Reads (bytes "[name [Live.] offset 3]") (name (bytes "Live.") (bytes "offset") (record { kind = Register; number = 3 }))
+name-line : Reads (bytes "[name [Live.] offset 3]")
+    (name (bytes "Live.") (bytes "offset") (record { kind = Register; number = 3 }))
 unfolding bytes byte-ok value-from key run-length written-kind written-digits kind-letter
 name-line = record {
   short = omega arith;

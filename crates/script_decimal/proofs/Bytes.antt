@@ -16,7 +16,8 @@ sort-at sort [] i a l = absurd (omega arith)
 sort-at sort (b ∷ s) zero a l = a .0
 sort-at sort (b ∷ s) (suc i) a l = sort-at sort s i (a .1) (omega arith)
 
-pub all-more : (sort : Sort) (s : Str) (i : ℕ) → i < length s → All sort (take i s) → byte-ok sort (getD s i 0) ≡ true → All sort (take (suc i) s)
+pub all-more : (sort : Sort) (s : Str) (i : ℕ) → i < length s → All sort (take i s) → byte-ok sort (getD s i 0) ≡ true
+    → All sort (take (suc i) s)
 all-more sort [] i l a e = absurd (omega arith)
 all-more sort (b ∷ s) zero l a e = (e, tt)
 all-more sort (b ∷ s) (suc i) l a e = (a .0, all-more sort s i (omega arith) (a .1) e)

@@ -35,7 +35,8 @@ digits-more (suc f) zero n h k = digits-small (suc f) n (omega arith) ∙ sym (d
 digits-more (suc f) (suc g) n h k =
     by-ten n
     (λ l. digits-small (suc f) n l ∙ sym (digits-small (suc g) n l))
-    (λ l. digits-large (suc f) n l ∙ ap (λ (s : Str). s ++ ((48 + n % 10) ∷ [])) (digits-more f g (n / 10) (omega arith) (omega arith)) ∙ sym (digits-large (suc g) n l))
+    (λ l. digits-large (suc f) n l ∙ ap (λ (s : Str). s ++ ((48 + n % 10) ∷ [])) (digits-more f g (n / 10) (omega arith) (omega arith))
+    ∙ sym (digits-large (suc g) n l))
 
 pub decimal-small : (n : ℕ) → n < 10 → decimal n ≡ (48 + n) ∷ []
 unfolding decimal
@@ -44,7 +45,8 @@ decimal-small n h = digits-small n n h
 pub decimal-large : (n : ℕ) → 10 ≤ n → decimal n ≡ decimal (n / 10) ++ ((48 + n % 10) ∷ [])
 unfolding decimal
 decimal-large zero h = absurd (omega arith)
-decimal-large (suc m) h = digits-large (suc m) (suc m) h ∙ ap (λ (s : Str). s ++ ((48 + suc m % 10) ∷ [])) (digits-more m (suc m / 10) (suc m / 10) (omega arith) (omega arith))
+decimal-large (suc m) h =
+    digits-large (suc m) (suc m) h ∙ ap (λ (s : Str). s ++ ((48 + suc m % 10) ∷ [])) (digits-more m (suc m / 10) (suc m / 10) (omega arith) (omega arith))
 
 pub decimal-tenth : (n : ℕ) → 10 ≤ n → length (decimal n) ≡ length (decimal (n / 10)) + 1
 decimal-tenth n h = ap length (decimal-large n h) ∙ length-append (decimal (n / 10)) ((48 + n % 10) ∷ [])

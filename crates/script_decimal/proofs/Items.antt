@@ -8,7 +8,8 @@ use Rattle.source.specs.declared.LidSymbol.{LidSymbol}
 use Rattle.script_decimal.specs.Items.{written-kind, written-digits, ItemText, name-text}
 use Rattle.script_decimal.proofs.Decimal.{decimal-reads}
 
-reads : (k : ItemKind) (n : ℕ) → n ≤ 4294967295 → ItemText (name-text (record { kind = k; number = n })) (record { kind = k; number = n })
+reads : (k : ItemKind) (n : ℕ) → n ≤ 4294967295
+    → ItemText (name-text (record { kind = k; number = n })) (record { kind = k; number = n })
 unfolding name-text written-kind written-digits kind-letter
 reads Timer n h = record { kind-is = refl; number-is = decimal-reads n h }
 reads Port n h = record { kind-is = refl; number-is = decimal-reads n h }

@@ -26,7 +26,8 @@ digit-bounds b e =
     let p = and-both (leb 48 b) (leb b 57) e in
     (leb-true 48 b (p .0), leb-true b 57 (p .1))
 
-pub value-step : (v : ℕ) (s : Str) (i : ℕ) → i < length s → value-from v (drop i s) ≡ value-from (v * 10 + (getD s i 0 - 48)) (drop (i + 1) s)
+pub value-step : (v : ℕ) (s : Str) (i : ℕ) → i < length s
+    → value-from v (drop i s) ≡ value-from (v * 10 + (getD s i 0 - 48)) (drop (i + 1) s)
 unfolding value-from
 value-step v s i l = rw (add-one i, drop-cons s i 0 l) refl
 
@@ -63,7 +64,8 @@ module _ {ds : Str} {v i : ℕ} (k : Counted ds v i) where
     pub counted-over : 4294967295 < v * 10 + (getD ds i 0 - 48) → (n : ℕ) → Valued ds n → ⊥
     counted-over h n r = omega (arith, r .value, r .fits, k .value, value-step v ds i l, value-grows (v * 10 + (getD ds i 0 - 48)) (drop (i + 1) ds))
 
-    pub counted-more : byte-ok Digit (getD ds i 0) ≡ true → {w : ℕ} → w ≡ v * 10 + (getD ds i 0 - 48) → w ≤ 4294967295 → Counted ds w (i + 1)
+    pub counted-more : byte-ok Digit (getD ds i 0) ≡ true → {w : ℕ} → w ≡ v * 10 + (getD ds i 0 - 48) → w ≤ 4294967295
+        → Counted ds w (i + 1)
     counted-more h {w} e f = record {
       below = omega arith;
       digits = rw (add-one i) (all-more Digit ds i l (k .digits) h);
@@ -73,6 +75,7 @@ module _ {ds : Str} {v i : ℕ} (k : Counted ds v i) where
 
 -- ---- `numeral`
 
-pub number-says : (ds : Str) (r : Number) → 0 < length ds → (getD ds 0 0 ≡ 48 → length ds ≡ 1) → ValueSays ds r → NumberSays ds r
+pub number-says : (ds : Str) (r : Number) → 0 < length ds → (getD ds 0 0 ≡ 48 → length ds ≡ 1) → ValueSays ds r
+    → NumberSays ds r
 number-says ds (At n) some lead v = record { digits = v .digits; some = some; lead = lead; value = v .value; fits = v .fits }
 number-says ds No some lead v = λ n k. v n (record { digits = k .digits; value = k .value; fits = k .fits })

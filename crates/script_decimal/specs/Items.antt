@@ -14,11 +14,13 @@ use Rattle.script_decimal.specs.Numerals.{Numeral, decimal}
 -- ---- Read: the letter of a kind and a number, or a number alone, which is a Register's.
 
 unfoldable pub written-kind : Str → ItemKind
-written-kind s = cond (eqb (getD s 0 0) (kind-letter Timer)) Timer (cond (eqb (getD s 0 0) (kind-letter Port)) Port Register)
+written-kind s =
+    cond (eqb (getD s 0 0) (kind-letter Timer)) Timer (cond (eqb (getD s 0 0) (kind-letter Port)) Port Register)
 
 unfoldable pub written-digits : Str → Str
 written-digits s =
-    cond (eqb (getD s 0 0) (kind-letter Timer) || eqb (getD s 0 0) (kind-letter Port) || eqb (getD s 0 0) (kind-letter Register)) (drop 1 s) s
+    cond (eqb (getD s 0 0) (kind-letter Timer) || eqb (getD s 0 0) (kind-letter Port) || eqb (getD s 0 0)
+    (kind-letter Register)) (drop 1 s) s
 
 pub record ItemText (s : Str) (c : LidSymbol) : Type 0 where
   pub kind-is : c .kind ≡ written-kind s

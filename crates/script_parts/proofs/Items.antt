@@ -21,7 +21,8 @@ letter-inside [] e h = omega (arith, e)
 letter-inside (a ∷ s) e h = omega arith
 
 -- What is read of the digits as of the kind is the item, where these are what is written.
-pub item-says : (s : Str) (k : ItemKind) (ds : Str) → written-kind s ≡ k → written-digits s ≡ ds → (r : Item) → NumberedSays k ds r → ItemSays s r
+pub item-says : (s : Str) (k : ItemKind) (ds : Str) → written-kind s ≡ k → written-digits s ≡ ds → (r : Item)
+    → NumberedSays k ds r → ItemSays s r
 item-says s k ds e f (At c) h = record { kind-is = h .0 ∙ sym e; number-is = rw f (h .1) }
 item-says s k ds e f No h = λ c t. h (c .number) (rw f at (t .number-is))
 
@@ -42,7 +43,8 @@ module _ (s : Str) where
   letter-written Register e = (rw e refl, rw e (rest-is s))
 
   -- No letter.
-  pub bare-written : (getD s 0 0 ≡ kind-letter Timer → ⊥) → (getD s 0 0 ≡ kind-letter Port → ⊥) → (getD s 0 0 ≡ kind-letter Register → ⊥)
+  pub bare-written : (getD s 0 0 ≡ kind-letter Timer → ⊥) → (getD s 0 0 ≡ kind-letter Port → ⊥)
+      → (getD s 0 0 ≡ kind-letter Register → ⊥)
       → (written-kind s ≡ Register) × (written-digits s ≡ s)
   unfolding written-kind written-digits
   bare-written t p r =

@@ -17,7 +17,8 @@ use Rattle.script_parts.proofs.Runs.{run-all, run-le, run-after, piece-
 
 -- ---- `piece`
 
-module _ (sort : Sort) (close line : Str) (at r : ℕ) (e : r ≡ at + run-length sort (drop at line)) (h : at ≤ length line) where
+module _ (sort : Sort) (close line : Str) (at r : ℕ) (e : r ≡ at + run-length sort (drop at line))
+    (h : at ≤ length line) where
   pub run-within : r ≤ length line
   run-within = omega (arith, run-le sort (drop at line), length-drop at line)
 
@@ -34,7 +35,8 @@ module _ (sort : Sort) (close line : Str) (at r : ℕ) (e : r ≡ at + run-lengt
       q : r - at ≡ run-length sort (drop at line)
       q = omega arith
 
-  pub piece-no : Stops sort close → StartsSays (drop r line) close false → (part rest : Str) → Piece sort close (drop at line) part rest → ⊥
+  pub piece-no : Stops sort close → StartsSays (drop r line) close false → (part rest : Str)
+      → Piece sort close (drop at line) part rest → ⊥
   piece-no stops n part rest p = n rest (rw (e, ← drop-drop (run-length sort (drop at line)) at line) (piece-cut sort stops p .1))
 
 -- ---- A part that was found
@@ -46,7 +48,8 @@ module _ {sort : Sort} {close line : Str} {at e : ℕ} (p : PieceAt sort close l
   pub rest-found : {part rest : Str} → Piece sort close (drop at line) part rest → rest ≡ drop (e + length close) line
   rest-found q = piece-once sort stops q (p .piece) .1
 
-pub cut-length : {sort : Sort} {close line : Str} {at e : ℕ} → PieceAt sort close line at e → length (cut at e line) ≡ e - at
+pub cut-length : {sort : Sort} {close line : Str} {at e : ℕ} → PieceAt sort close line at e
+    → length (cut at e line) ≡ e - at
 cut-length {line = line} {at} {e} p = length-take-le (e - at) (drop at line) (rw length-drop (omega (arith, p .start, p .end)))
 
 pub stops-query : byte-ok Query 93 ≡ false
@@ -109,7 +112,8 @@ unfolding bytes
 id-piece r = record { ok = r .id-ok; spelled = r .spelled }
 
 module _ {line : Str} {at e : ℕ} (p : PieceAt Word (32 ∷ []) line at e) where
-  pub id-yes : {f : ℕ} {c : LidSymbol} → (e ≡ at → ⊥) → LastAt line (e + 1) f → ItemText (cut (e + 1) f line) c → IdEnd (drop at line) (cut at e line) c
+  pub id-yes : {f : ℕ} {c : LidSymbol} → (e ≡ at → ⊥) → LastAt line (e + 1) f → ItemText (cut (e + 1) f line) c
+      → IdEnd (drop at line) (cut at e line) c
   unfolding bytes
   id-yes {f} some l m = record {
     id-ok = p .piece .ok;
@@ -122,12 +126,15 @@ module _ {line : Str} {at e : ℕ} (p : PieceAt Word (32 ∷ []) line at e) wher
   pub id-empty : e ≡ at → (id : Str) (c : LidSymbol) → IdEnd (drop at line) id c → ⊥
   id-empty h id c r = omega (arith, r .id-some, ap length (part-found p stops-word (id-piece r)), cut-length p)
 
-  pub id-open : ((ds : Str) → drop (e + 1) line ≡ ds · bytes "]" → ⊥) → (id : Str) (c : LidSymbol) → IdEnd (drop at line) id c → ⊥
+  pub id-open : ((ds : Str) → drop (e + 1) line ≡ ds · bytes "]" → ⊥) → (id : Str) (c : LidSymbol)
+      → IdEnd (drop at line) id c → ⊥
   id-open f id c r = f (r .word) (sym (rest-found p stops-word (id-piece r)))
 
-  pub id-item : {f : ℕ} → LastAt line (e + 1) f → ((c : LidSymbol) → ItemText (cut (e + 1) f line) c → ⊥) → (id : Str) (c : LidSymbol) → IdEnd (drop at line) id c → ⊥
+  pub id-item : {f : ℕ} → LastAt line (e + 1) f → ((c : LidSymbol) → ItemText (cut (e + 1) f line) c → ⊥)
+      → (id : Str) (c : LidSymbol) → IdEnd (drop at line) id c → ⊥
   id-item {f} l none id c r =
-      none c (subst (λ (t : Str). ItemText t c) (last-once (r .word) (cut (e + 1) f line) (rest-found p stops-word (id-piece r) ∙ l .spelled)) (r .item))
+      none c (subst (λ (t : Str). ItemText t c)
+      (last-once (r .word) (cut (e + 1) f line) (rest-found p stops-word (id-piece r) ∙ l .spelled)) (r .item))
 
 -- ---- `line_end`
 

@@ -14,7 +14,8 @@ use Rattle.script_parts.specs.Parts.{cut, counted, run-length, Stops, Pi
 -- ---- A loop over a run, turn by turn
 
 module _ (sort : Sort) (s : Str) (i : ℕ) where
-  pub run-step : i < length s → byte-ok sort (getD s i 0) ≡ true → i + run-length sort (drop i s) ≡ i + 1 + run-length sort (drop (i + 1) s)
+  pub run-step : i < length s → byte-ok sort (getD s i 0) ≡ true
+      → i + run-length sort (drop i s) ≡ i + 1 + run-length sort (drop (i + 1) s)
   unfolding run-length
   run-step l e = rw (add-one i, drop-cons s i 0 l, e) (omega arith)
 
@@ -34,7 +35,8 @@ module _ (sort : Sort) where
   run-all [] = tt
   run-all (b ∷ s) = go (run-all s) (byte-ok sort b) refl
     where
-      go : All sort (take (run-length sort s) s) → (t : Bool) → byte-ok sort b ≡ t → All sort (take (counted t (run-length sort s)) (b ∷ s))
+      go : All sort (take (run-length sort s) s) → (t : Bool) → byte-ok sort b ≡ t
+          → All sort (take (counted t (run-length sort s)) (b ∷ s))
       go r true e = (e, r)
       go r false e = tt
 
@@ -53,19 +55,23 @@ module _ (sort : Sort) where
   run-after [] l = absurd (omega arith)
   run-after (b ∷ s) l = go (λ h. run-after s h) (byte-ok sort b) refl l
     where
-      go : (run-length sort s < length s → byte-ok sort (getD s (run-length sort s) 0) ≡ false) → (t : Bool) → byte-ok sort b ≡ t → counted t (run-length sort s) < suc (length s) → byte-ok sort (getD (b ∷ s) (counted t (run-length sort s)) 0) ≡ false
+      go : (run-length sort s < length s → byte-ok sort (getD s (run-length sort s) 0) ≡ false) → (t : Bool)
+          → byte-ok sort b ≡ t → counted t (run-length sort s) < suc (length s)
+          → byte-ok sort (getD (b ∷ s) (counted t (run-length sort s)) 0) ≡ false
       go f true e l = f (omega arith)
       go f false e l = e
 
   -- A part and a text that stops it: the run is the part.
-  pub run-of : (part close rest : Str) → All sort part → Stops sort close → run-length sort (part ++ (close ++ rest)) ≡ length part
+  pub run-of : (part close rest : Str) → All sort part → Stops sort close
+      → run-length sort (part ++ (close ++ rest)) ≡ length part
   unfolding run-length
   run-of part [] rest a e = absurd e
   run-of [] (c ∷ close) rest a e = rw e refl
   run-of (b ∷ part) (c ∷ close) rest a e = rw (a .0) (ap suc (run-of part (c ∷ close) rest (a .1) e))
 
   -- Where a part ends: every refusal rests on this.
-  pub piece-cut : {close s part rest : Str} → Stops sort close → Piece sort close s part rest → (take (run-length sort s) s ≡ part) × (drop (run-length sort s) s ≡ close · rest)
+  pub piece-cut : {close s part rest : Str} → Stops sort close → Piece sort close s part rest
+      → (take (run-length sort s) s ≡ part) × (drop (run-length sort s) s ≡ close · rest)
   piece-cut {close} {s} {part} {rest} stops p =
       let n : length part ≡ run-length sort s = sym (ap (run-length sort) (p .spelled) ∙ run-of part close rest (p .ok) stops) in (
         ap (take (run-length sort s)) (p .spelled) ∙ take-at part (close · rest) (run-length sort s) n,
@@ -73,10 +79,12 @@ module _ (sort : Sort) where
       )
 
   -- A text has one part and one rest at most.
-  pub piece-once : {close s part rest part′ rest′ : Str} → Stops sort close → Piece sort close s part rest → Piece sort close s part′ rest′ → (part ≡ part′) × (rest ≡ rest′)
+  pub piece-once : {close s part rest part′ rest′ : Str} → Stops sort close → Piece sort close s part rest
+      → Piece sort close s part′ rest′ → (part ≡ part′) × (rest ≡ rest′)
   piece-once {close} {s} {part} {rest} {part′} {rest′} stops p p′ = (
     sym (piece-cut stops p .0) ∙ piece-cut stops p′ .0,
-    sym (drop-at close rest (length close) refl) ∙ ap (drop (length close)) (sym (piece-cut stops p .1) ∙ piece-cut stops p′ .1) ∙ drop-at close rest′ (length close) refl,
+    sym (drop-at close rest (length close) refl) ∙ ap (drop (length close)) (sym (piece-cut stops p .1) ∙ piece-cut stops p′ .1)
+        ∙ drop-at close rest′ (length close) refl,
   )
 
 -- ---- A text at a place
@@ -84,7 +92,8 @@ module _ (sort : Sort) where
 pub cut-all : (line : Str) (at e : ℕ) → at ≤ e → drop at line ≡ cut at e line · drop e line
 cut-all line at e h =
     sym (take-append-drop (e - at) (drop at line))
-    ∙ ap (λ (t : Str). take (e - at) (drop at line) ++ t) (drop-drop (e - at) at line ∙ ap (λ (n : ℕ). drop n line) (let q : at + (e - at) ≡ e = omega arith in q))
+    ∙ ap (λ (t : Str). take (e - at) (drop at line) ++ t)
+    (drop-drop (e - at) at line ∙ ap (λ (n : ℕ). drop n line) (let q : at + (e - at) ≡ e = omega arith in q))
 
 -- ---- Every byte of a text
 
@@ -94,14 +103,17 @@ module _ (line : Str) (at : ℕ) (text : Str) where
   pub run-starts-short : length line - at < length text → (rest : Str) → drop at line ≡ text · rest → ⊥
   run-starts-short h rest e = omega (arith, simp length-append at (ap length e), length-drop at line)
 
-  pub starts-differ : (i : ℕ) → i < length text → (getD line (at + i) 0 ≡ getD text i 0 → ⊥) → (rest : Str) → drop at line ≡ text · rest → ⊥
+  pub starts-differ : (i : ℕ) → i < length text → (getD line (at + i) 0 ≡ getD text i 0 → ⊥) → (rest : Str)
+      → drop at line ≡ text · rest → ⊥
   starts-differ i h n rest e = n (sym (getD-drop at line i 0) ∙ ap (λ (s : Str). getD s i 0) e ∙ List·getD-append text rest 0 i h)
 
-  pub starts-step : (i : ℕ) → length text ≤ length line - at → i < length text → getD line (at + i) 0 ≡ getD text i 0 → take i (drop at line) ≡ take i text → take (i + 1) (drop at line) ≡ take (i + 1) text
+  pub starts-step : (i : ℕ) → length text ≤ length line - at → i < length text → getD line (at + i) 0 ≡ getD text i 0
+      → take i (drop at line) ≡ take i text → take (i + 1) (drop at line) ≡ take (i + 1) text
   starts-step i room h b e =
       rw (add-one i, take-suc (drop at line) i 0 (rw length-drop (omega arith)), take-suc text i 0 h, e, getD-drop at line i 0, b)
 
-  pub starts-done : (i : ℕ) → length text ≤ length line - at → i ≡ length text → take i (drop at line) ≡ take i text → (length text ≤ length (drop at line)) × (drop at line ≡ text · drop (length text) (drop at line))
+  pub starts-done : (i : ℕ) → length text ≤ length line - at → i ≡ length text → take i (drop at line) ≡ take i text
+      → (length text ≤ length (drop at line)) × (drop at line ≡ text · drop (length text) (drop at line))
   starts-done i room z e = (
     rw length-drop room,
     sym (take-append-drop i (drop at line)) ∙ ap (λ (s : Str). s · drop i (drop at line)) e ∙ rw (z, take-length text),
@@ -120,7 +132,8 @@ module _ (line : Str) (at : ℕ) where
     bracket-last b = record {
       start = omega arith;
       end = end;
-      spelled = cut-all line at e (omega arith) ∙ ap (λ (s : Str). cut at e line · s) (drop-cons line e 0 (omega arith) ∙ rw (b, drop-of-length-le line {i = suc e} (omega arith)));
+      spelled = cut-all line at e (omega arith)
+          ∙ ap (λ (s : Str). cut at e line · s) (drop-cons line e 0 (omega arith) ∙ rw (b, drop-of-length-le line {i = suc e} (omega arith)));
     }
 
     pub last-other : (getD line e 0 ≡ 93 → ⊥) → (part : Str) → drop at line ≡ part · bytes "]" → ⊥

@@ -93,7 +93,8 @@ pub record PairEnd (s host q : Str) : Type 0 where
 
 -- The host and the query that end the line from at on, or that none do.
 abbrev pub PairSays : Str → ℕ → Pair → Type 0
-PairSays line at (AtPair host q) = Within line host × Within line q × PairEnd (drop at line) (part-of line host) (part-of line q)
+PairSays line at (AtPair host q) =
+    Within line host × Within line q × PairEnd (drop at line) (part-of line host) (part-of line q)
 PairSays line at NoPair = (host q : Str) → PairEnd (drop at line) host q → ⊥
 
 -- The line's last byte is a bracket, and e its place.

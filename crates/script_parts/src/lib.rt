@@ -7,7 +7,8 @@ ghost use mathlib.Core.Path.{_≡_};
 ghost use Prim.Native.Nat.{_+_, _≤_};
 ghost use lib.ListN.{length, getD, drop};
 ghost use Rattle.source.specs.Lent.{old};
-ghost use Rattle.script_parts.specs.Parts.{run-length, StartsSays, Stops, PieceSays, QuerySays, PairSays, LastSays, NumberedSays, ItemSays, IdSays, WordSays};
+ghost use Rattle.script_parts.specs.Parts.{run-length, StartsSays, Stops, PieceSays, QuerySays, PairSays, LastSays, NumberedSays, ItemSays, IdSays};
+ghost use Rattle.script_parts.specs.Parts.{WordSays};
 ghost use Rattle.script_decimal.specs.Bytes.{LineEnd};
 
 // A part of a line: where it starts, and its length.

@@ -13,7 +13,8 @@ ok-text : ok-reply 19 ≡ bytes "[ok 19]\n"
 unfolding bytes ok-reply decimal digits
 ok-text = refl
 
-line-text : line-reply (pos 8) (Name (record { kind = Register; number = 3 })) (bytes "") (bytes "Live.offset") ≡ bytes "[line 8 r3 [] Live.offset]\n"
+line-text : line-reply (pos 8) (Name (record { kind = Register; number = 3 })) (bytes "") (bytes "Live.offset")
+    ≡ bytes "[line 8 r3 [] Live.offset]\n"
 unfolding bytes line-reply signed item-text name-text kind-letter decimal digits
 line-text = refl
 

@@ -12,7 +12,9 @@ use Rattle.script_decimal.specs.Bytes.{Str, _·_, bytes}
 use Rattle.script_decimal.specs.Numerals.{digits, decimal}
 use Rattle.script_replies.specs.Replies.{signed, item-text, line-reply}
 
-pub line-joined : (l : ℤ) (item : ItemReply) (annotation candidate : Str) → (bytes "[line " · signed l · bytes " " · item-text item) · bytes " [" · annotation · bytes "] " · candidate · bytes "]\n" ≡ line-reply l item annotation candidate
+pub line-joined : (l : ℤ) (item : ItemReply) (annotation candidate : Str)
+    → (bytes "[line " · signed l · bytes " " · item-text
+    item) · bytes " [" · annotation · bytes "] " · candidate · bytes "]\n" ≡ line-reply l item annotation candidate
 unfolding bytes line-reply
 line-joined l item annotation candidate = simp append-assoc
 
@@ -25,6 +27,7 @@ pub word-plus : (m : ℕ) → (m ≡ 4294967295 → ⊥) → signed (signed-word
 unfolding signed-word signed
 word-plus m h = rw (ne-eqb m 4294967295 h, signed) refl
 
-pub row-size : (annotation candidate : Str) → length (annotation · bytes "] " · candidate · bytes "]\n") ≡ length annotation + length candidate + 4
+pub row-size : (annotation candidate : Str) → length (annotation · bytes "] " · candidate · bytes "]\n")
+    ≡ length annotation + length candidate + 4
 unfolding bytes
 row-size annotation candidate = simp length-append (omega arith)

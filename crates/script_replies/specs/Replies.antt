@@ -46,7 +46,8 @@ bad-reply = bytes "[bad]\n"
 -- `[line L I [annotation] candidate]`
 unfoldable pub line-reply : ℤ → ItemReply → Str → Str → Str
 line-reply l item annotation candidate =
-    bytes "[line " · signed l · bytes " " · item-text item · bytes " [" · annotation · bytes "] " · candidate · bytes "]\n"
+    bytes "[line " · signed l · bytes " " · item-text
+    item · bytes " [" · annotation · bytes "] " · candidate · bytes "]\n"
 
 -- `[end lines entered]`
 unfoldable pub end-reply : ℕ → ℕ → Str

@@ -10,7 +10,8 @@ ghost use Rattle.text.specs.Laid.{Laid};
 ghost use Rattle.script_decimal.specs.Bytes.{bytes, _·_};
 ghost use Rattle.script_decimal.specs.Numerals.{decimal};
 ghost use Rattle.script_decimal.specs.Items.{name-text};
-ghost use Rattle.script_replies.specs.Replies.{signed, item-text, ok-reply, found-reply, none-reply, refused-reply, bad-reply, line-reply, end-reply, reply-room};
+ghost use Rattle.script_replies.specs.Replies.{signed, item-text, ok-reply, found-reply, none-reply, refused-reply, bad-reply, line-reply, end-reply};
+ghost use Rattle.script_replies.specs.Replies.{reply-room};
 
 // The item of a line: its kind and number in `complete`, module or namespace in `modules`.
 pub enum ItemReply {
@@ -132,7 +133,8 @@ fn put_word(out: &mut [u8], at: usize, word: u32) -> usize
 // Writes a line's numbers, its length as a word.
 fn put_words(out: &mut [u8], at: usize, word: u32, item: ItemReply) -> usize
     requires { ⌜ at + 28 ≤ length (now out) ⌝ }
-    ensures { λ r. ⌜ Laid (old out) (new out) at r (bytes "[line " · signed (signed-word word) · bytes " " · item-text item) × (r ≤ at + 28) ⌝ }
+    ensures { λ r. ⌜ Laid (old out) (new out) at r
+        (bytes "[line " · signed (signed-word word) · bytes " " · item-text item) × (r ≤ at + 28) ⌝ }
 {
     let a = put(out, at, b"[line ");
     let b = put_word(out, a, word);
@@ -150,7 +152,8 @@ pub fn put_row(
     candidate: &[u8],
 ) -> usize
     requires { ⌜ at + reply-room + length (now annotation) + length (now candidate) ≤ length (now out) ⌝ }
-    ensures { λ r. ⌜ Laid (old out) (new out) at r (line-reply (signed-word word) item (old annotation) (old candidate)) ×
+    ensures { λ r. ⌜ Laid (old out) (new out) at r
+        (line-reply (signed-word word) item (old annotation) (old candidate)) ×
         (r ≤ at + reply-room + length (old annotation) + length (old candidate)) ⌝ }
 {
     let a = put_words(out, at, word, item);

@@ -21,7 +21,8 @@ module _ {ws least greatest least′ greatest′ : List ℕ} {l : ℕ} (n : Note
   pub notes-at : Notes ws l least′ greatest′
   notes-at = record { least-noted = n .least-noted; greatest-noted = n .greatest-noted }
 
-  pub notes-next : {least″ greatest″ : List ℕ} → NotesOn ws (l + 1) least′ greatest′ least″ greatest″ → NotesOn ws (l + 1) least greatest least″ greatest″
+  pub notes-next : {least″ greatest″ : List ℕ} → NotesOn ws (l + 1) least′ greatest′ least″ greatest″
+      → NotesOn ws (l + 1) least greatest least″ greatest″
   notes-next m = record {
     least-size = m .least-size ∙ n .least-size;
     greatest-size = m .greatest-size ∙ n .greatest-size;
@@ -29,5 +30,6 @@ module _ {ws least greatest least′ greatest′ : List ℕ} {l : ℕ} (n : Note
     greatest-noted = m .greatest-noted;
   }
 
-pub can-note : {ws txt least greatest : List ℕ} {used l : ℕ} → 0 < l → l * 12 ≤ length ws → RecordOk ws txt used l → Notes ws l least greatest → CanNote ws l least greatest
+pub can-note : {ws txt least greatest : List ℕ} {used l : ℕ} → 0 < l → l * 12 ≤ length ws → RecordOk ws txt used l
+    → Notes ws l least greatest → CanNote ws l least greatest
 can-note p h r n = record { some = p; fits = h; left-earlier = links-earlier r .0; right-earlier = links-earlier r .1; notes = n }

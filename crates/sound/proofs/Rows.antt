@@ -10,7 +10,8 @@ use Rattle.memory.specs.Layout.{record-at}
 use Rattle.memory.specs.Sound.{RecordOk}
 
 -- The words of a record, as a part of the words.
-pub part-record : (ws : List ℕ) (l : ℕ) → take ((l - 1) * 12 + 12 - (l - 1) * 12) (drop ((l - 1) * 12) ws) ≡ record-at ws l
+pub part-record : (ws : List ℕ) (l : ℕ)
+    → take ((l - 1) * 12 + 12 - (l - 1) * 12) (drop ((l - 1) * 12) ws) ≡ record-at ws l
 unfolding record-at
 part-record ws l = let e : (l - 1) * 12 + 12 - (l - 1) * 12 ≡ 12 = omega arith in rw e
 

@@ -18,7 +18,8 @@ pub says-equal : (b : Bool) {x y x′ y′ : ℕ} → x ≡ x′ → y ≡ y′ 
 says-equal b e f h = says-iff b h (λ q. sym e ∙ q ∙ f) (λ q. e ∙ q ∙ sym f)
 
 -- The depth of a branch of namespaces: x its trie's, e its links'.
-module _ {ws txt : List ℕ} {used l : ℕ} (b : Before ws txt used l) {w : Which} {r : List ℕ} (o : BranchOk ws txt used l w r ns) (h : LinkOk ws l (trie-link r) (kind w trieˢ))
+module _ {ws txt : List ℕ} {used l : ℕ} (b : Before ws txt used l) {w : Which} {r : List ℕ}
+    (o : BranchOk ws txt used l w r ns) (h : LinkOk ws l (trie-link r) (kind w trieˢ))
     {x e : ℕ} (i : x ≡ depth-in ws (trie-link r)) (j : e ≡ depth-of ws r) where
   both : max (suc x) e ≡ depth-tree (row w txt r (what w ws txt) (tree ns))
   both = rw (i, j) (depth-branch (b .rows) w o h)

@@ -90,7 +90,8 @@ pub fn symbol_ok(text: &[u8], used: u32, r: &[u32]) -> bool
 
 // The greater depth of the first two links of a record.
 pub fn deeper(words: &[u32], link: u32, r: &[u32]) -> u32
-    requires { ⌜ (link * record-words ≤ length (now words)) × (length (now r) ≡ record-words) × (left-link (now r) < link) × (right-link (now r) < link) ⌝ }
+    requires { ⌜ (link * record-words ≤ length (now words)) × (length (now r) ≡ record-words)
+        × (left-link (now r) < link) × (right-link (now r) < link) ⌝ }
     ensures { λ d. ⌜ d ≡ depth-of (old words) (old r) ⌝ }
 {
     let a = memory_access::depth_of(words, r[memory::FIRST]);

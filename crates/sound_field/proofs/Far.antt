@@ -45,7 +45,8 @@ Some StrEmpty = ⊥
 Some (StrBranch k v lbt rbt) = Unit {0}
 
 -- A key of a tree that is not empty.
-some-key : {A : Type 0} {v : Level} (t : Tree A v) (P Q : Str → Type 0) → Some t → AllKeys P t → AllKeys Q t → (k : Str) × (P k × Q k)
+some-key : {A : Type 0} {v : Level} (t : Tree A v) (P Q : Str → Type 0) → Some t → AllKeys P t → AllKeys Q t
+    → (k : Str) × (P k × Q k)
 some-key StrEmpty P Q s a b = absurd s
 some-key (StrBranch k v lbt rbt) P Q s a b = (k, (a .0, b .0))
 
@@ -57,11 +58,13 @@ pub record End (ws txt : List ℕ) (used l r : ℕ) (P : Str → Type 0) (All : 
   pub to : P (key-of txt (record-at ws r)) → All
   pub fro : All → P (key-of txt (record-at ws r))
 
-pub says-end : (b : Bool) {ws txt : List ℕ} {used l r : ℕ} {P : Str → Type 0} {All : Type 0} → End ws txt used l r P All → Says b (P (key-of txt (record-at ws r))) → Says b All
+pub says-end : (b : Bool) {ws txt : List ℕ} {used l r : ℕ} {P : Str → Type 0} {All : Type 0} → End ws txt used l r P All
+    → Says b (P (key-of txt (record-at ws r))) → Says b All
 says-end b i h = says-iff b h (i .to) (i .fro)
 
 module _ {ws txt : List ℕ} {used l : ℕ} (b : Before ws txt used l) where
-  pub toward-falls : (s : Side) (from : ℕ) → from < l → (j : ℕ) → 0 < j → j ≤ from → word (record-at ws j) (toward s) < j
+  pub toward-falls : (s : Side) (from : ℕ) → from < l → (j : ℕ) → 0 < j → j ≤ from
+      → word (record-at ws j) (toward s) < j
   toward-falls left from h j p q = links-earlier (b .rows j p (omega arith)) .1
   toward-falls right from h j p q = links-earlier (b .rows j p (omega arith)) .0
 
@@ -89,33 +92,42 @@ module _ {ws txt : List ℕ} {used l : ℕ} (b : Before ws txt used l) where
           go left = branch-at ok w v e .right
           go right = branch-at ok w v e .left
 
-      all-at : (P : Str → Type 0) → P (key-of txt (record-at ws x)) → AllKeys P (the (word (record-at ws x) (away s))) → AllKeys P (the (word (record-at ws x) (toward s))) → AllKeys P (the x)
+      all-at : (P : Str → Type 0) → P (key-of txt (record-at ws x)) → AllKeys P (the (word (record-at ws x) (away s)))
+          → AllKeys P (the (word (record-at ws x) (toward s))) → AllKeys P (the x)
       all-at P = go s
         where
-          go : (s : Side) → P (key-of txt (record-at ws x)) → AllKeys P (the (word (record-at ws x) (away s))) → AllKeys P (the (word (record-at ws x) (toward s))) → AllKeys P (the x)
+          go : (s : Side) → P (key-of txt (record-at ws x)) → AllKeys P (the (word (record-at ws x) (away s)))
+              → AllKeys P (the (word (record-at ws x) (toward s))) → AllKeys P (the x)
           go left k i j = rw seen (k, i, j)
           go right k i j = rw seen (k, j, i)
 
-      at-all : (P : Str → Type 0) → AllKeys P (the x) → P (key-of txt (record-at ws x)) × AllKeys P (the (word (record-at ws x) (toward s)))
+      at-all : (P : Str → Type 0) → AllKeys P (the x)
+          → P (key-of txt (record-at ws x)) × AllKeys P (the (word (record-at ws x) (toward s)))
       at-all P a = go s (rw seen at a)
         where
-          go : (s : Side) → P (key-of txt (record-at ws x)) × AllKeys P (the (left-link (record-at ws x))) × AllKeys P (the (right-link (record-at ws x))) → P (key-of txt (record-at ws x)) × AllKeys P (the (word (record-at ws x) (toward s)))
+          go : (s : Side) → P (key-of txt (record-at ws x)) × AllKeys P (the (left-link (record-at ws x)))
+              × AllKeys P (the (right-link (record-at ws x)))
+              → P (key-of txt (record-at ws x)) × AllKeys P (the (word (record-at ws x) (toward s)))
           go left a = (a .0, a .2)
           go right a = (a .0, a .1)
 
-      sides : AllKeys (λ y. On s y (key-of txt (record-at ws x))) (the (word (record-at ws x) (away s))) × AllKeys (λ y. On s (key-of txt (record-at ws x)) y) (the (word (record-at ws x) (toward s)))
+      sides : AllKeys (λ y. On s y (key-of txt (record-at ws x))) (the (word (record-at ws x) (away s)))
+          × AllKeys (λ y. On s (key-of txt (record-at ws x)) y) (the (word (record-at ws x) (toward s)))
       sides = go s (rw seen at (ordered-at ok w v e))
         where
           go : (s : Side) → Ordered (row w txt (record-at ws x) (what w ws txt) (tree v))
-              → AllKeys (λ y. On s y (key-of txt (record-at ws x))) (the (word (record-at ws x) (away s))) × AllKeys (λ y. On s (key-of txt (record-at ws x)) y) (the (word (record-at ws x) (toward s)))
+              → AllKeys (λ y. On s y (key-of txt (record-at ws x))) (the (word (record-at ws x) (away s)))
+              × AllKeys (λ y. On s (key-of txt (record-at ws x)) y) (the (word (record-at ws x) (toward s)))
           go left o = (o .0, o .1)
           go right o = (o .1, o .0)
 
       -- Where the branch's own key is on the side of k, so are those away from k.
-      away-all : (k : Str) → On s (key-of txt (record-at ws x)) k → AllKeys (λ y. On s y k) (the (word (record-at ws x) (away s)))
+      away-all : (k : Str) → On s (key-of txt (record-at ws x)) k
+          → AllKeys (λ y. On s y k) (the (word (record-at ws x) (away s)))
       away-all k q = AllKeys-map (the (word (record-at ws x) (away s))) (λ y i. on-trans s y (key-of txt (record-at ws x)) k i q) (sides .0)
 
-    pub far-outermost : (s : Side) (k : Str) {x r : ℕ} → Far ws (toward s) x r → 0 < x → x < l → kind-word (record-at ws x) ≡ kind w (tree v)
+    pub far-outermost : (s : Side) (k : Str) {x r : ℕ} → Far ws (toward s) x r → 0 < x → x < l
+        → kind-word (record-at ws x) ≡ kind w (tree v)
         → End ws txt used l r (λ y. On s y k) (AllKeys (λ y. On s y k) (the x))
     far-outermost s k {x} (here z) p h e = record {
       some = p;
@@ -135,8 +147,10 @@ module _ {ws txt : List ℕ} {used l : ℕ} (b : Before ws txt used l) where
           before = i .before;
           inside = i .inside;
           to = λ q.
-              let t = some-key (the y) (λ u. On s (key-of txt (record-at ws x)) u) (λ u. On s u k) (is-some s y z m c) (sides s x p h e .1) (i .to q) in
-              let g : On s (key-of txt (record-at ws x)) k = on-trans s (key-of txt (record-at ws x)) (t .0) k (t .1 .0) (t .1 .1) in
+              let t = some-key (the y) (λ u. On s (key-of txt (record-at ws x)) u) (λ u. On s u k) (is-some s y z m c)
+              (sides s x p h e .1) (i .to q) in
+              let g : On s (key-of txt (record-at ws x)) k =
+              on-trans s (key-of txt (record-at ws x)) (t .0) k (t .1 .0) (t .1 .1) in
               all-at s x p h e (λ y. On s y k) g (away-all s x p h e k g) (i .to q);
           fro = λ a. i .fro (at-all s x p h e (λ y. On s y k) a .1);
         }
@@ -149,11 +163,16 @@ pub record EndLent (ws txt : List ℕ) (r : ℕ) : Type 0 where
 
 module _ {ws txt : List ℕ} {used l k top start len : ℕ} (q : Subtree ws txt used l k top start len) (s : Side) where
   pub subtree-end : {r : ℕ} → (w : Which) (v : Level) → k ≡ kind w (tree v) → (top ≡ 0 → ⊥) → Far ws (toward s) top r
-      → End ws txt used l r (λ y. On s y (span txt start len)) (AllKeys (λ y. On s y (span txt start len)) (what w ws txt top (tree v)))
+      → End ws txt used l r (λ y. On s y (span txt start len))
+      (AllKeys (λ y. On s y (span txt start len)) (what w ws txt top (tree v)))
   subtree-end w v e n f =
       far-outermost (q .before) w v s (span txt start len) f (zero-some top (λ z. absurd (n z)) (λ p. p)) (q .link .earlier) (q .link .of-kind n ∙ e)
 
   pub end-lent : {r : ℕ} → (top ≡ 0 → ⊥) → Far ws (toward s) top r → EndLent ws txt r
   end-lent n f =
       let i = subtree-end (q .branches .which) (q .branches .level) (q .branches .is) n f in
-      record { some = i .some; fits = omega (arith, i .before, q .before .fits); inside = omega (arith, i .inside, q .before .text) }
+      record {
+        some = i .some;
+        fits = omega (arith, i .before, q .before .fits);
+        inside = omega (arith, i .inside, q .before .text);
+      }

@@ -17,7 +17,8 @@ module _ {ws notes : List ℕ} {k l next : ℕ} (n : CanNoteWay ws k l notes) (e
   pub far-here : next ≤ 0 → Far ws k l l
   far-here p = let z : word (record-at ws l) k ≡ 0 = omega (arith, e) in here {x = l} z
 
-pub noted-more : {ws notes : List ℕ} {k l r : ℕ} → CanNoteWay ws k l notes → l < length notes → Far ws k l r → WaysNoted ws k (l + 1) (set notes l r)
+pub noted-more : {ws notes : List ℕ} {k l r : ℕ} → CanNoteWay ws k l notes → l < length notes → Far ws k l r
+    → WaysNoted ws k (l + 1) (set notes l r)
 noted-more {ws} {notes} {k} {l} {r} n room f = record {
   far = λ j p h b.
       ⊎-elim
@@ -27,7 +28,8 @@ noted-more {ws} {notes} {k} {l} {r} n room f = record {
 }
 
 -- A record that the notes do not reach.
-pub noted-past : {ws notes : List ℕ} {k l : ℕ} → CanNoteWay ws k l notes → length notes ≤ l → WaysNoted ws k (l + 1) notes
+pub noted-past : {ws notes : List ℕ} {k l : ℕ} → CanNoteWay ws k l notes → length notes ≤ l
+    → WaysNoted ws k (l + 1) notes
 noted-past n past = record { far = λ j p h b. n .noted .far j p (omega arith) b }
 
 -- On the way from a record: the end of what is left is the end of the whole.
@@ -47,7 +49,11 @@ module _ {ws notes : List ℕ} {k from : ℕ} (n : Ending ws k from notes) where
     pub going-on : (next ≡ 0 → ⊥) → Going ws k from next
     going-on q =
         let p : 0 < word (record-at ws x) k = omega (arith, e, q) in
-        record { some = omega (arith, e, p); within = omega (arith, going-less, g .within); back = λ r f. g .back r (on p (rw e at f)) }
+        record {
+          some = omega (arith, e, p);
+          within = omega (arith, going-less, g .within);
+          back = λ r f. g .back r (on p (rw e at f));
+        }
 
     pub going-end : next ≡ 0 → Far ws k from x
     going-end z = let h : word (record-at ws x) k ≡ 0 = omega (arith, e) in g .back x (here {x = x} h)

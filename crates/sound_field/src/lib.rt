@@ -97,7 +97,8 @@ fn spans_less(text: &[u8], s: u32, n: u32, t: u32, m: u32) -> bool
     less(&text[a..a + n as usize], &text[b..b + m as usize])
 }
 
-// Notes for the record of `link` where the way by the links in word `k` ends: at itself, or where that of the next record does. Records past the notes are not noted.
+// Notes for the record of `link` where the way by the links in word `k` ends: at itself, or where that of the next record does.
+// Records past the notes are not noted.
 pub fn note(words: &[u32], link: u32, k: usize, notes: &mut [u32])
     requires { ⌜ CanNoteWay (now words) k link (now notes) ⌝ }
     ensures { λ _. ⌜ WaysNoted (old words) k (link + 1) (new notes) ⌝ }

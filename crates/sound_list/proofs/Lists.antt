@@ -22,13 +22,16 @@ module _ (ws r : List ℕ) {a : ℕ} (e : a ≡ weight-in ws (rest-link r)) wher
   unfolding weight-of
   weight-imported f z = rw (z, ← e, ← f) (omega arith)
 
-pub says-collection : (b : Bool) {ws txt : List ℕ} {used l : ℕ} → Before ws txt used l → {w : Which} {v : Level} {r : List ℕ} → CollectionOk ws txt used l w r v → {n : ℕ} → n ≡ weight-of ws r
-    → Says b ((weight-word r ≡ n) × (n ≤ 96)) → Says b (CollectionOk ws txt used l w r v × WeightOk r (row w txt r (what w ws txt) (list v)))
+pub says-collection : (b : Bool) {ws txt : List ℕ} {used l : ℕ} → Before ws txt used l
+    → {w : Which} {v : Level} {r : List ℕ} → CollectionOk ws txt used l w r v → {n : ℕ} → n ≡ weight-of ws r
+    → Says b ((weight-word r ≡ n) × (n ≤ 96))
+    → Says b (CollectionOk ws txt used l w r v × WeightOk r (row w txt r (what w ws txt) (list v)))
 says-collection b before {w} {r = r} o {n} e h =
     let d = e ∙ weight-row (before .rows) w o in
     says-iff b h (λ q. (o, record { weighs = q .0 ∙ d; light = omega (arith, q .1) })) (λ q. (q .1 .weighs ∙ sym d, omega (arith, q .1 .light)))
 
-pub says-trie : (b : Bool) {ws txt : List ℕ} {used l : ℕ} → Before ws txt used l → (w : Which) (r : List ℕ) → TrieOk ws txt used l w r → {s d : ℕ} → s ≡ depth-word r → d ≡ depth-in ws (right-link r) → d ≤ 16
+pub says-trie : (b : Bool) {ws txt : List ℕ} {used l : ℕ} → Before ws txt used l → (w : Which) (r : List ℕ)
+    → TrieOk ws txt used l w r → {s d : ℕ} → s ≡ depth-word r → d ≡ depth-in ws (right-link r) → d ≤ 16
     → Says b (s ≡ d) → Says b (RecordAs ws txt used l w trieˢ r (row w txt r (what w ws txt) trieˢ))
 says-trie b before w r o e f h k =
     let g = f ∙ depth-trie (before .rows) w o in

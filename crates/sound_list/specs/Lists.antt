@@ -18,4 +18,5 @@ module _ (ws txt : List ℕ) (used l : ℕ) (r : List ℕ) where
   -- A trie is right.
   abbrev pub SaysTrie : (bindings namespaces : ℕ) → Bool → Type 0
   SaysTrie m n b =
-      (w : Which) → m ≡ kind w (list bind) → n ≡ kind w (list ns) → Says b (RecordAs ws txt used l w trieˢ r (row w txt r (what w ws txt) trieˢ))
+      (w : Which) → m ≡ kind w (list bind) → n ≡ kind w (list ns)
+      → Says b (RecordAs ws txt used l w trieˢ r (row w txt r (what w ws txt) trieˢ))

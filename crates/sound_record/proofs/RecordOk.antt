@@ -38,7 +38,8 @@ kind-none modules (list ns) e a b c d f g = f (inr e)
 kind-none modules trieˢ e a b c d f g = g (inr e)
 
 -- The record r of link l, tested as what its words say, is tested as what the link reads as.
-module _ {ws txt : List ℕ} {used l : ℕ} (before : Before ws txt used l) {r : List ℕ} (at : r ≡ record-at ws l) (w : Which) (s : Sort) (known : kind-word r ≡ kind w s) where
+module _ {ws txt : List ℕ} {used l : ℕ} (before : Before ws txt used l) {r : List ℕ} (at : r ≡ record-at ws l)
+    (w : Which) (s : Sort) (known : kind-word r ≡ kind w s) where
   abbrev Right : Of (Item w) s → Type 0
   Right t = RecordAs ws txt used l w s (record-at ws l) t
 
@@ -50,12 +51,14 @@ module _ {ws txt : List ℕ} {used l : ℕ} (before : Before ws txt used l) {r :
       let a : Right (what w ws txt l s) = record-as o w s (rw at at known) in
       rw at (subst Right (same (what w ws txt l s) a) a)
 
-  pub says-record : (b : Bool) → Says b (RecordAs ws txt used l w s r (row w txt r (what w ws txt) s)) → Says b (RecordOk ws txt used l)
+  pub says-record : (b : Bool) → Says b (RecordAs ws txt used l w s r (row w txt r (what w ws txt) s))
+      → Says b (RecordOk ws txt used l)
   says-record b h =
       says-iff b h
       (λ a. let c : Right (row w txt (record-at ws l) (what w ws txt) s) = rw at at a in
       record { which = w; sort = s; known = rw at at known; right = subst Right (sym (same (row w txt (record-at ws l) (what w ws txt) s) c)) c })
       right-as
 
-pub before-length : {ws txt : List ℕ} {used l : ℕ} {r : List ℕ} → Before ws txt used l → r ≡ record-at ws l → length r ≡ 12
+pub before-length : {ws txt : List ℕ} {used l : ℕ} {r : List ℕ} → Before ws txt used l → r ≡ record-at ws l
+    → length r ≡ 12
 before-length {ws} {l = l} b e = ap length e ∙ record-length ws l (b .some) (b .fits)

@@ -5,13 +5,20 @@ use mathlib.Core.Bool.{Bool, true, false, cond}
 use mathlib.Core.List.{List, [], _∷_, reverse, tail}
 use native.Mathlib.Omega.{arith}
 use Rattle.source.specs.Text.{Str, Query, string-compare, segments}
-use Rattle.source.specs.Types.{Level, Value, Trie, Tree, NameList, bind, ns, item, trie, StrEmpty, StrBranch, []ᴺ, Names, ImportedNames, the-item, bindings, namespaces}
+use Rattle.source.specs.Types.{Level, Value, Trie, Tree, NameList, bind, ns, item, trie, StrEmpty, StrBranch, []ᴺ, Names, ImportedNames, the-item}
+use Rattle.source.specs.Types.{bindings, namespaces}
 use Rattle.source.specs.Trees.{btree-insert-replace}
-use Rattle.source.specs.Tries.{MutNode, MutLeaf, names-find-exact, names-insert, scope-of, trie-mutate, trie-mutate-leaf, trie-insert, trie-import, trie-include, trie-open-namespace, trie-add-alias}
+use Rattle.source.specs.Tries.{MutNode, MutLeaf, names-find-exact, names-insert, scope-of, trie-mutate, trie-mutate-leaf, trie-insert, trie-import}
+use Rattle.source.specs.Tries.{trie-include, trie-open-namespace, trie-add-alias}
 use Rattle.source.specs.Terms.{depth}
-use Rattle.source.specs.Listing.{PathOf, fold-left, rev-map-onto, ns-search-term, bindings-search-term, names-find-rev-first, Finder, by-first, find-prefix-fuel, trie-find-prefix′}
-use Rattle.source.specs.Table.{Table, ModSymbol, Module, Namespace, insert, register-alias, register-include, register-open, ns-inserts, ins-ns, ins-mod, ins, name-of-revq, register-module-path, ins-stays-loaded, register-module-stays-loaded}
-use Rattle.source.specs.Counted.{Counted, pure, one, _>>=_, MutNodeᶜ, MutLeafᶜ, btree-insert-replaceᶜ, names-insertᶜ, trie-mutateᶜ, trie-mutate-leafᶜ, trie-insertᶜ, trie-importᶜ, trie-includeᶜ, trie-open-namespaceᶜ, trie-add-aliasᶜ, lids, insertᶜ, register-aliasᶜ, register-includeᶜ, register-openᶜ, ins-nsᶜ, ins-modᶜ, insᶜ, register-module-pathᶜ, ins-stays-loadedᶜ, register-module-stays-loadedᶜ, fold-leftᶜ, find-prefix-fuelᶜ, trie-find-prefix′ᶜ}
+use Rattle.source.specs.Listing.{PathOf, fold-left, rev-map-onto, ns-search-term, bindings-search-term, names-find-rev-first, Finder, by-first}
+use Rattle.source.specs.Listing.{find-prefix-fuel, trie-find-prefix′}
+use Rattle.source.specs.Table.{Table, ModSymbol, Module, Namespace, insert, register-alias, register-include, register-open, ns-inserts, ins-ns, ins-mod}
+use Rattle.source.specs.Table.{ins, name-of-revq, register-module-path, ins-stays-loaded, register-module-stays-loaded}
+use Rattle.source.specs.Counted.{Counted, pure, one, _>>=_, MutNodeᶜ, MutLeafᶜ, btree-insert-replaceᶜ, names-insertᶜ, trie-mutateᶜ, trie-mutate-leafᶜ}
+use Rattle.source.specs.Counted.{trie-insertᶜ, trie-importᶜ, trie-includeᶜ, trie-open-namespaceᶜ, trie-add-aliasᶜ, lids, insertᶜ, register-aliasᶜ}
+use Rattle.source.specs.Counted.{register-includeᶜ, register-openᶜ, ins-nsᶜ, ins-modᶜ, insᶜ, register-module-pathᶜ, ins-stays-loadedᶜ}
+use Rattle.source.specs.Counted.{register-module-stays-loadedᶜ, fold-leftᶜ, find-prefix-fuelᶜ, trie-find-prefix′ᶜ}
 use Rattle.source.specs.Calls.{Call, name, include, opens, alias, module-path, registered, records, tries-entered}
 use Rattle.source.specs.Shared.{sumˡ}
 use Rattle.source.specs.Plans.{insert-branches, first-tree}
@@ -28,27 +35,31 @@ by-order f Ordering·gt p q r = r
 
 module _ {A : Type 0} where
   -- ---- Trees and lists of collections
-  pub btree-insert-replace-value : {l : Level} (t : Tree A l) (k : Str) (v : Value A l) → btree-insert-replaceᶜ t k v .value ≡ btree-insert-replace t k v
+  pub btree-insert-replace-value : {l : Level} (t : Tree A l) (k : Str) (v : Value A l)
+      → btree-insert-replaceᶜ t k v .value ≡ btree-insert-replace t k v
   unfolding btree-insert-replaceᶜ btree-insert-replace _>>=_ one
   btree-insert-replace-value StrEmpty k v = refl
   btree-insert-replace-value (StrBranch k′ v′ lbt rbt) k v =
       by-order (λ (c : Counted (Tree A _)). c .value) (string-compare k k′)
       (ap (λ t. StrBranch k′ v′ t rbt) (btree-insert-replace-value lbt k v)) refl (ap (StrBranch k′ v′ lbt) (btree-insert-replace-value rbt k v))
 
-  pub btree-insert-replace-count : {l : Level} (t : Tree A l) (k : Str) (v : Value A l) → btree-insert-replaceᶜ t k v .count ≡ insert-branches t k
+  pub btree-insert-replace-count : {l : Level} (t : Tree A l) (k : Str) (v : Value A l)
+      → btree-insert-replaceᶜ t k v .count ≡ insert-branches t k
   unfolding btree-insert-replaceᶜ insert-branches _>>=_ one
   btree-insert-replace-count StrEmpty k v = refl
   btree-insert-replace-count (StrBranch k′ v′ lbt rbt) k v =
       by-order (λ (c : Counted (Tree A _)). c .count) (string-compare k k′)
       (omega (arith, btree-insert-replace-count lbt k v)) refl (omega (arith, btree-insert-replace-count rbt k v))
 
-  pub names-insert-value : {l : Level} (n : NameList A l) (id : Str) (v : Value A l) → names-insertᶜ n id v .value ≡ names-insert n id v
+  pub names-insert-value : {l : Level} (n : NameList A l) (id : Str) (v : Value A l)
+      → names-insertᶜ n id v .value ≡ names-insert n id v
   unfolding names-insertᶜ names-insert _>>=_ one
   names-insert-value []ᴺ id v = rw btree-insert-replace-value
   names-insert-value (Names bt tl) id v = rw btree-insert-replace-value
   names-insert-value (ImportedNames label inner tl) id v = rw btree-insert-replace-value
 
-  pub names-insert-count : {l : Level} (n : NameList A l) (id : Str) (v : Value A l) → names-insertᶜ n id v .count ≡ suc (insert-branches (first-tree n) id)
+  pub names-insert-count : {l : Level} (n : NameList A l) (id : Str) (v : Value A l)
+      → names-insertᶜ n id v .count ≡ suc (insert-branches (first-tree n) id)
   unfolding names-insertᶜ first-tree _>>=_ one
   names-insert-count []ᴺ id v = omega (arith, btree-insert-replace-count StrEmpty id v)
   names-insert-count (Names bt tl) id v = omega (arith, btree-insert-replace-count bt id v)
@@ -56,9 +67,11 @@ module _ {A : Type 0} where
 
   -- ---- Tries
   module _ (nodeᶜ : MutNodeᶜ A) (leafᶜ : MutLeafᶜ A) (node : MutNode A) (leaf : MutLeaf A)
-      (node-value : (tr : Trie A) (id : Str) (q rev-acc : Query) (n : NameList A ns) → nodeᶜ tr id q rev-acc n .value ≡ node tr id q rev-acc n)
+      (node-value : (tr : Trie A) (id : Str) (q rev-acc : Query) (n : NameList A ns)
+      → nodeᶜ tr id q rev-acc n .value ≡ node tr id q rev-acc n)
       (leaf-value : (tr : Trie A) (rev-acc : Query) → leafᶜ tr rev-acc .value ≡ leaf tr rev-acc) where
-    pub trie-mutate-value : (tr : Trie A) (q rev-acc : Query) → trie-mutateᶜ tr q rev-acc nodeᶜ leafᶜ .value ≡ trie-mutate tr q rev-acc node leaf
+    pub trie-mutate-value : (tr : Trie A) (q rev-acc : Query)
+        → trie-mutateᶜ tr q rev-acc nodeᶜ leafᶜ .value ≡ trie-mutate tr q rev-acc node leaf
     unfolding trie-mutateᶜ trie-mutate _>>=_
     trie-mutate-value tr [] rev-acc = leaf-value tr rev-acc
     trie-mutate-value tr (id ∷ q) rev-acc =
@@ -66,8 +79,10 @@ module _ {A : Type 0} where
 
   -- Nodes that count alike, whatever list they are given.
   trie-mutate-same-count : (node node′ : MutNodeᶜ A) (leaf : MutLeafᶜ A)
-      → ((tr : Trie A) (id : Str) (q rev-acc : Query) (n n′ : NameList A ns) → node tr id q rev-acc n .count ≡ node′ tr id q rev-acc n′ .count)
-      → (tr : Trie A) (q rev-acc : Query) → trie-mutateᶜ tr q rev-acc node leaf .count ≡ trie-mutateᶜ tr q rev-acc node′ leaf .count
+      → ((tr : Trie A) (id : Str) (q rev-acc : Query) (n n′ : NameList A ns)
+      → node tr id q rev-acc n .count ≡ node′ tr id q rev-acc n′ .count)
+      → (tr : Trie A) (q rev-acc : Query)
+      → trie-mutateᶜ tr q rev-acc node leaf .count ≡ trie-mutateᶜ tr q rev-acc node′ leaf .count
   unfolding trie-mutateᶜ _>>=_
   trie-mutate-same-count node node′ leaf h tr [] rev-acc = refl
   trie-mutate-same-count node node′ leaf h tr (id ∷ q) rev-acc =
@@ -81,12 +96,14 @@ module _ {A : Type 0} where
         h tr id q rev-acc (names-insertᶜ (namespaces tr) id (scope .value) .value) (names-insertᶜ (namespaces tr) id (scope′ .value) .value),
       )
 
-  pub trie-mutate-leaf-value : (leafᶜ : MutLeafᶜ A) (leaf : MutLeaf A) → ((tr : Trie A) (rev-acc : Query) → leafᶜ tr rev-acc .value ≡ leaf tr rev-acc)
+  pub trie-mutate-leaf-value : (leafᶜ : MutLeafᶜ A) (leaf : MutLeaf A)
+      → ((tr : Trie A) (rev-acc : Query) → leafᶜ tr rev-acc .value ≡ leaf tr rev-acc)
       → (tr : Trie A) (q : Query) → trie-mutate-leafᶜ tr q leafᶜ .value ≡ trie-mutate-leaf tr q leaf
   unfolding trie-mutate-leafᶜ trie-mutate-leaf one
   trie-mutate-leaf-value leafᶜ leaf leaf-value tr q = trie-mutate-value _ leafᶜ _ leaf (λ tr id q rev-acc n. refl) leaf-value tr q []
 
-  pub trie-insert-value : (tr : Trie A) (q : Query) (id : Str) (v : A) → trie-insertᶜ tr q id v .value ≡ trie-insert tr q id v
+  pub trie-insert-value : (tr : Trie A) (q : Query) (id : Str) (v : A)
+      → trie-insertᶜ tr q id v .value ≡ trie-insert tr q id v
   unfolding trie-insertᶜ trie-insert _>>=_ one
   trie-insert-value tr q id v = trie-mutate-leaf-value _ _ (λ tr rev-acc. ap (λ b. trie b (namespaces tr)) (names-insert-value (bindings tr) id (item v))) tr q
 
@@ -94,29 +111,35 @@ module _ {A : Type 0} where
   unfolding trie-includeᶜ trie-include trie-importᶜ trie-import _>>=_ one
   trie-include-value tr host q = trie-mutate-leaf-value _ _ (λ tr rev-acc. refl) tr host
 
-  pub trie-open-namespace-value : (tr : Trie A) (host q : Query) → trie-open-namespaceᶜ tr host q .value ≡ trie-open-namespace tr host q
+  pub trie-open-namespace-value : (tr : Trie A) (host q : Query)
+      → trie-open-namespaceᶜ tr host q .value ≡ trie-open-namespace tr host q
   unfolding trie-open-namespaceᶜ trie-open-namespace trie-importᶜ trie-import _>>=_ one
   trie-open-namespace-value tr host q = trie-mutate-leaf-value _ _ (λ tr rev-acc. refl) tr host
 
-  pub trie-add-alias-value : (tr : Trie A) (key : Str) (host q : Query) → trie-add-aliasᶜ tr key host q .value ≡ trie-add-alias tr key host q
+  pub trie-add-alias-value : (tr : Trie A) (key : Str) (host q : Query)
+      → trie-add-aliasᶜ tr key host q .value ≡ trie-add-alias tr key host q
   unfolding trie-add-aliasᶜ trie-add-alias trie-importᶜ trie-import _>>=_ one
   trie-add-alias-value tr key host q =
       trie-mutate-leaf-value _ _ (λ at rev-acc. trie-mutate-leaf-value _ _ (λ _ _. refl) at (key ∷ [])) tr host
 
 -- ---- The table
-lids-value : (tbl : Table) (m : Counted (Trie LidSymbol)) (tr : Trie LidSymbol) → m .value ≡ tr → lids tbl m .value ≡ record { tbl-lids = tr; tbl-mods = tbl .tbl-mods }
+lids-value : (tbl : Table) (m : Counted (Trie LidSymbol)) (tr : Trie LidSymbol) → m .value ≡ tr
+    → lids tbl m .value ≡ record { tbl-lids = tr; tbl-mods = tbl .tbl-mods }
 unfolding lids _>>=_ pure
 lids-value tbl m tr e = ap (λ tr. record { tbl-lids = tr; tbl-mods = tbl .tbl-mods }) e
 
-pub insert-value : (tbl : Table) (host : Query) (id : Str) (c : LidSymbol) → insertᶜ tbl host id c .value ≡ insert tbl host id c
+pub insert-value : (tbl : Table) (host : Query) (id : Str) (c : LidSymbol)
+    → insertᶜ tbl host id c .value ≡ insert tbl host id c
 unfolding insertᶜ insert
 insert-value tbl host id c = lids-value tbl _ _ (trie-insert-value (tbl .tbl-lids) host id c)
 
-pub register-alias-value : (tbl : Table) (key : Str) (host q : Query) → register-aliasᶜ tbl key host q .value ≡ register-alias tbl key host q
+pub register-alias-value : (tbl : Table) (key : Str) (host q : Query)
+    → register-aliasᶜ tbl key host q .value ≡ register-alias tbl key host q
 unfolding register-aliasᶜ register-alias
 register-alias-value tbl key host q = lids-value tbl _ _ (trie-add-alias-value (tbl .tbl-lids) key host q)
 
-pub register-include-value : (tbl : Table) (host q : Query) → register-includeᶜ tbl host q .value ≡ register-include tbl host q
+pub register-include-value : (tbl : Table) (host q : Query)
+    → register-includeᶜ tbl host q .value ≡ register-include tbl host q
 unfolding register-includeᶜ register-include
 register-include-value tbl host q = lids-value tbl _ _ (trie-include-value (tbl .tbl-lids) host q)
 
@@ -135,7 +158,8 @@ ins-ns-value id b full-name loaded = go (ns-inserts (names-find-exact b id) load
     new = item (Namespace full-name loaded)
 
     go : (inserts : Bool)
-        → (elim inserts as (λ _. Counted (NameList ModSymbol bind)) [ true ↦ names-insertᶜ b id new | false ↦ pure b ]) .value
+        → (elim inserts as (λ _. Counted (NameList ModSymbol bind))
+        [ true ↦ names-insertᶜ b id new | false ↦ pure b ]) .value
         ≡ cond inserts (names-insert b id new) b
     go true = names-insert-value b id new
     go false = refl
@@ -169,7 +193,8 @@ pub register-module-stays-loaded-value : (tbl : Table) (loaded : Bool) (path : S
 unfolding register-module-stays-loadedᶜ register-module-stays-loaded _>>=_ one pure
 register-module-stays-loaded-value tbl loaded path q =
     ap (λ tr. record { tbl-lids = tbl .tbl-lids; tbl-mods = tr })
-    (trie-mutate-value _ _ _ _ (λ tr id q revq n. ap (λ b. trie b n) (ins-stays-loaded-value path id q revq (bindings tr) loaded)) (λ _ _. refl) (tbl .tbl-mods) q [])
+    (trie-mutate-value _ _ _ _ (λ tr id q revq n. ap (λ b. trie b n) (ins-stays-loaded-value path id q revq (bindings tr) loaded)) (λ _ _. refl)
+    (tbl .tbl-mods) q [])
 
 ins-stays-loaded-count : (path id : Str) (q revq : Query) (b : NameList ModSymbol bind) (loaded : Bool)
     → ins-stays-loadedᶜ path id q revq b loaded .count ≡ insᶜ path id q revq b loaded .count
@@ -182,7 +207,8 @@ pub register-module-stays-loaded-count : (tbl : Table) (loaded : Bool) (path : S
     → register-module-stays-loadedᶜ tbl loaded path q .count ≡ register-module-pathᶜ tbl loaded path q .count
 unfolding register-module-stays-loadedᶜ register-module-pathᶜ _>>=_ one pure
 register-module-stays-loaded-count tbl loaded path q =
-    ap (λ c. c + 0) (trie-mutate-same-count _ _ _ (λ tr id q revq n n′. ap (λ c. c + 1) (ins-stays-loaded-count path id q revq (bindings tr) loaded)) (tbl .tbl-mods) q [])
+    ap (λ c. c + 0)
+    (trie-mutate-same-count _ _ _ (λ tr id q revq n n′. ap (λ c. c + 1) (ins-stays-loaded-count path id q revq (bindings tr) loaded)) (tbl .tbl-mods) q [])
 
 -- ---- Calls
 
@@ -218,7 +244,8 @@ module _ {A B : Type 0} (fᶜ : B → A → Counted B) where
   fold-left-value f h b [] = refl
   fold-left-value f h b (a ∷ l) = rw (h b a) (fold-left-value f h (f b a) l)
 
-  pub fold-left-count : (c : A → ℕ) → ((b : B) (a : A) → fᶜ b a .count ≡ c a) → (b : B) (l : List A) → fold-leftᶜ fᶜ b l .count ≡ sumˡ c l
+  pub fold-left-count : (c : A → ℕ) → ((b : B) (a : A) → fᶜ b a .count ≡ c a) → (b : B) (l : List A)
+      → fold-leftᶜ fᶜ b l .count ≡ sumˡ c l
   unfolding fold-leftᶜ _>>=_ pure
   fold-left-count c h b [] = refl
   fold-left-count c h b (a ∷ l) = omega (arith, h b a, fold-left-count c h (fᶜ b a .value) l)
@@ -232,7 +259,8 @@ module _ {A : Type 0} (find : Finder A) where
       ap (rev-map-onto (λ x. (reverse (x .0 ∷ path), the-item (x .1))) (find bind (bindings tr) (bindings-search-term q)))
       (fold-left-value _ _ (λ acc x. find-prefix-fuel-value n (x .1) (x .0 ∷ path) (tail q) acc) acc (find ns (namespaces tr) (ns-search-term q)))
 
-  pub trie-find-prefix-value : (tr : Trie A) (path : PathOf) (q : Query) (acc : List (PathOf × A)) → trie-find-prefix′ᶜ find tr path q acc .value ≡ trie-find-prefix′ find tr path q acc
+  pub trie-find-prefix-value : (tr : Trie A) (path : PathOf) (q : Query) (acc : List (PathOf × A))
+      → trie-find-prefix′ᶜ find tr path q acc .value ≡ trie-find-prefix′ find tr path q acc
   unfolding trie-find-prefix′ᶜ trie-find-prefix′
   trie-find-prefix-value tr path q acc = find-prefix-fuel-value (suc (depth tr)) tr path q acc
 

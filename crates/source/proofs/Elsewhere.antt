@@ -20,7 +20,8 @@ key-same-or-not j k = go (string-compare j k) (compare-strings j k)
 
 module _ {A : Type 0} where
   -- another key is found as before
-  find-other : {l : Level} (t : Tree A l) (k j : Str) (v : Value A l) → (j ≡ k → ⊥) → btree-find-exact (btree-insert-replace t k v) j ≡ btree-find-exact t j
+  find-other : {l : Level} (t : Tree A l) (k j : Str) (v : Value A l) → (j ≡ k → ⊥)
+      → btree-find-exact (btree-insert-replace t k v) j ≡ btree-find-exact t j
   unfolding btree-insert-replace btree-find-exact
   find-other {l} StrEmpty k j v n = go (string-compare j k) (compare-strings j k)
     where
@@ -52,7 +53,8 @@ module _ {A : Type 0} where
       go Ordering·eq w f g = same w (string-compare j k′) (compare-strings j k′)
       go Ordering·gt w f g = ap (λ x. elim (string-compare j k′) [ Ordering·lt ↦ btree-find-exact lbt j | Ordering·eq ↦ some v′ | Ordering·gt ↦ x ]) g
 
-  pub names-find-other : {l : Level} (n : NameList A l) (k j : Str) (v : Value A l) → (j ≡ k → ⊥) → names-find-exact (names-insert n k v) j ≡ names-find-exact n j
+  pub names-find-other : {l : Level} (n : NameList A l) (k j : Str) (v : Value A l) → (j ≡ k → ⊥)
+      → names-find-exact (names-insert n k v) j ≡ names-find-exact n j
   unfolding names-insert names-find-exact or-else btree-find-exact
   names-find-other []ᴺ k j v d = rw (find-other StrEmpty k j v d)
   names-find-other (Names bt tl) k j v d = rw (find-other bt k j v d)

@@ -30,13 +30,16 @@ module _ {A : Type 0} {l : Level} where
       with-fn : List Str × Tree A l → List Str × B
       with-fn x = (x .0, fn (x .1))
 
-  pub names-revmap-is : {B : Type 0} (fn : Tree A l → B) (n : NameList A l) → names-revmap fn n ≡ reverse (map (λ x. (x .0, fn (x .1))) (flat n))
+  pub names-revmap-is : {B : Type 0} (fn : Tree A l → B) (n : NameList A l)
+      → names-revmap fn n ≡ reverse (map (λ x. (x .0, fn (x .1))) (flat n))
   unfolding names-revmap
   names-revmap-is fn n = revmap-onto-is fn [] [] n
 
   -- ---- what names_find_rev asks of the trees
-  pub values-all-is : (n : NameList A l) → matching-values n NSTAll ≡ reverse (map (λ x. (x .0, tree-matches NSTAll (x .1))) (flat n))
+  pub values-all-is : (n : NameList A l)
+      → matching-values n NSTAll ≡ reverse (map (λ x. (x .0, tree-matches NSTAll (x .1))) (flat n))
   values-all-is n = values-all n ∙ names-revmap-is (tree-matches NSTAll) n
 
-  pub values-prefix-is : (n : NameList A l) (p : Str) → matching-values n (NSTPrefix p) ≡ reverse (map (λ x. (x .0, tree-matches (NSTPrefix p) (x .1))) (flat n))
+  pub values-prefix-is : (n : NameList A l) (p : Str)
+      → matching-values n (NSTPrefix p) ≡ reverse (map (λ x. (x .0, tree-matches (NSTPrefix p) (x .1))) (flat n))
   values-prefix-is n p = values-prefix n p ∙ names-revmap-is (tree-matches (NSTPrefix p)) n

@@ -20,18 +20,22 @@ module _ {A : Type 0} (Key Label : Str → Type 0) (Item : A → Type 0) where
   formed-orderedN (ImportedNames label inner tl) g = (formed-orderedN inner (g .1), formed-orderedN tl (g .2))
 
   -- each row of a formed list is formed
-  formed-branches : {l : Level} (t : Tree A l) → FormedTree Key Label Item t → AllBranches (λ k v. Key k × Formed Key Label Item v) t
+  formed-branches : {l : Level} (t : Tree A l) → FormedTree Key Label Item t
+      → AllBranches (λ k v. Key k × Formed Key Label Item v) t
   formed-branches StrEmpty g = tt
   formed-branches (StrBranch k v lbt rbt) g = ((g .0, g .1), formed-branches lbt (g .4), formed-branches rbt (g .5))
 
-  pub formed-named : {l : Level} (n : NameList A l) → FormedNames Key Label Item n → AllNamed (λ k v. Key k × Formed Key Label Item v) n
+  pub formed-named : {l : Level} (n : NameList A l) → FormedNames Key Label Item n
+      → AllNamed (λ k v. Key k × Formed Key Label Item v) n
   formed-named []ᴺ g = tt
   formed-named (Names bt tl) g = (formed-branches bt (g .0), formed-named tl (g .1))
   formed-named (ImportedNames label inner tl) g = (formed-named inner (g .1), formed-named tl (g .2))
 
-  pub parts : (tr : Trie A) → Formed Key Label Item tr → FormedNames Key Label Item (bindings tr) × FormedNames Key Label Item (namespaces tr) × (depth tr ≡ depth-names (namespaces tr))
+  pub formed-parts : (tr : Trie A) → Formed Key Label Item tr
+      → FormedNames Key Label Item (bindings tr) × FormedNames Key Label Item (namespaces tr)
+      × (depth tr ≡ depth-names (namespaces tr))
   unfolding bindings namespaces depth
-  parts (trie b n) g = (g .0, g .1, refl)
+  formed-parts (trie b n) g = (g .0, g .1, refl)
 
   pub rows-formed : {l : Level} (n : NameList A l) (term : SearchTerm) → FormedNames Key Label Item n
       → Allˡ (λ y. Key (elem-key y) × Formed Key Label Item (y .1)) (names-find-rev-first n term)

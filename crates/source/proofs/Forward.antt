@@ -7,9 +7,11 @@ use mathlib.Core.Option.{Option, none, some}
 use native.Mathlib.Omega.{arith}
 use lib.ListN.{length, getD, length-map}
 use Rattle.source.specs.Text.{Str}
-use Rattle.source.specs.Heap.{Heap, Forest, EmptyHeap, HeapOf, []ᶠ, _∷ᶠ_, is-lt, heap-merge, heap-insert, heap-merge-pairs, heap-pair-up, heap-insert-all, heap-from-list}
+use Rattle.source.specs.Heap.{Heap, Forest, EmptyHeap, HeapOf, []ᶠ, _∷ᶠ_, is-lt, heap-merge, heap-insert, heap-merge-pairs, heap-pair-up, heap-insert-all}
+use Rattle.source.specs.Heap.{heap-from-list}
 use Rattle.source.specs.Forward.{sumᶠ}
-use Rattle.source.specs.Lists.{Run, run, first, priority, nonempty, add-priorities, total, push-nodup, run-cmp, put-back, merge-aux, merge-increasing-lists-rev}
+use Rattle.source.specs.Lists.{Run, run, first, priority, nonempty, add-priorities, total, push-nodup, run-cmp, put-back, merge-aux}
+use Rattle.source.specs.Lists.{merge-increasing-lists-rev}
 use Rattle.source.specs.Shared.{same, Allˡ}
 use Rattle.source.proofs.Lookup.{Increasing}
 use Rattle.source.specs.Forward.{rest, size}
@@ -27,7 +29,8 @@ module _ {A : Type 0} (key : A → Str) where
   forward-empty zero last = refl
   forward-empty (suc n) last = refl
 
-  pub forward-fuel : (m n : ℕ) (h : Heap (Run A)) (last : Option A) → held h ≤ m → held h ≤ n → forward key m h last ≡ forward key n h last
+  pub forward-fuel : (m n : ℕ) (h : Heap (Run A)) (last : Option A) → held h ≤ m → held h ≤ n
+      → forward key m h last ≡ forward key n h last
   unfolding forward
   forward-fuel zero n EmptyHeap last a b = sym (forward-empty n last)
   forward-fuel zero n (HeapOf r hh) last a b = absurd (omega (arith, held-popped r hh))
@@ -41,7 +44,9 @@ module _ {A : Type 0} (key : A → Str) where
 
   -- One step, at the same fuel.
   pub forward-step : (n : ℕ) (r : Run A) (hh : Forest (Run A)) (last : Option A) → held (HeapOf r hh) ≤ n
-      → forward key n (HeapOf r hh) last ≡ cond (again key (first r) last) (forward key n (popped key r hh) last) (first r ∷ forward key n (popped key r hh) (some (first r)))
+      → forward key n (HeapOf r hh) last
+      ≡ cond (again key (first r) last) (forward key n (popped key r hh) last)
+      (first r ∷ forward key n (popped key r hh) (some (first r)))
   unfolding forward
   forward-step n r hh last a = forward-fuel n (suc n) (HeapOf r hh) last a (omega arith)
 
@@ -50,22 +55,26 @@ module _ {A : Type 0} (key : A → Str) where
   last-given [] = none
   last-given (a ∷ acc) = some a
 
-  merge-aux-is : (n : ℕ) (h : Heap (Run A)) (acc : List A) → merge-aux key n h acc ≡ reverseAux (forward key n h (last-given acc)) acc
+  merge-aux-is : (n : ℕ) (h : Heap (Run A)) (acc : List A)
+      → merge-aux key n h acc ≡ reverseAux (forward key n h (last-given acc)) acc
   unfolding merge-aux forward push-nodup again
   merge-aux-is zero h acc = refl
   merge-aux-is (suc n) EmptyHeap acc = refl
   merge-aux-is (suc n) (HeapOf r hh) [] = merge-aux-is n (popped key r hh) (first r ∷ [])
   merge-aux-is (suc n) (HeapOf r hh) (a ∷ acc) = go (same (key (first r)) (key a)) (λ acc. merge-aux-is n (popped key r hh) acc)
     where
-      go : (z : Bool) → ((acc : List A) → merge-aux key n (popped key r hh) acc ≡ reverseAux (forward key n (popped key r hh) (last-given acc)) acc)
+      go : (z : Bool) → ((acc : List A)
+          → merge-aux key n (popped key r hh) acc ≡ reverseAux (forward key n (popped key r hh) (last-given acc)) acc)
           → merge-aux key n (popped key r hh) (cond z (a ∷ acc) (first r ∷ (a ∷ acc)))
-          ≡ reverseAux (cond z (forward key n (popped key r hh) (some a)) (first r ∷ forward key n (popped key r hh) (some (first r)))) (a ∷ acc)
+          ≡ reverseAux (cond z (forward key n (popped key r hh) (some a))
+          (first r ∷ forward key n (popped key r hh) (some (first r)))) (a ∷ acc)
       go true ih = ih (a ∷ acc)
       go false ih = ih (first r ∷ (a ∷ acc))
 
   -- What the merge gives, whatever the order in which its heap is built.
   pub merge-is : (ls : List (List A)) (rs : List (Run A)) → Allˡ (Increasing key) ls → Runs key (nonempty ls) rs
-      → merge-increasing-lists-rev key ls ≡ reverse (forward key (total (nonempty ls)) (heap-from-list (run-cmp key) rs) none)
+      → merge-increasing-lists-rev key ls
+      ≡ reverse (forward key (total (nonempty ls)) (heap-from-list (run-cmp key) rs) none)
   unfolding merge-increasing-lists-rev
   merge-is ls rs a h =
       merge-any-order key (nonempty ls) rs (nonempty-all key (Increasing key) ls a) h ∙ merge-aux-is (total (nonempty ls)) (heap-from-list (run-cmp key) rs) []
@@ -84,7 +93,8 @@ module _ {A : Type 0} where
   numbered n ([] ∷ ls) = numbered (suc n) ls
   numbered n ((v ∷ tl) ∷ ls) = run n v tl ∷ numbered (suc n) ls
 
-  priorities-numbered : (n : ℕ) (acc : List (Run A)) (ls : List (List A)) → add-priorities n acc ls ≡ reverseAux (numbered n ls) acc
+  priorities-numbered : (n : ℕ) (acc : List (Run A)) (ls : List (List A))
+      → add-priorities n acc ls ≡ reverseAux (numbered n ls) acc
   unfolding add-priorities numbered
   priorities-numbered n acc [] = refl
   priorities-numbered n acc ([] ∷ ls) = priorities-numbered (suc n) acc ls
@@ -122,7 +132,8 @@ module _ {A : Type 0} (key : A → Str) where
       (sym (run-is i v tl (r i) (h 0 i (omega arith) (omega arith))))
       ∙ built-onto r (suc i) ls j (omega arith) (λ k m f l. h (suc k) m (omega arith) (omega arith))
 
-  pub built-is : (ls : List (List A)) (r : ℕ → Run A) → AreRuns ls r → built r (length ls) ≡ heap-from-list (run-cmp key) (numbered 0 ls)
+  pub built-is : (ls : List (List A)) (r : ℕ → Run A) → AreRuns ls r
+      → built r (length ls) ≡ heap-from-list (run-cmp key) (numbered 0 ls)
   unfolding heap-from-list built
   built-is ls r h =
       sym (built-onto r 0 ls (length ls) (omega arith) (λ k m e l. let e′ : k ≡ m = omega arith in subst (λ m. IsRun m (getD ls k []) (r m)) e′ (h k l)))
@@ -165,7 +176,8 @@ module _ {A B : Type 0} (f : A → B) where
     unfolding run-cmp first priority
     cmp-map (run p v tl) (run q w ul) = rw (same-key v, same-key w)
 
-    merge-map : (h g : Heap (Run A)) → heap-merge (run-cmp key′) (map-heap h) (map-heap g) ≡ map-heap (heap-merge (run-cmp key) h g)
+    merge-map : (h g : Heap (Run A))
+        → heap-merge (run-cmp key′) (map-heap h) (map-heap g) ≡ map-heap (heap-merge (run-cmp key) h g)
     unfolding heap-merge
     merge-map EmptyHeap g = refl
     merge-map (HeapOf r hh) EmptyHeap = refl
@@ -181,7 +193,8 @@ module _ {A B : Type 0} (f : A → B) where
     mutual
       unfolding heap-merge-pairs
 
-      pairs-map : (hh : Forest (Run A)) → heap-merge-pairs (run-cmp key′) (map-forest hh) ≡ map-heap (heap-merge-pairs (run-cmp key) hh)
+      pairs-map : (hh : Forest (Run A))
+          → heap-merge-pairs (run-cmp key′) (map-forest hh) ≡ map-heap (heap-merge-pairs (run-cmp key) hh)
       pairs-map []ᶠ = refl
       pairs-map (h ∷ᶠ hh) = pair-up-map h hh
 
@@ -196,7 +209,8 @@ module _ {A B : Type 0} (f : A → B) where
     put-back-map (run p v []) h = refl
     put-back-map (run p v (w ∷ tl)) h = merge-map (HeapOf (run p w tl) []ᶠ) h
 
-    popped-map : (r : Run A) (hh : Forest (Run A)) → popped key′ (map-run r) (map-forest hh) ≡ map-heap (popped key r hh)
+    popped-map : (r : Run A) (hh : Forest (Run A))
+        → popped key′ (map-run r) (map-forest hh) ≡ map-heap (popped key r hh)
     popped-map r hh = ap (put-back key′ (map-run r)) (pairs-map hh) ∙ put-back-map r (heap-merge-pairs (run-cmp key) hh)
 
     first-map : (r : Run A) → first (map-run r) ≡ f (first r)
@@ -208,7 +222,8 @@ module _ {A B : Type 0} (f : A → B) where
     again-map x none = refl
     again-map x (some y) = rw (same-key x, same-key y)
 
-    pub forward-map : (n : ℕ) (h : Heap (Run A)) (last : Option A) → forward key′ n (map-heap h) (map-last last) ≡ map f (forward key n h last)
+    pub forward-map : (n : ℕ) (h : Heap (Run A)) (last : Option A)
+        → forward key′ n (map-heap h) (map-last last) ≡ map f (forward key n h last)
     unfolding forward
     forward-map zero h last = refl
     forward-map (suc n) EmptyHeap last = refl

@@ -15,7 +15,8 @@ use Rattle.source.specs.Forward.{tree-matches}
 use Rattle.source.proofs.Names.{OrderedN, values-none, turned-increasing}
 use Rattle.source.proofs.Lists.{runs-size}
 use Rattle.source.specs.Forward.{held, forward}
-use Rattle.source.proofs.Forward.{forward-fuel, merge-is, numbered, numbered-runs, AreRuns, built, built-is, map-run, map-heap, held-map, forward-map, built-map}
+use Rattle.source.proofs.Forward.{forward-fuel, merge-is, numbered, numbered-runs, AreRuns, built, built-is, map-run, map-heap, held-map, forward-map}
+use Rattle.source.proofs.Forward.{built-map}
 use Rattle.source.specs.Forward.{flat}
 use Rattle.source.proofs.Flat.{values-all-is, values-prefix-is}
 use Rattle.source.specs.Forward.{found}
@@ -25,7 +26,8 @@ module _ {A : Type 0} {l : Level} where
   unfoldable pub match-lists : SearchTerm → NameList A l → List (List (PathElem × Value A l))
   match-lists term n = map (λ x. with-imports (x .0, tree-matches term (x .1))) (flat n)
 
-  lists-are : (term : SearchTerm) (n : NameList A l) → matching-values n term ≡ reverse (map (λ x. (x .0, tree-matches term (x .1))) (flat n))
+  lists-are : (term : SearchTerm) (n : NameList A l)
+      → matching-values n term ≡ reverse (map (λ x. (x .0, tree-matches term (x .1))) (flat n))
       → map with-imports (reverse (matching-values n term)) ≡ match-lists term n
   unfolding match-lists
   lists-are term n e =
@@ -33,13 +35,15 @@ module _ {A : Type 0} {l : Level} where
       ∙ ap (map with-imports) (reverse-reverse (map (λ x. (x .0, tree-matches term (x .1))) (flat n)))
       ∙ map-map with-imports (λ x. (x .0, tree-matches term (x .1))) (flat n)
 
-  none-match : (ts : List (List Str × Tree A l)) → nonempty (map (λ x. with-imports (x .0, tree-matches NSTNone (x .1))) ts) ≡ []
+  none-match : (ts : List (List Str × Tree A l))
+      → nonempty (map (λ x. with-imports (x .0, tree-matches NSTNone (x .1))) ts) ≡ []
   unfolding nonempty with-imports tree-matches
   none-match [] = refl
   none-match (t ∷ ts) = none-match ts
 
   -- What is merged, in flattened order.
-  pub values-are : (term : SearchTerm) (n : NameList A l) → nonempty (map with-imports (reverse (matching-values n term))) ≡ nonempty (match-lists term n)
+  pub values-are : (term : SearchTerm) (n : NameList A l)
+      → nonempty (map with-imports (reverse (matching-values n term))) ≡ nonempty (match-lists term n)
   unfolding match-lists nonempty
   values-are NSTAll n = ap nonempty (lists-are NSTAll n (values-all-is n))
   values-are NSTNone n = rw (values-none n, none-match (flat n))
@@ -50,27 +54,33 @@ module _ {A : Type 0} {l : Level} where
   found-empty n term e = rw (values-are term n, e)
 
   -- One list alone is what is found.
-  pub found-one : (n : NameList A l) (term : SearchTerm) (m : List (PathElem × Value A l)) → nonempty (match-lists term n) ≡ m ∷ [] → found n term ≡ m
+  pub found-one : (n : NameList A l) (term : SearchTerm) (m : List (PathElem × Value A l))
+      → nonempty (match-lists term n) ≡ m ∷ [] → found n term ≡ m
   unfolding found names-find-rev-first merge-increasing-lists-rev merge-nonempty
   found-one n term m e = rw (values-are term n, e) (reverse-reverse m)
 
   -- The same of the heap built in flattened order.
-  pub found-built : (n : NameList A l) (term : SearchTerm) (r : ℕ → Run (PathElem × Value A l)) (cells fuel : ℕ) → OrderedN n
-      → cells ≡ length (nonempty (match-lists term n)) → AreRuns (nonempty (match-lists term n)) r → held (built elem-key r cells) ≤ fuel
+  pub found-built : (n : NameList A l) (term : SearchTerm) (r : ℕ → Run (PathElem × Value A l)) (cells fuel : ℕ)
+      → OrderedN n
+      → cells ≡ length (nonempty (match-lists term n)) → AreRuns (nonempty (match-lists term n)) r
+      → held (built elem-key r cells) ≤ fuel
       → found n term ≡ forward elem-key fuel (built elem-key r cells) none
   unfolding found names-find-rev-first held
   found-built n term r cells fuel o e a h =
       let ms : List (List (PathElem × Value A l)) = nonempty (match-lists term n) in
       let rs : List (Run (PathElem × Value A l)) = numbered 0 ms in
       let same-heap : built elem-key r cells ≡ heap-from-list (run-cmp elem-key) rs = ap (built elem-key r) e ∙ built-is elem-key ms r a in
-      ap reverse (merge-is elem-key (map with-imports (reverse (matching-values n term))) rs (turned-increasing term n o) (rw (values-are term n) (numbered-runs elem-key ms)))
+      ap reverse (merge-is elem-key (map with-imports (reverse (matching-values n term))) rs (turned-increasing term n o)
+      (rw (values-are term n) (numbered-runs elem-key ms)))
       ∙ reverse-reverse (forward elem-key (total (nonempty (map with-imports (reverse (matching-values n term))))) _ none)
       ∙ ap (λ ms. forward elem-key (total ms) (heap-from-list (run-cmp elem-key) rs) none) (values-are term n)
       ∙ ap (λ g. forward elem-key (total ms) g none) (sym same-heap)
-      ∙ forward-fuel elem-key (total ms) fuel (built elem-key r cells) none (omega (arith, ap held same-heap, runs-size elem-key ms rs (numbered-runs elem-key ms))) h
+      ∙ forward-fuel elem-key (total ms) fuel (built elem-key r cells) none
+      (omega (arith, ap held same-heap, runs-size elem-key ms rs (numbered-runs elem-key ms))) h
 
   -- The same of a heap of other elements with the same keys, each read afterwards.
-  pub found-read : {B : Type 0} (n : NameList A l) (term : SearchTerm) (f : B → PathElem × Value A l) (key : B → Str) (r : ℕ → Run B) (cells fuel : ℕ)
+  pub found-read : {B : Type 0} (n : NameList A l) (term : SearchTerm) (f : B → PathElem × Value A l) (key : B → Str)
+      (r : ℕ → Run B) (cells fuel : ℕ)
       → OrderedN n → ((b : B) → elem-key (f b) ≡ key b) → cells ≡ length (nonempty (match-lists term n))
       → AreRuns (nonempty (match-lists term n)) (λ k. map-run f (r k)) → held (built key r cells) ≤ fuel
       → found n term ≡ map f (forward key fuel (built key r cells) none)

@@ -5,7 +5,8 @@ use mathlib.Core.Bool.{Bool, true, false, cond}
 use mathlib.Core.List.{List, [], _∷_, _++_}
 use mathlib.Core.Option.{some, Option·none-ne-some, Option·some-injective}
 use native.Mathlib.Omega.{arith}
-use Rattle.source.specs.Heap.{Heap, Forest, EmptyHeap, HeapOf, []ᶠ, _∷ᶠ_, is-lt, heap-merge, heap-insert, heap-merge-pairs, heap-pair-up, heap-pop, heap-insert-all, heap-from-list}
+use Rattle.source.specs.Heap.{Heap, Forest, EmptyHeap, HeapOf, []ᶠ, _∷ᶠ_, is-lt, heap-merge, heap-insert, heap-merge-pairs, heap-pair-up, heap-pop}
+use Rattle.source.specs.Heap.{heap-insert-all, heap-from-list}
 use Rattle.source.specs.Forward.{sum, sumᶠ}
 use Rattle.source.specs.Shared.{sumˡ}
 
@@ -47,7 +48,8 @@ module _ {A : Type 0} where
     All-zip EmptyHeap f a b = tt
     All-zip (HeapOf v hh) f a b = (f v (a .0) (b .0), Allᶠ-zip hh f (a .1) (b .1))
 
-    pub Allᶠ-zip : {P Q S : A → Type 0} → (hh : Forest A) → ((a : A) → P a → Q a → S a) → Allᶠ P hh → Allᶠ Q hh → Allᶠ S hh
+    pub Allᶠ-zip : {P Q S : A → Type 0} → (hh : Forest A) → ((a : A) → P a → Q a → S a) → Allᶠ P hh → Allᶠ Q hh
+        → Allᶠ S hh
     Allᶠ-zip []ᶠ f a b = tt
     Allᶠ-zip (h ∷ᶠ hh) f a b = (All-zip h f (a .0) (b .0), Allᶠ-zip hh f (a .1) (b .1))
 
@@ -72,7 +74,8 @@ module _ {A : Type 0} where
     countedᶠ P f (h ∷ᶠ hh) l p = pick (sum f h) (sumᶠ f hh) l (λ k. sum-counted P f h k (p .0)) (λ k. countedᶠ P f hh k (p .1))
 
   module _ (cmp : A → A → Ordering) where
-    pub insert-all-more : (h : Heap A) (l : List A) (a : A) → heap-insert-all cmp h (l ++ (a ∷ [])) ≡ heap-insert cmp (heap-insert-all cmp h l) a
+    pub insert-all-more : (h : Heap A) (l : List A) (a : A)
+        → heap-insert-all cmp h (l ++ (a ∷ [])) ≡ heap-insert cmp (heap-insert-all cmp h l) a
     unfolding heap-insert-all
     insert-all-more h [] a = refl
     insert-all-more h (b ∷ l) a = insert-all-more (heap-insert cmp h b) l a
@@ -83,7 +86,8 @@ module _ {A : Type 0} where
     sum-merge f (HeapOf v hh) EmptyHeap = omega arith
     sum-merge f (HeapOf v hh) (HeapOf w gg) = go (is-lt (cmp v w))
       where
-        go : (t : Bool) → sum f (cond t (HeapOf v (HeapOf w gg ∷ᶠ hh)) (HeapOf w (HeapOf v hh ∷ᶠ gg))) ≡ f v + sumᶠ f hh + (f w + sumᶠ f gg)
+        go : (t : Bool) → sum f (cond t (HeapOf v (HeapOf w gg ∷ᶠ hh)) (HeapOf w (HeapOf v hh ∷ᶠ gg)))
+            ≡ f v + sumᶠ f hh + (f w + sumᶠ f gg)
         go true = omega arith
         go false = omega arith
 
@@ -108,7 +112,8 @@ module _ {A : Type 0} where
         go true = (p .0, (q, p .1))
         go false = (q .0, (p, q .1))
 
-    pub sum-pop : (f : A → ℕ) (h : Heap A) (v : A) (h′ : Heap A) → heap-pop cmp h ≡ some (v, h′) → sum f h ≡ f v + sum f h′
+    pub sum-pop : (f : A → ℕ) (h : Heap A) (v : A) (h′ : Heap A) → heap-pop cmp h ≡ some (v, h′)
+        → sum f h ≡ f v + sum f h′
     unfolding heap-pop
     sum-pop f EmptyHeap v h′ e = absurd (Option·none-ne-some (v, h′) e)
     sum-pop f (HeapOf w hh) v h′ e =
@@ -136,14 +141,16 @@ module _ {A : Type 0} where
           All-merge P (heap-merge cmp h h₂) (heap-merge-pairs cmp hh) (All-merge P h h₂ p (q .0)) (All-pairs P hh (q .1))
 
     module _ (R : A → A → Type 0) (trans : (a b c : A) → R a b → R b c → R a c)
-        (is-less : (a b : A) → is-lt (cmp a b) ≡ true → R a b) (not-less : (a b : A) → is-lt (cmp a b) ≡ false → R b a) where
+        (is-less : (a b : A) → is-lt (cmp a b) ≡ true → R a b)
+        (not-less : (a b : A) → is-lt (cmp a b) ≡ false → R b a) where
       pub Heaped-merge : (a b : Heap A) → Heaped R a → Heaped R b → Heaped R (heap-merge cmp a b)
       unfolding heap-merge
       Heaped-merge EmptyHeap b p q = q
       Heaped-merge (HeapOf v hh) EmptyHeap p q = p
       Heaped-merge (HeapOf v hh) (HeapOf w gg) p q = go (is-lt (cmp v w)) refl
         where
-          go : (t : Bool) → is-lt (cmp v w) ≡ t → Heaped R (cond t (HeapOf v (HeapOf w gg ∷ᶠ hh)) (HeapOf w (HeapOf v hh ∷ᶠ gg)))
+          go : (t : Bool) → is-lt (cmp v w) ≡ t
+              → Heaped R (cond t (HeapOf v (HeapOf w gg ∷ᶠ hh)) (HeapOf w (HeapOf v hh ∷ᶠ gg)))
           go true e = let r : R v w = is-less v w e in (((r, Allᶠ-map gg (λ x k. trans v w x r k) (q .0)), p .0), (q, p .1))
           go false e = let r : R w v = not-less v w e in (((r, Allᶠ-map hh (λ x k. trans w v x r k) (p .0)), q .0), (p, q .1))
 
@@ -160,7 +167,8 @@ module _ {A : Type 0} where
             Heaped-merge (heap-merge cmp h h₂) (heap-merge-pairs cmp hh) (Heaped-merge h h₂ p (q .0)) (Heaped-pairs hh (q .1))
 
       -- Nothing in the heap is less than the element popped.
-      pub pop-least : (h : Heap A) (v : A) (h′ : Heap A) → Heaped R h → heap-pop cmp h ≡ some (v, h′) → All (R v) h′ × Heaped R h′
+      pub pop-least : (h : Heap A) (v : A) (h′ : Heap A) → Heaped R h → heap-pop cmp h ≡ some (v, h′)
+          → All (R v) h′ × Heaped R h′
       unfolding heap-pop
       pop-least EmptyHeap v h′ p e = absurd (Option·none-ne-some (v, h′) e)
       pop-least (HeapOf w hh) v h′ p e =

@@ -10,8 +10,10 @@ use lib.ListN.{length, length-append}
 use Rattle.source.specs.Text.{Query}
 use Rattle.source.specs.Types.{Trie, bindings, namespaces}
 use Rattle.source.specs.Terms.{depth}
-use Rattle.source.specs.Listing.{PathOf, fold-left, rev-map-onto, ns-search-term, bindings-search-term, names-find-rev-first, by-first, find-prefix-fuel, trie-find-prefix′, trie-find-prefix-first}
-use Rattle.source.specs.Table.{Table, ModSymbol, Line, completion-result-of-lid, completion-result-of-ns-or-mod, autocomplete-lid-first, autocomplete-mod-or-ns-first}
+use Rattle.source.specs.Listing.{PathOf, fold-left, rev-map-onto, ns-search-term, bindings-search-term, names-find-rev-first, by-first, find-prefix-fuel}
+use Rattle.source.specs.Listing.{trie-find-prefix′, trie-find-prefix-first}
+use Rattle.source.specs.Table.{Table, ModSymbol, Line, completion-result-of-lid, completion-result-of-ns-or-mod, autocomplete-lid-first}
+use Rattle.source.specs.Table.{autocomplete-mod-or-ns-first}
 use Rattle.source.specs.Forward.{entered}
 use Rattle.source.specs.Calls.{output-text, output-lines, kept}
 use Rattle.source.specs.Shared.{sumˡ}
@@ -36,7 +38,8 @@ module _ {A B : Type 0} where
       ∙ sym (rw (reverse-cons a l, map-append f (reverse l) (a ∷ [])) (append-assoc (map f (reverse l)) (f a ∷ []) acc))
 
   -- A fold that puts lists in front.
-  fold-left-is : (g : List B → A → List B) (f : A → List B) (l : List A) (acc : List B) → ((acc : List B) (x : A) → g acc x ≡ f x ++ acc)
+  fold-left-is : (g : List B → A → List B) (f : A → List B) (l : List A) (acc : List B)
+      → ((acc : List B) (x : A) → g acc x ≡ f x ++ acc)
       → fold-left g acc l ≡ flatMap f (reverse l) ++ acc
   unfolding fold-left flatMap
   fold-left-is g f [] acc h = refl
@@ -44,19 +47,22 @@ module _ {A B : Type 0} where
       fold-left-is g f l (g acc a) h
       ∙ rw (h acc a, reverse-cons a l, flatMap-append f (reverse l) (a ∷ []), append-nil (f a)) (sym (append-assoc (flatMap f (reverse l)) (f a) acc))
 
-  pub flatMap-map : {C : Type 0} (g : B → List C) (f : A → B) (l : List A) → flatMap g (map f l) ≡ flatMap (λ x. g (f x)) l
+  pub flatMap-map : {C : Type 0} (g : B → List C) (f : A → B) (l : List A)
+      → flatMap g (map f l) ≡ flatMap (λ x. g (f x)) l
   unfolding flatMap
   flatMap-map g f [] = refl
   flatMap-map g f (a ∷ l) = ap (λ r. g (f a) ++ r) (flatMap-map g f l)
 
-flatMap-flatMap : {A B C : Type 0} (g : B → List C) (f : A → List B) (l : List A) → flatMap g (flatMap f l) ≡ flatMap (λ x. flatMap g (f x)) l
+flatMap-flatMap : {A B C : Type 0} (g : B → List C) (f : A → List B) (l : List A)
+    → flatMap g (flatMap f l) ≡ flatMap (λ x. flatMap g (f x)) l
 unfolding flatMap
 flatMap-flatMap g f [] = refl
 flatMap-flatMap g f (a ∷ l) = flatMap-append g (f a) (flatMap f l) ∙ ap (λ r. flatMap g (f a) ++ r) (flatMap-flatMap g f l)
 
 -- ---- the listing
 module _ {A : Type 0} where
-  pub listing-is : (n : ℕ) (tr : Trie A) (path : PathOf) (q : Query) (acc : List (PathOf × A)) → find-prefix-fuel by-first n tr path q acc ≡ lines n tr path q ++ acc
+  pub listing-is : (n : ℕ) (tr : Trie A) (path : PathOf) (q : Query) (acc : List (PathOf × A))
+      → find-prefix-fuel by-first n tr path q acc ≡ lines n tr path q ++ acc
   unfolding find-prefix-fuel lines found
   listing-is zero tr path q acc = refl
   listing-is (suc n) tr path q acc =
@@ -71,7 +77,8 @@ module _ {A : Type 0} where
   trie-find-prefix-is tr q = listing-is (suc (depth tr)) tr [] q [] ∙ append-nil (lines (suc (depth tr)) tr [] q)
 
   -- Tries entered: one more than in the found namespaces.
-  pub entered-is : (n : ℕ) (tr : Trie A) (q : Query) → entered (suc n) tr q ≡ suc (sumˡ (λ x. entered n (x .1) (tail q)) (found (namespaces tr) (ns-search-term q)))
+  pub entered-is : (n : ℕ) (tr : Trie A) (q : Query)
+      → entered (suc n) tr q ≡ suc (sumˡ (λ x. entered n (x .1) (tail q)) (found (namespaces tr) (ns-search-term q)))
   unfolding entered found
   entered-is n tr q = omega (arith, sumˡ-reverse (λ x. entered n (x .1) (tail q)) (names-find-rev-first (namespaces tr) (ns-search-term q)) [])
 
@@ -92,7 +99,8 @@ module _ {B : Type 0} where
   output-text-append [] ys = refl
   output-text-append (x ∷ xs) ys = simp (output-text-append xs ys, append-assoc)
 
-  pub output-lines-append : (at : ℕ) (xs ys : List (Line B)) → output-lines at (xs ++ ys) ≡ output-lines at xs ++ output-lines (at + length (output-text xs)) ys
+  pub output-lines-append : (at : ℕ) (xs ys : List (Line B))
+      → output-lines at (xs ++ ys) ≡ output-lines at xs ++ output-lines (at + length (output-text xs)) ys
   unfolding output-lines output-text
   output-lines-append at [] ys = let e : at ≡ at + 0 = omega arith in ap (λ i. output-lines i ys) e
   output-lines-append at (x ∷ xs) ys =
@@ -108,27 +116,32 @@ module _ {B : Type 0} where
 -- ---- the two completions
 
 -- The lines that are kept of a listing.
-kept-made : {A : Type 0} (result : PathOf × A → Line A) → ((x : PathOf × A) → result x .item-of ≡ x .1) → (keep : A → Bool) (l : List (PathOf × A))
+kept-made : {A : Type 0} (result : PathOf × A → Line A) → ((x : PathOf × A) → result x .item-of ≡ x .1)
+    → (keep : A → Bool) (l : List (PathOf × A))
     → kept keep (map result l) ≡ flatMap (kept-line result keep) l
 unfolding kept flatMap kept-line
 kept-made result h keep [] = refl
 kept-made result h keep (x ∷ l) =
-    subst (λ b. cond (keep (result x .item-of)) (result x ∷ kept keep (map result l)) (kept keep (map result l)) ≡ cond b (result x ∷ []) [] ++ flatMap (kept-line result keep) l)
+    subst (λ b. cond (keep (result x .item-of)) (result x ∷ kept keep (map result l)) (kept keep (map result l))
+    ≡ cond b (result x ∷ []) [] ++ flatMap (kept-line result keep) l)
     (ap keep (h x)) (go (keep (result x .item-of)) (kept-made result h keep l))
   where
     go : (b : Bool) → kept keep (map result l) ≡ flatMap (kept-line result keep) l
-        → cond b (result x ∷ kept keep (map result l)) (kept keep (map result l)) ≡ cond b (result x ∷ []) [] ++ flatMap (kept-line result keep) l
+        → cond b (result x ∷ kept keep (map result l)) (kept keep (map result l))
+        ≡ cond b (result x ∷ []) [] ++ flatMap (kept-line result keep) l
     go true e = ap (_∷_ (result x)) e
     go false e = e
 
 pub autocomplete-lid-is : (tbl : Table) (q : Query) (keep : LidSymbol → Bool)
-    → kept keep (autocomplete-lid-first tbl q) ≡ made (kept-line completion-result-of-lid keep) (suc (depth (tbl .tbl-lids))) (tbl .tbl-lids) [] q
+    → kept keep (autocomplete-lid-first tbl q)
+    ≡ made (kept-line completion-result-of-lid keep) (suc (depth (tbl .tbl-lids))) (tbl .tbl-lids) [] q
 unfolding autocomplete-lid-first made completion-result-of-lid
 autocomplete-lid-is tbl q keep =
     ap (λ l. kept keep (map completion-result-of-lid l)) (trie-find-prefix-is (tbl .tbl-lids) q) ∙ kept-made completion-result-of-lid (λ x. refl) keep _
 
 pub autocomplete-mod-or-ns-is : (tbl : Table) (q : Query) (keep : ModSymbol → Bool)
-    → kept keep (autocomplete-mod-or-ns-first tbl q some) ≡ made (kept-line completion-result-of-ns-or-mod keep) (suc (depth (tbl .tbl-mods))) (tbl .tbl-mods) [] q
+    → kept keep (autocomplete-mod-or-ns-first tbl q some)
+    ≡ made (kept-line completion-result-of-ns-or-mod keep) (suc (depth (tbl .tbl-mods))) (tbl .tbl-mods) [] q
 unfolding made completion-result-of-ns-or-mod
 autocomplete-mod-or-ns-is tbl q keep =
     ap (kept keep) (all-listed tbl q ∙ ap (map completion-result-of-ns-or-mod) (trie-find-prefix-is (tbl .tbl-mods) q))

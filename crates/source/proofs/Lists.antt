@@ -17,10 +17,13 @@ use Rattle.source.proofs.Order.{View, Viewℕ, compare-view, compare-st
 use Rattle.source.specs.Heap.{Heap, Forest, EmptyHeap, HeapOf, []ᶠ, is-lt, heap-merge, heap-insert, heap-merge-pairs, heap-insert-all, heap-from-list}
 use Rattle.source.specs.Shared.{sumˡ}
 use Rattle.source.specs.Forward.{sum, sumᶠ}
-use Rattle.source.proofs.Heap.{All, Allᶠ, Heaped, All-map, Allᶠ-map, Allᶠ-zip, none-countedᶠ, sum-counted, sum-merge, sum-pairs, All-merge, All-pairs, Heaped-merge, Heaped-pairs, sum-from-list, Heaped-from-list}
-use Rattle.source.specs.Lists.{Run, run, first, priority, nonempty, add-priorities, total, push-nodup, run-cmp, put-back, merge-aux, merge-nonempty, merge-increasing-lists-rev}
+use Rattle.source.proofs.Heap.{All, Allᶠ, Heaped, All-map, Allᶠ-map, Allᶠ-zip, none-countedᶠ, sum-counted, sum-merge, sum-pairs, All-merge, All-pairs}
+use Rattle.source.proofs.Heap.{Heaped-merge, Heaped-pairs, sum-from-list, Heaped-from-list}
+use Rattle.source.specs.Lists.{Run, run, first, priority, nonempty, add-priorities, total, push-nodup, run-cmp, put-back, merge-aux, merge-nonempty}
+use Rattle.source.specs.Lists.{merge-increasing-lists-rev}
 use Rattle.source.specs.Shared.{same, Allˡ}
-use Rattle.source.proofs.Lookup.{Same, same-view, Allˡ-map, Allˡ-reverse, sumˡ-reverse, or-else-none, lt-ne, lookup, first-lookup, Above, Below, Increasing, Decreasing, lookup-hit, lookup-miss, lookup-above, lookup-below, decreasing-unique}
+use Rattle.source.proofs.Lookup.{Same, same-view, Allˡ-map, Allˡ-reverse, sumˡ-reverse, or-else-none, lt-ne, lookup, first-lookup, Above, Below}
+use Rattle.source.proofs.Lookup.{Increasing, Decreasing, lookup-hit, lookup-miss, lookup-above, lookup-below, decreasing-unique}
 use Rattle.source.specs.Tries.{or-else}
 use Rattle.source.specs.Forward.{rest, size}
 
@@ -75,7 +78,8 @@ module _ {A : Type 0} (key : A → Str) where
   run-view a b = go (string-compare (key (first a)) (key (first b))) (compare (priority a) (priority b))
       (compare-strings (key (first a)) (key (first b))) (compare-view (priority a) (priority b))
     where
-      go : (o o′ : Ordering) → View (key (first a)) (key (first b)) o → Viewℕ (priority a) (priority b) o′ → RView a b (is-lt (then o o′))
+      go : (o o′ : Ordering) → View (key (first a)) (key (first b)) o → Viewℕ (priority a) (priority b) o′
+          → RView a b (is-lt (then o o′))
       go Ordering·lt o′ v w = inl v
       go Ordering·eq Ordering·lt v w = inr (v, omega arith)
       go Ordering·eq Ordering·eq v w = inr (sym v, omega arith)
@@ -131,7 +135,8 @@ module _ {A : Type 0} (key : A → Str) where
   single-size (run p v []) = refl
   single-size (run p v (w ∷ tl)) = omega arith
 
-  single-all : (P : Run A → Type 0) (p : ℕ) (v : A) (tl : List A) → ((w : A) (ws : List A) → tl ≡ w ∷ ws → P (run p w ws)) → All P (single (run p v tl))
+  single-all : (P : Run A → Type 0) (p : ℕ) (v : A) (tl : List A)
+      → ((w : A) (ws : List A) → tl ≡ w ∷ ws → P (run p w ws)) → All P (single (run p v tl))
   unfolding single
   single-all P p v [] f = tt
   single-all P p v (w ∷ tl) f = (f w tl refl, tt)
@@ -150,7 +155,8 @@ module _ {A : Type 0} (key : A → Str) where
   popped-all P p v tl hh f a =
       All-merge (run-cmp key) P (single (run p v tl)) (heap-merge-pairs (run-cmp key) hh) (single-all P p v tl f) (All-pairs (run-cmp key) P hh a)
 
-  module _ (ls : List (List A)) (p : ℕ) (v : A) (tl : List A) (hh : Forest (Run A)) (inv : Inv ls (HeapOf (run p v tl) hh)) where
+  module _ (ls : List (List A)) (p : ℕ) (v : A) (tl : List A) (hh : Forest (Run A))
+      (inv : Inv ls (HeapOf (run p v tl) hh)) where
     here : getD ls p [] ≡ v ∷ tl
     unfolding priority first rest
     here = inv .sound .0
@@ -232,7 +238,8 @@ module _ {A : Type 0} (key : A → Str) where
   RLe-refl r = inr (refl, omega arith)
 
   -- the least run holds its key for the first list
-  module _ (ls : List (List A)) (p : ℕ) (v : A) (tl : List A) (hh : Forest (Run A)) (inv : Inv ls (HeapOf (run p v tl) hh)) where
+  module _ (ls : List (List A)) (p : ℕ) (v : A) (tl : List A) (hh : Forest (Run A))
+      (inv : Inv ls (HeapOf (run p v tl) hh)) where
     Found : Run A → Type 0
     Found r = (getD ls (priority r) [] ≡ first r ∷ rest r) × RLe (run p v tl) r
 
@@ -240,7 +247,8 @@ module _ {A : Type 0} (key : A → Str) where
     unfolding Found RLe priority first rest lookup
     least q l = go (getD ls q []) refl
       where
-        use-found : (w : A) (ws : List A) → getD ls q [] ≡ w ∷ ws → (r : Run A) → priority r ≡ q → Found r → lookup key (key v) (w ∷ ws) ≡ none
+        use-found : (w : A) (ws : List A) → getD ls q [] ≡ w ∷ ws → (r : Run A) → priority r ≡ q → Found r
+            → lookup key (key v) (w ∷ ws) ≡ none
         use-found w ws e r i (g, inr h) = absurd (omega arith)
         use-found w ws e r i (g, inl h) =
             let f : w ∷ ws ≡ first r ∷ rest r = sym e ∙ ap (λ j. getD ls j []) (sym i) ∙ g in
@@ -299,7 +307,8 @@ module _ {A : Type 0} (key : A → Str) where
       new : key a <ˢ key v → Pushed v (a ∷ acc) (v ∷ (a ∷ acc))
       new h = pushed-new v (a ∷ acc) d (h, below-trans (key v) (key a) acc h (d .0))
 
-      go : Same (key v) (key a) → ≤ˢ-lt (key a) (key v) → Pushed v (a ∷ acc) (cond (same (key v) (key a)) (a ∷ acc) (v ∷ (a ∷ acc)))
+      go : Same (key v) (key a) → ≤ˢ-lt (key a) (key v)
+          → Pushed v (a ∷ acc) (cond (same (key v) (key a)) (a ∷ acc) (v ∷ (a ∷ acc)))
       go (inl (t, e)) l = rw t (pushed-same v a acc d e)
       go (inr (f, x)) (inl h) = rw f (new h)
       go (inr (f, inl x)) (inr e) = absurd (lt-ne (key v) (key a) x (sym e))
@@ -321,7 +330,8 @@ module _ {A : Type 0} (key : A → Str) where
     at-key = λ k. rw (nothing-left k ls (inv .counts), or-else-none);
   }
 
-  module _ (acc : List A) (ls : List (List A)) (p : ℕ) (v : A) (tl : List A) (hh : Forest (Run A)) (d : Decreasing key acc)
+  module _ (acc : List A) (ls : List (List A)) (p : ℕ) (v : A) (tl : List A) (hh : Forest (Run A))
+      (d : Decreasing key acc)
       (inv : Inv ls (HeapOf (run p v tl) hh)) (reached : Reached acc (HeapOf (run p v tl) hh)) where
     push : Pushed v acc (push-nodup key v acc)
     unfolding first
@@ -343,11 +353,13 @@ module _ {A : Type 0} (key : A → Str) where
     merged-step result m = record { decreasing = m .decreasing; at-key = λ k. m .at-key k ∙ go k (same-view k (key v)) }
       where
         other : (k : Str) → (k ≡ key v → ⊥)
-            → or-else (lookup key k (push-nodup key v acc)) (first-lookup key k (set ls p tl)) ≡ or-else (lookup key k acc) (first-lookup key k ls)
+            → or-else (lookup key k (push-nodup key v acc)) (first-lookup key k (set ls p tl))
+            ≡ or-else (lookup key k acc) (first-lookup key k ls)
         other k n = rw (push .miss k n, other-key k ls p v tl (here ls p v tl hh inv) n)
 
         go : (k : Str) → Same k (key v)
-            → or-else (lookup key k (push-nodup key v acc)) (first-lookup key k (set ls p tl)) ≡ or-else (lookup key k acc) (first-lookup key k ls)
+            → or-else (lookup key k (push-nodup key v acc)) (first-lookup key k (set ls p tl))
+            ≡ or-else (lookup key k acc) (first-lookup key k ls)
         go k (inl (t, e)) = rw e (push .hit (first-lookup key (key v) (set ls p tl)) ∙ ap (or-else (lookup key (key v) acc)) (sym (first-is ls p v tl hh inv)))
         go k (inr (f, inl x)) = other k (lt-ne k (key v) x)
         go k (inr (f, inr x)) = other k (λ e. lt-ne (key v) k x (sym e))
@@ -356,11 +368,13 @@ module _ {A : Type 0} (key : A → Str) where
   unfolding size
   popped-size n r hh l = omega (arith, popped-sum size r hh, single-size r)
 
-  pub put-back-size : (r : Run A) (hh : Forest (Run A)) → sum size (HeapOf r hh) ≡ suc (sum size (put-back key r (heap-merge-pairs (run-cmp key) hh)))
+  pub put-back-size : (r : Run A) (hh : Forest (Run A))
+      → sum size (HeapOf r hh) ≡ suc (sum size (put-back key r (heap-merge-pairs (run-cmp key) hh)))
   unfolding size popped
   put-back-size r hh = omega (arith, popped-sum size r hh, single-size r, ap (sum size) (put-back-is r (heap-merge-pairs (run-cmp key) hh)))
 
-  merge-spec : (n : ℕ) (h : Heap (Run A)) (acc : List A) (ls : List (List A)) → sum size h ≤ n → Inv ls h → Decreasing key acc → Reached acc h
+  merge-spec : (n : ℕ) (h : Heap (Run A)) (acc : List A) (ls : List (List A)) → sum size h ≤ n → Inv ls h
+      → Decreasing key acc → Reached acc h
       → Merged acc ls (merge-aux key n h acc)
   unfolding merge-aux popped size first
   merge-spec zero EmptyHeap acc ls l inv d x = merged-none acc ls d inv
@@ -375,7 +389,8 @@ module _ {A : Type 0} (key : A → Str) where
       (push acc ls p v tl hh d inv x .reached (popped (run p v tl) hh) (left acc ls p v tl hh d inv x))))
 
   -- ---- the heap of the lists
-  insert-all-all : (P : Run A → Type 0) (h : Heap (Run A)) (rs : List (Run A)) → All P h → Allˡ P rs → All P (heap-insert-all (run-cmp key) h rs)
+  insert-all-all : (P : Run A → Type 0) (h : Heap (Run A)) (rs : List (Run A)) → All P h → Allˡ P rs
+      → All P (heap-insert-all (run-cmp key) h rs)
   unfolding heap-insert-all heap-insert
   insert-all-all P h [] a b = a
   insert-all-all P h (r ∷ rs) a b = insert-all-all P (heap-insert (run-cmp key) h r) rs (All-merge (run-cmp key) P (HeapOf r []ᶠ) h (b .0, tt) a) (b .1)
@@ -399,20 +414,23 @@ module _ {A : Type 0} (key : A → Str) where
   cnt-at n ((v ∷ tl) ∷ ls) zero i e = omega (arith, cnt-low (suc n) ls i (omega arith), at-same i (run n v tl) (omega arith))
   cnt-at n ((v ∷ tl) ∷ ls) (suc q) i e = omega (arith, cnt-at (suc n) ls q i (omega arith), at-other i (run n v tl) (omega arith))
 
-  priorities-count : (q n : ℕ) (acc : List (Run A)) (ls : List (List A)) → sumˡ (at q) (add-priorities n acc ls) ≡ sumˡ (at q) acc + cnt n ls q
+  priorities-count : (q n : ℕ) (acc : List (Run A)) (ls : List (List A))
+      → sumˡ (at q) (add-priorities n acc ls) ≡ sumˡ (at q) acc + cnt n ls q
   unfolding add-priorities cnt
   priorities-count q n acc [] = omega arith
   priorities-count q n acc ([] ∷ ls) = priorities-count q (suc n) acc ls
   priorities-count q n acc ((v ∷ tl) ∷ ls) = omega (arith, priorities-count q (suc n) (run n v tl ∷ acc) ls)
 
-  priorities-size : (n : ℕ) (acc : List (Run A)) (ls : List (List A)) → sumˡ size (add-priorities n acc ls) ≡ sumˡ size acc + total ls
+  priorities-size : (n : ℕ) (acc : List (Run A)) (ls : List (List A))
+      → sumˡ size (add-priorities n acc ls) ≡ sumˡ size acc + total ls
   unfolding add-priorities total size rest
   priorities-size n acc [] = omega arith
   priorities-size n acc ([] ∷ ls) = omega (arith, priorities-size (suc n) acc ls)
   priorities-size n acc ((v ∷ tl) ∷ ls) = omega (arith, priorities-size (suc n) (run n v tl ∷ acc) ls)
 
   priorities-sound : (all : List (List A)) (n : ℕ) (acc : List (Run A)) (ls : List (List A))
-      → ((q i : ℕ) → i ≡ n + q → getD all i [] ≡ getD ls q []) → Allˡ (λ r. getD all (priority r) [] ≡ first r ∷ rest r) acc
+      → ((q i : ℕ) → i ≡ n + q → getD all i [] ≡ getD ls q [])
+      → Allˡ (λ r. getD all (priority r) [] ≡ first r ∷ rest r) acc
       → Allˡ (λ r. getD all (priority r) [] ≡ first r ∷ rest r) (add-priorities n acc ls)
   unfolding add-priorities priority first rest
   priorities-sound all n acc [] f a = a
@@ -431,7 +449,8 @@ module _ {A : Type 0} (key : A → Str) where
     pub counts : (q : ℕ) → sumˡ (at q) rs ≡ live (getD ls q [])
     pub sizes : sumˡ size rs ≡ total ls
 
-  start : (ls : List (List A)) (rs : List (Run A)) → Allˡ (Increasing key) ls → Runs ls rs → Inv ls (heap-from-list (run-cmp key) rs)
+  start : (ls : List (List A)) (rs : List (Run A)) → Allˡ (Increasing key) ls → Runs ls rs
+      → Inv ls (heap-from-list (run-cmp key) rs)
   unfolding heap-from-list
   start ls rs a h = record {
     heaped = Heaped-from-list (run-cmp key) RLe RLe-trans run-less run-not-less rs;
@@ -458,17 +477,20 @@ module _ {A : Type 0} (key : A → Str) where
       }
 
   -- ---- one list: its reverse
-  reversed : (l acc : List A) → Increasing key l → Decreasing key acc → Allˡ (λ a. Above key (key a) l) acc → Decreasing key (reverseAux l acc)
+  reversed : (l acc : List A) → Increasing key l → Decreasing key acc → Allˡ (λ a. Above key (key a) l) acc
+      → Decreasing key (reverseAux l acc)
   reversed [] acc i d a = d
   reversed (x ∷ l) acc i d a =
       reversed l (x ∷ acc) (i .1) (Allˡ-map acc (λ y p. p .0) a, d) (i .0, Allˡ-map acc (λ y p. p .1) a)
 
-  reversed-at : (k : Str) (l acc : List A) → Increasing key l → lookup key k (reverseAux l acc) ≡ or-else (lookup key k l) (lookup key k acc)
+  reversed-at : (k : Str) (l acc : List A) → Increasing key l
+      → lookup key k (reverseAux l acc) ≡ or-else (lookup key k l) (lookup key k acc)
   unfolding lookup or-else Same
   reversed-at k [] acc i = refl
   reversed-at k (x ∷ l) acc i = reversed-at k l (x ∷ acc) (i .1) ∙ go (same-view k (key x))
     where
-      go : Same k (key x) → or-else (lookup key k l) (cond (same k (key x)) (some x) (lookup key k acc)) ≡ or-else (cond (same k (key x)) (some x) (lookup key k l)) (lookup key k acc)
+      go : Same k (key x) → or-else (lookup key k l) (cond (same k (key x)) (some x) (lookup key k acc))
+          ≡ or-else (cond (same k (key x)) (some x) (lookup key k l)) (lookup key k acc)
       go (inl (t, e)) = rw (t, lookup-above key k l (rw (← e) at (i .0)))
       go (inr (f, x)) = rw f
 
@@ -484,13 +506,16 @@ module _ {A : Type 0} (key : A → Str) where
   nonempty-all P ([] ∷ ls) a = nonempty-all P ls (a .1)
   nonempty-all P ((x ∷ l) ∷ ls) a = (a .0, nonempty-all P ls (a .1))
 
-  pub runs-size : (ls : List (List A)) (rs : List (Run A)) → Runs ls rs → sum size (heap-from-list (run-cmp key) rs) ≡ total ls
+  pub runs-size : (ls : List (List A)) (rs : List (Run A)) → Runs ls rs
+      → sum size (heap-from-list (run-cmp key) rs) ≡ total ls
   runs-size ls rs h = omega (arith, sum-from-list (run-cmp key) size rs, h .sizes)
 
-  pub from-list-size : (ls : List (List A)) → sum size (heap-from-list (run-cmp key) (add-priorities 0 [] ls)) ≡ total ls
+  pub from-list-size : (ls : List (List A))
+      → sum size (heap-from-list (run-cmp key) (add-priorities 0 [] ls)) ≡ total ls
   from-list-size ls = runs-size ls (add-priorities 0 [] ls) (priorities-runs ls)
 
-  runs-spec : (ls : List (List A)) (rs : List (Run A)) → Allˡ (Increasing key) ls → Runs ls rs → Merged [] ls (merge-aux key (total ls) (heap-from-list (run-cmp key) rs) [])
+  runs-spec : (ls : List (List A)) (rs : List (Run A)) → Allˡ (Increasing key) ls → Runs ls rs
+      → Merged [] ls (merge-aux key (total ls) (heap-from-list (run-cmp key) rs) [])
   unfolding Reached
   runs-spec ls rs a h = merge-spec (total ls) (heap-from-list (run-cmp key) rs) [] ls (omega (arith, runs-size ls rs h)) (start ls rs a h) tt tt
 
@@ -514,11 +539,13 @@ module _ {A : Type 0} (key : A → Str) where
       ∙ map-id (merge-aux key (total ls) (heap-from-list (run-cmp key) rs) [])
 
   -- the theorem
-  pub merge-decreasing : (ls : List (List A)) → Allˡ (Increasing key) ls → Decreasing key (merge-increasing-lists-rev key ls)
+  pub merge-decreasing : (ls : List (List A)) → Allˡ (Increasing key) ls
+      → Decreasing key (merge-increasing-lists-rev key ls)
   unfolding merge-increasing-lists-rev
   merge-decreasing ls a = merge-nonempty-spec (nonempty ls) (nonempty-all (Increasing key) ls a) .decreasing
 
-  pub merge-at : (ls : List (List A)) → Allˡ (Increasing key) ls → (k : Str) → lookup key k (merge-increasing-lists-rev key ls) ≡ first-lookup key k ls
+  pub merge-at : (ls : List (List A)) → Allˡ (Increasing key) ls → (k : Str)
+      → lookup key k (merge-increasing-lists-rev key ls) ≡ first-lookup key k ls
   unfolding merge-increasing-lists-rev lookup or-else
   merge-at ls a k = merge-nonempty-spec (nonempty ls) (nonempty-all (Increasing key) ls a) .at-key k ∙ nonempty-at k ls
 
@@ -536,7 +563,8 @@ module _ {A : Type 0} (key : A → Str) where
         go true = a
         go false = (p, a)
 
-    merge-aux-all : (n : ℕ) (h : Heap (Run A)) (acc : List A) → All AllRun h → Allˡ P acc → Allˡ P (merge-aux key n h acc)
+    merge-aux-all : (n : ℕ) (h : Heap (Run A)) (acc : List A) → All AllRun h → Allˡ P acc
+        → Allˡ P (merge-aux key n h acc)
     unfolding merge-aux popped first rest
     merge-aux-all zero h acc a b = b
     merge-aux-all (suc n) EmptyHeap acc a b = b
@@ -545,7 +573,8 @@ module _ {A : Type 0} (key : A → Str) where
         (rw (put-back-is (run p v tl) (heap-merge-pairs (run-cmp key) hh)) (popped-all AllRun p v tl hh (λ w ws e. subst (Allˡ P) e (a .0 .1)) (a .1)))
         (push-all v acc (a .0 .0) b)
 
-    priorities-all : (n : ℕ) (acc : List (Run A)) (ls : List (List A)) → Allˡ AllRun acc → Allˡ (Allˡ P) ls → Allˡ AllRun (add-priorities n acc ls)
+    priorities-all : (n : ℕ) (acc : List (Run A)) (ls : List (List A)) → Allˡ AllRun acc → Allˡ (Allˡ P) ls
+        → Allˡ AllRun (add-priorities n acc ls)
     unfolding add-priorities first rest
     priorities-all n acc [] a b = a
     priorities-all n acc ([] ∷ ls) a b = priorities-all (suc n) acc ls a (b .1)

@@ -47,7 +47,8 @@ pub Allˡ-map : {A : Type 0} {P Q : A → Type 0} → (l : List A) → ((a : A) 
 Allˡ-map [] f p = tt
 Allˡ-map (x ∷ l) f p = (f x (p .0), Allˡ-map l f (p .1))
 
-pub Allˡ-zip : {A : Type 0} {P Q R : A → Type 0} (l : List A) → ((a : A) → P a → Q a → R a) → Allˡ P l → Allˡ Q l → Allˡ R l
+pub Allˡ-zip : {A : Type 0} {P Q R : A → Type 0} (l : List A) → ((a : A) → P a → Q a → R a) → Allˡ P l → Allˡ Q l
+    → Allˡ R l
 Allˡ-zip [] f p q = tt
 Allˡ-zip (a ∷ l) f p q = (f a (p .0) (q .0), Allˡ-zip l f (p .1) (q .1))
 
@@ -111,7 +112,8 @@ module _ {A : Type 0} (key : A → Str) where
   lookup-below k (x ∷ l) p = lookup-miss k x l (λ e. lt-ne (key x) k (p .0) (sym e)) ∙ lookup-below k l (p .1)
 
   -- Two descending lists that give the same at each key have the same elements, as far as what is read of them tells.
-  pub decreasing-unique : {B : Type 0} (g : A → B) (l m : List A) → Decreasing l → Decreasing m → ((k : Str) → Option·map g (lookup k l) ≡ Option·map g (lookup k m)) → map g l ≡ map g m
+  pub decreasing-unique : {B : Type 0} (g : A → B) (l m : List A) → Decreasing l → Decreasing m
+      → ((k : Str) → Option·map g (lookup k l) ≡ Option·map g (lookup k m)) → map g l ≡ map g m
   unfolding lookup Same
   decreasing-unique g [] [] a b h = refl
   decreasing-unique g [] (y ∷ m) a b h = absurd (Option·none-ne-some (g y) (h (key y) ∙ ap (Option·map g) (lookup-hit y m)))
@@ -119,25 +121,30 @@ module _ {A : Type 0} (key : A → Str) where
   decreasing-unique g (x ∷ l) (y ∷ m) a b h = go (same-view (key x) (key y)) (decreasing-unique g l m (a .1) (b .1))
     where
       -- The greater head is missing in the other list.
-      missing : (z : A) (l m : List A) (k : Str) → Below k l → k <ˢ key z → (w : A) → key w ≡ k → Option·map g (lookup (key z) (z ∷ m)) ≡ Option·map g (lookup (key z) (w ∷ l)) → ⊥
+      missing : (z : A) (l m : List A) (k : Str) → Below k l → k <ˢ key z → (w : A) → key w ≡ k
+          → Option·map g (lookup (key z) (z ∷ m)) ≡ Option·map g (lookup (key z) (w ∷ l)) → ⊥
       missing z l m k d o w e i =
           Option·none-ne-some (g z)
-          (sym (ap (Option·map g) (lookup-miss (key z) w l (λ f. lt-ne k (key z) o (sym e ∙ sym f)) ∙ lookup-below (key z) l (Allˡ-map l (λ y j. <ˢ-trans (key y) k (key z) j o) d)))
+          (sym (ap (Option·map g) (lookup-miss (key z) w l (λ f. lt-ne k (key z) o (sym e ∙ sym f))
+          ∙ lookup-below (key z) l (Allˡ-map l (λ y j. <ˢ-trans (key y) k (key z) j o) d)))
           ∙ sym i ∙ ap (Option·map g) (lookup-hit z m))
 
-      go : Same (key x) (key y) → (((k : Str) → Option·map g (lookup k l) ≡ Option·map g (lookup k m)) → map g l ≡ map g m) → map g (x ∷ l) ≡ map g (y ∷ m)
+      go : Same (key x) (key y) → (((k : Str) → Option·map g (lookup k l) ≡ Option·map g (lookup k m))
+          → map g l ≡ map g m) → map g (x ∷ l) ≡ map g (y ∷ m)
       go (inr (_, inl o)) ih = absurd (missing y l m (key x) (a .0) o x refl (sym (h (key y))))
       go (inr (_, inr o)) ih = absurd (missing x m l (key y) (b .0) o y refl (h (key x)))
       go (inl (_, e)) ih = ap₂ _∷_ head (ih tails)
         where
           head : g x ≡ g y
-          head = Option·some-injective (g x) (g y) (sym (ap (Option·map g) (lookup-hit x l)) ∙ h (key x) ∙ ap (Option·map g) (ap (λ k. lookup k (y ∷ m)) e ∙ lookup-hit y m))
+          head = Option·some-injective (g x) (g y)
+              (sym (ap (Option·map g) (lookup-hit x l)) ∙ h (key x) ∙ ap (Option·map g) (ap (λ k. lookup k (y ∷ m)) e ∙ lookup-hit y m))
 
           tails : (k : Str) → Option·map g (lookup k l) ≡ Option·map g (lookup k m)
           tails k = at (same-view k (key x))
             where
               at : Same k (key x) → Option·map g (lookup k l) ≡ Option·map g (lookup k m)
-              at (inl (_, f)) = ap (Option·map g) (ap (λ k. lookup k l) f ∙ lookup-below (key x) l (a .0) ∙ sym (ap (λ k. lookup k m) (f ∙ e) ∙ lookup-below (key y) m (b .0)))
+              at (inl (_, f)) = ap (Option·map g)
+                  (ap (λ k. lookup k l) f ∙ lookup-below (key x) l (a .0) ∙ sym (ap (λ k. lookup k m) (f ∙ e) ∙ lookup-below (key y) m (b .0)))
               at (inr (_, o)) = other k (apart o)
                 where
                   apart : (k <ˢ key x) ⊎ (key x <ˢ k) → k ≡ key x → ⊥

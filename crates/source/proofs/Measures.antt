@@ -9,7 +9,8 @@ use lib.Dec.{ltb}
 use lib.ListN.{length}
 use borrow.Author.Tests.{ltb-true, ltb-false, lt-ltb, le-ltb}
 use Rattle.source.specs.Text.{Str, Query, string-compare}
-use Rattle.source.specs.Types.{Level, Value, Trie, Tree, NameList, ns, trie, StrEmpty, StrBranch, []ᴺ, Names, ImportedNames, bindings, namespaces, trie-empty}
+use Rattle.source.specs.Types.{Level, Value, Trie, Tree, NameList, ns, trie, StrEmpty, StrBranch, []ᴺ, Names, ImportedNames, bindings, namespaces}
+use Rattle.source.specs.Types.{trie-empty}
 use Rattle.source.specs.Trees.{btree-insert-replace, btree-find-exact}
 use Rattle.source.specs.Tries.{or-else, dflt, names-find-exact, names-insert, scope-of}
 use Rattle.source.specs.Terms.{weight, heaviest, heaviest-tree, heaviest-names, depth, depth-tree, depth-names}
@@ -75,7 +76,8 @@ module _ {A : Type 0} {l : Level} (f : Value A l → ℕ) where
       (omega (arith, tree-found lbt k)) (omega arith) (omega (arith, tree-found rbt k))
 
   -- Over a number that no value of the tree is over, an insertion counts as its value.
-  tree-inserted : (m : ℕ) (t : Tree A l) (k : Str) (v : Value A l) → greatest t ≤ m → max m (greatest (btree-insert-replace t k v)) ≡ max m (f v)
+  tree-inserted : (m : ℕ) (t : Tree A l) (k : Str) (v : Value A l) → greatest t ≤ m
+      → max m (greatest (btree-insert-replace t k v)) ≡ max m (f v)
   unfolding btree-insert-replace greatest
   tree-inserted m StrEmpty k v h = omega arith
   tree-inserted m (StrBranch k′ v′ lbt rbt) k v h =
@@ -151,7 +153,8 @@ module _ {A : Type 0} where
   heaviest-greatest StrEmpty = refl
   heaviest-greatest (StrBranch k v lbt rbt) = rw (heaviest-greatest lbt, heaviest-greatest rbt)
 
-  names-found-heaviest : {l : Level} (n : NameList A l) (k : Str) → of-found heaviest (names-find-exact n k) ≤ heaviest-names n
+  names-found-heaviest : {l : Level} (n : NameList A l) (k : Str)
+      → of-found heaviest (names-find-exact n k) ≤ heaviest-names n
   unfolding names-find-exact heaviest-names
   names-found-heaviest []ᴺ k = omega arith
   names-found-heaviest (Names bt tl) k =

@@ -1,4 +1,5 @@
--- The module rules, by what look-up finds in the module table: a Module always replaces, and stays loaded in place of a loaded one; a Namespace replaces only an unloaded Namespace, and only when loaded; nothing else changes.
+-- The module rules, by what look-up finds in the module table: a Module always replaces, and stays loaded in place of a loaded one;
+-- a Namespace replaces only an unloaded Namespace, and only when loaded; nothing else changes.
 use mathlib.Core.Path.{_≡_, refl, sym, ap, _∙_}
 use mathlib.Core.Logic.{_⊎_, inl, inr}
 use mathlib.Core.Bool.{Bool, true, false, cond, _||_}
@@ -7,7 +8,8 @@ use mathlib.Core.Option.{Option, none, some}
 use Rattle.source.specs.Text.{Str, Query, query-to-string}
 use Rattle.source.specs.Types.{Trie, NameList, bind, item, trie, bindings, namespaces, trie-empty}
 use Rattle.source.specs.Tries.{dflt, bind-option, MutNode, MutLeaf, names-find-exact, names-insert, scope-of, trie-find-exact, trie-mutate}
-use Rattle.source.specs.Table.{ModSymbol, Module, Namespace, Table, ns-inserts, ins-ns, ins-mod, name-of-revq, loaded-module, ins-stays-loaded, register-module-stays-loaded, mod-annotation, find-module-or-ns}
+use Rattle.source.specs.Table.{ModSymbol, Module, Namespace, Table, ns-inserts, ins-ns, ins-mod, name-of-revq, loaded-module, ins-stays-loaded}
+use Rattle.source.specs.Table.{register-module-stays-loaded, mod-annotation, find-module-or-ns}
 use Rattle.source.specs.Plans.{host-of}
 use Rattle.source.proofs.Quoted.{bytes}
 use Rattle.source.proofs.Imports.{names-find-inserted}
@@ -16,24 +18,28 @@ use Rattle.source.proofs.Elsewhere.{key-same-or-not, names-find-other}
 -- ---- look-up below a namespace
 module _ {A : Type 0} where
   find-step : (tr : Trie A) (h : Str) (p : Query) (s : Str)
-      → trie-find-exact tr (h ∷ (p ++ (s ∷ []))) ≡ bind-option (names-find-exact (namespaces tr) h) (λ scope. trie-find-exact scope (p ++ (s ∷ [])))
+      → trie-find-exact tr (h ∷ (p ++ (s ∷ [])))
+      ≡ bind-option (names-find-exact (namespaces tr) h) (λ scope. trie-find-exact scope (p ++ (s ∷ [])))
   unfolding trie-find-exact
   find-step tr h [] s = refl
   find-step tr h (k ∷ p) s = refl
 
   pub find-in : (tr : Trie A) (h : Str) (q : Query)
-      → trie-find-exact (scope-of (namespaces tr) h) q ≡ bind-option (names-find-exact (namespaces tr) h) (λ scope. trie-find-exact scope q)
+      → trie-find-exact (scope-of (namespaces tr) h) q
+      ≡ bind-option (names-find-exact (namespaces tr) h) (λ scope. trie-find-exact scope q)
   unfolding scope-of dflt bind-option trie-find-exact trie-empty bindings namespaces names-find-exact
   find-in tr h q = go (names-find-exact (namespaces tr) h) q
     where
-      go : (o : Option (Trie A)) (q : Query) → trie-find-exact (dflt trie-empty o) q ≡ bind-option o (λ scope. trie-find-exact scope q)
+      go : (o : Option (Trie A)) (q : Query)
+          → trie-find-exact (dflt trie-empty o) q ≡ bind-option o (λ scope. trie-find-exact scope q)
       go none [] = refl
       go none (s ∷ []) = refl
       go none (s ∷ (t ∷ q)) = refl
       go (some scope) q = refl
 
   -- look-up of a full name is a find in the bindings of its host
-  pub find-at-host : (tr : Trie A) (p : Query) (s : Str) → trie-find-exact tr (p ++ (s ∷ [])) ≡ names-find-exact (bindings (host-of tr p)) s
+  pub find-at-host : (tr : Trie A) (p : Query) (s : Str)
+      → trie-find-exact tr (p ++ (s ∷ [])) ≡ names-find-exact (bindings (host-of tr p)) s
   unfolding trie-find-exact host-of
   find-at-host tr [] s = refl
   find-at-host tr (h ∷ p) s = find-step tr h p s ∙ sym (find-in tr h (p ++ (s ∷ []))) ∙ find-at-host (scope-of (namespaces tr) h) p s
@@ -62,7 +68,8 @@ module _ (path : Str) (loaded : Bool) where
   ins-other id [] revq b k d = names-find-other b id k _ d
   ins-other id (s ∷ q) revq b k d = go (ns-inserts (names-find-exact b id) loaded)
     where
-      go : (c : Bool) → names-find-exact (cond c (names-insert b id (item (Namespace (name-of-revq (id ∷ revq)) loaded))) b) k ≡ names-find-exact b k
+      go : (c : Bool) → names-find-exact
+          (cond c (names-insert b id (item (Namespace (name-of-revq (id ∷ revq)) loaded))) b) k ≡ names-find-exact b k
       go true = names-find-other b id k _ d
       go false = refl
 
@@ -80,8 +87,10 @@ module _ (path : Str) (loaded : Bool) where
       below = trie-mutate (scope-of (namespaces tr) h) q (h ∷ rev) node leaf
 
       go : (s ≡ h) ⊎ (s ≡ h → ⊥)
-          → (((rest : Query) → q ≡ (t ∷ o) ++ rest → ⊥) → trie-find-exact below (t ∷ o) ≡ trie-find-exact (scope-of (namespaces tr) h) (t ∷ o))
-          → bind-option (names-find-exact (names-insert (namespaces tr) h below) s) (λ scope. trie-find-exact scope (t ∷ o))
+          → (((rest : Query) → q ≡ (t ∷ o) ++ rest → ⊥)
+          → trie-find-exact below (t ∷ o) ≡ trie-find-exact (scope-of (namespaces tr) h) (t ∷ o))
+          → bind-option (names-find-exact (names-insert (namespaces tr) h below) s)
+          (λ scope. trie-find-exact scope (t ∷ o))
           ≡ bind-option (names-find-exact (namespaces tr) s) (λ scope. trie-find-exact scope (t ∷ o))
       go (inl e) ih =
           ap (λ k. bind-option (names-find-exact (names-insert (namespaces tr) h below) k) (λ scope. trie-find-exact scope (t ∷ o))) e
@@ -122,35 +131,44 @@ namespace-unloaded name loaded = refl
 
 -- What is found before and after a registration of a module.
 module _ (tbl : Table) (loaded : Bool) (path : Str) where
-  before : (p : Query) (s : Str) → find-module-or-ns tbl (p ++ (s ∷ [])) ≡ names-find-exact (bindings (host-of (tbl .tbl-mods) p)) s
+  before : (p : Query) (s : Str)
+      → find-module-or-ns tbl (p ++ (s ∷ [])) ≡ names-find-exact (bindings (host-of (tbl .tbl-mods) p)) s
   unfolding find-module-or-ns
   before p s = find-at-host (tbl .tbl-mods) p s
 
-  after : (p : Query) (s : Str) (rest : Query) → find-module-or-ns (register-module-stays-loaded tbl loaded path (p ++ (s ∷ rest))) (p ++ (s ∷ []))
+  after : (p : Query) (s : Str) (rest : Query)
+      → find-module-or-ns (register-module-stays-loaded tbl loaded path (p ++ (s ∷ rest))) (p ++ (s ∷ []))
       ≡ names-find-exact (ins-stays-loaded path s rest (reverse p) (bindings (host-of (tbl .tbl-mods) p)) loaded) s
   unfolding find-module-or-ns register-module-stays-loaded
   after p s rest = changed-at path loaded (tbl .tbl-mods) p s rest []
 
   -- A Module always replaces; it is loaded where the call says so, or where a loaded Module was there.
-  pub module-replaces : (p : Query) (s : Str) → find-module-or-ns (register-module-stays-loaded tbl loaded path (p ++ (s ∷ []))) (p ++ (s ∷ []))
-      ≡ some (item (Module (query-to-string (p ++ (s ∷ []))) path (loaded-module (find-module-or-ns tbl (p ++ (s ∷ []))) || loaded)))
+  pub module-replaces : (p : Query) (s : Str)
+      → find-module-or-ns (register-module-stays-loaded tbl loaded path (p ++ (s ∷ []))) (p ++ (s ∷ []))
+      ≡ some (item (Module (query-to-string (p ++ (s ∷ []))) path
+      (loaded-module (find-module-or-ns tbl (p ++ (s ∷ []))) || loaded)))
   unfolding ins-stays-loaded ins-mod
   module-replaces p s = after p s [] ∙ names-find-inserted _ s _ ∙ rw (full-name, before p s)
 
   -- A Namespace is put where nothing was.
   pub namespace-first : (p : Query) (s t : Str) (q : Query) → find-module-or-ns tbl (p ++ (s ∷ [])) ≡ none
-      → find-module-or-ns (register-module-stays-loaded tbl loaded path (p ++ (s ∷ (t ∷ q)))) (p ++ (s ∷ [])) ≡ some (item (Namespace (query-to-string (p ++ (s ∷ []))) loaded))
+      → find-module-or-ns (register-module-stays-loaded tbl loaded path (p ++ (s ∷ (t ∷ q)))) (p ++ (s ∷ []))
+      ≡ some (item (Namespace (query-to-string (p ++ (s ∷ []))) loaded))
   unfolding ins-stays-loaded ins-ns ns-inserts
   namespace-first p s t q e = after p s (t ∷ q) ∙ rw (sym (before p s) ∙ e) (names-find-inserted _ s _ ∙ rw full-name)
 
-  stays : (p : Query) (s t : Str) (q : Query) (m : ModSymbol) → find-module-or-ns tbl (p ++ (s ∷ [])) ≡ some (item m) → ns-inserts (some (item m)) loaded ≡ false
-      → find-module-or-ns (register-module-stays-loaded tbl loaded path (p ++ (s ∷ (t ∷ q)))) (p ++ (s ∷ [])) ≡ some (item m)
+  stays : (p : Query) (s t : Str) (q : Query) (m : ModSymbol) → find-module-or-ns tbl (p ++ (s ∷ [])) ≡ some (item m)
+      → ns-inserts (some (item m)) loaded ≡ false
+      → find-module-or-ns (register-module-stays-loaded tbl loaded path (p ++ (s ∷ (t ∷ q)))) (p ++ (s ∷ []))
+      ≡ some (item m)
   unfolding ins-stays-loaded ins-ns
   stays p s t q m e f = after p s (t ∷ q) ∙ rw (sym (before p s) ∙ e, f) (sym (before p s) ∙ e)
 
   -- It replaces neither a Module nor a loaded Namespace.
-  pub namespace-keeps : (p : Query) (s t : Str) (q : Query) (m : ModSymbol) → find-module-or-ns tbl (p ++ (s ∷ [])) ≡ some (item m) → Final m
-      → find-module-or-ns (register-module-stays-loaded tbl loaded path (p ++ (s ∷ (t ∷ q)))) (p ++ (s ∷ [])) ≡ some (item m)
+  pub namespace-keeps : (p : Query) (s t : Str) (q : Query) (m : ModSymbol)
+      → find-module-or-ns tbl (p ++ (s ∷ [])) ≡ some (item m) → Final m
+      → find-module-or-ns (register-module-stays-loaded tbl loaded path (p ++ (s ∷ (t ∷ q)))) (p ++ (s ∷ []))
+      ≡ some (item m)
   namespace-keeps p s t q m e f = stays p s t q m e (final-stays m loaded f)
 
   -- Nothing else changes: what is found for a query that is no beginning of the module query.
@@ -162,12 +180,14 @@ module _ (tbl : Table) (loaded : Bool) (path : Str) where
 module _ (tbl : Table) (path : Str) (p : Query) (s t : Str) (q : Query) where
   -- Unloaded it replaces nothing.
   pub unloaded-keeps : (m : ModSymbol) → find-module-or-ns tbl (p ++ (s ∷ [])) ≡ some (item m)
-      → find-module-or-ns (register-module-stays-loaded tbl false path (p ++ (s ∷ (t ∷ q)))) (p ++ (s ∷ [])) ≡ some (item m)
+      → find-module-or-ns (register-module-stays-loaded tbl false path (p ++ (s ∷ (t ∷ q)))) (p ++ (s ∷ []))
+      ≡ some (item m)
   unloaded-keeps m e = stays tbl false path p s t q m e (unloaded-stays m)
 
   -- Loaded it replaces an unloaded Namespace.
   pub namespace-replaces : (name : Str) → find-module-or-ns tbl (p ++ (s ∷ [])) ≡ some (item (Namespace name false))
-      → find-module-or-ns (register-module-stays-loaded tbl true path (p ++ (s ∷ (t ∷ q)))) (p ++ (s ∷ [])) ≡ some (item (Namespace (query-to-string (p ++ (s ∷ []))) true))
+      → find-module-or-ns (register-module-stays-loaded tbl true path (p ++ (s ∷ (t ∷ q)))) (p ++ (s ∷ []))
+      ≡ some (item (Namespace (query-to-string (p ++ (s ∷ []))) true))
   unfolding ins-stays-loaded ins-ns ns-inserts
   namespace-replaces name e = after tbl true path p s (t ∷ q) ∙ rw (sym (before tbl true path p s) ∙ e) (names-find-inserted _ s _ ∙ rw full-name)
 

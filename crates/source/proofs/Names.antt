@@ -12,7 +12,8 @@ use Rattle.source.specs.Listing.{SearchTerm, NSTAll, NSTNone, NSTPrefix,
 use Rattle.source.proofs.Trees.{entry-key, find-prefix-ascends, find-all-ascends}
 use Rattle.source.specs.Forward.{tree-matches}
 
-pub map-reverse : {A B : Type 0} (f : A → B) (l acc : List A) → map f (reverseAux l acc) ≡ reverseAux (map f l) (map f acc)
+pub map-reverse : {A B : Type 0} (f : A → B) (l acc : List A)
+    → map f (reverseAux l acc) ≡ reverseAux (map f l) (map f acc)
 map-reverse f [] acc = refl
 map-reverse f (a ∷ l) acc = map-reverse f l (a ∷ acc)
 
@@ -24,7 +25,8 @@ module _ {A : Type 0} where
   OrderedN (ImportedNames label inner tl) = OrderedN inner × OrderedN tl
 
   -- ---- one tree: what names_find_rev asks of it
-  pub tree-ascends : {l : Level} (term : SearchTerm) (t : Tree A l) → Ordered t → Increasing entry-key (tree-matches term t)
+  pub tree-ascends : {l : Level} (term : SearchTerm) (t : Tree A l) → Ordered t
+      → Increasing entry-key (tree-matches term t)
   unfolding tree-matches
   tree-ascends NSTAll t o = find-all-ascends none t o
   tree-ascends NSTNone t o = tt
@@ -45,8 +47,10 @@ module _ {A : Type 0} where
   labelled-increasing i (x ∷ m) a = (labelled-above i (x .0 .completion) m (a .0), labelled-increasing i m (a .1))
 
   -- ---- all the trees
-  revmap-increasing : {l : Level} (term : SearchTerm) (acc : List (List Str × List (PrefixMatch × Value A l))) (i : List Str) (n : NameList A l) → OrderedN n
-      → Allˡ (Increasing elem-key) (map with-imports acc) → Allˡ (Increasing elem-key) (map with-imports (revmap-onto (tree-matches term) acc i n))
+  revmap-increasing : {l : Level} (term : SearchTerm) (acc : List (List Str × List (PrefixMatch × Value A l)))
+      (i : List Str) (n : NameList A l) → OrderedN n
+      → Allˡ (Increasing elem-key) (map with-imports acc)
+      → Allˡ (Increasing elem-key) (map with-imports (revmap-onto (tree-matches term) acc i n))
   unfolding revmap-onto with-imports
   revmap-increasing term acc i []ᴺ o a = a
   revmap-increasing term acc i (Names bt tl) o a =
@@ -63,17 +67,21 @@ module _ {A : Type 0} where
   unfolding matching-values
   values-none n = refl
 
-  pub values-prefix : {l : Level} (n : NameList A l) (p : Str) → matching-values n (NSTPrefix p) ≡ names-revmap (tree-matches (NSTPrefix p)) n
+  pub values-prefix : {l : Level} (n : NameList A l) (p : Str)
+      → matching-values n (NSTPrefix p) ≡ names-revmap (tree-matches (NSTPrefix p)) n
   unfolding matching-values tree-matches
   values-prefix n [] = refl
   values-prefix n (c ∷ p) = refl
 
-  pub values-increasing : {l : Level} (term : SearchTerm) (n : NameList A l) → OrderedN n → Allˡ (Increasing elem-key) (map with-imports (matching-values n term))
+  pub values-increasing : {l : Level} (term : SearchTerm) (n : NameList A l) → OrderedN n
+      → Allˡ (Increasing elem-key) (map with-imports (matching-values n term))
   unfolding names-revmap
   values-increasing NSTAll n o = rw (values-all n) (revmap-increasing NSTAll [] [] n o tt)
   values-increasing NSTNone n o = rw (values-none n) tt
   values-increasing (NSTPrefix p) n o = rw (values-prefix n p) (revmap-increasing (NSTPrefix p) [] [] n o tt)
 
-  pub turned-increasing : {l : Level} (term : SearchTerm) (n : NameList A l) → OrderedN n → Allˡ (Increasing elem-key) (map with-imports (reverse (matching-values n term)))
+  pub turned-increasing : {l : Level} (term : SearchTerm) (n : NameList A l) → OrderedN n
+      → Allˡ (Increasing elem-key) (map with-imports (reverse (matching-values n term)))
   turned-increasing term n o =
-      rw (map-reverse with-imports (matching-values n term) []) (Allˡ-reverse (Increasing elem-key) (map with-imports (matching-values n term)) [] (values-increasing term n o) tt)
+      rw (map-reverse with-imports (matching-values n term) [])
+      (Allˡ-reverse (Increasing elem-key) (map with-imports (matching-values n term)) [] (values-increasing term n o) tt)

@@ -1,5 +1,6 @@
 -- The order of byte strings, as a relation; string-compare decides it.
-use Prim.Native.Nat.{ℕ, zero, suc, _<_, compare, Ordering, Ordering·lt, Ordering·eq, Ordering·gt, compare·zero-suc, compare·suc-zero, compare·suc-suc, suc-le-suc, zero-le}
+use Prim.Native.Nat.{ℕ, zero, suc, _<_, compare, Ordering, Ordering·lt, Ordering·eq, Ordering·gt, compare·zero-suc, compare·suc-zero, compare·suc-suc}
+use Prim.Native.Nat.{suc-le-suc, zero-le}
 use mathlib.Core.Path.{_≡_, refl, sym, ap, _∙_}
 use mathlib.Core.Logic.{inl, inr}
 use mathlib.Core.Bool.{true}

@@ -18,7 +18,8 @@ abbrev pub keys : PathOf → List Str
 keys p = map (λ el. el .segment .completion) p
 
 -- ---- candidate
-pub base-length : (el : PathElem) (path : PathOf) → length (base (el ∷ path)) ≡ length (base path) + length (el .segment .completion) + 1
+pub base-length : (el : PathElem) (path : PathOf)
+    → length (base (el ∷ path)) ≡ length (base path) + length (el .segment .completion) + 1
 unfolding base
 base-length el path = simp length-append (omega arith)
 
@@ -38,7 +39,8 @@ unfolding dotted
 dotted-last [] s = refl
 dotted-last (t ∷ q) s = ap (λ r. t ++ (dot ∷ r)) (dotted-last q s) ∙ sym (append-assoc t (dot ∷ dotted q) (s ++ (dot ∷ [])))
 
-keys-last : (el : PathElem) (path : PathOf) → keys (reverse (el ∷ path)) ≡ keys (reverse path) ++ (el .segment .completion ∷ [])
+keys-last : (el : PathElem) (path : PathOf)
+    → keys (reverse (el ∷ path)) ≡ keys (reverse path) ++ (el .segment .completion ∷ [])
 keys-last el path = ap keys (reverse-cons el path) ∙ map-append (λ el. el .segment .completion) (reverse path) (el ∷ [])
 
 base-is : (path : PathOf) → dotted (keys (reverse path)) ≡ base path
@@ -48,7 +50,8 @@ base-is (el ∷ path) =
     ap dotted (keys-last el path) ∙ dotted-last (keys (reverse path)) (el .segment .completion)
     ∙ ap (λ r. r ++ (el .segment .completion ++ (dot ∷ []))) (base-is path)
 
-pub candidate-is : (el : PathElem) (path : PathOf) → string-of-path (reverse (el ∷ path)) ≡ base path ++ el .segment .completion
+pub candidate-is : (el : PathElem) (path : PathOf)
+    → string-of-path (reverse (el ∷ path)) ≡ base path ++ el .segment .completion
 unfolding string-of-path
 candidate-is el path =
     ap query-to-string (keys-last el path) ∙ to-string-last (keys (reverse path)) (el .segment .completion)
@@ -60,12 +63,14 @@ unfoldable pub matched : PathOf → Matched
 matched [] = record { so-far = 0; last-prefix = []; last-completion = 0 }
 matched (el ∷ path) = match-elem (matched path) el
 
-fold-left-last : {A B : Type 0} (f : B → A → B) (b : B) (l : List A) (a : A) → fold-left f b (l ++ (a ∷ [])) ≡ f (fold-left f b l) a
+fold-left-last : {A B : Type 0} (f : B → A → B) (b : B) (l : List A) (a : A)
+    → fold-left f b (l ++ (a ∷ [])) ≡ f (fold-left f b l) a
 unfolding fold-left
 fold-left-last f b [] a = refl
 fold-left-last f b (x ∷ l) a = fold-left-last f (f b x) l a
 
-matched-is : (path : PathOf) → fold-left match-elem (record { so-far = 0; last-prefix = []; last-completion = 0 }) (reverse path) ≡ matched path
+matched-is : (path : PathOf)
+    → fold-left match-elem (record { so-far = 0; last-prefix = []; last-completion = 0 }) (reverse path) ≡ matched path
 unfolding matched fold-left
 matched-is [] = refl
 matched-is (el ∷ path) =
@@ -103,23 +108,27 @@ length-matched x k m =
 
 module _ (el : PathElem) (path : PathOf) where
   -- An element that was not matched adds nothing.
-  pub match-length-skip : el .segment .prefix ≡ none → match-length-of-path (reverse (el ∷ path)) ≡ match-length-of-path (reverse path)
+  pub match-length-skip : el .segment .prefix ≡ none
+      → match-length-of-path (reverse (el ∷ path)) ≡ match-length-of-path (reverse path)
   match-length-skip e = length-is (el ∷ path) ∙ ap length-of (matched-none el path e) ∙ sym (length-is path)
 
   -- At a matched one it is the length so far and the prefix's.
-  pub match-length-some : (p : Str) → el .segment .prefix ≡ some p → match-length-of-path (reverse (el ∷ path)) ≡ pos (matched path .so-far + length p)
+  pub match-length-some : (p : Str) → el .segment .prefix ≡ some p
+      → match-length-of-path (reverse (el ∷ path)) ≡ pos (matched path .so-far + length p)
   unfolding string-length
   match-length-some p e =
       length-is (el ∷ path) ∙ ap length-of (matched-some el path p e) ∙ length-matched (matched path .so-far) (length (el .segment .completion)) (length p)
 
 -- Nothing matched: -1.
-pub match-length-none : (path : PathOf) → Allˡ (λ el. el .segment .prefix ≡ none) path → match-length-of-path (reverse path) ≡ negsuc 0
+pub match-length-none : (path : PathOf) → Allˡ (λ el. el .segment .prefix ≡ none) path
+    → match-length-of-path (reverse path) ≡ negsuc 0
 unfolding match-length-of-path fold-left string-length
 match-length-none [] a = refl
 match-length-none (el ∷ path) a = match-length-skip el path (a .0) ∙ match-length-none path (a .1)
 
 -- Where each element was matched, the length so far is the candidate's before the next key.
-pub so-far-is : (path : PathOf) → Allˡ (λ el. (p : Str) × (el .segment .prefix ≡ some p)) path → matched path .so-far ≡ length (base path)
+pub so-far-is : (path : PathOf) → Allˡ (λ el. (p : Str) × (el .segment .prefix ≡ some p)) path
+    → matched path .so-far ≡ length (base path)
 unfolding string-length matched base
 so-far-is [] a = refl
 so-far-is (el ∷ path) a =

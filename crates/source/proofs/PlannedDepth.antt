@@ -8,7 +8,8 @@ use lib.Dec.{ltb}
 use lib.ListN.{length}
 use Rattle.source.specs.Text.{Str, Query, segments}
 use Rattle.source.specs.Types.{Trie, NameList, ns, namespaces}
-use Rattle.source.specs.Tries.{MutNode, scope-of, trie-mutate, trie-mutate-leaf, trie-insert, included, trie-import, trie-include, trie-open-namespace, trie-add-alias}
+use Rattle.source.specs.Tries.{MutNode, scope-of, trie-mutate, trie-mutate-leaf, trie-insert, included, trie-import, trie-include, trie-open-namespace}
+use Rattle.source.specs.Tries.{trie-add-alias}
 use Rattle.source.specs.Terms.{depth, depth-names}
 use Rattle.source.specs.Table.{Table, insert, register-alias, register-include, register-open, register-module-path, register-module-stays-loaded}
 use Rattle.source.specs.Rules.{SoundTable}
@@ -19,15 +20,18 @@ use Rattle.source.proofs.StaysLoaded.{stays-loaded-depth}
 use Rattle.source.proofs.Measures.{depth-namespaces, scope-of-depth, host-of-depth, names-insert-depth, over-left, over-right, over-ltb}
 
 -- One step down: the depth x after an insertion of depth y, where l + d is planned for y.
-step-over : (m x y l d : ℕ) → max m x ≡ max m (suc y) → max (pred m) y ≡ max (pred m) (l + d) → max m x ≡ max m (suc l + d)
+step-over : (m x y l d : ℕ) → max m x ≡ max m (suc y) → max (pred m) y ≡ max (pred m) (l + d)
+    → max m x ≡ max m (suc l + d)
 step-over m x y l d p q = omega arith
 
 module _ {A : Type 0} where
   module _ (node : MutNode A) (leaf : Trie A → Trie A)
-      (node-depth : (tr : Trie A) (id : Str) (q rev-acc : Query) (n : NameList A ns) → depth (node tr id q rev-acc n) ≡ depth-names n) where
+      (node-depth : (tr : Trie A) (id : Str) (q rev-acc : Query) (n : NameList A ns)
+      → depth (node tr id q rev-acc n) ≡ depth-names n) where
     -- The old depth is at most m: over m, the new depth is the query's length and the depth of the new host.
     pub trie-mutate-depth : (m : ℕ) (tr : Trie A) (q rev-acc : Query) → depth tr ≤ m
-        → max m (depth (trie-mutate tr q rev-acc node (λ at _. leaf at))) ≡ max m (length q + depth (leaf (host-of tr q)))
+        → max m (depth (trie-mutate tr q rev-acc node (λ at _. leaf at)))
+        ≡ max m (length q + depth (leaf (host-of tr q)))
     unfolding trie-mutate host-of
     trie-mutate-depth m tr [] rev-acc h = omega arith
     trie-mutate-depth m tr (id ∷ q) rev-acc h =
@@ -46,10 +50,12 @@ module _ {A : Type 0} where
     host-only : (q : Query) → max m (length q + depth (host-of tr q)) ≡ max m (length q)
     host-only q = omega (arith, host-of-depth tr q)
 
-    host-over : (q : Query) (x y : ℕ) → max (depth (host-of tr q)) x ≡ max (depth (host-of tr q)) y → max m (length q + x) ≡ max m (length q + y)
+    host-over : (q : Query) (x y : ℕ) → max (depth (host-of tr q)) x ≡ max (depth (host-of tr q)) y
+        → max m (length q + x) ≡ max m (length q + y)
     host-over q x y e = omega (arith, host-of-depth tr q)
 
-    pub trie-insert-depth : (host : Query) (id : Str) (v : A) → max m (depth (trie-insert tr host id v)) ≡ max m (length host)
+    pub trie-insert-depth : (host : Query) (id : Str) (v : A)
+        → max m (depth (trie-insert tr host id v)) ≡ max m (length host)
     unfolding trie-insert depth
     trie-insert-depth host id v = trie-mutate-leaf-depth m tr host _ h ∙ rw (← depth-namespaces) (host-only host)
 
@@ -57,18 +63,21 @@ module _ {A : Type 0} where
     unfolding trie-include trie-import depth
     trie-include-depth host q = trie-mutate-leaf-depth m tr host _ h ∙ rw (← depth-namespaces) (host-only host)
 
-    pub trie-open-namespace-depth : (host q : Query) → max m (depth (trie-open-namespace tr host q)) ≡ max m (length host + depth (included tr q))
+    pub trie-open-namespace-depth : (host q : Query)
+        → max m (depth (trie-open-namespace tr host q)) ≡ max m (length host + depth (included tr q))
     unfolding trie-open-namespace trie-import depth-names
     trie-open-namespace-depth host q =
         trie-mutate-leaf-depth m tr host _ h
         ∙ host-over host _ _ (rw (← depth-namespaces (included tr q), ← depth-namespaces (host-of tr host)) (omega arith))
 
-    pub trie-add-alias-depth : (key : Str) (host q : Query) → max m (depth (trie-add-alias tr key host q)) ≡ max m (length host + 1)
+    pub trie-add-alias-depth : (key : Str) (host q : Query)
+        → max m (depth (trie-add-alias tr key host q)) ≡ max m (length host + 1)
     unfolding trie-add-alias trie-import depth-names
     trie-add-alias-depth key host q =
         trie-mutate-leaf-depth m tr host _ h ∙ host-over host _ 1 (trie-mutate-leaf-depth _ (host-of tr host) (key ∷ []) _ (omega arith))
 
-pub register-module-path-depth : (m : ℕ) (tbl : Table) (loaded : Bool) (path : Str) (q : Query) → depth (tbl .tbl-mods) ≤ m
+pub register-module-path-depth : (m : ℕ) (tbl : Table) (loaded : Bool) (path : Str) (q : Query)
+    → depth (tbl .tbl-mods) ≤ m
     → max m (depth (register-module-path tbl loaded path q .tbl-mods)) ≡ max m (length q)
 unfolding register-module-path depth
 register-module-path-depth m tbl loaded path q h =

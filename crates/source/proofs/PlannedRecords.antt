@@ -9,13 +9,17 @@ use Rattle.source.specs.Text.{Str, Query, segments}
 use Rattle.source.specs.Types.{Level, Value, Trie, NameList, bind, ns, item, bindings, namespaces}
 use Rattle.source.specs.Tries.{names-find-exact, scope-of}
 use Rattle.source.specs.Table.{Table, ModSymbol, Namespace, ns-inserts, name-of-revq}
-use Rattle.source.specs.Counted.{Counted, pure, one, _>>=_, MutNodeᶜ, MutLeafᶜ, names-insertᶜ, trie-mutateᶜ, trie-mutate-leafᶜ, trie-insertᶜ, trie-importᶜ, trie-includeᶜ, trie-open-namespaceᶜ, trie-add-aliasᶜ, lids, insertᶜ, register-aliasᶜ, register-includeᶜ, register-openᶜ, ins-nsᶜ, ins-modᶜ, insᶜ, register-module-pathᶜ}
+use Rattle.source.specs.Counted.{Counted, pure, one, _>>=_, MutNodeᶜ, MutLeafᶜ, names-insertᶜ, trie-mutateᶜ, trie-mutate-leafᶜ, trie-insertᶜ}
+use Rattle.source.specs.Counted.{trie-importᶜ, trie-includeᶜ, trie-open-namespaceᶜ, trie-add-aliasᶜ, lids, insertᶜ, register-aliasᶜ, register-includeᶜ}
+use Rattle.source.specs.Counted.{register-openᶜ, ins-nsᶜ, ins-modᶜ, insᶜ, register-module-pathᶜ}
 use Rattle.source.specs.Calls.{Call, name, include, opens, alias, module-path, records}
 use Rattle.source.proofs.Counted.{names-insert-count}
-use Rattle.source.specs.Plans.{along, inserted-records, ins-inserts, step-records, name-records, import-records, alias-records, module-step-records, module-host, plan-records}
+use Rattle.source.specs.Plans.{along, inserted-records, ins-inserts, step-records, name-records, import-records, alias-records, module-step-records}
+use Rattle.source.specs.Plans.{module-host, plan-records}
 
 module _ {A : Type 0} where
-  names-insert-records : {l : Level} (n : NameList A l) (id : Str) (v : Value A l) → names-insertᶜ n id v .count ≡ inserted-records n id
+  names-insert-records : {l : Level} (n : NameList A l) (id : Str) (v : Value A l)
+      → names-insertᶜ n id v .count ≡ inserted-records n id
   unfolding inserted-records
   names-insert-records n id v = names-insert-count n id v
 
@@ -23,7 +27,8 @@ module _ {A : Type 0} where
       (node-records : (tr : Trie A) (id : Str) (q rev-acc : Query) (n : NameList A ns)
       → inserted-records (namespaces tr) id + node tr id q rev-acc n .count ≡ step tr id q)
       (leaf-records : (tr : Trie A) (rev-acc : Query) → leaf tr rev-acc .count ≡ end tr) where
-    pub trie-mutate-records : (tr : Trie A) (q rev-acc : Query) → trie-mutateᶜ tr q rev-acc node leaf .count ≡ along _+_ step end tr q
+    pub trie-mutate-records : (tr : Trie A) (q rev-acc : Query)
+        → trie-mutateᶜ tr q rev-acc node leaf .count ≡ along _+_ step end tr q
     unfolding trie-mutateᶜ _>>=_ along
     trie-mutate-records tr [] rev-acc = leaf-records tr rev-acc
     trie-mutate-records tr (id ∷ q) rev-acc =
@@ -36,8 +41,10 @@ module _ {A : Type 0} where
           node-records tr id q rev-acc n,
         )
 
-  module _ (leaf : MutLeafᶜ A) (end : Trie A → ℕ) (leaf-records : (tr : Trie A) (rev-acc : Query) → leaf tr rev-acc .count ≡ end tr) where
-    trie-mutate-leaf-records : (tr : Trie A) (q : Query) → trie-mutate-leafᶜ tr q leaf .count ≡ along _+_ step-records end tr q
+  module _ (leaf : MutLeafᶜ A) (end : Trie A → ℕ)
+      (leaf-records : (tr : Trie A) (rev-acc : Query) → leaf tr rev-acc .count ≡ end tr) where
+    trie-mutate-leaf-records : (tr : Trie A) (q : Query)
+        → trie-mutate-leafᶜ tr q leaf .count ≡ along _+_ step-records end tr q
     unfolding trie-mutate-leafᶜ step-records one
     trie-mutate-leaf-records tr q = trie-mutate-records _ leaf step-records end (λ tr id q rev-acc n. omega arith) leaf-records tr q []
 
@@ -47,7 +54,8 @@ module _ {A : Type 0} where
   trie-insert-records tr host id v =
       trie-mutate-leaf-records _ (name-records id) (λ at rev-acc. omega (arith, names-insert-records (bindings at) id (item v))) tr host
 
-  pub trie-include-records : (tr : Trie A) (host q : Query) → trie-includeᶜ tr host q .count ≡ along _+_ step-records import-records tr host
+  pub trie-include-records : (tr : Trie A) (host q : Query)
+      → trie-includeᶜ tr host q .count ≡ along _+_ step-records import-records tr host
   unfolding trie-includeᶜ trie-importᶜ import-records _>>=_ one
   trie-include-records tr host q = trie-mutate-leaf-records _ import-records (λ at rev-acc. refl) tr host
 
@@ -73,13 +81,15 @@ ins-records path id (s ∷ q) revq b loaded = go (ns-inserts (names-find-exact b
     new = item (Namespace (name-of-revq (id ∷ revq)) loaded)
 
     go : (inserts : Bool)
-        → (elim inserts as (λ _. Counted (NameList ModSymbol bind)) [ true ↦ names-insertᶜ b id new | false ↦ pure b ]) .count
+        → (elim inserts as (λ _. Counted (NameList ModSymbol bind))
+        [ true ↦ names-insertᶜ b id new | false ↦ pure b ]) .count
         ≡ cond inserts (inserted-records b id) 0
     go true = names-insert-records b id new
     go false = refl
 
 register-module-path-records : (tbl : Table) (loaded : Bool) (path : Str) (q : Query)
-    → register-module-pathᶜ tbl loaded path q .count ≡ along _+_ (module-step-records loaded) module-host (tbl .tbl-mods) q
+    → register-module-pathᶜ tbl loaded path q .count
+    ≡ along _+_ (module-step-records loaded) module-host (tbl .tbl-mods) q
 unfolding register-module-pathᶜ module-step-records module-host _>>=_ one pure
 register-module-path-records tbl loaded path q =
     add-zero _
@@ -97,7 +107,8 @@ records-planned tbl (alias key host inc) = omega (arith, trie-add-alias-records 
 records-planned tbl (module-path loaded query path) = register-module-path-records tbl loaded path (segments query)
 
 -- One step of a loop that keeps the records so far.
-pub records-onto : {A : Type 0} (step : Trie A → Str → Query → ℕ) (end : Trie A → ℕ) (so-far : ℕ) (tr : Trie A) (s : Str) (q : Query)
+pub records-onto : {A : Type 0} (step : Trie A → Str → Query → ℕ) (end : Trie A → ℕ) (so-far : ℕ) (tr : Trie A)
+    (s : Str) (q : Query)
     → so-far + along _+_ step end tr (s ∷ q) ≡ so-far + step tr s q + along _+_ step end (scope-of (namespaces tr) s) q
 unfolding along
 records-onto step end so-far tr s q = sym (add-assoc so-far (step tr s q) _)

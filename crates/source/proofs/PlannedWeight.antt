@@ -7,21 +7,26 @@ use native.Mathlib.Omega.{arith}
 use lib.Dec.{ltb}
 use Rattle.source.specs.Text.{Str, Query, query-to-string, segments}
 use Rattle.source.specs.Types.{Level, Trie, NameList, bind, ns, item, trie, []ᴺ, ImportedNames, bindings, namespaces}
-use Rattle.source.specs.Tries.{MutNode, names-find-exact, names-insert, scope-of, trie-mutate, trie-mutate-leaf, trie-insert, included, trie-import, trie-include, trie-open-namespace, trie-add-alias}
+use Rattle.source.specs.Tries.{MutNode, names-find-exact, names-insert, scope-of, trie-mutate, trie-mutate-leaf, trie-insert, included, trie-import}
+use Rattle.source.specs.Tries.{trie-include, trie-open-namespace, trie-add-alias}
 use Rattle.source.specs.Terms.{weight, heaviest, heaviest-names}
-use Rattle.source.specs.Table.{Table, ModSymbol, Namespace, insert, register-alias, register-include, register-open, ns-inserts, name-of-revq, ins-ns, ins-mod, ins, register-module-path, register-module-stays-loaded}
+use Rattle.source.specs.Table.{Table, ModSymbol, Namespace, insert, register-alias, register-include, register-open, ns-inserts, name-of-revq, ins-ns}
+use Rattle.source.specs.Table.{ins-mod, ins, register-module-path, register-module-stays-loaded}
 use Rattle.source.specs.Rules.{SoundTable}
 use Rattle.source.specs.Calls.{Call, name, include, opens, alias, module-path, registered, crowded}
 use Rattle.source.proofs.Hosts.{included-host}
 use Rattle.source.proofs.StaysLoaded.{stays-loaded-heaviest}
-use Rattle.source.specs.Plans.{along, inserted-weight, ins-inserts, step-weight, name-weight, include-weight, open-weight, alias-weight, module-step-weight, module-host, plan-weight, plan-crowded}
-use Rattle.source.proofs.Measures.{over-left, over-right, over-both, over-ltb, ltb-max, heaviest-lists, scope-of-heaviest, host-of-heaviest, names-insert-heaviest}
+use Rattle.source.specs.Plans.{along, inserted-weight, ins-inserts, step-weight, name-weight, include-weight, open-weight, alias-weight}
+use Rattle.source.specs.Plans.{module-step-weight, module-host, plan-weight, plan-crowded}
+use Rattle.source.proofs.Measures.{over-left, over-right, over-both, over-ltb, ltb-max, heaviest-lists, scope-of-heaviest, host-of-heaviest}
+use Rattle.source.proofs.Measures.{names-insert-heaviest}
 
 -- ---- Changes, where no old list weighs more than m
 module _ (m : ℕ) {A : Type 0} where
   module _ (node : MutNode A) (leaf : Trie A → Trie A) (step : Trie A → Str → Query → ℕ) (end : Trie A → ℕ)
       (node-weight : (tr : Trie A) (id : Str) (q rev-acc : Query) (v : Trie A) → heaviest tr ≤ m
-      → max m (heaviest (node tr id q rev-acc (names-insert (namespaces tr) id v))) ≡ max m (max (step tr id q) (heaviest v)))
+      → max m (heaviest (node tr id q rev-acc (names-insert (namespaces tr) id v)))
+      ≡ max m (max (step tr id q) (heaviest v)))
       (leaf-weight : (at : Trie A) → heaviest at ≤ m → max m (heaviest (leaf at)) ≡ max m (end at)) where
     pub trie-mutate-weight : (tr : Trie A) (q rev-acc : Query) → heaviest tr ≤ m
         → max m (heaviest (trie-mutate tr q rev-acc node (λ at _. leaf at))) ≡ max m (along max step end tr q)
@@ -33,11 +38,13 @@ module _ (m : ℕ) {A : Type 0} where
         (trie-mutate-weight (scope-of (namespaces tr) id) q (id ∷ rev-acc) (omega (arith, scope-of-heaviest (namespaces tr) id, heaviest-lists tr)))
 
   -- A new namespaces list beside old bindings, and the other way round.
-  beside-bindings : (tr : Trie A) (n : NameList A ns) → heaviest tr ≤ m → max m (heaviest (trie (bindings tr) n)) ≡ max m (heaviest-names n)
+  beside-bindings : (tr : Trie A) (n : NameList A ns) → heaviest tr ≤ m
+      → max m (heaviest (trie (bindings tr) n)) ≡ max m (heaviest-names n)
   unfolding heaviest
   beside-bindings tr n h = over-right m _ _ (omega (arith, heaviest-lists tr))
 
-  beside-namespaces : (tr : Trie A) (b : NameList A bind) → heaviest tr ≤ m → max m (heaviest (trie b (namespaces tr))) ≡ max m (heaviest-names b)
+  beside-namespaces : (tr : Trie A) (b : NameList A bind) → heaviest tr ≤ m
+      → max m (heaviest (trie b (namespaces tr))) ≡ max m (heaviest-names b)
   unfolding heaviest
   beside-namespaces tr b h = over-left m _ _ (omega (arith, heaviest-lists tr))
 
@@ -80,7 +87,8 @@ module _ (m : ℕ) {A : Type 0} where
         tr host h
 
     pub trie-include-weight : (host q : Query)
-        → max m (heaviest (trie-include tr host q)) ≡ max m (along max step-weight (include-weight (included tr q)) tr host)
+        → max m (heaviest (trie-include tr host q))
+        ≡ max m (along max step-weight (include-weight (included tr q)) tr host)
     unfolding trie-include trie-import include-weight
     trie-include-weight host q =
         let l = included-light q in
@@ -90,7 +98,8 @@ module _ (m : ℕ) {A : Type 0} where
         (omega (arith, heaviest-lists (included tr q))) (omega (arith, heaviest-lists at))) tr host h
 
     pub trie-open-namespace-weight : (host q : Query)
-        → max m (heaviest (trie-open-namespace tr host q)) ≡ max m (along max step-weight (open-weight (included tr q)) tr host)
+        → max m (heaviest (trie-open-namespace tr host q))
+        ≡ max m (along max step-weight (open-weight (included tr q)) tr host)
     unfolding trie-open-namespace trie-import open-weight
     trie-open-namespace-weight host q =
         let l = included-light q in
@@ -100,7 +109,8 @@ module _ (m : ℕ) {A : Type 0} where
         (omega (arith, heaviest-lists (included tr q))) (omega (arith, heaviest-lists at))) tr host h
 
     pub trie-add-alias-weight : (key : Str) (host q : Query)
-        → max m (heaviest (trie-add-alias tr key host q)) ≡ max m (along max step-weight (alias-weight (included tr q)) tr host)
+        → max m (heaviest (trie-add-alias tr key host q))
+        ≡ max m (along max step-weight (alias-weight (included tr q)) tr host)
     unfolding trie-add-alias trie-import alias-weight step-weight along
     trie-add-alias-weight key host q =
         let l = included-light q in
@@ -111,18 +121,21 @@ module _ (m : ℕ) {A : Type 0} where
 -- ---- The module table
 module _ (m : ℕ) (path : Str) (loaded : Bool) where
   ins-weight : (id : Str) (q revq : Query) (b : NameList ModSymbol bind) → heaviest-names b ≤ m
-      → max m (heaviest-names (ins path id q revq b loaded)) ≡ max m (cond (ins-inserts loaded b id q) (inserted-weight b) 0)
+      → max m (heaviest-names (ins path id q revq b loaded))
+      ≡ max m (cond (ins-inserts loaded b id q) (inserted-weight b) 0)
   unfolding ins ins-mod ins-ns ins-inserts
   ins-weight id [] revq b h = insert-item-weight m b id _ h
   ins-weight id (s ∷ q) revq b h = go (ns-inserts (names-find-exact b id) loaded)
     where
       go : (c : Bool)
-          → max m (heaviest-names (cond c (names-insert b id (item (Namespace (name-of-revq (id ∷ revq)) loaded))) b)) ≡ max m (cond c (inserted-weight b) 0)
+          → max m (heaviest-names (cond c (names-insert b id (item (Namespace (name-of-revq (id ∷ revq)) loaded))) b))
+          ≡ max m (cond c (inserted-weight b) 0)
       go true = insert-item-weight m b id _ h
       go false = omega arith
 
   pub register-module-path-weight : (tbl : Table) (q : Query) → heaviest (tbl .tbl-mods) ≤ m
-      → max m (heaviest (register-module-path tbl loaded path q .tbl-mods)) ≡ max m (along max (module-step-weight loaded) module-host (tbl .tbl-mods) q)
+      → max m (heaviest (register-module-path tbl loaded path q .tbl-mods))
+      ≡ max m (along max (module-step-weight loaded) module-host (tbl .tbl-mods) q)
   unfolding register-module-path module-step-weight module-host heaviest
   register-module-path-weight tbl q h =
       trie-mutate-weight m _ (λ tr. tr) (module-step-weight loaded) module-host
@@ -135,7 +148,8 @@ module _ (m : ℕ) (path : Str) (loaded : Bool) where
 
 -- ---- Calls
 registered-weight : (tbl : Table) (c : Call) → SoundTable tbl
-    → max 96 (max (heaviest (registered tbl c .tbl-lids)) (heaviest (registered tbl c .tbl-mods))) ≡ max 96 (plan-weight tbl c)
+    → max 96 (max (heaviest (registered tbl c .tbl-lids)) (heaviest (registered tbl c .tbl-mods)))
+    ≡ max 96 (plan-weight tbl c)
 unfolding registered plan-weight insert register-include register-open register-alias register-module-stays-loaded
 registered-weight tbl (name host id number) t =
     over-left 96 _ _ (t .mods .light) ∙ trie-insert-weight 96 (tbl .tbl-lids) (t .lids .light) (segments host) id number
@@ -155,7 +169,8 @@ unfolding crowded plan-crowded
 crowded-planned tbl c t = over-ltb 96 _ _ (registered-weight tbl c t)
 
 -- One step of a loop that keeps whether a list so far was over 96.
-pub crowded-onto : {A : Type 0} (step : Trie A → Str → Query → ℕ) (end : Trie A → ℕ) (so-far : Bool) (tr : Trie A) (s : Str) (q : Query)
+pub crowded-onto : {A : Type 0} (step : Trie A → Str → Query → ℕ) (end : Trie A → ℕ) (so-far : Bool) (tr : Trie A)
+    (s : Str) (q : Query)
     → so-far || ltb 96 (along max step end tr (s ∷ q))
     ≡ (so-far || ltb 96 (step tr s q)) || ltb 96 (along max step end (scope-of (namespaces tr) s) q)
 unfolding along

@@ -58,7 +58,8 @@ unfolding segments onto-first all query-byte
 segments-name-bytes [] e = tt
 segments-name-bytes (b ∷ s) e = let h = and-parts (query-byte b) (all query-byte s) e in go (eqb b dot) (h .0) (segments-name-bytes s (h .1))
   where
-    onto : name-byte b ≡ true → (q : Query) → Allˡ (λ g. all name-byte g ≡ true) q → Allˡ (λ g. all name-byte g ≡ true) (onto-first b q)
+    onto : name-byte b ≡ true → (q : Query) → Allˡ (λ g. all name-byte g ≡ true) q
+        → Allˡ (λ g. all name-byte g ≡ true) (onto-first b q)
     onto h [] a = (rw h, tt)
     onto h (g ∷ q) a = (rw h (a .0), a .1)
 
@@ -84,12 +85,14 @@ unfolding long-query
 segments-completion s b l =
     let h = or-parts (any (λ g. ltb 31 (length g)) (segments s)) (ltb 17 (length (segments s))) l in
     record {
-      prefixes = Allˡ-zip (segments s) (λ g n p. record { bytes = n; long = omega arith; short = ltb-false 31 (length g) p })
+      prefixes =
+          Allˡ-zip (segments s) (λ g n p. record { bytes = n; long = omega arith; short = ltb-false 31 (length g) p })
           (query-name-bytes s b) (any-false _ (segments s) (h .0));
       few = ltb-false 17 (length (segments s)) (h .1);
     }
 
-pub segments-query : (s : Str) → bad-query s ≡ false → any is-empty (segments s) ≡ false → long-query s ≡ false → IsQuery (segments s)
+pub segments-query : (s : Str) → bad-query s ≡ false → any is-empty (segments s) ≡ false → long-query s ≡ false
+    → IsQuery (segments s)
 segments-query s b e l =
     let c = segments-completion s b l in
     record {
@@ -137,7 +140,8 @@ query-to-string-full-name q i h = let l = query-to-string-label q i in
     record { bytes = l .bytes; long = query-to-string-long q (i .keys) h; short = l .short }
 
 -- The full name of a beginning of a query, as trie_mutate hands it over: the whole query is reverseAux revq (id ∷ q).
-pub name-of-revq-full-name : (id : Str) (revq q : Query) → IsQuery (reverseAux revq (id ∷ q)) → IsFullName (name-of-revq (id ∷ revq))
+pub name-of-revq-full-name : (id : Str) (revq q : Query) → IsQuery (reverseAux revq (id ∷ q))
+    → IsFullName (name-of-revq (id ∷ revq))
 unfolding name-of-revq
 name-of-revq-full-name id revq q i =
     let e : reverseAux revq (id ∷ q) ≡ reverse (id ∷ revq) ++ q = reverseAux-eq (id ∷ revq) q in
@@ -183,7 +187,8 @@ segments-append [] t e = refl
 segments-append (b ∷ []) t e = rw (segments-dot b t e, segments-dot b [] e)
 segments-append (b ∷ (c ∷ s)) t e = go (eqb b dot) refl (segments-append (c ∷ s) t e)
   where
-    go : (d : Bool) → eqb b dot ≡ d → segments (c ∷ (s ++ t)) ≡ segments (c ∷ s) ++ segments t → segments (b ∷ (c ∷ (s ++ t))) ≡ segments (b ∷ (c ∷ s)) ++ segments t
+    go : (d : Bool) → eqb b dot ≡ d → segments (c ∷ (s ++ t)) ≡ segments (c ∷ s) ++ segments t
+        → segments (b ∷ (c ∷ (s ++ t))) ≡ segments (b ∷ (c ∷ s)) ++ segments t
     go true d i = rw (segments-dot b (c ∷ (s ++ t)) d, segments-dot b (c ∷ s) d, i)
     go false d i = rw (segments-other b (c ∷ (s ++ t)) d, segments-other b (c ∷ s) d, i) (onto-append b (segments (c ∷ s)) (segments t) (segments-some c s))
 
@@ -200,12 +205,14 @@ unfolding query-to-string
 string-empty [] h = absurd (omega arith)
 string-empty (g ∷ q) h = refl
 
-string-cons : (b : ℕ) (s : Str) → ends-in-dot (b ∷ s) ≡ true → query-to-string (segments (b ∷ s)) ≡ take (length s) (b ∷ s)
+string-cons : (b : ℕ) (s : Str) → ends-in-dot (b ∷ s) ≡ true
+    → query-to-string (segments (b ∷ s)) ≡ take (length s) (b ∷ s)
 unfolding ends-in-dot segments query-to-string
 string-cons b [] e = rw (segments-dot b [] e)
 string-cons b (c ∷ s) e = go (eqb b dot) refl (string-cons c s e)
   where
-    go : (t : Bool) → eqb b dot ≡ t → query-to-string (segments (c ∷ s)) ≡ take (length s) (c ∷ s) → query-to-string (segments (b ∷ (c ∷ s))) ≡ b ∷ take (length s) (c ∷ s)
+    go : (t : Bool) → eqb b dot ≡ t → query-to-string (segments (c ∷ s)) ≡ take (length s) (c ∷ s)
+        → query-to-string (segments (b ∷ (c ∷ s))) ≡ b ∷ take (length s) (c ∷ s)
     go true d ih = rw (segments-dot b (c ∷ s) d) (string-empty (segments (c ∷ s)) (segments-some c s) ∙ cc (eqb-true b dot d))
     go false d ih = rw (segments-other b (c ∷ s) d) (string-onto b (segments (c ∷ s)) ∙ ap (λ (l : Str). b ∷ l) ih)
 

@@ -11,7 +11,9 @@ use Rattle.source.specs.Text.{Str, segments, ends-in-dot}
 use Rattle.source.specs.Types.{Trie, Value, bind}
 use Rattle.source.specs.Tries.{trie-find-exact}
 use Rattle.source.specs.Table.{Line}
-use Rattle.source.specs.Calls.{Argument, a-look-up, is-empty, any, bad-query, malformed, empty-name, too-long, Row, _when_, lowest, argument-rows, State, Lent, whole-records, free, Call, arguments, registered, records, text-taken, crowded, deep, registration-rows, after, Registered, accepted, refused, register, Output, completion-rows, Found, found-of, look-up, Completed, listed, completed}
+use Rattle.source.specs.Calls.{Argument, a-look-up, is-empty, any, bad-query, malformed, empty-name, too-long, Row, _when_, lowest, argument-rows, State}
+use Rattle.source.specs.Calls.{Lent, whole-records, free, Call, arguments, registered, records, text-taken, crowded, deep, registration-rows, after}
+use Rattle.source.specs.Calls.{Registered, accepted, refused, register, Output, completion-rows, Found, found-of, look-up, Completed, listed, completed}
 use Rattle.source.proofs.Queries.{or-parts}
 use Rattle.source.specs.Shared.{Allˡ}
 
@@ -78,7 +80,8 @@ pub record Admitted (sound : Bool) (args : List Argument) : Type 0 where
   pub named : any empty-name args ≡ false
   pub short : any too-long args ≡ false
 
-pub argument-rows-none : (sound : Bool) (args : List Argument) → lowest (argument-rows sound args) ≡ none → Admitted sound args
+pub argument-rows-none : (sound : Bool) (args : List Argument) → lowest (argument-rows sound args) ≡ none
+    → Admitted sound args
 unfolding argument-rows
 argument-rows-none sound args e =
     let h = lowest-none (argument-rows sound args) e in
@@ -90,9 +93,11 @@ unfolding malformed any bad-query
 look-up-whole sound name h =
     not-false (ends-in-dot name) (or-parts (not (ends-in-dot name)) _ (or-parts _ false (h .well-formed) .0) .0)
 
-pub look-up-segment : (sound : Bool) (name : Str) → Admitted sound (a-look-up name ∷ []) → is-empty (segments name) ≡ false
+pub look-up-segment : (sound : Bool) (name : Str) → Admitted sound (a-look-up name ∷ [])
+    → is-empty (segments name) ≡ false
 unfolding empty-name any
-look-up-segment sound name h = or-parts (any is-empty (segments name)) (is-empty (segments name)) (or-parts (empty-name (a-look-up name)) false (h .named) .0) .1
+look-up-segment sound name h =
+    or-parts (any is-empty (segments name)) (is-empty (segments name)) (or-parts (empty-name (a-look-up name)) false (h .named) .0) .1
 
 -- A registration that passes rows 1 to 8.
 pub record Acceptable (sound : Bool) (lent : Lent) (s : State) (c : Call) : Type 0 where
@@ -127,29 +132,36 @@ accepted-view sound lent s s′ c e = go (lowest (registration-rows sound lent s
     go none f e = (f refl, cc)
     go (some n) f e = let z : _≡_ {A = ℕ} 0 1 = cc in absurd (omega arith)
 
-pub accepted-is : (sound : Bool) (lent : Lent) (s s′ : State) (c : Call) → register sound lent s c ≡ accepted s′ → s′ ≡ after s c
+pub accepted-is : (sound : Bool) (lent : Lent) (s s′ : State) (c : Call) → register sound lent s c ≡ accepted s′
+    → s′ ≡ after s c
 accepted-is sound lent s s′ c e = accepted-view sound lent s s′ c e .1
 
-pub accepted-acceptable : (sound : Bool) (lent : Lent) (s s′ : State) (c : Call) → register sound lent s c ≡ accepted s′ → Acceptable sound lent s c
+pub accepted-acceptable : (sound : Bool) (lent : Lent) (s s′ : State) (c : Call) → register sound lent s c ≡ accepted s′
+    → Acceptable sound lent s c
 accepted-acceptable sound lent s s′ c e = accepted-view sound lent s s′ c e .0
 
 -- ---- refused look-ups and completions
-pub look-up-refused : {A : Type 0} (sound : Bool) (root : Trie A) (q : Str) {n : ℕ} → look-up sound root q ≡ refused n → (0 < n) × (n ≤ 10)
+pub look-up-refused : {A : Type 0} (sound : Bool) (root : Trie A) (q : Str) {n : ℕ} → look-up sound root q ≡ refused n
+    → (0 < n) × (n ≤ 10)
 unfolding look-up argument-rows found-of
-look-up-refused {A} sound root q {n} e = go (lowest (argument-rows sound (a-look-up q ∷ []))) refl (found-of (trie-find-exact root (segments q))) (λ m. found-not (trie-find-exact root (segments q)) m) e
+look-up-refused {A} sound root q {n} e = go (lowest (argument-rows sound (a-look-up q ∷ []))) refl (found-of (trie-find-exact root (segments q)))
+    (λ m. found-not (trie-find-exact root (segments q)) m) e
   where
     found-not : (o : Option (Value A bind)) (m : ℕ) → found-of o ≡ refused m → ⊥
     found-not none m e = let z : _≡_ {A = ℕ} 0 1 = cc in omega arith
     found-not (some v) m e = let z : _≡_ {A = ℕ} 0 1 = cc in omega arith
 
-    go : (o : Option ℕ) → lowest (argument-rows sound (a-look-up q ∷ [])) ≡ o → (f : Found A) → ((m : ℕ) → f ≡ refused m → ⊥)
+    go : (o : Option ℕ) → lowest (argument-rows sound (a-look-up q ∷ [])) ≡ o → (f : Found A)
+        → ((m : ℕ) → f ≡ refused m → ⊥)
         → _≡_ {A = Found A} (elim o [ none ↦ f | some m ↦ refused m ]) (refused n) → (0 < n) × (n ≤ 10)
     go none h f k e = absurd (k n e)
     go (some m) h f k e =
         let z : m ≡ n = cc in
-        rw (← z) (lowest-among (λ j. (0 < j) × (j ≤ 10)) (argument-rows sound (a-look-up q ∷ [])) ((omega arith, omega arith), ((omega arith, omega arith), ((omega arith, omega arith), ((omega arith, omega arith), tt)))) h)
+        rw (← z) (lowest-among (λ j. (0 < j) × (j ≤ 10)) (argument-rows sound (a-look-up q ∷ []))
+        ((omega arith, omega arith), ((omega arith, omega arith), ((omega arith, omega arith), ((omega arith, omega arith), tt)))) h)
 
-pub completed-refused : {A : Type 0} (sound : Bool) (budget : ℕ) (out : Output) (query : Str) (lines : List (Line A)) (entered : ℕ) {n : ℕ}
+pub completed-refused : {A : Type 0} (sound : Bool) (budget : ℕ) (out : Output) (query : Str) (lines : List (Line A))
+    (entered : ℕ) {n : ℕ}
     → completed sound budget out query lines entered ≡ refused n → (0 < n) × (n ≤ 10)
 unfolding completed completion-rows argument-rows
 completed-refused {A} sound budget out query lines entered {n} e = go (lowest (completion-rows sound budget out query lines entered)) refl e
@@ -159,5 +171,10 @@ completed-refused {A} sound budget out query lines entered {n} e = go (lowest (c
     go none h e = let z : _≡_ {A = ℕ} 0 1 = cc in absurd (omega arith)
     go (some m) h e =
         let z : m ≡ n = cc in
-        rw (← z) (lowest-among (λ j. (0 < j) × (j ≤ 10)) (completion-rows sound budget out query lines entered)
-        ((omega arith, omega arith), ((omega arith, omega arith), ((omega arith, omega arith), ((omega arith, omega arith), ((omega arith, omega arith), ((omega arith, omega arith), tt)))))) h)
+        rw (← z) (lowest-among (λ j. (0 < j) × (j ≤ 10)) (completion-rows sound budget out query lines entered) (
+          (omega arith, omega arith),
+          (
+            (omega arith, omega arith),
+            ((omega arith, omega arith), ((omega arith, omega arith), ((omega arith, omega arith), ((omega arith, omega arith), tt)))),
+          ),
+        ) h)

@@ -9,7 +9,8 @@ use Rattle.source.specs.Text.{Str, string-compare, starts-with}
 use Rattle.source.specs.Types.{Level, Value, Tree, NameList, StrEmpty, StrBranch, []ᴺ, Names, ImportedNames}
 use Rattle.source.specs.Trees.{PrefixMatch, PathElem, find-prefix-onto, btree-find-prefix, btree-fold, btree-find-all}
 use Rattle.source.specs.Terms.{depth, depth-tree, depth-names}
-use Rattle.source.specs.Listing.{SearchTerm, NSTAll, NSTNone, NSTPrefix, revmap-onto, names-revmap, matching-values, with-imports, elem-key, names-find-rev, names-find-rev-first}
+use Rattle.source.specs.Listing.{SearchTerm, NSTAll, NSTNone, NSTPrefix, revmap-onto, names-revmap, matching-values, with-imports, elem-key}
+use Rattle.source.specs.Listing.{names-find-rev, names-find-rev-first}
 use Rattle.source.specs.Shared.{Allˡ}
 use Rattle.source.proofs.Lookup.{Allˡ-reverse}
 use Rattle.source.proofs.Lists.{merge-all}
@@ -32,7 +33,8 @@ module _ {A : Type 0} {l : Level} (P : Str → Value A l → Type 0) where
   either true m m′ a b = a
   either false m m′ a b = b
 
-  find-prefix-onto-all : (t : Tree A l) (p : Str) (acc : List (PrefixMatch × Value A l)) → AllBranches t → Matches acc → Matches (find-prefix-onto t p acc)
+  find-prefix-onto-all : (t : Tree A l) (p : Str) (acc : List (PrefixMatch × Value A l)) → AllBranches t → Matches acc
+      → Matches (find-prefix-onto t p acc)
   unfolding find-prefix-onto
   find-prefix-onto-all StrEmpty p acc a b = b
   find-prefix-onto-all (StrBranch k v lbt rbt) p acc a b =
@@ -55,7 +57,8 @@ module _ {A : Type 0} {l : Level} (P : Str → Value A l → Type 0) where
   AllMatches ms = Allˡ (λ m. Matches (m .1)) ms
 
   revmap-all : (fn : Tree A l → List (PrefixMatch × Value A l)) → ((t : Tree A l) → AllBranches t → Matches (fn t))
-      → (acc : List (List Str × List (PrefixMatch × Value A l))) (i : List Str) (n : NameList A l) → AllNamed n → AllMatches acc
+      → (acc : List (List Str × List (PrefixMatch × Value A l))) (i : List Str) (n : NameList A l) → AllNamed n
+      → AllMatches acc
       → AllMatches (revmap-onto fn acc i n)
   unfolding revmap-onto
   revmap-all fn f acc i []ᴺ a b = b
@@ -79,7 +82,8 @@ module _ {A : Type 0} {l : Level} (P : Str → Value A l → Type 0) where
   with-imports-all i [] a = tt
   with-imports-all i (x ∷ m) a = (a .0, with-imports-all i m (a .1))
 
-  all-with-imports : (ms : List (List Str × List (PrefixMatch × Value A l))) → AllMatches ms → Allˡ (Allˡ Row) (map with-imports ms)
+  all-with-imports : (ms : List (List Str × List (PrefixMatch × Value A l))) → AllMatches ms
+      → Allˡ (Allˡ Row) (map with-imports ms)
   all-with-imports [] a = tt
   all-with-imports (m ∷ ms) a = (with-imports-all (m .0) (m .1) (a .0), all-with-imports ms (a .1))
 
@@ -88,7 +92,8 @@ module _ {A : Type 0} {l : Level} (P : Str → Value A l → Type 0) where
   names-find-rev-all n term a =
       merge-all elem-key Row (map with-imports (matching-values n term)) (all-with-imports (matching-values n term) (matching-values-all n term a))
 
-  pub names-find-first-all : (n : NameList A l) (term : SearchTerm) → AllNamed n → Allˡ Row (names-find-rev-first n term)
+  pub names-find-first-all : (n : NameList A l) (term : SearchTerm) → AllNamed n
+      → Allˡ Row (names-find-rev-first n term)
   unfolding names-find-rev-first
   names-find-first-all n term a =
       merge-all elem-key Row (map with-imports (reverse (matching-values n term)))

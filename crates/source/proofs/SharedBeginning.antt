@@ -50,6 +50,7 @@ common-begins [] t = (refl, refl)
 common-begins (a ∷ s) [] = (refl, refl)
 common-begins (a ∷ s) (b ∷ t) =
     elim (ℕ-discrete a b) [
-      | yes e ↦ let r = common-begins s t in rw (common-prefix, eq-eqb a b e) (begins-next a a (common-prefix s t) s refl (r .0), begins-next b a (common-prefix s t) t (sym e) (r .1))
+      | yes e ↦ let r = common-begins s t in
+          rw (common-prefix, eq-eqb a b e) (begins-next a a (common-prefix s t) s refl (r .0), begins-next b a (common-prefix s t) t (sym e) (r .1))
       | no n ↦ rw (common-prefix, ne-eqb a b n) (refl, refl)
     ]

@@ -25,11 +25,13 @@ module _ {A : Type 0} (text : Str) where
       × (r .annotation .start ≡ at + r .candidate .len) × (cut text (r .annotation) ≡ l .annotation)
       × Spell (r .annotation .start + r .annotation .len) rs ls
 
-cut-at : (text before s after : Str) (at : ℕ) → length before ≡ at → text ≡ before ++ (s ++ after) → take (length s) (drop at text) ≡ s
+cut-at : (text before s after : Str) (at : ℕ) → length before ≡ at → text ≡ before ++ (s ++ after)
+    → take (length s) (drop at text) ≡ s
 cut-at text before s after at e f = rw f (rw (drop-at before (s ++ after) at e) (take-at s after (length s) refl))
 
 module _ {A : Type 0} where
-  spelled : (text before : Str) (at : ℕ) (ls : List (Line A)) → length before ≡ at → text ≡ before ++ output-text ls → Spell text at (output-lines at ls) ls
+  spelled : (text before : Str) (at : ℕ) (ls : List (Line A)) → length before ≡ at → text ≡ before ++ output-text ls
+      → Spell text at (output-lines at ls) ls
   unfolding output-text output-lines
   spelled text before at [] e f = tt
   spelled text before at (l ∷ ls) e f =

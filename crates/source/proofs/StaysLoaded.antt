@@ -4,11 +4,13 @@ use mathlib.Core.Path.{_≡_, refl}
 use mathlib.Core.Bool.{Bool, true, false, not, _&&_, _||_}
 use mathlib.Core.List.{[], _∷_, reverseAux}
 use Rattle.source.specs.Text.{Str, Query, string-compare, query-to-string}
-use Rattle.source.specs.Types.{Level, Value, Trie, Tree, NameList, bind, ns, item, trie, StrEmpty, StrBranch, []ᴺ, Names, ImportedNames, bindings, namespaces}
+use Rattle.source.specs.Types.{Level, Value, Trie, Tree, NameList, bind, ns, item, trie, StrEmpty, StrBranch, []ᴺ, Names, ImportedNames, bindings}
+use Rattle.source.specs.Types.{namespaces}
 use Rattle.source.specs.Trees.{btree-insert-replace}
 use Rattle.source.specs.Tries.{MutNode, names-find-exact, names-insert, scope-of, trie-find-exact, trie-mutate}
 use Rattle.source.specs.Terms.{weight, heaviest, heaviest-tree, heaviest-names, depth, depth-tree, depth-names}
-use Rattle.source.specs.Table.{ModSymbol, Module, Table, ins-ns, ins-mod, name-of-revq, ins, register-module-path, loaded-module, ins-stays-loaded, register-module-stays-loaded, find-module-or-ns}
+use Rattle.source.specs.Table.{ModSymbol, Module, Table, ins-ns, ins-mod, name-of-revq, ins, register-module-path, loaded-module, ins-stays-loaded}
+use Rattle.source.specs.Table.{register-module-stays-loaded, find-module-or-ns}
 use Rattle.source.proofs.ModuleRules.{find-in}
 
 -- ---- One flag
@@ -18,22 +20,28 @@ module _ (name path : Str) where
   mutual
     pub data OneFlag : (l : Level) → Value ModSymbol l → Value ModSymbol l → Type 0 where
       here : {a b : ModSymbol} → a ≡ Module name path false → b ≡ Module name path true → OneFlag bind (item a) (item b)
-      in-bindings : {b b′ : NameList ModSymbol bind} (n : NameList ModSymbol ns) → OneFlagNames bind b b′ → OneFlag ns (trie b n) (trie b′ n)
-      in-namespaces : (b : NameList ModSymbol bind) {n n′ : NameList ModSymbol ns} → OneFlagNames ns n n′ → OneFlag ns (trie b n) (trie b n′)
+      in-bindings : {b b′ : NameList ModSymbol bind} (n : NameList ModSymbol ns) → OneFlagNames bind b b′
+          → OneFlag ns (trie b n) (trie b′ n)
+      in-namespaces : (b : NameList ModSymbol bind) {n n′ : NameList ModSymbol ns} → OneFlagNames ns n n′
+          → OneFlag ns (trie b n) (trie b n′)
 
     pub data OneFlagTree : (l : Level) → Tree ModSymbol l → Tree ModSymbol l → Type 0 where
       at-key : {l : Level} (k : Str) {v v′ : Value ModSymbol l} (lbt rbt : Tree ModSymbol l) → OneFlag l v v′
           → OneFlagTree l (StrBranch k v lbt rbt) (StrBranch k v′ lbt rbt)
-      in-left : {l : Level} (k : Str) (v : Value ModSymbol l) {t t′ : Tree ModSymbol l} (rbt : Tree ModSymbol l) → OneFlagTree l t t′
+      in-left : {l : Level} (k : Str) (v : Value ModSymbol l) {t t′ : Tree ModSymbol l} (rbt : Tree ModSymbol l)
+          → OneFlagTree l t t′
           → OneFlagTree l (StrBranch k v t rbt) (StrBranch k v t′ rbt)
-      in-right : {l : Level} (k : Str) (v : Value ModSymbol l) (lbt : Tree ModSymbol l) {t t′ : Tree ModSymbol l} → OneFlagTree l t t′
+      in-right : {l : Level} (k : Str) (v : Value ModSymbol l) (lbt : Tree ModSymbol l) {t t′ : Tree ModSymbol l}
+          → OneFlagTree l t t′
           → OneFlagTree l (StrBranch k v lbt t) (StrBranch k v lbt t′)
 
     -- In the tree in front, where names_insert puts.
     pub data OneFlagNames : (l : Level) → NameList ModSymbol l → NameList ModSymbol l → Type 0 where
-      in-front : {l : Level} {t t′ : Tree ModSymbol l} (tl : NameList ModSymbol l) → OneFlagTree l t t′ → OneFlagNames l (Names t tl) (Names t′ tl)
+      in-front : {l : Level} {t t′ : Tree ModSymbol l} (tl : NameList ModSymbol l) → OneFlagTree l t t′
+          → OneFlagNames l (Names t tl) (Names t′ tl)
 
-  insert-tree : (l : Level) (t : Tree ModSymbol l) (k : Str) {v v′ : Value ModSymbol l} → OneFlag l v v′ → OneFlagTree l (btree-insert-replace t k v) (btree-insert-replace t k v′)
+  insert-tree : (l : Level) (t : Tree ModSymbol l) (k : Str) {v v′ : Value ModSymbol l} → OneFlag l v v′
+      → OneFlagTree l (btree-insert-replace t k v) (btree-insert-replace t k v′)
   unfolding btree-insert-replace
   insert-tree l StrEmpty k f = at-key k StrEmpty StrEmpty f
   insert-tree l (StrBranch k′ u lbt rbt) k {v} {v′} f = go (insert-tree l lbt k f) (insert-tree l rbt k f) (string-compare k k′)
@@ -45,13 +53,15 @@ module _ (name path : Str) where
         | Ordering·gt ↦ StrBranch k′ u lbt (btree-insert-replace rbt k v)
       ]
 
-      go : OneFlagTree l (btree-insert-replace lbt k v) (btree-insert-replace lbt k v′) → OneFlagTree l (btree-insert-replace rbt k v) (btree-insert-replace rbt k v′)
+      go : OneFlagTree l (btree-insert-replace lbt k v) (btree-insert-replace lbt k v′)
+          → OneFlagTree l (btree-insert-replace rbt k v) (btree-insert-replace rbt k v′)
           → (o : Ordering) → OneFlagTree l (by v o) (by v′ o)
       go i j Ordering·lt = in-left k′ u rbt i
       go i j Ordering·eq = at-key k′ lbt rbt f
       go i j Ordering·gt = in-right k′ u lbt j
 
-  insert-names : (l : Level) (n : NameList ModSymbol l) (k : Str) {v v′ : Value ModSymbol l} → OneFlag l v v′ → OneFlagNames l (names-insert n k v) (names-insert n k v′)
+  insert-names : (l : Level) (n : NameList ModSymbol l) (k : Str) {v v′ : Value ModSymbol l} → OneFlag l v v′
+      → OneFlagNames l (names-insert n k v) (names-insert n k v′)
   unfolding names-insert
   insert-names l []ᴺ k f = in-front []ᴺ (insert-tree l StrEmpty k f)
   insert-names l (Names bt tl) k f = in-front tl (insert-tree l bt k f)
@@ -73,7 +83,8 @@ module _ (path : Str) (loaded : Bool) where
   node = λ tr id q revq n. trie (ins-stays-loaded path id q revq (bindings tr) loaded) n
 
   departs : (tr : Trie ModSymbol) (q rev : Query)
-      → Departs (query-to-string (reverseAux rev q)) path (loaded-module (trie-find-exact tr q) && not loaded) (trie-mutate tr q rev source-node (λ tr _. tr)) (trie-mutate tr q rev node (λ tr _. tr))
+      → Departs (query-to-string (reverseAux rev q)) path (loaded-module (trie-find-exact tr q) && not loaded)
+      (trie-mutate tr q rev source-node (λ tr _. tr)) (trie-mutate tr q rev node (λ tr _. tr))
   unfolding trie-mutate trie-find-exact loaded-module ins ins-stays-loaded ins-mod name-of-revq
   departs tr [] rev = same tr
   departs tr (s ∷ []) rev = go (loaded-module (names-find-exact (bindings tr) s)) loaded
@@ -90,7 +101,8 @@ module _ (path : Str) (loaded : Bool) where
       beside : Trie ModSymbol → Trie ModSymbol
       beside x = trie (ins-ns s (bindings tr) (name-of-revq (s ∷ rev)) loaded) (names-insert (namespaces tr) s x)
 
-      go : {name : Str} {c : Bool} {x y : Trie ModSymbol} → Departs name path c x y → Departs name path c (beside x) (beside y)
+      go : {name : Str} {c : Bool} {x y : Trie ModSymbol} → Departs name path c x y
+          → Departs name path c (beside x) (beside y)
       go (same x) = same _
       go (one-flag f) = one-flag (in-namespaces _ (insert-names _ path ns (namespaces tr) s f))
 
@@ -98,7 +110,8 @@ module _ (path : Str) (loaded : Bool) where
 -- differ in one flag; everywhere else they are the same.
 pub stays-loaded-departs : (tbl : Table) (loaded : Bool) (path : Str) (q : Query)
     → (register-module-stays-loaded tbl loaded path q .tbl-lids ≡ register-module-path tbl loaded path q .tbl-lids)
-    × Departs (query-to-string q) path (loaded-module (find-module-or-ns tbl q) && not loaded) (register-module-path tbl loaded path q .tbl-mods) (register-module-stays-loaded tbl loaded path q .tbl-mods)
+    × Departs (query-to-string q) path (loaded-module (find-module-or-ns tbl q) && not loaded)
+    (register-module-path tbl loaded path q .tbl-mods) (register-module-stays-loaded tbl loaded path q .tbl-mods)
 unfolding register-module-path register-module-stays-loaded find-module-or-ns
 stays-loaded-departs tbl loaded path q = (refl, departs path loaded (tbl .tbl-mods) q [])
 
@@ -112,12 +125,14 @@ module _ {name path : Str} where
     one-heaviest (in-bindings n f) = rw (one-heaviest-names f)
     one-heaviest (in-namespaces b f) = rw (one-heaviest-names f)
 
-    one-heaviest-tree : {l : Level} {t t′ : Tree ModSymbol l} → OneFlagTree name path l t t′ → heaviest-tree t′ ≡ heaviest-tree t
+    one-heaviest-tree : {l : Level} {t t′ : Tree ModSymbol l} → OneFlagTree name path l t t′
+        → heaviest-tree t′ ≡ heaviest-tree t
     one-heaviest-tree (at-key k lbt rbt f) = rw (one-heaviest f)
     one-heaviest-tree (in-left k v rbt f) = rw (one-heaviest-tree f)
     one-heaviest-tree (in-right k v lbt f) = rw (one-heaviest-tree f)
 
-    one-heaviest-names : {l : Level} {n n′ : NameList ModSymbol l} → OneFlagNames name path l n n′ → heaviest-names n′ ≡ heaviest-names n
+    one-heaviest-names : {l : Level} {n n′ : NameList ModSymbol l} → OneFlagNames name path l n n′
+        → heaviest-names n′ ≡ heaviest-names n
     one-heaviest-names (in-front tl f) = rw (one-heaviest-tree f)
 
   mutual
@@ -133,16 +148,20 @@ module _ {name path : Str} where
     one-depth-tree (in-left k v rbt f) = rw (one-depth-tree f)
     one-depth-tree (in-right k v lbt f) = rw (one-depth-tree f)
 
-    one-depth-names : {l : Level} {n n′ : NameList ModSymbol l} → OneFlagNames name path l n n′ → depth-names n′ ≡ depth-names n
+    one-depth-names : {l : Level} {n n′ : NameList ModSymbol l} → OneFlagNames name path l n n′
+        → depth-names n′ ≡ depth-names n
     one-depth-names (in-front tl f) = rw (one-depth-tree f)
 
-  same-measure : (f : Trie ModSymbol → ℕ) → ((x y : Trie ModSymbol) → OneFlag name path ns x y → f y ≡ f x) → {c : Bool} {x y : Trie ModSymbol} → Departs name path c x y → f y ≡ f x
+  same-measure : (f : Trie ModSymbol → ℕ) → ((x y : Trie ModSymbol) → OneFlag name path ns x y → f y ≡ f x)
+      → {c : Bool} {x y : Trie ModSymbol} → Departs name path c x y → f y ≡ f x
   same-measure f h (same x) = refl
   same-measure f h (one-flag o) = h _ _ o
 
 module _ (tbl : Table) (loaded : Bool) (path : Str) (q : Query) where
-  pub stays-loaded-heaviest : heaviest (register-module-stays-loaded tbl loaded path q .tbl-mods) ≡ heaviest (register-module-path tbl loaded path q .tbl-mods)
+  pub stays-loaded-heaviest : heaviest (register-module-stays-loaded tbl loaded path q .tbl-mods)
+      ≡ heaviest (register-module-path tbl loaded path q .tbl-mods)
   stays-loaded-heaviest = same-measure heaviest (λ x y. one-heaviest) (stays-loaded-departs tbl loaded path q .1)
 
-  pub stays-loaded-depth : depth (register-module-stays-loaded tbl loaded path q .tbl-mods) ≡ depth (register-module-path tbl loaded path q .tbl-mods)
+  pub stays-loaded-depth : depth (register-module-stays-loaded tbl loaded path q .tbl-mods)
+      ≡ depth (register-module-path tbl loaded path q .tbl-mods)
   stays-loaded-depth = same-measure depth (λ x y. one-depth) (stays-loaded-departs tbl loaded path q .1)

@@ -33,13 +33,15 @@ module _ (words used needed : ℕ) where
   abbrev room : ℕ
   room = min (words / record-words) most-used - used
 
-  by-product : (a b c : Bool) → ltb 0 needed ≡ a → ltb most-used records ≡ b → ltb words (records * record-words) ≡ c → ltb room needed ≡ a && (b || c)
+  by-product : (a b c : Bool) → ltb 0 needed ≡ a → ltb most-used records ≡ b → ltb words (records * record-words) ≡ c
+      → ltb room needed ≡ a && (b || c)
   by-product false b c p q r = le-ltb room needed (omega (arith, ltb-false 0 needed p))
   by-product true true c p q r = lt-ltb room needed (omega (arith, ltb-true 0 needed p, ltb-true most-used records q))
   by-product true false true p q r = lt-ltb room needed (omega (arith, ltb-true 0 needed p, ltb-true words (records * record-words) r))
   by-product true false false p q r = le-ltb room needed (omega (arith, ltb-false most-used records q, ltb-false words (records * record-words) r))
 
-  pub full-by-product : ltb (free (whole-records words) used) needed ≡ ltb 0 needed && (ltb most-used (used + needed) || ltb words ((used + needed) * record-words))
+  pub full-by-product : ltb (free (whole-records words) used) needed
+      ≡ ltb 0 needed && (ltb most-used (used + needed) || ltb words ((used + needed) * record-words))
   unfolding whole-records free
   full-by-product = by-product _ _ _ refl refl refl
 
@@ -47,9 +49,11 @@ module _ (words used needed : ℕ) where
 pub record Taken : Type 0 where
   pub of-name : (host id : Str) (c : LidSymbol) → text-taken (arguments (name host id c)) ≡ length host + length id
   pub of-include : (host q : Str) → text-taken (arguments (include host q)) ≡ length host + length q
-  pub of-open : (is-module : Bool) (host q : Str) → text-taken (arguments (opens is-module host q)) ≡ length host + length q
+  pub of-open : (is-module : Bool) (host q : Str)
+      → text-taken (arguments (opens is-module host q)) ≡ length host + length q
   pub of-alias : (key host q : Str) → text-taken (arguments (alias key host q)) ≡ length key + length host + length q
-  pub of-module : (loaded : Bool) (query path : Str) → text-taken (arguments (module-path loaded query path)) ≡ length query + length path
+  pub of-module : (loaded : Bool) (query path : Str)
+      → text-taken (arguments (module-path loaded query path)) ≡ length query + length path
 
 pub texts-taken : Taken
 unfolding text-taken arguments text-of

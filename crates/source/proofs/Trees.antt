@@ -22,7 +22,8 @@ before-prefix [] (b ∷ p) h = refl
 before-prefix (a ∷ k) [] h = absurd h
 before-prefix (a ∷ k) (b ∷ p) h = go (before-prefix k p) (compare a b) (compare-view a b) h
   where
-    go : (k <ˢ p → starts-with k p ≡ false) → (o : Ordering) → Viewℕ a b o → (a < b) ⊎ ((a ≡ b) × (k <ˢ p)) → isEq o && starts-with k p ≡ false
+    go : (k <ˢ p → starts-with k p ≡ false) → (o : Ordering) → Viewℕ a b o → (a < b) ⊎ ((a ≡ b) × (k <ˢ p))
+        → isEq o && starts-with k p ≡ false
     go ih Ordering·lt v h = refl
     go ih Ordering·eq v (inl h) = absurd (omega arith)
     go ih Ordering·eq v (inr h) = ih (h .1)
@@ -36,7 +37,8 @@ past-prefix k [] (b ∷ p) h f l = refl
 past-prefix [] (c ∷ k′) (b ∷ p) h f l = absurd h
 past-prefix (a ∷ k) (c ∷ k′) (b ∷ p) h f l = go (past-prefix k k′ p) (compare a b) (compare-view a b) (compare c b) (compare-view c b) f h l
   where
-    go : (p <ˢ k → starts-with k p ≡ false → k <ˢ k′ → starts-with k′ p ≡ false) → (o : Ordering) → Viewℕ a b o → (o′ : Ordering) → Viewℕ c b o′ → isEq o && starts-with k p ≡ false
+    go : (p <ˢ k → starts-with k p ≡ false → k <ˢ k′ → starts-with k′ p ≡ false) → (o : Ordering) → Viewℕ a b o
+        → (o′ : Ordering) → Viewℕ c b o′ → isEq o && starts-with k p ≡ false
         → (b < a) ⊎ ((b ≡ a) × (p <ˢ k)) → (a < c) ⊎ ((a ≡ c) × (k <ˢ k′)) → isEq o′ && starts-with k′ p ≡ false
     go ih o v Ordering·lt w f h l = refl
     go ih o v Ordering·gt w f h l = refl
@@ -53,12 +55,14 @@ module _ {A : Type 0} {l : Level} where
   AllKeys-map StrEmpty f a = tt
   AllKeys-map (StrBranch k v lbt rbt) f a = (f k (a .0), AllKeys-map lbt f (a .1), AllKeys-map rbt f (a .2))
 
-  pub AllKeys-zip : {P Q S : Str → Type 0} → (t : Tree A l) → ((k : Str) → P k → Q k → S k) → AllKeys P t → AllKeys Q t → AllKeys S t
+  pub AllKeys-zip : {P Q S : Str → Type 0} → (t : Tree A l) → ((k : Str) → P k → Q k → S k) → AllKeys P t → AllKeys Q t
+      → AllKeys S t
   AllKeys-zip StrEmpty f a b = tt
   AllKeys-zip (StrBranch k v lbt rbt) f a b = (f k (a .0) (b .0), AllKeys-zip lbt f (a .1) (b .1), AllKeys-zip rbt f (a .2) (b .2))
 
   -- ---- the branches whose keys pass a test, onto acc
-  unfoldable pub select : Option Str → (Str → Bool) → Tree A l → List (PrefixMatch × Value A l) → List (PrefixMatch × Value A l)
+  unfoldable pub select : Option Str → (Str → Bool) → Tree A l → List (PrefixMatch × Value A l)
+      → List (PrefixMatch × Value A l)
   select p b StrEmpty acc = acc
   select p b (StrBranch k v lbt rbt) acc =
       select p b lbt (cond (b k) ((record { prefix = p; completion = k }, v) ∷ select p b rbt acc) (select p b rbt acc))
@@ -66,7 +70,8 @@ module _ {A : Type 0} {l : Level} where
   unfoldable pub entry-key : PrefixMatch × Value A l → Str
   entry-key x = x .0 .completion
 
-  select-none : (p : Option Str) (b : Str → Bool) (t : Tree A l) (acc : List (PrefixMatch × Value A l)) → AllKeys (λ k. b k ≡ false) t → select p b t acc ≡ acc
+  select-none : (p : Option Str) (b : Str → Bool) (t : Tree A l) (acc : List (PrefixMatch × Value A l))
+      → AllKeys (λ k. b k ≡ false) t → select p b t acc ≡ acc
   unfolding select
   select-none p b StrEmpty acc a = refl
   select-none p b (StrBranch k v lbt rbt) acc a = rw (a .0) (select-none p b lbt (select p b rbt acc) (a .1) ∙ select-none p b rbt acc (a .2))
@@ -109,7 +114,8 @@ module _ {A : Type 0} {l : Level} where
   all-select p (StrBranch k v lbt rbt) acc =
       all-select p lbt _ ∙ ap (λ r. select p (λ k. true) lbt ((record { prefix = p; completion = k }, v) ∷ r)) (all-select p rbt acc)
 
-  pub find-prefix-is : (t : Tree A l) (p : Str) → Ordered t → btree-find-prefix t p ≡ select (some p) (λ k. starts-with k p) t []
+  pub find-prefix-is : (t : Tree A l) (p : Str) → Ordered t
+      → btree-find-prefix t p ≡ select (some p) (λ k. starts-with k p) t []
   unfolding btree-find-prefix
   find-prefix-is t p o = prefix-select t p [] o
 
@@ -130,7 +136,8 @@ module _ {A : Type 0} {l : Level} where
       go false r = r
 
   pub select-increasing : (p : Option Str) (b : Str → Bool) (t : Tree A l) (acc : List (PrefixMatch × Value A l))
-      → Ordered t → AllKeys (λ x. Above entry-key x acc) t → Increasing entry-key acc → Increasing entry-key (select p b t acc)
+      → Ordered t → AllKeys (λ x. Above entry-key x acc) t → Increasing entry-key acc
+      → Increasing entry-key (select p b t acc)
   unfolding select entry-key
   select-increasing p b StrEmpty acc o a i = i
   select-increasing p b (StrBranch k v lbt rbt) acc o a i =

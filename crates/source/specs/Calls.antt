@@ -12,7 +12,8 @@ use Rattle.source.specs.Types.{Value, Trie, bind, the-item}
 use Rattle.source.specs.Tries.{trie-find-exact}
 use Rattle.source.specs.Terms.{heaviest, depth}
 use Rattle.source.specs.Listing.{fold-left, by-first}
-use Rattle.source.specs.Table.{Table, ModSymbol, Module, Namespace, Line, empty, insert, register-alias, register-include, register-open, register-module-stays-loaded, autocomplete-lid-first, autocomplete-mod-or-ns-first}
+use Rattle.source.specs.Table.{Table, ModSymbol, Module, Namespace, Line, empty, insert, register-alias, register-include, register-open}
+use Rattle.source.specs.Table.{register-module-stays-loaded, autocomplete-lid-first, autocomplete-mod-or-ns-first}
 use Rattle.source.specs.Counted.{insertᶜ, register-aliasᶜ, register-includeᶜ, register-openᶜ, register-module-pathᶜ, trie-find-prefix′ᶜ}
 use Rattle.source.specs.Rules.{all}
 use Rattle.source.specs.Items.{same-kind}
@@ -186,7 +187,8 @@ pub data Registered : Type 0 where
 
 -- What a registration hands back. Refused, the table comes back equal.
 unfoldable pub register : (sound : Bool) → Lent → State → Call → Registered
-register sound lent s c = elim (lowest (registration-rows sound lent s c)) [ none ↦ accepted (after s c) | some n ↦ refused n ]
+register sound lent s c =
+    elim (lowest (registration-rows sound lent s c)) [ none ↦ accepted (after s c) | some n ↦ refused n ]
 
 -- ---- Look-ups
 
@@ -252,7 +254,8 @@ pub data Completed (A : Type 0) : Type 0 where
   refused : ℕ → Completed A
 
 module _ {A : Type 0} where
-  unfoldable pub completion-rows : (sound : Bool) → (budget : ℕ) → Output → Str → List (Line A) → (entered : ℕ) → List Row
+  unfoldable pub completion-rows : (sound : Bool) → (budget : ℕ) → Output → Str → List (Line A) → (entered : ℕ)
+      → List Row
   completion-rows sound budget out query lines entered =
       argument-rows sound (a-completion query ∷ [])
       ++ (9 when ltb budget entered)
@@ -261,7 +264,8 @@ module _ {A : Type 0} where
 
   unfoldable pub completed : (sound : Bool) → (budget : ℕ) → Output → Str → List (Line A) → (entered : ℕ) → Completed A
   completed sound budget out query lines entered =
-      elim (lowest (completion-rows sound budget out query lines entered)) [ none ↦ listed lines entered | some n ↦ refused n ]
+      elim (lowest (completion-rows sound budget out query lines entered))
+      [ none ↦ listed lines entered | some n ↦ refused n ]
 
 -- Tries entered: the calls of trie_find_prefix'.
 unfoldable pub tries-entered : {A : Type 0} → Trie A → Query → ℕ
@@ -295,11 +299,13 @@ keeps NamespacesOnly (Namespace n loaded) = true
 -- What a completion hands back: of names, of modules.
 unfoldable pub complete : (sound : Bool) → Table → KindFilter → (budget : ℕ) → Output → Str → Completed LidSymbol
 complete sound tbl f budget out query =
-    completed sound budget out query (kept (keeps-kind f) (autocomplete-lid-first tbl (segments query))) (tries-entered (tbl .tbl-lids) (segments query))
+    completed sound budget out query (kept (keeps-kind f) (autocomplete-lid-first tbl (segments query)))
+    (tries-entered (tbl .tbl-lids) (segments query))
 
 unfoldable pub complete-modules : (sound : Bool) → Table → Filter → (budget : ℕ) → Output → Str → Completed ModSymbol
 complete-modules sound tbl f budget out query =
-    completed sound budget out query (kept (keeps f) (autocomplete-mod-or-ns-first tbl (segments query) some)) (tries-entered (tbl .tbl-mods) (segments query))
+    completed sound budget out query (kept (keeps f) (autocomplete-mod-or-ns-first tbl (segments query) some))
+    (tries-entered (tbl .tbl-mods) (segments query))
 
 -- ---- What all lines agree on
 

@@ -4,7 +4,8 @@ use Prim.Native.Nat.{ℕ, zero, suc, _+_, Ordering·lt, Ordering·eq, Ordering·
 use mathlib.Core.Bool.{Bool, true, false, _||_}
 use mathlib.Core.List.{List, [], _∷_, reverse, tail}
 use Rattle.source.specs.Text.{Str, Query, string-compare, query-to-string}
-use Rattle.source.specs.Types.{Level, Value, Trie, Tree, NameList, bind, ns, item, trie, StrEmpty, StrBranch, []ᴺ, Names, ImportedNames, the-item, bindings, namespaces}
+use Rattle.source.specs.Types.{Level, Value, Trie, Tree, NameList, bind, ns, item, trie, StrEmpty, StrBranch, []ᴺ, Names, ImportedNames, the-item}
+use Rattle.source.specs.Types.{bindings, namespaces}
 use Rattle.source.specs.Tries.{names-find-exact, scope-of, included}
 use Rattle.source.specs.Terms.{depth}
 use Rattle.source.specs.Listing.{PathOf, Finder, rev-map-onto, ns-search-term, bindings-search-term}
@@ -140,7 +141,8 @@ register-module-pathᶜ tbl loaded path mod-query = do
   pure (record { tbl-lids = tbl .tbl-lids; tbl-mods = tr })
 
 -- What the departing functions build: as many, by register-module-stays-loaded-count of proofs/Counted.antt.
-unfoldable pub ins-stays-loadedᶜ : Str → Str → Query → Query → NameList ModSymbol bind → Bool → Counted (NameList ModSymbol bind)
+unfoldable pub ins-stays-loadedᶜ : Str → Str → Query → Query → NameList ModSymbol bind → Bool
+    → Counted (NameList ModSymbol bind)
 ins-stays-loadedᶜ path id [] revq bindings loaded =
     ins-modᶜ path id bindings (name-of-revq (id ∷ revq)) (loaded-module (names-find-exact bindings id) || loaded)
 ins-stays-loadedᶜ path id (s ∷ q) revq bindings loaded = ins-nsᶜ id bindings (name-of-revq (id ∷ revq)) loaded
@@ -168,7 +170,8 @@ module _ {A : Type 0} (find : Finder A) where
   find-prefix-fuelᶜ (suc n) tr path-acc q acc = do
     acc ← fold-leftᶜ (λ acc x. find-prefix-fuelᶜ n (x .1) (x .0 ∷ path-acc) (tail q) acc) acc
         (find ns (namespaces tr) (ns-search-term q))
-    one (rev-map-onto (λ x. (reverse (x .0 ∷ path-acc), the-item (x .1))) (find bind (bindings tr) (bindings-search-term q)) acc)
+    one (rev-map-onto (λ x. (reverse (x .0 ∷ path-acc), the-item (x .1)))
+        (find bind (bindings tr) (bindings-search-term q)) acc)
 
   unfoldable pub trie-find-prefix′ᶜ : Trie A → PathOf → Query → List (PathOf × A) → Counted (List (PathOf × A))
   trie-find-prefix′ᶜ tr path-acc q acc = find-prefix-fuelᶜ (suc (depth tr)) tr path-acc q acc

@@ -1,4 +1,5 @@
--- The listing read forward: what a merge gives in order, and the lines without an accumulator. proofs/Forward, Found and Lines tie it to the source's functions.
+-- The listing read forward: what a merge gives in order, and the lines without an accumulator. proofs/Forward,
+-- Found and Lines tie it to the source's functions.
 use Prim.Native.Nat.{ℕ, zero, suc, _+_}
 use mathlib.Core.Bool.{Bool, false, cond}
 use mathlib.Core.List.{List, [], _∷_, _++_, map, flatMap, reverse, tail}
@@ -118,7 +119,8 @@ module _ {A : Type 0} where
   -- The tries entered from a trie: itself, and those entered from each row of its namespaces.
   unfoldable pub entered : ℕ → Trie A → Query → ℕ
   entered zero tr q = 0
-  entered (suc n) tr q = suc (sumˡ (λ x. entered n (x .1) (tail q)) (names-find-rev-first (namespaces tr) (ns-search-term q)))
+  entered (suc n) tr q =
+      suc (sumˡ (λ x. entered n (x .1) (tail q)) (names-find-rev-first (namespaces tr) (ns-search-term q)))
 
   -- The line of a path and its item, none where the item does not pass.
   unfoldable pub kept-line : (PathOf × A → Line A) → (A → Bool) → PathOf × A → List (Line A)

@@ -39,16 +39,19 @@ bindings-search-term (s ∷ (t ∷ q)) = NSTNone
 
 module _ {A : Type 0} where
   -- aux of names_revmap
-  unfoldable pub revmap-onto : {l : Level} {B : Type 0} → (Tree A l → B) → List (List Str × B) → List Str → NameList A l → List (List Str × B)
+  unfoldable pub revmap-onto : {l : Level} {B : Type 0} → (Tree A l → B) → List (List Str × B) → List Str → NameList A l
+      → List (List Str × B)
   revmap-onto fn acc imports []ᴺ = acc
   revmap-onto fn acc imports (Names bt tl) = revmap-onto fn ((imports, fn bt) ∷ acc) imports tl
-  revmap-onto fn acc imports (ImportedNames nm inner tl) = revmap-onto fn (revmap-onto fn acc (nm ∷ imports) inner) imports tl
+  revmap-onto fn acc imports (ImportedNames nm inner tl) =
+      revmap-onto fn (revmap-onto fn acc (nm ∷ imports) inner) imports tl
 
   unfoldable pub names-revmap : {l : Level} {B : Type 0} → (Tree A l → B) → NameList A l → List (List Str × B)
   names-revmap fn n = revmap-onto fn [] [] n
 
   -- matching_values_per_collection_with_imports of names_find_rev
-  unfoldable pub matching-values : {l : Level} → NameList A l → SearchTerm → List (List Str × List (PrefixMatch × Value A l))
+  unfoldable pub matching-values : {l : Level} → NameList A l → SearchTerm
+      → List (List Str × List (PrefixMatch × Value A l))
   matching-values n NSTNone = []
   matching-values n NSTAll = names-revmap (btree-find-all none) n
   matching-values n (NSTPrefix []) = names-revmap (btree-find-all (some [])) n

@@ -52,7 +52,8 @@ module _ {A : Type 0} (key-fn : A → Str) where
   unfoldable pub merge-aux : ℕ → Heap (Run A) → List A → List A
   merge-aux zero lists acc = acc
   merge-aux (suc n) EmptyHeap acc = acc
-  merge-aux (suc n) (HeapOf r hh) acc = merge-aux n (put-back r (heap-merge-pairs run-cmp hh)) (push-nodup (first r) acc)
+  merge-aux (suc n) (HeapOf r hh) acc =
+      merge-aux n (put-back r (heap-merge-pairs run-cmp hh)) (push-nodup (first r) acc)
 
   -- The source's last match, on the filtered lists.
   unfoldable pub merge-nonempty : List (List A) → List A

@@ -92,11 +92,13 @@ module _ {A : Type 0} where
 
 unfoldable pub module-step-records : Bool → Trie ModSymbol → Str → Query → ℕ
 module-step-records loaded tr s q =
-    suc (inserted-records (namespaces tr) s) + cond (ins-inserts loaded (bindings tr) s q) (inserted-records (bindings tr) s) 0
+    suc (inserted-records (namespaces tr) s)
+    + cond (ins-inserts loaded (bindings tr) s q) (inserted-records (bindings tr) s) 0
 
 unfoldable pub module-step-weight : Bool → Trie ModSymbol → Str → Query → ℕ
 module-step-weight loaded tr s q =
-    max (inserted-weight (namespaces tr)) (cond (ins-inserts loaded (bindings tr) s q) (inserted-weight (bindings tr)) 0)
+    max (inserted-weight (namespaces tr))
+    (cond (ins-inserts loaded (bindings tr) s q) (inserted-weight (bindings tr)) 0)
 
 -- The host of a module's query is left as it is.
 unfoldable pub module-host : Trie ModSymbol → ℕ
@@ -124,7 +126,8 @@ plan-weight tbl (opens false host inc) =
     along max step-weight (open-weight (included (tbl .tbl-lids) (segments inc))) (tbl .tbl-lids) (segments host)
 plan-weight tbl (alias key host inc) =
     along max step-weight (alias-weight (included (tbl .tbl-lids) (segments inc))) (tbl .tbl-lids) (segments host)
-plan-weight tbl (module-path loaded query path) = along max (module-step-weight loaded) module-host (tbl .tbl-mods) (segments query)
+plan-weight tbl (module-path loaded query path) =
+    along max (module-step-weight loaded) module-host (tbl .tbl-mods) (segments query)
 
 unfoldable pub plan-crowded : Table → Call → Bool
 plan-crowded tbl c = ltb heaviest-list (plan-weight tbl c)
@@ -135,4 +138,5 @@ plan-records tbl (name host id number) = along _+_ step-records (name-records id
 plan-records tbl (include host inc) = along _+_ step-records import-records (tbl .tbl-lids) (segments host)
 plan-records tbl (opens is-module host inc) = along _+_ step-records import-records (tbl .tbl-lids) (segments host)
 plan-records tbl (alias key host inc) = along _+_ step-records (alias-records key) (tbl .tbl-lids) (segments host)
-plan-records tbl (module-path loaded query path) = along _+_ (module-step-records loaded) module-host (tbl .tbl-mods) (segments query)
+plan-records tbl (module-path loaded query path) =
+    along _+_ (module-step-records loaded) module-host (tbl .tbl-mods) (segments query)

@@ -7,7 +7,8 @@ use lib.IntN.{ℤ, pos, _+ℤ_, _-ℤ_}
 use Rattle.source.specs.Text.{Str, Query, query-to-string, string-length}
 use Rattle.source.specs.Types.{Value, Trie, NameList, bind, item, trie, bindings, trie-empty}
 use Rattle.source.specs.Trees.{PathElem}
-use Rattle.source.specs.Tries.{names-find-exact, names-insert, trie-mutate, trie-insert, trie-include, trie-open-namespace, trie-add-alias, trie-find-exact, dflt}
+use Rattle.source.specs.Tries.{names-find-exact, names-insert, trie-mutate, trie-insert, trie-include, trie-open-namespace, trie-add-alias}
+use Rattle.source.specs.Tries.{trie-find-exact, dflt}
 use Rattle.source.specs.Listing.{PathOf, fold-left, trie-find-prefix, trie-find-prefix-first}
 use Rattle.source.specs.declared.LidSymbol.{LidSymbol}
 
@@ -27,14 +28,16 @@ unfoldable pub insert : Table → Query → Str → LidSymbol → Table
 insert tbl host id c = record { tbl-lids = trie-insert (tbl .tbl-lids) host id c; tbl-mods = tbl .tbl-mods }
 
 unfoldable pub register-alias : Table → Str → Query → Query → Table
-register-alias tbl key host q = record { tbl-lids = trie-add-alias (tbl .tbl-lids) key host q; tbl-mods = tbl .tbl-mods }
+register-alias tbl key host q =
+    record { tbl-lids = trie-add-alias (tbl .tbl-lids) key host q; tbl-mods = tbl .tbl-mods }
 
 unfoldable pub register-include : Table → Query → Query → Table
 register-include tbl host q = record { tbl-lids = trie-include (tbl .tbl-lids) host q; tbl-mods = tbl .tbl-mods }
 
 unfoldable pub register-open : Table → Bool → Query → Query → Table
 register-open tbl true host q = register-include tbl host q
-register-open tbl false host q = record { tbl-lids = trie-open-namespace (tbl .tbl-lids) host q; tbl-mods = tbl .tbl-mods }
+register-open tbl false host q =
+    record { tbl-lids = trie-open-namespace (tbl .tbl-lids) host q; tbl-mods = tbl .tbl-mods }
 
 -- When ins_ns inserts: never seen before, or seen, but not loaded yet.
 unfoldable pub ns-inserts : Option (Value ModSymbol bind) → Bool → Bool
@@ -45,7 +48,8 @@ ns-inserts (some (item (Namespace name false))) loaded = loaded
 
 unfoldable pub ins-ns : Str → NameList ModSymbol bind → Str → Bool → NameList ModSymbol bind
 ins-ns id bindings full-name loaded =
-    cond (ns-inserts (names-find-exact bindings id) loaded) (names-insert bindings id (item (Namespace full-name loaded))) bindings
+    cond (ns-inserts (names-find-exact bindings id) loaded)
+    (names-insert bindings id (item (Namespace full-name loaded))) bindings
 
 unfoldable pub ins-mod : Str → Str → NameList ModSymbol bind → Str → Bool → NameList ModSymbol bind
 ins-mod path id bindings full-name loaded = names-insert bindings id (item (Module full-name path loaded))
@@ -167,11 +171,13 @@ unfoldable pub filter-map : {A B : Type 0} → (A → Option B) → List A → L
 filter-map f [] = []
 filter-map f (a ∷ l) = elim (f a) [ none ↦ filter-map f l | some b ↦ b ∷ filter-map f l ]
 
-unfoldable pub autocomplete-mod-or-ns : Table → Query → (PathOf × ModSymbol → Option (PathOf × ModSymbol)) → List (Line ModSymbol)
+unfoldable pub autocomplete-mod-or-ns : Table → Query → (PathOf × ModSymbol → Option (PathOf × ModSymbol))
+    → List (Line ModSymbol)
 autocomplete-mod-or-ns tbl query filter =
     map completion-result-of-ns-or-mod (filter-map filter (trie-find-prefix (tbl .tbl-mods) query))
 
 -- Departs from the source in the same way.
-unfoldable pub autocomplete-mod-or-ns-first : Table → Query → (PathOf × ModSymbol → Option (PathOf × ModSymbol)) → List (Line ModSymbol)
+unfoldable pub autocomplete-mod-or-ns-first : Table → Query → (PathOf × ModSymbol → Option (PathOf × ModSymbol))
+    → List (Line ModSymbol)
 autocomplete-mod-or-ns-first tbl query filter =
     map completion-result-of-ns-or-mod (filter-map filter (trie-find-prefix-first (tbl .tbl-mods) query))

@@ -64,8 +64,10 @@ module _ {A : Type 0} where
     depth-names (Names bt tl) = max (depth-tree bt) (depth-names tl)
     depth-names (ImportedNames label inner tl) = max (depth-names inner) (depth-names tl)
 
-  -- The walk for a full name takes at each step the first holder in the flattened list: of the namespaces for each segment but the last, of the bindings for the last.
+  -- The walk for a full name takes at each step the first holder in the flattened list: of the namespaces for each segment but the last,
+  -- of the bindings for the last.
   unfoldable pub walk-first : Trie A → Query → Option (Value A bind)
   walk-first tr [] = none
   walk-first tr (s ∷ []) = first-of (holders (flatten (bindings tr)) s)
-  walk-first tr (s ∷ (t ∷ q)) = bind-option (first-of (holders (flatten (namespaces tr)) s)) (λ scope. walk-first scope (t ∷ q))
+  walk-first tr (s ∷ (t ∷ q)) =
+      bind-option (first-of (holders (flatten (namespaces tr)) s)) (λ scope. walk-first scope (t ∷ q))

@@ -40,12 +40,14 @@ module _ {A : Type 0} where
   unfoldable pub trie-find-exact : Trie A → Query → Option (Value A bind)
   trie-find-exact tr [] = none
   trie-find-exact tr (name ∷ []) = names-find-exact (bindings tr) name
-  trie-find-exact tr (s ∷ (t ∷ q)) = bind-option (names-find-exact (namespaces tr) s) (λ scope. trie-find-exact scope (t ∷ q))
+  trie-find-exact tr (s ∷ (t ∷ q)) =
+      bind-option (names-find-exact (namespaces tr) s) (λ scope. trie-find-exact scope (t ∷ q))
 
   unfoldable pub names-insert : {l : Level} → NameList A l → Str → Value A l → NameList A l
   names-insert []ᴺ id v = Names (btree-insert-replace StrEmpty id v) []ᴺ
   names-insert (Names bt tl) id v = Names (btree-insert-replace bt id v) tl
-  names-insert (ImportedNames label inner tl) id v = Names (btree-insert-replace StrEmpty id v) (ImportedNames label inner tl)
+  names-insert (ImportedNames label inner tl) id v =
+      Names (btree-insert-replace StrEmpty id v) (ImportedNames label inner tl)
 
   -- The trie that namespaces_mutate goes on with.
   unfoldable pub scope-of : NameList A ns → Str → Trie A

@@ -32,8 +32,10 @@ use Rattle.listing.specs.declared.Completed.{Completed}
 use Rattle.listing.specs.declared.Completed.the-variants.{Listed}
 
 -- A listing that was not refused.
-listed-lines : (ask : Ask) (ws txt flat flat′ out out′ : List ℕ) (n entered : ℕ) (o : C.Completed (Item (asked ask))) → CompletesAs ask ws txt flat flat′ out out′ (Listed n entered) o
-    → (lines : List (Line (Item (asked ask)))) × (o ≡ C.listed lines entered) × (lines-seen (asked ask) txt flat′ out′ n ≡ lines)
+listed-lines : (ask : Ask) (ws txt flat flat′ out out′ : List ℕ) (n entered : ℕ) (o : C.Completed (Item (asked ask)))
+    → CompletesAs ask ws txt flat flat′ out out′ (Listed n entered) o
+    → (lines : List (Line (Item (asked ask)))) × (o ≡ C.listed lines entered)
+    × (lines-seen (asked ask) txt flat′ out′ n ≡ lines)
 listed-lines ask ws txt flat flat′ out out′ n entered (C.listed lines e) h =
     let k : n ≡ length lines = cc in
     let f : e ≡ entered = cc in
@@ -41,27 +43,34 @@ listed-lines ask ws txt flat flat′ out out′ n entered (C.listed lines e) h =
 listed-lines ask ws txt flat flat′ out out′ n entered (C.refused m) h = absurd (Option·none-ne-some m (h .0))
 
 module _ (ws txt : List ℕ) (t : Table) (name query : Str) (cover : Covers (segments query) (segments name)) where
-  names-agree : (a : C.Found LidSymbol) (lines : List (Line LidSymbol)) → HoldsName ws txt t name a → NotRefused a → HoldsLines ws txt t (Names Every) query lines
+  names-agree : (a : C.Found LidSymbol) (lines : List (Line LidSymbol)) → HoldsName ws txt t name a → NotRefused a
+      → HoldsLines ws txt t (Names Every) query lines
       → (b : Bool) → Says b (IsSound ws txt t) → Shows (lines-of-text (without-last name) lines) a
   unfolding look-up lowest argument-rows
   names-agree a lines f ok c false s = absurd (rw (sym (f .is) ∙ f .finds .says false s) at ok)
   names-agree a lines f ok c true s =
-      let l = listed-lines (Names Every) ws txt (c .flat) (c .flat′) (c .out) (c .out′) (c .count) (c .entered) _ (rw (c .listed) at (c .completes .says true s)) in
+      let l =
+      listed-lines (Names Every) ws txt (c .flat) (c .flat′) (c .out) (c .out′) (c .count) (c .entered) _ (rw (c .listed) at (c .completes .says true s)) in
       rw (← c .read, l .2)
-      (agreement .names (table-in ws txt t) (sound-table s) .shows name query a (l .0) (sym (f .finds .says true s) ∙ f .is) ok (c .budget, output (c .flat) (c .out), c .entered, l .1) cover)
+      (agreement .names (table-in ws txt t) (sound-table s) .shows name query a (l .0) (sym (f .finds .says true s) ∙ f .is) ok
+      (c .budget, output (c .flat) (c .out), c .entered, l .1) cover)
 
-  modules-agree : (a : C.Found ModSymbol) (lines : List (Line ModSymbol)) → HoldsModule ws txt t name a → NotRefused a → HoldsLines ws txt t (Modules All) query lines
+  modules-agree : (a : C.Found ModSymbol) (lines : List (Line ModSymbol)) → HoldsModule ws txt t name a → NotRefused a
+      → HoldsLines ws txt t (Modules All) query lines
       → (b : Bool) → Says b (IsSound ws txt t) → Shows (lines-of-text (without-last name) lines) a
   unfolding look-up lowest argument-rows
   modules-agree a lines f ok c false s = absurd (rw (sym (f .is) ∙ f .finds .says false s) at ok)
   modules-agree a lines f ok c true s =
-      let l = listed-lines (Modules All) ws txt (c .flat) (c .flat′) (c .out) (c .out′) (c .count) (c .entered) _ (rw (c .listed) at (c .completes .says true s)) in
+      let l =
+      listed-lines (Modules All) ws txt (c .flat) (c .flat′) (c .out) (c .out′) (c .count) (c .entered) _ (rw (c .listed) at (c .completes .says true s)) in
       rw (← c .read, l .2)
-      (agreement .modules (table-in ws txt t) (sound-table s) .shows name query a (l .0) (sym (f .finds .says true s) ∙ f .is) ok (c .budget, output (c .flat) (c .out), c .entered, l .1) cover)
+      (agreement .modules (table-in ws txt t) (sound-table s) .shows name query a (l .0) (sym (f .finds .says true s) ∙ f .is) ok
+      (c .budget, output (c .flat) (c .out), c .entered, l .1) cover)
 
 -- Demand 3, of the calls: what the memory is need not be known.
 pub calls-agree : CallsAgree
 calls-agree = record {
   names = λ ws txt t. agrees (λ name query a lines f ok c cover. either-way (shows-stable lid-told _ a) (names-agree ws txt t name query cover a lines f ok c));
-  modules = λ ws txt t. agrees (λ name query a lines f ok c cover. either-way (shows-stable mod-told _ a) (modules-agree ws txt t name query cover a lines f ok c));
+  modules =
+      λ ws txt t. agrees (λ name query a lines f ok c cover. either-way (shows-stable mod-told _ a) (modules-agree ws txt t name query cover a lines f ok c));
 }

@@ -31,11 +31,13 @@ unfolding register registration-rows argument-rows lowest
 register-unsound l s c = refl
 
 module _ {ws txt : List ℕ} {t : Table} {c : Call} where
-  pub answers-refused : {x : Refusal} → lowest (registration-rows true (lent ws txt) (state ws txt t) c) ≡ some (number x)
+  pub answers-refused : {x : Refusal}
+      → lowest (registration-rows true (lent ws txt) (state ws txt t) c) ≡ some (number x)
       → Answers true ws txt ws txt t c (record { table = t; answer = Refused x })
   answers-refused e = record { says = rw (register-refused true _ _ c e) (refl, record { table = refl; words = refl; text = refl }) }
 
-  pub answers-accepted : {ws′ txt′ : List ℕ} {t′ : Table} → lowest (registration-rows true (lent ws txt) (state ws txt t) c) ≡ none
+  pub answers-accepted : {ws′ txt′ : List ℕ} {t′ : Table}
+      → lowest (registration-rows true (lent ws txt) (state ws txt t) c) ≡ none
       → Accepts ws txt ws′ txt′ t t′ (after (state ws txt t) c) → Answers true ws txt ws′ txt′ t c (record { table = t′; answer = Accepted })
   answers-accepted e a = record { says = rw (register-accepted true _ _ c e) (refl, a) }
 

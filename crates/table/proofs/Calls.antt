@@ -16,7 +16,8 @@ use Rattle.table.specs.declared.Registration.{Registration}
 use Rattle.table.specs.Header.{table-in, state, lent, names-in}
 use Rattle.table.specs.Registrations.{refusal-of, AnswersAs, Answers}
 
-module _ {ws txt ws′ txt′ : List ℕ} {t : Table} {c : Call} {r : Registration} (a : Answers true ws txt ws′ txt′ t c r) (e : refusal-of (r .answer) ≡ none) where
+module _ {ws txt ws′ txt′ : List ℕ} {t : Table} {c : Call} {r : Registration} (a : Answers true ws txt ws′ txt′ t c r)
+    (e : refusal-of (r .answer) ≡ none) where
   -- The definition accepts, with the state that the new header reads as.
   accepts : register true (lent ws txt) (state ws txt t) c ≡ C.accepted (state ws′ txt′ (r .table))
   accepts = go (register true (lent ws txt) (state ws txt t) c) (a .says)
@@ -37,7 +38,9 @@ pub opened-table : {ws txt ws′ txt′ : List ℕ} {t : Table} {r : Registratio
 unfolding registered
 opened-table is-module host query a e = accepted-table a e
 
-pub insert-unchanged : (ws txt ws′ txt′ : List ℕ) (t : Table) (host id : Str) (item : LidSymbol) (r : Registration) (query : Str)
-    → Answers true ws txt ws′ txt′ t (name host id item) r → refusal-of (r .answer) ≡ none → (segments query ≡ segments host ++ (id ∷ []) → ⊥)
+pub insert-unchanged : (ws txt ws′ txt′ : List ℕ) (t : Table) (host id : Str) (item : LidSymbol) (r : Registration)
+    (query : Str)
+    → Answers true ws txt ws′ txt′ t (name host id item) r → refusal-of (r .answer) ≡ none
+    → (segments query ≡ segments host ++ (id ∷ []) → ⊥)
     → look-up true (names-in ws′ txt′ (r .table)) query ≡ look-up true (names-in ws txt t) query
 insert-unchanged ws txt ws′ txt′ t host id item r query a e d = name-unchanged true (lent ws txt) (state ws txt t) _ host id item query (accepts a e) d

@@ -22,25 +22,31 @@ use Rattle.listing.specs.declared.Completed.the-variants.{Refused}
 use Rattle.table.proofs.Says.{says-same}
 
 on-table : (ws txt : List ℕ) (t : Table) (ask : Ask) (budget : ℕ) (out : Output) (query : Str)
-    → completed true budget out query (lines-of ask (what (asked ask) ws txt (root-for (t .header) ask) trieˢ) (segments query)) (tries-entered (what (asked ask) ws txt (root-for (t .header) ask) trieˢ) (segments query))
+    → completed true budget out query (lines-of ask (what (asked ask) ws txt (root-for (t .header) ask) trieˢ)
+    (segments query)) (tries-entered (what (asked ask) ws txt (root-for (t .header) ask) trieˢ) (segments query))
     ≡ completion true (table-in ws txt t) ask budget out query
 unfolding complete complete-modules
 on-table ws txt t (Names f) budget out query = rw (autocomplete-lid-is (table-in ws txt t) (segments query) (keeps-kind f))
 on-table ws txt t (Modules f) budget out query = rw (autocomplete-mod-or-ns-is (table-in ws txt t) (segments query) (keeps (filter-in f)))
 
-pub completes-table : {ws txt : List ℕ} {t : Table} {request : Request} {query : Str} {flat flat′ out out′ : List ℕ} {r : Completed} → IsSound ws txt t
-    → CompletesOn ws txt request (root-for (t .header) (request .ask)) query flat flat′ out out′ r → Completes ws txt t request query flat flat′ out out′ (record { table = t; answer = r })
+pub completes-table : {ws txt : List ℕ} {t : Table} {request : Request} {query : Str} {flat flat′ out out′ : List ℕ}
+    {r : Completed} → IsSound ws txt t
+    → CompletesOn ws txt request (root-for (t .header) (request .ask)) query flat flat′ out out′ r
+    → Completes ws txt t request query flat flat′ out out′ (record { table = t; answer = r })
 completes-table {ws} {txt} {t} {request} {query} {flat} {flat′} {out} {out′} {r} o c = record {
   table = refl;
-  says = λ b h. rw (says-same _ b true h o) (subst (CompletesAs (request .ask) ws txt flat flat′ out out′ r) (on-table ws txt t (request .ask) (request .budget) (output flat out) query) (c .says));
+  says = λ b h. rw (says-same _ b true h o)
+      (subst (CompletesAs (request .ask) ws txt flat flat′ out out′ r) (on-table ws txt t (request .ask) (request .budget) (output flat out) query) (c .says));
 }
 
 -- A memory that is not sound is refused, whatever is asked.
-pub completes-unsound : {ws txt : List ℕ} {t : Table} {request : Request} {query : Str} {flat out : List ℕ} → (IsSound ws txt t → ⊥)
+pub completes-unsound : {ws txt : List ℕ} {t : Table} {request : Request} {query : Str} {flat out : List ℕ}
+    → (IsSound ws txt t → ⊥)
     → Completes ws txt t request query flat flat out out (record { table = t; answer = Refused Unsound })
 unfolding complete complete-modules completed completion-rows lowest argument-rows
 completes-unsound {ws} {txt} {t} {request} {query} {flat} {out} o = record { table = refl; says = λ b h. rw (says-same _ b false h o) (go (request .ask)) }
   where
-    go : (ask : Ask) → CompletesAs ask ws txt flat flat out out (Refused Unsound) (completion false (table-in ws txt t) ask (request .budget) (output flat out) query)
+    go : (ask : Ask) → CompletesAs ask ws txt flat flat out out (Refused Unsound)
+        (completion false (table-in ws txt t) ask (request .budget) (output flat out) query)
     go (Names f) = (refl, refl, refl)
     go (Modules f) = (refl, refl, refl)

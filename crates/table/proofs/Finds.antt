@@ -18,16 +18,19 @@ use Rattle.table_roots.specs.declared.FoundModule.the-variants.{Refused as Not-
 use Rattle.table.proofs.Says.{says-same}
 
 module _ {ws txt : List ℕ} {t : Table} {query : Str} where
-  pub finds-sound : {f : Found} → IsSound ws txt t → name-found f ≡ look-up true (names-in ws txt t) query → Finds ws txt t query (record { table = t; answer = f })
+  pub finds-sound : {f : Found} → IsSound ws txt t → name-found f ≡ look-up true (names-in ws txt t) query
+      → Finds ws txt t query (record { table = t; answer = f })
   finds-sound o e = record { table = refl; says = λ b h. rw (says-same _ b true h o) e }
 
   pub finds-unsound : (IsSound ws txt t → ⊥) → Finds ws txt t query (record { table = t; answer = Refused Unsound })
   unfolding lowest argument-rows look-up
   finds-unsound o = record { table = refl; says = λ b h. rw (says-same _ b false h o) refl }
 
-  pub finds-module-sound : {f : FoundModule} → IsSound ws txt t → FindsModuleOn ws txt (t .header .modules) query f → FindsModule ws txt t query (record { table = t; answer = f })
+  pub finds-module-sound : {f : FoundModule} → IsSound ws txt t → FindsModuleOn ws txt (t .header .modules) query f
+      → FindsModule ws txt t query (record { table = t; answer = f })
   finds-module-sound o m = record { table = refl; says = λ b h. rw (says-same _ b true h o) (m .says); inside = m .inside }
 
-  pub finds-module-unsound : (IsSound ws txt t → ⊥) → FindsModule ws txt t query (record { table = t; answer = Not-found Unsound })
+  pub finds-module-unsound : (IsSound ws txt t → ⊥)
+      → FindsModule ws txt t query (record { table = t; answer = Not-found Unsound })
   unfolding lowest argument-rows look-up
   finds-module-unsound o = record { table = refl; says = λ b h. rw (says-same _ b false h o) refl; inside = tt }

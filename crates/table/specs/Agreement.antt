@@ -36,7 +36,8 @@ pub record HoldsModule (ws txt : List ℕ) (t : Table) (name : Str) (a : Found M
   pub is : module-found txt (reply .answer) ≡ a
 
 -- What a caller holds of a completion that is not refused, and the lines that it reads in the lent output.
-pub record HoldsLines (ws txt : List ℕ) (t : Table) (ask : Ask) (query : Str) (lines : List (Line (Item (asked ask)))) : Type 0 where
+pub record HoldsLines (ws txt : List ℕ) (t : Table) (ask : Ask) (query : Str)
+    (lines : List (Line (Item (asked ask)))) : Type 0 where
   pub budget : ℕ
   pub count : ℕ
   pub entered : ℕ

@@ -21,5 +21,6 @@ pub record Finds (ws txt : List ℕ) (t : Table) (query : Str) (r : Finding) : T
 -- The same of a module or namespace, whose texts lie in the lent text.
 pub record FindsModule (ws txt : List ℕ) (t : Table) (query : Str) (r : ModuleFinding) : Type 0 where
   pub table : r .table ≡ t
-  pub says : (b : Bool) → Says b (IsSound ws txt t) → module-found txt (r .answer) ≡ look-up b (modules-in ws txt t) query
+  pub says : (b : Bool) → Says b (IsSound ws txt t)
+      → module-found txt (r .answer) ≡ look-up b (modules-in ws txt t) query
   pub inside : FoundInside (length txt) (r .answer)

@@ -19,11 +19,15 @@ use Rattle.table.specs.declared.Table.{Table}
 use Rattle.table.specs.declared.Listing.{Listing}
 
 -- The requirements' answer to what is asked.
-abbrev pub completion : (sound : Bool) → S.Table → (ask : Ask) → (budget : ℕ) → Output → Str → C.Completed (Item (asked ask))
+abbrev pub completion : (sound : Bool) → S.Table → (ask : Ask) → (budget : ℕ) → Output → Str
+    → C.Completed (Item (asked ask))
 completion sound tbl (Names f) budget out query = complete sound tbl f budget out query
 completion sound tbl (Modules f) budget out query = complete-modules sound tbl (filter-in f) budget out query
 
 -- What a completion hands back, in any memory: the table as it was, and the answer of the definition; b says whether the memory is sound.
-pub record Completes (ws txt : List ℕ) (t : Table) (request : Request) (query : Str) (flat flat′ out out′ : List ℕ) (r : Listing) : Type 0 where
+pub record Completes (ws txt : List ℕ) (t : Table) (request : Request) (query : Str) (flat flat′ out out′ : List ℕ)
+    (r : Listing) : Type 0 where
   pub table : r .table ≡ t
-  pub says : (b : Bool) → Says b (IsSound ws txt t) → CompletesAs (request .ask) ws txt flat flat′ out out′ (r .answer) (completion b (table-in ws txt t) (request .ask) (request .budget) (output flat out) query)
+  pub says : (b : Bool) → Says b (IsSound ws txt t)
+      → CompletesAs (request .ask) ws txt flat flat′ out out′ (r .answer)
+      (completion b (table-in ws txt t) (request .ask) (request .budget) (output flat out) query)

@@ -42,7 +42,8 @@ impl Table {
         item: LidSymbol,
     ) -> Registration
         requires { ⌜ IsSound (now words) (now text) self ⌝ }
-        ensures { λ r. ⌜ Answers true (old words) (old text) (new words) (new text) self (name (old host) (old id) item) r ⌝ }
+        ensures { λ r. ⌜ Answers true (old words) (old text) (new words) (new text) self
+            (name (old host) (old id) item) r ⌝ }
     {
         let kind = item.kind;
         self.register_sound(
@@ -77,7 +78,8 @@ impl Table {
         query: &[u8],
     ) -> Registration
         requires { ⌜ IsSound (now words) (now text) self ⌝ }
-        ensures { λ r. ⌜ Answers true (old words) (old text) (new words) (new text) self (include (old host) (old query)) r ⌝ }
+        ensures { λ r. ⌜ Answers true (old words) (old text) (new words) (new text) self
+            (include (old host) (old query)) r ⌝ }
     {
         self.register_sound(words, text, CallKind::Include, host, query, &host[..0])
     }
@@ -90,7 +92,8 @@ impl Table {
         host: &[u8],
         query: &[u8],
     ) -> Registration
-        ensures { λ r. ⌜ Total (old words) (old text) (new words) (new text) self (opens false (old host) (old query)) r ⌝ }
+        ensures { λ r. ⌜ Total (old words) (old text) (new words) (new text) self (opens false (old host) (old query))
+            r ⌝ }
     {
         self.register(words, text, CallKind::Open, host, query, &host[..0])
     }
@@ -104,7 +107,8 @@ impl Table {
         query: &[u8],
     ) -> Registration
         requires { ⌜ IsSound (now words) (now text) self ⌝ }
-        ensures { λ r. ⌜ Answers true (old words) (old text) (new words) (new text) self (opens false (old host) (old query)) r ⌝ }
+        ensures { λ r. ⌜ Answers true (old words) (old text) (new words) (new text) self
+            (opens false (old host) (old query)) r ⌝ }
     {
         self.register_sound(words, text, CallKind::Open, host, query, &host[..0])
     }
@@ -117,7 +121,8 @@ impl Table {
         host: &[u8],
         query: &[u8],
     ) -> Registration
-        ensures { λ r. ⌜ Total (old words) (old text) (new words) (new text) self (opens true (old host) (old query)) r ⌝ }
+        ensures { λ r. ⌜ Total (old words) (old text) (new words) (new text) self (opens true (old host) (old query))
+            r ⌝ }
     {
         self.register(words, text, CallKind::Include, host, query, &host[..0])
     }
@@ -131,7 +136,8 @@ impl Table {
         query: &[u8],
     ) -> Registration
         requires { ⌜ IsSound (now words) (now text) self ⌝ }
-        ensures { λ r. ⌜ Answers true (old words) (old text) (new words) (new text) self (opens true (old host) (old query)) r ⌝ }
+        ensures { λ r. ⌜ Answers true (old words) (old text) (new words) (new text) self
+            (opens true (old host) (old query)) r ⌝ }
     {
         self.register_sound(words, text, CallKind::Include, host, query, &host[..0])
     }
@@ -145,7 +151,8 @@ impl Table {
         host: &[u8],
         query: &[u8],
     ) -> Registration
-        ensures { λ r. ⌜ Total (old words) (old text) (new words) (new text) self (alias (old key) (old host) (old query)) r ⌝ }
+        ensures { λ r. ⌜ Total (old words) (old text) (new words) (new text) self
+            (alias (old key) (old host) (old query)) r ⌝ }
     {
         self.register(words, text, CallKind::Alias, host, query, key)
     }
@@ -160,7 +167,8 @@ impl Table {
         query: &[u8],
     ) -> Registration
         requires { ⌜ IsSound (now words) (now text) self ⌝ }
-        ensures { λ r. ⌜ Answers true (old words) (old text) (new words) (new text) self (alias (old key) (old host) (old query)) r ⌝ }
+        ensures { λ r. ⌜ Answers true (old words) (old text) (new words) (new text) self
+            (alias (old key) (old host) (old query)) r ⌝ }
     {
         self.register_sound(words, text, CallKind::Alias, host, query, key)
     }
@@ -174,7 +182,8 @@ impl Table {
         query: &[u8],
         path: &[u8],
     ) -> Registration
-        ensures { λ r. ⌜ Total (old words) (old text) (new words) (new text) self (module-path loaded (old query) (old path)) r ⌝ }
+        ensures { λ r. ⌜ Total (old words) (old text) (new words) (new text) self
+            (module-path loaded (old query) (old path)) r ⌝ }
     {
         self.register(
             words,
@@ -196,7 +205,8 @@ impl Table {
         path: &[u8],
     ) -> Registration
         requires { ⌜ IsSound (now words) (now text) self ⌝ }
-        ensures { λ r. ⌜ Answers true (old words) (old text) (new words) (new text) self (module-path loaded (old query) (old path)) r ⌝ }
+        ensures { λ r. ⌜ Answers true (old words) (old text) (new words) (new text) self
+            (module-path loaded (old query) (old path)) r ⌝ }
     {
         self.register_sound(
             words,

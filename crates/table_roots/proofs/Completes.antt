@@ -22,11 +22,17 @@ use Rattle.memory.specs.Sound.{At}
 use Rattle.memory_table.specs.Table.{Sound}
 use Rattle.memory_table.specs.declared.Header.{Header}
 
-pub completes-refused : {ws txt : List ℕ} {request : Request} {root : ℕ} {query : Str} {flat out : List ℕ} {x : Refusal} → lowest (argument-rows true (a-completion query ∷ [])) ≡ some (number x)
+pub completes-refused : {ws txt : List ℕ} {request : Request} {root : ℕ} {query : Str} {flat out : List ℕ} {x : Refusal}
+    → lowest (argument-rows true (a-completion query ∷ [])) ≡ some (number x)
     → CompletesOn ws txt request root query flat flat out out (Refused x)
 unfolding completed completion-rows
-completes-refused {query = query} e = record { says = rw (completed, completion-rows, lowest-stops (argument-rows true (a-completion query ∷ [])) _ e) (refl, refl, refl) }
+completes-refused {query = query} e =
+    record {
+      says = rw (completed, completion-rows, lowest-stops (argument-rows true (a-completion query ∷ [])) _ e)
+          (refl, refl, refl);
+    }
 
-pub root-trie : {ws txt : List ℕ} {h : Header} → Sound ws txt h → (ask : Ask) → At ws txt (asked ask) trieˢ (root-for h ask)
+pub root-trie : {ws txt : List ℕ} {h : Header} → Sound ws txt h → (ask : Ask)
+    → At ws txt (asked ask) trieˢ (root-for h ask)
 root-trie o (Names f) = names-trie o
 root-trie o (Modules f) = modules-trie o

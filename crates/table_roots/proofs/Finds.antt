@@ -27,29 +27,35 @@ module _ (query : Str) where
   pub look-up-query-whole : lowest (argument-rows true (a-look-up query ∷ [])) ≡ none → ends-in-dot query ≡ true
   look-up-query-whole e = look-up-whole true query (argument-rows-none true _ e)
 
-  pub look-up-rows-refused : {A : Type 0} (root : Trie A) {n : ℕ} → lowest (argument-rows true (a-look-up query ∷ [])) ≡ some n → refused n ≡ look-up true root query
+  pub look-up-rows-refused : {A : Type 0} (root : Trie A) {n : ℕ}
+      → lowest (argument-rows true (a-look-up query ∷ [])) ≡ some n → refused n ≡ look-up true root query
   unfolding look-up
   look-up-rows-refused root e = rw (look-up, e)
 
-  look-up-passed : {A : Type 0} (root : Trie A) → lowest (argument-rows true (a-look-up query ∷ [])) ≡ none → look-up true root query ≡ found-of (trie-find-exact root (segments query))
+  look-up-passed : {A : Type 0} (root : Trie A) → lowest (argument-rows true (a-look-up query ∷ [])) ≡ none
+      → look-up true root query ≡ found-of (trie-find-exact root (segments query))
   unfolding look-up
   look-up-passed root e = rw (look-up, e)
 
-  module _ (e : lowest (argument-rows true (a-look-up query ∷ [])) ≡ none) {ws txt : List ℕ} {w : Which} {root r : ℕ} (h : FindsExactIn ws txt w root (segments query) r) where
+  module _ (e : lowest (argument-rows true (a-look-up query ∷ [])) ≡ none) {ws txt : List ℕ} {w : Which} {root r : ℕ}
+      (h : FindsExactIn ws txt w root (segments query) r) where
     pub look-up-none : r ≡ 0 → not-found ≡ look-up true (what w ws txt root trieˢ) query
     unfolding found-of
     look-up-none z = rw (look-up-passed _ e, h .says, z)
 
-    pub look-up-found : (r ≡ 0 → ⊥) → found (item-of w txt (record-at ws r)) ≡ look-up true (what w ws txt root trieˢ) query
+    pub look-up-found : (r ≡ 0 → ⊥)
+        → found (item-of w txt (record-at ws r)) ≡ look-up true (what w ws txt root trieˢ) query
     unfolding found-of held the-item
     look-up-found z = rw (look-up-passed _ e, h .says, ne-eqb r 0 z)
 
 -- The branch that is found is a record.
-pub found-fits : {ws txt : List ℕ} {root r : ℕ} {q : Query} → AnyTrie ws txt root → T.FindsExact ws txt root q r → (r ≡ 0 → ⊥) → (0 < r) × (r * 12 ≤ length ws)
+pub found-fits : {ws txt : List ℕ} {root r : ℕ} {q : Query} → AnyTrie ws txt root → T.FindsExact ws txt root q r
+    → (r ≡ 0 → ⊥) → (0 < r) × (r * 12 ≤ length ws)
 found-fits a h z = (omega arith, link-fits (a .trie .sound) (link-later (omega (arith, a .trie .link .earlier)) (h (a .which) (a .trie) .link)))
 
 -- The texts of a found symbol lie in the lent text.
-pub symbol-inside : {ws txt : List ℕ} {root l : ℕ} → At ws txt modules trieˢ root → LinkOk ws (root + 1) l (kind modules (tree bind)) → 0 < l
+pub symbol-inside : {ws txt : List ℕ} {root l : ℕ} → At ws txt modules trieˢ root
+    → LinkOk ws (root + 1) l (kind modules (tree bind)) → 0 < l
     → SymbolInside (length txt) (symbol-in (record-at ws l))
 symbol-inside o i p =
     symbol-in-inside

@@ -63,7 +63,8 @@ BranchOf w ws root (Not-looked r) = Unit {0}
 pub record LookedUp (ws txt : List ℕ) (root : ℕ) (query : Str) (r : Looked) : Type 0 where
   pub fits : BranchFits ws r
   pub link : (w : Which) → At ws txt w trieˢ root → BranchOf w ws root r
-  pub says : (w : Which) → At ws txt w trieˢ root → item-found w ws txt r ≡ look-up true (what w ws txt root trieˢ) query
+  pub says : (w : Which) → At ws txt w trieˢ root
+      → item-found w ws txt r ≡ look-up true (what w ws txt root trieˢ) query
 
 -- A look-up of a module or namespace.
 pub record FindsModuleOn (ws txt : List ℕ) (root : ℕ) (query : Str) (r : FoundModule) : Type 0 where

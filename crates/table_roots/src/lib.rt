@@ -60,7 +60,8 @@ fn look_up(words: &[u32], text: &[u8], root: u32, query: &[u8]) -> Looked
 // Look-up of a name.
 pub fn find(words: &[u32], text: &[u8], header: Header, query: &[u8]) -> Found
     requires { ⌜ Sound (now words) (now text) header ⌝ }
-    ensures { λ r. ⌜ name-found r ≡ look-up true (what names (old words) (old text) (header .names) trieˢ) (old query) ⌝ }
+    ensures { λ r. ⌜ name-found r
+        ≡ look-up true (what names (old words) (old text) (header .names) trieˢ) (old query) ⌝ }
 {
     let l = look_up(words, text, header.names, query);
     match l {

@@ -25,22 +25,26 @@ use Rattle.table_shared.specs.Sharing.{sharing-seen, CompletesShared}
 use Rattle.table_shared.specs.declared.Sharing.{Sharing}
 
 module _ (ask : Ask) (ws txt flat flat′ out out′ : List ℕ) where
-  leaves : (r : Completed) (v : C.Completed (Item (asked ask))) → CompletesAs ask ws txt flat flat′ out out′ r v → Leaves (asked ask) ws txt flat flat′ out out′ (lines-in r) v
+  leaves : (r : Completed) (v : C.Completed (Item (asked ask))) → CompletesAs ask ws txt flat flat′ out out′ r v
+      → Leaves (asked ask) ws txt flat flat′ out out′ (lines-in r) v
   leaves r (C.listed lines entered) a = rw (a .0) (refl, a .1)
   leaves (Listed lines entered) (C.refused n) a = absurd (Option·none-ne-some n (a .0))
   leaves (Refused x) (C.refused n) a = refl
 
-module _ {ws txt : List ℕ} {t : Table} {request : Request} {query : Str} {flat flat′ out out′ : List ℕ} {l : Listing} (x : Completes ws txt t request query flat flat′ out out′ l) where
+module _ {ws txt : List ℕ} {t : Table} {request : Request} {query : Str} {flat flat′ out out′ : List ℕ} {l : Listing}
+    (x : Completes ws txt t request query flat flat′ out out′ l) where
   abbrev answer : Bool → C.Completed (Item (asked (request .ask)))
   answer b = completion b (table-in ws txt t) (request .ask) (request .budget) (output flat out) query
 
-  left : (b : Bool) → Says b (IsSound ws txt t) → Leaves (asked (request .ask)) ws txt flat flat′ out out′ (lines-in (l .answer)) (answer b)
+  left : (b : Bool) → Says b (IsSound ws txt t)
+      → Leaves (asked (request .ask)) ws txt flat flat′ out out′ (lines-in (l .answer)) (answer b)
   left b h = leaves (request .ask) ws txt flat flat′ out out′ (l .answer) (answer b) (x .says b h)
 
   pub completes-candidates : CandidatesIn flat′ out′ (lines-in (l .answer))
   completes-candidates = left-candidates (asked (request .ask)) ws txt flat flat′ out out′ (lines-in (l .answer)) answer left
 
-  pub completes-shared : {r : Sharing} → r ≡ sharing-seen flat′ out′ l → CompletesShared ws txt t request query flat flat′ out out′ r
+  pub completes-shared : {r : Sharing} → r ≡ sharing-seen flat′ out′ l
+      → CompletesShared ws txt t request query flat flat′ out out′ r
   completes-shared e = rw e (record {
     listing = x;
     shared = λ b h. leaves-shared (asked (request .ask)) ws txt flat flat′ out out′ (lines-in (l .answer)) (answer b) (left b h);

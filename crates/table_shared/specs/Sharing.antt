@@ -21,6 +21,9 @@ abbrev pub sharing-seen : (flat out : List ℕ) → Listing → Sharing
 sharing-seen flat out l = record { listing = l; shared = shared-seen flat out (lines-in (l .answer)) }
 
 -- In any memory: all that a completion hands back and leaves, and the shared length of the definition's answer; b says whether the memory is sound.
-pub record CompletesShared (ws txt : List ℕ) (t : Table) (request : Request) (query : Str) (flat flat′ out out′ : List ℕ) (r : Sharing) : Type 0 where
+pub record CompletesShared (ws txt : List ℕ) (t : Table) (request : Request) (query : Str)
+    (flat flat′ out out′ : List ℕ) (r : Sharing) : Type 0 where
   pub listing : Completes ws txt t request query flat flat′ out out′ (r .listing)
-  pub shared : (b : Bool) → Says b (IsSound ws txt t) → r .shared ≡ shared-length (completion b (table-in ws txt t) (request .ask) (request .budget) (output flat out) query)
+  pub shared : (b : Bool) → Says b (IsSound ws txt t)
+      → r .shared
+      ≡ shared-length (completion b (table-in ws txt t) (request .ask) (request .budget) (output flat out) query)

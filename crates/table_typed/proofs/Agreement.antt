@@ -33,9 +33,11 @@ use Rattle.table_typed.specs.Agreement.{LinesStand, ShownAlike, TypedAgr
 use Rattle.table_typed.specs.declared.Line.{Line}
 
 -- A listing that was not refused.
-listed-lines : (ask : Ask) (ws txt flat flat′ out out′ : List ℕ) (ls ls′ : List Line) (n entered : ℕ) (o : C.Completed (Item (asked ask)))
+listed-lines : (ask : Ask) (ws txt flat flat′ out out′ : List ℕ) (ls ls′ : List Line) (n entered : ℕ)
+    (o : C.Completed (Item (asked ask)))
     → CompletesAs ask ws txt flat flat′ out out′ (Listed n entered) o → ShownAs ask txt ls ls′ o
-    → (lines : List (S.Line (Item (asked ask)))) × (o ≡ C.listed lines entered) × LinesStand (asked ask) txt ls ls′ out out′ n lines
+    → (lines : List (S.Line (Item (asked ask)))) × (o ≡ C.listed lines entered)
+    × LinesStand (asked ask) txt ls ls′ out out′ n lines
 listed-lines ask ws txt flat flat′ out out′ ls ls′ n entered (C.listed lines e) h s =
     let k : n ≡ length lines = cc in
     let f : e ≡ entered = cc in
@@ -43,36 +45,53 @@ listed-lines ask ws txt flat flat′ out out′ ls ls′ n entered (C.listed lin
     (lines, rw f, record { count = k; shown = s; texts = rw z at (h .1 .out-laid) })
 listed-lines ask ws txt flat flat′ out out′ ls ls′ n entered (C.refused m) h s = absurd (Option·none-ne-some m (h .0))
 
-module _ (ws txt : List ℕ) (t : Table) (name query : Str) (budget : ℕ) (ls ls′ : List Line) (flat flat′ out out′ : List ℕ) (n entered : ℕ) (cover : Covers (segments query) (segments name)) where
-  names-agree : (b : Bool) → Says b (IsSound ws txt t) → (a : C.Found LidSymbol) → a ≡ look-up b (names-in ws txt t) name → NotRefused a
-      → CompletesAs (Names Every) ws txt flat flat′ out out′ (Listed n entered) (complete b (table-in ws txt t) Every budget (output (length ls) flat out) query)
-      → ShownAs (Names Every) txt ls ls′ (complete b (table-in ws txt t) Every budget (output (length ls) flat out) query)
+module _ (ws txt : List ℕ) (t : Table) (name query : Str) (budget : ℕ) (ls ls′ : List Line)
+    (flat flat′ out out′ : List ℕ) (n entered : ℕ) (cover : Covers (segments query) (segments name)) where
+  names-agree : (b : Bool) → Says b (IsSound ws txt t) → (a : C.Found LidSymbol)
+      → a ≡ look-up b (names-in ws txt t) name → NotRefused a
+      → CompletesAs (Names Every) ws txt flat flat′ out out′ (Listed n entered)
+      (complete b (table-in ws txt t) Every budget (output (length ls) flat out) query)
+      → ShownAs (Names Every) txt ls ls′
+      (complete b (table-in ws txt t) Every budget (output (length ls) flat out) query)
       → ShownAlike names txt ls ls′ out out′ n name a
   unfolding look-up lowest argument-rows
   names-agree false s a f ok c v = absurd (rw f at ok)
   names-agree true s a f ok c v =
-      let l = listed-lines (Names Every) ws txt flat flat′ out out′ ls ls′ n entered _ c v in
-      (l .0, l .2, agreement .names (table-in ws txt t) (sound-table s) .shows name query a (l .0) (sym f) ok (budget, output (length ls) flat out, entered, l .1) cover)
+      let l = listed-lines (Names Every) ws txt flat flat′ out out′ ls ls′ n entered _ c v in (
+        l .0,
+        l .2,
+        agreement .names (table-in ws txt t) (sound-table s) .shows name query a (l .0) (sym f) ok (budget, output (length ls) flat out, entered, l .1) cover,
+      )
 
-  modules-agree : (b : Bool) → Says b (IsSound ws txt t) → (a : C.Found ModSymbol) → a ≡ look-up b (modules-in ws txt t) name → NotRefused a
-      → CompletesAs (Modules All) ws txt flat flat′ out out′ (Listed n entered) (complete-modules b (table-in ws txt t) C.All budget (output (length ls) flat out) query)
-      → ShownAs (Modules All) txt ls ls′ (complete-modules b (table-in ws txt t) C.All budget (output (length ls) flat out) query)
+  modules-agree : (b : Bool) → Says b (IsSound ws txt t) → (a : C.Found ModSymbol)
+      → a ≡ look-up b (modules-in ws txt t) name → NotRefused a
+      → CompletesAs (Modules All) ws txt flat flat′ out out′ (Listed n entered)
+      (complete-modules b (table-in ws txt t) C.All budget (output (length ls) flat out) query)
+      → ShownAs (Modules All) txt ls ls′
+      (complete-modules b (table-in ws txt t) C.All budget (output (length ls) flat out) query)
       → ShownAlike modules txt ls ls′ out out′ n name a
   unfolding look-up lowest argument-rows
   modules-agree false s a f ok c v = absurd (rw f at ok)
   modules-agree true s a f ok c v =
-      let l = listed-lines (Modules All) ws txt flat flat′ out out′ ls ls′ n entered _ c v in
-      (l .0, l .2, agreement .modules (table-in ws txt t) (sound-table s) .shows name query a (l .0) (sym f) ok (budget, output (length ls) flat out, entered, l .1) cover)
+      let l = listed-lines (Modules All) ws txt flat flat′ out out′ ls ls′ n entered _ c v in (
+        l .0,
+        l .2,
+        agreement .modules (table-in ws txt t) (sound-table s) .shows name query a (l .0) (sym f) ok (budget, output (length ls) flat out, entered, l .1) cover,
+      )
 
 -- Demand 3, of the typed completion.
 pub typed-agree : TypedAgree
 typed-agree = record {
   of-names = λ ws txt t b s name query f budget ls ls′ flat flat′ out out′ l n entered found ok c e cover.
-      names-agree ws txt t name query budget ls ls′ flat flat′ out out′ n entered cover b s (name-found (f .answer)) (found .says b s) ok (rw e at (c .says b s)) (c .shows b s);
+      names-agree ws txt t name query budget ls ls′ flat flat′ out out′ n entered cover b s (name-found (f .answer)) (found .says b s) ok
+      (rw e at (c .says b s)) (c .shows b s);
   of-modules = λ ws txt t b s name query f budget ls ls′ flat flat′ out out′ l n entered found ok c e cover.
-      modules-agree ws txt t name query budget ls ls′ flat flat′ out out′ n entered cover b s (module-found txt (f .answer)) (found .says b s) ok (rw e at (c .says b s)) (c .shows b s);
+      modules-agree ws txt t name query budget ls ls′ flat flat′ out out′ n entered cover b s (module-found txt (f .answer)) (found .says b s) ok
+      (rw e at (c .says b s)) (c .shows b s);
   in-full = λ ws txt t b s name f budget ls ls′ flat flat′ out out′ l n entered x found is c e.
-      names-agree ws txt t name name budget ls ls′ flat flat′ out out′ n entered (covers-itself (segments name)) b s (C.found x) (sym is ∙ found .says b s) tt (rw e at (c .says b s)) (c .shows b s);
+      names-agree ws txt t name name budget ls ls′ flat flat′ out out′ n entered (covers-itself (segments name)) b s (C.found x) (sym is ∙ found .says b s) tt
+      (rw e at (c .says b s)) (c .shows b s);
   module-in-full = λ ws txt t b s name f budget ls ls′ flat flat′ out out′ l n entered x found is c e.
-      modules-agree ws txt t name name budget ls ls′ flat flat′ out out′ n entered (covers-itself (segments name)) b s (C.found x) (sym is ∙ found .says b s) tt (rw e at (c .says b s)) (c .shows b s);
+      modules-agree ws txt t name name budget ls ls′ flat flat′ out out′ n entered (covers-itself (segments name)) b s (C.found x) (sym is ∙ found .says b s) tt
+      (rw e at (c .says b s)) (c .shows b s);
 }

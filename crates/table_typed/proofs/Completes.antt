@@ -52,22 +52,26 @@ length-seen m h = go (eqb m 4294967295) h
     go true h = refl
     go false h = rw (le-ltb 2147483647 m (omega (arith, h)))
 
-record-seen-is : (w : Which) (txt r : List ℕ) → Held (signed-word (matched-word r)) → record-seen w txt (line-of-row (row-in w r)) ≡ some (line-of w txt r)
+record-seen-is : (w : Which) (txt r : List ℕ) → Held (signed-word (matched-word r))
+    → record-seen w txt (line-of-row (row-in w r)) ≡ some (line-of w txt r)
 unfolding line-of
 record-seen-is w txt r h = rw (item-seen-is w txt r, length-seen (matched-word r) h)
 
 -- ---- the lines
 
-output-held : {A : Type 0} (at : ℕ) (lines : List (S.Line A)) → Allˡ (λ l. Held (l .match-length)) lines → Allˡ (λ s. Held (s .match-length)) (output-lines at lines)
+output-held : {A : Type 0} (at : ℕ) (lines : List (S.Line A)) → Allˡ (λ l. Held (l .match-length)) lines
+    → Allˡ (λ s. Held (s .match-length)) (output-lines at lines)
 unfolding output-lines
 output-held at [] a = tt
 output-held at (l ∷ lines) a = (a .0, output-held (at + length (l .candidate) + length (l .annotation)) lines (a .1))
 
-rows-seen : (w : Which) (txt : List ℕ) (rows : List (List ℕ)) → Allˡ (λ s. Held (s .match-length)) (map (line-of w txt) rows)
+rows-seen : (w : Which) (txt : List ℕ) (rows : List (List ℕ))
+    → Allˡ (λ s. Held (s .match-length)) (map (line-of w txt) rows)
     → map (record-seen w txt) (map (λ r. line-of-row (row-in w r)) rows) ≡ map some (map (line-of w txt) rows)
 unfolding line-of
 rows-seen w txt [] a = refl
-rows-seen w txt (r ∷ rows) a = ap₂ (λ (x : Option (LineRecord (Item w))) (xs : List (Option (LineRecord (Item w)))). x ∷ xs) (record-seen-is w txt r (a .0)) (rows-seen w txt rows (a .1))
+rows-seen w txt (r ∷ rows) a =
+    ap₂ (λ (x : Option (LineRecord (Item w))) (xs : List (Option (LineRecord (Item w)))). x ∷ xs) (record-seen-is w txt r (a .0)) (rows-seen w txt rows (a .1))
 
 rows-inside : (w : Which) (txt : List ℕ) (rows : List (List ℕ)) → Allˡ (λ r. ItemInside (length txt) (item-in w r)) rows
     → Allˡ (λ l. ItemInside (length txt) (l .item)) (map (λ r. line-of-row (row-in w r)) rows)
@@ -75,26 +79,37 @@ rows-inside w txt [] a = tt
 rows-inside w txt (r ∷ rows) a = (a .0, rows-inside w txt rows (a .1))
 
 module _ (ask : Ask) (ws txt flat flat′ out out′ : List ℕ) (r : Completed) (ls ls′ : List Line) where
-  shown : (lines : List (S.Line (Item (asked ask)))) → Written (asked ask) ws txt flat flat′ out out′ 0 0 lines → Allˡ (λ l. Held (l .match-length)) lines
-      → length lines ≤ length ls → ls′ ≡ stored-lines (line-at ask flat′) ls (length lines) → Shown (asked ask) txt ls ls′ lines
+  shown : (lines : List (S.Line (Item (asked ask)))) → Written (asked ask) ws txt flat flat′ out out′ 0 0 lines
+      → Allˡ (λ l. Held (l .match-length)) lines
+      → length lines ≤ length ls → ls′ ≡ stored-lines (line-at ask flat′) ls (length lines)
+      → Shown (asked ask) txt ls ls′ lines
   shown lines w a h e =
       let n : ℕ = length lines in
       let rows : List (List ℕ) = words-from flat′ 0 n in
       let made : List Line = map (λ r. line-of-row (row-in (asked ask) r)) rows in
       let all : ls′ ≡ made ++ drop n ls = e ∙ stored-rows ask flat′ n ls h in
-      let size : length made ≡ n = length-map rows _ ∙ sym (length-map rows (line-of (asked ask) txt)) ∙ ap length (written-records w) ∙ output-lines-length 0 lines in
+      let size : length made ≡ n =
+      length-map rows _ ∙ sym (length-map rows (line-of (asked ask) txt)) ∙ ap length (written-records w) ∙ output-lines-length 0 lines in
       record {
-        first = ap (λ l. map (record-seen (asked ask) txt) (take n l)) all ∙ ap (map (record-seen (asked ask) txt)) (take-at made (drop n ls) n size)
-            ∙ rows-seen (asked ask) txt rows (subst (Allˡ (λ s. Held (s .match-length))) (sym (written-records w)) (output-held 0 lines a)) ∙ ap (map some) (written-records w);
-        inside = subst (Allˡ (λ l. ItemInside (length txt) (l .item))) (sym (ap (take n) all ∙ take-at made (drop n ls) n size)) (rows-inside (asked ask) txt rows (written-items w));
+        first = ap (λ l. map (record-seen (asked ask) txt) (take n l)) all
+            ∙ ap (map (record-seen (asked ask) txt)) (take-at made (drop n ls) n size)
+            ∙ rows-seen (asked ask) txt rows
+            (subst (Allˡ (λ s. Held (s .match-length))) (sym (written-records w)) (output-held 0 lines a))
+            ∙ ap (map some) (written-records w);
+        inside = subst (Allˡ (λ l. ItemInside (length txt) (l .item)))
+            (sym (ap (take n) all ∙ take-at made (drop n ls) n size))
+            (rows-inside (asked ask) txt rows (written-items w));
         after = ap (drop n) all ∙ drop-at made (drop n ls) n size;
       }
 
-  shown-as : (x : C.Completed (Item (asked ask))) → CompletesAs ask ws txt flat flat′ out out′ r x → AnswerHeld x → lines-in r ≤ length ls → ls′ ≡ stored-lines (line-at ask flat′) ls (lines-in r) → ShownAs ask txt ls ls′ x
-  shown-as (C.listed lines entered) c a h e = shown lines (c .1) a (omega (arith, h, ap lines-in (c .0))) (e ∙ ap (stored-lines (line-at ask flat′) ls) (ap lines-in (c .0)))
+  shown-as : (x : C.Completed (Item (asked ask))) → CompletesAs ask ws txt flat flat′ out out′ r x → AnswerHeld x
+      → lines-in r ≤ length ls → ls′ ≡ stored-lines (line-at ask flat′) ls (lines-in r) → ShownAs ask txt ls ls′ x
+  shown-as (C.listed lines entered) c a h e =
+      shown lines (c .1) a (omega (arith, h, ap lines-in (c .0))) (e ∙ ap (stored-lines (line-at ask flat′) ls) (ap lines-in (c .0)))
   shown-as (C.refused n) c a h e = e ∙ ap (stored-lines (line-at ask flat′) ls) (refused-none r (c .0))
 
-all-held : (ws txt : List ℕ) (t : Table) (ask : Ask) (query : Str) (budget : ℕ) (b : Bool) → Says b (IsSound ws txt t) → (o : Output) → AnswerHeld (completion b (table-in ws txt t) ask budget o query)
+all-held : (ws txt : List ℕ) (t : Table) (ask : Ask) (query : Str) (budget : ℕ) (b : Bool) → Says b (IsSound ws txt t)
+    → (o : Output) → AnswerHeld (completion b (table-in ws txt t) ask budget o query)
 unfolding complete complete-modules completed completion-rows lowest argument-rows
 all-held ws txt t ask query budget true s o = answer-held true (table-in ws txt t) ask budget o query (sound-table s)
 all-held ws txt t ask query budget false s o = go ask
@@ -103,15 +118,19 @@ all-held ws txt t ask query budget false s o = go ask
     go (Names f) = tt
     go (Modules f) = tt
 
-module _ {ws txt : List ℕ} {t : Table} {q : Request} {query : Str} {flat flat′ out out′ : List ℕ} {r : Listing} {n : ℕ} where
-  pub asked-at : {room : ℕ} → FlatCompletes ws txt t q query room flat flat′ out out′ r → n ≡ lines-in (r .answer) → length flat′ ≡ length flat → (n ≤ room) × (n * line-bytes ≤ length flat′)
+module _ {ws txt : List ℕ} {t : Table} {q : Request} {query : Str} {flat flat′ out out′ : List ℕ} {r : Listing}
+    {n : ℕ} where
+  pub asked-at : {room : ℕ} → FlatCompletes ws txt t q query room flat flat′ out out′ r → n ≡ lines-in (r .answer)
+      → length flat′ ≡ length flat → (n ≤ room) × (n * line-bytes ≤ length flat′)
   asked-at c e l = (omega (arith, c .fit, e), omega (arith, c .lent, e, l))
 
-  pub told-at : {ls ls′ : List Line} → FlatCompletes ws txt t q query (length ls) flat flat′ out out′ r → n ≡ lines-in (r .answer) → ls′ ≡ stored-lines (line-at (q .ask) flat′) ls n
+  pub told-at : {ls ls′ : List Line} → FlatCompletes ws txt t q query (length ls) flat flat′ out out′ r
+      → n ≡ lines-in (r .answer) → ls′ ≡ stored-lines (line-at (q .ask) flat′) ls n
       → CompletesLines ws txt t q query ls ls′ flat flat′ out out′ r
   told-at {ls} {ls′} c e s = record {
     table = c .table;
     says = c .says;
-    shows = λ b h. shown-as (q .ask) ws txt flat flat′ out out′ (r .answer) ls ls′ (completion b (table-in ws txt t) (q .ask) (q .budget) (output (length ls) flat out) query) (c .says b h)
+    shows = λ b h. shown-as (q .ask) ws txt flat flat′ out out′ (r .answer) ls ls′
+        (completion b (table-in ws txt t) (q .ask) (q .budget) (output (length ls) flat out) query) (c .says b h)
         (all-held ws txt t (q .ask) query (q .budget) b h (output (length ls) flat out)) (c .fit) (s ∙ ap (stored-lines (line-at (q .ask) flat′) ls) e);
   }

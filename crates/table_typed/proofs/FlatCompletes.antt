@@ -47,47 +47,73 @@ refused-none (Listed lines entered) {n} e = absurd (Option·none-ne-some n e)
 refused-none (Refused x) e = refl
 
 module _ (ask : Ask) (ws txt flat f out out′ : List ℕ) (r : Completed) (k : ℕ) where
-  part-as : k ≤ length flat → (x : C.Completed (Item (asked ask))) → CompletesAs ask ws txt (take k flat) f out out′ r x → CompletesAs ask ws txt flat (f ++ drop k flat) out out′ r x
-  part-as h (C.listed lines entered) c =
-      (c .0, record { rows = c .1 .rows; sized = c .1 .sized; from = c .1 .from; reads = c .1 .reads; flat-laid = laid-front h (c .1 .flat-laid); out-laid = c .1 .out-laid })
+  part-as : k ≤ length flat → (x : C.Completed (Item (asked ask))) → CompletesAs ask ws txt (take k flat) f out out′ r x
+      → CompletesAs ask ws txt flat (f ++ drop k flat) out out′ r x
+  part-as h (C.listed lines entered) c = (
+    c .0,
+    record {
+      rows = c .1 .rows;
+      sized = c .1 .sized;
+      from = c .1 .from;
+      reads = c .1 .reads;
+      flat-laid = laid-front h (c .1 .flat-laid);
+      out-laid = c .1 .out-laid;
+    },
+  )
   part-as h (C.refused n) c = (c .0, ap (λ l. l ++ drop k flat) (c .1) ∙ take-append-drop k flat, c .2)
 
-  part-fits : (x : C.Completed (Item (asked ask))) → CompletesAs ask ws txt (take k flat) f out out′ r x → lines-in r * line-bytes ≤ length (take k flat)
+  part-fits : (x : C.Completed (Item (asked ask))) → CompletesAs ask ws txt (take k flat) f out out′ r x
+      → lines-in r * line-bytes ≤ length (take k flat)
   part-fits (C.listed lines entered) c = omega (arith, ap lines-in (c .0), c .1 .flat-laid .fits)
   part-fits (C.refused n) c = omega (arith, refused-none r (c .0))
 
-output-part : (room k : ℕ) (flat out : List ℕ) → k ≤ length flat → k ≡ min (length flat / line-bytes) room * line-bytes → F.output (take k flat) out ≡ output room flat out
+output-part : (room k : ℕ) (flat out : List ℕ) → k ≤ length flat → k ≡ min (length flat / line-bytes) room * line-bytes
+    → F.output (take k flat) out ≡ output room flat out
 output-part room k flat out h e =
     let n : length (take k flat) / line-bytes ≡ min (length flat / line-bytes) room = ap (λ m. m / line-bytes) (length-take-le k flat h ∙ e) ∙ omega arith in
     ap (λ m. record { lines = min m 4294967295; text = min (length out) 4294967295 }) n
 
 module _ {ws txt : List ℕ} {t : Table} {q : Request} {query : Str} {room : ℕ} {flat out : List ℕ} where
-  pub flat-completes : {f out′ : List ℕ} {r : Listing} {k : ℕ} → IsSound ws txt t → k ≡ min (length flat / line-bytes) room * line-bytes
-      → T.Completes ws txt t q query (take k flat) f out out′ r → FlatCompletes ws txt t q query room flat (f ++ drop k flat) out out′ r
+  pub flat-completes : {f out′ : List ℕ} {r : Listing} {k : ℕ} → IsSound ws txt t
+      → k ≡ min (length flat / line-bytes) room * line-bytes
+      → T.Completes ws txt t q query (take k flat) f out out′ r
+      → FlatCompletes ws txt t q query room flat (f ++ drop k flat) out out′ r
   flat-completes {f} {out′} {r} {k} o e c =
       let ask : Ask = q .ask in
       let budget : ℕ = q .budget in
       let a : Completed = r .answer in
       let h : k ≤ length flat = omega (arith, e) in
-      let n : lines-in a * line-bytes ≤ k = omega (arith, part-fits ask ws txt flat f out out′ a k (completion true (table-in ws txt t) ask budget (F.output (take k flat) out) query) (c .says true o), length-take-le k flat h) in
+      let n : lines-in a * line-bytes ≤ k = omega (
+        arith,
+        part-fits ask ws txt flat f out out′ a k (completion true (table-in ws txt t) ask budget (F.output (take k flat) out) query) (c .says true o),
+        length-take-le k flat h,
+      ) in
       record {
         table = c .table;
-        says = λ b s. subst (λ x. CompletesAs ask ws txt flat (f ++ drop k flat) out out′ a (completion x (table-in ws txt t) ask budget (output room flat out) query)) (sym (says-same _ b true s o))
-            (part-as ask ws txt flat f out out′ a k h (completion true (table-in ws txt t) ask budget (output room flat out) query) (subst (λ x. CompletesAs ask ws txt (take k flat) f out out′ a (completion true (table-in ws txt t) ask budget x query)) (output-part room k flat out h e) (c .says true o)));
+        says = λ b s. subst (λ x. CompletesAs ask ws txt flat (f ++ drop k flat) out out′ a
+            (completion x (table-in ws txt t) ask budget (output room flat out) query)) (sym (says-same _ b true s o))
+            (part-as ask ws txt flat f out out′ a k h
+            (completion true (table-in ws txt t) ask budget (output room flat out) query)
+            (subst (λ x. CompletesAs ask ws txt (take k flat) f out out′ a
+            (completion true (table-in ws txt t) ask budget x query)) (output-part room k flat out h e)
+            (c .says true o)));
         fit = omega (arith, n, e);
         lent = omega (arith, n, h);
       }
 
   -- A memory that is not sound.
-  pub flat-unsound : (IsSound ws txt t → ⊥) → FlatCompletes ws txt t q query room flat flat out out (record { table = t; answer = Refused Unsound })
+  pub flat-unsound : (IsSound ws txt t → ⊥)
+      → FlatCompletes ws txt t q query room flat flat out out (record { table = t; answer = Refused Unsound })
   unfolding complete complete-modules completed completion-rows lowest argument-rows
   flat-unsound o = record {
     table = refl;
-    says = λ b s. subst (λ x. CompletesAs (q .ask) ws txt flat flat out out (Refused Unsound) (completion x (table-in ws txt t) (q .ask) (q .budget) (output room flat out) query)) (sym (says-same _ b false s o)) (go (q .ask));
+    says = λ b s. subst (λ x. CompletesAs (q .ask) ws txt flat flat out out (Refused Unsound)
+        (completion x (table-in ws txt t) (q .ask) (q .budget) (output room flat out) query)) (sym (says-same _ b false s o)) (go (q .ask));
     fit = zero-le;
     lent = zero-le;
   }
     where
-      go : (ask : Ask) → CompletesAs ask ws txt flat flat out out (Refused Unsound) (completion false (table-in ws txt t) ask (q .budget) (output room flat out) query)
+      go : (ask : Ask) → CompletesAs ask ws txt flat flat out out (Refused Unsound)
+          (completion false (table-in ws txt t) ask (q .budget) (output room flat out) query)
       go (Names f) = (refl, refl, refl)
       go (Modules f) = (refl, refl, refl)

@@ -13,14 +13,15 @@ use Rattle.source.specs.Text.{Str, Query, segments, string-compare, starts-with
 use Rattle.source.specs.Types.{Level, Value, Trie, Tree, NameList, StrEmpty, StrBranch, []ᴺ, Names, ImportedNames, bindings, namespaces}
 use Rattle.source.specs.Trees.{PrefixMatch, PathElem, find-prefix-onto, btree-find-prefix, btree-fold, btree-find-all}
 use Rattle.source.specs.Terms.{depth}
-use Rattle.source.specs.Listing.{PathOf, SearchTerm, NSTAll, NSTNone, NSTPrefix, ns-search-term, bindings-search-term, revmap-onto, names-revmap, matching-values, with-imports, elem-key, names-find-rev-first}
+use Rattle.source.specs.Listing.{PathOf, SearchTerm, NSTAll, NSTNone, NSTPrefix, ns-search-term, bindings-search-term, revmap-onto, names-revmap}
+use Rattle.source.specs.Listing.{matching-values, with-imports, elem-key, names-find-rev-first}
 use Rattle.source.specs.Table.{Table, ModSymbol, Line, Matched, match-elem, match-length-of-path, completion-result-of-lid, completion-result-of-ns-or-mod}
 use Rattle.source.specs.Rules.{IsKey, IsLabel, NameItem, ModItem, Formed, FormedNames, SoundTrie, SoundTable}
 use Rattle.source.specs.Calls.{Completed, listed, refused, Output, completed, completion-rows, lowest, complete, complete-modules, keeps-kind, keeps}
 use Rattle.source.specs.Shared.{Allˡ}
 use Rattle.source.proofs.Lookup.{Allˡ-map, Allˡ-zip, Allˡ-reverse}
 use Rattle.source.proofs.Lists.{merge-all}
-use Rattle.source.proofs.Formed.{rows-formed, parts}
+use Rattle.source.proofs.Formed.{rows-formed, formed-parts}
 use Rattle.source.specs.Forward.{found}
 use Rattle.source.specs.Forward.{line, lines, made, kept-line}
 use Rattle.source.specs.declared.LidSymbol.{LidSymbol}
@@ -43,7 +44,8 @@ module _ {A : Type 0} (P : A → Type 0) where
   all-append [] m a b = b
   all-append (x ∷ l) m a b = (a .0, all-append l m (a .1) b)
 
-  pub all-flatMap : {B : Type 0} (Q : B → Type 0) (f : B → List A) → ((b : B) → Q b → Allˡ P (f b)) → (l : List B) → Allˡ Q l → Allˡ P (flatMap f l)
+  pub all-flatMap : {B : Type 0} (Q : B → Type 0) (f : B → List A) → ((b : B) → Q b → Allˡ P (f b)) → (l : List B)
+      → Allˡ Q l → Allˡ P (flatMap f l)
   unfolding flatMap
   all-flatMap Q f h [] a = tt
   all-flatMap Q f h (b ∷ l) a = all-append (f b) (flatMap f l) (h b (a .0)) (all-flatMap Q f h l (a .1))
@@ -74,11 +76,13 @@ module _ {A : Type 0} {l : Level} where
   abbrev Matches : List (PrefixMatch × Value A l) → Type 0
   Matches m = Allˡ Fine m
 
-  either : (b : Bool) (m m′ : List (PrefixMatch × Value A l)) → (b ≡ true → Matches m) → Matches m′ → Matches (cond b m m′)
+  either : (b : Bool) (m m′ : List (PrefixMatch × Value A l)) → (b ≡ true → Matches m) → Matches m′
+      → Matches (cond b m m′)
   either true m m′ a b = a refl
   either false m m′ a b = b
 
-  find-prefix-fine : (t : Tree A l) (p : Str) (acc : List (PrefixMatch × Value A l)) → Matches acc → Matches (find-prefix-onto t p acc)
+  find-prefix-fine : (t : Tree A l) (p : Str) (acc : List (PrefixMatch × Value A l)) → Matches acc
+      → Matches (find-prefix-onto t p acc)
   unfolding find-prefix-onto
   find-prefix-fine StrEmpty p acc b = b
   find-prefix-fine (StrBranch k v lbt rbt) p acc b =
@@ -91,7 +95,8 @@ module _ {A : Type 0} {l : Level} where
       let middle-all : Matches middle = either starts (row ∷ right) right (λ e. (starts-length k p e, right-all)) right-all in
       either le middle (find-prefix-onto lbt p middle) (λ e. middle-all) (find-prefix-fine lbt p middle middle-all)
 
-  fold-fine : (p : Option Str) → ((k : Str) → Begins p k) → (t : Tree A l) (acc : List (PrefixMatch × Value A l)) → Matches acc
+  fold-fine : (p : Option Str) → ((k : Str) → Begins p k) → (t : Tree A l) (acc : List (PrefixMatch × Value A l))
+      → Matches acc
       → Matches (btree-fold t (λ k v acc. (record { prefix = p; completion = k }, v) ∷ acc) acc)
   unfolding btree-fold
   fold-fine p f StrEmpty acc b = b
@@ -101,7 +106,8 @@ module _ {A : Type 0} {l : Level} where
   AllMatches ms = Allˡ (λ m. Matches (m .1)) ms
 
   revmap-fine : (fn : Tree A l → List (PrefixMatch × Value A l)) → ((t : Tree A l) → Matches (fn t))
-      → (acc : List (List Str × List (PrefixMatch × Value A l))) (i : List Str) (n : NameList A l) → AllMatches acc → AllMatches (revmap-onto fn acc i n)
+      → (acc : List (List Str × List (PrefixMatch × Value A l))) (i : List Str) (n : NameList A l) → AllMatches acc
+      → AllMatches (revmap-onto fn acc i n)
   unfolding revmap-onto
   revmap-fine fn f acc i []ᴺ b = b
   revmap-fine fn f acc i (Names bt tl) b = revmap-fine fn f ((i, fn bt) ∷ acc) i tl (f bt, b)
@@ -122,7 +128,8 @@ module _ {A : Type 0} {l : Level} where
   with-imports-fine i [] a = tt
   with-imports-fine i (x ∷ m) a = (a .0, with-imports-fine i m (a .1))
 
-  all-fine : (ms : List (List Str × List (PrefixMatch × Value A l))) → AllMatches ms → Allˡ (Allˡ Row) (map with-imports ms)
+  all-fine : (ms : List (List Str × List (PrefixMatch × Value A l))) → AllMatches ms
+      → Allˡ (Allˡ Row) (map with-imports ms)
   all-fine [] a = tt
   all-fine (m ∷ ms) a = (with-imports-fine (m .0) (m .1) (a .0), all-fine ms (a .1))
 
@@ -144,7 +151,11 @@ so-far-short (el ∷ path) a = go (el .segment .prefix) (so-far-short path (a .1
     go : (o : Option Str) → matched path .so-far ≤ length path * 32
         → (let m : Matched = elim o [
           | none ↦ matched path
-          | some prefix ↦ record { so-far = matched path .so-far + 1 + length (el .segment .completion); last-prefix = prefix; last-completion = length (el .segment .completion) }
+          | some prefix ↦ record {
+            so-far = matched path .so-far + 1 + length (el .segment .completion);
+            last-prefix = prefix;
+            last-completion = length (el .segment .completion);
+          }
         ] in m .so-far ≤ suc (length path) * 32)
     go none h = omega (arith, h)
     go (some p) h = omega (arith, h, a .0 .0)
@@ -153,7 +164,8 @@ path-held : (path : PathOf) → Allˡ Short path → length path ≤ 17 → Held
 path-held [] a h = subst Held (sym (match-length-none [] tt)) refl
 path-held (el ∷ path) a h = go (el .segment .prefix) refl (a .0 .1) (path-held path (a .1) (omega arith))
   where
-    go : (o : Option Str) → el .segment .prefix ≡ o → Begins o (el .segment .completion) → Held (match-length-of-path (reverse path)) → Held (match-length-of-path (reverse (el ∷ path)))
+    go : (o : Option Str) → el .segment .prefix ≡ o → Begins o (el .segment .completion)
+        → Held (match-length-of-path (reverse path)) → Held (match-length-of-path (reverse (el ∷ path)))
     go none e b i = subst Held (sym (match-length-skip el path e)) i
     go (some p) e b i = subst Held (sym (match-length-some el path p e)) (omega (arith, so-far-short path (a .1), a .0 .0, b, h))
 
@@ -162,27 +174,36 @@ module _ {A : Type 0} (Item : A → Type 0) where
   abbrev RowOk : {l : Level} → PathElem × Value A l → Type 0
   RowOk y = Short (y .0) × Formed IsKey IsLabel Item (y .1)
 
-  rows-short : {l : Level} (n : NameList A l) (term : SearchTerm) → FormedNames IsKey IsLabel Item n → Allˡ RowOk (found n term)
+  rows-short : {l : Level} (n : NameList A l) (term : SearchTerm) → FormedNames IsKey IsLabel Item n
+      → Allˡ RowOk (found n term)
   unfolding found elem-key
   rows-short n term g =
-      Allˡ-reverse RowOk (names-find-rev-first n term) [] (Allˡ-zip (names-find-rev-first n term) (λ y k b. ((k .0 .short, b), k .1)) (rows-formed IsKey IsLabel Item n term g) (rows-fine n term)) tt
+      Allˡ-reverse RowOk (names-find-rev-first n term) []
+      (Allˡ-zip (names-find-rev-first n term) (λ y k b. ((k .0 .short, b), k .1)) (rows-formed IsKey IsLabel Item n term g) (rows-fine n term)) tt
 
   abbrev LineOk : PathOf × A → Type 0
   LineOk x = Held (match-length-of-path (x .0))
 
-  lines-held : (n : ℕ) (tr : Trie A) (path : PathOf) (q : Query) → Formed IsKey IsLabel Item tr → Allˡ Short path → length path + n ≤ 17 → Allˡ LineOk (lines n tr path q)
+  lines-held : (n : ℕ) (tr : Trie A) (path : PathOf) (q : Query) → Formed IsKey IsLabel Item tr → Allˡ Short path
+      → length path + n ≤ 17 → Allˡ LineOk (lines n tr path q)
   unfolding lines
   lines-held zero tr path q g a h = tt
   lines-held (suc n) tr path q g a h =
-      all-append LineOk (map (line path) (found (bindings tr) (bindings-search-term q))) (flatMap (λ x. lines n (x .1) (x .0 ∷ path) (tail q)) (found (namespaces tr) (ns-search-term q)))
-      (all-of-map LineOk (line path) (found (bindings tr) (bindings-search-term q)) (Allˡ-map (found (bindings tr) (bindings-search-term q)) (λ y k. path-held (y .0 ∷ path) (k .0, a) (omega arith)) (rows-short (bindings tr) (bindings-search-term q) (parts IsKey IsLabel Item tr g .0))))
-      (all-flatMap LineOk RowOk (λ x. lines n (x .1) (x .0 ∷ path) (tail q)) (λ y k. lines-held n (y .1) (y .0 ∷ path) (tail q) (k .1) (k .0, a) (omega arith)) (found (namespaces tr) (ns-search-term q)) (rows-short (namespaces tr) (ns-search-term q) (parts IsKey IsLabel Item tr g .1)))
+      all-append LineOk (map (line path) (found (bindings tr) (bindings-search-term q)))
+      (flatMap (λ x. lines n (x .1) (x .0 ∷ path) (tail q)) (found (namespaces tr) (ns-search-term q)))
+      (all-of-map LineOk (line path) (found (bindings tr) (bindings-search-term q))
+      (Allˡ-map (found (bindings tr) (bindings-search-term q)) (λ y k. path-held (y .0 ∷ path) (k .0, a) (omega arith))
+      (rows-short (bindings tr) (bindings-search-term q) (formed-parts IsKey IsLabel Item tr g .0))))
+      (all-flatMap LineOk RowOk (λ x. lines n (x .1) (x .0 ∷ path) (tail q)) (λ y k. lines-held n (y .1) (y .0 ∷ path) (tail q) (k .1) (k .0, a) (omega arith))
+      (found (namespaces tr) (ns-search-term q)) (rows-short (namespaces tr) (ns-search-term q) (formed-parts IsKey IsLabel Item tr g .1)))
 
   -- What is made of each path and item, where that keeps the match length.
-  made-held : {B : Type 0} (mk : PathOf × A → List (Line B)) (tr : Trie A) (q : Query) → ((x : PathOf × A) → Held (match-length-of-path (x .0)) → Allˡ (λ l. Held (l .match-length)) (mk x))
+  made-held : {B : Type 0} (mk : PathOf × A → List (Line B)) (tr : Trie A) (q : Query)
+      → ((x : PathOf × A) → Held (match-length-of-path (x .0)) → Allˡ (λ l. Held (l .match-length)) (mk x))
       → SoundTrie Item tr → Allˡ (λ l. Held (l .match-length)) (made mk (suc (depth tr)) tr [] q)
   unfolding made
-  made-held mk tr q f s = all-flatMap (λ l. Held (l .match-length)) LineOk mk f (lines (suc (depth tr)) tr [] q) (lines-held (suc (depth tr)) tr [] q (s .formed) tt (omega (arith, s .shallow)))
+  made-held mk tr q f s = all-flatMap (λ l. Held (l .match-length)) LineOk mk f (lines (suc (depth tr)) tr [] q)
+      (lines-held (suc (depth tr)) tr [] q (s .formed) tt (omega (arith, s .shallow)))
 
 -- ---- the answer
 -- Each line of an answer has such a length.
@@ -190,7 +211,8 @@ abbrev pub AnswerHeld : {A : Type 0} → Completed A → Type 0
 AnswerHeld (listed lines entered) = Allˡ (λ l. Held (l .match-length)) lines
 AnswerHeld (refused n) = Unit {0}
 
-completed-held : (A : Type 0) (b : Bool) (budget : ℕ) (out : Output) (query : Str) (lines : List (Line A)) (entered : ℕ) → Allˡ (λ l. Held (l .match-length)) lines → AnswerHeld (completed b budget out query lines entered)
+completed-held : (A : Type 0) (b : Bool) (budget : ℕ) (out : Output) (query : Str) (lines : List (Line A)) (entered : ℕ)
+    → Allˡ (λ l. Held (l .match-length)) lines → AnswerHeld (completed b budget out query lines entered)
 unfolding completed
 completed-held A b budget out query lines entered a = go (lowest (completion-rows b budget out query lines entered))
   where
@@ -199,7 +221,8 @@ completed-held A b budget out query lines entered a = go (lowest (completion-row
     go (some n) = tt
 
 -- So has a line that is kept.
-kept-held : {A : Type 0} (result : PathOf × A → Line A) → ((x : PathOf × A) → result x .match-length ≡ match-length-of-path (x .0)) → (keep : A → Bool) (x : PathOf × A)
+kept-held : {A : Type 0} (result : PathOf × A → Line A)
+    → ((x : PathOf × A) → result x .match-length ≡ match-length-of-path (x .0)) → (keep : A → Bool) (x : PathOf × A)
     → Held (match-length-of-path (x .0)) → Allˡ (λ l. Held (l .match-length)) (kept-line result keep x)
 unfolding kept-line
 kept-held result e keep x h = go (keep (x .1))
@@ -208,11 +231,13 @@ kept-held result e keep x h = go (keep (x .1))
     go true = (rw (e x) h, tt)
     go false = tt
 
-pub answer-held : (b : Bool) (tbl : Table) (ask : Ask) (budget : ℕ) (out : Output) (query : Str) → SoundTable tbl → AnswerHeld (completion b tbl ask budget out query)
+pub answer-held : (b : Bool) (tbl : Table) (ask : Ask) (budget : ℕ) (out : Output) (query : Str) → SoundTable tbl
+    → AnswerHeld (completion b tbl ask budget out query)
 unfolding complete complete-modules completion-result-of-lid completion-result-of-ns-or-mod
 answer-held b tbl (Asks.Names f) budget out query s =
     completed-held LidSymbol b budget out query _ _ (subst (Allˡ (λ l. Held (l .match-length))) (sym (autocomplete-lid-is tbl (segments query) (keeps-kind f)))
     (made-held NameItem _ (tbl .tbl-lids) (segments query) (λ x h. kept-held completion-result-of-lid (λ y. refl) (keeps-kind f) x h) (s .lids)))
 answer-held b tbl (Asks.Modules f) budget out query s =
-    completed-held ModSymbol b budget out query _ _ (subst (Allˡ (λ l. Held (l .match-length))) (sym (autocomplete-mod-or-ns-is tbl (segments query) (keeps (filter-in f))))
+    completed-held ModSymbol b budget out query _ _
+    (subst (Allˡ (λ l. Held (l .match-length))) (sym (autocomplete-mod-or-ns-is tbl (segments query) (keeps (filter-in f))))
     (made-held ModItem _ (tbl .tbl-mods) (segments query) (λ x h. kept-held completion-result-of-ns-or-mod (λ y. refl) (keeps (filter-in f)) x h) (s .mods)))

@@ -28,7 +28,8 @@ use Rattle.table_typed.specs.Lines.{record-seen}
 
 -- The output lent: a line takes a line struct and 48 bytes; lines and bytes past those that 32 bits count are not lent.
 abbrev pub output : (room : ℕ) (flat out : List ℕ) → Output
-output room flat out = record { lines = min (min (length flat / line-bytes) room) 4294967295; text = min (length out) 4294967295 }
+output room flat out =
+    record { lines = min (min (length flat / line-bytes) room) 4294967295; text = min (length out) 4294967295 }
 
 -- The lines stand in the first line structs, their items' texts in the table's text, and the structs after are as they were.
 pub record Shown (w : L.Which) (txt : List ℕ) (ls ls′ : List Line) (lines : List (S.Line (L.Item w))) : Type 0 where
@@ -49,12 +50,15 @@ module _ (ws txt : List ℕ) (t : Table) (q : Request) (query : Str) where
   -- The completion into bytes, lent for at most so many lines; the table comes back as it was.
   pub record FlatCompletes (room : ℕ) (flat flat′ out out′ : List ℕ) (r : Listing) : Type 0 where
     pub table : r .table ≡ t
-    pub says : (b : Bool) → Says b (IsSound ws txt t) → CompletesAs (q .ask) ws txt flat flat′ out out′ (r .answer) (answer b (output room flat out))
+    pub says : (b : Bool) → Says b (IsSound ws txt t)
+        → CompletesAs (q .ask) ws txt flat flat′ out out′ (r .answer) (answer b (output room flat out))
     pub fit : lines-in (r .answer) ≤ room
     pub lent : lines-in (r .answer) * line-bytes ≤ length flat
 
   -- The completion into line structs: as into bytes (roots' CompletesAs), and the lines are shown.
   pub record CompletesLines (ls ls′ : List Line) (flat flat′ out out′ : List ℕ) (r : Listing) : Type 0 where
     pub table : r .table ≡ t
-    pub says : (b : Bool) → Says b (IsSound ws txt t) → CompletesAs (q .ask) ws txt flat flat′ out out′ (r .answer) (answer b (output (length ls) flat out))
-    pub shows : (b : Bool) → Says b (IsSound ws txt t) → ShownAs (q .ask) txt ls ls′ (answer b (output (length ls) flat out))
+    pub says : (b : Bool) → Says b (IsSound ws txt t)
+        → CompletesAs (q .ask) ws txt flat flat′ out out′ (r .answer) (answer b (output (length ls) flat out))
+    pub shows : (b : Bool) → Says b (IsSound ws txt t)
+        → ShownAs (q .ask) txt ls ls′ (answer b (output (length ls) flat out))

@@ -16,7 +16,12 @@ use Rattle.table_typed.specs.declared.Line.{Line}
 
 -- The line that a row is.
 abbrev pub line-of-row : Row → Line
-line-of-row r = record { «match_length» = held-length (r .matched); item = r .item; candidate = r .candidate; annotation = r .annotation }
+line-of-row r = record {
+  «match_length» = held-length (r .matched);
+  item = r .item;
+  candidate = r .candidate;
+  annotation = r .annotation;
+}
 
 -- Line k of the bytes.
 unfoldable pub line-at : Ask → List ℕ → ℕ → Line

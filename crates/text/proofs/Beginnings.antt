@@ -58,7 +58,10 @@ by-byte (x ∷ a) (y ∷ b) zero e h = record { is-less = rw (compare-is x y Ord
 by-byte (x ∷ a) (y ∷ b) (suc k) e h =
     let f : x ≡ y = e 0 (omega arith) in
     let r = by-byte a b k (λ j l. e (suc j) (omega arith)) h in
-    record { is-less = rw (compare-is x y Ordering·eq f) (r .is-less); is-more = rw (compare-is y x Ordering·eq (sym f)) (r .is-more) }
+    record {
+      is-less = rw (compare-is x y Ordering·eq f) (r .is-less);
+      is-more = rw (compare-is y x Ordering·eq (sym f)) (r .is-more);
+    }
 
 module _ (a b : Str) (p : Bytes a) (q : Bytes b) where
   -- Texts with the same number have the same bytes.

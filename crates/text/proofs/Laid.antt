@@ -24,7 +24,11 @@ laid-more {d} {d′} {d″} {s} {t} {at} {r} {r′} x y =
     record {
       end = omega (arith, x .end, y .end, length-append s t);
       fits = omega (arith, y .fits, laid-length x);
-      is = y .is ∙ rw (front, back) (append-assoc (take at d) s (t ++ drop r′ d) ∙ ap (λ (l : List ℕ). take at d ++ l) (sym (append-assoc s t (drop r′ d))));
+      is = y .is ∙ rw (
+        front,
+        back,
+      ) (append-assoc (take at d) s (t ++ drop r′ d)
+          ∙ ap (λ (l : List ℕ). take at d ++ l) (sym (append-assoc s t (drop r′ d))));
     }
   where
     whole : d′ ≡ (take at d ++ s) ++ drop r d
@@ -43,7 +47,8 @@ laid-more {d} {d′} {d″} {s} {t} {at} {r} {r′} x y =
         ∙ drop-drop (length t) r d)
 
 -- One text, then a byte.
-pub laid-next : {d d′ s : List ℕ} {at r : ℕ} (c : ℕ) → Laid d d′ at r s → r < length d → Laid d (set d′ r c) at (r + 1) (s ++ (c ∷ []))
+pub laid-next : {d d′ s : List ℕ} {at r : ℕ} (c : ℕ) → Laid d d′ at r s → r < length d
+    → Laid d (set d′ r c) at (r + 1) (s ++ (c ∷ []))
 laid-next {d} {d′} {s} {at} {r} c x h =
     laid-more x (record {
       end = refl;
@@ -51,7 +56,8 @@ laid-next {d} {d′} {s} {at} {r} c x h =
       is = rw (add-one r) (set-split d′ r c (omega (arith, laid-length x)));
     })
 
-pub laid-step : {d d′ : List ℕ} {at i : ℕ} (text : List ℕ) → Laid d d′ at (at + i) (take i text) → i < length text → at + i < length d → Laid d (set d′ (at + i) (getD text i 0)) at (at + (i + 1)) (take (i + 1) text)
+pub laid-step : {d d′ : List ℕ} {at i : ℕ} (text : List ℕ) → Laid d d′ at (at + i) (take i text) → i < length text
+    → at + i < length d → Laid d (set d′ (at + i) (getD text i 0)) at (at + (i + 1)) (take (i + 1) text)
 laid-step {at = at} {i} text x l h =
     let q : at + (i + 1) ≡ at + i + 1 = omega arith in
     rw (q, add-one i, take-suc text i 0 l) (laid-next (getD text i 0) x h)
@@ -65,7 +71,8 @@ none-after : (d : List ℕ) (at : ℕ) → at ≤ length d → drop (length d - 
 none-after d at h = ap (λ (n : ℕ). drop n (drop at d)) (sym (length-drop at d)) ∙ drop-length (drop at d)
 
 -- What is written at the start of the part stands from at on.
-pub lent-laid : {d d″ s : List ℕ} {r : ℕ} (at : ℕ) → at ≤ length d → Laid (midOf at (length d - at) d) d″ 0 r s → Laid d (putMid at (length d - at) d d″) at (at + r) s
+pub lent-laid : {d d″ s : List ℕ} {r : ℕ} (at : ℕ) → at ≤ length d → Laid (midOf at (length d - at) d) d″ 0 r s
+    → Laid d (putMid at (length d - at) d d″) at (at + r) s
 lent-laid {d} {d″} {s} {r} at h x = record {
   end = omega (arith, x .end);
   fits = omega (arith, x .fits, ap length (part-all d at h), length-drop at d);

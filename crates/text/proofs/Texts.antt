@@ -75,14 +75,16 @@ either-ends (a ∷ s) (b ∷ t) e = absurd (omega arith)
 
 module _ {a b : Str} {i : ℕ} (f : Comparing a b i) where
   module _ (h : i < length a) (k : i < length b) where
-    bytes-say : string-compare a b ≡ then (compare (getD a i 0) (getD b i 0)) (string-compare (drop (i + 1) a) (drop (i + 1) b))
+    bytes-say : string-compare a b
+        ≡ then (compare (getD a i 0) (getD b i 0)) (string-compare (drop (i + 1) a) (drop (i + 1) b))
     unfolding string-compare
     bytes-say = rw (← f .says, drop-at a i, drop-at b i)
 
     pub bytes-same : getD a i 0 ≡ getD b i 0 → Comparing a b (i + 1)
     unfolding then
     bytes-same e =
-        let same : common-prefix (drop i a) (drop i b) ≡ getD a i 0 ∷ common-prefix (drop (i + 1) a) (drop (i + 1) b) = rw (drop-at a i, drop-at b i) (common-same _ _ _ _ e) in
+        let same : common-prefix (drop i a) (drop i b) ≡ getD a i 0 ∷ common-prefix (drop (i + 1) a) (drop (i + 1) b) =
+        rw (drop-at a i, drop-at b i) (common-same _ _ _ _ e) in
         record {
           a-has = omega arith;
           b-has = omega arith;
@@ -90,14 +92,20 @@ module _ {a b : Str} {i : ℕ} (f : Comparing a b i) where
           counts = omega (arith, f .counts, ap length same);
         }
 
-    pub bytes-differ : (getD a i 0 ≡ getD b i 0 → ⊥) → (o : Order) → ordering o ≡ compare (getD a i 0) (getD b i 0) → Compares a b (record { order = o; agree = i })
+    pub bytes-differ : (getD a i 0 ≡ getD b i 0 → ⊥) → (o : Order) → ordering o ≡ compare (getD a i 0) (getD b i 0)
+        → Compares a b (record { order = o; agree = i })
     bytes-differ n o e =
         let none : common-prefix (drop i a) (drop i b) ≡ [] = rw (drop-at a i, drop-at b i) (common-differ _ _ _ _ n) in
         record { order = e ∙ sym (bytes-say ∙ then-stands _ _ _ n); agree = omega (arith, f .counts, ap length none) }
 
   -- One of them ends at i.
-  pub compares-ended : (n : ℕ) → n ≡ min (length a) (length b) → n ≤ i → (o : Order) → ordering o ≡ compare (length a) (length b) → Compares a b (record { order = o; agree = n })
-  compares-ended n e h o p = record { order = p ∙ same-order ∙ sym (x .says) ∙ f .says; agree = omega (arith, f .counts, f .a-has, f .b-has, ap length (x .none)) }
+  pub compares-ended : (n : ℕ) → n ≡ min (length a) (length b) → n ≤ i → (o : Order)
+      → ordering o ≡ compare (length a) (length b) → Compares a b (record { order = o; agree = n })
+  compares-ended n e h o p =
+      record {
+        order = p ∙ same-order ∙ sym (x .says) ∙ f .says;
+        agree = omega (arith, f .counts, f .a-has, f .b-has, ap length (x .none));
+      }
     where
       x : Ended (drop i a) (drop i b)
       x = either-ends (drop i a) (drop i b) (omega (arith, length-drop i a, length-drop i b, f .a-has, f .b-has))
@@ -108,7 +116,8 @@ module _ {a b : Str} {i : ℕ} (f : Comparing a b i) where
       view Ordering·gt v = omega (arith, length-drop i a, length-drop i b, f .a-has, f .b-has)
 
       same-order : compare (length a) (length b) ≡ compare (length (drop i a)) (length (drop i b))
-      same-order = compare-is (length a) (length b) (compare (length (drop i a)) (length (drop i b))) (view (compare (length (drop i a)) (length (drop i b))) (compare-view (length (drop i a)) (length (drop i b))))
+      same-order = compare-is (length a) (length b) (compare (length (drop i a)) (length (drop i b)))
+          (view (compare (length (drop i a)) (length (drop i b))) (compare-view (length (drop i a)) (length (drop i b))))
 
 -- ---- Prefix
 

@@ -33,12 +33,16 @@ pub record First (s : Str) : Type 0 where
   pub splits : segments s ≡ take (before-dot s) s ∷ segments (drop (suc (before-dot s)) s)
   pub ends : ends-in-dot (drop (suc (before-dot s)) s) ≡ ends-in-dot s
 
-first-cons : (b : ℕ) (s : Str) (t : Bool) → eqb b dot ≡ t → before-dot (b ∷ s) < suc (length s) → (before-dot s < length s → First s) → First (b ∷ s)
+first-cons : (b : ℕ) (s : Str) (t : Bool) → eqb b dot ≡ t → before-dot (b ∷ s) < suc (length s)
+    → (before-dot s < length s → First s) → First (b ∷ s)
 unfolding before-dot onto-first
 first-cons b s true e h f = record { splits = rw (e, segments-dot b s e); ends = rw e (sym (ends-dot b s e)) }
 first-cons b s false e h f =
     let k : before-dot s < length s = omega (arith, rw e at h) in
-    record { splits = rw (e, segments-other b s e, f k .splits); ends = rw e (f k .ends ∙ sym (ends-cons b s (omega arith))) }
+    record {
+      splits = rw (e, segments-other b s e, f k .splits);
+      ends = rw e (f k .ends ∙ sym (ends-cons b s (omega arith)));
+    }
 
 pub first-segment : (s : Str) → before-dot s < length s → First s
 first-segment [] h = absurd (omega arith)
@@ -95,7 +99,8 @@ pub before-at-dot : (s : Str) (i : ℕ) → i < length s → getD s i 0 ≡ dot 
 unfolding before-dot
 before-at-dot s i h e = rw (drop-at s i, eq-eqb (getD s i 0) dot e)
 
-pub before-at-other : (s : Str) (i : ℕ) → i < length s → (getD s i 0 ≡ dot → ⊥) → before-dot (drop i s) ≡ suc (before-dot (drop (i + 1) s))
+pub before-at-other : (s : Str) (i : ℕ) → i < length s → (getD s i 0 ≡ dot → ⊥)
+    → before-dot (drop i s) ≡ suc (before-dot (drop (i + 1) s))
 unfolding before-dot
 before-at-other s i h n = rw (drop-at s i, ne-eqb (getD s i 0) dot n)
 
@@ -115,7 +120,8 @@ segment-at s at n e h =
     record { inside = h; splits = cc; ends = cc }
 
 -- The next segment of a text that ends in a dot, where n is what segment_length answers of `&s[at..]`.
-pub next-segment : (s : Str) (at n : ℕ) → n ≡ before-dot (take (length s - at) (drop at s)) → ends-in-dot (drop at s) ≡ true → at < length s
+pub next-segment : (s : Str) (at n : ℕ) → n ≡ before-dot (take (length s - at) (drop at s))
+    → ends-in-dot (drop at s) ≡ true → at < length s
     → Segment s at n
 next-segment s at n e d h =
     let l : length (drop at s) ≡ length s - at = length-drop at s in

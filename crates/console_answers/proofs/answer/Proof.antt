@@ -9,10 +9,10 @@ part-requires : tie.Need-part-requires
 part-requires c κs = (rw (c .before .before .before .form .given .1) at (c .before .before .before .before .before .parse .ensures)) .host-in
 
 part-requires-2 : tie.Need-part-requires-2
-part-requires-2 c κs = (rw (c .before .before .before .before .form .given .1) at (c .before .before .before .before .before .before .parse .ensures)) .other-in
+part-requires-2 c κs = let s = c .before .before .before .before in (rw (s .form .given .1) at (s .before .before .parse .ensures)) .other-in
 
 part-requires-3 : tie.Need-part-requires-3
-part-requires-3 c κs = (rw (c .before .before .before .before .before .form .given .1) at (c .before .before .before .before .before .before .before .parse .ensures)) .key-in
+part-requires-3 c κs = let s = c .before .before .before .before .before in (rw (s .form .given .1) at (s .before .before .parse .ensures)) .key-in
 
 part-requires-4 : tie.Need-part-requires-4
 part-requires-4 c κs = (rw (c .before .before .before .form2 .given .1) at (c .before .before .before .before .before .parse .ensures)) .0
@@ -33,7 +33,10 @@ same-length-3 : tie.Need-same-length-3
 same-length-3 c = search needs
 
 returns : tie.Need-returns
-returns c = answered-call (output (c .before .before .before .before .before .before .before .before .before .before .before .before .before .before .before .before .before .before .before .before .before .before .before .args .flat .now) (c .before .before .before .before .before .before .before .before .before .before .before .before .before .before .before .before .before .before .before .before .before .before .before .args .pane .now)) (rw (c .before .before .before .before .before .before .before .before .before .before .before .before .before .before .form .given .1) at (c .before .before .before .before .before .before .before .before .before .before .before .before .before .before .before .before .parse .ensures)) (c .before .before .before .before .before .before .before .before .before .before .part .ensures) (c .before .before .before .before .before .before .before .before .before .part2 .ensures) (c .before .before .before .before .before .before .before .before .part3 .ensures) (c .before .before .before .before .before .before .register-line .ensures)
+returns c = let s = c .before .before .before .before .before .before in let s2 = s .before .before in
+    let s3 = s2 .before .before .before .before .before .before in let s4 = s3 .before .before .before .before .before .before .before .before .before in
+    answered-call (output (s4 .args .flat .now) (s4 .args .pane .now)) (rw (s3 .form .given .1) at (s3 .before .before .parse .ensures))
+    (s2 .before .before .part .ensures) (s2 .before .part2 .ensures) (s2 .part3 .ensures) (s .register-line .ensures)
 
 same-length-4 : tie.Need-same-length-4
 same-length-4 c = search needs
@@ -51,13 +54,18 @@ same-length-8 : tie.Need-same-length-8
 same-length-8 c = search needs
 
 returns-2 : tie.Need-returns-2
-returns-2 c = answered-ask (output (c .before .before .before .before .before .before .before .before .before .before .before .before .before .before .before .before .before .before .before .before .before .before .before .args .flat .now) (c .before .before .before .before .before .before .before .before .before .before .before .before .before .before .before .before .before .before .before .before .before .before .before .args .pane .now)) (c .before .before .before .before .before .before .before .before .before .before .before .before .before .before .before .before .before .before .before .before .before .before .before .pre .0) (ask-reads (c .before .before .before .before .before .before .before .before .before .before .part4 .ensures) ((rw (c .before .before .before .before .before .before .before .before .before .before .before .before .before .before .form2 .given .1) at (c .before .before .before .before .before .before .before .before .before .before .before .before .before .before .before .before .parse .ensures)) .1)) (c .before .before .before .before .before .before .ask-line .ensures)
+returns-2 c = let s = c .before .before .before .before .before .before in let s2 = s .before .before .before .before in
+    let s3 = s2 .before .before .before .before in let s4 = s3 .before .before .before .before .before .before .before .before .before in
+    answered-ask (output (s4 .args .flat .now) (s4 .args .pane .now)) (s4 .pre .0)
+    (ask-reads (s2 .part4 .ensures) ((rw (s3 .form2 .given .1) at (s3 .before .before .parse .ensures)) .1)) (s .ask-line .ensures)
 
 same-length-9 : tie.Need-same-length-9
 same-length-9 c = search needs
 
 returns-3 : tie.Need-returns-3
-returns-3 c = answered-bad (output (c .before .before .before .before .before .before .before .before .before .before .before .before .before .args .flat .now) (c .before .before .before .before .before .before .before .before .before .before .before .before .before .args .pane .now)) (c .before .before .before .before .before .before .before .before .before .before .before .before .before .pre .0) (rw (c .before .before .before .before .enum-told .given .1) at (c .before .before .before .before .before .before .parse .ensures)) (c .before .before .put-bad .ensures)
+returns-3 c = let s = c .before .before .before .before in let s2 = s .before .before .before .before .before .before .before .before .before in
+    answered-bad (output (s2 .args .flat .now) (s2 .args .pane .now)) (s2 .pre .0) (rw (s .enum-told .given .1) at (s .before .before .parse .ensures))
+    (c .before .before .put-bad .ensures)
 
 pub answer-spec : {M : Type 1} → statement M
 answer-spec =

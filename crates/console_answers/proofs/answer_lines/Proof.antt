@@ -10,13 +10,14 @@ use Rattle.console_answers.proofs.answer_lines.Statement.{statement}
 use Rattle.console_answers.proofs.answer_lines.Tie as tie
 
 abbrev Inv-loop : tie.InvT-loop
-Inv-loop words₀ text₀ input from flat₀ pane₀ reply₀ size t₀ at₀ i₀ words text flat pane reply t at i = (size ≡ room flat₀ pane₀) × Going words₀ text₀ t₀ input from flat₀ pane₀ reply₀ words text flat pane reply t at i
+Inv-loop words₀ text₀ input from flat₀ pane₀ reply₀ size t₀ at₀ i₀ words text flat pane reply t at i =
+    (size ≡ room flat₀ pane₀) × Going words₀ text₀ t₀ input from flat₀ pane₀ reply₀ words text flat pane reply t at i
 
 abbrev μ-loop : tie.MeasureT-loop
 μ-loop words₀ text₀ input from flat₀ pane₀ reply₀ size t₀ at₀ i₀ words text flat pane reply t at i = length input - i
 
 loop-holds : tie.Need-loop-holds Inv-loop μ-loop
-loop-holds c = (refl, talk-going-start (c .before .before .before .before .before .before .pre .0) (c .before .before .before .before .before .before .pre .1 .1))
+loop-holds c = let s = c .before .before .before .before .before .before in (refl, talk-going-start (s .pre .0) (s .pre .1 .1))
 
 sub-loop : tie.Need-sub-loop Inv-loop μ-loop
 sub-loop c = omega (arith, (c .loop .inv .1) .fits, (c .loop .inv .1) .reply-size)
@@ -31,13 +32,27 @@ add-e : tie.Need-add-e Inv-loop μ-loop
 add-e c = omega (arith, (c .before .before .before .loop .inv .1) .inside, c .line-end .ensures .within)
 
 answer-requires : tie.Need-answer-requires Inv-loop μ-loop
-answer-requires c κs = ((c .before .before .before .before .before .before .before .before .before .before .loop .inv .1) .sound, omega (arith, (c .before .before .before .before .before .before .before .before .before .before .loop .inv .1) .fits, (c .before .before .before .before .before .before .before .before .before .before .loop .inv .1) .reply-size, (c .before .before .before .before .before .before .before .before .before .before .loop .inv .1) .flat-size, (c .before .before .before .before .before .before .before .before .before .before .loop .inv .1) .pane-size, c .before .before .before .before .before .before .before .before .before .before .loop .inv .0))
+answer-requires c κs = let inv = c .before .before .before .before .before .before .before .before .before .before .loop .inv in
+    ((inv .1) .sound, omega (arith, (inv .1) .fits, (inv .1) .reply-size, (inv .1) .flat-size, (inv .1) .pane-size, inv .0))
 
 add-i : tie.Need-add-i Inv-loop μ-loop
-add-i c = omega (arith, (c .before .before .before .before .before .before .before .before .before .before .before .before .before .before .before .before .before .before .before .before .before .before .loop .inv .1) .inside, c .before .before .before .before .before .before .before .before .before .before .before .before .before .before .before .before .before .before .before .line-end .ensures .within, c .before .before .before .before .before .before .before .before .before .before .before .before .before .before .before .before .before .before .if1 .left, c .before .before .before .before .before .before .before .before .before .before .before .before .before .before .before .before .before .before .before .before .before .before .before .before .before .before .before .before .before .good .1 .1 .1 .0)
+add-i c = let s = c .before .before .before .before .before .before .before .before .before .before .before .before .before .before in
+    let s2 = s .before .before .before .before in let s3 = s2 .before .before .before .before in
+    omega (
+      arith,
+      (s3 .loop .inv .1) .inside,
+      s2 .before .line-end .ensures .within,
+      s2 .if1 .left,
+      s3 .before .before .before .before .before .before .before .good .1 .1 .1 .0,
+    )
 
 loop-again : tie.Need-loop-again Inv-loop μ-loop
-loop-again c = (c .before .before .before .before .before .before .before .before .before .before .before .before .before .before .before .before .before .before .before .before .before .before .loop .inv .0, talk-going-on (c .before .before .before .before .before .before .before .before .before .before .before .before .before .before .before .before .before .before .before .before .before .before .loop .inv .1) (c .before .before .before .before .before .before .before .before .before .before .before .before .before .before .before .before .before .before .before .line-end .ensures) (omega (arith, c .before .before .before .before .before .before .before .before .before .before .before .before .before .before .before .before .before .before .before .line-end .ensures .within)) (search needs) (search needs) (c .before .before .before .before .before .before .before .before .before .before .before .answer .ensures))
+loop-again c = let s = c .before .before .before .before .before .before .before .before .before .before .before in
+    let s2 = s .before .before .before .before .before .before .before .before in (
+      s2 .before .before .before .loop .inv .0,
+      talk-going-on (s2 .before .before .before .loop .inv .1) (s2 .line-end .ensures) (omega (arith, s2 .line-end .ensures .within)) (search needs)
+          (search needs) (s .answer .ensures),
+    )
 
 same-length : tie.Need-same-length Inv-loop μ-loop
 same-length c = (c .before .loop .inv .1) .words .size
@@ -55,7 +70,8 @@ same-length-5 : tie.Need-same-length-5 Inv-loop μ-loop
 same-length-5 c = (c .before .loop .inv .1) .reply-size
 
 returns : tie.Need-returns Inv-loop μ-loop
-returns c = talked-full (c .before .loop .inv .1) (c .before .before .before .before .before .before .before .before .pre .1 .0) (omega (arith, c .before .loop .inv .0))
+returns c = talked-full (c .before .loop .inv .1) (c .before .before .before .before .before .before .before .before .pre .1 .0)
+    (omega (arith, c .before .loop .inv .0))
 
 same-length-6 : tie.Need-same-length-6 Inv-loop μ-loop
 same-length-6 c = (c .before .before .before .before .loop .inv .1) .words .size

@@ -27,13 +27,16 @@ slice-write-input : tie.Need-slice-write-input Inv-loop μ-loop
 slice-write-input c = omega (arith, c .before .before .loop .inv .2 .size)
 
 loop-again : tie.Need-loop-again Inv-loop μ-loop
-loop-again c = (c .before .before .loop .inv .0, omega arith, moved-on (c .before .before .loop .inv .2) (omega (arith, c .before .before .loop .inv .2 .size)))
+loop-again c = let inv = c .before .before .loop .inv in (inv .0, omega arith, moved-on (inv .2) (omega (arith, inv .2 .size)))
 
 same-length : tie.Need-same-length Inv-loop μ-loop
 same-length c = c .before .loop .inv .2 .size
 
 returns : tie.Need-returns Inv-loop μ-loop
-returns c = record { size = c .before .loop .inv .0; is = let e : c .before .loop .i ≡ c .before .before .short .result = omega arith in rw (← e) (c .before .loop .inv .2 .done) }
+returns c = record {
+  size = c .before .loop .inv .0;
+  is = let e : c .before .loop .i ≡ c .before .before .short .result = omega arith in rw (← e) (c .before .loop .inv .2 .done);
+}
 
 pub keep-spec : {M : Type 1} → statement M
 keep-spec =

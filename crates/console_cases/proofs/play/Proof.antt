@@ -18,7 +18,10 @@ answer-lines-requires : tie.Need-answer-lines-requires
 answer-lines-requires c κs = (c .before .before .before .before .before .fresh .ensures .sound _ _, (omega arith, zero-le))
 
 answer-lines-requires-2 : tie.Need-answer-lines-requires-2
-answer-lines-requires-2 c κs = (c .before .before .before .before .before .before .before .before .before .before .before .answer-lines .ensures .sound, (omega (arith, c .before .before .before .before .before .before .reply2 .given, c .before .before .before .before .before .before .before .pane2 .given, c .before .before .before .before .before .before .before .before .flat2 .given), zero-le))
+answer-lines-requires-2 c κs = let s2 = c .before .before .before .before .before .before in (
+  s2 .before .before .before .before .before .answer-lines .ensures .sound,
+  (omega (arith, s2 .reply2 .given, s2 .before .pane2 .given, s2 .before .before .flat2 .given), zero-le),
+)
 
 slice-aggregate-say : tie.Need-slice-aggregate-say
 slice-aggregate-say c = sym (length-take-le _ _ (laid-fits (c .before .before .before .before .before .before .answer-lines2 .ensures .laid)))

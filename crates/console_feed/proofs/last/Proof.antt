@@ -14,7 +14,7 @@ last-spec =
     {- part-is-line-start -}
     (λ c. omega (arith, c .before .before .before .before .before .before .before .pre .1 .1 .started))
     {- part-is-line-end -}
-    (λ c. omega (arith, c .before .before .before .before .before .before .before .pre .1 .1 .started, c .before .before .before .before .before .before .before .pre .1 .1 .ended))
+    (λ c. let pre = c .before .before .before .before .before .before .before .pre .1 .1 in omega (arith, pre .started, pre .ended))
     {- is-line-requires -}
     (λ c κs. search needs)
     {- sub-answer -}
@@ -22,7 +22,8 @@ last-spec =
     {- part-answer-start -}
     (λ c. omega (arith, c .before .before .before .before .before .before .before .before .before .before .before .before .pre .1 .1 .started))
     {- part-answer-end -}
-    (λ c. omega (arith, c .before .before .before .before .before .before .before .before .before .before .before .before .pre .1 .1 .started, c .before .before .before .before .before .before .before .before .before .before .before .before .pre .1 .1 .ended))
+    (λ c. let pre = c .before .before .before .before .before .before .before .before .before .before .before .before .pre .1 .1 in
+    omega (arith, pre .started, pre .ended))
     {- answer-requires -}
     (λ c κs. search needs)
     {- same-length -}
@@ -36,6 +37,9 @@ last-spec =
     {- same-length-5 -}
     (λ c. search needs)
     {- returns -}
-    (λ c. ends-some (rw (c .before .before .before .before .before .before .before .before .before .before .before .before .before .before .before .before .before .if1 .taken) at (c .before .before .before .before .before .before .before .before .before .before .before .before .before .before .before .before .before .before .is-line .ensures)) (c .before .before .before .before .before .before .before .before .before .before .answer .ensures))
+    (λ c. let s = c .before .before .before .before .before .before .before .before .before .before in
+    let s2 = s .before .before .before .before .before .before .before in
+    ends-some (rw (s2 .if1 .taken) at (s2 .before .is-line .ensures)) (s .answer .ensures))
     {- returns-2 -}
-    (λ c. feed-ends-none (rw (c .if1 .left) at (c .before .is-line .ensures)) (c .before .before .before .before .before .before .before .before .before .before .pre .0)))
+    (λ c. feed-ends-none (rw (c .if1 .left) at (c .before .is-line .ensures))
+    (c .before .before .before .before .before .before .before .before .before .before .pre .0)))

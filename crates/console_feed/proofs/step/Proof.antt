@@ -13,9 +13,13 @@ step-spec =
     (tie.spec
     (λ c. search needs)
     {- slice-aggregate-answer-lines -}
-    (λ c. sym (length-take-le (c .before .before .before .before .before .before .before .before .before .before .args .f .have) (c .before .before .before .before .before .before .before .before .before .before .args .input .now) (c .before .before .before .before .before .before .before .before .before .before .pre .1 .1 .ended)))
+    (λ c. let s = c .before .before .before .before .before .before .before .before .before .before in
+    sym (length-take-le (s .args .f .have) (s .args .input .now) (s .pre .1 .1 .ended)))
     {- answer-lines-requires -}
-    (λ c κs. (c .before .before .before .before .before .before .before .before .before .before .before .before .before .pre .0, (c .before .before .before .before .before .before .before .before .before .before .before .before .before .pre .1 .0, omega (arith, c .before .before .before .before .before .before .before .before .before .before .before .before .before .pre .1 .1 .started, c .before .before .before .before .before .before .before .before .before .before .before .before .before .pre .1 .1 .ended, length-take-le (c .before .before .before .before .before .before .before .before .before .before .before .before .before .args .f .have) (c .before .before .before .before .before .before .before .before .before .before .before .before .before .args .input .now) (c .before .before .before .before .before .before .before .before .before .before .before .before .before .pre .1 .1 .ended)))))
+    (λ c κs. let s = c .before .before .before .before .before .before .before .before .before .before .before .before .before in (
+      s .pre .0,
+      (s .pre .1 .0, omega (arith, s .pre .1 .1 .started, s .pre .1 .1 .ended, length-take-le (s .args .f .have) (s .args .input .now) (s .pre .1 .1 .ended))),
+    ))
     (λ c. search needs)
     (λ c. search needs)
     (λ c. search needs)
@@ -23,9 +27,13 @@ step-spec =
     (λ c. search needs)
     (λ c. search needs)
     {- returns -}
-    (λ c. steps-on (c .before .before .before .before .before .before .before .before .before .before .before .before .before .before .before .before .before .before .before .before .before .before .before .before .before .before .before .pre .1 .1) (c .before .before .before .before .before .before .before .before .before .before .before .before .before .answer-lines .ensures) (omega arith))
+    (λ c. steps-on (let u = c .before .before .before .before .before .before .before .before .before .before .before .before .before .before in
+    u .before .before .before .before .before .before .before .before .before .before .before .before .before .pre .1 .1)
+    (c .before .before .before .before .before .before .before .before .before .before .before .before .before .answer-lines .ensures) (omega arith))
     {- keep-requires -}
-    (λ c κs. (c .before .before .before .before .before .before .before .before .before .before .before .before .before .before .before .before .before .before .before .before .before .before .before .before .before .before .before .before .pre .1 .1 .started, c .before .before .before .before .before .before .before .before .before .before .before .before .before .before .before .before .before .before .before .before .before .before .before .before .before .before .before .before .pre .1 .1 .ended))
+    (λ c κs. let s = c .before .before .before .before .before .before .before .before .before .before .before .before .before .before in
+    let pre = s .before .before .before .before .before .before .before .before .before .before .before .before .before .before .pre .1 .1 in
+    (pre .started, pre .ended))
     (λ c. search needs)
     (λ c. search needs)
     (λ c. search needs)
@@ -33,4 +41,7 @@ step-spec =
     (λ c. search needs)
     (λ c. search needs)
     {- returns-2 -}
-    (λ c. steps-out (c .before .before .before .before .before .before .before .before .before .before .before .before .before .before .before .before .before .before .before .before .before .before .before .before .before .before .before .before .before .before .before .pre .1 .1) (c .before .before .before .before .before .before .before .before .before .before .before .before .before .before .before .before .before .answer-lines .ensures) (omega arith) (search needs) (c .before .before .keep .ensures)))
+    (λ c. steps-out (let u = c .before .before .before .before .before .before .before .before .before .before .before .before .before .before in
+    u .before .before .before .before .before .before .before .before .before .before .before .before .before .before .before .before .before .pre .1 .1)
+    (let u = c .before .before .before .before .before .before .before .before .before .before .before .before .before .before in
+    u .before .before .before .answer-lines .ensures) (omega arith) (search needs) (c .before .before .keep .ensures)))

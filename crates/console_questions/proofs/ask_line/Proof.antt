@@ -29,7 +29,10 @@ same-length : tie.Need-same-length
 same-length c = search needs
 
 returns : tie.Need-returns
-returns c = rw (c .before .before .before .before .before .before .enum-told .given .1) (rw (c .before .before .before .before .find-sound .ensures .says true (c .before .before .before .before .before .before .before .before .before .before .before .before .before .before .pre .0)) at (c .before .before .put-found .ensures))
+returns c = let s = c .before .before .before .before in
+    rw (s .before .before .enum-told .given .1) (rw
+    (s .find-sound .ensures .says true (s .before .before .before .before .before .before .before .before .before .before .pre .0)) at
+    (c .before .before .put-found .ensures))
 
 same-length-2 : tie.Need-same-length-2
 same-length-2 c = search needs
@@ -41,7 +44,8 @@ same-length-4 : tie.Need-same-length-4
 same-length-4 c = search needs
 
 returns-2 : tie.Need-returns-2
-returns-2 c = rw (c .before .before .before .before .before .before .before .before .before .before .enum-told2 .given .1) (c .before .before .before .before .before .before .complete-line .ensures)
+returns-2 c = let s = c .before .before .before .before .before .before in
+    rw (s .before .before .before .before .enum-told2 .given .1) (s .complete-line .ensures)
 
 same-length-5 : tie.Need-same-length-5
 same-length-5 c = search needs
@@ -53,7 +57,8 @@ same-length-7 : tie.Need-same-length-7
 same-length-7 c = search needs
 
 returns-3 : tie.Need-returns-3
-returns-3 c = rw (c .before .before .before .before .before .before .before .before .before .before .enum-told3 .given .1) (c .before .before .before .before .before .before .complete-line2 .ensures)
+returns-3 c = let s = c .before .before .before .before .before .before in
+    rw (s .before .before .before .before .enum-told3 .given .1) (s .complete-line2 .ensures)
 
 pub ask-line-spec : {M : Type 1} → statement M
 ask-line-spec =

@@ -8,10 +8,14 @@ use Rattle.console_questions.proofs.complete_line.Statement.{statement}
 use Rattle.console_questions.proofs.complete_line.Tie as tie
 
 put-completed-requires : tie.Need-put-completed-requires
-put-completed-requires c κs = (completes-tells (c .before .before .before .before .before .before .before .before .before .before .before .before .before .before .before .before .before .pre .0) (c .before .before .before .before .before .before .before .complete-sound .ensures) .shown, omega (arith, c .before .before .before .before .before .before .before .before .before .before .before .before .before .before .before .before .before .pre .1))
+put-completed-requires c κs = let s = c .before .before .before .before .before .before .before in
+    let s2 = s .before .before .before .before .before .before .before .before .before .before in
+    (completes-tells (s2 .pre .0) (s .complete-sound .ensures) .shown, omega (arith, s2 .pre .1))
 
 returns : tie.Need-returns
-returns c = subst (Laid _ _ _ _) (completes-tells (c .before .before .before .before .before .before .before .before .before .before .before .before .before .before .before .before .before .before .before .before .pre .0) (c .before .before .before .before .before .before .before .before .before .before .complete-sound .ensures) .text-is) (c .before .before .put-completed .ensures)
+returns c = let s = c .before .before .before .before .before .before .before .before .before .before in
+    subst (Laid _ _ _ _) (completes-tells (s .before .before .before .before .before .before .before .before .before .before .pre .0)
+    (s .complete-sound .ensures) .text-is) (c .before .before .put-completed .ensures)
 
 pub complete-line-spec : {M : Type 1} → statement M
 complete-line-spec =

@@ -34,7 +34,8 @@ same-length-3 : tie.Need-same-length-3
 same-length-3 c = search needs
 
 returns-3 : tie.Need-returns-3
-returns-3 c = rw (c .before .before .before .before .before .before .f2 .given .1) (rw (c .before .before .before .before .number .ensures) at (c .before .before .put-refused .ensures))
+returns-3 c = let s = c .before .before .before .before in
+    rw (s .before .before .f2 .given .1) (rw (s .number .ensures) at (c .before .before .put-refused .ensures))
 
 pub put-found-spec : {M : Type 1} → statement M
 put-found-spec =

@@ -16,12 +16,23 @@ abbrev μ-loop : tie.MeasureT-loop
 put-row-requires : tie.Need-put-row-requires Inv-loop μ-loop
 put-row-requires c κs =
     let l : c .before .before .before .loop .i < c .before .before .before .before .before .before .before .args .n = omega arith in
-    rw (c .before .row-at .ensures) (going-texts (c .before .before .before .loop .inv) l .0, omega (arith, going-space (c .before .before .before .loop .inv) l, c .before .before .before .before .before .before .before .pre .1, laid-length (c .before .before .before .loop .inv .laid)))
+    rw (c .before .row-at .ensures) (
+      going-texts (c .before .before .before .loop .inv) l .0,
+      omega (
+        arith,
+        going-space (c .before .before .before .loop .inv) l,
+        c .before .before .before .before .before .before .before .pre .1,
+        laid-length (c .before .before .before .loop .inv .laid),
+      ),
+    )
 
 loop-again : tie.Need-loop-again Inv-loop μ-loop
 loop-again c =
-    let l : c .before .before .before .before .before .before .loop .i < c .before .before .before .before .before .before .before .before .before .before .args .n = omega arith in
-    rows-going-on (c .before .before .before .before .before .before .loop .inv) l (rw (c .before .before .before .before .row-at .ensures) at (c .before .before .put-row .ensures .0)) (rw (c .before .before .before .before .row-at .ensures) at (c .before .before .put-row .ensures .1))
+    let l : c .before .before .before .before .before .before .loop .i
+    < c .before .before .before .before .before .before .before .before .before .before .args .n = omega arith in
+    rows-going-on (c .before .before .before .before .before .before .loop .inv) l
+    (rw (c .before .before .before .before .row-at .ensures) at (c .before .before .put-row .ensures .0))
+    (rw (c .before .before .before .before .row-at .ensures) at (c .before .before .put-row .ensures .1))
 
 pub put-rows-spec : {M : Type 1} → statement M
 put-rows-spec =

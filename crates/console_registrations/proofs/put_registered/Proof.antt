@@ -28,7 +28,8 @@ same-length-2 : tie.Need-same-length-2
 same-length-2 c = search needs
 
 returns-2 : tie.Need-returns-2
-returns-2 c = rw (c .before .before .before .before .before .before .r .given .1) (rw (c .before .before .before .before .number .ensures) at (c .before .before .put-refused .ensures))
+returns-2 c = let s = c .before .before .before .before in
+    rw (s .before .before .r .given .1) (rw (s .number .ensures) at (c .before .before .put-refused .ensures))
 
 pub put-registered-spec : {M : Type 1} → statement M
 put-registered-spec =

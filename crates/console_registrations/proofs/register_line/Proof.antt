@@ -5,7 +5,9 @@ use Rattle.console_registrations.proofs.register_line.Statement.{statem
 use Rattle.console_registrations.proofs.register_line.Tie as tie
 
 returns : tie.Need-returns
-returns c = line-registers (c .before .before .finish .ensures) (c .before .before .before .before .before .before .before .before .before .before .before .before .before .before .before .before .before .before .pre .0) (c .before .before .before .before .before .before .before .before .register-sound .ensures)
+returns c = let s = c .before .before .before .before .before .before .before .before in
+    line-registers (c .before .before .finish .ensures) (s .before .before .before .before .before .before .before .before .before .before .pre .0)
+    (s .register-sound .ensures)
 
 pub register-line-spec : {M : Type 1} → statement M
 register-line-spec =

@@ -16,7 +16,11 @@ fill-spec =
     (λ c κs. search needs)
     (λ c. search needs)
     {- returns -}
-    (λ c. record { kept = take-at _ _ _ (length-take-le _ _ (c .before .before .before .before .before .before .before .pre)); more = omega arith; inside = search needs })
+    (λ c. record {
+      kept = take-at _ _ _ (length-take-le _ _ (c .before .before .before .before .before .before .before .pre));
+      more = omega arith;
+      inside = search needs;
+    })
     (λ c. search needs)
     (λ c. search needs)
     (λ c. search needs)
@@ -24,4 +28,8 @@ fill-spec =
     (λ c. search needs)
     (λ c. search needs)
     {- returns-2 -}
-    (λ c. record { kept = take-at _ _ _ (length-take-le _ _ (c .before .before .before .before .before .before .before .before .before .pre)); more = omega arith; inside = search needs }))
+    (λ c. record {
+      kept = take-at _ _ _ (length-take-le _ _ (c .before .before .before .before .before .before .before .before .before .pre));
+      more = omega arith;
+      inside = search needs;
+    }))

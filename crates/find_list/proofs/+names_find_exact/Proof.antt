@@ -35,8 +35,20 @@ abbrev μ-loop : lts.MeasureT-loop
 μ-loop words text list key link₀ link = link
 
 -- What the collection at hand has, after the branch.
-first : (t : ℕ) (c : lts.Joined1 (own-of.Asked, own-of.Learnt, sort-of.Asked, sort-of.Learnt, below t, names-find-exact.Post, btree-find-exact.Asked, btree-find-exact.Learnt, rest-of.Asked, rest-of.Learnt) (at t) names-find-exact.Post Inv-loop μ-loop)
-    → (let s = c .before .before .before .before in let a = s .before .before .before .before .args in First (a .words .now) (a .text .now) (s .loop .link) (a .key .now) (c .if1 .found))
+first : (t : ℕ) (c : lts.Joined1 (
+  own-of.Asked,
+  own-of.Learnt,
+  sort-of.Asked,
+  sort-of.Learnt,
+  below t,
+  names-find-exact.Post,
+  btree-find-exact.Asked,
+  btree-find-exact.Learnt,
+  rest-of.Asked,
+  rest-of.Learnt,
+) (at t) names-find-exact.Post Inv-loop μ-loop)
+    → (let s = c .before .before .before .before in let a = s .before .before .before .before .args in
+    First (a .words .now) (a .text .now) (s .loop .link) (a .key .now) (c .if1 .found))
 first t c =
     let p = c .before .before .before .loop-test .taken in
     let own = c .before .before .own-of .ensures in
@@ -48,8 +60,18 @@ first t c =
 
 pub +names-find-exact-spec : {M : Type 1} → statement M
 +names-find-exact-spec =
-    close μ-names-find-exact λ t. lts.spec
-    (own-of.Asked, own-of.Learnt, sort-of.Asked, sort-of.Learnt, below t, names-find-exact.Post, btree-find-exact.Asked, btree-find-exact.Learnt, rest-of.Asked, rest-of.Learnt)
+    close μ-names-find-exact λ t. lts.spec (
+      own-of.Asked,
+      own-of.Learnt,
+      sort-of.Asked,
+      sort-of.Learnt,
+      below t,
+      names-find-exact.Post,
+      btree-find-exact.Asked,
+      btree-find-exact.Learnt,
+      rest-of.Asked,
+      rest-of.Learnt,
+    )
     (at t)
     names-find-exact.Post
     Inv-loop
@@ -62,20 +84,25 @@ pub +names-find-exact-spec : {M : Type 1} → statement M
     (λ c κs. omega (arith, at-fits (c .before .before .loop .inv .any .list), c .before .loop-test .taken))
     {- names-find-exact-requires -}
     (λ c κs.
-    let g = c .before .before .before .before .loop .inv in
-    let p = c .before .before .before .loop-test .taken in
+    let s2 = c .before .before .before in let g = s2 .before .loop .inv in
+    let p = s2 .loop-test .taken in
     let own = c .before .before .own-of .ensures in
-    let e = sym (c .before .sort-of .ensures) ∙ c .if1 .taken in
-    (rw own (omega (arith, imported-lighter (g .any .list) p e, g .lighter, c .before .before .before .before .before .before .before .before .pre .0)), any-imported (g .any) p own e))
+    let e = sym (c .before .sort-of .ensures) ∙ c .if1 .taken in (
+      rw own (omega (arith, imported-lighter (g .any .list) p e, g .lighter, s2 .before .before .before .before .before .pre .0)),
+      any-imported (g .any) p own e,
+    ))
     {- btree-find-exact-requires -}
-    (λ c κs. any-own (c .before .before .before .before .loop .inv .any) (c .before .before .before .loop-test .taken) (c .before .before .own-of .ensures) (λ e. c .if1 .left (c .before .sort-of .ensures ∙ e)))
+    (λ c κs. let s2 = c .before .before in
+    any-own (s2 .before .before .loop .inv .any) (s2 .before .loop-test .taken) (s2 .own-of .ensures) (λ e. c .if1 .left (c .before .sort-of .ensures ∙ e)))
     {- returns -}
     (λ c. find-here (c .before .before .before .before .before .loop .inv) (first t (c .before)) (omega (arith, c .if2 .taken)))
     {- rest-of-requires -}
-    (λ c κs. omega (arith, at-fits (c .before .before .before .before .before .loop .inv .any .list), c .before .before .before .before .loop-test .taken))
+    (λ c κs. let s2 = c .before .before .before .before in omega (arith, at-fits (s2 .before .loop .inv .any .list), s2 .loop-test .taken))
     {- loop-less -}
-    (λ c. omega (arith, c .rest-of .ensures, collection-right (c .before .before .before .before .before .before .loop .inv .any .list) (c .before .before .before .before .before .loop-test .taken) .rest .earlier))
+    (λ c. let s2 = c .before .before .before .before .before in
+    omega (arith, c .rest-of .ensures, collection-right (s2 .before .loop .inv .any .list) (s2 .loop-test .taken) .rest .earlier))
     {- loop-again -}
-    (λ c. find-on (c .before .before .before .before .before .before .loop .inv) (c .before .before .before .before .before .loop-test .taken) (first t (c .before .before)) (omega (arith, c .before .if2 .left)) (c .rest-of .ensures))
+    (λ c. let s2 = c .before .before .before .before .before in
+    find-on (s2 .before .loop .inv) (s2 .loop-test .taken) (first t (c .before .before)) (omega (arith, c .before .if2 .left)) (c .rest-of .ensures))
     {- returns-2 -}
     (λ c. find-none (c .before .loop .inv) (c .loop-test .left))

@@ -20,12 +20,16 @@ names-place-spec =
     {- weight-of-requires -}
     (λ c κs. at-fits (any-rest (c .before .before .before .before .before .before .pre) (c .before .before .lead-of .ensures) .list))
     {- add-t10 -}
-    (λ c. omega (arith, c .weight-of .ensures, list-light (any-rest (c .before .before .before .before .before .before .before .pre) (c .before .before .before .lead-of .ensures) .list)))
+    (λ c. omega (
+      arith,
+      c .weight-of .ensures,
+      list-light (any-rest (c .before .before .before .before .before .before .before .pre) (c .before .before .before .lead-of .ensures) .list),
+    ))
     {- returns -}
     (λ c.
-    let d = c .before .before .before .lead-of .ensures in
-    let p = c .before .before .place-of .ensures in
-    names-placed (c .before .before .before .before .before .before .before .pre) d p
+    let s = c .before .before in let d = s .before .lead-of .ensures in
+    let p = s .place-of .ensures in
+    names-placed (s .before .before .before .before .before .pre) d p
     (⊎-elim
     (λ w. rw (w .2) (holder-rest d (p .found) (omega (arith, w .0 .taken)) (w .1 .ensures)))
     (λ w. rw (w .1) (holder-first d (p .found) (omega (arith, w .0 .left))))

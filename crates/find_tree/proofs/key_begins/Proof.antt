@@ -11,7 +11,7 @@ key-begins-spec =
     tie.close
     (tie.spec
     {- key-of-requires -}
-    (λ c κs. let u = c .before .before .before in text-in (u .pre .1) (u .pre .0))
+    (λ c κs. text-in (c .before .before .before .pre .1) (c .before .before .before .pre .0))
     {- starts-with-requires -}
     (λ c κs. search needs)
     {- returns -}

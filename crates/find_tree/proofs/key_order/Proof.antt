@@ -11,8 +11,9 @@ key-order-spec =
     tie.close
     (tie.spec
     {- key-of-requires -}
-    (λ c κs. let u = c .before .before .before in text-in (u .pre .1) (u .pre .0))
+    (λ c κs. text-in (c .before .before .before .pre .1) (c .before .before .before .pre .0))
     {- string-compare-requires -}
     (λ c κs. search needs)
     {- returns -}
-    (λ c. c .string-compare .ensures .order ∙ ap (λ k. string-compare (c .before .before .before .before .before .args .key .now) k) (c .before .key-of .ensures)))
+    (λ c. c .string-compare .ensures .order
+    ∙ ap (λ k. string-compare (c .before .before .before .before .before .args .key .now) k) (c .before .key-of .ensures)))

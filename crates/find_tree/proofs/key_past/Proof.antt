@@ -19,8 +19,11 @@ key-past-spec =
     {- enum-told-3 -}
     (λ c. search needs)
     {- returns -}
-    (λ c. past-is (c .before .before .before .before .before .before .args .strict) (c .before .before .before .before .before .before .args .low .now) _ (rw (c .enum-told .given .1) at (c .before .before .key-order .ensures)))
+    (λ c. let s = c .before .before .before .before .before .before in
+    past-is (s .args .strict) (s .args .low .now) _ (rw (c .enum-told .given .1) at (c .before .before .key-order .ensures)))
     {- returns-2 -}
-    (λ c. past-is (c .before .before .before .before .before .before .args .strict) (c .before .before .before .before .before .before .args .low .now) _ (rw (c .enum-told2 .given .1) at (c .before .before .key-order .ensures)))
+    (λ c. let s = c .before .before .before .before .before .before in
+    past-is (s .args .strict) (s .args .low .now) _ (rw (c .enum-told2 .given .1) at (c .before .before .key-order .ensures)))
     {- returns-3 -}
-    (λ c. past-is (c .before .before .before .before .before .before .args .strict) (c .before .before .before .before .before .before .args .low .now) _ (rw (c .enum-told3 .given .1) at (c .before .before .key-order .ensures))))
+    (λ c. let s = c .before .before .before .before .before .before in
+    past-is (s .args .strict) (s .args .low .now) _ (rw (c .enum-told3 .given .1) at (c .before .before .key-order .ensures))))

@@ -23,13 +23,16 @@ place-of-spec =
     {- add-count -}
     (λ c. omega (arith, c .before .before .before .before .before .loop .inv .small))
     {- loop-less -}
-    (λ c. omega (arith, c .left-of .ensures, sides-earlier (c .before .before .before .before .before .loop .inv .any) (c .before .before .before .before .loop-test .taken)))
+    (λ c. let s = c .before .before .before .before in omega (arith, c .left-of .ensures, sides-earlier (s .before .loop .inv .any) (s .loop-test .taken)))
     {- loop-again -}
-    (λ c. search-left (c .before .before .before .before .before .loop .inv) (c .before .before .before .before .loop-test .taken) (rw (c .before .enum-told .given .1) at (c .before .before .before .key-order .ensures)) (c .left-of .ensures))
+    (λ c. let s = c .before .before .before in
+    search-left (s .before .before .loop .inv) (s .before .loop-test .taken) (rw (c .before .enum-told .given .1) at (s .key-order .ensures))
+    (c .left-of .ensures))
     {- enum-told-2 -}
     (λ c. search needs)
     {- returns -}
-    (λ c. search-here (c .before .before .before .before .loop .inv) (c .before .before .before .loop-test .taken) (rw (c .enum-told2 .given .1) at (c .before .before .key-order .ensures)))
+    (λ c. let s = c .before .before in
+    search-here (s .before .before .loop .inv) (s .before .loop-test .taken) (rw (c .enum-told2 .given .1) at (s .key-order .ensures)))
     {- enum-told-3 -}
     (λ c. search needs)
     {- right-of-requires -}
@@ -37,8 +40,10 @@ place-of-spec =
     {- add-count-2 -}
     (λ c. omega (arith, c .before .before .before .before .before .loop .inv .small))
     {- loop-less-2 -}
-    (λ c. omega (arith, c .right-of .ensures, sides-earlier (c .before .before .before .before .before .loop .inv .any) (c .before .before .before .before .loop-test .taken)))
+    (λ c. let s = c .before .before .before .before in omega (arith, c .right-of .ensures, sides-earlier (s .before .loop .inv .any) (s .loop-test .taken)))
     {- loop-again-2 -}
-    (λ c. search-right (c .before .before .before .before .before .loop .inv) (c .before .before .before .before .loop-test .taken) (rw (c .before .enum-told3 .given .1) at (c .before .before .before .key-order .ensures)) (c .right-of .ensures))
+    (λ c. let s = c .before .before .before in
+    search-right (s .before .before .loop .inv) (s .before .loop-test .taken) (rw (c .before .enum-told3 .given .1) at (s .key-order .ensures))
+    (c .right-of .ensures))
     {- returns-2 -}
     (λ c. search-none (c .before .loop .inv) (c .loop-test .left)))

@@ -21,12 +21,16 @@ branch-depth-spec =
     {- larger-requires -}
     (λ c κs. search needs)
     {- depth-of-requires-3 -}
-    (λ c κs. c .before .before .before .before .before .before .pre .held-fits (sym (c .before .before .before .before .of-namespaces .ensures) ∙ c .before .before .before .if1 .taken))
+    (λ c κs. let s = c .before .before .before in s .before .before .before .pre .held-fits (sym (s .before .of-namespaces .ensures) ∙ s .if1 .taken))
     {- add-larger -}
-    (λ c. omega (arith, c .depth-of3 .ensures, c .before .before .before .before .before .before .before .pre .shallow (sym (c .before .before .before .before .before .of-namespaces .ensures) ∙ c .before .before .before .before .if1 .taken)))
+    (λ c. let s = c .before .before .before .before in
+    omega (arith, c .depth-of3 .ensures, s .before .before .before .pre .shallow (sym (s .before .of-namespaces .ensures) ∙ s .if1 .taken)))
     {- larger-requires-2 -}
     (λ c κs. search needs)
     {- returns -}
-    (λ c. rw (sym (c .before .before .before .before .before .before .of-namespaces .ensures) ∙ c .before .before .before .before .before .if1 .taken) (c .larger2 .ensures ∙ rw (c .before .before .larger .ensures, c .before .before .before .before .depth-of .ensures, c .before .before .before .depth-of2 .ensures, c .before .depth-of3 .ensures, add-one)))
+    (λ c. let s = c .before .before .before in
+    rw (sym (s .before .before .before .of-namespaces .ensures) ∙ s .before .before .if1 .taken)
+    (c .larger2 .ensures
+    ∙ rw (c .before .before .larger .ensures, s .before .depth-of .ensures, s .depth-of2 .ensures, c .before .depth-of3 .ensures, add-one)))
     {- returns-2 -}
     (λ c. rw (sym (c .before .of-namespaces .ensures) ∙ c .if1 .left)))

@@ -24,12 +24,17 @@ raised-row-spec =
     {- array-read-with-sides -}
     (λ c. search needs)
     {- with-sides-requires -}
-    (λ c κs. rw (c .before .before .row-of .ensures, c .before .before .before .note-link .ensures) (c .before .before .before .before .before .pre .left))
+    (λ c κs. let s = c .before .before in rw (s .row-of .ensures, s .before .note-link .ensures) (s .before .before .before .pre .left))
     {- returns -}
-    (λ c. rw (eq-eqb (noted-side (c .before .before .before .before .before .before .args .words .now) (c .before .before .before .before .before .before .args .at)) 0 (sym (c .before .before .note-side .ensures) ∙ c .before .if1 .taken)) (c .with-sides .ensures ∙ rw (c .before .before .before .row-of .ensures, c .before .before .before .before .note-link .ensures)))
+    (λ c. let s = c .before .before .before in
+    rw (eq-eqb (noted-side (s .before .before .before .args .words .now) (s .before .before .before .args .at)) 0
+    (sym (c .before .before .note-side .ensures) ∙ c .before .if1 .taken)) (c .with-sides .ensures ∙ rw (s .row-of .ensures, s .before .note-link .ensures)))
     {- array-read-with-sides-2 -}
     (λ c. search needs)
     {- with-sides-requires-2 -}
-    (λ c κs. rw (c .before .before .row-of .ensures, c .before .before .before .note-link .ensures) (c .before .before .before .before .before .pre .right))
+    (λ c κs. let s = c .before .before in rw (s .row-of .ensures, s .before .note-link .ensures) (s .before .before .before .pre .right))
     {- returns-2 -}
-    (λ c. rw (ne-eqb (noted-side (c .before .before .before .before .before .before .args .words .now) (c .before .before .before .before .before .before .args .at)) 0 (λ e. c .before .if1 .left (c .before .before .note-side .ensures ∙ e))) (c .with-sides2 .ensures ∙ rw (c .before .before .before .row-of .ensures, c .before .before .before .before .note-link .ensures))))
+    (λ c. let s = c .before .before .before in
+    rw (ne-eqb (noted-side (s .before .before .before .args .words .now) (s .before .before .before .args .at)) 0
+    (λ e. c .before .if1 .left (c .before .before .note-side .ensures ∙ e)))
+    (c .with-sides2 .ensures ∙ rw (s .row-of .ensures, s .before .note-link .ensures))))

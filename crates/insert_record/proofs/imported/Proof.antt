@@ -21,7 +21,8 @@ imported-spec =
     {- same-length -}
     (λ c. search needs)
     {- returns -}
-    (λ c. (
-      c .before .before .put-collection .ensures .0,
-      rw (c .before .before .put-collection .ensures .1, c .before .before .put-collection .ensures .0, c .before .before .before .before .before .before .weight-of .ensures, c .before .before .before .before .weight-of2 .ensures) (made-imported (c .before .before .before .before .before .before .before .before .before .pre .0) _ _ _ _ (c .before .before .before .before .before .before .before .before .before .pre .1 .2)),
+    (λ c. let s = c .before .before .before .before in let put-collection = c .before .before .put-collection .ensures in let s2 = s .before .before in (
+      put-collection .0,
+      rw (put-collection .1, put-collection .0, s2 .weight-of .ensures, s .weight-of2 .ensures)
+          (made-imported (s2 .before .before .before .pre .0) _ _ _ _ (s2 .before .before .before .pre .1 .2)),
     )))

@@ -25,5 +25,15 @@ put-collection-spec =
     (λ c. search needs)
     {- returns -}
     (λ c.
-    let d : c .before .before .before .before .before .before .if1 .depth ≡ max (c .before .before .before .before .before .before .before .before .before .depth-of .result) (c .before .before .before .before .before .before .before .depth-of2 .result) = ⊎-elim (λ w. omega arith) (λ w. omega arith) (c .before .before .before .before .before .before .if1 .came) in
-    (refl, c .before .before .put-row .ensures ∙ rw (c .before .before .before .before .before .collection-row .ensures, d, c .before .before .before .before .before .before .before .before .before .depth-of .ensures, c .before .before .before .before .before .before .before .depth-of2 .ensures))))
+    let d : c .before .before .before .before .before .before .if1 .depth
+    ≡ max (c .before .before .before .before .before .before .before .before .before .depth-of .result)
+    (c .before .before .before .before .before .before .before .depth-of2 .result) =
+    ⊎-elim (λ w. omega arith) (λ w. omega arith) (c .before .before .before .before .before .before .if1 .came) in (
+      refl,
+      c .before .before .put-row .ensures ∙ rw (
+        c .before .before .before .before .before .collection-row .ensures,
+        d,
+        c .before .before .before .before .before .before .before .before .before .depth-of .ensures,
+        c .before .before .before .before .before .before .before .depth-of2 .ensures,
+      ),
+    )))

@@ -17,7 +17,7 @@ put-names-spec =
     {- same-length -}
     (λ c. search needs)
     {- returns -}
-    (λ c. (
-      c .before .before .put-collection .ensures .0,
-      rw (c .before .before .put-collection .ensures .1, c .before .before .put-collection .ensures .0, c .before .before .before .before .weight-of .ensures) (made-names (c .before .before .before .before .before .before .before .pre .0) _ _ _ (c .before .before .before .before .before .before .before .pre .1 .2)),
+    (λ c. let s = c .before .before in let put-collection = s .put-collection .ensures in let s2 = s .before .before .before .before .before in (
+      put-collection .0,
+      rw (put-collection .1, put-collection .0, s .before .before .weight-of .ensures) (made-names (s2 .pre .0) _ _ _ (s2 .pre .1 .2)),
     )))

@@ -21,7 +21,7 @@ put-trie-spec =
     {- same-length -}
     (λ c. search needs)
     {- returns -}
-    (λ c. (
+    (λ c. let s = c .before .before .before .before .before in let s2 = s .before .before .before .before in (
       refl,
-      rw (c .before .before .put-row .ensures, c .before .before .before .before .before .trie-row .ensures, c .before .before .before .before .before .before .depth-of .ensures) (made-trie (c .before .before .before .before .before .before .before .before .before .pre .0) _ _ _ (c .before .before .before .before .before .before .before .before .before .pre .1 .1)),
+      rw (c .before .before .put-row .ensures, s .trie-row .ensures, s .before .depth-of .ensures) (made-trie (s2 .pre .0) _ _ _ (s2 .pre .1 .1)),
     )))

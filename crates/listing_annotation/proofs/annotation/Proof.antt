@@ -19,14 +19,34 @@ annotation-spec =
     {- enum-known-symbol -}
     (λ c. search needs)
     {- returns -}
-    (λ c. rw (c .before .before .before .before .before .enum-told2 .given .1, module-at (c .before .before .before .before .before .before .before .before .before .before .before .before .before .args .words .now) (c .before .before .before .before .before .before .before .before .before .before .before .before .before .args .text .now) (c .before .before .before .before .before .before .before .before .before .before .before .before .before .args .found .link) (c .before .before .before .before .symbol-of .ensures) (c .before .before .symbol .given .1), c .if1 .taken))
+    (λ c. let s = c .before .before .before .before in let a = s .before .before .before .before .before .before .before .before .before .args in
+    rw (
+      s .before .enum-told2 .given .1,
+      module-at (a .words .now) (a .text .now) (a .found .link) (s .symbol-of .ensures) (c .before .before .symbol .given .1),
+      c .if1 .taken,
+    ))
     {- enum-known-symbol-2 -}
     (λ c. search needs)
     {- returns-2 -}
-    (λ c. rw (c .before .before .before .before .before .enum-told2 .given .1, namespace-at (c .before .before .before .before .before .before .before .before .before .before .before .before .before .args .words .now) (c .before .before .before .before .before .before .before .before .before .before .before .before .before .args .text .now) (c .before .before .before .before .before .before .before .before .before .before .before .before .before .args .found .link) (c .before .before .before .before .symbol-of .ensures) (c .before .before .symbol2 .given .1), c .if2 .taken))
+    (λ c. let s = c .before .before .before .before in let a = s .before .before .before .before .before .before .before .before .before .args in
+    rw (
+      s .before .enum-told2 .given .1,
+      namespace-at (a .words .now) (a .text .now) (a .found .link) (s .symbol-of .ensures) (c .before .before .symbol2 .given .1),
+      c .if2 .taken,
+    ))
     {- returns-3 -}
     (λ c. rw (c .before .enum-told .given .1) (c .note-of .ensures))
     {- returns-4 -}
-    (λ c. rw (c .before .before .before .before .before .enum-told2 .given .1, module-at (c .before .before .before .before .before .before .before .before .before .before .before .before .before .args .words .now) (c .before .before .before .before .before .before .before .before .before .before .before .before .before .args .text .now) (c .before .before .before .before .before .before .before .before .before .before .before .before .before .args .found .link) (c .before .before .before .before .symbol-of .ensures) (c .before .before .symbol .given .1), c .if1 .left))
+    (λ c. let s = c .before .before .before .before in let a = s .before .before .before .before .before .before .before .before .before .args in
+    rw (
+      s .before .enum-told2 .given .1,
+      module-at (a .words .now) (a .text .now) (a .found .link) (s .symbol-of .ensures) (c .before .before .symbol .given .1),
+      c .if1 .left,
+    ))
     {- returns-5 -}
-    (λ c. rw (c .before .before .before .before .before .enum-told2 .given .1, namespace-at (c .before .before .before .before .before .before .before .before .before .before .before .before .before .args .words .now) (c .before .before .before .before .before .before .before .before .before .before .before .before .before .args .text .now) (c .before .before .before .before .before .before .before .before .before .before .before .before .before .args .found .link) (c .before .before .before .before .symbol-of .ensures) (c .before .before .symbol2 .given .1), c .if2 .left)))
+    (λ c. let s = c .before .before .before .before in let a = s .before .before .before .before .before .before .before .before .before .args in
+    rw (
+      s .before .enum-told2 .given .1,
+      namespace-at (a .words .now) (a .text .now) (a .found .link) (s .symbol-of .ensures) (c .before .before .symbol2 .given .1),
+      c .if2 .left,
+    )))

@@ -48,6 +48,16 @@ kept-spec =
     {- returns-4 -}
     (λ c. λ txt. rw (c .before .before .before .before .ask .given .1, c .before .enum-told4 .given .1) (c .is-of3 .ensures))
     {- returns-5 -}
-    (λ c. λ txt. rw (c .before .before .before .before .before .before .ask2 .given .1, module-at (c .before .before .before .before .before .before .before .before .before .args .words .now) txt (c .before .before .before .before .before .before .before .before .before .args .branch) (c .before .before .before .before .symbol-of .ensures) (c .before .before .symbol .given .1)) (c .keeps .ensures _ _))
+    (λ c. let s = c .before .before .before .before in let s2 = s .before .before in
+    λ txt. rw (
+      s2 .ask2 .given .1,
+      module-at (s2 .before .before .before .args .words .now) txt (s2 .before .before .before .args .branch) (s .symbol-of .ensures)
+          (c .before .before .symbol .given .1),
+    ) (c .keeps .ensures _ _))
     {- returns-6 -}
-    (λ c. λ txt. rw (c .before .before .before .before .before .before .ask2 .given .1, namespace-at (c .before .before .before .before .before .before .before .before .before .args .words .now) txt (c .before .before .before .before .before .before .before .before .before .args .branch) (c .before .before .before .before .symbol-of .ensures) (c .before .before .symbol2 .given .1)) (c .keeps2 .ensures _ [])))
+    (λ c. let s = c .before .before .before .before in let s2 = s .before .before in
+    λ txt. rw (
+      s2 .ask2 .given .1,
+      namespace-at (s2 .before .before .before .args .words .now) txt (s2 .before .before .before .args .branch) (s .symbol-of .ensures)
+          (c .before .before .symbol2 .given .1),
+    ) (c .keeps2 .ensures _ [])))

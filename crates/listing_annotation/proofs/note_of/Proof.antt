@@ -17,8 +17,9 @@ note-of-spec =
     {- part-result-end -}
     (λ c. search needs)
     {- returns -}
-    (λ c. sym (note-none (c .before .before .before .before .args .words .now) (c .before .before .before .before .args .text .now) (c .before .before .before .before .args .label) (c .before .if1 .taken)))
+    (λ c. let a = c .before .before .before .before .args in sym (note-none (a .words .now) (a .text .now) (a .label) (c .before .if1 .taken)))
     {- key-of-requires -}
     (λ c κs. let t = c .before .before .before .pre (omega arith) in record { some = t .some; within = t .within; inside = t .inside })
     {- returns-2 -}
-    (λ c. c .key-of .ensures ∙ sym (note-some (c .before .before .before .before .args .words .now) (c .before .before .before .before .args .text .now) (c .before .before .before .before .args .label) (c .before .if1 .left))))
+    (λ c. let a = c .before .before .before .before .args in
+    c .key-of .ensures ∙ sym (note-some (a .words .now) (a .text .now) (a .label) (c .before .if1 .left))))

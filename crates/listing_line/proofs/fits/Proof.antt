@@ -16,4 +16,4 @@ fits-spec =
     {- returns-3 -}
     (λ c. search needs)
     {- returns-4 -}
-    (λ c. room-says (c .before .before .before .args .at) (c .before .before .before .args .n) (c .before .before .before .args .limit) (c .before .before .before .args .lent) (omega arith) (omega arith) (omega arith)))
+    (λ c. let a = c .before .before .before .args in room-says (a .at) (a .n) (a .limit) (a .lent) (omega arith) (omega arith) (omega arith)))

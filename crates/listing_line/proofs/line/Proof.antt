@@ -29,12 +29,21 @@ line-spec =
     {- slice-aggregate-annotation-4 -}
     (λ c. search needs)
     {- annotation-requires -}
-    (λ c κs. let j = job-ok (c .before .before .before .before .before .before .before .before .before .before .before .before .pre) in ((j .branch .some, j .branch .within), outermost-text (c .before .before .before .before .before .before .before .before .before .before .before .before .pre) (c .before .before .before .before .outermost .ensures)))
+    (λ c κs. let s = c .before .before .before .before in let s2 = s .before .before .before .before .before .before .before .before in
+    let j = job-ok (s2 .pre) in ((j .branch .some, j .branch .within), outermost-text (s2 .pre) (s .outermost .ensures)))
     {- put-line-requires -}
-    (λ c κs. (job-ok (c .before .before .before .before .before .before .before .before .before .before .before .before .before .before .before .before .pre), rw (c .before .before .before .annotation .ensures) (noted-short (c .before .before .before .before .before .before .before .before .before .before .before .before .before .before .before .before .args .ask) (c .before .before .before .before .before .before .before .before .before .before .before .before .before .before .before .before .args .words .now) (c .before .before .before .before .before .before .before .before .before .before .before .before .before .before .before .before .args .text .now) _ (outermost-text (c .before .before .before .before .before .before .before .before .before .before .before .before .before .before .before .before .pre) (c .before .before .before .before .before .before .before .before .outermost .ensures)))))
+    (λ c κs. let s = c .before .before .before .before .before .before .before .before in
+    let s2 = s .before .before .before .before .before .before .before .before in (
+      job-ok (s2 .pre),
+      rw (c .before .before .before .annotation .ensures)
+          (noted-short (s2 .args .ask) (s2 .args .words .now) (s2 .args .text .now) _ (outermost-text (s2 .pre) (s .outermost .ensures))),
+    ))
     {- same-length -}
     (λ c. search needs)
     {- same-length-2 -}
     (λ c. search needs)
     {- returns-2 -}
-    (λ c. listed-one (c .before .before .before .before .before .before .before .before .before .before .before .before .before .before .before .before .before .before .before .before .before .args .ask) (c .before .before .before .before .before .before .before .before .before .before .before .before .before .before .before .before .before .before .before .before .before .pre .branch-at) (c .before .before .before .before .put-line .ensures .0) (sym (c .before .before .before .before .before .before .before .before .before .before .before .before .before .before .before .before .kept .ensures _) ∙ not-false _ (c .before .before .before .before .before .before .before .before .before .before .before .before .before .before .before .if1 .left)) (rw (c .before .before .before .before .before .before .before .before .annotation .ensures, c .before .before .before .before .before .before .before .before .before .before .before .before .before .outermost .ensures) at (c .before .before .before .before .put-line .ensures .1))))
+    (λ c. let s = c .before .before .before .before in let s2 = s .before .before .before .before in let s3 = s2 .before .before .before .before .before in
+    let s4 = s3 .before .before in let s5 = s4 .before .before .before .before .before .before in
+    listed-one (s5 .args .ask) (s5 .pre .branch-at) (s .put-line .ensures .0) (sym (s4 .before .kept .ensures _) ∙ not-false _ (s4 .if1 .left))
+    (rw (s2 .annotation .ensures, s3 .outermost .ensures) at (s .put-line .ensures .1))))

@@ -43,4 +43,9 @@ put-line-spec =
     {- same-length-2 -}
     (λ c. search needs)
     {- returns -}
-    (λ c. (same-counted (c .before .before .before .before .before .before .before .before .before .before .before .before .before .before .before .before .before .before .before .before .before .args .run .now) (c .before .add .result) (c .add2 .result) (c .before .before .before .before .before .before .before .before .before .before .before .before .before .before .before .before .before .before .before .before .before .pre .0 .path .few), rw (tally-counted (c .before .before .before .before .before .before .before .before .before .before .before .before .before .before .before .before .before .before .before .before .before .args .run .now) (c .before .add .result) (c .add2 .result) (c .before .before .before .before .before .before .before .before .before .before .before .before .before .before .before .before .before .before .before .before .before .pre .0 .path .sized)) (line-counted (c .before .before .before .before .before .before .before .before .before .before .before .before .before .before .before .before .before .before .before .before .before .pre .0) (counts-kept (omega (arith, c .before .before .before .before .before .before .before .before .before .before .before .before .text-len .ensures)) (c .before .add .ensures) (c .add2 .ensures)) (c .before .before .before .before .before .before .before .before .try-line .ensures)))))
+    (λ c. let s = c .before .before .before .before .before .before .before .before in let s2 = s .before .before .before .before in
+    let s3 = s2 .before .before .before .before .before .before .before .before .before in (
+      same-counted (s3 .args .run .now) (c .before .add .result) (c .add2 .result) (s3 .pre .0 .path .few),
+      rw (tally-counted (s3 .args .run .now) (c .before .add .result) (c .add2 .result) (s3 .pre .0 .path .sized))
+          (line-counted (s3 .pre .0) (counts-kept (omega (arith, s2 .text-len .ensures)) (c .before .add .ensures) (c .add2 .ensures)) (s .try-line .ensures)),
+    )))

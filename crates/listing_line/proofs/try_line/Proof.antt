@@ -16,7 +16,8 @@ try-line-spec =
     {- fits-requires -}
     (λ c κs. search needs)
     {- returns -}
-    (λ c. no-row (c .before .before .before .before .before .before .before .before .before .pre .0) (c .before .fits2 .result) (c .before .fits2 .ensures) (c .if1 .taken))
+    (λ c. no-row (c .before .before .before .before .before .before .before .before .before .pre .0) (c .before .fits2 .result) (c .before .fits2 .ensures)
+    (c .if1 .taken))
     {- element-copy-out-size -}
     (λ c. search needs)
     {- text-len-requires -}
@@ -34,12 +35,21 @@ try-line-spec =
     {- fits-requires-2 -}
     (λ c κs. search needs)
     {- returns-2 -}
-    (λ c. no-text (c .before .before .before .before .before .before .before .before .before .before .before .before .before .before .before .pre .0) (c .before .fits3 .result) (omega (arith, c .before .before .before .before .text-len .ensures)) (c .before .fits3 .ensures) (c .if2 .taken))
+    (λ c. let s = c .before .before .before .before in
+    no-text (s .before .before .before .before .before .before .before .before .before .before .before .pre .0) (c .before .fits3 .result)
+    (omega (arith, s .text-len .ensures)) (c .before .fits3 .ensures) (c .if2 .taken))
     {- write-line-requires -}
-    (λ c κs. (c .before .before .before .before .before .before .before .before .before .before .before .before .before .before .before .before .before .pre .0, both-fit (c .before .before .before .before .before .before .before .before .before .before .before .before .before .before .before .before .before .pre .0) (c .before .before .before .before .before .before .before .before .before .fits2 .result) (c .before .before .before .fits3 .result) (omega (arith, c .before .before .before .before .before .before .text-len .ensures)) (c .before .before .before .before .before .before .before .before .before .fits2 .ensures) (c .before .before .before .before .before .before .before .before .if1 .left) (c .before .before .before .fits3 .ensures) (c .before .before .if2 .left)))
+    (λ c κs. let s = c .before .before .before in let s2 = s .before .before .before .before .before in
+    let s3 = s2 .before .before .before .before .before .before .before .before .before in (
+      s3 .pre .0,
+      both-fit (s3 .pre .0) (s2 .before .fits2 .result) (s .fits3 .result) (omega (arith, s .before .before .before .text-len .ensures))
+          (s2 .before .fits2 .ensures) (s2 .if1 .left) (s .fits3 .ensures) (c .before .before .if2 .left),
+    ))
     {- same-length -}
     (λ c. search needs)
     {- same-length-2 -}
     (λ c. search needs)
     {- returns-3 -}
-    (λ c. tried-put (c .before .before .before .before .before .before .before .before .before .before .before .before .before .before .before .before .before .before .before .before .before .before .pre .0) (c .before .before .before .before .write-line .ensures)))
+    (λ c. let s = c .before .before .before .before in
+    let s2 = s .before .before .before .before .before .before .before .before .before .before .before .before .before .before in
+    tried-put (s2 .before .before .before .before .pre .0) (s .write-line .ensures)))

@@ -28,22 +28,41 @@ put-candidate-spec =
     {- element-copy-out-link -}
     (λ c. omega (arith, c .before .before .before .before .before .before .pre .0 .few))
     {- cast-link -}
-    (λ c. omega (arith, c .before .before .before .before .before .before .before .pre .0 .each (c .before .before .loop .i) (c .before .loop-test .taken) .few))
+    (λ c. omega
+    (arith, c .before .before .before .before .before .before .before .pre .0 .each (c .before .before .loop .i) (c .before .loop-test .taken) .few))
     {- put-key-requires -}
-    (λ c κs. (c .before .before .before .before .before .before .before .before .pre .0 .each (c .before .before .before .loop .i) (c .before .before .loop-test .taken), omega (arith, joining-room (c .before .before .before .loop .inv) (c .before .before .loop-test .taken) (omega (arith, c .before .before .before .before .before .before .before .before .pre .0 .len-is, c .before .before .before .before .before .before .before .before .pre .1 .1)))))
+    (λ c κs. let s = c .before .before in let pre = s .before .before .before .before .before .before .pre in (
+      pre .0 .each (s .before .loop .i) (s .loop-test .taken),
+      omega (arith, joining-room (s .before .loop .inv) (s .loop-test .taken) (omega (arith, pre .0 .len-is, pre .1 .1))),
+    ))
     {- slice-write-out -}
-    (λ c. omega (arith, joining-room (c .before .before .before .before .before .before .loop .inv) (c .before .before .before .before .before .loop-test .taken) (omega (arith, c .before .before .before .before .before .before .before .before .before .before .before .pre .0 .len-is, c .before .before .before .before .before .before .before .before .before .before .before .pre .1 .1)), c .before .before .put-key .ensures .end, laid-length (c .before .before .put-key .ensures)))
+    (λ c. let s = c .before .before in let s2 = s .before .before .before in let s3 = s2 .before .before .before .before .before .before in
+    omega (
+      arith,
+      joining-room (s2 .before .loop .inv) (s2 .loop-test .taken) (omega (arith, s3 .pre .0 .len-is, s3 .pre .1 .1)),
+      s .put-key .ensures .end,
+      laid-length (s .put-key .ensures),
+    ))
     {- add-end -}
-    (λ c. omega (arith, joining-room (c .before .before .before .before .before .before .loop .inv) (c .before .before .before .before .before .loop-test .taken) (omega (arith, c .before .before .before .before .before .before .before .before .before .before .before .pre .0 .len-is, c .before .before .before .before .before .before .before .before .before .before .before .pre .1 .1)), c .before .before .put-key .ensures .end, laid-length (c .before .before .before .before .before .before .loop .inv .written)))
+    (λ c. let s = c .before .before .before .before .before in let s2 = s .before .before .before .before .before .before in
+    omega (
+      arith,
+      joining-room (s .before .loop .inv) (s .loop-test .taken) (omega (arith, s2 .pre .0 .len-is, s2 .pre .1 .1)),
+      c .before .before .put-key .ensures .end,
+      laid-length (s .before .loop .inv .written),
+    ))
     {- add-i -}
     (λ c. search needs)
     {- loop-less -}
     (λ c. search needs)
     {- loop-again -}
-    (λ c. joining-more (c .before .before .before .before .before .before .loop .inv) (c .before .before .before .before .before .loop-test .taken) (omega (arith, c .before .before .before .before .before .before .before .before .before .before .before .pre .0 .len-is, c .before .before .before .before .before .before .before .before .before .before .before .pre .1 .1)) (c .before .before .put-key .ensures))
+    (λ c. let s = c .before .before .before .before .before in let s2 = s .before .before .before .before .before .before in
+    joining-more (s .before .loop .inv) (s .loop-test .taken) (omega (arith, s2 .pre .0 .len-is, s2 .pre .1 .1)) (c .before .before .put-key .ensures))
     {- put-key-requires-2 -}
-    (λ c κs. (c .before .before .before .before .before .before .before .pre .1 .0, omega (arith, joining-done (c .before .before .loop .inv) (c .before .loop-test .left) .end, c .before .before .before .before .before .before .before .pre .0 .len-is, c .before .before .before .before .before .before .before .pre .1 .1, laid-length (c .before .before .loop .inv .written))))
+    (λ c κs. let s = c .before .before in let pre = s .before .before .before .before .before .pre in
+    (pre .1 .0, omega (arith, joining-done (s .loop .inv) (c .before .loop-test .left) .end, pre .0 .len-is, pre .1 .1, laid-length (s .loop .inv .written))))
     {- same-length -}
     (λ c. laid-length (laid-more (c .before .before .before .before .before .loop .inv .written) (c .before .before .put-key2 .ensures)))
     {- returns -}
-    (λ c. laid-more (joining-done (c .before .before .before .before .before .loop .inv) (c .before .before .before .before .loop-test .left)) (c .before .before .put-key2 .ensures)))
+    (λ c. let s = c .before .before .before .before in
+    laid-more (joining-done (s .before .loop .inv) (s .loop-test .left)) (c .before .before .put-key2 .ensures)))

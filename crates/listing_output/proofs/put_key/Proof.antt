@@ -21,12 +21,14 @@ put-key-spec =
     {- part-put-text-end -}
     (λ c. search needs)
     {- put-text-requires -}
-    (λ c κs. omega (arith, ap length (c .before .key-of .ensures), room-left (c .before .before .before .before .before .args .out .now) (c .before .before .before .before .before .args .at) _ (c .before .before .before .before .before .pre .1)))
+    (λ c κs. let s = c .before .before .before .before .before in
+    omega (arith, ap length (c .before .key-of .ensures), room-left (s .args .out .now) (s .args .at) _ (s .pre .1)))
     {- add-result -}
     (λ c. search needs)
     {- same-length -}
     (λ c. search needs)
     {- returns -}
     (λ c.
-    lent-laid (c .before .before .before .before .before .before .before .before .args .at) (omega (arith, c .before .before .before .before .before .before .before .before .pre .1))
-    (text-laid (ap length (c .before .before .before .before .key-of .ensures)) (room-left (c .before .before .before .before .before .before .before .before .args .out .now) (c .before .before .before .before .before .before .before .before .args .at) _ (c .before .before .before .before .before .before .before .before .pre .1)) (c .before .before .before .before .key-of .ensures) (c .before .before .put-text .ensures))))
+    let s = c .before .before .before .before in let s2 = s .before .before .before .before in lent-laid (s2 .args .at) (omega (arith, s2 .pre .1))
+    (text-laid (ap length (s .key-of .ensures)) (room-left (s2 .args .out .now) (s2 .args .at) _ (s2 .pre .1)) (s .key-of .ensures)
+    (c .before .before .put-text .ensures))))

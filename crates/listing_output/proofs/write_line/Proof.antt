@@ -24,7 +24,8 @@ write-line-spec =
     {- part-put-text-end -}
     (λ c. search needs)
     {- put-text-requires -}
-    (λ c κs. omega (arith, note-room (c .before .before .before .before .before .before .before .before .before .before .before .before .pre .0) (c .before .before .before .before .before .before .before .before .before .before .before .before .pre .1) (c .before .before .before .put-candidate .ensures)))
+    (λ c κs. let s = c .before .before .before .before .before .before .before .before .before .before .before .before in
+    omega (arith, note-room (s .pre .0) (s .pre .1) (c .before .before .before .put-candidate .ensures)))
     {- element-copy-out-line-row -}
     (λ c. search needs)
     {- cast-line-row -}
@@ -34,11 +35,15 @@ write-line-spec =
     {- sub-line-row -}
     (λ c. search needs)
     {- cast-line-row-3 -}
-    (λ c. omega (arith, c .before .before .before .before .before .before .before .put-candidate .ensures .end, candidate-length (c .before .before .before .before .before .before .before .before .before .before .before .before .before .before .before .before .pre .0), c .before .before .before .before .before .before .before .before .before .before .before .before .before .before .before .before .pre .1 .small))
+    (λ c. let s = c .before .before .before .before .before .before .before in
+    let s2 = s .before .before .before .before .before .before .before .before .before in
+    omega (arith, s .put-candidate .ensures .end, candidate-length (s2 .pre .0), s2 .pre .1 .small))
     {- cast-line-row-4 -}
     (λ c. search needs)
     {- line-row-requires -}
-    (λ c κs. omega (arith, c .before .before .before .before .before .before .before .put-candidate .ensures .end, candidate-length (c .before .before .before .before .before .before .before .before .before .before .before .before .before .before .before .before .pre .0), c .before .before .before .before .before .before .before .before .before .before .before .before .before .before .before .before .pre .1 .small, c .before .before .before .before .before .before .before .before .before .before .before .before .before .before .before .before .pre .0 .branch .some, c .before .before .before .before .before .before .before .before .before .before .before .before .before .before .before .before .pre .0 .branch .within))
+    (λ c κs. let s = c .before .before .before .before .before .before .before in
+    let pre = s .before .before .before .before .before .before .before .before .before .pre in
+    omega (arith, s .put-candidate .ensures .end, candidate-length (pre .0), pre .1 .small, pre .0 .branch .some, pre .0 .branch .within))
     {- sub-store -}
     (λ c. search needs)
     {- part-store-start -}
@@ -54,4 +59,6 @@ write-line-spec =
     {- same-length-2 -}
     (λ c. search needs)
     {- returns -}
-    (λ c. line-put (c .before .before .before .before .before .before .before .before .before .before .before .before .before .before .before .before .before .before .before .before .before .before .pre .0) (c .before .before .before .before .before .before .before .before .before .before .before .before .before .before .before .before .before .before .before .before .before .before .pre .1) (c .before .before .before .before .before .before .before .before .before .before .before .before .before .put-candidate .ensures) (c .before .before .before .before .before .before .before .before .before .put-text .ensures) (c .before .before .before .before .before .line-row .ensures) (c .before .before .store .ensures)))
+    (λ c. let s = c .before .before .before .before .before in let s2 = s .before .before .before .before in let s3 = s2 .before .before .before .before in
+    let s4 = s3 .before .before .before .before .before .before .before .before .before in
+    line-put (s4 .pre .0) (s4 .pre .1) (s3 .put-candidate .ensures) (s2 .put-text .ensures) (s .line-row .ensures) (c .before .before .store .ensures)))

@@ -27,4 +27,6 @@ row-at-spec =
     {- row-in-requires -}
     (λ c κs. search needs)
     {- returns -}
-    (λ c. c .row-in .ensures ∙ ap (row-in (asked (c .before .before .before .before .before .args .ask))) (ap (λ r. record-at r 1) (c .before .before .words-of .ensures) ∙ one-record _ ∙ part-words (c .before .before .before .before .before .args .flat .now) (c .before .before .before .before .before .args .k))))
+    (λ c. let a = c .before .before .before .before .before .args in
+    c .row-in .ensures
+    ∙ ap (row-in (asked (a .ask))) (ap (λ r. record-at r 1) (c .before .before .words-of .ensures) ∙ one-record _ ∙ part-words (a .flat .now) (a .k))))

@@ -12,7 +12,8 @@ use borrow.Author.Needs.{needs}
 use Rattle.listing_row.proofs.row_in.Statement.{statement}
 use Rattle.listing_row.proofs.row_in.Tie as tie
 
-row-made : (w : Which) (r : List ℕ) {i : RowItem} {m a b d e : ℕ} → i ≡ item-in w r → a ≡ candidate-start r → b ≡ candidate-len r → d ≡ annotation-start r → e ≡ annotation-len r → m ≡ matched-word r
+row-made : (w : Which) (r : List ℕ) {i : RowItem} {m a b d e : ℕ} → i ≡ item-in w r → a ≡ candidate-start r
+    → b ≡ candidate-len r → d ≡ annotation-start r → e ≡ annotation-len r → m ≡ matched-word r
     → _≡_ {A = Row} (record { matched = m; item = i; candidate = record { start = a; len = b }; annotation = record { start = d; len = e } }) (row-in w r)
 row-made w r ei ea eb ed ee em = rw (em, ei, ea, eb, ed, ee)
 
@@ -27,4 +28,6 @@ row-in-spec =
     (λ c κs. search needs)
     (λ c κs. search needs)
     {- returns -}
-    (λ c. row-made (asked (c .before .before .before .before .before .before .before .args .ask)) (record-at (c .before .before .before .before .before .before .before .args .words .now) 1) (c .before .before .before .before .before .item-in .ensures) (c .before .before .before .before .word-of .ensures) (c .before .before .before .word-of2 .ensures) (c .before .before .word-of3 .ensures) (c .before .word-of4 .ensures) (c .word-of5 .ensures)))
+    (λ c. let s = c .before .before in let s2 = s .before .before in
+    row-made (asked (s2 .before .before .before .args .ask)) (record-at (s2 .before .before .before .args .words .now) 1) (s2 .before .item-in .ensures)
+    (s2 .word-of .ensures) (s .before .word-of2 .ensures) (s .word-of3 .ensures) (c .before .word-of4 .ensures) (c .word-of5 .ensures)))

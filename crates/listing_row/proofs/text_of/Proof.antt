@@ -15,4 +15,4 @@ text-of-spec =
     (λ c. search needs)
     (λ c. search needs)
     {- returns -}
-    (λ c. part-span (c .before .before .before .args .text .now) (c .before .before .before .args .s .start) (c .before .before .before .args .s .len)))
+    (λ c. let a = c .before .before .before .args in part-span (a .text .now) (a .s .start) (a .s .len)))

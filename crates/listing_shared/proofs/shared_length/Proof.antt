@@ -5,7 +5,8 @@ use lib.Seq.{length-take-le}
 use native.Mathlib.Omega.{arith}
 use borrow.Author.Needs.{needs}
 use Rattle.memory.specs.declared.Span.{Span}
-use Rattle.listing_shared.proofs.Shared.{Narrowed, first-texts, first-length, narrowed-start, next-text, narrowed-next, narrowed-none, narrowed-end, none-seen}
+use Rattle.listing_shared.proofs.Shared.{Narrowed, first-texts, first-length, narrowed-start, next-text, narrowed-next, narrowed-none, narrowed-end}
+use Rattle.listing_shared.proofs.Shared.{none-seen}
 use Rattle.listing_shared.proofs.shared_length.Statement.{statement}
 use Rattle.listing_shared.proofs.shared_length.Tie as tie
 
@@ -24,7 +25,9 @@ shared-length-spec =
     {- cast-shared -}
     (λ c. search needs)
     {- loop-holds -}
-    (λ c. rw (c .before .before .candidate-at .ensures) (narrowed-start (c .before .before .before .before .before .before .pre) (omega arith) (c .before .text-of .ensures ∙ rw (c .before .before .candidate-at .ensures) refl)))
+    (λ c. let s2 = c .before .before in
+    rw (s2 .candidate-at .ensures)
+    (narrowed-start (s2 .before .before .before .before .pre) (omega arith) (c .before .text-of .ensures ∙ rw (s2 .candidate-at .ensures) refl)))
     {- returns-2 -}
     (λ c. narrowed-none (c .before .before .loop .inv) (c .if2 .taken))
     {- candidate-at-requires-2 -}
@@ -40,8 +43,17 @@ shared-length-spec =
     {- loop-less -}
     (λ c. omega arith)
     {- loop-again -}
-    (λ c. narrowed-next (c .before .before .before .before .before .before .loop .inv) (omega arith) (c .before .before .text-of2 .ensures ∙ rw (c .before .before .before .candidate-at2 .ensures) refl) (c .string-compare .ensures .agree))
+    (λ c. let s2 = c .before .before in
+    narrowed-next (s2 .before .before .before .before .loop .inv) (omega arith) (s2 .text-of2 .ensures ∙ rw (s2 .before .candidate-at2 .ensures) refl)
+    (c .string-compare .ensures .agree))
     {- cast-result -}
-    (λ c. omega (arith, c .before .loop .inv .short, first-length (c .before .before .before .before .before .before .before .before .pre) (omega arith) (c .before .before .before .text-of .ensures ∙ rw (c .before .before .before .before .candidate-at .ensures) refl), ap (λ (s : Span). s .len) (c .before .before .before .before .candidate-at .ensures), c .before .before .struct-known .given .1 .0 .fits))
+    (λ c. let s2 = c .before .before .before in
+    omega (
+      arith,
+      c .before .loop .inv .short,
+      first-length (s2 .before .before .before .before .before .pre) (omega arith) (s2 .text-of .ensures ∙ rw (s2 .before .candidate-at .ensures) refl),
+      ap (λ (s : Span). s .len) (s2 .before .candidate-at .ensures),
+      c .before .before .struct-known .given .1 .0 .fits,
+    ))
     {- returns-3 -}
     (λ c. narrowed-end (c .before .loop .inv) (omega arith)))

@@ -16,8 +16,11 @@ cut-query-spec =
     {- segment-length-requires -}
     (λ c κs. search needs)
     {- add-t5 -}
-    (λ c. omega (arith, c .segment-length .ensures, c .before .before .before .pre .1, before-inside (c .before .before .before .args .query .now) (c .before .before .before .pre .0) (omega (arith, c .before .if1 .left))))
+    (λ c. let s = c .before .before .before in
+    omega (arith, c .segment-length .ensures, s .pre .1, before-inside (s .args .query .now) (s .pre .0) (omega (arith, c .before .if1 .left))))
     {- add-t7 -}
-    (λ c. omega (arith, c .segment-length .ensures, c .before .before .before .pre .1, c .before .before .before .pre .2, before-inside (c .before .before .before .args .query .now) (c .before .before .before .pre .0) (omega (arith, c .before .if1 .left))))
+    (λ c. let s = c .before .before .before in
+    omega (arith, c .segment-length .ensures, s .pre .1, s .pre .2, before-inside (s .args .query .now) (s .pre .0) (omega (arith, c .before .if1 .left))))
     {- returns-2 -}
-    (λ c. cuts-some (c .before .before .before .args .query .now) _ _ _ _ (c .before .before .before .pre .0) (c .before .if1 .left) (c .before .before .before .pre .1) (c .before .before .before .pre .2) (c .segment-length .ensures) refl))
+    (λ c. let s = c .before .before .before in
+    cuts-some (s .args .query .now) _ _ _ _ (s .pre .0) (c .before .if1 .left) (s .pre .1) (s .pre .2) (c .segment-length .ensures) refl))

@@ -41,4 +41,8 @@ enter-spec =
     {- set-path-requires -}
     (λ c κs. search needs)
     {- returns -}
-    (λ c. (refl, run-entered (c .before .before .before .before .before .before .before .before .before .before .before .args .found) (c .before .before .before .before .before .before .before .before .before .before .before .pre .1) (c .set-path .ensures) (omega (arith, c .before .before .before .before .before .text-len .ensures)) (⊎-elim (λ z. z .2 ∙ rw (eq-eqb _ 0 (z .0 .taken))) (λ z. z .1 ∙ rw (ne-eqb _ 0 (z .0 .left))) (c .before .before .before .if1 .came)))))
+    (λ c. let s = c .before .before .before in let s2 = s .before .before .before .before .before .before .before .before in (
+      refl,
+      run-entered (s2 .args .found) (s2 .pre .1) (c .set-path .ensures) (omega (arith, s .before .before .text-len .ensures))
+          (⊎-elim (λ z. z .2 ∙ rw (eq-eqb _ 0 (z .0 .taken))) (λ z. z .1 ∙ rw (ne-eqb _ 0 (z .0 .left))) (s .if1 .came)),
+    )))

@@ -11,9 +11,14 @@ use Rattle.find_tree.proofs.Branches.{any-tree}
 use Rattle.memory.proofs.At.{at-fits}
 use Rattle.listing_line.proofs.Run.{same-run}
 use Rattle.listing_step.proofs.Cuts.{front-is}
-use Rattle.listing_trie.proofs.Branch.{leaf-runs, line-ready, branch-named, space-at, below-ready, child-earlier, namespace-ready, namespace-sized, namespace-runs}
-use Rattle.listing_trie.proofs.Listed.{none-runs, onward, along-earlier, along-tree, along-begins, Stepping, stepping-first, stepping-branch, stepping-next, stepping-less, stepping-spent, stepping-done, list-any, one-earlier, one-ready, one-runs, Merging, merging-first, merging-any, merging-done, merging-earlier, merging-less, merging-branch, merging-next, merging-spent}
-use Rattle.listing_trie.proofs.Trie.{trie-spent, trie-named, cut-ready, bindings-earlier, namespaces-earlier, bindings-asked, namespaces-asked, trie-all, trie-few}
+use Rattle.listing_trie.proofs.Branch.{leaf-runs, line-ready, branch-named, space-at, below-ready, child-earlier, namespace-ready, namespace-sized}
+use Rattle.listing_trie.proofs.Branch.{namespace-runs}
+use Rattle.listing_trie.proofs.Listed.{none-runs, onward, along-earlier, along-tree, along-begins, Stepping, stepping-first, stepping-branch}
+use Rattle.listing_trie.proofs.Listed.{stepping-next, stepping-less, stepping-spent, stepping-done, list-any, one-earlier, one-ready, one-runs, Merging}
+use Rattle.listing_trie.proofs.Listed.{merging-first, merging-any, merging-done, merging-earlier, merging-less, merging-branch, merging-next}
+use Rattle.listing_trie.proofs.Listed.{merging-spent}
+use Rattle.listing_trie.proofs.Trie.{trie-spent, trie-named, cut-ready, bindings-earlier, namespaces-earlier, bindings-asked, namespaces-asked, trie-all}
+use Rattle.listing_trie.proofs.Trie.{trie-few}
 use Prim.Native.Nat.{ℕ, _<_}
 use borrow.Fn.Kinds.{In}
 use borrow.Fn.PlainCycle.{Measures, is, falls, and}
@@ -119,11 +124,15 @@ list-trie-below t =
     and 6 list-trie-kinds.ps (falls 6 list-trie-kinds.ps _<_ μ-list-trie t) list-trie.Pre
 
 abbrev list-merged-Inv-loop : list-merged-lts.InvT-loop
-list-merged-Inv-loop words text query place list run₀ flat₀ out₀ budget len rest roots₀ heads₀ labels n child₀ next₀ turn₀ run flat out roots heads child next turn =
+list-merged-Inv-loop words text query place list run₀ flat₀ out₀ budget len rest roots₀ heads₀ labels n child₀ next₀
+    turn₀ run flat out roots heads child next
+    turn =
     Merging words text query place list run₀ run flat₀ flat out₀ out (state roots heads labels child next (turn .n) (turn .root) (turn .last))
 
 abbrev list-merged-μ-loop : list-merged-lts.MeasureT-loop
-list-merged-μ-loop words text query place list run₀ flat₀ out₀ budget len rest roots₀ heads₀ labels n child₀ next₀ turn₀ run flat out roots heads child next turn =
+list-merged-μ-loop words text query place list run₀ flat₀ out₀ budget len rest roots₀ heads₀ labels n child₀ next₀ turn₀
+    run flat out roots heads child next
+    turn =
     left-in words text (take (place .len) query) (state roots heads labels child next (turn .n) (turn .root) (turn .last))
 
 abbrev list-tree-Inv-loop : list-tree-lts.InvT-loop
@@ -143,23 +152,39 @@ pub +list-below+list-branch+list-merged+list-names+list-tree+list-trie-spec : {M
     μ-list-names
     μ-list-tree
     μ-list-trie
-    (λ t. list-below-lts.spec (held-of-reads.Asked, held-of-reads.Learnt, enter-reads.Asked, enter-reads.Learnt, list-trie-below t, list-trie.Post, leave-reads.Asked, leave-reads.Learnt)
+    (λ t. list-below-lts.spec (
+      held-of-reads.Asked,
+      held-of-reads.Learnt,
+      enter-reads.Asked,
+      enter-reads.Learnt,
+      list-trie-below t,
+      list-trie.Post,
+      leave-reads.Asked,
+      leave-reads.Learnt,
+    )
     (list-below-at t)
     list-below.Post
     {- held-of-requires -}
     (λ c κs. branch-named (c .before .before .before .before .before .pre .1 .can))
     {- enter-requires -}
-    (λ c κs. (branch-named (c .before .before .before .before .before .before .before .pre .1 .can), below-ready (c .before .before .before .before .before .before .before .pre .1 .can) refl))
+    (λ c κs. let can = c .before .before .before .before .before .before .before .pre .1 .can in (branch-named can, below-ready can refl))
     {- list-trie-requires -}
-    (λ c κs. (omega (arith, c .before .before .before .before .before .before .before .before .before .before .before .pre .0, c .before .before .before .before .before .held-of .ensures, child-earlier (space-at (c .before .before .before .before .before .before .before .before .before .before .before .pre .1 .can) refl .0)), namespace-ready (c .before .before .before .before .before .before .before .before .before .before .before .pre .1) (c .before .before .before .enter .ensures .1) (c .before .before .before .before .before .held-of .ensures)))
+    (λ c κs. let s = c .before .before .before .before .before in let pre = s .before .before .before .before .before .before .pre in (
+      omega (arith, pre .0, s .held-of .ensures, child-earlier (space-at (pre .1 .can) refl .0)),
+      namespace-ready (pre .1) (c .before .before .before .enter .ensures .1) (s .held-of .ensures),
+    ))
     {- leave-requires -}
-    (λ c κs. namespace-sized (c .before .before .before .before .before .before .before .before .before .before .before .before .before .before .before .before .before .pre .1) (c .before .before .before .before .before .before .before .before .before .enter .ensures .1) (c .before .before .before .before .before .before .before .before .before .before .before .held-of .ensures) (c .before .before .before .before .before .list-trie .ensures))
+    (λ c κs. let s = c .before .before .before .before .before in let s2 = s .before .before .before .before in
+    namespace-sized (s2 .before .before .before .before .before .before .before .before .pre .1) (s2 .enter .ensures .1) (s2 .before .before .held-of .ensures)
+    (s .list-trie .ensures))
     {- same-length -}
     (λ c. search needs)
     {- same-length-2 -}
     (λ c. search needs)
     {- returns -}
-    (λ c. namespace-runs (c .before .before .before .before .before .before .before .before .before .before .before .before .before .before .before .before .before .before .pre .1) (c .before .before .before .before .before .before .before .before .before .before .enter .ensures .1) (c .before .before .before .before .before .before .before .before .before .before .before .before .held-of .ensures) (c .before .before .before .before .before .before .list-trie .ensures) (c .before .before .before .before .before .before .before .before .before .before .enter .ensures .0) (c .leave .ensures)))
+    (λ c. let s = c .before .before .before .before .before .before in let s2 = s .before .before .before .before in
+    namespace-runs (s2 .before .before .before .before .before .before .before .before .pre .1) (s2 .enter .ensures .1) (s2 .before .before .held-of .ensures)
+    (s .list-trie .ensures) (s2 .enter .ensures .0) (c .leave .ensures)))
     (λ t. list-branch-lts.spec (line-reads.Asked, line-reads.Learnt, list-below-below t, list-below.Post)
     (list-branch-at t)
     list-branch.Post
@@ -170,16 +195,26 @@ pub +list-below+list-branch+list-merged+list-names+list-tree+list-trie-spec : {M
     {- same-length-2 -}
     (λ c. search needs)
     {- returns -}
-    (λ c. leaf-runs (c .before .before .before .before .before .before .before .before .if1 .taken) (c .before .before .before .before .line .ensures))
+    (λ c. let s = c .before .before .before .before in leaf-runs (s .before .before .before .before .if1 .taken) (s .line .ensures))
     {- list-below-requires -}
-    (λ c κs. (omega (arith, c .before .before .before .before .before .before .before .before .before .pre .0), rw (c .before .before .before .if1 .left) at (c .before .before .before .before .before .before .before .before .before .pre .1)))
+    (λ c κs. let s = c .before .before .before .before .before .before .before .before .before in
+    (omega (arith, s .pre .0), rw (c .before .before .before .if1 .left) at (s .pre .1)))
     {- same-length-3 -}
     (λ c. search needs)
     {- same-length-4 -}
     (λ c. search needs)
     {- returns-2 -}
-    (λ c. rw (c .before .before .before .before .before .before .before .before .if1 .left) (c .before .before .before .before .list-below .ensures)))
-    (λ t. list-merged-lts.spec (merge-start-reads.Asked, merge-start-reads.Learnt, list-tree-below t, list-tree.Post, merge-next-reads.Asked, merge-next-reads.Learnt, list-branch-below t, list-branch.Post)
+    (λ c. let s = c .before .before .before .before in rw (s .before .before .before .before .if1 .left) (s .list-below .ensures)))
+    (λ t. list-merged-lts.spec (
+      merge-start-reads.Asked,
+      merge-start-reads.Learnt,
+      list-tree-below t,
+      list-tree.Post,
+      merge-next-reads.Asked,
+      merge-next-reads.Learnt,
+      list-branch-below t,
+      list-branch.Post,
+    )
     (list-merged-at t)
     list-merged.Post
     list-merged-Inv-loop
@@ -193,27 +228,38 @@ pub +list-below+list-branch+list-merged+list-names+list-tree+list-trie-spec : {M
     {- part-merge-start-end -}
     (λ c. omega (arith, c .before .before .before .before .before .before .pre .1 .place-ok .len-inside))
     {- merge-start-requires -}
-    (λ c κs. (list-any (c .before .before .before .before .before .before .before .before .before .before .pre .1 .can), record { of-roots = refl; of-heads = refl; of-labels = refl }))
+    (λ c κs. (
+      list-any (c .before .before .before .before .before .before .before .before .before .before .pre .1 .can),
+      record { of-roots = refl; of-heads = refl; of-labels = refl },
+    ))
     {- array-read-t37 -}
     (λ c. search needs)
     {- array-read-t40 -}
     (λ c. search needs)
     {- list-tree-requires -}
-    (λ c κs. (omega (arith, c .before .before .before .before .before .before .before .before .before .before .before .before .before .before .before .pre .0, one-earlier (c .before .before .before .before .before .before .before .before .before .before .before .before .before .before .before .pre .1) ((rw front-is at (c .before .before .before .before .merge-start .ensures)) .one (c .before .before .before .if1 .taken) _ _ (c .before .before .before .before .before .before .before .before .before .before .before .before .before .before .before .pre .1 .can .list-at))), one-ready (c .before .before .before .before .before .before .before .before .before .before .before .before .before .before .before .pre .1) ((rw front-is at (c .before .before .before .before .merge-start .ensures)) .one (c .before .before .before .if1 .taken) _ _ (c .before .before .before .before .before .before .before .before .before .before .before .before .before .before .before .pre .1 .can .list-at))))
+    (λ c κs. let s = c .before .before .before in
+    let pre = s .before .before .before .before .before .before .before .before .before .before .before .before .pre in (
+      omega (arith, pre .0, one-earlier (pre .1) ((rw front-is at (s .before .merge-start .ensures)) .one (s .if1 .taken) _ _ (pre .1 .can .list-at))),
+      one-ready (pre .1) ((rw front-is at (s .before .merge-start .ensures)) .one (s .if1 .taken) _ _ (pre .1 .can .list-at)),
+    ))
     {- same-length -}
     (λ c. search needs)
     {- same-length-2 -}
     (λ c. search needs)
     {- returns -}
-    (λ c. one-runs (c .before .before .before .before .before .before .before .before .before .before .before .before .before .before .before .before .before .before .before .before .pre .1) ((rw front-is at (c .before .before .before .before .before .before .before .before .before .merge-start .ensures)) .one (c .before .before .before .before .before .before .before .before .if1 .taken) _ _ (c .before .before .before .before .before .before .before .before .before .before .before .before .before .before .before .before .before .before .before .before .pre .1 .can .list-at)) (c .before .before .before .before .list-tree .ensures))
+    (λ c. let s = c .before .before .before .before in let s2 = s .before .before .before .before in
+    let s3 = s2 .before .before .before .before .before .before .before .before .before .before .before .before in
+    one-runs (s3 .pre .1) ((rw front-is at (s2 .before .merge-start .ensures)) .one (s2 .if1 .taken) _ _ (s3 .pre .1 .can .list-at)) (s .list-tree .ensures))
     {- loop-holds -}
-    (λ c. merging-first (c .before .before .before .before .before .before .before .before .before .before .before .before .before .before .pre .1) ((rw front-is at (c .before .before .before .merge-start .ensures)) .starts))
+    (λ c. merging-first (c .before .before .before .before .before .before .before .before .before .before .before .before .before .before .pre .1)
+    ((rw front-is at (c .before .before .before .merge-start .ensures)) .starts))
     {- sub-merge-next -}
     (λ c. search needs)
     {- part-merge-next-start -}
     (λ c. search needs)
     {- part-merge-next-end -}
-    (λ c. omega (arith, c .before .before .before .before .before .before .before .before .before .before .before .before .before .before .before .pre .1 .place-ok .len-inside))
+    (λ c. let s = c .before .before .before .before .before .before .before .before .before .before .before .before .before .before in
+    omega (arith, s .before .pre .1 .place-ok .len-inside))
     {- merge-next-requires -}
     (λ c κs. rw front-is (record { labels = _; any = merging-any (c .before .before .before .before .before .loop .inv) }))
     {- same-length-3 -}
@@ -221,31 +267,48 @@ pub +list-below+list-branch+list-merged+list-names+list-tree+list-trie-spec : {M
     {- same-length-4 -}
     (λ c. c .before .before .before .before .before .before .before .loop .inv .left .out-size)
     {- returns-2 -}
-    (λ c. merging-done (c .before .before .before .before .before .before .before .loop .inv) ((rw front-is at (c .before .merge-next .ensures)) .gives _) (c .if2 .taken))
+    (λ c. merging-done (c .before .before .before .before .before .before .before .loop .inv) ((rw front-is at (c .before .merge-next .ensures)) .gives _)
+    (c .if2 .taken))
     {- mul-t48 -}
     (λ c. omega (arith, c .before .merge-next .ensures .small (c .if2 .left)))
     {- array-read-t58 -}
     (λ c. c .before .merge-next .ensures .small (c .if2 .left))
     {- sub-list-branch -}
-    (λ c. omega (arith, c .before .before .before .before .before .before .before .before .before .before .before .before .before .before .before .before .before .before .before .before .before .before .pre .1 .place-ok .next-inside))
+    (λ c. let s = c .before .before .before .before .before .before .before .before .before .before .before .before .before .before in
+    omega (arith, s .before .before .before .before .before .before .before .before .pre .1 .place-ok .next-inside))
     {- part-list-branch-start -}
-    (λ c. omega (arith, c .before .before .before .before .before .before .before .before .before .before .before .before .before .before .before .before .before .before .before .before .before .before .pre .1 .place-ok .next-inside))
+    (λ c. let s = c .before .before .before .before .before .before .before .before .before .before .before .before .before .before in
+    omega (arith, s .before .before .before .before .before .before .before .before .pre .1 .place-ok .next-inside))
     {- part-list-branch-end -}
     (λ c. search needs)
     {- list-branch-requires -}
-    (λ c κs. (omega (arith, c .before .before .before .before .before .before .before .before .before .before .before .before .before .before .before .before .before .before .before .before .before .before .before .before .before .before .pre .0, merging-earlier (c .before .before .before .before .before .before .before .before .before .before .before .loop .inv) ((rw front-is at (c .before .before .before .before .before .merge-next .ensures)) .gives _) (c .before .before .before .before .if2 .left)), rw tail-is (merging-branch (c .before .before .before .before .before .before .before .before .before .before .before .loop .inv) ((rw front-is at (c .before .before .before .before .before .merge-next .ensures)) .gives _) (c .before .before .before .before .if2 .left) (c .before .before .before .before .before .before .before .before .before .before .before .before .before .before .before .before .before .before .before .before .before .before .before .before .before .before .pre .1))))
+    (λ c κs. let s = c .before .before .before .before in let s2 = s .before .before .before .before .before .before .before in
+    let s3 = s2 .before .before .before .before .before .before .before .before .before .before .before .before .before .before in let s4 = s3 .before in (
+      omega (arith, s4 .pre .0, merging-earlier (s2 .loop .inv) ((rw front-is at (s .before .merge-next .ensures)) .gives _) (s .if2 .left)),
+      rw tail-is (merging-branch (s2 .loop .inv) ((rw front-is at (s .before .merge-next .ensures)) .gives _) (s .if2 .left) (s4 .pre .1)),
+    ))
     {- element-copy-out-if3 -}
     (λ c. search needs)
     {- same-length-5 -}
-    (λ c. merging-next (c .before .before .before .before .before .before .before .before .before .before .before .before .before .before .before .before .before .before .loop .inv) ((rw front-is at (c .before .before .before .before .before .before .before .before .before .before .before .before .merge-next .ensures)) .gives _) (c .before .before .before .before .before .before .before .before .before .before .before .if2 .left) (rw tail-is at (c .before .before .before .before .before .before .list-branch .ensures)) (c .before .before .before .before .before .flat2 .given) (c .before .before .before .out2 .given) .left .flat-size)
+    (λ c. let s = c .before .before .before .before .before in let s2 = s .before .before .before .before .before .before in
+    merging-next (s2 .before .before .before .before .before .before .before .loop .inv) ((rw front-is at (s2 .before .merge-next .ensures)) .gives _)
+    (s2 .if2 .left) (rw tail-is at (s .before .list-branch .ensures)) (s .flat2 .given) (c .before .before .before .out2 .given) .left .flat-size)
     {- same-length-6 -}
-    (λ c. merging-next (c .before .before .before .before .before .before .before .before .before .before .before .before .before .before .before .before .before .before .loop .inv) ((rw front-is at (c .before .before .before .before .before .before .before .before .before .before .before .before .merge-next .ensures)) .gives _) (c .before .before .before .before .before .before .before .before .before .before .before .if2 .left) (rw tail-is at (c .before .before .before .before .before .before .list-branch .ensures)) (c .before .before .before .before .before .flat2 .given) (c .before .before .before .out2 .given) .left .out-size)
+    (λ c. let s = c .before .before .before .before .before in let s2 = s .before .before .before .before .before .before in
+    merging-next (s2 .before .before .before .before .before .before .before .loop .inv) ((rw front-is at (s2 .before .merge-next .ensures)) .gives _)
+    (s2 .if2 .left) (rw tail-is at (s .before .list-branch .ensures)) (s .flat2 .given) (c .before .before .before .out2 .given) .left .out-size)
     {- returns-3 -}
-    (λ c. merging-spent (c .before .before .before .before .before .before .before .before .before .before .before .before .before .before .before .before .before .before .loop .inv) ((rw front-is at (c .before .before .before .before .before .before .before .before .before .before .before .before .merge-next .ensures)) .gives _) (c .before .before .before .before .before .before .before .before .before .before .before .if2 .left) (rw tail-is at (c .before .before .before .before .before .before .list-branch .ensures)) (c .before .before .before .before .before .flat2 .given) (c .before .before .before .out2 .given) (c .if3 .taken))
+    (λ c. let s = c .before .before .before .before .before in let s2 = s .before .before .before .before .before .before in
+    merging-spent (s2 .before .before .before .before .before .before .before .loop .inv) ((rw front-is at (s2 .before .merge-next .ensures)) .gives _)
+    (s2 .if2 .left) (rw tail-is at (s .before .list-branch .ensures)) (s .flat2 .given) (c .before .before .before .out2 .given) (c .if3 .taken))
     {- loop-less -}
-    (λ c. merging-less (c .before .before .before .before .before .before .before .before .before .before .before .before .before .before .before .before .before .before .loop .inv) ((rw front-is at (c .before .before .before .before .before .before .before .before .before .before .before .before .merge-next .ensures)) .gives _) (c .before .before .before .before .before .before .before .before .before .before .before .if2 .left))
+    (λ c. let s = c .before .before .before .before .before .before .before .before .before .before .before in
+    merging-less (s .before .before .before .before .before .before .before .loop .inv) ((rw front-is at (s .before .merge-next .ensures)) .gives _)
+    (s .if2 .left))
     {- loop-again -}
-    (λ c. merging-next (c .before .before .before .before .before .before .before .before .before .before .before .before .before .before .before .before .before .before .loop .inv) ((rw front-is at (c .before .before .before .before .before .before .before .before .before .before .before .before .merge-next .ensures)) .gives _) (c .before .before .before .before .before .before .before .before .before .before .before .if2 .left) (rw tail-is at (c .before .before .before .before .before .before .list-branch .ensures)) (c .before .before .before .before .before .flat2 .given) (c .before .before .before .out2 .given)))
+    (λ c. let s = c .before .before .before .before .before in let s2 = s .before .before .before .before .before .before in
+    merging-next (s2 .before .before .before .before .before .before .before .loop .inv) ((rw front-is at (s2 .before .merge-next .ensures)) .gives _)
+    (s2 .if2 .left) (rw tail-is at (s .before .list-branch .ensures)) (s .flat2 .given) (c .before .before .before .out2 .given)))
     (λ t. list-names-lts.spec (single-reads.Asked, single-reads.Learnt, list-tree-below t, list-tree.Post, list-merged-below t, list-merged.Post)
     (list-names-at t)
     list-names.Post
@@ -254,22 +317,28 @@ pub +list-below+list-branch+list-merged+list-names+list-tree+list-trie-spec : {M
     {- single-requires -}
     (λ c κs. at-fits (c .before .before .before .before .before .before .pre .1 .can .list-at))
     {- list-tree-requires -}
-    (λ c κs. (omega (arith, c .before .before .before .before .before .before .before .before .before .before .before .pre .0, one-earlier (c .before .before .before .before .before .before .before .before .before .before .before .pre .1) (single-one _ (c .before .before .before .before .before .before .before .before .before .before .before .pre .1 .can .list-at) (c .before .before .before .before .single .ensures) (c .before .before .before .if2 .taken))), one-ready (c .before .before .before .before .before .before .before .before .before .before .before .pre .1) (single-one _ (c .before .before .before .before .before .before .before .before .before .before .before .pre .1 .can .list-at) (c .before .before .before .before .single .ensures) (c .before .before .before .if2 .taken))))
+    (λ c κs. let s = c .before .before .before in let pre = s .before .before .before .before .before .before .before .before .pre in (
+      omega (arith, pre .0, one-earlier (pre .1) (single-one _ (pre .1 .can .list-at) (s .before .single .ensures) (s .if2 .taken))),
+      one-ready (pre .1) (single-one _ (pre .1 .can .list-at) (s .before .single .ensures) (s .if2 .taken)),
+    ))
     {- same-length -}
     (λ c. search needs)
     {- same-length-2 -}
     (λ c. search needs)
     {- returns-2 -}
-    (λ c. one-runs (c .before .before .before .before .before .before .before .before .before .before .before .before .before .before .before .before .pre .1) (single-one _ (c .before .before .before .before .before .before .before .before .before .before .before .before .before .before .before .before .pre .1 .can .list-at) (c .before .before .before .before .before .before .before .before .before .single .ensures) (c .before .before .before .before .before .before .before .before .if2 .taken)) (c .before .before .before .before .list-tree .ensures))
+    (λ c. let s = c .before .before .before .before in let s2 = s .before .before .before .before in
+    let s3 = s2 .before .before .before .before .before .before .before .before in
+    one-runs (s3 .pre .1) (single-one _ (s3 .pre .1 .can .list-at) (s2 .before .single .ensures) (s2 .if2 .taken)) (s .list-tree .ensures))
     {- list-merged-requires -}
-    (λ c κs. (omega (arith, c .before .before .before .before .before .before .before .before .before .before .before .pre .0), c .before .before .before .before .before .before .before .before .before .before .before .pre .1))
+    (λ c κs. let s = c .before .before .before .before .before .before .before .before .before .before .before in (omega (arith, s .pre .0), s .pre .1))
     {- same-length-3 -}
     (λ c. search needs)
     {- same-length-4 -}
     (λ c. search needs)
     {- returns-3 -}
     (λ c. c .before .before .before .before .list-merged .ensures))
-    (λ t. list-tree-lts.spec (first-match-reads.Asked, first-match-reads.Learnt, list-branch-below t, list-branch.Post, next-match-reads.Asked, next-match-reads.Learnt)
+    (λ t. list-tree-lts.spec
+    (first-match-reads.Asked, first-match-reads.Learnt, list-branch-below t, list-branch.Post, next-match-reads.Asked, next-match-reads.Learnt)
     (list-tree-at t)
     list-tree.Post
     list-tree-Inv-loop
@@ -293,34 +362,70 @@ pub +list-below+list-branch+list-merged+list-names+list-tree+list-trie-spec : {M
     {- part-list-branch-end -}
     (λ c. search needs)
     {- list-branch-requires -}
-    (λ c κs. (omega (arith, c .before .before .before .before .before .before .before .before .before .before .before .before .before .before .before .before .pre .0, along-earlier (c .before .before .before .before .before .before .loop .inv .along) (λ z. omega (arith, c .before .before .before .before .if1 .taken))), rw tail-is (stepping-branch (c .before .before .before .before .before .before .loop .inv) (λ z. omega (arith, c .before .before .before .before .if1 .taken)) (c .before .before .before .before .before .before .before .before .before .before .before .before .before .before .before .before .pre .1))))
+    (λ c κs. let s = c .before .before .before .before in let s2 = s .before .before in
+    let s3 = s2 .before .before .before .before .before .before .before .before .before .before in (
+      omega (arith, s3 .pre .0, along-earlier (s2 .loop .inv .along) (λ z. omega (arith, s .if1 .taken))),
+      rw tail-is (stepping-branch (s2 .loop .inv) (λ z. omega (arith, s .if1 .taken)) (s3 .pre .1)),
+    ))
     {- element-copy-out-if2 -}
     (λ c. search needs)
     {- same-length -}
-    (λ c. c .before .before .before .before .before .flat .given ∙ c .before .before .before .before .before .before .before .before .before .before .before .before .before .loop .inv .along .left .flat-size)
+    (λ c. let s = c .before .before .before .before .before in
+    s .flat .given ∙ s .before .before .before .before .before .before .before .before .loop .inv .along .left .flat-size)
     {- same-length-2 -}
-    (λ c. c .before .before .before .out .given ∙ c .before .before .before .before .before .before .before .before .before .before .before .before .before .loop .inv .along .left .out-size)
+    (λ c. c .before .before .before .out .given
+    ∙ c .before .before .before .before .before .before .before .before .before .before .before .before .before .loop .inv .along .left .out-size)
     {- returns -}
-    (λ c. stepping-spent (c .before .before .before .before .before .before .before .before .before .before .before .before .before .loop .inv) (λ z. omega (arith, c .before .before .before .before .before .before .before .before .before .before .before .if1 .taken)) (rw tail-is at (c .before .before .before .before .before .before .list-branch .ensures)) (c .before .before .before .before .before .flat .given) (c .before .before .before .out .given) (c .if2 .taken))
+    (λ c. let s = c .before .before .before .before .before in let s2 = s .before .before .before .before .before .before in
+    stepping-spent (s2 .before .before .loop .inv) (λ z. omega (arith, s2 .if1 .taken)) (rw tail-is at (s .before .list-branch .ensures)) (s .flat .given)
+    (c .before .before .before .out .given) (c .if2 .taken))
     {- sub-next-match -}
     (λ c. search needs)
     {- part-next-match-start -}
     (λ c. search needs)
     {- part-next-match-end -}
-    (λ c. omega (arith, c .before .before .before .before .before .before .before .before .before .before .before .before .before .before .before .before .before .before .before .before .before .before .before .pre .1 .place-ok .len-inside))
+    (λ c. let s = c .before .before .before .before .before .before .before .before .before .before .before .before .before .before in
+    omega (arith, s .before .before .before .before .before .before .before .before .before .pre .1 .place-ok .len-inside))
     {- next-match-requires -}
-    (λ c κs. (any-tree (c .before .before .before .before .before .before .before .before .before .before .before .before .before .before .before .before .before .before .before .before .before .before .before .before .before .pre .1 .can .tree-at), (along-tree (c .before .before .before .before .before .before .before .before .before .before .before .before .before .before .before .loop .inv .along) (λ z. omega (arith, c .before .before .before .before .before .before .before .before .before .before .before .before .before .if1 .taken)), (rw front-is (along-begins (c .before .before .before .before .before .before .before .before .before .before .before .before .before .before .before .loop .inv .along) (λ z. omega (arith, c .before .before .before .before .before .before .before .before .before .before .before .before .before .if1 .taken))), rw front-is (c .before .before .before .before .before .before .before .before .before .before .before .before .before .before .before .loop .inv .noted (λ z. omega (arith, c .before .before .before .before .before .before .before .before .before .before .before .before .before .if1 .taken)))))))
+    (λ c κs. let s = c .before .before .before .before .before .before .before .before .before .before .before .before .before in
+    let s2 = s .before .before in (
+      any-tree (s2 .before .before .before .before .before .before .before .before .before .before .pre .1 .can .tree-at),
+      (
+        along-tree (s2 .loop .inv .along) (λ z. omega (arith, s .if1 .taken)),
+        (
+          rw front-is (along-begins (s2 .loop .inv .along) (λ z. omega (arith, s .if1 .taken))),
+          rw front-is (s2 .loop .inv .noted (λ z. omega (arith, s .if1 .taken))),
+        ),
+      ),
+    ))
     {- loop-less -}
-    (λ c. stepping-less (c .before .before .before .before .before .before .before .before .before .before .before .before .before .before .before .before .loop .inv) (λ z. omega (arith, c .before .before .before .before .before .before .before .before .before .before .before .before .before .before .if1 .taken)) (rw tail-is at (c .before .before .before .before .before .before .before .before .before .list-branch .ensures)) (c .before .before .before .before .before .before .before .before .flat .given) (c .before .before .before .before .before .before .out .given) (rw front-is at (c .next-match .ensures)))
+    (λ c. let s = c .before .before .before .before .before .before in let s2 = s .before .before in
+    let s3 = s2 .before .before .before .before .before .before in
+    stepping-less (s3 .before .before .loop .inv) (λ z. omega (arith, s3 .if1 .taken)) (rw tail-is at (s2 .before .list-branch .ensures)) (s2 .flat .given)
+    (s .out .given) (rw front-is at (c .next-match .ensures)))
     {- loop-again -}
-    (λ c. stepping-next (c .before .before .before .before .before .before .before .before .before .before .before .before .before .before .before .before .loop .inv) (λ z. omega (arith, c .before .before .before .before .before .before .before .before .before .before .before .before .before .before .if1 .taken)) (rw tail-is at (c .before .before .before .before .before .before .before .before .before .list-branch .ensures)) (c .before .before .before .before .before .before .before .before .flat .given) (c .before .before .before .before .before .before .out .given) (rw front-is at (c .next-match .ensures)))
+    (λ c. let s = c .before .before .before .before .before .before in let s2 = s .before .before in
+    let s3 = s2 .before .before .before .before .before .before in
+    stepping-next (s3 .before .before .loop .inv) (λ z. omega (arith, s3 .if1 .taken)) (rw tail-is at (s2 .before .list-branch .ensures)) (s2 .flat .given)
+    (s .out .given) (rw front-is at (c .next-match .ensures)))
     {- same-length-3 -}
     (λ c. c .before .before .loop .inv .along .left .flat-size)
     {- same-length-4 -}
     (λ c. c .before .before .loop .inv .along .left .out-size)
     {- returns-2 -}
     (λ c. stepping-done (c .before .before .loop .inv) (omega (arith, c .if1 .left))))
-    λ t. list-trie-lts.spec (trie-of-reads.Asked, trie-of-reads.Learnt, cut-query-reads.Asked, cut-query-reads.Learnt, skips-bindings-reads.Asked, skips-bindings-reads.Learnt, begin-reads.Asked, begin-reads.Learnt, list-names-below t, list-names.Post)
+    λ t. list-trie-lts.spec (
+      trie-of-reads.Asked,
+      trie-of-reads.Learnt,
+      cut-query-reads.Asked,
+      cut-query-reads.Learnt,
+      skips-bindings-reads.Asked,
+      skips-bindings-reads.Learnt,
+      begin-reads.Asked,
+      begin-reads.Learnt,
+      list-names-below t,
+      list-names.Post,
+    )
     (list-trie-at t)
     list-trie.Post
     {- element-copy-out-budget -}
@@ -344,22 +449,46 @@ pub +list-below+list-branch+list-merged+list-names+list-tree+list-trie-spec : {M
     {- skips-bindings-requires -}
     (λ c κs. search needs)
     {- begin-requires -}
-    (λ c κs. (c .before .before .before .before .before .before .before .before .before .before .before .before .before .before .before .pre .1 .can .ready .path-ok .sized, omega (arith, c .before .before .before .before .before .before .if1 .left, c .before .before .before .before .before .before .before .before .before .before .before .before .before .before .before .pre .1 .can .ready .small .budget-small)))
+    (λ c κs. let s = c .before .before .before .before .before .before in
+    let ready = s .before .before .before .before .before .before .before .before .before .pre .1 .can .ready in
+    (ready .path-ok .sized, omega (arith, s .if1 .left, ready .small .budget-small)))
     {- list-names-requires -}
-    (λ c κs. (omega (arith, c .before .before .before .before .before .before .before .before .before .before .before .before .before .before .before .before .before .before .before .before .pre .0, namespaces-earlier (c .before .before .before .before .before .before .before .before .before .before .before .before .before .before .before .before .before .before .before .before .pre .1 .can) (c .before .before .before .before .before .before .before .before .before .before .trie-of .ensures) (c .before .before .before .before .before .before .before .before .cut-query .ensures)), rw (c .before .before .before .before .begin .ensures) (namespaces-asked (c .before .before .before .before .before .before .before .before .before .before .before .before .before .before .before .before .before .before .before .before .pre .1) (c .before .before .before .before .before .before .before .before .before .before .trie-of .ensures) (c .before .before .before .before .before .before .before .before .cut-query .ensures) (omega (arith, c .before .before .before .before .before .before .before .before .before .before .before .if1 .left)) (same-run _))))
+    (λ c κs. let s = c .before .before .before .before in let s2 = s .before .before .before .before in let s3 = s2 .before .before in
+    let pre = s3 .before .before .before .before .before .before .before .before .before .before .pre in (
+      omega (arith, pre .0, namespaces-earlier (pre .1 .can) (s3 .trie-of .ensures) (s2 .cut-query .ensures)),
+      rw (s .begin .ensures) (namespaces-asked (pre .1) (s3 .trie-of .ensures) (s2 .cut-query .ensures) (omega (arith, s3 .before .if1 .left)) (same-run _)),
+    ))
     {- same-length -}
     (λ c. search needs)
     {- same-length-2 -}
     (λ c. search needs)
     {- returns-2 -}
-    (λ c. trie-few (c .before .before .before .before .before .before .before .before .before .before .before .before .before .before .before .before .before .before .before .before .before .before .before .before .before .pre .1) (c .before .before .before .before .before .before .before .before .before .before .before .before .before .before .before .trie-of .ensures) (c .before .before .before .before .before .before .before .before .before .before .before .before .before .cut-query .ensures) (omega (arith, c .before .before .before .before .before .before .before .before .before .before .before .before .before .before .before .before .if1 .left)) (c .before .before .before .before .before .before .before .before .before .before .before .skips-bindings .ensures .when (c .before .before .before .before .before .before .before .before .if2 .taken)) (rw (c .before .before .before .before .before .before .before .before .before .begin .ensures) at (c .before .before .before .before .list-names .ensures)))
+    (λ c. let s = c .before .before .before .before in let s2 = s .before .before .before .before in let s3 = s2 .before .before .before .before .before in
+    let s4 = s3 .before .before in
+    trie-few (s4 .before .before .before .before .before .before .before .before .before .before .pre .1) (s4 .trie-of .ensures) (s3 .cut-query .ensures)
+    (omega (arith, s4 .before .if1 .left)) (s2 .before .before .before .skips-bindings .ensures .when (s2 .if2 .taken))
+    (rw (s2 .before .begin .ensures) at (s .list-names .ensures)))
     {- list-names-requires-2 -}
-    (λ c κs. (omega (arith, c .before .before .before .before .before .before .before .before .before .before .before .before .before .before .before .before .before .before .before .before .pre .0, bindings-earlier (c .before .before .before .before .before .before .before .before .before .before .before .before .before .before .before .before .before .before .before .before .pre .1 .can) (c .before .before .before .before .before .before .before .before .before .before .trie-of .ensures) (c .before .before .before .before .before .before .before .before .cut-query .ensures)), rw (c .before .before .before .before .begin .ensures) (bindings-asked (c .before .before .before .before .before .before .before .before .before .before .before .before .before .before .before .before .before .before .before .before .pre .1) (c .before .before .before .before .before .before .before .before .before .before .trie-of .ensures) (c .before .before .before .before .before .before .before .before .cut-query .ensures) (omega (arith, c .before .before .before .before .before .before .before .before .before .before .before .if1 .left)))))
+    (λ c κs. let s = c .before .before .before .before in let s2 = s .before .before .before .before in let s3 = s2 .before .before in
+    let pre = s3 .before .before .before .before .before .before .before .before .before .before .pre in (
+      omega (arith, pre .0, bindings-earlier (pre .1 .can) (s3 .trie-of .ensures) (s2 .cut-query .ensures)),
+      rw (s .begin .ensures) (bindings-asked (pre .1) (s3 .trie-of .ensures) (s2 .cut-query .ensures) (omega (arith, s3 .before .if1 .left))),
+    ))
     {- list-names-requires-3 -}
-    (λ c κs. (omega (arith, c .before .before .before .before .before .before .before .before .before .before .before .before .before .before .before .before .before .before .before .before .before .before .before .before .before .before .before .before .pre .0, namespaces-earlier (c .before .before .before .before .before .before .before .before .before .before .before .before .before .before .before .before .before .before .before .before .before .before .before .before .before .before .before .before .pre .1 .can) (c .before .before .before .before .before .before .before .before .before .before .before .before .before .before .before .before .before .before .trie-of .ensures) (c .before .before .before .before .before .before .before .before .before .before .before .before .before .before .before .before .cut-query .ensures)), namespaces-asked (c .before .before .before .before .before .before .before .before .before .before .before .before .before .before .before .before .before .before .before .before .before .before .before .before .before .before .before .before .pre .1) (c .before .before .before .before .before .before .before .before .before .before .before .before .before .before .before .before .before .before .trie-of .ensures) (c .before .before .before .before .before .before .before .before .before .before .before .before .before .before .before .before .cut-query .ensures) (omega (arith, c .before .before .before .before .before .before .before .before .before .before .before .before .before .before .before .before .before .before .before .if1 .left)) (rw (c .before .before .before .before .before .before .before .before .before .before .before .before .begin .ensures) at (c .before .before .before .before .before .before .before .list-names2 .ensures .same))))
+    (λ c κs. let s = c .before .before .before .before .before .before .before in let s2 = s .before .before .before .before .before in
+    let s3 = s2 .before .before .before .before in let s4 = s3 .before .before in
+    let pre = s4 .before .before .before .before .before .before .before .before .before .before .pre in (
+      omega (arith, pre .0, namespaces-earlier (pre .1 .can) (s4 .trie-of .ensures) (s3 .cut-query .ensures)),
+      namespaces-asked (pre .1) (s4 .trie-of .ensures) (s3 .cut-query .ensures) (omega (arith, s4 .before .if1 .left))
+          (rw (s2 .begin .ensures) at (s .list-names2 .ensures .same)),
+    ))
     {- same-length-3 -}
     (λ c. search needs)
     {- same-length-4 -}
     (λ c. search needs)
     {- returns-3 -}
-    (λ c. trie-all (c .before .before .before .before .before .before .before .before .before .before .before .before .before .before .before .before .before .before .before .before .before .before .before .before .before .before .before .before .before .before .before .before .before .pre .1) (c .before .before .before .before .before .before .before .before .before .before .before .before .before .before .before .before .before .before .before .before .before .before .before .trie-of .ensures) (c .before .before .before .before .before .before .before .before .before .before .before .before .before .before .before .before .before .before .before .before .before .cut-query .ensures) (omega (arith, c .before .before .before .before .before .before .before .before .before .before .before .before .before .before .before .before .before .before .before .before .before .before .before .before .if1 .left)) (c .before .before .before .before .before .before .before .before .before .before .before .before .before .before .before .before .before .before .before .skips-bindings .ensures .unless (c .before .before .before .before .before .before .before .before .before .before .before .before .before .before .before .before .if2 .left)) (rw (c .before .before .before .before .before .before .before .before .before .before .before .before .before .before .before .before .before .begin .ensures) at (c .before .before .before .before .before .before .before .before .before .before .before .before .list-names2 .ensures)) (c .before .before .before .before .list-names3 .ensures))
+    (λ c. let s = c .before .before .before .before in let s2 = s .before .before .before .before .before .before .before .before in
+    let s3 = s2 .before .before .before .before in let s4 = s3 .before .before .before .before .before in let s5 = s4 .before .before in
+    trie-all (s5 .before .before .before .before .before .before .before .before .before .before .pre .1) (s5 .trie-of .ensures) (s4 .cut-query .ensures)
+    (omega (arith, s5 .before .if1 .left)) (s3 .before .before .before .skips-bindings .ensures .unless (s3 .if2 .left))
+    (rw (s3 .before .begin .ensures) at (s2 .list-names2 .ensures)) (s .list-names3 .ensures))

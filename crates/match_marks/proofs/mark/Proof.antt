@@ -20,7 +20,11 @@ mark-spec =
     {- put-requires-2 -}
     (λ c κs. near-part (far-fits (c .before .before .before .before .before .before .pre) (c .before .put .ensures)))
     {- returns -}
-    (λ c. record { between = _; first = inr (omega (arith, c .before .before .before .before .before .if1 .taken), c .before .before .put .ensures); last = c .put2 .ensures })
+    (λ c. record {
+      between = _;
+      first = inr (omega (arith, c .before .before .before .before .before .if1 .taken), c .before .before .put .ensures);
+      last = c .put2 .ensures;
+    })
     {- put-requires-3 -}
     (λ c κs. search needs)
     {- returns-2 -}

@@ -19,7 +19,14 @@ note-spec =
     {- element-write-notes-2 -}
     (λ c. search needs)
     {- returns -}
-    (λ c. record { k = 0; between = _; which = inr (refl, omega (arith, c .before .before .before .if1 .taken), record { between = _; marks = c .mark .ensures; is = refl }); below = omega arith; is = refl; count = refl })
+    (λ c. record {
+      k = 0;
+      between = _;
+      which = inr (refl, omega (arith, c .before .before .before .if1 .taken), record { between = _; marks = c .mark .ensures; is = refl });
+      below = omega arith;
+      is = refl;
+      count = refl;
+    })
     {- mul-notes -}
     (λ c. search needs)
     {- element-write-notes-3 -}
@@ -27,4 +34,11 @@ note-spec =
     {- add-result -}
     (λ c. search needs)
     {- returns-2 -}
-    (λ c. record { k = c .before .args .n; between = _; which = inl (refl, refl); below = omega (arith, c .if1 .left, c .before .pre .few); is = refl; count = refl }))
+    (λ c. record {
+      k = c .before .args .n;
+      between = _;
+      which = inl (refl, refl);
+      below = omega (arith, c .if1 .left, c .before .pre .few);
+      is = refl;
+      count = refl;
+    }))

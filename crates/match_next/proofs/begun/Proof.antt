@@ -16,6 +16,12 @@ begun-spec =
     {- key-begins-requires -}
     (λ c κs. search needs)
     {- returns-2 -}
-    (λ c. rw (ne-eqb (c .before .before .before .before .before .before .args .link) 0 (c .before .before .if1 .left), sym (c .before .key-begins .ensures) ∙ c .if2 .taken))
+    (λ c. rw (
+      ne-eqb (c .before .before .before .before .before .before .args .link) 0 (c .before .before .if1 .left),
+      sym (c .before .key-begins .ensures) ∙ c .if2 .taken,
+    ))
     {- returns-3 -}
-    (λ c. rw (ne-eqb (c .before .before .before .before .before .before .args .link) 0 (c .before .before .if1 .left), sym (c .before .key-begins .ensures) ∙ c .if2 .left)))
+    (λ c. rw (
+      ne-eqb (c .before .before .before .before .before .before .args .link) 0 (c .before .before .if1 .left),
+      sym (c .before .key-begins .ensures) ∙ c .if2 .left,
+    )))

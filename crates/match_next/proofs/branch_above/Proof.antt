@@ -19,14 +19,16 @@ branch-above-spec =
     {- left-of-requires -}
     (λ c κs. (near-some (c .before .before .before .loop .inv), tree-fits (c .before .before .before .loop .inv .seeking .any)))
     {- loop-less -}
-    (λ c. omega (arith, c .left-of .ensures, sides-earlier (c .before .before .before .before .loop .inv .seeking .any) (near-some (c .before .before .before .before .loop .inv))))
+    (λ c. let inv = c .before .before .before .before .loop .inv in omega (arith, c .left-of .ensures, sides-earlier (inv .seeking .any) (near-some inv)))
     {- loop-again -}
-    (λ c. near-left (c .before .before .before .before .loop .inv) (c .before .before .before .loop-test .taken) (sym (c .before .before .is-left .ensures) ∙ c .before .if1 .taken) (c .left-of .ensures))
+    (λ c. let s = c .before .before in
+    near-left (s .before .before .loop .inv) (s .before .loop-test .taken) (sym (s .is-left .ensures) ∙ c .before .if1 .taken) (c .left-of .ensures))
     {- right-of-requires -}
     (λ c κs. (near-some (c .before .before .before .loop .inv), tree-fits (c .before .before .before .loop .inv .seeking .any)))
     {- loop-less-2 -}
-    (λ c. omega (arith, c .right-of .ensures, sides-earlier (c .before .before .before .before .loop .inv .seeking .any) (near-some (c .before .before .before .before .loop .inv))))
+    (λ c. let inv = c .before .before .before .before .loop .inv in omega (arith, c .right-of .ensures, sides-earlier (inv .seeking .any) (near-some inv)))
     {- loop-again-2 -}
-    (λ c. near-right (c .before .before .before .before .loop .inv) (c .before .before .before .loop-test .taken) (sym (c .before .before .is-left .ensures) ∙ c .before .if1 .left) (c .right-of .ensures))
+    (λ c. let s = c .before .before in
+    near-right (s .before .before .loop .inv) (s .before .loop-test .taken) (sym (s .is-left .ensures) ∙ c .before .if1 .left) (c .right-of .ensures))
     {- returns -}
     (λ c. near-end (rw (c .loop-test .left) at (c .before .loop .inv)) (c .before .before .before .before .pre .1 .1)))

@@ -14,7 +14,7 @@ least-from-spec =
     (λ words text root low at₀ found₀ at found. Seeking words text (branches-past words text false low) root at found)
     (λ words text root low at₀ found₀ at found. at)
     {- loop-holds -}
-    (λ c. seek-all (branches-past (c .before .before .before .args .words .now) (c .before .before .before .args .text .now) false (c .before .before .before .args .low .now)) (c .before .before .before .pre))
+    (λ c. let s = c .before .before .before in seek-all (branches-past (s .args .words .now) (s .args .text .now) false (s .args .low .now)) (s .pre))
     {- key-past-requires -}
     (λ c κs. (c .loop-test .taken, c .before .loop .inv .any))
     {- left-of-requires -}
@@ -22,12 +22,17 @@ least-from-spec =
     {- loop-less -}
     (λ c. omega (arith, c .left-of .ensures, sides-earlier (c .before .before .before .before .loop .inv .any) (c .before .before .before .loop-test .taken)))
     {- loop-again -}
-    (λ c. past-left false (c .before .before .before .before .before .before .before .before .args .low .now) (c .before .before .before .before .loop .inv) (c .before .before .before .loop-test .taken) (sym (c .before .before .key-past .ensures) ∙ c .before .if1 .taken) (c .left-of .ensures))
+    (λ c. let s = c .before .before .before in
+    past-left false (s .before .before .before .before .before .args .low .now) (s .before .loop .inv) (s .loop-test .taken)
+    (sym (c .before .before .key-past .ensures) ∙ c .before .if1 .taken) (c .left-of .ensures))
     {- right-of-requires -}
     (λ c κs. omega (arith, tree-fits (c .before .before .before .loop .inv .any), c .before .before .loop-test .taken))
     {- loop-less-2 -}
     (λ c. omega (arith, c .right-of .ensures, sides-earlier (c .before .before .before .before .loop .inv .any) (c .before .before .before .loop-test .taken)))
     {- loop-again-2 -}
-    (λ c. past-right false (c .before .before .before .before .before .before .before .before .args .low .now) (c .before .before .before .before .loop .inv) (c .before .before .before .loop-test .taken) (sym (c .before .before .key-past .ensures) ∙ c .before .if1 .left) (c .right-of .ensures))
+    (λ c. let s = c .before .before .before in
+    past-right false (s .before .before .before .before .before .args .low .now) (s .before .loop .inv) (s .loop-test .taken)
+    (sym (c .before .before .key-past .ensures) ∙ c .before .if1 .left) (c .right-of .ensures))
     {- returns -}
-    (λ c. seek-end (c .before .loop .inv) (past-none (c .before .before .before .before .before .args .words .now) (c .before .before .before .before .before .args .text .now) false (c .before .before .before .before .before .args .low .now)) (c .loop-test .left)))
+    (λ c. let a = c .before .before .before .before .before .args in
+    seek-end (c .before .loop .inv) (past-none (a .words .now) (a .text .now) false (a .low .now)) (c .loop-test .left)))

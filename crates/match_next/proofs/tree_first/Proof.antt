@@ -12,6 +12,6 @@ tree-first-spec =
     {- least-from-requires -}
     (λ c κs. search needs)
     {- begun-requires -}
-    (λ c κs. first-tree (c .before .before .before .before .pre) false (c .before .before .before .before .args .prefix .now) (c .least-from .ensures))
+    (λ c κs. let s = c .before .before .before .before in first-tree (s .pre) false (s .args .prefix .now) (c .least-from .ensures))
     {- returns -}
-    (λ c. first-is (c .before .before .before .before .before .pre) (c .before .before .before .before .before .args .prefix .now) (c .before .least-from .ensures) (c .begun .ensures)))
+    (λ c. let s = c .before .before .before .before .before in first-is (s .pre) (s .args .prefix .now) (c .before .least-from .ensures) (c .begun .ensures)))

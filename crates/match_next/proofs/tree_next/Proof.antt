@@ -13,6 +13,9 @@ tree-next-spec =
     {- branch-after-requires -}
     (λ c κs. search needs)
     {- begun-requires -}
-    (λ c κs. let s = c .before .before .before .before .args in first-tree (c .before .before .before .before .pre .0) true (key-at (s .words .now) (s .text .now) (s .at)) (c .branch-after .ensures))
+    (λ c κs. let s2 = c .before .before .before .before in let s = s2 .args in
+    first-tree (s2 .pre .0) true (key-at (s .words .now) (s .text .now) (s .at)) (c .branch-after .ensures))
     {- returns -}
-    (λ c. let s = c .before .before .before .before .before .args in next-is (c .before .before .before .before .before .pre .0) true (key-at (s .words .now) (s .text .now) (s .at)) (s .prefix .now) (c .before .before .before .before .before .pre .1 .1) (c .before .branch-after .ensures) (c .begun .ensures)))
+    (λ c. let s2 = c .before .before .before .before .before in let s = s2 .args in
+    next-is (s2 .pre .0) true (key-at (s .words .now) (s .text .now) (s .at)) (s .prefix .now) (s2 .pre .1 .1) (c .before .branch-after .ensures)
+    (c .begun .ensures)))

@@ -18,10 +18,14 @@ first-match-spec =
     {- element-write-notes-3 -}
     (λ c. search needs)
     {- descend-requires -}
-    (λ c κs. (c .before .before .before .before .pre .0, (starts-self (c .before .before .before .before .args .prefix .now), clear-fits (c .before .before .before .before .args .notes .now) (c .before .before .before .before .pre .1))))
+    (λ c κs. let s = c .before .before .before .before in (s .pre .0, (starts-self (s .args .prefix .now), clear-fits (s .args .notes .now) (s .pre .1))))
     {- last-note-requires -}
     (λ c κs. (c .before .before .descend .ensures .fits, c .before .if1 .taken))
     {- returns -}
-    (λ c. matched-top (c .before .before .before .before .before .before .before .before .args .prefix .now) false (c .before .before .before .descend .ensures .notes-on _ (first-noting (c .before .before .before .before .before .before .before .before .args .words .now) (c .before .before .before .before .before .before .before .before .args .text .now) (c .before .before .before .before .before .before .before .before .args .prefix .now) (c .before .before .before .before .before .before .before .before .args .root) (c .before .before .before .before .before .before .before .before .args .notes .now) (c .before .before .before .before .before .before .before .before .pre .1))) (first-pass (c .before .before .before .before .before .before .before .before .args .words .now) (c .before .before .before .before .before .before .before .before .args .text .now) (c .before .before .before .before .before .before .before .before .args .prefix .now) (c .before .before .before .before .before .before .before .before .args .root)) (c .before .before .if1 .taken) (c .last-note .ensures))
+    (λ c. let s = c .before .before in let s2 = s .before .before .before .before .before .before in let a = s2 .args in
+    matched-top (a .prefix .now) false (s .before .descend .ensures .notes-on _
+    (first-noting (a .words .now) (a .text .now) (a .prefix .now) (a .root) (a .notes .now) (s2 .pre .1)))
+    (first-pass (a .words .now) (a .text .now) (a .prefix .now) (a .root)) (s .if1 .taken) (c .last-note .ensures))
     {- returns-2 -}
-    (λ c. first-none (c .before .before .before .before .before .before .args .words .now) (c .before .before .before .before .before .before .args .text .now) (c .before .before .before .before .before .before .args .prefix .now) (c .before .before .before .before .before .before .args .root) (c .before .descend .ensures) (c .if1 .left)))
+    (λ c. let a = c .before .before .before .before .before .before .args in
+    first-none (a .words .now) (a .text .now) (a .prefix .now) (a .root) (c .before .descend .ensures) (c .if1 .left)))

@@ -20,4 +20,12 @@ collection-of-spec =
     {- word-of-requires-6 -}
     (λ c κs. search needs)
     {- returns -}
-    (λ c. record { imported = rw (c .before .before .before .word-of3 .ensures); label-start = c .before .before .before .before .before .word-of .ensures; label-len = c .before .before .before .before .word-of2 .ensures; own = c .before .before .word-of4 .ensures; rest = c .before .word-of5 .ensures; weighs = c .word-of6 .ensures }))
+    (λ c. let s = c .before .before .before in
+    record {
+      imported = rw (s .word-of3 .ensures);
+      label-start = s .before .before .word-of .ensures;
+      label-len = s .before .word-of2 .ensures;
+      own = c .before .before .word-of4 .ensures;
+      rest = c .before .word-of5 .ensures;
+      weighs = c .word-of6 .ensures;
+    }))

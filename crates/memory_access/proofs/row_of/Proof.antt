@@ -33,7 +33,8 @@ row-of-spec =
     (λ c. omega arith)
     {- loop-again -}
     (λ c. let s = c .before .before .before .before in
-    copied-more (record-length (s .args .words .now) (s .args .link) (omega arith) (omega arith)) (omega arith) (c .word-of .ensures) (c .before .before .loop .inv))
+    copied-more (record-length (s .args .words .now) (s .args .link) (omega arith) (omega arith)) (omega arith) (c .word-of .ensures)
+    (c .before .before .loop .inv))
     {- returns -}
-    (λ c. let s = c .before .before .before in
-    copied-all (record-length (s .args .words .now) (s .args .link) (omega arith) (omega arith)) (c .before .loop .inv) (c .loop-test .left)))
+    (λ c. copied-all (record-length (c .before .before .before .args .words .now) (c .before .before .before .args .link) (omega arith) (omega arith))
+    (c .before .loop .inv) (c .loop-test .left)))

@@ -21,6 +21,22 @@ symbol-of-spec =
     {- word-of-requires-6 -}
     (λ c κs. search needs)
     {- returns -}
-    (λ c. rw (← c .before .before .before .before .before .before .word-of .ensures, ← c .before .before .before .before .before .word-of2 .ensures, ← c .before .before .before .before .word-of3 .ensures, ← c .before .before .before .word-of4 .ensures, ← c .before .word-of5 .ensures, ← c .word-of6 .ensures, c .before .before .if1 .taken))
+    (λ c. let s = c .before .before .before in
+    rw (
+      ← s .before .before .before .word-of .ensures,
+      ← s .before .before .word-of2 .ensures,
+      ← s .before .word-of3 .ensures,
+      ← s .word-of4 .ensures,
+      ← c .before .word-of5 .ensures,
+      ← c .word-of6 .ensures,
+      c .before .before .if1 .taken,
+    ))
     {- returns-2 -}
-    (λ c. rw (← c .before .before .before .before .word-of .ensures, ← c .before .before .before .word-of2 .ensures, ← c .before .before .word-of3 .ensures, ← c .before .word-of4 .ensures, ne-eqb (c .before .word-of4 .result) 0 (c .if1 .left))))
+    (λ c. let s = c .before .before in
+    rw (
+      ← s .before .before .word-of .ensures,
+      ← s .before .word-of2 .ensures,
+      ← s .word-of3 .ensures,
+      ← c .before .word-of4 .ensures,
+      ne-eqb (c .before .word-of4 .result) 0 (c .if1 .left),
+    )))

@@ -37,4 +37,6 @@ put-word-spec =
     {- same-length -}
     (λ c. search needs)
     {- returns -}
-    (λ c. word-put (c .before .before .before .before .before .args .bytes .now) (c .before .before .before .before .before .args .k) _ _ _ _ (c .before .before .before .before .before .pre) (c .before .before .before .before .before .args .word) (c .before .before .before .low .ensures) (c .before .before .low2 .ensures) (c .before .low3 .ensures) (omega (arith, c .low4 .ensures))))
+    (λ c. let s = c .before .before in let s2 = s .before .before .before in
+    word-put (s2 .args .bytes .now) (s2 .args .k) _ _ _ _ (s2 .pre) (s2 .args .word) (s .before .low .ensures) (s .low2 .ensures) (c .before .low3 .ensures)
+    (omega (arith, c .low4 .ensures))))

@@ -30,7 +30,7 @@ store-spec =
     {- loop-less -}
     (λ c. omega arith)
     {- loop-again -}
-    (λ c. storing-more (c .before .before .before .before .before .loop-test .taken) (c .before .before .put-word .ensures) (c .before .before .before .before .before .before .loop .inv))
+    (λ c. let s = c .before .before .before .before .before in storing-more (s .loop-test .taken) (c .before .before .put-word .ensures) (s .before .loop .inv))
     {- same-length -}
     (λ c. c .before .loop .inv .rest .size)
     {- returns -}

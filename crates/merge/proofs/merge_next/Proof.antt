@@ -5,7 +5,8 @@ use mathlib.Core.List.{List}
 use mathlib.Core.Logic.{⊎-elim}
 use borrow.Author.Tests.{not-true, not-false}
 use Rattle.merge.specs.Stream.{remaining, state}
-use Rattle.merge.proofs.Steps.{Passing, passing-none, passing-ready, passing-end, passing-small, passing-fewer, passing-branch, passing-last, passing-on, passing-gives}
+use Rattle.merge.proofs.Steps.{Passing, passing-none, passing-ready, passing-end, passing-small, passing-fewer, passing-branch, passing-last, passing-on}
+use Rattle.merge.proofs.Steps.{passing-gives}
 use Rattle.merge.proofs.merge_next.Statement.{statement}
 use Rattle.merge.proofs.merge_next.Tie as tie
 
@@ -25,17 +26,32 @@ merge-next-spec =
     {- loop-holds -}
     (λ c labels. passing-none _)
     {- take-requires -}
-    (λ c κs. passing-ready (c .before .before .before .before .loop .inv (c .before .before .before .before .before .before .before .before .pre .labels)) (c .before .before .before .before .before .before .before .before .pre .any))
+    (λ c κs. let s = c .before .before .before .before in let s2 = s .before .before .before .before in
+    passing-ready (s .loop .inv (s2 .pre .labels)) (s2 .pre .any))
     {- returns -}
-    (λ c. record { small = λ n. absurd (n refl); gives = λ labels. passing-end (c .before .before .before .before .before .before .before .loop .inv labels) (c .before .before .take .ensures) _ refl (c .if1 .taken) })
-    {- same-key-requires -}
-    (λ c κs. (passing-branch (c .before .before .before .before .before .before .before .before .loop .inv (c .before .before .before .before .before .before .before .before .before .before .before .before .pre .labels)) (c .before .before .before .before .before .before .before .before .before .before .before .before .pre .any) (c .before .before .before .take .ensures) (c .before .if1 .left), passing-last (c .before .before .before .before .before .before .before .before .loop .inv (c .before .before .before .before .before .before .before .before .before .before .before .before .pre .labels)) (c .before .before .before .before .before .before .before .before .before .before .before .before .pre .any) (c .before .before .before .take .ensures) (c .before .if1 .left) (c .if2 .left)))
-    {- returns-2 -}
     (λ c. record {
-      small = λ n. passing-small (c .before .before .before .before .before .before .before .before .loop .inv (c .before .before .before .before .before .before .before .before .before .before .before .before .pre .labels)) (c .before .before .before .before .before .before .before .before .before .before .before .before .pre .any) (c .before .before .before .take .ensures) (c .before .if1 .left);
-      gives = λ labels. passing-gives (c .before .before .before .before .before .before .before .before .loop .inv labels) (c .before .before .before .take .ensures) (c .before .if1 .left) (⊎-elim (λ w n. absurd (n (w .taken))) (λ w n. sym (w .1 .ensures) ∙ not-true _ (w .2 .taken)) (c .if2 .came));
+      small = λ n. absurd (n refl);
+      gives = λ labels. passing-end (c .before .before .before .before .before .before .before .loop .inv labels) (c .before .before .take .ensures) _ refl
+          (c .if1 .taken);
+    })
+    {- same-key-requires -}
+    (λ c κs. let s = c .before .before .before in let s2 = s .before .before .before .before .before in let pre = s2 .before .before .before .before .pre in (
+      passing-branch (s2 .loop .inv (pre .labels)) (pre .any) (s .take .ensures) (c .before .if1 .left),
+      passing-last (s2 .loop .inv (pre .labels)) (pre .any) (s .take .ensures) (c .before .if1 .left) (c .if2 .left),
+    ))
+    {- returns-2 -}
+    (λ c. let s = c .before .before .before in let s2 = s .before .before .before .before .before in let s3 = s2 .before .before .before .before in record {
+      small = λ n. passing-small (s2 .loop .inv (s3 .pre .labels)) (s3 .pre .any) (s .take .ensures) (c .before .if1 .left);
+      gives = λ labels. passing-gives (s2 .loop .inv labels) (s .take .ensures) (c .before .if1 .left)
+          (⊎-elim (λ w n. absurd (n (w .taken))) (λ w n. sym (w .1 .ensures) ∙ not-true _ (w .2 .taken)) (c .if2 .came));
     })
     {- loop-less -}
-    (λ c. passing-fewer (c .before .before .before .before .before .before .before .before .before .before .loop .inv (c .before .before .before .before .before .before .before .before .before .before .before .before .before .before .pre .labels)) (c .before .before .before .before .before .before .before .before .before .before .before .before .before .before .pre .any) (c .before .before .before .before .before .take .ensures) (c .before .before .before .if1 .left))
+    (λ c. let s = c .before .before .before in let s2 = s .before .before .before .before .before .before .before in
+    let s3 = s2 .before .before .before .before in
+    passing-fewer (s2 .loop .inv (s3 .pre .labels)) (s3 .pre .any) (s .before .before .take .ensures) (s .if1 .left))
     {- loop-again -}
-    (λ c. λ labels. passing-on (c .before .before .before .before .before .before .before .before .before .before .loop .inv labels) (c .before .before .before .before .before .take .ensures) (c .before .before .before .if1 .left) (passing-fewer (c .before .before .before .before .before .before .before .before .before .before .loop .inv (c .before .before .before .before .before .before .before .before .before .before .before .before .before .before .pre .labels)) (c .before .before .before .before .before .before .before .before .before .before .before .before .before .before .pre .any) (c .before .before .before .before .before .take .ensures) (c .before .before .before .if1 .left)) (c .before .before .if2 .left) (sym (c .before .same-key .ensures) ∙ not-false _ (c .if3 .left))))
+    (λ c. let s = c .before .before .before in let s2 = s .before .before in let s3 = s2 .before .before .before .before .before in
+    let s4 = s3 .before .before .before .before in
+    λ labels. passing-on (s3 .loop .inv labels) (s2 .take .ensures) (s .if1 .left)
+    (passing-fewer (s3 .loop .inv (s4 .pre .labels)) (s4 .pre .any) (s2 .take .ensures) (s .if1 .left)) (c .before .before .if2 .left)
+    (sym (c .before .same-key .ensures) ∙ not-false _ (c .if3 .left))))

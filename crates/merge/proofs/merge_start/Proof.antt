@@ -10,11 +10,13 @@ merge-start-spec =
     tie.close
     (tie.spec
     {- collect-requires -}
-    (λ c κs. (c .before .before .before .before .before .before .pre .0, (omega (arith, list-light (c .before .before .before .before .before .before .pre .0 .list)), c .before .before .before .before .before .before .pre .1)))
+    (λ c κs. let pre = c .before .before .before .before .before .before .pre in (pre .0, (omega (arith, list-light (pre .0 .list)), pre .1)))
     {- heap-from-list-requires -}
-    (λ c κs. start-heads (c .before .collect .ensures .1) (c .before .before .before .before .before .before .before .before .pre .0 .list) (omega (arith, c .before .collect .ensures .0, list-light (c .before .before .before .before .before .before .before .before .pre .0 .list))))
+    (λ c κs. let list = c .before .before .before .before .before .before .before .before .pre .0 .list in
+    start-heads (c .before .collect .ensures .1) list (omega (arith, c .before .collect .ensures .0, list-light list)))
     {- returns -}
-    (λ c. record {
-      merge-starts = merge-starts (c .before .before .before .before .collect .ensures .1) (omega (arith, c .before .before .before .before .collect .ensures .0, list-light (c .before .before .before .before .before .before .before .before .before .before .before .pre .0 .list))) (c .before .before .heap-from-list .ensures);
-      one = starts-one (c .before .before .before .before .collect .ensures .1);
+    (λ c. let s = c .before .before .before .before in let collect = s .collect .ensures in record {
+      merge-starts = merge-starts (collect .1) (omega (arith, collect .0, list-light (s .before .before .before .before .before .before .before .pre .0 .list)))
+          (c .before .before .heap-from-list .ensures);
+      one = starts-one (collect .1);
     }))

@@ -17,7 +17,7 @@ same-key-spec =
     tie.close
     (tie.spec
     {- key-of-requires -}
-    (λ c κs. record { some = c .before .before .pre .0 .0; within = tree-fits (c .before .before .pre .0 .1); inside = key-inside (c .before .before .pre .0 .1) (c .before .before .pre .0 .0) })
+    (λ c κs. let pre = c .before .before .pre .0 in record { some = pre .0; within = tree-fits (pre .1); inside = key-inside (pre .1) (pre .0) })
     {- key-order-requires -}
     (λ c κs. search needs)
     {- enum-told -}

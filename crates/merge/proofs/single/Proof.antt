@@ -23,4 +23,6 @@ single-spec =
     {- own-of-requires -}
     (λ c κs. search needs)
     {- returns-4 -}
-    (λ c. single-tree (omega (arith, c .before .before .before .before .before .if1 .left)) (λ e. c .before .before .before .if2 .left (c .before .before .before .before .sort-of .ensures ∙ e)) (omega (arith, c .before .before .rest-of .ensures, c .before .if3 .left)) (c .own-of .ensures)))
+    (λ c. let s = c .before .before .before in
+    single-tree (omega (arith, s .before .before .if1 .left)) (λ e. s .if2 .left (s .before .sort-of .ensures ∙ e))
+    (omega (arith, c .before .before .rest-of .ensures, c .before .if3 .left)) (c .own-of .ensures)))

@@ -13,12 +13,25 @@ use Rattle.merge.proofs.take.Statement.{statement}
 use Rattle.merge.proofs.take.Tie as tie
 
 -- What heap_pop gave.
-least : (c : lts.After-known-told (heap-pop-reads.Asked, heap-pop-reads.Learnt, tree-next-reads.Asked, tree-next-reads.Learnt, set-head-reads.Asked, set-head-reads.Learnt, heap-insert-reads.Asked, heap-insert-reads.Learnt) reads.Pre reads.Post)
+least : (c : lts.After-known-told (
+  heap-pop-reads.Asked,
+  heap-pop-reads.Learnt,
+  tree-next-reads.Asked,
+  tree-next-reads.Learnt,
+  set-head-reads.Asked,
+  set-head-reads.Learnt,
+  heap-insert-reads.Asked,
+  heap-insert-reads.Learnt,
+) reads.Pre reads.Post)
     → (let s = c .before .before .before .before .before .before .before .before .before .before .args in
     let q = c .before .cell .given .0 in
     let l = c .before .before .before .heap-pop .last in
-    Least-cell (s .words .now) (s .text .now) (s .prefix .now) (s .turn .n) (s .turn .root) (s .roots .now) (s .heads .now) (s .child .now) (s .next .now) (l .0) (l .1 .0) (q .0) (q .1 .0))
-least c = record { ready = c .before .before .before .before .before .before .before .before .before .before .pre; pops = rw (c .before .cell .given .1) at (c .before .before .before .heap-pop .ensures) }
+    Least-cell (s .words .now) (s .text .now) (s .prefix .now) (s .turn .n) (s .turn .root) (s .roots .now) (s .heads .now) (s .child .now) (s .next .now)
+    (l .0) (l .1 .0) (q .0) (q .1 .0))
+least c = record {
+  ready = c .before .before .before .before .before .before .before .before .before .before .pre;
+  pops = rw (c .before .cell .given .1) at (c .before .before .before .heap-pop .ensures);
+}
 
 pub take-spec : {M : Type 1} → statement M
 take-spec =
@@ -51,8 +64,12 @@ take-spec =
     {- set-head-requires -}
     (λ c κs. next-in (least (c .before .before .before .before .before)) (c .before .before .tree-next .ensures) (c .before .if1 .left))
     {- heap-insert-requires -}
-    (λ c κs. rw (c .before .before .before .set-head .ensures) (insert-asks (least (c .before .before .before .before .before .before .before .before .before)) (c .before .before .before .before .before .before .tree-next .ensures) (c .before .before .before .before .before .if1 .left)))
+    (λ c κs. let s2 = c .before .before .before .before .before in
+    rw (c .before .before .before .set-head .ensures)
+    (insert-asks (least (s2 .before .before .before .before)) (s2 .before .tree-next .ensures) (s2 .if1 .left)))
     {- returns-2 -}
     (λ c. takes-none (rw (c .enum-told .given .1) at (c .before .before .heap-pop .ensures)))
     {- returns-3 -}
-    (λ c. rw (c .before .before .before .before .set-head .ensures) (takes-next (least (c .before .before .before .before .before .before .before .before .before .before)) (c .before .before .before .before .before .before .before .tree-next .ensures) (c .before .before .before .before .before .before .if1 .left) (rw (c .before .before .before .before .set-head .ensures) at (c .heap-insert .ensures)))))
+    (λ c. let s2 = c .before .before .before .before in let s3 = s2 .before .before in
+    rw (s2 .set-head .ensures) (takes-next (least (s3 .before .before .before .before)) (s3 .before .tree-next .ensures) (s3 .if1 .left)
+    (rw (s2 .set-head .ensures) at (c .heap-insert .ensures)))))

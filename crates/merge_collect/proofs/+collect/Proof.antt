@@ -7,7 +7,8 @@ use borrow.Author.Needs.{needs}
 use borrow.Fn.Kinds.{In}
 use borrow.Fn.PlainCycle.{Measures, is, falls, and}
 use Rattle.memory.specs.Stored.{weight-in}
-use Rattle.merge_collect.proofs.Collected.{outermost-none, outermost-some, Seen, seen-rest, rest-less, seen-list, both-less, seen-tree, first-in, collected-none, full-set, collected-imported, collected-skip, collected-cell}
+use Rattle.merge_collect.proofs.Collected.{outermost-none, outermost-some, Seen, seen-rest, rest-less, seen-list, both-less, seen-tree, first-in}
+use Rattle.merge_collect.proofs.Collected.{collected-none, full-set, collected-imported, collected-skip, collected-cell}
 use Rattle.merge_collect.proofs.collect.Reads as collect
 use Rattle.merge_collect.proofs.collect.Kinds as kinds
 use Rattle.merge_collect.proofs.+collect.Lts-collect as lts
@@ -30,21 +31,46 @@ abbrev below : ℕ → In 6 kinds.ps
 below t = and 6 kinds.ps (falls 6 kinds.ps _<_ μ-collect t) collect.Pre
 
 -- The words read of the first collection.
-seen : (t : ℕ) (c : lts.After-sort-of (own-of-reads.Asked, own-of-reads.Learnt, rest-of-reads.Asked, rest-of-reads.Learnt, sort-of-reads.Asked, sort-of-reads.Learnt, below t, collect.Post, tree-first-reads.Asked, tree-first-reads.Learnt, set-head-reads.Asked, set-head-reads.Learnt) (at t) collect.Post)
+seen : (t : ℕ) (c : lts.After-sort-of (
+  own-of-reads.Asked,
+  own-of-reads.Learnt,
+  rest-of-reads.Asked,
+  rest-of-reads.Learnt,
+  sort-of-reads.Asked,
+  sort-of-reads.Learnt,
+  below t,
+  collect.Post,
+  tree-first-reads.Asked,
+  tree-first-reads.Learnt,
+  set-head-reads.Asked,
+  set-head-reads.Learnt,
+) (at t) collect.Post)
     → (let a = c .before .before .before .before .before .before .before .args in
     Seen (a .words .now) (a .text .now) (a .part .list) (c .before .before .own-of .result) (c .before .rest-of .result) (c .sort-of .result))
-seen t c = record {
-  any = c .before .before .before .before .before .before .before .pre .1 .0;
-  some = omega (arith, c .before .before .before .if1 .left);
-  own-is = c .before .before .own-of .ensures;
+seen t c = let s2 = c .before .before in record {
+  any = s2 .before .before .before .before .before .pre .1 .0;
+  some = omega (arith, s2 .before .if1 .left);
+  own-is = s2 .own-of .ensures;
   rest-is = c .before .rest-of .ensures;
   sort-is = c .sort-of .ensures;
 }
 
 pub +collect-spec : {M : Type 1} → statement M
 +collect-spec =
-    close μ-collect λ t. lts.spec
-    (own-of-reads.Asked, own-of-reads.Learnt, rest-of-reads.Asked, rest-of-reads.Learnt, sort-of-reads.Asked, sort-of-reads.Learnt, below t, collect.Post, tree-first-reads.Asked, tree-first-reads.Learnt, set-head-reads.Asked, set-head-reads.Learnt)
+    close μ-collect λ t. lts.spec (
+      own-of-reads.Asked,
+      own-of-reads.Learnt,
+      rest-of-reads.Asked,
+      rest-of-reads.Learnt,
+      sort-of-reads.Asked,
+      sort-of-reads.Learnt,
+      below t,
+      collect.Post,
+      tree-first-reads.Asked,
+      tree-first-reads.Learnt,
+      set-head-reads.Asked,
+      set-head-reads.Learnt,
+    )
     (at t)
     collect.Post
     {- returns -}
@@ -57,63 +83,88 @@ pub +collect-spec : {M : Type 1} → statement M
     (λ c κs. omega (arith, at-fits (c .before .before .before .before .before .before .pre .1 .0 .list), c .before .before .if1 .left))
     {- collect-requires -}
     (λ c κs.
-    let s = seen t (c .before .before .before .before .before) in
-    let e = c .before .before .before .before .if2 .taken in
-    let p = c .before .before .before .before .before .before .before .before .before .before .before .before .pre in
+    let s2 = c .before .before .before .before in let s = seen t (s2 .before) in
+    let e = s2 .if2 .taken in
+    let p = s2 .before .before .before .before .before .before .before .before .pre in
     let own = seen-list s e in
     let rest = seen-rest s in
     (omega (arith, both-less s e, p .0), (search needs, (omega (arith, both-less s e, p .1 .1 .0), p .1 .1 .1))))
     {- collect-requires-2 -}
     (λ c κs.
-    let s = seen t (c .before .before .before .before .before .before .before .before .before) in
-    let e = c .before .before .before .before .before .before .before .before .if2 .taken in
-    let p = c .before .before .before .before .before .before .before .before .before .before .before .before .before .before .before .before .pre in
+    let s2 = c .before .before .before in let s3 = s2 .before .before .before .before .before in let s = seen t (s3 .before) in
+    let e = s3 .if2 .taken in
+    let p = s3 .before .before .before .before .before .before .before .before .pre in
     let own = seen-list s e in
     let rest = seen-rest s in
-    (omega (arith, both-less s e, p .0), (search needs, (omega (arith, both-less s e, p .1 .1 .0, c .before .before .before .collect .ensures .0), c .before .before .before .collect .ensures .1 .full))))
+    (omega (arith, both-less s e, p .0), (search needs, (omega (arith, both-less s e, p .1 .1 .0, s2 .collect .ensures .0), s2 .collect .ensures .1 .full))))
     {- returns-2 -}
     (λ c.
-    let s = seen t (c .before .before .before .before .before .before .before .before .before .before) in
-    let e = c .before .before .before .before .before .before .before .before .before .if2 .taken in (
-      omega (arith, both-less s e, c .before .before .before .before .collect .ensures .0, c .collect2 .ensures .0),
-      collected-imported s e (⊎-elim (λ w. w .1 ∙ outermost-none _ _ (w .0 .taken)) (λ w. w .1 ∙ outermost-some _ _ (w .0 .left)) (c .before .before .before .before .before .before .before .before .if3 .came)) (c .before .before .before .before .collect .ensures .1) (c .collect2 .ensures .1),
+    let s2 = c .before .before .before .before in let s3 = s2 .before .before .before .before in let s = seen t (s3 .before .before) in
+    let e = s3 .before .if2 .taken in (
+      omega (arith, both-less s e, s2 .collect .ensures .0, c .collect2 .ensures .0),
+      collected-imported s e (⊎-elim (λ w. w .1 ∙ outermost-none _ _ (w .0 .taken)) (λ w. w .1 ∙ outermost-some _ _ (w .0 .left)) (s3 .if3 .came))
+          (s2 .collect .ensures .1) (c .collect2 .ensures .1),
     ))
     {- tree-first-requires -}
     (λ c κs. seen-tree (seen t (c .before)) (c .if2 .left))
     {- collect-requires-3 -}
     (λ c κs.
-    let s = seen t (c .before .before .before .before .before .before) in
-    let p = c .before .before .before .before .before .before .before .before .before .before .before .before .before .pre in
+    let s2 = c .before .before .before .before .before .before in let s = seen t s2 in
+    let p = s2 .before .before .before .before .before .before .before .pre in
     (omega (arith, rest-less s, p .0), (seen-rest s, (omega (arith, rest-less s, p .1 .1 .0), p .1 .1 .1))))
     {- returns-3 -}
     (λ c.
-    let s = seen t (c .before .before .before .before .before .before .before) in
-    (omega (arith, rest-less s, c .collect3 .ensures .0), collected-skip s (c .before .before .before .before .before .before .if2 .left) (c .before .before .before .before .before .tree-first .ensures) (c .before .before .before .before .if4 .taken) (c .collect3 .ensures .1)))
+    let s2 = c .before .before .before .before in let s = seen t (s2 .before .before .before) in (
+      omega (arith, rest-less s, c .collect3 .ensures .0),
+      collected-skip s (s2 .before .before .if2 .left) (s2 .before .tree-first .ensures) (s2 .if4 .taken) (c .collect3 .ensures .1),
+    ))
     {- mul-roots -}
-    (λ c. omega (arith, rest-less (seen t (c .before .before .before)), c .before .before .before .before .before .before .before .before .before .before .pre .1 .1 .0))
+    (λ c. omega (
+      arith,
+      rest-less (seen t (c .before .before .before)),
+      c .before .before .before .before .before .before .before .before .before .before .pre .1 .1 .0,
+    ))
     {- element-write-roots -}
-    (λ c. omega (arith, rest-less (seen t (c .before .before .before)), c .before .before .before .before .before .before .before .before .before .before .pre .1 .1 .0))
+    (λ c. omega (
+      arith,
+      rest-less (seen t (c .before .before .before)),
+      c .before .before .before .before .before .before .before .before .before .before .pre .1 .1 .0,
+    ))
     {- set-head-requires -}
     (λ c κs.
-    let s = seen t (c .before .before .before .before) in
-    (first-in s (c .before .before .before .if2 .left) _ (c .before .before .tree-first .ensures) (c .before .if4 .left), omega (arith, rest-less s, c .before .before .before .before .before .before .before .before .before .before .before .pre .1 .1 .0)))
+    let s2 = c .before .before .before in let s = seen t (s2 .before) in (
+      first-in s (s2 .if2 .left) _ (c .before .before .tree-first .ensures) (c .before .if4 .left),
+      omega (arith, rest-less s, s2 .before .before .before .before .before .before .before .before .pre .1 .1 .0),
+    ))
     {- mul-labels -}
-    (λ c. omega (arith, rest-less (seen t (c .before .before .before .before .before)), c .before .before .before .before .before .before .before .before .before .before .before .before .pre .1 .1 .0))
+    (λ c. let s2 = c .before .before .before .before .before in
+    omega (arith, rest-less (seen t s2), s2 .before .before .before .before .before .before .before .pre .1 .1 .0))
     {- element-write-labels -}
-    (λ c. omega (arith, rest-less (seen t (c .before .before .before .before .before)), c .before .before .before .before .before .before .before .before .before .before .before .before .pre .1 .1 .0))
+    (λ c. let s2 = c .before .before .before .before .before in
+    omega (arith, rest-less (seen t s2), s2 .before .before .before .before .before .before .before .pre .1 .1 .0))
     {- add-collect -}
-    (λ c. omega (arith, c .before .before .before .before .before .before .before .before .before .before .before .before .before .before .before .pre .1 .1 .0))
+    (λ c. let s2 = c .before .before .before .before .before .before .before .before .before .before .before .before .before .before in
+    omega (arith, s2 .before .pre .1 .1 .0))
     {- collect-requires-4 -}
     (λ c κs.
-    let s = seen t (c .before .before .before .before .before .before .before .before) in
-    let p = c .before .before .before .before .before .before .before .before .before .before .before .before .before .before .before .pre in (
+    let s2 = c .before .before .before .before .before .before in let s3 = s2 .before .before in
+    let s4 = s3 .before .before .before .before .before .before .before in let s = seen t s3 in
+    let p = s4 .pre in (
       omega (arith, rest-less s, p .0),
-      (seen-rest s, (omega (arith, rest-less s, p .1 .1 .0), rw (c .before .before .before .set-head .ensures) (full-set _ _ (c .before .before .before .before .before .before .before .before .before .before .before .before .before .before .before .args .at) (c .before .before .before .before .before .before .before .before .before .before .own-of .result) (c .before .before .before .before .before .before .tree-first .result) (c .before .before .before .before .before .before .before .before .before .before .before .before .before .before .before .args .part .label) (p .1 .1 .1)))),
+      (
+        seen-rest s,
+        (
+          omega (arith, rest-less s, p .1 .1 .0),
+          rw (c .before .before .before .set-head .ensures)
+              (full-set _ _ (s4 .args .at) (s3 .before .before .own-of .result) (s2 .tree-first .result) (s4 .args .part .label) (p .1 .1 .1)),
+        ),
+      ),
     ))
     {- returns-4 -}
     (λ c.
-    let s = seen t (c .before .before .before .before .before .before .before .before .before) in
-    let p = c .before .before .before .before .before .before .before .before .before .before .before .before .before .before .before .before .pre in (
+    let s2 = c .before .before .before .before in let s3 = s2 .before .before in let s4 = s3 .before .before in let s = seen t (s4 .before) in
+    let p = s4 .before .before .before .before .before .before .before .before .pre in (
       omega (arith, rest-less s, c .collect4 .ensures .0),
-      collected-cell s (c .before .before .before .before .before .before .before .before .if2 .left) (c .before .before .before .before .before .before .before .tree-first .ensures) (c .before .before .before .before .before .before .if4 .left) (p .1 .1 .1) (omega (arith, rest-less s, p .1 .1 .0)) (rw (c .before .before .before .before .set-head .ensures) at (c .collect4 .ensures .1)),
+      collected-cell s (s4 .if2 .left) (s3 .before .tree-first .ensures) (s3 .if4 .left) (p .1 .1 .1) (omega (arith, rest-less s, p .1 .1 .0))
+          (rw (s2 .set-head .ensures) at (c .collect4 .ensures .1)),
     ))

@@ -28,13 +28,13 @@ element-copy-out-q c = search needs
 
 returns : tie.Need-returns
 returns c =
-    let s = c .before .before .before .before .before in
-    by-beginning (λ j. omega (arith, c .before .before .before .shared-slice-known2 .given j)) (s .pre .0) (s .pre .1 .0) (s .pre .1 .1) (c .if1 .taken) .0
+    let pre = c .before .before .before .before .before .pre in
+    by-beginning (λ j. omega (arith, c .before .before .before .shared-slice-known2 .given j)) (pre .0) (pre .1 .0) (pre .1 .1) (c .if1 .taken) .0
 
 returns-2 : tie.Need-returns-2
 returns-2 c =
-    let s = c .before .before .before .before .before .before in
-    by-beginning (λ j. omega (arith, c .before .before .before .before .shared-slice-known2 .given j)) (s .pre .0) (s .pre .1 .1) (s .pre .1 .0) (c .if2 .taken) .1
+    let s = c .before .before .before .before in let pre = s .before .before .pre in
+    by-beginning (λ j. omega (arith, s .shared-slice-known2 .given j)) (pre .0) (pre .1 .1) (pre .1 .0) (c .if2 .taken) .1
 
 mul-x : tie.Need-mul-x
 mul-x c = search needs
@@ -55,7 +55,8 @@ cast-y : tie.Need-cast-y
 cast-y c = let s = c .before .before .before .before .before .before .before .before in omega (arith, s .pre .0 .small (s .args .b) (s .pre .1 .1))
 
 compare-keys-requires : tie.Need-compare-keys-requires
-compare-keys-requires c κs = let s = c .before .before .before .before .before .before .before .before in (s .pre .0 .each (s .args .a) (s .pre .1 .0), s .pre .0 .each (s .args .b) (s .pre .1 .1))
+compare-keys-requires c κs = let s = c .before .before .before .before .before .before .before .before in
+    (s .pre .0 .each (s .args .a) (s .pre .1 .0), s .pre .0 .each (s .args .b) (s .pre .1 .1))
 
 enum-told : tie.Need-enum-told
 enum-told c = search needs
@@ -70,7 +71,8 @@ cast-result-2 : tie.Need-cast-result-2
 cast-result-2 c = search needs
 
 sub-result : tie.Need-sub-result
-sub-result c = let s = c .before .before .before .before .before .before .before .before .before .before .before in difference-fits (s .args .a) (s .args .b) (omega (arith, s .pre .0 .few)) (omega (arith, s .pre .0 .few))
+sub-result c = let s = c .before .before .before .before .before .before .before .before .before .before .before in
+    difference-fits (s .args .a) (s .args .b) (omega (arith, s .pre .0 .few)) (omega (arith, s .pre .0 .few))
 
 enum-told-3 : tie.Need-enum-told-3
 enum-told-3 c = search needs
@@ -82,7 +84,8 @@ returns-3 c = by-key _ _ _ _ _ (c .before .before .compare-keys .ensures) Less (
 returns-4 : tie.Need-returns-4
 unfolding then
 returns-4 c =
-    by-place _ _ (omega (arith, c .before .before .before .before .before .before .before .before .before .before .before .pre .0 .few)) (omega (arith, c .before .before .before .before .before .before .before .before .before .before .before .pre .0 .few))
+    let few = c .before .before .before .before .before .before .before .before .before .before .before .pre .0 .few in
+    by-place _ _ (omega (arith, few)) (omega (arith, few))
     ∙ by-key _ _ _ _ _ (c .before .before .compare-keys .ensures) Same (c .enum-told2 .given .1)
 
 returns-5 : tie.Need-returns-5

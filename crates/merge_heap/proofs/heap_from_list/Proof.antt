@@ -18,7 +18,8 @@ loop-holds : tie.Need-loop-holds Inv-loop μ-loop
 loop-holds c = built-none _ _ _ _ (record { children = search needs; siblings = search needs })
 
 heap-insert-requires : tie.Need-heap-insert-requires Inv-loop μ-loop
-heap-insert-requires c κs = let s = c .before .before .before .before .before .before in (s .pre, (root-in _ _ _ (s .pre .few) (c .before .before .before .loop .inv .rep), search needs))
+heap-insert-requires c κs = let s = c .before .before .before .before .before .before in
+    (s .pre, (root-in _ _ _ (s .pre .few) (c .before .before .before .loop .inv .rep), search needs))
 
 add-v : tie.Need-add-v Inv-loop μ-loop
 add-v c = omega arith

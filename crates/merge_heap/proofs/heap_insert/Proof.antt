@@ -11,7 +11,7 @@ heap-merge-requires : tie.Need-heap-merge-requires
 heap-merge-requires c κs = search needs
 
 returns : tie.Need-returns
-returns c = insert-makes _ _ _ (c .before .before .before .before .before .pre .0 .few) _ _ _ _ _ _ (c .before .before .before .before .before .pre .1 .1) (c .heap-merge .ensures)
+returns c = let s = c .before .before .before .before .before in insert-makes _ _ _ (s .pre .0 .few) _ _ _ _ _ _ (s .pre .1 .1) (c .heap-merge .ensures)
 
 pub heap-insert-spec : {M : Type 1} → statement M
 heap-insert-spec = tie.close (tie.spec element-write-child heap-merge-requires returns)

@@ -6,7 +6,8 @@ use Rattle.source.specs.Heap.{Heap, Forest, heap-merge-pairs}
 use Rattle.merge_heads.specs.Compare.{cell-cmp}
 use Rattle.merge_heap.specs.Cells.{Repᶠ}
 use Rattle.merge_heap.proofs.CellCounts.{root-in}
-use Rattle.merge_heap.proofs.HeapMergePairs.{siblings, some-siblings, Pairing, Merging, held-small, held-inside, held-next, none-paired, odd-one, pair-up, all-paired, merge-on, all-merged}
+use Rattle.merge_heap.proofs.HeapMergePairs.{siblings, some-siblings, Pairing, Merging, held-small, held-inside, held-next, none-paired, odd-one}
+use Rattle.merge_heap.proofs.HeapMergePairs.{pair-up, all-paired, merge-on, all-merged}
 use Rattle.merge_heap.proofs.heap_merge_pairs.Statement.{statement}
 use Rattle.merge_heap.proofs.heap_merge_pairs.Tie as tie
 
@@ -37,42 +38,70 @@ heap-merge-pairs-spec =
     {- loop-holds -}
     (λ c. none-paired)
     {- element-copy-out-k -}
-    (λ c. let s = c .before .before .before .before in let f = s .pre .0 .few in let w = c .before .loop .inv (s .pre .1 .0) (s .pre .1 .1) in omega (arith, held-inside f (w .rest) (c .loop-test .taken)))
+    (λ c. let pre = c .before .before .before .before .pre in let f = pre .0 .few in let w = c .before .loop .inv (pre .1 .0) (pre .1 .1) in
+    omega (arith, held-inside f (w .rest) (c .loop-test .taken)))
     {- cast-k -}
-    (λ c. let s = c .before .before .before .before .before in let f = s .pre .0 .few in let w = c .before .before .loop .inv (s .pre .1 .0) (s .pre .1 .1) in omega (arith, held-small f (held-next f (w .rest) (c .before .loop-test .taken))))
+    (λ c. let pre = c .before .before .before .before .before .pre in let f = pre .0 .few in let w = c .before .before .loop .inv (pre .1 .0) (pre .1 .1) in
+    omega (arith, held-small f (held-next f (w .rest) (c .before .loop-test .taken))))
     {- cast-next -}
-    (λ c. let s = c .before .before .before .before .before .before in let f = s .pre .0 .few in let w = c .before .before .before .loop .inv (s .pre .1 .0) (s .pre .1 .1) in omega (arith, held-small f (w .stage .done)))
+    (λ c. let pre = c .before .before .before .before .before .before .pre in let f = pre .0 .few in
+    let w = c .before .before .before .loop .inv (pre .1 .0) (pre .1 .1) in omega (arith, held-small f (w .stage .done)))
     {- element-write-next -}
-    (λ c. let s = c .before .before .before .before .before .before in let f = s .pre .0 .few in let w = c .before .before .before .loop .inv (s .pre .1 .0) (s .pre .1 .1) in omega (arith, held-inside f (w .rest) (c .before .before .loop-test .taken)))
+    (λ c. let s = c .before .before in let pre = s .before .before .before .before .pre in let f = pre .0 .few in
+    let w = s .before .loop .inv (pre .1 .0) (pre .1 .1) in omega (arith, held-inside f (w .rest) (s .loop-test .taken)))
     {- loop-less -}
     (λ c. some-siblings _ _ _ (c .before .before .loop-test .taken))
     {- loop-again -}
-    (λ c hh p. let w = c .before .before .before .loop .inv hh p in odd-one (c .before .before .before .before .before .before .pre .0 .few) (w .rest .0) (w .rest .1) (w .stage) (c .before .before .loop-test .taken) (c .if1 .taken))
+    (λ c hh p. let s = c .before .before in let w = s .before .loop .inv hh p in
+    odd-one (s .before .before .before .before .pre .0 .few) (w .rest .0) (w .rest .1) (w .stage) (s .loop-test .taken) (c .if1 .taken))
     {- element-copy-out-rest -}
-    (λ c. let s = c .before .before .before .before .before .before in let f = s .pre .0 .few in let w = c .before .before .before .loop .inv (s .pre .1 .0) (s .pre .1 .1) in omega (arith, held-inside f (held-next f (w .rest) (c .before .before .loop-test .taken)) (c .if1 .left)))
+    (λ c. let s = c .before .before in let pre = s .before .before .before .before .pre in let f = pre .0 .few in
+    let w = s .before .loop .inv (pre .1 .0) (pre .1 .1) in omega (arith, held-inside f (held-next f (w .rest) (s .loop-test .taken)) (c .if1 .left)))
     {- cast-rest -}
-    (λ c. let s = c .before .before .before .before .before .before .before in let f = s .pre .0 .few in let w = c .before .before .before .before .loop .inv (s .pre .1 .0) (s .pre .1 .1) in omega (arith, held-small f (held-next f (held-next f (w .rest) (c .before .before .before .loop-test .taken)) (c .before .if1 .left))))
+    (λ c. let s = c .before .before .before in let pre = s .before .before .before .before .pre in let f = pre .0 .few in
+    let w = s .before .loop .inv (pre .1 .0) (pre .1 .1) in
+    omega (arith, held-small f (held-next f (held-next f (w .rest) (s .loop-test .taken)) (c .before .if1 .left))))
     {- heap-merge-requires -}
-    (λ c κs. let s = c .before .before .before .before .before .before .before .before .before in let f = s .pre .0 .few in let w = c .before .before .before .before .before .before .loop .inv (s .pre .1 .0) (s .pre .1 .1) in (s .pre .0, ((λ _. held-inside f (w .rest) (c .before .before .before .before .before .loop-test .taken)), held-inside f (held-next f (w .rest) (c .before .before .before .before .before .loop-test .taken)))))
+    (λ c κs. let s = c .before .before .before .before .before in let pre = s .before .before .before .before .pre in let f = pre .0 .few in
+    let w = s .before .loop .inv (pre .1 .0) (pre .1 .1) in
+    (pre .0, ((λ _. held-inside f (w .rest) (s .loop-test .taken)), held-inside f (held-next f (w .rest) (s .loop-test .taken)))))
     {- cast-next-2 -}
-    (λ c. let s = c .before .before .before .before .before .before .before .before .before .before in let f = s .pre .0 .few in let w = c .before .before .before .before .before .before .before .loop .inv (s .pre .1 .0) (s .pre .1 .1) in omega (arith, held-small f (w .stage .done)))
+    (λ c. let s = c .before .before .before .before .before .before .before in let pre = s .before .before .before .pre in let f = pre .0 .few in
+    let w = s .loop .inv (pre .1 .0) (pre .1 .1) in omega (arith, held-small f (w .stage .done)))
     {- element-write-next-2 -}
-    (λ c. let s = c .before .before .before .before .before .before .before .before .before .before in let f = s .pre .0 .few in let w = c .before .before .before .before .before .before .before .loop .inv (s .pre .1 .0) (s .pre .1 .1) in omega (arith, pair-up f (w .rest .0) (w .rest .1) (w .stage) (c .before .before .before .before .before .before .loop-test .taken) (c .before .before .before .before .if1 .left) (c .heap-merge .ensures) .0))
+    (λ c. let s = c .before .before .before .before in let s2 = s .before .before in let pre = s2 .before .before .before .before .pre in let f = pre .0 .few in
+    let w = s2 .before .loop .inv (pre .1 .0) (pre .1 .1) in
+    omega (arith, pair-up f (w .rest .0) (w .rest .1) (w .stage) (s2 .loop-test .taken) (s .if1 .left) (c .heap-merge .ensures) .0))
     {- loop-less-2 -}
-    (λ c. let s = c .before .before .before .before .before .before .before .before .before .before in let f = s .pre .0 .few in let w = c .before .before .before .before .before .before .before .loop .inv (s .pre .1 .0) (s .pre .1 .1) in pair-up f (w .rest .0) (w .rest .1) (w .stage) (c .before .before .before .before .before .before .loop-test .taken) (c .before .before .before .before .if1 .left) (c .heap-merge .ensures) .2)
+    (λ c. let s = c .before .before .before .before in let s2 = s .before .before in let pre = s2 .before .before .before .before .pre in let f = pre .0 .few in
+    let w = s2 .before .loop .inv (pre .1 .0) (pre .1 .1) in
+    pair-up f (w .rest .0) (w .rest .1) (w .stage) (s2 .loop-test .taken) (s .if1 .left) (c .heap-merge .ensures) .2)
     {- loop-again-2 -}
-    (λ c hh p. let w = c .before .before .before .before .before .before .before .loop .inv hh p in pair-up (c .before .before .before .before .before .before .before .before .before .before .pre .0 .few) (w .rest .0) (w .rest .1) (w .stage) (c .before .before .before .before .before .before .loop-test .taken) (c .before .before .before .before .if1 .left) (c .heap-merge .ensures) .1)
+    (λ c hh p. let s = c .before .before .before .before in let s2 = s .before .before in let w = s2 .before .loop .inv hh p in
+    pair-up (s2 .before .before .before .before .pre .0 .few) (w .rest .0) (w .rest .1) (w .stage) (s2 .loop-test .taken) (s .if1 .left)
+    (c .heap-merge .ensures) .1)
     {- loop2-holds -}
     (λ c _ _ _ w. w)
     {- element-copy-out-below -}
-    (λ c. let s = c .before .before .before .before .before .before in let f = s .pre .0 .few in let v = c .before .loop2 .inv _ _ _ (all-paired f (c .before .before .before .loop .inv (s .pre .1 .0) (s .pre .1 .1)) (c .before .before .loop-test .left)) in omega (arith, held-inside f (v .stage .done) (c .loop2-test .taken)))
+    (λ c. let s = c .before .before in let pre = s .before .before .before .before .pre in let f = pre .0 .few in
+    let v = c .before .loop2 .inv _ _ _ (all-paired f (s .before .loop .inv (pre .1 .0) (pre .1 .1)) (s .loop-test .left)) in
+    omega (arith, held-inside f (v .stage .done) (c .loop2-test .taken)))
     {- cast-below -}
-    (λ c. let s = c .before .before .before .before .before .before .before in let f = s .pre .0 .few in let v = c .before .before .loop2 .inv _ _ _ (all-paired f (c .before .before .before .before .loop .inv (s .pre .1 .0) (s .pre .1 .1)) (c .before .before .before .loop-test .left)) in omega (arith, held-small f (held-next f (v .stage .done) (c .before .loop2-test .taken))))
+    (λ c. let s = c .before .before .before in let pre = s .before .before .before .before .pre in let f = pre .0 .few in
+    let v = c .before .before .loop2 .inv _ _ _ (all-paired f (s .before .loop .inv (pre .1 .0) (pre .1 .1)) (s .loop-test .left)) in
+    omega (arith, held-small f (held-next f (v .stage .done) (c .before .loop2-test .taken))))
     {- heap-merge-requires-2 -}
-    (λ c κs. let s = c .before .before .before .before .before .before .before .before .before in let f = s .pre .0 .few in let v = c .before .before .before .before .loop2 .inv _ _ _ (all-paired f (c .before .before .before .before .before .before .loop .inv (s .pre .1 .0) (s .pre .1 .1)) (c .before .before .before .before .before .loop-test .left)) in (s .pre .0, (held-inside f (v .stage .done), root-in _ _ _ f (v .root))))
+    (λ c κs. let s = c .before .before .before .before in let pre = s .before .before .before .before .before .pre in let f = pre .0 .few in
+    let v = s .loop2 .inv _ _ _ (all-paired f (s .before .before .loop .inv (pre .1 .0) (pre .1 .1)) (s .before .loop-test .left)) in
+    (pre .0, (held-inside f (v .stage .done), root-in _ _ _ f (v .root))))
     {- loop2-less -}
-    (λ c. let s = c .before .before .before .before .before .before .before .before .before .before in let f = s .pre .0 .few in let v = c .before .before .before .before .before .loop2 .inv _ _ _ (all-paired f (c .before .before .before .before .before .before .before .loop .inv (s .pre .1 .0) (s .pre .1 .1)) (c .before .before .before .before .before .before .loop-test .left)) in merge-on f v (c .before .before .before .before .loop2-test .taken) (c .heap-merge2 .ensures) .1)
+    (λ c. let s = c .before .before .before .before in let s2 = s .before in let pre = s2 .before .before .before .before .before .pre in let f = pre .0 .few in
+    let v = s2 .loop2 .inv _ _ _ (all-paired f (s2 .before .before .loop .inv (pre .1 .0) (pre .1 .1)) (s2 .before .loop-test .left)) in
+    merge-on f v (s .loop2-test .taken) (c .heap-merge2 .ensures) .1)
     {- loop2-again -}
-    (λ c child₁ next₁ all w. merge-on (c .before .before .before .before .before .before .before .before .before .before .pre .0 .few) (c .before .before .before .before .before .loop2 .inv child₁ next₁ all w) (c .before .before .before .before .loop2-test .taken) (c .heap-merge2 .ensures) .0)
+    (λ c child₁ next₁ all w. let s = c .before .before .before .before in
+    merge-on (s .before .before .before .before .before .before .pre .0 .few) (s .before .loop2 .inv child₁ next₁ all w) (s .loop2-test .taken)
+    (c .heap-merge2 .ensures) .0)
     {- returns -}
-    (λ c hh p. let f = c .before .before .before .before .before .before .pre .0 .few in all-merged f (c .before .loop2 .inv _ _ _ (all-paired f (c .before .before .before .loop .inv hh p) (c .before .before .loop-test .left))) (c .loop2-test .left)))
+    (λ c hh p. let s = c .before .before in let f = s .before .before .before .before .pre .0 .few in
+    all-merged f (c .before .loop2 .inv _ _ _ (all-paired f (s .before .loop .inv hh p) (s .loop-test .left))) (c .loop2-test .left)))

@@ -21,6 +21,22 @@ afford-spec =
     {- free-requires -}
     (λ c κs. search needs)
     {- returns-4 -}
-    (λ c. rw (c .before .before .before .before .before .before .if1 .left, c .before .before .before .before .before .if2 .left, ← c .before .before .before .before .full .ensures, c .before .before .before .if3 .left, ← c .before .before .free .ensures, lt-ltb _ _ (c .if4 .taken)))
+    (λ c. let s = c .before .before .before in
+    rw (
+      s .before .before .before .if1 .left,
+      s .before .before .if2 .left,
+      ← s .before .full .ensures,
+      s .if3 .left,
+      ← c .before .before .free .ensures,
+      lt-ltb _ _ (c .if4 .taken),
+    ))
     {- returns-5 -}
-    (λ c. rw (c .before .before .before .before .before .before .if1 .left, c .before .before .before .before .before .if2 .left, ← c .before .before .before .before .full .ensures, c .before .before .before .if3 .left, ← c .before .before .free .ensures, le-ltb _ _ (c .if4 .left))))
+    (λ c. let s = c .before .before .before in
+    rw (
+      s .before .before .before .if1 .left,
+      s .before .before .if2 .left,
+      ← s .before .full .ensures,
+      s .if3 .left,
+      ← c .before .before .free .ensures,
+      le-ltb _ _ (c .if4 .left),
+    )))

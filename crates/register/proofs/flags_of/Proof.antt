@@ -22,4 +22,7 @@ flags-of-spec =
     {- either-requires-2 -}
     (λ c κs. search needs)
     {- returns -}
-    (λ c. rw (arguments-of, c .either2 .ensures, c .before .either .ensures, ← c .before .before .before .before .before .shape-of .ensures) (both-flagged (c .before .before .before .before .key-flags .ensures) (both-flagged (one-flagged (c .before .before .before .query-flags .ensures)) (one-flagged (c .before .before .other-flags .ensures))))))
+    (λ c. let s = c .before .before .before in
+    rw (arguments-of, c .either2 .ensures, c .before .either .ensures, ← s .before .before .shape-of .ensures)
+    (both-flagged (s .before .key-flags .ensures)
+    (both-flagged (one-flagged (s .query-flags .ensures)) (one-flagged (c .before .before .other-flags .ensures))))))

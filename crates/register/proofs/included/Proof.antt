@@ -14,7 +14,8 @@ included-spec =
     {- enum-told-2 -}
     (λ c. search needs)
     {- trie-descend-requires -}
-    (λ c κs. (record { which = names; trie = c .before .before .before .before .before .pre .0 }, query-ends _ (rw (c .enum-told2 .given .1) at (c .before .before .before .before .before .pre .1))))
+    (λ c κs. let s = c .before .before .before .before .before in
+    (record { which = names; trie = s .pre .0 }, query-ends _ (rw (c .enum-told2 .given .1) at (s .pre .1))))
     {- enum-told-3 -}
     (λ c. search needs)
     {- returns -}

@@ -25,4 +25,6 @@ put-texts-spec =
     {- same-length -}
     (λ c. search needs)
     {- returns -}
-    (λ c. texts-laid _ _ _ _ _ (c .before .before .before .before .before .before .before .before .before .before .before .before .before .before .before .before .pre .0) (c .before .before .before .before .before .before .before .before .before .before .put-text .ensures) (c .before .before .before .before .before .before .put-text2 .ensures) (c .before .before .put-text3 .ensures)))
+    (λ c. let s = c .before .before .before .before .before .before in let s2 = s .before .before .before .before in
+    texts-laid _ _ _ _ _ (s2 .before .before .before .before .before .before .pre .0) (s2 .put-text .ensures) (s .put-text2 .ensures)
+    (c .before .before .put-text3 .ensures)))

@@ -30,15 +30,22 @@ write-spec =
     {- root-of-requires -}
     (λ c κs. search needs)
     {- sub-trie-mutate -}
-    (λ c. omega (arith, c .before .before .before .before .before .before .before .before .before .before .before .before .before .before .before .before .pre .size))
+    (λ c. let s = c .before .before .before .before .before .before .before .before .before .before .before .before .before .before in
+    omega (arith, s .before .before .pre .size))
     {- part-trie-mutate-start -}
-    (λ c. omega (arith, c .before .before .before .before .before .before .before .before .before .before .before .before .before .before .before .before .pre .size))
+    (λ c. let s = c .before .before .before .before .before .before .before .before .before .before .before .before .before .before in
+    omega (arith, s .before .before .pre .size))
     {- part-trie-mutate-end -}
-    (λ c. omega (arith, c .before .before .before .before .before .before .before .before .before .before .before .before .before .before .before .before .pre .size))
+    (λ c. let s = c .before .before .before .before .before .before .before .before .before .before .before .before .before .before in
+    omega (arith, s .before .before .pre .size))
     {- trie-mutate-requires -}
-    (λ c κs. rw (c .before .before .before .root-of .ensures, c .before .before .before .before .shape-of .ensures, tail-is (c .before .before .before .before .before .before .before .before .before .before .before .before .before .before .before .before .before .args .way .now) steps-at) (record { used = _; holds = write-mutation (c .before .before .before .before .before .before .before .before .before .before .before .before .before .before .before .before .before .pre) (c .before .before .before .before .before .before .before .before .put-texts .ensures) }, write-way (c .before .before .before .before .before .before .before .before .before .before .before .before .before .before .before .before .before .pre) (c .before .before .before .before .before .before .before .before .put-texts .ensures)))
+    (λ c κs. let s = c .before .before .before in let s2 = s .before .before .before .before .before in
+    let s3 = s2 .before .before .before .before .before .before .before .before .before in
+    rw (s .root-of .ensures, s .before .shape-of .ensures, tail-is (s3 .args .way .now) steps-at)
+    (record { used = _; holds = write-mutation (s3 .pre) (s2 .put-texts .ensures) }, write-way (s3 .pre) (s2 .put-texts .ensures)))
     {- add-changed -}
-    (λ c. omega (arith, text-room (c .before .before .before .before .before .before .before .before .before .before .before .before .before .before .before .before .before .before .before .before .pre)))
+    (λ c. let s = c .before .before .before .before .before .before .before .before .before .before .before .before .before .before in
+    omega (arith, text-room (s .before .before .before .before .before .before .pre)))
     {- changed-requires -}
     (λ c κs. search needs)
     {- same-length -}
@@ -46,4 +53,7 @@ write-spec =
     {- same-length-2 -}
     (λ c. search needs)
     {- returns -}
-    (λ c. write-accepts (c .before .before .before .before .before .before .before .before .before .before .before .before .before .before .before .before .before .before .before .before .before .pre) (c .before .before .before .before .before .before .before .before .before .before .before .before .put-texts .ensures) (rw (c .before .before .before .before .before .before .before .before .shape-of .ensures) at (c .before .before .before .before .before .before .before .root-of .ensures)) (c .before .before .before .trie-mutate .ensures) (rw (c .before .before .before .before .before .before .before .before .shape-of .ensures) at (c .changed .ensures))))
+    (λ c. let s = c .before .before .before .before .before .before .before in let s2 = s .before .before .before .before .before in
+    write-accepts (s2 .before .before .before .before .before .before .before .before .before .pre) (s2 .put-texts .ensures)
+    (rw (s .before .shape-of .ensures) at (s .root-of .ensures)) (c .before .before .before .trie-mutate .ensures)
+    (rw (s .before .shape-of .ensures) at (c .changed .ensures))))

@@ -17,7 +17,8 @@ mut-bindings-spec =
     {- enum-known-f -}
     (λ c. search needs)
     {- ins-requires -}
-    (λ c κs. bindings-as (rw (c .before .before .before .before .shape-of .ensures) at (c .before .before .f .given .1)) (c .before .before .before .before .before .before .before .before .pre))
+    (λ c κs. let s = c .before .before .before .before in
+    bindings-as (rw (s .shape-of .ensures) at (c .before .before .f .given .1)) (s .before .before .before .before .pre))
     {- returns -}
     (λ c. keeps-name (rw (c .before .before .shape-of .ensures) at (c .enum-told .given .1)))
     {- returns-2 -}
@@ -25,4 +26,5 @@ mut-bindings-spec =
     {- same-length -}
     (λ c. search needs)
     {- returns-3 -}
-    (λ c. bindings-to (rw (c .before .before .before .before .before .before .before .shape-of .ensures) at (c .before .before .before .before .before .f .given .1)) (c .before .before .ins .ensures)))
+    (λ c. let s = c .before .before .before .before .before in
+    bindings-to (rw (s .before .before .shape-of .ensures) at (s .f .given .1)) (c .before .before .ins .ensures)))

@@ -10,16 +10,20 @@ mut-node-spec =
     tie.close
     (tie.spec
     {- trie-of-requires -}
-    (λ c κs. omega (arith, c .before .before .before .pre .holds .link .earlier, c .before .before .before .pre .holds .change .sound .records-fit))
+    (λ c κs. let holds′ = c .before .before .before .pre .holds in omega (arith, holds′ .link .earlier, holds′ .change .sound .records-fit))
     {- mut-bindings-requires -}
-    (λ c κs. record { used = c .before .before .before .before .before .pre .used; holds = node-bindings (c .before .before .before .before .before .pre .holds) (c .before .trie-of .ensures) })
+    (λ c κs. let s = c .before .before .before .before .before in
+    record { used = s .pre .used; holds = node-bindings (s .pre .holds) (c .before .trie-of .ensures) })
     {- kinds-of-requires -}
     (λ c κs. search needs)
     {- add-put-trie -}
     (λ c. omega (arith, c .before .kinds-of .ensures .0))
     {- put-trie-requires -}
-    (λ c κs. node-ready (c .before .before .before .before .before .before .before .before .before .before .pre .holds) (c .before .before .before .before .before .before .trie-of .ensures) (c .before .before .before .before .mut-bindings .ensures))
+    (λ c κs. let s = c .before .before .before .before in
+    node-ready (s .before .before .before .before .before .before .pre .holds) (s .before .before .trie-of .ensures) (s .mut-bindings .ensures))
     {- same-length -}
     (λ c. search needs)
     {- returns -}
-    (λ c used i. node-built i (c .before .before .before .before .before .before .before .before .before .trie-of .ensures) (c .before .before .before .before .before .before .before .mut-bindings .ensures) (c .before .before .before .before .kinds-of .ensures) (c .before .before .put-trie .ensures .0) (c .before .before .put-trie .ensures .1)))
+    (λ c used i. let s = c .before .before in let s2 = s .before .before in
+    node-built i (s2 .before .before .before .before .before .trie-of .ensures) (s2 .before .before .before .mut-bindings .ensures) (s2 .kinds-of .ensures)
+    (s .put-trie .ensures .0) (s .put-trie .ensures .1)))

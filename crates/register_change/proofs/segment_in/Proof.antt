@@ -18,6 +18,6 @@ segment-in-spec =
     {- segment-length-requires -}
     (λ c κs. search needs)
     {- cast-result -}
-    (λ c. omega (arith, cut-part _ _ _ _ (c .segment-length .ensures) (c .before .before .before .pre .3) (c .before .before .before .pre .0) (c .before .before .before .pre .1) .inside, c .before .before .before .pre .2))
+    (λ c. let pre = c .before .before .before .pre in omega (arith, cut-part _ _ _ _ (c .segment-length .ensures) (pre .3) (pre .0) (pre .1) .inside, pre .2))
     {- returns -}
-    (λ c. cut-part _ _ _ _ (c .segment-length .ensures) (c .before .before .before .pre .3) (c .before .before .before .pre .0) (c .before .before .before .pre .1)))
+    (λ c. let pre = c .before .before .before .pre in cut-part _ _ _ _ (c .segment-length .ensures) (pre .3) (pre .0) (pre .1)))

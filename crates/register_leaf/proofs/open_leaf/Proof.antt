@@ -11,14 +11,19 @@ open-leaf-spec =
     {- trie-of-requires -}
     (λ c κs. leaf-fits (c .before .before .before .pre .holds))
     {- trie-of-requires-2 -}
-    (λ c κs. inc-fits (c .before .before .before .before .before .pre .holds .change .sound) (c .before .before .before .before .before .pre .holds .change .inc))
+    (λ c κs. let change = c .before .before .before .before .before .pre .holds .change in inc-fits (change .sound) (change .inc))
     {- label-of-requires -}
     (λ c κs. search needs)
     {- imported-requires -}
-    (λ c κs. open-ready (c .before .before .before .before .before .before .before .before .pre .holds) (c .before .before .before .before .trie-of .ensures) (c .before .before .trie-of2 .ensures))
+    (λ c κs. let s = c .before .before .before .before in
+    open-ready (s .before .before .before .before .pre .holds) (s .trie-of .ensures) (c .before .before .trie-of2 .ensures))
     {- put-trie-requires -}
-    (λ c κs. open-trie-ready (c .before .before .before .before .before .before .before .before .before .before .before .before .pre .holds) (c .before .before .before .before .before .before .before .before .trie-of .ensures) (c .before .before .before .before .before .before .trie-of2 .ensures) (c .before .before .before .imported .ensures .0) (rw (c .before .before .before .before .before .label-of .ensures) at (c .before .before .before .imported .ensures .1)))
+    (λ c κs. let s = c .before .before .before in let s2 = s .before .before in
+    open-trie-ready (s2 .before .before .before .before .before .before .before .pre .holds) (s2 .before .before .before .trie-of .ensures)
+    (s2 .before .trie-of2 .ensures) (s .imported .ensures .0) (rw (s2 .label-of .ensures) at (s .imported .ensures .1)))
     {- same-length -}
     (λ c. search needs)
     {- returns -}
-    (λ c used l. open-built l (c .before .before .before .before .before .before .before .before .before .before .before .trie-of .ensures) (c .before .before .before .before .before .before .before .before .before .trie-of2 .ensures) (c .before .before .before .before .before .before .imported .ensures .0) (rw (c .before .before .before .before .before .before .before .before .label-of .ensures) at (c .before .before .before .before .before .before .imported .ensures .1)) (c .before .before .put-trie .ensures .0) (c .before .before .put-trie .ensures .1)))
+    (λ c used l. let s = c .before .before in let s2 = s .before .before .before .before in let s3 = s2 .before .before in
+    open-built l (s3 .before .before .before .trie-of .ensures) (s3 .before .trie-of2 .ensures) (s2 .imported .ensures .0)
+    (rw (s3 .label-of .ensures) at (s2 .imported .ensures .1)) (s .put-trie .ensures .0) (s .put-trie .ensures .1)))

@@ -24,16 +24,37 @@ plan-alias-spec =
     {- names-place-requires -}
     (λ c κs. any-namespaces (c .before .before .plan-path .ensures .0 .here) (c .before .trie-of .ensures))
     {- note-host-requires -}
-    (λ c κs. (c .before .before .before .before .plan-path .ensures .0 .few, omega (arith, c .before .before .before .before .plan-path .ensures .1 .kept .size, c .before .before .before .before .before .before .before .before .before .before .pre .1 .2)))
+    (λ c κs. let s = c .before .before .before .before in
+    (s .plan-path .ensures .0 .few, omega (arith, s .plan-path .ensures .1 .kept .size, s .before .before .before .before .before .before .pre .1 .2)))
     {- weight-of-requires -}
-    (λ c κs. omega (arith, at-fits (bindings-at (c .before .before .before .before .before .before .before .before .before .before .before .pre .0 .1) (c .before .before .before .trie-of2 .ensures))))
+    (λ c κs. omega (
+      arith,
+      at-fits (bindings-at (c .before .before .before .before .before .before .before .before .before .before .before .pre .0 .1)
+          (c .before .before .before .trie-of2 .ensures)),
+    ))
     {- add-weight -}
-    (λ c. omega (arith, list-light (bindings-at (c .before .before .before .before .before .before .before .before .before .before .before .before .pre .0 .1) (c .before .before .before .before .trie-of2 .ensures)), c .weight-of .ensures))
+    (λ c. let s = c .before .before .before .before in
+    omega (
+      arith,
+      list-light (bindings-at (s .before .before .before .before .before .before .before .before .pre .0 .1) (s .trie-of2 .ensures)),
+      c .weight-of .ensures,
+    ))
     {- add-t16 -}
-    (λ c. omega (arith, placed-small (any-namespaces (c .before .before .before .before .before .before .before .plan-path .ensures .0 .here) (c .before .before .before .before .before .before .trie-of .ensures)) (c .before .before .before .before .names-place .ensures)))
+    (λ c. let s = c .before .before .before .before in
+    omega (
+      arith,
+      placed-small (any-namespaces (s .before .before .before .plan-path .ensures .0 .here) (s .before .before .trie-of .ensures)) (s .names-place .ensures),
+    ))
     {- add-t17 -}
-    (λ c. omega (arith, placed-small (any-namespaces (c .before .before .before .before .before .before .before .before .plan-path .ensures .0 .here) (c .before .before .before .before .before .before .before .trie-of .ensures)) (c .before .before .before .before .before .names-place .ensures), c .before .before .before .before .before .before .before .before .plan-path .ensures .0 .few, c .before .before .before .before .before .before .before .before .plan-path .ensures .0 .gives .small))
+    (λ c. let s = c .before .before .before .before .before in let s2 = s .before .before in let plan-path = s2 .before .plan-path .ensures .0 in
+    omega (arith, placed-small (any-namespaces (plan-path .here) (s2 .trie-of .ensures)) (s .names-place .ensures), plan-path .few, plan-path .gives .small))
     {- add-t22 -}
     (λ c. omega (arith, c .before .before .before .before .before .before .before .before .before .before .before .plan-path .ensures .0 .few))
     {- returns -}
-    (λ c. (λ tbl q e f. alias-planned _ (c .before .before .before .before .before .before .before .before .before .before .before .plan-path .ensures .0) (c .before .before .before .before .before .before .before .before .before .before .trie-of .ensures) tbl e (c .before .before .before .before .before .before .before .before .before .before .before .before .before .before .before .before .before .pre .0 .1) (c .before .before .before .before .before .before .before .before .before .trie-of2 .ensures) q f (c .before .before .before .before .before .before .before .before .names-place .ensures) (c .before .before .before .before .before .weight-of .ensures), λ other. noted-count (c .before .before .before .before .before .before .before .before .before .before .before .plan-path .ensures .1) (omega (arith, c .before .before .before .before .before .before .before .before .before .before .before .plan-path .ensures .0 .few, c .before .before .before .before .before .before .before .before .before .before .before .plan-path .ensures .1 .kept .size, c .before .before .before .before .before .before .before .before .before .before .before .before .before .before .before .before .before .pre .1 .2)) Alias other (c .before .before .before .before .before .before .before .before .before .before .before .before .before .before .before .before .before .args .key .now) (c .before .before .before .before .before .before .note-host .ensures) (namespaces-builds (c .before .before .before .before .before .before .before .before .before .before .before .plan-path .ensures .0 .here) (c .before .before .before .before .before .before .before .before .before .before .trie-of .ensures) (c .before .before .before .before .before .before .before .before .names-place .ensures)))))
+    (λ c. let s = c .before .before .before .before .before in let s2 = s .before .before .before in let s3 = s2 .before .before in let s4 = s3 .before in
+    let plan-path = s4 .plan-path .ensures in let s5 = s4 .before .before .before .before .before .before in (
+      λ tbl q e f. alias-planned _ (plan-path .0) (s3 .trie-of .ensures) tbl e (s5 .pre .0 .1) (s2 .before .trie-of2 .ensures) q f (s2 .names-place .ensures)
+          (s .weight-of .ensures),
+      λ other. noted-count (plan-path .1) (omega (arith, plan-path .0 .few, plan-path .1 .kept .size, s5 .pre .1 .2)) Alias other (s5 .args .key .now)
+          (s .before .note-host .ensures) (namespaces-builds (plan-path .0 .here) (s3 .trie-of .ensures) (s2 .names-place .ensures)),
+    )))

@@ -25,10 +25,29 @@ plan-include-spec =
     {- weight-of-requires-2 -}
     (λ c κs. omega (arith, at-fits (bindings-at (c .before .before .before .plan-path .ensures .0 .here) (c .before .before .trie-of .ensures))))
     {- add-weight -}
-    (λ c. omega (arith, list-light (bindings-at (c .before .before .before .before .plan-path .ensures .0 .here) (c .before .before .before .trie-of .ensures)), list-light (bindings-at (c .before .before .before .before .before .before .before .before .before .pre .0 .1) (c .before .before .trie-of2 .ensures)), c .before .weight-of .ensures, c .weight-of2 .ensures))
+    (λ c. let s = c .before .before .before in
+    omega (
+      arith,
+      list-light (bindings-at (s .before .plan-path .ensures .0 .here) (s .trie-of .ensures)),
+      list-light (bindings-at (s .before .before .before .before .before .before .pre .0 .1) (c .before .before .trie-of2 .ensures)),
+      c .before .weight-of .ensures,
+      c .weight-of2 .ensures,
+    ))
     {- add-weight-2 -}
-    (λ c. omega (arith, list-light (bindings-at (c .before .before .before .before .plan-path .ensures .0 .here) (c .before .before .before .trie-of .ensures)), list-light (bindings-at (c .before .before .before .before .before .before .before .before .before .pre .0 .1) (c .before .before .trie-of2 .ensures)), c .before .weight-of .ensures, c .weight-of2 .ensures))
+    (λ c. let s = c .before .before .before in
+    omega (
+      arith,
+      list-light (bindings-at (s .before .plan-path .ensures .0 .here) (s .trie-of .ensures)),
+      list-light (bindings-at (s .before .before .before .before .before .before .pre .0 .1) (c .before .before .trie-of2 .ensures)),
+      c .before .weight-of .ensures,
+      c .weight-of2 .ensures,
+    ))
     {- add-t12 -}
-    (λ c. omega (arith, c .before .before .before .before .before .plan-path .ensures .0 .few, c .before .before .before .before .before .plan-path .ensures .0 .gives .small))
+    (λ c. let plan-path = c .before .before .before .before .before .plan-path .ensures .0 in omega (arith, plan-path .few, plan-path .gives .small))
     {- returns -}
-    (λ c. (λ tbl q e f. include-planned _ (c .before .before .before .before .before .before .before .plan-path .ensures .0) (c .before .before .before .before .before .before .trie-of .ensures) tbl e (c .before .before .before .before .before .before .before .before .before .before .before .before .pre .0 .1) (c .before .before .before .before .before .trie-of2 .ensures) q f (c .before .before .before .before .weight-of .ensures) (c .before .before .before .weight-of2 .ensures), λ other key. noted-path (c .before .before .before .before .before .before .before .plan-path .ensures .1) (omega (arith, c .before .before .before .before .before .before .before .plan-path .ensures .0 .few, c .before .before .before .before .before .before .before .plan-path .ensures .1 .kept .size, c .before .before .before .before .before .before .before .before .before .before .before .before .pre .1 .2)) Include other key tt)))
+    (λ c. let s = c .before .before .before in let s2 = s .before .before .before in let plan-path = s2 .before .plan-path .ensures in
+    let s3 = s2 .before .before .before .before .before .before in (
+      λ tbl q e f. include-planned _ (plan-path .0) (s2 .trie-of .ensures) tbl e (s3 .pre .0 .1) (s .before .before .trie-of2 .ensures) q f
+          (s .before .weight-of .ensures) (s .weight-of2 .ensures),
+      λ other key. noted-path (plan-path .1) (omega (arith, plan-path .0 .few, plan-path .1 .kept .size, s3 .pre .1 .2)) Include other key tt,
+    )))

@@ -17,8 +17,13 @@ plan-ins-spec =
     {- ns-inserts-requires -}
     (λ c κs. holder-fits (any-bindings (c .before .before .before .before .before .pre) (c .before .trie-of .ensures)) (c .names-place .ensures .found))
     {- add-t11 -}
-    (λ c. omega (arith, placed-small (any-bindings (c .before .before .before .before .before .before .before .before .pre) (c .before .before .before .before .trie-of .ensures)) (c .before .before .before .names-place .ensures)))
+    (λ c. let s = c .before .before .before in
+    omega (arith, placed-small (any-bindings (s .before .before .before .before .before .pre) (s .before .trie-of .ensures)) (s .names-place .ensures)))
     {- returns -}
-    (λ c. step-inserted (c .before .before .before .before .before .before .before .before .before .pre) (c .before .before .before .before .before .trie-of .ensures) (c .before .before .before .before .names-place .ensures) (c .before .before .before .ns-inserts .ensures) (c .before .before .if1 .taken))
+    (λ c. let s = c .before .before .before in
+    step-inserted (s .before .before .before .before .before .before .pre) (s .before .before .trie-of .ensures) (s .before .names-place .ensures)
+    (s .ns-inserts .ensures) (c .before .before .if1 .taken))
     {- returns-2 -}
-    (λ c. not-inserted (c .before .before .before .before .before .before .before .pre) (c .before .before .before .trie-of .ensures) (c .before .before .names-place .ensures) (c .before .ns-inserts .ensures) (c .if1 .left)))
+    (λ c. let s = c .before .before in
+    not-inserted (s .before .before .before .before .before .pre) (s .before .trie-of .ensures) (s .names-place .ensures) (c .before .ns-inserts .ensures)
+    (c .if1 .left)))

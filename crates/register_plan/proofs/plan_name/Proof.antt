@@ -20,10 +20,20 @@ plan-name-spec =
     {- names-place-requires -}
     (λ c κs. any-bindings (c .before .plan-path .ensures .0 .here) (c .trie-of .ensures))
     {- note-host-requires -}
-    (λ c κs. (c .before .before .before .plan-path .ensures .0 .few, omega (arith, c .before .before .before .plan-path .ensures .1 .kept .size, c .before .before .before .before .before .before .before .before .before .pre .1 .2)))
+    (λ c κs. let s = c .before .before .before in
+    (s .plan-path .ensures .0 .few, omega (arith, s .plan-path .ensures .1 .kept .size, s .before .before .before .before .before .before .pre .1 .2)))
     {- add-t13 -}
-    (λ c. omega (arith, placed-small (any-bindings (c .before .before .before .before .before .plan-path .ensures .0 .here) (c .before .before .before .before .trie-of .ensures)) (c .before .before .before .names-place .ensures)))
+    (λ c. let s = c .before .before .before in
+    omega (arith, placed-small (any-bindings (s .before .before .plan-path .ensures .0 .here) (s .before .trie-of .ensures)) (s .names-place .ensures)))
     {- add-t14 -}
-    (λ c. omega (arith, placed-small (any-bindings (c .before .before .before .before .before .before .plan-path .ensures .0 .here) (c .before .before .before .before .before .trie-of .ensures)) (c .before .before .before .before .names-place .ensures), c .before .before .before .before .before .before .plan-path .ensures .0 .few, c .before .before .before .before .before .before .plan-path .ensures .0 .gives .small))
+    (λ c. let s = c .before .before .before .before in let plan-path = s .before .before .plan-path .ensures .0 in
+    omega
+    (arith, placed-small (any-bindings (plan-path .here) (s .before .trie-of .ensures)) (s .names-place .ensures), plan-path .few, plan-path .gives .small))
     {- returns -}
-    (λ c. (λ tbl number e. name-planned _ (c .before .before .before .before .before .before .before .before .before .plan-path .ensures .0) (c .before .before .before .before .before .before .before .before .trie-of .ensures) tbl e number (c .before .before .before .before .before .before .before .names-place .ensures), λ number key. noted-count (c .before .before .before .before .before .before .before .before .before .plan-path .ensures .1) (omega (arith, c .before .before .before .before .before .before .before .before .before .plan-path .ensures .0 .few, c .before .before .before .before .before .before .before .before .before .plan-path .ensures .1 .kept .size, c .before .before .before .before .before .before .before .before .before .before .before .before .before .before .before .pre .1 .2)) (Name (number .kind) (number .number)) (c .before .before .before .before .before .before .before .before .before .before .before .before .before .before .before .args .id .now) key (c .before .before .before .before .before .note-host .ensures) (bindings-builds (c .before .before .before .before .before .before .before .before .before .plan-path .ensures .0 .here) (c .before .before .before .before .before .before .before .before .trie-of .ensures) (c .before .before .before .before .before .before .before .names-place .ensures)))))
+    (λ c. let s = c .before .before .before .before .before in let s2 = s .before .before in let plan-path = s2 .before .before .plan-path .ensures in
+    let s3 = s2 .before .before .before .before .before .before .before .before in (
+      λ tbl number e. name-planned _ (plan-path .0) (s2 .before .trie-of .ensures) tbl e number (s2 .names-place .ensures),
+      λ number key. noted-count (plan-path .1) (omega (arith, plan-path .0 .few, plan-path .1 .kept .size, s3 .pre .1 .2))
+          (Name (number .kind) (number .number)) (s3 .args .id .now) key (s .note-host .ensures)
+          (bindings-builds (plan-path .0 .here) (s2 .before .trie-of .ensures) (s2 .names-place .ensures)),
+    )))

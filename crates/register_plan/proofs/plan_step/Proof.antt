@@ -15,10 +15,18 @@ plan-step-spec =
     {- names-place-requires -}
     (λ c κs. any-namespaces (c .before .before .before .before .pre .0 .trie) (c .trie-of .ensures))
     {- trie-held-requires -}
-    (λ c κs. omega (arith, holder-fits (any-namespaces (c .before .before .before .before .before .pre .0 .trie) (c .before .trie-of .ensures)) (c .names-place .ensures .found)))
+    (λ c κs. omega (
+      arith,
+      holder-fits (any-namespaces (c .before .before .before .before .before .pre .0 .trie) (c .before .trie-of .ensures)) (c .names-place .ensures .found),
+    ))
     {- note-step-requires -}
-    (λ c κs. (c .before .before .before .before .before .before .before .pre .1, c .before .before .before .before .before .before .before .pre .2))
+    (λ c κs. let s = c .before .before .before .before .before .before .before in (s .pre .1, s .pre .2))
     {- add-t12 -}
-    (λ c. omega (arith, placed-small (any-namespaces (c .before .before .before .before .before .before .before .before .before .pre .0 .trie) (c .before .before .before .before .before .trie-of .ensures)) (c .before .before .before .before .names-place .ensures)))
+    (λ c. let s = c .before .before .before .before in
+    omega (
+      arith,
+      placed-small (any-namespaces (s .before .before .before .before .before .pre .0 .trie) (s .before .trie-of .ensures)) (s .names-place .ensures),
+    ))
     {- returns -}
-    (λ c w t. path-stepped t (c .before .before .before .before .before .before .trie-of .ensures) (c .before .before .before .before .before .names-place .ensures) (c .before .before .before .before .trie-held .ensures) (c .before .before .note-step .ensures)))
+    (λ c w t. let s = c .before .before .before .before in
+    path-stepped t (s .before .before .trie-of .ensures) (s .before .names-place .ensures) (s .trie-held .ensures) (c .before .before .note-step .ensures)))

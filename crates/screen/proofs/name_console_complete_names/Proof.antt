@@ -21,10 +21,11 @@ name-console-complete-names-spec =
     {- same-length-2 -}
     (λ c. search needs)
     {- returns -}
-    (λ c. lines-asked (c .before .before .before .before .before .before .before .names-asked .ensures) (c .before .before .before .before .complete .ensures))
+    (λ c. let s = c .before .before .before .before in lines-asked (s .before .before .before .names-asked .ensures) (s .complete .ensures))
     {- malformed-requires -}
     (λ c κs. search needs)
     {- no-lines-requires -}
     (λ c κs. search needs)
     {- returns-2 -}
-    (λ c. lines-unasked _ (sym (c .before .before .before .is-filter .ensures .0) ∙ c .before .before .if1 .left) (c .before .malformed .ensures) (c .no-lines .ensures)))
+    (λ c. lines-unasked _ (sym (c .before .before .before .is-filter .ensures .0) ∙ c .before .before .if1 .left) (c .before .malformed .ensures)
+    (c .no-lines .ensures)))

@@ -26,7 +26,10 @@ name-console-insert-item-spec =
     {- same-length-3 -}
     (λ c. search needs)
     {- returns -}
-    (λ c. reply-chosen (λ k. name (c .before .before .before .before .before .before .before .before .before .before .before .before .before .before .before .before .before .before .before .args .host .now) (c .before .before .before .before .before .before .before .before .before .before .before .before .before .before .before .before .before .before .before .args .id .now) (record { kind = k; number = c .before .before .before .before .before .before .before .before .before .before .before .before .before .before .before .before .before .before .before .args .number })) (kind-is _ (sym (c .before .before .before .before .before .before .before .before .before .before .before .before .before .is-kind .ensures) ∙ c .before .before .before .before .before .before .before .before .before .before .before .before .if1 .taken)) (rw (c .before .before .before .before .before .before .before .before .before .before .before .kind-of .ensures) at (c .before .before .before .before .before .before .register .ensures)))
+    (λ c. let s = c .before .before .before .before .before .before in let s2 = s .before .before .before .before .before in
+    let a = s2 .before .before .before .before .before .before .before .before .args in
+    reply-chosen (λ k. name (a .host .now) (a .id .now) (record { kind = k; number = a .number }))
+    (kind-is _ (sym (s2 .before .before .is-kind .ensures) ∙ s2 .before .if1 .taken)) (rw (s2 .kind-of .ensures) at (s .register .ensures)))
     {- malformed-requires -}
     (λ c κs. search needs)
     {- same-length-4 -}
@@ -36,4 +39,6 @@ name-console-insert-item-spec =
     {- same-length-6 -}
     (λ c. search needs)
     {- returns-2 -}
-    (λ c. reply-unchosen (λ k. name (c .before .before .before .before .before .before .before .before .before .before .before .args .host .now) (c .before .before .before .before .before .before .before .before .before .before .before .args .id .now) (record { kind = k; number = c .before .before .before .before .before .before .before .before .before .before .before .args .number })) (no-kind _ (sym (c .before .before .before .before .before .is-kind .ensures) ∙ c .before .before .before .before .if1 .left)) (c .malformed .ensures)))
+    (λ c. let s = c .before .before .before .before in let a = s .before .before .before .before .before .before .before .args in
+    reply-unchosen (λ k. name (a .host .now) (a .id .now) (record { kind = k; number = a .number }))
+    (no-kind _ (sym (s .before .is-kind .ensures) ∙ s .if1 .left)) (c .malformed .ensures)))

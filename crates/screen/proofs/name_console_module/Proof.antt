@@ -20,7 +20,9 @@ name-console-module-spec =
     {- same-length-3 -}
     (λ c. search needs)
     {- returns -}
-    (λ c. reply-chosen (λ b. module-path b (c .before .before .before .before .before .before .before .before .before .before .before .before .before .before .before .before .before .args .query .now) (c .before .before .before .before .before .before .before .before .before .before .before .before .before .before .before .before .before .args .path .now)) (flag-some _ (c .before .before .before .before .before .before .before .before .before .before .before .if1 .taken)) (c .before .before .before .before .before .before .register .ensures))
+    (λ c. let s = c .before .before .before .before .before .before in let s2 = s .before .before .before .before .before in
+    let s3 = s2 .before .before .before .before .before .before in
+    reply-chosen (λ b. module-path b (s3 .args .query .now) (s3 .args .path .now)) (flag-some _ (s2 .if1 .taken)) (s .register .ensures))
     {- malformed-requires -}
     (λ c κs. search needs)
     {- same-length-4 -}
@@ -30,4 +32,5 @@ name-console-module-spec =
     {- same-length-6 -}
     (λ c. search needs)
     {- returns-2 -}
-    (λ c. reply-unchosen (λ b. module-path b (c .before .before .before .before .before .before .before .before .before .before .args .query .now) (c .before .before .before .before .before .before .before .before .before .before .args .path .now)) (flag-none _ (c .before .before .before .before .if1 .left)) (c .malformed .ensures)))
+    (λ c. let s = c .before .before .before .before in let s2 = s .before .before .before .before .before .before in
+    reply-unchosen (λ b. module-path b (s2 .args .query .now) (s2 .args .path .now)) (flag-none _ (s .if1 .left)) (c .malformed .ensures)))

@@ -30,13 +30,15 @@ complete-spec =
     {- no-lines-requires-2 -}
     (λ c κs. search needs)
     {- returns-2 -}
-    (λ c. lines-unsound (unsound-memory _ (held-is (c .before .before .before .before .before .before .before .before .if1 .left) (c .before .before .before .before .table-of .ensures) (c .before .before .before .before .before .before .load .ensures .words)) (says-refuses (c .before .before .is-sound-small .result) (c .before .before .is-sound-small .ensures) (c .before .if2 .taken))) (c .no-lines2 .ensures))
+    (λ c. let s = c .before .before in let s2 = s .before .before in
+    lines-unsound (unsound-memory _ (held-is (s2 .before .before .before .before .if1 .left) (s2 .table-of .ensures) (s2 .before .before .load .ensures .words))
+    (says-refuses (s .is-sound-small .result) (s .is-sound-small .ensures) (c .before .if2 .taken))) (c .no-lines2 .ensures))
     {- array-share-prefix-memory-2 -}
     (λ c. loaded-fits (c .before .before .before .before .before .load .ensures))
     {- slice-aggregate-complete-sound -}
     (λ c. loaded-count (c .before .before .before .before .before .before .load .ensures))
     {- complete-sound-requires -}
-    (λ c κs. says-passes (c .before .before .before .before .is-sound-small .result) (c .before .before .before .before .is-sound-small .ensures) (c .before .before .before .if2 .left))
+    (λ c κs. let s = c .before .before .before in says-passes (s .before .is-sound-small .result) (s .before .is-sound-small .ensures) (s .if2 .left))
     {- lines-reply-requires -}
     (λ c κs. search needs)
     {- same-length -}
@@ -44,4 +46,6 @@ complete-spec =
     {- same-length-2 -}
     (λ c. search needs)
     {- returns-3 -}
-    (λ c. lines-replied (c .before .before .before .before .before .complete-sound .result) (held-is (c .before .before .before .before .before .before .before .before .before .before .before .before .before .before .before .before .if1 .left) (c .before .before .before .before .before .before .before .before .before .before .before .before .table-of .ensures) (c .before .before .before .before .before .before .before .before .before .before .before .before .before .before .load .ensures .words)) (c .before .before .before .before .before .complete-sound .ensures) (c .lines-reply .ensures)))
+    (λ c. let s = c .before .before .before .before .before in let s2 = s .before .before .before .before .before .before .before in
+    lines-replied (s .complete-sound .result) (held-is (s2 .before .before .before .before .if1 .left) (s2 .table-of .ensures)
+    (s2 .before .before .load .ensures .words)) (s .complete-sound .ensures) (c .lines-reply .ensures)))

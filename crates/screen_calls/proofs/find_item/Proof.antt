@@ -30,7 +30,9 @@ find-item-spec =
     {- no-name-requires-2 -}
     (λ c κs. search needs)
     {- returns-2 -}
-    (λ c. name-unsound (unsound-memory _ (held-is (c .before .before .before .before .before .before .before .before .if1 .left) (c .before .before .before .before .table-of .ensures) (c .before .before .before .before .before .before .load .ensures .words)) (says-refuses (c .before .before .is-sound-small .result) (c .before .before .is-sound-small .ensures) (c .before .if2 .taken))) (c .no-name2 .ensures))
+    (λ c. let s = c .before .before in let s2 = s .before .before in
+    name-unsound (unsound-memory _ (held-is (s2 .before .before .before .before .if1 .left) (s2 .table-of .ensures) (s2 .before .before .load .ensures .words))
+    (says-refuses (s .is-sound-small .result) (s .is-sound-small .ensures) (c .before .if2 .taken))) (c .no-name2 .ensures))
     {- array-share-prefix-memory-2 -}
     (λ c. loaded-fits (c .before .before .before .before .before .load .ensures))
     {- slice-aggregate-find-sound -}
@@ -40,4 +42,6 @@ find-item-spec =
     {- name-reply-requires -}
     (λ c κs. search needs)
     {- returns-3 -}
-    (λ c. name-looked (held-is (c .before .before .before .before .before .before .before .before .before .before .if1 .left) (c .before .before .before .before .before .before .table-of .ensures) (c .before .before .before .before .before .before .before .before .load .ensures .words)) (c .before .find-sound .ensures) (c .name-reply .ensures)))
+    (λ c. let s = c .before .before .before .before .before .before in
+    name-looked (held-is (s .before .before .before .before .if1 .left) (s .table-of .ensures) (s .before .before .load .ensures .words))
+    (c .before .find-sound .ensures) (c .name-reply .ensures)))

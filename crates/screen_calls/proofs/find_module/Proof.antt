@@ -30,7 +30,10 @@ find-module-spec =
     {- no-module-requires-2 -}
     (λ c κs. search needs)
     {- returns-2 -}
-    (λ c. module-unsound (unsound-memory _ (held-is (c .before .before .before .before .before .before .before .before .if1 .left) (c .before .before .before .before .table-of .ensures) (c .before .before .before .before .before .before .load .ensures .words)) (says-refuses (c .before .before .is-sound-small .result) (c .before .before .is-sound-small .ensures) (c .before .if2 .taken))) (c .no-module2 .ensures))
+    (λ c. let s = c .before .before in let s2 = s .before .before in
+    module-unsound (unsound-memory _ (held-is (s2 .before .before .before .before .if1 .left) (s2 .table-of .ensures)
+    (s2 .before .before .load .ensures .words)) (says-refuses (s .is-sound-small .result) (s .is-sound-small .ensures) (c .before .if2 .taken)))
+    (c .no-module2 .ensures))
     {- array-share-prefix-memory-2 -}
     (λ c. loaded-fits (c .before .before .before .before .before .load .ensures))
     {- slice-aggregate-find-module-sound -}
@@ -40,4 +43,6 @@ find-module-spec =
     {- module-reply-requires -}
     (λ c κs. search needs)
     {- returns-3 -}
-    (λ c. module-looked (held-is (c .before .before .before .before .before .before .before .before .before .before .if1 .left) (c .before .before .before .before .before .before .table-of .ensures) (c .before .before .before .before .before .before .before .before .load .ensures .words)) (c .before .find-module-sound .ensures) (c .module-reply .ensures)))
+    (λ c. let s = c .before .before .before .before .before .before in
+    module-looked (held-is (s .before .before .before .before .if1 .left) (s .table-of .ensures) (s .before .before .load .ensures .words))
+    (c .before .find-module-sound .ensures) (c .module-reply .ensures)))

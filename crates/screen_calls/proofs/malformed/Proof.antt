@@ -25,6 +25,12 @@ malformed-spec =
     {- is-sound-small-requires -}
     (λ c κs. search needs)
     {- returns-2 -}
-    (λ c. reply-none (c .before .is-sound-small .result) (held-is (c .before .before .before .before .before .before .before .if1 .left) (c .before .before .before .table-of .ensures) (c .before .before .before .before .before .load .ensures .words)) (c .before .is-sound-small .ensures) (rw (c .if2 .taken)))
+    (λ c. let s = c .before .before .before in
+    reply-none (c .before .is-sound-small .result)
+    (held-is (s .before .before .before .before .if1 .left) (s .table-of .ensures) (s .before .before .load .ensures .words))
+    (c .before .is-sound-small .ensures) (rw (c .if2 .taken)))
     {- returns-3 -}
-    (λ c. reply-none (c .before .is-sound-small .result) (held-is (c .before .before .before .before .before .before .before .if1 .left) (c .before .before .before .table-of .ensures) (c .before .before .before .before .before .load .ensures .words)) (c .before .is-sound-small .ensures) (rw (c .if2 .left))))
+    (λ c. let s = c .before .before .before in
+    reply-none (c .before .is-sound-small .result)
+    (held-is (s .before .before .before .before .if1 .left) (s .table-of .ensures) (s .before .before .load .ensures .words))
+    (c .before .is-sound-small .ensures) (rw (c .if2 .left))))

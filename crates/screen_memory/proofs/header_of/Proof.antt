@@ -18,4 +18,9 @@ header-of-spec =
     {- word-at-requires-4 -}
     (λ c κs. search needs)
     {- returns -}
-    (λ c. λ i. record { names = c .before .before .before .word-at .ensures i; modules = c .before .before .word-at2 .ensures i; records = c .before .word-at3 .ensures i; text = c .word-at4 .ensures i }))
+    (λ c. λ i. record {
+      names = c .before .before .before .word-at .ensures i;
+      modules = c .before .before .word-at2 .ensures i;
+      records = c .before .word-at3 .ensures i;
+      text = c .word-at4 .ensures i;
+    }))

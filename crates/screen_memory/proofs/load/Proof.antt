@@ -41,4 +41,5 @@ load-spec =
     {- same-length -}
     (λ c. c .before .loop .inv .size)
     {- returns -}
-    (λ c. record { count = c .before .before .words-lent .ensures; words = loading-done (c .loop-test .left) (c .before .loop .inv) ∙ ap (words-at _) (c .before .before .words-lent .ensures) }))
+    (λ c. let words-lent′ = c .before .before .words-lent .ensures in
+    record { count = words-lent′; words = loading-done (c .loop-test .left) (c .before .loop .inv) ∙ ap (words-at _) words-lent′ }))

@@ -19,4 +19,7 @@ put-header-spec =
     {- same-length -}
     (λ c. search needs)
     {- returns -}
-    (λ c. header-put (c .before .before .before .before .before .before .before .before .before .before .before .before .before .before .before .before .before .pre) (c .before .before .before .before .before .before .before .before .before .before .before .before .before .before .put-word .ensures) (c .before .before .before .before .before .before .before .before .before .before .put-word2 .ensures) (c .before .before .before .before .before .before .put-word3 .ensures) (c .before .before .put-word4 .ensures)))
+    (λ c. let s = c .before .before .before .before .before .before in let s2 = s .before .before .before .before in
+    let s3 = s2 .before .before .before .before in
+    header-put (s3 .before .before .before .pre) (s3 .put-word .ensures) (s2 .put-word2 .ensures) (s .put-word3 .ensures)
+    (c .before .before .put-word4 .ensures)))

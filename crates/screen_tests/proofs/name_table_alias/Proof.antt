@@ -19,4 +19,5 @@ name-table-alias-spec =
     {- same-length-2 -}
     (λ c. search needs)
     {- returns -}
-    (λ c. register-replies (c .before .before .before .before .before .before .before .before .table-of .ensures) (c .before .before .before .before .before .register-alias .ensures) (c .reply-of .ensures)))
+    (λ c. let s = c .before .before .before .before .before in
+    register-replies (s .before .before .before .table-of .ensures) (s .register-alias .ensures) (c .reply-of .ensures)))

@@ -21,4 +21,6 @@ name-table-complete-shared-sound-spec =
     {- same-length-2 -}
     (λ c. search needs)
     {- returns -}
-    (λ c. shares-replies (c .before .before .before .before .before .before .before .before .before .table-of .ensures) (c .before .before .before .before .before .before .before .before .ask-of .ensures) (c .before .before .before .before .before .complete-sound .ensures) (c .shared-of .ensures)))
+    (λ c. let s = c .before .before .before .before .before in
+    shares-replies (s .before .before .before .before .table-of .ensures) (s .before .before .before .ask-of .ensures) (s .complete-sound .ensures)
+    (c .shared-of .ensures)))

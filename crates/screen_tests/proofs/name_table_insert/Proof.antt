@@ -21,4 +21,5 @@ name-table-insert-spec =
     {- same-length-2 -}
     (λ c. search needs)
     {- returns -}
-    (λ c. register-replies (c .before .before .before .before .before .before .before .before .before .table-of .ensures) (rw (c .before .before .before .before .before .before .item-of .ensures) at (c .before .before .before .before .before .insert .ensures)) (c .reply-of .ensures)))
+    (λ c. let s = c .before .before .before .before .before in
+    register-replies (s .before .before .before .before .table-of .ensures) (rw (s .before .item-of .ensures) at (s .insert .ensures)) (c .reply-of .ensures)))

@@ -21,4 +21,6 @@ name-table-insert-sound-spec =
     {- same-length-2 -}
     (λ c. search needs)
     {- returns -}
-    (λ c. replies-sound (c .before .before .before .before .before .before .before .before .before .table-of .ensures) (c .before .before .before .before .before .before .before .before .before .before .before .before .before .before .pre) (rw (c .before .before .before .before .before .before .item-of .ensures) at (c .before .before .before .before .before .insert-sound .ensures)) (c .reply-of .ensures)))
+    (λ c. let s = c .before .before .before .before .before in let s2 = s .before .before .before .before in
+    replies-sound (s2 .table-of .ensures) (s2 .before .before .before .before .before .pre) (rw (s .before .item-of .ensures) at (s .insert-sound .ensures))
+    (c .reply-of .ensures)))

@@ -18,4 +18,5 @@ unfolding key bytes
 returns-3 c = rw (c .before .before .enum-told3 .given .1) (c .word-end3 .ensures)
 
 pub import-word-spec : {M : Type 1} → statement M
-import-word-spec = tie.close (tie.spec (λ c. search needs) (λ c. search needs) (λ c κs. search needs) (λ c. search needs) (λ c. search needs) (λ c κs. search needs) (λ c. search needs) (λ c. search needs) (λ c κs. search needs) returns returns-2 returns-3)
+import-word-spec = tie.close (tie.spec (λ c. search needs) (λ c. search needs) (λ c κs. search needs) (λ c. search needs) (λ c. search needs)
+    (λ c κs. search needs) (λ c. search needs) (λ c. search needs) (λ c κs. search needs) returns returns-2 returns-3)

@@ -24,4 +24,6 @@ ask-form-requires : tie.Need-ask-form-requires
 ask-form-requires c κs = record { short = omega arith; only = sym (c .before .before .before .key-of .ensures) ∙ c .before .what .given .1 }
 
 pub parse-spec : {M : Type 1} → statement M
-parse-spec = tie.close (tie.spec returns (λ c κs. search needs) (λ c. search needs) name-form-requires (λ c. search needs) alias-form-requires (λ c. search needs) import-form-requires (λ c. search needs) module-form-requires (λ c. search needs) ask-form-requires (λ c. search needs) (λ c. search needs) (λ c. search needs) (λ c. search needs) (λ c. search needs))
+parse-spec = tie.close (tie.spec returns (λ c κs. search needs) (λ c. search needs) name-form-requires (λ c. search needs) alias-form-requires
+    (λ c. search needs) import-form-requires (λ c. search needs) module-form-requires (λ c. search needs) ask-form-requires (λ c. search needs)
+    (λ c. search needs) (λ c. search needs) (λ c. search needs) (λ c. search needs))

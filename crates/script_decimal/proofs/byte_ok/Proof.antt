@@ -24,7 +24,8 @@ returns-4 c = rw (c .enum-told .given .1) refl
 
 returns-5 : tie.Need-returns-5
 unfolding byte-ok
-returns-5 c = rw (c .before .before .enum-told2 .given .1, ne-eqb (c .before .before .before .before .args .b) 32 (c .before .if1 .left), ne-eqb (c .before .before .before .before .args .b) 91 (c .if2 .left)) refl
+returns-5 c = let s = c .before .before .before .before in
+    rw (c .before .before .enum-told2 .given .1, ne-eqb (s .args .b) 32 (c .before .if1 .left), ne-eqb (s .args .b) 91 (c .if2 .left)) refl
 
 returns-6 : tie.Need-returns-6
 unfolding byte-ok
@@ -35,4 +36,5 @@ unfolding byte-ok
 returns-7 c = rw (c .enum-told4 .given .1) refl
 
 pub byte-ok-spec : {M : Type 1} → statement M
-byte-ok-spec = tie.close (tie.spec (λ c. search needs) (λ c. search needs) returns returns-2 (λ c. search needs) returns-3 (λ c. search needs) returns-4 returns-5 returns-6 returns-7)
+byte-ok-spec = tie.close (tie.spec (λ c. search needs) (λ c. search needs) returns returns-2 (λ c. search needs) returns-3
+    (λ c. search needs) returns-4 returns-5 returns-6 returns-7)

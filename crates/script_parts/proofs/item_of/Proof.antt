@@ -24,28 +24,47 @@ item-of-spec =
     {- numbered-requires -}
     (λ c κs. search needs)
     {- returns -}
-    (λ c. let w = letter-written (c .before .before .before .before .before .args .text .now) Timer (sym (c .before .before .before .byte-at .ensures) ∙ c .before .before .if1 .taken) in item-says (c .before .before .before .before .before .args .text .now) Timer _ (w .0) (w .1) (c .numbered .result) (c .numbered .ensures))
+    (λ c. let s = c .before .before .before in
+    let w = letter-written (s .before .before .args .text .now) Timer (sym (s .byte-at .ensures) ∙ c .before .before .if1 .taken) in
+    item-says (s .before .before .args .text .now) Timer _ (w .0) (w .1) (c .numbered .result) (c .numbered .ensures))
     {- sub-numbered-2 -}
-    (λ c. omega (arith, letter-inside (c .before .before .before .before .args .text .now) (sym (c .before .before .byte-at .ensures) ∙ c .if2 .taken) (omega arith)))
+    (λ c. omega
+    (arith, letter-inside (c .before .before .before .before .args .text .now) (sym (c .before .before .byte-at .ensures) ∙ c .if2 .taken) (omega arith)))
     {- part-numbered-start-2 -}
-    (λ c. omega (arith, letter-inside (c .before .before .before .before .args .text .now) (sym (c .before .before .byte-at .ensures) ∙ c .if2 .taken) (omega arith)))
+    (λ c. omega
+    (arith, letter-inside (c .before .before .before .before .args .text .now) (sym (c .before .before .byte-at .ensures) ∙ c .if2 .taken) (omega arith)))
     {- part-numbered-end-2 -}
     (λ c. search needs)
     {- numbered-requires-2 -}
     (λ c κs. search needs)
     {- returns-2 -}
-    (λ c. let w = letter-written (c .before .before .before .before .before .before .args .text .now) Port (sym (c .before .before .before .before .byte-at .ensures) ∙ c .before .before .if2 .taken) in item-says (c .before .before .before .before .before .before .args .text .now) Port _ (w .0) (w .1) (c .numbered2 .result) (c .numbered2 .ensures))
+    (λ c. let s = c .before .before .before .before in
+    let w = letter-written (s .before .before .args .text .now) Port (sym (s .byte-at .ensures) ∙ c .before .before .if2 .taken) in
+    item-says (s .before .before .args .text .now) Port _ (w .0) (w .1) (c .numbered2 .result) (c .numbered2 .ensures))
     {- sub-numbered-3 -}
-    (λ c. omega (arith, letter-inside (c .before .before .before .before .before .args .text .now) (sym (c .before .before .before .byte-at .ensures) ∙ c .if3 .taken) (omega arith)))
+    (λ c. omega (
+      arith,
+      letter-inside (c .before .before .before .before .before .args .text .now) (sym (c .before .before .before .byte-at .ensures) ∙ c .if3 .taken)
+          (omega arith),
+    ))
     {- part-numbered-start-3 -}
-    (λ c. omega (arith, letter-inside (c .before .before .before .before .before .args .text .now) (sym (c .before .before .before .byte-at .ensures) ∙ c .if3 .taken) (omega arith)))
+    (λ c. omega (
+      arith,
+      letter-inside (c .before .before .before .before .before .args .text .now) (sym (c .before .before .before .byte-at .ensures) ∙ c .if3 .taken)
+          (omega arith),
+    ))
     {- part-numbered-end-3 -}
     (λ c. search needs)
     {- numbered-requires-3 -}
     (λ c κs. search needs)
     {- returns-3 -}
-    (λ c. let w = letter-written (c .before .before .before .before .before .before .before .args .text .now) Register (sym (c .before .before .before .before .before .byte-at .ensures) ∙ c .before .before .if3 .taken) in item-says (c .before .before .before .before .before .before .before .args .text .now) Register _ (w .0) (w .1) (c .numbered3 .result) (c .numbered3 .ensures))
+    (λ c. let s = c .before .before .before .before .before in
+    let w = letter-written (s .before .before .args .text .now) Register (sym (s .byte-at .ensures) ∙ c .before .before .if3 .taken) in
+    item-says (s .before .before .args .text .now) Register _ (w .0) (w .1) (c .numbered3 .result) (c .numbered3 .ensures))
     {- numbered-requires-4 -}
     (λ c κs. search needs)
     {- returns-4 -}
-    (λ c. let w = bare-written (c .before .before .before .before .before .before .args .text .now) (λ e. c .before .before .before .if1 .left (c .before .before .before .before .byte-at .ensures ∙ e)) (λ e. c .before .before .if2 .left (c .before .before .before .before .byte-at .ensures ∙ e)) (λ e. c .before .if3 .left (c .before .before .before .before .byte-at .ensures ∙ e)) in item-says (c .before .before .before .before .before .before .args .text .now) Register _ (w .0) (w .1) (c .numbered4 .result) (c .numbered4 .ensures)))
+    (λ c. let s = c .before .before in let s2 = s .before .before in let byte-at = s2 .byte-at .ensures in
+    let w = bare-written (s2 .before .before .args .text .now) (λ e. s .before .if1 .left (byte-at ∙ e)) (λ e. s .if2 .left (byte-at ∙ e))
+    (λ e. c .before .if3 .left (byte-at ∙ e)) in
+    item-says (s2 .before .before .args .text .now) Register _ (w .0) (w .1) (c .numbered4 .result) (c .numbered4 .ensures)))

@@ -21,13 +21,21 @@ loop-holds : tie.Need-loop-holds Inv-loop μ-loop
 loop-holds c = (omega arith, omega arith, refl)
 
 returns-2 : tie.Need-returns-2 Inv-loop μ-loop
-returns-2 c = starts-differ (c .before .before .before .before .before .before .args .line .now) (c .before .before .before .before .before .before .args .at) (c .before .before .before .before .before .before .args .text .now) (c .before .before .before .before .loop .i) (c .before .before .before .loop-test .taken) (c .if2 .taken)
+returns-2 c = let s = c .before .before .before in let a = s .before .before .before .args in
+    starts-differ (a .line .now) (a .at) (a .text .now) (s .before .loop .i) (s .loop-test .taken) (c .if2 .taken)
 
 loop-again : tie.Need-loop-again Inv-loop μ-loop
-loop-again c = (omega arith, omega arith, starts-step (c .before .before .before .before .before .before .args .line .now) (c .before .before .before .before .before .before .args .at) (c .before .before .before .before .before .before .args .text .now) (c .before .before .before .before .loop .i) (c .before .before .before .before .loop .inv .1) (c .before .before .before .loop-test .taken) (c .if2 .left) (c .before .before .before .before .loop .inv .2))
+loop-again c = let s = c .before .before .before .before in let a = s .before .before .args in (
+  omega arith,
+  omega arith,
+  starts-step (a .line .now) (a .at) (a .text .now) (s .loop .i) (s .loop .inv .1) (c .before .before .before .loop-test .taken) (c .if2 .left)
+      (s .loop .inv .2),
+)
 
 returns-3 : tie.Need-returns-3 Inv-loop μ-loop
-returns-3 c = starts-done (c .before .before .before .args .line .now) (c .before .before .before .args .at) (c .before .before .before .args .text .now) (c .before .loop .i) (c .before .loop .inv .1) (omega arith) (c .before .loop .inv .2)
+returns-3 c = let a = c .before .before .before .args in
+    starts-done (a .line .now) (a .at) (a .text .now) (c .before .loop .i) (c .before .loop .inv .1) (omega arith) (c .before .loop .inv .2)
 
 pub starts-spec : {M : Type 1} → statement M
-starts-spec = tie.close (tie.spec Inv-loop μ-loop (λ c. search needs) returns loop-holds (λ c. search needs) (λ c. search needs) (λ c. search needs) returns-2 (λ c. search needs) (λ c. search needs) loop-again returns-3)
+starts-spec = tie.close (tie.spec Inv-loop μ-loop (λ c. search needs) returns loop-holds (λ c. search needs) (λ c. search needs) (λ c. search needs) returns-2
+    (λ c. search needs) (λ c. search needs) loop-again returns-3)

@@ -22,7 +22,8 @@ slice-write-out : tie.Need-slice-write-out Inv-loop μ-loop
 slice-write-out c = omega (arith, laid-length (c .before .before .loop .inv .1))
 
 loop-again : tie.Need-loop-again Inv-loop μ-loop
-loop-again c = (omega arith, laid-step (c .before .before .before .args .text .now) (c .before .before .loop .inv .1) (c .before .loop-test .taken) (omega arith))
+loop-again c =
+    (omega arith, laid-step (c .before .before .before .args .text .now) (c .before .before .loop .inv .1) (c .before .loop-test .taken) (omega arith))
 
 same-length : tie.Need-same-length Inv-loop μ-loop
 same-length c = laid-length (c .before .loop .inv .1)
@@ -31,4 +32,5 @@ returns : tie.Need-returns Inv-loop μ-loop
 returns c = rw (take-all (c .before .loop .i) (c .before .before .args .text .now) (c .loop-test .left)) at (c .before .loop .inv .1)
 
 pub put-spec : {M : Type 1} → statement M
-put-spec = tie.close (tie.spec Inv-loop μ-loop loop-holds (λ c. search needs) (λ c. search needs) slice-write-out (λ c. search needs) (λ c. search needs) loop-again (λ c. search needs) same-length returns)
+put-spec = tie.close (tie.spec Inv-loop μ-loop loop-holds (λ c. search needs) (λ c. search needs) slice-write-out (λ c. search needs)
+    (λ c. search needs) loop-again (λ c. search needs) same-length returns)

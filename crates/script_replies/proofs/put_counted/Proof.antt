@@ -7,7 +7,8 @@ use Rattle.script_replies.proofs.put_counted.Tie as tie
 
 returns : tie.Need-returns
 unfolding bytes
-returns c = laid-more (c .before .before .before .before .before .before .before .before .before .before .before .put .ensures) (laid-more (c .before .before .before .before .before .before .before .put-number .ensures .0) (c .before .before .put2 .ensures))
+returns c = let s = c .before .before .before .before .before .before .before in
+    laid-more (s .before .before .before .before .put .ensures) (laid-more (s .put-number .ensures .0) (c .before .before .put2 .ensures))
 
 pub put-counted-spec : {M : Type 1} → statement M
 put-counted-spec = tie.close (tie.spec (λ c κs. search needs) (λ c κs. search needs) (λ c. search needs) (λ c κs. search needs) (λ c. search needs) returns)

@@ -8,7 +8,9 @@ use Rattle.script_replies.proofs.put_end.Tie as tie
 
 returns : tie.Need-returns
 unfolding bytes end-reply
-returns c = laid-more (c .before .before .before .before .before .before .before .before .before .before .before .put .ensures) (laid-more (c .before .before .before .before .before .before .before .put-number .ensures .0) (c .before .before .put-counted .ensures))
+returns c = let s = c .before .before .before .before .before .before .before in
+    laid-more (s .before .before .before .before .put .ensures) (laid-more (s .put-number .ensures .0) (c .before .before .put-counted .ensures))
 
 pub put-end-spec : {M : Type 1} → statement M
-put-end-spec = tie.close (tie.spec (λ c. search needs) (λ c κs. search needs) (λ c κs. search needs) (λ c. search needs) (λ c κs. search needs) (λ c. search needs) returns)
+put-end-spec = tie.close
+    (tie.spec (λ c. search needs) (λ c κs. search needs) (λ c κs. search needs) (λ c. search needs) (λ c κs. search needs) (λ c. search needs) returns)

@@ -24,4 +24,5 @@ put-found-spec =
     {- same-length -}
     (λ c. search needs)
     {- returns -}
-    (λ c. laid-more (c .before .before .before .before .before .before .before .before .before .before .before .put .ensures) (laid-more (c .before .before .before .before .before .before .before .put-name .ensures .0) (c .before .before .put2 .ensures))))
+    (λ c. let s = c .before .before .before .before .before .before .before in
+    laid-more (s .before .before .before .before .put .ensures) (laid-more (s .put-name .ensures .0) (c .before .before .put2 .ensures))))

@@ -22,4 +22,7 @@ put-name-spec =
     {- same-length -}
     (λ c. search needs)
     {- returns -}
-    (λ c. (rw (c .before .before .before .before .before .before .before .before .before .letter-of .ensures) at (laid-more (c .before .before .before .before .before .before .put .ensures) (c .before .before .put-number .ensures .0)), omega (arith, c .before .before .before .before .before .before .put .ensures .end, c .before .before .put-number .ensures .1))))
+    (λ c. let s = c .before .before in let s2 = s .before .before .before .before in (
+      rw (s2 .before .before .before .letter-of .ensures) at (laid-more (s2 .put .ensures) (s .put-number .ensures .0)),
+      omega (arith, s2 .put .ensures .end, s .put-number .ensures .1),
+    )))

@@ -12,7 +12,12 @@ use Rattle.script_replies.proofs.put_row.Tie as tie
 
 returns : tie.Need-returns
 unfolding bytes
-returns c = (subst (Laid _ _ _ _) (line-joined (signed-word (c .before .before .before .before .before .before .before .before .before .before .before .before .before .before .before .before .args .word)) (c .before .before .before .before .before .before .before .before .before .before .before .before .before .before .before .before .args .item) (c .before .before .before .before .before .before .before .before .before .before .before .before .before .before .before .before .args .annotation .now) (c .before .before .before .before .before .before .before .before .before .before .before .before .before .before .before .before .args .candidate .now)) (laid-more (c .before .before .before .before .before .before .before .before .before .before .before .put-words .ensures .0) (laid-more (c .before .before .before .before .before .before .put .ensures) (c .before .before .put-texts .ensures))), omega (arith, c .before .before .before .before .before .before .before .before .before .before .before .put-words .ensures .1, c .before .before .before .before .before .before .put .ensures .end, c .before .before .put-texts .ensures .end, row-size (c .before .before .before .before .before .before .before .before .before .before .before .before .before .before .before .before .args .annotation .now) (c .before .before .before .before .before .before .before .before .before .before .before .before .before .before .before .before .args .candidate .now)))
+returns c = let s = c .before .before in let s2 = s .before .before .before .before in let s3 = s2 .before .before .before .before .before in
+    let a = s3 .before .before .before .before .before .args in (
+      subst (Laid _ _ _ _) (line-joined (signed-word (a .word)) (a .item) (a .annotation .now) (a .candidate .now))
+          (laid-more (s3 .put-words .ensures .0) (laid-more (s2 .put .ensures) (s .put-texts .ensures))),
+      omega (arith, s3 .put-words .ensures .1, s2 .put .ensures .end, s .put-texts .ensures .end, row-size (a .annotation .now) (a .candidate .now)),
+    )
 
 pub put-row-spec : {M : Type 1} → statement M
 put-row-spec =

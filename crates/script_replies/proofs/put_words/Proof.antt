@@ -8,7 +8,11 @@ use Rattle.script_replies.proofs.put_words.Tie as tie
 
 returns : tie.Need-returns
 unfolding bytes
-returns c = (laid-more (c .before .before .before .before .before .before .before .before .before .before .before .before .before .before .before .put .ensures) (laid-more (c .before .before .before .before .before .before .before .before .before .before .before .put-word .ensures .0) (laid-more (c .before .before .before .before .before .before .put2 .ensures) (c .before .before .put-item .ensures .0))), omega (arith, c .before .before .before .before .before .before .before .before .before .before .before .before .before .before .before .put .ensures .end, c .before .before .before .before .before .before .before .before .before .before .before .put-word .ensures .1, c .before .before .before .before .before .before .put2 .ensures .end, c .before .before .put-item .ensures .1))
+returns c = let s = c .before .before in let s2 = s .before .before .before .before in let s3 = s2 .before .before .before .before .before in
+    let put = s3 .before .before .before .before .put .ensures in (
+      laid-more put (laid-more (s3 .put-word .ensures .0) (laid-more (s2 .put2 .ensures) (s .put-item .ensures .0))),
+      omega (arith, put .end, s3 .put-word .ensures .1, s2 .put2 .ensures .end, s .put-item .ensures .1),
+    )
 
 pub put-words-spec : {M : Type 1} → statement M
 put-words-spec =

@@ -67,29 +67,53 @@ pass-spec =
     (λ c. omega arith)
     {- record-ok-requires -}
     (λ c κs.
-    let g = c .before .before .before .before .loop .inv in
-    (record { some = omega arith; fits = omega arith; text = omega arith; rows = g .2 .right }, (part-record (c .before .before .before .before .before .before .before .before .before .before .before .before .before .before .before .before .before .args .words .now) (c .before .before .before .before .loop .link), notes-at (g .3))))
+    let g = c .before .before .before .before .loop .inv in (
+      record { some = omega arith; fits = omega arith; text = omega arith; rows = g .2 .right },
+      (
+        part-record (let u = c .before .before .before .before .before .before .before .before .before .before .before .before .before .before in
+            u .before .before .before .args .words .now) (c .before .before .before .before .loop .link),
+        notes-at (g .3),
+      ),
+    ))
     {- same-length -}
     (λ c. c .before .before .before .before .before .before .loop .inv .3 .least-size)
     {- same-length-2 -}
     (λ c. c .before .before .before .before .before .before .loop .inv .3 .greatest-size)
     {- returns-7 -}
-    (λ c o. says-refuses (c .before .record-ok .result) (c .before .record-ok .ensures) (c .if7 .taken) (o .right .rows (c .before .before .before .before .before .before .loop .link) (omega arith) (omega arith)))
+    (λ c o. says-refuses (c .before .record-ok .result) (c .before .record-ok .ensures) (c .if7 .taken)
+    (o .right .rows (c .before .before .before .before .before .before .loop .link) (omega arith) (omega arith)))
     {- note-requires -}
-    (λ c κs. can-note (omega arith) (omega arith) (says-passes (c .before .before .before .record-ok .result) (c .before .before .before .record-ok .ensures) (c .before .before .if7 .left)) (notes-at (c .before .before .before .before .before .before .before .before .loop .inv .3)))
+    (λ c κs. let s = c .before .before .before in
+    can-note (omega arith) (omega arith) (says-passes (s .record-ok .result) (s .record-ok .ensures) (c .before .before .if7 .left))
+    (notes-at (s .before .before .before .before .before .loop .inv .3)))
     {- add-link -}
     (λ c. omega arith)
     {- loop-less -}
     (λ c. omega arith)
     {- loop-again -}
-    (λ c. (omega arith, omega arith, rows-more (c .before .before .before .before .before .before .before .before .before .before .before .before .before .loop .inv .2) (says-passes (c .before .before .before .before .before .before .before .before .record-ok .result) (c .before .before .before .before .before .before .before .before .record-ok .ensures) (c .before .before .before .before .before .before .before .if7 .left)), notes-next (c .before .before .before .before .before .before .before .before .before .before .before .before .before .loop .inv .3) (c .before .before .before .before .note .ensures)))
+    (λ c. (
+      omega arith,
+      omega arith,
+      rows-more (c .before .before .before .before .before .before .before .before .before .before .before .before .before .loop .inv .2)
+          (says-passes (c .before .before .before .before .before .before .before .before .record-ok .result)
+          (c .before .before .before .before .before .before .before .before .record-ok .ensures)
+          (c .before .before .before .before .before .before .before .if7 .left)),
+      notes-next (c .before .before .before .before .before .before .before .before .before .before .before .before .before .loop .inv .3)
+          (c .before .before .before .before .note .ensures),
+    ))
     {- same-length-3 -}
     (λ c. c .before .loop .inv .3 .least-size)
     {- same-length-4 -}
     (λ c. c .before .loop .inv .3 .greatest-size)
     {- returns-8 -}
-    (λ c. record {
-      right = record { few = omega arith; short = omega arith; records-fit = omega arith; text-fits = omega arith; rows = λ l p h. c .before .loop .inv .2 .right l p (omega arith) };
-      names-link = (let u = c .before .before .before .before in says-passes (u .before .link-ok .result) (u .before .link-ok .ensures) (u .if5 .left));
-      modules-link = (let u = c .before .before in says-passes (u .before .link-ok2 .result) (u .before .link-ok2 .ensures) (u .if6 .left));
+    (λ c. let s = c .before .before .before in record {
+      right = record {
+        few = omega arith;
+        short = omega arith;
+        records-fit = omega arith;
+        text-fits = omega arith;
+        rows = λ l p h. c .before .loop .inv .2 .right l p (omega arith);
+      };
+      names-link = (says-passes (s .before .before .link-ok .result) (s .before .before .link-ok .ensures) (s .before .if5 .left));
+      modules-link = (says-passes (s .link-ok2 .result) (s .link-ok2 .ensures) (c .before .before .if6 .left));
     }))

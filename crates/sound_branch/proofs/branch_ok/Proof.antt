@@ -31,19 +31,40 @@ branch-ok-spec =
     {- returns-3 -}
     (λ c w v e o. says-refuses (c .before .text-ok .result) (c .before .text-ok .ensures) (c .if3 .taken) (o .0 .key))
     {- left-ok-requires -}
-    (λ c κs. let s = c .before .before .before .before .before .before .before .before .before .before .before .before .before .before .before in
-    (record { before = s .pre .0; branches = s .pre .1 .0; link = (let u = c .before .before .before .before in says-passes (u .before .link-ok .result) (u .before .link-ok .ensures) (u .if1 .left)); inside = (says-passes (c .before .text-ok .result) (c .before .text-ok .ensures) (c .if3 .left)) .inside }, s .pre .1 .1 .1 .greatest-noted))
+    (λ c κs. let s = c .before .before .before .before in
+    let pre = s .before .before .before .before .before .before .before .before .before .before .before .pre in (
+      record {
+        before = pre .0;
+        branches = pre .1 .0;
+        link = (says-passes (s .before .link-ok .result) (s .before .link-ok .ensures) (s .if1 .left));
+        inside = (says-passes (c .before .text-ok .result) (c .before .text-ok .ensures) (c .if3 .left)) .inside;
+      },
+      pre .1 .1 .1 .greatest-noted,
+    ))
     {- returns-4 -}
     (λ c w v e o. says-refuses (c .before .left-ok .result) (c .before .left-ok .ensures w v e) (c .if4 .taken) (o .1 .0))
     {- right-ok-requires -}
-    (λ c κs. let s = c .before .before .before .before .before .before .before .before .before .before .before .before .before .before .before .before .before in
-    (record { before = s .pre .0; branches = s .pre .1 .0; link = (let u = c .before .before .before .before in says-passes (u .before .link-ok2 .result) (u .before .link-ok2 .ensures) (u .if2 .left)); inside = (let u = c .before .before in says-passes (u .before .text-ok .result) (u .before .text-ok .ensures) (u .if3 .left)) .inside }, s .pre .1 .1 .1 .least-noted))
+    (λ c κs. let s = c .before .before .before in let s2 = s .before .before in
+    let pre = s2 .before .before .before .before .before .before .before .before .before .before .before .before .pre in (
+      record {
+        before = pre .0;
+        branches = pre .1 .0;
+        link = (says-passes (s2 .link-ok2 .result) (s2 .link-ok2 .ensures) (s .before .if2 .left));
+        inside = (says-passes (s .text-ok .result) (s .text-ok .ensures) (c .before .before .if3 .left)) .inside;
+      },
+      pre .1 .1 .1 .least-noted,
+    ))
     {- returns-5 -}
     (λ c w v e.
-    let i = rw e at (let u = c .before .before .before .before .before .before .before in says-passes (u .before .link-ok .result) (u .before .link-ok .ensures) (u .if1 .left)) in
-    let j = rw e at (let u = c .before .before .before .before .before in says-passes (u .before .link-ok2 .result) (u .before .link-ok2 .ensures) (u .if2 .left)) in
+    let s = c .before .before in let s2 = s .before .before in let s3 = s2 .before .before in let s4 = s3 .before .before in
+    let i = rw e at (says-passes (s4 .link-ok .result) (s4 .link-ok .ensures) (s3 .before .if1 .left)) in
+    let j = rw e at (says-passes (s3 .link-ok2 .result) (s3 .link-ok2 .ensures) (s2 .before .if2 .left)) in
     says-iff (c .right-ok .result) (c .right-ok .ensures w v e)
     (λ a.
-    let o : BranchOk _ _ _ _ w _ v = record { key = (let u = c .before .before .before in says-passes (u .before .text-ok .result) (u .before .text-ok .ensures) (u .if3 .left)); left = i; right = j } in
-    (o, branch-ordered (c .before .before .before .before .before .before .before .before .before .before .before .before .before .before .before .before .before .before .pre .0 .rows) w o (says-passes (c .before .before .left-ok .result) (c .before .before .left-ok .ensures w v e) (c .before .if4 .left)) a))
+    let o : BranchOk _ _ _ _ w _ v =
+    record { key = (says-passes (s2 .text-ok .result) (s2 .text-ok .ensures) (s .before .if3 .left)); left = i; right = j } in (
+      o,
+      branch-ordered (s4 .before .before .before .before .before .before .before .before .before .before .pre .0 .rows) w o
+          (says-passes (s .left-ok .result) (s .left-ok .ensures w v e) (c .before .if4 .left)) a,
+    ))
     (λ o. o .1 .1)))

@@ -18,7 +18,8 @@ held-ok-spec =
     {- returns -}
     (λ c w e o r. says-refuses (c .before .link-ok .result) (c .before .link-ok .ensures) (c .if1 .taken) (rw e (r .0)))
     {- depth-of-requires -}
-    (λ c κs. let h = (says-passes (c .before .link-ok .result) (c .before .link-ok .ensures) (c .if1 .left)) .earlier in omega (arith, c .before .before .before .before .before .before .pre .0 .fits))
+    (λ c κs. let h = (says-passes (c .before .link-ok .result) (c .before .link-ok .ensures) (c .if1 .left)) .earlier in
+    omega (arith, c .before .before .before .before .before .before .pre .0 .fits))
     {- wide-requires -}
     (λ c κs. search needs)
     {- add-d -}
@@ -35,13 +36,17 @@ held-ok-spec =
     (λ c κs. search needs)
     {- returns-2 -}
     (λ c w e o.
-    let h = rw e at (let u = c .before .before .before .before .before .before .before .before in says-passes (u .before .link-ok .result) (u .before .link-ok .ensures) (u .if1 .left)) in
-    let d = depth-links (c .before .before .before .before .before .before .before .before .before .before .before .before .before .before .pre .0) o h (c .before .before .before .before .before .before .wide .ensures ∙ c .before .before .before .before .before .before .before .depth-of .ensures) (c .before .before .before .before .wide2 .ensures ∙ c .before .before .before .before .before .deeper .ensures) (c .before .if2 .taken) in
+    let s = c .before .before .before .before in let s2 = s .before .before in let s3 = s2 .before .before .before in
+    let h = rw e at (says-passes (s3 .link-ok .result) (s3 .link-ok .ensures) (s2 .before .before .if1 .left)) in
+    let d = depth-links (s3 .before .before .before .before .before .pre .0) o h (s2 .wide .ensures ∙ s2 .before .depth-of .ensures)
+    (s .wide2 .ensures ∙ s .before .deeper .ensures) (c .before .if2 .taken) in
     says-iff (c .same .result) (says-equal (c .same .result) (c .before .before .wide3 .ensures) d (c .same .ensures)) (λ q. (h, q)) (λ r. r .1))
     {- same-requires-2 -}
     (λ c κs. search needs)
     {- returns-3 -}
     (λ c w e o.
-    let h = rw e at (let u = c .before .before .before .before .before .before .before .before in says-passes (u .before .link-ok .result) (u .before .link-ok .ensures) (u .if1 .left)) in
-    let d = depth-held (c .before .before .before .before .before .before .before .before .before .before .before .before .before .before .pre .0) o h (c .before .before .before .before .before .before .wide .ensures ∙ c .before .before .before .before .before .before .before .depth-of .ensures) (c .before .before .before .before .wide2 .ensures ∙ c .before .before .before .before .before .deeper .ensures) (c .before .if2 .left) in
+    let s = c .before .before .before .before in let s2 = s .before .before in let s3 = s2 .before .before .before in
+    let h = rw e at (says-passes (s3 .link-ok .result) (s3 .link-ok .ensures) (s2 .before .before .if1 .left)) in
+    let d = depth-held (s3 .before .before .before .before .before .pre .0) o h (s2 .wide .ensures ∙ s2 .before .depth-of .ensures)
+    (s .wide2 .ensures ∙ s .before .deeper .ensures) (c .before .if2 .left) in
     says-iff (c .same2 .result) (says-equal (c .same2 .result) (c .before .before .wide3 .ensures) d (c .same2 .ensures)) (λ q. (h, q)) (λ r. r .1)))

@@ -28,7 +28,13 @@ symbol-ok-spec =
     {- shared-slice-read-if4 -}
     (λ c. search needs)
     {- returns-4 -}
-    (λ c. record { sort = c .before .before .before .before .before .before .before .before .if1 .left; name = (let u = c .before .before in says-passes (u .before .text-ok .result) (u .before .text-ok .ensures) (u .if3 .left)); path = λ e. absurd (omega arith); loaded = c .before .before .before .before .before .before .if2 .left })
+    (λ c. let s = c .before .before .before in
+    record {
+      sort = s .before .before .before .before .before .if1 .left;
+      name = (says-passes (s .text-ok .result) (s .text-ok .ensures) (c .before .before .if3 .left));
+      path = λ e. absurd (omega arith);
+      loaded = s .before .before .before .if2 .left;
+    })
     {- shared-slice-read-text-ok-3 -}
     (λ c. search needs)
     {- shared-slice-read-text-ok-4 -}
@@ -36,11 +42,12 @@ symbol-ok-spec =
     {- text-ok-requires-2 -}
     (λ c κs. search needs)
     {- returns-5 -}
-    (λ c. says-iff (c .text-ok2 .result) (c .text-ok2 .ensures)
+    (λ c. let s = c .before .before .before .before .before in let s2 = s .before .before .before .before in
+    says-iff (c .text-ok2 .result) (c .text-ok2 .ensures)
     (λ q. record {
-      sort = c .before .before .before .before .before .before .before .before .before .before .before .if1 .left;
-      name = (let u = c .before .before .before .before .before in says-passes (u .before .text-ok .result) (u .before .text-ok .ensures) (u .if3 .left));
+      sort = s2 .before .before .if1 .left;
+      name = (says-passes (s .before .text-ok .result) (s .before .text-ok .ensures) (s .if3 .left));
       path = λ e. q;
-      loaded = c .before .before .before .before .before .before .before .before .before .if2 .left;
+      loaded = s2 .if2 .left;
     })
-    (λ o. o .path (omega (arith, c .before .before .before .before .before .before .before .before .before .before .before .if1 .left, c .before .before .before .if4 .left)))))
+    (λ o. o .path (omega (arith, s2 .before .before .if1 .left, c .before .before .before .if4 .left)))))

@@ -22,9 +22,10 @@ end-of-spec =
     {- cast-loop -}
     (λ c. search needs)
     {- word-of-requires -}
-    (λ c κs. let g = c .before .loop .inv in omega (arith, g .some, g .within, c .before .before .before .before .pre .fits, c .before .before .before .before .pre .word-of))
+    (λ c κs. let s = c .before .before .before .before in let g = c .before .loop .inv in omega (arith, g .some, g .within, s .pre .fits, s .pre .word-of))
     {- returns -}
-    (λ c. going-end (c .before .before .before .before .before .before .pre) (c .before .before .before .loop .inv) (c .before .word-of .ensures) (c .if1 .taken))
+    (λ c. going-end (c .before .before .before .before .before .before .pre) (c .before .before .before .loop .inv) (c .before .word-of .ensures)
+    (c .if1 .taken))
     {- loop-less -}
     (λ c. going-less (c .before .before .before .before .before .before .pre) (c .before .before .before .loop .inv) (c .before .word-of .ensures))
     {- loop-again -}

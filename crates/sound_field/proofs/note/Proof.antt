@@ -30,5 +30,8 @@ note-spec =
     (λ c. search needs)
     {- returns-2 -}
     (λ c.
-    let e = c .before .word-of .ensures in
-    (noted-more (c .before .before .before .before .before .pre) (omega arith) (⊎-elim (λ w. rw (w .2) (far-on (c .before .before .before .before .before .pre) e (w .0 .taken) (omega arith))) (λ w. rw (w .1) (far-here (c .before .before .before .before .before .pre) e (w .0 .left))) (c .if2 .came)), simp length-set)))
+    let pre = c .before .before .before .before .before .pre in let e = c .before .word-of .ensures in (
+      noted-more pre (omega arith)
+          (⊎-elim (λ w. rw (w .2) (far-on pre e (w .0 .taken) (omega arith))) (λ w. rw (w .1) (far-here pre e (w .0 .left))) (c .if2 .came)),
+      simp length-set,
+    )))

@@ -12,16 +12,25 @@ right-ok-spec =
     {- returns -}
     (λ c w v e. none-all (c .before .before .before .before .pre .0 .before) w v _ _ (c .if1 .taken))
     {- end-of-requires -}
-    (λ c κs. let q = c .before .before .before .before .pre .0 in
-    record { some = omega arith; fits = omega (arith, q .link .earlier, q .before .fits); word-of = omega arith; falls = toward-falls (q .before) right (c .before .before .before .before .args .top) (q .link .earlier); noted = noted-upto (c .before .before .before .before .pre .1) (q .link .earlier) })
+    (λ c κs. let s = c .before .before .before .before in let q = s .pre .0 in
+    record {
+      some = omega arith;
+      fits = omega (arith, q .link .earlier, q .before .fits);
+      word-of = omega arith;
+      falls = toward-falls (q .before) right (s .args .top) (q .link .earlier);
+      noted = noted-upto (s .pre .1) (q .link .earlier);
+    })
     {- word-of-requires -}
     (λ c κs. let i = end-lent (c .before .before .before .before .before .pre .0) right (c .before .if1 .left) (c .end-of .ensures) in omega arith)
     {- word-of-requires-2 -}
-    (λ c κs. let i = end-lent (c .before .before .before .before .before .before .pre .0) right (c .before .before .if1 .left) (c .before .end-of .ensures) in omega arith)
+    (λ c κs. let i = end-lent (c .before .before .before .before .before .before .pre .0) right (c .before .before .if1 .left) (c .before .end-of .ensures) in
+    omega arith)
     {- spans-less-requires -}
-    (λ c κs. let i = end-lent (c .before .before .before .before .before .before .before .pre .0) right (c .before .before .before .if1 .left) (c .before .before .end-of .ensures) in
-    omega (arith, c .before .word-of .ensures, c .word-of2 .ensures, c .before .before .before .before .before .before .before .pre .0 .inside, c .before .before .before .before .before .before .before .pre .0 .before .text))
+    (λ c κs. let s = c .before .before in let pre = s .before .before .before .before .before .pre .0 in
+    let i = end-lent pre right (s .before .if1 .left) (s .end-of .ensures) in
+    omega (arith, c .before .word-of .ensures, c .word-of2 .ensures, pre .inside, pre .before .text))
     {- returns-2 -}
     (λ c w v e.
-    says-end (c .spans-less .result) (subtree-end (c .before .before .before .before .before .before .before .before .pre .0) right w v e (c .before .before .before .before .if1 .left) (c .before .before .before .end-of .ensures))
+    let s = c .before .before .before in
+    says-end (c .spans-less .result) (subtree-end (s .before .before .before .before .before .pre .0) right w v e (s .before .if1 .left) (s .end-of .ensures))
     (rw (← c .before .before .word-of .ensures, ← c .before .word-of2 .ensures) (c .spans-less .ensures))))

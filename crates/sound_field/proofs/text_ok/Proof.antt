@@ -29,6 +29,6 @@ text-ok-spec =
     {- all-allowed-requires -}
     (λ c κs. search needs)
     {- returns-4 -}
-    (λ c. let s = c .before .before .before .before .before .before in
-    let a = s .args in
-    says-text (byte-rule (a .rule)) (a .low) (a .high) (c .all-allowed .result) (a .text .now) (a .used) (a .start) (a .len) (s .pre) (c .before .before .before .before .if1 .left) (c .before .before .before .if2 .left) (c .before .before .if3 .left) (c .all-allowed .ensures)))
+    (λ c. let s = c .before .before .before in let s2 = s .before .before .before in let a = s2 .args in
+    says-text (byte-rule (a .rule)) (a .low) (a .high) (c .all-allowed .result) (a .text .now) (a .used) (a .start) (a .len) (s2 .pre) (s .before .if1 .left)
+    (s .if2 .left) (c .before .before .if3 .left) (c .all-allowed .ensures)))

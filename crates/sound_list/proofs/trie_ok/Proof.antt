@@ -25,9 +25,15 @@ trie-ok-spec =
     {- returns-2 -}
     (λ c w e f r. says-refuses (c .before .link-ok2 .result) (c .before .link-ok2 .ensures) (c .if2 .taken) (rw f (r .0 .namespaces)))
     {- depth-of-requires -}
-    (λ c κs. let h = (says-passes (c .before .link-ok2 .result) (c .before .link-ok2 .ensures) (c .if2 .left)) .earlier in omega (arith, c .before .before .before .before .before .before .before .before .before .pre .0 .fits))
+    (λ c κs. let h = (says-passes (c .before .link-ok2 .result) (c .before .link-ok2 .ensures) (c .if2 .left)) .earlier in
+    omega (arith, c .before .before .before .before .before .before .before .before .before .pre .0 .fits))
     {- returns-3 -}
-    (λ c w e f r. omega (arith, r .2, c .before .depth-of .ensures, depth-trie (c .before .before .before .before .before .before .before .before .before .before .before .pre .0 .rows) w (r .0)))
+    (λ c w e f r. omega (
+      arith,
+      r .2,
+      c .before .depth-of .ensures,
+      depth-trie (c .before .before .before .before .before .before .before .before .before .before .before .pre .0 .rows) w (r .0),
+    ))
     {- shared-slice-read-wide -}
     (λ c. search needs)
     {- wide-requires -}
@@ -38,13 +44,13 @@ trie-ok-spec =
     (λ c κs. search needs)
     {- returns-4 -}
     (λ c w e f.
-    let s = c .before .before .before .before .before .before .before .before .before .before .before .before .before .before .before in
-    says-trie (c .same .result) (s .pre .0) w (s .args .r .now)
+    let s = c .before .before .before .before in let s2 = s .before .before .before in let s3 = s2 .before .before in
+    let s4 = s3 .before .before .before .before .before .before in says-trie (c .same .result) (s4 .pre .0) w (s4 .args .r .now)
     (record {
-      bindings = rw e at (let u = c .before .before .before .before .before .before .before .before in says-passes (u .before .link-ok .result) (u .before .link-ok .ensures) (u .if1 .left));
-      namespaces = rw f at (let u = c .before .before .before .before .before .before in says-passes (u .before .link-ok2 .result) (u .before .link-ok2 .ensures) (u .if2 .left));
+      bindings = rw e at (says-passes (s3 .link-ok .result) (s3 .link-ok .ensures) (s2 .before .if1 .left));
+      namespaces = rw f at (says-passes (s2 .link-ok2 .result) (s2 .link-ok2 .ensures) (s .before .before .if2 .left));
     })
     (c .before .before .wide .ensures)
-    (c .before .wide2 .ensures ∙ c .before .before .before .before .before .depth-of .ensures)
-    (omega (arith, c .before .wide2 .ensures, c .before .before .before .before .if3 .left))
+    (c .before .wide2 .ensures ∙ s .before .depth-of .ensures)
+    (omega (arith, c .before .wide2 .ensures, s .if3 .left))
     (c .same .ensures)))

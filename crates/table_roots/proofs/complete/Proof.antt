@@ -20,12 +20,16 @@ complete-spec =
     {- root-for-requires -}
     (λ c κs. search needs)
     {- complete-requires -}
-    (λ c κs. (rw (c .before .before .root-for .ensures) (root-trie (c .before .before .before .before .before .before .before .before .before .before .before .before .pre) (c .before .before .before .before .before .before .before .before .before .before .before .before .args .request .ask)), admitted-none (one-flagged (c .before .before .before .before .before .before .completion-flags .ensures)) (c .before .before .before .before .before .admit .ensures) (c .before .before .before .enum-told .given .1)))
+    (λ c κs. let s = c .before .before in let s2 = s .before .before .before in let s3 = s2 .before .before .before .before .before .before .before in (
+      rw (s .root-for .ensures) (root-trie (s3 .pre) (s3 .args .request .ask)),
+      admitted-none (one-flagged (s2 .before .completion-flags .ensures)) (s2 .admit .ensures) (s .before .enum-told .given .1),
+    ))
     {- returns -}
-    (λ c. completes-refused (refused-lowest (one-flagged (c .before .before .before .before .completion-flags .ensures)) (c .before .before .before .admit .ensures) (c .before .a .given .1)))
+    (λ c. completes-refused (refused-lowest (one-flagged (c .before .before .before .before .completion-flags .ensures))
+    (c .before .before .before .admit .ensures) (c .before .a .given .1)))
     {- same-length -}
     (λ c. search needs)
     {- same-length-2 -}
     (λ c. search needs)
     {- returns-2 -}
-    (λ c. rw (c .before .before .before .before .before .before .before .root-for .ensures) at (c .before .before .before .before .complete .ensures)))
+    (λ c. let s = c .before .before .before .before in rw (s .before .before .before .root-for .ensures) at (s .complete .ensures)))

@@ -23,8 +23,12 @@ find-spec =
     {- enum-known-l-2 -}
     (λ c. search needs)
     {- returns -}
-    (λ c. ap found (c .lid-of .ensures) ∙ rw (c .before .before .l .given .1) at (c .before .before .before .before .look-up .ensures .says names (names-trie (c .before .before .before .before .before .before .before .before .pre))))
+    (λ c. let s = c .before .before .before .before in
+    ap found (c .lid-of .ensures)
+    ∙ rw (c .before .before .l .given .1) at (s .look-up .ensures .says names (names-trie (s .before .before .before .before .pre))))
     {- returns-2 -}
-    (λ c. rw (c .enum-told .given .1) at (c .before .before .look-up .ensures .says names (names-trie (c .before .before .before .before .before .before .pre))))
+    (λ c. rw (c .enum-told .given .1) at
+    (c .before .before .look-up .ensures .says names (names-trie (c .before .before .before .before .before .before .pre))))
     {- returns-3 -}
-    (λ c. rw (c .before .l2 .given .1) at (c .before .before .before .look-up .ensures .says names (names-trie (c .before .before .before .before .before .before .before .pre)))))
+    (λ c. rw (c .before .l2 .given .1) at
+    (c .before .before .before .look-up .ensures .says names (names-trie (c .before .before .before .before .before .before .before .pre)))))

@@ -26,11 +26,24 @@ find-module-spec =
     {- enum-known-l-2 -}
     (λ c. search needs)
     {- returns -}
-    (λ c. record {
-      says = ap found (ap (symbol-of _) (c .branch-of .ensures .symbol) ∙ symbol-item (c .before .before .before .before .before .before .before .before .args .text .now) (record-at (c .before .before .before .before .before .before .before .before .args .words .now) (c .before .before .l .given .0 .0))) ∙ rw (c .before .before .l .given .1) at (c .before .before .before .before .look-up .ensures .says modules (modules-trie (c .before .before .before .before .before .before .before .before .pre)));
-      inside = let h = rw (c .before .before .l .given .1) at (c .before .before .before .before .look-up .ensures .fits) in rw (c .branch-of .ensures .symbol) (symbol-inside (modules-trie (c .before .before .before .before .before .before .before .before .pre)) (rw (c .before .before .l .given .1) at (c .before .before .before .before .look-up .ensures .link modules (modules-trie (c .before .before .before .before .before .before .before .before .pre)))) (h .0));
+    (λ c. let s = c .before .before in let look-up = s .before .before .look-up .ensures in let s2 = s .before .before .before .before .before .before in
+    record {
+      says = ap found (ap (symbol-of _) (c .branch-of .ensures .symbol)
+          ∙ symbol-item (s2 .args .text .now) (record-at (s2 .args .words .now) (s .l .given .0 .0)))
+          ∙ rw (s .l .given .1) at (look-up .says modules (modules-trie (s2 .pre)));
+      inside = let h = rw (s .l .given .1) at (look-up .fits) in
+          rw (c .branch-of .ensures .symbol)
+          (symbol-inside (modules-trie (s2 .pre)) (rw (s .l .given .1) at (look-up .link modules (modules-trie (s2 .pre)))) (h .0));
     })
     {- returns-2 -}
-    (λ c. record { says = rw (c .enum-told .given .1) at (c .before .before .look-up .ensures .says modules (modules-trie (c .before .before .before .before .before .before .pre))); inside = tt })
+    (λ c. record {
+      says = rw (c .enum-told .given .1) at
+          (c .before .before .look-up .ensures .says modules (modules-trie (c .before .before .before .before .before .before .pre)));
+      inside = tt;
+    })
     {- returns-3 -}
-    (λ c. record { says = rw (c .before .l2 .given .1) at (c .before .before .before .look-up .ensures .says modules (modules-trie (c .before .before .before .before .before .before .before .pre))); inside = tt }))
+    (λ c. record {
+      says = rw (c .before .l2 .given .1) at
+          (c .before .before .before .look-up .ensures .says modules (modules-trie (c .before .before .before .before .before .before .before .pre)));
+      inside = tt;
+    }))

@@ -19,7 +19,8 @@ complete-flat-spec =
     {- slice-relend-prefix-complete-sound -}
     (λ c. search needs)
     {- slice-aggregate-complete-sound -}
-    (λ c. sym (length-take-le (c .before .bytes-for .result) (c .before .before .before .before .before .before .before .before .before .args .flat .now) (omega (arith, c .before .bytes-for .ensures))))
+    (λ c. sym (length-take-le (c .before .bytes-for .result) (c .before .before .before .before .before .before .before .before .before .args .flat .now)
+    (omega (arith, c .before .bytes-for .ensures))))
     {- complete-sound-requires -}
     (λ c κs. says-holds _ (c .before .before .before .before .is-sound .ensures) (c .before .before .before .if1 .taken))
     {- same-length -}
@@ -27,6 +28,7 @@ complete-flat-spec =
     {- same-length-2 -}
     (λ c. search needs)
     {- returns -}
-    (λ c. let s = c .before .before .before .before in let s2 = s .before .before .before in flat-completes (says-holds _ (s2 .before .before .is-sound .ensures) (s2 .before .if1 .taken)) (s2 .bytes-for .ensures) (s .complete-sound .ensures))
+    (λ c. let s = c .before .before .before .before in let s2 = s .before .before .before in
+    flat-completes (says-holds _ (s2 .before .before .is-sound .ensures) (s2 .before .if1 .taken)) (s2 .bytes-for .ensures) (s .complete-sound .ensures))
     {- returns-2 -}
     (λ c. flat-unsound (says-fails _ (c .before .is-sound .ensures) (c .if1 .left))))

@@ -32,6 +32,7 @@ beginning-spec =
     (λ c.
     let o = c .before .before .loop .inv in
     let h : c .before .before .loop .i < 8 = omega arith in
-    ⊎-elim (λ w. rw (w .2) (leading-byte o h (omega (arith, w .1 .given (c .before .before .loop .i))))) (λ w. rw (w .1) (leading-end o h (omega (arith, w .0 .left)))) (c .if1 .came))
+    ⊎-elim (λ w. rw (w .2) (leading-byte o h (omega (arith, w .1 .given (c .before .before .loop .i)))))
+    (λ w. rw (w .1) (leading-end o h (omega (arith, w .0 .left)))) (c .if1 .came))
     {- returns -}
     (λ c. let o = c .before .loop .inv in let e : c .before .loop .i ≡ 8 = omega (arith, o .few, c .loop-test .left) in rw e at (o .is)))

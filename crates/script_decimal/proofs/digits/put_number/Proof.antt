@@ -9,7 +9,8 @@ put-digits-requires : tie.Need-put-digits-requires
 put-digits-requires c κs = omega (arith, decimal-short (c .before .before .args .n) (omega arith))
 
 returns : tie.Need-returns
-returns c = (c .before .before .put-digits .ensures, omega (arith, c .before .before .put-digits .ensures .end, decimal-short (c .before .before .before .before .before .args .n) (omega arith)))
+returns c = let s = c .before .before in
+    (s .put-digits .ensures, omega (arith, s .put-digits .ensures .end, decimal-short (s .before .before .before .args .n) (omega arith)))
 
 pub put-number-spec : {M : Type 1} → statement M
 put-number-spec = tie.close (tie.spec put-digits-requires (λ c. search needs) returns)

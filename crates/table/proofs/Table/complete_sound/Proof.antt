@@ -15,4 +15,5 @@ complete-sound-spec =
     {- same-length-2 -}
     (λ c. search needs)
     {- returns -}
-    (λ c. completes-table (c .before .before .before .before .before .before .before .before .before .before .before .before .pre) (c .before .before .before .before .complete .ensures)))
+    (λ c. let s = c .before .before .before .before in
+    completes-table (s .before .before .before .before .before .before .before .before .pre) (s .complete .ensures)))

@@ -20,7 +20,8 @@ register-spec =
     {- same-length-2 -}
     (λ c. search needs)
     {- returns -}
-    (λ c b h. rw (says-same _ b (c .before .before .before .before .before .before .before .before .is-sound .result) h (c .before .before .before .before .before .before .before .before .is-sound .ensures) ∙ c .before .before .before .before .before .before .before .if1 .taken) (c .before .before .before .before .register-sound .ensures))
+    (λ c b h. let s = c .before .before .before .before in let s2 = s .before .before .before in
+    rw (says-same _ b (s2 .before .is-sound .result) h (s2 .before .is-sound .ensures) ∙ s2 .if1 .taken) (s .register-sound .ensures))
     {- same-length-3 -}
     (λ c. search needs)
     {- same-length-4 -}

@@ -16,7 +16,8 @@ register-sound-spec =
     {- slice-aggregate-check -}
     (λ c. sym (length-take-le _ _ (c .before .before .before .key-size .ensures .1)))
     {- check-requires -}
-    (λ c κs. (c .before .before .before .before .before .before .before .before .before .before .pre, (cut-used (c .before .before .before .before .before .before .before .before .before .before .args .kind) (c .before .before .before .before .before .before .before .before .before .before .args .key .now) (c .before .before .before .before .key-size .ensures .0), refl)))
+    (λ c κs. let s = c .before .before .before .before in let s2 = s .before .before .before .before .before .before in
+    (s2 .pre, (cut-used (s2 .args .kind) (s2 .args .key .now) (s .key-size .ensures .0), refl)))
     {- enum-known-k -}
     (λ c. search needs)
     {- enum-told -}
@@ -24,18 +25,24 @@ register-sound-spec =
     {- slice-aggregate-write -}
     (λ c. sym (length-take-le _ _ (c .before .before .before .before .before .before .before .before .before .before .key-size .ensures .1)))
     {- slice-aggregate-write-2 -}
-    (λ c. sym ((rw (c .before .before .before .before .enum-told .given .1) at (c .before .before .before .before .before .before .check .ensures)) .size))
+    (λ c. let s = c .before .before .before .before in sym ((rw (s .enum-told .given .1) at (s .before .before .check .ensures)) .size))
     {- write-requires -}
-    (λ c κs. rw (c .before .before .before .before .enum-told .given .1) at (c .before .before .before .before .before .before .check .ensures))
+    (λ c κs. let s = c .before .before .before .before in rw (s .enum-told .given .1) at (s .before .before .check .ensures))
     {- same-length -}
     (λ c. search needs)
     {- same-length-2 -}
     (λ c. search needs)
     {- returns -}
-    (λ c. answers-refused (rw (cut-call (c .before .before .before .before .before .before .before .before .before .before .before .before .before .before .args .kind) (c .before .before .before .before .before .before .before .before .before .before .before .before .before .before .args .key .now) (c .before .before .before .before .before .before .before .before .key-size .ensures .0) (c .before .before .before .before .before .before .before .before .before .before .before .before .before .before .args .host .now) (c .before .before .before .before .before .before .before .before .before .before .before .before .before .before .args .other .now)) at (rw (c .before .k .given .1) at (c .before .before .before .check .ensures))))
+    (λ c. let s = c .before .before .before .before .before .before .before .before in let a = s .before .before .before .before .before .before .args in
+    answers-refused (rw (cut-call (a .kind) (a .key .now) (s .key-size .ensures .0) (a .host .now) (a .other .now)) at
+    (rw (c .before .k .given .1) at (c .before .before .before .check .ensures))))
     {- same-length-3 -}
     (λ c. search needs)
     {- same-length-4 -}
     (λ c. search needs)
     {- returns-2 -}
-    (λ c. answers-accepted (rw (cut-call (c .before .before .before .before .before .before .before .before .before .before .before .before .before .before .before .before .before .before .before .before .before .before .args .kind) (c .before .before .before .before .before .before .before .before .before .before .before .before .before .before .before .before .before .before .before .before .before .before .args .key .now) (c .before .before .before .before .before .before .before .before .before .before .before .before .before .before .before .before .key-size .ensures .0) (c .before .before .before .before .before .before .before .before .before .before .before .before .before .before .before .before .before .before .before .before .before .before .args .host .now) (c .before .before .before .before .before .before .before .before .before .before .before .before .before .before .before .before .before .before .before .before .before .before .args .other .now)) at ((rw (c .before .before .before .before .before .before .before .before .before .enum-told .given .1) at (c .before .before .before .before .before .before .before .before .before .before .before .check .ensures)) .rows)) (rw (cut-call (c .before .before .before .before .before .before .before .before .before .before .before .before .before .before .before .before .before .before .before .before .before .before .args .kind) (c .before .before .before .before .before .before .before .before .before .before .before .before .before .before .before .before .before .before .before .before .before .before .args .key .now) (c .before .before .before .before .before .before .before .before .before .before .before .before .before .before .before .before .key-size .ensures .0) (c .before .before .before .before .before .before .before .before .before .before .before .before .before .before .before .before .before .before .before .before .before .before .args .host .now) (c .before .before .before .before .before .before .before .before .before .before .before .before .before .before .before .before .before .before .before .before .before .before .args .other .now)) at (c .before .before .before .before .write .ensures))))
+    (λ c. let s = c .before .before .before .before in let s2 = s .before .before .before .before .before in
+    let s3 = s2 .before .before .before .before .before .before .before in let a = s3 .before .before .before .before .before .before .args in
+    answers-accepted (rw (cut-call (a .kind) (a .key .now) (s3 .key-size .ensures .0) (a .host .now) (a .other .now)) at
+    ((rw (s2 .enum-told .given .1) at (s2 .before .before .check .ensures)) .rows))
+    (rw (cut-call (a .kind) (a .key .now) (s3 .key-size .ensures .0) (a .host .now) (a .other .now)) at (s .write .ensures))))
