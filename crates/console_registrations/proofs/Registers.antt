@@ -6,7 +6,7 @@ use mathlib.Core.Bool.{true}
 use mathlib.Core.List.{List}
 use mathlib.Core.Option.{Option, none, some}
 use Rattle.source.specs.Calls as C
-use Rattle.source.specs.Calls.{Call, State, Lent, register, registration-rows, lowest, after}
+use Rattle.source.specs.Calls.{Call, State, Lent, register, registration-rows, first-row, after}
 use Rattle.text.specs.Laid.{Laid}
 use Rattle.script_replies.specs.Replies.{ok-reply, refused-reply}
 use Rattle.table.specs.Header.{IsSound, state, lent}
@@ -35,7 +35,7 @@ Grows s (C.refused n) = Unit {0}
 
 register-grows : (k : Lent) (s : State) (c : Call) → Grows s (register true k s c)
 unfolding register after Grows
-register-grows k s c = go (lowest (registration-rows true k s c))
+register-grows k s c = go (first-row (registration-rows true k s c))
   where
     go : (o : Option ℕ) → Grows s (elim o [ none ↦ C.accepted (after s c) | some n ↦ C.refused n ])
     go none = (omega arith, omega arith)

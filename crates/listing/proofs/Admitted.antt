@@ -10,7 +10,7 @@ use lib.ListN.{length, take, drop, length-drop}
 use lib.Seq.{length-take-le}
 use borrow.Author.Tests.{not-false, ltb-false}
 use Rattle.source.specs.Text.{Str, segments, ends-in-dot}
-use Rattle.source.specs.Calls.{a-completion, any, bad-query, long-query, malformed, too-long, lowest, argument-rows}
+use Rattle.source.specs.Calls.{a-completion, any, bad-query, long-query, malformed, too-long, first-row, argument-rows}
 use Rattle.source.proofs.Queries.{or-parts}
 use Rattle.source.proofs.Refusals.{Admitted, argument-rows-none}
 use Rattle.text_query.specs.Queries.{before-dot}
@@ -41,7 +41,7 @@ bounded : (n : ℕ) (s : Str) → length s ≤ n → Bounded s
 bounded zero s h e a = omega arith
 bounded (suc n) s h e a = bounded-step n (bounded n) s h e a
 
-module _ (query : Str) (e : lowest (argument-rows true (a-completion query ∷ [])) ≡ none) where
+module _ (query : Str) (e : first-row (argument-rows true (a-completion query ∷ [])) ≡ none) where
   admitted : Admitted true (a-completion query ∷ [])
   admitted = argument-rows-none true _ e
 

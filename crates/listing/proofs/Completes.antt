@@ -15,10 +15,10 @@ use Rattle.source.specs.Types.{Trie, bind}
 use Rattle.source.specs.Terms.{depth}
 use Rattle.source.specs.Table.{Line, first-import-of-path}
 use Rattle.source.specs.Calls as C
-use Rattle.source.specs.Calls.{Row, _when_, a-completion, lowest, argument-rows, Output, output-text, completion-rows, completed, tries-entered}
+use Rattle.source.specs.Calls.{Row, _when_, a-completion, first-row, argument-rows, Output, output-text, completion-rows, completed, tries-entered}
 use Rattle.source.specs.Forward.{entered}
 use Rattle.source.proofs.Counted.{tries-entered-count}
-use Rattle.source.proofs.Refusals.{lowest-past}
+use Rattle.source.proofs.Refusals.{first-row-past}
 use Rattle.source.specs.Forward.{base}
 use Rattle.memory.specs.Layout.{Item, trieˢ, what}
 use Rattle.memory.proofs.Tries.{trie-shallow}
@@ -196,23 +196,23 @@ module _ (ws txt : List ℕ) (request : Request) (root : ℕ) (query : Str) (fla
   -- What rows 9 and 10 say.
   abbrev ByRows : Type 0
   ByRows = CompletesAs (request .ask) ws txt flat flat′ out out′ r
-      (elim (lowest (output-rows (request .budget) (output flat out) (listed ws txt (request .ask) root query) (tries ws txt (request .ask) root query)))
+      (elim (first-row (output-rows (request .budget) (output flat out) (listed ws txt (request .ask) root query) (tries ws txt (request .ask) root query)))
       [ none ↦ C.listed (listed ws txt (request .ask) root query) (tries ws txt (request .ask) root query) | some n ↦ C.refused n ])
 
-  by-rows : lowest (argument-rows true (a-completion query ∷ [])) ≡ none → ByRows
+  by-rows : first-row (argument-rows true (a-completion query ∷ [])) ≡ none → ByRows
       → CompletesOn ws txt request root query flat flat′ out out′ r
   unfolding completed completion-rows
-  by-rows e c = record { says = rw (completed, completion-rows, lowest-past (argument-rows true (a-completion query ∷ [])) _ e) c }
+  by-rows e c = record { says = rw (completed, completion-rows, first-row-past (argument-rows true (a-completion query ∷ [])) _ e) c }
 
 module _ {ws txt : List ℕ} {request : Request} {root : ℕ} {query : Str}
-    (e : lowest (argument-rows true (a-completion query ∷ [])) ≡ none) {flat flat′ out out′ : List ℕ} {lim : Limits}
+    (e : first-row (argument-rows true (a-completion query ∷ [])) ≡ none) {flat flat′ out out′ : List ℕ} {lim : Limits}
     {a : Tally}
     (set : Set lim (request .budget) flat out)
     (s : Shows lim (tries ws txt (request .ask) root query) (length (listed ws txt (request .ask) root query))
     (length (output-text (listed ws txt (request .ask) root query))) a) where
   pub completes-spent : lim .budget < a .entered → flat′ ≡ flat → out′ ≡ out
       → CompletesOn ws txt request root query flat flat′ out out′ (Refused Spent)
-  unfolding lowest
+  unfolding first-row
   completes-spent h f o = by-rows ws txt request root query flat flat′ out out′ _ e
       (rw (lt-ltb (request .budget) (tries ws txt (request .ask) root query) (omega (arith, passed s h, set .budget-is))) (refl, f, o))
 
@@ -220,7 +220,7 @@ module _ {ws txt : List ℕ} {request : Request} {root : ℕ} {query : Str}
     -- Lines or bytes past what is lent.
     pub completes-past : Past lim (a .lines) (a .bytes) → flat′ ≡ flat → out′ ≡ out
         → CompletesOn ws txt request root query flat flat′ out out′ (Refused Lines)
-    unfolding lowest
+    unfolding first-row
     completes-past p f o = by-rows ws txt request root query flat flat′ out out′ _ e (go (tells-past lim a p (s .counted (within s h))))
       where
         go : Past lim (length (listed ws txt (request .ask) root query))
@@ -241,7 +241,7 @@ module _ {ws txt : List ℕ} {request : Request} {root : ℕ} {query : Str}
     pub completes-listed : a .lines ≤ lim .lines → a .bytes ≤ lim .bytes
         → Written (asked (request .ask)) ws txt flat flat′ out out′ 0 0 (listed ws txt (request .ask) root query)
         → CompletesOn ws txt request root query flat flat′ out out′ (Listed (a .lines) (a .entered))
-    unfolding lowest
+    unfolding first-row
     completes-listed l b w =
         let x = exact s h l b in
         by-rows ws txt request root query flat flat′ out out′ _ e

@@ -6,7 +6,7 @@ ghost use mathlib.Core.Bool.{true};
 ghost use mathlib.Core.List.{[], _∷_};
 ghost use mathlib.Core.Option.{none};
 ghost use Rattle.source.specs.Lent.{old, new};
-ghost use Rattle.source.specs.Calls.{a-completion, lowest, argument-rows};
+ghost use Rattle.source.specs.Calls.{a-completion, first-row, argument-rows};
 ghost use Rattle.memory.specs.Layout.{trieˢ};
 ghost use Rattle.memory.specs.Sound.{At};
 ghost use Rattle.listing_ask.specs.Ask.{asked};
@@ -29,7 +29,7 @@ pub fn complete(
     out: &mut [u8],
 ) -> Completed
     requires { ⌜ At (now words) (now text) (asked (request .ask)) trieˢ root ⌝ }
-    requires { ⌜ lowest (argument-rows true (a-completion (now query) ∷ [])) ≡ none ⌝ }
+    requires { ⌜ first-row (argument-rows true (a-completion (now query) ∷ [])) ≡ none ⌝ }
     ensures { λ r. ⌜ CompletesOn (old words) (old text) request root (old query)
         (old flat) (new flat) (old out) (new out) r ⌝ }
 {

@@ -53,7 +53,7 @@ module _ {ws txt : List ℕ} {j : Job} (ok : JobOk ws txt j) where
           shows = λ e i b h. record {
             spent = λ k. omega (arith, c .entered-same, h .spent (omega arith));
             entered-is = λ k. omega (arith, c .entered-same, h .entered-is (omega arith));
-            counts-kept = λ k. rw size (tells-more (j .lim) 1 (size-of ws j note) (j .tally) t (c .lines-more)
+            counted = λ k. rw size (tells-more (j .lim) 1 (size-of ws j note) (j .tally) t (c .lines-more)
                 (c .bytes-more) i b (h .counted (omega arith)));
           };
           writes = λ e i b h k.

@@ -16,7 +16,7 @@ use Rattle.source.specs.Listing.{PathOf, Finder, by-first, trie-find-prefix′,
 use Rattle.source.specs.Table.{Line, string-of-path, completion-result-of-lid, completion-result-of-ns-or-mod, autocomplete-lid-first}
 use Rattle.source.specs.Rules.{Formed, IsKey, IsLabel, NameItem, ModItem, SoundTrie, all}
 use Rattle.source.specs.Calls.{Found, found, not-found, refused, found-of, look-up, Completed, listed, Output, All, kept, keeps, keeps-kind, completed}
-use Rattle.source.specs.Calls.{complete, complete-modules, lowest, argument-rows, completion-rows, a-look-up, is-empty}
+use Rattle.source.specs.Calls.{complete, complete-modules, first-row, argument-rows, completion-rows, a-look-up, is-empty}
 use Rattle.promises.specs.Agreement.{Covers, without-last, NotRefused, lines-of-text, Shows, passing, Agree, Demand3, FilteredAgree}
 use Rattle.source.specs.Shared.{same, Allˡ}
 use Rattle.source.specs.declared.KindFilter.the-variants.{Every}
@@ -73,9 +73,9 @@ not-refused none o h = refl
 not-refused (some n) o h = absurd h
 
 look-up-passes : {A : Type 0} (tr : Trie A) (name : Str) → NotRefused (look-up true tr name)
-    → lowest (argument-rows true (a-look-up name ∷ [])) ≡ none
+    → first-row (argument-rows true (a-look-up name ∷ [])) ≡ none
 unfolding look-up
-look-up-passes tr name asked = not-refused (lowest (argument-rows true (a-look-up name ∷ []))) (found-of (trie-find-exact tr (segments name))) asked
+look-up-passes tr name asked = not-refused (first-row (argument-rows true (a-look-up name ∷ []))) (found-of (trie-find-exact tr (segments name))) asked
 
 pub look-up-admitted : {A : Type 0} (tr : Trie A) (name : Str) → NotRefused (look-up true tr name)
     → Admitted true (a-look-up name ∷ [])
@@ -85,7 +85,7 @@ completed-lines : {A : Type 0} (sound : Bool) (budget : ℕ) (out : Output) (que
     (entered entered′ : ℕ)
     → completed sound budget out query lines entered ≡ listed lines′ entered′ → lines ≡ lines′
 unfolding completed
-completed-lines {A} sound budget out query lines lines′ entered entered′ e = go (lowest (completion-rows sound budget out query lines entered)) e
+completed-lines {A} sound budget out query lines lines′ entered entered′ e = go (first-row (completion-rows sound budget out query lines entered)) e
   where
     go : (o : Option ℕ) → _≡_ {A = Completed A} (elim o [ none ↦ listed lines entered | some n ↦ refused n ])
         (listed lines′ entered′) → lines ≡ lines′

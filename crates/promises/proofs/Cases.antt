@@ -26,7 +26,7 @@ use Rattle.source.specs.Counted.{pure, one, _>>=_, btree-insert-replaceᶜ, nam
 use Rattle.source.specs.Counted.{trie-includeᶜ, trie-open-namespaceᶜ, trie-add-aliasᶜ, lids, insertᶜ, register-aliasᶜ, register-includeᶜ, register-openᶜ}
 use Rattle.source.specs.Counted.{ins-nsᶜ, ins-modᶜ, insᶜ, register-module-pathᶜ, fold-leftᶜ, find-prefix-fuelᶜ, trie-find-prefix′ᶜ}
 use Rattle.source.specs.Calls.{Lent, Output, State, Call, name, include, opens, alias, module-path, Registered, accepted, refused, Found, found, not-found}
-use Rattle.source.specs.Calls.{Completed, listed, All, text-of, is-empty, any, bad-query, malformed, empty-name, long-query, too-long, lowest, argument-rows}
+use Rattle.source.specs.Calls.{Completed, listed, All, text-of, is-empty, any, bad-query, malformed, empty-name, long-query, too-long, first-row, argument-rows}
 use Rattle.source.specs.Calls.{fresh, whole-records, free, arguments, registered, records, text-taken, crowded, deep, registration-rows, after, register}
 use Rattle.source.specs.Calls.{found-of, look-up, output-text, completion-rows, completed, tries-entered, kept, keeps-kind, keeps, complete, complete-modules}
 use Rattle.source.specs.Rules.{all}
@@ -153,7 +153,7 @@ unfolding bytes console pane then-call ask records-of find names modules line r 
     trie-add-aliasᶜ lids insertᶜ register-aliasᶜ register-includeᶜ register-openᶜ ins-nsᶜ ins-modᶜ insᶜ register-module-pathᶜ fold-leftᶜ find-prefix-fuelᶜ
     trie-find-prefix′ᶜ
     kind-number same-kind
-    text-of is-empty any bad-query malformed empty-name long-query too-long lowest argument-rows fresh whole-records free arguments registered records
+    text-of is-empty any bad-query malformed empty-name long-query too-long first-row argument-rows fresh whole-records free arguments registered records
     text-taken crowded deep registration-rows after register found-of look-up output-text completion-rows completed tries-entered kept keeps-kind keeps complete
     complete-modules
     all

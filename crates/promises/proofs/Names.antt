@@ -153,13 +153,13 @@ module _ {A : Type 0} where
   key-descending k xs i = key-once k xs (descending-once xs i)
 
   -- The first list with the key has the first row, and the last of the turned ones.
-  first-row : {l : Level} (k : Str) (ms : List (List Str × List (PrefixMatch × Value A l)))
+  first-match-row : {l : Level} (k : Str) (ms : List (List Str × List (PrefixMatch × Value A l)))
       → Allˡ (Increasing elem-key) (map with-imports ms)
       → first-lookup elem-key k (map with-imports ms) ≡ first-of (with-key k (flatMap with-imports ms))
   unfolding first-lookup flatMap with-key first-of
-  first-row k [] i = refl
-  first-row k (m ∷ ms) i =
-      ap₂ or-else (sym (ap first-of (key-ascending k (with-imports m) (i .0)) ∙ ends-of (lookup elem-key k (with-imports m)) .0)) (first-row k ms (i .1))
+  first-match-row k [] i = refl
+  first-match-row k (m ∷ ms) i =
+      ap₂ or-else (sym (ap first-of (key-ascending k (with-imports m) (i .0)) ∙ ends-of (lookup elem-key k (with-imports m)) .0)) (first-match-row k ms (i .1))
       ∙ sym (ap first-of (key-append k (with-imports m) (flatMap with-imports ms))
       ∙ first-append (with-key k (with-imports m)) (with-key k (flatMap with-imports ms)))
 
@@ -198,7 +198,7 @@ module _ {A : Type 0} where
   unfolding names-find-rev-first rows-of
   find-first-at n term k o =
       merge-at elem-key (map with-imports (reverse (matching-values n term))) (turned-increasing term n o) k
-      ∙ first-row k (reverse (matching-values n term)) (turned-increasing term n o)
+      ∙ first-match-row k (reverse (matching-values n term)) (turned-increasing term n o)
 
   -- ---- the row of a key in one tree
   tree-at : {l : Level} (term : SearchTerm) (t : Tree A l) (k : Str) → Ordered t

@@ -10,7 +10,7 @@ use Rattle.source.specs.Types.{Trie, item, trie, []ᴺ, ImportedNames, bindings
 use Rattle.source.specs.Tries.{names-insert, trie-find-exact, trie-insert, included, trie-import, trie-include, trie-open-namespace, trie-add-alias}
 use Rattle.source.specs.Table.{Table, Line, insert, register-alias, register-include, register-open, register-module-stays-loaded}
 use Rattle.source.specs.Rules.{SoundTable}
-use Rattle.source.specs.Calls.{State, Lent, Call, name, include, opens, alias, module-path, accepted, register, registered, after, look-up, lowest}
+use Rattle.source.specs.Calls.{State, Lent, Call, name, include, opens, alias, module-path, accepted, register, registered, after, look-up, first-row}
 use Rattle.source.specs.Calls.{argument-rows, a-look-up, Found, found-of, refused, Output, listed, complete}
 use Rattle.promises.specs.Agreement.{Covers, without-last, NotRefused, lines-of-text, Shows}
 use Rattle.source.specs.Plans.{host-of}
@@ -102,7 +102,7 @@ module _ (sound : Bool) (lent : Lent) (s s′ : State) (c : Call) (e : register 
   unfolding look-up after
   look-up-unchanged =
       ap (λ t. look-up true (t .table .tbl-lids) query) (accepted-is sound lent s s′ c e)
-      ∙ ap (λ o. elim (lowest (argument-rows true (a-look-up query ∷ []))) as (λ _. Found LidSymbol) [ none ↦ found-of o | some n ↦ refused n ])
+      ∙ ap (λ o. elim (first-row (argument-rows true (a-look-up query ∷ []))) as (λ _. Found LidSymbol) [ none ↦ found-of o | some n ↦ refused n ])
       (find-unchanged (s .table) c (segments query) d)
 
   -- Nor does it change the lines of other names: completions before and after, of one query that covers the name, both show what look-up finds.

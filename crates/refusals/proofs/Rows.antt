@@ -5,7 +5,7 @@ use mathlib.Core.List.{List, [], _∷_, _++_}
 use mathlib.Core.Option.{none, some}
 use borrow.Author.Tests.{not-false}
 use Rattle.source.specs.Text.{Str, ends-in-dot}
-use Rattle.source.specs.Calls.{Argument, a-query, any, bad-query, malformed, empty-name, too-long, Row, _when_, lowest, argument-rows}
+use Rattle.source.specs.Calls.{Argument, a-query, any, bad-query, malformed, empty-name, too-long, Row, _when_, first-row, argument-rows}
 use Rattle.source.proofs.Queries.{or-parts}
 use Rattle.source.proofs.Refusals.{any-append}
 use Rattle.refusals.specs.Refusals.{number, row-of}
@@ -42,15 +42,15 @@ rows-by-flags h = rw (h .malformed, h .empty, h .long)
 
 -- Rows 1 to 4 of a sound memory.
 pub rows-of : {args : List Argument} {f : Flags} → AllFlagged args f
-    → lowest (argument-rows true args) ≡ lowest (flag-rows f)
-unfolding lowest argument-rows
-rows-of h = ap lowest (rows-by-flags h)
+    → first-row (argument-rows true args) ≡ first-row (flag-rows f)
+unfolding first-row argument-rows
+rows-of h = ap first-row (rows-by-flags h)
 
 -- A call that admit lets through, and one that it refuses.
 module _ {args : List Argument} {f : Flags} {a : Admission} (h : AllFlagged args f)
-    (e : row-of a ≡ lowest (flag-rows f)) where
-  pub admitted-none : a ≡ Admitted → lowest (argument-rows true args) ≡ none
+    (e : row-of a ≡ first-row (flag-rows f)) where
+  pub admitted-none : a ≡ Admitted → first-row (argument-rows true args) ≡ none
   admitted-none k = rows-of h ∙ sym (rw k at e)
 
-  pub refused-lowest : {x : Refusal} → a ≡ Refused x → lowest (argument-rows true args) ≡ some (number x)
+  pub refused-lowest : {x : Refusal} → a ≡ Refused x → first-row (argument-rows true args) ≡ some (number x)
   refused-lowest k = rows-of h ∙ sym (rw k at e)

@@ -3,7 +3,7 @@ use text_query::Rule;
 ghost use mathlib.Core.Path.{_≡_};
 ghost use lib.Dec.{ltb};
 ghost use Rattle.source.specs.Lent.{old};
-ghost use Rattle.source.specs.Calls.{a-query, a-name, a-path, a-look-up, a-completion, lowest, whole-records, free};
+ghost use Rattle.source.specs.Calls.{a-query, a-name, a-path, a-look-up, a-completion, first-row, whole-records, free};
 ghost use Rattle.refusals.specs.Refusals.{number, row-of};
 ghost use Rattle.refusals.specs.Rows.{Flagged, no-flags, both-flags, flag-rows, capacity-rows};
 
@@ -139,7 +139,7 @@ pub fn either(a: Flags, b: Flags) -> Flags
 
 // Rows 2 to 4, by the flags of the arguments.
 pub fn admit(flags: Flags) -> Admission
-    ensures { λ r. ⌜ row-of r ≡ lowest (flag-rows flags) ⌝ }
+    ensures { λ r. ⌜ row-of r ≡ first-row (flag-rows flags) ⌝ }
 {
     if flags.malformed {
         return Admission::Refused(Refusal::Malformed);
@@ -198,7 +198,7 @@ fn full(words: usize, used: u32, needed: u32) -> bool
 
 // Rows 5 to 8.
 pub fn afford(demand: Demand, c: Capacity) -> Admission
-    ensures { λ r. ⌜ row-of r ≡ lowest (capacity-rows demand c) ⌝ }
+    ensures { λ r. ⌜ row-of r ≡ first-row (capacity-rows demand c) ⌝ }
 {
     if demand.crowded {
         return Admission::Refused(Refusal::Crowded);

@@ -8,12 +8,12 @@ use native.Mathlib.Omega.{arith}
 use lib.ListN.{length}
 use Rattle.source.specs.Text.{Str}
 use Rattle.source.specs.Rules.{SoundTable}
-use Rattle.source.specs.Calls.{a-query, a-name, any, malformed, lowest, argument-rows, State, Lent, Call, arguments, text-taken, registration-rows}
+use Rattle.source.specs.Calls.{a-query, a-name, any, malformed, first-row, argument-rows, State, Lent, Call, arguments, text-taken, registration-rows}
 use Rattle.source.specs.Shared.{Allˡ}
 use Rattle.source.specs.Queries.{Keeps}
 use Rattle.source.proofs.Queries.{or-parts, query-bound}
 use Rattle.source.proofs.Keeps.{keeps-parts, admitted-keeps}
-use Rattle.source.proofs.Refusals.{any-append, lowest-stops, lowest-past, Admitted}
+use Rattle.source.proofs.Refusals.{any-append, first-row-stops, first-row-past, Admitted}
 use Rattle.source.proofs.PlannedDepth.{deep-planned}
 use Rattle.source.proofs.PlannedWeight.{crowded-planned}
 use Rattle.source.proofs.PlannedRecords.{records-planned}
@@ -90,17 +90,17 @@ module _ (ws txt : List ℕ) (h : Header) where
 
 -- ---- Rows
 module _ (lent : Lent) (s : State) (c : Call) where
-  pub rows-refused : {n : ℕ} → lowest (argument-rows true (arguments c)) ≡ some n
-      → lowest (registration-rows true lent s c) ≡ some n
+  pub rows-refused : {n : ℕ} → first-row (argument-rows true (arguments c)) ≡ some n
+      → first-row (registration-rows true lent s c) ≡ some n
   unfolding registration-rows
-  rows-refused e = lowest-stops (argument-rows true (arguments c)) _ e
+  rows-refused e = first-row-stops (argument-rows true (arguments c)) _ e
 
   pub rows-planned : {p : Plan} {taken : ℕ} → SoundTable (s .table) → Planned (s .table) c p
-      → taken ≡ text-taken (arguments c) → lowest (argument-rows true (arguments c)) ≡ none
-      → lowest (registration-rows true lent s c) ≡ lowest (capacity-rows
+      → taken ≡ text-taken (arguments c) → first-row (argument-rows true (arguments c)) ≡ none
+      → first-row (registration-rows true lent s c) ≡ first-row (capacity-rows
       (record { crowded = p .crowded; deep = p .deep; records = p .records; text = taken })
       (record { words = lent .words; records = s .records-used; text = lent .text; used = s .text-used }))
   unfolding registration-rows
   rows-planned o p e f =
-      lowest-past (argument-rows true (arguments c)) _ f
+      first-row-past (argument-rows true (arguments c)) _ f
       ∙ rw (crowded-planned (s .table) c o, deep-planned (s .table) c o, records-planned (s .table) c, e, p .records, p .crowded, p .deep)

@@ -6,7 +6,7 @@ use mathlib.Core.List.{List}
 use mathlib.Core.Option.{none, some}
 use lib.ListN.{length, drop}
 use Rattle.source.specs.Text.{Str, segments, ends-in-dot}
-use Rattle.source.specs.Calls.{Lent, malformed, lowest, registration-rows}
+use Rattle.source.specs.Calls.{Lent, malformed, first-row, registration-rows}
 use Rattle.source.specs.Shared.{Allˡ}
 use Rattle.source.specs.Queries.{IsQuery, Keeps}
 use Rattle.refusals.specs.Refusals.{number}
@@ -39,7 +39,7 @@ pub record Ready (k : CallKind) (host other key : Str) : Type 0 where
 pub record Passes (ws txt : List ℕ) (h : Header) (k : CallKind) (host other key : Str) (way : List ℕ) : Type 0 where
   pub sound : Sound ws txt h
   pub no-key : NoKey k key
-  pub rows : lowest (registration-rows true (lent ws txt) (state-of ws txt h) (call-of k host other key)) ≡ none
+  pub rows : first-row (registration-rows true (lent ws txt) (state-of ws txt h) (call-of k host other key)) ≡ none
   pub size : length way ≡ way-size
   pub carries : Carries (shape-of k .form) ws txt (h .names) other (included-in way)
   pub leads : Way ws txt (which-by (shape-of k .form)) k other key (drop steps-at way)
@@ -50,4 +50,4 @@ abbrev pub Checks : (ws txt : List ℕ) (h : Header) (k : CallKind) (host other 
     → Type 0
 Checks ws txt h k host other key way Passed = Passes ws txt h k host other key way
 Checks ws txt h k host other key way (Refused x) =
-    lowest (registration-rows true (lent ws txt) (state-of ws txt h) (call-of k host other key)) ≡ some (number x)
+    first-row (registration-rows true (lent ws txt) (state-of ws txt h) (call-of k host other key)) ≡ some (number x)

@@ -8,7 +8,7 @@ use source::LidSymbol;
 ghost use mathlib.Core.Path.{_≡_};
 ghost use Prim.Native.Nat.{_-_};
 ghost use Rattle.source.specs.Lent.{old, new};
-ghost use Rattle.register_kind.specs.declared.Kind.the-variants.{Name, Include, Open, Alias};
+ghost use Rattle.register_kind.specs.declared.CallKind.the-variants.{Name, Include, Open, Alias};
 ghost use Rattle.register_leaf.specs.Leaves.{with-kind, label-in, Some, Leaf, LeafBuilds, LeafBuilt};
 
 // A change of a trie: its kind, its second text and key as spans of the table's text, and the included trie.

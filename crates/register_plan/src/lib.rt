@@ -11,7 +11,7 @@ ghost use Rattle.source.specs.Lent.{old, new};
 ghost use Rattle.source.specs.Limits.{most-segments};
 ghost use Rattle.source.specs.Text.{segments, ends-in-dot};
 ghost use Rattle.register_kind.specs.Shapes.{shape-of};
-ghost use Rattle.register_kind.specs.declared.Kind.the-variants.{Include, Open, Module};
+ghost use Rattle.register_kind.specs.declared.CallKind.the-variants.{Include, Open, Module};
 ghost use Rattle.memory.specs.Layout.{names, modules, trieˢ};
 ghost use Rattle.memory.specs.Sound.{At};
 ghost use Rattle.find_trie.specs.Tries.{AnyTrie};

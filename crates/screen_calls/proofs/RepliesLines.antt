@@ -7,7 +7,7 @@ use mathlib.Core.Option.{Option, none, some, Option·none-ne-some}
 use Rattle.source.specs.Text.{Str}
 use Rattle.source.specs.Table as S
 use Rattle.source.specs.Calls as C
-use Rattle.source.specs.Calls.{lowest, argument-rows, Output, completion-rows, completed, complete, complete-modules}
+use Rattle.source.specs.Calls.{first-row, argument-rows, Output, completion-rows, completed, complete, complete-modules}
 use Rattle.memory.specs.Layout.{Item}
 use Rattle.listing_ask.specs.Ask.{asked}
 use Rattle.listing_ask.specs.declared.Ask.{Ask}
@@ -46,7 +46,7 @@ module _ (ask : Ask) (m txt ls ls′ out out′ : List ℕ) where
 
 completion-unsound : (tbl : S.Table) (ask : Ask) (budget : ℕ) (o : Output) (q : Str)
     → completion false tbl ask budget o q ≡ C.refused 1
-unfolding complete complete-modules completed completion-rows lowest argument-rows
+unfolding complete complete-modules completed completion-rows first-row argument-rows
 completion-unsound tbl (Names f) budget o q = refl
 completion-unsound tbl (Modules f) budget o q = refl
 

@@ -6,7 +6,7 @@ use mathlib.Core.List.{List}
 use Rattle.source.specs.Text.{Str}
 use Rattle.source.specs.Types.{Trie}
 use Rattle.source.specs.Calls as C
-use Rattle.source.specs.Calls.{lowest, argument-rows, look-up}
+use Rattle.source.specs.Calls.{first-row, argument-rows, look-up}
 use Rattle.table_roots.specs.Answers.{name-found}
 use Rattle.table.specs.Answers.{Finds, FindsModule}
 use Rattle.table.specs.declared.Table.{Table}
@@ -22,7 +22,7 @@ use Rattle.screen_calls.specs.Replies.{RepliesName, RepliesModule}
 use Rattle.screen_calls.proofs.Held.{Held, says-memory, says-unsound}
 
 look-up-unsound : {A : Type 0} (root : Trie A) (q : Str) → look-up false root q ≡ C.refused 1
-unfolding look-up lowest argument-rows
+unfolding look-up first-row argument-rows
 look-up-unsound root q = refl
 
 module _ {st bs txt : List ℕ} {q : Str} (e : SoundBytes st bs txt → ⊥) where

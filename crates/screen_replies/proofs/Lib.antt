@@ -1,3 +1,2 @@
-pub mod Answered
 pub mod Filters
 mod Examples

@@ -13,12 +13,12 @@ use Rattle.source.specs.Listing.{PathOf, trie-find-prefix, trie-find-pre
 use Rattle.source.specs.Table.{Table, ModSymbol, Module, Namespace, Line, completion-result-of-ns-or-mod, filter-map, autocomplete-mod-or-ns}
 use Rattle.source.specs.Table.{autocomplete-mod-or-ns-first}
 use Rattle.source.specs.Calls.{kept, keeps-kind, Filter, All, Loaded, ModulesOnly, NamespacesOnly, keeps, Output, output-text, completion-rows, Completed}
-use Rattle.source.specs.Calls.{listed, refused, lowest, argument-rows, completed, complete, complete-modules}
+use Rattle.source.specs.Calls.{listed, refused, first-row, argument-rows, completed, complete, complete-modules}
 use Rattle.source.specs.declared.LidSymbol.{LidSymbol}
 use Rattle.source.specs.declared.KindFilter.{KindFilter}
 use Rattle.source.specs.declared.KindFilter.the-variants.{Every}
 use Rattle.source.proofs.Queries.{or-parts}
-use Rattle.source.proofs.Refusals.{lowest-none, none-lowest}
+use Rattle.source.proofs.Refusals.{first-row-none, none-first-row}
 
 -- The flag of a symbol, of either sort.
 abbrev pub is-loaded : ModSymbol → Bool
@@ -74,17 +74,17 @@ module _ {A : Type 0} where
   -- Rows that let all lines pass let the kept lines pass.
   kept-rows : (keep : A → Bool) (sound : Bool) (budget : ℕ) (out : Output) (query : Str) (ls : List (Line A))
       (entered : ℕ)
-      → lowest (completion-rows sound budget out query ls entered) ≡ none
-      → lowest (completion-rows sound budget out query (kept keep ls) entered) ≡ none
+      → first-row (completion-rows sound budget out query ls entered) ≡ none
+      → first-row (completion-rows sound budget out query (kept keep ls) entered) ≡ none
   unfolding completion-rows argument-rows
   kept-rows keep sound budget out query ls entered e =
-      let h = lowest-none (completion-rows sound budget out query ls entered) e in
+      let h = first-row-none (completion-rows sound budget out query ls entered) e in
       let p = or-parts (ltb (out .lines) (length ls)) (ltb (out .text) (length (output-text ls))) (h .1 .1 .1 .1 .1 .0) in
       let a : ltb (out .lines) (length (kept keep ls)) ≡ false =
       le-ltb (out .lines) (length (kept keep ls)) (omega (arith, kept-length keep ls, ltb-false (out .lines) (length ls) (p .0))) in
       let b : ltb (out .text) (length (output-text (kept keep ls))) ≡ false =
       le-ltb (out .text) (length (output-text (kept keep ls))) (omega (arith, kept-text keep ls, ltb-false (out .text) (length (output-text ls)) (p .1))) in
-      none-lowest (completion-rows sound budget out query (kept keep ls) entered)
+      none-first-row (completion-rows sound budget out query (kept keep ls) entered)
       (h .0, (h .1 .0, (h .1 .1 .0, (h .1 .1 .1 .0, (h .1 .1 .1 .1 .0, (rw (a, b) refl, tt))))))
 
   -- Where all lines are listed the kept ones are, as they are, with the same tries entered.
@@ -94,10 +94,10 @@ module _ {A : Type 0} where
       → completed sound budget out query (kept keep all) n ≡ listed (kept keep ls) entered
   unfolding completed
   kept-completed keep sound budget out query all all′ ls n entered same e =
-      go (lowest (completion-rows sound budget out query all n)) (kept-rows keep sound budget out query all n)
+      go (first-row (completion-rows sound budget out query all n)) (kept-rows keep sound budget out query all n)
       (subst (λ l. completed sound budget out query l n ≡ listed ls entered) same e)
     where
-      go : (o : Option ℕ) → (o ≡ none → lowest (completion-rows sound budget out query (kept keep all) n) ≡ none)
+      go : (o : Option ℕ) → (o ≡ none → first-row (completion-rows sound budget out query (kept keep all) n) ≡ none)
           → _≡_ {A = Completed A} (elim o [ none ↦ listed all n | some m ↦ refused m ]) (listed ls entered)
           → completed sound budget out query (kept keep all) n ≡ listed (kept keep ls) entered
       go none h e = rw (h refl, completed) (cc)

@@ -11,7 +11,8 @@ use Rattle.source.specs.Text.{Str, segments, ends-in-dot}
 use Rattle.source.specs.Types.{Trie, Value, bind}
 use Rattle.source.specs.Tries.{trie-find-exact}
 use Rattle.source.specs.Table.{Line}
-use Rattle.source.specs.Calls.{Argument, a-look-up, is-empty, any, bad-query, malformed, empty-name, too-long, Row, _when_, lowest, argument-rows, State}
+use Rattle.source.specs.Calls.{Argument, a-look-up, is-empty, any, bad-query, malformed, empty-name, too-long, Row, _when_, first-row, argument-rows}
+use Rattle.source.specs.Calls.{State}
 use Rattle.source.specs.Calls.{Lent, whole-records, free, Call, arguments, registered, records, text-taken, crowded, deep, registration-rows, after}
 use Rattle.source.specs.Calls.{Registered, accepted, refused, register, Output, completion-rows, Found, found-of, look-up, Completed, listed, completed}
 use Rattle.source.proofs.Queries.{or-parts}
@@ -34,43 +35,44 @@ number (n when b) = n
 abbrev pub holds : Row → Bool
 holds (n when b) = b
 
--- ---- lowest
+-- ---- first-row
 -- Of two lots of rows.
-pub lowest-stops : (xs ys : List Row) {n : ℕ} → lowest xs ≡ some n → lowest (xs ++ ys) ≡ some n
-unfolding lowest
-lowest-stops [] ys e = absurd (Option·none-ne-some _ e)
-lowest-stops ((k when true) ∷ xs) ys e = e
-lowest-stops ((k when false) ∷ xs) ys e = lowest-stops xs ys e
+pub first-row-stops : (xs ys : List Row) {n : ℕ} → first-row xs ≡ some n → first-row (xs ++ ys) ≡ some n
+unfolding first-row
+first-row-stops [] ys e = absurd (Option·none-ne-some _ e)
+first-row-stops ((k when true) ∷ xs) ys e = e
+first-row-stops ((k when false) ∷ xs) ys e = first-row-stops xs ys e
 
-pub lowest-past : (xs ys : List Row) → lowest xs ≡ none → lowest (xs ++ ys) ≡ lowest ys
-unfolding lowest
-lowest-past [] ys e = refl
-lowest-past ((k when true) ∷ xs) ys e = absurd (Option·none-ne-some _ (sym e))
-lowest-past ((k when false) ∷ xs) ys e = lowest-past xs ys e
+pub first-row-past : (xs ys : List Row) → first-row xs ≡ none → first-row (xs ++ ys) ≡ first-row ys
+unfolding first-row
+first-row-past [] ys e = refl
+first-row-past ((k when true) ∷ xs) ys e = absurd (Option·none-ne-some _ (sym e))
+first-row-past ((k when false) ∷ xs) ys e = first-row-past xs ys e
 
 -- It is the number of some row.
-lowest-among : (P : ℕ → Type 0) (rows : List Row) {n : ℕ} → Allˡ (λ r. P (number r)) rows → lowest rows ≡ some n → P n
-unfolding lowest
-lowest-among P [] a e = absurd (Option·none-ne-some _ e)
-lowest-among P ((k when true) ∷ rows) {n} a e = let z : k ≡ n = cc in subst P z (a .0)
-lowest-among P ((k when false) ∷ rows) a e = lowest-among P rows (a .1) e
+first-row-among : (P : ℕ → Type 0) (rows : List Row) {n : ℕ} → Allˡ (λ r. P (number r)) rows → first-row rows ≡ some n
+    → P n
+unfolding first-row
+first-row-among P [] a e = absurd (Option·none-ne-some _ e)
+first-row-among P ((k when true) ∷ rows) {n} a e = let z : k ≡ n = cc in subst P z (a .0)
+first-row-among P ((k when false) ∷ rows) a e = first-row-among P rows (a .1) e
 
-pub lowest-none : (rows : List Row) → lowest rows ≡ none → Allˡ (λ r. holds r ≡ false) rows
-unfolding lowest
-lowest-none [] e = tt
-lowest-none ((n when true) ∷ rows) e = absurd (Option·none-ne-some n (sym e))
-lowest-none ((n when false) ∷ rows) e = (refl, lowest-none rows e)
+pub first-row-none : (rows : List Row) → first-row rows ≡ none → Allˡ (λ r. holds r ≡ false) rows
+unfolding first-row
+first-row-none [] e = tt
+first-row-none ((n when true) ∷ rows) e = absurd (Option·none-ne-some n (sym e))
+first-row-none ((n when false) ∷ rows) e = (refl, first-row-none rows e)
 
-pub none-lowest : (rows : List Row) → Allˡ (λ r. holds r ≡ false) rows → lowest rows ≡ none
-unfolding lowest
-none-lowest [] a = refl
-none-lowest ((n when b) ∷ rows) a = rw (a .0) (none-lowest rows (a .1))
+pub none-first-row : (rows : List Row) → Allˡ (λ r. holds r ≡ false) rows → first-row rows ≡ none
+unfolding first-row
+none-first-row [] a = refl
+none-first-row ((n when b) ∷ rows) a = rw (a .0) (none-first-row rows (a .1))
 
-pub lowest-parts : (xs ys : List Row) → lowest (xs ++ ys) ≡ none → (lowest xs ≡ none) × (lowest ys ≡ none)
-unfolding lowest
-lowest-parts [] ys e = (refl, e)
-lowest-parts ((n when true) ∷ xs) ys e = absurd (Option·none-ne-some n (sym e))
-lowest-parts ((n when false) ∷ xs) ys e = lowest-parts xs ys e
+pub first-row-parts : (xs ys : List Row) → first-row (xs ++ ys) ≡ none → (first-row xs ≡ none) × (first-row ys ≡ none)
+unfolding first-row
+first-row-parts [] ys e = (refl, e)
+first-row-parts ((n when true) ∷ xs) ys e = absurd (Option·none-ne-some n (sym e))
+first-row-parts ((n when false) ∷ xs) ys e = first-row-parts xs ys e
 
 -- ---- the calls' rows
 -- A call that passes rows 1 to 4.
@@ -80,11 +82,11 @@ pub record Admitted (sound : Bool) (args : List Argument) : Type 0 where
   pub named : any empty-name args ≡ false
   pub short : any too-long args ≡ false
 
-pub argument-rows-none : (sound : Bool) (args : List Argument) → lowest (argument-rows sound args) ≡ none
+pub argument-rows-none : (sound : Bool) (args : List Argument) → first-row (argument-rows sound args) ≡ none
     → Admitted sound args
 unfolding argument-rows
 argument-rows-none sound args e =
-    let h = lowest-none (argument-rows sound args) e in
+    let h = first-row-none (argument-rows sound args) e in
     record { is-sound = not-false sound (h .0); well-formed = h .1 .0; named = h .1 .1 .0; short = h .1 .1 .1 .0 }
 
 -- A look-up's query ends in a dot, and has a segment
@@ -108,11 +110,11 @@ pub record Acceptable (sound : Bool) (lent : Lent) (s : State) (c : Call) : Type
   pub text-fits : ltb (free (lent .text) (s .text-used)) (text-taken (arguments c)) ≡ false
 
 pub registration-rows-none : (sound : Bool) (lent : Lent) (s : State) (c : Call)
-    → lowest (registration-rows sound lent s c) ≡ none → Acceptable sound lent s c
+    → first-row (registration-rows sound lent s c) ≡ none → Acceptable sound lent s c
 unfolding registration-rows
 registration-rows-none sound lent s c e =
-    let p = lowest-parts (argument-rows sound (arguments c)) _ e in
-    let h = lowest-none _ (p .1) in
+    let p = first-row-parts (argument-rows sound (arguments c)) _ e in
+    let h = first-row-none _ (p .1) in
     record {
       admitted = argument-rows-none sound (arguments c) (p .0);
       light = h .0;
@@ -125,7 +127,7 @@ registration-rows-none sound lent s c e =
 accepted-view : (sound : Bool) (lent : Lent) (s s′ : State) (c : Call)
     → register sound lent s c ≡ accepted s′ → Acceptable sound lent s c × (s′ ≡ after s c)
 unfolding register
-accepted-view sound lent s s′ c e = go (lowest (registration-rows sound lent s c)) (registration-rows-none sound lent s c) e
+accepted-view sound lent s s′ c e = go (first-row (registration-rows sound lent s c)) (registration-rows-none sound lent s c) e
   where
     go : (o : Option ℕ) → (o ≡ none → Acceptable sound lent s c)
         → _≡_ {A = Registered} (elim o [ none ↦ accepted (after s c) | some n ↦ refused n ]) (accepted s′) → Acceptable sound lent s c × (s′ ≡ after s c)
@@ -144,34 +146,34 @@ accepted-acceptable sound lent s s′ c e = accepted-view sound lent s s′ c e 
 pub look-up-refused : {A : Type 0} (sound : Bool) (root : Trie A) (q : Str) {n : ℕ} → look-up sound root q ≡ refused n
     → (0 < n) × (n ≤ 10)
 unfolding look-up argument-rows found-of
-look-up-refused {A} sound root q {n} e = go (lowest (argument-rows sound (a-look-up q ∷ []))) refl (found-of (trie-find-exact root (segments q)))
+look-up-refused {A} sound root q {n} e = go (first-row (argument-rows sound (a-look-up q ∷ []))) refl (found-of (trie-find-exact root (segments q)))
     (λ m. found-not (trie-find-exact root (segments q)) m) e
   where
     found-not : (o : Option (Value A bind)) (m : ℕ) → found-of o ≡ refused m → ⊥
     found-not none m e = let z : _≡_ {A = ℕ} 0 1 = cc in omega arith
     found-not (some v) m e = let z : _≡_ {A = ℕ} 0 1 = cc in omega arith
 
-    go : (o : Option ℕ) → lowest (argument-rows sound (a-look-up q ∷ [])) ≡ o → (f : Found A)
+    go : (o : Option ℕ) → first-row (argument-rows sound (a-look-up q ∷ [])) ≡ o → (f : Found A)
         → ((m : ℕ) → f ≡ refused m → ⊥)
         → _≡_ {A = Found A} (elim o [ none ↦ f | some m ↦ refused m ]) (refused n) → (0 < n) × (n ≤ 10)
     go none h f k e = absurd (k n e)
     go (some m) h f k e =
         let z : m ≡ n = cc in
-        rw (← z) (lowest-among (λ j. (0 < j) × (j ≤ 10)) (argument-rows sound (a-look-up q ∷ []))
+        rw (← z) (first-row-among (λ j. (0 < j) × (j ≤ 10)) (argument-rows sound (a-look-up q ∷ []))
         ((omega arith, omega arith), ((omega arith, omega arith), ((omega arith, omega arith), ((omega arith, omega arith), tt)))) h)
 
 pub completed-refused : {A : Type 0} (sound : Bool) (budget : ℕ) (out : Output) (query : Str) (lines : List (Line A))
     (entered : ℕ) {n : ℕ}
     → completed sound budget out query lines entered ≡ refused n → (0 < n) × (n ≤ 10)
 unfolding completed completion-rows argument-rows
-completed-refused {A} sound budget out query lines entered {n} e = go (lowest (completion-rows sound budget out query lines entered)) refl e
+completed-refused {A} sound budget out query lines entered {n} e = go (first-row (completion-rows sound budget out query lines entered)) refl e
   where
-    go : (o : Option ℕ) → lowest (completion-rows sound budget out query lines entered) ≡ o
+    go : (o : Option ℕ) → first-row (completion-rows sound budget out query lines entered) ≡ o
         → _≡_ {A = Completed A} (elim o [ none ↦ listed lines entered | some m ↦ refused m ]) (refused n) → (0 < n) × (n ≤ 10)
     go none h e = let z : _≡_ {A = ℕ} 0 1 = cc in absurd (omega arith)
     go (some m) h e =
         let z : m ≡ n = cc in
-        rw (← z) (lowest-among (λ j. (0 < j) × (j ≤ 10)) (completion-rows sound budget out query lines entered) (
+        rw (← z) (first-row-among (λ j. (0 < j) × (j ≤ 10)) (completion-rows sound budget out query lines entered) (
           (omega arith, omega arith),
           (
             (omega arith, omega arith),

@@ -82,11 +82,11 @@ pub data Row : Type 0 where
   _when_ : ℕ → Bool → Row
 
 infix 10 _when_
--- The lowest number that applies, where rows stand by number.
-unfoldable pub lowest : List Row → Option ℕ
-lowest [] = none
-lowest ((n when true) ∷ rows) = some n
-lowest ((n when false) ∷ rows) = lowest rows
+-- The number of the first row that applies.
+unfoldable pub first-row : List Row → Option ℕ
+first-row [] = none
+first-row ((n when true) ∷ rows) = some n
+first-row ((n when false) ∷ rows) = first-row rows
 
 -- Rows 1 to 4, of every call.
 unfoldable pub argument-rows : (sound : Bool) → List Argument → List Row
@@ -188,7 +188,7 @@ pub data Registered : Type 0 where
 -- What a registration hands back. Refused, the table comes back equal.
 unfoldable pub register : (sound : Bool) → Lent → State → Call → Registered
 register sound lent s c =
-    elim (lowest (registration-rows sound lent s c)) [ none ↦ accepted (after s c) | some n ↦ refused n ]
+    elim (first-row (registration-rows sound lent s c)) [ none ↦ accepted (after s c) | some n ↦ refused n ]
 
 -- ---- Look-ups
 
@@ -204,7 +204,7 @@ found-of (some v) = found (the-item v)
 -- What a look-up on a root hands back.
 unfoldable pub look-up : {A : Type 0} → (sound : Bool) → Trie A → Str → Found A
 look-up sound root query =
-    elim (lowest (argument-rows sound (a-look-up query ∷ []))) [
+    elim (first-row (argument-rows sound (a-look-up query ∷ []))) [
       | none ↦ found-of (trie-find-exact root (segments query))
       | some n ↦ refused n
     ]
@@ -264,7 +264,7 @@ module _ {A : Type 0} where
 
   unfoldable pub completed : (sound : Bool) → (budget : ℕ) → Output → Str → List (Line A) → (entered : ℕ) → Completed A
   completed sound budget out query lines entered =
-      elim (lowest (completion-rows sound budget out query lines entered))
+      elim (first-row (completion-rows sound budget out query lines entered))
       [ none ↦ listed lines entered | some n ↦ refused n ]
 
 -- Tries entered: the calls of trie_find_prefix'.

@@ -82,7 +82,8 @@ module _ {A : Type 0} where
     unfoldable pub find-prefix-fuel : ℕ → Trie A → PathOf → Query → List (PathOf × A) → List (PathOf × A)
     find-prefix-fuel zero tr path-acc q acc = acc
     find-prefix-fuel (suc n) tr path-acc q acc =
-        rev-map-onto (λ x. (reverse (x .0 ∷ path-acc), the-item (x .1))) (find bind (bindings tr) (bindings-search-term q))
+        rev-map-onto (λ x. (reverse (x .0 ∷ path-acc), the-item (x .1)))
+        (find bind (bindings tr) (bindings-search-term q))
         (fold-left (λ acc x. find-prefix-fuel n (x .1) (x .0 ∷ path-acc) (tail q) acc) acc
         (find ns (namespaces tr) (ns-search-term q)))
 

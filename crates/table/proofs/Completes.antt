@@ -4,7 +4,7 @@ use mathlib.Core.Path.{_≡_, refl, subst}
 use mathlib.Core.Bool.{true, false}
 use mathlib.Core.List.{List}
 use Rattle.source.specs.Text.{Str, segments}
-use Rattle.source.specs.Calls.{lowest, argument-rows, Output, completion-rows, completed, tries-entered, keeps-kind, keeps, complete, complete-modules}
+use Rattle.source.specs.Calls.{first-row, argument-rows, Output, completion-rows, completed, tries-entered, keeps-kind, keeps, complete, complete-modules}
 use Rattle.source.proofs.Lines.{autocomplete-lid-is, autocomplete-mod-or-ns-is}
 use Rattle.memory.specs.Layout.{trieˢ, what}
 use Rattle.listing_ask.specs.Ask.{filter-in, asked}
@@ -43,7 +43,7 @@ completes-table {ws} {txt} {t} {request} {query} {flat} {flat′} {out} {out′}
 pub completes-unsound : {ws txt : List ℕ} {t : Table} {request : Request} {query : Str} {flat out : List ℕ}
     → (IsSound ws txt t → ⊥)
     → Completes ws txt t request query flat flat out out (record { table = t; answer = Refused Unsound })
-unfolding complete complete-modules completed completion-rows lowest argument-rows
+unfolding complete complete-modules completed completion-rows first-row argument-rows
 completes-unsound {ws} {txt} {t} {request} {query} {flat} {out} o = record { table = refl; says = λ b h. rw (says-same _ b false h o) (go (request .ask)) }
   where
     go : (ask : Ask) → CompletesAs ask ws txt flat flat out out (Refused Unsound)

@@ -4,7 +4,7 @@ use mathlib.Core.Path.{_≡_, refl}
 use mathlib.Core.Bool.{true, false}
 use mathlib.Core.List.{List}
 use Rattle.source.specs.Text.{Str}
-use Rattle.source.specs.Calls.{lowest, argument-rows, look-up}
+use Rattle.source.specs.Calls.{first-row, argument-rows, look-up}
 use Rattle.memory.specs.Layout.{modules}
 use Rattle.refusals.specs.declared.Refusal.the-variants.{Unsound}
 use Rattle.table.specs.Header.{IsSound, names-in}
@@ -23,7 +23,7 @@ module _ {ws txt : List ℕ} {t : Table} {query : Str} where
   finds-sound o e = record { table = refl; says = λ b h. rw (says-same _ b true h o) e }
 
   pub finds-unsound : (IsSound ws txt t → ⊥) → Finds ws txt t query (record { table = t; answer = Refused Unsound })
-  unfolding lowest argument-rows look-up
+  unfolding first-row argument-rows look-up
   finds-unsound o = record { table = refl; says = λ b h. rw (says-same _ b false h o) refl }
 
   pub finds-module-sound : {f : FoundModule} → IsSound ws txt t → FindsModuleOn ws txt (t .header .modules) query f
@@ -32,5 +32,5 @@ module _ {ws txt : List ℕ} {t : Table} {query : Str} where
 
   pub finds-module-unsound : (IsSound ws txt t → ⊥)
       → FindsModule ws txt t query (record { table = t; answer = Not-found Unsound })
-  unfolding lowest argument-rows look-up
+  unfolding first-row argument-rows look-up
   finds-module-unsound o = record { table = refl; says = λ b h. rw (says-same _ b false h o) refl; inside = tt }

@@ -2,4 +2,3 @@ pub mod Header
 pub mod Answers
 pub mod Registrations
 pub mod Completions
-pub mod Agreement

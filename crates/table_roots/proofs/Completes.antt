@@ -5,8 +5,8 @@ use mathlib.Core.Bool.{true}
 use mathlib.Core.List.{List, [], _∷_}
 use mathlib.Core.Option.{some}
 use Rattle.source.specs.Text.{Str}
-use Rattle.source.specs.Calls.{a-completion, lowest, argument-rows, completion-rows, completed}
-use Rattle.source.proofs.Refusals.{lowest-stops}
+use Rattle.source.specs.Calls.{a-completion, first-row, argument-rows, completion-rows, completed}
+use Rattle.source.proofs.Refusals.{first-row-stops}
 use Rattle.memory.specs.Layout.{trieˢ}
 use Rattle.listing_ask.specs.Ask.{asked}
 use Rattle.listing_ask.specs.declared.Ask.{Ask}
@@ -23,12 +23,12 @@ use Rattle.memory_table.specs.Table.{Sound}
 use Rattle.memory_table.specs.declared.Header.{Header}
 
 pub completes-refused : {ws txt : List ℕ} {request : Request} {root : ℕ} {query : Str} {flat out : List ℕ} {x : Refusal}
-    → lowest (argument-rows true (a-completion query ∷ [])) ≡ some (number x)
+    → first-row (argument-rows true (a-completion query ∷ [])) ≡ some (number x)
     → CompletesOn ws txt request root query flat flat out out (Refused x)
 unfolding completed completion-rows
 completes-refused {query = query} e =
     record {
-      says = rw (completed, completion-rows, lowest-stops (argument-rows true (a-completion query ∷ [])) _ e)
+      says = rw (completed, completion-rows, first-row-stops (argument-rows true (a-completion query ∷ [])) _ e)
           (refl, refl, refl);
     }
 

@@ -10,7 +10,7 @@ use borrow.Author.Tests.{ne-eqb}
 use Rattle.source.specs.Text.{Str, Query, segments, ends-in-dot}
 use Rattle.source.specs.Types.{Trie, bind, the-item}
 use Rattle.source.specs.Tries.{trie-find-exact}
-use Rattle.source.specs.Calls.{a-look-up, lowest, argument-rows, found, not-found, refused, found-of, look-up}
+use Rattle.source.specs.Calls.{a-look-up, first-row, argument-rows, found, not-found, refused, found-of, look-up}
 use Rattle.source.proofs.Refusals.{argument-rows-none, look-up-whole}
 use Rattle.memory.specs.Layout.{record-at, Which, modules, item-of, tree, trieˢ, kind, what}
 use Rattle.memory.specs.Sound.{LinkOk, At}
@@ -24,20 +24,20 @@ use Rattle.listing_row.specs.Rows.{SymbolInside}
 use Rattle.listing_row.proofs.Inside.{symbol-in-inside}
 
 module _ (query : Str) where
-  pub look-up-query-whole : lowest (argument-rows true (a-look-up query ∷ [])) ≡ none → ends-in-dot query ≡ true
+  pub look-up-query-whole : first-row (argument-rows true (a-look-up query ∷ [])) ≡ none → ends-in-dot query ≡ true
   look-up-query-whole e = look-up-whole true query (argument-rows-none true _ e)
 
   pub look-up-rows-refused : {A : Type 0} (root : Trie A) {n : ℕ}
-      → lowest (argument-rows true (a-look-up query ∷ [])) ≡ some n → refused n ≡ look-up true root query
+      → first-row (argument-rows true (a-look-up query ∷ [])) ≡ some n → refused n ≡ look-up true root query
   unfolding look-up
   look-up-rows-refused root e = rw (look-up, e)
 
-  look-up-passed : {A : Type 0} (root : Trie A) → lowest (argument-rows true (a-look-up query ∷ [])) ≡ none
+  look-up-passed : {A : Type 0} (root : Trie A) → first-row (argument-rows true (a-look-up query ∷ [])) ≡ none
       → look-up true root query ≡ found-of (trie-find-exact root (segments query))
   unfolding look-up
   look-up-passed root e = rw (look-up, e)
 
-  module _ (e : lowest (argument-rows true (a-look-up query ∷ [])) ≡ none) {ws txt : List ℕ} {w : Which} {root r : ℕ}
+  module _ (e : first-row (argument-rows true (a-look-up query ∷ [])) ≡ none) {ws txt : List ℕ} {w : Which} {root r : ℕ}
       (h : FindsExactIn ws txt w root (segments query) r) where
     pub look-up-none : r ≡ 0 → not-found ≡ look-up true (what w ws txt root trieˢ) query
     unfolding found-of

@@ -13,7 +13,7 @@ use borrow.Author.Tests.{le-ltb}
 use Rattle.source.specs.Text.{Str}
 use Rattle.source.specs.Table as S
 use Rattle.source.specs.Calls as C
-use Rattle.source.specs.Calls.{LineRecord, Output, output-lines, complete, complete-modules, completed, completion-rows, lowest, argument-rows, signed-word}
+use Rattle.source.specs.Calls.{LineRecord, Output, output-lines, complete, complete-modules, completed, completion-rows, first-row, argument-rows, signed-word}
 use Rattle.source.specs.Shared.{Allˡ}
 use Rattle.source.proofs.Lines.{output-lines-length}
 use Rattle.memory.specs.Layout.{Which, Item, pick}
@@ -110,7 +110,7 @@ module _ (ask : Ask) (ws txt flat flat′ out out′ : List ℕ) (r : Completed)
 
 all-held : (ws txt : List ℕ) (t : Table) (ask : Ask) (query : Str) (budget : ℕ) (b : Bool) → Says b (IsSound ws txt t)
     → (o : Output) → AnswerHeld (completion b (table-in ws txt t) ask budget o query)
-unfolding complete complete-modules completed completion-rows lowest argument-rows
+unfolding complete complete-modules completed completion-rows first-row argument-rows
 all-held ws txt t ask query budget true s o = answer-held true (table-in ws txt t) ask budget o query (sound-table s)
 all-held ws txt t ask query budget false s o = go ask
   where

@@ -9,7 +9,7 @@ use lib.ListN.{length, take, drop, take-append-drop}
 use lib.Seq.{length-take-le, drop-append-le}
 use Rattle.source.specs.Text.{Str}
 use Rattle.source.specs.Calls as C
-use Rattle.source.specs.Calls.{complete, complete-modules, completed, completion-rows, lowest, argument-rows}
+use Rattle.source.specs.Calls.{complete, complete-modules, completed, completion-rows, first-row, argument-rows}
 use Rattle.memory.specs.Layout.{Item}
 use Rattle.text.specs.Laid.{Laid}
 use Rattle.listing_ask.specs.Ask.{asked}
@@ -104,7 +104,7 @@ module _ {ws txt : List ℕ} {t : Table} {q : Request} {query : Str} {room : ℕ
   -- A memory that is not sound.
   pub flat-unsound : (IsSound ws txt t → ⊥)
       → FlatCompletes ws txt t q query room flat flat out out (record { table = t; answer = Refused Unsound })
-  unfolding complete complete-modules completed completion-rows lowest argument-rows
+  unfolding complete complete-modules completed completion-rows first-row argument-rows
   flat-unsound o = record {
     table = refl;
     says = λ b s. subst (λ x. CompletesAs (q .ask) ws txt flat flat out out (Refused Unsound)

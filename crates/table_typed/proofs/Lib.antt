@@ -4,4 +4,3 @@ pub mod Lines
 pub mod FlatCompletes
 pub mod MatchLength
 pub mod Completes
-pub mod Agreement

@@ -17,7 +17,7 @@ use Rattle.source.specs.Listing.{PathOf, SearchTerm, NSTAll, NSTNone, NSTPrefix
 use Rattle.source.specs.Listing.{matching-values, with-imports, elem-key, names-find-rev-first}
 use Rattle.source.specs.Table.{Table, ModSymbol, Line, Matched, match-elem, match-length-of-path, completion-result-of-lid, completion-result-of-ns-or-mod}
 use Rattle.source.specs.Rules.{IsKey, IsLabel, NameItem, ModItem, Formed, FormedNames, SoundTrie, SoundTable}
-use Rattle.source.specs.Calls.{Completed, listed, refused, Output, completed, completion-rows, lowest, complete, complete-modules, keeps-kind, keeps}
+use Rattle.source.specs.Calls.{Completed, listed, refused, Output, completed, completion-rows, first-row, complete, complete-modules, keeps-kind, keeps}
 use Rattle.source.specs.Shared.{Allˡ}
 use Rattle.source.proofs.Lookup.{Allˡ-map, Allˡ-zip, Allˡ-reverse}
 use Rattle.source.proofs.Lists.{merge-all}
@@ -214,7 +214,7 @@ AnswerHeld (refused n) = Unit {0}
 completed-held : (A : Type 0) (b : Bool) (budget : ℕ) (out : Output) (query : Str) (lines : List (Line A)) (entered : ℕ)
     → Allˡ (λ l. Held (l .match-length)) lines → AnswerHeld (completed b budget out query lines entered)
 unfolding completed
-completed-held A b budget out query lines entered a = go (lowest (completion-rows b budget out query lines entered))
+completed-held A b budget out query lines entered a = go (first-row (completion-rows b budget out query lines entered))
   where
     go : (o : Option ℕ) → AnswerHeld {A = A} (elim o [ none ↦ listed lines entered | some n ↦ refused n ])
     go none = a

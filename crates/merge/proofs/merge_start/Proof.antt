@@ -16,7 +16,7 @@ merge-start-spec =
     start-heads (c .before .collect .ensures .1) list (omega (arith, c .before .collect .ensures .0, list-light list)))
     {- returns -}
     (λ c. let s = c .before .before .before .before in let collect = s .collect .ensures in record {
-      merge-starts = merge-starts (collect .1) (omega (arith, collect .0, list-light (s .before .before .before .before .before .before .before .pre .0 .list)))
+      starts = merge-starts (collect .1) (omega (arith, collect .0, list-light (s .before .before .before .before .before .before .before .pre .0 .list)))
           (c .before .before .heap-from-list .ensures);
       one = starts-one (collect .1);
     }))

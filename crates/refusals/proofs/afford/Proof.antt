@@ -1,12 +1,12 @@
 -- afford meets its contract.
-use Rattle.source.specs.Calls.{lowest}
+use Rattle.source.specs.Calls.{first-row}
 use borrow.Author.Tests.{lt-ltb, le-ltb}
 use borrow.Author.Needs.{needs}
 use Rattle.refusals.proofs.afford.Statement.{statement}
 use Rattle.refusals.proofs.afford.Tie as tie
 
 pub afford-spec : {M : Type 1} → statement M
-unfolding lowest
+unfolding first-row
 afford-spec =
     tie.close
     (tie.spec

@@ -10,7 +10,7 @@ use Rattle.source.specs.Text.{Str, segments}
 use Rattle.source.specs.Table as S
 use Rattle.source.specs.Table.{ModSymbol}
 use Rattle.source.specs.Calls as C
-use Rattle.source.specs.Calls.{look-up, lowest, argument-rows, output-text, complete, complete-modules}
+use Rattle.source.specs.Calls.{look-up, first-row, argument-rows, output-text, complete, complete-modules}
 use Rattle.promises.specs.Agreement.{Covers, NotRefused}
 use Rattle.promises.proofs.Agreement.{agreement}
 use Rattle.promises.proofs.Worded.{covers-itself}
@@ -28,9 +28,9 @@ use Rattle.table_roots.specs.Answers.{name-found, module-found}
 use Rattle.listing.specs.Completes.{CompletesAs}
 use Rattle.table.specs.declared.Table.{Table}
 use Rattle.listing.specs.declared.Completed.the-variants.{Listed}
 use Rattle.table_typed.specs.Completions.{output, ShownAs}
-use Rattle.table_typed.specs.Agreement.{LinesStand, ShownAlike, TypedAgree}
+use Rattle.table_promises.specs.Typed.{LinesStand, ShownAlike, TypedAgree}
 use Rattle.table_typed.specs.declared.Line.{Line}
 
 -- A listing that was not refused.
 listed-lines : (ask : Ask) (ws txt flat flat′ out out′ : List ℕ) (ls ls′ : List Line) (n entered : ℕ)
@@ -54,7 +54,7 @@ module _ (ws txt : List ℕ) (t : Table) (name query : Str) (budget : ℕ) (ls l
       → ShownAs (Names Every) txt ls ls′
       (complete b (table-in ws txt t) Every budget (output (length ls) flat out) query)
       → ShownAlike names txt ls ls′ out out′ n name a
-  unfolding look-up lowest argument-rows
+  unfolding look-up first-row argument-rows
   names-agree false s a f ok c v = absurd (rw f at ok)
   names-agree true s a f ok c v =
       let l = listed-lines (Names Every) ws txt flat flat′ out out′ ls ls′ n entered _ c v in (
@@ -70,7 +70,7 @@ module _ (ws txt : List ℕ) (t : Table) (name query : Str) (budget : ℕ) (ls l
       → ShownAs (Modules All) txt ls ls′
       (complete-modules b (table-in ws txt t) C.All budget (output (length ls) flat out) query)
       → ShownAlike modules txt ls ls′ out out′ n name a
-  unfolding look-up lowest argument-rows
+  unfolding look-up first-row argument-rows
   modules-agree false s a f ok c v = absurd (rw f at ok)
   modules-agree true s a f ok c v =
       let l = listed-lines (Modules All) ws txt flat flat′ out out′ ls ls′ n entered _ c v in (

@@ -8,7 +8,7 @@ use Rattle.source.specs.Text.{Str, segments}
 use Rattle.source.specs.Table as S
 use Rattle.source.specs.Table.{Line}
 use Rattle.source.specs.Calls as C
-use Rattle.source.specs.Calls.{look-up, lowest, argument-rows, Output, complete, complete-modules}
+use Rattle.source.specs.Calls.{look-up, first-row, argument-rows, Output, complete, complete-modules}
 use Rattle.promises.specs.Agreement.{Covers, without-last, lines-of-text, Shows}
 use Rattle.source.specs.declared.LidSymbol.{LidSymbol}
 use Rattle.promises.proofs.Agreement.{agreement}
@@ -31,12 +31,12 @@ use Rattle.screen_replies.specs.Replies.{name-reply, Answered}
 use Rattle.screen_replies.specs.declared.NameReply.{NameReply}
 use Rattle.screen_replies.specs.declared.ModuleReply.{ModuleReply}
 use Rattle.screen_replies.specs.declared.CompleteReply.{CompleteReply}
-use Rattle.screen_replies.proofs.Answered.{name-answered, module-answered}
+use Rattle.screen_promises.proofs.Answered.{name-answered, module-answered}
 use Rattle.screen_memory.specs.Memory.{words-in}
 use Rattle.screen_calls.specs.Memory.{table-at, SoundBytes}
 use Rattle.screen_calls.specs.Replies.{SaysModule}
 use Rattle.screen_calls.specs.Completions.{ListsAs}
-use Rattle.screen.specs.Agreement.{BytesAgree}
+use Rattle.screen_promises.specs.Agreement.{BytesAgree}
 
 module _ (b : Bool) (tbl : S.Table) (budget : ℕ) (o : Output) (q : Str) {n : ℕ} where
   names-refused : complete b tbl Every budget o q ≡ C.refused n → 0 < n
@@ -71,7 +71,7 @@ module _ (st bs txt : List ℕ) (name query : Str) (budget : ℕ) (ls ls′ out 
       → l .answer ≡ 0
       → (a : C.Found LidSymbol) × (f ≡ name-reply a)
       × Shows (lines-of-text (without-last name) (lines-seen names txt ls′ out′ (l .lines))) a
-  unfolding look-up lowest argument-rows
+  unfolding look-up first-row argument-rows
   names-agree false s f e h c z = absurd (name-answered (C.refused 1) e h (λ n i. let j : 1 ≡ n = cc in (omega arith, omega arith)))
   names-agree true s f e h c z =
       let ok = name-answered _ e h (λ n. look-up-refused true (names-in (words-in bs) txt (table-at st)) name) in
@@ -87,7 +87,7 @@ module _ (st bs txt : List ℕ) (name query : Str) (budget : ℕ) (ls ls′ out 
       (complete-modules b tbl C.All budget (output ls out) query) → l .answer ≡ 0
       → (a : C.Found S.ModSymbol) × SaysModule txt a f
       × Shows (lines-of-text (without-last name) (lines-seen modules txt ls′ out′ (l .lines))) a
-  unfolding look-up lowest argument-rows
+  unfolding look-up first-row argument-rows
   modules-agree false s f e h c z =
       absurd (module-answered txt (e .found) {a = C.refused 1} (e .reply) (e .says) h (λ n i. let j : 1 ≡ n = cc in (omega arith, omega arith)))
   modules-agree true s f e h c z =

@@ -8,7 +8,7 @@ use lib.ListN.{length}
 use Rattle.source.specs.Text.{Str, segments}
 use Rattle.source.specs.Table.{ModSymbol, Line}
 use Rattle.source.specs.Calls as C
-use Rattle.source.specs.Calls.{look-up, argument-rows, lowest}
+use Rattle.source.specs.Calls.{look-up, argument-rows, first-row}
 use Rattle.promises.specs.Agreement.{Covers, NotRefused, without-last, lines-of-text, Shows}
 use Rattle.promises.proofs.Agreement.{agrees, agreement}
 use Rattle.promises.proofs.Stable.{lid-told, mod-told, shows-stable}
@@ -25,9 +25,9 @@ use Rattle.listing_ask.specs.declared.Filter.the-variants.{All}
 use Rattle.listing_row.specs.Rows.{lines-seen}
 use Rattle.listing_row.proofs.Written.{written-seen}
 use Rattle.listing.specs.Completes.{output, CompletesAs}
 use Rattle.table.specs.Header.{IsSound, table-in}
-use Rattle.table.specs.Agreement.{HoldsName, HoldsModule, HoldsLines, CallsAgree}
+use Rattle.table_promises.specs.Agreement.{HoldsName, HoldsModule, HoldsLines, CallsAgree}
 use Rattle.table.specs.declared.Table.{Table}
 use Rattle.listing.specs.declared.Completed.{Completed}
 use Rattle.listing.specs.declared.Completed.the-variants.{Listed}
 
@@ -46,7 +46,7 @@ module _ (ws txt : List ℕ) (t : Table) (name query : Str) (cover : Covers (seg
   names-agree : (a : C.Found LidSymbol) (lines : List (Line LidSymbol)) → HoldsName ws txt t name a → NotRefused a
       → HoldsLines ws txt t (Names Every) query lines
       → (b : Bool) → Says b (IsSound ws txt t) → Shows (lines-of-text (without-last name) lines) a
-  unfolding look-up lowest argument-rows
+  unfolding look-up first-row argument-rows
   names-agree a lines f ok c false s = absurd (rw (sym (f .is) ∙ f .finds .says false s) at ok)
   names-agree a lines f ok c true s =
       let l =
@@ -58,7 +58,7 @@ module _ (ws txt : List ℕ) (t : Table) (name query : Str) (cover : Covers (seg
   modules-agree : (a : C.Found ModSymbol) (lines : List (Line ModSymbol)) → HoldsModule ws txt t name a → NotRefused a
       → HoldsLines ws txt t (Modules All) query lines
       → (b : Bool) → Says b (IsSound ws txt t) → Shows (lines-of-text (without-last name) lines) a
-  unfolding look-up lowest argument-rows
+  unfolding look-up first-row argument-rows
   modules-agree a lines f ok c false s = absurd (rw (sym (f .is) ∙ f .finds .says false s) at ok)
   modules-agree a lines f ok c true s =
       let l =

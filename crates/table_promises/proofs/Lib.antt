@@ -1,0 +1,3 @@
+pub mod Agreement
+pub mod Typed
+pub mod Calls
