@@ -29,7 +29,7 @@ extern "C" {
 #define NAME_CONSOLE_STACK 131072          /* for a registration or look-up */
 #define NAME_CONSOLE_STACK_COMPLETE 212992 /* for a completion */
 
-/* What a call answers. Where several refusals apply, the lowest number is given. A refusal changes no byte that is lent. */
+/* What a call answers. Where several refusals apply, the first in this order is given. A refusal changes no byte that is lent. */
 enum name_console_answer {
   NAME_CONSOLE_OK = 0,        /* accepted, found, listed */
   NAME_CONSOLE_UNSOUND = 1,   /* state, words and text are not a sound table */

@@ -1,7 +1,7 @@
 use std::error::Error;
 use std::fmt;
 
-/// Why a call was refused, with the requirements' number. Where several apply, the lowest is given; a refused call changes nothing.
+/// Why a call was refused, with the requirements' number. Where several apply, the first in this order is given; a refused call changes nothing.
 #[derive(Clone, Copy, Debug, PartialEq, Eq, PartialOrd, Ord, Hash)]
 #[repr(u32)]
 pub enum Refusal {
