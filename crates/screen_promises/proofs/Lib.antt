@@ -1,2 +1,2 @@
-pub mod Answered
+pub mod Replies
 pub mod Agreement
