@@ -1,36 +1,83 @@
 -- Demand 3 of the typed completion follows from its contract and from the theorem over the definitions.
 use Prim.Native.Nat.{ℕ, _+_}
-use mathlib.Core.Path.{_≡_, sym, _∙_}
+use mathlib.Core.Path.{_≡_, refl, sym, ap, ap₂, _∙_}
 use mathlib.Core.Bool.{Bool, true, false}
-use mathlib.Core.List.{List}
-use mathlib.Core.Option.{Option·none-ne-some}
+use mathlib.Core.List.{List, [], _∷_, _++_, map, append-assoc, nil≢cons, head-eq-of-cons-eq, tail-eq-of-cons-eq}
+use mathlib.Core.Option.{some, Option·none-ne-some, Option·some-injective}
 use native.Mathlib.Omega.{arith}
-use lib.ListN.{length}
+use lib.ListN.{length, take, drop}
+use lib.Seq.{take-at, drop-at}
 use Rattle.source.specs.Text.{Str, segments}
 use Rattle.source.specs.Table as S
 use Rattle.source.specs.Table.{ModSymbol}
 use Rattle.source.specs.Calls as C
-use Rattle.source.specs.Calls.{look-up, first-row, argument-rows, output-text, complete, complete-modules}
-use Rattle.promises.specs.Agreement.{Covers, NotRefused}
-use Rattle.promises.proofs.Agreement.{agreement}
-use Rattle.promises.proofs.Worded.{covers-itself}
+use Rattle.source.specs.Calls.{LineRecord, look-up, first-row, argument-rows, output-text, output-lines}
+use Rattle.promises.specs.Agreement.{Covers, NotRefused, without-last, lines-of-text, Shows}
+use Rattle.promises.proofs.Agreement.{agrees, agreement}
+use Rattle.promises.proofs.Stable.{lid-told, mod-told, shows-stable}
+use Rattle.memory.proofs.Says.{either-way}
 use Rattle.source.specs.declared.LidSymbol.{LidSymbol}
 use Rattle.source.specs.declared.KindFilter.the-variants.{Every}
-use Rattle.memory.specs.Layout.{names, modules, Item}
+use Rattle.memory.specs.Layout.{Which, Item}
 use Rattle.memory.specs.Sound.{Says}
 use Rattle.memory_table.proofs.Table.{sound-table}
 use Rattle.listing_ask.specs.Ask.{asked}
 use Rattle.listing_ask.specs.declared.Ask.{Ask}
 use Rattle.listing_ask.specs.declared.Ask.the-variants.{Names, Modules}
 use Rattle.listing_ask.specs.declared.Filter.the-variants.{All}
-use Rattle.table.specs.Header.{IsSound, table-in, names-in, modules-in}
-use Rattle.table_roots.specs.Answers.{name-found, module-found}
+use Rattle.table.specs.Header.{IsSound, table-in}
 use Rattle.listing.specs.Completes.{CompletesAs}
 use Rattle.table.specs.declared.Table.{Table}
 use Rattle.listing.specs.declared.Completed.the-variants.{Listed}
 use Rattle.table_typed.specs.Completions.{output, ShownAs}
-use Rattle.table_promises.specs.Typed.{LinesStand, ShownAlike, TypedAgree}
+use Rattle.table_typed.specs.Lines.{record-seen}
+use Rattle.table_promises.specs.Agreement.{HoldsName, HoldsModule}
+use Rattle.table_promises.specs.Typed.{LinesStand, HoldsTyped, TypedAgree}
 use Rattle.table_typed.specs.declared.Line.{Line}
+
+-- ---- What stands in the line structs and in the output text says which lines they are
+
+-- What two equal texts begin with, as long in both, and what follows.
+halves-same : (s t x y : Str) → length s ≡ length t → s ++ x ≡ t ++ y → (s ≡ t) × (x ≡ y)
+halves-same s t x y n e = (
+  sym (take-at s x (length s) refl) ∙ ap (take (length s)) e ∙ take-at t y (length s) (sym n),
+  sym (drop-at s x (length s) refl) ∙ ap (drop (length s)) e ∙ drop-at t y (length s) (sym n),
+)
+
+module _ {A : Type 0} where
+  line-same : (l l′ : S.Line A) → l .match-length ≡ l′ .match-length → l .item-of ≡ l′ .item-of
+      → l .candidate ≡ l′ .candidate → l .annotation ≡ l′ .annotation → l ≡ l′
+  line-same l l′ m i c a =
+      ap₂ (λ x y. record { match-length = x; item-of = y; candidate = l .candidate; annotation = l .annotation }) m i
+      ∙ ap₂ (λ x y. record { match-length = l′ .match-length; item-of = l′ .item-of; candidate = x; annotation = y }) c a
+
+  -- The lines' records have the lengths of their texts, by which the output text is cut.
+  lines-same : (at at′ : ℕ) (ls ls′ : List (S.Line A)) (x x′ : Str)
+      → map some (output-lines at ls) ≡ map some (output-lines at′ ls′)
+      → output-text ls ++ x ≡ output-text ls′ ++ x′ → ls ≡ ls′
+  unfolding output-text output-lines
+  lines-same at at′ [] [] x x′ e f = refl
+  lines-same at at′ [] (l′ ∷ ls′) x x′ e f = absurd (nil≢cons e)
+  lines-same at at′ (l ∷ ls) [] x x′ e f = absurd (nil≢cons (sym e))
+  lines-same at at′ (l ∷ ls) (l′ ∷ ls′) x x′ e f =
+      let r = Option·some-injective _ _ (head-eq-of-cons-eq e) in
+      let c = halves-same (l .candidate) (l′ .candidate) _ _ (ap (λ (z : LineRecord A). z .candidate .len) r)
+      (sym (append-assoc (l .candidate) _ x) ∙ f ∙ append-assoc (l′ .candidate) _ x′) in
+      let a = halves-same (l .annotation) (l′ .annotation) _ _ (ap (λ (z : LineRecord A). z .annotation .len) r)
+      (sym (append-assoc (l .annotation) _ x) ∙ c .1 ∙ append-assoc (l′ .annotation) _ x′) in
+      ap₂ _∷_
+      (line-same l l′ (ap (λ (z : LineRecord A). z .match-length) r) (ap (λ (z : LineRecord A). z .item-of) r) (c .0) (a .0))
+      (lines-same _ _ ls ls′ x x′ (tail-eq-of-cons-eq e) (a .1))
+
+stand-same : {w : Which} {txt : List ℕ} {ls ls′ : List Line} {out out′ : List ℕ} {n : ℕ}
+    (lines lines′ : List (S.Line (Item w)))
+    → LinesStand w txt ls ls′ out out′ n lines → LinesStand w txt ls ls′ out out′ n lines′ → lines ≡ lines′
+stand-same {w} {txt} {ls} {ls′} lines lines′ h h′ =
+    lines-same 0 0 lines lines′ _ _
+    (sym (h .shown .first) ∙ ap (λ k. map (record-seen w txt) (take k ls′)) (sym (h .count) ∙ h′ .count) ∙ h′ .shown .first)
+    (sym (h .texts .is) ∙ h′ .texts .is)
+
+-- ---- Demand 3
 
 -- A listing that was not refused.
 listed-lines : (ask : Ask) (ws txt flat flat′ out out′ : List ℕ) (ls ls′ : List Line) (n entered : ℕ)
@@ -45,53 +92,35 @@ listed-lines ask ws txt flat flat′ out out′ ls ls′ n entered (C.listed lin
     (lines, rw f, record { count = k; shown = s; texts = rw z at (h .1 .out-laid) })
 listed-lines ask ws txt flat flat′ out out′ ls ls′ n entered (C.refused m) h s = absurd (Option·none-ne-some m (h .0))
 
-module _ (ws txt : List ℕ) (t : Table) (name query : Str) (budget : ℕ) (ls ls′ : List Line)
-    (flat flat′ out out′ : List ℕ) (n entered : ℕ) (cover : Covers (segments query) (segments name)) where
-  names-agree : (b : Bool) → Says b (IsSound ws txt t) → (a : C.Found LidSymbol)
-      → a ≡ look-up b (names-in ws txt t) name → NotRefused a
-      → CompletesAs (Names Every) ws txt flat flat′ out out′ (Listed n entered)
-      (complete b (table-in ws txt t) Every budget (output (length ls) flat out) query)
-      → ShownAs (Names Every) txt ls ls′
-      (complete b (table-in ws txt t) Every budget (output (length ls) flat out) query)
-      → ShownAlike names txt ls ls′ out out′ n name a
+module _ (ws txt : List ℕ) (t : Table) (name query : Str) (cover : Covers (segments query) (segments name)) where
+  names-agree : (a : C.Found LidSymbol) (lines : List (S.Line LidSymbol)) → HoldsName ws txt t name a → NotRefused a
+      → HoldsTyped ws txt t (Names Every) query lines
+      → (b : Bool) → Says b (IsSound ws txt t) → Shows (lines-of-text (without-last name) lines) a
   unfolding look-up first-row argument-rows
-  names-agree false s a f ok c v = absurd (rw f at ok)
-  names-agree true s a f ok c v =
-      let l = listed-lines (Names Every) ws txt flat flat′ out out′ ls ls′ n entered _ c v in (
-        l .0,
-        l .2,
-        agreement .names (table-in ws txt t) (sound-table s) .shows name query a (l .0) (sym f) ok (budget, output (length ls) flat out, entered, l .1) cover,
-      )
+  names-agree a lines f ok c false s = absurd (rw (sym (f .is) ∙ f .finds .says false s) at ok)
+  names-agree a lines f ok c true s =
+      let l = listed-lines (Names Every) ws txt (c .flat) (c .flat′) (c .out) (c .out′) (c .ls) (c .ls′) (c .count) (c .entered) _
+      (rw (c .listed) at (c .completes .says true s)) (c .completes .shows true s) in
+      rw (stand-same lines (l .0) (c .stand) (l .2))
+      (agreement .names (table-in ws txt t) (sound-table s) .shows name query a (l .0) (sym (f .finds .says true s) ∙ f .is) ok
+      (c .budget, output (length (c .ls)) (c .flat) (c .out), c .entered, l .1) cover)
 
-  modules-agree : (b : Bool) → Says b (IsSound ws txt t) → (a : C.Found ModSymbol)
-      → a ≡ look-up b (modules-in ws txt t) name → NotRefused a
-      → CompletesAs (Modules All) ws txt flat flat′ out out′ (Listed n entered)
-      (complete-modules b (table-in ws txt t) C.All budget (output (length ls) flat out) query)
-      → ShownAs (Modules All) txt ls ls′
-      (complete-modules b (table-in ws txt t) C.All budget (output (length ls) flat out) query)
-      → ShownAlike modules txt ls ls′ out out′ n name a
+  modules-agree : (a : C.Found ModSymbol) (lines : List (S.Line ModSymbol)) → HoldsModule ws txt t name a → NotRefused a
+      → HoldsTyped ws txt t (Modules All) query lines
+      → (b : Bool) → Says b (IsSound ws txt t) → Shows (lines-of-text (without-last name) lines) a
   unfolding look-up first-row argument-rows
-  modules-agree false s a f ok c v = absurd (rw f at ok)
-  modules-agree true s a f ok c v =
-      let l = listed-lines (Modules All) ws txt flat flat′ out out′ ls ls′ n entered _ c v in (
-        l .0,
-        l .2,
-        agreement .modules (table-in ws txt t) (sound-table s) .shows name query a (l .0) (sym f) ok (budget, output (length ls) flat out, entered, l .1) cover,
-      )
+  modules-agree a lines f ok c false s = absurd (rw (sym (f .is) ∙ f .finds .says false s) at ok)
+  modules-agree a lines f ok c true s =
+      let l = listed-lines (Modules All) ws txt (c .flat) (c .flat′) (c .out) (c .out′) (c .ls) (c .ls′) (c .count) (c .entered) _
+      (rw (c .listed) at (c .completes .says true s)) (c .completes .shows true s) in
+      rw (stand-same lines (l .0) (c .stand) (l .2))
+      (agreement .modules (table-in ws txt t) (sound-table s) .shows name query a (l .0) (sym (f .finds .says true s) ∙ f .is) ok
+      (c .budget, output (length (c .ls)) (c .flat) (c .out), c .entered, l .1) cover)
 
--- Demand 3, of the typed completion.
+-- Demand 3, of the typed completion: what the memory is need not be known.
 pub typed-agree : TypedAgree
 typed-agree = record {
-  of-names = λ ws txt t b s name query f budget ls ls′ flat flat′ out out′ l n entered found ok c e cover.
-      names-agree ws txt t name query budget ls ls′ flat flat′ out out′ n entered cover b s (name-found (f .answer)) (found .says b s) ok
-      (rw e at (c .says b s)) (c .shows b s);
-  of-modules = λ ws txt t b s name query f budget ls ls′ flat flat′ out out′ l n entered found ok c e cover.
-      modules-agree ws txt t name query budget ls ls′ flat flat′ out out′ n entered cover b s (module-found txt (f .answer)) (found .says b s) ok
-      (rw e at (c .says b s)) (c .shows b s);
-  in-full = λ ws txt t b s name f budget ls ls′ flat flat′ out out′ l n entered x found is c e.
-      names-agree ws txt t name name budget ls ls′ flat flat′ out out′ n entered (covers-itself (segments name)) b s (C.found x) (sym is ∙ found .says b s) tt
-      (rw e at (c .says b s)) (c .shows b s);
-  module-in-full = λ ws txt t b s name f budget ls ls′ flat flat′ out out′ l n entered x found is c e.
-      modules-agree ws txt t name name budget ls ls′ flat flat′ out out′ n entered (covers-itself (segments name)) b s (C.found x) (sym is ∙ found .says b s) tt
-      (rw e at (c .says b s)) (c .shows b s);
+  names = λ ws txt t. agrees (λ name query a lines f ok c cover. either-way (shows-stable lid-told _ a) (names-agree ws txt t name query cover a lines f ok c));
+  modules =
+      λ ws txt t. agrees (λ name query a lines f ok c cover. either-way (shows-stable mod-told _ a) (modules-agree ws txt t name query cover a lines f ok c));
 }
