@@ -1,9 +1,9 @@
 -- Where the listing listing-departs from the source's, the theorems: `list-departs`, `listing-departs`.
 use Prim.Native.Nat.{ℕ, zero, suc, _≤_}
 use mathlib.Core.Path.{_≡_, refl, sym, ap, _∙_}
-use mathlib.Core.Logic.{_⊎_, inl, inr}
-use mathlib.Core.Bool.{Bool, true, false, cond, true≢false}
-use mathlib.Core.List.{List, [], _∷_, map, reverse, tail, map-id, nil≢cons}
+use mathlib.Core.Logic.{inl, inr}
+use mathlib.Core.Bool.{true, false, cond, true≢false}
+use mathlib.Core.List.{List, [], _∷_, map, reverse, tail, map-id}
 use mathlib.Core.Option.{Option, none, some, Option·map}
 use native.Mathlib.Omega.{arith}
 use lib.ListN.{length, length-map}
@@ -19,11 +19,10 @@ use Rattle.source.specs.Counted.{Counted, one, _>>=_, fold-leftᶜ, find-prefix
 use Rattle.source.specs.Rules.{Formed, IsKey, IsLabel, NameItem, ModItem, SoundTrie, SoundTable}
 use Rattle.source.specs.Calls.{is-empty}
 use Rattle.promises.specs.Agreement.{Covers, without-last, lines-of-text}
-use Rattle.promises.specs.Departs.{to-list, with-key, rows-of, ListDeparts, OneHolderEach, SameRun, OneHolder, SameLine, Departs}
+use Rattle.promises.specs.Departs.{accepts, to-list, with-key, rows-of, ListDeparts, OneHolderEach, SameRun, OneHolder, SameLine, Departs}
 use Rattle.source.specs.Shared.{Allˡ}
 use Rattle.source.proofs.Lookup.{Same, same-view, lookup, decreasing-unique, Allˡ-zip}
 use Rattle.promises.proofs.Trees.{valof}
-use Rattle.promises.proofs.Names.{accepts}
 use Rattle.source.proofs.Names.{OrderedN}
 use Rattle.promises.proofs.Names.{key-descending, find-rev-decreasing, find-rev-at, find-first-decreasing, find-first-at}
 use Rattle.promises.proofs.Holders.{rows-hold, first-found}
@@ -60,10 +59,6 @@ module _ {A : Type 0} {l : Level} where
   same-ends k (x ∷ []) a = refl
   same-ends k (x ∷ (y ∷ xs)) a = ap some (a .0 ∙ sym (a .1 .0)) ∙ same-ends k (y ∷ xs) (a .1)
 
-  no-value : (xs : List (PathElem × Value A l)) → map (λ x. x .1) xs ≡ [] → xs ≡ []
-  no-value [] e = refl
-  no-value (x ∷ xs) e = absurd (nil≢cons (sym e))
-
   module _ (n : NameList A l) (term : SearchTerm) (o : OrderedN n) where
     pub list-departs : ListDeparts n term
     unfolding rows-of
@@ -73,13 +68,8 @@ module _ {A : Type 0} {l : Level} where
           ∙ sym (ap (Option·map elem-key) (find-rev-at n term k o)));
       by-source = λ k. key-descending k (names-find-rev n term) (find-rev-decreasing n term o) ∙ ap to-list (find-rev-at n term k o);
       by-listing = λ k. key-descending k (names-find-rev-first n term) (find-first-decreasing n term o) ∙ ap to-list (find-first-at n term k o);
-      rows-hold = λ k. go k (accepts term k) (rows-hold n term k o);
+      rows-hold = λ k. rows-hold n term k o;
     }
-      where
-        go : (k : Str) (b : Bool) → map (λ x. x .1) (rows-of n term k) ≡ cond b (holders (flatten n) k) []
-            → (rows-of n term k ≡ []) ⊎ (map (λ x. x .1) (rows-of n term k) ≡ holders (flatten n) k)
-        go k true e = inr e
-        go k false e = inl (no-value (rows-of n term k) e)
 
     -- One holder of each key: the same rows.
     same-rows : ((k : Str) → length (rows-of n term k) ≤ 1) → names-find-rev-first n term ≡ names-find-rev n term

@@ -8,12 +8,11 @@ use Rattle.source.specs.Types.{Level, Value, Tree, NameList, []ᴺ, Names, Impo
 use Rattle.source.specs.Trees.{PathElem, btree-find-exact}
 use Rattle.source.specs.Terms.{flatten, found-onto, holders, first-of}
 use Rattle.source.specs.Listing.{SearchTerm, NSTAll, NSTNone, NSTPrefix, matching-values, with-imports, elem-key, names-find-rev-first}
-use Rattle.promises.specs.Departs.{to-list, with-key, rows-of}
+use Rattle.promises.specs.Departs.{accepts, to-list, with-key, rows-of}
 use Rattle.source.specs.Forward.{tree-matches, flat-in, flat}
 use Rattle.source.proofs.Lookup.{lookup}
 use Rattle.promises.proofs.Trees.{gate, valof}
 use Rattle.source.proofs.Lines.{flatMap-append, flatMap-map}
-use Rattle.promises.proofs.Names.{accepts}
 use Rattle.source.proofs.Names.{OrderedN, values-none}
 use Rattle.promises.proofs.Names.{holders-append, key-append, find-first-at, tree-row, value-of-first}
 use Rattle.source.proofs.Flat.{values-all-is, values-prefix-is}

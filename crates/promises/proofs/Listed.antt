@@ -20,7 +20,7 @@ use Rattle.source.specs.Shared.{same, Allˡ}
 use Rattle.source.proofs.Lookup.{Same, same-view, same-self, lookup, lookup-hit, lookup-miss, Below, Decreasing, Allˡ-zip}
 use Rattle.promises.proofs.Trees.{valof}
 use Rattle.source.proofs.Rows.{names-find-rev-all, names-find-rev-depth, names-find-first-depth}
-use Rattle.promises.proofs.Names.{accepts}
+use Rattle.promises.specs.Departs.{accepts}
 use Rattle.source.proofs.Names.{OrderedN}
 use Rattle.promises.proofs.Names.{find-exact-is-first, find-rev-decreasing, find-first-decreasing}
 use Rattle.promises.proofs.Holders.{first-found}

@@ -15,17 +15,12 @@ use Rattle.source.proofs.Lists.{merge-decreasing, merge-at}
 use Rattle.source.specs.Listing.{SearchTerm, NSTAll, NSTNone, NSTPrefix, matching-values, with-imports, elem-key, names-find-rev, names-find-rev-first}
 use Rattle.source.specs.Terms.{flatten, found-onto, holders, first-of}
 use Rattle.source.specs.Table.{last-opt}
-use Rattle.promises.specs.Departs.{to-list, with-key, rows-of}
+use Rattle.promises.specs.Departs.{accepts, to-list, with-key, rows-of}
 use Rattle.promises.proofs.Trees.{gate, valof, or-assoc, find-all-exactly, find-prefix-exactly}
 use Rattle.source.proofs.Trees.{entry-key}
 use Rattle.source.proofs.Lines.{flatMap-append}
 use Rattle.source.specs.Forward.{tree-matches}
 use Rattle.source.proofs.Names.{OrderedN, tree-ascends, labelled-increasing, values-increasing, turned-increasing}
-
-abbrev pub accepts : SearchTerm → Str → Bool
-accepts NSTAll k = true
-accepts NSTNone k = false
-accepts (NSTPrefix p) k = starts-with k p
 
 -- ---- first and last elements
 module _ {A : Type 0} where

@@ -1,22 +1,28 @@
 -- Where the listing departs from the source's: at a key with more than one holder the source keeps the last, the listing the first.
 use Prim.Native.Nat.{ℕ, zero, suc, _≤_}
 use mathlib.Core.Path.{_≡_}
-use mathlib.Core.Logic.{_⊎_}
-use mathlib.Core.Bool.{true, cond}
+use mathlib.Core.Bool.{Bool, true, false, cond}
 use mathlib.Core.List.{List, [], _∷_, map, flatMap, reverse, tail}
 use mathlib.Core.Option.{Option, none, some}
 use lib.ListN.{length}
-use Rattle.source.specs.Text.{Str, Query, segments}
+use Rattle.source.specs.Text.{Str, Query, starts-with, segments}
 use Rattle.source.specs.Types.{Level, Value, Trie, NameList, bindings, namespaces}
 use Rattle.source.specs.Trees.{PathElem}
 use Rattle.source.specs.Terms.{flatten, holders, first-of, depth}
-use Rattle.source.specs.Listing.{SearchTerm, ns-search-term, bindings-search-term, matching-values, with-imports, elem-key, names-find-rev}
+use Rattle.source.specs.Listing.{SearchTerm, NSTAll, NSTNone, NSTPrefix, ns-search-term, bindings-search-term, matching-values, with-imports, elem-key}
+use Rattle.source.specs.Listing.{names-find-rev}
 use Rattle.source.specs.Listing.{names-find-rev-first, of-source, by-first}
 use Rattle.source.specs.Table.{Table, Line, last-opt, autocomplete-lid, autocomplete-lid-first, autocomplete-mod-or-ns, autocomplete-mod-or-ns-first}
 use Rattle.source.specs.Counted.{trie-find-prefix′ᶜ}
 use Rattle.source.specs.Calls.{look-up}
 use Rattle.promises.specs.Agreement.{Covers, NotRefused, without-last, lines-of-text}
 use Rattle.source.specs.Shared.{same, Allˡ}
+
+-- The keys that a search term takes.
+abbrev pub accepts : SearchTerm → Str → Bool
+accepts NSTAll k = true
+accepts NSTNone k = false
+accepts (NSTPrefix p) k = starts-with k p
 
 abbrev pub to-list : {B : Type 0} → Option B → List B
 to-list none = []
@@ -32,13 +38,13 @@ module _ {A : Type 0} {l : Level} where
   unfoldable pub rows-of : NameList A l → SearchTerm → Str → List (PathElem × Value A l)
   rows-of n term k = with-key k (flatMap with-imports (reverse (matching-values n term)))
 
-  -- In a list: the same keys in the same order; of each the last row by the source, the first by the listing. The rows are those of the holders,
-  -- or none where the term does not match.
+  -- In a list: the same keys in the same order; of each the last row by the source, the first by the listing.
+  -- The rows are those of the holders where the term takes the key, else none.
   pub record ListDeparts (n : NameList A l) (term : SearchTerm) : Type 0 where
     pub same-keys : map elem-key (names-find-rev-first n term) ≡ map elem-key (names-find-rev n term)
     pub by-source : (k : Str) → with-key k (names-find-rev n term) ≡ to-list (last-opt (rows-of n term k))
     pub by-listing : (k : Str) → with-key k (names-find-rev-first n term) ≡ to-list (first-of (rows-of n term k))
-    pub rows-hold : (k : Str) → (rows-of n term k ≡ []) ⊎ (map (λ x. x .1) (rows-of n term k) ≡ holders (flatten n) k)
+    pub rows-hold : (k : Str) → map (λ x. x .1) (rows-of n term k) ≡ cond (accepts term k) (holders (flatten n) k) []
 
 module _ {A : Type 0} where
   -- No list that a run meets has a key with more than one holder.
