@@ -37,7 +37,7 @@ name-byte-no-dot : (b : ℕ) → name-byte b ≡ true → b ≢ dot
 unfolding name-byte
 name-byte-no-dot b e i = true≢false (sym e ∙ ap name-byte i)
 
-key-no-dot : (s : Str) → all name-byte s ≡ true → NoDot s
+pub key-no-dot : (s : Str) → all name-byte s ≡ true → NoDot s
 unfolding all
 key-no-dot [] e = tt
 key-no-dot (b ∷ s) e = let h = and-parts (name-byte b) (all name-byte s) e in (name-byte-no-dot b (h .0), key-no-dot s (h .1))
@@ -81,8 +81,8 @@ pub look-up-admitted : {A : Type 0} (tr : Trie A) (name : Str) → NotRefused (l
     → Admitted true (a-look-up name ∷ [])
 look-up-admitted tr name asked = argument-rows-none true (a-look-up name ∷ []) (look-up-passes tr name asked)
 
-completed-lines : {A : Type 0} (sound : Bool) (budget : ℕ) (out : Output) (query : Str) (lines lines′ : List (Line A))
-    (entered entered′ : ℕ)
+pub completed-lines : {A : Type 0} (sound : Bool) (budget : ℕ) (out : Output) (query : Str)
+    (lines lines′ : List (Line A)) (entered entered′ : ℕ)
     → completed sound budget out query lines entered ≡ listed lines′ entered′ → lines ≡ lines′
 unfolding completed
 completed-lines {A} sound budget out query lines lines′ entered entered′ e = go (first-row (completion-rows sound budget out query lines entered)) e

@@ -9,6 +9,7 @@ pub mod ListedTexts
 pub mod Worded
 pub mod Stable
 pub mod Agreement
+pub mod LinesFound
 pub mod Departs
 pub mod Refusals
 pub mod Keeps

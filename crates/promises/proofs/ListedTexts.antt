@@ -5,7 +5,7 @@ use mathlib.Core.Logic.{_≢_}
 use mathlib.Core.Bool.{Bool, true, false, cond, true≢false}
 use mathlib.Core.List.{List, [], _∷_, _++_, reverse, reverseAux, tail, nil≢cons, head-eq-of-cons-eq, tail-eq-of-cons-eq}
 use Rattle.source.specs.Text.{Str, Query, query-to-string, dot}
-use Rattle.source.specs.Types.{Level, Value, Trie, bind, ns, the-item, bindings, namespaces}
+use Rattle.source.specs.Types.{Value, Trie, bind, ns, the-item, bindings, namespaces}
 use Rattle.source.specs.Trees.{PathElem}
 use Rattle.source.specs.Terms.{depth}
 use Rattle.source.specs.Listing.{PathOf, Finder, fold-left, rev-map-onto, elem-key, ns-search-term, bindings-search-term, find-prefix-fuel, trie-find-prefix′}
@@ -56,26 +56,26 @@ onto-all : (P : Str → Type 0) (p : List Str) (k : Str) (m : List Str) → All�
 onto-all P [] k m a b = (k, m, refl, b)
 onto-all P (x ∷ p) k m a b = onto-all P p x (k ∷ m) (a .1) (a .0, b)
 
+-- What holds of every element of an accumulator holds of it once a list is folded onto it.
+module _ {B C : Type 0} (P : C → Type 0) where
+  pub rev-map-all : (g : B → C) (m : List B) (acc : List C) → Allˡ (λ y. P (g y)) m → Allˡ P acc
+      → Allˡ P (rev-map-onto g m acc)
+  unfolding rev-map-onto
+  rev-map-all g [] acc a b = b
+  rev-map-all g (y ∷ m) acc a b = rev-map-all g m (g y ∷ acc) (a .1) (a .0, b)
+
+  pub fold-all : (f : List C → B → List C) (Q : B → Type 0) (m : List B) (acc : List C)
+      → ((acc : List C) (y : B) → Q y → Allˡ P acc → Allˡ P (f acc y)) → Allˡ Q m → Allˡ P acc
+      → Allˡ P (fold-left f acc m)
+  unfolding fold-left
+  fold-all f Q [] acc h a b = b
+  fold-all f Q (y ∷ m) acc h a b = fold-all f Q m (f acc y) h (a .1) (h acc y (a .0) b)
+
 module _ {A : Type 0} (Key Label : Str → Type 0) (Item : A → Type 0) (find : Finder A)
     (finds : Finds Key Label Item find) where
   -- a line's path: not empty, each key fine
   abbrev LineOk : PathOf × A → Type 0
   LineOk x = (k : Str) × (m : List Str) × (keys (x .0) ≡ k ∷ m) × Allˡ Key (k ∷ m)
-
-  rev-map-ok : {l : Level} (g : PathElem × Value A l → PathOf × A) (m : List (PathElem × Value A l))
-      (acc : List (PathOf × A))
-      → Allˡ (λ y. LineOk (g y)) m → Allˡ LineOk acc → Allˡ LineOk (rev-map-onto g m acc)
-  unfolding rev-map-onto
-  rev-map-ok g [] acc a b = b
-  rev-map-ok g (y ∷ m) acc a b = rev-map-ok g m (g y ∷ acc) (a .1) (a .0, b)
-
-  fold-ok : {B : Type 0} (f : List (PathOf × A) → B → List (PathOf × A)) (Q : B → Type 0) (m : List B)
-      (acc : List (PathOf × A))
-      → ((acc : List (PathOf × A)) (y : B) → Q y → Allˡ LineOk acc → Allˡ LineOk (f acc y)) → Allˡ Q m → Allˡ LineOk acc
-      → Allˡ LineOk (fold-left f acc m)
-  unfolding fold-left
-  fold-ok f Q [] acc h a b = b
-  fold-ok f Q (y ∷ m) acc h a b = fold-ok f Q m (f acc y) h (a .1) (h acc y (a .0) b)
 
   lines-ok : (n : ℕ) (tr : Trie A) (path : PathOf) (q : Query) (acc : List (PathOf × A)) → Formed Key Label Item tr
       → Allˡ Key (keys path) → Allˡ LineOk acc
@@ -83,10 +83,10 @@ module _ {A : Type 0} (Key Label : Str → Type 0) (Item : A → Type 0) (find :
   unfolding find-prefix-fuel elem-key
   lines-ok zero tr path q acc g p a = a
   lines-ok (suc n) tr path q acc g p a =
-      rev-map-ok _ (find bind (bindings tr) (bindings-search-term q)) _
+      rev-map-all LineOk _ (find bind (bindings tr) (bindings-search-term q)) _
       (Allˡ-map (find bind (bindings tr) (bindings-search-term q)) line
       (finds .formed bind (bindings tr) (bindings-search-term q) (formed-parts Key Label Item tr g .0)))
-      (fold-ok _ (λ y. Key (elem-key y) × Formed Key Label Item (y .1)) (find ns (namespaces tr) (ns-search-term q)) acc
+      (fold-all LineOk _ (λ y. Key (elem-key y) × Formed Key Label Item (y .1)) (find ns (namespaces tr) (ns-search-term q)) acc
       (λ acc y f b. lines-ok n (y .1) (y .0 ∷ path) (tail q) acc (f .1) (f .0, p) b)
       (finds .formed ns (namespaces tr) (ns-search-term q) (formed-parts Key Label Item tr g .1)) a)
     where

@@ -2,13 +2,14 @@
 use Prim.Native.Nat.{ℕ, _-_}
 use mathlib.Core.Path.{_≡_}
 use mathlib.Core.Bool.{Bool, true, false, cond}
-use mathlib.Core.List.{List, [], _∷_}
+use mathlib.Core.List.{List, [], _∷_, _++_}
 use lib.Dec.{isEq}
 use lib.ListN.{length, take}
-use Rattle.source.specs.Text.{Str, Query, string-compare, starts-with, segments}
+use Rattle.source.specs.Text.{Str, Query, string-compare, starts-with, dot, segments}
 use Rattle.source.specs.Table.{Table, ModSymbol, Line}
 use Rattle.source.specs.Rules.{SoundTable}
 use Rattle.source.specs.Calls.{Found, found, not-found, refused, look-up, listed, Output, Filter, All, keeps, keeps-kind, complete, complete-modules}
+use Rattle.source.specs.Shared.{Allˡ}
 use Rattle.source.specs.declared.LidSymbol.{LidSymbol}
 use Rattle.source.specs.declared.KindFilter.{KindFilter}
 use Rattle.source.specs.declared.KindFilter.the-variants.{Every}
@@ -80,3 +81,21 @@ pub record FilteredAgree : Type 0 where
       → Agree (λ name a. passing (keeps-kind f) (look-up true (tbl .tbl-lids) name) ≡ a) (ListsNames tbl f)
   pub modules : (tbl : Table) → SoundTable tbl → (f : Filter)
       → Agree (λ name a. passing (keeps f) (look-up true (tbl .tbl-mods) name) ≡ a) (ListsModules tbl f)
+
+-- The full name of a line: its candidate with a dot after it.
+abbrev pub full-name : {A : Type 0} → Line A → Str
+full-name l = l .candidate ++ (dot ∷ [])
+
+-- Each line of a completion has a full name that the query covers, and look-up of it finds the line's item.
+pub record EachFound {A : Type 0} (Finds : Str → Found A → Type 0) (Lists : Str → List (Line A) → Type 0) : Type 0 where
+  pub covered : (query : Str) (lines : List (Line A)) → Lists query lines
+      → Allˡ (λ l. Covers (segments query) (segments (full-name l))) lines
+  pub found-item : (query : Str) (lines : List (Line A)) → Lists query lines
+      → Allˡ (λ l. (a : Found A) → Finds (full-name l) a → a ≡ found (l .item-of)) lines
+
+-- Demand 3 the other way round, on either root of every sound table, of every kind and filter.
+pub record LinesFound : Type 0 where
+  pub names : (tbl : Table) → SoundTable tbl → (f : KindFilter)
+      → EachFound (λ name a. look-up true (tbl .tbl-lids) name ≡ a) (ListsNames tbl f)
+  pub modules : (tbl : Table) → SoundTable tbl → (f : Filter)
+      → EachFound (λ name a. look-up true (tbl .tbl-mods) name ≡ a) (ListsModules tbl f)
