@@ -22,7 +22,7 @@ use Rattle.source.specs.Calls.{found, found-of, look-up, kept, keeps, keeps-kin
 use Rattle.source.specs.Calls.{is-empty, any, bad-query, long-query, malformed, empty-name, too-long}
 use Rattle.source.specs.Queries.{IsQuery}
 use Rattle.source.specs.Shared.{Allˡ}
-use Rattle.promises.specs.Departs.{rows-of}
+use Rattle.promises.specs.Departs.{accepts, rows-of}
 use Rattle.promises.specs.Agreement.{Covers, full-name, EachFound, LinesFound}
 use Rattle.source.proofs.Filters.{all-listed}
 use Rattle.source.proofs.Formed.{formed-orderedN, formed-parts, rows-formed}
@@ -33,7 +33,7 @@ use Rattle.source.proofs.Queries.{all-append, query-to-string-label, segments-d
 use Rattle.source.proofs.Refusals.{none-first-row}
 use Rattle.source.proofs.Rows.{names-find-first-depth}
 use Rattle.promises.proofs.Trees.{valof}
-use Rattle.promises.proofs.Names.{accepts, find-first-at, find-first-decreasing, value-of-first}
+use Rattle.promises.proofs.Names.{find-first-at, find-first-decreasing, value-of-first}
 use Rattle.promises.proofs.Holders.{rows-hold}
 use Rattle.promises.proofs.Listed.{look-up-is-walk}
 use Rattle.promises.proofs.ListedTexts.{NoDot, rev-map-all, fold-all}
