@@ -2,7 +2,7 @@
 """house.py [--check] [--write] [--above CRATE..]: the rooms, their crates, and what these really use.
 
 crates.txt has the rooms in order, each begun by a comment line `# ROOM: what it is`. Prints a row a crate: lines of code, definitions, laws and
-function proofs, must-fail edits, lines that are too long; then the levels. Then what is out of order, a line each:
+function proofs, must-fail edits, lines that are too long (tools/wrap.py); then the levels. Then what is out of order, a line each:
   a crate whose name does not begin with its room's, or that uses a crate of a later room;
   a dependency that crates.txt names and no file uses (a type or a definition that a used crate's structs or contracts name counts as used);
   a use that crates.txt does not name; a definition (specs/, or a contract) that cites proofs/;
@@ -17,13 +17,14 @@ import os
 import re
 import sys
 
+from wrap import limits
+
 KINDS = ['code', 'definitions', 'laws', 'proofs', 'edits', 'long']
 # Where the words of a line, which are not a record's, have their names.
 LAYOUTS = ('listing_output/specs/Output.antt',)
-LONGEST_STATEMENT, LONGEST_PROOF, MOST_PARAMETERS = 120, 160, 8
+MOST_PARAMETERS = 8
 CITE = re.compile(r'^\s*(?:pub )?(?:ghost )?use Rattle·([a-z0-9_]+)(?:·(?:specs|proofs))?\.(specs|proofs)\.')
 CALL = re.compile(r'\b([a-z][a-z0-9_]*)::')
-STATEMENT = re.compile(r'^\s*(?:(?:abbrev|unfoldable|pub|data|record) )*[^\s(){}=]+(?: [({].*?)? : ')
 BARE_CODE = re.compile(r'\b(?:word_of|stored)\([^;]*, \d+\)|\b(?:row|old|new|r|item)\[\d+\]')
 BARE_SPEC = re.compile(r'(?<![\w·.-])(?:word (?:\((?:[^()]|\([^()]*\))*\)|[^\s()]+)|stored (?:\([^()]*\)|[^\s()]+) (?:\((?:[^()]|\([^()]*\))*\)|[^\s()]+)) \d+(?![\w·])')
 
@@ -81,12 +82,6 @@ def parameters(where, text):
             yield f'{where}:{text.count(chr(10), 0, m.start()) + 1}: {m.group(2)} has {count} parameters'
 
 
-def too_long(kind, s):
-    """Whether a line is longer than one of its kind may be: a statement or a contract, else a proof."""
-    stated = kind == 'definitions' or kind == 'code' and '⌜' in s or kind == 'laws' and STATEMENT.match(s) is not None
-    return len(s) > (LONGEST_STATEMENT if stated else LONGEST_PROOF)
-
-
 def survey(deps):
     """The sizes of the crates, and what is out of order in their files and in what crates.txt says of them."""
     size = {c: collections.Counter() for c in deps}
@@ -95,9 +90,9 @@ def survey(deps):
         for rel, kind, lines in lines_of(crate):
             if kind == 'code':
                 wrong += parameters(f'crates/{crate}/{rel}', '\n'.join(lines))
+            size[crate]['long'] += sum(len(s) > most for s, (most, _) in zip(lines, limits(f'crates/{crate}/{rel}', lines)))
             for n, s in enumerate(lines, 1):
                 size[crate][kind] += bool(s.strip())
-                size[crate]['long'] += too_long(kind, s)
                 m = CITE.match(s)
                 if m:
                     used.add((crate, m.group(1)))
