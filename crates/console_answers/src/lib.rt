@@ -2,6 +2,7 @@
 // A line that is no form is `[bad]`, and changes nothing.
 use console_questions::Asking;
 use console_registrations::Done;
+use register_kind::Entry;
 use script::LineForm;
 use script_parts::Extent;
 use table::Table;
@@ -64,7 +65,7 @@ pub fn answer(
                 start,
                 words,
                 text,
-                kind,
+                Entry { kind: kind },
                 part(line, host),
                 part(line, other),
                 part(line, key),

@@ -1,5 +1,5 @@
 // The line of a registration answered: its call is made on a table whose memory is sound by proof, and its reply is written.
-use register_kind::CallKind;
+use register_kind::Entry;
 use table::Registered;
 use table::Registration;
 use table::Table;
@@ -48,7 +48,7 @@ pub fn register_line(
     start: Done,
     words: &mut [u32],
     text: &mut [u8],
-    kind: CallKind,
+    entry: Entry,
     host: &[u8],
     other: &[u8],
     key: &[u8],
@@ -57,9 +57,9 @@ pub fn register_line(
     requires { ⌜ IsSound (now words) (now text) (start .table) ⌝ }
     requires { ⌜ start .end + reply-room ≤ length (now reply) ⌝ }
     ensures { λ r. ⌜ Registers (old words) (old text) (new words) (new text) (start .table)
-        (call-of kind (old host) (old other) (old key)) (old reply) (new reply) (start .end) r ⌝ }
+        (call-of (entry .kind) (old host) (old other) (old key)) (old reply) (new reply) (start .end) r ⌝ }
 {
     let table = start.table;
-    let r = table.register_sound(words, text, kind, host, other, key);
+    let r = table.register_sound(words, text, entry, host, other, key);
     finish(reply, start.end, r)
 }

@@ -8,6 +8,7 @@ use refusals::Flags;
 use refusals::Refusal;
 use register_change::Descent;
 use register_kind::CallKind;
+use register_kind::Entry;
 use register_kind::Form;
 use register_leaf::Change;
 use register_way::INCLUDED;
@@ -101,16 +102,17 @@ pub fn check(
     words: &[u32],
     text: &[u8],
     h: Header,
-    kind: CallKind,
+    entry: Entry,
     host: &[u8],
     other: &[u8],
     key: &[u8],
     way: &mut [u32; WAY],
 ) -> Checked
     requires { ⌜ Sound (now words) (now text) h ⌝ }
-    requires { ⌜ NoKey kind (now key) × (length (now way) ≡ way-size) ⌝ }
-    ensures { λ r. ⌜ Checks (old words) (old text) h kind (old host) (old other) (old key) (new way) r ⌝ }
+    requires { ⌜ NoKey (entry .kind) (now key) × (length (now way) ≡ way-size) ⌝ }
+    ensures { λ r. ⌜ Checks (old words) (old text) h (entry .kind) (old host) (old other) (old key) (new way) r ⌝ }
 {
+    let kind = entry.kind;
     let a = refusals::admit(flags_of(kind, host, other, key));
     match a {
         Admission::Refused(x) => Checked::Refused(x),
@@ -181,16 +183,17 @@ pub fn write(
     words: &mut [u32],
     text: &mut [u8],
     h: Header,
-    kind: CallKind,
+    entry: Entry,
     host: &[u8],
     other: &[u8],
     key: &[u8],
     way: &[u32],
 ) -> Header
-    requires { ⌜ Passes (now words) (now text) h kind (now host) (now other) (now key) (now way) ⌝ }
+    requires { ⌜ Passes (now words) (now text) h (entry .kind) (now host) (now other) (now key) (now way) ⌝ }
     ensures { λ r. ⌜ Accepts (old words) (old text) (new words) (new text) h r
-        (after (state-of (old words) (old text) h) (call-of kind (old host) (old other) (old key))) ⌝ }
+        (after (state-of (old words) (old text) h) (call-of (entry .kind) (old host) (old other) (old key))) ⌝ }
 {
+    let kind = entry.kind;
     let len = other.len() as u32;
     let size = key.len() as u32;
     let start = h.text + host.len() as u32;

@@ -4,7 +4,7 @@ ghost use mathlib.Core.Path.{_≡_};
 ghost use Prim.Native.Nat.{_≤_};
 ghost use Rattle.register_kind.specs.Shapes.{shape-of, key-size};
 
-// A registration apart from its texts.
+// The kind of a registration.
 pub enum CallKind {
     // The source's insert: a name with its item, its kind and number.
     Name(ItemKind, u32),
@@ -16,6 +16,11 @@ pub enum CallKind {
     Alias,
     // register_module_path: loaded or not.
     Module(bool),
+}
+
+// What is registered apart from its texts: its kind.
+pub struct Entry {
+    pub kind: CallKind,
 }
 
 // What a registration is of: a name, whose second text is an id; an import, whose second text is the included query;

@@ -3,6 +3,7 @@
 // Every exported call answers for whatever bytes are lent.
 use listing_ask::Request;
 use register_kind::CallKind;
+use register_kind::Entry;
 use screen_replies::CompleteReply;
 use screen_replies::ModuleReply;
 use screen_replies::NameReply;
@@ -33,8 +34,10 @@ pub extern "C" fn name_console_insert_item(
         (chosen (λ k. name (old host) (old id) (record { kind = k; number = number })) (kind-for kind)) r ⌝ }
 {
     if source_item::is_kind(kind) {
-        let kind = CallKind::Name(source_item::kind_of(kind), number);
-        return screen_calls::register(state, words, text, kind, host, id, &host[..0]);
+        let entry = Entry {
+            kind: CallKind::Name(source_item::kind_of(kind), number),
+        };
+        return screen_calls::register(state, words, text, entry, host, id, &host[..0]);
     }
     screen_calls::malformed(state, words, text)
 }
@@ -51,15 +54,10 @@ pub extern "C" fn name_console_include(
     ensures { λ r. ⌜ Replies (old state) (old words) (old text) (new state) (new words) (new text)
         (some (include (old host) (old query))) r ⌝ }
 {
-    screen_calls::register(
-        state,
-        words,
-        text,
-        CallKind::Include,
-        host,
-        query,
-        &host[..0],
-    )
+    let entry = Entry {
+        kind: CallKind::Include,
+    };
+    screen_calls::register(state, words, text, entry, host, query, &host[..0])
 }
 
 // Registers an open of a namespace.
@@ -74,7 +72,10 @@ pub extern "C" fn name_console_open_namespace(
     ensures { λ r. ⌜ Replies (old state) (old words) (old text) (new state) (new words) (new text)
         (some (opens false (old host) (old query))) r ⌝ }
 {
-    screen_calls::register(state, words, text, CallKind::Open, host, query, &host[..0])
+    let entry = Entry {
+        kind: CallKind::Open,
+    };
+    screen_calls::register(state, words, text, entry, host, query, &host[..0])
 }
 
 // Registers an open of a module, which is an include.
@@ -89,15 +90,10 @@ pub extern "C" fn name_console_open_module(
     ensures { λ r. ⌜ Replies (old state) (old words) (old text) (new state) (new words) (new text)
         (some (opens true (old host) (old query))) r ⌝ }
 {
-    screen_calls::register(
-        state,
-        words,
-        text,
-        CallKind::Include,
-        host,
-        query,
-        &host[..0],
-    )
+    let entry = Entry {
+        kind: CallKind::Include,
+    };
+    screen_calls::register(state, words, text, entry, host, query, &host[..0])
 }
 
 // Registers an alias.
@@ -113,7 +109,10 @@ pub extern "C" fn name_console_alias(
     ensures { λ r. ⌜ Replies (old state) (old words) (old text) (new state) (new words) (new text)
         (some (alias (old key) (old host) (old query))) r ⌝ }
 {
-    screen_calls::register(state, words, text, CallKind::Alias, host, query, key)
+    let entry = Entry {
+        kind: CallKind::Alias,
+    };
+    screen_calls::register(state, words, text, entry, host, query, key)
 }
 
 // Registers a module path: loaded if `loaded` is 1, not loaded if it is 0; a loaded Module stays loaded.
@@ -130,15 +129,10 @@ pub extern "C" fn name_console_module(
         (chosen (λ b. module-path b (old query) (old path)) (flag-for loaded)) r ⌝ }
 {
     if loaded < 2 {
-        return screen_calls::register(
-            state,
-            words,
-            text,
-            CallKind::Module(loaded == 1),
-            query,
-            path,
-            &query[..0],
-        );
+        let entry = Entry {
+            kind: CallKind::Module(loaded == 1),
+        };
+        return screen_calls::register(state, words, text, entry, query, path, &query[..0]);
     }
     screen_calls::malformed(state, words, text)
 }

@@ -2,7 +2,7 @@
 // State and words are bytes as crate memory_bytes reads them; a call copies the words in, tests them with little stack, calls crate table,
 // and copies out what an accepted registration has taken. Lines are written in place.
 use listing_ask::Request;
-use register_kind::CallKind;
+use register_kind::Entry;
 use screen_replies::CompleteReply;
 use screen_replies::ModuleReply;
 use screen_replies::NameReply;
@@ -39,7 +39,7 @@ fn enter(
     words: &mut [u8],
     text: &mut [u8],
     memory: &mut [u32],
-    kind: CallKind,
+    entry: Entry,
     host: &[u8],
     other: &[u8],
     key: &[u8],
@@ -47,13 +47,13 @@ fn enter(
     requires { ⌜ length (now state) ≡ state-bytes ⌝ }
     requires { ⌜ now memory ≡ words-in (now words) ⌝ }
     ensures { λ r. ⌜ Replies (old state) (old words) (old text) (new state) (new words) (new text)
-        (some (call-of kind (old host) (old other) (old key))) r ⌝ }
+        (some (call-of (entry .kind) (old host) (old other) (old key))) r ⌝ }
 {
     let t = table_of(state);
     if !t.is_sound_small(memory, text) {
         return 1;
     }
-    let r = t.register_sound(memory, text, kind, host, other, key);
+    let r = t.register_sound(memory, text, entry, host, other, key);
     let h = r.table;
     let a = r.answer;
     match a {
@@ -70,20 +70,29 @@ pub fn register(
     state: &mut [u8],
     words: &mut [u8],
     text: &mut [u8],
-    kind: CallKind,
+    entry: Entry,
     host: &[u8],
     other: &[u8],
     key: &[u8],
 ) -> u32
     ensures { λ r. ⌜ Replies (old state) (old words) (old text) (new state) (new words) (new text)
-        (some (call-of kind (old host) (old other) (old key))) r ⌝ }
+        (some (call-of (entry .kind) (old host) (old other) (old key))) r ⌝ }
 {
     if state.len() != screen_memory::STATE_BYTES {
         return 1;
     }
     let mut memory = [0u32; screen_memory::WORDS];
     let n = screen_memory::load(words, &mut memory);
-    enter(state, words, text, &mut memory[..n], kind, host, other, key)
+    enter(
+        state,
+        words,
+        text,
+        &mut memory[..n],
+        entry,
+        host,
+        other,
+        key,
+    )
 }
 
 // The reply where a number stands for no choice.

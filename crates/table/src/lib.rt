@@ -7,7 +7,7 @@ use listing_ask::Request;
 use memory_table::Header;
 use refusals::Refusal;
 use register::Checked;
-use register_kind::CallKind;
+use register_kind::Entry;
 use table_roots::Found;
 use table_roots::FoundModule;
 ghost use mathlib.Core.Bool.{true};
@@ -182,22 +182,23 @@ impl Table {
         self,
         words: &mut [u32],
         text: &mut [u8],
-        kind: CallKind,
+        entry: Entry,
         host: &[u8],
         other: &[u8],
         key: &[u8],
     ) -> Registration
         requires { ⌜ IsSound (now words) (now text) self ⌝ }
         ensures { λ r. ⌜ Answers true (old words) (old text) (new words) (new text) self
-            (call-of kind (old host) (old other) (old key)) r ⌝ }
+            (call-of (entry .kind) (old host) (old other) (old key)) r ⌝ }
     {
+        let kind = entry.kind;
         let n = register_kind::key_size(kind, key.len());
         let mut way = [0; register::WAY];
         let k = register::check(
             words,
             text,
             self.header,
-            kind,
+            entry,
             host,
             other,
             &key[..n],
@@ -213,7 +214,7 @@ impl Table {
                     words,
                     text,
                     self.header,
-                    kind,
+                    entry,
                     host,
                     other,
                     &key[..n],
@@ -232,16 +233,16 @@ impl Table {
         self,
         words: &mut [u32],
         text: &mut [u8],
-        kind: CallKind,
+        entry: Entry,
         host: &[u8],
         other: &[u8],
         key: &[u8],
     ) -> Registration
         ensures { λ r. ⌜ Total (old words) (old text) (new words) (new text) self
-            (call-of kind (old host) (old other) (old key)) r ⌝ }
+            (call-of (entry .kind) (old host) (old other) (old key)) r ⌝ }
     {
         if self.is_sound(words, text) {
-            return self.register_sound(words, text, kind, host, other, key);
+            return self.register_sound(words, text, entry, host, other, key);
         }
         Registration {
             table: self,

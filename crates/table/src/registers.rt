@@ -2,6 +2,7 @@
 use crate::Registration;
 use crate::Table;
 use register_kind::CallKind;
+use register_kind::Entry;
 use source::LidSymbol;
 ghost use mathlib.Core.Bool.{true, false};
 ghost use Rattle.source.specs.Lent.{old, new};
@@ -22,14 +23,10 @@ impl Table {
         ensures { λ r. ⌜ Total (old words) (old text) (new words) (new text) self (name (old host) (old id) item) r ⌝ }
     {
         let kind = item.kind;
-        self.register(
-            words,
-            text,
-            CallKind::Name(kind, item.number),
-            host,
-            id,
-            &host[..0],
-        )
+        let entry = Entry {
+            kind: CallKind::Name(kind, item.number),
+        };
+        self.register(words, text, entry, host, id, &host[..0])
     }
 
     // The same, in a sound memory.
@@ -46,14 +43,10 @@ impl Table {
             (name (old host) (old id) item) r ⌝ }
     {
         let kind = item.kind;
-        self.register_sound(
-            words,
-            text,
-            CallKind::Name(kind, item.number),
-            host,
-            id,
-            &host[..0],
-        )
+        let entry = Entry {
+            kind: CallKind::Name(kind, item.number),
+        };
+        self.register_sound(words, text, entry, host, id, &host[..0])
     }
 
     // The source's register_include.
@@ -66,7 +59,10 @@ impl Table {
     ) -> Registration
         ensures { λ r. ⌜ Total (old words) (old text) (new words) (new text) self (include (old host) (old query)) r ⌝ }
     {
-        self.register(words, text, CallKind::Include, host, query, &host[..0])
+        let entry = Entry {
+            kind: CallKind::Include,
+        };
+        self.register(words, text, entry, host, query, &host[..0])
     }
 
     // The same, in a sound memory.
@@ -81,7 +77,10 @@ impl Table {
         ensures { λ r. ⌜ Answers true (old words) (old text) (new words) (new text) self
             (include (old host) (old query)) r ⌝ }
     {
-        self.register_sound(words, text, CallKind::Include, host, query, &host[..0])
+        let entry = Entry {
+            kind: CallKind::Include,
+        };
+        self.register_sound(words, text, entry, host, query, &host[..0])
     }
 
     // The source's register_open of a namespace.
@@ -95,7 +94,10 @@ impl Table {
         ensures { λ r. ⌜ Total (old words) (old text) (new words) (new text) self (opens false (old host) (old query))
             r ⌝ }
     {
-        self.register(words, text, CallKind::Open, host, query, &host[..0])
+        let entry = Entry {
+            kind: CallKind::Open,
+        };
+        self.register(words, text, entry, host, query, &host[..0])
     }
 
     // The same, in a sound memory.
@@ -110,7 +112,10 @@ impl Table {
         ensures { λ r. ⌜ Answers true (old words) (old text) (new words) (new text) self
             (opens false (old host) (old query)) r ⌝ }
     {
-        self.register_sound(words, text, CallKind::Open, host, query, &host[..0])
+        let entry = Entry {
+            kind: CallKind::Open,
+        };
+        self.register_sound(words, text, entry, host, query, &host[..0])
     }
 
     // The source's register_open of a module: what register_include does.
@@ -124,7 +129,10 @@ impl Table {
         ensures { λ r. ⌜ Total (old words) (old text) (new words) (new text) self (opens true (old host) (old query))
             r ⌝ }
     {
-        self.register(words, text, CallKind::Include, host, query, &host[..0])
+        let entry = Entry {
+            kind: CallKind::Include,
+        };
+        self.register(words, text, entry, host, query, &host[..0])
     }
 
     // The same, in a sound memory.
@@ -139,7 +147,10 @@ impl Table {
         ensures { λ r. ⌜ Answers true (old words) (old text) (new words) (new text) self
             (opens true (old host) (old query)) r ⌝ }
     {
-        self.register_sound(words, text, CallKind::Include, host, query, &host[..0])
+        let entry = Entry {
+            kind: CallKind::Include,
+        };
+        self.register_sound(words, text, entry, host, query, &host[..0])
     }
 
     // The source's register_alias.
@@ -154,7 +165,10 @@ impl Table {
         ensures { λ r. ⌜ Total (old words) (old text) (new words) (new text) self
             (alias (old key) (old host) (old query)) r ⌝ }
     {
-        self.register(words, text, CallKind::Alias, host, query, key)
+        let entry = Entry {
+            kind: CallKind::Alias,
+        };
+        self.register(words, text, entry, host, query, key)
     }
 
     // The same, in a sound memory.
@@ -170,7 +184,10 @@ impl Table {
         ensures { λ r. ⌜ Answers true (old words) (old text) (new words) (new text) self
             (alias (old key) (old host) (old query)) r ⌝ }
     {
-        self.register_sound(words, text, CallKind::Alias, host, query, key)
+        let entry = Entry {
+            kind: CallKind::Alias,
+        };
+        self.register_sound(words, text, entry, host, query, key)
     }
 
     // The source's register_module_path, but a loaded Module stays loaded.
@@ -185,14 +202,10 @@ impl Table {
         ensures { λ r. ⌜ Total (old words) (old text) (new words) (new text) self
             (module-path loaded (old query) (old path)) r ⌝ }
     {
-        self.register(
-            words,
-            text,
-            CallKind::Module(loaded),
-            query,
-            path,
-            &query[..0],
-        )
+        let entry = Entry {
+            kind: CallKind::Module(loaded),
+        };
+        self.register(words, text, entry, query, path, &query[..0])
     }
 
     // The same, in a sound memory.
@@ -208,13 +221,9 @@ impl Table {
         ensures { λ r. ⌜ Answers true (old words) (old text) (new words) (new text) self
             (module-path loaded (old query) (old path)) r ⌝ }
     {
-        self.register_sound(
-            words,
-            text,
-            CallKind::Module(loaded),
-            query,
-            path,
-            &query[..0],
-        )
+        let entry = Entry {
+            kind: CallKind::Module(loaded),
+        };
+        self.register_sound(words, text, entry, query, path, &query[..0])
     }
 }

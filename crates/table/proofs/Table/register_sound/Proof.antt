@@ -17,7 +17,7 @@ register-sound-spec =
     (λ c. sym (length-take-le _ _ (c .before .before .before .key-size .ensures .1)))
     {- check-requires -}
     (λ c κs. let s = c .before .before .before .before in let s2 = s .before .before .before .before .before .before in
-    (s2 .pre, (cut-used (s2 .args .kind) (s2 .args .key .now) (s .key-size .ensures .0), refl)))
+    (s2 .pre, (cut-used (s2 .args .entry .kind) (s2 .args .key .now) (s .key-size .ensures .0), refl)))
     {- enum-known-k -}
     (λ c. search needs)
     {- enum-told -}
@@ -34,7 +34,7 @@ register-sound-spec =
     (λ c. search needs)
     {- returns -}
     (λ c. let s = c .before .before .before .before .before .before .before .before in let a = s .before .before .before .before .before .before .args in
-    answers-refused (rw (cut-call (a .kind) (a .key .now) (s .key-size .ensures .0) (a .host .now) (a .other .now)) at
+    answers-refused (rw (cut-call (a .entry .kind) (a .key .now) (s .key-size .ensures .0) (a .host .now) (a .other .now)) at
     (rw (c .before .k .given .1) at (c .before .before .before .check .ensures))))
     {- same-length-3 -}
     (λ c. search needs)
@@ -43,6 +43,6 @@ register-sound-spec =
     {- returns-2 -}
     (λ c. let s = c .before .before .before .before in let s2 = s .before .before .before .before .before in
     let s3 = s2 .before .before .before .before .before .before .before in let a = s3 .before .before .before .before .before .before .args in
-    answers-accepted (rw (cut-call (a .kind) (a .key .now) (s3 .key-size .ensures .0) (a .host .now) (a .other .now)) at
+    answers-accepted (rw (cut-call (a .entry .kind) (a .key .now) (s3 .key-size .ensures .0) (a .host .now) (a .other .now)) at
     ((rw (s2 .enum-told .given .1) at (s2 .before .before .check .ensures)) .rows))
-    (rw (cut-call (a .kind) (a .key .now) (s3 .key-size .ensures .0) (a .host .now) (a .other .now)) at (s .write .ensures))))
+    (rw (cut-call (a .entry .kind) (a .key .now) (s3 .key-size .ensures .0) (a .host .now) (a .other .now)) at (s .write .ensures))))
