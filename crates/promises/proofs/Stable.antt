@@ -1,4 +1,4 @@
--- What the lines of a name show may be shown by contradiction: items are equal or not.
+-- What the lines of a name show, and what each line is, may be shown by contradiction: items are equal or not.
 use Prim.Native.Nat.{ℕ}
 use mathlib.Core.Path.{_≡_, refl, sym, ap, ap₂, _∙_}
 use mathlib.Core.Logic.{_⊎_, inl, inr}
@@ -7,14 +7,16 @@ use mathlib.Core.List.{List, [], _∷_, nil≢cons, head-eq-of-cons-eq, tail-eq-
 use native.Mathlib.Omega.{arith}
 use borrow.Author.Tests.{eqb-true, eqb-false}
 use lib.Dec.{eqb}
+use Rattle.source.specs.Text.{Str, Query, starts-with, segments}
 use Rattle.source.specs.Table.{ModSymbol, Module, Namespace, Line}
 use Rattle.source.specs.Calls.{Found, found, not-found, refused}
+use Rattle.source.specs.Shared.{Allˡ}
 use Rattle.source.specs.declared.ItemKind.{ItemKind}
 use Rattle.source.specs.Items.{same-kind}
 use Rattle.source.specs.declared.LidSymbol.{LidSymbol}
 use Rattle.source.proofs.Elsewhere.{key-same-or-not}
 use Rattle.source.proofs.Items.{same-kind-is, kind-same}
-use Rattle.promises.specs.Agreement.{Shows}
+use Rattle.promises.specs.Agreement.{Shows, Covers, full-name, EachFound}
 
 abbrev Told : {A : Type 0} → A → A → Type 0
 Told x y = (x ≡ y) ⊎ (x ≡ y → ⊥)
@@ -78,3 +80,49 @@ shows-stable told (l ∷ (m ∷ ls)) (found x) h = absurd (h (λ s. nil≢cons (
 shows-stable told [] not-found h = refl
 shows-stable told (l ∷ ls) not-found h = absurd (h (λ e. nil≢cons (sym e)))
 shows-stable told ls (refused n) h = absurd (h (λ x. x))
+
+-- ---- each line of a completion
+abbrev Stable : Type 0 → Type 0
+Stable P = ((P → ⊥) → ⊥) → P
+
+all-stable : {B : Type 0} {P : B → Type 0} → ((x : B) → Stable (P x)) → (l : List B) → Stable (Allˡ P l)
+all-stable g [] h = tt
+all-stable g (x ∷ l) h = (g x (λ n. h (λ p. n (p .0))), all-stable g l (λ n. h (λ p. n (p .1))))
+
+covers-stable : (query name : Query) → Stable (Covers query name)
+covers-stable [] name h = tt
+covers-stable (p ∷ query) [] h = h (λ x. x)
+covers-stable (p ∷ query) (s ∷ name) h = (go (bool-told (starts-with s p) true), covers-stable query name (λ n. h (λ c. n (c .1))))
+  where
+    go : Told (starts-with s p) true → starts-with s p ≡ true
+    go (inl e) = e
+    go (inr n) = absurd (h (λ c. n (c .0)))
+
+found-stable : {A : Type 0} → ((x y : A) → (x ≡ y) ⊎ (x ≡ y → ⊥)) → (a : Found A) (x : A) → Stable (a ≡ found x)
+found-stable told (found y) x h = go (told y x)
+  where
+    go : Told y x → found y ≡ found x
+    go (inl e) = ap found e
+    go (inr n) = absurd (h (λ e. n cc))
+found-stable told not-found x h = absurd (h (λ e. let z : _≡_ {A = ℕ} 0 1 = cc in omega arith))
+found-stable told (refused m) x h = absurd (h (λ e. let z : _≡_ {A = ℕ} 0 1 = cc in omega arith))
+
+module _ {A : Type 0} (Finds : Str → Found A → Type 0) where
+  -- What is claimed of the lines of one completion.
+  abbrev pub LinesAre : Str → List (Line A) → Type 0
+  LinesAre query lines = Allˡ (λ l. Covers (segments query) (segments (full-name l))) lines
+      × Allˡ (λ l. (a : Found A) → Finds (full-name l) a → a ≡ found (l .item-of)) lines
+
+  pub lines-stable : ((x y : A) → (x ≡ y) ⊎ (x ≡ y → ⊥)) → (query : Str) (lines : List (Line A))
+      → ((LinesAre query lines → ⊥) → ⊥) → LinesAre query lines
+  lines-stable told query lines h = (
+    all-stable (λ l. covers-stable (segments query) (segments (full-name l))) lines (λ n. h (λ p. n (p .0))),
+    all-stable (λ l i a f. found-stable told a (l .item-of) (λ n. i (λ g. n (g a f)))) lines (λ n. h (λ p. n (p .1))),
+  )
+
+  pub lines-each : {Lists : Str → List (Line A) → Type 0}
+      → ((query : Str) (lines : List (Line A)) → Lists query lines → LinesAre query lines) → EachFound Finds Lists
+  lines-each h = record {
+    covered = λ query lines c. h query lines c .0;
+    found-item = λ query lines c. h query lines c .1;
+  }

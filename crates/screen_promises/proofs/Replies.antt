@@ -5,12 +5,16 @@ use mathlib.Core.Bool.{Bool, true, false}
 use mathlib.Core.List.{List}
 use native.Mathlib.Omega.{arith}
 use Rattle.source.specs.Items.{kind-number, read-kind}
+use Rattle.source.specs.Table as S
 use Rattle.source.specs.Calls as C
 use Rattle.source.specs.declared.ItemKind.{ItemKind}
+use Rattle.source.specs.declared.ItemKind.the-variants.{Timer, Port, Register}
 use Rattle.source.specs.declared.LidSymbol.{LidSymbol}
 use Rattle.source.proofs.Items.{number-in}
 use Rattle.promises.specs.Agreement.{NotRefused}
 use Rattle.refusals.specs.Refusals.{number}
+use Rattle.refusals.specs.declared.Refusal.{Refusal}
+use Rattle.refusals.specs.declared.Refusal.the-variants.{Unsound, Malformed, Empty, TooLong, Crowded, Deep, Full, TextFull, Spent, Lines}
 use Rattle.memory.specs.Read.{symbol-of}
 use Rattle.memory.specs.declared.Span.{Span}
 use Rattle.memory.specs.declared.ModSymbol.{ModSymbol}
@@ -37,6 +41,19 @@ name-reply-is C.not-found (C.found y) e ok k = absurd (omega (arith, ap (λ (r :
 name-reply-is C.not-found C.not-found e ok k = refl
 name-reply-is C.not-found (C.refused n) e ok k = absurd (omega (arith, ap (λ (r : NameReply). r .answer) e, k n refl .1))
 name-reply-is (C.refused m) o e ok k = absurd ok
+
+-- A kind has a number.
+kind-some : (k : ItemKind) → _≡_ {A = ℕ} 0 (kind-number k) → ⊥
+unfolding kind-number
+kind-some Timer e = omega (arith, e)
+kind-some Port e = omega (arith, e)
+kind-some Register e = omega (arith, e)
+
+-- A reply that says an item says no refusal.
+pub name-reply-found : (a : C.Found LidSymbol) (x : LidSymbol) → name-reply a ≡ name-reply (C.found x) → NotRefused a
+name-reply-found (C.found y) x e = tt
+name-reply-found C.not-found x e = tt
+name-reply-found (C.refused n) x e = absurd (kind-some (x .kind) (ap (λ (r : NameReply). r .kind) e))
 
 -- ---- Modules and namespaces
 flag-is : (x y : Bool) → flag x ≡ flag y → x ≡ y
@@ -75,3 +92,26 @@ module-reply-is txt Nothing (Symbol y) e ok k = absurd (omega (arith, symbol-ans
 module-reply-is txt Nothing Nothing e ok k = refl
 module-reply-is txt Nothing (Refused n) e ok k = absurd (omega (arith, ap (λ (r : ModuleReply). r .answer) e, k (number n) refl .1))
 module-reply-is txt (Refused m) h e ok k = absurd ok
+
+-- A refusal has a number.
+number-some : (x : Refusal) → number x ≡ 0 → ⊥
+number-some Unsound e = omega (arith, e)
+number-some Malformed e = omega (arith, e)
+number-some Empty e = omega (arith, e)
+number-some TooLong e = omega (arith, e)
+number-some Crowded e = omega (arith, e)
+number-some Deep e = omega (arith, e)
+number-some Full e = omega (arith, e)
+number-some TextFull e = omega (arith, e)
+number-some Spent e = omega (arith, e)
+number-some Lines e = omega (arith, e)
+
+-- A reply that says a module or namespace says no refusal.
+pub module-reply-found : (txt : List ℕ) (g h : FoundModule) {y : S.ModSymbol} → module-reply g ≡ module-reply h
+    → module-found txt h ≡ C.found y → NotRefused (module-found txt g)
+module-reply-found txt (Symbol x) h e f = tt
+module-reply-found txt Nothing h e f = tt
+module-reply-found txt (Refused m) (Symbol s) e f =
+    absurd (number-some m (ap (λ (r : ModuleReply). r .answer) e ∙ symbol-answer s))
+module-reply-found txt (Refused m) Nothing e f = let z : _≡_ {A = ℕ} 0 1 = cc in absurd (omega arith)
+module-reply-found txt (Refused m) (Refused n) e f = let z : _≡_ {A = ℕ} 0 1 = cc in absurd (omega arith)

@@ -6,7 +6,7 @@ use mathlib.Core.Option.{Option}
 use Rattle.source.specs.Text.{Str}
 use Rattle.source.specs.Table.{ModSymbol, Line}
 use Rattle.source.specs.Calls.{Found}
-use Rattle.promises.specs.Agreement.{Agree}
+use Rattle.promises.specs.Agreement.{Agree, EachFound}
 use Rattle.source.specs.declared.LidSymbol.{LidSymbol}
 use Rattle.memory.specs.Layout.{Which, names, modules, Item}
 use Rattle.listing_ask.specs.declared.Ask.{Ask}
@@ -48,3 +48,9 @@ pub record HoldsLines (st bs txt : List ℕ) (w : Which) (ask : Option Ask) (que
 pub record BytesAgree : Type 0 where
   pub names : (st bs txt : List ℕ) → Agree (HoldsName st bs txt) (HoldsLines st bs txt names (names-for 0))
   pub modules : (st bs txt : List ℕ) → Agree (HoldsModule st bs txt) (HoldsLines st bs txt modules (modules-for 0))
+
+-- The other way round, by every number of a filter: each line of a completion is what look-up replies.
+pub record BytesFound : Type 0 where
+  pub names : (st bs txt : List ℕ) (k : ℕ) → EachFound (HoldsName st bs txt) (HoldsLines st bs txt names (names-for k))
+  pub modules : (st bs txt : List ℕ) (k : ℕ)
+      → EachFound (HoldsModule st bs txt) (HoldsLines st bs txt modules (modules-for k))

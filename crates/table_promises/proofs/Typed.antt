@@ -11,28 +11,32 @@ use Rattle.source.specs.Text.{Str, segments}
 use Rattle.source.specs.Table as S
 use Rattle.source.specs.Table.{ModSymbol}
 use Rattle.source.specs.Calls as C
-use Rattle.source.specs.Calls.{LineRecord, look-up, first-row, argument-rows, output-text, output-lines}
-use Rattle.promises.specs.Agreement.{Covers, NotRefused, without-last, lines-of-text, Shows}
+use Rattle.source.specs.Calls.{LineRecord, look-up, first-row, argument-rows, completion-rows, completed, complete, complete-modules, output-text, output-lines}
+use Rattle.promises.specs.Agreement.{Covers, NotRefused, without-last, lines-of-text, Shows, ListsNames, ListsModules}
+use Rattle.source.proofs.Lookup.{Allˡ-map}
 use Rattle.promises.proofs.Agreement.{agrees, agreement}
-use Rattle.promises.proofs.Stable.{lid-told, mod-told, shows-stable}
+use Rattle.promises.proofs.LinesFound.{lines-found}
+use Rattle.promises.proofs.Stable.{lid-told, mod-told, shows-stable, LinesAre, lines-stable, lines-each}
 use Rattle.memory.proofs.Says.{either-way}
 use Rattle.source.specs.declared.LidSymbol.{LidSymbol}
+use Rattle.source.specs.declared.KindFilter.{KindFilter}
 use Rattle.source.specs.declared.KindFilter.the-variants.{Every}
 use Rattle.memory.specs.Layout.{Which, Item}
 use Rattle.memory.specs.Sound.{Says}
 use Rattle.memory_table.proofs.Table.{sound-table}
-use Rattle.listing_ask.specs.Ask.{asked}
+use Rattle.listing_ask.specs.Ask.{asked, filter-in}
 use Rattle.listing_ask.specs.declared.Ask.{Ask}
 use Rattle.listing_ask.specs.declared.Ask.the-variants.{Names, Modules}
+use Rattle.listing_ask.specs.declared.Filter.{Filter}
 use Rattle.listing_ask.specs.declared.Filter.the-variants.{All}
 use Rattle.table.specs.Header.{IsSound, table-in}
-use Rattle.listing.specs.Completes.{CompletesAs}
+use Rattle.listing.specs.Completes.{refused-by, CompletesAs}
 use Rattle.table.specs.declared.Table.{Table}
 use Rattle.listing.specs.declared.Completed.the-variants.{Listed}
 use Rattle.table_typed.specs.Completions.{output, ShownAs}
 use Rattle.table_typed.specs.Lines.{record-seen}
 use Rattle.table_promises.specs.Agreement.{HoldsName, HoldsModule}
-use Rattle.table_promises.specs.Typed.{LinesStand, HoldsTyped, TypedAgree}
+use Rattle.table_promises.specs.Typed.{LinesStand, HoldsTyped, TypedAgree, TypedFound}
 use Rattle.table_typed.specs.declared.Line.{Line}
 
 -- ---- What stands in the line structs and in the output text says which lines they are
@@ -123,4 +127,46 @@ typed-agree = record {
   names = λ ws txt t. agrees (λ name query a lines f ok c cover. either-way (shows-stable lid-told _ a) (names-agree ws txt t name query cover a lines f ok c));
   modules =
       λ ws txt t. agrees (λ name query a lines f ok c cover. either-way (shows-stable mod-told _ a) (modules-agree ws txt t name query cover a lines f ok c));
+}
+
+-- ---- The other way round
+
+module _ (ws txt : List ℕ) (t : Table) (query : Str) where
+  names-found : (f : KindFilter) (lines : List (S.Line LidSymbol)) → HoldsTyped ws txt t (Names f) query lines
+      → (b : Bool) → Says b (IsSound ws txt t) → LinesAre (HoldsName ws txt t) query lines
+  unfolding complete completed completion-rows argument-rows first-row
+  names-found f lines c false s =
+      absurd (Option·none-ne-some 1 (sym (ap refused-by (c .listed)) ∙ c .completes .says false s .0))
+  names-found f lines c true s =
+      let l = listed-lines (Names f) ws txt (c .flat) (c .flat′) (c .out) (c .out′) (c .ls) (c .ls′) (c .count) (c .entered) _
+      (rw (c .listed) at (c .completes .says true s)) (c .completes .shows true s) in
+      let g = lines-found .names (table-in ws txt t) (sound-table s) f in
+      let k : ListsNames (table-in ws txt t) f query (l .0) = (c .budget, output (length (c .ls)) (c .flat) (c .out), c .entered, l .1) in
+      rw (stand-same lines (l .0) (c .stand) (l .2)) (
+        g .covered query (l .0) k,
+        Allˡ-map (l .0) (λ x i a h. i a (sym (h .finds .says true s) ∙ h .is)) (g .found-item query (l .0) k),
+      )
+
+  modules-found : (f : Filter) (lines : List (S.Line ModSymbol)) → HoldsTyped ws txt t (Modules f) query lines
+      → (b : Bool) → Says b (IsSound ws txt t) → LinesAre (HoldsModule ws txt t) query lines
+  unfolding complete-modules completed completion-rows argument-rows first-row
+  modules-found f lines c false s =
+      absurd (Option·none-ne-some 1 (sym (ap refused-by (c .listed)) ∙ c .completes .says false s .0))
+  modules-found f lines c true s =
+      let l = listed-lines (Modules f) ws txt (c .flat) (c .flat′) (c .out) (c .out′) (c .ls) (c .ls′) (c .count) (c .entered) _
+      (rw (c .listed) at (c .completes .says true s)) (c .completes .shows true s) in
+      let g = lines-found .modules (table-in ws txt t) (sound-table s) (filter-in f) in
+      let k : ListsModules (table-in ws txt t) (filter-in f) query (l .0) = (c .budget, output (length (c .ls)) (c .flat) (c .out), c .entered, l .1) in
+      rw (stand-same lines (l .0) (c .stand) (l .2)) (
+        g .covered query (l .0) k,
+        Allˡ-map (l .0) (λ x i a h. i a (sym (h .finds .says true s) ∙ h .is)) (g .found-item query (l .0) k),
+      )
+
+-- Each line of a typed completion is what look-up finds: what the memory is need not be known.
+pub typed-found : TypedFound
+typed-found = record {
+  names = λ ws txt t f. lines-each (HoldsName ws txt t) (λ query lines c.
+      either-way (lines-stable (HoldsName ws txt t) lid-told query lines) (names-found ws txt t query f lines c));
+  modules = λ ws txt t f. lines-each (HoldsModule ws txt t) (λ query lines c.
+      either-way (lines-stable (HoldsModule ws txt t) mod-told query lines) (modules-found ws txt t query f lines c));
 }

@@ -5,13 +5,15 @@ use mathlib.Core.List.{List}
 use Rattle.source.specs.Text.{Str}
 use Rattle.source.specs.Calls.{Found}
 use Rattle.source.specs.Table.{ModSymbol, Line}
-use Rattle.promises.specs.Agreement.{Agree}
+use Rattle.promises.specs.Agreement.{Agree, EachFound}
 use Rattle.source.specs.declared.LidSymbol.{LidSymbol}
+use Rattle.source.specs.declared.KindFilter.{KindFilter}
 use Rattle.source.specs.declared.KindFilter.the-variants.{Every}
 use Rattle.memory.specs.Layout.{Item}
 use Rattle.listing_ask.specs.Ask.{asked}
 use Rattle.listing_ask.specs.declared.Ask.{Ask}
 use Rattle.listing_ask.specs.declared.Ask.the-variants.{Names, Modules}
+use Rattle.listing_ask.specs.declared.Filter.{Filter}
 use Rattle.listing_ask.specs.declared.Filter.the-variants.{All}
 use Rattle.listing_row.specs.Rows.{lines-seen}
 use Rattle.table_roots.specs.Answers.{name-found, module-found}
@@ -54,3 +56,10 @@ pub record HoldsLines (ws txt : List ℕ) (t : Table) (ask : Ask) (query : Str)
 pub record CallsAgree : Type 0 where
   pub names : (ws txt : List ℕ) (t : Table) → Agree (HoldsName ws txt t) (HoldsLines ws txt t (Names Every))
   pub modules : (ws txt : List ℕ) (t : Table) → Agree (HoldsModule ws txt t) (HoldsLines ws txt t (Modules All))
+
+-- The other way round, of every kind and filter: each line that a completion left there is what look-up finds.
+pub record CallsFound : Type 0 where
+  pub names : (ws txt : List ℕ) (t : Table) (f : KindFilter)
+      → EachFound (HoldsName ws txt t) (HoldsLines ws txt t (Names f))
+  pub modules : (ws txt : List ℕ) (t : Table) (f : Filter)
+      → EachFound (HoldsModule ws txt t) (HoldsLines ws txt t (Modules f))

@@ -6,13 +6,15 @@ use lib.ListN.{length}
 use Rattle.source.specs.Text.{Str}
 use Rattle.source.specs.Table as S
 use Rattle.source.specs.Calls.{output-text}
-use Rattle.promises.specs.Agreement.{Agree}
+use Rattle.promises.specs.Agreement.{Agree, EachFound}
+use Rattle.source.specs.declared.KindFilter.{KindFilter}
 use Rattle.source.specs.declared.KindFilter.the-variants.{Every}
 use Rattle.memory.specs.Layout as L
 use Rattle.text.specs.Laid.{Laid}
 use Rattle.listing_ask.specs.Ask.{asked}
 use Rattle.listing_ask.specs.declared.Ask.{Ask}
 use Rattle.listing_ask.specs.declared.Ask.the-variants.{Names, Modules}
+use Rattle.listing_ask.specs.declared.Filter.{Filter}
 use Rattle.listing_ask.specs.declared.Filter.the-variants.{All}
 use Rattle.table.specs.declared.Table.{Table}
 use Rattle.table.specs.declared.Listing.{Listing}
@@ -49,3 +51,10 @@ pub record HoldsTyped (ws txt : List ℕ) (t : Table) (ask : Ask) (query : Str)
 pub record TypedAgree : Type 0 where
   pub names : (ws txt : List ℕ) (t : Table) → Agree (HoldsName ws txt t) (HoldsTyped ws txt t (Names Every))
   pub modules : (ws txt : List ℕ) (t : Table) → Agree (HoldsModule ws txt t) (HoldsTyped ws txt t (Modules All))
+
+-- The other way round, of every kind and filter: each line in the line structs is what look-up finds.
+pub record TypedFound : Type 0 where
+  pub names : (ws txt : List ℕ) (t : Table) (f : KindFilter)
+      → EachFound (HoldsName ws txt t) (HoldsTyped ws txt t (Names f))
+  pub modules : (ws txt : List ℕ) (t : Table) (f : Filter)
+      → EachFound (HoldsModule ws txt t) (HoldsTyped ws txt t (Modules f))
