@@ -18,46 +18,46 @@ use Rattle.find_tree.proofs.Branches.{any-tree}
 use Rattle.find_list.specs.Names.{first-rest, AnyList, Led}
 use Rattle.memory.proofs.At.{no-link, rows-before, at-of}
 
-pub any-list : {ws txt : List ℕ} {w : Which} {v : Level} {x : ℕ} → At ws txt w (list v) x → AnyList ws txt x
-any-list {w = w} {v} t = record { which = w; level = v; list = t }
+pub any-list : {ws txt : List ℕ} {w : Which} {ℓ : Level} {x : ℕ} → At ws txt w (list ℓ) x → AnyList ws txt x
+any-list {w = w} {ℓ} t = record { which = w; level = ℓ; list = t }
 
-module _ {ws txt : List ℕ} {w : Which} {v : Level} {x : ℕ} (t : At ws txt w (list v) x) where
-  pub list-weight : weight-in ws x ≡ weight (what w ws txt x (list v))
-  list-weight = stored-weight (rows-before (t .sound)) w v x (t .link)
+module _ {ws txt : List ℕ} {w : Which} {ℓ : Level} {x : ℕ} (t : At ws txt w (list ℓ) x) where
+  pub list-weight : weight-in ws x ≡ weight (what w ws txt x (list ℓ))
+  list-weight = stored-weight (rows-before (t .sound)) w ℓ x (t .link)
 
   pub list-light : weight-in ws x ≤ 96
   list-light =
       zero-some x (λ e. rw (e, stored-none ws 10) (omega arith))
-      (λ p. rw list-weight (weight-at (link-ok (t .sound) (t .link) p) w v (t .link .of-kind (λ e. omega arith)) .light))
+      (λ p. rw list-weight (weight-at (link-ok (t .sound) (t .link) p) w ℓ (t .link .of-kind (λ e. omega arith)) .light))
 
 -- Its first record.
-module _ {ws txt : List ℕ} {w : Which} {v : Level} {x : ℕ} (t : At ws txt w (list v) x) (p : 0 < x) where
-  pub collection-right : CollectionOk ws txt (t .used) x w (record-at ws x) v
-  collection-right = collection-at (link-ok (t .sound) (t .link) p) w v (t .link .of-kind (λ e. omega arith))
+module _ {ws txt : List ℕ} {w : Which} {ℓ : Level} {x : ℕ} (t : At ws txt w (list ℓ) x) (p : 0 < x) where
+  pub collection-right : CollectionOk ws txt (t .used) x w (record-at ws x) ℓ
+  collection-right = collection-at (link-ok (t .sound) (t .link) p) w ℓ (t .link .of-kind (λ e. omega arith))
 
   pub sort-tree : (sort-word (record-at ws x) ≡ 1 → ⊥) → sort-word (record-at ws x) ≡ 0
   sort-tree n = omega (arith, collection-right .sort, n)
 
-  pub rest-list : At ws txt w (list v) (rest-link (record-at ws x))
+  pub rest-list : At ws txt w (list ℓ) (rest-link (record-at ws x))
   rest-list = at-of t (list _) (omega arith) (collection-right .rest)
 
   module _ (e : sort-word (record-at ws x) ≡ 0) where
-    pub own-tree : At ws txt w (tree v) (own-link (record-at ws x))
+    pub own-tree : At ws txt w (tree ℓ) (own-link (record-at ws x))
     own-tree = at-of t (tree _) (omega arith) (collection-right .own e)
 
-    pub names-reads : what w ws txt x (list v)
-        ≡ Names (what w ws txt (own-link (record-at ws x)) (tree v))
-        (what w ws txt (rest-link (record-at ws x)) (list v))
-    names-reads = link-what (t .sound) w (list v) (t .link) p ∙ rw e
+    pub names-reads : what w ws txt x (list ℓ)
+        ≡ Names (what w ws txt (own-link (record-at ws x)) (tree ℓ))
+        (what w ws txt (rest-link (record-at ws x)) (list ℓ))
+    names-reads = link-what (t .sound) w (list ℓ) (t .link) p ∙ rw e
 
   module _ (e : sort-word (record-at ws x) ≡ 1) where
-    pub imported-list : At ws txt w (list v) (own-link (record-at ws x))
+    pub imported-list : At ws txt w (list ℓ) (own-link (record-at ws x))
     imported-list = at-of t (list _) (omega arith) (collection-right .imported e)
 
-    pub imported-reads : what w ws txt x (list v)
+    pub imported-reads : what w ws txt x (list ℓ)
         ≡ ImportedNames (span txt (text-start (record-at ws x)) (text-len (record-at ws x)))
-        (what w ws txt (own-link (record-at ws x)) (list v)) (what w ws txt (rest-link (record-at ws x)) (list v))
-    imported-reads = link-what (t .sound) w (list v) (t .link) p ∙ rw e
+        (what w ws txt (own-link (record-at ws x)) (list ℓ)) (what w ws txt (rest-link (record-at ws x)) (list ℓ))
+    imported-reads = link-what (t .sound) w (list ℓ) (t .link) p ∙ rw e
 
     pub imported-lighter : weight-in ws (own-link (record-at ws x)) < weight-in ws x
     unfolding weight

@@ -20,27 +20,27 @@ use Rattle.find_list.proofs.Collections.{any-list, collection-right, so
 use Rattle.find_list.proofs.Collections.{rest-lighter}
 use Rattle.memory.proofs.At.{no-link}
 
-pub record FindIn (ws txt : List ℕ) (w : Which) (v : Level) (x : ℕ) (key : Str) (link : ℕ) : Type 0 where
-  pub here : At ws txt w (list v) link
-  pub finds : names-find-exact (what w ws txt x (list v)) key ≡ names-find-exact (what w ws txt link (list v)) key
+pub record FindIn (ws txt : List ℕ) (w : Which) (ℓ : Level) (x : ℕ) (key : Str) (link : ℕ) : Type 0 where
+  pub here : At ws txt w (list ℓ) link
+  pub finds : names-find-exact (what w ws txt x (list ℓ)) key ≡ names-find-exact (what w ws txt link (list ℓ)) key
 
 -- The find stands at link: no collection before it has the key.
 pub record Find (ws txt : List ℕ) (x : ℕ) (key : Str) (link : ℕ) : Type 0 where
   pub earlier : link ≤ x
   pub lighter : weight-in ws link ≤ weight-in ws x
   pub any : AnyList ws txt link
-  pub says : (w : Which) (v : Level) → At ws txt w (list v) x → FindIn ws txt w v x key link
+  pub says : (w : Which) (ℓ : Level) → At ws txt w (list ℓ) x → FindIn ws txt w ℓ x key link
 
 -- The branch r is what the first collection of a list has, 0 for none.
-pub record FirstIn (ws txt : List ℕ) (w : Which) (v : Level) (link : ℕ) (key : Str) (r : ℕ) : Type 0 where
-  pub found : LinkOk ws (link + 1) r (kind w (tree v))
+pub record FirstIn (ws txt : List ℕ) (w : Which) (ℓ : Level) (link : ℕ) (key : Str) (r : ℕ) : Type 0 where
+  pub found : LinkOk ws (link + 1) r (kind w (tree ℓ))
   pub has-key : 0 < r → key-at ws txt r ≡ key
-  pub says : names-find-exact (what w ws txt link (list v)) key
-      ≡ or-else (pick (eqb r 0) none (some (held w ws txt v r)))
-      (names-find-exact (what w ws txt (rest-link (record-at ws link)) (list v)) key)
+  pub says : names-find-exact (what w ws txt link (list ℓ)) key
+      ≡ or-else (pick (eqb r 0) none (some (held w ws txt ℓ r)))
+      (names-find-exact (what w ws txt (rest-link (record-at ws link)) (list ℓ)) key)
 
 abbrev pub First : (ws txt : List ℕ) (link : ℕ) (key : Str) (r : ℕ) → Type 0
-First ws txt link key r = (w : Which) (v : Level) → At ws txt w (list v) link → FirstIn ws txt w v link key r
+First ws txt link key r = (w : Which) (ℓ : Level) → At ws txt w (list ℓ) link → FirstIn ws txt w ℓ link key r
 
 module _ {ws txt : List ℕ} {key : Str} {link own r : ℕ} (p : 0 < link) (q : own ≡ own-link (record-at ws link)) where
   pub first-imported : sort-word (record-at ws link) ≡ 1 → Holder ws txt own key r → First ws txt link key r

@@ -18,22 +18,22 @@ use Rattle.find_list.proofs.Collections.{list-weight, list-light, any-r
 use Rattle.memory.proofs.At.{at-of}
 use Rattle.memory.specs.Layout.{tree, list}
 
-module _ {A : Type 0} {l : Level} where
-  pub names-find-exact-first : (n : NameList A l) (k : Str)
+module _ {A : Type 0} {ℓ : Level} where
+  pub names-find-exact-first : (n : NameList A ℓ) (k : Str)
       → names-find-exact n k ≡ or-else (btree-find-exact (first-tree n) k) (names-find-exact (first-rest n) k)
   unfolding names-find-exact btree-find-exact or-else first-tree first-rest
   names-find-exact-first []ᴺ k = refl
   names-find-exact-first (Names bt tl) k = refl
   names-find-exact-first (ImportedNames label inner tl) k = refl
 
-  pub names-insert-first : (n : NameList A l) (k : Str) (v : Value A l)
+  pub names-insert-first : (n : NameList A ℓ) (k : Str) (v : Value A ℓ)
       → names-insert n k v ≡ Names (btree-insert-replace (first-tree n) k v) (first-rest n)
   unfolding names-insert first-tree first-rest
   names-insert-first []ᴺ k v = refl
   names-insert-first (Names bt tl) k v = refl
   names-insert-first (ImportedNames label inner tl) k v = refl
 
-  pub names-insert-rest-weight : (n : NameList A l) (k : Str) (v : Value A l)
+  pub names-insert-rest-weight : (n : NameList A ℓ) (k : Str) (v : Value A ℓ)
       → weight (names-insert n k v) ≡ suc (weight (first-rest n))
   unfolding weight
   names-insert-rest-weight n k v = rw names-insert-first

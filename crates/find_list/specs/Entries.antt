@@ -27,12 +27,12 @@ abbrev pub label-at : List ℕ → List ℕ → ℕ → Option Str
 label-at ws txt l = pick (eqb l 0) none (some (key-at ws txt l))
 
 -- What an entry shows: the outermost label, the segment with the prefix field q, the value.
-unfoldable pub shown : (w : Which) → List ℕ → List ℕ → (v : Level) → Option Str → Entry
-    → Option Str × (PrefixMatch × Value (Item w) v)
-shown w ws txt v q e = (label-at ws txt (e .label), row-at w ws txt v q (e .branch))
+unfoldable pub shown : (w : Which) → List ℕ → List ℕ → (ℓ : Level) → Option Str → Entry
+    → Option Str × (PrefixMatch × Value (Item w) ℓ)
+shown w ws txt ℓ q e = (label-at ws txt (e .label), row-at w ws txt ℓ q (e .branch))
 
 -- The same of a path element and its value: of the imports the outermost counts.
-unfoldable pub outer : {A : Type 0} {l : Level} → PathElem × Value A l → Option Str × (PrefixMatch × Value A l)
+unfoldable pub outer : {A : Type 0} {ℓ : Level} → PathElem × Value A ℓ → Option Str × (PrefixMatch × Value A ℓ)
 outer x = (last-opt (x .0 .imports), (x .0 .segment, x .1))
 
 -- A search term, the prefix that its keys begin with, and the prefix field of what it finds.
@@ -41,6 +41,6 @@ pub data Asks : SearchTerm → Str → Option Str → Type 0 where
   by-all : Asks NSTAll [] none
 
 -- The collection of a label: none, or one that imports a list, no later than link l.
-pub record LabelOk (ws : List ℕ) (w : Which) (v : Level) (l label : ℕ) : Type 0 where
-  pub link : LinkOk ws (l + 1) label (kind w (list v))
+pub record LabelOk (ws : List ℕ) (w : Which) (ℓ : Level) (l label : ℕ) : Type 0 where
+  pub link : LinkOk ws (l + 1) label (kind w (list ℓ))
   pub imports : 0 < label → sort-word (record-at ws label) ≡ 1

@@ -14,31 +14,31 @@ use Rattle.memory.proofs.Seen.{link-fits, link-ok, link-what}
 use Rattle.find_tree.specs.Tree.{held, AnyTree}
 use Rattle.memory.proofs.At.{no-link, at-of}
 
-pub any-tree : {ws txt : List ℕ} {w : Which} {v : Level} {x : ℕ} → At ws txt w (tree v) x → AnyTree ws txt x
-any-tree {w = w} {v} t = record { which = w; level = v; tree = t }
+pub any-tree : {ws txt : List ℕ} {w : Which} {ℓ : Level} {x : ℕ} → At ws txt w (tree ℓ) x → AnyTree ws txt x
+any-tree {w = w} {ℓ} t = record { which = w; level = ℓ; tree = t }
 
-module _ {ws txt : List ℕ} {w : Which} {v : Level} {x : ℕ} (t : At ws txt w (tree v) x) where
+module _ {ws txt : List ℕ} {w : Which} {ℓ : Level} {x : ℕ} (t : At ws txt w (tree ℓ) x) where
   module _ (p : 0 < x) where
-    pub branch-right : BranchOk ws txt (t .used) x w (record-at ws x) v
-    branch-right = branch-at (link-ok (t .sound) (t .link) p) w v (t .link .of-kind (λ e. omega arith))
+    pub branch-right : BranchOk ws txt (t .used) x w (record-at ws x) ℓ
+    branch-right = branch-at (link-ok (t .sound) (t .link) p) w ℓ (t .link .of-kind (λ e. omega arith))
 
-    pub branch-tree-ordered : Ordered (what w ws txt x (tree v))
-    branch-tree-ordered = ordered-at (link-ok (t .sound) (t .link) p) w v (t .link .of-kind (λ e. omega arith))
+    pub branch-tree-ordered : Ordered (what w ws txt x (tree ℓ))
+    branch-tree-ordered = ordered-at (link-ok (t .sound) (t .link) p) w ℓ (t .link .of-kind (λ e. omega arith))
 
-    pub branch-reads : what w ws txt x (tree v)
-        ≡ StrBranch (key-at ws txt x) (held w ws txt v x) (what w ws txt (left-link (record-at ws x)) (tree v))
-        (what w ws txt (right-link (record-at ws x)) (tree v))
+    pub branch-reads : what w ws txt x (tree ℓ)
+        ≡ StrBranch (key-at ws txt x) (held w ws txt ℓ x) (what w ws txt (left-link (record-at ws x)) (tree ℓ))
+        (what w ws txt (right-link (record-at ws x)) (tree ℓ))
     unfolding key-at held
-    branch-reads = link-what (t .sound) w (tree v) (t .link) p
+    branch-reads = link-what (t .sound) w (tree ℓ) (t .link) p
 
-    pub left-tree : At ws txt w (tree v) (left-link (record-at ws x))
-    left-tree = at-of t (tree v) (omega arith) (branch-right .left)
+    pub left-tree : At ws txt w (tree ℓ) (left-link (record-at ws x))
+    left-tree = at-of t (tree ℓ) (omega arith) (branch-right .left)
 
-    pub right-tree : At ws txt w (tree v) (right-link (record-at ws x))
-    right-tree = at-of t (tree v) (omega arith) (branch-right .right)
+    pub right-tree : At ws txt w (tree ℓ) (right-link (record-at ws x))
+    right-tree = at-of t (tree ℓ) (omega arith) (branch-right .right)
 
 pub no-tree : {ws txt : List ℕ} {x : ℕ} → AnyTree ws txt x → AnyTree ws txt 0
-no-tree {x = x} a = any-tree {w = a .which} {v = a .level} (at-of (a .tree) (tree (a .level)) (omega arith) (no-link x _))
+no-tree {x = x} a = any-tree {w = a .which} {ℓ = a .level} (at-of (a .tree) (tree (a .level)) (omega arith) (no-link x _))
 
 module _ {ws txt : List ℕ} {x : ℕ} (a : AnyTree ws txt x) where
   pub tree-fits : x * 12 ≤ length ws

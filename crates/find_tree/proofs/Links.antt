@@ -48,23 +48,23 @@ module _ (ws : List ℕ) where
         branches-own n (right-link (record-at ws (suc n))) (omega arith),
       )
 
-branch-later : {ws : List ℕ} {w : Which} {v : Level} {l root x : ℕ} → l < root → BranchOf ws w v l x
-    → BranchOf ws w v root x
+branch-later : {ws : List ℕ} {w : Which} {ℓ : Level} {l root x : ℕ} → l < root → BranchOf ws w ℓ l x
+    → BranchOf ws w ℓ root x
 branch-later h o = record { some = o .some; link = link-later (omega arith) (o .link) }
 
-module _ {ws txt : List ℕ} {w : Which} {v : Level} where
-  pub branches-at : {x : ℕ} → At ws txt w (tree v) x → 0 < x
+module _ {ws txt : List ℕ} {w : Which} {ℓ : Level} where
+  pub branches-at : {x : ℕ} → At ws txt w (tree ℓ) x → 0 < x
       → branches ws x ≡ branches ws (left-link (record-at ws x)) ++ (x ∷ branches ws (right-link (record-at ws x)))
   branches-at {x} t p = branches-some ws x p (branch-right t p .left .earlier) (branch-right t p .right .earlier)
 
-  pub tree-ordered : {x : ℕ} → At ws txt w (tree v) x → Ordered (what w ws txt x (tree v))
+  pub tree-ordered : {x : ℕ} → At ws txt w (tree ℓ) x → Ordered (what w ws txt x (tree ℓ))
   tree-ordered {x} t = zero-some x (λ z. rw (z, what-none w ws txt) tt) (branch-tree-ordered t)
 
   -- What holds of none, and of a branch where it holds of its two sides, holds of every tree.
   module _ (P : ℕ → Type 0) (none : P 0)
-      (step : (x : ℕ) → At ws txt w (tree v) x → 0 < x → P (left-link (record-at ws x))
+      (step : (x : ℕ) → At ws txt w (tree ℓ) x → 0 < x → P (left-link (record-at ws x))
       → P (right-link (record-at ws x)) → P x) where
-    upto : (m x : ℕ) → x ≤ m → At ws txt w (tree v) x → P x
+    upto : (m x : ℕ) → x ≤ m → At ws txt w (tree ℓ) x → P x
     upto zero x h t = subst P (let z : 0 ≡ x = omega arith in z) none
     upto (suc m) x h t =
         zero-some x
@@ -74,58 +74,58 @@ module _ {ws txt : List ℕ} {w : Which} {v : Level} where
         (upto m (left-link (record-at ws x)) (omega (arith, branch-right t p .left .earlier)) (left-tree t p))
         (upto m (right-link (record-at ws x)) (omega (arith, branch-right t p .right .earlier)) (right-tree t p)))
 
-    pub by-sides : (x : ℕ) → At ws txt w (tree v) x → P x
+    pub by-sides : (x : ℕ) → At ws txt w (tree ℓ) x → P x
     by-sides x = upto x x (omega arith)
 
-  branches-keys : (P : Str → Type 0) (x : ℕ) → At ws txt w (tree v) x → AllKeys P (what w ws txt x (tree v))
+  branches-keys : (P : Str → Type 0) (x : ℕ) → At ws txt w (tree ℓ) x → AllKeys P (what w ws txt x (tree ℓ))
       → Allˡ (λ y. P (key-at ws txt y)) (branches ws x)
   branches-keys P =
-      by-sides (λ x. AllKeys P (what w ws txt x (tree v)) → Allˡ (λ y. P (key-at ws txt y)) (branches ws x))
+      by-sides (λ x. AllKeys P (what w ws txt x (tree ℓ)) → Allˡ (λ y. P (key-at ws txt y)) (branches ws x))
       (λ a. rw (branches-none ws) tt)
       (λ x t p f g a. let b = rw (branch-reads t p) at a in
       rw (branches-at t p) (allˡ-append (λ y. P (key-at ws txt y)) (branches ws (left-link (record-at ws x))) (x ∷ branches ws (right-link (record-at ws x)))
       (f (b .1)) (b .0, g (b .2))))
 
-  pub branches-of : (x : ℕ) → At ws txt w (tree v) x → Allˡ (BranchOf ws w v x) (branches ws x)
+  pub branches-of : (x : ℕ) → At ws txt w (tree ℓ) x → Allˡ (BranchOf ws w ℓ x) (branches ws x)
   branches-of =
-      by-sides (λ x. Allˡ (BranchOf ws w v x) (branches ws x))
+      by-sides (λ x. Allˡ (BranchOf ws w ℓ x) (branches ws x))
       (rw (branches-none ws) tt)
       (λ x t p f g.
       let left = left-link (record-at ws x) in
       let right = right-link (record-at ws x) in
       rw (branches-at t p)
-      (allˡ-append (BranchOf ws w v x) (branches ws left) (x ∷ branches ws right)
-      (Allˡ-map {P = BranchOf ws w v left} {Q = BranchOf ws w v x} (branches ws left) (λ y. branch-later (branch-right t p .left .earlier)) f) (
+      (allˡ-append (BranchOf ws w ℓ x) (branches ws left) (x ∷ branches ws right)
+      (Allˡ-map {P = BranchOf ws w ℓ left} {Q = BranchOf ws w ℓ x} (branches ws left) (λ y. branch-later (branch-right t p .left .earlier)) f) (
         record { some = p; link = record { earlier = omega arith; of-kind = t .link .of-kind } },
-        Allˡ-map {P = BranchOf ws w v right} {Q = BranchOf ws w v x} (branches ws right) (λ y. branch-later (branch-right t p .right .earlier)) g,
+        Allˡ-map {P = BranchOf ws w ℓ right} {Q = BranchOf ws w ℓ x} (branches ws right) (λ y. branch-later (branch-right t p .right .earlier)) g,
       )))
 
   -- The rows of all branches.
   module _ (q : Option Str) where
-    rows-onto : (x : ℕ) → At ws txt w (tree v) x → (acc : List (PrefixMatch × Value (Item w) v))
-        → map (row-at w ws txt v q) (branches ws x) ++ acc
-        ≡ btree-fold (what w ws txt x (tree v)) (λ k y acc. (record { prefix = q; completion = k }, y) ∷ acc) acc
+    rows-onto : (x : ℕ) → At ws txt w (tree ℓ) x → (acc : List (PrefixMatch × Value (Item w) ℓ))
+        → map (row-at w ws txt ℓ q) (branches ws x) ++ acc
+        ≡ btree-fold (what w ws txt x (tree ℓ)) (λ k y acc. (record { prefix = q; completion = k }, y) ∷ acc) acc
     unfolding btree-fold row-at
     rows-onto =
         by-sides
-        (λ x. (acc : List (PrefixMatch × Value (Item w) v))
-        → map (row-at w ws txt v q) (branches ws x) ++ acc
-        ≡ btree-fold (what w ws txt x (tree v)) (λ k y acc. (record { prefix = q; completion = k }, y) ∷ acc) acc)
+        (λ x. (acc : List (PrefixMatch × Value (Item w) ℓ))
+        → map (row-at w ws txt ℓ q) (branches ws x) ++ acc
+        ≡ btree-fold (what w ws txt x (tree ℓ)) (λ k y acc. (record { prefix = q; completion = k }, y) ∷ acc) acc)
         (λ acc. rw (branches-none ws, what-none w ws txt))
         (λ x t p f g acc. rw (branches-at t p, branch-reads t p, map-append, append-assoc, g acc) (f _))
 
-    pub branches-rows : (x : ℕ) → At ws txt w (tree v) x
-        → map (row-at w ws txt v q) (branches ws x) ≡ btree-find-all q (what w ws txt x (tree v))
+    pub branches-rows : (x : ℕ) → At ws txt w (tree ℓ) x
+        → map (row-at w ws txt ℓ q) (branches ws x) ≡ btree-find-all q (what w ws txt x (tree ℓ))
     unfolding btree-find-all
     branches-rows x t = sym (append-nil _) ∙ rows-onto x t []
 
-module _ {ws txt : List ℕ} {w : Which} {v : Level} {root : ℕ} (t : At ws txt w (tree v) root) where
-  pub branch-tree : {x : ℕ} → BranchOf ws w v root x → AnyTree ws txt x
+module _ {ws txt : List ℕ} {w : Which} {ℓ : Level} {root : ℕ} (t : At ws txt w (tree ℓ) root) where
+  pub branch-tree : {x : ℕ} → BranchOf ws w ℓ root x → AnyTree ws txt x
   branch-tree o = any-tree (at-of t (tree _) (omega arith) (o .link))
 
   -- A branch by the list.
-  pub among-branch : {x : ℕ} → List·Memᴰ x (branches ws root) → BranchOf ws w v root x
-  among-branch {x} m = allˡ-at (BranchOf ws w v root) (branches ws root) (branches-of root t) x m
+  pub among-branch : {x : ℕ} → List·Memᴰ x (branches ws root) → BranchOf ws w ℓ root x
+  among-branch {x} m = allˡ-at (BranchOf ws w ℓ root) (branches ws root) (branches-of root t) x m
 
 pub among-tree : {ws txt : List ℕ} {root x : ℕ} → AnyTree ws txt root → List·Memᴰ x (branches ws root)
     → (0 < x) × AnyTree ws txt x

@@ -27,20 +27,20 @@ unfolding matches keep
 matches-none ws txt p = rw (branches-none ws)
 
 -- The search leaves out only what does not match.
-module _ (ws txt : List ℕ) (w : Which) (v : Level) (p : Str) where
+module _ (ws txt : List ℕ) (w : Which) (ℓ : Level) (p : Str) where
   abbrev kept : ℕ → List ℕ
   kept x = keep (key-at ws txt) (λ k. starts-with k p) (branches ws x)
 
   abbrev Rows : Type 0
-  Rows = List (PrefixMatch × Value (Item w) v)
+  Rows = List (PrefixMatch × Value (Item w) ℓ)
 
   abbrev rows : List ℕ → Rows
-  rows l = map (row-at w ws txt v (some p)) l
+  rows l = map (row-at w ws txt ℓ (some p)) l
 
   abbrev Onto : ℕ → Type 0
-  Onto x = (acc : Rows) → rows (kept x) ++ acc ≡ find-prefix-onto (what w ws txt x (tree v)) p acc
+  Onto x = (acc : Rows) → rows (kept x) ++ acc ≡ find-prefix-onto (what w ws txt x (tree ℓ)) p acc
 
-  module _ (x : ℕ) (t : At ws txt w (tree v) x) (q : 0 < x) where
+  module _ (x : ℕ) (t : At ws txt w (tree ℓ) x) (q : 0 < x) where
     abbrev key : Str
     key = key-at ws txt x
 
@@ -76,30 +76,30 @@ module _ (ws txt : List ℕ) (w : Which) (v : Level) (p : Str) where
         (λ e h. rw (branch-reads t q, find-prefix-onto, e, i, none-left (λ y z. rw h at z), g acc))
         (λ e h. rw (branch-reads t q, find-prefix-onto, e, i, none-right h i) (f _)))
 
-  prefix-onto : (x : ℕ) → At ws txt w (tree v) x → Onto x
+  prefix-onto : (x : ℕ) → At ws txt w (tree ℓ) x → Onto x
   unfolding find-prefix-onto keep
   prefix-onto = by-sides Onto (λ acc. rw (branches-none ws, what-none w ws txt)) prefix-step
 
 -- A branch of the tree whose key begins with p.
-pub record MatchOf (ws txt : List ℕ) (w : Which) (v : Level) (root : ℕ) (p : Str) (x : ℕ) : Type 0 where
+pub record MatchOf (ws txt : List ℕ) (w : Which) (ℓ : Level) (root : ℕ) (p : Str) (x : ℕ) : Type 0 where
   pub among : List·Memᴰ x (branches ws root)
-  pub branch : BranchOf ws w v root x
+  pub branch : BranchOf ws w ℓ root x
   pub begins : starts-with (key-at ws txt x) p ≡ true
 
-module _ {ws txt : List ℕ} {w : Which} {v : Level} {root : ℕ} (t : At ws txt w (tree v) root) where
-  pub matches-of : (p : Str) → Allˡ (MatchOf ws txt w v root p) (matches ws txt root p)
+module _ {ws txt : List ℕ} {w : Which} {ℓ : Level} {root : ℕ} (t : At ws txt w (tree ℓ) root) where
+  pub matches-of : (p : Str) → Allˡ (MatchOf ws txt w ℓ root p) (matches ws txt root p)
   unfolding matches
   matches-of p =
-      all-keep (key-at ws txt) (MatchOf ws txt w v root p) (λ k. starts-with k p) (branches ws root)
-      (Allˡ-map {P = λ y. List·Memᴰ y (branches ws root)} {Q = λ y. starts-with (key-at ws txt y) p ≡ true → MatchOf ws txt w v root p y} (branches ws root)
+      all-keep (key-at ws txt) (MatchOf ws txt w ℓ root p) (λ k. starts-with k p) (branches ws root)
+      (Allˡ-map {P = λ y. List·Memᴰ y (branches ws root)} {Q = λ y. starts-with (key-at ws txt y) p ≡ true → MatchOf ws txt w ℓ root p y} (branches ws root)
       (λ y m e. record { among = m; branch = among-branch t m; begins = e }) (all-among (branches ws root)))
 
   pub branches-increasing : Increasing (key-at ws txt) (branches ws root)
   unfolding row-at entry-key
-  branches-increasing = keys (branches ws root) (rw (← branches-rows none root t) at (find-all-ascends none (what w ws txt root (tree v)) (tree-ordered t)))
+  branches-increasing = keys (branches ws root) (rw (← branches-rows none root t) at (find-all-ascends none (what w ws txt root (tree ℓ)) (tree-ordered t)))
     where
-      row : ℕ → PrefixMatch × Value (Item w) v
-      row = row-at w ws txt v none
+      row : ℕ → PrefixMatch × Value (Item w) ℓ
+      row = row-at w ws txt ℓ none
 
       above : (k : Str) (l : List ℕ) → Above entry-key k (map row l) → Above (key-at ws txt) k l
       above k [] a = tt
@@ -115,7 +115,7 @@ module _ {ws txt : List ℕ} {w : Which} {v : Level} {root : ℕ} (t : At ws txt
 
   -- With no prefix, the rows of btree_find_all.
   pub all-rows : (q : Option Str)
-      → map (row-at w ws txt v q) (matches ws txt root []) ≡ btree-find-all q (what w ws txt root (tree v))
+      → map (row-at w ws txt ℓ q) (matches ws txt root []) ≡ btree-find-all q (what w ws txt root (tree ℓ))
   unfolding matches starts-with
   all-rows q = rw (keep-all (key-at ws txt) (λ k. true) (branches ws root) (all-true (branches ws root))) (branches-rows q root t)
     where
@@ -125,9 +125,9 @@ module _ {ws txt : List ℕ} {w : Which} {v : Level} {root : ℕ} (t : At ws txt
 
   -- The rows of btree_find_prefix.
   pub prefix-rows : (p : Str)
-      → map (row-at w ws txt v (some p)) (matches ws txt root p) ≡ btree-find-prefix (what w ws txt root (tree v)) p
+      → map (row-at w ws txt ℓ (some p)) (matches ws txt root p) ≡ btree-find-prefix (what w ws txt root (tree ℓ)) p
   unfolding matches btree-find-prefix
-  prefix-rows p = sym (append-nil _) ∙ prefix-onto ws txt w v p root t []
+  prefix-rows p = sym (append-nil _) ∙ prefix-onto ws txt w ℓ p root t []
 
 -- The matches are all past the prefix.
 pub matches-past : (ws txt : List ℕ) (p : Str) (x : ℕ)

@@ -20,18 +20,18 @@ pub compare-eq-same : (s t : Str) → Ordering·eq ≡ string-compare s t → s 
 compare-eq-same s t e = subst (View s t) (sym e) (compare-strings s t)
 
 -- The same search in the whole tree and in that of link, for one table and level.
-pub record SearchIn (ws txt : List ℕ) (w : Which) (v : Level) (root : ℕ) (key : Str) (link count : ℕ) : Type 0 where
-  pub here : At ws txt w (tree v) link
-  pub finds : btree-find-exact (what w ws txt root (tree v)) key ≡ btree-find-exact (what w ws txt link (tree v)) key
-  pub builds : insert-branches (what w ws txt root (tree v)) key + 1
-      ≡ insert-branches (what w ws txt link (tree v)) key + count
+pub record SearchIn (ws txt : List ℕ) (w : Which) (ℓ : Level) (root : ℕ) (key : Str) (link count : ℕ) : Type 0 where
+  pub here : At ws txt w (tree ℓ) link
+  pub finds : btree-find-exact (what w ws txt root (tree ℓ)) key ≡ btree-find-exact (what w ws txt link (tree ℓ)) key
+  pub builds : insert-branches (what w ws txt root (tree ℓ)) key + 1
+      ≡ insert-branches (what w ws txt link (tree ℓ)) key + count
 
 -- The search stands at link, and would build count branches if the key were there.
 pub record Search (ws txt : List ℕ) (root : ℕ) (key : Str) (link count : ℕ) : Type 0 where
   pub some : 0 < count
   pub small : count + link ≤ root + 1
   pub any : AnyTree ws txt link
-  pub says : (w : Which) (v : Level) → At ws txt w (tree v) root → SearchIn ws txt w v root key link count
+  pub says : (w : Which) (ℓ : Level) → At ws txt w (tree ℓ) root → SearchIn ws txt w ℓ root key link count
 
 pub search-all : {ws txt : List ℕ} {root : ℕ} {key : Str} → AnyTree ws txt root → Search ws txt root key root 1
 search-all a = record { some = omega arith; small = omega arith; any = a; says = λ w v t. record { here = t; finds = refl; builds = refl } }
@@ -40,18 +40,18 @@ module _ {ws txt : List ℕ} {root : ℕ} {key : Str} {link count : ℕ} (g : Se
   module _ (p : 0 < link) where
     -- The search goes on at the side x, which says what the branch says.
     search-on : (x : ℕ) → x < link → AnyTree ws txt x
-        → ((w : Which) (v : Level) → At ws txt w (tree v) link
-        → At ws txt w (tree v) x
-        × (btree-find-exact (what w ws txt link (tree v)) key ≡ btree-find-exact (what w ws txt x (tree v)) key)
-        × (insert-branches (what w ws txt link (tree v)) key ≡ insert-branches (what w ws txt x (tree v)) key + 1))
+        → ((w : Which) (ℓ : Level) → At ws txt w (tree ℓ) link
+        → At ws txt w (tree ℓ) x
+        × (btree-find-exact (what w ws txt link (tree ℓ)) key ≡ btree-find-exact (what w ws txt x (tree ℓ)) key)
+        × (insert-branches (what w ws txt link (tree ℓ)) key ≡ insert-branches (what w ws txt x (tree ℓ)) key + 1))
         → Search ws txt root key x (count + 1)
     search-on x h a f = record {
       some = omega arith;
       small = omega (arith, g .small);
       any = a;
-      says = λ w v t.
-          let s = g .says w v t in
-          let y = f w v (s .here) in
+      says = λ w ℓ t.
+          let s = g .says w ℓ t in
+          let y = f w ℓ (s .here) in
           record { here = y .0; finds = s .finds ∙ y .1; builds = omega (arith, s .builds, y .2) };
     }
 

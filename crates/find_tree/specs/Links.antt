@@ -53,10 +53,10 @@ head0 [] = 0
 head0 (x ∷ l) = x
 
 -- The row of btree_find_prefix that the branch of link l gives.
-unfoldable pub row-at : (w : Which) → List ℕ → List ℕ → (v : Level) → Option Str → ℕ → PrefixMatch × Value (Item w) v
-row-at w ws txt v p l = (record { prefix = p; completion = key-at ws txt l }, held w ws txt v l)
+unfoldable pub row-at : (w : Which) → List ℕ → List ℕ → (ℓ : Level) → Option Str → ℕ → PrefixMatch × Value (Item w) ℓ
+row-at w ws txt ℓ p l = (record { prefix = p; completion = key-at ws txt l }, held w ws txt ℓ l)
 
 -- A branch of the tree of link root.
-pub record BranchOf (ws : List ℕ) (w : Which) (v : Level) (root x : ℕ) : Type 0 where
+pub record BranchOf (ws : List ℕ) (w : Which) (ℓ : Level) (root x : ℕ) : Type 0 where
   pub some : 0 < x
-  pub link : LinkOk ws (root + 1) x (kind w (tree v))
+  pub link : LinkOk ws (root + 1) x (kind w (tree ℓ))

@@ -38,21 +38,21 @@ branches-into k w trieˢ t = 0
 
 module _ {ws txt : List ℕ} (key : Str) where
   -- A tree is of one table and level.
-  one-count : {w w′ : Which} {v v′ : Level} (x : ℕ) → At ws txt w (tree v) x → At ws txt w′ (tree v′) x
-      → insert-branches (what w ws txt x (tree v)) key ≡ insert-branches (what w′ ws txt x (tree v′)) key
+  one-count : {w w′ : Which} {ℓ ℓ′ : Level} (x : ℕ) → At ws txt w (tree ℓ) x → At ws txt w′ (tree ℓ′) x
+      → insert-branches (what w ws txt x (tree ℓ)) key ≡ insert-branches (what w′ ws txt x (tree ℓ′)) key
   unfolding branches-into insert-branches
-  one-count {w} {w′} {v} {v′} x t t′ =
+  one-count {w} {w′} {ℓ} {ℓ′} x t t′ =
       zero-some x
       (λ e. rw (e, what-none w ws txt, what-none w′ ws txt))
       (λ p.
       let e = sym (t .link .of-kind (λ z. omega arith)) ∙ t′ .link .of-kind (λ z. omega arith) in
-      ap (λ (q : Which × Sort). branches-into key (q .0) (q .1) (what (q .0) ws txt x (q .1))) (kind-one w (tree v) w′ (tree v′) e))
+      ap (λ (q : Which × Sort). branches-into key (q .0) (q .1) (what (q .0) ws txt x (q .1))) (kind-one w (tree ℓ) w′ (tree ℓ′) e))
 
-  few-branches : {w : Which} {v : Level} (x : ℕ) → At ws txt w (tree v) x
-      → insert-branches (what w ws txt x (tree v)) key ≤ x + 1
+  few-branches : {w : Which} {ℓ : Level} (x : ℕ) → At ws txt w (tree ℓ) x
+      → insert-branches (what w ws txt x (tree ℓ)) key ≤ x + 1
   unfolding insert-branches
-  few-branches {w} {v} =
-      by-sides (λ x. insert-branches (what w ws txt x (tree v)) key ≤ x + 1)
+  few-branches {w} {ℓ} =
+      by-sides (λ x. insert-branches (what w ws txt x (tree ℓ)) key ≤ x + 1)
       (rw (what-none w ws txt) (omega arith))
       (λ x t p f g.
       let b = branch-right t p in
@@ -62,52 +62,52 @@ module _ {ws txt : List ℕ} (key : Str) where
       (λ e _. rw (insert-branches, e) (omega arith))
       (λ e _. rw (insert-branches, e) (omega (arith, g, b .right .earlier)))))
 
-  pub builds-of : {w : Which} {v : Level} {x count : ℕ} → At ws txt w (tree v) x
-      → count ≡ insert-branches (what w ws txt x (tree v)) key → Builds ws txt x key count
+  pub builds-of : {w : Which} {ℓ : Level} {x count : ℕ} → At ws txt w (tree ℓ) x
+      → count ≡ insert-branches (what w ws txt x (tree ℓ)) key → Builds ws txt x key count
   builds-of {x = x} t e = record { small = omega (arith, e, few-branches x t); says = λ w′ v′ t′. e ∙ one-count x t t′ }
 
 -- The branches of an insertion, counted before other writes, are those after them. Any value serves: the weight is the same.
 pub insertion-after : {ws ws′ txt : List ℕ} {n n′ used : ℕ} {w : Which} {s : Sort} {y : ℕ} {t : Of (Item w) s}
     → Made ws ws′ txt n n′ used w s y t
-    → {v : Level} {x count : ℕ} → At ws txt w (list v) x → x ≤ n → (r : List ℕ)
-    → count ≡ insert-branches (first-tree (what w ws txt x (list v))) (span txt (text-start r) (text-len r))
-    → (a : Value (Item w) v)
-    → weight (names-insert (what w ws txt x (list v)) (span txt (text-start r) (text-len r)) a) ≤ 96
-    → Room ws′ n′ (count + 1) → NewBranch ws′ txt used (n′ + 1) w r v → NamesInsertion ws′ txt w v n′ used x count r
-insertion-after {ws} {txt = txt} {w = w} m {v} {x} l h r e a g o b = record {
+    → {ℓ : Level} {x count : ℕ} → At ws txt w (list ℓ) x → x ≤ n → (r : List ℕ)
+    → count ≡ insert-branches (first-tree (what w ws txt x (list ℓ))) (span txt (text-start r) (text-len r))
+    → (a : Value (Item w) ℓ)
+    → weight (names-insert (what w ws txt x (list ℓ)) (span txt (text-start r) (text-len r)) a) ≤ 96
+    → Room ws′ n′ (count + 1) → NewBranch ws′ txt used (n′ + 1) w r ℓ → NamesInsertion ws′ txt w ℓ n′ used x count r
+insertion-after {ws} {txt = txt} {w = w} m {ℓ} {x} l h r e a g o b = record {
   sound = m .sound;
   link = made-link m {l = x + 1} (omega arith) (record { earlier = omega arith; of-kind = l .link .of-kind });
   new = b;
   counted = e ∙ rw (made-what m w h);
   light = rw (made-what m w h, names-insert-rest-weight)
-      (omega (arith, g, names-insert-rest-weight (what w ws txt x (list v)) (span txt (text-start r) (text-len r)) a));
+      (omega (arith, g, names-insert-rest-weight (what w ws txt x (list ℓ)) (span txt (text-start r) (text-len r)) a));
   room = o;
 }
 
 -- ---- The writers
 
-pub kind-list : (w : Which) (v : Level) → kind w (tree v) + 2 ≡ kind w (list v)
+pub kind-list : (w : Which) (ℓ : Level) → kind w (tree ℓ) + 2 ≡ kind w (list ℓ)
 kind-list names bind = refl
 kind-list names ns = refl
 kind-list modules bind = refl
 kind-list modules ns = refl
 
-pub kind-small : (w : Which) (v : Level) → kind w (list v) < 10
+pub kind-small : (w : Which) (ℓ : Level) → kind w (list ℓ) < 10
 kind-small names bind = omega arith
 kind-small names ns = omega arith
 kind-small modules bind = omega arith
 kind-small modules ns = omega arith
 
-module _ {ws txt : List ℕ} {w : Which} {v : Level} {records used x count : ℕ} {r : List ℕ}
-    (i : NamesInsertion ws txt w v records used x count r) where
-  pub insertion-list : At ws txt w (list v) x
+module _ {ws txt : List ℕ} {w : Which} {ℓ : Level} {records used x count : ℕ} {r : List ℕ}
+    (i : NamesInsertion ws txt w ℓ records used x count r) where
+  pub insertion-list : At ws txt w (list ℓ) x
   insertion-list = record { records = records; used = used; sound = i .sound; link = i .link }
 
   module _ {first rest : ℕ} (d : Led ws x first rest) where
-    led : LedIn ws txt w v x first rest
-    led = d txt w v insertion-list
+    led : LedIn ws txt w ℓ x first rest
+    led = d txt w ℓ insertion-list
 
-    pub first-insertion : Insertion ws txt w v records used first count r
+    pub first-insertion : Insertion ws txt w ℓ records used first count r
     first-insertion = record {
       sound = i .sound;
       link = link-later (omega (arith, i .link .earlier)) (led .first-link);
@@ -126,14 +126,14 @@ module _ {ws txt : List ℕ} {w : Which} {v : Level} {records used x count : ℕ
           arith,
           list-weight (at-of insertion-list (list _) (omega arith) (led .rest-link)),
           ap weight (led .rest-reads),
-          names-insert-rest-weight (what w ws txt x (list v)) (span txt (text-start r) (text-len r)) (value w txt r (what w ws txt) v),
+          names-insert-rest-weight (what w ws txt x (list ℓ)) (span txt (text-start r) (text-len r)) (value w txt r (what w ws txt) ℓ),
           i .light,
         )
 
-    module _ {ws′ : List ℕ} {root : ℕ} (h : Inserted ws ws′ txt w v records used first count r root) where
-      pub made-first : Made ws ws′ txt records (records + count) used w (tree v) root
-          (btree-insert-replace (what w ws txt first (tree v)) (span txt (text-start r) (text-len r))
-          (value w txt r (what w ws txt) v))
+    module _ {ws′ : List ℕ} {root : ℕ} (h : Inserted ws ws′ txt w ℓ records used first count r root) where
+      pub made-first : Made ws ws′ txt records (records + count) used w (tree ℓ) root
+          (btree-insert-replace (what w ws txt first (tree ℓ)) (span txt (text-start r) (text-len r))
+          (value w txt r (what w ws txt) ℓ))
       made-first = record {
         grows = omega arith;
         sound = h .sound;
@@ -153,10 +153,10 @@ module _ {ws txt : List ℕ} {w : Which} {v : Level} {records used x count : ℕ
 
       pub names-inserted : {ws″ : List ℕ} {kd link : ℕ} → kd ≡ kind-word r + 2
           → MadeNames ws′ ws″ (records + count) kd root rest link
-          → Made ws ws″ txt records (records + count + 1) used w (list v) link (inserted w ws txt v x r)
+          → Made ws ws″ txt records (records + count + 1) used w (list ℓ) link (inserted w ws txt ℓ x r)
       names-inserted q m =
           made-as
           (made-then made-first
-          (m txt used w v (h .sound) (q ∙ ap (λ k. k + 2) (i .new .known) ∙ kind-list w v) (h .link)
+          (m txt used w ℓ (h .sound) (q ∙ ap (λ k. k + 2) (i .new .known) ∙ kind-list w ℓ) (h .link)
           (made-link made-first {l = x + 1} (omega (arith, i .link .earlier)) (led .rest-link))))
           (rw (names-insert-first, led .first-reads, led .rest-reads, h .reads, made-what made-first w rest-within))

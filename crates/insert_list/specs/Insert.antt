@@ -13,18 +13,18 @@ use Rattle.insert_tree.specs.Insert.{NewBranch}
 use Rattle.insert_record.specs.Made.{Room, Made}
 
 -- names_insert of the key and the value of a new branch r into the list of link x.
-abbrev pub inserted : (w : Which) (ws txt : List ℕ) (v : Level) (x : ℕ) (r : List ℕ) → NameList (Item w) v
-inserted w ws txt v x r =
-    names-insert (what w ws txt x (list v)) (span txt (text-start r) (text-len r)) (value w txt r (what w ws txt) v)
+abbrev pub inserted : (w : Which) (ws txt : List ℕ) (ℓ : Level) (x : ℕ) (r : List ℕ) → NameList (Item w) ℓ
+inserted w ws txt ℓ x r =
+    names-insert (what w ws txt x (list ℓ)) (span txt (text-start r) (text-len r)) (value w txt r (what w ws txt) ℓ)
 
 -- The new branch r goes into the list of link x; count is that of the branches it builds, after which one collection is put.
-pub record NamesInsertion (ws txt : List ℕ) (w : Which) (v : Level) (records used x count : ℕ)
+pub record NamesInsertion (ws txt : List ℕ) (w : Which) (ℓ : Level) (records used x count : ℕ)
     (r : List ℕ) : Type 0 where
   pub sound : Used ws txt records used
-  pub link : LinkOk ws (records + 1) x (kind w (list v))
-  pub new : NewBranch ws txt used (records + 1) w r v
-  pub counted : count ≡ insert-branches (first-tree (what w ws txt x (list v))) (span txt (text-start r) (text-len r))
-  pub light : weight (inserted w ws txt v x r) ≤ heaviest-list
+  pub link : LinkOk ws (records + 1) x (kind w (list ℓ))
+  pub new : NewBranch ws txt used (records + 1) w r ℓ
+  pub counted : count ≡ insert-branches (first-tree (what w ws txt x (list ℓ))) (span txt (text-start r) (text-len r))
+  pub light : weight (inserted w ws txt ℓ x r) ≤ heaviest-list
   pub room : Room ws records (count + 1)
 
 -- The same, of some table and level and some text used.
@@ -37,5 +37,5 @@ pub record AnyNamesInsertion (ws txt : List ℕ) (records x count : ℕ) (r : Li
 -- names_insert, for any table, level and text used that the insertion is of.
 abbrev pub NamesInserts : (ws ws′ txt : List ℕ) (records x count : ℕ) (r : List ℕ) (link : ℕ) → Type 0
 NamesInserts ws ws′ txt records x count r link =
-    (w : Which) (v : Level) (used : ℕ) → NamesInsertion ws txt w v records used x count r
-    → Made ws ws′ txt records (records + count + 1) used w (list v) link (inserted w ws txt v x r)
+    (w : Which) (ℓ : Level) (used : ℕ) → NamesInsertion ws txt w ℓ records used x count r
+    → Made ws ws′ txt records (records + count + 1) used w (list ℓ) link (inserted w ws txt ℓ x r)

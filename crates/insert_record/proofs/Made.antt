@@ -90,16 +90,16 @@ module _ {ws : List ℕ} {n : ℕ} (m : Room ws n 1) where
   -- A collection whose weight and depth are by what its links store.
   made-list : (r : List ℕ) → length r ≡ 12 → weight-word r ≡ weight-of ws r → weight-word r ≤ 96
       → depth-word r ≡ depth-of ws r
-      → {txt : List ℕ} {used : ℕ} → Used ws txt n used → (w : Which) (v : Level) → kind-word r ≡ kind w (list v)
-      → CollectionOk ws txt used (n + 1) w r v
-      → Made ws (put ws n r) txt n (n + 1) used w (list v) (n + 1) (row w txt r (what w ws txt) (list v))
-  made-list r z e h f {txt} {used} o w v k c = made-put o m r z w (list v) k (right v c)
+      → {txt : List ℕ} {used : ℕ} → Used ws txt n used → (w : Which) (ℓ : Level) → kind-word r ≡ kind w (list ℓ)
+      → CollectionOk ws txt used (n + 1) w r ℓ
+      → Made ws (put ws n r) txt n (n + 1) used w (list ℓ) (n + 1) (row w txt r (what w ws txt) (list ℓ))
+  made-list r z e h f {txt} {used} o w ℓ k c = made-put o m r z w (list ℓ) k (right ℓ c)
     where
-      weighed : (v : Level) → CollectionOk ws txt used (n + 1) w r v → WeightOk r (row w txt r (what w ws txt) (list v))
-      weighed v c = let q = e ∙ weight-row (rows-before o) w c in record { weighs = q; light = omega (arith, q) }
+      weighed : (ℓ : Level) → CollectionOk ws txt used (n + 1) w r ℓ → WeightOk r (row w txt r (what w ws txt) (list ℓ))
+      weighed ℓ c = let q = e ∙ weight-row (rows-before o) w c in record { weighs = q; light = omega (arith, q) }
 
-      right : (v : Level) → CollectionOk ws txt used (n + 1) w r v
-          → RecordAs ws txt used (n + 1) w (list v) r (row w txt r (what w ws txt) (list v))
+      right : (ℓ : Level) → CollectionOk ws txt used (n + 1) w r ℓ
+          → RecordAs ws txt used (n + 1) w (list ℓ) r (row w txt r (what w ws txt) (list ℓ))
       right bind c = (c, weighed bind c)
       right ns c = (c, weighed ns c, f ∙ depth-collection (rows-before o) w c)
 
@@ -128,12 +128,12 @@ module _ {ws : List ℕ} {n : ℕ} (m : Room ws n 1) where
 
 -- ---- What the writers ask of weights and depths
 module _ {ws txt : List ℕ} {n used : ℕ} (o : Used ws txt n used) (w : Which) where
-  pub imported-light : (v : Level) {own rest : ℕ} (label : Str) → LinkOk ws (n + 1) own (kind w (list v))
-      → LinkOk ws (n + 1) rest (kind w (list v))
-      → weight (ImportedNames label (what w ws txt own (list v)) (what w ws txt rest (list v))) ≤ 96
+  pub imported-light : (ℓ : Level) {own rest : ℕ} (label : Str) → LinkOk ws (n + 1) own (kind w (list ℓ))
+      → LinkOk ws (n + 1) rest (kind w (list ℓ))
+      → weight (ImportedNames label (what w ws txt own (list ℓ)) (what w ws txt rest (list ℓ))) ≤ 96
       → weight-in ws own + weight-in ws rest < 96
   unfolding weight
-  imported-light v label i j h = omega (arith, stored-weight (rows-before o) w v _ i, stored-weight (rows-before o) w v _ j, h)
+  imported-light ℓ label i j h = omega (arith, stored-weight (rows-before o) w ℓ _ i, stored-weight (rows-before o) w ℓ _ j, h)
 
   pub made-shallow : {y : ℕ} (t : NameList (Item w) bind) → LinkOk ws (n + 1) y (kind w (list ns))
       → depth (trie t (what w ws txt y (list ns))) ≤ 16 → depth-in ws y ≤ 16

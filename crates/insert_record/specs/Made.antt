@@ -34,18 +34,18 @@ collection-over ws kd c = collection-row kd c (max (depth-in ws (c .own)) (depth
 -- Names of a tree in front of a list, as the record after the first n.
 abbrev pub MadeNames : (ws ws′ : List ℕ) (n kd own rest r : ℕ) → Type 0
 MadeNames ws ws′ n kd own rest r =
-    (txt : List ℕ) (used : ℕ) (w : Which) (v : Level) → Used ws txt n used → kd ≡ kind w (list v)
-    → LinkOk ws (n + 1) own (kind w (tree v)) → LinkOk ws (n + 1) rest (kind w (list v))
-    → Made ws ws′ txt n (n + 1) used w (list v) r (Names (what w ws txt own (tree v)) (what w ws txt rest (list v)))
+    (txt : List ℕ) (used : ℕ) (w : Which) (ℓ : Level) → Used ws txt n used → kd ≡ kind w (list ℓ)
+    → LinkOk ws (n + 1) own (kind w (tree ℓ)) → LinkOk ws (n + 1) rest (kind w (list ℓ))
+    → Made ws ws′ txt n (n + 1) used w (list ℓ) r (Names (what w ws txt own (tree ℓ)) (what w ws txt rest (list ℓ)))
 
 -- ImportedNames of a label and a list in front of a list, as the record after the first n.
 abbrev pub MadeImported : (ws ws′ : List ℕ) (n kd start len own rest r : ℕ) → Type 0
 MadeImported ws ws′ n kd start len own rest r =
-    (txt : List ℕ) (used : ℕ) (w : Which) (v : Level) → Used ws txt n used → kd ≡ kind w (list v)
+    (txt : List ℕ) (used : ℕ) (w : Which) (ℓ : Level) → Used ws txt n used → kd ≡ kind w (list ℓ)
     → TextOk IsLabel txt used start len
-    → LinkOk ws (n + 1) own (kind w (list v)) → LinkOk ws (n + 1) rest (kind w (list v))
-    → Made ws ws′ txt n (n + 1) used w (list v) r
-    (ImportedNames (span txt start len) (what w ws txt own (list v)) (what w ws txt rest (list v)))
+    → LinkOk ws (n + 1) own (kind w (list ℓ)) → LinkOk ws (n + 1) rest (kind w (list ℓ))
+    → Made ws ws′ txt n (n + 1) used w (list ℓ) r
+    (ImportedNames (span txt start len) (what w ws txt own (list ℓ)) (what w ws txt rest (list ℓ)))
 
 -- The trie of two lists, as the record after the first n.
 abbrev pub MadeTrie : (ws ws′ : List ℕ) (n kd a b r : ℕ) → Type 0

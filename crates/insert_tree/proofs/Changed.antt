@@ -75,8 +75,8 @@ module _ {n : ℕ} {ws ws′ : List ℕ} (y : Stays n ws ws′) where
   }
 
   -- Only the records up to the link count.
-  pub tree-stays : {txt : List ℕ} {w : Which} {v : Level} {x : ℕ} → x ≤ n → At ws txt w (tree v) x
-      → At ws′ txt w (tree v) x
+  pub tree-stays : {txt : List ℕ} {w : Which} {ℓ : Level} {x : ℕ} → x ≤ n → At ws txt w (tree ℓ) x
+      → At ws′ txt w (tree ℓ) x
   tree-stays {x = x} h t = record {
     records = x;
     used = t .used;

@@ -34,8 +34,8 @@ use Rattle.memory.proofs.At.{at-in, at-of}
 
 -- ---- Trails
 
-pub trail-link : {ws txt : List ℕ} {key : Str} {w : Which} {v : Level} {root d n link : ℕ} → At ws txt w (tree v) root
-    → Trail ws txt key root d n link → LinkOk ws (root + 1) link (kind w (tree v))
+pub trail-link : {ws txt : List ℕ} {key : Str} {w : Which} {ℓ : Level} {root d n link : ℕ} → At ws txt w (tree ℓ) root
+    → Trail ws txt key root d n link → LinkOk ws (root + 1) link (kind w (tree ℓ))
 trail-link t top = record { earlier = omega arith; of-kind = t .link .of-kind }
 trail-link {ws} {n = n} t (turn x r) =
     let y = branch-right (at-of t (tree _) (omega arith) (trail-link t r)) (x .some) in
@@ -57,7 +57,7 @@ trail-top (turn x r) e = absurd (omega arith)
 -- ---- The new branches before record number n are put
 
 -- What all of them rest on: the memory base before the call, and what is inserted.
-pub record Ready (base ws txt : List ℕ) (w : Which) (v : Level) (used : ℕ) (key : Str) (val : Value (Item w) v)
+pub record Ready (base ws txt : List ℕ) (w : Which) (ℓ : Level) (used : ℕ) (key : Str) (val : Value (Item w) ℓ)
     (records root total n : ℕ) : Type 0 where
   pub sound : Used ws txt n used
   pub stays : Stays records base ws
@@ -66,36 +66,36 @@ pub record Ready (base ws txt : List ℕ) (w : Which) (v : Level) (used : ℕ) (
   pub room : total * 12 ≤ length base
   pub within : root ≤ records
   pub above : records ≤ n
-  pub root-link : LinkOk ws (n + 1) root (kind w (tree v))
+  pub root-link : LinkOk ws (n + 1) root (kind w (tree ℓ))
   pub is-key : IsKey key
   pub fine : Formed IsKey IsLabel (IsItem w) val
 
 -- The last of them, link n, is the insertion into the tree of below, and the notes lead from there up to the root.
-pub record Risen (base ws txt : List ℕ) (w : Which) (v : Level) (used : ℕ) (key : Str) (val : Value (Item w) v)
+pub record Risen (base ws txt : List ℕ) (w : Which) (ℓ : Level) (used : ℕ) (key : Str) (val : Value (Item w) ℓ)
     (records root total n : ℕ) : Type 0 where
-  pub ready : Ready base ws txt w v used key val records root total n
+  pub ready : Ready base ws txt w ℓ used key val records root total n
   pub d : ℕ
   pub level : n + d ≡ total
   pub below : ℕ
   pub trail : Trail ws txt key root d n below
-  pub link : LinkOk ws (n + 1) n (kind w (tree v))
-  pub reads : what w ws txt n (tree v) ≡ btree-insert-replace (what w base txt below (tree v)) key val
+  pub link : LinkOk ws (n + 1) n (kind w (tree ℓ))
+  pub reads : what w ws txt n (tree ℓ) ≡ btree-insert-replace (what w base txt below (tree ℓ)) key val
 
-module _ {base ws txt : List ℕ} {w : Which} {v : Level} {used : ℕ} {key : Str} {val : Value (Item w) v}
+module _ {base ws txt : List ℕ} {w : Which} {ℓ : Level} {used : ℕ} {key : Str} {val : Value (Item w) ℓ}
     {records root total n : ℕ}
-    (g : Ready base ws txt w v used key val records root total n) where
-  root-tree : At ws txt w (tree v) root
-  root-tree = at-in (g .sound) w (tree v) (g .root-link)
+    (g : Ready base ws txt w ℓ used key val records root total n) where
+  root-tree : At ws txt w (tree ℓ) root
+  root-tree = at-in (g .sound) w (tree ℓ) (g .root-link)
 
-  base-of : (x : ℕ) → x ≤ root → what w ws txt x (tree v) ≡ what w base txt x (tree v)
-  base-of x h = ap (λ f. f (tree v)) (what-stays (g .stays) w txt x (omega (arith, g .within)))
+  base-of : (x : ℕ) → x ≤ root → what w ws txt x (tree ℓ) ≡ what w base txt x (tree ℓ)
+  base-of x h = ap (λ f. f (tree ℓ)) (what-stays (g .stays) w txt x (omega (arith, g .within)))
 
   -- The branch r is put with the sides a and b, in the place of the branch x.
-  module _ (h : n < total) (r : List ℕ) (twelve : length r ≡ 12) (c : NewBranch ws txt used (n + 1) w r v) (a b : ℕ)
-      (i : LinkOk ws (n + 1) a (kind w (tree v))) (j : LinkOk ws (n + 1) b (kind w (tree v)))
+  module _ (h : n < total) (r : List ℕ) (twelve : length r ≡ 12) (c : NewBranch ws txt used (n + 1) w r ℓ) (a b : ℕ)
+      (i : LinkOk ws (n + 1) a (kind w (tree ℓ))) (j : LinkOk ws (n + 1) b (kind w (tree ℓ)))
       (d x : ℕ) (level : n + 1 + d ≡ total) (t : Trail ws txt key root d (n + 1) x)
-      (e : StrBranch (span txt (text-start r) (text-len r)) (value w txt r (what w ws txt) v) (what w ws txt a (tree v))
-      (what w ws txt b (tree v)) ≡ btree-insert-replace (what w base txt x (tree v)) key val) where
+      (e : StrBranch (span txt (text-start r) (text-len r)) (value w txt r (what w ws txt) ℓ) (what w ws txt a (tree ℓ))
+      (what w ws txt b (tree ℓ)) ≡ btree-insert-replace (what w base txt x (tree ℓ)) key val) where
     abbrev new : List ℕ
     new = with-sides ws r a b
 
@@ -108,14 +108,14 @@ module _ {base ws txt : List ℕ} {w : Which} {v : Level} {used : ℕ} {key : St
     few : n < 65536
     few = omega (arith, g .few)
 
-    ordered : Ordered (StrBranch (span txt (text-start r) (text-len r)) (value w txt r (what w ws txt) v)
-        (what w ws txt a (tree v)) (what w ws txt b (tree v)))
+    ordered : Ordered (StrBranch (span txt (text-start r) (text-len r)) (value w txt r (what w ws txt) ℓ)
+        (what w ws txt a (tree ℓ)) (what w ws txt b (tree ℓ)))
     ordered =
         let x-link = trail-link root-tree t in
-        subst (λ (t : Tree (Item w) v). Ordered t) (ap (λ t. btree-insert-replace t key val) (base-of x (omega (arith, x-link .earlier))) ∙ sym e)
-        (formed-ordered IsKey IsLabel (IsItem w) (btree-insert-replace (what w ws txt x (tree v)) key val)
-        (btree-insert-replace-formed IsKey IsLabel (IsItem w) (what w ws txt x (tree v)) key val (g .is-key) (g .fine)
-        (link-fine (g .sound) w (tree v) (omega (arith, g .root-link .earlier)) x-link .0)))
+        subst (λ (t : Tree (Item w) ℓ). Ordered t) (ap (λ t. btree-insert-replace t key val) (base-of x (omega (arith, x-link .earlier))) ∙ sym e)
+        (formed-ordered IsKey IsLabel (IsItem w) (btree-insert-replace (what w ws txt x (tree ℓ)) key val)
+        (btree-insert-replace-formed IsKey IsLabel (IsItem w) (what w ws txt x (tree ℓ)) key val (g .is-key) (g .fine)
+        (link-fine (g .sound) w (tree ℓ) (omega (arith, g .root-link .earlier)) x-link .0)))
 
     changed : Changed ws after n
     changed = put-changes ws new n room (sided-length ws r a b twelve)
@@ -123,10 +123,10 @@ module _ {base ws txt : List ℕ} {w : Which} {v : Level} {used : ℕ} {key : St
     past : drop ((n + 1) * 12) after ≡ drop ((n + 1) * 12) ws
     past = let q : (n + 1) * 12 ≡ n * 12 + 12 = omega arith in rw q (changed .rest)
 
-    put-risen : Risen base after txt w v used key val records root total (n + 1)
+    put-risen : Risen base after txt w ℓ used key val records root total (n + 1)
     put-risen = record {
       ready = record {
-        sound = branch-sound (g .sound) few room r twelve w v c a b i j ordered;
+        sound = branch-sound (g .sound) few room r twelve w ℓ c a b i j ordered;
         stays = stays-on (g .above) (g .stays) (changed .stays);
         rest = drop-more ((n + 1) * 12) (total * 12) ws after (omega arith) past ∙ g .rest;
         few = g .few;
@@ -141,15 +141,15 @@ module _ {base ws txt : List ℕ} {w : Which} {v : Level} {used : ℕ} {key : St
       level = level;
       below = x;
       trail = trail-stays (changed .stays) (omega (arith, g .within, g .above)) (n + 1) (omega arith) past t;
-      link = branch-link (g .sound) few room r twelve w v c a b i j ordered;
-      reads = branch-what (g .sound) few room r twelve w v c a b i j ordered ∙ e;
+      link = branch-link (g .sound) few room r twelve w ℓ c a b i j ordered;
+      reads = branch-what (g .sound) few room r twelve w ℓ c a b i j ordered ∙ e;
     }
 
 -- ---- The next one up
 
-module _ {base ws txt : List ℕ} {w : Which} {v : Level} {used : ℕ} {key : Str} {val : Value (Item w) v}
+module _ {base ws txt : List ℕ} {w : Which} {ℓ : Level} {used : ℕ} {key : Str} {val : Value (Item w) ℓ}
     {records root total n : ℕ}
-    (g : Risen base ws txt w v used key val records root total n) (h : n < total) where
+    (g : Risen base ws txt w ℓ used key val records root total n) (h : n < total) where
   abbrev l : ℕ
   l = noted-link ws n
 
@@ -159,19 +159,19 @@ module _ {base ws txt : List ℕ} {w : Which} {v : Level} {used : ℕ} {key : St
   up : SideTaken ws txt key root l (noted-side ws n) (g .below) × Trail ws txt key root (g .d - 1) (n + 1) l
   up = trail-up (g .trail) (omega (arith, g .level))
 
-  l-link : LinkOk ws (n + 1) l (kind w (tree v))
+  l-link : LinkOk ws (n + 1) l (kind w (tree ℓ))
   l-link = link-later (omega (arith, g .ready .root-link .earlier)) (trail-link (root-tree (g .ready)) (up .1))
 
-  l-tree : At ws txt w (tree v) l
-  l-tree = at-in (g .ready .sound) w (tree v) l-link
+  l-tree : At ws txt w (tree ℓ) l
+  l-tree = at-in (g .ready .sound) w (tree ℓ) l-link
 
-  old : NewBranch ws txt used (n + 1) w r v
-  old = old-branch (g .ready .sound) w v l-link (up .0 .some)
+  old : NewBranch ws txt used (n + 1) w r ℓ
+  old = old-branch (g .ready .sound) w ℓ l-link (up .0 .some)
 
-  left-ok : LinkOk ws (n + 1) (left-link r) (kind w (tree v))
+  left-ok : LinkOk ws (n + 1) (left-link r) (kind w (tree ℓ))
   left-ok = link-later (omega (arith, l-link .earlier)) (branch-right l-tree (up .0 .some) .left)
 
-  right-ok : LinkOk ws (n + 1) (right-link r) (kind w (tree v))
+  right-ok : LinkOk ws (n + 1) (right-link r) (kind w (tree ℓ))
   right-ok = link-later (omega (arith, l-link .earlier)) (branch-right l-tree (up .0 .some) .right)
 
   pub risen-ok : RaiseOk ws n
@@ -180,8 +180,8 @@ module _ {base ws txt : List ℕ} {w : Which} {v : Level} {used : ℕ} {key : St
     room = omega (arith, g .ready .room, g .ready .stays .size);
     some = up .0 .some;
     fits = link-fits (g .ready .sound) l-link;
-    left = depth-ok (g .ready .sound) w r v old (g .link) right-ok;
-    right = depth-ok (g .ready .sound) w r v old left-ok (g .link);
+    left = depth-ok (g .ready .sound) w r ℓ old (g .link) right-ok;
+    right = depth-ok (g .ready .sound) w r ℓ old left-ok (g .link);
   }
 
   raised-left : noted-side ws n ≡ 0 → raised-row ws n ≡ with-sides ws r n (right-link r)
@@ -192,34 +192,34 @@ module _ {base ws txt : List ℕ} {w : Which} {v : Level} {used : ℕ} {key : St
   unfolding raised-row
   raised-right p = rw (ne-eqb (noted-side ws n) 0 (λ z. omega arith))
 
-  with-copy : (a b : ℕ) → LinkOk ws (n + 1) a (kind w (tree v)) → LinkOk ws (n + 1) b (kind w (tree v))
-      → StrBranch (key-at ws txt l) (held w ws txt v l) (what w ws txt a (tree v)) (what w ws txt b (tree v))
-      ≡ btree-insert-replace (what w base txt l (tree v)) key val
-      → Risen base (put ws n (with-sides ws r a b)) txt w v used key val records root total (n + 1)
+  with-copy : (a b : ℕ) → LinkOk ws (n + 1) a (kind w (tree ℓ)) → LinkOk ws (n + 1) b (kind w (tree ℓ))
+      → StrBranch (key-at ws txt l) (held w ws txt ℓ l) (what w ws txt a (tree ℓ)) (what w ws txt b (tree ℓ))
+      ≡ btree-insert-replace (what w base txt l (tree ℓ)) key val
+      → Risen base (put ws n (with-sides ws r a b)) txt w ℓ used key val records root total (n + 1)
   unfolding key-at held
   with-copy a b i j e =
       put-risen (g .ready) h r (record-length ws l (up .0 .some) (link-fits (g .ready .sound) l-link)) old a b i j (g .d - 1) l (omega (arith, g .level))
       (up .1) e
 
-  below-old : what w base txt (g .below) (tree v) ≡ what w ws txt (g .below) (tree v)
+  below-old : what w base txt (g .below) (tree ℓ) ≡ what w ws txt (g .below) (tree ℓ)
   below-old = sym (base-of (g .ready) (g .below) (omega (arith, trail-link (root-tree (g .ready)) (g .trail) .earlier)))
 
-  l-old : what w base txt l (tree v) ≡ what w ws txt l (tree v)
+  l-old : what w base txt l (tree ℓ) ≡ what w ws txt l (tree ℓ)
   l-old = sym (base-of (g .ready) l (up .0 .within))
 
   into-left : Ordering·lt ≡ string-compare key (key-at ws txt l) → g .below ≡ left-link r
-      → StrBranch (key-at ws txt l) (held w ws txt v l) (what w ws txt n (tree v))
-      (what w ws txt (right-link r) (tree v)) ≡ btree-insert-replace (what w base txt l (tree v)) key val
+      → StrBranch (key-at ws txt l) (held w ws txt ℓ l) (what w ws txt n (tree ℓ))
+      (what w ws txt (right-link r) (tree ℓ)) ≡ btree-insert-replace (what w base txt l (tree ℓ)) key val
   unfolding btree-insert-replace
   into-left c q = rw (g .reads, below-old, l-old, branch-reads l-tree (up .0 .some), btree-insert-replace, ← c, q)
 
   into-right : Ordering·gt ≡ string-compare key (key-at ws txt l) → g .below ≡ right-link r
-      → StrBranch (key-at ws txt l) (held w ws txt v l) (what w ws txt (left-link r) (tree v))
-      (what w ws txt n (tree v)) ≡ btree-insert-replace (what w base txt l (tree v)) key val
+      → StrBranch (key-at ws txt l) (held w ws txt ℓ l) (what w ws txt (left-link r) (tree ℓ))
+      (what w ws txt n (tree ℓ)) ≡ btree-insert-replace (what w base txt l (tree ℓ)) key val
   unfolding btree-insert-replace
   into-right c q = rw (g .reads, below-old, l-old, branch-reads l-tree (up .0 .some), btree-insert-replace, ← c, q)
 
-  pub risen-up : Risen base (put ws n (raised-row ws n)) txt w v used key val records root total (n + 1)
+  pub risen-up : Risen base (put ws n (raised-row ws n)) txt w ℓ used key val records root total (n + 1)
   risen-up =
       zero-some (noted-side ws n)
       (λ z. let t = up .0 .left z in rw (raised-left z) (with-copy n (right-link r) (g .link) right-ok (into-left (t .0) (t .1))))
@@ -227,8 +227,8 @@ module _ {base ws txt : List ℕ} {w : Which} {v : Level} {used : ℕ} {key : St
 
 -- ---- The call
 
-module _ {ws txt : List ℕ} {w : Which} {v : Level} {records used root count : ℕ} {r : List ℕ}
-    (g : Insertion ws txt w v records used root count r) where
+module _ {ws txt : List ℕ} {w : Which} {ℓ : Level} {records used root count : ℕ} {r : List ℕ}
+    (g : Insertion ws txt w ℓ records used root count r) where
   pub insertion-key : text-start r + text-len r ≤ length txt
   insertion-key = omega (arith, g .new .key .inside, g .sound .text-fits)
 
@@ -244,18 +244,18 @@ module _ {ws txt : List ℕ} {w : Which} {v : Level} {records used root count : 
   insertion-marked m = rw (part-span txt (text-start r) (text-len r)) at m
 
   pub insertion-tree : AnyTree ws txt root
-  insertion-tree = any-tree (at-in (g .sound) w (tree v) (g .link))
+  insertion-tree = any-tree (at-in (g .sound) w (tree ℓ) (g .link))
 
 -- ---- The lowest one
 
-module _ {ws ws′ txt : List ℕ} {w : Which} {v : Level} {records used root count : ℕ} {r : List ℕ}
-    (g : Insertion ws txt w v records used root count r) (twelve : length r ≡ 12)
+module _ {ws ws′ txt : List ℕ} {w : Which} {ℓ : Level} {records used root count : ℕ} {r : List ℕ}
+    (g : Insertion ws txt w ℓ records used root count r) (twelve : length r ≡ 12)
     (m : Marked ws ws′ txt (span txt (text-start r) (text-len r)) records root count) where
   abbrev x : ℕ
   x = noted-link ws′ records
 
-  ready : Ready ws ws′ txt w v used (span txt (text-start r) (text-len r))
-      (value w txt r (what w ws txt) v) records root (records + count) records
+  ready : Ready ws ws′ txt w ℓ used (span txt (text-start r) (text-len r))
+      (value w txt r (what w ws txt) ℓ) records root (records + count) records
   ready = record {
     sound = sound-stays (m .stays) (omega arith) (omega arith) (g .sound);
     stays = m .stays;
@@ -266,29 +266,29 @@ module _ {ws ws′ txt : List ℕ} {w : Which} {v : Level} {records used root co
     above = omega arith;
     root-link = link-stays (m .stays) (omega arith) (omega arith) (g .link);
     is-key = g .new .key .keeps;
-    fine = held-fine (g .sound) w r v (g .new .holds);
+    fine = held-fine (g .sound) w r ℓ (g .new .holds);
   }
 
-  x-link : LinkOk ws′ (records + 1) x (kind w (tree v))
+  x-link : LinkOk ws′ (records + 1) x (kind w (tree ℓ))
   x-link = link-later (omega (arith, g .link .earlier)) (trail-link (root-tree ready) (m .trail))
 
-  x-tree : At ws′ txt w (tree v) x
-  x-tree = at-in (ready .sound) w (tree v) x-link
+  x-tree : At ws′ txt w (tree ℓ) x
+  x-tree = at-in (ready .sound) w (tree ℓ) x-link
 
-  held-stays : (v : Level) → HeldOk ws txt used (records + 1) w r v → HeldOk ws′ txt used (records + 1) w r v
+  held-stays : (ℓ : Level) → HeldOk ws txt used (records + 1) w r ℓ → HeldOk ws′ txt used (records + 1) w r ℓ
   held-stays bind o = o
   held-stays ns o = link-stays (m .stays) (omega arith) (omega arith) o
 
-  value-stays : (v : Level) → HeldOk ws txt used (records + 1) w r v
-      → value w txt r (what w ws′ txt) v ≡ value w txt r (what w ws txt) v
+  value-stays : (ℓ : Level) → HeldOk ws txt used (records + 1) w r ℓ
+      → value w txt r (what w ws′ txt) ℓ ≡ value w txt r (what w ws txt) ℓ
   value-stays bind o = refl
   value-stays ns o = ap (λ f. f trieˢ) (what-stays (m .stays) w txt (trie-link r) (omega (arith, o .earlier)))
 
-  new-branch : NewBranch ws′ txt used (records + 1) w r v
-  new-branch = record { known = g .new .known; key = g .new .key; holds = held-stays v (g .new .holds) }
+  new-branch : NewBranch ws′ txt used (records + 1) w r ℓ
+  new-branch = record { known = g .new .known; key = g .new .key; holds = held-stays ℓ (g .new .holds) }
 
-  sides : LinkOk ws′ (records + 1) (left-in ws′ x) (kind w (tree v))
-      × LinkOk ws′ (records + 1) (right-in ws′ x) (kind w (tree v))
+  sides : LinkOk ws′ (records + 1) (left-in ws′ x) (kind w (tree ℓ))
+      × LinkOk ws′ (records + 1) (right-in ws′ x) (kind w (tree ℓ))
   sides =
       zero-some x
       (λ z. rw (z, stored-none ws′ 3, stored-none ws′ 4) (none, none))
@@ -297,7 +297,7 @@ module _ {ws ws′ txt : List ℕ} {w : Which} {v : Level} {records used root co
       rw (stored-some ws′ x 3 p, stored-some ws′ x 4 p)
       (link-later (omega (arith, x-link .earlier)) (o .left), link-later (omega (arith, x-link .earlier)) (o .right)))
     where
-      none : LinkOk ws′ (records + 1) 0 (kind w (tree v))
+      none : LinkOk ws′ (records + 1) 0 (kind w (tree ℓ))
       none = record { earlier = omega arith; of-kind = λ z. absurd (z refl) }
 
   pub lowest-ok : LowestOk ws′ records r
@@ -305,20 +305,20 @@ module _ {ws ws′ txt : List ℕ} {w : Which} {v : Level} {records used root co
     few = omega (arith, g .few, m .some);
     room = omega (arith, g .room, m .stays .size, m .some);
     fits = link-fits (ready .sound) x-link;
-    sides = depth-ok (ready .sound) w r v new-branch (sides .0) (sides .1);
+    sides = depth-ok (ready .sound) w r ℓ new-branch (sides .0) (sides .1);
   }
 
-  lowest-reads : StrBranch (span txt (text-start r) (text-len r)) (value w txt r (what w ws′ txt) v)
-      (what w ws′ txt (left-in ws′ x) (tree v)) (what w ws′ txt (right-in ws′ x) (tree v))
-      ≡ btree-insert-replace (what w ws txt x (tree v)) (span txt (text-start r) (text-len r))
-      (value w txt r (what w ws txt) v)
+  lowest-reads : StrBranch (span txt (text-start r) (text-len r)) (value w txt r (what w ws′ txt) ℓ)
+      (what w ws′ txt (left-in ws′ x) (tree ℓ)) (what w ws′ txt (right-in ws′ x) (tree ℓ))
+      ≡ btree-insert-replace (what w ws txt x (tree ℓ)) (span txt (text-start r) (text-len r))
+      (value w txt r (what w ws txt) ℓ)
   unfolding btree-insert-replace
   lowest-reads =
       zero-some x
-      (λ z. rw (value-stays v (g .new .holds), z, stored-none ws′ 3, stored-none ws′ 4, what-none w ws′ txt, what-none w ws txt))
+      (λ z. rw (value-stays ℓ (g .new .holds), z, stored-none ws′ 3, stored-none ws′ 4, what-none w ws′ txt, what-none w ws txt))
       (λ p.
       rw (
-        value-stays v (g .new .holds),
+        value-stays ℓ (g .new .holds),
         stored-some ws′ x 3 p,
         stored-some ws′ x 4 p,
         ← base-of ready x (omega (arith, trail-link (root-tree ready) (m .trail) .earlier)),
@@ -329,7 +329,7 @@ module _ {ws ws′ txt : List ℕ} {w : Which} {v : Level} {records used root co
       ))
 
   pub lowest-risen : {ws″ low : List ℕ} → low ≡ lowest-row ws′ records r → ws″ ≡ put ws′ records low
-      → Risen ws ws″ txt w v used (span txt (text-start r) (text-len r)) (value w txt r (what w ws txt) v) records root
+      → Risen ws ws″ txt w ℓ used (span txt (text-start r) (text-len r)) (value w txt r (what w ws txt) ℓ) records root
       (records + count) (records + 1)
   unfolding lowest-row
   lowest-risen e q =
@@ -352,17 +352,17 @@ pub record AnyRisen (ws txt : List ℕ) (records root total n : ℕ) : Type 0 wh
 -- From ws₀, where the lowest is put, to ws, where those before record number n are put.
 pub record Rising (ws₀ txt : List ℕ) (records root total : ℕ) (ws : List ℕ) (n : ℕ) : Type 0 where
   pub any : AnyRisen ws txt records root total n
-  pub says : (base : List ℕ) (w : Which) (v : Level) (used : ℕ) (key : Str) (val : Value (Item w) v)
-      → Risen base ws₀ txt w v used key val records root total (records + 1)
-      → Risen base ws txt w v used key val records root total n
+  pub says : (base : List ℕ) (w : Which) (ℓ : Level) (used : ℕ) (key : Str) (val : Value (Item w) ℓ)
+      → Risen base ws₀ txt w ℓ used key val records root total (records + 1)
+      → Risen base ws txt w ℓ used key val records root total n
 
-pub rising-none : {base ws txt : List ℕ} {w : Which} {v : Level} {used : ℕ} {key : Str} {val : Value (Item w) v}
+pub rising-none : {base ws txt : List ℕ} {w : Which} {ℓ : Level} {used : ℕ} {key : Str} {val : Value (Item w) ℓ}
     {records root total : ℕ}
-    → Risen base ws txt w v used key val records root total (records + 1)
+    → Risen base ws txt w ℓ used key val records root total (records + 1)
     → Rising ws txt records root total ws (records + 1)
-rising-none {base} {w = w} {v} {used} {key} {val} g = record {
-  any = record { base = base; which = w; level = v; used = used; key = key; val = val; risen = g };
-  says = λ base w v used key val g. g;
+rising-none {base} {w = w} {ℓ} {used} {key} {val} g = record {
+  any = record { base = base; which = w; level = ℓ; used = used; key = key; val = val; risen = g };
+  says = λ base w ℓ used key val g. g;
 }
 
 pub rising-up : {ws₀ txt : List ℕ} {records root total : ℕ} {ws : List ℕ} {n : ℕ}
@@ -382,10 +382,10 @@ rising-up g h e q = record {
 }
 
 -- The last one is the new root.
-pub all-risen : {base ws txt : List ℕ} {w : Which} {v : Level} {used records root count n : ℕ} {r : List ℕ}
-    → Risen base ws txt w v used (span txt (text-start r) (text-len r)) (value w txt r (what w base txt) v) records root
+pub all-risen : {base ws txt : List ℕ} {w : Which} {ℓ : Level} {used records root count n : ℕ} {r : List ℕ}
+    → Risen base ws txt w ℓ used (span txt (text-start r) (text-len r)) (value w txt r (what w base txt) ℓ) records root
     (records + count) n → records + count ≤ n
-    → Inserted base ws txt w v records used root count r (records + count)
+    → Inserted base ws txt w ℓ records used root count r (records + count)
 all-risen {records = records} {count = count} {n = n} g h =
     let e : records + count ≡ n = omega (arith, g .level) in
     record {

@@ -54,7 +54,7 @@ module _ (ws r : List ℕ) (a b : ℕ) (twelve : length r ≡ 12) where
   unfolding with-sides
   sided-depth = getD-set-same (set (set r 3 a) 4 b) 11 _ 0 (omega (arith, length-set (set r 3 a) 4 b, length-set r 3 a))
 
-  sided-value : (w : Which) (txt : List ℕ) (f : ℕ → Reading w) (v : Level) → value w txt s f v ≡ value w txt r f v
+  sided-value : (w : Which) (txt : List ℕ) (f : ℕ → Reading w) (ℓ : Level) → value w txt s f ℓ ≡ value w txt r f ℓ
   sided-value names txt f bind = rw (sided-word 5 refl, sided-word 6 refl)
   sided-value names txt f ns = rw (sided-word 5 refl)
   sided-value modules txt f bind = rw (sided-word 5 refl, sided-word 6 refl, sided-word 7 refl, sided-word 8 refl, sided-word 9 refl, sided-word 10 refl)
@@ -81,14 +81,14 @@ bind-kind modules = refl
 
 module _ {ws txt : List ℕ} {n used : ℕ} (o : Used ws txt n used) (w : Which) (r : List ℕ) where
   -- What a right branch holds is formed.
-  pub held-fine : (v : Level) → HeldOk ws txt used (n + 1) w r v
-      → Formed IsKey IsLabel (IsItem w) (value w txt r (what w ws txt) v)
+  pub held-fine : (ℓ : Level) → HeldOk ws txt used (n + 1) w r ℓ
+      → Formed IsKey IsLabel (IsItem w) (value w txt r (what w ws txt) ℓ)
   held-fine bind h = item-fine txt used w r h
   held-fine ns h = link-fine o w trieˢ (omega arith) h .0
 
   module _ {a b : ℕ} where
-    pub depth-ok : (v : Level) → NewBranch ws txt used (n + 1) w r v → LinkOk ws (n + 1) a (kind w (tree v))
-        → LinkOk ws (n + 1) b (kind w (tree v)) → DepthOk ws (kind-word r) (trie-link r) a b
+    pub depth-ok : (ℓ : Level) → NewBranch ws txt used (n + 1) w r ℓ → LinkOk ws (n + 1) a (kind w (tree ℓ))
+        → LinkOk ws (n + 1) b (kind w (tree ℓ)) → DepthOk ws (kind-word r) (trie-link r) a b
     depth-ok bind g i j = record {
       left-fits = link-fits o i;
       right-fits = link-fits o j;
@@ -103,15 +103,15 @@ module _ {ws txt : List ℕ} {n used : ℕ} (o : Used ws txt n used) (w : Which)
     }
 
 -- An old branch as a new one.
-pub old-branch : {ws txt : List ℕ} {n used : ℕ} → Used ws txt n used → (w : Which) (v : Level) {x : ℕ}
-    → LinkOk ws (n + 1) x (kind w (tree v)) → 0 < x
-    → NewBranch ws txt used (n + 1) w (record-at ws x) v
-old-branch {ws} {txt} {n} {used} o w v {x} i p = record { known = k; key = branch-at (link-ok o i p) w v k .key; holds = holds v k }
+pub old-branch : {ws txt : List ℕ} {n used : ℕ} → Used ws txt n used → (w : Which) (ℓ : Level) {x : ℕ}
+    → LinkOk ws (n + 1) x (kind w (tree ℓ)) → 0 < x
+    → NewBranch ws txt used (n + 1) w (record-at ws x) ℓ
+old-branch {ws} {txt} {n} {used} o w ℓ {x} i p = record { known = k; key = branch-at (link-ok o i p) w ℓ k .key; holds = holds ℓ k }
   where
-    k : kind-word (record-at ws x) ≡ kind w (tree v)
+    k : kind-word (record-at ws x) ≡ kind w (tree ℓ)
     k = i .of-kind (λ e. omega arith)
 
-    holds : (v : Level) → kind-word (record-at ws x) ≡ kind w (tree v) → HeldOk ws txt used (n + 1) w (record-at ws x) v
+    holds : (ℓ : Level) → kind-word (record-at ws x) ≡ kind w (tree ℓ) → HeldOk ws txt used (n + 1) w (record-at ws x) ℓ
     holds bind k = record-as (link-ok o i p) w (tree bind) k .2
     holds ns k = link-later (omega (arith, i .earlier)) (record-as (link-ok o i p) w (tree ns) k .2)
 
@@ -132,10 +132,10 @@ module _ {ws txt : List ℕ} {n used : ℕ} (o : Used ws txt n used) (r : List �
       in
       sided-depth ws r a b twelve ∙ e ∙ sym f ∙ depth-branch (λ j p h. o .rows j p (omega arith)) w y h
 
-  as-row : (v : Level) → NewBranch ws txt used (n + 1) w r v → BranchOk ws txt used (n + 1) w (with-sides ws r a b) v
-      → Ordered (row w txt (with-sides ws r a b) (what w ws txt) (tree v))
-      → RecordAs ws txt used (n + 1) w (tree v) (with-sides ws r a b)
-      (row w txt (with-sides ws r a b) (what w ws txt) (tree v))
+  as-row : (ℓ : Level) → NewBranch ws txt used (n + 1) w r ℓ → BranchOk ws txt used (n + 1) w (with-sides ws r a b) ℓ
+      → Ordered (row w txt (with-sides ws r a b) (what w ws txt) (tree ℓ))
+      → RecordAs ws txt used (n + 1) w (tree ℓ) (with-sides ws r a b)
+      (row w txt (with-sides ws r a b) (what w ws txt) (tree ℓ))
   as-row bind g y q = (y, q, sided-item ws r a b twelve w txt used (g .holds))
   as-row ns g y q =
       let h : LinkOk ws (n + 1) (trie-link (with-sides ws r a b)) (kind w trieˢ) = rw (sided-word ws r a b twelve 5 refl) (g .holds) in
@@ -143,45 +143,45 @@ module _ {ws txt : List ℕ} {n used : ℕ} (o : Used ws txt n used) (r : List �
 
 module _ {ws txt : List ℕ} {n used : ℕ} (o : Used ws txt n used) (few : n < 65536) (room : n * 12 + 12 ≤ length ws)
     (r : List ℕ) (twelve : length r ≡ 12)
-    (w : Which) (v : Level) (g : NewBranch ws txt used (n + 1) w r v) (a b : ℕ)
-    (i : LinkOk ws (n + 1) a (kind w (tree v))) (j : LinkOk ws (n + 1) b (kind w (tree v)))
-    (ordered : Ordered (StrBranch (span txt (text-start r) (text-len r)) (value w txt r (what w ws txt) v)
-    (what w ws txt a (tree v)) (what w ws txt b (tree v)))) where
+    (w : Which) (ℓ : Level) (g : NewBranch ws txt used (n + 1) w r ℓ) (a b : ℕ)
+    (i : LinkOk ws (n + 1) a (kind w (tree ℓ))) (j : LinkOk ws (n + 1) b (kind w (tree ℓ)))
+    (ordered : Ordered (StrBranch (span txt (text-start r) (text-len r)) (value w txt r (what w ws txt) ℓ)
+    (what w ws txt a (tree ℓ)) (what w ws txt b (tree ℓ)))) where
   abbrev new : List ℕ
   new = with-sides ws r a b
 
-  row-is : row w txt new (what w ws txt) (tree v)
-      ≡ StrBranch (span txt (text-start r) (text-len r)) (value w txt r (what w ws txt) v) (what w ws txt a (tree v))
-      (what w ws txt b (tree v))
+  row-is : row w txt new (what w ws txt) (tree ℓ)
+      ≡ StrBranch (span txt (text-start r) (text-len r)) (value w txt r (what w ws txt) ℓ) (what w ws txt a (tree ℓ))
+      (what w ws txt b (tree ℓ))
   row-is =
       rw (
         sided-word ws r a b twelve 1 refl,
         sided-word ws r a b twelve 2 refl,
         sided-left ws r a b twelve,
         sided-right ws r a b twelve,
-        sided-value ws r a b twelve w txt (what w ws txt) v,
+        sided-value ws r a b twelve w txt (what w ws txt) ℓ,
       )
 
-  branch : BranchOk ws txt used (n + 1) w new v
+  branch : BranchOk ws txt used (n + 1) w new ℓ
   branch = record {
     key = rw (sided-word ws r a b twelve 1 refl, sided-word ws r a b twelve 2 refl) (g .key);
     left = rw (sided-left ws r a b twelve) i;
     right = rw (sided-right ws r a b twelve) j;
   }
 
-  known : kind-word new ≡ kind w (tree v)
+  known : kind-word new ≡ kind w (tree ℓ)
   known = sided-word ws r a b twelve 0 refl ∙ g .known
 
-  right : RecordAs ws txt used (n + 1) w (tree v) new (row w txt new (what w ws txt) (tree v))
-  right = as-row o r twelve w a b v g branch (subst (λ (t : Tree (Item w) v). Ordered t) (sym row-is) ordered)
+  right : RecordAs ws txt used (n + 1) w (tree ℓ) new (row w txt new (what w ws txt) (tree ℓ))
+  right = as-row o r twelve w a b ℓ g branch (subst (λ (t : Tree (Item w) ℓ). Ordered t) (sym row-is) ordered)
 
   pub branch-sound : Used (put ws n new) txt (n + 1) used
-  branch-sound = put-used o few room new (sided-length ws r a b twelve) w (tree v) known right
+  branch-sound = put-used o few room new (sided-length ws r a b twelve) w (tree ℓ) known right
 
-  pub branch-what : what w (put ws n new) txt (n + 1) (tree v)
-      ≡ StrBranch (span txt (text-start r) (text-len r)) (value w txt r (what w ws txt) v) (what w ws txt a (tree v))
-      (what w ws txt b (tree v))
-  branch-what = put-what o few room new (sided-length ws r a b twelve) w (tree v) known right ∙ row-is
+  pub branch-what : what w (put ws n new) txt (n + 1) (tree ℓ)
+      ≡ StrBranch (span txt (text-start r) (text-len r)) (value w txt r (what w ws txt) ℓ) (what w ws txt a (tree ℓ))
+      (what w ws txt b (tree ℓ))
+  branch-what = put-what o few room new (sided-length ws r a b twelve) w (tree ℓ) known right ∙ row-is
 
-  pub branch-link : LinkOk (put ws n new) (n + 1 + 1) (n + 1) (kind w (tree v))
-  branch-link = put-link o few room new (sided-length ws r a b twelve) w (tree v) known right
+  pub branch-link : LinkOk (put ws n new) (n + 1 + 1) (n + 1) (kind w (tree ℓ))
+  branch-link = put-link o few room new (sided-length ws r a b twelve) w (tree ℓ) known right

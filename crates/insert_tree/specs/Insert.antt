@@ -18,21 +18,21 @@ use Rattle.insert_copy.specs.Copies.{noted-link, noted-side}
 -- ---- What an insertion asks
 
 -- The value of a branch r of link l.
-abbrev pub HeldOk : (ws txt : List ℕ) (used l : ℕ) (w : Which) (r : List ℕ) (v : Level) → Type 0
+abbrev pub HeldOk : (ws txt : List ℕ) (used l : ℕ) (w : Which) (r : List ℕ) (ℓ : Level) → Type 0
 HeldOk ws txt used l w r bind = ItemOk txt used w r
 HeldOk ws txt used l w r ns = LinkOk ws l (trie-link r) (kind w trieˢ)
 
 -- The words r of a new branch of link l: its sides and its depth are left to the insertion.
-pub record NewBranch (ws txt : List ℕ) (used l : ℕ) (w : Which) (r : List ℕ) (v : Level) : Type 0 where
-  pub known : kind-word r ≡ kind w (tree v)
+pub record NewBranch (ws txt : List ℕ) (used l : ℕ) (w : Which) (r : List ℕ) (ℓ : Level) : Type 0 where
+  pub known : kind-word r ≡ kind w (tree ℓ)
   pub key : TextOk IsKey txt used (text-start r) (text-len r)
-  pub holds : HeldOk ws txt used l w r v
+  pub holds : HeldOk ws txt used l w r ℓ
 
 -- The new branch r goes into the tree of root, which takes count of the records after the used ones.
-pub record Insertion (ws txt : List ℕ) (w : Which) (v : Level) (records used root count : ℕ) (r : List ℕ) : Type 0 where
+pub record Insertion (ws txt : List ℕ) (w : Which) (ℓ : Level) (records used root count : ℕ) (r : List ℕ) : Type 0 where
   pub sound : Used ws txt records used
-  pub link : LinkOk ws (records + 1) root (kind w (tree v))
-  pub new : NewBranch ws txt used (records + 1) w r v
+  pub link : LinkOk ws (records + 1) root (kind w (tree ℓ))
+  pub new : NewBranch ws txt used (records + 1) w r ℓ
   pub counted : Builds ws txt root (span txt (text-start r) (text-len r)) count
   pub room : (records + count) * record-words ≤ length ws
   pub few : records + count ≤ most-used
@@ -82,19 +82,19 @@ pub record Marked (ws ws′ txt : List ℕ) (key : Str) (records root count : �
 -- ---- What an insertion leaves
 
 -- The link root′ of the last new record names the tree with the new branch r; the used records and those after the new ones stay.
-pub record Inserted (ws ws′ txt : List ℕ) (w : Which) (v : Level) (records used root count : ℕ) (r : List ℕ)
+pub record Inserted (ws ws′ txt : List ℕ) (w : Which) (ℓ : Level) (records used root count : ℕ) (r : List ℕ)
     (root′ : ℕ) : Type 0 where
   pub last : root′ ≡ records + count
   pub sound : Used ws′ txt (records + count) used
   pub stays : Stays records ws ws′
   pub rest : drop ((records + count) * record-words) ws′ ≡ drop ((records + count) * record-words) ws
-  pub link : LinkOk ws′ (records + count + 1) root′ (kind w (tree v))
-  pub reads : what w ws′ txt root′ (tree v)
-      ≡ btree-insert-replace (what w ws txt root (tree v)) (span txt (text-start r) (text-len r))
-      (value w txt r (what w ws txt) v)
+  pub link : LinkOk ws′ (records + count + 1) root′ (kind w (tree ℓ))
+  pub reads : what w ws′ txt root′ (tree ℓ)
+      ≡ btree-insert-replace (what w ws txt root (tree ℓ)) (span txt (text-start r) (text-len r))
+      (value w txt r (what w ws txt) ℓ)
 
 -- The same, for any table, level and text used that the insertion is of.
 abbrev pub Inserts : (ws ws′ txt : List ℕ) (records root count : ℕ) (r : List ℕ) (root′ : ℕ) → Type 0
 Inserts ws ws′ txt records root count r root′ =
-    (w : Which) (v : Level) (used : ℕ) → Insertion ws txt w v records used root count r
-    → Inserted ws ws′ txt w v records used root count r root′
+    (w : Which) (ℓ : Level) (used : ℕ) → Insertion ws txt w ℓ records used root count r
+    → Inserted ws ws′ txt w ℓ records used root count r root′

@@ -37,15 +37,15 @@ module _ {ws txt : List ℕ} {n used x k : ℕ} (o : Used ws txt n used) (i : Li
         few = omega (arith, i .earlier, o .few);
       }
 
-module _ {ws txt : List ℕ} {w : Which} {v : Level} {x : ℕ} where
-  pub branch-text : BranchAt ws txt w v x → TextAt ws txt x
+module _ {ws txt : List ℕ} {w : Which} {ℓ : Level} {x : ℕ} where
+  pub branch-text : BranchAt ws txt w ℓ x → TextAt ws txt x
   branch-text b =
-      let t = branch-at (link-ok (b .at .sound) (b .at .link) (b .some)) w v (b .at .link .of-kind (λ e. omega (arith, b .some))) .key in
+      let t = branch-at (link-ok (b .at .sound) (b .at .link) (b .some)) w ℓ (b .at .link .of-kind (λ e. omega (arith, b .some))) .key in
       text-at (b .at .sound) (b .at .link) (b .some) t (omega (arith, t .keeps))
 
-  pub label-text : LabelAt ws txt w v x → 0 < x → TextAt ws txt x
+  pub label-text : LabelAt ws txt w ℓ x → 0 < x → TextAt ws txt x
   label-text b p =
-      let t = collection-at (link-ok (b .at .sound) (b .at .link) p) w v (b .at .link .of-kind (λ e. omega arith)) .label (b .imports p) in
+      let t = collection-at (link-ok (b .at .sound) (b .at .link) p) w ℓ (b .at .link .of-kind (λ e. omega arith)) .label (b .imports p) in
       text-at (b .at .sound) (b .at .link) p t (omega (arith, t .keeps))
 
 pub path-at : {ws txt : List ℕ} {w : Which} {p : Path} → PathOk ws txt w p → PathAt ws txt p

@@ -15,8 +15,8 @@ use Rattle.find_list.specs.Entries.{label-at}
 use Rattle.listing_output.specs.Path.{Path, joined, BranchAt}
 
 -- Link x is 0, or that of a collection with a label.
-pub record LabelAt (ws txt : List ℕ) (w : Which) (v : Level) (x : ℕ) : Type 0 where
-  pub at : At ws txt w (list v) x
+pub record LabelAt (ws txt : List ℕ) (w : Which) (ℓ : Level) (x : ℕ) : Type 0 where
+  pub at : At ws txt w (list ℓ) x
   pub imports : 0 < x → sort-word (record-at ws x) ≡ 1
 
 -- The links are branches of namespaces, at most 16, and the length is that of their text.

@@ -21,6 +21,6 @@ joined ws txt links zero = []
 joined ws txt links (suc n) = joined ws txt links n ++ (key-at ws txt (getD links n 0) ++ (dot ∷ []))
 
 -- Link x is that of a branch of the level v.
-pub record BranchAt (ws txt : List ℕ) (w : Which) (v : Level) (x : ℕ) : Type 0 where
+pub record BranchAt (ws txt : List ℕ) (w : Which) (ℓ : Level) (x : ℕ) : Type 0 where
   pub some : 0 < x
-  pub at : At ws txt w (tree v) x
+  pub at : At ws txt w (tree ℓ) x

@@ -32,7 +32,7 @@ use Rattle.listing_step.specs.Steps.{PathDown, Entered, PathSet}
 use Rattle.memory.proofs.At.{at-fits}
 
 -- A branch is a tree.
-module _ {ws txt : List ℕ} {w : Which} {v : Level} {x : ℕ} (b : BranchAt ws txt w v x) where
+module _ {ws txt : List ℕ} {w : Which} {ℓ : Level} {x : ℕ} (b : BranchAt ws txt w ℓ x) where
   pub path-branch-fits : (0 < x) × (x * 12 ≤ length ws)
   path-branch-fits = (b .some, at-fits (b .at))
 
@@ -57,10 +57,10 @@ module _ {ws txt : List ℕ} {w : Which} {p r : Path} {branch label : ℕ} (ok :
         | no ne ↦ let i : j < p .n = omega arith in rw (d .before j i) (ok .each j i)
       ]
 
-  label-down : LabelAt ws txt w ns label → (v : Level) × LabelAt ws txt w v (r .label)
+  label-down : LabelAt ws txt w ns label → (ℓ : Level) × LabelAt ws txt w ℓ (r .label)
   label-down l = go (eqb (p .n) 0) (d .label-is)
     where
-      go : (z : Bool) → r .label ≡ pick z label (p .label) → (v : Level) × LabelAt ws txt w v (r .label)
+      go : (z : Bool) → r .label ≡ pick z label (p .label) → (ℓ : Level) × LabelAt ws txt w ℓ (r .label)
       go true e = (ns, rw e l)
       go false e = (ok .label-level, rw e (ok .label-ok))
 

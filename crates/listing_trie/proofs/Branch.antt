@@ -49,9 +49,9 @@ module _ {ws txt : List ℕ} {w : Which} {branch : ℕ} (b : BranchAt ws txt w n
   child-reads = refl
 
 -- What an element has that an entry shows.
-module _ (ws txt : List ℕ) (w : Which) (v : Level) (o : Option Str) (branch label : ℕ) (x : PathElem × Value (Item w) v)
-    (e : outer x ≡ shown w ws txt v o (record { branch = branch; label = label })) where
-  pub shown-value : x .1 ≡ held w ws txt v branch
+module _ (ws txt : List ℕ) (w : Which) (ℓ : Level) (o : Option Str) (branch label : ℕ) (x : PathElem × Value (Item w) ℓ)
+    (e : outer x ≡ shown w ws txt ℓ o (record { branch = branch; label = label })) where
+  pub shown-value : x .1 ≡ held w ws txt ℓ branch
   unfolding outer shown row-at
   shown-value = ap (λ y. y .1 .1) e
 

@@ -54,19 +54,19 @@ use Rattle.memory.proofs.What.{what-none}
 use Rattle.listing_line.proofs.Goes.{goes-none}
 
 -- What is found in a list of namespaces is less deep than the list.
-found-deep : {A : Type 0} {v : Level} (n : NameList A v) (term : SearchTerm)
+found-deep : {A : Type 0} {ℓ : Level} (n : NameList A ℓ) (term : SearchTerm)
     → Allˡ (λ x. depth (x .1) < depth-names n) (found n term)
 unfolding found
 found-deep n term = Allˡ-reverse _ (names-find-rev-first n term) [] (names-find-first-depth n term) tt
 
 -- No label.
-pub no-label : {ws txt : List ℕ} {w : Which} {v : Level} {n used : ℕ} → Used ws txt n used → LabelAt ws txt w v 0
-no-label {w = w} {v} o = record { at = at-in o w (list v) (no-link _ _); imports = λ h. absurd (omega arith) }
+pub no-label : {ws txt : List ℕ} {w : Which} {ℓ : Level} {n used : ℕ} → Used ws txt n used → LabelAt ws txt w ℓ 0
+no-label {w = w} {ℓ} o = record { at = at-in o w (list ℓ) (no-link _ _); imports = λ h. absurd (omega arith) }
 
 -- A label no later than a list.
-label-here : {ws txt : List ℕ} {w : Which} {v : Level} {x label : ℕ} → At ws txt w (list v) x → LabelOk ws w v x label
-    → LabelAt ws txt w v label
-label-here {v = v} t o = record { at = at-of t (list v) (omega arith) (o .link); imports = o .imports }
+label-here : {ws txt : List ℕ} {w : Which} {ℓ : Level} {x label : ℕ} → At ws txt w (list ℓ) x → LabelOk ws w ℓ x label
+    → LabelAt ws txt w ℓ label
+label-here {ℓ = ℓ} t o = record { at = at-of t (list ℓ) (omega arith) (o .link); imports = o .imports }
 
 -- ---- A tree's branches
 
@@ -77,17 +77,17 @@ onward ws txt prefix root at = cond (eqb at 0) [] (at ∷ later ws txt prefix ro
 abbrev labelled : ℕ → List ℕ → List Entry
 labelled label l = map (λ b. record { branch = b; label = label }) l
 
-module _ {ws txt : List ℕ} {w : Which} {v : Level} {root : ℕ} (t : At ws txt w (tree v) root) (prefix : Str) where
+module _ {ws txt : List ℕ} {w : Which} {ℓ : Level} {root : ℕ} (t : At ws txt w (tree ℓ) root) (prefix : Str) where
   -- The branch stands among the matches.
   pub record Standing (at : ℕ) : Type 0 where
-    pub matching : (at ≡ 0 → ⊥) → MatchOf ws txt w v root prefix at
+    pub matching : (at ≡ 0 → ⊥) → MatchOf ws txt w ℓ root prefix at
 
   first-onward : (at : ℕ) → at ≡ head0 (matches ws txt root prefix)
       → (onward ws txt prefix root at ≡ matches ws txt root prefix) × Standing at
   unfolding onward
   first-onward at e = go (matches ws txt root prefix) refl (matches-of t prefix) (matches-increasing t prefix) e
     where
-      go : (l : List ℕ) → matches ws txt root prefix ≡ l → Allˡ (MatchOf ws txt w v root prefix) l
+      go : (l : List ℕ) → matches ws txt root prefix ≡ l → Allˡ (MatchOf ws txt w ℓ root prefix) l
           → Increasing (key-at ws txt) l → at ≡ head0 l
           → (cond (eqb at 0) [] (at ∷ later ws txt prefix root at) ≡ l) × Standing at
       go [] q a i e = (rw (eq-eqb at 0 e), record { matching = λ n. absurd (n e) })
@@ -264,18 +264,18 @@ module _ {ws txt : List ℕ} {query : Str} {place : Search} {f : Labelled} {run 
 -- ---- A list
 
 -- Entries that show what is found in a list leave room, where the list does.
-all-shown : (ws txt : List ℕ) (w : Which) (v : Level) (o : Option Str) (P : Value (Item w) v → Type 0)
-    (xs : List (PathElem × Value (Item w) v)) (es : List Entry)
-    → map outer xs ≡ map (shown w ws txt v o) es → Allˡ (λ x. P (x .1)) xs
-    → Allˡ (λ e. P (held w ws txt v (e .branch))) es
+all-shown : (ws txt : List ℕ) (w : Which) (ℓ : Level) (o : Option Str) (P : Value (Item w) ℓ → Type 0)
+    (xs : List (PathElem × Value (Item w) ℓ)) (es : List Entry)
+    → map outer xs ≡ map (shown w ws txt ℓ o) es → Allˡ (λ x. P (x .1)) xs
+    → Allˡ (λ e. P (held w ws txt ℓ (e .branch))) es
 unfolding outer shown row-at
-all-shown ws txt w v o P [] [] q a = tt
-all-shown ws txt w v o P [] (e ∷ es) q a = absurd (nil≢cons q)
-all-shown ws txt w v o P (x ∷ xs) [] q a = absurd (nil≢cons (sym q))
-all-shown ws txt w v o P (x ∷ xs) (e ∷ es) q a =
-    let h : outer x ≡ shown w ws txt v o e = cc in
-    let q′ : map outer xs ≡ map (shown w ws txt v o) es = cc in
-    (subst P (ap (λ y. y .1 .1) h) (a .0), all-shown ws txt w v o P xs es q′ (a .1))
+all-shown ws txt w ℓ o P [] [] q a = tt
+all-shown ws txt w ℓ o P [] (e ∷ es) q a = absurd (nil≢cons q)
+all-shown ws txt w ℓ o P (x ∷ xs) [] q a = absurd (nil≢cons (sym q))
+all-shown ws txt w ℓ o P (x ∷ xs) (e ∷ es) q a =
+    let h : outer x ≡ shown w ws txt ℓ o e = cc in
+    let q′ : map outer xs ≡ map (shown w ws txt ℓ o) es = cc in
+    (subst P (ap (λ y. y .1 .1) h) (a .0), all-shown ws txt w ℓ o P xs es q′ (a .1))
 
 module _ {ws txt : List ℕ} {ask : Ask} {rest : Str} {p : Path} {lim : Limits} {leaf : Bool} {x : ℕ}
     (r : ListReady ws txt ask rest p lim leaf x) where
@@ -316,7 +316,7 @@ entries-list {ws} {txt} {ask} {leaf = leaf} {x} says runs = record {
 
 -- ---- No list
 
-found-empty : {A : Type 0} {v : Level} (n : NameList A v) → n ≡ []ᴺ → (term : SearchTerm) → found n term ≡ []
+found-empty : {A : Type 0} {ℓ : Level} (n : NameList A ℓ) → n ≡ []ᴺ → (term : SearchTerm) → found n term ≡ []
 unfolding found names-find-rev-first matching-values names-revmap revmap-onto merge-increasing-lists-rev merge-nonempty nonempty
 found-empty n e NSTAll = rw e
 found-empty n e NSTNone = refl

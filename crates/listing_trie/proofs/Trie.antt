@@ -44,7 +44,7 @@ abbrev pub inside : Tally → Tally
 inside a = record { entered = a .entered + 1; lines = a .lines; bytes = a .bytes }
 
 -- Bindings are not searched while more than one segment is left.
-found-none : {A : Type 0} {v : Level} (n : NameList A v) → found n NSTNone ≡ []
+found-none : {A : Type 0} {ℓ : Level} (n : NameList A ℓ) → found n NSTNone ≡ []
 unfolding found names-find-rev-first matching-values merge-increasing-lists-rev merge-nonempty nonempty
 found-none n = refl
 

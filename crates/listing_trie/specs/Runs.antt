@@ -40,16 +40,16 @@ module _ (a : Ask) where
   trie-gives n tr path q = record { lines = made (line-for a) n tr path q; entered = entered n tr q }
 
   -- What an element found in a list gives: its line, or the listing of its trie.
-  abbrev pub element-gives : (v : Level) → ℕ → PathOf → Query → PathElem × Value (Item (asked a)) v
+  abbrev pub element-gives : (ℓ : Level) → ℕ → PathOf → Query → PathElem × Value (Item (asked a)) ℓ
       → Result (Item (asked a))
   element-gives bind n path q x = only (line-for a (line path x))
   element-gives ns n path q x = trie-gives n (x .1) (x .0 ∷ path) q
 
   -- One after another.
-  unfoldable pub elements-give : (v : Level) → ℕ → PathOf → Query → List (PathElem × Value (Item (asked a)) v)
+  unfoldable pub elements-give : (ℓ : Level) → ℕ → PathOf → Query → List (PathElem × Value (Item (asked a)) ℓ)
       → Result (Item (asked a))
-  elements-give v n path q [] = only []
-  elements-give v n path q (x ∷ xs) = element-gives v n path q x ⊕ elements-give v n path q xs
+  elements-give ℓ n path q [] = only []
+  elements-give ℓ n path q (x ∷ xs) = element-gives ℓ n path q x ⊕ elements-give ℓ n path q xs
 
 -- ---- What the functions require and leave
 

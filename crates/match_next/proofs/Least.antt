@@ -190,7 +190,7 @@ pub near-end : {ws txt : List ℕ} {root at found : ℕ} → Nearing ws txt root
 near-end {ws} g e = sym (near-here g ∙ rw (e, branches-none ws))
 
 -- Each way down to the branch reaches it.
-near-at : {ws txt : List ℕ} {w : Which} {v : Level} {root at : ℕ} (x : ℕ) → At ws txt w (tree v) x → (found : ℕ)
+near-at : {ws txt : List ℕ} {w : Which} {ℓ : Level} {root at : ℕ} (x : ℕ) → At ws txt w (tree ℓ) x → (found : ℕ)
     → Nearing ws txt root at x found → (f : ℕ) × Nearing ws txt root at at f
 near-at {ws} {txt} {root = root} {at} =
     by-sides (λ x. (found : ℕ) → Nearing ws txt root at x found → (f : ℕ) × Nearing ws txt root at at f)

@@ -35,23 +35,23 @@ item-fine txt used modules r o =
 
 module _ (ws txt : List ℕ) (used l : ℕ) (w : Which) (r : List ℕ)
     (ih : (x : ℕ) (t : Sort) → LinkOk ws l x (kind w t) → Fine w t (what w ws txt x t)) where
-  branch-fine : (v : Level) → BranchOk ws txt used l w r v → Ordered (row w txt r (what w ws txt) (tree v))
-      → Formed IsKey IsLabel (IsItem w) (value w txt r (what w ws txt) v)
-      → heaviest (value w txt r (what w ws txt) v) ≤ 96 → Fine w (tree v) (row w txt r (what w ws txt) (tree v))
+  branch-fine : (ℓ : Level) → BranchOk ws txt used l w r ℓ → Ordered (row w txt r (what w ws txt) (tree ℓ))
+      → Formed IsKey IsLabel (IsItem w) (value w txt r (what w ws txt) ℓ)
+      → heaviest (value w txt r (what w ws txt) ℓ) ≤ 96 → Fine w (tree ℓ) (row w txt r (what w ws txt) (tree ℓ))
   unfolding heaviest-tree
-  branch-fine v o a f h =
-      let i = ih (word r 3) (tree v) (o .left) in
-      let j = ih (word r 4) (tree v) (o .right) in
+  branch-fine ℓ o a f h =
+      let i = ih (word r 3) (tree ℓ) (o .left) in
+      let j = ih (word r 4) (tree ℓ) (o .right) in
       ((o .key .keeps, f, a .0, a .1, i .0, j .0), max-le h (max-le (i .1) (j .1)))
 
-  collection-fine : (v : Level) → CollectionOk ws txt used l w r v → weight (row w txt r (what w ws txt) (list v)) ≤ 96
-      → Fine w (list v) (row w txt r (what w ws txt) (list v))
+  collection-fine : (ℓ : Level) → CollectionOk ws txt used l w r ℓ → weight (row w txt r (what w ws txt) (list ℓ)) ≤ 96
+      → Fine w (list ℓ) (row w txt r (what w ws txt) (list ℓ))
   unfolding heaviest-names
-  collection-fine v o h =
-      let j = ih (word r 4) (list v) (o .rest) in
+  collection-fine ℓ o h =
+      let j = ih (word r 4) (list ℓ) (o .rest) in
       zero-one (word r 5) (o .sort)
-      (λ z. let i = ih (word r 3) (tree v) (o .own z) in rw z ((i .0, j .0), max-le (rw z at h) (max-le (i .1) (j .1))))
-      (λ z. let i = ih (word r 3) (list v) (o .imported z) in rw z ((o .label z .keeps, i .0, j .0), max-le (rw z at h) (max-le (i .1) (j .1))))
+      (λ z. let i = ih (word r 3) (tree ℓ) (o .own z) in rw z ((i .0, j .0), max-le (rw z at h) (max-le (i .1) (j .1))))
+      (λ z. let i = ih (word r 3) (list ℓ) (o .imported z) in rw z ((o .label z .keeps, i .0, j .0), max-le (rw z at h) (max-le (i .1) (j .1))))
 
   row-fine : (s : Sort) → RecordAs ws txt used l w s r (row w txt r (what w ws txt) s)
       → Fine w s (row w txt r (what w ws txt) s)

@@ -56,12 +56,12 @@ module _ {txt txt′ : List ℕ} {used : ℕ} (y : Keeps used txt txt′) where
   -- A right record, where its links read the same.
   module _ (ws : List ℕ) (l : ℕ) (w : Which) (r : List ℕ)
       (ih : (x : ℕ) (t : Sort) → LinkOk ws l x (kind w t) → what w ws txt′ x t ≡ what w ws txt x t) where
-    collection-keeps : (v : Level) → CollectionOk ws txt used l w r v
-        → row w txt′ r (what w ws txt′) (list v) ≡ row w txt r (what w ws txt) (list v)
-    collection-keeps v o =
+    collection-keeps : (ℓ : Level) → CollectionOk ws txt used l w r ℓ
+        → row w txt′ r (what w ws txt′) (list ℓ) ≡ row w txt r (what w ws txt) (list ℓ)
+    collection-keeps ℓ o =
         zero-one (word r 5) (o .sort)
-        (λ z. rw (z, ih (word r 3) (tree v) (o .own z), ih (word r 4) (list v) (o .rest)))
-        (λ z. rw (z, span-keeps (word r 1) (word r 2) (o .label z .inside), ih (word r 3) (list v) (o .imported z), ih (word r 4) (list v) (o .rest)))
+        (λ z. rw (z, ih (word r 3) (tree ℓ) (o .own z), ih (word r 4) (list ℓ) (o .rest)))
+        (λ z. rw (z, span-keeps (word r 1) (word r 2) (o .label z .inside), ih (word r 3) (list ℓ) (o .imported z), ih (word r 4) (list ℓ) (o .rest)))
 
     row-keeps : (s : Sort) → RecordAs ws txt used l w s r (what w ws txt l s)
         → row w txt′ r (what w ws txt′) s ≡ row w txt r (what w ws txt) s

@@ -11,15 +11,15 @@ use Rattle.memory.proofs.RecordOk.{zero-some, ordered-at}
 
 module _ {ws txt : List ℕ} {used l : ℕ} (rows : (j : ℕ) → 0 < j → j < l → RecordOk ws txt used j) (w : Which) where
   -- The keys of a tree that a link names ascend.
-  pub link-ordered : (v : Level) (x : ℕ) → LinkOk ws l x (kind w (tree v)) → Ordered (what w ws txt x (tree v))
-  link-ordered v x h =
+  pub link-ordered : (ℓ : Level) (x : ℕ) → LinkOk ws l x (kind w (tree ℓ)) → Ordered (what w ws txt x (tree ℓ))
+  link-ordered ℓ x h =
       zero-some x
       (λ e. rw (e, what-none w ws txt) tt)
-      (λ p. ordered-at (rows x p (h .earlier)) w v (h .of-kind (λ q. omega arith)))
+      (λ p. ordered-at (rows x p (h .earlier)) w ℓ (h .of-kind (λ q. omega arith)))
 
   module _ {r : List ℕ} where
-    pub branch-ordered : {v : Level} → BranchOk ws txt used l w r v
-        → AllKeys (λ x. x <ˢ key-of txt r) (what w ws txt (word r 3) (tree v))
-        → AllKeys (λ x. key-of txt r <ˢ x) (what w ws txt (word r 4) (tree v))
-        → Ordered (row w txt r (what w ws txt) (tree v))
-    branch-ordered {v} o a b = (a, b, link-ordered v (word r 3) (o .left), link-ordered v (word r 4) (o .right))
+    pub branch-ordered : {ℓ : Level} → BranchOk ws txt used l w r ℓ
+        → AllKeys (λ x. x <ˢ key-of txt r) (what w ws txt (word r 3) (tree ℓ))
+        → AllKeys (λ x. key-of txt r <ˢ x) (what w ws txt (word r 4) (tree ℓ))
+        → Ordered (row w txt r (what w ws txt) (tree ℓ))
+    branch-ordered {ℓ} o a b = (a, b, link-ordered ℓ (word r 3) (o .left), link-ordered ℓ (word r 4) (o .right))

@@ -47,7 +47,7 @@ pub kind-one : (w : Which) (s : Sort) (w′ : Which) (s′ : Sort) → kind w s 
 kind-one w s w′ s′ e = sym (of-kind-is w s) ∙ ap of-kind e ∙ of-kind-is w′ s′
 
 -- A collection's own link is earlier.
-pub own-earlier : {ws txt : List ℕ} {used l : ℕ} {w : Which} {v : Level} {r : List ℕ} → CollectionOk ws txt used l w r v
+pub own-earlier : {ws txt : List ℕ} {used l : ℕ} {w : Which} {ℓ : Level} {r : List ℕ} → CollectionOk ws txt used l w r ℓ
     → word r 3 < l
 own-earlier {r = r} o = zero-one (word r 5) (o .sort) (λ e. o .own e .earlier) (λ e. o .imported e .earlier)
 
@@ -75,35 +75,35 @@ module _ {ws txt : List ℕ} {used l : ℕ} (o : RecordOk ws txt used l) where
       → what w ws txt l s ≡ row w txt (record-at ws l) (what w ws txt) s
   record-what w s e p = what-row w ws txt s l p (as-earlier ws txt used l w s _ _ (record-as w s e))
 
-  pub branch-at : (w : Which) (v : Level) → word (record-at ws l) 0 ≡ kind w (tree v)
-      → BranchOk ws txt used l w (record-at ws l) v
+  pub branch-at : (w : Which) (ℓ : Level) → word (record-at ws l) 0 ≡ kind w (tree ℓ)
+      → BranchOk ws txt used l w (record-at ws l) ℓ
   branch-at w bind e = record-as w (tree bind) e .0
   branch-at w ns e = record-as w (tree ns) e .0
 
-  pub ordered-at : (w : Which) (v : Level) → word (record-at ws l) 0 ≡ kind w (tree v)
-      → Ordered (what w ws txt l (tree v))
+  pub ordered-at : (w : Which) (ℓ : Level) → word (record-at ws l) 0 ≡ kind w (tree ℓ)
+      → Ordered (what w ws txt l (tree ℓ))
   ordered-at w bind e = record-as w (tree bind) e .1
   ordered-at w ns e = record-as w (tree ns) e .1
 
-  pub collection-at : (w : Which) (v : Level) → word (record-at ws l) 0 ≡ kind w (list v)
-      → CollectionOk ws txt used l w (record-at ws l) v
+  pub collection-at : (w : Which) (ℓ : Level) → word (record-at ws l) 0 ≡ kind w (list ℓ)
+      → CollectionOk ws txt used l w (record-at ws l) ℓ
   collection-at w bind e = record-as w (list bind) e .0
   collection-at w ns e = record-as w (list ns) e .0
 
-  pub weight-at : (w : Which) (v : Level) → word (record-at ws l) 0 ≡ kind w (list v)
-      → WeightOk (record-at ws l) (what w ws txt l (list v))
+  pub weight-at : (w : Which) (ℓ : Level) → word (record-at ws l) 0 ≡ kind w (list ℓ)
+      → WeightOk (record-at ws l) (what w ws txt l (list ℓ))
   weight-at w bind e = record-as w (list bind) e .1
   weight-at w ns e = record-as w (list ns) e .1
 
 -- What other memory keeps of links and texts, it keeps of a right record.
 module _ {ws ws′ txt txt′ : List ℕ} {used used′ l l′ : ℕ} (link : (x k : ℕ) → LinkOk ws l x k → LinkOk ws′ l′ x k)
     (text : (Rule : Str → Type 0) (s n : ℕ) → TextOk Rule txt used s n → TextOk Rule txt′ used′ s n) where
-  branch-map : (w : Which) (v : Level) {r : List ℕ} → BranchOk ws txt used l w r v → BranchOk ws′ txt′ used′ l′ w r v
-  branch-map w v o = record { key = text _ _ _ (o .key); left = link _ _ (o .left); right = link _ _ (o .right) }
+  branch-map : (w : Which) (ℓ : Level) {r : List ℕ} → BranchOk ws txt used l w r ℓ → BranchOk ws′ txt′ used′ l′ w r ℓ
+  branch-map w ℓ o = record { key = text _ _ _ (o .key); left = link _ _ (o .left); right = link _ _ (o .right) }
 
-  collection-map : (w : Which) (v : Level) {r : List ℕ} → CollectionOk ws txt used l w r v
-      → CollectionOk ws′ txt′ used′ l′ w r v
-  collection-map w v o = record {
+  collection-map : (w : Which) (ℓ : Level) {r : List ℕ} → CollectionOk ws txt used l w r ℓ
+      → CollectionOk ws′ txt′ used′ l′ w r ℓ
+  collection-map w ℓ o = record {
     sort = o .sort;
     own = λ e. link _ _ (o .own e);
     imported = λ e. link _ _ (o .imported e);

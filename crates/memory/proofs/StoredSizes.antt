@@ -30,10 +30,10 @@ module _ {ws txt : List ℕ} {used l : ℕ} (rows : (j : ℕ) → 0 < j → j < 
       (λ e. rw (e, stored-none ws k, what-none w ws txt) (sym z))
       (λ p. stored-some ws x k p ∙ g x (rows x p (h .earlier)) (h .of-kind (λ q. omega arith)))
 
-  pub stored-weight : (v : Level) (x : ℕ) → LinkOk ws l x (kind w (list v))
-      → stored ws x 10 ≡ weight (what w ws txt x (list v))
+  pub stored-weight : (ℓ : Level) (x : ℕ) → LinkOk ws l x (kind w (list ℓ))
+      → stored ws x 10 ≡ weight (what w ws txt x (list ℓ))
   unfolding weight
-  stored-weight v = through 10 (list v) weight refl (λ x o e. weight-at o w v e .weighs)
+  stored-weight ℓ = through 10 (list ℓ) weight refl (λ x o e. weight-at o w ℓ e .weighs)
 
   pub stored-tree : (x : ℕ) → LinkOk ws l x (kind w (tree ns)) → stored ws x 11 ≡ depth-tree (what w ws txt x (tree ns))
   unfolding depth-tree
@@ -50,13 +50,13 @@ module _ {ws txt : List ℕ} {used l : ℕ} (rows : (j : ℕ) → 0 < j → j < 
 
   -- Of the record r of link l, whose links are right.
   module _ {r : List ℕ} where
-    pub weight-row : {v : Level} → CollectionOk ws txt used l w r v
-        → weight-of ws r ≡ weight (row w txt r (what w ws txt) (list v))
+    pub weight-row : {ℓ : Level} → CollectionOk ws txt used l w r ℓ
+        → weight-of ws r ≡ weight (row w txt r (what w ws txt) (list ℓ))
     unfolding weight-of weight
-    weight-row {v} o =
+    weight-row {ℓ} o =
         zero-one (word r 5) (o .sort)
-        (λ e. rw (e, stored-weight v (word r 4) (o .rest)) (omega arith))
-        (λ e. rw (e, stored-weight v (word r 4) (o .rest), stored-weight v (word r 3) (o .imported e)))
+        (λ e. rw (e, stored-weight ℓ (word r 4) (o .rest)) (omega arith))
+        (λ e. rw (e, stored-weight ℓ (word r 4) (o .rest), stored-weight ℓ (word r 3) (o .imported e)))
 
     pub depth-collection : CollectionOk ws txt used l w r ns
         → depth-of ws r ≡ depth-names (row w txt r (what w ws txt) (list ns))

@@ -184,7 +184,7 @@ unfoldable pub key-at : List ℕ → List ℕ → ℕ → Str
 key-at ws txt l = key-of txt (record-at ws l)
 
 -- What a branch's key stands for.
-abbrev pub value : (w : Which) → List ℕ → List ℕ → (ℕ → Reading w) → (v : Level) → Value (Item w) v
+abbrev pub value : (w : Which) → List ℕ → List ℕ → (ℕ → Reading w) → (ℓ : Level) → Value (Item w) ℓ
 value w txt r f bind = item (item-of w txt r)
 value w txt r f ns = f (word r 5) trieˢ
 

@@ -30,18 +30,18 @@ pub record TextOk (Rule : Str → Type 0) (txt : List ℕ) (used start len : ℕ
 -- The links and texts of the record r of link l.
 module _ (ws txt : List ℕ) (used l : ℕ) (w : Which) (r : List ℕ) where
   -- A branch of either level.
-  pub record BranchOk (v : Level) : Type 0 where
+  pub record BranchOk (ℓ : Level) : Type 0 where
     pub key : TextOk IsKey txt used (word r 1) (word r 2)
-    pub left : LinkOk ws l (word r 3) (kind w (tree v))
-    pub right : LinkOk ws l (word r 4) (kind w (tree v))
+    pub left : LinkOk ws l (word r 3) (kind w (tree ℓ))
+    pub right : LinkOk ws l (word r 4) (kind w (tree ℓ))
 
   -- A collection, which holds a tree or an imported list.
-  pub record CollectionOk (v : Level) : Type 0 where
+  pub record CollectionOk (ℓ : Level) : Type 0 where
     pub sort : word r 5 ≤ 1
-    pub own : word r 5 ≡ 0 → LinkOk ws l (word r 3) (kind w (tree v))
-    pub imported : word r 5 ≡ 1 → LinkOk ws l (word r 3) (kind w (list v))
+    pub own : word r 5 ≡ 0 → LinkOk ws l (word r 3) (kind w (tree ℓ))
+    pub imported : word r 5 ≡ 1 → LinkOk ws l (word r 3) (kind w (list ℓ))
     pub label : word r 5 ≡ 1 → TextOk IsLabel txt used (word r 1) (word r 2)
-    pub rest : LinkOk ws l (word r 4) (kind w (list v))
+    pub rest : LinkOk ws l (word r 4) (kind w (list ℓ))
 
   -- A trie.
   pub record TrieOk : Type 0 where
@@ -61,7 +61,7 @@ ItemOk txt used names r = is-kind (word r 6) ≡ true
 ItemOk txt used modules r = SymbolOk txt used r
 
 -- The weight of a list: as stored, and no more than a list may weigh.
-pub record WeightOk {A : Type 0} {v : Level} (r : List ℕ) (t : NameList A v) : Type 0 where
+pub record WeightOk {A : Type 0} {ℓ : Level} (r : List ℕ) (t : NameList A ℓ) : Type 0 where
   pub weighs : word r 10 ≡ weight t
   pub light : weight t ≤ heaviest-list
 

@@ -28,9 +28,9 @@ use Rattle.memory.proofs.At.{at-of}
 
 -- ---- The next match
 
-module _ {ws txt : List ℕ} {w : Which} {v : Level} {root : ℕ} (t : At ws txt w (tree v) root) (p : Str) (head : ℕ) where
-  later-of : Allˡ (MatchOf ws txt w v root p) (later ws txt p root head)
-  later-of = all-after (key-at ws txt) (MatchOf ws txt w v root p) (key-at ws txt head) (matches ws txt root p) (matches-of t p)
+module _ {ws txt : List ℕ} {w : Which} {ℓ : Level} {root : ℕ} (t : At ws txt w (tree ℓ) root) (p : Str) (head : ℕ) where
+  later-of : Allˡ (MatchOf ws txt w ℓ root p) (later ws txt p root head)
+  later-of = all-after (key-at ws txt) (MatchOf ws txt w ℓ root p) (key-at ws txt head) (matches ws txt root p) (matches-of t p)
 
   pub later-end : head0 (later ws txt p root head) ≡ 0 → later ws txt p root head ≡ []
   later-end e = no-match t p (later ws txt p root head) later-of e
@@ -38,12 +38,12 @@ module _ {ws txt : List ℕ} {w : Which} {v : Level} {root : ℕ} (t : At ws txt
   -- The branch r is the next match.
   pub record Next (r : ℕ) : Type 0 where
     pub is-next : later ws txt p root head ≡ r ∷ later ws txt p root r
-    pub match : MatchOf ws txt w v root p r
+    pub match : MatchOf ws txt w ℓ root p r
 
   pub later-next : (r : ℕ) → r ≡ head0 (later ws txt p root head) → (r ≡ 0 → ⊥) → Next r
   later-next r e n = go (later ws txt p root head) refl later-of e
     where
-      go : (l : List ℕ) → later ws txt p root head ≡ l → Allˡ (MatchOf ws txt w v root p) l → r ≡ head0 l → Next r
+      go : (l : List ℕ) → later ws txt p root head ≡ l → Allˡ (MatchOf ws txt w ℓ root p) l → r ≡ head0 l → Next r
       go [] q a e = absurd (n e)
       go (y ∷ l) q a e = record {
         is-next = q ∙ rw (e, ← after-next (key-at ws txt) (key-at ws txt head) (matches ws txt root p) (matches-increasing t p) y l q);
@@ -51,19 +51,19 @@ module _ {ws txt : List ℕ} {w : Which} {v : Level} {root : ℕ} (t : At ws txt
       }
 
 -- ---- What a cell names
-module _ {ws txt : List ℕ} {w : Which} {v : Level} {x : ℕ} (here : At ws txt w (list v) x) where
-  pub cell-branch-tree : {y : ℕ} → BranchOf ws w v x y → (0 < y) × AnyTree ws txt y
-  cell-branch-tree o = (o .some, record { which = w; level = v; tree = at-of here (tree _) (omega arith) (o .link) })
+module _ {ws txt : List ℕ} {w : Which} {ℓ : Level} {x : ℕ} (here : At ws txt w (list ℓ) x) where
+  pub cell-branch-tree : {y : ℕ} → BranchOf ws w ℓ x y → (0 < y) × AnyTree ws txt y
+  cell-branch-tree o = (o .some, record { which = w; level = ℓ; tree = at-of here (tree _) (omega arith) (o .link) })
 
-  pub branch-head : {y : ℕ} → BranchOf ws w v x y → TextIn ws txt y
+  pub branch-head : {y : ℕ} → BranchOf ws w ℓ x y → TextIn ws txt y
   branch-head o = let t = cell-branch-tree o in text-in (t .1) (t .0)
 
-  pub branch-few : {y : ℕ} → BranchOf ws w v x y → y ≤ 65536
+  pub branch-few : {y : ℕ} → BranchOf ws w ℓ x y → y ≤ 65536
   branch-few o = omega (arith, o .link .earlier, here .link .earlier, here .sound .few)
 
-module _ {ws txt : List ℕ} {w : Which} {v : Level} {x : ℕ} {p : Str} {m : Merge} {h : Heap ℕ}
-    (g : Holding ws txt w v x p m h) where
-  pub cell-tree : (j : ℕ) → j < m .n → At ws txt w (tree v) (getD (m .roots) j 0)
+module _ {ws txt : List ℕ} {w : Which} {ℓ : Level} {x : ℕ} {p : Str} {m : Merge} {h : Heap ℕ}
+    (g : Holding ws txt w ℓ x p m h) where
+  pub cell-tree : (j : ℕ) → j < m .n → At ws txt w (tree ℓ) (getD (m .roots) j 0)
   cell-tree j l = at-of (g .here) (tree _) (omega arith) (g .cells j l .root-link)
 
   pub heads-of : Heads ws txt (m .heads) (m .n)
@@ -75,9 +75,9 @@ module _ {ws txt : List ℕ} {w : Which} {v : Level} {x : ℕ} {p : Str} {m : Me
   }
 
 -- The next match of a cell is a branch of the list's trees.
-pub next-branch : {ws txt : List ℕ} {w : Which} {v : Level} {x : ℕ} {p : Str} {m : Merge} {h : Heap ℕ}
-    (g : Holding ws txt w v x p m h) {j r : ℕ} (l : j < m .n)
-    → Next (cell-tree g j l) p (getD (m .heads) j 0) r → BranchOf ws w v x r
+pub next-branch : {ws txt : List ℕ} {w : Which} {ℓ : Level} {x : ℕ} {p : Str} {m : Merge} {h : Heap ℕ}
+    (g : Holding ws txt w ℓ x p m h) {j r : ℕ} (l : j < m .n)
+    → Next (cell-tree g j l) p (getD (m .heads) j 0) r → BranchOf ws w ℓ x r
 next-branch g {j} l m = record { some = m .match .branch .some; link = link-later (omega (arith, g .cells j l .root-link .earlier)) (m .match .branch .link) }
 
 pub cell-stands : (ws txt : List ℕ) (p : Str) (roots heads labels : List ℕ) (j : ℕ)

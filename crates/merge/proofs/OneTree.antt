@@ -37,36 +37,36 @@ single-tree {ws} {x} {r} p n z e txt w v t q =
       reads = names-reads t p (sort-tree t p n) ∙ rw (f, e, what-none w ws txt);
     }
 
-module _ {ws txt : List ℕ} {w : Which} {v : Level} {x r : ℕ} (t : At ws txt w (list v) x) (o : SingleIn ws txt w v x r)
+module _ {ws txt : List ℕ} {w : Which} {ℓ : Level} {x r : ℕ} (t : At ws txt w (list ℓ) x) (o : SingleIn ws txt w ℓ x r)
     {term : SearchTerm} {p : Str} {q : Option Str} (asks : Asks term p q) where
-  lists-single : match-lists term (what w ws txt x (list v))
-      ≡ with-imports ([], map (row-at w ws txt v q) (matches ws txt r p)) ∷ []
+  lists-single : match-lists term (what w ws txt x (list ℓ))
+      ≡ with-imports ([], map (row-at w ws txt ℓ q) (matches ws txt r p)) ∷ []
   unfolding match-lists flat-in
   lists-single = rw (o .reads, term-rows (at-of t (tree _) (omega arith) (o .link)) asks)
 
   -- The entries of the tree's matches show what is found.
-  pub single-found : map outer (found (what w ws txt x (list v)) term)
-      ≡ map (shown w ws txt v q) (map (λ b. record { branch = b; label = 0 }) (matches ws txt r p))
+  pub single-found : map outer (found (what w ws txt x (list ℓ)) term)
+      ≡ map (shown w ws txt ℓ q) (map (λ b. record { branch = b; label = 0 }) (matches ws txt r p))
   unfolding nonempty with-imports outer shown last-opt row-at
   single-found = go (matches ws txt r p) lists-single ∙ shows (matches ws txt r p)
     where
-      rows : List ℕ → List (PathElem × Value (Item w) v)
-      rows l = with-imports ([], map (row-at w ws txt v q) l)
+      rows : List ℕ → List (PathElem × Value (Item w) ℓ)
+      rows l = with-imports ([], map (row-at w ws txt ℓ q) l)
 
-      go : (l : List ℕ) → match-lists term (what w ws txt x (list v)) ≡ rows l ∷ []
-          → map outer (found (what w ws txt x (list v)) term) ≡ map outer (rows l)
-      go [] e = ap (map outer) (found-empty (what w ws txt x (list v)) term (ap nonempty e))
-      go (b ∷ l) e = ap (map outer) (found-one (what w ws txt x (list v)) term (rows (b ∷ l)) (ap nonempty e))
+      go : (l : List ℕ) → match-lists term (what w ws txt x (list ℓ)) ≡ rows l ∷ []
+          → map outer (found (what w ws txt x (list ℓ)) term) ≡ map outer (rows l)
+      go [] e = ap (map outer) (found-empty (what w ws txt x (list ℓ)) term (ap nonempty e))
+      go (b ∷ l) e = ap (map outer) (found-one (what w ws txt x (list ℓ)) term (rows (b ∷ l)) (ap nonempty e))
 
       shows : (l : List ℕ)
-          → map outer (rows l) ≡ map (shown w ws txt v q) (map (λ b. record { branch = b; label = 0 }) l)
+          → map outer (rows l) ≡ map (shown w ws txt ℓ q) (map (λ b. record { branch = b; label = 0 }) l)
       shows [] = refl
-      shows (b ∷ l) = ap (_∷_ (shown w ws txt v q (record { branch = b; label = 0 }))) (shows l)
+      shows (b ∷ l) = ap (_∷_ (shown w ws txt ℓ q (record { branch = b; label = 0 }))) (shows l)
 
-pub single-one : {ws txt : List ℕ} {w : Which} {v : Level} {x r : ℕ} (p : Str) → At ws txt w (list v) x → Single ws x r
-    → 0 < r → OneTree ws txt w v x p r 0
-single-one {txt = txt} {w} {v} p t s h =
-    let o = s txt w v t h in
+pub single-one : {ws txt : List ℕ} {w : Which} {ℓ : Level} {x r : ℕ} (p : Str) → At ws txt w (list ℓ) x → Single ws x r
+    → 0 < r → OneTree ws txt w ℓ x p r 0
+single-one {txt = txt} {w} {ℓ} p t s h =
+    let o = s txt w ℓ t h in
     record {
       root-link = o .link;
       label-ok = record { link = no-link _ _; imports = λ i. absurd (omega arith) };

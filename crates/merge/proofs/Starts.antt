@@ -112,35 +112,35 @@ module _ (ws txt : List ℕ) where
       run k (match-of (getD parts k no-part) (getD heads k 0))
       (map (match-of (getD parts k no-part)) (later ws txt p (getD parts k no-part .root) (getD heads k 0)))
 
-  module _ (w : Which) (v : Level) (q : Option Str) where
-    abbrev element : Match ws txt → PathElem × Value (Item w) v
-    element m = (record { imports = m .imports; segment = row-at w ws txt v q (m .branch) .0 }, row-at w ws txt v q (m .branch) .1)
+  module _ (w : Which) (ℓ : Level) (q : Option Str) where
+    abbrev element : Match ws txt → PathElem × Value (Item w) ℓ
+    element m = (record { imports = m .imports; segment = row-at w ws txt ℓ q (m .branch) .0 }, row-at w ws txt ℓ q (m .branch) .1)
 
     element-key : (m : Match ws txt) → elem-key (element m) ≡ match-key m
     unfolding elem-key row-at
     element-key m = refl
 
     part-elements : (c : TreePart ws txt) (l : List ℕ)
-        → with-imports (c .imports, map (row-at w ws txt v q) l) ≡ map element (map (match-of c) l)
+        → with-imports (c .imports, map (row-at w ws txt ℓ q) l) ≡ map element (map (match-of c) l)
     unfolding with-imports
     part-elements c [] = refl
     part-elements c (b ∷ l) = ap (_∷_ (element (match-of c b))) (part-elements c l)
 
-    element-shows : (m : Match ws txt) → outer (element m) ≡ shown w ws txt v q (entry-of m)
+    element-shows : (m : Match ws txt) → outer (element m) ≡ shown w ws txt ℓ q (entry-of m)
     unfolding outer shown row-at
     element-shows m = rw (m .labelled)
 
-module _ {ws txt : List ℕ} {w : Which} {v : Level} {x : ℕ} {p : Str} {roots heads labels : List ℕ}
-    (here : At ws txt w (list v) x) where
-  part-at : (i : ℕ) (parts : List (TreePart ws txt)) → HasParts ws txt w v x p roots heads labels i parts → (k j : ℕ)
+module _ {ws txt : List ℕ} {w : Which} {ℓ : Level} {x : ℕ} {p : Str} {roots heads labels : List ℕ}
+    (here : At ws txt w (list ℓ) x) where
+  part-at : (i : ℕ) (parts : List (TreePart ws txt)) → HasParts ws txt w ℓ x p roots heads labels i parts → (k j : ℕ)
       → j ≡ i + k → k < length parts
-      → HasPart ws txt w v x p roots heads labels j (getD parts k (no-part ws txt))
+      → HasPart ws txt w ℓ x p roots heads labels j (getD parts k (no-part ws txt))
   part-at i [] a k j e h = absurd (omega arith)
   part-at i (c ∷ parts) (more b a) zero j e h = let f : i ≡ j = omega arith in rw f at b
   part-at i (c ∷ parts) (more b a) (suc k) j e h = part-at (suc i) parts a k j (omega arith) (omega arith)
 
-  module _ {j : ℕ} {c : TreePart ws txt} (o : HasPart ws txt w v x p roots heads labels j c) where
-    part-tree : At ws txt w (tree v) (c .root)
+  module _ {j : ℕ} {c : TreePart ws txt} (o : HasPart ws txt w ℓ x p roots heads labels j c) where
+    part-tree : At ws txt w (tree ℓ) (c .root)
     part-tree = at-of here (tree _) (omega arith) (o .root-link)
 
     part-later : matches ws txt (c .root) p ≡ getD heads j 0 ∷ later ws txt p (c .root) (getD heads j 0)
@@ -149,7 +149,7 @@ module _ {ws txt : List ℕ} {w : Which} {v : Level} {x : ℕ} {p : Str} {roots 
         rw (o .first-is) (after-first (key-at ws txt) (getD heads j 0) (o .others) (rw (o .first-is) at (matches-increasing part-tree p))) in
         o .first-is ∙ ap (λ (l : List ℕ). getD heads j 0 ∷ l) (sym e)
 
-    part-cell : CellOk ws txt w v x p (getD roots j 0) (getD heads j 0) (getD labels j 0)
+    part-cell : CellOk ws txt w ℓ x p (getD roots j 0) (getD heads j 0) (getD labels j 0)
     part-cell =
         let m = (rw (o .first-is) at (matches-of part-tree p)) .0 in
         record {
@@ -171,19 +171,19 @@ module _ {ws txt : List ℕ} {w : Which} {v : Level} {x : ℕ} {p : Str} {roots 
         go zero e f = absurd (nil≢cons (sym (matches-none ws txt p) ∙ e))
         go (suc r) e f = omega arith
 
-  module _ (parts : List (TreePart ws txt)) (a : HasParts ws txt w v x p roots heads labels 0 parts) where
+  module _ (parts : List (TreePart ws txt)) (a : HasParts ws txt w ℓ x p roots heads labels 0 parts) where
     -- The cells stand for what is merged.
-    cells-are : (q : Option Str) → AreRuns (map (elements w ws txt v q p) parts)
-        (λ k. map-run (element ws txt w v q) (run-of ws txt p heads parts k))
+    cells-are : (q : Option Str) → AreRuns (map (elements w ws txt ℓ q p) parts)
+        (λ k. map-run (element ws txt w ℓ q) (run-of ws txt p heads parts k))
     unfolding priority first rest elements with-imports run-of
     cells-are q k h =
-        let l : k < length parts = omega (arith, length-map parts (elements w ws txt v q p)) in
+        let l : k < length parts = omega (arith, length-map parts (elements w ws txt ℓ q p)) in
         let o = part-at 0 parts a k k (omega arith) l in
         let c = getD parts k (no-part ws txt) in (
           refl,
-          sym (getD-map (elements w ws txt v q p) parts k (no-part ws txt) [] l
-              ∙ ap (λ (l : List ℕ). with-imports (c .imports, map (row-at w ws txt v q) l)) (part-later o)
-              ∙ part-elements ws txt w v q c (getD heads k 0 ∷ later ws txt p (c .root) (getD heads k 0))),
+          sym (getD-map (elements w ws txt ℓ q p) parts k (no-part ws txt) [] l
+              ∙ ap (λ (l : List ℕ). with-imports (c .imports, map (row-at w ws txt ℓ q) l)) (part-later o)
+              ∙ part-elements ws txt w ℓ q c (getD heads k 0 ∷ later ws txt p (c .root) (getD heads k 0))),
         )
 
     runs-same : (n : ℕ) → n ≡ length parts → (k : ℕ) → k < n
@@ -194,22 +194,22 @@ module _ {ws txt : List ℕ} {w : Which} {v : Level} {x : ℕ} {p : Str} {roots 
         rw (o .root-is, o .label-is, map-map)
 
 -- ---- merge_start
-ordered : {ws txt : List ℕ} {w : Which} {v : Level} {x : ℕ} (t : At ws txt w (list v) x)
-    → OrderedN (what w ws txt x (list v))
-ordered {ws} {txt} {w} {v} {x} t =
-    formed-orderedN IsKey IsLabel (IsItem w) {l = v} (what w ws txt x (list v)) (link-fine (t .sound) w (list v) (omega arith) (t .link) .0)
+ordered : {ws txt : List ℕ} {w : Which} {ℓ : Level} {x : ℕ} (t : At ws txt w (list ℓ) x)
+    → OrderedN (what w ws txt x (list ℓ))
+ordered {ws} {txt} {w} {ℓ} {x} t =
+    formed-orderedN IsKey IsLabel (IsItem w) {ℓ = ℓ} (what w ws txt x (list ℓ)) (link-fine (t .sound) w (list ℓ) (omega arith) (t .link) .0)
 
 module _ {ws txt : List ℕ} {p : Str} {x n : ℕ} {roots₀ heads₀ labels₀ roots heads labels : List ℕ}
     (d : Collected ws txt p x 0 0 n roots₀ heads₀ labels₀ roots heads labels) where
-  collected : (w : Which) (v : Level) → At ws txt w (list v) x
-      → CollectedIn ws txt p x 0 0 n roots₀ heads₀ labels₀ roots heads labels w v x []
+  collected : (w : Which) (ℓ : Level) → At ws txt w (list ℓ) x
+      → CollectedIn ws txt p x 0 0 n roots₀ heads₀ labels₀ roots heads labels w ℓ x []
   unfolding last-opt
-  collected w v t = d .says w v x [] t (omega arith) (record { link = no-link x _; imports = λ l. absurd (omega arith) }) refl
+  collected w ℓ t = d .says w ℓ x [] t (omega arith) (record { link = no-link x _; imports = λ l. absurd (omega arith) }) refl
 
-  module _ {w : Which} {v : Level} (t : At ws txt w (list v) x) where
+  module _ {w : Which} {ℓ : Level} (t : At ws txt w (list ℓ) x) where
     has-cell : (j : ℕ) → j < n
-        → HasPart ws txt w v x p roots heads labels j (getD (collected w v t .parts) j (no-part ws txt))
-    has-cell j l = part-at t 0 (collected w v t .parts) (collected w v t .has) j j (omega arith) (omega (arith, collected w v t .count))
+        → HasPart ws txt w ℓ x p roots heads labels j (getD (collected w ℓ t .parts) j (no-part ws txt))
+    has-cell j l = part-at t 0 (collected w ℓ t .parts) (collected w ℓ t .has) j j (omega arith) (omega (arith, collected w ℓ t .count))
 
     pub start-heads : n ≤ 96 → Heads ws txt heads n
     start-heads few = record {
@@ -270,25 +270,25 @@ module _ {ws txt : List ℕ} {p : Str} {x n : ℕ} {roots₀ heads₀ labels₀ 
       }
 
   -- One cell: what is found are its tree's matches.
-  pub starts-one : n ≡ 1 → (w : Which) (v : Level) → At ws txt w (list v) x
-      → OneTree ws txt w v x p (getD roots 0 0) (getD labels 0 0)
+  pub starts-one : n ≡ 1 → (w : Which) (ℓ : Level) → At ws txt w (list ℓ) x
+      → OneTree ws txt w ℓ x p (getD roots 0 0) (getD labels 0 0)
   unfolding match-lists nonempty elements with-imports outer shown row-at
-  starts-one e w v t = go (collected w v t .parts) (omega (arith, collected w v t .count)) (collected w v t .has) (collected w v t .lists)
+  starts-one e w ℓ t = go (collected w ℓ t .parts) (omega (arith, collected w ℓ t .count)) (collected w ℓ t .has) (collected w ℓ t .lists)
     where
       shows : (q : Option Str) (c : TreePart ws txt) (l : List ℕ)
-          → map outer (with-imports (c .imports, map (row-at w ws txt v q) l)) ≡ map (shown w ws txt v q) (map (λ b. record { branch = b; label = c .label }) l)
+          → map outer (with-imports (c .imports, map (row-at w ws txt ℓ q) l)) ≡ map (shown w ws txt ℓ q) (map (λ b. record { branch = b; label = c .label }) l)
       shows q c [] = refl
       shows q c (b ∷ l) = ap₂ _∷_ (rw (c .labelled)) (shows q c l)
 
-      go : (parts : List (TreePart ws txt)) → length parts ≡ 1 → HasParts ws txt w v x p roots heads labels 0 parts
+      go : (parts : List (TreePart ws txt)) → length parts ≡ 1 → HasParts ws txt w ℓ x p roots heads labels 0 parts
           → ((term : SearchTerm) (q : Option Str) → Asks term p q
-          → match-lists-in w ws txt v term [] x ≡ map (elements w ws txt v q p) parts)
-          → OneTree ws txt w v x p (getD roots 0 0) (getD labels 0 0)
+          → match-lists-in w ws txt ℓ term [] x ≡ map (elements w ws txt ℓ q p) parts)
+          → OneTree ws txt w ℓ x p (getD roots 0 0) (getD labels 0 0)
       go [] k a f = absurd (omega arith)
       go (c ∷ d ∷ parts) k a f = absurd (omega arith)
       go (c ∷ []) k (more o a) f = rw (o .root-is, o .label-is) (record {
         root-link = o .root-link;
         label-ok = o .label-ok;
-        says = λ term q asks. ap (map outer) (found-one (what w ws txt x (list v)) term (elements w ws txt v q p c) (f term q asks))
+        says = λ term q asks. ap (map outer) (found-one (what w ws txt x (list ℓ)) term (elements w ws txt ℓ q p c) (f term q asks))
             ∙ shows q c (matches ws txt (c .root) p);
       })

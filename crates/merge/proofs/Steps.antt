@@ -25,38 +25,38 @@ use Rattle.merge.specs.declared.Taken.{Taken}
 use Rattle.merge.proofs.Cells.{cell-branch-tree}
 
 -- Whether an entry has the key of the last one.
-module _ (ws txt : List ℕ) (w : Which) (v : Level) (x l : ℕ) (e : Entry) where
-  again-new : (given : Option Entry) → Last ws w v x l given
+module _ (ws txt : List ℕ) (w : Which) (ℓ : Level) (x l : ℕ) (e : Entry) where
+  again-new : (given : Option Entry) → Last ws w ℓ x l given
       → ((l ≡ 0 → ⊥) → same (key-at ws txt (e .branch)) (key-at ws txt l) ≡ false)
       → again (entry-key ws txt) e given ≡ false
   unfolding again
   again-new none g f = refl
   again-new (some y) g f = rw (g .0) (f (λ z. omega (arith, g .1 .some)))
 
-  again-same : (given : Option Entry) → Last ws w v x l given → (l ≡ 0 → ⊥)
+  again-same : (given : Option Entry) → Last ws w ℓ x l given → (l ≡ 0 → ⊥)
       → same (key-at ws txt (e .branch)) (key-at ws txt l) ≡ true → again (entry-key ws txt) e given ≡ true
   unfolding again
   again-same none g n f = absurd (n g)
   again-same (some y) g n f = rw (g .0) f
 
-last-branch : (ws : List ℕ) (w : Which) (v : Level) (x l : ℕ) (given : Option Entry) → Last ws w v x l given
-    → (l ≡ 0 → ⊥) → BranchOf ws w v x l
-last-branch ws w v x l none g n = absurd (n g)
-last-branch ws w v x l (some y) g n = g .1
+last-branch : (ws : List ℕ) (w : Which) (ℓ : Level) (x l : ℕ) (given : Option Entry) → Last ws w ℓ x l given
+    → (l ≡ 0 → ⊥) → BranchOf ws w ℓ x l
+last-branch ws w ℓ x l none g n = absurd (n g)
+last-branch ws w ℓ x l (some y) g n = g .1
 
 module _ {ws txt : List ℕ} {p : Str} {n root last : ℕ}
     {roots heads labels child next roots′ heads′ child′ next′ : List ℕ} {t : Taken}
-    (takes : Takes ws txt p n root roots heads child next roots′ heads′ child′ next′ t) {w : Which} {v : Level} {x : ℕ}
+    (takes : Takes ws txt p n root roots heads child next roots′ heads′ child′ next′ t) {w : Which} {ℓ : Level} {x : ℕ}
     {s : List Entry}
-    (g : Rest ws txt w v x p (state roots heads labels child next n root last) s) where
+    (g : Rest ws txt w ℓ x p (state roots heads labels child next n root last) s) where
   pub step-end : t .cell ≡ 96 → s ≡ []
   step-end e = go (g .heap) (g .holding) (g .says)
     where
-      go : (h : Heap ℕ) → Holding ws txt w v x p (state roots heads labels child next n root last) h
+      go : (h : Heap ℕ) → Holding ws txt w ℓ x p (state roots heads labels child next n root last) h
           → s ≡ forward (entry-key ws txt) (g .fuel)
           (heap-of ws txt p (state roots heads labels child next n root last) h) (g .given) → s ≡ []
       go EmptyHeap o q = q ∙ forward-empty (entry-key ws txt) (g .fuel) (g .given)
-      go (HeapOf c hh) o q = let k = takes .took labels last w v x (HeapOf c hh) o in absurd (omega (arith, k .cell-is, k .below, o .few))
+      go (HeapOf c hh) o q = let k = takes .took labels last w ℓ x (HeapOf c hh) o in absurd (omega (arith, k .cell-is, k .below, o .few))
 
   -- The cell gives an entry, unless that has the key of the last one; what the state gives then, in both cases.
   pub record Stepped : Type 0 where
@@ -64,14 +64,14 @@ module _ {ws txt : List ℕ} {p : Str} {n root last : ℕ}
     pub branch-is : t .branch ≡ entry .branch
     pub label-is : getD labels (t .cell) 0 ≡ entry .label
     pub below : t .cell < n
-    pub branch : BranchOf ws w v x (t .branch)
+    pub branch : BranchOf ws w ℓ x (t .branch)
     pub begins : starts-with (key-at ws txt (t .branch)) p ≡ true
-    pub label-ok : LabelOk ws w v x (getD labels (t .cell) 0)
+    pub label-ok : LabelOk ws w ℓ x (getD labels (t .cell) 0)
     pub passed : List Entry
     pub after : List Entry
     pub splits : s ≡ cond (again (entry-key ws txt) entry (g .given)) passed (entry ∷ after)
-    pub passed-rest : Rest ws txt w v x p (state roots′ heads′ labels child′ next′ n (t .root) last) passed
-    pub after-rest : Rest ws txt w v x p (state roots′ heads′ labels child′ next′ n (t .root) (t .branch)) after
+    pub passed-rest : Rest ws txt w ℓ x p (state roots′ heads′ labels child′ next′ n (t .root) last) passed
+    pub after-rest : Rest ws txt w ℓ x p (state roots′ heads′ labels child′ next′ n (t .root) (t .branch)) after
     pub fewer : remaining ws txt p roots′ heads′ n < remaining ws txt p roots heads n
 
   pub merge-steps : (t .cell ≡ 96 → ⊥) → Stepped
@@ -84,11 +84,11 @@ module _ {ws txt : List ℕ} {p : Str} {n root last : ℕ}
       m′ : Merge
       m′ = state roots′ heads′ labels child′ next′ n (t .root) last
 
-      go : (h : Heap ℕ) → Holding ws txt w v x p m h → held (heap-of ws txt p m h) ≤ g .fuel
+      go : (h : Heap ℕ) → Holding ws txt w ℓ x p m h → held (heap-of ws txt p m h) ≤ g .fuel
           → s ≡ forward (entry-key ws txt) (g .fuel) (heap-of ws txt p m h) (g .given) → Stepped
-      go EmptyHeap o h q = absurd (ne (takes .took labels last w v x EmptyHeap o))
+      go EmptyHeap o h q = absurd (ne (takes .took labels last w ℓ x EmptyHeap o))
       go (HeapOf c hh) o h q =
-          let k = takes .took labels last w v x (HeapOf c hh) o in
+          let k = takes .took labels last w ℓ x (HeapOf c hh) o in
           let a = o .cells c (k .below) in
           let val = run-at ws txt p roots heads labels in
           let few : held (heap-of ws txt p m′ (k .heap)) ≤ g .fuel =
@@ -128,16 +128,16 @@ module _ {ws txt : List ℕ} {p : Str} {n root last : ℕ}
           }
         where
           relast : {h : Heap ℕ} {l : ℕ}
-              → Holding ws txt w v x p (state roots′ heads′ labels child′ next′ n (t .root) last) h
-              → Holding ws txt w v x p (state roots′ heads′ labels child′ next′ n (t .root) l) h
+              → Holding ws txt w ℓ x p (state roots′ heads′ labels child′ next′ n (t .root) last) h
+              → Holding ws txt w ℓ x p (state roots′ heads′ labels child′ next′ n (t .root) l) h
           relast o = record { here = o .here; few = o .few; full = o .full; cells = o .cells; begun = o .begun; rep = o .rep; live = o .live }
 
 -- ---- merge_next
 
 -- What is left of the entries of m after those passed over.
 pub record Passing (ws txt : List ℕ) (p : Str) (m : Merge) (roots heads child next : List ℕ) (root : ℕ) : Type 0 where
-  pub says : (w : Which) (v : Level) (x : ℕ) (s : List Entry) → Rest ws txt w v x p m s
-      → Rest ws txt w v x p (state roots heads (m .labels) child next (m .n) root (m .last)) s
+  pub says : (w : Which) (ℓ : Level) (x : ℕ) (s : List Entry) → Rest ws txt w ℓ x p m s
+      → Rest ws txt w ℓ x p (state roots heads (m .labels) child next (m .n) root (m .last)) s
   pub fewer : remaining ws txt p roots heads (m .n) ≤ left-in ws txt p m
 
 pub passing-none : {ws txt : List ℕ} {p : Str} (m : Merge)

@@ -39,9 +39,9 @@ run-same : (ws txt : List ℕ) (p : Str) (roots heads roots′ heads′ labels :
 unfolding run-at
 run-same ws txt p roots heads roots′ heads′ labels j e f = rw (e, f)
 
-module _ {ws txt : List ℕ} {w : Which} {v : Level} {x : ℕ} {p : Str} {n root last c : ℕ}
+module _ {ws txt : List ℕ} {w : Which} {ℓ : Level} {x : ℕ} {p : Str} {n root last c : ℕ}
     {roots heads labels child next : List ℕ} {hh : Forest ℕ}
-    (g : Holding ws txt w v x p (state roots heads labels child next n root last) (HeapOf c hh)) where
+    (g : Holding ws txt w ℓ x p (state roots heads labels child next n root last) (HeapOf c hh)) where
   abbrev val : ℕ → Run Entry
   val = run-at ws txt p roots heads labels
 
@@ -73,7 +73,7 @@ module _ {ws txt : List ℕ} {w : Which} {v : Level} {x : ℕ} {p : Str} {n root
     unfolding run-at put-back
     val-end = rw e
 
-    took-last : TookCell ws txt w v x p (state roots heads labels child next n root last)
+    took-last : TookCell ws txt w ℓ x p (state roots heads labels child next n root last)
         (state (set roots c 0) heads labels child′ next′ n rest last)
         (record { cell = c; branch = getD heads c 0; root = rest }) c hh
     unfolding left
@@ -139,7 +139,7 @@ module _ {ws txt : List ℕ} {w : Which} {v : Level} {x : ℕ} {p : Str} {n root
     unfolding run-at put-back
     val-next = rw (next-match .is-next, head-set)
 
-    took-next : TookCell ws txt w v x p (state roots heads labels child next n root last)
+    took-next : TookCell ws txt w ℓ x p (state roots heads labels child next n root last)
         (state roots (with-head ws txt heads c r) labels child″ next″ n top last)
         (record { cell = c; branch = getD heads c 0; root = top }) c hh
     unfolding left heap-insert
@@ -207,30 +207,30 @@ module _ {ws txt : List ℕ} {p : Str} {n root : ℕ} {roots heads child next ch
   unfolding heap-pop
   takes-none {b} {r} pop = record { took = λ labels last w v x h g. go labels last w v x h (g .rep) }
     where
-      go : (labels : List ℕ) (last : ℕ) (w : Which) (v : Level) (x : ℕ) (h : Heap ℕ) → Rep n child next root h
-          → TookIn ws txt w v x p (state roots heads labels child next n root last)
+      go : (labels : List ℕ) (last : ℕ) (w : Which) (ℓ : Level) (x : ℕ) (h : Heap ℕ) → Rep n child next root h
+          → TookIn ws txt w ℓ x p (state roots heads labels child next n root last)
           (state roots heads labels child′ next′ n r last)
           (record { cell = 96; branch = b; root = r }) h
-      go labels last w v x EmptyHeap s = refl
-      go labels last w v x (HeapOf c hh) s = absurd (pop (HeapOf c hh) s)
+      go labels last w ℓ x EmptyHeap s = refl
+      go labels last w ℓ x (HeapOf c hh) s = absurd (pop (HeapOf c hh) s)
 
   module _ {cell rest : ℕ} {roots′ heads′ child″ next″ : List ℕ} {t : Taken}
       (pop : Pops (cell-cmp ws txt heads) n child next child′ next′ (Least cell rest) root) where
-    takes-some : ((labels : List ℕ) (last : ℕ) (w : Which) (v : Level) (x c : ℕ) (hh : Forest ℕ)
-        (g : Holding ws txt w v x p (state roots heads labels child next n root last) (HeapOf c hh))
+    takes-some : ((labels : List ℕ) (last : ℕ) (w : Which) (ℓ : Level) (x c : ℕ) (hh : Forest ℕ)
+        (g : Holding ws txt w ℓ x p (state roots heads labels child next n root last) (HeapOf c hh))
         → cell ≡ c → Makes n child next child′ next′ rest (others g)
-        → TookCell ws txt w v x p (state roots heads labels child next n root last)
+        → TookCell ws txt w ℓ x p (state roots heads labels child next n root last)
         (state roots′ heads′ labels child″ next″ n (t .root) last) t c hh)
         → Takes ws txt p n root roots heads child next roots′ heads′ child″ next″ t
     unfolding heap-pop
     takes-some f = record { took = go }
       where
-        go : (labels : List ℕ) (last : ℕ) (w : Which) (v : Level) (x : ℕ) (h : Heap ℕ)
-            → Holding ws txt w v x p (state roots heads labels child next n root last) h
-            → TookIn ws txt w v x p (state roots heads labels child next n root last)
+        go : (labels : List ℕ) (last : ℕ) (w : Which) (ℓ : Level) (x : ℕ) (h : Heap ℕ)
+            → Holding ws txt w ℓ x p (state roots heads labels child next n root last) h
+            → TookIn ws txt w ℓ x p (state roots heads labels child next n root last)
             (state roots′ heads′ labels child″ next″ n (t .root) last) t h
-        go labels last w v x EmptyHeap g = absurd (pop EmptyHeap (g .rep))
-        go labels last w v x (HeapOf c hh) g = let q = pop (HeapOf c hh) (g .rep) in f labels last w v x c hh g (q .0) (q .1)
+        go labels last w ℓ x EmptyHeap g = absurd (pop EmptyHeap (g .rep))
+        go labels last w ℓ x (HeapOf c hh) g = let q = pop (HeapOf c hh) (g .rep) in f labels last w ℓ x c hh g (q .0) (q .1)
 
 -- ---- What take answers, and what its calls ask, once heap_pop gave the cell
 

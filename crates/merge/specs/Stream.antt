@@ -79,20 +79,20 @@ remaining ws txt p roots heads (suc n) =
     left ws txt p (getD roots n 0) (getD heads n 0) + remaining ws txt p roots heads n
 
 -- A cell's tree, head and label, no later than the list x. The head is a branch of the tree, unless that is 0.
-pub record CellOk (ws txt : List ℕ) (w : Which) (v : Level) (x : ℕ) (p : Str) (root head label : ℕ) : Type 0 where
-  pub root-link : LinkOk ws (x + 1) root (kind w (tree v))
-  pub branch : BranchOf ws w v x head
+pub record CellOk (ws txt : List ℕ) (w : Which) (ℓ : Level) (x : ℕ) (p : Str) (root head label : ℕ) : Type 0 where
+  pub root-link : LinkOk ws (x + 1) root (kind w (tree ℓ))
+  pub branch : BranchOf ws w ℓ x head
   pub among : 0 < root → List·Memᴰ head (branches ws root)
   pub begins : starts-with (key-at ws txt head) p ≡ true
-  pub label-ok : LabelOk ws w v x label
+  pub label-ok : LabelOk ws w ℓ x label
 
 -- The state has the heap h of cells of the list x. A cell in the heap has its tree.
-pub record Holding (ws txt : List ℕ) (w : Which) (v : Level) (x : ℕ) (p : Str) (m : Merge) (h : Heap ℕ) : Type 0 where
-  pub here : At ws txt w (list v) x
+pub record Holding (ws txt : List ℕ) (w : Which) (ℓ : Level) (x : ℕ) (p : Str) (m : Merge) (h : Heap ℕ) : Type 0 where
+  pub here : At ws txt w (list ℓ) x
   pub few : m .n ≤ heaviest-list
   pub full : Full (m .roots) (m .heads) (m .labels)
   pub cells : (j : ℕ) → j < m .n
-      → CellOk ws txt w v x p (getD (m .roots) j 0) (getD (m .heads) j 0) (getD (m .labels) j 0)
+      → CellOk ws txt w ℓ x p (getD (m .roots) j 0) (getD (m .heads) j 0) (getD (m .labels) j 0)
   pub begun : (j : ℕ) → j < m .n → Begun ws txt (m .heads) j
   pub rep : Rep (m .n) (m .child) (m .next) (m .root) h
   pub live : (j : ℕ) → 0 < count j h → 0 < getD (m .roots) j 0
@@ -102,16 +102,16 @@ abbrev pub heap-of : (ws txt : List ℕ) (p : Str) (m : Merge) → Heap ℕ → 
 heap-of ws txt p m h = heap-map (run-at ws txt p (m .roots) (m .heads) (m .labels)) h
 
 -- The last entry given, by the link of its branch, 0 for none yet.
-abbrev pub Last : (ws : List ℕ) (w : Which) (v : Level) (x l : ℕ) → Option Entry → Type 0
-Last ws w v x l none = l ≡ 0
-Last ws w v x l (some e) = (e .branch ≡ l) × BranchOf ws w v x l
+abbrev pub Last : (ws : List ℕ) (w : Which) (ℓ : Level) (x l : ℕ) → Option Entry → Type 0
+Last ws w ℓ x l none = l ≡ 0
+Last ws w ℓ x l (some e) = (e .branch ≡ l) × BranchOf ws w ℓ x l
 
 -- The state m still gives the entries s, of the list x.
-pub record Rest (ws txt : List ℕ) (w : Which) (v : Level) (x : ℕ) (p : Str) (m : Merge) (s : List Entry) : Type 0 where
+pub record Rest (ws txt : List ℕ) (w : Which) (ℓ : Level) (x : ℕ) (p : Str) (m : Merge) (s : List Entry) : Type 0 where
   pub heap : Heap ℕ
-  pub holding : Holding ws txt w v x p m heap
+  pub holding : Holding ws txt w ℓ x p m heap
   pub given : Option Entry
-  pub last : Last ws w v x (m .last) given
+  pub last : Last ws w ℓ x (m .last) given
   pub fuel : ℕ
   pub enough : held (heap-of ws txt p m heap) ≤ fuel
   pub says : s ≡ forward (entry-key ws txt) fuel (heap-of ws txt p m heap) given
@@ -125,69 +125,69 @@ pub record AnyRest (ws txt : List ℕ) (p : Str) (m : Merge) : Type 0 where
   pub rest : Rest ws txt which level link p m entries
 
 -- At the start the entries show what is found.
-pub record StartIn (ws txt : List ℕ) (w : Which) (v : Level) (x : ℕ) (p : Str) (m : Merge) : Type 0 where
+pub record StartIn (ws txt : List ℕ) (w : Which) (ℓ : Level) (x : ℕ) (p : Str) (m : Merge) : Type 0 where
   pub entries : List Entry
-  pub rest : Rest ws txt w v x p m entries
+  pub rest : Rest ws txt w ℓ x p m entries
   pub says : (term : SearchTerm) (q : Option Str) → Asks term p q
-      → map outer (found (what w ws txt x (list v)) term) ≡ map (shown w ws txt v q) entries
+      → map outer (found (what w ws txt x (list ℓ)) term) ≡ map (shown w ws txt ℓ q) entries
 
 -- The same, for any table and level that the list is of.
 abbrev pub Starts : (ws txt : List ℕ) (x : ℕ) (p : Str) (m : Merge) → Type 0
-Starts ws txt x p m = (w : Which) (v : Level) → At ws txt w (list v) x → StartIn ws txt w v x p m
+Starts ws txt x p m = (w : Which) (ℓ : Level) → At ws txt w (list ℓ) x → StartIn ws txt w ℓ x p m
 
 -- How many branches a state has left.
 abbrev pub left-in : (ws txt : List ℕ) (p : Str) (m : Merge) → ℕ
 left-in ws txt p m = remaining ws txt p (m .roots) (m .heads) (m .n)
 
 -- The first entry is given, a branch of a tree of the list, and the state gives the rest.
-pub record GivenIn (ws txt : List ℕ) (w : Which) (v : Level) (x : ℕ) (p : Str) (m : Merge) (e : Entry) (s : List Entry)
+pub record GivenIn (ws txt : List ℕ) (w : Which) (ℓ : Level) (x : ℕ) (p : Str) (m : Merge) (e : Entry) (s : List Entry)
     (r : Step) : Type 0 where
   pub branch-is : r .branch ≡ e .branch
   pub label-is : r .label ≡ e .label
-  pub branch : BranchOf ws w v x (r .branch)
+  pub branch : BranchOf ws w ℓ x (r .branch)
   pub begins : starts-with (key-at ws txt (r .branch)) p ≡ true
-  pub label-ok : LabelOk ws w v x (r .label)
-  pub rest : Rest ws txt w v x p (r .m) s
+  pub label-ok : LabelOk ws w ℓ x (r .label)
+  pub rest : Rest ws txt w ℓ x p (r .m) s
   pub fewer : left-in ws txt p (r .m) < left-in ws txt p m
 
 -- What a step gives of the entries: branch 0 at the end.
-abbrev pub GivesIn : (ws txt : List ℕ) (w : Which) (v : Level) (x : ℕ) (p : Str) (m : Merge) → List Entry → Step
+abbrev pub GivesIn : (ws txt : List ℕ) (w : Which) (ℓ : Level) (x : ℕ) (p : Str) (m : Merge) → List Entry → Step
     → Type 0
-GivesIn ws txt w v x p m [] r = r .branch ≡ 0
-GivesIn ws txt w v x p m (e ∷ s) r = GivenIn ws txt w v x p m e s r
+GivesIn ws txt w ℓ x p m [] r = r .branch ≡ 0
+GivesIn ws txt w ℓ x p m (e ∷ s) r = GivenIn ws txt w ℓ x p m e s r
 
 -- The same, of whatever the state gives.
 abbrev pub Gives : (ws txt : List ℕ) (p : Str) (m : Merge) (r : Step) → Type 0
-Gives ws txt p m r = (w : Which) (v : Level) (x : ℕ) (s : List Entry) → Rest ws txt w v x p m s
-    → GivesIn ws txt w v x p m s r
+Gives ws txt p m r = (w : Which) (ℓ : Level) (x : ℕ) (s : List Entry) → Rest ws txt w ℓ x p m s
+    → GivesIn ws txt w ℓ x p m s r
 
 -- ---- One cell taken from the heap
 
 -- The least cell c is taken, and the rest of its list put back.
-pub record TookCell (ws txt : List ℕ) (w : Which) (v : Level) (x : ℕ) (p : Str) (m m′ : Merge) (t : Taken) (c : ℕ)
+pub record TookCell (ws txt : List ℕ) (w : Which) (ℓ : Level) (x : ℕ) (p : Str) (m m′ : Merge) (t : Taken) (c : ℕ)
     (hh : Forest ℕ) : Type 0 where
   pub cell-is : t .cell ≡ c
   pub below : c < m .n
   pub branch-is : t .branch ≡ getD (m .heads) c 0
   pub heap : Heap ℕ
-  pub holding : Holding ws txt w v x p m′ heap
+  pub holding : Holding ws txt w ℓ x p m′ heap
   pub heap-is : heap-of ws txt p m′ heap
       ≡ popped (entry-key ws txt) (run-at ws txt p (m .roots) (m .heads) (m .labels) c)
       (forest-map (run-at ws txt p (m .roots) (m .heads) (m .labels)) hh)
   pub fewer : remaining ws txt p (m′ .roots) (m′ .heads) (m .n) < remaining ws txt p (m .roots) (m .heads) (m .n)
 
 -- What is taken of a heap: cell 96 of the empty one.
-abbrev pub TookIn : (ws txt : List ℕ) (w : Which) (v : Level) (x : ℕ) (p : Str) (m m′ : Merge) (t : Taken) → Heap ℕ
+abbrev pub TookIn : (ws txt : List ℕ) (w : Which) (ℓ : Level) (x : ℕ) (p : Str) (m m′ : Merge) (t : Taken) → Heap ℕ
     → Type 0
-TookIn ws txt w v x p m m′ t EmptyHeap = t .cell ≡ heaviest-list
-TookIn ws txt w v x p m m′ t (HeapOf c hh) = TookCell ws txt w v x p m m′ t c hh
+TookIn ws txt w ℓ x p m m′ t EmptyHeap = t .cell ≡ heaviest-list
+TookIn ws txt w ℓ x p m m′ t (HeapOf c hh) = TookCell ws txt w ℓ x p m m′ t c hh
 
 -- The same, for any labels and whatever heap the cells have.
 pub record Takes (ws txt : List ℕ) (p : Str) (n root : ℕ) (roots heads child next roots′ heads′ child′ next′ : List ℕ)
     (t : Taken) : Type 0 where
-  pub took : (labels : List ℕ) (last : ℕ) (w : Which) (v : Level) (x : ℕ) (h : Heap ℕ)
-      → Holding ws txt w v x p (state roots heads labels child next n root last) h
-      → TookIn ws txt w v x p (state roots heads labels child next n root last)
+  pub took : (labels : List ℕ) (last : ℕ) (w : Which) (ℓ : Level) (x : ℕ) (h : Heap ℕ)
+      → Holding ws txt w ℓ x p (state roots heads labels child next n root last) h
+      → TookIn ws txt w ℓ x p (state roots heads labels child next n root last)
       (state roots′ heads′ labels child′ next′ n (t .root) last) t h
 
 -- The cells have some heap.
@@ -203,17 +203,17 @@ pub record CellsReady (ws txt : List ℕ) (p : Str) (n root : ℕ) (roots heads 
 -- ---- The contracts: labels are read by the caller
 
 -- The merge of a list of one tree with a match shows what is found by the tree's matches.
-pub record OneTree (ws txt : List ℕ) (w : Which) (v : Level) (x : ℕ) (p : Str) (root label : ℕ) : Type 0 where
-  pub root-link : LinkOk ws (x + 1) root (kind w (tree v))
-  pub label-ok : LabelOk ws w v x label
+pub record OneTree (ws txt : List ℕ) (w : Which) (ℓ : Level) (x : ℕ) (p : Str) (root label : ℕ) : Type 0 where
+  pub root-link : LinkOk ws (x + 1) root (kind w (tree ℓ))
+  pub label-ok : LabelOk ws w ℓ x label
   pub says : (term : SearchTerm) (q : Option Str) → Asks term p q
-      → map outer (found (what w ws txt x (list v)) term)
-      ≡ map (shown w ws txt v q) (map (λ b. record { branch = b; label = label }) (matches ws txt root p))
+      → map outer (found (what w ws txt x (list ℓ)) term)
+      ≡ map (shown w ws txt ℓ q) (map (λ b. record { branch = b; label = label }) (matches ws txt root p))
 
 pub record Begins (ws txt : List ℕ) (p : Str) (x : ℕ) (roots heads labels : List ℕ) (r : Start) : Type 0 where
   pub starts : Starts ws txt x p (state roots heads labels (r .child) (r .next) (r .n) (r .root) 0)
-  pub one : r .n ≡ 1 → (w : Which) (v : Level) → At ws txt w (list v) x
-      → OneTree ws txt w v x p (getD roots 0 0) (getD labels 0 0)
+  pub one : r .n ≡ 1 → (w : Which) (ℓ : Level) → At ws txt w (list ℓ) x
+      → OneTree ws txt w ℓ x p (getD roots 0 0) (getD labels 0 0)
 
 -- The cells, with some labels, still give some entries.
 pub record Stands (ws txt : List ℕ) (p : Str) (roots heads child next : List ℕ) (t : Cursor) : Type 0 where

@@ -42,22 +42,22 @@ use Rattle.memory.specs.Sound.{At}
 use Rattle.memory.proofs.At.{at-of}
 
 -- ---- What a tree's matches are
-module _ {ws txt : List ℕ} {w : Which} {v : Level} {root : ℕ} (t : At ws txt w (tree v) root) where
-  rows-prefix : (p : Str) → tree-matches (NSTPrefix p) (what w ws txt root (tree v))
-      ≡ map (row-at w ws txt v (some p)) (matches ws txt root p)
+module _ {ws txt : List ℕ} {w : Which} {ℓ : Level} {root : ℕ} (t : At ws txt w (tree ℓ) root) where
+  rows-prefix : (p : Str) → tree-matches (NSTPrefix p) (what w ws txt root (tree ℓ))
+      ≡ map (row-at w ws txt ℓ (some p)) (matches ws txt root p)
   unfolding tree-matches
   rows-prefix [] = sym (all-rows t (some []))
   rows-prefix (b ∷ p) = sym (prefix-rows t (b ∷ p))
 
   pub term-rows : {term : SearchTerm} {p : Str} {q : Option Str} → Asks term p q
-      → tree-matches term (what w ws txt root (tree v)) ≡ map (row-at w ws txt v q) (matches ws txt root p)
+      → tree-matches term (what w ws txt root (tree ℓ)) ≡ map (row-at w ws txt ℓ q) (matches ws txt root p)
   unfolding tree-matches
   term-rows (by-prefix {p}) = rows-prefix p
   term-rows by-all = sym (all-rows t none)
 
-module _ {ws txt : List ℕ} {w : Which} {v : Level} {root : ℕ} (t : At ws txt w (tree v) root) (p : Str) where
+module _ {ws txt : List ℕ} {w : Which} {ℓ : Level} {root : ℕ} (t : At ws txt w (tree ℓ) root) (p : Str) where
   -- Where the first of some matches is none, there are none.
-  pub no-match : (l : List ℕ) → Allˡ (MatchOf ws txt w v root p) l → head0 l ≡ 0 → l ≡ []
+  pub no-match : (l : List ℕ) → Allˡ (MatchOf ws txt w ℓ root p) l → head0 l ≡ 0 → l ≡ []
   no-match [] a e = refl
   no-match (y ∷ l) a e = absurd (omega (arith, a .0 .branch .some))
 
@@ -71,9 +71,9 @@ abbrev pub outermost : (label x : ℕ) → ℕ
 outermost zero x = x
 outermost (suc l) x = suc l
 
-module _ {ws txt : List ℕ} {w : Which} {v : Level} {l x : ℕ} (t : At ws txt w (list v) x) (p : 0 < x) (h : x ≤ l)
+module _ {ws txt : List ℕ} {w : Which} {ℓ : Level} {l x : ℕ} (t : At ws txt w (list ℓ) x) (p : 0 < x) (h : x ≤ l)
     (e : sort-word (record-at ws x) ≡ 1) where
-  outermost-ok : (label : ℕ) → LabelOk ws w v l label → LabelOk ws w v l (outermost label x)
+  outermost-ok : (label : ℕ) → LabelOk ws w ℓ l label → LabelOk ws w ℓ l (outermost label x)
   outermost-ok zero o = record { link = record { earlier = omega arith; of-kind = t .link .of-kind }; imports = λ _. e }
   outermost-ok (suc label) o = o
 
@@ -138,8 +138,8 @@ module _ {ws txt : List ℕ} {x own rest sort : ℕ} (s : Seen ws txt x own rest
       text-in (record { which = a .which; level = a .level; tree = at-of (a .tree) (tree _) (omega arith) (b .link) }) (b .some)
 
   -- Of any table and level that the list is of.
-  module _ {w : Which} {v : Level} (t : At ws txt w (list v) x) where
-    rest-at : At ws txt w (list v) rest
+  module _ {w : Which} {ℓ : Level} (t : At ws txt w (list ℓ) x) where
+    rest-at : At ws txt w (list ℓ) rest
     rest-at = rw (s .rest-is) (rest-list t (s .some))
 
     rest-before : rest < x
@@ -149,15 +149,15 @@ module _ {ws txt : List ℕ} {x own rest sort : ℕ} (s : Seen ws txt x own rest
       of-tree : sort-word (record-at ws x) ≡ 0
       of-tree = sort-tree t (s .some) (λ e. n (s .sort-is ∙ e))
 
-      own-at : At ws txt w (tree v) own
+      own-at : At ws txt w (tree ℓ) own
       own-at = rw (s .own-is) (own-tree t (s .some) of-tree)
 
 -- ---- Cells that have parts
-module _ {ws txt : List ℕ} {w : Which} {v : Level} {l : ℕ} {p : Str}
+module _ {ws txt : List ℕ} {w : Which} {ℓ : Level} {l : ℕ} {p : Str}
     {roots heads labels roots′ heads′ labels′ : List ℕ} where
   has-kept : (i r : ℕ) (cs : List (TreePart ws txt)) → r ≡ i + length cs
       → ((j : ℕ) → j < r → SameCell roots heads labels roots′ heads′ labels′ j)
-      → HasParts ws txt w v l p roots heads labels i cs → HasParts ws txt w v l p roots′ heads′ labels′ i cs
+      → HasParts ws txt w ℓ l p roots heads labels i cs → HasParts ws txt w ℓ l p roots′ heads′ labels′ i cs
   has-kept i r [] e k no-more = no-more
   has-kept i r (c ∷ cs) e k (more b a) =
       let s = k i (omega arith) in
@@ -173,10 +173,10 @@ module _ {ws txt : List ℕ} {w : Which} {v : Level} {l : ℕ} {p : Str}
       })
       (has-kept (suc i) r cs (omega arith) k a)
 
-has-append : {ws txt : List ℕ} {w : Which} {v : Level} {l : ℕ} {p : Str} {roots heads labels : List ℕ} (i j : ℕ)
+has-append : {ws txt : List ℕ} {w : Which} {ℓ : Level} {l : ℕ} {p : Str} {roots heads labels : List ℕ} (i j : ℕ)
     (cs ds : List (TreePart ws txt)) → j ≡ i + length cs
-    → HasParts ws txt w v l p roots heads labels i cs → HasParts ws txt w v l p roots heads labels j ds
-    → HasParts ws txt w v l p roots heads labels i (cs ++ ds)
+    → HasParts ws txt w ℓ l p roots heads labels i cs → HasParts ws txt w ℓ l p roots heads labels j ds
+    → HasParts ws txt w ℓ l p roots heads labels i (cs ++ ds)
 has-append i j [] ds e no-more b = let f : j ≡ i = omega arith in rw f at b
 has-append i j (c ∷ cs) ds e (more h a) b = more h (has-append (suc i) j cs ds (omega arith) a b)
 
@@ -202,27 +202,27 @@ collected-none {ws} {txt} e f = record {
 }
 
 -- What the first collection adds.
-module _ {ws txt : List ℕ} {w : Which} {v : Level} {x own rest sort : ℕ} (s : Seen ws txt x own rest sort)
-    (t : At ws txt w (list v) x) (imports : List Str) where
-  lists-imported : sort-word (record-at ws x) ≡ 1 → (term : SearchTerm) → match-lists-in w ws txt v term imports x
-      ≡ match-lists-in w ws txt v term (span txt (text-start (record-at ws x)) (text-len (record-at ws x)) ∷ imports)
-      own ++ match-lists-in w ws txt v term imports rest
+module _ {ws txt : List ℕ} {w : Which} {ℓ : Level} {x own rest sort : ℕ} (s : Seen ws txt x own rest sort)
+    (t : At ws txt w (list ℓ) x) (imports : List Str) where
+  lists-imported : sort-word (record-at ws x) ≡ 1 → (term : SearchTerm) → match-lists-in w ws txt ℓ term imports x
+      ≡ match-lists-in w ws txt ℓ term (span txt (text-start (record-at ws x)) (text-len (record-at ws x)) ∷ imports)
+      own ++ match-lists-in w ws txt ℓ term imports rest
   unfolding flat-in
   lists-imported e term =
       rw (imported-reads t (s .some) e, s .own-is, s .rest-is)
-      (ap nonempty (map-append (λ c. with-imports (c .0, tree-matches term (c .1))) (flat-in _ (what w ws txt _ (list v)))
-      (flat-in imports (what w ws txt _ (list v)))) ∙ nonempty-append _ _)
+      (ap nonempty (map-append (λ c. with-imports (c .0, tree-matches term (c .1))) (flat-in _ (what w ws txt _ (list ℓ)))
+      (flat-in imports (what w ws txt _ (list ℓ)))) ∙ nonempty-append _ _)
 
   module _ (n : sort ≡ 1 → ⊥) {term : SearchTerm} {p : Str} {q : Option Str} (asks : Asks term p q) where
     lists-skip : matches ws txt own p ≡ []
-        → match-lists-in w ws txt v term imports x ≡ match-lists-in w ws txt v term imports rest
+        → match-lists-in w ws txt ℓ term imports x ≡ match-lists-in w ws txt ℓ term imports rest
     unfolding flat-in nonempty with-imports
     lists-skip e = rw (names-reads t (s .some) (of-tree s t n), ← s .own-is, ← s .rest-is, term-rows (own-at s t n) asks, e)
 
     lists-cell : {first : ℕ} {others : List ℕ} → matches ws txt own p ≡ first ∷ others
-        → match-lists-in w ws txt v term imports x
-        ≡ with-imports (imports, map (row-at w ws txt v q) (matches ws txt own p))
-        ∷ match-lists-in w ws txt v term imports rest
+        → match-lists-in w ws txt ℓ term imports x
+        ≡ with-imports (imports, map (row-at w ws txt ℓ q) (matches ws txt own p))
+        ∷ match-lists-in w ws txt ℓ term imports rest
     unfolding flat-in nonempty with-imports
     lists-cell e = rw (names-reads t (s .some) (of-tree s t n), ← s .own-is, ← s .rest-is, term-rows (own-at s t n) asks, e)
 
@@ -230,19 +230,19 @@ module _ {ws txt : List ℕ} {p : Str} {x own rest sort label i r : ℕ} {roots 
     (s : Seen ws txt x own rest sort) where
   -- An imported list, and then the rest.
   module _ {mid inner : ℕ} {roots₁ heads₁ labels₁ : List ℕ} (e : sort ≡ 1) where
-    imported-in : {w : Which} {v : Level} {l : ℕ} {imports : List Str} → At ws txt w (list v) x
+    imported-in : {w : Which} {ℓ : Level} {l : ℕ} {imports : List Str} → At ws txt w (list ℓ) x
         → ((j : ℕ) → j < mid → SameCell roots₁ heads₁ labels₁ roots′ heads′ labels′ j)
-        → CollectedIn ws txt p own inner i mid roots heads labels roots₁ heads₁ labels₁ w v l
+        → CollectedIn ws txt p own inner i mid roots heads labels roots₁ heads₁ labels₁ w ℓ l
         (span txt (text-start (record-at ws x)) (text-len (record-at ws x)) ∷ imports)
-        → CollectedIn ws txt p rest label mid r roots₁ heads₁ labels₁ roots′ heads′ labels′ w v l imports
-        → CollectedIn ws txt p x label i r roots heads labels roots′ heads′ labels′ w v l imports
-    imported-in {w} {v} {l} {imports} t kept a b = record {
+        → CollectedIn ws txt p rest label mid r roots₁ heads₁ labels₁ roots′ heads′ labels′ w ℓ l imports
+        → CollectedIn ws txt p x label i r roots heads labels roots′ heads′ labels′ w ℓ l imports
+    imported-in {w} {ℓ} {l} {imports} t kept a b = record {
       parts = a .parts ++ b .parts;
       count = omega (arith, a .count, b .count, length-append (a .parts) (b .parts));
       has = has-append i mid (a .parts) (b .parts) (a .count) (has-kept i mid (a .parts) (a .count) kept (a .has)) (b .has);
       lists = λ term q asks.
           lists-imported s t imports (of-list s e) term ∙ ap₂ _++_ (a .lists term q asks) (b .lists term q asks)
-          ∙ sym (map-append (elements w ws txt v q p) (a .parts) (b .parts));
+          ∙ sym (map-append (elements w ws txt ℓ q p) (a .parts) (b .parts));
     }
 
     pub collected-imported : inner ≡ outermost label x
@@ -275,9 +275,9 @@ module _ {ws txt : List ℕ} {p : Str} {x own rest sort label i r : ℕ} {roots 
       says = λ w v l imports t h o q. skip-in t (b .says w v l imports (rest-at s t) (omega (arith, rest-before s t)) o q);
     }
       where
-        skip-in : {w : Which} {v : Level} {l : ℕ} {imports : List Str} → At ws txt w (list v) x
-            → CollectedIn ws txt p rest label i r roots heads labels roots′ heads′ labels′ w v l imports
-            → CollectedIn ws txt p x label i r roots heads labels roots′ heads′ labels′ w v l imports
+        skip-in : {w : Which} {ℓ : Level} {l : ℕ} {imports : List Str} → At ws txt w (list ℓ) x
+            → CollectedIn ws txt p rest label i r roots heads labels roots′ heads′ labels′ w ℓ l imports
+            → CollectedIn ws txt p x label i r roots heads labels roots′ heads′ labels′ w ℓ l imports
         skip-in {imports = imports} t b = record {
           parts = b .parts;
           count = b .count;
@@ -288,14 +288,14 @@ module _ {ws txt : List ℕ} {p : Str} {x own rest sort label i r : ℕ} {roots 
 
     -- A tree with one.
     module _ (z : first ≡ 0 → ⊥) (f : Full roots heads labels) (small : i < 96) where
-      cell-in : {w : Which} {v : Level} {l : ℕ} {imports : List Str} → At ws txt w (list v) x → x ≤ l
-          → LabelOk ws w v l label → label-at ws txt label ≡ last-opt imports
+      cell-in : {w : Which} {ℓ : Level} {l : ℕ} {imports : List Str} → At ws txt w (list ℓ) x → x ≤ l
+          → LabelOk ws w ℓ l label → label-at ws txt label ≡ last-opt imports
           → SameCell (set roots i own) (with-head ws txt heads i first) (set labels i label) roots′ heads′ labels′ i
           → CollectedIn ws txt p rest label (i + 1) r (set roots i own) (with-head ws txt heads i first)
-          (set labels i label) roots′ heads′ labels′ w v l imports
-          → CollectedIn ws txt p x label i r roots heads labels roots′ heads′ labels′ w v l imports
+          (set labels i label) roots′ heads′ labels′ w ℓ l imports
+          → CollectedIn ws txt p x label i r roots heads labels roots′ heads′ labels′ w ℓ l imports
       unfolding elements
-      cell-in {w} {v} {l} {imports} t h o labelled y b =
+      cell-in {w} {ℓ} {l} {imports} t h o labelled y b =
           let m = head-tail (matches ws txt own p) first e z in
           record {
             parts = record { root = own; label = label; imports = imports; labelled = labelled } ∷ b .parts;
@@ -315,8 +315,8 @@ module _ {ws txt : List ℕ} {p : Str} {x own rest sort label i r : ℕ} {roots 
                 (rw (add-one i) at (b .has));
             lists = λ term q asks.
                 lists-cell s t imports n asks (m .1)
-                ∙ ap (λ (ls : List (List (PathElem × Value (Item w) v))). with-imports
-                (imports, map (row-at w ws txt v q) (matches ws txt own p)) ∷ ls) (b .lists term q asks);
+                ∙ ap (λ (ls : List (List (PathElem × Value (Item w) ℓ))). with-imports
+                (imports, map (row-at w ws txt ℓ q) (matches ws txt own p)) ∷ ls) (b .lists term q asks);
           }
 
       pub collected-cell : Collected ws txt p rest label (i + 1) r (set roots i own) (with-head ws txt heads i first)

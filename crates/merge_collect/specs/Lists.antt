@@ -27,9 +27,9 @@ pub record TreePart (ws txt : List ℕ) : Type 0 where
   pub labelled : label-at ws txt label ≡ last-opt imports
 
 -- The tree's matches with its imports.
-unfoldable pub elements : (w : Which) (ws txt : List ℕ) (v : Level) → Option Str → Str → TreePart ws txt
-    → List (PathElem × Value (Item w) v)
-elements w ws txt v q p c = with-imports (c .imports, map (row-at w ws txt v q) (matches ws txt (c .root) p))
+unfoldable pub elements : (w : Which) (ws txt : List ℕ) (ℓ : Level) → Option Str → Str → TreePart ws txt
+    → List (PathElem × Value (Item w) ℓ)
+elements w ws txt ℓ q p c = with-imports (c .imports, map (row-at w ws txt ℓ q) (matches ws txt (c .root) p))
 
 -- There are 96 of each, with a beginning for each head.
 pub record Full (roots heads labels : List ℕ) : Type 0 where
@@ -44,7 +44,7 @@ pub record SameCell (roots heads labels roots′ heads′ labels′ : List ℕ) 
   pub beginning : getD heads′ (heaviest-list + i) 0 ≡ getD heads (heaviest-list + i) 0
   pub label : getD labels′ i 0 ≡ getD labels i 0
 
-module _ (ws txt : List ℕ) (w : Which) (v : Level) (l : ℕ) (p : Str) (roots heads labels : List ℕ) where
+module _ (ws txt : List ℕ) (w : Which) (ℓ : Level) (l : ℕ) (p : Str) (roots heads labels : List ℕ) where
   -- The cell i has the tree of c, its first match with the beginning of its key, and its label. Their links are no later than l.
   pub record HasPart (i : ℕ) (c : TreePart ws txt) : Type 0 where
     pub root-is : getD roots i 0 ≡ c .root
@@ -52,8 +52,8 @@ module _ (ws txt : List ℕ) (w : Which) (v : Level) (l : ℕ) (p : Str) (roots 
     pub others : List ℕ
     pub first-is : matches ws txt (c .root) p ≡ getD heads i 0 ∷ others
     pub begun : Begun ws txt heads i
-    pub root-link : LinkOk ws (l + 1) (c .root) (kind w (tree v))
-    pub label-ok : LabelOk ws w v l (c .label)
+    pub root-link : LinkOk ws (l + 1) (c .root) (kind w (tree ℓ))
+    pub label-ok : LabelOk ws w ℓ l (c .label)
 
   -- The cells from i on have these parts.
   pub data HasParts : ℕ → List (TreePart ws txt) → Type 0 where
@@ -62,25 +62,25 @@ module _ (ws txt : List ℕ) (w : Which) (v : Level) (l : ℕ) (p : Str) (roots 
         → HasParts i (c ∷ cs)
 
 -- Each tree's matches below some imports, the empty ones left out.
-abbrev pub match-lists-in : (w : Which) (ws txt : List ℕ) (v : Level) → SearchTerm → List Str → ℕ
-    → List (List (PathElem × Value (Item w) v))
-match-lists-in w ws txt v term imports x =
-    nonempty (map (λ t. with-imports (t .0, tree-matches term (t .1))) (flat-in imports (what w ws txt x (list v))))
+abbrev pub match-lists-in : (w : Which) (ws txt : List ℕ) (ℓ : Level) → SearchTerm → List Str → ℕ
+    → List (List (PathElem × Value (Item w) ℓ))
+match-lists-in w ws txt ℓ term imports x =
+    nonempty (map (λ t. with-imports (t .0, tree-matches term (t .1))) (flat-in imports (what w ws txt x (list ℓ))))
 
 module _ (ws txt : List ℕ) (p : Str) (x label i r : ℕ) (roots heads labels roots′ heads′ labels′ : List ℕ) where
   -- The cells from i to r have the trees of the list x that have a match; those before i are as they were.
-  pub record CollectedIn (w : Which) (v : Level) (l : ℕ) (imports : List Str) : Type 0 where
+  pub record CollectedIn (w : Which) (ℓ : Level) (l : ℕ) (imports : List Str) : Type 0 where
     pub parts : List (TreePart ws txt)
     pub count : r ≡ i + length parts
-    pub has : HasParts ws txt w v l p roots′ heads′ labels′ i parts
+    pub has : HasParts ws txt w ℓ l p roots′ heads′ labels′ i parts
     pub lists : (term : SearchTerm) (q : Option Str) → Asks term p q
-        → match-lists-in w ws txt v term imports x ≡ map (elements w ws txt v q p) parts
+        → match-lists-in w ws txt ℓ term imports x ≡ map (elements w ws txt ℓ q p) parts
 
   -- The same for any table, level, imports with that label, and later link.
   pub record Collected : Type 0 where
     pub from : i ≤ r
     pub full : Full roots′ heads′ labels′
     pub kept : (j : ℕ) → j < i → SameCell roots heads labels roots′ heads′ labels′ j
-    pub says : (w : Which) (v : Level) (l : ℕ) (imports : List Str) → At ws txt w (list v) x → x ≤ l
-        → LabelOk ws w v l label
-        → label-at ws txt label ≡ last-opt imports → CollectedIn w v l imports
+    pub says : (w : Which) (ℓ : Level) (l : ℕ) (imports : List Str) → At ws txt w (list ℓ) x → x ≤ l
+        → LabelOk ws w ℓ l label
+        → label-at ws txt label ≡ last-opt imports → CollectedIn w ℓ l imports

@@ -40,9 +40,9 @@ one-of [] h = refl
 one-of (b ∷ []) h = refl
 one-of (b ∷ (c ∷ bs)) h = absurd (omega arith)
 
-module _ {A : Type 0} {l : Level} where
+module _ {A : Type 0} {ℓ : Level} where
   -- The rows of a key have it.
-  have-key : (k : Str) (xs : List (PathElem × Value A l)) → Allˡ (λ x. elem-key x ≡ k) (with-key k xs)
+  have-key : (k : Str) (xs : List (PathElem × Value A ℓ)) → Allˡ (λ x. elem-key x ≡ k) (with-key k xs)
   unfolding with-key Same
   have-key k [] = tt
   have-key k (x ∷ xs) = go (same-view k (elem-key x)) (have-key k xs)
@@ -52,14 +52,14 @@ module _ {A : Type 0} {l : Level} where
       go (inl (t, e)) a = rw t (sym e, a)
       go (inr (f, _)) a = rw f a
 
-  same-ends : (k : Str) (xs : List (PathElem × Value A l)) → Allˡ (λ x. elem-key x ≡ k) xs
+  same-ends : (k : Str) (xs : List (PathElem × Value A ℓ)) → Allˡ (λ x. elem-key x ≡ k) xs
       → Option·map elem-key (first-of xs) ≡ Option·map elem-key (last-opt xs)
   unfolding first-of last-opt
   same-ends k [] a = refl
   same-ends k (x ∷ []) a = refl
   same-ends k (x ∷ (y ∷ xs)) a = ap some (a .0 ∙ sym (a .1 .0)) ∙ same-ends k (y ∷ xs) (a .1)
 
-  module _ (n : NameList A l) (term : SearchTerm) (o : OrderedN n) where
+  module _ (n : NameList A ℓ) (term : SearchTerm) (o : OrderedN n) where
     pub list-departs : ListDeparts n term
     unfolding rows-of
     list-departs = record {

@@ -27,16 +27,16 @@ use Rattle.source.proofs.Keeps.{btree-insert-replace-formed, admitted-keeps}
 
 module _ {A : Type 0} (Key Label : Str → Type 0) (Item : A → Type 0) where
   -- Formed, FormedTree and FormedNames by these rules; of an option, of the value that it has.
-  abbrev pub Ok : {l : Level} → Value A l → Type 0
+  abbrev pub Ok : {ℓ : Level} → Value A ℓ → Type 0
   Ok v = Formed Key Label Item v
 
-  abbrev pub OkTree : {l : Level} → Tree A l → Type 0
+  abbrev pub OkTree : {ℓ : Level} → Tree A ℓ → Type 0
   OkTree t = FormedTree Key Label Item t
 
-  abbrev pub OkNames : {l : Level} → NameList A l → Type 0
+  abbrev pub OkNames : {ℓ : Level} → NameList A ℓ → Type 0
   OkNames n = FormedNames Key Label Item n
 
-  abbrev pub OkOption : {l : Level} → Option (Value A l) → Type 0
+  abbrev pub OkOption : {ℓ : Level} → Option (Value A ℓ) → Type 0
   OkOption none = Unit {0}
   OkOption (some v) = Ok v
 
@@ -49,7 +49,7 @@ module _ {A : Type 0} (Key Label : Str → Type 0) (Item : A → Type 0) where
   namespaces-formed (trie b n) g = g .1
 
   -- ---- look-ups
-  or-else-formed : {l : Level} (x y : Option (Value A l)) → OkOption x → OkOption y → OkOption (or-else x y)
+  or-else-formed : {ℓ : Level} (x y : Option (Value A ℓ)) → OkOption x → OkOption y → OkOption (or-else x y)
   unfolding or-else
   or-else-formed none y a b = b
   or-else-formed (some x) y a b = a
@@ -65,19 +65,19 @@ module _ {A : Type 0} (Key Label : Str → Type 0) (Item : A → Type 0) where
   bind-option-formed none f g h = tt
   bind-option-formed (some tr) f g h = h tr g
 
-  pub btree-find-exact-formed : {l : Level} (t : Tree A l) (k : Str) → OkTree t → OkOption (btree-find-exact t k)
+  pub btree-find-exact-formed : {ℓ : Level} (t : Tree A ℓ) (k : Str) → OkTree t → OkOption (btree-find-exact t k)
   unfolding btree-find-exact
   btree-find-exact-formed StrEmpty k g = tt
-  btree-find-exact-formed {l} (StrBranch k′ v lbt rbt) k g =
+  btree-find-exact-formed {ℓ} (StrBranch k′ v lbt rbt) k g =
       go (btree-find-exact-formed lbt k (g .4)) (btree-find-exact-formed rbt k (g .5)) (string-compare k k′)
     where
       go : OkOption (btree-find-exact lbt k) → OkOption (btree-find-exact rbt k) → (o : Ordering)
-          → OkOption {l = l} (elim o [ Ordering·lt ↦ btree-find-exact lbt k | Ordering·eq ↦ some v | Ordering·gt ↦ btree-find-exact rbt k ])
+          → OkOption {ℓ = ℓ} (elim o [ Ordering·lt ↦ btree-find-exact lbt k | Ordering·eq ↦ some v | Ordering·gt ↦ btree-find-exact rbt k ])
       go i j Ordering·lt = i
       go i j Ordering·eq = g .1
       go i j Ordering·gt = j
 
-  pub names-find-exact-formed : {l : Level} (n : NameList A l) (k : Str) → OkNames n → OkOption (names-find-exact n k)
+  pub names-find-exact-formed : {ℓ : Level} (n : NameList A ℓ) (k : Str) → OkNames n → OkOption (names-find-exact n k)
   unfolding names-find-exact
   names-find-exact-formed []ᴺ k g = tt
   names-find-exact-formed (Names bt tl) k g = or-else-formed _ _ (btree-find-exact-formed bt k (g .0)) (names-find-exact-formed tl k (g .1))
@@ -99,7 +99,7 @@ module _ {A : Type 0} (Key Label : Str → Type 0) (Item : A → Type 0) where
   included-formed tr q g = dflt-formed _ (trie-descend-exact-formed tr q g)
 
   -- ---- inserts
-  pub names-insert-formed : {l : Level} (n : NameList A l) (k : Str) (v : Value A l) → Key k → Ok v → OkNames n
+  pub names-insert-formed : {ℓ : Level} (n : NameList A ℓ) (k : Str) (v : Value A ℓ) → Key k → Ok v → OkNames n
       → OkNames (names-insert n k v)
   unfolding names-insert
   names-insert-formed []ᴺ k v o g t = (btree-insert-replace-formed Key Label Item StrEmpty k v o g tt, tt)

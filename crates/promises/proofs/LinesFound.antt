@@ -47,16 +47,16 @@ lookup-each key (x ∷ l) d = (
   Allˡ-zip l (λ y b e. lookup-miss key (key y) x l (lt-ne (key y) (key x) b) ∙ e) (d .0) (lookup-each key l (d .1)),
 )
 
-module _ {A : Type 0} {l : Level} where
+module _ {A : Type 0} {ℓ : Level} where
   -- A row's key passes the term, and its value is the first holder's.
-  abbrev Holds : NameList A l → SearchTerm → PathElem × Value A l → Type 0
+  abbrev Holds : NameList A ℓ → SearchTerm → PathElem × Value A ℓ → Type 0
   Holds n term y = (accepts term (elem-key y) ≡ true) × (first-of (holders (flatten n) (elem-key y)) ≡ some (y .1))
 
-  rows-first : (n : NameList A l) (term : SearchTerm) → OrderedN n → Allˡ (Holds n term) (names-find-rev-first n term)
+  rows-first : (n : NameList A ℓ) (term : SearchTerm) → OrderedN n → Allˡ (Holds n term) (names-find-rev-first n term)
   unfolding first-of
   rows-first n term o = Allˡ-map (names-find-rev-first n term) row (lookup-each elem-key (names-find-rev-first n term) (find-first-decreasing n term o))
     where
-      row : (y : PathElem × Value A l) → lookup elem-key (elem-key y) (names-find-rev-first n term) ≡ some y
+      row : (y : PathElem × Value A ℓ) → lookup elem-key (elem-key y) (names-find-rev-first n term) ≡ some y
           → Holds n term y
       row y e = go (accepts term (elem-key y)) (sym (ap first-of (rows-hold n term (elem-key y) o)) ∙ sym (value-of-first (rows-of n term (elem-key y)))
           ∙ ap valof (sym (find-first-at n term (elem-key y) o) ∙ e))
@@ -110,10 +110,10 @@ module _ {A : Type 0} (Key Label : Str → Type 0) (Item : A → Type 0) where
       walk (t ∷ m) v i = rw h i
 
   -- What a row of a formed list keeps.
-  abbrev RowFine : {l : Level} → NameList A l → SearchTerm → PathElem × Value A l → Type 0
+  abbrev RowFine : {ℓ : Level} → NameList A ℓ → SearchTerm → PathElem × Value A ℓ → Type 0
   RowFine n term y = (Key (elem-key y) × Formed Key Label Item (y .1)) × Holds n term y
 
-  rows-fine : {l : Level} (n : NameList A l) (term : SearchTerm) → FormedNames Key Label Item n
+  rows-fine : {ℓ : Level} (n : NameList A ℓ) (term : SearchTerm) → FormedNames Key Label Item n
       → Allˡ (RowFine n term) (names-find-rev-first n term)
   rows-fine n term g =
       Allˡ-zip (names-find-rev-first n term) (λ y k h. (k, h)) (rows-formed Key Label Item n term g)

@@ -46,9 +46,9 @@ module _ {A : Type 0} where
 module _ {A : Type 0} (Key Label : Str → Type 0) (Item : A → Type 0) where
   -- What a listing asks of the rows of a list.
   pub record Finds (find : Finder A) : Type 0 where
-    pub descends : (l : Level) (n : NameList A l) (term : SearchTerm) → OrderedN n → Decreasing elem-key (find l n term)
-    pub formed : (l : Level) (n : NameList A l) (term : SearchTerm) → FormedNames Key Label Item n
-        → Allˡ (λ y. Key (elem-key y) × Formed Key Label Item (y .1)) (find l n term)
+    pub descends : (ℓ : Level) (n : NameList A ℓ) (term : SearchTerm) → OrderedN n → Decreasing elem-key (find ℓ n term)
+    pub formed : (ℓ : Level) (n : NameList A ℓ) (term : SearchTerm) → FormedNames Key Label Item n
+        → Allˡ (λ y. Key (elem-key y) × Formed Key Label Item (y .1)) (find ℓ n term)
     pub shallow : (n : NameList A ns) (term : SearchTerm) → Allˡ (λ y. depth (y .1) < depth-names n) (find ns n term)
 
   pub source-finds : Finds of-source
@@ -155,32 +155,32 @@ module _ {A : Type 0} where
   fold-foreign T f h (x ∷ l) acc = fold-foreign T f h l (f acc x) ∙ h acc x
 
   -- a fold over a decreasing list, where only the row with key s adds lines of that name
-  module _ {l : Level} (T : List Str) (f : List (PathOf × A) → PathElem × Value A l → List (PathOf × A)) (s : Str)
-      (c : PathElem × Value A l → List (PathOf × A)) (P : PathElem × Value A l → Type 0)
-      (on : (acc : List (PathOf × A)) (y : PathElem × Value A l) → P y → elem-key y ≡ s
+  module _ {ℓ : Level} (T : List Str) (f : List (PathOf × A) → PathElem × Value A ℓ → List (PathOf × A)) (s : Str)
+      (c : PathElem × Value A ℓ → List (PathOf × A)) (P : PathElem × Value A ℓ → Type 0)
+      (on : (acc : List (PathOf × A)) (y : PathElem × Value A ℓ) → P y → elem-key y ≡ s
       → named T (f acc y) ≡ c y ++ named T acc)
-      (off : (acc : List (PathOf × A)) (y : PathElem × Value A l) → (elem-key y ≡ s → ⊥)
+      (off : (acc : List (PathOf × A)) (y : PathElem × Value A ℓ) → (elem-key y ≡ s → ⊥)
       → named T (f acc y) ≡ named T acc) where
-    fold-off : (m : List (PathElem × Value A l)) (acc : List (PathOf × A)) → Below elem-key s m
+    fold-off : (m : List (PathElem × Value A ℓ)) (acc : List (PathOf × A)) → Below elem-key s m
         → named T (fold-left f acc m) ≡ named T acc
     unfolding fold-left
     fold-off [] acc b = refl
     fold-off (y ∷ m) acc b = fold-off m (f acc y) (b .1) ∙ off acc y (λ e. <ˢ-irrefl s (rw e at (b .0)))
 
-    fold-at : (m : List (PathElem × Value A l)) (acc : List (PathOf × A)) → Decreasing elem-key m
-        → ((y : PathElem × Value A l) → lookup elem-key s m ≡ some y → P y)
+    fold-at : (m : List (PathElem × Value A ℓ)) (acc : List (PathOf × A)) → Decreasing elem-key m
+        → ((y : PathElem × Value A ℓ) → lookup elem-key s m ≡ some y → P y)
         → named T (fold-left f acc m) ≡ from c (lookup elem-key s m) ++ named T acc
     unfolding fold-left lookup Same
     fold-at [] acc d h = refl
     fold-at (y ∷ m) acc d h = go (same-view s (elem-key y)) (λ g. fold-at m (f acc y) (d .1) g)
       where
-        skip : (s ≡ elem-key y → ⊥) → (((z : PathElem × Value A l) → lookup elem-key s m ≡ some z → P z)
+        skip : (s ≡ elem-key y → ⊥) → (((z : PathElem × Value A ℓ) → lookup elem-key s m ≡ some z → P z)
             → named T (fold-left f (f acc y) m) ≡ from c (lookup elem-key s m) ++ named T (f acc y))
             → named T (fold-left f (f acc y) m) ≡ from c (lookup elem-key s (y ∷ m)) ++ named T acc
         skip n ih = let e : lookup elem-key s (y ∷ m) ≡ lookup elem-key s m = lookup-miss elem-key s y m n in
             ih (λ z g. h z (e ∙ g)) ∙ ap (λ r. from c (lookup elem-key s m) ++ r) (off acc y (λ e. n (sym e))) ∙ ap (λ o. from c o ++ named T acc) (sym e)
 
-        go : Same s (elem-key y) → (((z : PathElem × Value A l) → lookup elem-key s m ≡ some z → P z)
+        go : Same s (elem-key y) → (((z : PathElem × Value A ℓ) → lookup elem-key s m ≡ some z → P z)
             → named T (fold-left f (f acc y) m) ≡ from c (lookup elem-key s m) ++ named T (f acc y))
             → named T (fold-left f (f acc y) m) ≡ from c (lookup elem-key s (y ∷ m)) ++ named T acc
         go (inl (t, e)) ih =

@@ -22,30 +22,30 @@ No label = ⊥
 -- No list in it, at any depth, has an imported list.
 module _ {A : Type 0} where
   abbrev mutual
-    pub NoImports : {l : Level} → Value A l → Type 0
+    pub NoImports : {ℓ : Level} → Value A ℓ → Type 0
     NoImports (item a) = Unit {0}
     NoImports (trie b n) = NoImportsNames b × NoImportsNames n
 
-    pub NoImportsTree : {l : Level} → Tree A l → Type 0
+    pub NoImportsTree : {ℓ : Level} → Tree A ℓ → Type 0
     NoImportsTree StrEmpty = Unit {0}
     NoImportsTree (StrBranch k v lbt rbt) = NoImports v × NoImportsTree lbt × NoImportsTree rbt
 
-    pub NoImportsNames : {l : Level} → NameList A l → Type 0
+    pub NoImportsNames : {ℓ : Level} → NameList A ℓ → Type 0
     NoImportsNames []ᴺ = Unit {0}
     NoImportsNames (Names bt tl) = NoImportsTree bt × NoImportsNames tl
     NoImportsNames (ImportedNames label inner tl) = ⊥
 
   -- Formed with any key and item and no label.
   mutual
-    no-imports : {l : Level} (v : Value A l) → Formed Any No Any v → NoImports v
+    no-imports : {ℓ : Level} (v : Value A ℓ) → Formed Any No Any v → NoImports v
     no-imports (item a) g = tt
     no-imports (trie b n) g = (no-imports-names b (g .0), no-imports-names n (g .1))
 
-    no-imports-tree : {l : Level} (t : Tree A l) → FormedTree Any No Any t → NoImportsTree t
+    no-imports-tree : {ℓ : Level} (t : Tree A ℓ) → FormedTree Any No Any t → NoImportsTree t
     no-imports-tree StrEmpty g = tt
     no-imports-tree (StrBranch k v lbt rbt) g = (no-imports v (g .1), no-imports-tree lbt (g .4), no-imports-tree rbt (g .5))
 
-    no-imports-names : {l : Level} (n : NameList A l) → FormedNames Any No Any n → NoImportsNames n
+    no-imports-names : {ℓ : Level} (n : NameList A ℓ) → FormedNames Any No Any n → NoImportsNames n
     no-imports-names []ᴺ g = tt
     no-imports-names (Names bt tl) g = (no-imports-tree bt (g .0), no-imports-names tl (g .1))
     no-imports-names (ImportedNames label inner tl) g = absurd (g .0)

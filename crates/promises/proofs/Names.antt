@@ -61,13 +61,13 @@ value-of-first (x ∷ l) = refl
 
 -- ---- look-up takes the first holder
 module _ {A : Type 0} where
-  first-onto : {l : Level} (o : Option (Value A l)) (vs : List (Value A l))
+  first-onto : {ℓ : Level} (o : Option (Value A ℓ)) (vs : List (Value A ℓ))
       → first-of (found-onto o vs) ≡ or-else o (first-of vs)
   unfolding found-onto first-of or-else
   first-onto none vs = refl
   first-onto (some v) vs = refl
 
-  pub holders-append : {l : Level} (xs ys : List (Tree A l)) (k : Str)
+  pub holders-append : {ℓ : Level} (xs ys : List (Tree A ℓ)) (k : Str)
       → holders (xs ++ ys) k ≡ holders xs k ++ holders ys k
   unfolding holders found-onto
   holders-append [] ys k = refl
@@ -78,7 +78,7 @@ module _ {A : Type 0} where
       go none = refl
       go (some v) = refl
 
-  pub find-exact-is-first : {l : Level} (n : NameList A l) (k : Str)
+  pub find-exact-is-first : {ℓ : Level} (n : NameList A ℓ) (k : Str)
       → names-find-exact n k ≡ first-of (holders (flatten n) k)
   unfolding names-find-exact flatten holders first-of
   find-exact-is-first []ᴺ k = refl
@@ -89,7 +89,7 @@ module _ {A : Type 0} where
       (sym (ap first-of (holders-append (flatten inner) (flatten tl) k) ∙ first-append (holders (flatten inner) k) (holders (flatten tl) k)))
 
   -- ---- the rows of a key
-  labelled-at : {l : Level} (i : List Str) (k : Str) (m : List (PrefixMatch × Value A l))
+  labelled-at : {ℓ : Level} (i : List Str) (k : Str) (m : List (PrefixMatch × Value A ℓ))
       → valof (lookup elem-key k (map (λ x. (record { imports = i; segment = x .0 }, x .1)) m)) ≡ valof (lookup entry-key k m)
   unfolding lookup elem-key entry-key
   labelled-at i k [] = refl
@@ -103,7 +103,7 @@ module _ {A : Type 0} where
       go true e = refl
       go false e = e
 
-  pub key-append : {l : Level} (k : Str) (xs ys : List (PathElem × Value A l))
+  pub key-append : {ℓ : Level} (k : Str) (xs ys : List (PathElem × Value A ℓ))
       → with-key k (xs ++ ys) ≡ with-key k xs ++ with-key k ys
   unfolding with-key
   key-append k [] ys = refl
@@ -115,11 +115,11 @@ module _ {A : Type 0} where
       go false = refl
 
   -- No key comes twice.
-  abbrev Once : {l : Level} → List (PathElem × Value A l) → Type 0
+  abbrev Once : {ℓ : Level} → List (PathElem × Value A ℓ) → Type 0
   Once [] = Unit {0}
   Once (x ∷ xs) = (lookup elem-key (elem-key x) xs ≡ none) × Once xs
 
-  key-once : {l : Level} (k : Str) (xs : List (PathElem × Value A l)) → Once xs
+  key-once : {ℓ : Level} (k : Str) (xs : List (PathElem × Value A ℓ)) → Once xs
       → with-key k xs ≡ to-list (lookup elem-key k xs)
   unfolding with-key lookup Same
   key-once k [] o = refl
@@ -130,25 +130,25 @@ module _ {A : Type 0} where
       go (inl (t, e)) h = rw t (ap (_∷_ x) (h ∙ ap to-list (ap (λ k. lookup elem-key k xs) e ∙ o .0)))
       go (inr (f, _)) h = rw f h
 
-  ascending-once : {l : Level} (xs : List (PathElem × Value A l)) → Increasing elem-key xs → Once xs
+  ascending-once : {ℓ : Level} (xs : List (PathElem × Value A ℓ)) → Increasing elem-key xs → Once xs
   ascending-once [] i = tt
   ascending-once (x ∷ xs) i = (lookup-above elem-key (elem-key x) xs (i .0), ascending-once xs (i .1))
 
-  descending-once : {l : Level} (xs : List (PathElem × Value A l)) → Decreasing elem-key xs → Once xs
+  descending-once : {ℓ : Level} (xs : List (PathElem × Value A ℓ)) → Decreasing elem-key xs → Once xs
   descending-once [] i = tt
   descending-once (x ∷ xs) i = (lookup-below elem-key (elem-key x) xs (i .0), descending-once xs (i .1))
 
   -- Of an ascending or descending list at most one row has a key.
-  key-ascending : {l : Level} (k : Str) (xs : List (PathElem × Value A l)) → Increasing elem-key xs
+  key-ascending : {ℓ : Level} (k : Str) (xs : List (PathElem × Value A ℓ)) → Increasing elem-key xs
       → with-key k xs ≡ to-list (lookup elem-key k xs)
   key-ascending k xs i = key-once k xs (ascending-once xs i)
 
-  pub key-descending : {l : Level} (k : Str) (xs : List (PathElem × Value A l)) → Decreasing elem-key xs
+  pub key-descending : {ℓ : Level} (k : Str) (xs : List (PathElem × Value A ℓ)) → Decreasing elem-key xs
       → with-key k xs ≡ to-list (lookup elem-key k xs)
   key-descending k xs i = key-once k xs (descending-once xs i)
 
   -- The first list with the key has the first row, and the last of the turned ones.
-  first-match-row : {l : Level} (k : Str) (ms : List (List Str × List (PrefixMatch × Value A l)))
+  first-match-row : {ℓ : Level} (k : Str) (ms : List (List Str × List (PrefixMatch × Value A ℓ)))
       → Allˡ (Increasing elem-key) (map with-imports ms)
       → first-lookup elem-key k (map with-imports ms) ≡ first-of (with-key k (flatMap with-imports ms))
   unfolding first-lookup flatMap with-key first-of
@@ -158,37 +158,37 @@ module _ {A : Type 0} where
       ∙ sym (ap first-of (key-append k (with-imports m) (flatMap with-imports ms))
       ∙ first-append (with-key k (with-imports m)) (with-key k (flatMap with-imports ms)))
 
-  last-row : {l : Level} (k : Str) (ms : List (List Str × List (PrefixMatch × Value A l)))
+  last-row : {ℓ : Level} (k : Str) (ms : List (List Str × List (PrefixMatch × Value A ℓ)))
       → Allˡ (Increasing elem-key) (map with-imports ms)
       → first-lookup elem-key k (map with-imports ms) ≡ last-opt (with-key k (flatMap with-imports (reverse ms)))
   unfolding first-lookup flatMap with-key last-opt
   last-row k [] i = refl
   last-row k (m ∷ ms) i =
       ap₂ or-else (sym (ap last-opt (key-ascending k (with-imports m) (i .0)) ∙ ends-of (lookup elem-key k (with-imports m)) .1)) (last-row k ms (i .1))
-      ∙ sym (ap (λ l. last-opt (with-key k l)) (ap (flatMap with-imports) (reverse-cons m ms) ∙ flatMap-append with-imports (reverse ms) (m ∷ [])
+      ∙ sym (ap (λ ℓ. last-opt (with-key k ℓ)) (ap (flatMap with-imports) (reverse-cons m ms) ∙ flatMap-append with-imports (reverse ms) (m ∷ [])
       ∙ ap (λ r. flatMap with-imports (reverse ms) ++ r) (append-nil (with-imports m)))
       ∙ ap last-opt (key-append k (flatMap with-imports (reverse ms)) (with-imports m))
       ∙ last-append (with-key k (flatMap with-imports (reverse ms))) (with-key k (with-imports m)))
 
   -- ---- what a search gives: descending, and at each key the last row or the first
-  pub find-rev-decreasing : {l : Level} (n : NameList A l) (term : SearchTerm) → OrderedN n
+  pub find-rev-decreasing : {ℓ : Level} (n : NameList A ℓ) (term : SearchTerm) → OrderedN n
       → Decreasing elem-key (names-find-rev n term)
   unfolding names-find-rev
   find-rev-decreasing n term o = merge-decreasing elem-key (map with-imports (matching-values n term)) (values-increasing term n o)
 
-  pub find-rev-at : {l : Level} (n : NameList A l) (term : SearchTerm) (k : Str) → OrderedN n
+  pub find-rev-at : {ℓ : Level} (n : NameList A ℓ) (term : SearchTerm) (k : Str) → OrderedN n
       → lookup elem-key k (names-find-rev n term) ≡ last-opt (rows-of n term k)
   unfolding names-find-rev rows-of
   find-rev-at n term k o =
       merge-at elem-key (map with-imports (matching-values n term)) (values-increasing term n o) k
       ∙ last-row k (matching-values n term) (values-increasing term n o)
 
-  pub find-first-decreasing : {l : Level} (n : NameList A l) (term : SearchTerm) → OrderedN n
+  pub find-first-decreasing : {ℓ : Level} (n : NameList A ℓ) (term : SearchTerm) → OrderedN n
       → Decreasing elem-key (names-find-rev-first n term)
   unfolding names-find-rev-first
   find-first-decreasing n term o = merge-decreasing elem-key (map with-imports (reverse (matching-values n term))) (turned-increasing term n o)
 
-  pub find-first-at : {l : Level} (n : NameList A l) (term : SearchTerm) (k : Str) → OrderedN n
+  pub find-first-at : {ℓ : Level} (n : NameList A ℓ) (term : SearchTerm) (k : Str) → OrderedN n
       → lookup elem-key k (names-find-rev-first n term) ≡ first-of (rows-of n term k)
   unfolding names-find-rev-first rows-of
   find-first-at n term k o =
@@ -196,7 +196,7 @@ module _ {A : Type 0} where
       ∙ first-match-row k (reverse (matching-values n term)) (turned-increasing term n o)
 
   -- ---- the row of a key in one tree
-  tree-at : {l : Level} (term : SearchTerm) (t : Tree A l) (k : Str) → Ordered t
+  tree-at : {ℓ : Level} (term : SearchTerm) (t : Tree A ℓ) (k : Str) → Ordered t
       → valof (lookup entry-key k (tree-matches term t)) ≡ gate (accepts term k) (btree-find-exact t k)
   unfolding tree-matches lookup starts-with
   tree-at NSTAll t k o = find-all-exactly none t k o
@@ -204,7 +204,7 @@ module _ {A : Type 0} where
   tree-at (NSTPrefix []) t k o = find-all-exactly (some []) t k o
   tree-at (NSTPrefix (c ∷ p)) t k o = find-prefix-exactly t (c ∷ p) k o
 
-  pub tree-row : {l : Level} (term : SearchTerm) (k : Str) (i : List Str) (bt : Tree A l) → Ordered bt
+  pub tree-row : {ℓ : Level} (term : SearchTerm) (k : Str) (i : List Str) (bt : Tree A ℓ) → Ordered bt
       → map (λ x. x .1) (with-key k (with-imports (i, tree-matches term bt)))
       ≡ to-list (gate (accepts term k) (btree-find-exact bt k))
   unfolding with-imports

@@ -31,30 +31,30 @@ pub gate-none : {A : Type 0} (b : Bool) → gate {A = A} b none ≡ none
 gate-none true = refl
 gate-none false = refl
 
-module _ {A : Type 0} {l : Level} where
+module _ {A : Type 0} {ℓ : Level} where
   -- a key that no branch has
-  pub find-absent : (k : Str) (t : Tree A l) → AllKeys (λ x. k ≡ x → ⊥) t → btree-find-exact t k ≡ none
+  pub find-absent : (k : Str) (t : Tree A ℓ) → AllKeys (λ x. k ≡ x → ⊥) t → btree-find-exact t k ≡ none
   unfolding btree-find-exact
   find-absent k StrEmpty a = refl
   find-absent k (StrBranch k′ v lbt rbt) a = go (find-absent k lbt (a .1)) (find-absent k rbt (a .2)) (string-compare k k′) (compare-strings k k′)
     where
       go : btree-find-exact lbt k ≡ none → btree-find-exact rbt k ≡ none → (o : Ordering) → View k k′ o
-          → _≡_ {A = Option (Value A l)} (elim o [ Ordering·lt ↦ btree-find-exact lbt k | Ordering·eq ↦ some v | Ordering·gt ↦ btree-find-exact rbt k ]) none
+          → _≡_ {A = Option (Value A ℓ)} (elim o [ Ordering·lt ↦ btree-find-exact lbt k | Ordering·eq ↦ some v | Ordering·gt ↦ btree-find-exact rbt k ]) none
       go i j Ordering·lt w = i
       go i j Ordering·eq w = absurd (a .0 w)
       go i j Ordering·gt w = j
 
   -- ---- what is selected, at each key
-  abbrev at-key : Str → List (PrefixMatch × Value A l) → Option (Value A l)
+  abbrev at-key : Str → List (PrefixMatch × Value A ℓ) → Option (Value A ℓ)
   at-key k acc = valof (lookup entry-key k acc)
 
-  below-ne : (k k′ : Str) (t : Tree A l) → k <ˢ k′ → AllKeys (λ x. k′ <ˢ x) t → AllKeys (λ x. k ≡ x → ⊥) t
+  below-ne : (k k′ : Str) (t : Tree A ℓ) → k <ˢ k′ → AllKeys (λ x. k′ <ˢ x) t → AllKeys (λ x. k ≡ x → ⊥) t
   below-ne k k′ t h a = AllKeys-map t (λ x y e. <ˢ-irrefl x (rw e at (<ˢ-trans k k′ x h y))) a
 
-  above-ne : (k k′ : Str) (t : Tree A l) → k′ <ˢ k → AllKeys (λ x. x <ˢ k′) t → AllKeys (λ x. k ≡ x → ⊥) t
+  above-ne : (k k′ : Str) (t : Tree A ℓ) → k′ <ˢ k → AllKeys (λ x. x <ˢ k′) t → AllKeys (λ x. k ≡ x → ⊥) t
   above-ne k k′ t h a = AllKeys-map t (λ x y e. <ˢ-irrefl x (rw e at (<ˢ-trans x k′ k y h))) a
 
-  pub select-at : (p : Option Str) (b : Str → Bool) (k : Str) (t : Tree A l) (acc : List (PrefixMatch × Value A l))
+  pub select-at : (p : Option Str) (b : Str → Bool) (k : Str) (t : Tree A ℓ) (acc : List (PrefixMatch × Value A ℓ))
       → Ordered t
       → at-key k (select p b t acc) ≡ or-else (gate (b k) (btree-find-exact t k)) (at-key k acc)
   unfolding select btree-find-exact or-else entry-key
@@ -62,7 +62,7 @@ module _ {A : Type 0} {l : Level} where
   select-at p b k (StrBranch k′ v lbt rbt) acc o =
       select-at p b k lbt _ (o .2) ∙ go (select-at p b k rbt acc (o .3)) (string-compare k k′) refl (compare-strings k k′) (b k′) refl
     where
-      m : PrefixMatch × Value A l
+      m : PrefixMatch × Value A ℓ
       m = (record { prefix = p; completion = k′ }, v)
 
       mid : (i : Bool) → (k ≡ k′ → ⊥)
@@ -96,15 +96,15 @@ module _ {A : Type 0} {l : Level} where
           rw (no-left (find-absent k lbt (above-ne k k′ lbt w (o .0)))) (mid i (λ d. <ˢ-irrefl k′ (rw d at w)) ∙ r)
 
   -- ---- the two searches
-  exactly : (p : Option Str) (b : Str → Bool) (t : Tree A l) (k : Str) → Ordered t
+  exactly : (p : Option Str) (b : Str → Bool) (t : Tree A ℓ) (k : Str) → Ordered t
       → valof (lookup entry-key k (select p b t [])) ≡ gate (b k) (btree-find-exact t k)
   unfolding lookup
   exactly p b t k o = select-at p b k t [] o ∙ or-else-none (gate (b k) (btree-find-exact t k))
 
-  pub find-prefix-exactly : (t : Tree A l) (p k : Str) → Ordered t
+  pub find-prefix-exactly : (t : Tree A ℓ) (p k : Str) → Ordered t
       → valof (lookup entry-key k (btree-find-prefix t p)) ≡ gate (starts-with k p) (btree-find-exact t k)
   find-prefix-exactly t p k o = rw (find-prefix-is t p o) (exactly (some p) (λ k. starts-with k p) t k o)
 
-  pub find-all-exactly : (p : Option Str) (t : Tree A l) (k : Str) → Ordered t
+  pub find-all-exactly : (p : Option Str) (t : Tree A ℓ) (k : Str) → Ordered t
       → valof (lookup entry-key k (btree-find-all p t)) ≡ btree-find-exact t k
   find-all-exactly p t k o = rw (find-all-is p t) (exactly p (λ k. true) t k o)

@@ -28,19 +28,19 @@ abbrev pub to-list : {B : Type 0} → Option B → List B
 to-list none = []
 to-list (some b) = b ∷ []
 
-module _ {A : Type 0} {l : Level} where
+module _ {A : Type 0} {ℓ : Level} where
   -- The rows with that key.
-  unfoldable pub with-key : Str → List (PathElem × Value A l) → List (PathElem × Value A l)
+  unfoldable pub with-key : Str → List (PathElem × Value A ℓ) → List (PathElem × Value A ℓ)
   with-key k [] = []
   with-key k (x ∷ xs) = cond (same k (elem-key x)) (x ∷ with-key k xs) (with-key k xs)
 
   -- What a merge chooses from at a key, in flattened order.
-  unfoldable pub rows-of : NameList A l → SearchTerm → Str → List (PathElem × Value A l)
+  unfoldable pub rows-of : NameList A ℓ → SearchTerm → Str → List (PathElem × Value A ℓ)
   rows-of n term k = with-key k (flatMap with-imports (reverse (matching-values n term)))
 
   -- In a list: the same keys in the same order; of each the last row by the source, the first by the listing.
   -- The rows are those of the holders where the term takes the key, else none.
-  pub record ListDeparts (n : NameList A l) (term : SearchTerm) : Type 0 where
+  pub record ListDeparts (n : NameList A ℓ) (term : SearchTerm) : Type 0 where
     pub same-keys : map elem-key (names-find-rev-first n term) ≡ map elem-key (names-find-rev n term)
     pub by-source : (k : Str) → with-key k (names-find-rev n term) ≡ to-list (last-opt (rows-of n term k))
     pub by-listing : (k : Str) → with-key k (names-find-rev-first n term) ≡ to-list (first-of (rows-of n term k))

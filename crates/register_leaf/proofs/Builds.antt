@@ -47,15 +47,15 @@ unfolding one
 builds-one m e = record { number = e; made = rw e m }
 
 -- An insertion.
-pub builds-insert : {ws ws′ txt : List ℕ} {w : Which} {v : Level} {n n′ used x count y : ℕ} {r : List ℕ}
-    → NamesInsertion ws txt w v n used x count r
+pub builds-insert : {ws ws′ txt : List ℕ} {w : Which} {ℓ : Level} {n n′ used x count y : ℕ} {r : List ℕ}
+    → NamesInsertion ws txt w ℓ n used x count r
     → NamesInserts ws ws′ txt n x count r y → n′ ≡ n + count + 1
-    → Builds ws ws′ txt n used w (list v)
-    (names-insertᶜ (what w ws txt x (list v)) (span txt (text-start r) (text-len r)) (value w txt r (what w ws txt) v))
+    → Builds ws ws′ txt n used w (list ℓ)
+    (names-insertᶜ (what w ws txt x (list ℓ)) (span txt (text-start r) (text-len r)) (value w txt r (what w ws txt) ℓ))
     y n′
-builds-insert {w = w} {v} {used = used} i m e = record {
+builds-insert {w = w} {ℓ} {used = used} i m e = record {
   number = rw names-insert-count (omega (arith, e, i .counted));
-  made = rw (e, names-insert-value) (m w v used i);
+  made = rw (e, names-insert-value) (m w ℓ used i);
 }
 
 -- ---- What fits
@@ -67,11 +67,11 @@ by-order P Ordering·gt p q r = r
 
 module _ {A : Type 0} where
   -- A value that is inserted is no heavier and less deep than what it is inserted into.
-  record Within {l : Level} (v : Value A l) (t : Tree A l) : Type 0 where
+  record Within {ℓ : Level} (v : Value A ℓ) (t : Tree A ℓ) : Type 0 where
     heavy : heaviest v ≤ heaviest-tree t
     high : suc (depth v) ≤ depth-tree t
 
-  tree-within : {l : Level} (t : Tree A l) (k : Str) (v : Value A l) → Within v (btree-insert-replace t k v)
+  tree-within : {ℓ : Level} (t : Tree A ℓ) (k : Str) (v : Value A ℓ) → Within v (btree-insert-replace t k v)
   unfolding btree-insert-replace heaviest-tree depth-tree
   tree-within StrEmpty k v = record { heavy = omega arith; high = omega arith }
   tree-within (StrBranch k′ v′ lbt rbt) k v =
@@ -82,12 +82,12 @@ module _ {A : Type 0} where
       (record { heavy = omega arith; high = omega arith })
       (record { heavy = omega (arith, g .heavy); high = omega (arith, g .high) })
 
-  pub record Inserted {l : Level} (n : NameList A l) (k : Str) (v : Value A l) : Type 0 where
+  pub record Inserted {ℓ : Level} (n : NameList A ℓ) (k : Str) (v : Value A ℓ) : Type 0 where
     pub weighs : weight (names-insert n k v) ≤ heaviest-names (names-insert n k v)
     pub heavy : heaviest v ≤ heaviest-names (names-insert n k v)
     pub high : suc (depth v) ≤ depth-names (names-insert n k v)
 
-  pub inserted-within : {l : Level} (n : NameList A l) (k : Str) (v : Value A l) → Inserted n k v
+  pub inserted-within : {ℓ : Level} (n : NameList A ℓ) (k : Str) (v : Value A ℓ) → Inserted n k v
   unfolding names-insert heaviest-names depth-names
   inserted-within []ᴺ k v = let t = tree-within StrEmpty k v in record { weighs = omega arith; heavy = omega (arith, t .heavy); high = omega (arith, t .high) }
   inserted-within (Names bt tl) k v = let t = tree-within bt k v in
@@ -95,7 +95,7 @@ module _ {A : Type 0} where
   inserted-within (ImportedNames label inner tl) k v = let t = tree-within StrEmpty k v in
       record { weighs = omega arith; heavy = omega (arith, t .heavy); high = omega (arith, t .high) }
 
-pub insert-light : {A : Type 0} {l : Level} (n : NameList A l) (k : Str) (v : Value A l)
+pub insert-light : {A : Type 0} {ℓ : Level} (n : NameList A ℓ) (k : Str) (v : Value A ℓ)
     → heaviest-names (names-insert n k v) ≤ 96 → weight (names-insert n k v) ≤ 96
 insert-light n k v h = omega (arith, inserted-within n k v .weighs)
 
@@ -145,7 +145,7 @@ module _ {ws ws₁ txt : List ℕ} {n n₁ used : ℕ} {w : Which} where
 
 -- ---- Insertions
 -- An insertion of so many branches.
-pub insert-count : {A : Type 0} {v : Level} (n : NameList A v) (key : Str) (t : Value A v) {count : ℕ}
+pub insert-count : {A : Type 0} {ℓ : Level} (n : NameList A ℓ) (key : Str) (t : Value A ℓ) {count : ℕ}
     → count ≡ insert-branches (first-tree n) key → names-insertᶜ n key t .count ≡ count + 1
 insert-count n key t e = rw names-insert-count (omega (arith, e))
 

@@ -43,20 +43,20 @@ use Rattle.find_trie.proofs.Links.{scope-up, holder-scope}
 use Rattle.memory.specs.Sound.{At}
 
 -- ---- an insertion
-pub insert-weight : {A : Type 0} {l : Level} (n : NameList A l) (k : Str) (v : Value A l)
+pub insert-weight : {A : Type 0} {ℓ : Level} (n : NameList A ℓ) (k : Str) (v : Value A ℓ)
     → weight (names-insert n k v) ≡ inserted-weight n
 unfolding names-insert weight inserted-weight
 insert-weight []ᴺ k v = refl
 insert-weight (Names bt tl) k v = refl
 insert-weight (ImportedNames label inner tl) k v = refl
 
-module _ {ws txt : List ℕ} {w : Which} {v : Level} {x : ℕ} {key : Str} {count wt : ℕ}
-    (i : InsertIn ws txt w v x key count wt) where
+module _ {ws txt : List ℕ} {w : Which} {ℓ : Level} {x : ℕ} {key : Str} {count wt : ℕ}
+    (i : InsertIn ws txt w ℓ x key count wt) where
   -- Any value serves: the weight is the same.
-  placed-weight : Value (Item w) v → wt ≡ inserted-weight (what w ws txt x (list v))
+  placed-weight : Value (Item w) ℓ → wt ≡ inserted-weight (what w ws txt x (list ℓ))
   placed-weight a = i .weighs a ∙ insert-weight _ key a
 
-  placed-records : count + 1 ≡ inserted-records (what w ws txt x (list v)) key
+  placed-records : count + 1 ≡ inserted-records (what w ws txt x (list ℓ)) key
   unfolding inserted-records
   placed-records = omega (arith, i .builds)
 
@@ -177,10 +177,10 @@ module _ {ws txt : List ℕ} {root link steps records : ℕ} {crowded : Bool} (h
 
     module _ {inc : ℕ} {p′ : M.Trie} (t : At ws txt names trieˢ inc) (q′ : ReadTrie ws inc p′) (query : Str)
         (f : what names ws txt inc trieˢ ≡ included (what names ws txt root trieˢ) (segments query)) where
-      weights : (v : Level) {x y a b : ℕ} → At ws txt names (list v) x → At ws txt names (list v) y → a ≡ weight-in ws x
+      weights : (ℓ : Level) {x y a b : ℕ} → At ws txt names (list ℓ) x → At ws txt names (list ℓ) y → a ≡ weight-in ws x
           → b ≡ weight-in ws y
-          → a + b + 1 ≡ suc (weight (what names ws txt x (list v)) + weight (what names ws txt y (list v)))
-      weights v i j k l = omega (arith, list-weight i, list-weight j)
+          → a + b + 1 ≡ suc (weight (what names ws txt x (list ℓ)) + weight (what names ws txt y (list ℓ)))
+      weights ℓ i j k l = omega (arith, list-weight i, list-weight j)
 
       pub include-planned : {a b : ℕ} → a ≡ weight-in ws (p′ .bindings) → b ≡ weight-in ws (p .bindings)
           → Planned tbl (include host query) (record { records = records + 2; crowded = crowded || ltb 96 (a + b + 1); deep = ltb 16 steps })

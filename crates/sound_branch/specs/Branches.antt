@@ -19,8 +19,8 @@ pub record Notes (ws : List ℕ) (l : ℕ) (least greatest : List ℕ) : Type 0 
 module _ (ws txt : List ℕ) (used l : ℕ) (r : List ℕ) where
   -- The links and the key of a branch are right, and its keys ascend.
   abbrev pub SaysBranch : (k : ℕ) → Bool → Type 0
-  SaysBranch k b = (w : Which) (v : Level) → k ≡ kind w (tree v)
-      → Says b (BranchOk ws txt used l w r v × Ordered (row w txt r (what w ws txt) (tree v)))
+  SaysBranch k b = (w : Which) (ℓ : Level) → k ≡ kind w (tree ℓ)
+      → Says b (BranchOk ws txt used l w r ℓ × Ordered (row w txt r (what w ws txt) (tree ℓ)))
 
   -- The trie that a branch holds, and the branch's depth, are right.
   abbrev pub SaysHeld : (t : ℕ) → Bool → Type 0

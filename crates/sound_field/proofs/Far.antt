@@ -40,15 +40,15 @@ on-trans : (s : Side) (x y z : Str) → On s x y → On s y z → On s x z
 on-trans left x y z h k = <ˢ-trans x y z h k
 on-trans right x y z h k = <ˢ-trans z y x k h
 
-abbrev Some : {A : Type 0} {v : Level} → Tree A v → Type 0
+abbrev Some : {A : Type 0} {ℓ : Level} → Tree A ℓ → Type 0
 Some StrEmpty = ⊥
-Some (StrBranch k v lbt rbt) = Unit {0}
+Some (StrBranch k ℓ lbt rbt) = Unit {0}
 
 -- A key of a tree that is not empty.
-some-key : {A : Type 0} {v : Level} (t : Tree A v) (P Q : Str → Type 0) → Some t → AllKeys P t → AllKeys Q t
+some-key : {A : Type 0} {ℓ : Level} (t : Tree A ℓ) (P Q : Str → Type 0) → Some t → AllKeys P t → AllKeys Q t
     → (k : Str) × (P k × Q k)
 some-key StrEmpty P Q s a b = absurd s
-some-key (StrBranch k v lbt rbt) P Q s a b = (k, (a .0, b .0))
+some-key (StrBranch k ℓ lbt rbt) P Q s a b = (k, (a .0, b .0))
 
 -- The end r of a way: a branch before l whose key says what all keys say.
 pub record End (ws txt : List ℕ) (used l r : ℕ) (P : Str → Type 0) (All : Type 0) : Type 0 where
@@ -68,29 +68,29 @@ module _ {ws txt : List ℕ} {used l : ℕ} (b : Before ws txt used l) where
   toward-falls left from h j p q = links-earlier (b .rows j p (omega arith)) .1
   toward-falls right from h j p q = links-earlier (b .rows j p (omega arith)) .0
 
-  module _ (w : Which) (v : Level) where
-    abbrev the : ℕ → Tree (Item w) v
-    the x = what w ws txt x (tree v)
+  module _ (w : Which) (ℓ : Level) where
+    abbrev the : ℕ → Tree (Item w) ℓ
+    the x = what w ws txt x (tree ℓ)
 
     pub none-all : (P : Str → Type 0) (x : ℕ) → x ≡ 0 → AllKeys P (the x)
     none-all P x e = rw (e, what-none w ws txt) tt
 
-    module _ (s : Side) (x : ℕ) (p : 0 < x) (h : x < l) (e : kind-word (record-at ws x) ≡ kind w (tree v)) where
+    module _ (s : Side) (x : ℕ) (p : 0 < x) (h : x < l) (e : kind-word (record-at ws x) ≡ kind w (tree ℓ)) where
       ok : RecordOk ws txt used x
       ok = b .rows x p h
 
-      seen : the x ≡ row w txt (record-at ws x) (what w ws txt) (tree v)
-      seen = record-what ok w (tree v) e p
+      seen : the x ≡ row w txt (record-at ws x) (what w ws txt) (tree ℓ)
+      seen = record-what ok w (tree ℓ) e p
 
       is-some : Some (the x)
       is-some = rw seen tt
 
-      pub toward-link : LinkOk ws x (word (record-at ws x) (toward s)) (kind w (tree v))
+      pub toward-link : LinkOk ws x (word (record-at ws x) (toward s)) (kind w (tree ℓ))
       toward-link = go s
         where
-          go : (s : Side) → LinkOk ws x (word (record-at ws x) (toward s)) (kind w (tree v))
-          go left = branch-at ok w v e .right
-          go right = branch-at ok w v e .left
+          go : (s : Side) → LinkOk ws x (word (record-at ws x) (toward s)) (kind w (tree ℓ))
+          go left = branch-at ok w ℓ e .right
+          go right = branch-at ok w ℓ e .left
 
       all-at : (P : Str → Type 0) → P (key-of txt (record-at ws x)) → AllKeys P (the (word (record-at ws x) (away s)))
           → AllKeys P (the (word (record-at ws x) (toward s))) → AllKeys P (the x)
@@ -113,9 +113,9 @@ module _ {ws txt : List ℕ} {used l : ℕ} (b : Before ws txt used l) where
 
       sides : AllKeys (λ y. On s y (key-of txt (record-at ws x))) (the (word (record-at ws x) (away s)))
           × AllKeys (λ y. On s (key-of txt (record-at ws x)) y) (the (word (record-at ws x) (toward s)))
-      sides = go s (rw seen at (ordered-at ok w v e))
+      sides = go s (rw seen at (ordered-at ok w ℓ e))
         where
-          go : (s : Side) → Ordered (row w txt (record-at ws x) (what w ws txt) (tree v))
+          go : (s : Side) → Ordered (row w txt (record-at ws x) (what w ws txt) (tree ℓ))
               → AllKeys (λ y. On s y (key-of txt (record-at ws x))) (the (word (record-at ws x) (away s)))
               × AllKeys (λ y. On s (key-of txt (record-at ws x)) y) (the (word (record-at ws x) (toward s)))
           go left o = (o .0, o .1)
@@ -127,19 +127,19 @@ module _ {ws txt : List ℕ} {used l : ℕ} (b : Before ws txt used l) where
       away-all k q = AllKeys-map (the (word (record-at ws x) (away s))) (λ y i. on-trans s y (key-of txt (record-at ws x)) k i q) (sides .0)
 
     pub far-outermost : (s : Side) (k : Str) {x r : ℕ} → Far ws (toward s) x r → 0 < x → x < l
-        → kind-word (record-at ws x) ≡ kind w (tree v)
+        → kind-word (record-at ws x) ≡ kind w (tree ℓ)
         → End ws txt used l r (λ y. On s y k) (AllKeys (λ y. On s y k) (the x))
     far-outermost s k {x} (here z) p h e = record {
       some = p;
       before = h;
-      inside = branch-at (b .rows x p h) w v e .key .inside;
+      inside = branch-at (b .rows x p h) w ℓ e .key .inside;
       to = λ q. all-at s x p h e (λ y. On s y k) q (away-all s x p h e k q) (none-all (λ y. On s y k) _ z);
       fro = λ a. at-all s x p h e (λ y. On s y k) a .0;
     }
     far-outermost s k {x} {r} (on z f) p h e =
         let n = toward-link s x p h e in
         let y = word (record-at ws x) (toward s) in
-        let c : kind-word (record-at ws y) ≡ kind w (tree v) = n .of-kind (λ q. omega arith) in
+        let c : kind-word (record-at ws y) ≡ kind w (tree ℓ) = n .of-kind (λ q. omega arith) in
         let m : y < l = omega (arith, n .earlier) in
         let i : End ws txt used l r (λ y. On s y k) (AllKeys (λ y. On s y k) (the y)) = far-outermost s k f z m c in
         record {
@@ -162,11 +162,11 @@ pub record EndLent (ws txt : List ℕ) (r : ℕ) : Type 0 where
   pub inside : text-start (record-at ws r) + text-len (record-at ws r) ≤ length txt
 
 module _ {ws txt : List ℕ} {used l k top start len : ℕ} (q : Subtree ws txt used l k top start len) (s : Side) where
-  pub subtree-end : {r : ℕ} → (w : Which) (v : Level) → k ≡ kind w (tree v) → (top ≡ 0 → ⊥) → Far ws (toward s) top r
+  pub subtree-end : {r : ℕ} → (w : Which) (ℓ : Level) → k ≡ kind w (tree ℓ) → (top ≡ 0 → ⊥) → Far ws (toward s) top r
       → End ws txt used l r (λ y. On s y (span txt start len))
-      (AllKeys (λ y. On s y (span txt start len)) (what w ws txt top (tree v)))
-  subtree-end w v e n f =
-      far-outermost (q .before) w v s (span txt start len) f (zero-some top (λ z. absurd (n z)) (λ p. p)) (q .link .earlier) (q .link .of-kind n ∙ e)
+      (AllKeys (λ y. On s y (span txt start len)) (what w ws txt top (tree ℓ)))
+  subtree-end w ℓ e n f =
+      far-outermost (q .before) w ℓ s (span txt start len) f (zero-some top (λ z. absurd (n z)) (λ p. p)) (q .link .earlier) (q .link .of-kind n ∙ e)
 
   pub end-lent : {r : ℕ} → (top ≡ 0 → ⊥) → Far ws (toward s) top r → EndLent ws txt r
   end-lent n f =

@@ -59,9 +59,9 @@ pub record Ending (ws : List ℕ) (k from : ℕ) (notes : List ℕ) : Type 0 whe
 module _ (ws txt : List ℕ) where
   -- All keys of the tree top are before, or after, the key.
   abbrev pub SaysLeft : (k top start len : ℕ) → Bool → Type 0
-  SaysLeft k top start len b = (w : Which) (v : Level) → k ≡ kind w (tree v)
-      → Says b (AllKeys (λ x. x <ˢ span txt start len) (what w ws txt top (tree v)))
+  SaysLeft k top start len b = (w : Which) (ℓ : Level) → k ≡ kind w (tree ℓ)
+      → Says b (AllKeys (λ x. x <ˢ span txt start len) (what w ws txt top (tree ℓ)))
 
   abbrev pub SaysRight : (k top start len : ℕ) → Bool → Type 0
-  SaysRight k top start len b = (w : Which) (v : Level) → k ≡ kind w (tree v)
-      → Says b (AllKeys (λ x. span txt start len <ˢ x) (what w ws txt top (tree v)))
+  SaysRight k top start len b = (w : Which) (ℓ : Level) → k ≡ kind w (tree ℓ)
+      → Says b (AllKeys (λ x. span txt start len <ˢ x) (what w ws txt top (tree ℓ)))

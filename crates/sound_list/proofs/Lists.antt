@@ -23,9 +23,9 @@ module _ (ws r : List ℕ) {a : ℕ} (e : a ≡ weight-in ws (rest-link r)) wher
   weight-imported f z = rw (z, ← e, ← f) (omega arith)
 
 pub says-collection : (b : Bool) {ws txt : List ℕ} {used l : ℕ} → Before ws txt used l
-    → {w : Which} {v : Level} {r : List ℕ} → CollectionOk ws txt used l w r v → {n : ℕ} → n ≡ weight-of ws r
+    → {w : Which} {ℓ : Level} {r : List ℕ} → CollectionOk ws txt used l w r ℓ → {n : ℕ} → n ≡ weight-of ws r
     → Says b ((weight-word r ≡ n) × (n ≤ 96))
-    → Says b (CollectionOk ws txt used l w r v × WeightOk r (row w txt r (what w ws txt) (list v)))
+    → Says b (CollectionOk ws txt used l w r ℓ × WeightOk r (row w txt r (what w ws txt) (list ℓ)))
 says-collection b before {w} {r = r} o {n} e h =
     let d = e ∙ weight-row (before .rows) w o in
     says-iff b h (λ q. (o, record { weighs = q .0 ∙ d; light = omega (arith, q .1) })) (λ q. (q .1 .weighs ∙ sym d, omega (arith, q .1 .light)))

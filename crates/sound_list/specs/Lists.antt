@@ -12,8 +12,8 @@ module _ (ws txt : List ℕ) (used l : ℕ) (r : List ℕ) where
   -- The links and the label of a collection, and the weight of its list, are right.
   abbrev pub SaysCollection : (k t : ℕ) → Bool → Type 0
   SaysCollection k t b =
-      (w : Which) (v : Level) → k ≡ kind w (list v) → t ≡ kind w (tree v)
-      → Says b (CollectionOk ws txt used l w r v × WeightOk r (row w txt r (what w ws txt) (list v)))
+      (w : Which) (ℓ : Level) → k ≡ kind w (list ℓ) → t ≡ kind w (tree ℓ)
+      → Says b (CollectionOk ws txt used l w r ℓ × WeightOk r (row w txt r (what w ws txt) (list ℓ)))
 
   -- A trie is right.
   abbrev pub SaysTrie : (bindings namespaces : ℕ) → Bool → Type 0

@@ -35,7 +35,7 @@ by-order f Ordering·gt p q r = r
 
 module _ {A : Type 0} where
   -- ---- Trees and lists of collections
-  pub btree-insert-replace-value : {l : Level} (t : Tree A l) (k : Str) (v : Value A l)
+  pub btree-insert-replace-value : {ℓ : Level} (t : Tree A ℓ) (k : Str) (v : Value A ℓ)
       → btree-insert-replaceᶜ t k v .value ≡ btree-insert-replace t k v
   unfolding btree-insert-replaceᶜ btree-insert-replace _>>=_ one
   btree-insert-replace-value StrEmpty k v = refl
@@ -43,7 +43,7 @@ module _ {A : Type 0} where
       by-order (λ (c : Counted (Tree A _)). c .value) (string-compare k k′)
       (ap (λ t. StrBranch k′ v′ t rbt) (btree-insert-replace-value lbt k v)) refl (ap (StrBranch k′ v′ lbt) (btree-insert-replace-value rbt k v))
 
-  pub btree-insert-replace-count : {l : Level} (t : Tree A l) (k : Str) (v : Value A l)
+  pub btree-insert-replace-count : {ℓ : Level} (t : Tree A ℓ) (k : Str) (v : Value A ℓ)
       → btree-insert-replaceᶜ t k v .count ≡ insert-branches t k
   unfolding btree-insert-replaceᶜ insert-branches _>>=_ one
   btree-insert-replace-count StrEmpty k v = refl
@@ -51,14 +51,14 @@ module _ {A : Type 0} where
       by-order (λ (c : Counted (Tree A _)). c .count) (string-compare k k′)
       (omega (arith, btree-insert-replace-count lbt k v)) refl (omega (arith, btree-insert-replace-count rbt k v))
 
-  pub names-insert-value : {l : Level} (n : NameList A l) (id : Str) (v : Value A l)
+  pub names-insert-value : {ℓ : Level} (n : NameList A ℓ) (id : Str) (v : Value A ℓ)
       → names-insertᶜ n id v .value ≡ names-insert n id v
   unfolding names-insertᶜ names-insert _>>=_ one
   names-insert-value []ᴺ id v = rw btree-insert-replace-value
   names-insert-value (Names bt tl) id v = rw btree-insert-replace-value
   names-insert-value (ImportedNames label inner tl) id v = rw btree-insert-replace-value
 
-  pub names-insert-count : {l : Level} (n : NameList A l) (id : Str) (v : Value A l)
+  pub names-insert-count : {ℓ : Level} (n : NameList A ℓ) (id : Str) (v : Value A ℓ)
       → names-insertᶜ n id v .count ≡ suc (insert-branches (first-tree n) id)
   unfolding names-insertᶜ first-tree _>>=_ one
   names-insert-count []ᴺ id v = omega (arith, btree-insert-replace-count StrEmpty id v)

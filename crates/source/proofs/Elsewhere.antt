@@ -20,20 +20,20 @@ key-same-or-not j k = go (string-compare j k) (compare-strings j k)
 
 module _ {A : Type 0} where
   -- another key is found as before
-  find-other : {l : Level} (t : Tree A l) (k j : Str) (v : Value A l) → (j ≡ k → ⊥)
+  find-other : {ℓ : Level} (t : Tree A ℓ) (k j : Str) (v : Value A ℓ) → (j ≡ k → ⊥)
       → btree-find-exact (btree-insert-replace t k v) j ≡ btree-find-exact t j
   unfolding btree-insert-replace btree-find-exact
-  find-other {l} StrEmpty k j v n = go (string-compare j k) (compare-strings j k)
+  find-other {ℓ} StrEmpty k j v n = go (string-compare j k) (compare-strings j k)
     where
       go : (o : Ordering) → View j k o
-          → _≡_ {A = Option (Value A l)} (elim o [ Ordering·lt ↦ none | Ordering·eq ↦ some v | Ordering·gt ↦ none ]) none
+          → _≡_ {A = Option (Value A ℓ)} (elim o [ Ordering·lt ↦ none | Ordering·eq ↦ some v | Ordering·gt ↦ none ]) none
       go Ordering·lt w = refl
       go Ordering·eq w = absurd (n w)
       go Ordering·gt w = refl
-  find-other {l} (StrBranch k′ v′ lbt rbt) k j v n = go (string-compare k k′) (compare-strings k k′) (find-other lbt k j v n) (find-other rbt k j v n)
+  find-other {ℓ} (StrBranch k′ v′ lbt rbt) k j v n = go (string-compare k k′) (compare-strings k k′) (find-other lbt k j v n) (find-other rbt k j v n)
     where
       same : k ≡ k′ → (p : Ordering) → View j k′ p
-          → _≡_ {A = Option (Value A l)}
+          → _≡_ {A = Option (Value A ℓ)}
           (elim p [ Ordering·lt ↦ btree-find-exact lbt j | Ordering·eq ↦ some v | Ordering·gt ↦ btree-find-exact rbt j ])
           (elim p [ Ordering·lt ↦ btree-find-exact lbt j | Ordering·eq ↦ some v′ | Ordering·gt ↦ btree-find-exact rbt j ])
       same e Ordering·lt w = refl
@@ -43,7 +43,7 @@ module _ {A : Type 0} where
       go : (o : Ordering) → View k k′ o
           → btree-find-exact (btree-insert-replace lbt k v) j ≡ btree-find-exact lbt j
           → btree-find-exact (btree-insert-replace rbt k v) j ≡ btree-find-exact rbt j
-          → btree-find-exact {A = A} {l = l} (elim o [
+          → btree-find-exact {A = A} {ℓ = ℓ} (elim o [
             | Ordering·lt ↦ StrBranch k′ v′ (btree-insert-replace lbt k v) rbt
             | Ordering·eq ↦ StrBranch k′ v lbt rbt
             | Ordering·gt ↦ StrBranch k′ v′ lbt (btree-insert-replace rbt k v)
@@ -53,7 +53,7 @@ module _ {A : Type 0} where
       go Ordering·eq w f g = same w (string-compare j k′) (compare-strings j k′)
       go Ordering·gt w f g = ap (λ x. elim (string-compare j k′) [ Ordering·lt ↦ btree-find-exact lbt j | Ordering·eq ↦ some v′ | Ordering·gt ↦ x ]) g
 
-  pub names-find-other : {l : Level} (n : NameList A l) (k j : Str) (v : Value A l) → (j ≡ k → ⊥)
+  pub names-find-other : {ℓ : Level} (n : NameList A ℓ) (k j : Str) (v : Value A ℓ) → (j ≡ k → ⊥)
       → names-find-exact (names-insert n k v) j ≡ names-find-exact n j
   unfolding names-insert names-find-exact or-else btree-find-exact
   names-find-other []ᴺ k j v d = rw (find-other StrEmpty k j v d)

@@ -15,8 +15,8 @@ unfolding last-opt dflt
 last-import label [] = refl
 last-import label (i ∷ imports) = rw (last-import i imports)
 
-module _ {A : Type 0} {l : Level} where
-  revmap-onto-is : {B : Type 0} (fn : Tree A l → B) (acc : List (List Str × B)) (imports : List Str) (n : NameList A l)
+module _ {A : Type 0} {ℓ : Level} where
+  revmap-onto-is : {B : Type 0} (fn : Tree A ℓ → B) (acc : List (List Str × B)) (imports : List Str) (n : NameList A ℓ)
       → revmap-onto fn acc imports n ≡ reverseAux (map (λ x. (x .0, fn (x .1))) (flat-in imports n)) acc
   unfolding revmap-onto flat-in
   revmap-onto-is fn acc imports []ᴺ = refl
@@ -27,19 +27,19 @@ module _ {A : Type 0} {l : Level} where
       ∙ sym (ap (λ xs. reverseAux xs acc) (map-append with-fn (flat-in (label ∷ imports) inner) (flat-in imports tl))
       ∙ reverseAux-append (map with-fn (flat-in (label ∷ imports) inner)) (map with-fn (flat-in imports tl)) acc)
     where
-      with-fn : List Str × Tree A l → List Str × B
+      with-fn : List Str × Tree A ℓ → List Str × B
       with-fn x = (x .0, fn (x .1))
 
-  pub names-revmap-is : {B : Type 0} (fn : Tree A l → B) (n : NameList A l)
+  pub names-revmap-is : {B : Type 0} (fn : Tree A ℓ → B) (n : NameList A ℓ)
       → names-revmap fn n ≡ reverse (map (λ x. (x .0, fn (x .1))) (flat n))
   unfolding names-revmap
   names-revmap-is fn n = revmap-onto-is fn [] [] n
 
   -- ---- what names_find_rev asks of the trees
-  pub values-all-is : (n : NameList A l)
+  pub values-all-is : (n : NameList A ℓ)
       → matching-values n NSTAll ≡ reverse (map (λ x. (x .0, tree-matches NSTAll (x .1))) (flat n))
   values-all-is n = values-all n ∙ names-revmap-is (tree-matches NSTAll) n
 
-  pub values-prefix-is : (n : NameList A l) (p : Str)
+  pub values-prefix-is : (n : NameList A ℓ) (p : Str)
       → matching-values n (NSTPrefix p) ≡ reverse (map (λ x. (x .0, tree-matches (NSTPrefix p) (x .1))) (flat n))
   values-prefix-is n p = values-prefix n p ∙ names-revmap-is (tree-matches (NSTPrefix p)) n

@@ -21,12 +21,12 @@ use Rattle.source.specs.Forward.{flat}
 use Rattle.source.proofs.Flat.{values-all-is, values-prefix-is}
 use Rattle.source.specs.Forward.{found}
 
-module _ {A : Type 0} {l : Level} where
+module _ {A : Type 0} {ℓ : Level} where
   -- Each tree's matches with its imports, in flattened order.
-  unfoldable pub match-lists : SearchTerm → NameList A l → List (List (PathElem × Value A l))
+  unfoldable pub match-lists : SearchTerm → NameList A ℓ → List (List (PathElem × Value A ℓ))
   match-lists term n = map (λ x. with-imports (x .0, tree-matches term (x .1))) (flat n)
 
-  lists-are : (term : SearchTerm) (n : NameList A l)
+  lists-are : (term : SearchTerm) (n : NameList A ℓ)
       → matching-values n term ≡ reverse (map (λ x. (x .0, tree-matches term (x .1))) (flat n))
       → map with-imports (reverse (matching-values n term)) ≡ match-lists term n
   unfolding match-lists
@@ -35,40 +35,40 @@ module _ {A : Type 0} {l : Level} where
       ∙ ap (map with-imports) (reverse-reverse (map (λ x. (x .0, tree-matches term (x .1))) (flat n)))
       ∙ map-map with-imports (λ x. (x .0, tree-matches term (x .1))) (flat n)
 
-  none-match : (ts : List (List Str × Tree A l))
+  none-match : (ts : List (List Str × Tree A ℓ))
       → nonempty (map (λ x. with-imports (x .0, tree-matches NSTNone (x .1))) ts) ≡ []
   unfolding nonempty with-imports tree-matches
   none-match [] = refl
   none-match (t ∷ ts) = none-match ts
 
   -- What is merged, in flattened order.
-  pub values-are : (term : SearchTerm) (n : NameList A l)
+  pub values-are : (term : SearchTerm) (n : NameList A ℓ)
       → nonempty (map with-imports (reverse (matching-values n term))) ≡ nonempty (match-lists term n)
   unfolding match-lists nonempty
   values-are NSTAll n = ap nonempty (lists-are NSTAll n (values-all-is n))
   values-are NSTNone n = rw (values-none n, none-match (flat n))
   values-are (NSTPrefix p) n = ap nonempty (lists-are (NSTPrefix p) n (values-prefix-is n p))
 
-  pub found-empty : (n : NameList A l) (term : SearchTerm) → nonempty (match-lists term n) ≡ [] → found n term ≡ []
+  pub found-empty : (n : NameList A ℓ) (term : SearchTerm) → nonempty (match-lists term n) ≡ [] → found n term ≡ []
   unfolding found names-find-rev-first merge-increasing-lists-rev merge-nonempty
   found-empty n term e = rw (values-are term n, e)
 
   -- One list alone is what is found.
-  pub found-one : (n : NameList A l) (term : SearchTerm) (m : List (PathElem × Value A l))
+  pub found-one : (n : NameList A ℓ) (term : SearchTerm) (m : List (PathElem × Value A ℓ))
       → nonempty (match-lists term n) ≡ m ∷ [] → found n term ≡ m
   unfolding found names-find-rev-first merge-increasing-lists-rev merge-nonempty
   found-one n term m e = rw (values-are term n, e) (reverse-reverse m)
 
   -- The same of the heap built in flattened order.
-  pub found-built : (n : NameList A l) (term : SearchTerm) (r : ℕ → Run (PathElem × Value A l)) (cells fuel : ℕ)
+  pub found-built : (n : NameList A ℓ) (term : SearchTerm) (r : ℕ → Run (PathElem × Value A ℓ)) (cells fuel : ℕ)
       → OrderedN n
       → cells ≡ length (nonempty (match-lists term n)) → AreRuns (nonempty (match-lists term n)) r
       → held (built elem-key r cells) ≤ fuel
       → found n term ≡ forward elem-key fuel (built elem-key r cells) none
   unfolding found names-find-rev-first held
   found-built n term r cells fuel o e a h =
-      let ms : List (List (PathElem × Value A l)) = nonempty (match-lists term n) in
-      let rs : List (Run (PathElem × Value A l)) = numbered 0 ms in
+      let ms : List (List (PathElem × Value A ℓ)) = nonempty (match-lists term n) in
+      let rs : List (Run (PathElem × Value A ℓ)) = numbered 0 ms in
       let same-heap : built elem-key r cells ≡ heap-from-list (run-cmp elem-key) rs = ap (built elem-key r) e ∙ built-is elem-key ms r a in
       ap reverse (merge-is elem-key (map with-imports (reverse (matching-values n term))) rs (turned-increasing term n o)
       (rw (values-are term n) (numbered-runs elem-key ms)))
@@ -79,7 +79,7 @@ module _ {A : Type 0} {l : Level} where
       (omega (arith, ap held same-heap, runs-size elem-key ms rs (numbered-runs elem-key ms))) h
 
   -- The same of a heap of other elements with the same keys, each read afterwards.
-  pub found-read : {B : Type 0} (n : NameList A l) (term : SearchTerm) (f : B → PathElem × Value A l) (key : B → Str)
+  pub found-read : {B : Type 0} (n : NameList A ℓ) (term : SearchTerm) (f : B → PathElem × Value A ℓ) (key : B → Str)
       (r : ℕ → Run B) (cells fuel : ℕ)
       → OrderedN n → ((b : B) → elem-key (f b) ≡ key b) → cells ≡ length (nonempty (match-lists term n))
       → AreRuns (nonempty (match-lists term n)) (λ k. map-run f (r k)) → held (built key r cells) ≤ fuel

@@ -13,15 +13,15 @@ use Rattle.source.specs.Plans.{host-of}
 
 module _ {A : Type 0} where
   -- a key that was inserted is found
-  pub find-inserted : {l : Level} (t : Tree A l) (k : Str) (v : Value A l)
+  pub find-inserted : {ℓ : Level} (t : Tree A ℓ) (k : Str) (v : Value A ℓ)
       → btree-find-exact (btree-insert-replace t k v) k ≡ some v
   unfolding btree-insert-replace btree-find-exact
   find-inserted StrEmpty k v = rw (compare-self k)
-  find-inserted {l} (StrBranch k′ v′ lbt rbt) k v = go (string-compare k k′) refl (find-inserted lbt k v) (find-inserted rbt k v)
+  find-inserted {ℓ} (StrBranch k′ v′ lbt rbt) k v = go (string-compare k k′) refl (find-inserted lbt k v) (find-inserted rbt k v)
     where
       go : (o : Ordering) → string-compare k k′ ≡ o → btree-find-exact (btree-insert-replace lbt k v) k ≡ some v
           → btree-find-exact (btree-insert-replace rbt k v) k ≡ some v
-          → btree-find-exact {A = A} {l = l} (elim o [
+          → btree-find-exact {A = A} {ℓ = ℓ} (elim o [
             | Ordering·lt ↦ StrBranch k′ v′ (btree-insert-replace lbt k v) rbt
             | Ordering·eq ↦ StrBranch k′ v lbt rbt
             | Ordering·gt ↦ StrBranch k′ v′ lbt (btree-insert-replace rbt k v)
@@ -30,7 +30,7 @@ module _ {A : Type 0} where
       go Ordering·eq e i j = rw (e, btree-find-exact)
       go Ordering·gt e i j = rw (e, btree-find-exact) j
 
-  pub names-find-inserted : {l : Level} (n : NameList A l) (k : Str) (v : Value A l)
+  pub names-find-inserted : {ℓ : Level} (n : NameList A ℓ) (k : Str) (v : Value A ℓ)
       → names-find-exact (names-insert n k v) k ≡ some v
   unfolding names-insert names-find-exact or-else
   names-find-inserted []ᴺ k v = rw (find-inserted StrEmpty k v)

@@ -16,16 +16,16 @@ use Rattle.source.proofs.Queries.{or-parts, any-false, nonempty-length,
 use Rattle.source.proofs.Refusals.{Admitted}
 use Rattle.source.specs.Queries.{Keeps}
 
-module _ {A : Type 0} {l : Level} where
+module _ {A : Type 0} {ℓ : Level} where
   -- An insert adds no key but its own.
-  insert-keys : (P : Str → Type 0) (t : Tree A l) (k : Str) (v : Value A l) → P k → AllKeys P t
+  insert-keys : (P : Str → Type 0) (t : Tree A ℓ) (k : Str) (v : Value A ℓ) → P k → AllKeys P t
       → AllKeys P (btree-insert-replace t k v)
   unfolding btree-insert-replace
   insert-keys P StrEmpty k v p a = (p, tt, tt)
   insert-keys P (StrBranch k′ v′ lbt rbt) k v p a = go (insert-keys P lbt k v p (a .1)) (insert-keys P rbt k v p (a .2)) (string-compare k k′)
     where
       go : AllKeys P (btree-insert-replace lbt k v) → AllKeys P (btree-insert-replace rbt k v) → (o : Ordering)
-          → AllKeys {A = A} {l = l} P (elim o [
+          → AllKeys {A = A} {ℓ = ℓ} P (elim o [
             | Ordering·lt ↦ StrBranch k′ v′ (btree-insert-replace lbt k v) rbt
             | Ordering·eq ↦ StrBranch k′ v lbt rbt
             | Ordering·gt ↦ StrBranch k′ v′ lbt (btree-insert-replace rbt k v)
@@ -35,16 +35,16 @@ module _ {A : Type 0} {l : Level} where
       go i j Ordering·gt = (a .0, a .1, j)
 
 module _ {A : Type 0} (Key Label : Str → Type 0) (Item : A → Type 0) where
-  pub btree-insert-replace-formed : {l : Level} (t : Tree A l) (k : Str) (v : Value A l) → Key k
+  pub btree-insert-replace-formed : {ℓ : Level} (t : Tree A ℓ) (k : Str) (v : Value A ℓ) → Key k
       → Formed Key Label Item v → FormedTree Key Label Item t → FormedTree Key Label Item (btree-insert-replace t k v)
   unfolding btree-insert-replace
   btree-insert-replace-formed StrEmpty k v o g t = (o, g, tt, tt, tt, tt)
-  btree-insert-replace-formed {l} (StrBranch k′ v′ lbt rbt) k v o g t =
+  btree-insert-replace-formed {ℓ} (StrBranch k′ v′ lbt rbt) k v o g t =
       go (btree-insert-replace-formed lbt k v o g (t .4)) (btree-insert-replace-formed rbt k v o g (t .5)) (string-compare k k′) (compare-strings k k′)
     where
       go : FormedTree Key Label Item (btree-insert-replace lbt k v)
           → FormedTree Key Label Item (btree-insert-replace rbt k v) → (c : Ordering) → View k k′ c
-          → FormedTree Key Label Item {l = l} (elim c [
+          → FormedTree Key Label Item {ℓ = ℓ} (elim c [
             | Ordering·lt ↦ StrBranch k′ v′ (btree-insert-replace lbt k v) rbt
             | Ordering·eq ↦ StrBranch k′ v lbt rbt
             | Ordering·gt ↦ StrBranch k′ v′ lbt (btree-insert-replace rbt k v)

@@ -53,22 +53,22 @@ by-order P Ordering·eq p q r = q
 by-order P Ordering·gt p q r = r
 
 -- ---- The greatest f of a tree's values
-module _ {A : Type 0} {l : Level} (f : Value A l → ℕ) where
-  greatest : Tree A l → ℕ
+module _ {A : Type 0} {ℓ : Level} (f : Value A ℓ → ℕ) where
+  greatest : Tree A ℓ → ℕ
   greatest StrEmpty = 0
   greatest (StrBranch k v lbt rbt) = max (f v) (max (greatest lbt) (greatest rbt))
 
   -- f of what was found, or 0.
-  abbrev of-found : Option (Value A l) → ℕ
+  abbrev of-found : Option (Value A ℓ) → ℕ
   of-found none = 0
   of-found (some v) = f v
 
-  or-else-found : (x y : Option (Value A l)) → of-found (or-else x y) ≤ max (of-found x) (of-found y)
+  or-else-found : (x y : Option (Value A ℓ)) → of-found (or-else x y) ≤ max (of-found x) (of-found y)
   unfolding or-else
   or-else-found none y = omega arith
   or-else-found (some v) y = omega arith
 
-  tree-found : (t : Tree A l) (k : Str) → of-found (btree-find-exact t k) ≤ greatest t
+  tree-found : (t : Tree A ℓ) (k : Str) → of-found (btree-find-exact t k) ≤ greatest t
   unfolding btree-find-exact greatest
   tree-found StrEmpty k = omega arith
   tree-found (StrBranch k′ v lbt rbt) k =
@@ -76,7 +76,7 @@ module _ {A : Type 0} {l : Level} (f : Value A l → ℕ) where
       (omega (arith, tree-found lbt k)) (omega arith) (omega (arith, tree-found rbt k))
 
   -- Over a number that no value of the tree is over, an insertion counts as its value.
-  tree-inserted : (m : ℕ) (t : Tree A l) (k : Str) (v : Value A l) → greatest t ≤ m
+  tree-inserted : (m : ℕ) (t : Tree A ℓ) (k : Str) (v : Value A ℓ) → greatest t ≤ m
       → max m (greatest (btree-insert-replace t k v)) ≡ max m (f v)
   unfolding btree-insert-replace greatest
   tree-inserted m StrEmpty k v h = omega arith
@@ -89,15 +89,15 @@ module _ {A : Type 0} {l : Level} (f : Value A l → ℕ) where
 -- ---- Depth
 module _ {A : Type 0} where
   -- The depth that a value gives its tree.
-  abbrev level : {l : Level} → Value A l → ℕ
+  abbrev level : {ℓ : Level} → Value A ℓ → ℕ
   level v = suc (depth v)
 
-  depth-greatest : {l : Level} (t : Tree A l) → depth-tree t ≡ greatest level t
+  depth-greatest : {ℓ : Level} (t : Tree A ℓ) → depth-tree t ≡ greatest level t
   unfolding depth-tree greatest
   depth-greatest StrEmpty = refl
   depth-greatest (StrBranch k v lbt rbt) = rw (depth-greatest lbt, depth-greatest rbt)
 
-  names-found-depth : {l : Level} (n : NameList A l) (k : Str) → of-found level (names-find-exact n k) ≤ depth-names n
+  names-found-depth : {ℓ : Level} (n : NameList A ℓ) (k : Str) → of-found level (names-find-exact n k) ≤ depth-names n
   unfolding names-find-exact depth-names
   names-found-depth []ᴺ k = omega arith
   names-found-depth (Names bt tl) k =
@@ -135,11 +135,11 @@ module _ {A : Type 0} where
   host-of-depth tr (s ∷ q) =
       omega (arith, host-of-depth (scope-of (namespaces tr) s) q, scope-of-depth (namespaces tr) s, depth-namespaces tr)
 
-  tree-insert-depth : {l : Level} (m : ℕ) (t : Tree A l) (k : Str) (v : Value A l) → depth-tree t ≤ m
+  tree-insert-depth : {ℓ : Level} (m : ℕ) (t : Tree A ℓ) (k : Str) (v : Value A ℓ) → depth-tree t ≤ m
       → max m (depth-tree (btree-insert-replace t k v)) ≡ max m (suc (depth v))
   tree-insert-depth m t k v h = rw depth-greatest (tree-inserted level m t k v (rw depth-greatest at h))
 
-  pub names-insert-depth : {l : Level} (m : ℕ) (n : NameList A l) (k : Str) (v : Value A l) → depth-names n ≤ m
+  pub names-insert-depth : {ℓ : Level} (m : ℕ) (n : NameList A ℓ) (k : Str) (v : Value A ℓ) → depth-names n ≤ m
       → max m (depth-names (names-insert n k v)) ≡ max m (suc (depth v))
   unfolding names-insert depth-tree
   names-insert-depth m []ᴺ k v h = over-left m _ 0 (omega arith) ∙ tree-insert-depth m StrEmpty k v (omega arith)
@@ -148,12 +148,12 @@ module _ {A : Type 0} where
 
 -- ---- Weight
 module _ {A : Type 0} where
-  heaviest-greatest : {l : Level} (t : Tree A l) → heaviest-tree t ≡ greatest heaviest t
+  heaviest-greatest : {ℓ : Level} (t : Tree A ℓ) → heaviest-tree t ≡ greatest heaviest t
   unfolding heaviest-tree greatest
   heaviest-greatest StrEmpty = refl
   heaviest-greatest (StrBranch k v lbt rbt) = rw (heaviest-greatest lbt, heaviest-greatest rbt)
 
-  names-found-heaviest : {l : Level} (n : NameList A l) (k : Str)
+  names-found-heaviest : {ℓ : Level} (n : NameList A ℓ) (k : Str)
       → of-found heaviest (names-find-exact n k) ≤ heaviest-names n
   unfolding names-find-exact heaviest-names
   names-found-heaviest []ᴺ k = omega arith
@@ -192,11 +192,11 @@ module _ {A : Type 0} where
   host-of-heaviest tr (s ∷ q) =
       omega (arith, host-of-heaviest (scope-of (namespaces tr) s) q, scope-of-heaviest (namespaces tr) s, heaviest-lists tr)
 
-  tree-insert-heaviest : {l : Level} (m : ℕ) (t : Tree A l) (k : Str) (v : Value A l) → heaviest-tree t ≤ m
+  tree-insert-heaviest : {ℓ : Level} (m : ℕ) (t : Tree A ℓ) (k : Str) (v : Value A ℓ) → heaviest-tree t ≤ m
       → max m (heaviest-tree (btree-insert-replace t k v)) ≡ max m (heaviest v)
   tree-insert-heaviest m t k v h = rw heaviest-greatest (tree-inserted heaviest m t k v (rw heaviest-greatest at h))
 
-  pub names-insert-heaviest : {l : Level} (m : ℕ) (n : NameList A l) (k : Str) (v : Value A l) → heaviest-names n ≤ m
+  pub names-insert-heaviest : {ℓ : Level} (m : ℕ) (n : NameList A ℓ) (k : Str) (v : Value A ℓ) → heaviest-names n ≤ m
       → max m (heaviest-names (names-insert n k v)) ≡ max m (max (inserted-weight n) (heaviest v))
   unfolding names-insert heaviest-tree inserted-weight weight
   names-insert-heaviest m []ᴺ k v h = over-both m 1 1 _ _ refl (over-left m _ 0 (omega arith) ∙ tree-insert-heaviest m StrEmpty k v (omega arith))

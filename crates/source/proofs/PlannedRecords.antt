@@ -18,7 +18,7 @@ use Rattle.source.specs.Plans.{along, inserted-records, ins-inserts, ste
 use Rattle.source.specs.Plans.{module-host, plan-records}
 
 module _ {A : Type 0} where
-  names-insert-records : {l : Level} (n : NameList A l) (id : Str) (v : Value A l)
+  names-insert-records : {ℓ : Level} (n : NameList A ℓ) (id : Str) (v : Value A ℓ)
       → names-insertᶜ n id v .count ≡ inserted-records n id
   unfolding inserted-records
   names-insert-records n id v = names-insert-count n id v

@@ -63,7 +63,7 @@ module _ (m : ℕ) {A : Type 0} where
   unfolding heaviest
   insert-item-weight b id v h = names-insert-heaviest m b id (item v) h ∙ over-left m _ 0 (omega arith)
 
-  imported-weight : {l : Level} (label : Str) (x y : NameList A l) → heaviest-names x ≤ m → heaviest-names y ≤ m
+  imported-weight : {ℓ : Level} (label : Str) (x y : NameList A ℓ) → heaviest-names x ≤ m → heaviest-names y ≤ m
       → max m (heaviest-names (ImportedNames label x y)) ≡ max m (suc (weight x + weight y))
   unfolding heaviest-names weight
   imported-weight label x y h k = over-left m _ _ (omega arith)

@@ -15,25 +15,25 @@ use Rattle.source.specs.Shared.{Allˡ}
 use Rattle.source.proofs.Lookup.{Allˡ-reverse}
 use Rattle.source.proofs.Lists.{merge-all}
 
-module _ {A : Type 0} {l : Level} (P : Str → Value A l → Type 0) where
-  abbrev pub AllBranches : Tree A l → Type 0
+module _ {A : Type 0} {ℓ : Level} (P : Str → Value A ℓ → Type 0) where
+  abbrev pub AllBranches : Tree A ℓ → Type 0
   AllBranches StrEmpty = Unit {0}
   AllBranches (StrBranch k v lbt rbt) = P k v × AllBranches lbt × AllBranches rbt
 
   -- Every branch of the list's trees, imported ones too.
-  abbrev pub AllNamed : NameList A l → Type 0
+  abbrev pub AllNamed : NameList A ℓ → Type 0
   AllNamed []ᴺ = Unit {0}
   AllNamed (Names bt tl) = AllBranches bt × AllNamed tl
   AllNamed (ImportedNames label inner tl) = AllNamed inner × AllNamed tl
 
-  abbrev Matches : List (PrefixMatch × Value A l) → Type 0
+  abbrev Matches : List (PrefixMatch × Value A ℓ) → Type 0
   Matches m = Allˡ (λ x. P (x .0 .completion) (x .1)) m
 
-  either : (b : Bool) (m m′ : List (PrefixMatch × Value A l)) → Matches m → Matches m′ → Matches (cond b m m′)
+  either : (b : Bool) (m m′ : List (PrefixMatch × Value A ℓ)) → Matches m → Matches m′ → Matches (cond b m m′)
   either true m m′ a b = a
   either false m m′ a b = b
 
-  find-prefix-onto-all : (t : Tree A l) (p : Str) (acc : List (PrefixMatch × Value A l)) → AllBranches t → Matches acc
+  find-prefix-onto-all : (t : Tree A ℓ) (p : Str) (acc : List (PrefixMatch × Value A ℓ)) → AllBranches t → Matches acc
       → Matches (find-prefix-onto t p acc)
   unfolding find-prefix-onto
   find-prefix-onto-all StrEmpty p acc a b = b
@@ -41,23 +41,23 @@ module _ {A : Type 0} {l : Level} (P : Str → Value A l → Type 0) where
       let le = isLe (string-compare k p) in
       let starts = starts-with k p in
       let right = cond (le || starts) (find-prefix-onto rbt p acc) acc in
-      let row : PrefixMatch × Value A l = (record { prefix = some p; completion = k }, v) in
+      let row : PrefixMatch × Value A ℓ = (record { prefix = some p; completion = k }, v) in
       let middle = cond starts (row ∷ right) right in
       let right-all : Matches right = either (le || starts) (find-prefix-onto rbt p acc) acc (find-prefix-onto-all rbt p acc (a .2) b) b in
       let middle-all : Matches middle = either starts (row ∷ right) right (a .0, right-all) right-all in
       either le middle (find-prefix-onto lbt p middle) middle-all (find-prefix-onto-all lbt p middle (a .1) middle-all)
 
-  fold-all : (p : Option Str) (t : Tree A l) (acc : List (PrefixMatch × Value A l)) → AllBranches t → Matches acc
+  fold-all : (p : Option Str) (t : Tree A ℓ) (acc : List (PrefixMatch × Value A ℓ)) → AllBranches t → Matches acc
       → Matches (btree-fold t (λ k v acc. (record { prefix = p; completion = k }, v) ∷ acc) acc)
   unfolding btree-fold
   fold-all p StrEmpty acc a b = b
   fold-all p (StrBranch k v lbt rbt) acc a b = fold-all p lbt _ (a .1) (a .0, fold-all p rbt acc (a .2) b)
 
-  abbrev AllMatches : List (List Str × List (PrefixMatch × Value A l)) → Type 0
+  abbrev AllMatches : List (List Str × List (PrefixMatch × Value A ℓ)) → Type 0
   AllMatches ms = Allˡ (λ m. Matches (m .1)) ms
 
-  revmap-all : (fn : Tree A l → List (PrefixMatch × Value A l)) → ((t : Tree A l) → AllBranches t → Matches (fn t))
-      → (acc : List (List Str × List (PrefixMatch × Value A l))) (i : List Str) (n : NameList A l) → AllNamed n
+  revmap-all : (fn : Tree A ℓ → List (PrefixMatch × Value A ℓ)) → ((t : Tree A ℓ) → AllBranches t → Matches (fn t))
+      → (acc : List (List Str × List (PrefixMatch × Value A ℓ))) (i : List Str) (n : NameList A ℓ) → AllNamed n
       → AllMatches acc
       → AllMatches (revmap-onto fn acc i n)
   unfolding revmap-onto
@@ -66,7 +66,7 @@ module _ {A : Type 0} {l : Level} (P : Str → Value A l → Type 0) where
   revmap-all fn f acc i (ImportedNames nm inner tl) a b =
       revmap-all fn f (revmap-onto fn acc (nm ∷ i) inner) i tl (a .1) (revmap-all fn f acc (nm ∷ i) inner (a .0) b)
 
-  matching-values-all : (n : NameList A l) (term : SearchTerm) → AllNamed n → AllMatches (matching-values n term)
+  matching-values-all : (n : NameList A ℓ) (term : SearchTerm) → AllNamed n → AllMatches (matching-values n term)
   unfolding matching-values names-revmap btree-find-all btree-find-prefix
   matching-values-all n NSTNone a = tt
   matching-values-all n NSTAll a = revmap-all (btree-find-all none) (λ t b. fold-all none t [] b tt) [] [] n a tt
@@ -74,25 +74,25 @@ module _ {A : Type 0} {l : Level} (P : Str → Value A l → Type 0) where
   matching-values-all n (NSTPrefix (c ∷ p)) a =
       revmap-all (λ bt. btree-find-prefix bt (c ∷ p)) (λ t b. find-prefix-onto-all t (c ∷ p) [] b tt) [] [] n a tt
 
-  abbrev Row : PathElem × Value A l → Type 0
+  abbrev Row : PathElem × Value A ℓ → Type 0
   Row x = P (elem-key x) (x .1)
 
-  with-imports-all : (i : List Str) (m : List (PrefixMatch × Value A l)) → Matches m → Allˡ Row (with-imports (i, m))
+  with-imports-all : (i : List Str) (m : List (PrefixMatch × Value A ℓ)) → Matches m → Allˡ Row (with-imports (i, m))
   unfolding with-imports elem-key
   with-imports-all i [] a = tt
   with-imports-all i (x ∷ m) a = (a .0, with-imports-all i m (a .1))
 
-  all-with-imports : (ms : List (List Str × List (PrefixMatch × Value A l))) → AllMatches ms
+  all-with-imports : (ms : List (List Str × List (PrefixMatch × Value A ℓ))) → AllMatches ms
       → Allˡ (Allˡ Row) (map with-imports ms)
   all-with-imports [] a = tt
   all-with-imports (m ∷ ms) a = (with-imports-all (m .0) (m .1) (a .0), all-with-imports ms (a .1))
 
-  pub names-find-rev-all : (n : NameList A l) (term : SearchTerm) → AllNamed n → Allˡ Row (names-find-rev n term)
+  pub names-find-rev-all : (n : NameList A ℓ) (term : SearchTerm) → AllNamed n → Allˡ Row (names-find-rev n term)
   unfolding names-find-rev
   names-find-rev-all n term a =
       merge-all elem-key Row (map with-imports (matching-values n term)) (all-with-imports (matching-values n term) (matching-values-all n term a))
 
-  pub names-find-first-all : (n : NameList A l) (term : SearchTerm) → AllNamed n
+  pub names-find-first-all : (n : NameList A ℓ) (term : SearchTerm) → AllNamed n
       → Allˡ Row (names-find-rev-first n term)
   unfolding names-find-rev-first
   names-find-first-all n term a =
@@ -100,23 +100,23 @@ module _ {A : Type 0} {l : Level} (P : Str → Value A l → Type 0) where
       (all-with-imports (reverse (matching-values n term)) (Allˡ-reverse (λ m. Matches (m .1)) (matching-values n term) [] (matching-values-all n term a) tt))
 
 -- ---- Depth
-module _ {A : Type 0} {l : Level} (d : ℕ) where
-  abbrev Shallow : Str → Value A l → Type 0
+module _ {A : Type 0} {ℓ : Level} (d : ℕ) where
+  abbrev Shallow : Str → Value A ℓ → Type 0
   Shallow k v = depth v < d
 
-  tree-shallow : (t : Tree A l) → depth-tree t ≤ d → AllBranches Shallow t
+  tree-shallow : (t : Tree A ℓ) → depth-tree t ≤ d → AllBranches Shallow t
   unfolding depth-tree
   tree-shallow StrEmpty h = tt
   tree-shallow (StrBranch k v lbt rbt) h = (omega arith, tree-shallow lbt (omega arith), tree-shallow rbt (omega arith))
 
-  names-shallow : (n : NameList A l) → depth-names n ≤ d → AllNamed Shallow n
+  names-shallow : (n : NameList A ℓ) → depth-names n ≤ d → AllNamed Shallow n
   unfolding depth-names
   names-shallow []ᴺ h = tt
   names-shallow (Names bt tl) h = (tree-shallow bt (omega arith), names-shallow tl (omega arith))
   names-shallow (ImportedNames label inner tl) h = (names-shallow inner (omega arith), names-shallow tl (omega arith))
 
 -- Each row's value has less depth than the list.
-module _ {A : Type 0} {l : Level} (n : NameList A l) (term : SearchTerm) where
+module _ {A : Type 0} {ℓ : Level} (n : NameList A ℓ) (term : SearchTerm) where
   pub names-find-rev-depth : Allˡ (λ x. depth (x .1) < depth-names n) (names-find-rev n term)
   names-find-rev-depth = names-find-rev-all (λ k v. depth v < depth-names n) n term (names-shallow (depth-names n) n (omega arith))
 

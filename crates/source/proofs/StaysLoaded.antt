@@ -18,54 +18,54 @@ use Rattle.source.proofs.ModuleRules.{find-in}
 -- Equal but for one place: there a Module of this full name and file path is unloaded in the first and loaded in the second.
 module _ (name path : Str) where
   mutual
-    pub data OneFlag : (l : Level) → Value ModSymbol l → Value ModSymbol l → Type 0 where
+    pub data OneFlag : (ℓ : Level) → Value ModSymbol ℓ → Value ModSymbol ℓ → Type 0 where
       here : {a b : ModSymbol} → a ≡ Module name path false → b ≡ Module name path true → OneFlag bind (item a) (item b)
       in-bindings : {b b′ : NameList ModSymbol bind} (n : NameList ModSymbol ns) → OneFlagNames bind b b′
           → OneFlag ns (trie b n) (trie b′ n)
       in-namespaces : (b : NameList ModSymbol bind) {n n′ : NameList ModSymbol ns} → OneFlagNames ns n n′
           → OneFlag ns (trie b n) (trie b n′)
 
-    pub data OneFlagTree : (l : Level) → Tree ModSymbol l → Tree ModSymbol l → Type 0 where
-      at-key : {l : Level} (k : Str) {v v′ : Value ModSymbol l} (lbt rbt : Tree ModSymbol l) → OneFlag l v v′
-          → OneFlagTree l (StrBranch k v lbt rbt) (StrBranch k v′ lbt rbt)
-      in-left : {l : Level} (k : Str) (v : Value ModSymbol l) {t t′ : Tree ModSymbol l} (rbt : Tree ModSymbol l)
-          → OneFlagTree l t t′
-          → OneFlagTree l (StrBranch k v t rbt) (StrBranch k v t′ rbt)
-      in-right : {l : Level} (k : Str) (v : Value ModSymbol l) (lbt : Tree ModSymbol l) {t t′ : Tree ModSymbol l}
-          → OneFlagTree l t t′
-          → OneFlagTree l (StrBranch k v lbt t) (StrBranch k v lbt t′)
+    pub data OneFlagTree : (ℓ : Level) → Tree ModSymbol ℓ → Tree ModSymbol ℓ → Type 0 where
+      at-key : {ℓ : Level} (k : Str) {v v′ : Value ModSymbol ℓ} (lbt rbt : Tree ModSymbol ℓ) → OneFlag ℓ v v′
+          → OneFlagTree ℓ (StrBranch k v lbt rbt) (StrBranch k v′ lbt rbt)
+      in-left : {ℓ : Level} (k : Str) (v : Value ModSymbol ℓ) {t t′ : Tree ModSymbol ℓ} (rbt : Tree ModSymbol ℓ)
+          → OneFlagTree ℓ t t′
+          → OneFlagTree ℓ (StrBranch k v t rbt) (StrBranch k v t′ rbt)
+      in-right : {ℓ : Level} (k : Str) (v : Value ModSymbol ℓ) (lbt : Tree ModSymbol ℓ) {t t′ : Tree ModSymbol ℓ}
+          → OneFlagTree ℓ t t′
+          → OneFlagTree ℓ (StrBranch k v lbt t) (StrBranch k v lbt t′)
 
     -- In the tree in front, where names_insert puts.
-    pub data OneFlagNames : (l : Level) → NameList ModSymbol l → NameList ModSymbol l → Type 0 where
-      in-front : {l : Level} {t t′ : Tree ModSymbol l} (tl : NameList ModSymbol l) → OneFlagTree l t t′
-          → OneFlagNames l (Names t tl) (Names t′ tl)
+    pub data OneFlagNames : (ℓ : Level) → NameList ModSymbol ℓ → NameList ModSymbol ℓ → Type 0 where
+      in-front : {ℓ : Level} {t t′ : Tree ModSymbol ℓ} (tl : NameList ModSymbol ℓ) → OneFlagTree ℓ t t′
+          → OneFlagNames ℓ (Names t tl) (Names t′ tl)
 
-  insert-tree : (l : Level) (t : Tree ModSymbol l) (k : Str) {v v′ : Value ModSymbol l} → OneFlag l v v′
-      → OneFlagTree l (btree-insert-replace t k v) (btree-insert-replace t k v′)
+  insert-tree : (ℓ : Level) (t : Tree ModSymbol ℓ) (k : Str) {v v′ : Value ModSymbol ℓ} → OneFlag ℓ v v′
+      → OneFlagTree ℓ (btree-insert-replace t k v) (btree-insert-replace t k v′)
   unfolding btree-insert-replace
-  insert-tree l StrEmpty k f = at-key k StrEmpty StrEmpty f
-  insert-tree l (StrBranch k′ u lbt rbt) k {v} {v′} f = go (insert-tree l lbt k f) (insert-tree l rbt k f) (string-compare k k′)
+  insert-tree ℓ StrEmpty k f = at-key k StrEmpty StrEmpty f
+  insert-tree ℓ (StrBranch k′ u lbt rbt) k {v} {v′} f = go (insert-tree ℓ lbt k f) (insert-tree ℓ rbt k f) (string-compare k k′)
     where
-      by : Value ModSymbol l → Ordering → Tree ModSymbol l
+      by : Value ModSymbol ℓ → Ordering → Tree ModSymbol ℓ
       by v o = elim o [
         | Ordering·lt ↦ StrBranch k′ u (btree-insert-replace lbt k v) rbt
         | Ordering·eq ↦ StrBranch k′ v lbt rbt
         | Ordering·gt ↦ StrBranch k′ u lbt (btree-insert-replace rbt k v)
       ]
 
-      go : OneFlagTree l (btree-insert-replace lbt k v) (btree-insert-replace lbt k v′)
-          → OneFlagTree l (btree-insert-replace rbt k v) (btree-insert-replace rbt k v′)
-          → (o : Ordering) → OneFlagTree l (by v o) (by v′ o)
+      go : OneFlagTree ℓ (btree-insert-replace lbt k v) (btree-insert-replace lbt k v′)
+          → OneFlagTree ℓ (btree-insert-replace rbt k v) (btree-insert-replace rbt k v′)
+          → (o : Ordering) → OneFlagTree ℓ (by v o) (by v′ o)
       go i j Ordering·lt = in-left k′ u rbt i
       go i j Ordering·eq = at-key k′ lbt rbt f
       go i j Ordering·gt = in-right k′ u lbt j
 
-  insert-names : (l : Level) (n : NameList ModSymbol l) (k : Str) {v v′ : Value ModSymbol l} → OneFlag l v v′
-      → OneFlagNames l (names-insert n k v) (names-insert n k v′)
+  insert-names : (ℓ : Level) (n : NameList ModSymbol ℓ) (k : Str) {v v′ : Value ModSymbol ℓ} → OneFlag ℓ v v′
+      → OneFlagNames ℓ (names-insert n k v) (names-insert n k v′)
   unfolding names-insert
-  insert-names l []ᴺ k f = in-front []ᴺ (insert-tree l StrEmpty k f)
-  insert-names l (Names bt tl) k f = in-front tl (insert-tree l bt k f)
-  insert-names l (ImportedNames label inner tl) k f = in-front (ImportedNames label inner tl) (insert-tree l StrEmpty k f)
+  insert-names ℓ []ᴺ k f = in-front []ᴺ (insert-tree ℓ StrEmpty k f)
+  insert-names ℓ (Names bt tl) k f = in-front tl (insert-tree ℓ bt k f)
+  insert-names ℓ (ImportedNames label inner tl) k f = in-front (ImportedNames label inner tl) (insert-tree ℓ StrEmpty k f)
 
   -- Where it does not depart the same trie; where it does, one flag.
   pub data Departs : Bool → Trie ModSymbol → Trie ModSymbol → Type 0 where
@@ -120,35 +120,35 @@ module _ {name path : Str} where
   mutual
     unfolding heaviest weight
 
-    one-heaviest : {l : Level} {v v′ : Value ModSymbol l} → OneFlag name path l v v′ → heaviest v′ ≡ heaviest v
+    one-heaviest : {ℓ : Level} {v v′ : Value ModSymbol ℓ} → OneFlag name path ℓ v v′ → heaviest v′ ≡ heaviest v
     one-heaviest (here e f) = refl
     one-heaviest (in-bindings n f) = rw (one-heaviest-names f)
     one-heaviest (in-namespaces b f) = rw (one-heaviest-names f)
 
-    one-heaviest-tree : {l : Level} {t t′ : Tree ModSymbol l} → OneFlagTree name path l t t′
+    one-heaviest-tree : {ℓ : Level} {t t′ : Tree ModSymbol ℓ} → OneFlagTree name path ℓ t t′
         → heaviest-tree t′ ≡ heaviest-tree t
     one-heaviest-tree (at-key k lbt rbt f) = rw (one-heaviest f)
     one-heaviest-tree (in-left k v rbt f) = rw (one-heaviest-tree f)
     one-heaviest-tree (in-right k v lbt f) = rw (one-heaviest-tree f)
 
-    one-heaviest-names : {l : Level} {n n′ : NameList ModSymbol l} → OneFlagNames name path l n n′
+    one-heaviest-names : {ℓ : Level} {n n′ : NameList ModSymbol ℓ} → OneFlagNames name path ℓ n n′
         → heaviest-names n′ ≡ heaviest-names n
     one-heaviest-names (in-front tl f) = rw (one-heaviest-tree f)
 
   mutual
     unfolding depth
 
-    one-depth : {l : Level} {v v′ : Value ModSymbol l} → OneFlag name path l v v′ → depth v′ ≡ depth v
+    one-depth : {ℓ : Level} {v v′ : Value ModSymbol ℓ} → OneFlag name path ℓ v v′ → depth v′ ≡ depth v
     one-depth (here e f) = refl
     one-depth (in-bindings n f) = refl
     one-depth (in-namespaces b f) = rw (one-depth-names f)
 
-    one-depth-tree : {l : Level} {t t′ : Tree ModSymbol l} → OneFlagTree name path l t t′ → depth-tree t′ ≡ depth-tree t
+    one-depth-tree : {ℓ : Level} {t t′ : Tree ModSymbol ℓ} → OneFlagTree name path ℓ t t′ → depth-tree t′ ≡ depth-tree t
     one-depth-tree (at-key k lbt rbt f) = rw (one-depth f)
     one-depth-tree (in-left k v rbt f) = rw (one-depth-tree f)
     one-depth-tree (in-right k v lbt f) = rw (one-depth-tree f)
 
-    one-depth-names : {l : Level} {n n′ : NameList ModSymbol l} → OneFlagNames name path l n n′
+    one-depth-names : {ℓ : Level} {n n′ : NameList ModSymbol ℓ} → OneFlagNames name path ℓ n n′
         → depth-names n′ ≡ depth-names n
     one-depth-names (in-front tl f) = rw (one-depth-tree f)
 

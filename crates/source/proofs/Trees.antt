@@ -50,41 +50,41 @@ past-prefix (a ∷ k) (c ∷ k′) (b ∷ p) h f l = go (past-prefix k k′ p) (
     go ih Ordering·gt v Ordering·eq w f h (inl l) = absurd (omega arith)
     go ih Ordering·gt v Ordering·eq w f h (inr l) = absurd (omega arith)
 
-module _ {A : Type 0} {l : Level} where
-  pub AllKeys-map : {P Q : Str → Type 0} → (t : Tree A l) → ((k : Str) → P k → Q k) → AllKeys P t → AllKeys Q t
+module _ {A : Type 0} {ℓ : Level} where
+  pub AllKeys-map : {P Q : Str → Type 0} → (t : Tree A ℓ) → ((k : Str) → P k → Q k) → AllKeys P t → AllKeys Q t
   AllKeys-map StrEmpty f a = tt
   AllKeys-map (StrBranch k v lbt rbt) f a = (f k (a .0), AllKeys-map lbt f (a .1), AllKeys-map rbt f (a .2))
 
-  pub AllKeys-zip : {P Q S : Str → Type 0} → (t : Tree A l) → ((k : Str) → P k → Q k → S k) → AllKeys P t → AllKeys Q t
+  pub AllKeys-zip : {P Q S : Str → Type 0} → (t : Tree A ℓ) → ((k : Str) → P k → Q k → S k) → AllKeys P t → AllKeys Q t
       → AllKeys S t
   AllKeys-zip StrEmpty f a b = tt
   AllKeys-zip (StrBranch k v lbt rbt) f a b = (f k (a .0) (b .0), AllKeys-zip lbt f (a .1) (b .1), AllKeys-zip rbt f (a .2) (b .2))
 
   -- ---- the branches whose keys pass a test, onto acc
-  unfoldable pub select : Option Str → (Str → Bool) → Tree A l → List (PrefixMatch × Value A l)
-      → List (PrefixMatch × Value A l)
+  unfoldable pub select : Option Str → (Str → Bool) → Tree A ℓ → List (PrefixMatch × Value A ℓ)
+      → List (PrefixMatch × Value A ℓ)
   select p b StrEmpty acc = acc
   select p b (StrBranch k v lbt rbt) acc =
       select p b lbt (cond (b k) ((record { prefix = p; completion = k }, v) ∷ select p b rbt acc) (select p b rbt acc))
 
-  unfoldable pub entry-key : PrefixMatch × Value A l → Str
+  unfoldable pub entry-key : PrefixMatch × Value A ℓ → Str
   entry-key x = x .0 .completion
 
-  select-none : (p : Option Str) (b : Str → Bool) (t : Tree A l) (acc : List (PrefixMatch × Value A l))
+  select-none : (p : Option Str) (b : Str → Bool) (t : Tree A ℓ) (acc : List (PrefixMatch × Value A ℓ))
       → AllKeys (λ k. b k ≡ false) t → select p b t acc ≡ acc
   unfolding select
   select-none p b StrEmpty acc a = refl
   select-none p b (StrBranch k v lbt rbt) acc a = rw (a .0) (select-none p b lbt (select p b rbt acc) (a .1) ∙ select-none p b rbt acc (a .2))
 
   -- the search leaves out only what does not match
-  prefix-select : (t : Tree A l) (p : Str) (acc : List (PrefixMatch × Value A l)) → Ordered t
+  prefix-select : (t : Tree A ℓ) (p : Str) (acc : List (PrefixMatch × Value A ℓ)) → Ordered t
       → find-prefix-onto t p acc ≡ select (some p) (λ k. starts-with k p) t acc
   unfolding find-prefix-onto select
   prefix-select StrEmpty p acc o = refl
   prefix-select (StrBranch k v lbt rbt) p acc o =
       go (prefix-select rbt p acc (o .3)) (λ acc. prefix-select lbt p acc (o .2)) (string-compare k p) (compare-strings k p) (starts-with k p) refl
     where
-      m : List (PrefixMatch × Value A l) → List (PrefixMatch × Value A l)
+      m : List (PrefixMatch × Value A ℓ) → List (PrefixMatch × Value A ℓ)
       m r = (record { prefix = some p; completion = k }, v) ∷ r
 
       b : Str → Bool
@@ -95,9 +95,9 @@ module _ {A : Type 0} {l : Level} where
       low x (inr h) y = before-prefix x p (rw h at y)
 
       go : find-prefix-onto rbt p acc ≡ select (some p) b rbt acc
-          → ((acc : List (PrefixMatch × Value A l)) → find-prefix-onto lbt p acc ≡ select (some p) b lbt acc)
+          → ((acc : List (PrefixMatch × Value A ℓ)) → find-prefix-onto lbt p acc ≡ select (some p) b lbt acc)
           → (c : Ordering) → View k p c → (i : Bool) → starts-with k p ≡ i
-          → _≡_ {A = List (PrefixMatch × Value A l)}
+          → _≡_ {A = List (PrefixMatch × Value A ℓ)}
           (cond (isLe c)
           (cond i (m (cond (isLe c || i) (find-prefix-onto rbt p acc) acc)) (cond (isLe c || i) (find-prefix-onto rbt p acc) acc))
           (find-prefix-onto lbt p (cond i (m (cond (isLe c || i) (find-prefix-onto rbt p acc) acc)) (cond (isLe c || i) (find-prefix-onto rbt p acc) acc))))
@@ -107,24 +107,24 @@ module _ {A : Type 0} {l : Level} where
       go r lh Ordering·gt w true e = rw r (lh _)
       go r lh Ordering·gt w false e = rw (select-none (some p) b rbt acc (AllKeys-map rbt (λ x y. past-prefix k x p w e y) (o .1))) (lh acc)
 
-  all-select : (p : Option Str) (t : Tree A l) (acc : List (PrefixMatch × Value A l))
+  all-select : (p : Option Str) (t : Tree A ℓ) (acc : List (PrefixMatch × Value A ℓ))
       → btree-fold t (λ k v acc. (record { prefix = p; completion = k }, v) ∷ acc) acc ≡ select p (λ k. true) t acc
   unfolding btree-fold select
   all-select p StrEmpty acc = refl
   all-select p (StrBranch k v lbt rbt) acc =
       all-select p lbt _ ∙ ap (λ r. select p (λ k. true) lbt ((record { prefix = p; completion = k }, v) ∷ r)) (all-select p rbt acc)
 
-  pub find-prefix-is : (t : Tree A l) (p : Str) → Ordered t
+  pub find-prefix-is : (t : Tree A ℓ) (p : Str) → Ordered t
       → btree-find-prefix t p ≡ select (some p) (λ k. starts-with k p) t []
   unfolding btree-find-prefix
   find-prefix-is t p o = prefix-select t p [] o
 
-  pub find-all-is : (p : Option Str) (t : Tree A l) → btree-find-all p t ≡ select p (λ k. true) t []
+  pub find-all-is : (p : Option Str) (t : Tree A ℓ) → btree-find-all p t ≡ select p (λ k. true) t []
   unfolding btree-find-all
   find-all-is p t = all-select p t []
 
   -- ---- what is selected, in increasing order
-  above-select : (p : Option Str) (b : Str → Bool) (x : Str) (t : Tree A l) (acc : List (PrefixMatch × Value A l))
+  above-select : (p : Option Str) (b : Str → Bool) (x : Str) (t : Tree A ℓ) (acc : List (PrefixMatch × Value A ℓ))
       → AllKeys (λ y. x <ˢ y) t → Above entry-key x acc → Above entry-key x (select p b t acc)
   unfolding select entry-key
   above-select p b x StrEmpty acc a h = h
@@ -135,7 +135,7 @@ module _ {A : Type 0} {l : Level} where
       go true r = (a .0, r)
       go false r = r
 
-  pub select-increasing : (p : Option Str) (b : Str → Bool) (t : Tree A l) (acc : List (PrefixMatch × Value A l))
+  pub select-increasing : (p : Option Str) (b : Str → Bool) (t : Tree A ℓ) (acc : List (PrefixMatch × Value A ℓ))
       → Ordered t → AllKeys (λ x. Above entry-key x acc) t → Increasing entry-key acc
       → Increasing entry-key (select p b t acc)
   unfolding select entry-key
@@ -158,16 +158,16 @@ module _ {A : Type 0} {l : Level} where
       go true r = (kr, r)
       go false r = r
 
-  pub no-keys : (t : Tree A l) → AllKeys (λ x. Unit {0}) t
+  pub no-keys : (t : Tree A ℓ) → AllKeys (λ x. Unit {0}) t
   no-keys StrEmpty = tt
   no-keys (StrBranch k v lbt rbt) = (tt, no-keys lbt, no-keys rbt)
 
   -- ---- the two searches
-  ascends : (p : Option Str) (b : Str → Bool) (t : Tree A l) → Ordered t → Increasing entry-key (select p b t [])
+  ascends : (p : Option Str) (b : Str → Bool) (t : Tree A ℓ) → Ordered t → Increasing entry-key (select p b t [])
   ascends p b t o = select-increasing p b t [] o (no-keys t) tt
 
-  pub find-prefix-ascends : (t : Tree A l) (p : Str) → Ordered t → Increasing entry-key (btree-find-prefix t p)
+  pub find-prefix-ascends : (t : Tree A ℓ) (p : Str) → Ordered t → Increasing entry-key (btree-find-prefix t p)
   find-prefix-ascends t p o = rw (find-prefix-is t p o) (ascends (some p) (λ k. starts-with k p) t o)
 
-  pub find-all-ascends : (p : Option Str) (t : Tree A l) → Ordered t → Increasing entry-key (btree-find-all p t)
+  pub find-all-ascends : (p : Option Str) (t : Tree A ℓ) → Ordered t → Increasing entry-key (btree-find-all p t)
   find-all-ascends p t o = rw (find-all-is p t) (ascends p (λ k. true) t o)

@@ -37,7 +37,7 @@ abbrev pub MutLeafᶜ : Type 0 → Type 0
 MutLeafᶜ A = Trie A → Query → Counted (Trie A)
 
 module _ {A : Type 0} where
-  unfoldable pub btree-insert-replaceᶜ : {l : Level} → Tree A l → Str → Value A l → Counted (Tree A l)
+  unfoldable pub btree-insert-replaceᶜ : {ℓ : Level} → Tree A ℓ → Str → Value A ℓ → Counted (Tree A ℓ)
   btree-insert-replaceᶜ StrEmpty k v = one (StrBranch k v StrEmpty StrEmpty)
   btree-insert-replaceᶜ (StrBranch k′ v′ lbt rbt) k v =
       elim (string-compare k k′) [
@@ -50,7 +50,7 @@ module _ {A : Type 0} where
           one (StrBranch k′ v′ lbt rbt)
       ]
 
-  unfoldable pub names-insertᶜ : {l : Level} → NameList A l → Str → Value A l → Counted (NameList A l)
+  unfoldable pub names-insertᶜ : {ℓ : Level} → NameList A ℓ → Str → Value A ℓ → Counted (NameList A ℓ)
   names-insertᶜ []ᴺ id v = do
     bt ← btree-insert-replaceᶜ StrEmpty id v
     one (Names bt []ᴺ)

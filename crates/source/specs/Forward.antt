@@ -73,24 +73,24 @@ module _ {A : Type 0} (key : A → Str) where
 
 module _ {A : Type 0} where
   -- The matches of one tree.
-  unfoldable pub tree-matches : {l : Level} → SearchTerm → Tree A l → List (PrefixMatch × Value A l)
+  unfoldable pub tree-matches : {ℓ : Level} → SearchTerm → Tree A ℓ → List (PrefixMatch × Value A ℓ)
   tree-matches NSTAll bt = btree-find-all none bt
   tree-matches NSTNone bt = []
   tree-matches (NSTPrefix []) bt = btree-find-all (some []) bt
   tree-matches (NSTPrefix (c ∷ p)) bt = btree-find-prefix bt (c ∷ p)
 
-module _ {A : Type 0} {l : Level} where
+module _ {A : Type 0} {ℓ : Level} where
   -- The trees of a list with their imports, the innermost first, in flattened order.
-  unfoldable pub flat-in : List Str → NameList A l → List (List Str × Tree A l)
+  unfoldable pub flat-in : List Str → NameList A ℓ → List (List Str × Tree A ℓ)
   flat-in imports []ᴺ = []
   flat-in imports (Names bt tl) = (imports, bt) ∷ flat-in imports tl
   flat-in imports (ImportedNames label inner tl) = flat-in (label ∷ imports) inner ++ flat-in imports tl
 
-  abbrev pub flat : NameList A l → List (List Str × Tree A l)
+  abbrev pub flat : NameList A ℓ → List (List Str × Tree A ℓ)
   flat n = flat-in [] n
 
   -- What is found, ascending: of each key the row of its first holder.
-  unfoldable pub found : NameList A l → SearchTerm → List (PathElem × Value A l)
+  unfoldable pub found : NameList A ℓ → SearchTerm → List (PathElem × Value A ℓ)
   found n term = reverse (names-find-rev-first n term)
 
 -- ---- Lines

@@ -39,42 +39,42 @@ bindings-search-term (s ∷ (t ∷ q)) = NSTNone
 
 module _ {A : Type 0} where
   -- aux of names_revmap
-  unfoldable pub revmap-onto : {l : Level} {B : Type 0} → (Tree A l → B) → List (List Str × B) → List Str → NameList A l
+  unfoldable pub revmap-onto : {ℓ : Level} {B : Type 0} → (Tree A ℓ → B) → List (List Str × B) → List Str → NameList A ℓ
       → List (List Str × B)
   revmap-onto fn acc imports []ᴺ = acc
   revmap-onto fn acc imports (Names bt tl) = revmap-onto fn ((imports, fn bt) ∷ acc) imports tl
   revmap-onto fn acc imports (ImportedNames nm inner tl) =
       revmap-onto fn (revmap-onto fn acc (nm ∷ imports) inner) imports tl
 
-  unfoldable pub names-revmap : {l : Level} {B : Type 0} → (Tree A l → B) → NameList A l → List (List Str × B)
+  unfoldable pub names-revmap : {ℓ : Level} {B : Type 0} → (Tree A ℓ → B) → NameList A ℓ → List (List Str × B)
   names-revmap fn n = revmap-onto fn [] [] n
 
   -- matching_values_per_collection_with_imports of names_find_rev
-  unfoldable pub matching-values : {l : Level} → NameList A l → SearchTerm
-      → List (List Str × List (PrefixMatch × Value A l))
+  unfoldable pub matching-values : {ℓ : Level} → NameList A ℓ → SearchTerm
+      → List (List Str × List (PrefixMatch × Value A ℓ))
   matching-values n NSTNone = []
   matching-values n NSTAll = names-revmap (btree-find-all none) n
   matching-values n (NSTPrefix []) = names-revmap (btree-find-all (some [])) n
   matching-values n (NSTPrefix (b ∷ id)) = names-revmap (λ bt. btree-find-prefix bt (b ∷ id)) n
 
   -- One collection's matches with its imports (mk_path_el).
-  unfoldable pub with-imports : {l : Level} → List Str × List (PrefixMatch × Value A l) → List (PathElem × Value A l)
+  unfoldable pub with-imports : {ℓ : Level} → List Str × List (PrefixMatch × Value A ℓ) → List (PathElem × Value A ℓ)
   with-imports m = map (λ x. (record { imports = m .0; segment = x .0 }, x .1)) (m .1)
 
   -- key_fn of names_find_rev
-  unfoldable pub elem-key : {l : Level} → PathElem × Value A l → Str
+  unfoldable pub elem-key : {ℓ : Level} → PathElem × Value A ℓ → Str
   elem-key x = x .0 .segment .completion
 
-  unfoldable pub names-find-rev : {l : Level} → NameList A l → SearchTerm → List (PathElem × Value A l)
+  unfoldable pub names-find-rev : {ℓ : Level} → NameList A ℓ → SearchTerm → List (PathElem × Value A ℓ)
   names-find-rev n id = merge-increasing-lists-rev elem-key (map with-imports (matching-values n id))
 
   -- Departs from the source: the lists go to the merge in flattened order, so that of equal keys the first holder is kept.
-  unfoldable pub names-find-rev-first : {l : Level} → NameList A l → SearchTerm → List (PathElem × Value A l)
+  unfoldable pub names-find-rev-first : {ℓ : Level} → NameList A ℓ → SearchTerm → List (PathElem × Value A ℓ)
   names-find-rev-first n id = merge-increasing-lists-rev elem-key (map with-imports (reverse (matching-values n id)))
 
 -- How the rows of a list are found: by names_find_rev, or by what departs from it.
 abbrev pub Finder : Type 0 → Type 0
-Finder A = (l : Level) → NameList A l → SearchTerm → List (PathElem × Value A l)
+Finder A = (ℓ : Level) → NameList A ℓ → SearchTerm → List (PathElem × Value A ℓ)
 
 module _ {A : Type 0} where
   module _ (find : Finder A) where

@@ -29,7 +29,7 @@ module _ {A B : Type 0} (op : B → B → B) (step : Trie A → Str → Query �
 -- ---- Insertions
 module _ {A : Type 0} where
   -- The branches that btree_insert_replace builds.
-  unfoldable pub insert-branches : {l : Level} → Tree A l → Str → ℕ
+  unfoldable pub insert-branches : {ℓ : Level} → Tree A ℓ → Str → ℕ
   insert-branches StrEmpty k = 1
   insert-branches (StrBranch k′ v lbt rbt) k =
       elim (string-compare k k′) [
@@ -39,20 +39,20 @@ module _ {A : Type 0} where
       ]
 
   -- The tree that names_insert inserts into.
-  unfoldable pub first-tree : {l : Level} → NameList A l → Tree A l
+  unfoldable pub first-tree : {ℓ : Level} → NameList A ℓ → Tree A ℓ
   first-tree []ᴺ = StrEmpty
   first-tree (Names bt tl) = bt
   first-tree (ImportedNames label inner tl) = StrEmpty
 
-module _ {A : Type 0} {l : Level} where
+module _ {A : Type 0} {ℓ : Level} where
   -- The weight of a list after names_insert.
-  unfoldable pub inserted-weight : NameList A l → ℕ
+  unfoldable pub inserted-weight : NameList A ℓ → ℕ
   inserted-weight []ᴺ = 1
   inserted-weight (Names bt tl) = weight (Names bt tl)
   inserted-weight (ImportedNames label inner tl) = suc (weight (ImportedNames label inner tl))
 
   -- The records that names_insert builds.
-  unfoldable pub inserted-records : NameList A l → Str → ℕ
+  unfoldable pub inserted-records : NameList A ℓ → Str → ℕ
   inserted-records n id = suc (insert-branches (first-tree n) id)
 
 -- Whether ins inserts, by the segments left.

@@ -52,29 +52,29 @@ abbrev pub _<ˢ_ : Str → Str → Type 0
 (a ∷ s) <ˢ [] = ⊥
 (a ∷ s) <ˢ (b ∷ t) = (a < b) ⊎ ((a ≡ b) × (s <ˢ t))
 
-module _ {A : Type 0} {l : Level} where
-  abbrev pub AllKeys : (Str → Type 0) → Tree A l → Type 0
+module _ {A : Type 0} {ℓ : Level} where
+  abbrev pub AllKeys : (Str → Type 0) → Tree A ℓ → Type 0
   AllKeys P StrEmpty = Unit {0}
   AllKeys P (StrBranch k v lbt rbt) = P k × AllKeys P lbt × AllKeys P rbt
 
   -- A tree's keys ascend strictly.
-  abbrev pub Ordered : Tree A l → Type 0
+  abbrev pub Ordered : Tree A ℓ → Type 0
   Ordered StrEmpty = Unit {0}
   Ordered (StrBranch k v lbt rbt) = AllKeys (λ x. x <ˢ k) lbt × AllKeys (λ x. k <ˢ x) rbt × Ordered lbt × Ordered rbt
 
 -- Keys, labels and items keep their rules, and each tree's keys ascend strictly.
 module _ {A : Type 0} (Key Label : Str → Type 0) (Item : A → Type 0) where
   abbrev mutual
-    pub Formed : {l : Level} → Value A l → Type 0
+    pub Formed : {ℓ : Level} → Value A ℓ → Type 0
     Formed (item a) = Item a
     Formed (trie b n) = FormedNames b × FormedNames n
 
-    pub FormedTree : {l : Level} → Tree A l → Type 0
+    pub FormedTree : {ℓ : Level} → Tree A ℓ → Type 0
     FormedTree StrEmpty = Unit {0}
     FormedTree (StrBranch k v lbt rbt) =
         Key k × Formed v × AllKeys (λ x. x <ˢ k) lbt × AllKeys (λ x. k <ˢ x) rbt × FormedTree lbt × FormedTree rbt
 
-    pub FormedNames : {l : Level} → NameList A l → Type 0
+    pub FormedNames : {ℓ : Level} → NameList A ℓ → Type 0
     FormedNames []ᴺ = Unit {0}
     FormedNames (Names bt tl) = FormedTree bt × FormedNames tl
     FormedNames (ImportedNames label inner tl) = Label label × FormedNames inner × FormedNames tl

@@ -13,37 +13,37 @@ first-of (b ∷ bs) = some b
 
 module _ {A : Type 0} where
   -- Flattening: an imported list, itself flattened, stands at its collection's place.
-  unfoldable pub flatten : {l : Level} → NameList A l → List (Tree A l)
+  unfoldable pub flatten : {ℓ : Level} → NameList A ℓ → List (Tree A ℓ)
   flatten []ᴺ = []
   flatten (Names bt tl) = bt ∷ flatten tl
   flatten (ImportedNames label inner tl) = flatten inner ++ flatten tl
 
-  unfoldable pub found-onto : {l : Level} → Option (Value A l) → List (Value A l) → List (Value A l)
+  unfoldable pub found-onto : {ℓ : Level} → Option (Value A ℓ) → List (Value A ℓ) → List (Value A ℓ)
   found-onto none vs = vs
   found-onto (some v) vs = v ∷ vs
 
   -- Holders of a name, in flattened order, by what they give.
-  unfoldable pub holders : {l : Level} → List (Tree A l) → Str → List (Value A l)
+  unfoldable pub holders : {ℓ : Level} → List (Tree A ℓ) → Str → List (Value A ℓ)
   holders [] k = []
   holders (t ∷ ts) k = found-onto (btree-find-exact t k) (holders ts k)
 
   -- Weight of a list: one for each collection, plus the weight of each imported list.
-  unfoldable pub weight : {l : Level} → NameList A l → ℕ
+  unfoldable pub weight : {ℓ : Level} → NameList A ℓ → ℕ
   weight []ᴺ = 0
   weight (Names bt tl) = suc (weight tl)
   weight (ImportedNames label inner tl) = suc (weight inner + weight tl)
 
   -- The weight of the heaviest list.
   unfoldable mutual
-    pub heaviest : {l : Level} → Value A l → ℕ
+    pub heaviest : {ℓ : Level} → Value A ℓ → ℕ
     heaviest (item a) = 0
     heaviest (trie b n) = max (heaviest-names b) (heaviest-names n)
 
-    pub heaviest-tree : {l : Level} → Tree A l → ℕ
+    pub heaviest-tree : {ℓ : Level} → Tree A ℓ → ℕ
     heaviest-tree StrEmpty = 0
     heaviest-tree (StrBranch k v lbt rbt) = max (heaviest v) (max (heaviest-tree lbt) (heaviest-tree rbt))
 
-    pub heaviest-names : {l : Level} → NameList A l → ℕ
+    pub heaviest-names : {ℓ : Level} → NameList A ℓ → ℕ
     heaviest-names []ᴺ = 0
     heaviest-names (Names bt tl) = max (weight (Names bt tl)) (max (heaviest-tree bt) (heaviest-names tl))
     heaviest-names (ImportedNames label inner tl) =
@@ -51,15 +51,15 @@ module _ {A : Type 0} where
 
   -- Depth of a trie: 0 if no namespace tree of its flattened list holds a key, else one more than the deepest trie held there.
   unfoldable mutual
-    pub depth : {l : Level} → Value A l → ℕ
+    pub depth : {ℓ : Level} → Value A ℓ → ℕ
     depth (item a) = 0
     depth (trie b n) = depth-names n
 
-    pub depth-tree : {l : Level} → Tree A l → ℕ
+    pub depth-tree : {ℓ : Level} → Tree A ℓ → ℕ
     depth-tree StrEmpty = 0
     depth-tree (StrBranch k v lbt rbt) = max (suc (depth v)) (max (depth-tree lbt) (depth-tree rbt))
 
-    pub depth-names : {l : Level} → NameList A l → ℕ
+    pub depth-names : {ℓ : Level} → NameList A ℓ → ℕ
     depth-names []ᴺ = 0
     depth-names (Names bt tl) = max (depth-tree bt) (depth-names tl)
     depth-names (ImportedNames label inner tl) = max (depth-names inner) (depth-names tl)

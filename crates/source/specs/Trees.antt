@@ -17,8 +17,8 @@ pub record PathElem : Type 0 where
   pub imports : List Str
   pub segment : PrefixMatch
 
-module _ {A : Type 0} {l : Level} where
-  unfoldable pub btree-insert-replace : Tree A l → Str → Value A l → Tree A l
+module _ {A : Type 0} {ℓ : Level} where
+  unfoldable pub btree-insert-replace : Tree A ℓ → Str → Value A ℓ → Tree A ℓ
   btree-insert-replace StrEmpty k v = StrBranch k v StrEmpty StrEmpty
   btree-insert-replace (StrBranch k′ v′ lbt rbt) k v =
       elim (string-compare k k′) [
@@ -27,7 +27,7 @@ module _ {A : Type 0} {l : Level} where
         | Ordering·gt ↦ StrBranch k′ v′ lbt (btree-insert-replace rbt k v)
       ]
 
-  unfoldable pub btree-find-exact : Tree A l → Str → Option (Value A l)
+  unfoldable pub btree-find-exact : Tree A ℓ → Str → Option (Value A ℓ)
   btree-find-exact StrEmpty k = none
   btree-find-exact (StrBranch k′ v lbt rbt) k =
       elim (string-compare k k′) [
@@ -37,7 +37,7 @@ module _ {A : Type 0} {l : Level} where
       ]
 
   -- aux of btree_find_prefix
-  unfoldable pub find-prefix-onto : Tree A l → Str → List (PrefixMatch × Value A l) → List (PrefixMatch × Value A l)
+  unfoldable pub find-prefix-onto : Tree A ℓ → Str → List (PrefixMatch × Value A ℓ) → List (PrefixMatch × Value A ℓ)
   find-prefix-onto StrEmpty prefix acc = acc
   find-prefix-onto (StrBranch k v lbt rbt) prefix acc =
       let cmp = string-compare k prefix in
@@ -48,12 +48,12 @@ module _ {A : Type 0} {l : Level} where
       let left = find-prefix-onto lbt prefix matches₂ in
       cond (isLe cmp) matches₂ left
 
-  unfoldable pub btree-find-prefix : Tree A l → Str → List (PrefixMatch × Value A l)
+  unfoldable pub btree-find-prefix : Tree A ℓ → Str → List (PrefixMatch × Value A ℓ)
   btree-find-prefix bt prefix = find-prefix-onto bt prefix []
 
-  unfoldable pub btree-fold : {B : Type 0} → Tree A l → (Str → Value A l → B → B) → B → B
+  unfoldable pub btree-fold : {B : Type 0} → Tree A ℓ → (Str → Value A ℓ → B → B) → B → B
   btree-fold StrEmpty f acc = acc
   btree-fold (StrBranch k v lbt rbt) f acc = btree-fold lbt f (f k v (btree-fold rbt f acc))
 
-  unfoldable pub btree-find-all : Option Str → Tree A l → List (PrefixMatch × Value A l)
+  unfoldable pub btree-find-all : Option Str → Tree A ℓ → List (PrefixMatch × Value A ℓ)
   btree-find-all prefix bt = btree-fold bt (λ k tr acc. (record { prefix = prefix; completion = k }, tr) ∷ acc) []

@@ -27,7 +27,7 @@ abbrev pub MutLeaf : Type 0 → Type 0
 MutLeaf A = Trie A → Query → Trie A
 
 module _ {A : Type 0} where
-  unfoldable pub names-find-exact : {l : Level} → NameList A l → Str → Option (Value A l)
+  unfoldable pub names-find-exact : {ℓ : Level} → NameList A ℓ → Str → Option (Value A ℓ)
   names-find-exact []ᴺ k = none
   names-find-exact (Names bt tl) k = or-else (btree-find-exact bt k) (names-find-exact tl k)
   names-find-exact (ImportedNames label inner tl) k = or-else (names-find-exact inner k) (names-find-exact tl k)
@@ -43,7 +43,7 @@ module _ {A : Type 0} where
   trie-find-exact tr (s ∷ (t ∷ q)) =
       bind-option (names-find-exact (namespaces tr) s) (λ scope. trie-find-exact scope (t ∷ q))
 
-  unfoldable pub names-insert : {l : Level} → NameList A l → Str → Value A l → NameList A l
+  unfoldable pub names-insert : {ℓ : Level} → NameList A ℓ → Str → Value A ℓ → NameList A ℓ
   names-insert []ᴺ id v = Names (btree-insert-replace StrEmpty id v) []ᴺ
   names-insert (Names bt tl) id v = Names (btree-insert-replace bt id v) tl
   names-insert (ImportedNames label inner tl) id v =

@@ -13,14 +13,14 @@ mutual
 
   -- btree: a branch has its key, value, left and right.
   pub data Tree (A : Type 0) : Level → Type 0 where
-    StrEmpty : {l : Level} → Tree A l
-    StrBranch : {l : Level} → Str → Value A l → Tree A l → Tree A l → Tree A l
+    StrEmpty : {ℓ : Level} → Tree A ℓ
+    StrBranch : {ℓ : Level} → Str → Value A ℓ → Tree A ℓ → Tree A ℓ → Tree A ℓ
 
   -- names, a list of collections: [], Names bt :: tl and ImportedNames (label, names) :: tl.
   pub data NameList (A : Type 0) : Level → Type 0 where
-    []ᴺ : {l : Level} → NameList A l
-    Names : {l : Level} → Tree A l → NameList A l → NameList A l
-    ImportedNames : {l : Level} → Str → NameList A l → NameList A l → NameList A l
+    []ᴺ : {ℓ : Level} → NameList A ℓ
+    Names : {ℓ : Level} → Tree A ℓ → NameList A ℓ → NameList A ℓ
+    ImportedNames : {ℓ : Level} → Str → NameList A ℓ → NameList A ℓ → NameList A ℓ
 
 abbrev pub Trie : Type 0 → Type 0
 Trie A = Value A ns

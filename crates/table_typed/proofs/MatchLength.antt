@@ -69,19 +69,19 @@ abbrev Begins : Option Str → Str → Type 0
 Begins none k = Unit {0}
 Begins (some p) k = length p ≤ length k
 
-module _ {A : Type 0} {l : Level} where
-  abbrev Fine : PrefixMatch × Value A l → Type 0
+module _ {A : Type 0} {ℓ : Level} where
+  abbrev Fine : PrefixMatch × Value A ℓ → Type 0
   Fine x = Begins (x .0 .prefix) (x .0 .completion)
 
-  abbrev Matches : List (PrefixMatch × Value A l) → Type 0
+  abbrev Matches : List (PrefixMatch × Value A ℓ) → Type 0
   Matches m = Allˡ Fine m
 
-  either : (b : Bool) (m m′ : List (PrefixMatch × Value A l)) → (b ≡ true → Matches m) → Matches m′
+  either : (b : Bool) (m m′ : List (PrefixMatch × Value A ℓ)) → (b ≡ true → Matches m) → Matches m′
       → Matches (cond b m m′)
   either true m m′ a b = a refl
   either false m m′ a b = b
 
-  find-prefix-fine : (t : Tree A l) (p : Str) (acc : List (PrefixMatch × Value A l)) → Matches acc
+  find-prefix-fine : (t : Tree A ℓ) (p : Str) (acc : List (PrefixMatch × Value A ℓ)) → Matches acc
       → Matches (find-prefix-onto t p acc)
   unfolding find-prefix-onto
   find-prefix-fine StrEmpty p acc b = b
@@ -89,51 +89,51 @@ module _ {A : Type 0} {l : Level} where
       let le = isLe (string-compare k p) in
       let starts = starts-with k p in
       let right = cond (le || starts) (find-prefix-onto rbt p acc) acc in
-      let row : PrefixMatch × Value A l = (record { prefix = some p; completion = k }, v) in
+      let row : PrefixMatch × Value A ℓ = (record { prefix = some p; completion = k }, v) in
       let middle = cond starts (row ∷ right) right in
       let right-all : Matches right = either (le || starts) (find-prefix-onto rbt p acc) acc (λ e. find-prefix-fine rbt p acc b) b in
       let middle-all : Matches middle = either starts (row ∷ right) right (λ e. (starts-length k p e, right-all)) right-all in
       either le middle (find-prefix-onto lbt p middle) (λ e. middle-all) (find-prefix-fine lbt p middle middle-all)
 
-  fold-fine : (p : Option Str) → ((k : Str) → Begins p k) → (t : Tree A l) (acc : List (PrefixMatch × Value A l))
+  fold-fine : (p : Option Str) → ((k : Str) → Begins p k) → (t : Tree A ℓ) (acc : List (PrefixMatch × Value A ℓ))
       → Matches acc
       → Matches (btree-fold t (λ k v acc. (record { prefix = p; completion = k }, v) ∷ acc) acc)
   unfolding btree-fold
   fold-fine p f StrEmpty acc b = b
   fold-fine p f (StrBranch k v lbt rbt) acc b = fold-fine p f lbt _ (f k, fold-fine p f rbt acc b)
 
-  abbrev AllMatches : List (List Str × List (PrefixMatch × Value A l)) → Type 0
+  abbrev AllMatches : List (List Str × List (PrefixMatch × Value A ℓ)) → Type 0
   AllMatches ms = Allˡ (λ m. Matches (m .1)) ms
 
-  revmap-fine : (fn : Tree A l → List (PrefixMatch × Value A l)) → ((t : Tree A l) → Matches (fn t))
-      → (acc : List (List Str × List (PrefixMatch × Value A l))) (i : List Str) (n : NameList A l) → AllMatches acc
+  revmap-fine : (fn : Tree A ℓ → List (PrefixMatch × Value A ℓ)) → ((t : Tree A ℓ) → Matches (fn t))
+      → (acc : List (List Str × List (PrefixMatch × Value A ℓ))) (i : List Str) (n : NameList A ℓ) → AllMatches acc
       → AllMatches (revmap-onto fn acc i n)
   unfolding revmap-onto
   revmap-fine fn f acc i []ᴺ b = b
   revmap-fine fn f acc i (Names bt tl) b = revmap-fine fn f ((i, fn bt) ∷ acc) i tl (f bt, b)
   revmap-fine fn f acc i (ImportedNames nm inner tl) b = revmap-fine fn f (revmap-onto fn acc (nm ∷ i) inner) i tl (revmap-fine fn f acc (nm ∷ i) inner b)
 
-  matching-fine : (n : NameList A l) (term : SearchTerm) → AllMatches (matching-values n term)
+  matching-fine : (n : NameList A ℓ) (term : SearchTerm) → AllMatches (matching-values n term)
   unfolding matching-values names-revmap btree-find-all btree-find-prefix
   matching-fine n NSTNone = tt
   matching-fine n NSTAll = revmap-fine (btree-find-all none) (λ t. fold-fine none (λ k. tt) t [] tt) [] [] n tt
   matching-fine n (NSTPrefix []) = revmap-fine (btree-find-all (some [])) (λ t. fold-fine (some []) (λ k. omega arith) t [] tt) [] [] n tt
   matching-fine n (NSTPrefix (c ∷ p)) = revmap-fine (λ bt. btree-find-prefix bt (c ∷ p)) (λ t. find-prefix-fine t (c ∷ p) [] tt) [] [] n tt
 
-  abbrev Row : PathElem × Value A l → Type 0
+  abbrev Row : PathElem × Value A ℓ → Type 0
   Row x = Begins (x .0 .segment .prefix) (x .0 .segment .completion)
 
-  with-imports-fine : (i : List Str) (m : List (PrefixMatch × Value A l)) → Matches m → Allˡ Row (with-imports (i, m))
+  with-imports-fine : (i : List Str) (m : List (PrefixMatch × Value A ℓ)) → Matches m → Allˡ Row (with-imports (i, m))
   unfolding with-imports
   with-imports-fine i [] a = tt
   with-imports-fine i (x ∷ m) a = (a .0, with-imports-fine i m (a .1))
 
-  all-fine : (ms : List (List Str × List (PrefixMatch × Value A l))) → AllMatches ms
+  all-fine : (ms : List (List Str × List (PrefixMatch × Value A ℓ))) → AllMatches ms
       → Allˡ (Allˡ Row) (map with-imports ms)
   all-fine [] a = tt
   all-fine (m ∷ ms) a = (with-imports-fine (m .0) (m .1) (a .0), all-fine ms (a .1))
 
-  rows-fine : (n : NameList A l) (term : SearchTerm) → Allˡ Row (names-find-rev-first n term)
+  rows-fine : (n : NameList A ℓ) (term : SearchTerm) → Allˡ Row (names-find-rev-first n term)
   unfolding names-find-rev-first
   rows-fine n term = merge-all elem-key Row (map with-imports (reverse (matching-values n term)))
       (all-fine (reverse (matching-values n term)) (Allˡ-reverse (λ m. Matches (m .1)) (matching-values n term) [] (matching-fine n term) tt))
@@ -171,10 +171,10 @@ path-held (el ∷ path) a h = go (el .segment .prefix) refl (a .0 .1) (path-held
 
 -- ---- the listing
 module _ {A : Type 0} (Item : A → Type 0) where
-  abbrev RowOk : {l : Level} → PathElem × Value A l → Type 0
+  abbrev RowOk : {ℓ : Level} → PathElem × Value A ℓ → Type 0
   RowOk y = Short (y .0) × Formed IsKey IsLabel Item (y .1)
 
-  rows-short : {l : Level} (n : NameList A l) (term : SearchTerm) → FormedNames IsKey IsLabel Item n
+  rows-short : {ℓ : Level} (n : NameList A ℓ) (term : SearchTerm) → FormedNames IsKey IsLabel Item n
       → Allˡ RowOk (found n term)
   unfolding found elem-key
   rows-short n term g =
