@@ -37,7 +37,7 @@ fn forms() {
     );
     io::write_all(
         1,
-        b"A query (host, q) is segments that each end in a dot, or nothing. \nN is an item: timer t5, port p5 or register r5, and 5 is r5; its number is at most 4294967295.\nThe last line may lack its line feed.\n\n",
+        b"A query (host, q) is segments that each end in a dot, or nothing.\nN is an item: timer t5, port p5 or register r5, and 5 is r5; its number is at most 4294967295.\nThe last line may lack its line feed.\n\n",
     );
 }
 
