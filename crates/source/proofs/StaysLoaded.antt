@@ -1,79 +1,53 @@
 -- Where the registration of a module departs from the source (stays-loaded-departs), and what that leaves as it was.
-use Prim.Native.Nat.{ℕ, Ordering, Ordering·lt, Ordering·eq, Ordering·gt}
+use Prim.Native.Nat.{ℕ, suc, max, Ordering, Ordering·lt, Ordering·eq, Ordering·gt}
 use mathlib.Core.Path.{_≡_, refl}
-use mathlib.Core.Bool.{Bool, true, false, not, _&&_, _||_}
-use mathlib.Core.List.{[], _∷_, reverseAux}
-use Rattle.source.specs.Text.{Str, Query, string-compare, query-to-string}
-use Rattle.source.specs.Types.{Level, Value, Trie, Tree, NameList, bind, ns, item, trie, StrEmpty, StrBranch, []ᴺ, Names, ImportedNames, bindings}
+use mathlib.Core.Bool.{Bool, true, false, not, cond, _&&_, _||_}
+use mathlib.Core.List.{[], _∷_}
+use Rattle.source.specs.Text.{Str, Query, string-compare}
+use Rattle.source.specs.Types.{Level, Value, Trie, Tree, NameList, bind, item, trie, StrEmpty, StrBranch, []ᴺ, Names, ImportedNames, bindings}
 use Rattle.source.specs.Types.{namespaces}
 use Rattle.source.specs.Trees.{btree-insert-replace}
 use Rattle.source.specs.Tries.{MutNode, names-find-exact, names-insert, scope-of, trie-find-exact, trie-mutate}
 use Rattle.source.specs.Terms.{weight, heaviest, heaviest-tree, heaviest-names, depth, depth-tree, depth-names}
-use Rattle.source.specs.Table.{ModSymbol, Module, Table, ins-ns, ins-mod, name-of-revq, ins, register-module-path, loaded-module, ins-stays-loaded}
+use Rattle.source.specs.Table.{ModSymbol, Module, Namespace, Table, ins-ns, ins-mod, name-of-revq, ins, register-module-path, loaded-module}
+use Rattle.source.specs.Table.{ins-stays-loaded}
 use Rattle.source.specs.Table.{register-module-stays-loaded, find-module-or-ns}
+use Rattle.source.specs.StaysLoaded.{at-key, in-front, load, loaded-at, StaysLoaded}
+use Rattle.source.proofs.Order.{compare-self}
 use Rattle.source.proofs.ModuleRules.{find-in}
 
--- ---- One flag
-
--- Equal but for one place: there a Module of this full name and file path is unloaded in the first and loaded in the second.
-module _ (name path : Str) where
-  mutual
-    pub data OneFlag : (ℓ : Level) → Value ModSymbol ℓ → Value ModSymbol ℓ → Type 0 where
-      here : {a b : ModSymbol} → a ≡ Module name path false → b ≡ Module name path true → OneFlag bind (item a) (item b)
-      in-bindings : {b b′ : NameList ModSymbol bind} (n : NameList ModSymbol ns) → OneFlagNames bind b b′
-          → OneFlag ns (trie b n) (trie b′ n)
-      in-namespaces : (b : NameList ModSymbol bind) {n n′ : NameList ModSymbol ns} → OneFlagNames ns n n′
-          → OneFlag ns (trie b n) (trie b n′)
-
-    pub data OneFlagTree : (ℓ : Level) → Tree ModSymbol ℓ → Tree ModSymbol ℓ → Type 0 where
-      at-key : {ℓ : Level} (k : Str) {v v′ : Value ModSymbol ℓ} (lbt rbt : Tree ModSymbol ℓ) → OneFlag ℓ v v′
-          → OneFlagTree ℓ (StrBranch k v lbt rbt) (StrBranch k v′ lbt rbt)
-      in-left : {ℓ : Level} (k : Str) (v : Value ModSymbol ℓ) {t t′ : Tree ModSymbol ℓ} (rbt : Tree ModSymbol ℓ)
-          → OneFlagTree ℓ t t′
-          → OneFlagTree ℓ (StrBranch k v t rbt) (StrBranch k v t′ rbt)
-      in-right : {ℓ : Level} (k : Str) (v : Value ModSymbol ℓ) (lbt : Tree ModSymbol ℓ) {t t′ : Tree ModSymbol ℓ}
-          → OneFlagTree ℓ t t′
-          → OneFlagTree ℓ (StrBranch k v lbt t) (StrBranch k v lbt t′)
-
-    -- In the tree in front, where names_insert puts.
-    pub data OneFlagNames : (ℓ : Level) → NameList ModSymbol ℓ → NameList ModSymbol ℓ → Type 0 where
-      in-front : {ℓ : Level} {t t′ : Tree ModSymbol ℓ} (tl : NameList ModSymbol ℓ) → OneFlagTree ℓ t t′
-          → OneFlagNames ℓ (Names t tl) (Names t′ tl)
-
-  insert-tree : (ℓ : Level) (t : Tree ModSymbol ℓ) (k : Str) {v v′ : Value ModSymbol ℓ} → OneFlag ℓ v v′
-      → OneFlagTree ℓ (btree-insert-replace t k v) (btree-insert-replace t k v′)
-  unfolding btree-insert-replace
-  insert-tree ℓ StrEmpty k f = at-key k StrEmpty StrEmpty f
-  insert-tree ℓ (StrBranch k′ u lbt rbt) k {v} {v′} f = go (insert-tree ℓ lbt k f) (insert-tree ℓ rbt k f) (string-compare k k′)
+-- ---- What was put at a key is changed there
+module _ {A : Type 0} {ℓ : Level} where
+  at-key-inserted : (t : Tree A ℓ) (k : Str) (v : Value A ℓ) (f : Value A ℓ → Value A ℓ)
+      → at-key (btree-insert-replace t k v) k f ≡ btree-insert-replace t k (f v)
+  unfolding at-key btree-insert-replace
+  at-key-inserted StrEmpty k v f = rw (compare-self k)
+  at-key-inserted (StrBranch k′ u lbt rbt) k v f =
+      go (string-compare k k′) refl (at-key-inserted lbt k v f) (at-key-inserted rbt k v f)
     where
-      by : Value ModSymbol ℓ → Ordering → Tree ModSymbol ℓ
-      by v o = elim o [
+      by : Ordering → Value A ℓ → Tree A ℓ
+      by o v = elim o [
         | Ordering·lt ↦ StrBranch k′ u (btree-insert-replace lbt k v) rbt
         | Ordering·eq ↦ StrBranch k′ v lbt rbt
         | Ordering·gt ↦ StrBranch k′ u lbt (btree-insert-replace rbt k v)
       ]
 
-      go : OneFlagTree ℓ (btree-insert-replace lbt k v) (btree-insert-replace lbt k v′)
-          → OneFlagTree ℓ (btree-insert-replace rbt k v) (btree-insert-replace rbt k v′)
-          → (o : Ordering) → OneFlagTree ℓ (by v o) (by v′ o)
-      go i j Ordering·lt = in-left k′ u rbt i
-      go i j Ordering·eq = at-key k′ lbt rbt f
-      go i j Ordering·gt = in-right k′ u lbt j
+      go : (o : Ordering) → string-compare k k′ ≡ o
+          → at-key (btree-insert-replace lbt k v) k f ≡ btree-insert-replace lbt k (f v)
+          → at-key (btree-insert-replace rbt k v) k f ≡ btree-insert-replace rbt k (f v)
+          → at-key (by o v) k f ≡ by o (f v)
+      go Ordering·lt e i j = rw (e, i)
+      go Ordering·eq e i j = rw e
+      go Ordering·gt e i j = rw (e, j)
 
-  insert-names : (ℓ : Level) (n : NameList ModSymbol ℓ) (k : Str) {v v′ : Value ModSymbol ℓ} → OneFlag ℓ v v′
-      → OneFlagNames ℓ (names-insert n k v) (names-insert n k v′)
-  unfolding names-insert
-  insert-names ℓ []ᴺ k f = in-front []ᴺ (insert-tree ℓ StrEmpty k f)
-  insert-names ℓ (Names bt tl) k f = in-front tl (insert-tree ℓ bt k f)
-  insert-names ℓ (ImportedNames label inner tl) k f = in-front (ImportedNames label inner tl) (insert-tree ℓ StrEmpty k f)
+  in-front-inserted : (n : NameList A ℓ) (k : Str) (v : Value A ℓ) (f : Value A ℓ → Value A ℓ)
+      → in-front (names-insert n k v) k f ≡ names-insert n k (f v)
+  unfolding in-front names-insert
+  in-front-inserted []ᴺ k v f = rw (at-key-inserted StrEmpty k v f)
+  in-front-inserted (Names bt tl) k v f = rw (at-key-inserted bt k v f)
+  in-front-inserted (ImportedNames label inner tl) k v f = rw (at-key-inserted StrEmpty k v f)
 
-  -- Where it does not depart the same trie; where it does, one flag.
-  pub data Departs : Bool → Trie ModSymbol → Trie ModSymbol → Type 0 where
-    same : (x : Trie ModSymbol) → Departs false x x
-    one-flag : {x y : Trie ModSymbol} → OneFlag ns x y → Departs true x y
-
--- ---- The stays-loaded-departs
-
+-- ---- Where a registration departs
 module _ (path : Str) (loaded : Bool) where
   -- mut_node of either function
   abbrev source-node : MutNode ModSymbol
@@ -82,86 +56,120 @@ module _ (path : Str) (loaded : Bool) where
   abbrev node : MutNode ModSymbol
   node = λ tr id q revq n. trie (ins-stays-loaded path id q revq (bindings tr) loaded) n
 
+  abbrev either : Bool → Trie ModSymbol → Query → Trie ModSymbol
+  either b tr q = cond b (loaded-at tr q) tr
+
   departs : (tr : Trie ModSymbol) (q rev : Query)
-      → Departs (query-to-string (reverseAux rev q)) path (loaded-module (trie-find-exact tr q) && not loaded)
-      (trie-mutate tr q rev source-node (λ tr _. tr)) (trie-mutate tr q rev node (λ tr _. tr))
-  unfolding trie-mutate trie-find-exact loaded-module ins ins-stays-loaded ins-mod name-of-revq
-  departs tr [] rev = same tr
+      → trie-mutate tr q rev node (λ tr _. tr)
+      ≡ either (loaded-module (trie-find-exact tr q) && not loaded) (trie-mutate tr q rev source-node (λ tr _. tr)) q
+  unfolding trie-mutate trie-find-exact loaded-module loaded-at ins ins-stays-loaded ins-mod bindings namespaces
+  departs tr [] rev = refl
   departs tr (s ∷ []) rev = go (loaded-module (names-find-exact (bindings tr) s)) loaded
     where
-      put : Bool → Trie ModSymbol
-      put l = trie (names-insert (bindings tr) s (item (Module (name-of-revq (s ∷ rev)) path l))) (names-insert (namespaces tr) s (scope-of (namespaces tr) s))
+      symbol : Bool → Value ModSymbol bind
+      symbol l = item (Module (name-of-revq (s ∷ rev)) path l)
 
-      go : (m l : Bool) → Departs (name-of-revq (s ∷ rev)) path (m && not l) (put l) (put (m || l))
-      go true true = same _
-      go true false = one-flag (in-bindings _ (insert-names _ path bind (bindings tr) s (here refl refl)))
-      go false l = same _
-  departs tr (s ∷ (t ∷ q)) rev = rw (← find-in tr s (t ∷ q)) (go (departs (scope-of (namespaces tr) s) (t ∷ q) (s ∷ rev)))
+      put : Bool → Trie ModSymbol
+      put l = trie (names-insert (bindings tr) s (symbol l)) (names-insert (namespaces tr) s (scope-of (namespaces tr) s))
+
+      go : (m l : Bool) → put (m || l) ≡ either (m && not l) (put l) (s ∷ [])
+      go true true = refl
+      go true false = rw in-front-inserted
+      go false l = refl
+  departs tr (s ∷ (t ∷ q)) rev = rw (← find-in tr s (t ∷ q), departs (scope-of (namespaces tr) s) (t ∷ q) (s ∷ rev))
+      (go (loaded-module (trie-find-exact (scope-of (namespaces tr) s) (t ∷ q)) && not loaded))
     where
+      below : Trie ModSymbol
+      below = trie-mutate (scope-of (namespaces tr) s) (t ∷ q) (s ∷ rev) source-node (λ tr _. tr)
+
       beside : Trie ModSymbol → Trie ModSymbol
       beside x = trie (ins-ns s (bindings tr) (name-of-revq (s ∷ rev)) loaded) (names-insert (namespaces tr) s x)
 
-      go : {name : Str} {c : Bool} {x y : Trie ModSymbol} → Departs name path c x y
-          → Departs name path c (beside x) (beside y)
-      go (same x) = same _
-      go (one-flag f) = one-flag (in-namespaces _ (insert-names _ path ns (namespaces tr) s f))
+      go : (b : Bool) → beside (either b below (t ∷ q)) ≡ either b (beside below) (s ∷ (t ∷ q))
+      go true = rw in-front-inserted
+      go false = refl
 
--- For every table and call: where look-up of the query, which is by first holders, gives a loaded Module and the call is unloaded, the two tables
--- differ in one flag; everywhere else they are the same.
-pub stays-loaded-departs : (tbl : Table) (loaded : Bool) (path : Str) (q : Query)
-    → (register-module-stays-loaded tbl loaded path q .tbl-lids ≡ register-module-path tbl loaded path q .tbl-lids)
-    × Departs (query-to-string q) path (loaded-module (find-module-or-ns tbl q) && not loaded)
-    (register-module-path tbl loaded path q .tbl-mods) (register-module-stays-loaded tbl loaded path q .tbl-mods)
+-- For every table and call.
+pub stays-loaded-departs : (tbl : Table) (loaded : Bool) (path : Str) (q : Query) → StaysLoaded tbl loaded path q
 unfolding register-module-path register-module-stays-loaded find-module-or-ns
-stays-loaded-departs tbl loaded path q = (refl, departs path loaded (tbl .tbl-mods) q [])
+stays-loaded-departs tbl loaded path q = record { names-are = refl; modules-are = departs path loaded (tbl .tbl-mods) q [] }
 
 -- ---- Weight and depth, so rows 5 and 6, are the source's
-module _ {name path : Str} where
-  mutual
-    unfolding heaviest weight
 
-    one-heaviest : {ℓ : Level} {v v′ : Value ModSymbol ℓ} → OneFlag name path ℓ v v′ → heaviest v′ ≡ heaviest v
-    one-heaviest (here e f) = refl
-    one-heaviest (in-bindings n f) = rw (one-heaviest-names f)
-    one-heaviest (in-namespaces b f) = rw (one-heaviest-names f)
+-- What is measured of a tree by its values, where these measure the same.
+module _ {ℓ : Level} (f : Value ModSymbol ℓ → Value ModSymbol ℓ) (of-tree : Tree ModSymbol ℓ → ℕ)
+    (of-value : Value ModSymbol ℓ → ℕ)
+    (by : (v lbt rbt : ℕ) → ℕ) where
+  at-key-measure : ((k : Str) (v : Value ModSymbol ℓ) (lbt rbt : Tree ModSymbol ℓ)
+      → of-tree (StrBranch k v lbt rbt) ≡ by (of-value v) (of-tree lbt) (of-tree rbt))
+      → ((v : Value ModSymbol ℓ) → of-value (f v) ≡ of-value v)
+      → (t : Tree ModSymbol ℓ) (k : Str) → of-tree (at-key t k f) ≡ of-tree t
+  unfolding at-key
+  at-key-measure step same StrEmpty k = refl
+  at-key-measure step same (StrBranch k′ v lbt rbt) k =
+      go (string-compare k k′) (at-key-measure step same lbt k) (at-key-measure step same rbt k)
+    where
+      go : (o : Ordering) → of-tree (at-key lbt k f) ≡ of-tree lbt → of-tree (at-key rbt k f) ≡ of-tree rbt
+          → of-tree (elim o [
+            | Ordering·lt ↦ StrBranch k′ v (at-key lbt k f) rbt
+            | Ordering·eq ↦ StrBranch k′ (f v) lbt rbt
+            | Ordering·gt ↦ StrBranch k′ v lbt (at-key rbt k f)
+          ]) ≡ of-tree (StrBranch k′ v lbt rbt)
+      go Ordering·lt i j = rw (step k′ v (at-key lbt k f) rbt, i, step k′ v lbt rbt)
+      go Ordering·eq i j = rw (step k′ (f v) lbt rbt, same v, step k′ v lbt rbt)
+      go Ordering·gt i j = rw (step k′ v lbt (at-key rbt k f), j, step k′ v lbt rbt)
 
-    one-heaviest-tree : {ℓ : Level} {t t′ : Tree ModSymbol ℓ} → OneFlagTree name path ℓ t t′
-        → heaviest-tree t′ ≡ heaviest-tree t
-    one-heaviest-tree (at-key k lbt rbt f) = rw (one-heaviest f)
-    one-heaviest-tree (in-left k v rbt f) = rw (one-heaviest-tree f)
-    one-heaviest-tree (in-right k v lbt f) = rw (one-heaviest-tree f)
+module _ {ℓ : Level} (f : Value ModSymbol ℓ → Value ModSymbol ℓ) where
+  in-front-heaviest : ((v : Value ModSymbol ℓ) → heaviest (f v) ≡ heaviest v) → (n : NameList ModSymbol ℓ) (k : Str)
+      → heaviest-names (in-front n k f) ≡ heaviest-names n
+  unfolding in-front heaviest weight
+  in-front-heaviest h []ᴺ k = refl
+  in-front-heaviest h (Names bt tl) k =
+      rw (at-key-measure f heaviest-tree heaviest (λ v l r. max v (max l r)) (λ k v l r. refl) h bt k)
+  in-front-heaviest h (ImportedNames label inner tl) k = refl
 
-    one-heaviest-names : {ℓ : Level} {n n′ : NameList ModSymbol ℓ} → OneFlagNames name path ℓ n n′
-        → heaviest-names n′ ≡ heaviest-names n
-    one-heaviest-names (in-front tl f) = rw (one-heaviest-tree f)
+  in-front-depth : ((v : Value ModSymbol ℓ) → depth (f v) ≡ depth v) → (n : NameList ModSymbol ℓ) (k : Str)
+      → depth-names (in-front n k f) ≡ depth-names n
+  unfolding in-front depth
+  in-front-depth h []ᴺ k = refl
+  in-front-depth h (Names bt tl) k =
+      rw (at-key-measure f depth-tree depth (λ v l r. max (suc v) (max l r)) (λ k v l r. refl) h bt k)
+  in-front-depth h (ImportedNames label inner tl) k = refl
 
-  mutual
-    unfolding depth
+load-measures : (v : Value ModSymbol bind) → (heaviest (load v) ≡ heaviest v) × (depth (load v) ≡ depth v)
+unfolding heaviest depth
+load-measures (item (Module name path loaded)) = (refl, refl)
+load-measures (item (Namespace name loaded)) = (refl, refl)
 
-    one-depth : {ℓ : Level} {v v′ : Value ModSymbol ℓ} → OneFlag name path ℓ v v′ → depth v′ ≡ depth v
-    one-depth (here e f) = refl
-    one-depth (in-bindings n f) = refl
-    one-depth (in-namespaces b f) = rw (one-depth-names f)
+loaded-at-heaviest : (q : Query) (tr : Trie ModSymbol) → heaviest (loaded-at tr q) ≡ heaviest tr
+unfolding loaded-at heaviest bindings namespaces
+loaded-at-heaviest [] tr = refl
+loaded-at-heaviest (s ∷ []) (trie b n) = rw (in-front-heaviest load (λ v. load-measures v .0) b s)
+loaded-at-heaviest (s ∷ (t ∷ q)) (trie b n) = rw (in-front-heaviest (λ scope. loaded-at scope (t ∷ q)) (loaded-at-heaviest (t ∷ q)) n s)
 
-    one-depth-tree : {ℓ : Level} {t t′ : Tree ModSymbol ℓ} → OneFlagTree name path ℓ t t′ → depth-tree t′ ≡ depth-tree t
-    one-depth-tree (at-key k lbt rbt f) = rw (one-depth f)
-    one-depth-tree (in-left k v rbt f) = rw (one-depth-tree f)
-    one-depth-tree (in-right k v lbt f) = rw (one-depth-tree f)
-
-    one-depth-names : {ℓ : Level} {n n′ : NameList ModSymbol ℓ} → OneFlagNames name path ℓ n n′
-        → depth-names n′ ≡ depth-names n
-    one-depth-names (in-front tl f) = rw (one-depth-tree f)
-
-  same-measure : (f : Trie ModSymbol → ℕ) → ((x y : Trie ModSymbol) → OneFlag name path ns x y → f y ≡ f x)
-      → {c : Bool} {x y : Trie ModSymbol} → Departs name path c x y → f y ≡ f x
-  same-measure f h (same x) = refl
-  same-measure f h (one-flag o) = h _ _ o
+loaded-at-depth : (q : Query) (tr : Trie ModSymbol) → depth (loaded-at tr q) ≡ depth tr
+unfolding loaded-at depth bindings namespaces
+loaded-at-depth [] tr = refl
+loaded-at-depth (s ∷ []) (trie b n) = refl
+loaded-at-depth (s ∷ (t ∷ q)) (trie b n) = rw (in-front-depth (λ scope. loaded-at scope (t ∷ q)) (loaded-at-depth (t ∷ q)) n s)
 
 module _ (tbl : Table) (loaded : Bool) (path : Str) (q : Query) where
+  same-measure : (f : Trie ModSymbol → ℕ) → ((tr : Trie ModSymbol) → f (loaded-at tr q) ≡ f tr)
+      → f (register-module-stays-loaded tbl loaded path q .tbl-mods)
+      ≡ f (register-module-path tbl loaded path q .tbl-mods)
+  same-measure f h = rw (stays-loaded-departs tbl loaded path q .modules-are) (go (loaded-module (find-module-or-ns tbl q) && not loaded))
+    where
+      source-mods : Trie ModSymbol
+      source-mods = register-module-path tbl loaded path q .tbl-mods
+
+      go : (b : Bool) → f (cond b (loaded-at source-mods q) source-mods) ≡ f source-mods
+      go true = h source-mods
+      go false = refl
+
   pub stays-loaded-heaviest : heaviest (register-module-stays-loaded tbl loaded path q .tbl-mods)
       ≡ heaviest (register-module-path tbl loaded path q .tbl-mods)
-  stays-loaded-heaviest = same-measure heaviest (λ x y. one-heaviest) (stays-loaded-departs tbl loaded path q .1)
+  stays-loaded-heaviest = same-measure heaviest (loaded-at-heaviest q)
 
   pub stays-loaded-depth : depth (register-module-stays-loaded tbl loaded path q .tbl-mods)
       ≡ depth (register-module-path tbl loaded path q .tbl-mods)
-  stays-loaded-depth = same-measure depth (λ x y. one-depth) (stays-loaded-departs tbl loaded path q .1)
+  stays-loaded-depth = same-measure depth (loaded-at-depth q)

@@ -17,3 +17,4 @@ pub mod Counted
 pub mod Calls
 pub mod Queries
 pub mod Plans
+pub mod StaysLoaded
