@@ -9,6 +9,7 @@ use lib.ListN.{length, length-map}
 use Rattle.source.specs.Calls as C
 use Rattle.source.specs.Calls.{output-text}
 use Rattle.memory.specs.Layout.{Item}
+use Rattle.memory_table.specs.Table.{used-words, used-text}
 use Rattle.text.proofs.Laid.{laid-length}
 use Rattle.script_decimal.specs.Bytes.{Str, _·_}
 use Rattle.script_replies.specs.Replies.{refused-reply, end-reply}
@@ -71,5 +72,6 @@ pub completes-tells : {ws txt flat flat′ out out′ query : List ℕ} {t : Tab
     → Tells (request .ask) flat′ out′ (r .answer)
     (completion true (table-in ws txt t) (request .ask) (request .budget) (output flat out) query)
 completes-tells {ws} {txt} {flat} {flat′} {out} {out′} {query} {t} {request} {r} o x =
-    tells (request .ask) ws txt flat flat′ out out′ (r .answer) (completion true (table-in ws txt t) (request .ask) (request .budget) (output flat out) query)
+    tells (request .ask) (used-words ws (t .header)) (used-text txt (t .header)) flat flat′ out out′ (r .answer)
+    (completion true (table-in ws txt t) (request .ask) (request .budget) (output flat out) query)
     (x .says true o)

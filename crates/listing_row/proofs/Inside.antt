@@ -13,16 +13,16 @@ use Rattle.memory.proofs.Seen.{link-ok}
 use Rattle.listing_output.specs.Output.{item-words, RowFrom}
 use Rattle.listing_row.specs.Rows.{item-in, SymbolInside, ItemInside}
 
-pub symbol-in-inside : {txt r : List ℕ} {used : ℕ} → SymbolOk txt used r → used ≤ length txt
-    → SymbolInside (length txt) (symbol-in r)
-symbol-in-inside {r = r} o h =
+pub symbol-in-inside : {txt r : List ℕ} {used : ℕ} (size : ℕ) → SymbolOk txt used r → used ≤ size
+    → SymbolInside size (symbol-in r)
+symbol-in-inside {r = r} size o h =
     zero-one (symbol-word r) (o .sort) (λ z. rw z (omega (arith, o .name .inside), omega (arith, o .path z .inside)))
     (λ z. rw z (omega (arith, o .name .inside)))
 
 item-in-inside : (w : Which) (txt r : List ℕ) {used : ℕ} → used ≤ length txt → ItemOk txt used w r
     → ItemInside (length txt) (item-in w r)
 item-in-inside names txt r h o = tt
-item-in-inside modules txt r h o = symbol-in-inside o h
+item-in-inside modules txt r h o = symbol-in-inside (length txt) o h
 
 -- Words that are a right branch's.
 same-ok : (w : Which) (txt r b : List ℕ) (used : ℕ) → item-words r ≡ item-words b → ItemOk txt used w b

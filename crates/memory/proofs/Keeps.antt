@@ -37,64 +37,66 @@ module _ (txt : List ℕ) (used : ℕ) (s : List ℕ) (room : used + length s �
   unfolding put-text span
   put-text-span = paste-part txt used s (length s) room (omega arith) ∙ take-length s
 
-module _ {txt txt′ : List ℕ} {used : ℕ} (y : Keeps used txt txt′) where
-  pub span-keeps : (s n : ℕ) → s + n ≤ used → span txt′ s n ≡ span txt s n
+-- The first used bytes are the same, whatever else is lent.
+module _ (txt txt′ : List ℕ) (used : ℕ) (e : take used txt′ ≡ take used txt) where
+  pub span-same : (s n : ℕ) → s + n ≤ used → span txt′ s n ≡ span txt s n
   unfolding span
-  span-keeps s n h = part-stays used txt txt′ (y .same) n s h
+  span-same s n h = part-stays used txt txt′ e n s h
 
-  pub text-keeps : {used′ : ℕ} → used ≤ used′ → (Rule : Str → Type 0) (s n : ℕ) → TextOk Rule txt used s n
+  text-same : {used′ : ℕ} → used ≤ used′ → (Rule : Str → Type 0) (s n : ℕ) → TextOk Rule txt used s n
       → TextOk Rule txt′ used′ s n
-  text-keeps u Rule s n o = record { inside = omega (arith, o .inside); keeps = rw (span-keeps s n (o .inside)) (o .keeps) }
+  text-same u Rule s n o = record { inside = omega (arith, o .inside); keeps = rw (span-same s n (o .inside)) (o .keeps) }
 
-  item-keeps : (w : Which) (r : List ℕ) → ItemOk txt used w r → item-of w txt′ r ≡ item-of w txt r
-  item-keeps names r o = refl
-  item-keeps modules r o =
+  pub item-same : (w : Which) (r : List ℕ) → ItemOk txt used w r → item-of w txt′ r ≡ item-of w txt r
+  item-same names r o = refl
+  item-same modules r o =
       zero-one (word r 5) (o .sort)
-      (λ z. rw (z, span-keeps (word r 6) (word r 7) (o .name .inside), span-keeps (word r 8) (word r 9) (o .path z .inside)))
-      (λ z. rw (z, span-keeps (word r 6) (word r 7) (o .name .inside)))
+      (λ z. rw (z, span-same (word r 6) (word r 7) (o .name .inside), span-same (word r 8) (word r 9) (o .path z .inside)))
+      (λ z. rw (z, span-same (word r 6) (word r 7) (o .name .inside)))
 
   -- A right record, where its links read the same.
   module _ (ws : List ℕ) (l : ℕ) (w : Which) (r : List ℕ)
       (ih : (x : ℕ) (t : Sort) → LinkOk ws l x (kind w t) → what w ws txt′ x t ≡ what w ws txt x t) where
-    collection-keeps : (ℓ : Level) → CollectionOk ws txt used l w r ℓ
+    collection-same : (ℓ : Level) → CollectionOk ws txt used l w r ℓ
         → row w txt′ r (what w ws txt′) (list ℓ) ≡ row w txt r (what w ws txt) (list ℓ)
-    collection-keeps ℓ o =
+    collection-same ℓ o =
         zero-one (word r 5) (o .sort)
         (λ z. rw (z, ih (word r 3) (tree ℓ) (o .own z), ih (word r 4) (list ℓ) (o .rest)))
-        (λ z. rw (z, span-keeps (word r 1) (word r 2) (o .label z .inside), ih (word r 3) (list ℓ) (o .imported z), ih (word r 4) (list ℓ) (o .rest)))
+        (λ z. rw (z, span-same (word r 1) (word r 2) (o .label z .inside), ih (word r 3) (list ℓ) (o .imported z), ih (word r 4) (list ℓ) (o .rest)))
 
-    row-keeps : (s : Sort) → RecordAs ws txt used l w s r (what w ws txt l s)
+    row-same : (s : Sort) → RecordAs ws txt used l w s r (what w ws txt l s)
         → row w txt′ r (what w ws txt′) s ≡ row w txt r (what w ws txt) s
-    row-keeps (tree bind) a =
+    row-same (tree bind) a =
         rw (
-          span-keeps (word r 1) (word r 2) (a .0 .key .inside),
-          item-keeps w r (a .2),
+          span-same (word r 1) (word r 2) (a .0 .key .inside),
+          item-same w r (a .2),
           ih (word r 3) (tree bind) (a .0 .left),
           ih (word r 4) (tree bind) (a .0 .right),
         )
-    row-keeps (tree ns) a =
+    row-same (tree ns) a =
         rw (
-          span-keeps (word r 1) (word r 2) (a .0 .key .inside),
+          span-same (word r 1) (word r 2) (a .0 .key .inside),
           ih (word r 5) trieˢ (a .2),
           ih (word r 3) (tree ns) (a .0 .left),
           ih (word r 4) (tree ns) (a .0 .right),
         )
-    row-keeps (list bind) a = collection-keeps bind (a .0)
-    row-keeps (list ns) a = collection-keeps ns (a .0)
-    row-keeps trieˢ a = rw (ih (word r 3) (list bind) (a .0 .bindings), ih (word r 4) (list ns) (a .0 .namespaces))
+    row-same (list bind) a = collection-same bind (a .0)
+    row-same (list ns) a = collection-same ns (a .0)
+    row-same trieˢ a = rw (ih (word r 3) (list bind) (a .0 .bindings), ih (word r 4) (list ns) (a .0 .namespaces))
 
-module _ {ws txt txt′ : List ℕ} {n used : ℕ} (o : Used ws txt n used) (y : Keeps used txt txt′) where
-  pub what-keeps : (w : Which) (s : Sort) {l x : ℕ} → l ≤ n + 1 → LinkOk ws l x (kind w s)
+module _ {ws txt : List ℕ} {n used : ℕ} (o : Used ws txt n used) (txt′ : List ℕ)
+    (e : take used txt′ ≡ take used txt) where
+  pub what-text-same : (w : Which) (s : Sort) {l x : ℕ} → l ≤ n + 1 → LinkOk ws l x (kind w s)
       → what w ws txt′ x s ≡ what w ws txt x s
-  what-keeps =
+  what-text-same =
       by-links (o .rows) (λ w s x. what w ws txt′ x s ≡ what w ws txt x s)
       (λ w s. rw (what-none w ws txt′, what-none w ws txt))
       (λ w s l p r ih.
-      let e = as-earlier ws txt used l w s (record-at ws l) (what w ws txt l s) r in
-      what-row w ws txt′ s l p e ∙ row-keeps y ws l w (record-at ws l) ih s r ∙ sym (what-row w ws txt s l p e))
+      let f = as-earlier ws txt used l w s (record-at ws l) (what w ws txt l s) r in
+      what-row w ws txt′ s l p f ∙ row-same txt txt′ used e ws l w (record-at ws l) ih s r ∙ sym (what-row w ws txt s l p f))
 
-  pub used-text : {used′ : ℕ} → used ≤ used′ → used′ ≤ 65536 → used′ ≤ length txt′ → Used ws txt′ n used′
-  used-text {used′} more short fits = record {
+  pub used-text-same : {used′ : ℕ} → used ≤ used′ → used′ ≤ 65536 → used′ ≤ length txt′ → Used ws txt′ n used′
+  used-text-same {used′} more short fits = record {
     few = o .few;
     short = short;
     records-fit = o .records-fit;
@@ -105,8 +107,22 @@ module _ {ws txt txt′ : List ℕ} {n used : ℕ} (o : Used ws txt n used) (y :
           which = r .which;
           sort = r .sort;
           known = r .known;
-          right = rw (what-keeps (r .which) (r .sort) {l = n + 1} {x = l} (omega arith) (record { earlier = omega arith; of-kind = λ _. r .known }))
-              (as-map {ws = ws} {ws′ = ws} {txt = txt} {txt′ = txt′} {used = used} {used′ = used′} {l = l} {l′ = l} (λ x k i. i) (text-keeps y more) (r .which)
+          right = rw (what-text-same (r .which) (r .sort) {l = n + 1} {x = l} (omega arith) (record { earlier = omega arith; of-kind = λ _. r .known }))
+              (as-map {ws = ws} {ws′ = ws} {txt = txt} {txt′ = txt′} {used = used} {used′ = used′} {l = l} {l′ = l} (λ x k i. i)
+              (text-same txt txt′ used e more) (r .which)
               (r .sort) _ _ (r .right));
         };
   }
+
+-- The same where as many bytes are lent.
+pub span-keeps : {txt txt′ : List ℕ} {used : ℕ} → Keeps used txt txt′ → (s n : ℕ) → s + n ≤ used
+    → span txt′ s n ≡ span txt s n
+span-keeps {txt} {txt′} {used} y = span-same txt txt′ used (y .same)
+
+module _ {ws txt txt′ : List ℕ} {n used : ℕ} (o : Used ws txt n used) (y : Keeps used txt txt′) where
+  pub what-keeps : (w : Which) (s : Sort) {l x : ℕ} → l ≤ n + 1 → LinkOk ws l x (kind w s)
+      → what w ws txt′ x s ≡ what w ws txt x s
+  what-keeps = what-text-same o txt′ (y .same)
+
+  pub used-text : {used′ : ℕ} → used ≤ used′ → used′ ≤ 65536 → used′ ≤ length txt′ → Used ws txt′ n used′
+  used-text = used-text-same o txt′ (y .same)

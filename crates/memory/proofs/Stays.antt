@@ -23,40 +23,54 @@ stays-on {m} {n} {ws} {ws′} {ws″} h y z = record {
   size = z .size ∙ y .size;
 }
 
+-- The first n records are the same, whatever else is lent.
+module _ (n : ℕ) (ws ws′ : List ℕ) (e : take (n * 12) ws′ ≡ take (n * 12) ws) where
+  pub record-same : (l : ℕ) → 0 < l → l ≤ n → record-at ws′ l ≡ record-at ws l
+  unfolding record-at
+  record-same l p h = part-stays (n * 12) ws ws′ e 12 ((l - 1) * 12) (omega arith)
+
+  among-same : (w : Which) (txt : List ℕ) (m : ℕ) → m ≤ n → among w ws′ txt m ≡ among w ws txt m
+  unfolding among
+  among-same w txt zero h = refl
+  among-same w txt (suc m) h = fun-ext (λ l. rw (record-same (suc m) (omega arith) h, among-same w txt m (omega arith)))
+
+  pub what-same : (w : Which) (txt : List ℕ) (l : ℕ) → l ≤ n → what w ws′ txt l ≡ what w ws txt l
+  unfolding what
+  what-same w txt l h = ap (λ (f : ℕ → Reading w). f l) (among-same w txt l h)
+
+  -- A link stays right, also in a later record.
+  pub link-same : {l l′ x k : ℕ} → l ≤ n + 1 → l ≤ l′ → LinkOk ws l x k → LinkOk ws′ l′ x k
+  link-same {x = x} h g o = record {
+    earlier = omega (arith, o .earlier);
+    of-kind = λ z. zero-some x (λ i. absurd (z i)) (λ p. rw (record-same x p (omega (arith, o .earlier))) (o .of-kind z));
+  }
+
+  pub ok-same : {txt : List ℕ} {used l : ℕ} → 0 < l → l ≤ n → RecordOk ws txt used l → RecordOk ws′ txt used l
+  ok-same {txt} {used} {l} p h o = record {
+    which = o .which;
+    sort = o .sort;
+    known = rw (record-same l p h) (o .known);
+    right = rw (record-same l p h, what-same (o .which) txt l h)
+        (as-map {ws = ws} {ws′ = ws′} {txt = txt} {txt′ = txt} {used = used} {used′ = used} {l = l} {l′ = l} (λ x k a. link-same (omega arith) (omega arith) a)
+        (λ Rule s m a. a) (o .which) (o .sort) _ _ (o .right));
+  }
+
 module _ {n : ℕ} {ws ws′ : List ℕ} (y : Stays n ws ws′) where
   pub record-stays : (l : ℕ) → 0 < l → l ≤ n → record-at ws′ l ≡ record-at ws l
-  unfolding record-at
-  record-stays l p h = part-stays (n * 12) ws ws′ (y .same) 12 ((l - 1) * 12) (omega arith)
-
-  among-stays : (w : Which) (txt : List ℕ) (m : ℕ) → m ≤ n → among w ws′ txt m ≡ among w ws txt m
-  unfolding among
-  among-stays w txt zero h = refl
-  among-stays w txt (suc m) h = fun-ext (λ l. rw (record-stays (suc m) (omega arith) h, among-stays w txt m (omega arith)))
+  record-stays = record-same n ws ws′ (y .same)
 
   pub what-stays : (w : Which) (txt : List ℕ) (l : ℕ) → l ≤ n → what w ws′ txt l ≡ what w ws txt l
-  unfolding what
-  what-stays w txt l h = ap (λ (f : ℕ → Reading w). f l) (among-stays w txt l h)
+  what-stays = what-same n ws ws′ (y .same)
 
   pub stored-stays : (x k : ℕ) → x ≤ n → stored ws′ x k ≡ stored ws x k
   unfolding stored
   stored-stays x k h = zero-some x (λ e. rw e) (λ p. rw (record-stays x p h))
 
-  -- A link stays right, also in a later record.
   pub link-stays : {l l′ x k : ℕ} → l ≤ n + 1 → l ≤ l′ → LinkOk ws l x k → LinkOk ws′ l′ x k
-  link-stays {x = x} h g o = record {
-    earlier = omega (arith, o .earlier);
-    of-kind = λ z. zero-some x (λ e. absurd (z e)) (λ p. rw (record-stays x p (omega (arith, o .earlier))) (o .of-kind z));
-  }
+  link-stays = link-same n ws ws′ (y .same)
 
   pub ok-stays : {txt : List ℕ} {used l : ℕ} → 0 < l → l ≤ n → RecordOk ws txt used l → RecordOk ws′ txt used l
-  ok-stays {txt} {used} {l} p h o = record {
-    which = o .which;
-    sort = o .sort;
-    known = rw (record-stays l p h) (o .known);
-    right = rw (record-stays l p h, what-stays (o .which) txt l h)
-        (as-map {ws = ws} {ws′ = ws′} {txt = txt} {txt′ = txt} {used = used} {used′ = used} {l = l} {l′ = l} (λ x k a. link-stays (omega arith) (omega arith) a)
-        (λ Rule s m a. a) (o .which) (o .sort) _ _ (o .right));
-  }
+  ok-stays = ok-same n ws ws′ (y .same)
 
 -- A right record after the used ones.
 pub used-more : {ws ws′ txt : List ℕ} {n used : ℕ} → Used ws txt n used → Stays n ws ws′ → n < 65536

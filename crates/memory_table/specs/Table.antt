@@ -1,6 +1,8 @@
 -- A table in memory, by its header: what a sound one is, and the source's table that it reads as.
-use Prim.Native.Nat.{ℕ, _+_}
+use Prim.Native.Nat.{ℕ, _+_, _*_}
 use mathlib.Core.List.{List}
+use lib.ListN.{take}
+use Rattle.source.specs.Limits.{record-words}
 use Rattle.source.specs.Table.{Table}
 use Rattle.source.specs.Calls.{State}
 use Rattle.memory.specs.Layout.{Which, names, modules, trieˢ, kind, what}
@@ -17,6 +19,13 @@ pub record Sound (ws txt : List ℕ) (h : Header) : Type 0 where
   pub right : Used ws txt (h .records) (h .text)
   pub names-link : LinkOk ws (h .records + 1) (h .names) (kind names trieˢ)
   pub modules-link : LinkOk ws (h .records + 1) (h .modules) (kind modules trieˢ)
+
+-- The words of its used records, and its used text.
+abbrev pub used-words : List ℕ → Header → List ℕ
+used-words ws h = take (h .records * record-words) ws
+
+abbrev pub used-text : List ℕ → Header → List ℕ
+used-text txt h = take (h .text) txt
 
 -- The source's table, by the header.
 abbrev pub table-of : List ℕ → List ℕ → Header → Table

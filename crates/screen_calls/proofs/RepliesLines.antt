@@ -9,6 +9,7 @@ use Rattle.source.specs.Table as S
 use Rattle.source.specs.Calls as C
 use Rattle.source.specs.Calls.{first-row, argument-rows, Output, completion-rows, completed, complete, complete-modules}
 use Rattle.memory.specs.Layout.{Item}
+use Rattle.memory_table.specs.Table.{used-words, used-text}
 use Rattle.listing_ask.specs.Ask.{asked}
 use Rattle.listing_ask.specs.declared.Ask.{Ask}
 use Rattle.listing_ask.specs.declared.Ask.the-variants.{Names, Modules}
@@ -68,7 +69,8 @@ module _ {st bs txt : List ℕ} {query : Str} {ls out : List ℕ} where
       → RepliesLines st bs txt (some (request .ask)) query (request .budget) ls ls′ out out′ c
   lines-replied {m} {ls′} {out′} {t} {request} r h g p = record {
     says = λ b i. rw (← h .lent, h .spelt .header, p)
-        (replied-as (request .ask) m txt ls ls′ out out′ (r .answer) (completion b (table-in m txt t) (request .ask) (request .budget) (output ls out) query)
+        (replied-as (request .ask) (used-words m (t .header)) (used-text txt (t .header)) ls ls′ out out′ (r .answer)
+        (completion b (table-in m txt t) (request .ask) (request .budget) (output ls out) query)
         (g .says b (says-memory txt h b i)));
   }
 

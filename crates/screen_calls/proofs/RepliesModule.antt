@@ -41,5 +41,10 @@ module _ {st bs txt m : List ℕ} {t : Table} {q : Str} (h : Held st bs m t) whe
   pub module-looked : {f : ModuleFinding} {r : ModuleReply} → FindsModule m txt t q f → r ≡ module-reply (f .answer)
       → RepliesModule st bs txt q r
   module-looked {f} g p = record {
-    says = λ b i. record { found = f .answer; reply = p; says = rw (← h .lent, h .spelt .header) (g .says b (says-memory txt h b i)); inside = g .inside };
+    says = λ b i. record {
+      found = f .answer;
+      reply = p;
+      says = rw (← h .lent, h .spelt .header) (g .says b (says-memory txt h b i));
+      inside = rw (h .spelt .header) (g .inside);
+    };
   }

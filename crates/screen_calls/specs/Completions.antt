@@ -11,6 +11,7 @@ use Rattle.source.specs.Table.{Line}
 use Rattle.source.specs.Calls as C
 use Rattle.memory.specs.Layout.{Item}
 use Rattle.memory.specs.Sound.{Says}
+use Rattle.memory_table.specs.Table.{used-words, used-text}
 use Rattle.listing_ask.specs.Ask.{asked}
 use Rattle.listing_output.specs.Output.{Written}
 use Rattle.listing_ask.specs.declared.Ask.{Ask}
@@ -20,7 +21,7 @@ use Rattle.table.specs.Completions.{completion}
 use Rattle.screen_replies.specs.Replies.{no-lines, lines-part}
 use Rattle.screen_replies.specs.declared.CompleteReply.{CompleteReply}
 use Rattle.screen_replies.specs.declared.SharedReply.{SharedReply}
-use Rattle.screen_memory.specs.Memory.{words-in}
+use Rattle.screen_memory.specs.Memory.{header-in, words-in}
 use Rattle.screen_calls.specs.Memory.{table-at, SoundBytes}
 
 -- Listed: the lines are written from the start of the lent bytes, their texts from the start of the output text, and every other byte is as it was.
@@ -53,11 +54,12 @@ module _ (ws txt : List ℕ) (query : Str) (budget : ℕ) (ls ls′ out out′ :
       ListsAs ask ws txt ls ls′ out out′ r (completion sound tbl ask budget (output ls out) query)
   ListsFor sound tbl none = Refuses (unasked sound) ls ls′ out out′ r
 
--- The reply r to a completion; b says whether the bytes are a sound table.
+-- The reply r to a completion, its lines' items from used records, their texts in the used text; b says whether the bytes are a sound table.
 pub record RepliesLines (st bs txt : List ℕ) (ask : Option Ask) (query : Str) (budget : ℕ) (ls ls′ out out′ : List ℕ)
     (r : CompleteReply) : Type 0 where
   pub says : (b : Bool) → Says b (SoundBytes st bs txt)
-      → ListsFor (words-in bs) txt query budget ls ls′ out out′ r b (table-in (words-in bs) txt (table-at st)) ask
+      → ListsFor (used-words (words-in bs) (header-in st)) (used-text txt (header-in st))
+      query budget ls ls′ out out′ r b (table-in (words-in bs) txt (table-at st)) ask
 
 -- The shared length of what is asked of the table; 0 where nothing is asked.
 abbrev pub shared-for : (sound : Bool) → S.Table → Option Ask → (budget : ℕ) → C.Output → Str → ℕ

@@ -10,6 +10,8 @@ use Rattle.source.specs.Table as S
 use Rattle.source.specs.Calls as C
 use Rattle.source.specs.Calls.{State, Lent, Call, register, look-up}
 use Rattle.memory.specs.Sound.{Says}
+use Rattle.memory_table.specs.Table.{used-text}
+use Rattle.memory_table.specs.declared.Header.{Header}
 use Rattle.table.specs.Header.{state, lent, names-in, modules-in}
 use Rattle.table_roots.specs.Answers.{module-found, FoundInside}
 use Rattle.source.specs.Lent.{Outside}
@@ -74,14 +76,14 @@ pub record RepliesName (st bs txt : List ℕ) (query : Str) (r : NameReply) : Ty
   pub says : (b : Bool) → Says b (SoundBytes st bs txt)
       → r ≡ name-reply (look-up b (names-in (words-in bs) txt (table-at st)) query)
 
--- The reply r says the answer a, its texts being spans of the lent text.
-pub record SaysModule (txt : List ℕ) (a : C.Found S.ModSymbol) (r : ModuleReply) : Type 0 where
+-- The reply r says the answer a, its texts being spans of the lent text that lie in the used text.
+pub record SaysModule (txt : List ℕ) (h : Header) (a : C.Found S.ModSymbol) (r : ModuleReply) : Type 0 where
   pub found : FoundModule
   pub reply : r ≡ module-reply found
   pub says : module-found txt found ≡ a
-  pub inside : FoundInside (length txt) found
+  pub inside : FoundInside (length (used-text txt h)) found
 
 -- The reply r to a look-up of a module or namespace; b says whether the bytes are a sound table.
 pub record RepliesModule (st bs txt : List ℕ) (query : Str) (r : ModuleReply) : Type 0 where
   pub says : (b : Bool) → Says b (SoundBytes st bs txt)
-      → SaysModule txt (look-up b (modules-in (words-in bs) txt (table-at st)) query) r
+      → SaysModule txt (header-in st) (look-up b (modules-in (words-in bs) txt (table-at st)) query) r

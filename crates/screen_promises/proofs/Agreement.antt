@@ -1,5 +1,5 @@
 -- Demand 3 of the exported calls follows from their contracts and from the theorem over the definitions.
-use Prim.Native.Nat.{ℕ, zero, suc, _<_}
+use Prim.Native.Nat.{ℕ, zero, suc, _*_, _<_}
 use mathlib.Core.Path.{_≡_, refl, sym, ap, _∙_}
 use mathlib.Core.Bool.{Bool, true, false}
 use mathlib.Core.List.{List}
@@ -22,6 +22,8 @@ use Rattle.source.specs.declared.KindFilter.the-variants.{Every, Timers, Ports,
 use Rattle.memory.specs.Layout.{names, modules, Item}
 use Rattle.memory.specs.Sound.{Says}
 use Rattle.memory.proofs.Says.{either-way}
+use Rattle.memory_table.specs.Table.{used-words, used-text}
+use Rattle.memory_table.specs.declared.Header.{Header}
 use Rattle.memory_table.proofs.Table.{sound-table}
 use Rattle.listing_ask.specs.Ask.{asked, filter-in}
 use Rattle.listing_ask.specs.declared.Ask.{Ask}
@@ -31,12 +33,13 @@ use Rattle.listing_ask.specs.declared.Filter.the-variants.{All, Loaded, Modules
 use Rattle.listing_row.specs.Rows.{lines-seen}
 use Rattle.listing_row.proofs.Written.{written-seen}
 use Rattle.listing.specs.Completes.{output}
+use Rattle.table_roots.proofs.Written.{written-whole}
 use Rattle.table.specs.Header.{table-in, names-in, modules-in}
 use Rattle.screen_replies.specs.Filters.{names-for, modules-for}
 use Rattle.screen_replies.specs.Replies.{name-reply}
 use Rattle.screen_replies.specs.declared.CompleteReply.{CompleteReply}
 use Rattle.screen_promises.proofs.Replies.{name-reply-is, name-reply-found, module-reply-is, module-reply-found}
-use Rattle.screen_memory.specs.Memory.{words-in}
+use Rattle.screen_memory.specs.Memory.{header-in, words-in}
 use Rattle.screen_calls.specs.Memory.{table-at, SoundBytes}
 use Rattle.screen_calls.specs.Completions.{ListsAs, unasked}
 use Rattle.screen_promises.specs.Agreement.{HoldsName, HoldsModule, HoldsLines, BytesAgree, BytesFound}
@@ -52,14 +55,19 @@ module _ (b : Bool) (tbl : S.Table) (budget : ℕ) (o : Output) (q : Str) {n : �
 
 -- ---- A listing that was not refused
 
-listed-bytes : (ask : Ask) (ws txt ls ls′ out out′ : List ℕ) (r : CompleteReply) (o : C.Completed (Item (asked ask)))
-    → ListsAs ask ws txt ls ls′ out out′ r o → r .answer ≡ 0
+listed-bytes : (ask : Ask) (ws txt : List ℕ) (h : Header) (ls ls′ out out′ : List ℕ) (r : CompleteReply)
+    (o : C.Completed (Item (asked ask)))
+    → ListsAs ask (used-words ws h) (used-text txt h) ls ls′ out out′ r o → r .answer ≡ 0
     → ((n : ℕ) → o ≡ C.refused n → 0 < n)
     → (lines : List (Line (Item (asked ask)))) × (entered : ℕ) × (o ≡ C.listed lines entered)
     × (lines-seen (asked ask) txt ls′ out′ (r .lines) ≡ lines)
-listed-bytes ask ws txt ls ls′ out out′ r (C.listed lines e) h z k =
-    (lines, e, refl, rw (ap (λ (x : CompleteReply). x .lines) (h .reply)) (written-seen (h .written)))
-listed-bytes ask ws txt ls ls′ out out′ r (C.refused n) h z k = absurd (omega (arith, k n refl, ap (λ (x : CompleteReply). x .answer) (h .reply)))
+listed-bytes ask ws txt h ls ls′ out out′ r (C.listed lines e) i z k = (
+  lines,
+  e,
+  refl,
+  rw (ap (λ (x : CompleteReply). x .lines) (i .reply)) (written-seen (written-whole ws txt (h .records * 12) (h .text) (asked ask) (i .written))),
+)
+listed-bytes ask ws txt h ls ls′ out out′ r (C.refused n) i z k = absurd (omega (arith, k n refl, ap (λ (x : CompleteReply). x .answer) (i .reply)))
 
 -- ---- Both roots
 
@@ -93,7 +101,7 @@ module _ (st bs txt : List ℕ) (name : Str) where
     names-agree a lines f ok c true s =
         let o = output (c .flat) (c .out) in
         let k =
-        listed-bytes (Names Every) ws txt (c .flat) (c .flat′) (c .out) (c .out′) (c .reply) _ (c .replies .says true s) (c .listed)
+        listed-bytes (Names Every) ws txt (header-in st) (c .flat) (c .flat′) (c .out) (c .out′) (c .reply) _ (c .replies .says true s) (c .listed)
         (λ n. names-refused true tbl (c .budget) o query Every) in
         rw (← c .read, k .3)
         (agreement .names tbl (sound-table (s .sound)) .shows name query a (k .0) (sym (name-said a f ok true s)) ok (c .budget, o, k .1, k .2) cover)
@@ -106,7 +114,7 @@ module _ (st bs txt : List ℕ) (name : Str) where
     modules-agree a lines f ok c true s =
         let o = output (c .flat) (c .out) in
         let k =
-        listed-bytes (Modules All) ws txt (c .flat) (c .flat′) (c .out) (c .out′) (c .reply) _ (c .replies .says true s) (c .listed)
+        listed-bytes (Modules All) ws txt (header-in st) (c .flat) (c .flat′) (c .out) (c .out′) (c .reply) _ (c .replies .says true s) (c .listed)
         (λ n. modules-refused true tbl (c .budget) o query C.All) in
         rw (← c .read, k .3)
         (agreement .modules tbl (sound-table (s .sound)) .shows name query a (k .0) (sym (module-said a f ok true s)) ok (c .budget, o, k .1, k .2) cover)
@@ -155,7 +163,7 @@ module _ (st bs txt : List ℕ) (query : Str) where
   names-found-of f lines c true s =
       let o = output (c .flat) (c .out) in
       let k =
-      listed-bytes (Names f) (words-in bs) txt (c .flat) (c .flat′) (c .out) (c .out′) (c .reply) _ (c .replies .says true s) (c .listed)
+      listed-bytes (Names f) (words-in bs) txt (header-in st) (c .flat) (c .flat′) (c .out) (c .out′) (c .reply) _ (c .replies .says true s) (c .listed)
       (λ n. names-refused true lent-table (c .budget) o query f) in
       let g = lines-found .names lent-table (sound-table (s .sound)) f in
       let q : ListsNames lent-table f query (k .0) = (c .budget, o, k .1, k .2) in
@@ -173,7 +181,7 @@ module _ (st bs txt : List ℕ) (query : Str) where
   modules-found-of f lines c true s =
       let o = output (c .flat) (c .out) in
       let k =
-      listed-bytes (Modules f) (words-in bs) txt (c .flat) (c .flat′) (c .out) (c .out′) (c .reply) _ (c .replies .says true s) (c .listed)
+      listed-bytes (Modules f) (words-in bs) txt (header-in st) (c .flat) (c .flat′) (c .out) (c .out′) (c .reply) _ (c .replies .says true s) (c .listed)
       (λ n. modules-refused true lent-table (c .budget) o query (filter-in f)) in
       let g = lines-found .modules lent-table (sound-table (s .sound)) (filter-in f) in
       let q : ListsModules lent-table (filter-in f) query (k .0) = (c .budget, o, k .1, k .2) in

@@ -16,6 +16,7 @@ use Rattle.screen_replies.specs.Replies.{name-reply}
 use Rattle.screen_replies.specs.declared.NameReply.{NameReply}
 use Rattle.screen_replies.specs.declared.ModuleReply.{ModuleReply}
 use Rattle.screen_replies.specs.declared.CompleteReply.{CompleteReply}
+use Rattle.screen_memory.specs.Memory.{header-in}
 use Rattle.screen_calls.specs.Replies.{RepliesName, SaysModule, RepliesModule}
 use Rattle.screen_calls.specs.Completions.{RepliesLines}
 
@@ -29,7 +30,7 @@ pub record HoldsName (st bs txt : List ℕ) (name : Str) (a : Found LidSymbol) :
 pub record HoldsModule (st bs txt : List ℕ) (name : Str) (a : Found ModSymbol) : Type 0 where
   pub reply : ModuleReply
   pub replies : RepliesModule st bs txt name reply
-  pub is : SaysModule txt a reply
+  pub is : SaysModule txt (header-in st) a reply
 
 -- What a caller holds of a completion that is not refused, and the lines that it reads in the lent bytes.
 pub record HoldsLines (st bs txt : List ℕ) (w : Which) (ask : Option Ask) (query : Str)

@@ -30,7 +30,7 @@ pub struct NameReply {
 }
 
 // The reply to a look-up of a module or namespace: 0 with its sort (0 a Module, 1 a Namespace), the spans of its full name and
-// path in the lent text, and 1 if it is loaded; NONE, else the number of the refusal. What does not apply is 0.
+// path in the used text, and 1 if it is loaded; NONE, else the number of the refusal. What does not apply is 0.
 #[repr(C)]
 pub struct ModuleReply {
     pub answer: u32,

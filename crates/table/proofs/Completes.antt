@@ -1,12 +1,14 @@
 -- A completion on a table.
 use Prim.Native.Nat.{ℕ}
-use mathlib.Core.Path.{_≡_, refl, subst}
+use mathlib.Core.Path.{_≡_, refl, ap, _∙_, subst}
 use mathlib.Core.Bool.{true, false}
 use mathlib.Core.List.{List}
 use Rattle.source.specs.Text.{Str, segments}
 use Rattle.source.specs.Calls.{first-row, argument-rows, Output, completion-rows, completed, tries-entered, keeps-kind, keeps, complete, complete-modules}
 use Rattle.source.proofs.Lines.{autocomplete-lid-is, autocomplete-mod-or-ns-is}
 use Rattle.memory.specs.Layout.{trieˢ, what}
+use Rattle.memory_table.specs.Table.{used-words, used-text}
+use Rattle.memory_table.proofs.UsedPart.{used-part-table}
 use Rattle.listing_ask.specs.Ask.{filter-in, asked}
 use Rattle.listing_ask.specs.declared.Ask.{Ask}
 use Rattle.listing_ask.specs.declared.Ask.the-variants.{Names, Modules}
@@ -31,13 +33,20 @@ on-table ws txt t (Modules f) budget out query = rw (autocomplete-mod-or-ns-is (
 
 pub completes-table : {ws txt : List ℕ} {t : Table} {request : Request} {query : Str} {flat flat′ out out′ : List ℕ}
     {r : Completed} → IsSound ws txt t
-    → CompletesOn ws txt request (root-for (t .header) (request .ask)) query flat flat′ out out′ r
+    → CompletesOn (used-words ws (t .header)) (used-text txt (t .header)) request (root-for (t .header) (request .ask))
+    query flat flat′ out out′ r
     → Completes ws txt t request query flat flat′ out out′ (record { table = t; answer = r })
-completes-table {ws} {txt} {t} {request} {query} {flat} {flat′} {out} {out′} {r} o c = record {
-  table = refl;
-  says = λ b h. rw (says-same _ b true h o)
-      (subst (CompletesAs (request .ask) ws txt flat flat′ out out′ r) (on-table ws txt t (request .ask) (request .budget) (output flat out) query) (c .says));
-}
+completes-table {ws} {txt} {t} {request} {query} {flat} {flat′} {out} {out′} {r} o c =
+    let ws′ : List ℕ = used-words ws (t .header) in
+    let txt′ : List ℕ = used-text txt (t .header) in
+    record {
+      table = refl;
+      says = λ b h. rw (says-same _ b true h o)
+          (subst (CompletesAs (request .ask) ws′ txt′ flat flat′ out out′ r)
+          (on-table ws′ txt′ t (request .ask) (request .budget) (output flat out) query
+          ∙ ap (λ tbl. completion true tbl (request .ask) (request .budget) (output flat out) query)
+          (used-part-table o)) (c .says));
+    }
 
 -- A memory that is not sound is refused, whatever is asked.
 pub completes-unsound : {ws txt : List ℕ} {t : Table} {request : Request} {query : Str} {flat out : List ℕ}
@@ -46,7 +55,8 @@ pub completes-unsound : {ws txt : List ℕ} {t : Table} {request : Request} {que
 unfolding complete complete-modules completed completion-rows first-row argument-rows
 completes-unsound {ws} {txt} {t} {request} {query} {flat} {out} o = record { table = refl; says = λ b h. rw (says-same _ b false h o) (go (request .ask)) }
   where
-    go : (ask : Ask) → CompletesAs ask ws txt flat flat out out (Refused Unsound)
+    go : (ask : Ask)
+        → CompletesAs ask (used-words ws (t .header)) (used-text txt (t .header)) flat flat out out (Refused Unsound)
         (completion false (table-in ws txt t) ask (request .budget) (output flat out) query)
     go (Names f) = (refl, refl, refl)
     go (Modules f) = (refl, refl, refl)

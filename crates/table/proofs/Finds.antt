@@ -5,7 +5,6 @@ use mathlib.Core.Bool.{true, false}
 use mathlib.Core.List.{List}
 use Rattle.source.specs.Text.{Str}
 use Rattle.source.specs.Calls.{first-row, argument-rows, look-up}
-use Rattle.memory.specs.Layout.{modules}
 use Rattle.refusals.specs.declared.Refusal.the-variants.{Unsound}
 use Rattle.table.specs.Header.{IsSound, names-in}
 use Rattle.table_roots.specs.Answers.{name-found, FindsModuleOn}
@@ -26,7 +25,7 @@ module _ {ws txt : List ℕ} {t : Table} {query : Str} where
   unfolding first-row argument-rows look-up
   finds-unsound o = record { table = refl; says = λ b h. rw (says-same _ b false h o) refl }
 
-  pub finds-module-sound : {f : FoundModule} → IsSound ws txt t → FindsModuleOn ws txt (t .header .modules) query f
+  pub finds-module-sound : {f : FoundModule} → IsSound ws txt t → FindsModuleOn ws txt (t .header) query f
       → FindsModule ws txt t query (record { table = t; answer = f })
   finds-module-sound o m = record { table = refl; says = λ b h. rw (says-same _ b true h o) (m .says); inside = m .inside }
 

@@ -7,6 +7,7 @@ use lib.ListN.{length}
 use Rattle.source.specs.Text.{Str}
 use Rattle.source.specs.Calls.{look-up}
 use Rattle.memory.specs.Sound.{Says}
+use Rattle.memory_table.specs.Table.{used-text}
 use Rattle.table_roots.specs.Answers.{name-found, module-found, FoundInside}
 use Rattle.table.specs.Header.{IsSound, names-in, modules-in}
 use Rattle.table.specs.declared.Table.{Table}
@@ -18,9 +19,9 @@ pub record Finds (ws txt : List ℕ) (t : Table) (query : Str) (r : Finding) : T
   pub table : r .table ≡ t
   pub says : (b : Bool) → Says b (IsSound ws txt t) → name-found (r .answer) ≡ look-up b (names-in ws txt t) query
 
--- The same of a module or namespace, whose texts lie in the lent text.
+-- The same of a module or namespace, whose texts lie in the used text.
 pub record FindsModule (ws txt : List ℕ) (t : Table) (query : Str) (r : ModuleFinding) : Type 0 where
   pub table : r .table ≡ t
   pub says : (b : Bool) → Says b (IsSound ws txt t)
       → module-found txt (r .answer) ≡ look-up b (modules-in ws txt t) query
-  pub inside : FoundInside (length txt) (r .answer)
+  pub inside : FoundInside (length (used-text txt (t .header))) (r .answer)

@@ -9,6 +9,7 @@ use Rattle.source.specs.Calls as C
 use Rattle.source.specs.Calls.{Output, complete, complete-modules}
 use Rattle.memory.specs.Layout.{Item}
 use Rattle.memory.specs.Sound.{Says}
+use Rattle.memory_table.specs.Table.{used-words, used-text}
 use Rattle.listing_ask.specs.Ask.{asked, filter-in}
 use Rattle.listing_ask.specs.declared.Ask.{Ask}
 use Rattle.listing_ask.specs.declared.Ask.the-variants.{Names, Modules}
@@ -24,10 +25,12 @@ abbrev pub completion : (sound : Bool) → S.Table → (ask : Ask) → (budget :
 completion sound tbl (Names f) budget out query = complete sound tbl f budget out query
 completion sound tbl (Modules f) budget out query = complete-modules sound tbl (filter-in f) budget out query
 
--- What a completion hands back, in any memory: the table as it was, and the answer of the definition; b says whether the memory is sound.
+-- What a completion hands back, in any memory: the table as it was, and the answer of the definition, its lines' items from used records, their
+-- texts in the used text; b says whether the memory is sound.
 pub record Completes (ws txt : List ℕ) (t : Table) (request : Request) (query : Str) (flat flat′ out out′ : List ℕ)
     (r : Listing) : Type 0 where
   pub table : r .table ≡ t
   pub says : (b : Bool) → Says b (IsSound ws txt t)
-      → CompletesAs (request .ask) ws txt flat flat′ out out′ (r .answer)
+      → CompletesAs (request .ask) (used-words ws (t .header)) (used-text txt (t .header))
+      flat flat′ out out′ (r .answer)
       (completion b (table-in ws txt t) (request .ask) (request .budget) (output flat out) query)

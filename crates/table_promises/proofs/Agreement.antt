@@ -1,5 +1,5 @@
 -- Demand 3 of the calls follows from their contracts and from the theorem over the definitions.
-use Prim.Native.Nat.{ℕ}
+use Prim.Native.Nat.{ℕ, _*_}
 use mathlib.Core.Path.{_≡_, sym, ap, _∙_}
 use mathlib.Core.Bool.{Bool, true, false}
 use mathlib.Core.List.{List}
@@ -20,6 +20,8 @@ use Rattle.source.specs.declared.KindFilter.{KindFilter}
 use Rattle.source.specs.declared.KindFilter.the-variants.{Every}
 use Rattle.memory.specs.Layout.{names, modules, Item}
 use Rattle.memory.specs.Sound.{Says}
+use Rattle.memory_table.specs.Table.{used-words, used-text}
+use Rattle.memory_table.specs.declared.Header.{Header}
 use Rattle.memory_table.proofs.Table.{sound-table}
 use Rattle.listing_ask.specs.Ask.{asked, filter-in}
 use Rattle.listing_ask.specs.declared.Ask.{Ask}
@@ -29,6 +31,7 @@ use Rattle.listing_ask.specs.declared.Filter.the-variants.{All}
 use Rattle.listing_row.specs.Rows.{lines-seen}
 use Rattle.listing_row.proofs.Written.{written-seen}
 use Rattle.listing.specs.Completes.{output, refused-by, CompletesAs}
+use Rattle.table_roots.proofs.Written.{written-whole}
 use Rattle.table.specs.Header.{IsSound, table-in}
 use Rattle.table_promises.specs.Agreement.{HoldsName, HoldsModule, HoldsLines, CallsAgree, CallsFound}
 use Rattle.table.specs.declared.Table.{Table}
@@ -36,15 +39,16 @@ use Rattle.listing.specs.declared.Completed.{Completed}
 use Rattle.listing.specs.declared.Completed.the-variants.{Listed}
 
 -- A listing that was not refused.
-listed-lines : (ask : Ask) (ws txt flat flat′ out out′ : List ℕ) (n entered : ℕ) (o : C.Completed (Item (asked ask)))
-    → CompletesAs ask ws txt flat flat′ out out′ (Listed n entered) o
+listed-lines : (ask : Ask) (ws txt : List ℕ) (h : Header) (flat flat′ out out′ : List ℕ) (n entered : ℕ)
+    (o : C.Completed (Item (asked ask)))
+    → CompletesAs ask (used-words ws h) (used-text txt h) flat flat′ out out′ (Listed n entered) o
     → (lines : List (Line (Item (asked ask)))) × (o ≡ C.listed lines entered)
     × (lines-seen (asked ask) txt flat′ out′ n ≡ lines)
-listed-lines ask ws txt flat flat′ out out′ n entered (C.listed lines e) h =
+listed-lines ask ws txt h flat flat′ out out′ n entered (C.listed lines e) x =
     let k : n ≡ length lines = cc in
     let f : e ≡ entered = cc in
-    (lines, rw f, rw k (written-seen (h .1)))
-listed-lines ask ws txt flat flat′ out out′ n entered (C.refused m) h = absurd (Option·none-ne-some m (h .0))
+    (lines, rw f, rw k (written-seen (written-whole ws txt (h .records * 12) (h .text) (asked ask) (x .1))))
+listed-lines ask ws txt h flat flat′ out out′ n entered (C.refused m) x = absurd (Option·none-ne-some m (x .0))
 
 module _ (ws txt : List ℕ) (t : Table) (name query : Str) (cover : Covers (segments query) (segments name)) where
   names-agree : (a : C.Found LidSymbol) (lines : List (Line LidSymbol)) → HoldsName ws txt t name a → NotRefused a
@@ -54,7 +58,8 @@ module _ (ws txt : List ℕ) (t : Table) (name query : Str) (cover : Covers (seg
   names-agree a lines f ok c false s = absurd (rw (sym (f .is) ∙ f .finds .says false s) at ok)
   names-agree a lines f ok c true s =
       let l =
-      listed-lines (Names Every) ws txt (c .flat) (c .flat′) (c .out) (c .out′) (c .count) (c .entered) _ (rw (c .listed) at (c .completes .says true s)) in
+      listed-lines (Names Every) ws txt (t .header) (c .flat) (c .flat′) (c .out) (c .out′) (c .count) (c .entered) _
+      (rw (c .listed) at (c .completes .says true s)) in
       rw (← c .read, l .2)
       (agreement .names (table-in ws txt t) (sound-table s) .shows name query a (l .0) (sym (f .finds .says true s) ∙ f .is) ok
       (c .budget, output (c .flat) (c .out), c .entered, l .1) cover)
@@ -66,7 +71,8 @@ module _ (ws txt : List ℕ) (t : Table) (name query : Str) (cover : Covers (seg
   modules-agree a lines f ok c false s = absurd (rw (sym (f .is) ∙ f .finds .says false s) at ok)
   modules-agree a lines f ok c true s =
       let l =
-      listed-lines (Modules All) ws txt (c .flat) (c .flat′) (c .out) (c .out′) (c .count) (c .entered) _ (rw (c .listed) at (c .completes .says true s)) in
+      listed-lines (Modules All) ws txt (t .header) (c .flat) (c .flat′) (c .out) (c .out′) (c .count) (c .entered) _
+      (rw (c .listed) at (c .completes .says true s)) in
       rw (← c .read, l .2)
       (agreement .modules (table-in ws txt t) (sound-table s) .shows name query a (l .0) (sym (f .finds .says true s) ∙ f .is) ok
       (c .budget, output (c .flat) (c .out), c .entered, l .1) cover)
@@ -89,7 +95,8 @@ module _ (ws txt : List ℕ) (t : Table) (query : Str) where
       absurd (Option·none-ne-some 1 (sym (ap refused-by (c .listed)) ∙ c .completes .says false s .0))
   names-found f lines c true s =
       let l =
-      listed-lines (Names f) ws txt (c .flat) (c .flat′) (c .out) (c .out′) (c .count) (c .entered) _ (rw (c .listed) at (c .completes .says true s)) in
+      listed-lines (Names f) ws txt (t .header) (c .flat) (c .flat′) (c .out) (c .out′) (c .count) (c .entered) _
+      (rw (c .listed) at (c .completes .says true s)) in
       let g = lines-found .names (table-in ws txt t) (sound-table s) f in
       let k : ListsNames (table-in ws txt t) f query (l .0) = (c .budget, output (c .flat) (c .out), c .entered, l .1) in
       rw (← c .read, l .2) (
@@ -104,7 +111,8 @@ module _ (ws txt : List ℕ) (t : Table) (query : Str) where
       absurd (Option·none-ne-some 1 (sym (ap refused-by (c .listed)) ∙ c .completes .says false s .0))
   modules-found f lines c true s =
       let l =
-      listed-lines (Modules f) ws txt (c .flat) (c .flat′) (c .out) (c .out′) (c .count) (c .entered) _ (rw (c .listed) at (c .completes .says true s)) in
+      listed-lines (Modules f) ws txt (t .header) (c .flat) (c .flat′) (c .out) (c .out′) (c .count) (c .entered) _
+      (rw (c .listed) at (c .completes .says true s)) in
       let g = lines-found .modules (table-in ws txt t) (sound-table s) (filter-in f) in
       let k : ListsModules (table-in ws txt t) (filter-in f) query (l .0) = (c .budget, output (c .flat) (c .out), c .entered, l .1) in
       rw (← c .read, l .2) (

@@ -1,12 +1,12 @@
 -- Demand 3 of the typed completion follows from its contract and from the theorem over the definitions.
-use Prim.Native.Nat.{ℕ, _+_}
+use Prim.Native.Nat.{ℕ, _+_, _≤_}
 use mathlib.Core.Path.{_≡_, refl, sym, ap, ap₂, _∙_}
 use mathlib.Core.Bool.{Bool, true, false}
 use mathlib.Core.List.{List, [], _∷_, _++_, map, append-assoc, nil≢cons, head-eq-of-cons-eq, tail-eq-of-cons-eq}
 use mathlib.Core.Option.{some, Option·none-ne-some, Option·some-injective}
 use native.Mathlib.Omega.{arith}
-use lib.ListN.{length, take, drop}
-use lib.Seq.{take-at, drop-at}
+use lib.ListN.{length, take, drop, length-take}
+use lib.Seq.{take-at, drop-at, take-take}
 use Rattle.source.specs.Text.{Str, segments}
 use Rattle.source.specs.Table as S
 use Rattle.source.specs.Table.{ModSymbol}
@@ -21,20 +21,31 @@ use Rattle.memory.proofs.Says.{either-way}
 use Rattle.source.specs.declared.LidSymbol.{LidSymbol}
 use Rattle.source.specs.declared.KindFilter.{KindFilter}
 use Rattle.source.specs.declared.KindFilter.the-variants.{Every}
-use Rattle.memory.specs.Layout.{Which, Item}
+use Rattle.source.specs.Shared.{Allˡ}
+use Rattle.memory.specs.Layout.{Which, names, modules, Item, span}
+use Rattle.memory.specs.Read.{symbol-of}
+use Rattle.memory.specs.declared.Span.{Span}
+use Rattle.memory.specs.declared.ModSymbol as M
+use Rattle.memory.specs.declared.ModSymbol.the-variants.{Module, Namespace}
+use Rattle.memory.proofs.Keeps.{span-same}
 use Rattle.memory.specs.Sound.{Says}
+use Rattle.memory_table.specs.Table.{used-words, used-text}
+use Rattle.memory_table.specs.declared.Header.{Header}
 use Rattle.memory_table.proofs.Table.{sound-table}
 use Rattle.listing_ask.specs.Ask.{asked, filter-in}
 use Rattle.listing_ask.specs.declared.Ask.{Ask}
 use Rattle.listing_ask.specs.declared.Ask.the-variants.{Names, Modules}
 use Rattle.listing_ask.specs.declared.Filter.{Filter}
 use Rattle.listing_ask.specs.declared.Filter.the-variants.{All}
+use Rattle.listing_row.specs.Rows.{item-seen, SymbolInside, ItemInside}
+use Rattle.listing_row.specs.declared.RowItem.{RowItem}
+use Rattle.listing_row.specs.declared.RowItem.the-variants.{Name, Symbol}
 use Rattle.table.specs.Header.{IsSound, table-in}
 use Rattle.listing.specs.Completes.{refused-by, CompletesAs}
 use Rattle.table.specs.declared.Table.{Table}
 use Rattle.listing.specs.declared.Completed.the-variants.{Listed}
-use Rattle.table_typed.specs.Completions.{output, ShownAs}
-use Rattle.table_typed.specs.Lines.{record-seen}
+use Rattle.table_typed.specs.Completions.{output, Shown, ShownAs}
+use Rattle.table_typed.specs.Lines.{record-with, record-seen}
 use Rattle.table_promises.specs.Agreement.{HoldsName, HoldsModule}
 use Rattle.table_promises.specs.Typed.{LinesStand, HoldsTyped, TypedAgree, TypedFound}
 use Rattle.table_typed.specs.declared.Line.{Line}
@@ -81,20 +92,56 @@ stand-same {w} {txt} {ls} {ls′} lines lines′ h h′ =
     (sym (h .shown .first) ∙ ap (λ k. map (record-seen w txt) (take k ls′)) (sym (h .count) ∙ h′ .count) ∙ h′ .shown .first)
     (sym (h .texts .is) ∙ h′ .texts .is)
 
+-- ---- What is shown in a part of the text is shown in the whole
+
+module _ (w : Which) (txt : List ℕ) (k : ℕ) where
+  span-whole : (x : Span) → x .start + x .len ≤ length (take k txt)
+      → span (take k txt) (x .start) (x .len) ≡ span txt (x .start) (x .len)
+  span-whole x h = span-same txt (take k txt) k (take-take k k txt (omega arith)) (x .start) (x .len) (omega (arith, length-take k txt))
+
+  symbol-whole : (s : M.ModSymbol) → SymbolInside (length (take k txt)) s
+      → (symbol-of (take k txt) s ≡ symbol-of txt s) × SymbolInside (length txt) s
+  symbol-whole (Module x y loaded) h =
+      (rw (span-whole x (h .0), span-whole y (h .1)), (omega (arith, h .0, length-take k txt), omega (arith, h .1, length-take k txt)))
+  symbol-whole (Namespace x loaded) h = (rw (span-whole x h), omega (arith, length-take k txt))
+
+  item-whole : (v : Which) (i : RowItem) → ItemInside (length (take k txt)) i
+      → (item-seen v (take k txt) i ≡ item-seen v txt i) × ItemInside (length txt) i
+  item-whole names (Name n) h = (refl, tt)
+  item-whole names (Symbol s) h = (refl, symbol-whole s h .1)
+  item-whole modules (Name n) h = (refl, tt)
+  item-whole modules (Symbol s) h = (ap some (symbol-whole s h .0), symbol-whole s h .1)
+
+  lines-whole : (ls : List Line) → Allˡ (λ l. ItemInside (length (take k txt)) (l .item)) ls
+      → (map (record-seen w (take k txt)) ls ≡ map (record-seen w txt) ls)
+      × Allˡ (λ l. ItemInside (length txt) (l .item)) ls
+  lines-whole [] a = (refl, tt)
+  lines-whole (l ∷ ls) a =
+      let i = item-whole w (l .item) (a .0) in
+      let rest = lines-whole ls (a .1) in
+      (ap₂ _∷_ (ap (record-with l) (i .0)) (rest .0), (i .1, rest .1))
+
+  shown-whole : {ls ls′ : List Line} {lines : List (S.Line (Item w))} → Shown w (take k txt) ls ls′ lines
+      → Shown w txt ls ls′ lines
+  shown-whole {ls′ = ls′} {lines} s =
+      let a = lines-whole (take (length lines) ls′) (s .inside) in
+      record { first = sym (a .0) ∙ s .first; inside = a .1; after = s .after }
+
 -- ---- Demand 3
 
 -- A listing that was not refused.
-listed-lines : (ask : Ask) (ws txt flat flat′ out out′ : List ℕ) (ls ls′ : List Line) (n entered : ℕ)
-    (o : C.Completed (Item (asked ask)))
-    → CompletesAs ask ws txt flat flat′ out out′ (Listed n entered) o → ShownAs ask txt ls ls′ o
+listed-lines : (ask : Ask) (ws txt : List ℕ) (h : Header) (flat flat′ out out′ : List ℕ) (ls ls′ : List Line)
+    (n entered : ℕ) (o : C.Completed (Item (asked ask)))
+    → CompletesAs ask (used-words ws h) (used-text txt h) flat flat′ out out′ (Listed n entered) o
+    → ShownAs ask (used-text txt h) ls ls′ o
     → (lines : List (S.Line (Item (asked ask)))) × (o ≡ C.listed lines entered)
     × LinesStand (asked ask) txt ls ls′ out out′ n lines
-listed-lines ask ws txt flat flat′ out out′ ls ls′ n entered (C.listed lines e) h s =
+listed-lines ask ws txt h flat flat′ out out′ ls ls′ n entered (C.listed lines e) x s =
     let k : n ≡ length lines = cc in
     let f : e ≡ entered = cc in
     let z : 0 + length (output-text lines) ≡ length (output-text lines) = omega arith in
-    (lines, rw f, record { count = k; shown = s; texts = rw z at (h .1 .out-laid) })
-listed-lines ask ws txt flat flat′ out out′ ls ls′ n entered (C.refused m) h s = absurd (Option·none-ne-some m (h .0))
+    (lines, rw f, record { count = k; shown = shown-whole (asked ask) txt (h .text) s; texts = rw z at (x .1 .out-laid) })
+listed-lines ask ws txt h flat flat′ out out′ ls ls′ n entered (C.refused m) x s = absurd (Option·none-ne-some m (x .0))
 
 module _ (ws txt : List ℕ) (t : Table) (name query : Str) (cover : Covers (segments query) (segments name)) where
   names-agree : (a : C.Found LidSymbol) (lines : List (S.Line LidSymbol)) → HoldsName ws txt t name a → NotRefused a
@@ -103,7 +150,7 @@ module _ (ws txt : List ℕ) (t : Table) (name query : Str) (cover : Covers (seg
   unfolding look-up first-row argument-rows
   names-agree a lines f ok c false s = absurd (rw (sym (f .is) ∙ f .finds .says false s) at ok)
   names-agree a lines f ok c true s =
-      let l = listed-lines (Names Every) ws txt (c .flat) (c .flat′) (c .out) (c .out′) (c .ls) (c .ls′) (c .count) (c .entered) _
+      let l = listed-lines (Names Every) ws txt (t .header) (c .flat) (c .flat′) (c .out) (c .out′) (c .ls) (c .ls′) (c .count) (c .entered) _
       (rw (c .listed) at (c .completes .says true s)) (c .completes .shows true s) in
       rw (stand-same lines (l .0) (c .stand) (l .2))
       (agreement .names (table-in ws txt t) (sound-table s) .shows name query a (l .0) (sym (f .finds .says true s) ∙ f .is) ok
@@ -115,7 +162,7 @@ module _ (ws txt : List ℕ) (t : Table) (name query : Str) (cover : Covers (seg
   unfolding look-up first-row argument-rows
   modules-agree a lines f ok c false s = absurd (rw (sym (f .is) ∙ f .finds .says false s) at ok)
   modules-agree a lines f ok c true s =
-      let l = listed-lines (Modules All) ws txt (c .flat) (c .flat′) (c .out) (c .out′) (c .ls) (c .ls′) (c .count) (c .entered) _
+      let l = listed-lines (Modules All) ws txt (t .header) (c .flat) (c .flat′) (c .out) (c .out′) (c .ls) (c .ls′) (c .count) (c .entered) _
       (rw (c .listed) at (c .completes .says true s)) (c .completes .shows true s) in
       rw (stand-same lines (l .0) (c .stand) (l .2))
       (agreement .modules (table-in ws txt t) (sound-table s) .shows name query a (l .0) (sym (f .finds .says true s) ∙ f .is) ok
@@ -138,7 +185,7 @@ module _ (ws txt : List ℕ) (t : Table) (query : Str) where
   names-found f lines c false s =
       absurd (Option·none-ne-some 1 (sym (ap refused-by (c .listed)) ∙ c .completes .says false s .0))
   names-found f lines c true s =
-      let l = listed-lines (Names f) ws txt (c .flat) (c .flat′) (c .out) (c .out′) (c .ls) (c .ls′) (c .count) (c .entered) _
+      let l = listed-lines (Names f) ws txt (t .header) (c .flat) (c .flat′) (c .out) (c .out′) (c .ls) (c .ls′) (c .count) (c .entered) _
       (rw (c .listed) at (c .completes .says true s)) (c .completes .shows true s) in
       let g = lines-found .names (table-in ws txt t) (sound-table s) f in
       let k : ListsNames (table-in ws txt t) f query (l .0) = (c .budget, output (length (c .ls)) (c .flat) (c .out), c .entered, l .1) in
@@ -153,7 +200,7 @@ module _ (ws txt : List ℕ) (t : Table) (query : Str) where
   modules-found f lines c false s =
       absurd (Option·none-ne-some 1 (sym (ap refused-by (c .listed)) ∙ c .completes .says false s .0))
   modules-found f lines c true s =
-      let l = listed-lines (Modules f) ws txt (c .flat) (c .flat′) (c .out) (c .out′) (c .ls) (c .ls′) (c .count) (c .entered) _
+      let l = listed-lines (Modules f) ws txt (t .header) (c .flat) (c .flat′) (c .out) (c .out′) (c .ls) (c .ls′) (c .count) (c .entered) _
       (rw (c .listed) at (c .completes .says true s)) (c .completes .shows true s) in
       let g = lines-found .modules (table-in ws txt t) (sound-table s) (filter-in f) in
       let k : ListsModules (table-in ws txt t) (filter-in f) query (l .0) = (c .budget, output (length (c .ls)) (c .flat) (c .out), c .entered, l .1) in

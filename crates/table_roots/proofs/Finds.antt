@@ -5,7 +5,7 @@ use mathlib.Core.Bool.{true}
 use mathlib.Core.List.{List, [], _∷_}
 use mathlib.Core.Option.{none, some}
 use native.Mathlib.Omega.{arith}
-use lib.ListN.{length}
+use lib.ListN.{length, length-take}
 use borrow.Author.Tests.{ne-eqb}
 use Rattle.source.specs.Text.{Str, Query, segments, ends-in-dot}
 use Rattle.source.specs.Types.{Trie, bind, the-item}
@@ -13,10 +13,12 @@ use Rattle.source.specs.Tries.{trie-find-exact}
 use Rattle.source.specs.Calls.{a-look-up, first-row, argument-rows, found, not-found, refused, found-of, look-up}
 use Rattle.source.proofs.Refusals.{argument-rows-none, look-up-whole}
 use Rattle.memory.specs.Layout.{record-at, Which, modules, item-of, tree, trieˢ, kind, what}
-use Rattle.memory.specs.Sound.{LinkOk, At}
+use Rattle.memory.specs.Sound.{LinkOk}
 use Rattle.memory.specs.Read.{symbol-in}
 use Rattle.memory.proofs.RecordOk.{record-as}
 use Rattle.memory.proofs.Seen.{link-fits, link-later, link-ok}
+use Rattle.memory_table.specs.Table.{Sound, used-text}
+use Rattle.memory_table.specs.declared.Header.{Header}
 use Rattle.find_tree.specs.Tree.{held}
 use Rattle.find_trie.specs.Tries as T
 use Rattle.find_trie.specs.Tries.{AnyTrie, FindsExactIn}
@@ -53,11 +55,11 @@ pub found-fits : {ws txt : List ℕ} {root r : ℕ} {q : Query} → AnyTrie ws t
     → (r ≡ 0 → ⊥) → (0 < r) × (r * 12 ≤ length ws)
 found-fits a h z = (omega arith, link-fits (a .trie .sound) (link-later (omega (arith, a .trie .link .earlier)) (h (a .which) (a .trie) .link)))
 
--- The texts of a found symbol lie in the lent text.
-pub symbol-inside : {ws txt : List ℕ} {root l : ℕ} → At ws txt modules trieˢ root
-    → LinkOk ws (root + 1) l (kind modules (tree bind)) → 0 < l
-    → SymbolInside (length txt) (symbol-in (record-at ws l))
-symbol-inside o i p =
-    symbol-in-inside
-    (record-as (link-ok (o .sound) (link-later (omega (arith, o .link .earlier)) i) p) modules (tree bind) (i .of-kind (λ e. omega arith)) .2)
-    (o .sound .text-fits)
+-- The texts of a found symbol lie in the used text.
+pub symbol-inside : {ws txt : List ℕ} {h : Header} {l : ℕ} → Sound ws txt h
+    → LinkOk ws (h .modules + 1) l (kind modules (tree bind)) → 0 < l
+    → SymbolInside (length (used-text txt h)) (symbol-in (record-at ws l))
+symbol-inside {txt = txt} {h} o i p =
+    symbol-in-inside (length (used-text txt h))
+    (record-as (link-ok (o .right) (link-later (omega (arith, o .modules-link .earlier)) i) p) modules (tree bind) (i .of-kind (λ e. omega arith)) .2)
+    (omega (arith, length-take (h .text) txt, o .right .text-fits))

@@ -1,2 +1,3 @@
 mod Finds
 mod Completes
+pub mod Written

@@ -14,6 +14,8 @@ use Rattle.memory.specs.Layout.{record-at, Which, modules, Item, item-of, tree,
 use Rattle.memory.specs.Sound.{LinkOk, At}
 use Rattle.source.specs.declared.LidSymbol.{LidSymbol}
 use Rattle.memory.specs.Read.{symbol-of}
+use Rattle.memory_table.specs.Table.{used-text}
+use Rattle.memory_table.specs.declared.Header.{Header}
 use Rattle.refusals.specs.Refusals.{number}
 use Rattle.listing_row.specs.Rows.{SymbolInside}
 use Rattle.table_roots.specs.declared.Looked.{Looked}
@@ -66,7 +68,7 @@ pub record LookedUp (ws txt : List ℕ) (root : ℕ) (query : Str) (r : Looked) 
   pub says : (w : Which) → At ws txt w trieˢ root
       → item-found w ws txt r ≡ look-up true (what w ws txt root trieˢ) query
 
--- A look-up of a module or namespace.
-pub record FindsModuleOn (ws txt : List ℕ) (root : ℕ) (query : Str) (r : FoundModule) : Type 0 where
-  pub says : module-found txt r ≡ look-up true (what modules ws txt root trieˢ) query
-  pub inside : FoundInside (length txt) r
+-- A look-up of a module or namespace, whose texts lie in the used text.
+pub record FindsModuleOn (ws txt : List ℕ) (h : Header) (query : Str) (r : FoundModule) : Type 0 where
+  pub says : module-found txt r ≡ look-up true (what modules ws txt (h .modules) trieˢ) query
+  pub inside : FoundInside (length (used-text txt h)) r

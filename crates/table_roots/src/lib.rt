@@ -12,7 +12,7 @@ ghost use mathlib.Core.Bool.{true};
 ghost use Rattle.source.specs.Lent.{old, new};
 ghost use Rattle.source.specs.Calls.{look-up};
 ghost use Rattle.memory.specs.Layout.{names, trieˢ, what};
-ghost use Rattle.memory_table.specs.Table.{Sound};
+ghost use Rattle.memory_table.specs.Table.{Sound, used-words, used-text};
 ghost use Rattle.find_trie.specs.Tries.{AnyTrie};
 ghost use Rattle.table_roots.specs.Answers.{LookedUp, name-found, FindsModuleOn};
 ghost use Rattle.listing.specs.Completes.{CompletesOn};
@@ -32,7 +32,7 @@ pub enum Found {
     Refused(Refusal),
 }
 
-// The answer of a look-up of a module or namespace. Its texts are in the lent text.
+// The answer of a look-up of a module or namespace. Its texts are in the used text.
 pub enum FoundModule {
     Symbol(ModSymbol),
     Nothing,
@@ -74,7 +74,7 @@ pub fn find(words: &[u32], text: &[u8], header: Header, query: &[u8]) -> Found
 // Look-up of a module or namespace.
 pub fn find_module(words: &[u32], text: &[u8], header: Header, query: &[u8]) -> FoundModule
     requires { ⌜ Sound (now words) (now text) header ⌝ }
-    ensures { λ r. ⌜ FindsModuleOn (old words) (old text) (header .modules) (old query) r ⌝ }
+    ensures { λ r. ⌜ FindsModuleOn (old words) (old text) header (old query) r ⌝ }
 {
     let l = look_up(words, text, header.modules, query);
     match l {
@@ -98,7 +98,7 @@ fn root_for(header: Header, ask: Ask) -> u32
     }
 }
 
-// A completion. Lines go into `flat`, 48 bytes to a line, their texts into `out`.
+// A completion, from the used records and the used text alone. Lines go into `flat`, 48 bytes to a line, their texts into `out`.
 pub fn complete(
     words: &[u32],
     text: &[u8],
@@ -109,8 +109,8 @@ pub fn complete(
     out: &mut [u8],
 ) -> Completed
     requires { ⌜ Sound (now words) (now text) header ⌝ }
-    ensures { λ r. ⌜ CompletesOn (old words) (old text) request (root-for header (request .ask)) (old query)
-        (old flat) (new flat) (old out) (new out) r ⌝ }
+    ensures { λ r. ⌜ CompletesOn (used-words (old words) header) (used-text (old text) header) request
+        (root-for header (request .ask)) (old query) (old flat) (new flat) (old out) (new out) r ⌝ }
 {
     let a = refusals::admit(refusals::completion_flags(query));
     match a {
@@ -118,7 +118,11 @@ pub fn complete(
         Admission::Admitted => {
             let ask = request.ask;
             let root = root_for(header, ask);
-            listing::complete(words, text, request, root, query, flat, out)
+            let end = header.records as usize * memory::ROW;
+            let used = header.text as usize;
+            let records = &words[..end];
+            let texts = &text[..used];
+            listing::complete(records, texts, request, root, query, flat, out)
         }
     }
 }

@@ -8,6 +8,7 @@ use Rattle.source.specs.Text.{Str}
 use Rattle.source.specs.Calls as C
 use Rattle.memory.specs.Layout.{Item}
 use Rattle.memory.specs.Sound.{Says}
+use Rattle.memory_table.specs.Table.{used-words, used-text}
 use Rattle.listing_ask.specs.Ask.{asked}
 use Rattle.listing_ask.specs.declared.Ask.{Ask}
 use Rattle.listing_ask.specs.declared.Request.{Request}
@@ -36,16 +37,23 @@ module _ {ws txt : List ℕ} {t : Table} {request : Request} {query : Str} {flat
   abbrev answer : Bool → C.Completed (Item (asked (request .ask)))
   answer b = completion b (table-in ws txt t) (request .ask) (request .budget) (output flat out) query
 
+  -- The memory that the lines are from.
+  abbrev ws′ : List ℕ
+  ws′ = used-words ws (t .header)
+
+  abbrev txt′ : List ℕ
+  txt′ = used-text txt (t .header)
+
   left : (b : Bool) → Says b (IsSound ws txt t)
-      → Leaves (asked (request .ask)) ws txt flat flat′ out out′ (lines-in (l .answer)) (answer b)
-  left b h = leaves (request .ask) ws txt flat flat′ out out′ (l .answer) (answer b) (x .says b h)
+      → Leaves (asked (request .ask)) ws′ txt′ flat flat′ out out′ (lines-in (l .answer)) (answer b)
+  left b h = leaves (request .ask) ws′ txt′ flat flat′ out out′ (l .answer) (answer b) (x .says b h)
 
   pub completes-candidates : CandidatesIn flat′ out′ (lines-in (l .answer))
-  completes-candidates = left-candidates (asked (request .ask)) ws txt flat flat′ out out′ (lines-in (l .answer)) answer left
+  completes-candidates = left-candidates (asked (request .ask)) ws′ txt′ flat flat′ out out′ (lines-in (l .answer)) answer left
 
   pub completes-shared : {r : Sharing} → r ≡ sharing-seen flat′ out′ l
       → CompletesShared ws txt t request query flat flat′ out out′ r
   completes-shared e = rw e (record {
     listing = x;
-    shared = λ b h. leaves-shared (asked (request .ask)) ws txt flat flat′ out out′ (lines-in (l .answer)) (answer b) (left b h);
+    shared = λ b h. leaves-shared (asked (request .ask)) ws′ txt′ flat flat′ out out′ (lines-in (l .answer)) (answer b) (left b h);
   })

@@ -18,6 +18,7 @@ use Rattle.source.specs.Shared.{Allˡ}
 use Rattle.source.proofs.Lines.{output-lines-length}
 use Rattle.memory.specs.Layout.{Which, Item, pick}
 use Rattle.memory.specs.Sound.{Says}
+use Rattle.memory_table.specs.Table.{used-words, used-text}
 use Rattle.memory_table.proofs.Table.{sound-table}
 use Rattle.listing_ask.specs.Ask.{asked}
 use Rattle.listing_output.specs.Output.{line-bytes, line-of, Written, matched-word}
@@ -130,7 +131,7 @@ module _ {ws txt : List ℕ} {t : Table} {q : Request} {query : Str} {flat flat�
   told-at {ls} {ls′} c e s = record {
     table = c .table;
     says = c .says;
-    shows = λ b h. shown-as (q .ask) ws txt flat flat′ out out′ (r .answer) ls ls′
+    shows = λ b h. shown-as (q .ask) (used-words ws (t .header)) (used-text txt (t .header)) flat flat′ out out′ (r .answer) ls ls′
         (completion b (table-in ws txt t) (q .ask) (q .budget) (output (length ls) flat out) query) (c .says b h)
         (all-held ws txt t (q .ask) query (q .budget) b h (output (length ls) flat out)) (c .fit) (s ∙ ap (stored-lines (line-at (q .ask) flat′) ls) e);
   }

@@ -11,6 +11,7 @@ use Rattle.source.specs.Text.{Str}
 use Rattle.source.specs.Calls as C
 use Rattle.source.specs.Calls.{complete, complete-modules, completed, completion-rows, first-row, argument-rows}
 use Rattle.memory.specs.Layout.{Item}
+use Rattle.memory_table.specs.Table.{used-words, used-text}
 use Rattle.text.specs.Laid.{Laid}
 use Rattle.listing_ask.specs.Ask.{asked}
 use Rattle.listing_output.specs.Output.{line-bytes}
@@ -82,19 +83,21 @@ module _ {ws txt : List ℕ} {t : Table} {q : Request} {query : Str} {room : ℕ
       let ask : Ask = q .ask in
       let budget : ℕ = q .budget in
       let a : Completed = r .answer in
+      let ws′ : List ℕ = used-words ws (t .header) in
+      let txt′ : List ℕ = used-text txt (t .header) in
       let h : k ≤ length flat = omega (arith, e) in
       let n : lines-in a * line-bytes ≤ k = omega (
         arith,
-        part-fits ask ws txt flat f out out′ a k (completion true (table-in ws txt t) ask budget (F.output (take k flat) out) query) (c .says true o),
+        part-fits ask ws′ txt′ flat f out out′ a k (completion true (table-in ws txt t) ask budget (F.output (take k flat) out) query) (c .says true o),
         length-take-le k flat h,
       ) in
       record {
         table = c .table;
-        says = λ b s. subst (λ x. CompletesAs ask ws txt flat (f ++ drop k flat) out out′ a
+        says = λ b s. subst (λ x. CompletesAs ask ws′ txt′ flat (f ++ drop k flat) out out′ a
             (completion x (table-in ws txt t) ask budget (output room flat out) query)) (sym (says-same _ b true s o))
-            (part-as ask ws txt flat f out out′ a k h
+            (part-as ask ws′ txt′ flat f out out′ a k h
             (completion true (table-in ws txt t) ask budget (output room flat out) query)
-            (subst (λ x. CompletesAs ask ws txt (take k flat) f out out′ a
+            (subst (λ x. CompletesAs ask ws′ txt′ (take k flat) f out out′ a
             (completion true (table-in ws txt t) ask budget x query)) (output-part room k flat out h e)
             (c .says true o)));
         fit = omega (arith, n, e);
@@ -107,13 +110,14 @@ module _ {ws txt : List ℕ} {t : Table} {q : Request} {query : Str} {room : ℕ
   unfolding complete complete-modules completed completion-rows first-row argument-rows
   flat-unsound o = record {
     table = refl;
-    says = λ b s. subst (λ x. CompletesAs (q .ask) ws txt flat flat out out (Refused Unsound)
+    says = λ b s. subst (λ x. CompletesAs (q .ask) (used-words ws (t .header)) (used-text txt (t .header)) flat flat out out (Refused Unsound)
         (completion x (table-in ws txt t) (q .ask) (q .budget) (output room flat out) query)) (sym (says-same _ b false s o)) (go (q .ask));
     fit = zero-le;
     lent = zero-le;
   }
     where
-      go : (ask : Ask) → CompletesAs ask ws txt flat flat out out (Refused Unsound)
+      go : (ask : Ask)
+          → CompletesAs ask (used-words ws (t .header)) (used-text txt (t .header)) flat flat out out (Refused Unsound)
           (completion false (table-in ws txt t) ask (q .budget) (output room flat out) query)
       go (Names f) = (refl, refl, refl)
       go (Modules f) = (refl, refl, refl)

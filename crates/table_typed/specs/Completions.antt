@@ -12,6 +12,7 @@ use Rattle.source.specs.Calls.{Output, output-lines}
 use Rattle.source.specs.Shared.{Allˡ}
 use Rattle.memory.specs.Layout as L
 use Rattle.memory.specs.Sound.{Says}
+use Rattle.memory_table.specs.Table.{used-words, used-text}
 use Rattle.listing_ask.specs.Ask.{asked}
 use Rattle.listing_output.specs.Output.{line-bytes}
 use Rattle.listing_ask.specs.declared.Ask.{Ask}
@@ -51,14 +52,16 @@ module _ (ws txt : List ℕ) (t : Table) (q : Request) (query : Str) where
   pub record FlatCompletes (room : ℕ) (flat flat′ out out′ : List ℕ) (r : Listing) : Type 0 where
     pub table : r .table ≡ t
     pub says : (b : Bool) → Says b (IsSound ws txt t)
-        → CompletesAs (q .ask) ws txt flat flat′ out out′ (r .answer) (answer b (output room flat out))
+        → CompletesAs (q .ask) (used-words ws (t .header)) (used-text txt (t .header)) flat flat′ out out′ (r .answer)
+        (answer b (output room flat out))
     pub fit : lines-in (r .answer) ≤ room
     pub lent : lines-in (r .answer) * line-bytes ≤ length flat
 
-  -- The completion into line structs: as into bytes (roots' CompletesAs), and the lines are shown.
+  -- The completion into line structs: as into bytes (roots' CompletesAs), and the lines are shown, their items' texts in the used text.
   pub record CompletesLines (ls ls′ : List Line) (flat flat′ out out′ : List ℕ) (r : Listing) : Type 0 where
     pub table : r .table ≡ t
     pub says : (b : Bool) → Says b (IsSound ws txt t)
-        → CompletesAs (q .ask) ws txt flat flat′ out out′ (r .answer) (answer b (output (length ls) flat out))
+        → CompletesAs (q .ask) (used-words ws (t .header)) (used-text txt (t .header)) flat flat′ out out′ (r .answer)
+        (answer b (output (length ls) flat out))
     pub shows : (b : Bool) → Says b (IsSound ws txt t)
-        → ShownAs (q .ask) txt ls ls′ (answer b (output (length ls) flat out))
+        → ShownAs (q .ask) (used-text txt (t .header)) ls ls′ (answer b (output (length ls) flat out))

@@ -1,6 +1,10 @@
 -- complete meets its contract.
+use mathlib.Core.Path.{sym}
+use native.Mathlib.Omega.{arith}
 use borrow.Author.Needs.{needs}
+use lib.Seq.{length-take-le}
 use Rattle.refusals.proofs.Rows.{one-flagged, admitted-none, refused-lowest}
+use Rattle.memory_table.proofs.UsedPart.{used-part-sound}
 use Rattle.table_roots.proofs.Completes.{completes-refused, root-trie}
 use Rattle.table_roots.proofs.complete.Statement.{statement}
 use Rattle.table_roots.proofs.complete.Tie as tie
@@ -19,9 +23,22 @@ complete-spec =
     (λ c. search needs)
     {- root-for-requires -}
     (λ c κs. search needs)
+    {- cast-end -}
+    (λ c. omega (arith, c .before .before .before .before .before .before .before .before .before .before .before .pre .right .few))
+    {- mul-end -}
+    (λ c. omega (arith, c .before .before .before .before .before .before .before .before .before .before .before .pre .right .few))
+    {- cast-used -}
+    (λ c. omega (arith, c .before .before .before .before .before .before .before .before .before .before .before .before .pre .right .short))
+    {- slice-aggregate-records -}
+    (λ c. sym (length-take-le _ _
+    (c .before .before .before .before .before .before .before .before .before .before .before .before .before .pre .right .records-fit)))
+    {- slice-aggregate-texts -}
+    (λ c. sym (length-take-le _ _
+    (c .before .before .before .before .before .before .before .before .before .before .before .before .before .before .pre .right .text-fits)))
     {- complete-requires -}
-    (λ c κs. let s = c .before .before in let s2 = s .before .before .before in let s3 = s2 .before .before .before .before .before .before .before in (
-      rw (s .root-for .ensures) (root-trie (s3 .pre) (s3 .args .request .ask)),
+    (λ c κs. let s = c .before .before .before .before .before .before in let s2 = s .before .before .before in
+    let s3 = s2 .before .before .before .before .before .before .before in (
+      rw (s .root-for .ensures) (root-trie (used-part-sound (s3 .pre)) (s3 .args .request .ask)),
       admitted-none (one-flagged (s2 .before .completion-flags .ensures)) (s2 .admit .ensures) (s .before .enum-told .given .1),
     ))
     {- returns -}
@@ -32,4 +49,5 @@ complete-spec =
     {- same-length-2 -}
     (λ c. search needs)
     {- returns-2 -}
-    (λ c. let s = c .before .before .before .before in rw (s .before .before .before .root-for .ensures) at (s .complete .ensures)))
+    (λ c. let s = c .before .before .before .before in
+    rw (s .before .before .before .before .before .before .before .root-for .ensures) at (s .complete .ensures)))

@@ -33,7 +33,7 @@ find-module-spec =
           ∙ rw (s .l .given .1) at (look-up .says modules (modules-trie (s2 .pre)));
       inside = let h = rw (s .l .given .1) at (look-up .fits) in
           rw (c .branch-of .ensures .symbol)
-          (symbol-inside (modules-trie (s2 .pre)) (rw (s .l .given .1) at (look-up .link modules (modules-trie (s2 .pre)))) (h .0));
+          (symbol-inside (s2 .pre) (rw (s .l .given .1) at (look-up .link modules (modules-trie (s2 .pre)))) (h .0));
     })
     {- returns-2 -}
     (λ c. record {
