@@ -219,9 +219,8 @@ module _ {ws txt : List ℕ} {query : Str} {place : Search} {f : Labelled} {run 
     abbrev pub at-hand : Labelled
     at-hand = record { link = s .link; label = f .label }
 
-    pub stepping-done : s .link ≡ 0
-        → TreeListed ws txt query place run run′ flat flat′ out out′ f (tally-in run′ .entered)
-    stepping-done z = record { count = refl; same = g .same; runs = along-done (g .along) z }
+    pub stepping-done : s .link ≡ 0 → TreeListed ws txt query place run run′ flat flat′ out out′ f
+    stepping-done z = record { same = g .same; runs = along-done (g .along) z }
 
     module _ (n : s .link ≡ 0 → ⊥) where
       pub stepping-branch : TreeAsked ws txt query place run f
@@ -235,9 +234,9 @@ module _ {ws txt : List ℕ} {query : Str} {place : Search} {f : Labelled} {run 
           (b : BranchListed ws txt (drop (place .next) query) (place .ask)
           (place .leaf) run′ run″ flat′ flat″ out′ out″ at-hand e)
           (lf : length flat″ ≡ length flat′) (lo : length out″ ≡ length out′) where
-        pub stepping-spent : getD run 22 0 < e → TreeListed ws txt query place run run″ flat flat″ out out″ f e
+        pub stepping-spent : getD run 22 0 < e
+            → TreeListed ws txt query place run run″ flat flat″ out out″ f
         stepping-spent k = record {
-          count = b .count;
           same = same-then (g .same) (b .same);
           runs = along-spent (g .along) n (branch-runs-at (g .same .path) (g .same .matched-same) (b .runs)) lf lo (omega (arith, b .count));
         }
@@ -325,10 +324,9 @@ found-empty n e (NSTPrefix []) = rw e
 found-empty n e (NSTPrefix (b ∷ id)) = rw e
 
 pub none-runs : {ws txt : List ℕ} {query : Str} {place : Search} {run flat out : List ℕ} {x : ℕ} → x ≡ 0
-    → ListListed ws txt query place run run flat flat out out x (tally-in run .entered)
+    → ListListed ws txt query place run run flat flat out out x
 unfolding elements-give
 none-runs {ws} {txt} {place = place} {run = run} {flat} {out} {x} e = record {
-  count = refl;
   same = same-run run;
   runs = record {
     goes = λ path term o n on st asks dp. rw (found-empty (what (asked (place .ask)) ws txt x (list (level-of (place .leaf))))
@@ -365,10 +363,9 @@ module _ {ws txt : List ℕ} {query : Str} {place : Search} {run : List ℕ} {x 
     };
   }
 
-  pub one-runs : {run′ flat flat′ out out′ : List ℕ} {e : ℕ}
-      → TreeListed ws txt query place run run′ flat flat′ out out′ alone e
-      → ListListed ws txt query place run run′ flat flat′ out out′ x e
-  one-runs t = record { count = t .count; same = t .same; runs = entries-list one-says (t .runs) }
+  pub one-runs : {run′ flat flat′ out out′ : List ℕ} → TreeListed ws txt query place run run′ flat flat′ out out′ alone
+      → ListListed ws txt query place run run′ flat flat′ out out′ x
+  one-runs t = record { same = t .same; runs = entries-list one-says (t .runs) }
 
 -- ---- A merge
 
@@ -412,14 +409,8 @@ module _ {ws txt : List ℕ} {query : Str} {place : Search} {x : ℕ} {run : Lis
       abbrev pub given : Labelled
       given = record { link = s .branch; label = s .label }
 
-      pub merging-done : s .branch ≡ 0
-          → ListListed ws txt query place run run′ flat flat′ out out′ x (tally-in run′ .entered)
-      merging-done z =
-          record {
-            count = refl;
-            same = g .same;
-            runs = entries-list (g .says) (left-none ws txt _ _ _ _ _ _ (rw (gives-end (g .gives) f z) at (g .left)));
-          }
+      pub merging-done : s .branch ≡ 0 → ListListed ws txt query place run run′ flat flat′ out out′ x
+      merging-done z = record { same = g .same; runs = entries-list (g .says) (left-none ws txt _ _ _ _ _ _ (rw (gives-end (g .gives) f z) at (g .left))) }
 
       module _ (n : s .branch ≡ 0 → ⊥) where
         pub merging-earlier : s .branch ≤ x
@@ -466,10 +457,10 @@ module _ {ws txt : List ℕ} {query : Str} {place : Search} {x : ℕ} {run : Lis
                     (branch-runs-at (g .same .path) (g .same .matched-same) (b .runs)) lf lo;
               }
 
-          pub merging-spent : getD run 22 0 < e → ListListed ws txt query place run run″ flat flat″ out out″ x e
+          pub merging-spent : getD run 22 0 < e
+              → ListListed ws txt query place run run″ flat flat″ out out″ x
           merging-spent z =
               record {
-                count = b .count;
                 same = merging-next .same;
                 runs = entries-list (merging-next .says)
                     (left-spent ws txt _ _ _ _ _ _ (merging-next .left) (omega (arith, b .count)));

@@ -264,13 +264,13 @@ module _ {ws txt : List ℕ} {query : Str} {ask : Ask} {run : List ℕ} {x : ℕ
       can = list-ready-at (path-then same₁ (s .path)) (trie-namespaces-ready (r .can) seen cut);
     }
 
-    module _ {run₂ flat flat₁ out out₁ : List ℕ} {e : ℕ} where
+    module _ {run₂ flat flat₁ out out₁ : List ℕ} where
       pub trie-few : (c .next < length query) ⊎ Past (limits-in run) (getD run 20 0) (getD run 21 0)
-          → ListListed ws txt query (down false) run₁ run₂ flat flat₁ out out₁ (t .namespaces) e
-          → TrieListed ws txt query ask run run₂ flat flat₁ out out₁ x e
+          → ListListed ws txt query (down false) run₁ run₂ flat flat₁ out out₁ (t .namespaces)
+          → TrieListed ws txt query ask run run₂ flat flat₁ out out₁ x (tally-in run₂ .entered)
       trie-few skip n =
           record {
-            count = n .count;
+            count = refl;
             same = path-then same₁ (n .same .path);
             runs = go skip (rw tally₁ at (list-runs-at same₁ matched₁ (n .runs)));
           }
@@ -283,12 +283,12 @@ module _ {ws txt : List ℕ} {query : Str} {ask : Ask} {run : List ℕ} {x : ℕ
           go (inl more) m = trie-spaces (r .can) seen cut h more m
           go (inr past) m = trie-past (r .can) seen cut h past m
 
-      pub trie-all : {run₃ flat₂ out₂ : List ℕ} {e′ : ℕ} → length query ≤ c .next
-          → ListListed ws txt query (down true) run₁ run₂ flat flat₁ out out₁ (t .bindings) e
-          → ListListed ws txt query (down false) run₂ run₃ flat₁ flat₂ out₁ out₂ (t .namespaces) e′
-          → TrieListed ws txt query ask run run₃ flat flat₂ out out₂ x e′
+      pub trie-all : {run₃ flat₂ out₂ : List ℕ} → length query ≤ c .next
+          → ListListed ws txt query (down true) run₁ run₂ flat flat₁ out out₁ (t .bindings)
+          → ListListed ws txt query (down false) run₂ run₃ flat₁ flat₂ out₁ out₂ (t .namespaces)
+          → TrieListed ws txt query ask run run₃ flat flat₂ out out₂ x (tally-in run₃ .entered)
       trie-all last b n = record {
-        count = n .count;
+        count = refl;
         same = path-then same₁ (path-then (b .same .path) (n .same .path));
         runs = trie-both (r .can) seen cut h last (rw tally₁ at (list-runs-at same₁ matched₁ (b .runs)))
             (list-runs-at (path-then same₁ (b .same .path)) (b .same .matched-same ∙ matched₁) (n .runs));

@@ -132,7 +132,7 @@ module _ (ws txt : List ℕ) (ask : Ask) (rest : Str) (p : Path) (lim : Limits) 
           → depth (what (asked ask) ws txt trie trieˢ) < n
           → Went (trie-gives ask n (what (asked ask) ws txt trie trieˢ) path (segments rest))
 
--- ---- The contracts: of a query that is cut, and the lent run. What a function returns, e, is the tries entered so far
+-- ---- The contracts: of a query that is cut, and the lent run; e is what is returned, the tries entered so far
 
 module _ (ws txt : List ℕ) (rest : Str) (ask : Ask) (leaf : Bool) (run : List ℕ) where
   pub record BranchAsked (f : Labelled) : Type 0 where
@@ -162,16 +162,14 @@ module _ (ws txt : List ℕ) (query : Str) (place : Search) (run : List ℕ) whe
     pub can : ListReady ws txt (place .ask) (drop (place .next) query) (path-in run) (limits-in run) (place .leaf) x
 
   module _ (run′ flat flat′ out out′ : List ℕ) where
-    pub record TreeListed (f : Labelled) (e : ℕ) : Type 0 where
-      pub count : e ≡ tally-in run′ .entered
+    pub record TreeListed (f : Labelled) : Type 0 where
       pub same : SameRun run run′
       pub runs : EntriesRun ws txt (place .ask) (drop (place .next) query) (path-in run) (limits-in run)
           (matched-in run)
           (tally-in run) (tally-in run′) flat flat′ out out′ (place .leaf)
           (tree-entries ws txt (f .link) (f .label) (take (place .len) query))
 
-    pub record ListListed (x e : ℕ) : Type 0 where
-      pub count : e ≡ tally-in run′ .entered
+    pub record ListListed (x : ℕ) : Type 0 where
       pub same : SameRun run run′
       pub runs : ListRuns ws txt (place .ask) (drop (place .next) query) (path-in run) (limits-in run) (matched-in run)
           (tally-in run) (tally-in run′) flat flat′ out out′ (place .leaf) x (take (place .len) query)

@@ -1,6 +1,6 @@
 // The listing of a trie: bindings ascending, then each namespace ascending with its own listing.
 // One run serves counting and writing: a line is written where it fits what is lent, and counting lends nothing.
-// The calls go no deeper than six to a trie, and tries no deeper than 17. Each returns the tries entered so far.
+// The calls go no deeper than six to a trie, and tries no deeper than 17. The listing of a trie, and of a branch, returns the tries entered so far.
 use listing_annotation::Labelled;
 use listing_ask::Ask;
 use merge::Cursor;
@@ -72,10 +72,10 @@ fn list_tree(
     run: &mut [usize; listing_output::RUN],
     flat: &mut [u8],
     out: &mut [u8],
-) -> usize
+)
     requires { ⌜ TreeAsked (now words) (now text) (now query) place (now run) found ⌝ }
-    ensures { λ e. ⌜ TreeListed (old words) (old text) (old query) place (old run) (new run)
-        (old flat) (new flat) (old out) (new out) found e ⌝ }
+    ensures { λ _. ⌜ TreeListed (old words) (old text) (old query) place (old run) (new run)
+        (old flat) (new flat) (old out) (new out) found ⌝ }
 {
     let budget = run[listing_output::BUDGET];
     let len = place.len;
@@ -91,11 +91,10 @@ fn list_tree(
         };
         let entered = list_branch(words, text, &query[rest..], place, here, run, flat, out);
         if budget < entered {
-            return entered;
+            return;
         }
         step = match_walk::next_match(words, text, root, &query[0..len], at, &mut notes, step.n);
     }
-    run[listing_output::ENTERED]
 }
 
 // What the branches of a list that begin with a prefix give, in order, one of each key. Stops once the budget is passed.
@@ -109,10 +108,10 @@ fn list_merged(
     run: &mut [usize; listing_output::RUN],
     flat: &mut [u8],
     out: &mut [u8],
-) -> usize
+)
     requires { ⌜ ListAsked (now words) (now text) (now query) place (now run) list ⌝ }
-    ensures { λ e. ⌜ ListListed (old words) (old text) (old query) place (old run) (new run)
-        (old flat) (new flat) (old out) (new out) list e ⌝ }
+    ensures { λ _. ⌜ ListListed (old words) (old text) (old query) place (old run) (new run)
+        (old flat) (new flat) (old out) (new out) list ⌝ }
 {
     let budget = run[listing_output::BUDGET];
     let len = place.len;
@@ -135,7 +134,8 @@ fn list_merged(
             link: roots[0],
             label: labels[0],
         };
-        return list_tree(words, text, query, place, alone, run, flat, out);
+        list_tree(words, text, query, place, alone, run, flat, out);
+        return;
     }
     let mut child = start.child;
     let mut next = start.next;
@@ -157,7 +157,7 @@ fn list_merged(
         );
         let branch = t.branch;
         if branch == 0 {
-            return run[listing_output::ENTERED];
+            return;
         }
         let cell = t.cell;
         let here = Labelled {
@@ -166,7 +166,7 @@ fn list_merged(
         };
         let entered = list_branch(words, text, &query[rest..], place, here, run, flat, out);
         if budget < entered {
-            return entered;
+            return;
         }
         turn.root = t.root;
         turn.last = branch;
@@ -183,13 +183,13 @@ fn list_names(
     run: &mut [usize; listing_output::RUN],
     flat: &mut [u8],
     out: &mut [u8],
-) -> usize
+)
     requires { ⌜ ListAsked (now words) (now text) (now query) place (now run) list ⌝ }
-    ensures { λ e. ⌜ ListListed (old words) (old text) (old query) place (old run) (new run)
-        (old flat) (new flat) (old out) (new out) list e ⌝ }
+    ensures { λ _. ⌜ ListListed (old words) (old text) (old query) place (old run) (new run)
+        (old flat) (new flat) (old out) (new out) list ⌝ }
 {
     if list == 0 {
-        return run[listing_output::ENTERED];
+        return;
     }
     let root = merge::single(words, list);
     if 0 < root {
@@ -197,9 +197,10 @@ fn list_names(
             link: root,
             label: 0,
         };
-        return list_tree(words, text, query, place, tree, run, flat, out);
+        list_tree(words, text, query, place, tree, run, flat, out);
+        return;
     }
-    list_merged(words, text, query, place, list, run, flat, out)
+    list_merged(words, text, query, place, list, run, flat, out);
 }
 
 // The source's trie_find_prefix': the trie is entered, then its bindings, where at most one segment is left, and its namespaces.
@@ -238,7 +239,8 @@ pub fn list_trie(
         next: next,
     };
     if skip {
-        return list_names(words, text, query, namespaces, t.namespaces, run, flat, out);
+        list_names(words, text, query, namespaces, t.namespaces, run, flat, out);
+        return run[listing_output::ENTERED];
     }
     let bindings = Search {
         ask: ask,
@@ -247,5 +249,6 @@ pub fn list_trie(
         next: next,
     };
     list_names(words, text, query, bindings, t.bindings, run, flat, out);
-    list_names(words, text, query, namespaces, t.namespaces, run, flat, out)
+    list_names(words, text, query, namespaces, t.namespaces, run, flat, out);
+    run[listing_output::ENTERED]
 }

@@ -264,19 +264,16 @@ pub +list-below+list-branch+list-merged+list-names+list-tree+list-trie-spec : {M
     omega (arith, s .before .pre .1 .place-ok .len-inside))
     {- merge-next-requires -}
     (λ c κs. rw front-is (record { labels = _; any = merging-any (c .before .before .before .before .before .loop .inv) }))
-    {- element-copy-out-result -}
-    (λ c. search needs)
     {- same-length-3 -}
-    (λ c. c .before .before .before .before .before .before .before .before .loop .inv .left .flat-size)
+    (λ c. c .before .before .before .before .before .before .before .loop .inv .left .flat-size)
     {- same-length-4 -}
-    (λ c. c .before .before .before .before .before .before .before .before .loop .inv .left .out-size)
+    (λ c. c .before .before .before .before .before .before .before .loop .inv .left .out-size)
     {- returns-2 -}
-    (λ c. merging-done (c .before .before .before .before .before .before .before .before .loop .inv)
-    ((rw front-is at (c .before .before .merge-next .ensures)) .gives _)
-    (c .before .if2 .taken))
-    {- mul-t48 -}
+    (λ c. merging-done (c .before .before .before .before .before .before .before .loop .inv) ((rw front-is at (c .before .merge-next .ensures)) .gives _)
+    (c .if2 .taken))
+    {- mul-t49 -}
     (λ c. omega (arith, c .before .merge-next .ensures .small (c .if2 .left)))
-    {- array-read-t61 -}
+    {- array-read-t59 -}
     (λ c. c .before .merge-next .ensures .small (c .if2 .left))
     {- sub-list-branch -}
     (λ c. let s = c .before .before .before .before .before .before .before .before .before .before .before .before .before .before in
@@ -315,10 +312,8 @@ pub +list-below+list-branch+list-merged+list-names+list-tree+list-trie-spec : {M
     (λ t. list-names-lts.spec (single-reads.Asked, single-reads.Learnt, list-tree-below t, list-tree.Post, list-merged-below t, list-merged.Post)
     (list-names-at t)
     list-names.Post
-    {- element-copy-out-result -}
-    (λ c. search needs)
     {- returns -}
-    (λ c. none-runs (c .before .if1 .taken))
+    (λ c. none-runs (c .if1 .taken))
     {- single-requires -}
     (λ c κs. at-fits (c .before .before .before .before .before .before .pre .1 .can .list-at))
     {- list-tree-requires -}
@@ -411,14 +406,12 @@ pub +list-below+list-branch+list-merged+list-names+list-tree+list-trie-spec : {M
     let s3 = s2 .before .before .before .before .before .before in
     stepping-next (s3 .before .before .loop .inv) (λ z. omega (arith, s3 .if1 .taken)) (rw tail-is at (s2 .before .list-branch .ensures)) (s2 .flat .given)
     (s .out .given) (rw front-is at (c .next-match .ensures)))
-    {- element-copy-out-result -}
-    (λ c. search needs)
     {- same-length-3 -}
-    (λ c. c .before .before .before .loop .inv .along .left .flat-size)
+    (λ c. c .before .before .loop .inv .along .left .flat-size)
     {- same-length-4 -}
-    (λ c. c .before .before .before .loop .inv .along .left .out-size)
+    (λ c. c .before .before .loop .inv .along .left .out-size)
     {- returns-2 -}
-    (λ c. stepping-done (c .before .before .before .loop .inv) (omega (arith, c .before .if1 .left))))
+    (λ c. stepping-done (c .before .before .loop .inv) (omega (arith, c .if1 .left))))
     λ t. list-trie-lts.spec (
       trie-of-reads.Asked,
       trie-of-reads.Learnt,
@@ -465,12 +458,15 @@ pub +list-below+list-branch+list-merged+list-names+list-tree+list-trie-spec : {M
       omega (arith, pre .0, namespaces-earlier (pre .1 .can) (s3 .trie-of .ensures) (s2 .cut-query .ensures)),
       rw (s .begin .ensures) (namespaces-asked (pre .1) (s3 .trie-of .ensures) (s2 .cut-query .ensures) (omega (arith, s3 .before .if1 .left)) (same-run _)),
     ))
+    {- element-copy-out-result -}
+    (λ c. search needs)
     {- same-length -}
     (λ c. search needs)
     {- same-length-2 -}
     (λ c. search needs)
     {- returns-2 -}
-    (λ c. let s = c .before .before .before .before in let s2 = s .before .before .before .before in let s3 = s2 .before .before .before .before .before in
+    (λ c. let s = c .before .before .before .before .before in let s2 = s .before .before .before .before in
+    let s3 = s2 .before .before .before .before .before in
     let s4 = s3 .before .before in
     trie-few (s4 .before .before .before .before .before .before .before .before .before .before .pre .1) (s4 .trie-of .ensures) (s3 .cut-query .ensures)
     (omega (arith, s4 .before .if1 .left)) (s2 .before .before .before .skips-bindings .ensures .when (s2 .if2 .taken))
@@ -489,12 +485,14 @@ pub +list-below+list-branch+list-merged+list-names+list-tree+list-trie-spec : {M
       namespaces-asked (pre .1) (s4 .trie-of .ensures) (s3 .cut-query .ensures) (omega (arith, s4 .before .if1 .left))
           (rw (s2 .begin .ensures) at (s .list-names2 .ensures .same)),
     ))
+    {- element-copy-out-result-2 -}
+    (λ c. search needs)
     {- same-length-3 -}
     (λ c. search needs)
     {- same-length-4 -}
     (λ c. search needs)
     {- returns-3 -}
-    (λ c. let s = c .before .before .before .before in let s2 = s .before .before .before .before .before .before .before .before in
+    (λ c. let s = c .before .before .before .before .before in let s2 = s .before .before .before .before .before .before .before .before in
     let s3 = s2 .before .before .before .before in let s4 = s3 .before .before .before .before .before in let s5 = s4 .before .before in
     trie-all (s5 .before .before .before .before .before .before .before .before .before .before .pre .1) (s5 .trie-of .ensures) (s4 .cut-query .ensures)
     (omega (arith, s5 .before .if1 .left)) (s3 .before .before .before .skips-bindings .ensures .unless (s3 .if2 .left))
