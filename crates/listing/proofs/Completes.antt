@@ -85,8 +85,9 @@ module _ (ws txt : List ℕ) (ask : Ask) (root : ℕ) (query : Str) where
   }
 
   -- What a run from the root gives.
-  pub root-runs : {budget lines bytes : ℕ} {run run′ flat flat′ out out′ : List ℕ} → run ≡ start-run budget lines bytes
-      → TrieListed ws txt query ask run run′ flat flat′ out out′ root
+  pub root-runs : {budget lines bytes : ℕ} {run run′ flat flat′ out out′ : List ℕ} {n : ℕ}
+      → run ≡ start-run budget lines bytes
+      → TrieListed ws txt query ask run run′ flat flat′ out out′ root n
       → let lim : Limits = record { budget = budget; lines = lines; bytes = bytes } in
       TrieRuns ws txt ask query (root-path lim) lim unmatched nothing-yet (tally-in run′) flat flat′ out out′ root
   root-runs e t = (rw e at t) .runs

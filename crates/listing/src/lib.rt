@@ -38,7 +38,7 @@ pub fn complete(
     let bytes = listing_start::lent(out.len());
     let most = request.budget as usize;
     let mut run = listing_start::start(most, lines, bytes);
-    listing_trie::list_trie(
+    let entered = listing_trie::list_trie(
         words,
         text,
         query,
@@ -48,7 +48,6 @@ pub fn complete(
         &mut flat[0..0],
         &mut out[0..0],
     );
-    let entered = run[listing_output::ENTERED];
     if most < entered {
         return Completed::Refused(Refusal::Spent);
     }

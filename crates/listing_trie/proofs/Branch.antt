@@ -63,8 +63,8 @@ module _ (ws txt : List ℕ) (w : Which) (ℓ : Level) (o : Option Str) (branch 
 pub leaf-runs : {ws txt : List ℕ} {rest : Str} {ask : Ask} {leaf : Bool} {f : Labelled}
     {run run′ flat flat′ out out′ : List ℕ} → leaf ≡ true
     → Listed ws txt ask f run run′ flat flat′ out out′
-    → BranchListed ws txt rest ask leaf run run′ flat flat′ out out′ f
-leaf-runs {ws} {txt} {rest} {ask} {leaf} {f} {run} {run′} {flat} {flat′} {out} {out′} e l = record { same = l .same; runs = go leaf e }
+    → BranchListed ws txt rest ask leaf run run′ flat flat′ out out′ f (tally-in run′ .entered)
+leaf-runs {ws} {txt} {rest} {ask} {leaf} {f} {run} {run′} {flat} {flat′} {out} {out′} e l = record { count = refl; same = l .same; runs = go leaf e }
   where
     go : (z : Bool) → z ≡ true
         → BranchRuns ws txt ask rest (path-in run) (limits-in run) (matched-in run) (tally-in run)
@@ -154,8 +154,8 @@ module _ {ws txt : List ℕ} {rest : Str} {ask : Ask} {f : Labelled} {run run₁
     fits = omega (arith, d .after 25 (omega arith), r .fits);
   }
 
-  module _ {run₂ flat flat′ out out′ : List ℕ}
-      (t : TrieListed ws txt rest ask run₁ run₂ flat flat′ out out′ child) where
+  module _ {run₂ flat flat′ out out′ : List ℕ} {e : ℕ}
+      (t : TrieListed ws txt rest ask run₁ run₂ flat flat′ out out′ child e) where
     pub namespace-sized : length run₂ ≡ run-size
     namespace-sized = t .same .size ∙ d .down .size ∙ r .can .ready .path-ok .sized
 
@@ -177,9 +177,10 @@ module _ {ws txt : List ℕ} {rest : Str} {ask : Ask} {f : Labelled} {run run₁
     }
 
     pub namespace-runs : {b : Before} {run₃ : List ℕ} → b ≡ before-of run → run₃ ≡ left run₂ b
-        → BranchListed ws txt rest ask false run run₃ flat flat′ out out′ f
+        → BranchListed ws txt rest ask false run run₃ flat flat′ out out′ f e
     unfolding left
-    namespace-runs e k = rw (k, e) (record {
+    namespace-runs h k = rw (k, h) (record {
+      count = t .count ∙ sym (ap (λ z. z .entered) (tally-matched back (matched-in run) ∙ tally-after run₂ back (set-back .after)));
       same = record {
         path = path-then path-back (path-matched back (matched-in run) (omega (arith, set-back .count, r .can .ready .path-ok .few)));
         matched-same = getD-set-same back 25 (matched-in run) 0 (omega (arith, path-back .size, r .can .ready .path-ok .sized));

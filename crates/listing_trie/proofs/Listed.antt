@@ -230,15 +230,15 @@ module _ {ws txt : List ℕ} {query : Str} {place : Search} {f : Labelled} {run 
         fits = omega (arith, g .same .matched-same, r .place-ok .fits);
       }
 
-      module _ {run″ flat″ out″ : List ℕ}
+      module _ {run″ flat″ out″ : List ℕ} {e : ℕ}
           (b : BranchListed ws txt (drop (place .next) query) (place .ask)
-          (place .leaf) run′ run″ flat′ flat″ out′ out″ at-hand)
+          (place .leaf) run′ run″ flat′ flat″ out′ out″ at-hand e)
           (lf : length flat″ ≡ length flat′) (lo : length out″ ≡ length out′) where
-        pub stepping-spent : getD run 22 0 < getD run″ 19 0
+        pub stepping-spent : getD run 22 0 < e
             → TreeListed ws txt query place run run″ flat flat″ out out″ f
         stepping-spent k = record {
           same = same-then (g .same) (b .same);
-          runs = along-spent (g .along) n (branch-runs-at (g .same .path) (g .same .matched-same) (b .runs)) lf lo k;
+          runs = along-spent (g .along) n (branch-runs-at (g .same .path) (g .same .matched-same) (b .runs)) lf lo (omega (arith, b .count));
         }
 
         module _ {notes′ : List ℕ} {s′ : Next}
@@ -440,9 +440,9 @@ module _ {ws txt : List ℕ} {query : Str} {place : Search} {x : ℕ} {run : Lis
               });
             }
 
-        module _ {run″ flat″ out″ : List ℕ}
+        module _ {run″ flat″ out″ : List ℕ} {e : ℕ}
             (b : BranchListed ws txt (drop (place .next) query) (place .ask)
-            (place .leaf) run′ run″ flat′ flat″ out′ out″ given)
+            (place .leaf) run′ run″ flat′ flat″ out′ out″ given e)
             (lf : length flat″ ≡ length flat′) (lo : length out″ ≡ length out′) where
           pub merging-next : Merging ws txt query place x run run″ flat flat″ out out″ (s .m)
           merging-next =
@@ -457,10 +457,11 @@ module _ {ws txt : List ℕ} {query : Str} {place : Search} {x : ℕ} {run : Lis
                     (branch-runs-at (g .same .path) (g .same .matched-same) (b .runs)) lf lo;
               }
 
-          pub merging-spent : getD run 22 0 < getD run″ 19 0
+          pub merging-spent : getD run 22 0 < e
               → ListListed ws txt query place run run″ flat flat″ out out″ x
           merging-spent z =
               record {
                 same = merging-next .same;
-                runs = entries-list (merging-next .says) (left-spent ws txt _ _ _ _ _ _ (merging-next .left) z);
+                runs = entries-list (merging-next .says)
+                    (left-spent ws txt _ _ _ _ _ _ (merging-next .left) (omega (arith, b .count)));
               }

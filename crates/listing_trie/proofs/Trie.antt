@@ -1,6 +1,6 @@
 -- list_trie: the trie is entered, then its bindings are listed, then its namespaces.
 use Prim.Native.Nat.{ℕ, zero, suc, _+_, _*_, _<_, _≤_}
-use mathlib.Core.Path.{_≡_, refl, ap, _∙_}
+use mathlib.Core.Path.{_≡_, refl, sym, ap, _∙_}
 use mathlib.Core.Bool.{Bool, true, false, true≢false}
 use mathlib.Core.List.{List, []}
 use mathlib.Core.Logic.{_⊎_, inl, inr}
@@ -223,8 +223,9 @@ module _ {ws txt : List ℕ} {ask : Ask} {query : Str} {p : Path} {lim : Limits}
 
 module _ {ws txt : List ℕ} {query : Str} {ask : Ask} {run : List ℕ} {x : ℕ} (r : TrieAsked ws txt query ask run x) where
   pub trie-spent : {flat out : List ℕ} → getD run 22 0 ≤ getD run 19 0
-      → TrieListed ws txt query ask run (set run 19 (getD run 22 0 + 1)) flat flat out out x
+      → TrieListed ws txt query ask run (set run 19 (getD run 22 0 + 1)) flat flat out out x (getD run 22 0 + 1)
   trie-spent h = record {
+    count = sym (ap (λ z. z .entered) (tally-entered run (getD run 22 0 + 1) (r .can .ready .path-ok .sized)));
     same = same-set run 19 (getD run 22 0 + 1) (r .can .ready .path-ok .few) (omega arith) (omega arith) .path;
     runs = rw (tally-entered run (getD run 22 0 + 1) (r .can .ready .path-ok .sized)) (trie-over (r .can) h);
   }
@@ -266,8 +267,13 @@ module _ {ws txt : List ℕ} {query : Str} {ask : Ask} {run : List ℕ} {x : ℕ
     module _ {run₂ flat flat₁ out out₁ : List ℕ} where
       pub trie-few : (c .next < length query) ⊎ Past (limits-in run) (getD run 20 0) (getD run 21 0)
           → ListListed ws txt query (down false) run₁ run₂ flat flat₁ out out₁ (t .namespaces)
-          → TrieListed ws txt query ask run run₂ flat flat₁ out out₁ x
-      trie-few skip n = record { same = path-then same₁ (n .same .path); runs = go skip (rw tally₁ at (list-runs-at same₁ matched₁ (n .runs))) }
+          → TrieListed ws txt query ask run run₂ flat flat₁ out out₁ x (tally-in run₂ .entered)
+      trie-few skip n =
+          record {
+            count = refl;
+            same = path-then same₁ (n .same .path);
+            runs = go skip (rw tally₁ at (list-runs-at same₁ matched₁ (n .runs)));
+          }
         where
           go : (c .next < length query) ⊎ Past (limits-in run) (getD run 20 0) (getD run 21 0)
               → ListRuns ws txt ask (drop (c .next) query) (path-in run) (limits-in run) (c .matched)
@@ -280,8 +286,9 @@ module _ {ws txt : List ℕ} {query : Str} {ask : Ask} {run : List ℕ} {x : ℕ
       pub trie-all : {run₃ flat₂ out₂ : List ℕ} → length query ≤ c .next
           → ListListed ws txt query (down true) run₁ run₂ flat flat₁ out out₁ (t .bindings)
           → ListListed ws txt query (down false) run₂ run₃ flat₁ flat₂ out₁ out₂ (t .namespaces)
-          → TrieListed ws txt query ask run run₃ flat flat₂ out out₂ x
+          → TrieListed ws txt query ask run run₃ flat flat₂ out out₂ x (tally-in run₃ .entered)
       trie-all last b n = record {
+        count = refl;
         same = path-then same₁ (path-then (b .same .path) (n .same .path));
         runs = trie-both (r .can) seen cut h last (rw tally₁ at (list-runs-at same₁ matched₁ (b .runs)))
             (list-runs-at (path-then same₁ (b .same .path)) (b .same .matched-same ∙ matched₁) (n .runs));

@@ -132,14 +132,15 @@ module _ (ws txt : List ℕ) (ask : Ask) (rest : Str) (p : Path) (lim : Limits) 
           → depth (what (asked ask) ws txt trie trieˢ) < n
           → Went (trie-gives ask n (what (asked ask) ws txt trie trieˢ) path (segments rest))
 
--- ---- The contracts: of a query that is cut, and the lent run
+-- ---- The contracts: of a query that is cut, and the lent run; e is what is returned, the tries entered so far
 
 module _ (ws txt : List ℕ) (rest : Str) (ask : Ask) (leaf : Bool) (run : List ℕ) where
   pub record BranchAsked (f : Labelled) : Type 0 where
     pub can : BranchReady ws txt ask rest (path-in run) (limits-in run) leaf (f .link) (f .label)
     pub fits : matched-in run ≤ 4294967295
 
-  pub record BranchListed (run′ flat flat′ out out′ : List ℕ) (f : Labelled) : Type 0 where
+  pub record BranchListed (run′ flat flat′ out out′ : List ℕ) (f : Labelled) (e : ℕ) : Type 0 where
+    pub count : e ≡ tally-in run′ .entered
     pub same : SameRun run run′
     pub runs : BranchRuns ws txt ask rest (path-in run) (limits-in run) (matched-in run)
         (tally-in run) (tally-in run′) flat flat′ out out′ leaf (f .link) (f .label)
@@ -178,7 +179,8 @@ module _ (ws txt : List ℕ) (query : Str) (ask : Ask) (run : List ℕ) where
     pub can : TrieReady ws txt ask query (path-in run) (limits-in run) x
     pub fits : matched-in run ≤ 4294967295
 
-  pub record TrieListed (run′ flat flat′ out out′ : List ℕ) (x : ℕ) : Type 0 where
+  pub record TrieListed (run′ flat flat′ out out′ : List ℕ) (x e : ℕ) : Type 0 where
+    pub count : e ≡ tally-in run′ .entered
     pub same : SamePath run run′
     pub runs : TrieRuns ws txt ask query (path-in run) (limits-in run) (matched-in run) (tally-in run)
         (tally-in run′) flat flat′ out out′ x

@@ -1,6 +1,6 @@
 // The listing of a trie: bindings ascending, then each namespace ascending with its own listing.
 // One run serves counting and writing: a line is written where it fits what is lent, and counting lends nothing.
-// The calls go no deeper than six to a trie, and tries no deeper than 17.
+// The calls go no deeper than six to a trie, and tries no deeper than 17. The listing of a trie, and of a branch, returns the tries entered so far.
 use listing_annotation::Labelled;
 use listing_ask::Ask;
 use merge::Cursor;
@@ -27,15 +27,16 @@ fn list_below(
     run: &mut [usize; listing_output::RUN],
     flat: &mut [u8],
     out: &mut [u8],
-)
+) -> usize
     requires { ⌜ BranchAsked (now words) (now text) (now rest) ask false (now run) found ⌝ }
-    ensures { λ _. ⌜ BranchListed (old words) (old text) (old rest) ask false
-        (old run) (new run) (old flat) (new flat) (old out) (new out) found ⌝ }
+    ensures { λ e. ⌜ BranchListed (old words) (old text) (old rest) ask false
+        (old run) (new run) (old flat) (new flat) (old out) (new out) found e ⌝ }
 {
     let child = memory_access::held_of(words, found.link);
     let before = listing_step::enter(words, found, run);
-    list_trie(words, text, rest, ask, child, run, flat, out);
+    let entered = list_trie(words, text, rest, ask, child, run, flat, out);
     listing_step::leave(run, before);
+    entered
 }
 
 // What a found branch gives: the line of a branch of bindings, the listing of a namespace. So small that the loops take it in.
@@ -48,17 +49,17 @@ fn list_branch(
     run: &mut [usize; listing_output::RUN],
     flat: &mut [u8],
     out: &mut [u8],
-)
+) -> usize
     requires { ⌜ BranchAsked (now words) (now text) (now rest) (place .ask) (place .leaf) (now run) found ⌝ }
-    ensures { λ _. ⌜ BranchListed (old words) (old text) (old rest) (place .ask) (place .leaf)
-        (old run) (new run) (old flat) (new flat) (old out) (new out) found ⌝ }
+    ensures { λ e. ⌜ BranchListed (old words) (old text) (old rest) (place .ask) (place .leaf)
+        (old run) (new run) (old flat) (new flat) (old out) (new out) found e ⌝ }
 {
     let ask = place.ask;
     if place.leaf {
         listing_line::line(words, text, ask, found, run, flat, out);
-        return;
+        return run[listing_output::ENTERED];
     }
-    list_below(words, text, rest, ask, found, run, flat, out);
+    list_below(words, text, rest, ask, found, run, flat, out)
 }
 
 // What the branches of a tree that begin with a prefix give, in order, each with the tree's label. Stops once the budget is passed.
@@ -88,8 +89,8 @@ fn list_tree(
             link: at,
             label: found.label,
         };
-        list_branch(words, text, &query[rest..], place, here, run, flat, out);
-        if budget < run[listing_output::ENTERED] {
+        let entered = list_branch(words, text, &query[rest..], place, here, run, flat, out);
+        if budget < entered {
             return;
         }
         step = match_walk::next_match(words, text, root, &query[0..len], at, &mut notes, step.n);
@@ -163,8 +164,8 @@ fn list_merged(
             link: branch,
             label: labels[cell],
         };
-        list_branch(words, text, &query[rest..], place, here, run, flat, out);
-        if budget < run[listing_output::ENTERED] {
+        let entered = list_branch(words, text, &query[rest..], place, here, run, flat, out);
+        if budget < entered {
             return;
         }
         turn.root = t.root;
@@ -213,17 +214,17 @@ pub fn list_trie(
     run: &mut [usize; listing_output::RUN],
     flat: &mut [u8],
     out: &mut [u8],
-)
+) -> usize
     requires { ⌜ TrieAsked (now words) (now text) (now query) ask (now run) trie ⌝ }
-    ensures { λ _. ⌜ TrieListed (old words) (old text) (old query) ask (old run) (new run)
-        (old flat) (new flat) (old out) (new out) trie ⌝ }
+    ensures { λ e. ⌜ TrieListed (old words) (old text) (old query) ask (old run) (new run)
+        (old flat) (new flat) (old out) (new out) trie e ⌝ }
 {
     let budget = run[listing_output::BUDGET];
     let before = run[listing_output::ENTERED];
     let base = run[listing_output::LENGTH];
     if budget <= before {
         run[listing_output::ENTERED] = budget + 1;
-        return;
+        return budget + 1;
     }
     let t = memory_access::trie_of(words, trie);
     let c = listing_step::cut_query(query, base, run[listing_output::MATCHED]);
@@ -239,7 +240,7 @@ pub fn list_trie(
     };
     if skip {
         list_names(words, text, query, namespaces, t.namespaces, run, flat, out);
-        return;
+        return run[listing_output::ENTERED];
     }
     let bindings = Search {
         ask: ask,
@@ -249,4 +250,5 @@ pub fn list_trie(
     };
     list_names(words, text, query, bindings, t.bindings, run, flat, out);
     list_names(words, text, query, namespaces, t.namespaces, run, flat, out);
+    run[listing_output::ENTERED]
 }

@@ -48,8 +48,6 @@ complete-spec =
           }));
       fits = omega arith;
     }))
-    {- array-read-entered -}
-    (λ c. search needs)
     {- same-length -}
     (λ c. search needs)
     {- same-length-2 -}
@@ -62,7 +60,7 @@ complete-spec =
       budget-fits = omega (arith, s2 .before .struct-known .given .1 .0 .fits);
       lines-are = s3 .before .lines-lent .ensures;
       bytes-are = s3 .lent .ensures;
-    }) (root-shows _ _ _ _ _ (root-runs _ _ _ _ _ (s2 .start .ensures) list-trie)) (c .if1 .taken)
+    }) (root-shows _ _ _ _ _ (root-runs _ _ _ _ _ (s2 .start .ensures) list-trie)) (omega (arith, list-trie .count, c .if1 .taken))
     (flat-kept _ _ _ _ _ (root-runs _ _ _ _ _ (s2 .start .ensures) list-trie) (s4 .args .flat .now) refl)
     (out-kept _ _ _ _ _ (root-runs _ _ _ _ _ (s2 .start .ensures) list-trie) (s4 .args .out .now) refl))
     {- array-read-count -}
@@ -81,7 +79,7 @@ complete-spec =
       budget-fits = omega (arith, s2 .before .struct-known .given .1 .0 .fits);
       lines-are = s3 .before .lines-lent .ensures;
       bytes-are = s3 .lent .ensures;
-    }) (root-shows _ _ _ _ _ (root-runs _ _ _ _ _ (s2 .start .ensures) list-trie)) (c .before .if1 .left) (inl (c .if2 .taken))
+    }) (root-shows _ _ _ _ _ (root-runs _ _ _ _ _ (s2 .start .ensures) list-trie)) (omega (arith, list-trie .count, c .before .if1 .left)) (inl (c .if2 .taken))
     (flat-kept _ _ _ _ _ (root-runs _ _ _ _ _ (s2 .start .ensures) list-trie) (s4 .args .flat .now) refl)
     (out-kept _ _ _ _ _ (root-runs _ _ _ _ _ (s2 .start .ensures) list-trie) (s4 .args .out .now) refl))
     {- same-length-5 -}
@@ -96,7 +94,8 @@ complete-spec =
       budget-fits = omega (arith, s2 .before .struct-known .given .1 .0 .fits);
       lines-are = s3 .before .lines-lent .ensures;
       bytes-are = s3 .lent .ensures;
-    }) (root-shows _ _ _ _ _ (root-runs _ _ _ _ _ (s2 .start .ensures) list-trie)) (c .before .before .if1 .left) (inr (c .if3 .taken))
+    }) (root-shows _ _ _ _ _ (root-runs _ _ _ _ _ (s2 .start .ensures) list-trie)) (omega (arith, list-trie .count, c .before .before .if1 .left))
+    (inr (c .if3 .taken))
     (flat-kept _ _ _ _ _ (root-runs _ _ _ _ _ (s2 .start .ensures) list-trie) (s4 .args .flat .now) refl)
     (out-kept _ _ _ _ _ (root-runs _ _ _ _ _ (s2 .start .ensures) list-trie) (s4 .args .out .now) refl))
     {- start-requires-2 -}
@@ -126,10 +125,10 @@ complete-spec =
           }));
       fits = omega arith;
     }))
-    {- cast-t43 -}
+    {- cast-t40 -}
     (λ c. let s = c .before .before .before .before .before .before .before .before .before .before in
     omega (arith, s .if2 .left, s .before .before .before .before .before .before .before .before .before .before .before .before .before .lines-lent .ensures))
-    {- cast-t44 -}
+    {- cast-t41 -}
     (λ c. let s = c .before .before .before .before .before .before .before .before .before .before .before in
     omega (arith, s .if1 .left, s .before .before .before .before .before .before .before .before .before .before .struct-known .given .1 .0 .fits))
     {- same-length-7 -}
@@ -141,13 +140,14 @@ complete-spec =
     let s4 = s3 .before .before .before .before .before .before in let list-trie = s4 .list-trie .ensures in let s5 = s4 .before .before .before .before in
     let s6 = s5 .before .before in let start = s5 .start .ensures in let fits′ = s5 .before .struct-known .given .1 .0 .fits in
     let s7 = s6 .before .before .before .before .before .before .before in
-    completes-listed (s7 .pre .1) (record {
+    let within = s3 .before .if1 .left in
+    rw (list-trie .count) (completes-listed (s7 .pre .1) (record {
       budget-is = refl;
       budget-fits = omega (arith, fits′);
       lines-are = s6 .before .lines-lent .ensures;
       bytes-are = s6 .lent .ensures;
-    }) (root-shows _ _ _ _ _ (root-runs _ _ _ _ _ start list-trie)) (s3 .before .if1 .left) (s3 .if2 .left) (s2 .before .if3 .left)
+    }) (root-shows _ _ _ _ _ (root-runs _ _ _ _ _ start list-trie)) (omega (arith, list-trie .count, within)) (s3 .if2 .left) (s2 .before .if3 .left)
     (writes-then _ _ _ _ _ (flat-kept _ _ _ _ _ (root-runs _ _ _ _ _ start list-trie) (s7 .args .flat .now) refl)
     (out-kept _ _ _ _ _ (root-runs _ _ _ _ _ start list-trie) (s7 .args .out .now) refl) (root-runs _ _ _ _ _ (s2 .start2 .ensures) (s .list-trie2 .ensures))
-    (all-fit (root-shows _ _ _ _ _ (root-runs _ _ _ _ _ start list-trie)) (s3 .before .if1 .left) (s3 .if2 .left) (s2 .before .if3 .left)
-    (record { budget-is = refl; budget-fits = omega (arith, fits′); lines-are = s6 .before .lines-lent .ensures; bytes-are = s6 .lent .ensures })))))
+    (all-fit (root-shows _ _ _ _ _ (root-runs _ _ _ _ _ start list-trie)) (omega (arith, list-trie .count, within)) (s3 .if2 .left) (s2 .before .if3 .left)
+    (record { budget-is = refl; budget-fits = omega (arith, fits′); lines-are = s6 .before .lines-lent .ensures; bytes-are = s6 .lent .ensures }))))))

@@ -190,12 +190,14 @@ pub +list-below+list-branch+list-merged+list-names+list-tree+list-trie-spec : {M
     list-branch.Post
     {- line-requires -}
     (λ c κs. line-ready (c .before .before .before .before .before .before .before .before .before .pre .1) (c .before .before .before .if1 .taken))
+    {- element-copy-out-result -}
+    (λ c. search needs)
     {- same-length -}
     (λ c. search needs)
     {- same-length-2 -}
     (λ c. search needs)
     {- returns -}
-    (λ c. let s = c .before .before .before .before in leaf-runs (s .before .before .before .before .if1 .taken) (s .line .ensures))
+    (λ c. let s = c .before .before .before .before .before in leaf-runs (s .before .before .before .before .if1 .taken) (s .line .ensures))
     {- list-below-requires -}
     (λ c κs. let s = c .before .before .before .before .before .before .before .before .before in
     (omega (arith, s .pre .0), rw (c .before .before .before .if1 .left) at (s .pre .1)))
@@ -232,9 +234,9 @@ pub +list-below+list-branch+list-merged+list-names+list-tree+list-trie-spec : {M
       list-any (c .before .before .before .before .before .before .before .before .before .before .pre .1 .can),
       record { of-roots = refl; of-heads = refl; of-labels = refl },
     ))
-    {- array-read-t37 -}
+    {- array-read-t38 -}
     (λ c. search needs)
-    {- array-read-t40 -}
+    {- array-read-t41 -}
     (λ c. search needs)
     {- list-tree-requires -}
     (λ c κs. let s = c .before .before .before in
@@ -269,9 +271,9 @@ pub +list-below+list-branch+list-merged+list-names+list-tree+list-trie-spec : {M
     {- returns-2 -}
     (λ c. merging-done (c .before .before .before .before .before .before .before .loop .inv) ((rw front-is at (c .before .merge-next .ensures)) .gives _)
     (c .if2 .taken))
-    {- mul-t48 -}
+    {- mul-t49 -}
     (λ c. omega (arith, c .before .merge-next .ensures .small (c .if2 .left)))
-    {- array-read-t58 -}
+    {- array-read-t59 -}
     (λ c. c .before .merge-next .ensures .small (c .if2 .left))
     {- sub-list-branch -}
     (λ c. let s = c .before .before .before .before .before .before .before .before .before .before .before .before .before .before in
@@ -287,28 +289,26 @@ pub +list-below+list-branch+list-merged+list-names+list-tree+list-trie-spec : {M
       omega (arith, s4 .pre .0, merging-earlier (s2 .loop .inv) ((rw front-is at (s .before .merge-next .ensures)) .gives _) (s .if2 .left)),
       rw tail-is (merging-branch (s2 .loop .inv) ((rw front-is at (s .before .merge-next .ensures)) .gives _) (s .if2 .left) (s4 .pre .1)),
     ))
-    {- element-copy-out-if3 -}
-    (λ c. search needs)
     {- same-length-5 -}
-    (λ c. let s = c .before .before .before .before .before in let s2 = s .before .before .before .before .before .before in
+    (λ c. let s = c .before .before .before .before in let s2 = s .before .before .before .before .before .before in
     merging-next (s2 .before .before .before .before .before .before .before .loop .inv) ((rw front-is at (s2 .before .merge-next .ensures)) .gives _)
-    (s2 .if2 .left) (rw tail-is at (s .before .list-branch .ensures)) (s .flat2 .given) (c .before .before .before .out2 .given) .left .flat-size)
+    (s2 .if2 .left) (rw tail-is at (s .before .list-branch .ensures)) (s .flat2 .given) (c .before .before .out2 .given) .left .flat-size)
     {- same-length-6 -}
-    (λ c. let s = c .before .before .before .before .before in let s2 = s .before .before .before .before .before .before in
+    (λ c. let s = c .before .before .before .before in let s2 = s .before .before .before .before .before .before in
     merging-next (s2 .before .before .before .before .before .before .before .loop .inv) ((rw front-is at (s2 .before .merge-next .ensures)) .gives _)
-    (s2 .if2 .left) (rw tail-is at (s .before .list-branch .ensures)) (s .flat2 .given) (c .before .before .before .out2 .given) .left .out-size)
+    (s2 .if2 .left) (rw tail-is at (s .before .list-branch .ensures)) (s .flat2 .given) (c .before .before .out2 .given) .left .out-size)
     {- returns-3 -}
-    (λ c. let s = c .before .before .before .before .before in let s2 = s .before .before .before .before .before .before in
+    (λ c. let s = c .before .before .before .before in let s2 = s .before .before .before .before .before .before in
     merging-spent (s2 .before .before .before .before .before .before .before .loop .inv) ((rw front-is at (s2 .before .merge-next .ensures)) .gives _)
-    (s2 .if2 .left) (rw tail-is at (s .before .list-branch .ensures)) (s .flat2 .given) (c .before .before .before .out2 .given) (c .if3 .taken))
+    (s2 .if2 .left) (rw tail-is at (s .before .list-branch .ensures)) (s .flat2 .given) (c .before .before .out2 .given) (c .if3 .taken))
     {- loop-less -}
-    (λ c. let s = c .before .before .before .before .before .before .before .before .before .before .before in
+    (λ c. let s = c .before .before .before .before .before .before .before .before .before .before in
     merging-less (s .before .before .before .before .before .before .before .loop .inv) ((rw front-is at (s .before .merge-next .ensures)) .gives _)
     (s .if2 .left))
     {- loop-again -}
-    (λ c. let s = c .before .before .before .before .before in let s2 = s .before .before .before .before .before .before in
+    (λ c. let s = c .before .before .before .before in let s2 = s .before .before .before .before .before .before in
     merging-next (s2 .before .before .before .before .before .before .before .loop .inv) ((rw front-is at (s2 .before .merge-next .ensures)) .gives _)
-    (s2 .if2 .left) (rw tail-is at (s .before .list-branch .ensures)) (s .flat2 .given) (c .before .before .before .out2 .given)))
+    (s2 .if2 .left) (rw tail-is at (s .before .list-branch .ensures)) (s .flat2 .given) (c .before .before .out2 .given)))
     (λ t. list-names-lts.spec (single-reads.Asked, single-reads.Learnt, list-tree-below t, list-tree.Post, list-merged-below t, list-merged.Post)
     (list-names-at t)
     list-names.Post
@@ -367,27 +367,25 @@ pub +list-below+list-branch+list-merged+list-names+list-tree+list-trie-spec : {M
       omega (arith, s3 .pre .0, along-earlier (s2 .loop .inv .along) (λ z. omega (arith, s .if1 .taken))),
       rw tail-is (stepping-branch (s2 .loop .inv) (λ z. omega (arith, s .if1 .taken)) (s3 .pre .1)),
     ))
-    {- element-copy-out-if2 -}
-    (λ c. search needs)
     {- same-length -}
-    (λ c. let s = c .before .before .before .before .before in
+    (λ c. let s = c .before .before .before .before in
     s .flat .given ∙ s .before .before .before .before .before .before .before .before .loop .inv .along .left .flat-size)
     {- same-length-2 -}
-    (λ c. c .before .before .before .out .given
-    ∙ c .before .before .before .before .before .before .before .before .before .before .before .before .before .loop .inv .along .left .out-size)
+    (λ c. c .before .before .out .given
+    ∙ c .before .before .before .before .before .before .before .before .before .before .before .before .loop .inv .along .left .out-size)
     {- returns -}
-    (λ c. let s = c .before .before .before .before .before in let s2 = s .before .before .before .before .before .before in
+    (λ c. let s = c .before .before .before .before in let s2 = s .before .before .before .before .before .before in
     stepping-spent (s2 .before .before .loop .inv) (λ z. omega (arith, s2 .if1 .taken)) (rw tail-is at (s .before .list-branch .ensures)) (s .flat .given)
-    (c .before .before .before .out .given) (c .if2 .taken))
+    (c .before .before .out .given) (c .if2 .taken))
     {- sub-next-match -}
     (λ c. search needs)
     {- part-next-match-start -}
     (λ c. search needs)
     {- part-next-match-end -}
-    (λ c. let s = c .before .before .before .before .before .before .before .before .before .before .before .before .before .before in
+    (λ c. let s = c .before .before .before .before .before .before .before .before .before .before .before .before .before in
     omega (arith, s .before .before .before .before .before .before .before .before .before .pre .1 .place-ok .len-inside))
     {- next-match-requires -}
-    (λ c κs. let s = c .before .before .before .before .before .before .before .before .before .before .before .before .before in
+    (λ c κs. let s = c .before .before .before .before .before .before .before .before .before .before .before .before in
     let s2 = s .before .before in (
       any-tree (s2 .before .before .before .before .before .before .before .before .before .before .pre .1 .can .tree-at),
       (
@@ -399,12 +397,12 @@ pub +list-below+list-branch+list-merged+list-names+list-tree+list-trie-spec : {M
       ),
     ))
     {- loop-less -}
-    (λ c. let s = c .before .before .before .before .before .before in let s2 = s .before .before in
+    (λ c. let s = c .before .before .before .before .before in let s2 = s .before .before in
     let s3 = s2 .before .before .before .before .before .before in
     stepping-less (s3 .before .before .loop .inv) (λ z. omega (arith, s3 .if1 .taken)) (rw tail-is at (s2 .before .list-branch .ensures)) (s2 .flat .given)
     (s .out .given) (rw front-is at (c .next-match .ensures)))
     {- loop-again -}
-    (λ c. let s = c .before .before .before .before .before .before in let s2 = s .before .before in
+    (λ c. let s = c .before .before .before .before .before in let s2 = s .before .before in
     let s3 = s2 .before .before .before .before .before .before in
     stepping-next (s3 .before .before .loop .inv) (λ z. omega (arith, s3 .if1 .taken)) (rw tail-is at (s2 .before .list-branch .ensures)) (s2 .flat .given)
     (s .out .given) (rw front-is at (c .next-match .ensures)))
@@ -438,6 +436,8 @@ pub +list-below+list-branch+list-merged+list-names+list-tree+list-trie-spec : {M
     (λ c. omega (arith, c .before .before .before .before .before .before .before .before .before .pre .1 .can .ready .small .budget-small))
     {- element-write-run -}
     (λ c. search needs)
+    {- add-result -}
+    (λ c. omega (arith, c .before .before .before .before .before .before .before .before .before .pre .1 .can .ready .small .budget-small))
     {- returns -}
     (λ c. trie-spent (c .before .before .before .before .before .before .before .before .before .pre .1) (c .if1 .taken))
     {- trie-of-requires -}
@@ -458,12 +458,15 @@ pub +list-below+list-branch+list-merged+list-names+list-tree+list-trie-spec : {M
       omega (arith, pre .0, namespaces-earlier (pre .1 .can) (s3 .trie-of .ensures) (s2 .cut-query .ensures)),
       rw (s .begin .ensures) (namespaces-asked (pre .1) (s3 .trie-of .ensures) (s2 .cut-query .ensures) (omega (arith, s3 .before .if1 .left)) (same-run _)),
     ))
+    {- element-copy-out-result -}
+    (λ c. search needs)
     {- same-length -}
     (λ c. search needs)
     {- same-length-2 -}
     (λ c. search needs)
     {- returns-2 -}
-    (λ c. let s = c .before .before .before .before in let s2 = s .before .before .before .before in let s3 = s2 .before .before .before .before .before in
+    (λ c. let s = c .before .before .before .before .before in let s2 = s .before .before .before .before in
+    let s3 = s2 .before .before .before .before .before in
     let s4 = s3 .before .before in
     trie-few (s4 .before .before .before .before .before .before .before .before .before .before .pre .1) (s4 .trie-of .ensures) (s3 .cut-query .ensures)
     (omega (arith, s4 .before .if1 .left)) (s2 .before .before .before .skips-bindings .ensures .when (s2 .if2 .taken))
@@ -482,12 +485,14 @@ pub +list-below+list-branch+list-merged+list-names+list-tree+list-trie-spec : {M
       namespaces-asked (pre .1) (s4 .trie-of .ensures) (s3 .cut-query .ensures) (omega (arith, s4 .before .if1 .left))
           (rw (s2 .begin .ensures) at (s .list-names2 .ensures .same)),
     ))
+    {- element-copy-out-result-2 -}
+    (λ c. search needs)
     {- same-length-3 -}
     (λ c. search needs)
     {- same-length-4 -}
     (λ c. search needs)
     {- returns-3 -}
-    (λ c. let s = c .before .before .before .before in let s2 = s .before .before .before .before .before .before .before .before in
+    (λ c. let s = c .before .before .before .before .before in let s2 = s .before .before .before .before .before .before .before .before in
     let s3 = s2 .before .before .before .before in let s4 = s3 .before .before .before .before .before in let s5 = s4 .before .before in
     trie-all (s5 .before .before .before .before .before .before .before .before .before .before .pre .1) (s5 .trie-of .ensures) (s4 .cut-query .ensures)
     (omega (arith, s5 .before .if1 .left)) (s3 .before .before .before .skips-bindings .ensures .unless (s3 .if2 .left))
