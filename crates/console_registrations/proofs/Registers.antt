@@ -12,7 +12,7 @@ use Rattle.script_replies.specs.Replies.{ok-reply, refused-reply}
 use Rattle.table.specs.Header.{IsSound, state, lent}
 use Rattle.refusals.specs.Refusals.{number}
 use Rattle.source.proofs.Outside.{outside-none}
-use Rattle.table.specs.Registrations.{refusal-of, Unchanged, AnswersAs, Answers}
+use Rattle.table.specs.Registrations.{refusal-of, Accepts, Unchanged, AnswersAs, Answers}
 use Rattle.table.specs.declared.Table.{Table}
 use Rattle.table.specs.declared.Registered.{Registered}
 use Rattle.table.specs.declared.Registered.the-variants.{Accepted, Refused}
@@ -43,10 +43,11 @@ register-grows k s c = go (first-row (registration-rows true k s c))
 
 module _ {ws txt ws′ txt′ reply reply′ : List ℕ} {t : Table} {at : ℕ} {r : Registration} {a : Done}
     (f : Finished reply reply′ at r a) where
-  leaves : IsSound ws txt t → (v : C.Registered) → Grows (state ws txt t) v → AnswersAs v ws txt ws′ txt′ t r
+  leaves : (c : Call) → IsSound ws txt t → (v : C.Registered) → Grows (state ws txt t) v
+      → AnswersAs v ws txt ws′ txt′ t c r
       → Leaves ws txt ws′ txt′ t reply reply′ at (registration (state ws txt t) v) a
   unfolding Grows
-  leaves sound (C.accepted s) g (e, x) =
+  leaves c sound (C.accepted s) g (e, x) =
       rw (f .table-is) (record {
         sound = x .sound;
         reads = x .reads;
@@ -56,7 +57,7 @@ module _ {ws txt ws′ txt′ reply reply′ : List ℕ} {t : Table} {at : ℕ} 
         laid = subst (Laid reply reply′ at (a .end))
             (text-accepted (r .table .header .records) (r .answer) e ∙ ap (λ (s : State). ok-reply (s .records-used)) (x .reads)) (f .laid);
       })
-  leaves sound (C.refused n) g (e, x) =
+  leaves c sound (C.refused n) g (e, x) =
       rw (f .table-is, x .table, x .words, x .text) (record {
         sound = sound;
         reads = refl;
@@ -66,14 +67,20 @@ module _ {ws txt ws′ txt′ reply reply′ : List ℕ} {t : Table} {at : ℕ} 
         laid = subst (Laid reply reply′ at (a .end)) (text-refused (r .table .header .records) n (r .answer) e) (f .laid);
       })
 
-  still : (v : C.Registered) → AnswersAs v ws txt ws′ txt′ t r → (n : ℕ) → v ≡ C.refused n
+  accepts : (c : Call) (v : C.Registered) → AnswersAs v ws txt ws′ txt′ t c r → (s : State) → v ≡ C.accepted s
+      → Accepts ws txt ws′ txt′ t (a .table) c s
+  accepts c (C.accepted z) (e, x) s p = let q : z ≡ s = cc in rw (f .table-is, ← q) x
+  accepts c (C.refused n) x s p = let z : _≡_ {A = ℕ} 0 1 = cc in absurd (omega arith)
+
+  still : (c : Call) (v : C.Registered) → AnswersAs v ws txt ws′ txt′ t c r → (n : ℕ) → v ≡ C.refused n
       → Unchanged ws txt ws′ txt′ t (a .table)
-  still (C.accepted s) x n e = let z : _≡_ {A = ℕ} 0 1 = cc in absurd (omega arith)
-  still (C.refused m) (e, x) n p = rw (f .table-is) x
+  still c (C.accepted s) x n e = let z : _≡_ {A = ℕ} 0 1 = cc in absurd (omega arith)
+  still c (C.refused m) (e, x) n p = rw (f .table-is) x
 
   pub line-registers : {c : Call} → IsSound ws txt t → Answers true ws txt ws′ txt′ t c r
       → Registers ws txt ws′ txt′ t c reply reply′ at a
   line-registers {c} s x = record {
-    leaves = leaves s (register true (lent ws txt) (state ws txt t) c) (register-grows (lent ws txt) (state ws txt t) c) (x .says);
-    still = still (register true (lent ws txt) (state ws txt t) c) (x .says);
+    leaves = leaves c s (register true (lent ws txt) (state ws txt t) c) (register-grows (lent ws txt) (state ws txt t) c) (x .says);
+    accepts = accepts c (register true (lent ws txt) (state ws txt t) c) (x .says);
+    still = still c (register true (lent ws txt) (state ws txt t) c) (x .says);
   }

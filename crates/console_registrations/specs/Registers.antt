@@ -12,7 +12,7 @@ use Rattle.script_replies.specs.Replies.{ok-reply, refused-reply}
 use Rattle.table.specs.Header.{IsSound, state, lent}
 use Rattle.refusals.specs.Refusals.{number}
 use Rattle.source.specs.Lent.{Outside}
-use Rattle.table.specs.Registrations.{Unchanged}
+use Rattle.table.specs.Registrations.{Accepts, Unchanged}
 use Rattle.table.specs.declared.Table.{Table}
 use Rattle.table.specs.declared.Registered.{Registered}
 use Rattle.table.specs.declared.Registered.the-variants.{Accepted, Refused}
@@ -40,11 +40,13 @@ pub record Leaves (ws txt ws′ txt′ : List ℕ) (t : Table) (reply reply′ :
   pub grows : (t .header .records ≤ r .table .header .records) × (t .header .text ≤ r .table .header .text)
   pub laid : Laid reply reply′ at (r .end) (o .text)
 
--- A registration; a refused one leaves header, words and text as they were.
+-- A registration; an accepted one has its texts laid and the other root as it was, a refused one leaves header, words and text.
 pub record Registers (ws txt ws′ txt′ : List ℕ) (t : Table) (c : Call) (reply reply′ : List ℕ) (at : ℕ)
     (r : Done) : Type 0 where
   pub leaves : Leaves ws txt ws′ txt′ t reply reply′ at
       (registration (state ws txt t) (register true (lent ws txt) (state ws txt t) c)) r
+  pub accepts : (s : State) → register true (lent ws txt) (state ws txt t) c ≡ C.accepted s
+      → Accepts ws txt ws′ txt′ t (r .table) c s
   pub still : (n : ℕ) → register true (lent ws txt) (state ws txt t) c ≡ C.refused n
       → Unchanged ws txt ws′ txt′ t (r .table)
 

@@ -4,9 +4,9 @@ use mathlib.Core.Path.{_≡_}
 use mathlib.Core.Bool.{Bool, true, cond, _||_}
 use mathlib.Core.List.{List}
 use lib.Dec.{eqb}
-use lib.ListN.{length}
+use lib.ListN.{length, set}
 use Rattle.source.specs.Limits.{deepest-trie, most-used, record-words}
-use Rattle.memory.specs.Layout.{record-at, kind-word, left-link, right-link, trie-link, note-link, note-side, kind}
+use Rattle.memory.specs.Layout.{record-at, kind-word, text-start, text-len, left-link, right-link, trie-link, note-link, note-side, kind}
 use Rattle.memory.specs.Stored.{depth-in, left-in, right-in}
 use Rattle.memory.specs.Made.{sided-row}
 
@@ -53,9 +53,16 @@ pub record RaiseOk (ws : List ℕ) (n : ℕ) : Type 0 where
   pub right : DepthOk ws (kind-word (record-at ws (noted-link ws n))) (trie-link (record-at ws (noted-link ws n)))
       (left-link (record-at ws (noted-link ws n))) n
 
--- The new branch r with the sides of the branch that record number n notes.
+-- The words of a branch with the key of the branch that link x names.
+unfoldable pub with-key : List ℕ → List ℕ → ℕ → List ℕ
+with-key ws r x = set (set r 1 (text-start (record-at ws x))) 2 (text-len (record-at ws x))
+
+-- The new branch r with the key and the sides of the branch that record number n notes; as it is, without sides, where none is noted.
 unfoldable pub lowest-row : List ℕ → ℕ → List ℕ → List ℕ
-lowest-row ws n r = with-sides ws r (left-in ws (noted-link ws n)) (right-in ws (noted-link ws n))
+lowest-row ws n r =
+    let x = noted-link ws n in
+    cond (eqb x 0) (with-sides ws r 0 0)
+    (with-sides ws (with-key ws r x) (left-link (record-at ws x)) (right-link (record-at ws x)))
 
 -- What it asks.
 pub record LowestOk (ws : List ℕ) (n : ℕ) (r : List ℕ) : Type 0 where

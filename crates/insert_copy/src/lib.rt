@@ -1,10 +1,12 @@
 // The branches that an insertion makes: one of the way down copied with another side, the new one with the sides of the one it replaces.
 // The way down is noted in the records that they take.
 ghost use mathlib.Core.Path.{_≡_};
-ghost use Prim.Native.Nat.{max};
+ghost use Prim.Native.Nat.{_*_, _≤_, _<_, max};
+ghost use lib.ListN.{length};
 ghost use Rattle.source.specs.Lent.{old};
+ghost use Rattle.source.specs.Limits.{record-words};
 ghost use Rattle.memory.specs.Layout.{kind-word, trie-link};
-ghost use Rattle.insert_copy.specs.Copies.{of-namespaces, branch-depth, DepthOk, with-sides, raised-row, RaiseOk, lowest-row, LowestOk};
+ghost use Rattle.insert_copy.specs.Copies.{of-namespaces, branch-depth, DepthOk, with-sides, raised-row, RaiseOk, with-key, lowest-row, LowestOk};
 
 // The larger of two numbers.
 fn larger(a: u32, b: u32) -> u32
@@ -59,16 +61,31 @@ pub fn raised_row(words: &[u32], at: u32) -> [u32; memory::ROW]
     with_sides(words, old, old[memory::LEFT], at)
 }
 
-// The new branch with the sides of the one that record number `at` notes.
+// The words of a branch with the key of the branch that `link` names.
+fn with_key(words: &[u32], row: [u32; memory::ROW], link: u32) -> [u32; memory::ROW]
+    requires { ⌜ (0 < link) × (link * record-words ≤ length (now words)) ⌝ }
+    ensures { λ r. ⌜ r ≡ with-key (old words) row link ⌝ }
+{
+    let mut new = row;
+    new[memory::TEXT_START] = memory_access::word_of(words, link, memory::TEXT_START);
+    new[memory::TEXT_LEN] = memory_access::text_len(words, link);
+    new
+}
+
+// The new branch, with the key and the sides of the one that record number `at` notes, if it notes one.
 pub fn lowest_row(words: &[u32], at: u32, row: [u32; memory::ROW]) -> [u32; memory::ROW]
     requires { ⌜ LowestOk (now words) at row ⌝ }
     ensures { λ r. ⌜ r ≡ lowest-row (old words) at row ⌝ }
 {
     let link = memory_access::note_link(words, at + 1);
+    if link == 0 {
+        return with_sides(words, row, 0, 0);
+    }
+    let keyed = with_key(words, row, link);
     with_sides(
         words,
-        row,
-        memory_access::left_side(words, link),
-        memory_access::right_side(words, link),
+        keyed,
+        memory_access::left_of(words, link),
+        memory_access::right_of(words, link),
     )
 }

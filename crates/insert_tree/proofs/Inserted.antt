@@ -1,9 +1,11 @@
 -- The new branches, from the lowest up: each reads as the insertion into the branch that it copies.
 use Prim.Native.Nat.{ℕ, suc, _+_, _-_, _*_, _≤_, _<_, Ordering·lt, Ordering·gt}
 use mathlib.Core.Path.{_≡_, refl, sym, ap, _∙_, subst}
+use mathlib.Core.Bool.{true, _&&_, false≢true}
 use mathlib.Core.List.{List}
 use native.Mathlib.Omega.{arith}
 use borrow.Author.Tests.{ne-eqb}
+use lib.Dec.{ltb}
 use lib.ListN.{length, take, drop}
 use Rattle.source.specs.Text.{Str, string-compare}
 use Rattle.source.specs.Types.{Level, bind, ns, Value, Tree, StrBranch}
@@ -11,7 +13,8 @@ use Rattle.source.specs.Trees.{btree-insert-replace}
 use Rattle.source.specs.Rules.{IsKey, IsLabel, Ordered, Formed}
 use Rattle.source.proofs.Formed.{formed-ordered}
 use Rattle.source.proofs.Keeps.{btree-insert-replace-formed}
-use Rattle.memory.specs.Layout.{record-at, span, Which, Item, tree, trieˢ, kind, value, what, key-at, left-link, right-link, text-len, text-start, trie-link}
+use Rattle.memory.specs.Layout.{record-at, word, span, Which, Item, tree, trieˢ, kind, value, what, key-at, left-link, right-link, text-len, text-start}
+use Rattle.memory.specs.Layout.{trie-link}
 use Rattle.memory.specs.Stored.{left-in, right-in}
 use Rattle.memory.specs.Sound.{LinkOk, Used, At}
 use Rattle.memory.specs.Grown.{Stays, put}
@@ -23,13 +26,13 @@ use Rattle.memory.proofs.RecordAt.{record-length}
 use Rattle.memory.proofs.Fine.{IsItem, link-fine}
 use Rattle.memory.proofs.Seen.{link-later, link-fits}
 use Rattle.find_tree.specs.Tree.{held, AnyTree, Builds}
-use Rattle.insert_copy.specs.Copies.{noted-link, noted-side, with-sides, raised-row, RaiseOk, lowest-row, LowestOk}
+use Rattle.insert_copy.specs.Copies.{noted-link, noted-side, with-sides, with-key, raised-row, RaiseOk, lowest-row, LowestOk}
+use Rattle.insert_copy.proofs.WithKey.{keyed-length, keyed-word, keyed-start, keyed-len}
 use Rattle.insert_tree.specs.Insert.{NewBranch, HeldOk, Insertion, Inserted, SideTaken, Trail, top, turn, Changed, Marked}
 use Rattle.memory.proofs.Pasted.{part-span}
 use Rattle.find_tree.proofs.Branches.{any-tree, branch-right, branch-reads}
-use Rattle.find_tree.proofs.Placed.{compare-eq-same}
 use Rattle.insert_tree.proofs.Changed.{drop-more, put-changes, sound-stays, trail-stays}
-use Rattle.insert_tree.proofs.WithSides.{sided-length, held-fine, depth-ok, old-branch, branch-sound, branch-what, branch-link}
+use Rattle.insert_tree.proofs.WithSides.{same-value, same-held, sided-length, held-fine, depth-ok, old-branch, branch-sound, branch-what, branch-link}
 use Rattle.memory.proofs.At.{at-in, at-of}
 
 -- ---- Trails
@@ -287,18 +290,86 @@ module _ {ws ws′ txt : List ℕ} {w : Which} {ℓ : Level} {records used root 
   new-branch : NewBranch ws′ txt used (records + 1) w r ℓ
   new-branch = record { known = g .new .known; key = g .new .key; holds = held-stays ℓ (g .new .holds) }
 
+  none : LinkOk ws′ (records + 1) 0 (kind w (tree ℓ))
+  none = record { earlier = omega arith; of-kind = λ z. absurd (z refl) }
+
+  -- It replaces the branch x.
+  module _ (p : 0 < x) where
+    abbrev rx : List ℕ
+    rx = record-at ws′ x
+
+    abbrev keyed : List ℕ
+    keyed = with-key ws′ r x
+
+    left-ok′ : LinkOk ws′ (records + 1) (left-link rx) (kind w (tree ℓ))
+    left-ok′ = link-later (omega (arith, x-link .earlier)) (branch-right x-tree p .left)
+
+    right-ok′ : LinkOk ws′ (records + 1) (right-link rx) (kind w (tree ℓ))
+    right-ok′ = link-later (omega (arith, x-link .earlier)) (branch-right x-tree p .right)
+
+    keyed-same : (k : ℕ) → (ltb 4 k && ltb k 11) ≡ true → word keyed k ≡ word r k
+    keyed-same k h = keyed-word ws′ r x k (rw (ne-eqb k 1 (λ e. false≢true (rw e at h)), ne-eqb k 2 (λ e. false≢true (rw e at h))))
+
+    keyed-branch : NewBranch ws′ txt used (records + 1) w keyed ℓ
+    keyed-branch = record {
+      known = keyed-word ws′ r x 0 refl ∙ g .new .known;
+      key = rw (keyed-start ws′ r x twelve, keyed-len ws′ r x twelve) (old-branch (ready .sound) w ℓ x-link p .key);
+      holds = same-held r keyed keyed-same ws′ txt used (records + 1) w ℓ (new-branch .holds);
+    }
+
+    replaced-reads : StrBranch (span txt (text-start keyed) (text-len keyed)) (value w txt keyed (what w ws′ txt) ℓ)
+        (what w ws′ txt (left-link rx) (tree ℓ)) (what w ws′ txt (right-link rx) (tree ℓ))
+        ≡ btree-insert-replace (what w ws txt x (tree ℓ)) (span txt (text-start r) (text-len r))
+        (value w txt r (what w ws txt) ℓ)
+    unfolding btree-insert-replace key-at
+    replaced-reads =
+        rw (
+          keyed-start ws′ r x twelve,
+          keyed-len ws′ r x twelve,
+          same-value r keyed keyed-same w txt (what w ws′ txt) ℓ,
+          value-stays ℓ (g .new .holds),
+          ← base-of ready x (omega (arith, trail-link (root-tree ready) (m .trail) .earlier)),
+          branch-reads x-tree p,
+          btree-insert-replace,
+          ← m .here p,
+        )
+
+    lowest-replaced : lowest-row ws′ records r ≡ with-sides ws′ keyed (left-link rx) (right-link rx)
+    unfolding lowest-row
+    lowest-replaced = rw (ne-eqb x 0 (λ z. omega arith))
+
+    risen-replaced : Risen ws (put ws′ records (with-sides ws′ keyed (left-link rx) (right-link rx))) txt w ℓ used
+        (span txt (text-start r) (text-len r)) (value w txt r (what w ws txt) ℓ) records root (records + count)
+        (records + 1)
+    risen-replaced =
+        put-risen ready (omega (arith, m .some)) keyed (keyed-length ws′ r x ∙ twelve) keyed-branch (left-link rx) (right-link rx) left-ok′ right-ok′
+        (count - 1) x (omega (arith, m .some)) (m .trail) replaced-reads
+
+  -- It replaces none.
+  module _ (z : x ≡ 0) where
+    placed-reads : StrBranch (span txt (text-start r) (text-len r)) (value w txt r (what w ws′ txt) ℓ)
+        (what w ws′ txt 0 (tree ℓ)) (what w ws′ txt 0 (tree ℓ))
+        ≡ btree-insert-replace (what w ws txt x (tree ℓ)) (span txt (text-start r) (text-len r))
+        (value w txt r (what w ws txt) ℓ)
+    unfolding btree-insert-replace
+    placed-reads = rw (value-stays ℓ (g .new .holds), z, what-none w ws′ txt, what-none w ws txt)
+
+    lowest-placed : lowest-row ws′ records r ≡ with-sides ws′ r 0 0
+    unfolding lowest-row
+    lowest-placed = rw z
+
+    risen-placed : Risen ws (put ws′ records (with-sides ws′ r 0 0)) txt w ℓ used
+        (span txt (text-start r) (text-len r)) (value w txt r (what w ws txt) ℓ) records root (records + count)
+        (records + 1)
+    risen-placed =
+        put-risen ready (omega (arith, m .some)) r twelve new-branch 0 0 none none (count - 1) x (omega (arith, m .some)) (m .trail) placed-reads
+
   sides : LinkOk ws′ (records + 1) (left-in ws′ x) (kind w (tree ℓ))
       × LinkOk ws′ (records + 1) (right-in ws′ x) (kind w (tree ℓ))
   sides =
       zero-some x
       (λ z. rw (z, stored-none ws′ 3, stored-none ws′ 4) (none, none))
-      (λ p.
-      let o = branch-right x-tree p in
-      rw (stored-some ws′ x 3 p, stored-some ws′ x 4 p)
-      (link-later (omega (arith, x-link .earlier)) (o .left), link-later (omega (arith, x-link .earlier)) (o .right)))
-    where
-      none : LinkOk ws′ (records + 1) 0 (kind w (tree ℓ))
-      none = record { earlier = omega arith; of-kind = λ z. absurd (z refl) }
+      (λ p. rw (stored-some ws′ x 3 p, stored-some ws′ x 4 p) (left-ok′ p, right-ok′ p))
 
   pub lowest-ok : LowestOk ws′ records r
   lowest-ok = record {
@@ -308,34 +379,10 @@ module _ {ws ws′ txt : List ℕ} {w : Which} {ℓ : Level} {records used root 
     sides = depth-ok (ready .sound) w r ℓ new-branch (sides .0) (sides .1);
   }
 
-  lowest-reads : StrBranch (span txt (text-start r) (text-len r)) (value w txt r (what w ws′ txt) ℓ)
-      (what w ws′ txt (left-in ws′ x) (tree ℓ)) (what w ws′ txt (right-in ws′ x) (tree ℓ))
-      ≡ btree-insert-replace (what w ws txt x (tree ℓ)) (span txt (text-start r) (text-len r))
-      (value w txt r (what w ws txt) ℓ)
-  unfolding btree-insert-replace
-  lowest-reads =
-      zero-some x
-      (λ z. rw (value-stays ℓ (g .new .holds), z, stored-none ws′ 3, stored-none ws′ 4, what-none w ws′ txt, what-none w ws txt))
-      (λ p.
-      rw (
-        value-stays ℓ (g .new .holds),
-        stored-some ws′ x 3 p,
-        stored-some ws′ x 4 p,
-        ← base-of ready x (omega (arith, trail-link (root-tree ready) (m .trail) .earlier)),
-        branch-reads x-tree p,
-        btree-insert-replace,
-        ← m .here p,
-        ← compare-eq-same (span txt (text-start r) (text-len r)) (key-at ws′ txt x) (m .here p),
-      ))
-
   pub lowest-risen : {ws″ low : List ℕ} → low ≡ lowest-row ws′ records r → ws″ ≡ put ws′ records low
       → Risen ws ws″ txt w ℓ used (span txt (text-start r) (text-len r)) (value w txt r (what w ws txt) ℓ) records root
       (records + count) (records + 1)
-  unfolding lowest-row
-  lowest-risen e q =
-      rw (q, e)
-      (put-risen ready (omega (arith, m .some)) r twelve new-branch (left-in ws′ x) (right-in ws′ x) (sides .0) (sides .1) (count - 1) x
-      (omega (arith, m .some)) (m .trail) lowest-reads)
+  lowest-risen e q = rw (q, e) (zero-some x (λ z. rw (lowest-placed z) (risen-placed z)) (λ p. rw (lowest-replaced p) (risen-replaced p)))
 
 -- ---- The loop
 

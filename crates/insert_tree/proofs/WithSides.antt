@@ -1,10 +1,11 @@
 -- A branch with other sides: its words, its depth, and the memory into which it is put.
 use Prim.Native.Nat.{ℕ, suc, _+_, _*_, _≤_, _<_, max}
 use mathlib.Core.Path.{_≡_, refl, sym, _∙_, subst}
-use mathlib.Core.Bool.{true, false, _||_, true≢false, false≢true}
+use mathlib.Core.Bool.{true, false, _||_, _&&_, true≢false, false≢true}
 use mathlib.Core.List.{List}
 use native.Mathlib.Omega.{arith}
-use lib.Dec.{eqb}
+use borrow.Author.Tests.{ne-eqb}
+use lib.Dec.{eqb, ltb}
 use lib.ListN.{length, set, length-set}
 use lib.Seq.{getD-set-same, getD-set-other}
 use Rattle.source.specs.Types.{Level, bind, ns, Tree, StrBranch}
@@ -22,6 +23,29 @@ use Rattle.memory.proofs.Fine.{IsItem, item-fine, link-fine, link-shallow}
 use Rattle.memory.proofs.Seen.{link-fits, link-ok, link-later}
 use Rattle.insert_copy.specs.Copies.{of-namespaces, branch-depth, DepthOk, with-sides}
 use Rattle.insert_tree.specs.Insert.{HeldOk, NewBranch}
+
+-- ---- Branches that hold the same: their words 5 to 10 are equal
+
+module _ (r s : List ℕ) (same : (k : ℕ) → (ltb 4 k && ltb k 11) ≡ true → word s k ≡ word r k) where
+  pub same-value : (w : Which) (txt : List ℕ) (f : ℕ → Reading w) (ℓ : Level) → value w txt s f ℓ ≡ value w txt r f ℓ
+  same-value names txt f bind = rw (same 5 refl, same 6 refl)
+  same-value names txt f ns = rw (same 5 refl)
+  same-value modules txt f bind = rw (same 5 refl, same 6 refl, same 7 refl, same 8 refl, same 9 refl, same 10 refl)
+  same-value modules txt f ns = rw (same 5 refl)
+
+  same-item : (w : Which) (txt : List ℕ) (used : ℕ) → ItemOk txt used w r → ItemOk txt used w s
+  same-item names txt used o = rw (same 6 refl) o
+  same-item modules txt used o = record {
+    sort = rw (same 5 refl) (o .sort);
+    name = rw (same 6 refl, same 7 refl) (o .name);
+    path = rw (same 5 refl, same 8 refl, same 9 refl) (o .path);
+    loaded = rw (same 10 refl) (o .loaded);
+  }
+
+  pub same-held : (ws txt : List ℕ) (used l : ℕ) (w : Which) (ℓ : Level) → HeldOk ws txt used l w r ℓ
+      → HeldOk ws txt used l w s ℓ
+  same-held ws txt used l w bind o = same-item w txt used o
+  same-held ws txt used l w ns o = rw (same 5 refl) o
 
 -- ---- Words
 
@@ -54,20 +78,9 @@ module _ (ws r : List ℕ) (a b : ℕ) (twelve : length r ≡ 12) where
   unfolding with-sides
   sided-depth = getD-set-same (set (set r 3 a) 4 b) 11 _ 0 (omega (arith, length-set (set r 3 a) 4 b, length-set r 3 a))
 
-  sided-value : (w : Which) (txt : List ℕ) (f : ℕ → Reading w) (ℓ : Level) → value w txt s f ℓ ≡ value w txt r f ℓ
-  sided-value names txt f bind = rw (sided-word 5 refl, sided-word 6 refl)
-  sided-value names txt f ns = rw (sided-word 5 refl)
-  sided-value modules txt f bind = rw (sided-word 5 refl, sided-word 6 refl, sided-word 7 refl, sided-word 8 refl, sided-word 9 refl, sided-word 10 refl)
-  sided-value modules txt f ns = rw (sided-word 5 refl)
-
-  sided-item : (w : Which) (txt : List ℕ) (used : ℕ) → ItemOk txt used w r → ItemOk txt used w s
-  sided-item names txt used o = rw (sided-word 6 refl) o
-  sided-item modules txt used o = record {
-    sort = rw (sided-word 5 refl) (o .sort);
-    name = rw (sided-word 6 refl, sided-word 7 refl) (o .name);
-    path = rw (sided-word 5 refl, sided-word 8 refl, sided-word 9 refl) (o .path);
-    loaded = rw (sided-word 10 refl) (o .loaded);
-  }
+  sided-same : (k : ℕ) → (ltb 4 k && ltb k 11) ≡ true → word s k ≡ word r k
+  sided-same k h =
+      sided-word k (rw (ne-eqb k 3 (λ e. false≢true (rw e at h)), ne-eqb k 4 (λ e. false≢true (rw e at h)), ne-eqb k 11 (λ e. false≢true (rw e at h))))
 
 -- ---- Depths
 
@@ -136,9 +149,10 @@ module _ {ws txt : List ℕ} {n used : ℕ} (o : Used ws txt n used) (r : List �
       → Ordered (row w txt (with-sides ws r a b) (what w ws txt) (tree ℓ))
       → RecordAs ws txt used (n + 1) w (tree ℓ) (with-sides ws r a b)
       (row w txt (with-sides ws r a b) (what w ws txt) (tree ℓ))
-  as-row bind g y q = (y, q, sided-item ws r a b twelve w txt used (g .holds))
+  as-row bind g y q = (y, q, same-held r (with-sides ws r a b) (sided-same ws r a b twelve) ws txt used (n + 1) w bind (g .holds))
   as-row ns g y q =
-      let h : LinkOk ws (n + 1) (trie-link (with-sides ws r a b)) (kind w trieˢ) = rw (sided-word ws r a b twelve 5 refl) (g .holds) in
+      let h : LinkOk ws (n + 1) (trie-link (with-sides ws r a b)) (kind w trieˢ) =
+      same-held r (with-sides ws r a b) (sided-same ws r a b twelve) ws txt used (n + 1) w ns (g .holds) in
       (y, q, h, deep (g .known) y h)
 
 module _ {ws txt : List ℕ} {n used : ℕ} (o : Used ws txt n used) (few : n < 65536) (room : n * 12 + 12 ≤ length ws)
@@ -159,7 +173,7 @@ module _ {ws txt : List ℕ} {n used : ℕ} (o : Used ws txt n used) (few : n < 
         sided-word ws r a b twelve 2 refl,
         sided-left ws r a b twelve,
         sided-right ws r a b twelve,
-        sided-value ws r a b twelve w txt (what w ws txt) ℓ,
+        same-value r new (sided-same ws r a b twelve) w txt (what w ws txt) ℓ,
       )
 
   branch : BranchOk ws txt used (n + 1) w new ℓ

@@ -1,8 +1,8 @@
 -- A registration that passes every row is written as the source has it.
-use Prim.Native.Nat.{ℕ, _+_, _*_, _≤_}
+use Prim.Native.Nat.{ℕ, _+_, _-_, _*_, _≤_}
 use mathlib.Core.Path.{_≡_, refl, sym, ap, _∙_}
 use mathlib.Core.Bool.{true}
-use mathlib.Core.List.{List, [], _∷_}
+use mathlib.Core.List.{List, [], _∷_, _++_, append-nil}
 use native.Mathlib.Omega.{arith}
 use lib.ListN.{length, drop}
 use borrow.Author.Tests.{ltb-false}
@@ -27,6 +27,7 @@ use Rattle.insert_record.specs.Made.{Room}
 use Rattle.insert_record.proofs.Made.{made-what, made-link}
 use Rattle.register_kind.specs.Shapes.{shape-of, call-of}
 use Rattle.register_kind.specs.declared.CallKind.{CallKind}
+use Rattle.register_kind.specs.declared.CallKind.the-variants.{Name, Include, Open, Alias, Module}
 use Rattle.register_kind.specs.declared.Form.{Form}
 use Rattle.register_kind.specs.declared.Form.the-variants as form
 use Rattle.register_plan.specs.Plans.{Carries}
@@ -35,8 +36,9 @@ use Rattle.register_leaf.specs.Leaves.{which-of, Builds}
 use Rattle.register_change.specs.Changes.{mutated, descent, Mutation, TrieWay, Mutated}
 use Rattle.register_leaf.specs.declared.Change.{Change}
 use Rattle.register_change.proofs.Registered.{Registers}
-use Rattle.register.specs.Checks.{lent, Ready, Passes}
-use Rattle.register.specs.Writes.{TextsLaid, with-root, with-text, Accepts}
+use Rattle.register.specs.Checks.{lent, NoKey, Ready, Passes}
+use Rattle.register.specs.Writes.{TextsLaid, with-root, with-text, laid-texts, untouched, Accepts}
+use Rattle.register.proofs.TextsLaid.{stand-all}
 use Rattle.register.proofs.Checks.{call-ready, taken-all}
 use Rattle.register.proofs.Changes.{change-at, Stays, Right, host-is, change-right, right-mutation}
 
@@ -116,6 +118,24 @@ way-keeps {ws} {n = n} o y w k other key way x (s ∷ q) i z =
       way-keeps o y w k other key (drop step-size way) (below-in way) q j (z .1),
     )
 
+-- ---- What a call leaves, by its kind
+laid-is : (k : CallKind) (host other key : Str) → NoKey k key
+    → laid-texts (call-of k host other key) ≡ host ++ (other ++ key)
+laid-is (Name k n) host other key e = rw (← e, append-nil)
+laid-is Include host other key e = rw (← e, append-nil)
+laid-is Open host other key e = rw (← e, append-nil)
+laid-is Alias host other key e = refl
+laid-is (Module loaded) host other key e = rw (← e, append-nil)
+
+root-stays : (k : CallKind) (host other key : Str) (h : Header) (link n used : ℕ)
+    → root-at (untouched (call-of k host other key)) (with-root (which-by (shape-of k .form)) h link n used)
+    ≡ root-at (untouched (call-of k host other key)) h
+root-stays (Name k n) host other key h link m used = refl
+root-stays Include host other key h link m used = refl
+root-stays Open host other key h link m used = refl
+root-stays Alias host other key h link m used = refl
+root-stays (Module loaded) host other key h link m used = refl
+
 -- ---- Whole
 module _ {ws txt : List ℕ} {h : Header} {k : CallKind} {host other key : Str} {way : List ℕ}
     (p : Passes ws txt h k host other key way) where
@@ -183,21 +203,24 @@ module _ {ws txt : List ℕ} {h : Header} {k : CallKind} {host other key : Str} 
         (mutated ws txt′ change (what (which-of change) ws txt′ (root-at (which-of change) h) trieˢ) (h .text) (h .text)
         (h .text + length host)) link m
         → Accepts ws txt ws′ txt′ h (with-root (which-of change) h link m (text-after h host other key))
-        (after (state-of ws txt h) (call-of k host other key))
+        (call-of k host other key) (after (state-of ws txt h) (call-of k host other key))
     unfolding after
     built-accepts b =
         let s = settled h sound-after (which-of change) (right .registers) (right .stays) b in
         let e : text-after h host other key ≡ h .text + (length host + length other + length key) = omega arith in
+        let d : text-after h host other key - h .text ≡ length host + length other + length key = omega arith in
         record {
           reads = s .reads ∙ rw (table-keeps (p .sound) (l .keeps), taken, e);
           sound = s .sound;
+          other-root = root-stays k host other key h _ _ _;
           words = s .words;
           text = rw (s .text) (record { before = l .keeps .same; after = l .beyond; size = l .keeps .size });
+          laid = rw (s .text, d) (stand-all (l .stand) ∙ sym (laid-is k host other key (p .no-key)));
         }
 
     pub write-accepts : {ws′ : List ℕ} {x link m : ℕ} {r : Header} → x ≡ root-at (which-by (shape-of k .form)) h
         → Mutated ws ws′ txt′ (h .records) x (h .text)
         (descent (h .text) (h .text + length host) (change-at k (included-in way) (h .text) host other key)) link m
         → r ≡ with-root (which-by (shape-of k .form)) h link m (text-after h host other key)
-        → Accepts ws txt ws′ txt′ h r (after (state-of ws txt h) (call-of k host other key))
+        → Accepts ws txt ws′ txt′ h r (call-of k host other key) (after (state-of ws txt h) (call-of k host other key))
     write-accepts e g f = rw f (built-accepts ((rw e at g) _ write-mutation))

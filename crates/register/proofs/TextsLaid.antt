@@ -1,15 +1,16 @@
 -- The texts of a registration stand where they were put, and the other bytes stay.
 use Prim.Native.Nat.{ℕ, _+_, _≤_}
 use mathlib.Core.Path.{_≡_, sym, ap, _∙_}
-use mathlib.Core.List.{List}
+use mathlib.Core.List.{List, _++_, append-assoc}
 use native.Mathlib.Omega.{arith}
 use lib.ListN.{length, drop}
-use lib.Seq.{drop-drop, drop-paste}
+use lib.Seq.{take-add, drop-drop, drop-paste}
 use Rattle.source.specs.Text.{Str}
+use Rattle.memory.specs.Layout.{span}
 use Rattle.memory.specs.Grown.{put-text}
 use Rattle.memory.proofs.Keeps.{put-text-keeps, put-text-span, span-keeps}
 use Rattle.memory.proofs.Keeps.{keeps-then}
-use Rattle.register.specs.Writes.{TextsLaid}
+use Rattle.register.specs.Writes.{Stand, TextsLaid}
 
 put-text-beyond : (t : List ℕ) (at : ℕ) (s : Str) (m : ℕ) → at + length s ≤ length t
     → drop (at + length s + m) (put-text t at s) ≡ drop (at + length s + m) t
@@ -48,3 +49,12 @@ module _ (txt : List ℕ) (at : ℕ) (host other key : Str)
   pub texts-laid : {a b c : List ℕ} → a ≡ put-text txt at host → b ≡ put-text a (at + length host) other
       → c ≡ put-text b (at + length host + length other) key → TextsLaid txt c at host other key
   texts-laid e f g = rw (g, f, e) laid-put
+
+-- Together they are the text from there on.
+pub stand-all : {txt : List ℕ} {at : ℕ} {host other key : Str} → Stand txt at host other key
+    → span txt at (length host + length other + length key) ≡ host ++ (other ++ key)
+unfolding span
+stand-all {txt} {at} {host} {other} {key} s =
+    let e : at + (length host + length other) ≡ at + length host + length other = omega arith in
+    take-add (length host + length other) (length key) (drop at txt)
+    ∙ rw (take-add (length host) (length other) (drop at txt), append-assoc, drop-drop, drop-drop, e, s .host-at, s .other-at, s .key-at)

@@ -191,6 +191,7 @@ pub fn write(
 ) -> Header
     requires { ⌜ Passes (now words) (now text) h (entry .kind) (now host) (now other) (now key) (now way) ⌝ }
     ensures { λ r. ⌜ Accepts (old words) (old text) (new words) (new text) h r
+        (call-of (entry .kind) (old host) (old other) (old key))
         (after (state-of (old words) (old text) h) (call-of (entry .kind) (old host) (old other) (old key))) ⌝ }
 {
     let kind = entry.kind;

@@ -69,8 +69,9 @@ module _ {A : Type 0} {st bs txt st′ bs′ txt′ : List ℕ} {r : ℕ} (f : A
 -- ---- A call, by crate table's answer
 
 -- The records of an accepted call fit the words lent.
-module _ (ws txt ws′ txt′ : List ℕ) (t : Table) (r : Registration) (taken : refusal-of (r .answer) ≡ none) where
-  fit-as : (x : C.Registered) → AnswersAs x ws txt ws′ txt′ t r → r .table .header .records * 12 ≤ length ws
+module _ (ws txt ws′ txt′ : List ℕ) (t : Table) (c : Call) (r : Registration)
+    (taken : refusal-of (r .answer) ≡ none) where
+  fit-as : (x : C.Registered) → AnswersAs x ws txt ws′ txt′ t c r → r .table .header .records * 12 ≤ length ws
   fit-as (C.accepted s) a = omega (arith, a .1 .sound .right .records-fit, a .1 .words .size)
   fit-as (C.refused n) a = absurd (Option·none-ne-some n (sym taken ∙ a .0))
 
@@ -80,7 +81,7 @@ by-bytes n = omega arith
 module _ {st bs txt m ws txt′ : List ℕ} {t : Table} {c : Call} {r : Registration} (h : Held st bs m t)
     (sound : IsSound m txt t) (a : Answers true m txt ws txt′ t c r) where
   accepted-fits : refusal-of (r .answer) ≡ none → r .table .header .records * 12 ≤ length (words-in bs)
-  accepted-fits taken = rw (h .lent) at (fit-as m txt ws txt′ t r taken (register true (lent m txt) (state m txt t) c) (a .says))
+  accepted-fits taken = rw (h .lent) at (fit-as m txt ws txt′ t c r taken (register true (lent m txt) (state m txt t) c) (a .says))
 
   pub store-fits : refusal-of (r .answer) ≡ none → length ws ≡ length m
       → (r .table .header .records * 12 * 4 ≤ length bs) × (r .table .header .records * 12 ≤ length ws)
@@ -88,7 +89,7 @@ module _ {st bs txt m ws txt′ : List ℕ} {t : Table} {c : Call} {r : Registra
 
   answers : (b : Bool) → Says b (SoundBytes st bs txt)
       → AnswersAs (register b (lent (words-in bs) txt) (state (words-in bs) txt (table-at st)) c)
-      (words-in bs) txt ws txt′ (table-at st) r
+      (words-in bs) txt ws txt′ (table-at st) c r
   answers b i = rw (says-same _ b true (says-memory txt h b i) sound, ← h .lent, h .spelt .header) (a .says)
 
   -- It is accepted, and the new words and the new header are stored.
@@ -104,8 +105,8 @@ module _ {st bs txt m ws txt′ : List ℕ} {t : Table} {c : Call} {r : Registra
         rw (kept .rest .size)
         (read-back (words-lent (length bs)) o (take-all (words-lent (length bs)) ws (omega (arith, o .size, words-in-length bs))) kept)
 
-    accepted-as : (x : C.Registered) → AnswersAs x (words-in bs) txt ws txt′ (table-at st) r
-        → RepliesAs x st bs txt st′ bs′ txt′ 0
+    accepted-as : (x : C.Registered) → AnswersAs x (words-in bs) txt ws txt′ (table-at st) c r
+        → RepliesAs x st bs txt st′ bs′ txt′ (some c) 0
     accepted-as (C.accepted s) a = (
       refl,
       record {
@@ -121,8 +122,8 @@ module _ {st bs txt m ws txt′ : List ℕ} {t : Table} {c : Call} {r : Registra
 
   -- It is refused.
   module _ {x k : ℕ} (no : refusal-of (r .answer) ≡ some x) (told : k ≡ x) where
-    refused-as : (y : C.Registered) → AnswersAs y (words-in bs) txt ws txt′ (table-at st) r
-        → RepliesAs y st bs txt st bs txt′ k
+    refused-as : (y : C.Registered) → AnswersAs y (words-in bs) txt ws txt′ (table-at st) c r
+        → RepliesAs y st bs txt st bs txt′ (some c) k
     refused-as (C.accepted s) a = absurd (Option·none-ne-some x (sym (a .0) ∙ no))
     refused-as (C.refused n) a = (let e = a .0 in cc, record { state = refl; words = refl; text = a .1 .text })
 

@@ -52,7 +52,7 @@ completion-unsound tbl (Names f) budget o q = refl
 completion-unsound tbl (Modules f) budget o q = refl
 
 unasked-as : (b : Bool) (st bs txt ls out : List ℕ) {k : ℕ} {r : CompleteReply}
-    → RepliesAs (unchosen b) st bs txt st bs txt k → r ≡ no-lines k → Refuses (unasked b) ls ls out out r
+    → RepliesAs (unchosen b) st bs txt st bs txt none k → r ≡ no-lines k → Refuses (unasked b) ls ls out out r
 unasked-as true st bs txt ls out a p = record { reply = p ∙ ap no-lines (a .0); lines = refl; text = refl }
 unasked-as false st bs txt ls out a p = record { reply = p ∙ ap no-lines (a .0); lines = refl; text = refl }
 

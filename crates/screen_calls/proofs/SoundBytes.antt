@@ -3,7 +3,7 @@ use Prim.Native.Nat.{ℕ}
 use mathlib.Core.Path.{_≡_, refl}
 use mathlib.Core.List.{List}
 use lib.ListN.{replicate}
-use Rattle.source.specs.Calls.{State, fresh}
+use Rattle.source.specs.Calls.{State, Call, fresh}
 use Rattle.memory_table.proofs.Table.{fresh-memory-sound}
 use Rattle.memory_table.proofs.Table.{fresh-state}
 use Rattle.table.specs.Header.{state}
@@ -22,6 +22,7 @@ module _ (bs txt : List ℕ) where
   unfolding header-in word-at
   zero-fresh = fresh-state (words-in bs) txt
 
-pub bytes-accepted-sound : {st bs txt st′ bs′ txt′ : List ℕ} {s : State} → AcceptsBytes st bs txt st′ bs′ txt′ s
+pub bytes-accepted-sound : {st bs txt st′ bs′ txt′ : List ℕ} {c : Call} {s : State}
+    → AcceptsBytes st bs txt st′ bs′ txt′ c s
     → SoundBytes st′ bs′ txt′
 bytes-accepted-sound a = record { size = a .size; sound = a .table .sound }

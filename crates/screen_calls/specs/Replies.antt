@@ -46,10 +46,11 @@ abbrev pub answer-to : (sound : Bool) → Lent → State → Option Call → C.R
 answer-to sound l s (some c) = register sound l s c
 answer-to sound l s none = unchosen sound
 
--- The bytes at exit stand for the state s, and only the free records and text that were taken have changed.
-pub record AcceptsBytes (st bs txt st′ bs′ txt′ : List ℕ) (s : State) : Type 0 where
+-- By the call c the bytes stand for the state s. Only the free records and text that were taken have changed, and the text taken is
+-- the call's texts.
+pub record AcceptsBytes (st bs txt st′ bs′ txt′ : List ℕ) (c : Call) (s : State) : Type 0 where
   pub size : length st′ ≡ state-bytes
-  pub table : Accepts (words-in bs) txt (words-in bs′) txt′ (table-at st) (table-at st′) s
+  pub table : Accepts (words-in bs) txt (words-in bs′) txt′ (table-at st) (table-at st′) c s
   pub bytes : Outside (header-in st .records * record-bytes) (header-in st′ .records * record-bytes) bs bs′
 
 -- No byte has changed.
@@ -58,16 +59,17 @@ pub record SameBytes (st bs txt st′ bs′ txt′ : List ℕ) : Type 0 where
   pub words : bs′ ≡ bs
   pub text : txt′ ≡ txt
 
--- The reply r, by what the definition hands back: 0, or the number of the refusal.
-abbrev pub RepliesAs : C.Registered → (st bs txt st′ bs′ txt′ : List ℕ) → ℕ → Type 0
-RepliesAs (C.accepted s) st bs txt st′ bs′ txt′ r = (r ≡ 0) × AcceptsBytes st bs txt st′ bs′ txt′ s
-RepliesAs (C.refused n) st bs txt st′ bs′ txt′ r = (r ≡ n) × SameBytes st bs txt st′ bs′ txt′
+-- The reply r, by what the definition hands back: 0, for a call, or the number of the refusal.
+abbrev pub RepliesAs : C.Registered → (st bs txt st′ bs′ txt′ : List ℕ) → Option Call → ℕ → Type 0
+RepliesAs (C.accepted s) st bs txt st′ bs′ txt′ (some c) r = (r ≡ 0) × AcceptsBytes st bs txt st′ bs′ txt′ c s
+RepliesAs (C.accepted s) st bs txt st′ bs′ txt′ none r = ⊥
+RepliesAs (C.refused n) st bs txt st′ bs′ txt′ c r = (r ≡ n) × SameBytes st bs txt st′ bs′ txt′
 
 -- The reply r to a registration; b says whether the bytes are a sound table.
 pub record Replies (st bs txt st′ bs′ txt′ : List ℕ) (c : Option Call) (r : ℕ) : Type 0 where
   pub says : (b : Bool) → Says b (SoundBytes st bs txt)
       → RepliesAs
-      (answer-to b (lent (words-in bs) txt) (state (words-in bs) txt (table-at st)) c) st bs txt st′ bs′ txt′ r
+      (answer-to b (lent (words-in bs) txt) (state (words-in bs) txt (table-at st)) c) st bs txt st′ bs′ txt′ c r
 
 -- ---- Look-ups
 

@@ -1,16 +1,19 @@
 -- What a registration hands back, by its rows.
 use Prim.Native.Nat.{ℕ}
-use mathlib.Core.Path.{_≡_, refl}
+use mathlib.Core.Path.{_≡_, refl, _∙_}
 use mathlib.Core.Logic.{_↔_}
 use mathlib.Core.Bool.{Bool, true, false}
 use mathlib.Core.List.{List}
 use mathlib.Core.Option.{none, some}
 use Rattle.source.specs.Text.{Str}
-use Rattle.source.specs.Calls.{first-row, argument-rows, State, Lent, Call, registration-rows, after, accepted, refused, register, include, opens}
+use Rattle.source.specs.Calls.{first-row, argument-rows, State, Lent, Call, registration-rows, after, Registered, accepted, refused, register, include, opens}
 use Rattle.table.specs.Header.{state, lent}
 use Rattle.register_kind.proofs.Shapes.{open-module-is-include}
 use Rattle.refusals.specs.Refusals.{number}
-use Rattle.table.specs.Registrations.{Accepts, Answers}
+use Rattle.register.specs.Writes as R
+use Rattle.register.specs.Writes.{laid-texts, untouched}
+use Rattle.memory_table.specs.declared.Header.{Header}
+use Rattle.table.specs.Registrations.{Accepts, AnswersAs, Answers}
 use Rattle.table.specs.declared.Table.{Table}
 use Rattle.refusals.specs.declared.Refusal.{Refusal}
 use Rattle.refusals.specs.declared.Refusal.the-variants.{Unsound}
@@ -38,13 +41,39 @@ module _ {ws txt : List ℕ} {t : Table} {c : Call} where
 
   pub answers-accepted : {ws′ txt′ : List ℕ} {t′ : Table}
       → first-row (registration-rows true (lent ws txt) (state ws txt t) c) ≡ none
-      → Accepts ws txt ws′ txt′ t t′ (after (state ws txt t) c) → Answers true ws txt ws′ txt′ t c (record { table = t′; answer = Accepted })
+      → Accepts ws txt ws′ txt′ t t′ c (after (state ws txt t) c)
+      → Answers true ws txt ws′ txt′ t c (record { table = t′; answer = Accepted })
   answers-accepted e a = record { says = rw (register-accepted true _ _ c e) (refl, a) }
 
   pub answers-unsound : Answers false ws txt ws txt t c (record { table = t; answer = Refused Unsound })
   answers-unsound = record { says = rw register-unsound (refl, record { table = refl; words = refl; text = refl }) }
 
+-- Calls with the same texts and the same other root are accepted alike.
+pub accepts-like : {ws txt ws′ txt′ : List ℕ} {h h′ : Header} {c d : Call} {s : State} → laid-texts c ≡ laid-texts d
+    → untouched c ≡ untouched d
+    → R.Accepts ws txt ws′ txt′ h h′ c s → R.Accepts ws txt ws′ txt′ h h′ d s
+accepts-like e f a = record {
+  reads = a .reads;
+  sound = a .sound;
+  other-root = rw f at (a .other-root);
+  words = a .words;
+  text = a .text;
+  laid = a .laid ∙ e;
+}
+
+module _ (ws txt ws′ txt′ : List ℕ) (t : Table) (r : Registration) (c d : Call) (e : laid-texts c ≡ laid-texts d)
+    (f : untouched c ≡ untouched d) where
+  answers-like : (v : Registered) → AnswersAs v ws txt ws′ txt′ t c r → AnswersAs v ws txt ws′ txt′ t d r
+  answers-like (accepted s) (n, a) = (n, accepts-like e f a)
+  answers-like (refused n) a = a
+
 -- register_open_module promises what register_include does, at either door.
 pub open-module-answers : {b : Bool} {ws txt ws′ txt′ : List ℕ} {t : Table} {host query : Str} {r : Registration}
     → Answers b ws txt ws′ txt′ t (opens true host query) r ↔ Answers b ws txt ws′ txt′ t (include host query) r
-open-module-answers = (λ a. record { says = rw (← open-module-is-include) (a .says) }, λ a. record { says = rw open-module-is-include (a .says) })
+open-module-answers {b} {ws} {txt} {ws′} {txt′} {t} {host} {query} {r} =
+    let o = opens true host query in
+    let i = include host query in
+    let v : Call → Registered = register b (lent ws txt) (state ws txt t) in (
+      λ a. record { says = rw (← open-module-is-include) (answers-like ws txt ws′ txt′ t r o i refl refl (v o) (a .says)) },
+      λ a. record { says = rw open-module-is-include (answers-like ws txt ws′ txt′ t r i o refl refl (v i) (a .says)) },
+    )

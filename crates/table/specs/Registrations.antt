@@ -20,9 +20,10 @@ abbrev pub refusal-of : Registered → Option ℕ
 refusal-of Accepted = none
 refusal-of (Refused r) = some (number r)
 
--- The table t has become t′, which reads as the state s, and only the free part that was taken has changed.
-abbrev pub Accepts : (ws txt ws′ txt′ : List ℕ) (t t′ : Table) (s : State) → Type 0
-Accepts ws txt ws′ txt′ t t′ s = R.Accepts ws txt ws′ txt′ (t .header) (t′ .header) s
+-- By the call c the table t has become t′, which reads as the state s and has the other root as it was. Only the free part that
+-- was taken has changed, and of the text it is the call's texts.
+abbrev pub Accepts : (ws txt ws′ txt′ : List ℕ) (t t′ : Table) (c : Call) (s : State) → Type 0
+Accepts ws txt ws′ txt′ t t′ c s = R.Accepts ws txt ws′ txt′ (t .header) (t′ .header) c s
 
 -- Nothing has changed.
 pub record Unchanged (ws txt ws′ txt′ : List ℕ) (t t′ : Table) : Type 0 where
@@ -30,14 +31,16 @@ pub record Unchanged (ws txt ws′ txt′ : List ℕ) (t t′ : Table) : Type 0 
   pub words : ws′ ≡ ws
   pub text : txt′ ≡ txt
 
--- An answer, by that of the definition.
-abbrev pub AnswersAs : C.Registered → (ws txt ws′ txt′ : List ℕ) → Table → Registration → Type 0
-AnswersAs (C.accepted s) ws txt ws′ txt′ t r = (refusal-of (r .answer) ≡ none) × Accepts ws txt ws′ txt′ t (r .table) s
-AnswersAs (C.refused n) ws txt ws′ txt′ t r = (refusal-of (r .answer) ≡ some n) × Unchanged ws txt ws′ txt′ t (r .table)
+-- The answer to a call, by that of the definition.
+abbrev pub AnswersAs : C.Registered → (ws txt ws′ txt′ : List ℕ) → Table → Call → Registration → Type 0
+AnswersAs (C.accepted s) ws txt ws′ txt′ t c r =
+    (refusal-of (r .answer) ≡ none) × Accepts ws txt ws′ txt′ t (r .table) c s
+AnswersAs (C.refused n) ws txt ws′ txt′ t c r =
+    (refusal-of (r .answer) ≡ some n) × Unchanged ws txt ws′ txt′ t (r .table)
 
 -- The answer r to a call; b says whether the memory is sound.
 pub record Answers (b : Bool) (ws txt ws′ txt′ : List ℕ) (t : Table) (c : Call) (r : Registration) : Type 0 where
-  pub says : AnswersAs (register b (lent ws txt) (state ws txt t) c) ws txt ws′ txt′ t r
+  pub says : AnswersAs (register b (lent ws txt) (state ws txt t) c) ws txt ws′ txt′ t c r
 
 -- The same, of any memory.
 abbrev pub Total : (ws txt ws′ txt′ : List ℕ) → Table → Call → Registration → Type 0

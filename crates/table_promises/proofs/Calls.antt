@@ -22,7 +22,7 @@ module _ {ws txt ws′ txt′ : List ℕ} {t : Table} {c : Call} {r : Registrati
   accepts : register true (lent ws txt) (state ws txt t) c ≡ C.accepted (state ws′ txt′ (r .table))
   accepts = go (register true (lent ws txt) (state ws txt t) c) (a .says)
     where
-      go : (o : C.Registered) → AnswersAs o ws txt ws′ txt′ t r → o ≡ C.accepted (state ws′ txt′ (r .table))
+      go : (o : C.Registered) → AnswersAs o ws txt ws′ txt′ t c r → o ≡ C.accepted (state ws′ txt′ (r .table))
       go (C.accepted s) h = ap C.accepted (sym (h .1 .reads))
       go (C.refused n) h = absurd (Option·none-ne-some n (sym e ∙ h .0))
 

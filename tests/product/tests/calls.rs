@@ -1,8 +1,19 @@
 //! Registrations and look-ups of the product against the independent implementation: answers, tables, and what a call may change.
 use model::gen::{damaged_query, damaged_registration, damages, full_name, near_query, registered_memory, registration, sound_memory, Rng, MIXES};
-use model::layout::{decode, same_table, Memory};
-use model::model::{bindings, btree_find_exact, find, segments, trie_descend_exact, Collection, Kind, ModSymbol, Refusal, Registration, Table, Trie, Value};
+use model::layout::{decode, record, same_table, Header, Memory};
+use model::model::{bindings, btree_find_exact, find, segments, trie_descend_exact, Collection, Item, Kind, ModSymbol, Refusal, Registration, Table, Trie, Value};
 use model::written::with_free;
+
+/// The texts of a call as they are laid in the table's text.
+fn laid(call: &Registration) -> Vec<u8> {
+    use Registration::*;
+    match call {
+        Name { host, id, .. } => [&host[..], id].concat(),
+        Include { host, included } | OpenNamespace { host, included } | OpenModule { host, included } => [&host[..], included].concat(),
+        Alias { key, host, included } => [&host[..], included, key].concat(),
+        Module { query, path, .. } => [&query[..], path].concat(),
+    }
+}
 
 /// The product's answer to a registration, and everything that it leaves, as the model has it.
 fn hold(memory: &mut Memory, table: &mut Option<Table>, call: &Registration, answers: &mut [u64; 9]) {
@@ -33,6 +44,9 @@ fn hold(memory: &mut Memory, table: &mut Option<Table>, call: &Registration, ans
             assert!(memory.words[..r] == before.words[..r] && memory.words[s..] == before.words[s..]);
             let (t, u) = (before.header.text as usize, memory.header.text as usize);
             assert!(memory.text[..t] == before.text[..t] && memory.text[u..] == before.text[u..]);
+            assert_eq!(memory.text[t..u], laid(call), "{call:?}");
+            let kept = |h: Header| if matches!(call, Registration::Module { .. }) { h.names } else { h.modules };
+            assert_eq!(kept(memory.header), kept(before.header), "another root: {call:?}");
             *table = Some(new);
         }
     }
@@ -130,4 +144,38 @@ fn registrations_on_damaged_memory() {
     }
     println!("registrations on damaged memory by answer (0 accepted, 1 Unsound): {answers:?}; 0 disagreements");
     assert!(0 < answers[0] && 0 < answers[1]);
+}
+
+/// The words (docs/LAYOUT.md) of the only branch of the only list at `word` of a trie: 3 for its bindings, 4 for its namespaces.
+fn only_branch(m: &Memory, trie: u32, word: usize) -> [u32; 12] {
+    let words = |link: u32| record(&m.words, link as usize - 1);
+    let branch = words(words(words(trie)[word])[3]);
+    assert_eq!((branch[3], branch[4]), (0, 0));
+    branch
+}
+
+/// The same of the namespace that is the only one of a root, and of the binding that is the only one in it.
+fn only_branches(m: &Memory, root: u32) -> [[u32; 12]; 2] {
+    let namespace = only_branch(m, root, 4);
+    [namespace, only_branch(m, namespace[5], 3)]
+}
+
+#[test]
+fn a_branch_registered_again_keeps_its_key() {
+    let (mut m, mut table, mut answers) = (Memory::with_room(40, 100), None, [0; 9]);
+    let name = |number| Registration::Name { host: b"Live.".to_vec(), id: b"offset".to_vec(), item: Item::timer(number) };
+    let module = |path: &[u8]| Registration::Module { loaded: false, query: b"Lib.io.".to_vec(), path: path.to_vec() };
+    for call in [name(5), module(b"/a"), name(6), module(b"/later")] {
+        hold(&mut m, &mut table, &call, &mut answers);
+    }
+    assert_eq!(answers[0], 4);
+    assert_eq!(&m.text[..m.header.text as usize], b"Live.offsetLib.io./aLive.offsetLib.io./later");
+    // Key: start and length, of the first call. The item is the second's.
+    let [live, offset] = only_branches(&m, m.header.names);
+    assert_eq!(live[..3], [2, 0, 4]);
+    assert_eq!((&offset[..3], &offset[5..7]), (&[1, 5, 6][..], &[6, 1][..]));
+    // So are full name and path of the module.
+    let [lib, io] = only_branches(&m, m.header.modules);
+    assert_eq!(lib[..3], [7, 11, 3]);
+    assert_eq!((&io[..3], &io[5..11]), (&[6, 15, 2][..], &[0, 31, 6, 38, 6, 0][..]));
 }
