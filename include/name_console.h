@@ -68,7 +68,8 @@ enum name_console_filter {
 /* ---- Registrations
 
    Each answers 0 or a refusal. Accepted, the state is the new table's, and of words and text only the free part that the
-   call takes has changed: records are taken in order, and texts are copied whole. */
+   call takes has changed: records are taken in order, and texts are copied whole, one after another: host or module
+   query; id, included query or path; an alias's key. */
 
 /* Registers a name with its item, a kind and a number, in the host. A kind that is no enum name_console_kind is Malformed. */
 uint32_t name_console_insert_item(uint8_t *state, size_t state_len, uint8_t *words, size_t words_len, uint8_t *text, size_t text_len,
@@ -106,8 +107,8 @@ struct name_console_item {
 struct name_console_symbol {
   uint32_t answer;               /* 0 found, NAME_CONSOLE_NONE, else the refusal; what does not apply is 0 */
   uint32_t sort;                 /* 0 a module, 1 a namespace */
-  uint32_t name_start, name_len; /* full name, in the table's text */
-  uint32_t path_start, path_len; /* a module's file path, in the table's text */
+  uint32_t name_start, name_len; /* full name, in the used text */
+  uint32_t path_start, path_len; /* a module's file path, in the used text */
   uint32_t loaded;               /* 1 if loaded */
 };
 
@@ -139,7 +140,8 @@ struct name_console_symbol name_console_find_module(const uint8_t *state, size_t
    40                module or namespace: 1 if loaded, else 0
    44                0
 
-   A full name and a path lie in the table's text. Words above that do not apply are of no account. */
+   A full name and a path lie in the used part of the table's text, where no later call writes. Words above that do not
+   apply are of no account. */
 
 struct name_console_listing {
   uint32_t answer;  /* 0 listed, else the refusal */

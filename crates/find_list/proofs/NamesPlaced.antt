@@ -19,24 +19,24 @@ use Rattle.memory.proofs.At.{at-of}
 use Rattle.memory.specs.Layout.{tree, list}
 
 module _ {A : Type 0} {ℓ : Level} where
-  pub names-find-exact-first : (n : NameList A ℓ) (k : Str)
-      → names-find-exact n k ≡ or-else (btree-find-exact (first-tree n) k) (names-find-exact (first-rest n) k)
+  pub names-find-exact-first : (nl : NameList A ℓ) (k : Str)
+      → names-find-exact nl k ≡ or-else (btree-find-exact (first-tree nl) k) (names-find-exact (first-rest nl) k)
   unfolding names-find-exact btree-find-exact or-else first-tree first-rest
   names-find-exact-first []ᴺ k = refl
   names-find-exact-first (Names bt tl) k = refl
   names-find-exact-first (ImportedNames label inner tl) k = refl
 
-  pub names-insert-first : (n : NameList A ℓ) (k : Str) (v : Value A ℓ)
-      → names-insert n k v ≡ Names (btree-insert-replace (first-tree n) k v) (first-rest n)
+  pub names-insert-first : (nl : NameList A ℓ) (k : Str) (v : Value A ℓ)
+      → names-insert nl k v ≡ Names (btree-insert-replace (first-tree nl) k v) (first-rest nl)
   unfolding names-insert first-tree first-rest
   names-insert-first []ᴺ k v = refl
   names-insert-first (Names bt tl) k v = refl
   names-insert-first (ImportedNames label inner tl) k v = refl
 
-  pub names-insert-rest-weight : (n : NameList A ℓ) (k : Str) (v : Value A ℓ)
-      → weight (names-insert n k v) ≡ suc (weight (first-rest n))
+  pub names-insert-rest-weight : (nl : NameList A ℓ) (k : Str) (v : Value A ℓ)
+      → weight (names-insert nl k v) ≡ suc (weight (first-rest nl))
   unfolding weight
-  names-insert-rest-weight n k v = rw names-insert-first
+  names-insert-rest-weight nl k v = rw names-insert-first
 
 module _ {ws txt : List ℕ} {x first rest : ℕ} {key : Str} (d : Led ws x first rest) {link : ℕ}
     (f : FindsBranch ws txt first key link) where

@@ -15,72 +15,72 @@ pub by-test : {G : Type 0} (z : Bool) → (z ≡ true → G) → (z ≡ false �
 by-test true f g = f refl
 by-test false f g = g refl
 
-pub allˡ-append : {A : Type 0} (P : A → Type 0) (l m : List A) → Allˡ P l → Allˡ P m → Allˡ P (l ++ m)
+pub allˡ-append : {A : Type 0} (P : A → Type 0) (xs m : List A) → Allˡ P xs → Allˡ P m → Allˡ P (xs ++ m)
 allˡ-append P [] m a b = b
-allˡ-append P (x ∷ l) m a b = (a .0, allˡ-append P l m (a .1) b)
+allˡ-append P (x ∷ xs) m a b = (a .0, allˡ-append P xs m (a .1) b)
 
-all-always : {A : Type 0} (P : A → Type 0) → ((x : A) → P x) → (l : List A) → Allˡ P l
+all-always : {A : Type 0} (P : A → Type 0) → ((x : A) → P x) → (xs : List A) → Allˡ P xs
 all-always P f [] = tt
-all-always P f (x ∷ l) = (f x, all-always P f l)
+all-always P f (x ∷ xs) = (f x, all-always P f xs)
 
 -- What holds of all holds of each.
-pub allˡ-at : {A : Type 0} (P : A → Type 0) (l : List A) → Allˡ P l → (x : A) → List·Memᴰ x l → P x
+pub allˡ-at : {A : Type 0} (P : A → Type 0) (xs : List A) → Allˡ P xs → (x : A) → List·Memᴰ x xs → P x
 allˡ-at P [] a x m = absurd (List·Memᴰ·not-nil m)
-allˡ-at P (y ∷ l) a x m = ⊎-elim (λ e. subst P (sym e) (a .0)) (allˡ-at P l (a .1) x) (List·Memᴰ·cases-cons m)
+allˡ-at P (y ∷ xs) a x m = ⊎-elim (λ e. subst P (sym e) (a .0)) (allˡ-at P xs (a .1) x) (List·Memᴰ·cases-cons m)
 
 -- Each is one of them.
-pub all-among : {A : Type 0} (l : List A) → Allˡ (λ x. List·Memᴰ x l) l
+pub all-among : {A : Type 0} (xs : List A) → Allˡ (λ x. List·Memᴰ x xs) xs
 all-among [] = tt
-all-among (x ∷ l) = (List·Memᴰ·head refl, Allˡ-map l (λ y m. List·Memᴰ·tail m) (all-among l))
+all-among (x ∷ xs) = (List·Memᴰ·head refl, Allˡ-map xs (λ y m. List·Memᴰ·tail m) (all-among xs))
 
-pub map-append : {A B : Type 0} (f : A → B) (l m : List A) → map f (l ++ m) ≡ map f l ++ map f m
+pub map-append : {A B : Type 0} (f : A → B) (xs m : List A) → map f (xs ++ m) ≡ map f xs ++ map f m
 map-append f [] m = refl
-map-append f (x ∷ l) m = ap (_∷_ (f x)) (map-append f l m)
+map-append f (x ∷ xs) m = ap (_∷_ (f x)) (map-append f xs m)
 
 module _ (key : ℕ → Str) where
-  pub keep-append : (b : Str → Bool) (l m : List ℕ) → keep key b (l ++ m) ≡ keep key b l ++ keep key b m
+  pub keep-append : (b : Str → Bool) (xs m : List ℕ) → keep key b (xs ++ m) ≡ keep key b xs ++ keep key b m
   unfolding keep
   keep-append b [] m = refl
-  keep-append b (x ∷ l) m = by-test (b (key x)) (λ e. rw (e, keep-append b l m)) (λ e. rw (e, keep-append b l m))
+  keep-append b (x ∷ xs) m = by-test (b (key x)) (λ e. rw (e, keep-append b xs m)) (λ e. rw (e, keep-append b xs m))
 
-  pub keep-none : (b : Str → Bool) (l : List ℕ) → Allˡ (λ y. b (key y) ≡ false) l → keep key b l ≡ []
+  pub keep-none : (b : Str → Bool) (xs : List ℕ) → Allˡ (λ y. b (key y) ≡ false) xs → keep key b xs ≡ []
   unfolding keep
   keep-none b [] a = refl
-  keep-none b (x ∷ l) a = rw (a .0) (keep-none b l (a .1))
+  keep-none b (x ∷ xs) a = rw (a .0) (keep-none b xs (a .1))
 
-  pub keep-all : (b : Str → Bool) (l : List ℕ) → Allˡ (λ y. b (key y) ≡ true) l → keep key b l ≡ l
+  pub keep-all : (b : Str → Bool) (xs : List ℕ) → Allˡ (λ y. b (key y) ≡ true) xs → keep key b xs ≡ xs
   unfolding keep
   keep-all b [] a = refl
-  keep-all b (x ∷ l) a = rw (a .0, keep-all b l (a .1))
+  keep-all b (x ∷ xs) a = rw (a .0, keep-all b xs (a .1))
 
-  keep-ext : (b c : Str → Bool) → ((k : Str) → b k ≡ c k) → (l : List ℕ) → keep key b l ≡ keep key c l
+  keep-ext : (b c : Str → Bool) → ((k : Str) → b k ≡ c k) → (xs : List ℕ) → keep key b xs ≡ keep key c xs
   unfolding keep
   keep-ext b c e [] = refl
-  keep-ext b c e (x ∷ l) = rw (e (key x), keep-ext b c e l)
+  keep-ext b c e (x ∷ xs) = rw (e (key x), keep-ext b c e xs)
 
-  keep-keep : (b c : Str → Bool) (l : List ℕ) → keep key b (keep key c l) ≡ keep key (λ k. b k && c k) l
+  keep-keep : (b c : Str → Bool) (xs : List ℕ) → keep key b (keep key c xs) ≡ keep key (λ k. b k && c k) xs
   unfolding keep
   keep-keep b c [] = refl
-  keep-keep b c (x ∷ l) =
-      by-test (c (key x)) (λ e. rw (e, and-true (b (key x)), keep-keep b c l)) (λ e. rw (e, and-false (b (key x))) (keep-keep b c l))
+  keep-keep b c (x ∷ xs) =
+      by-test (c (key x)) (λ e. rw (e, and-true (b (key x)), keep-keep b c xs)) (λ e. rw (e, and-false (b (key x))) (keep-keep b c xs))
 
-  pub keep-swap : (b c : Str → Bool) (l : List ℕ) → keep key b (keep key c l) ≡ keep key c (keep key b l)
-  keep-swap b c l = keep-keep b c l ∙ keep-ext (λ k. b k && c k) (λ k. c k && b k) (λ k. and-comm (b k) (c k)) l ∙ sym (keep-keep c b l)
+  pub keep-swap : (b c : Str → Bool) (xs : List ℕ) → keep key b (keep key c xs) ≡ keep key c (keep key b xs)
+  keep-swap b c xs = keep-keep b c xs ∙ keep-ext (λ k. b k && c k) (λ k. c k && b k) (λ k. and-comm (b k) (c k)) xs ∙ sym (keep-keep c b xs)
 
   -- What holds of the elements that pass the test holds of those that are kept.
-  pub all-keep : (P : ℕ → Type 0) (b : Str → Bool) (l : List ℕ) → Allˡ (λ y. b (key y) ≡ true → P y) l
-      → Allˡ P (keep key b l)
+  pub all-keep : (P : ℕ → Type 0) (b : Str → Bool) (xs : List ℕ) → Allˡ (λ y. b (key y) ≡ true → P y) xs
+      → Allˡ P (keep key b xs)
   unfolding keep
   all-keep P b [] a = tt
-  all-keep P b (x ∷ l) a = by-test (b (key x)) (λ e. rw e (a .0 e, all-keep P b l (a .1))) (λ e. rw e (all-keep P b l (a .1)))
+  all-keep P b (x ∷ xs) a = by-test (b (key x)) (λ e. rw e (a .0 e, all-keep P b xs (a .1))) (λ e. rw e (all-keep P b xs (a .1)))
 
-  pub kept-pass : (b : Str → Bool) (l : List ℕ) → Allˡ (λ y. b (key y) ≡ true) (keep key b l)
-  kept-pass b l = all-keep (λ y. b (key y) ≡ true) b l (all-always (λ y. b (key y) ≡ true → b (key y) ≡ true) (λ y e. e) l)
+  pub kept-pass : (b : Str → Bool) (xs : List ℕ) → Allˡ (λ y. b (key y) ≡ true) (keep key b xs)
+  kept-pass b xs = all-keep (λ y. b (key y) ≡ true) b xs (all-always (λ y. b (key y) ≡ true → b (key y) ≡ true) (λ y e. e) xs)
 
-  pub keep-increasing : (b : Str → Bool) (l : List ℕ) → Increasing key l → Increasing key (keep key b l)
+  pub keep-increasing : (b : Str → Bool) (xs : List ℕ) → Increasing key xs → Increasing key (keep key b xs)
   unfolding keep
   keep-increasing b [] i = tt
-  keep-increasing b (x ∷ l) i =
+  keep-increasing b (x ∷ xs) i =
       by-test (b (key x))
-      (λ e. rw e (all-keep (λ y. key x <ˢ key y) b l (Allˡ-map l (λ y h _. h) (i .0)), keep-increasing b l (i .1)))
-      (λ e. rw e (keep-increasing b l (i .1)))
+      (λ e. rw e (all-keep (λ y. key x <ˢ key y) b xs (Allˡ-map xs (λ y h _. h) (i .0)), keep-increasing b xs (i .1)))
+      (λ e. rw e (keep-increasing b xs (i .1)))

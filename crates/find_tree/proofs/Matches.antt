@@ -35,7 +35,7 @@ module _ (ws txt : List ℕ) (w : Which) (ℓ : Level) (p : Str) where
   Rows = List (PrefixMatch × Value (Item w) ℓ)
 
   abbrev rows : List ℕ → Rows
-  rows l = map (row-at w ws txt ℓ (some p)) l
+  rows xs = map (row-at w ws txt ℓ (some p)) xs
 
   abbrev Onto : ℕ → Type 0
   Onto x = (acc : Rows) → rows (kept x) ++ acc ≡ find-prefix-onto (what w ws txt x (tree ℓ)) p acc
@@ -101,13 +101,13 @@ module _ {ws txt : List ℕ} {w : Which} {ℓ : Level} {root : ℕ} (t : At ws t
       row : ℕ → PrefixMatch × Value (Item w) ℓ
       row = row-at w ws txt ℓ none
 
-      above : (k : Str) (l : List ℕ) → Above entry-key k (map row l) → Above (key-at ws txt) k l
+      above : (k : Str) (xs : List ℕ) → Above entry-key k (map row xs) → Above (key-at ws txt) k xs
       above k [] a = tt
-      above k (x ∷ l) a = (a .0, above k l (a .1))
+      above k (x ∷ xs) a = (a .0, above k xs (a .1))
 
-      keys : (l : List ℕ) → Increasing entry-key (map row l) → Increasing (key-at ws txt) l
+      keys : (xs : List ℕ) → Increasing entry-key (map row xs) → Increasing (key-at ws txt) xs
       keys [] i = tt
-      keys (x ∷ l) i = (above (key-at ws txt x) l (i .0), keys l (i .1))
+      keys (x ∷ xs) i = (above (key-at ws txt x) xs (i .0), keys xs (i .1))
 
   pub matches-increasing : (p : Str) → Increasing (key-at ws txt) (matches ws txt root p)
   unfolding matches
@@ -119,9 +119,9 @@ module _ {ws txt : List ℕ} {w : Which} {ℓ : Level} {root : ℕ} (t : At ws t
   unfolding matches starts-with
   all-rows q = rw (keep-all (key-at ws txt) (λ k. true) (branches ws root) (all-true (branches ws root))) (branches-rows q root t)
     where
-      all-true : (l : List ℕ) → Allˡ (λ y. _≡_ {A = Bool} true true) l
+      all-true : (xs : List ℕ) → Allˡ (λ y. _≡_ {A = Bool} true true) xs
       all-true [] = tt
-      all-true (x ∷ l) = (refl, all-true l)
+      all-true (x ∷ xs) = (refl, all-true xs)
 
   -- The rows of btree_find_prefix.
   pub prefix-rows : (p : Str)

@@ -74,8 +74,8 @@ module _ {ws txt : List ℕ} {root : ℕ} {key : Str} {link count : ℕ} (g : Se
     pub search-here : Ordering·eq ≡ string-compare key (key-at ws txt link) → Placed ws txt root key link count
     unfolding btree-find-exact insert-branches
     search-here e = record {
-      found = λ w v t.
-          let s = g .says w v t in
+      found = λ w ℓ t.
+          let s = g .says w ℓ t in
           record {
             link = record { earlier = omega (arith, g .small, g .some); of-kind = s .here .link .of-kind };
             has-key = λ _. sym (compare-eq-same key (key-at ws txt link) e);
@@ -83,9 +83,9 @@ module _ {ws txt : List ℕ} {root : ℕ} {key : Str} {link count : ℕ} (g : Se
           };
       builds = record {
         small = omega (arith, g .small);
-        says = λ w v t.
-            let s = g .says w v t in
-            let n : insert-branches (what w ws txt link (tree v)) key ≡ 1 = rw (branch-reads (s .here) p, insert-branches, ← e) in
+        says = λ w ℓ t.
+            let s = g .says w ℓ t in
+            let n : insert-branches (what w ws txt link (tree ℓ)) key ≡ 1 = rw (branch-reads (s .here) p, insert-branches, ← e) in
             omega (arith, s .builds);
       };
     }
@@ -95,8 +95,8 @@ module _ {ws txt : List ℕ} {root : ℕ} {key : Str} {link count : ℕ} (g : Se
   search-none h =
       let z : link ≡ 0 = omega arith in
       record {
-        found = λ w v t.
-            let s = g .says w v t in
+        found = λ w ℓ t.
+            let s = g .says w ℓ t in
             record {
               link = record { earlier = omega arith; of-kind = λ n. absurd (n refl) };
               has-key = λ l. absurd (omega arith);
@@ -104,9 +104,9 @@ module _ {ws txt : List ℕ} {root : ℕ} {key : Str} {link count : ℕ} (g : Se
             };
         builds = record {
           small = omega (arith, g .small);
-          says = λ w v t.
-              let s = g .says w v t in
-              let n : insert-branches (what w ws txt link (tree v)) key ≡ 1 = rw (z, what-none w ws txt) in
+          says = λ w ℓ t.
+              let s = g .says w ℓ t in
+              let n : insert-branches (what w ws txt link (tree ℓ)) key ≡ 1 = rw (z, what-none w ws txt) in
               omega (arith, s .builds);
         };
       }

@@ -45,7 +45,7 @@ past strict low k = past-by strict (string-compare low k)
 
 -- The elements whose keys are after k.
 abbrev pub after : (ℕ → Str) → Str → List ℕ → List ℕ
-after key k l = keep key (past true k) l
+after key k xs = keep key (past true k) xs
 
 -- The first link, 0 where there is none.
 abbrev pub head0 : List ℕ → ℕ

@@ -1,4 +1,4 @@
-// The branches that an insertion makes: one of the way down copied with another side, the new one with the sides of the one it replaces.
+// The branches that an insertion makes: one of the way down copied with another side, the new one with the key and the sides of the one it replaces.
 // The way down is noted in the records that they take.
 ghost use mathlib.Core.Path.{_≡_};
 ghost use Prim.Native.Nat.{_*_, _≤_, _<_, max};

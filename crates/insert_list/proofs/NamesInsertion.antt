@@ -31,10 +31,10 @@ use Rattle.memory.proofs.At.{at-of}
 -- ---- The count
 
 -- The branches that an insertion builds into what a link reads as, 0 where that is no tree.
-branches-into : Str → (w : Which) (s : Sort) → Of (Item w) s → ℕ
-branches-into k w (tree v) t = insert-branches t k
-branches-into k w (list v) t = 0
-branches-into k w trieˢ t = 0
+branches-into : Str → (w : Which) (so : Sort) → Of (Item w) so → ℕ
+branches-into k w (tree ℓ) v = insert-branches v k
+branches-into k w (list ℓ) v = 0
+branches-into k w trieˢ v = 0
 
 module _ {ws txt : List ℕ} (key : Str) where
   -- A tree is of one table and level.
@@ -67,8 +67,8 @@ module _ {ws txt : List ℕ} (key : Str) where
   builds-of {x = x} t e = record { small = omega (arith, e, few-branches x t); says = λ w′ v′ t′. e ∙ one-count x t t′ }
 
 -- The branches of an insertion, counted before other writes, are those after them. Any value serves: the weight is the same.
-pub insertion-after : {ws ws′ txt : List ℕ} {n n′ used : ℕ} {w : Which} {s : Sort} {y : ℕ} {t : Of (Item w) s}
-    → Made ws ws′ txt n n′ used w s y t
+pub insertion-after : {ws ws′ txt : List ℕ} {n n′ used : ℕ} {w : Which} {so : Sort} {y : ℕ} {v : Of (Item w) so}
+    → Made ws ws′ txt n n′ used w so y v
     → {ℓ : Level} {x count : ℕ} → At ws txt w (list ℓ) x → x ≤ n → (r : List ℕ)
     → count ≡ insert-branches (first-tree (what w ws txt x (list ℓ))) (span txt (text-start r) (text-len r))
     → (a : Value (Item w) ℓ)

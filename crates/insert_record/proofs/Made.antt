@@ -25,12 +25,12 @@ use Rattle.memory.proofs.At.{rows-before}
 
 module _ {ws txt : List ℕ} {n used : ℕ} {w : Which} where
   -- Nothing made.
-  pub made-none : (s : Sort) {r : ℕ} → Used ws txt n used → LinkOk ws (n + 1) r (kind w s)
-      → Made ws ws txt n n used w s r (what w ws txt r s)
-  made-none s o i = record { grows = omega arith; sound = o; stays = stays-same n ws; beyond = refl; link = i; reads = refl }
+  pub made-none : (so : Sort) {r : ℕ} → Used ws txt n used → LinkOk ws (n + 1) r (kind w so)
+      → Made ws ws txt n n used w so r (what w ws txt r so)
+  made-none so o i = record { grows = omega arith; sound = o; stays = stays-same n ws; beyond = refl; link = i; reads = refl }
 
-  module _ {ws′ : List ℕ} {n′ : ℕ} {s : Sort} {r : ℕ} {t : Of (Item w) s} (m : Made ws ws′ txt n n′ used w s r t) where
-    pub made-as : {t′ : Of (Item w) s} → t ≡ t′ → Made ws ws′ txt n n′ used w s r t′
+  module _ {ws′ : List ℕ} {n′ : ℕ} {so : Sort} {r : ℕ} {v : Of (Item w) so} (m : Made ws ws′ txt n n′ used w so r v) where
+    pub made-as : {v′ : Of (Item w) so} → v ≡ v′ → Made ws ws′ txt n n′ used w so r v′
     made-as e = rw (← e) m
 
     -- The records that stood read as before, and their links stay.
@@ -48,8 +48,8 @@ module _ {ws txt : List ℕ} {n used : ℕ} {w : Which} where
     made-room c e o = record { few = omega (arith, e, o .few); fits = omega (arith, e, o .fits, m .stays .size) }
 
     -- A writer after another.
-    pub made-then : {ws″ : List ℕ} {n″ used′ : ℕ} {w′ : Which} {s′ : Sort} {r′ : ℕ} {t′ : Of (Item w′) s′}
-        → Made ws′ ws″ txt n′ n″ used′ w′ s′ r′ t′ → Made ws ws″ txt n n″ used′ w′ s′ r′ t′
+    pub made-then : {ws″ : List ℕ} {n″ used′ : ℕ} {w′ : Which} {so′ : Sort} {r′ : ℕ} {v′ : Of (Item w′) so′}
+        → Made ws′ ws″ txt n′ n″ used′ w′ so′ r′ v′ → Made ws ws″ txt n n″ used′ w′ so′ r′ v′
     made-then {n″ = n″} m′ = record {
       grows = omega (arith, m .grows, m′ .grows);
       sound = m′ .sound;
@@ -59,23 +59,23 @@ module _ {ws txt : List ℕ} {n used : ℕ} {w : Which} where
       reads = m′ .reads;
     }
 
--- The record r, right as s of the table w, put after the first n.
+-- The record r, right as so of the table w, put after the first n.
 pub made-put : {ws txt : List ℕ} {n used : ℕ} → Used ws txt n used → Room ws n 1
-    → (r : List ℕ) → length r ≡ 12 → (w : Which) (s : Sort) → kind-word r ≡ kind w s
-    → RecordAs ws txt used (n + 1) w s r (row w txt r (what w ws txt) s)
-    → Made ws (put ws n r) txt n (n + 1) used w s (n + 1) (row w txt r (what w ws txt) s)
+    → (r : List ℕ) → length r ≡ 12 → (w : Which) (so : Sort) → kind-word r ≡ kind w so
+    → RecordAs ws txt used (n + 1) w so r (row w txt r (what w ws txt) so)
+    → Made ws (put ws n r) txt n (n + 1) used w so (n + 1) (row w txt r (what w ws txt) so)
 unfolding put
-made-put {ws} {txt} {n} o m r z w s k a =
+made-put {ws} {txt} {n} o m r z w so k a =
     let few : n < 65536 = omega (arith, m .few) in
     let room : n * 12 + 12 ≤ length ws = omega (arith, m .fits) in
     let e : (n + 1) * 12 ≡ n * 12 + 12 = omega arith in
     record {
       grows = omega arith;
-      sound = put-used o few room r z w s k a;
+      sound = put-used o few room r z w so k a;
       stays = put-stays ws r n room z;
       beyond = rw e (drop-paste ws (n * 12) r 12 (omega arith) (omega arith));
-      link = put-link o few room r z w s k a;
-      reads = put-what o few room r z w s k a;
+      link = put-link o few room r z w so k a;
+      reads = put-what o few room r z w so k a;
     }
 
 module _ {ws : List ℕ} {n : ℕ} (m : Room ws n 1) where
@@ -135,7 +135,7 @@ module _ {ws txt : List ℕ} {n used : ℕ} (o : Used ws txt n used) (w : Which)
   unfolding weight
   imported-light ℓ label i j h = omega (arith, stored-weight (rows-before o) w ℓ _ i, stored-weight (rows-before o) w ℓ _ j, h)
 
-  pub made-shallow : {y : ℕ} (t : NameList (Item w) bind) → LinkOk ws (n + 1) y (kind w (list ns))
-      → depth (trie t (what w ws txt y (list ns))) ≤ 16 → depth-in ws y ≤ 16
+  pub made-shallow : {y : ℕ} (nl : NameList (Item w) bind) → LinkOk ws (n + 1) y (kind w (list ns))
+      → depth (trie nl (what w ws txt y (list ns))) ≤ 16 → depth-in ws y ≤ 16
   unfolding depth
-  made-shallow t i h = omega (arith, stored-list (rows-before o) w _ i, h)
+  made-shallow nl i h = omega (arith, stored-list (rows-before o) w _ i, h)

@@ -18,14 +18,14 @@ pub record Room (ws : List ℕ) (n m : ℕ) : Type 0 where
   pub few : n + m ≤ most-used
   pub fits : (n + m) * record-words ≤ length ws
 
--- After the first n records, which stay, those up to n′ are right; link r reads as t; no word past them has changed.
-pub record Made (ws ws′ txt : List ℕ) (n n′ used : ℕ) (w : Which) (s : Sort) (r : ℕ) (t : Of (Item w) s) : Type 0 where
+-- After the first n records, which stay, those up to n′ are right; link r reads as v; no word past them has changed.
+pub record Made (ws ws′ txt : List ℕ) (n n′ used : ℕ) (w : Which) (so : Sort) (r : ℕ) (v : Of (Item w) so) : Type 0 where
   pub grows : n ≤ n′
   pub sound : Used ws′ txt n′ used
   pub stays : Stays n ws ws′
   pub beyond : drop (n′ * record-words) ws′ ≡ drop (n′ * record-words) ws
-  pub link : LinkOk ws′ (n′ + 1) r (kind w s)
-  pub reads : what w ws′ txt r s ≡ t
+  pub link : LinkOk ws′ (n′ + 1) r (kind w so)
+  pub reads : what w ws′ txt r so ≡ v
 
 -- The words of a collection, its depth by what its two links store.
 abbrev pub collection-over : (ws : List ℕ) (kd : ℕ) → Collection → List ℕ

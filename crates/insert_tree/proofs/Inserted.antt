@@ -115,7 +115,7 @@ module _ {base ws txt : List ℕ} {w : Which} {ℓ : Level} {used : ℕ} {key : 
         (what w ws txt a (tree ℓ)) (what w ws txt b (tree ℓ)))
     ordered =
         let x-link = trail-link root-tree t in
-        subst (λ (t : Tree (Item w) ℓ). Ordered t) (ap (λ t. btree-insert-replace t key val) (base-of x (omega (arith, x-link .earlier))) ∙ sym e)
+        subst (λ (bt : Tree (Item w) ℓ). Ordered bt) (ap (λ bt. btree-insert-replace bt key val) (base-of x (omega (arith, x-link .earlier))) ∙ sym e)
         (formed-ordered IsKey IsLabel (IsItem w) (btree-insert-replace (what w ws txt x (tree ℓ)) key val)
         (btree-insert-replace-formed IsKey IsLabel (IsItem w) (what w ws txt x (tree ℓ)) key val (g .is-key) (g .fine)
         (link-fine (g .sound) w (tree ℓ) (omega (arith, g .root-link .earlier)) x-link .0)))

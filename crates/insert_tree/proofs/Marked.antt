@@ -18,7 +18,7 @@ use Rattle.find_tree.proofs.Placed.{Search, search-all, search-left, search-rig
 use Rattle.find_tree.proofs.Past.{by-order}
 use Rattle.insert_tree.proofs.Changed.{drop-more, key-stays, any-stays, trail-stays}
 
-some-branches : {A : Type 0} {ℓ : Level} (t : Tree A ℓ) (k : Str) → 0 < insert-branches t k
+some-branches : {A : Type 0} {ℓ : Level} (bt : Tree A ℓ) (k : Str) → 0 < insert-branches bt k
 unfolding insert-branches
 some-branches StrEmpty k = omega arith
 some-branches (StrBranch k′ x lbt rbt) k =

@@ -187,7 +187,7 @@ module _ {ws txt : List ℕ} {n used : ℕ} (o : Used ws txt n used) (few : n < 
   known = sided-word ws r a b twelve 0 refl ∙ g .known
 
   right : RecordAs ws txt used (n + 1) w (tree ℓ) new (row w txt new (what w ws txt) (tree ℓ))
-  right = as-row o r twelve w a b ℓ g branch (subst (λ (t : Tree (Item w) ℓ). Ordered t) (sym row-is) ordered)
+  right = as-row o r twelve w a b ℓ g branch (subst (λ (bt : Tree (Item w) ℓ). Ordered bt) (sym row-is) ordered)
 
   pub branch-sound : Used (put ws n new) txt (n + 1) used
   branch-sound = put-used o few room new (sided-length ws r a b twelve) w (tree ℓ) known right

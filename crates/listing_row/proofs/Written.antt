@@ -19,27 +19,27 @@ use Rattle.listing_row.proofs.Inside.{row-inside}
 
 -- ---- A list that stands at a place of another
 
-record Stands (l : List ℕ) (k : ℕ) (s : List ℕ) : Type 0 where
+record Stands (xs : List ℕ) (k : ℕ) (s : List ℕ) : Type 0 where
   rest : List ℕ
-  within : k ≤ length l
-  is : drop k l ≡ s ++ rest
+  within : k ≤ length xs
+  is : drop k xs ≡ s ++ rest
 
-module _ {l : List ℕ} {k : ℕ} where
-  stands-span : {s : List ℕ} → Stands l k s → span l k (length s) ≡ s
+module _ {xs : List ℕ} {k : ℕ} where
+  stands-span : {s : List ℕ} → Stands xs k s → span xs k (length s) ≡ s
   unfolding span
   stands-span {s} x = ap (take (length s)) (x .is) ∙ take-at s (x .rest) (length s) refl
 
-  stands-size : {s : List ℕ} → Stands l k s → k + length s ≤ length l
-  stands-size {s} x = omega (arith, x .within, length-drop k l, ap length (x .is), length-append s (x .rest))
+  stands-size : {s : List ℕ} → Stands xs k s → k + length s ≤ length xs
+  stands-size {s} x = omega (arith, x .within, length-drop k xs, ap length (x .is), length-append s (x .rest))
 
-  stands-first : (s t : List ℕ) → Stands l k (s ++ t) → Stands l k s
+  stands-first : (s t : List ℕ) → Stands xs k (s ++ t) → Stands xs k s
   stands-first s t x = record { rest = t ++ x .rest; within = x .within; is = x .is ∙ append-assoc s t (x .rest) }
 
-  stands-next : (s t : List ℕ) → Stands l k (s ++ t) → Stands l (k + length s) t
+  stands-next : (s t : List ℕ) → Stands xs k (s ++ t) → Stands xs (k + length s) t
   stands-next s t x = record {
     rest = x .rest;
     within = omega (arith, stands-size x, length-append s t);
-    is = sym (drop-drop (length s) k l) ∙ ap (drop (length s)) (x .is ∙ append-assoc s t (x .rest)) ∙ drop-at s (t ++ x .rest) (length s) refl;
+    is = sym (drop-drop (length s) k xs) ∙ ap (drop (length s)) (x .is ∙ append-assoc s t (x .rest)) ∙ drop-at s (t ++ x .rest) (length s) refl;
   }
 
 stands-laid : {d d′ s : List ℕ} {r : ℕ} → Laid d d′ 0 r s → Stands d′ 0 s
@@ -70,25 +70,25 @@ record-from b l = record {
 }
 
 module _ (w : Which) (txt out : List ℕ) where
-  module _ (r : List ℕ) (b : ℕ) (l : Line (Item w)) (e : line-of w txt r ≡ record-from b l)
-      (o : Stands out b (l .candidate ++ l .annotation)) where
+  module _ (r : List ℕ) (b : ℕ) (ln : Line (Item w)) (e : line-of w txt r ≡ record-from b ln)
+      (o : Stands out b (ln .candidate ++ ln .annotation)) where
     start-is : candidate-start r ≡ b
     unfolding line-of
     start-is = ap (λ (x : LineRecord (Item w)). x .candidate .start) e
 
-    len-is : candidate-len r ≡ length (l .candidate)
+    len-is : candidate-len r ≡ length (ln .candidate)
     unfolding line-of
     len-is = ap (λ (x : LineRecord (Item w)). x .candidate .len) e
 
-    note-is : annotation-start r ≡ b + length (l .candidate)
+    note-is : annotation-start r ≡ b + length (ln .candidate)
     unfolding line-of
     note-is = ap (λ (x : LineRecord (Item w)). x .annotation .start) e
 
-    note-len-is : annotation-len r ≡ length (l .annotation)
+    note-len-is : annotation-len r ≡ length (ln .annotation)
     unfolding line-of
     note-len-is = ap (λ (x : LineRecord (Item w)). x .annotation .len) e
 
-    line-is : line-seen w txt out r ≡ l
+    line-is : line-seen w txt out r ≡ ln
     unfolding line-of line-seen
     line-is =
         rw (
@@ -98,14 +98,14 @@ module _ (w : Which) (txt out : List ℕ) where
           len-is,
           note-is,
           note-len-is,
-          stands-span (stands-first (l .candidate) (l .annotation) o),
-          stands-span (stands-next (l .candidate) (l .annotation) o),
+          stands-span (stands-first (ln .candidate) (ln .annotation) o),
+          stands-span (stands-next (ln .candidate) (ln .annotation) o),
         )
 
     texts-in : TextsIn out (row-in w r)
     texts-in = record {
-      candidate = omega (arith, start-is, len-is, stands-size (stands-first (l .candidate) (l .annotation) o));
-      annotation = omega (arith, note-is, note-len-is, stands-size (stands-next (l .candidate) (l .annotation) o));
+      candidate = omega (arith, start-is, len-is, stands-size (stands-first (ln .candidate) (ln .annotation) o));
+      annotation = omega (arith, note-is, note-len-is, stands-size (stands-next (ln .candidate) (ln .annotation) o));
     }
 
   lines-are : (rows : List (List ℕ)) (b : ℕ) (lines : List (Line (Item w)))

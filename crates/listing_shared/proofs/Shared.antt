@@ -34,17 +34,17 @@ common-take [] t = refl
 common-take (a ∷ s) [] = refl
 common-take (a ∷ s) (b ∷ t) =
     elim (ℕ-discrete a b) [
-      | yes e ↦ rw (common-same a b s t e) (ap (λ (l : Str). a ∷ l) (common-take s t))
+      | yes e ↦ rw (common-same a b s t e) (ap (λ (u : Str). a ∷ u) (common-take s t))
       | no n ↦ rw (common-differ a b s t n) refl
     ]
 
 common-short : (s t : Str) → length (common-prefix s t) ≤ length s
 common-short s t = begins-length (common-prefix s t) s (common-begins s t .0)
 
-none-shared : (l : List Str) → fold-left common-prefix [] l ≡ []
+none-shared : (xs : List Str) → fold-left common-prefix [] xs ≡ []
 unfolding fold-left common-prefix
 none-shared [] = refl
-none-shared (s ∷ l) = none-shared l
+none-shared (s ∷ xs) = none-shared xs
 
 -- ---- Row by row
 
@@ -133,13 +133,13 @@ module _ {w : Which} {ws txt flat flat′ out out′ : List ℕ} {lines : List (
       go (r ∷ rows) a = (a .0 .candidate, go rows (a .1))
 
   written-shared : shared-seen flat′ out′ (length lines)
-      ≡ string-length (shared-beginning (map (λ l. l .candidate) lines))
+      ≡ string-length (shared-beginning (map (λ ln. ln .candidate) lines))
   unfolding shared-seen line-seen
   written-shared = ap (λ (ss : List Str). string-length (shared-beginning ss))
-      (go (words-from flat′ 0 (length lines)) ∙ ap (map (λ (l : Line (Item w)). l .candidate)) (written-lines x))
+      (go (words-from flat′ 0 (length lines)) ∙ ap (map (λ (ln : Line (Item w)). ln .candidate)) (written-lines x))
     where
       go : (rows : List (List ℕ))
-          → map (candidate-seen out′) rows ≡ map (λ (l : Line (Item w)). l .candidate) (map (line-seen w txt out′) rows)
+          → map (candidate-seen out′) rows ≡ map (λ (ln : Line (Item w)). ln .candidate) (map (line-seen w txt out′) rows)
       go [] = refl
       go (r ∷ rows) = ap (λ (ss : List Str). candidate-seen out′ r ∷ ss) (go rows)
 

@@ -20,17 +20,17 @@ module _ {notes : List ℕ} {n : ℕ} (f : Fits notes n) where
   fits-fewer h = record { sized = f .sized; few = omega (arith, f .few); few-near = f .few-near; few-far = f .few-far }
 
 -- Two places written, a third read.
-set-apart : (l : List ℕ) (i j k a b : ℕ) → (k ≡ i → ⊥) → (k ≡ j → ⊥) → getD (set (set l i a) j b) k 0 ≡ getD l k 0
-set-apart l i j k a b p q = getD-set-other (set l i a) j k b 0 q ∙ getD-set-other l i k a 0 p
+set-apart : (xs : List ℕ) (i j k a b : ℕ) → (k ≡ i → ⊥) → (k ≡ j → ⊥) → getD (set (set xs i a) j b) k 0 ≡ getD xs k 0
+set-apart xs i j k a b p q = getD-set-other (set xs i a) j k b 0 q ∙ getD-set-other xs i k a 0 p
 
-set-second : (l : List ℕ) (i j a b : ℕ) → j < length l → getD (set (set l i a) j b) j 0 ≡ b
-set-second l i j a b h = getD-set-same (set l i a) j b 0 (omega (arith, length-set l i a))
+set-second : (xs : List ℕ) (i j a b : ℕ) → j < length xs → getD (set (set xs i a) j b) j 0 ≡ b
+set-second xs i j a b h = getD-set-same (set xs i a) j b 0 (omega (arith, length-set xs i a))
 
-set-first : (l : List ℕ) (i j a b : ℕ) → i < length l → (i ≡ j → ⊥) → getD (set (set l i a) j b) i 0 ≡ a
-set-first l i j a b h q = getD-set-other (set l i a) j i b 0 q ∙ getD-set-same l i a 0 h
+set-first : (xs : List ℕ) (i j a b : ℕ) → i < length xs → (i ≡ j → ⊥) → getD (set (set xs i a) j b) i 0 ≡ a
+set-first xs i j a b h q = getD-set-other (set xs i a) j i b 0 q ∙ getD-set-same xs i a 0 h
 
-length-sets : (l : List ℕ) (i j a b : ℕ) → length (set (set l i a) j b) ≡ length l
-length-sets l i j a b = length-set (set l i a) j b ∙ length-set l i a
+length-sets : (xs : List ℕ) (i j a b : ℕ) → length (set (set xs i a) j b) ≡ length xs
+length-sets xs i j a b = length-set (set xs i a) j b ∙ length-set xs i a
 
 -- ---- A branch is put in a part
 

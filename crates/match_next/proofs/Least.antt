@@ -24,13 +24,13 @@ abbrev first : ℕ → List ℕ → ℕ
 first d [] = d
 first d (x ∷ l) = x
 
-first-append : (d : ℕ) (l m : List ℕ) → first d (l ++ m) ≡ first (first d m) l
+first-append : (d : ℕ) (xs m : List ℕ) → first d (xs ++ m) ≡ first (first d m) xs
 first-append d [] m = refl
-first-append d (x ∷ l) m = refl
+first-append d (x ∷ xs) m = refl
 
-first-zero : (l : List ℕ) → first 0 l ≡ head0 l
+first-zero : (xs : List ℕ) → first 0 xs ≡ head0 xs
 first-zero [] = refl
-first-zero (x ∷ l) = refl
+first-zero (x ∷ xs) = refl
 
 -- A way down from root stands at link: the first of the root's list is the first of link's, or what was found where that is empty.
 pub record Seeking (ws txt : List ℕ) (of : ℕ → List ℕ) (root link found : ℕ) : Type 0 where
@@ -201,9 +201,9 @@ near-at {ws} {txt} {root = root} {at} =
       | no n ↦ by-test (past true (key-at ws txt at) (key-at ws txt x)) (λ e. left x (near-left g n e refl)) (λ e. right found (near-right g n e refl))
     ])
 
-first-some : (d : ℕ) (l m : List ℕ) (x : ℕ) → first d (l ++ (x ∷ m)) ≡ head0 (l ++ (x ∷ m))
+first-some : (d : ℕ) (xs m : List ℕ) (x : ℕ) → first d (xs ++ (x ∷ m)) ≡ head0 (xs ++ (x ∷ m))
 first-some d [] m x = refl
-first-some d (y ∷ l) m x = refl
+first-some d (y ∷ xs) m x = refl
 
 -- Where a branch has a right side, the least of it comes next.
 pub right-next : {ws txt : List ℕ} {root at : ℕ} → AnyTree ws txt root → List·Memᴰ at (branches ws root)

@@ -22,18 +22,18 @@ use Rattle.find_tree.proofs.Matches.{branches-increasing, matches-past}
 use Rattle.match_next.specs.Begun.{begun}
 
 -- Of ascending keys past p those that begin with it come first.
-first-begun : (key : ℕ → Str) (p : Str) (l : List ℕ) → Increasing key l
-    → Allˡ (λ y. (0 < y) × (past false p (key y) ≡ true)) l
-    → head0 (keep key (λ k. starts-with k p) l) ≡ begun key p (head0 l)
+first-begun : (key : ℕ → Str) (p : Str) (xs : List ℕ) → Increasing key xs
+    → Allˡ (λ y. (0 < y) × (past false p (key y) ≡ true)) xs
+    → head0 (keep key (λ k. starts-with k p) xs) ≡ begun key p (head0 xs)
 unfolding keep begun
 first-begun key p [] i a = refl
-first-begun key p (x ∷ l) i a =
+first-begun key p (x ∷ xs) i a =
     rw (ne-eqb x 0 (λ e. omega (arith, a .0 .0)))
     (by-test (starts-with (key x) p)
     (λ e. rw e)
     (λ e. rw e
-    (ap head0 (keep-none key (λ k. starts-with k p) l
-    (Allˡ-map {P = λ y. key x <ˢ key y} {Q = λ y. starts-with (key y) p ≡ false} l (λ y. past-begun p (key x) (key y) (a .0 .1) e) (i .0))))))
+    (ap head0 (keep-none key (λ k. starts-with k p) xs
+    (Allˡ-map {P = λ y. key x <ˢ key y} {Q = λ y. starts-with (key y) p ≡ false} xs (λ y. past-begun p (key x) (key y) (a .0 .1) e) (i .0))))))
 
 module _ {ws txt : List ℕ} {root : ℕ} (a : AnyTree ws txt root) where
   -- The branches past a bound are branches.
@@ -49,9 +49,9 @@ module _ {ws txt : List ℕ} {root : ℕ} (a : AnyTree ws txt root) where
       → x ≡ head0 (keep (key-at ws txt) (past strict low) (branches ws root)) → AnyTree ws txt x
   first-tree strict low e = rw e (go (keep (key-at ws txt) (past strict low) (branches ws root)) (past-of strict low))
     where
-      go : (l : List ℕ) → Allˡ (BranchOf ws (a .which) (a .level) root) l → AnyTree ws txt (head0 l)
+      go : (xs : List ℕ) → Allˡ (BranchOf ws (a .which) (a .level) root) xs → AnyTree ws txt (head0 xs)
       go [] o = no-tree a
-      go (y ∷ l) o = branch-tree (a .tree) (o .0)
+      go (y ∷ xs) o = branch-tree (a .tree) (o .0)
 
   -- The first match past a bound is the first branch past it, or there is none.
   pub next-is : (strict : Bool) (low p : Str) → starts-with low p ≡ true → {x r : ℕ}

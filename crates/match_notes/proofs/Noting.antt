@@ -24,13 +24,13 @@ use Rattle.match_marks.specs.Marks.{most-notes, dropped, Fits, Holds, Drops, No
 use Rattle.match_notes.specs.Noting.{to-come, passing, Ahead, NoteOk, Noting, Descends, AllAfter, NotesLeft}
 use Rattle.match_marks.proofs.Marks.{more-fits, more-holds, drops-fits, drops-told, drops-holds}
 
-all-left : {A : Type 0} (P : A → Type 0) (l m : List A) → Allˡ P (l ++ m) → Allˡ P l
+all-left : {A : Type 0} (P : A → Type 0) (xs m : List A) → Allˡ P (xs ++ m) → Allˡ P xs
 all-left P [] m a = tt
-all-left P (x ∷ l) m a = (a .0, all-left P l m (a .1))
+all-left P (x ∷ xs) m a = (a .0, all-left P xs m (a .1))
 
-all-after-left : {A : Type 0} (P : A → Type 0) (l : List A) (x : A) (m : List A) → Allˡ P (l ++ (x ∷ m)) → P x
+all-after-left : {A : Type 0} (P : A → Type 0) (xs : List A) (x : A) (m : List A) → Allˡ P (xs ++ (x ∷ m)) → P x
 all-after-left P [] x m a = a .0
-all-after-left P (y ∷ l) x m a = all-after-left P l x m (a .1)
+all-after-left P (y ∷ xs) x m a = all-after-left P xs x m (a .1)
 
 -- ---- The matches of a tree by its root
 all-matches : (ws txt : List ℕ) (p : Str) (x : ℕ) (P : ℕ → Type 0) → Allˡ P (branches ws x)
@@ -50,10 +50,10 @@ module _ {ws txt : List ℕ} {x : ℕ} (a : AnyTree ws txt x) (q : 0 < x) where
   right = right-link (record-at ws x)
 
   all-of-left : (P : ℕ → Type 0) → Allˡ P (branches ws x) → Allˡ P (branches ws left)
-  all-of-left P h = all-left P (branches ws left) (x ∷ branches ws right) (subst (λ (l : List ℕ). Allˡ P l) (branches-at (a .tree) q) h)
+  all-of-left P h = all-left P (branches ws left) (x ∷ branches ws right) (subst (λ (xs : List ℕ). Allˡ P xs) (branches-at (a .tree) q) h)
 
   all-here : (P : ℕ → Type 0) → Allˡ P (branches ws x) → P x
-  all-here P h = all-after-left P (branches ws left) x (branches ws right) (subst (λ (l : List ℕ). Allˡ P l) (branches-at (a .tree) q) h)
+  all-here P h = all-after-left P (branches ws left) x (branches ws right) (subst (λ (xs : List ℕ). Allˡ P xs) (branches-at (a .tree) q) h)
 
   module _ (p : Str) where
     split : matches ws txt x p
@@ -111,22 +111,22 @@ module _ (ws txt : List ℕ) (p : Str) where
   unfolding keep
   pass-none b = rw (matches-none ws txt p)
 
-module _ {ws txt : List ℕ} {p : Str} {b : Str → Bool} {l : List ℕ} where
+module _ {ws txt : List ℕ} {p : Str} {b : Str → Bool} {xs : List ℕ} where
   -- Notes are none.
-  pub noting-none : {notes h : List ℕ} → Fits notes 0 → Holds (NoteOk ws txt p b l) (Ahead ws txt p b l) notes 0
-      → (rest : List ℕ) → l ≡ h ++ rest → (getD notes dropped 0 ≡ 0 → rest ≡ []) → Noting ws txt p b notes 0 h l
+  pub noting-none : {notes h : List ℕ} → Fits notes 0 → Holds (NoteOk ws txt p b xs) (Ahead ws txt p b xs) notes 0
+      → (rest : List ℕ) → xs ≡ h ++ rest → (getD notes dropped 0 ≡ 0 → rest ≡ []) → Noting ws txt p b notes 0 h xs
   unfolding to-come
   noting-none f o rest e w = record { fits = f; holds = o; rest = rest; says = e; whole = w }
 
-  module _ {notes : List ℕ} {n : ℕ} {h : List ℕ} (o : Noting ws txt p b notes n h l) where
+  module _ {notes : List ℕ} {n : ℕ} {h : List ℕ} (o : Noting ws txt p b notes n h xs) where
     -- A note is added.
     noting-more : (x : ℕ) {g : List ℕ} → h ≡ g ++ (x ∷ matches ws txt (right-link (record-at ws x)) p)
-        → NoteOk ws txt p b l x → n < most-notes → Noting ws txt p b (set notes n x) (n + 1) g l
+        → NoteOk ws txt p b xs x → n < most-notes → Noting ws txt p b (set notes n x) (n + 1) g xs
     unfolding to-come
     noting-more x {g} e a k =
         let right = matches ws txt (right-link (record-at ws x)) p in
         let come = to-come ws txt p notes n in
-        let says : l ≡ g ++ (x ∷ ((right ++ come) ++ o .rest)) =
+        let says : xs ≡ g ++ (x ∷ ((right ++ come) ++ o .rest)) =
         o .says ∙ ap (λ (y : List ℕ). y ++ (come ++ o .rest)) e ∙ append-assoc g (x ∷ right) (come ++ o .rest)
         ∙ ap (λ (y : List ℕ). g ++ (x ∷ y)) (sym (append-assoc right come (o .rest))) in
         record {
@@ -142,24 +142,24 @@ module _ {ws txt : List ℕ} {p : Str} {b : Str → Bool} {l : List ℕ} where
         }
 
     -- All notes are dropped.
-    noting-drops : {notes′ : List ℕ} → 0 < n → Drops notes notes′ → Noting ws txt p b notes′ 0 h l
+    noting-drops : {notes′ : List ℕ} → 0 < n → Drops notes notes′ → Noting ws txt p b notes′ 0 h xs
     noting-drops k t =
         noting-none (drops-fits (o .fits) t) (drops-holds (o .fits) t (o .holds) (o .holds .note 0 k .ahead))
         (to-come ws txt p notes n ++ o .rest) (o .says) (λ z. absurd (omega (arith, drops-told (o .fits) t)))
 
     -- What is at hand comes first.
-    ahead-here : {x : ℕ} → AnyTree ws txt x → h ≡ passing ws txt p b x → Ahead ws txt p b l x
+    ahead-here : {x : ℕ} → AnyTree ws txt x → h ≡ passing ws txt p b x → Ahead ws txt p b xs x
     ahead-here a e = record { any = a; rest = to-come ws txt p notes n ++ o .rest; says = o .says ∙ rw e }
 
 -- A branch is noted.
-noting-note : {ws txt : List ℕ} {p : Str} {b : Str → Bool} {l notes notes′ : List ℕ} {n x r : ℕ} {h g : List ℕ}
-    → Noting ws txt p b notes n h l → h ≡ g ++ (x ∷ matches ws txt (right-link (record-at ws x)) p)
-    → NoteOk ws txt p b l x
-    → NotedAt notes notes′ n x r → Noting ws txt p b notes′ r g l
-noting-note {ws} {txt} {p} {b} {l} {notes} {n = n} {x} {g = g} o e a t = rw (t .is, t .count) (go (t .k) (t .between) (t .which) (t .below))
+noting-note : {ws txt : List ℕ} {p : Str} {b : Str → Bool} {xs notes notes′ : List ℕ} {n x r : ℕ} {h g : List ℕ}
+    → Noting ws txt p b notes n h xs → h ≡ g ++ (x ∷ matches ws txt (right-link (record-at ws x)) p)
+    → NoteOk ws txt p b xs x
+    → NotedAt notes notes′ n x r → Noting ws txt p b notes′ r g xs
+noting-note {ws} {txt} {p} {b} {xs} {notes} {n = n} {x} {g = g} o e a t = rw (t .is, t .count) (go (t .k) (t .between) (t .which) (t .below))
   where
     go : (k : ℕ) (m : List ℕ) → ((k ≡ n) × (m ≡ notes)) ⊎ ((k ≡ 0) × (0 < n) × Drops notes m) → k < most-notes
-        → Noting ws txt p b (set m k x) (k + 1) g l
+        → Noting ws txt p b (set m k x) (k + 1) g xs
     go k m (inl z) i = rw (z .0, z .1) (noting-more o x e a (rw (z .0) at i))
     go k m (inr z) i = rw (z .0) (noting-more (noting-drops o (z .1) (z .2)) x e a (omega arith))
 
@@ -180,8 +180,8 @@ pub record Descending (ws txt : List ℕ) (p low : Str) (strict : Bool) (from at
   pub bound : starts-with low p ≡ true
   pub any : AnyTree ws txt at
   pub fits : Fits notes′ m
-  pub on : (l : List ℕ) → Noting ws txt p (past strict low) notes 0 (passing ws txt p (past strict low) from) l
-      → Noting ws txt p (past strict low) notes′ m (passing ws txt p (past strict low) at) l
+  pub on : (xs : List ℕ) → Noting ws txt p (past strict low) notes 0 (passing ws txt p (past strict low) from) xs
+      → Noting ws txt p (past strict low) notes′ m (passing ws txt p (past strict low) at) xs
   pub none : m ≡ 0 → passing ws txt p (past strict low) from ≡ passing ws txt p (past strict low) at
 
 module _ {ws txt : List ℕ} {p low : Str} {strict : Bool} {from : ℕ} {notes : List ℕ} where
@@ -230,9 +230,9 @@ pub record Lefting (ws txt : List ℕ) (p : Str) (from at : ℕ) (notes notes′
   pub any : AnyTree ws txt at
   pub later : AllAfter ws txt p at
   pub fits : Fits notes′ m
-  pub on : (b : Str → Bool) (l : List ℕ) → Allˡ (λ x. b (key-at ws txt x) ≡ true) (branches ws from)
-      → Noting ws txt p b notes n (matches ws txt from p) l
-      → Allˡ (λ x. b (key-at ws txt x) ≡ true) (branches ws at) × Noting ws txt p b notes′ m (matches ws txt at p) l
+  pub on : (b : Str → Bool) (xs : List ℕ) → Allˡ (λ x. b (key-at ws txt x) ≡ true) (branches ws from)
+      → Noting ws txt p b notes n (matches ws txt from p) xs
+      → Allˡ (λ x. b (key-at ws txt x) ≡ true) (branches ws at) × Noting ws txt p b notes′ m (matches ws txt at p) xs
 
 module _ {ws txt : List ℕ} {p : Str} {from : ℕ} {notes : List ℕ} {n : ℕ} where
   pub lefting-all : AnyTree ws txt from → AllAfter ws txt p from → Fits notes n

@@ -23,33 +23,33 @@ to-come ws txt prefix notes (suc n) =
 abbrev pub passing : (ws txt : List ℕ) (prefix : Str) → (Str → Bool) → ℕ → List ℕ
 passing ws txt prefix b m = keep (key-at ws txt) b (matches ws txt m prefix)
 
--- The list l begins with the matches of the tree m that pass b.
-pub record Ahead (ws txt : List ℕ) (prefix : Str) (b : Str → Bool) (l : List ℕ) (m : ℕ) : Type 0 where
+-- The list xs begins with the matches of the tree m that pass b.
+pub record Ahead (ws txt : List ℕ) (prefix : Str) (b : Str → Bool) (xs : List ℕ) (m : ℕ) : Type 0 where
   pub any : AnyTree ws txt m
   pub rest : List ℕ
-  pub says : l ≡ passing ws txt prefix b m ++ rest
+  pub says : xs ≡ passing ws txt prefix b m ++ rest
 
 -- A branch that matches, and the same of its tree.
-pub record NoteOk (ws txt : List ℕ) (prefix : Str) (b : Str → Bool) (l : List ℕ) (x : ℕ) : Type 0 where
+pub record NoteOk (ws txt : List ℕ) (prefix : Str) (b : Str → Bool) (xs : List ℕ) (x : ℕ) : Type 0 where
   pub some : 0 < x
   pub begins : starts-with (key-at ws txt x) prefix ≡ true
-  pub ahead : Ahead ws txt prefix b l x
+  pub ahead : Ahead ws txt prefix b xs x
 
--- The list l begins with h and what the first n notes say, and is that where no notes were dropped. Each note and each mark is ahead.
+-- The list xs begins with h and what the first n notes say, and is that where no notes were dropped. Each note and each mark is ahead.
 pub record Noting (ws txt : List ℕ) (prefix : Str) (b : Str → Bool) (notes : List ℕ) (n : ℕ)
-    (h l : List ℕ) : Type 0 where
+    (h xs : List ℕ) : Type 0 where
   pub fits : Fits notes n
-  pub holds : Holds (NoteOk ws txt prefix b l) (Ahead ws txt prefix b l) notes n
+  pub holds : Holds (NoteOk ws txt prefix b xs) (Ahead ws txt prefix b xs) notes n
   pub rest : List ℕ
-  pub says : l ≡ h ++ (to-come ws txt prefix notes n ++ rest)
+  pub says : xs ≡ h ++ (to-come ws txt prefix notes n ++ rest)
   pub whole : getD notes dropped 0 ≡ 0 → rest ≡ []
 
 -- The matches of the tree from that are past low are noted. With none noted there are none.
 pub record Descends (ws txt : List ℕ) (prefix low : Str) (strict : Bool) (from : ℕ) (notes notes′ : List ℕ)
     (r : ℕ) : Type 0 where
   pub fits : Fits notes′ r
-  pub notes-on : (l : List ℕ) → Noting ws txt prefix (past strict low) notes 0
-      (passing ws txt prefix (past strict low) from) l → Noting ws txt prefix (past strict low) notes′ r [] l
+  pub notes-on : (xs : List ℕ) → Noting ws txt prefix (past strict low) notes 0
+      (passing ws txt prefix (past strict low) from) xs → Noting ws txt prefix (past strict low) notes′ r [] xs
   pub none : r ≡ 0 → passing ws txt prefix (past strict low) from ≡ []
 
 -- The branches of the tree from are all after the prefix.
@@ -59,5 +59,5 @@ AllAfter ws txt prefix from = Allˡ (λ x. prefix <ˢ key-at ws txt x) (branches
 -- The matches of the tree from are noted before what was noted already.
 pub record NotesLeft (ws txt : List ℕ) (prefix : Str) (from : ℕ) (notes notes′ : List ℕ) (n r : ℕ) : Type 0 where
   pub fits : Fits notes′ r
-  pub notes-on : (b : Str → Bool) (l : List ℕ) → Allˡ (λ x. b (key-at ws txt x) ≡ true) (branches ws from)
-      → Noting ws txt prefix b notes n (matches ws txt from prefix) l → Noting ws txt prefix b notes′ r [] l
+  pub notes-on : (b : Str → Bool) (xs : List ℕ) → Allˡ (λ x. b (key-at ws txt x) ≡ true) (branches ws from)
+      → Noting ws txt prefix b notes n (matches ws txt from prefix) xs → Noting ws txt prefix b notes′ r [] xs

@@ -17,15 +17,15 @@ IsItem names = NameItem
 IsItem modules = ModItem
 
 -- Formed, and no list weighs over 96.
-abbrev pub Fine : (w : Which) (s : Sort) → Of (Item w) s → Type 0
-Fine w (tree v) t = FormedTree IsKey IsLabel (IsItem w) t × (heaviest-tree t ≤ 96)
-Fine w (list v) t = FormedNames IsKey IsLabel (IsItem w) t × (heaviest-names t ≤ 96)
-Fine w trieˢ t = Formed IsKey IsLabel (IsItem w) t × (heaviest t ≤ 96)
+abbrev pub Fine : (w : Which) (so : Sort) → Of (Item w) so → Type 0
+Fine w (tree ℓ) v = FormedTree IsKey IsLabel (IsItem w) v × (heaviest-tree v ≤ 96)
+Fine w (list ℓ) v = FormedNames IsKey IsLabel (IsItem w) v × (heaviest-names v ≤ 96)
+Fine w trieˢ v = Formed IsKey IsLabel (IsItem w) v × (heaviest v ≤ 96)
 
-none-fine : (ws txt : List ℕ) (w : Which) (s : Sort) → Fine w s (what w ws txt 0 s)
+none-fine : (ws txt : List ℕ) (w : Which) (so : Sort) → Fine w so (what w ws txt 0 so)
 unfolding heaviest heaviest-tree heaviest-names
-none-fine ws txt w (tree v) = rw (what-none w ws txt) (tt, omega arith)
-none-fine ws txt w (list v) = rw (what-none w ws txt) (tt, omega arith)
+none-fine ws txt w (tree ℓ) = rw (what-none w ws txt) (tt, omega arith)
+none-fine ws txt w (list ℓ) = rw (what-none w ws txt) (tt, omega arith)
 none-fine ws txt w trieˢ = rw (what-none w ws txt) ((tt, tt), omega arith)
 
 pub item-fine : (txt : List ℕ) (used : ℕ) (w : Which) (r : List ℕ) → ItemOk txt used w r → IsItem w (item-of w txt r)
@@ -34,7 +34,7 @@ item-fine txt used modules r o =
     zero-one (word r 5) (o .sort) (λ z. rw z (o .name .keeps, o .path z .keeps)) (λ z. rw z (o .name .keeps))
 
 module _ (ws txt : List ℕ) (used l : ℕ) (w : Which) (r : List ℕ)
-    (ih : (x : ℕ) (t : Sort) → LinkOk ws l x (kind w t) → Fine w t (what w ws txt x t)) where
+    (ih : (x : ℕ) (so : Sort) → LinkOk ws l x (kind w so) → Fine w so (what w ws txt x so)) where
   branch-fine : (ℓ : Level) → BranchOk ws txt used l w r ℓ → Ordered (row w txt r (what w ws txt) (tree ℓ))
       → Formed IsKey IsLabel (IsItem w) (value w txt r (what w ws txt) ℓ)
       → heaviest (value w txt r (what w ws txt) ℓ) ≤ 96 → Fine w (tree ℓ) (row w txt r (what w ws txt) (tree ℓ))
@@ -53,8 +53,8 @@ module _ (ws txt : List ℕ) (used l : ℕ) (w : Which) (r : List ℕ)
       (λ z. let i = ih (word r 3) (tree ℓ) (o .own z) in rw z ((i .0, j .0), max-le (rw z at h) (max-le (i .1) (j .1))))
       (λ z. let i = ih (word r 3) (list ℓ) (o .imported z) in rw z ((o .label z .keeps, i .0, j .0), max-le (rw z at h) (max-le (i .1) (j .1))))
 
-  row-fine : (s : Sort) → RecordAs ws txt used l w s r (row w txt r (what w ws txt) s)
-      → Fine w s (row w txt r (what w ws txt) s)
+  row-fine : (so : Sort) → RecordAs ws txt used l w so r (row w txt r (what w ws txt) so)
+      → Fine w so (row w txt r (what w ws txt) so)
   unfolding heaviest
   row-fine (tree bind) a = branch-fine bind (a .0) (a .1) (item-fine txt used w r (a .2)) (omega arith)
   row-fine (tree ns) a = let h = ih (word r 5) trieˢ (a .2) in branch-fine ns (a .0) (a .1) (h .0) (h .1)
@@ -67,13 +67,13 @@ module _ (ws txt : List ℕ) (used l : ℕ) (w : Which) (r : List ℕ)
 
 module _ {ws txt : List ℕ} {n used : ℕ} (o : Used ws txt n used) where
   -- Of every link of a sound memory.
-  pub link-fine : (w : Which) (s : Sort) {l x : ℕ} → l ≤ n + 1 → LinkOk ws l x (kind w s) → Fine w s (what w ws txt x s)
+  pub link-fine : (w : Which) (so : Sort) {l x : ℕ} → l ≤ n + 1 → LinkOk ws l x (kind w so) → Fine w so (what w ws txt x so)
   link-fine =
-      by-links (o .rows) (λ w s x. Fine w s (what w ws txt x s)) (none-fine ws txt)
-      (λ w s l p r ih.
-      let e = what-row w ws txt s l p (as-earlier ws txt used l w s (record-at ws l) (what w ws txt l s) r) in
-      subst (Fine w s) (sym e)
-      (row-fine ws txt used l w (record-at ws l) ih s (subst (λ (t : Of (Item w) s). RecordAs ws txt used l w s (record-at ws l) t) e r)))
+      by-links (o .rows) (λ w so x. Fine w so (what w ws txt x so)) (none-fine ws txt)
+      (λ w so l p r ih.
+      let e = what-row w ws txt so l p (as-earlier ws txt used l w so (record-at ws l) (what w ws txt l so) r) in
+      subst (Fine w so) (sym e)
+      (row-fine ws txt used l w (record-at ws l) ih so (subst (λ (v : Of (Item w) so). RecordAs ws txt used l w so (record-at ws l) v) e r)))
 
   pub link-shallow : (w : Which) {l x : ℕ} → l ≤ n + 1 → LinkOk ws l x (kind w trieˢ)
       → depth (what w ws txt x trieˢ) ≤ 16

@@ -17,12 +17,12 @@ use Rattle.memory.proofs.RecordOk.{zero-one, as-earlier, as-map, by-lin
 -- Lists that keep a beginning.
 pub keeps-then : {m n : ℕ} {t t′ t″ : List ℕ} → m ≤ n → Keeps m t t′ → Keeps n t′ t″ → Keeps m t t″
 keeps-then {m} {n} {t′ = t′} {t″} h a b = record {
-  same = sym (take-take m n t″ h) ∙ ap (λ (l : List ℕ). take m l) (b .same) ∙ take-take m n t′ h ∙ a .same;
+  same = sym (take-take m n t″ h) ∙ ap (λ (xs : List ℕ). take m xs) (b .same) ∙ take-take m n t′ h ∙ a .same;
   size = b .size ∙ a .size;
 }
 
 pub keeps-at : {n : ℕ} {t t′ : List ℕ} → Keeps n t t′ → (i : ℕ) → i < n → getD t′ i 0 ≡ getD t i 0
-keeps-at {n} {t} {t′} k i h = sym (getD-take n t′ i 0 h) ∙ ap (λ (l : List ℕ). getD l i 0) (k .same) ∙ getD-take n t i 0 h
+keeps-at {n} {t} {t′} k i h = sym (getD-take n t′ i 0 h) ∙ ap (λ (xs : List ℕ). getD xs i 0) (k .same) ∙ getD-take n t i 0 h
 
 pub keeps-set : (t : List ℕ) {n i : ℕ} (a : ℕ) → n ≤ i → Keeps n t (set t i a)
 keeps-set t {n} {i} a h = record { same = take-set-le n t i a h; size = length-set t i a }
@@ -39,13 +39,13 @@ module _ (txt : List ℕ) (used : ℕ) (s : List ℕ) (room : used + length s �
 
 -- The first used bytes are the same, whatever else is lent.
 module _ (txt txt′ : List ℕ) (used : ℕ) (e : take used txt′ ≡ take used txt) where
-  pub span-same : (s n : ℕ) → s + n ≤ used → span txt′ s n ≡ span txt s n
+  pub span-same : (start n : ℕ) → start + n ≤ used → span txt′ start n ≡ span txt start n
   unfolding span
-  span-same s n h = part-stays used txt txt′ e n s h
+  span-same start n h = part-stays used txt txt′ e n start h
 
-  text-same : {used′ : ℕ} → used ≤ used′ → (Rule : Str → Type 0) (s n : ℕ) → TextOk Rule txt used s n
-      → TextOk Rule txt′ used′ s n
-  text-same u Rule s n o = record { inside = omega (arith, o .inside); keeps = rw (span-same s n (o .inside)) (o .keeps) }
+  text-same : {used′ : ℕ} → used ≤ used′ → (Rule : Str → Type 0) (start n : ℕ) → TextOk Rule txt used start n
+      → TextOk Rule txt′ used′ start n
+  text-same u Rule start n o = record { inside = omega (arith, o .inside); keeps = rw (span-same start n (o .inside)) (o .keeps) }
 
   pub item-same : (w : Which) (r : List ℕ) → ItemOk txt used w r → item-of w txt′ r ≡ item-of w txt r
   item-same names r o = refl
@@ -56,7 +56,7 @@ module _ (txt txt′ : List ℕ) (used : ℕ) (e : take used txt′ ≡ take use
 
   -- A right record, where its links read the same.
   module _ (ws : List ℕ) (l : ℕ) (w : Which) (r : List ℕ)
-      (ih : (x : ℕ) (t : Sort) → LinkOk ws l x (kind w t) → what w ws txt′ x t ≡ what w ws txt x t) where
+      (ih : (x : ℕ) (so : Sort) → LinkOk ws l x (kind w so) → what w ws txt′ x so ≡ what w ws txt x so) where
     collection-same : (ℓ : Level) → CollectionOk ws txt used l w r ℓ
         → row w txt′ r (what w ws txt′) (list ℓ) ≡ row w txt r (what w ws txt) (list ℓ)
     collection-same ℓ o =
@@ -64,8 +64,8 @@ module _ (txt txt′ : List ℕ) (used : ℕ) (e : take used txt′ ≡ take use
         (λ z. rw (z, ih (word r 3) (tree ℓ) (o .own z), ih (word r 4) (list ℓ) (o .rest)))
         (λ z. rw (z, span-same (word r 1) (word r 2) (o .label z .inside), ih (word r 3) (list ℓ) (o .imported z), ih (word r 4) (list ℓ) (o .rest)))
 
-    row-same : (s : Sort) → RecordAs ws txt used l w s r (what w ws txt l s)
-        → row w txt′ r (what w ws txt′) s ≡ row w txt r (what w ws txt) s
+    row-same : (so : Sort) → RecordAs ws txt used l w so r (what w ws txt l so)
+        → row w txt′ r (what w ws txt′) so ≡ row w txt r (what w ws txt) so
     row-same (tree bind) a =
         rw (
           span-same (word r 1) (word r 2) (a .0 .key .inside),
@@ -86,14 +86,14 @@ module _ (txt txt′ : List ℕ) (used : ℕ) (e : take used txt′ ≡ take use
 
 module _ {ws txt : List ℕ} {n used : ℕ} (o : Used ws txt n used) (txt′ : List ℕ)
     (e : take used txt′ ≡ take used txt) where
-  pub what-text-same : (w : Which) (s : Sort) {l x : ℕ} → l ≤ n + 1 → LinkOk ws l x (kind w s)
-      → what w ws txt′ x s ≡ what w ws txt x s
+  pub what-text-same : (w : Which) (so : Sort) {l x : ℕ} → l ≤ n + 1 → LinkOk ws l x (kind w so)
+      → what w ws txt′ x so ≡ what w ws txt x so
   what-text-same =
-      by-links (o .rows) (λ w s x. what w ws txt′ x s ≡ what w ws txt x s)
-      (λ w s. rw (what-none w ws txt′, what-none w ws txt))
-      (λ w s l p r ih.
-      let f = as-earlier ws txt used l w s (record-at ws l) (what w ws txt l s) r in
-      what-row w ws txt′ s l p f ∙ row-same txt txt′ used e ws l w (record-at ws l) ih s r ∙ sym (what-row w ws txt s l p f))
+      by-links (o .rows) (λ w so x. what w ws txt′ x so ≡ what w ws txt x so)
+      (λ w so. rw (what-none w ws txt′, what-none w ws txt))
+      (λ w so l p r ih.
+      let f = as-earlier ws txt used l w so (record-at ws l) (what w ws txt l so) r in
+      what-row w ws txt′ so l p f ∙ row-same txt txt′ used e ws l w (record-at ws l) ih so r ∙ sym (what-row w ws txt so l p f))
 
   pub used-text-same : {used′ : ℕ} → used ≤ used′ → used′ ≤ 65536 → used′ ≤ length txt′ → Used ws txt′ n used′
   used-text-same {used′} more short fits = record {
@@ -115,13 +115,13 @@ module _ {ws txt : List ℕ} {n used : ℕ} (o : Used ws txt n used) (txt′ : L
   }
 
 -- The same where as many bytes are lent.
-pub span-keeps : {txt txt′ : List ℕ} {used : ℕ} → Keeps used txt txt′ → (s n : ℕ) → s + n ≤ used
-    → span txt′ s n ≡ span txt s n
+pub span-keeps : {txt txt′ : List ℕ} {used : ℕ} → Keeps used txt txt′ → (start n : ℕ) → start + n ≤ used
+    → span txt′ start n ≡ span txt start n
 span-keeps {txt} {txt′} {used} y = span-same txt txt′ used (y .same)
 
 module _ {ws txt txt′ : List ℕ} {n used : ℕ} (o : Used ws txt n used) (y : Keeps used txt txt′) where
-  pub what-keeps : (w : Which) (s : Sort) {l x : ℕ} → l ≤ n + 1 → LinkOk ws l x (kind w s)
-      → what w ws txt′ x s ≡ what w ws txt x s
+  pub what-keeps : (w : Which) (so : Sort) {l x : ℕ} → l ≤ n + 1 → LinkOk ws l x (kind w so)
+      → what w ws txt′ x so ≡ what w ws txt x so
   what-keeps = what-text-same o txt′ (y .same)
 
   pub used-text : {used′ : ℕ} → used ≤ used′ → used′ ≤ 65536 → used′ ≤ length txt′ → Used ws txt′ n used′

@@ -9,24 +9,24 @@ use lib.ListN.{length, getD, set, take, drop, length-set, length-drop}
 use lib.Seq.{take-take, take-nil, drop-nil, take-at, drop-at, length-take-le, paste, paste-zero, paste-suc}
 use Rattle.memory.specs.Layout.{span}
 
-cut : (n s : ℕ) (t : List ℕ) → take n (drop s t) ≡ drop s (take (s + n) t)
+cut : (n start : ℕ) (t : List ℕ) → take n (drop start t) ≡ drop start (take (start + n) t)
 cut n zero t = ap (λ (k : ℕ). take k t) (sym (zero-add n))
-cut n (suc s) [] = take-nil n ∙ sym (ap (drop (suc s)) (take-nil (suc s + n)) ∙ drop-nil (suc s))
-cut n (suc s) (x ∷ t) = cut n s t ∙ ap (λ (k : ℕ). drop (suc s) (take k (x ∷ t))) (sym (suc-add s n))
+cut n (suc start) [] = take-nil n ∙ sym (ap (drop (suc start)) (take-nil (suc start + n)) ∙ drop-nil (suc start))
+cut n (suc start) (x ∷ t) = cut n start t ∙ ap (λ (k : ℕ). drop (suc start) (take k (x ∷ t))) (sym (suc-add start n))
 
-pub part-stays : (m : ℕ) (t t′ : List ℕ) → take m t′ ≡ take m t → (n s : ℕ) → s + n ≤ m
-    → take n (drop s t′) ≡ take n (drop s t)
-part-stays m t t′ e n s h =
-    cut n s t′ ∙ ap (drop s) (sym (take-take (s + n) m t′ h) ∙ ap (take (s + n)) e ∙ take-take (s + n) m t h) ∙ sym (cut n s t)
+pub part-stays : (m : ℕ) (t t′ : List ℕ) → take m t′ ≡ take m t → (n start : ℕ) → start + n ≤ m
+    → take n (drop start t′) ≡ take n (drop start t)
+part-stays m t t′ e n start h =
+    cut n start t′ ∙ ap (drop start) (sym (take-take (start + n) m t′ h) ∙ ap (take (start + n)) e ∙ take-take (start + n) m t h) ∙ sym (cut n start t)
 
--- What `&txt[s..s + n]` holds, and its length.
-pub part-span : (txt : List ℕ) (s n : ℕ) → take (s + n - s) (drop s txt) ≡ span txt s n
+-- What `&txt[start..s + n]` holds, and its length.
+pub part-span : (txt : List ℕ) (start n : ℕ) → take (start + n - start) (drop start txt) ≡ span txt start n
 unfolding span
-part-span txt s n = let e : s + n - s ≡ n = omega arith in rw e refl
+part-span txt start n = let e : start + n - start ≡ n = omega arith in rw e refl
 
-pub span-length : (txt : List ℕ) (s n : ℕ) → s + n ≤ length txt → length (span txt s n) ≡ n
+pub span-length : (txt : List ℕ) (start n : ℕ) → start + n ≤ length txt → length (span txt start n) ≡ n
 unfolding span
-span-length txt s n h = length-take-le n (drop s txt) (rw length-drop (omega arith))
+span-length txt start n h = length-take-le n (drop start txt) (rw length-drop (omega arith))
 
 -- The first n elements of s put into d from at on.
 module _ (d : List ℕ) (at : ℕ) (s : List ℕ) (n : ℕ) (room : at + n ≤ length d) (enough : n ≤ length s) where

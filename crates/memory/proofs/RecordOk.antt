@@ -29,7 +29,7 @@ of-kind n =
     at ((names, trieˢ) ∷ (names, tree bind) ∷ (names, tree ns) ∷ (names, list bind) ∷ (names, list ns) ∷ (names, trieˢ)
     ∷ (modules, tree bind) ∷ (modules, tree ns) ∷ (modules, list bind) ∷ (modules, list ns) ∷ []) n
 
-of-kind-is : (w : Which) (s : Sort) → of-kind (kind w s) ≡ (w, s)
+of-kind-is : (w : Which) (so : Sort) → of-kind (kind w so) ≡ (w, so)
 unfolding of-kind at
 of-kind-is names (tree bind) = refl
 of-kind-is names (tree ns) = refl
@@ -42,37 +42,37 @@ of-kind-is modules (list bind) = refl
 of-kind-is modules (list ns) = refl
 of-kind-is modules trieˢ = refl
 
-pub kind-one : (w : Which) (s : Sort) (w′ : Which) (s′ : Sort) → kind w s ≡ kind w′ s′
-    → _≡_ {A = Which × Sort} (w, s) (w′, s′)
-kind-one w s w′ s′ e = sym (of-kind-is w s) ∙ ap of-kind e ∙ of-kind-is w′ s′
+pub kind-one : (w : Which) (so : Sort) (w′ : Which) (so′ : Sort) → kind w so ≡ kind w′ so′
+    → _≡_ {A = Which × Sort} (w, so) (w′, so′)
+kind-one w so w′ so′ e = sym (of-kind-is w so) ∙ ap of-kind e ∙ of-kind-is w′ so′
 
 -- A collection's own link is earlier.
 pub own-earlier : {ws txt : List ℕ} {used l : ℕ} {w : Which} {ℓ : Level} {r : List ℕ} → CollectionOk ws txt used l w r ℓ
     → word r 3 < l
 own-earlier {r = r} o = zero-one (word r 5) (o .sort) (λ e. o .own e .earlier) (λ e. o .imported e .earlier)
 
-pub as-earlier : (ws txt : List ℕ) (used l : ℕ) (w : Which) (s : Sort) (r : List ℕ) (t : Of (Item w) s)
-    → RecordAs ws txt used l w s r t → Earlier s r l
-as-earlier ws txt used l w (tree bind) r t a = record { first = a .0 .left .earlier; second = a .0 .right .earlier; held = tt }
-as-earlier ws txt used l w (tree ns) r t a = record { first = a .0 .left .earlier; second = a .0 .right .earlier; held = a .2 .earlier }
-as-earlier ws txt used l w (list bind) r t a = record { first = own-earlier (a .0); second = a .0 .rest .earlier; held = tt }
-as-earlier ws txt used l w (list ns) r t a = record { first = own-earlier (a .0); second = a .0 .rest .earlier; held = tt }
-as-earlier ws txt used l w trieˢ r t a = record { first = a .0 .bindings .earlier; second = a .0 .namespaces .earlier; held = tt }
+pub as-earlier : (ws txt : List ℕ) (used l : ℕ) (w : Which) (so : Sort) (r : List ℕ) (v : Of (Item w) so)
+    → RecordAs ws txt used l w so r v → Earlier so r l
+as-earlier ws txt used l w (tree bind) r v a = record { first = a .0 .left .earlier; second = a .0 .right .earlier; held = tt }
+as-earlier ws txt used l w (tree ns) r v a = record { first = a .0 .left .earlier; second = a .0 .right .earlier; held = a .2 .earlier }
+as-earlier ws txt used l w (list bind) r v a = record { first = own-earlier (a .0); second = a .0 .rest .earlier; held = tt }
+as-earlier ws txt used l w (list ns) r v a = record { first = own-earlier (a .0); second = a .0 .rest .earlier; held = tt }
+as-earlier ws txt used l w trieˢ r v a = record { first = a .0 .bindings .earlier; second = a .0 .namespaces .earlier; held = tt }
 
 -- A right record whose kind is known.
 module _ {ws txt : List ℕ} {used l : ℕ} (o : RecordOk ws txt used l) where
   pub links-earlier : (word (record-at ws l) 3 < l) × (word (record-at ws l) 4 < l)
   links-earlier = let e = as-earlier ws txt used l (o .which) (o .sort) _ _ (o .right) in (e .first, e .second)
 
-  pub record-as : (w : Which) (s : Sort) → word (record-at ws l) 0 ≡ kind w s
-      → RecordAs ws txt used l w s (record-at ws l) (what w ws txt l s)
+  pub record-as : (w : Which) (so : Sort) → word (record-at ws l) 0 ≡ kind w so
+      → RecordAs ws txt used l w so (record-at ws l) (what w ws txt l so)
   record-as w s e =
       subst (λ (p : Which × Sort). RecordAs ws txt used l (p .0) (p .1) (record-at ws l) (what (p .0) ws txt l (p .1)))
       (kind-one (o .which) (o .sort) w s (sym (o .known) ∙ e)) (o .right)
 
   -- It reads as its words say.
-  pub record-what : (w : Which) (s : Sort) → word (record-at ws l) 0 ≡ kind w s → 0 < l
-      → what w ws txt l s ≡ row w txt (record-at ws l) (what w ws txt) s
+  pub record-what : (w : Which) (so : Sort) → word (record-at ws l) 0 ≡ kind w so → 0 < l
+      → what w ws txt l so ≡ row w txt (record-at ws l) (what w ws txt) so
   record-what w s e p = what-row w ws txt s l p (as-earlier ws txt used l w s _ _ (record-as w s e))
 
   pub branch-at : (w : Which) (ℓ : Level) → word (record-at ws l) 0 ≡ kind w (tree ℓ)
@@ -97,7 +97,7 @@ module _ {ws txt : List ℕ} {used l : ℕ} (o : RecordOk ws txt used l) where
 
 -- What other memory keeps of links and texts, it keeps of a right record.
 module _ {ws ws′ txt txt′ : List ℕ} {used used′ l l′ : ℕ} (link : (x k : ℕ) → LinkOk ws l x k → LinkOk ws′ l′ x k)
-    (text : (Rule : Str → Type 0) (s n : ℕ) → TextOk Rule txt used s n → TextOk Rule txt′ used′ s n) where
+    (text : (Rule : Str → Type 0) (start n : ℕ) → TextOk Rule txt used start n → TextOk Rule txt′ used′ start n) where
   branch-map : (w : Which) (ℓ : Level) {r : List ℕ} → BranchOk ws txt used l w r ℓ → BranchOk ws′ txt′ used′ l′ w r ℓ
   branch-map w ℓ o = record { key = text _ _ _ (o .key); left = link _ _ (o .left); right = link _ _ (o .right) }
 
@@ -115,27 +115,27 @@ module _ {ws ws′ txt txt′ : List ℕ} {used used′ l l′ : ℕ} (link : (x
   item-map names r o = o
   item-map modules r o = record { sort = o .sort; name = text _ _ _ (o .name); path = λ e. text _ _ _ (o .path e); loaded = o .loaded }
 
-  pub as-map : (w : Which) (s : Sort) (r : List ℕ) (t : Of (Item w) s) → RecordAs ws txt used l w s r t
-      → RecordAs ws′ txt′ used′ l′ w s r t
-  as-map w (tree bind) r t a = (branch-map w bind (a .0), a .1, item-map w r (a .2))
-  as-map w (tree ns) r t a = (branch-map w ns (a .0), a .1, link _ _ (a .2), a .3)
-  as-map w (list bind) r t a = (collection-map w bind (a .0), a .1)
-  as-map w (list ns) r t a = (collection-map w ns (a .0), a .1, a .2)
-  as-map w trieˢ r t a = (record { bindings = link _ _ (a .0 .bindings); namespaces = link _ _ (a .0 .namespaces) }, a .1, a .2)
+  pub as-map : (w : Which) (so : Sort) (r : List ℕ) (v : Of (Item w) so) → RecordAs ws txt used l w so r v
+      → RecordAs ws′ txt′ used′ l′ w so r v
+  as-map w (tree bind) r v a = (branch-map w bind (a .0), a .1, item-map w r (a .2))
+  as-map w (tree ns) r v a = (branch-map w ns (a .0), a .1, link _ _ (a .2), a .3)
+  as-map w (list bind) r v a = (collection-map w bind (a .0), a .1)
+  as-map w (list ns) r v a = (collection-map w ns (a .0), a .1, a .2)
+  as-map w trieˢ r v a = (record { bindings = link _ _ (a .0 .bindings); namespaces = link _ _ (a .0 .namespaces) }, a .1, a .2)
 
 -- What holds of none, and of a right record where it holds of its links, holds of every link.
 module _ {ws txt : List ℕ} {used n : ℕ} (rows : (l : ℕ) → 0 < l → l ≤ n → RecordOk ws txt used l)
-    (P : Which → Sort → ℕ → Type 0) (none : (w : Which) (s : Sort) → P w s 0)
-    (step : (w : Which) (s : Sort) (l : ℕ) → 0 < l → RecordAs ws txt used l w s (record-at ws l) (what w ws txt l s)
-    → ((x : ℕ) (t : Sort) → LinkOk ws l x (kind w t) → P w t x) → P w s l) where
-  upto : (m : ℕ) (w : Which) (s : Sort) (x : ℕ) → x ≤ m → x ≤ n → ((x ≡ 0 → ⊥) → word (record-at ws x) 0 ≡ kind w s)
-      → P w s x
-  upto zero w s x h k e = subst (P w s) (let z : 0 ≡ x = omega arith in z) (none w s)
-  upto (suc m) w s x h k e =
+    (P : Which → Sort → ℕ → Type 0) (none : (w : Which) (so : Sort) → P w so 0)
+    (step : (w : Which) (so : Sort) (l : ℕ) → 0 < l → RecordAs ws txt used l w so (record-at ws l) (what w ws txt l so)
+    → ((x : ℕ) (so₂ : Sort) → LinkOk ws l x (kind w so₂) → P w so₂ x) → P w so l) where
+  upto : (m : ℕ) (w : Which) (so : Sort) (x : ℕ) → x ≤ m → x ≤ n → ((x ≡ 0 → ⊥) → word (record-at ws x) 0 ≡ kind w so)
+      → P w so x
+  upto zero w so x h k e = subst (P w so) (let z : 0 ≡ x = omega arith in z) (none w so)
+  upto (suc m) w so x h k e =
       zero-some x
-      (λ z. subst (P w s) (sym z) (none w s))
-      (λ p. step w s x p (record-as (rows x p k) w s (e (λ z. omega arith)))
-      (λ j t o. upto m w t j (omega (arith, o .earlier)) (omega (arith, o .earlier)) (o .of-kind)))
+      (λ z. subst (P w so) (sym z) (none w so))
+      (λ p. step w so x p (record-as (rows x p k) w so (e (λ z. omega arith)))
+      (λ j so₂ o. upto m w so₂ j (omega (arith, o .earlier)) (omega (arith, o .earlier)) (o .of-kind)))
 
-  pub by-links : (w : Which) (s : Sort) {l x : ℕ} → l ≤ n + 1 → LinkOk ws l x (kind w s) → P w s x
-  by-links w s {x = x} h o = upto x w s x (omega arith) (omega (arith, o .earlier)) (o .of-kind)
+  pub by-links : (w : Which) (so : Sort) {l x : ℕ} → l ≤ n + 1 → LinkOk ws l x (kind w so) → P w so x
+  by-links w so {x = x} h o = upto x w so x (omega arith) (omega (arith, o .earlier)) (o .of-kind)

@@ -32,6 +32,6 @@ pub either-way : {P Q : Type 0} → (((Q → ⊥) → ⊥) → Q) → ((b : Bool
 either-way stable h = stable (λ n. n (h false (λ p. n (h true p))))
 
 -- A test's answer says that the test says-holds.
-pub says-true : (b t : Bool) → b ≡ t → Says b (t ≡ true)
-says-true true t e = sym e
-says-true false t e = λ h. true≢false (sym h ∙ sym e)
+pub says-true : (b test : Bool) → b ≡ test → Says b (test ≡ true)
+says-true true test e = sym e
+says-true false test e = λ h. true≢false (sym h ∙ sym e)

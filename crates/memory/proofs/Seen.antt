@@ -23,12 +23,12 @@ symbol-item txt r = zero-some (word r 5) (λ e. rw e) (λ p. rw (ne-eqb (word r 
 pub link-later : {ws : List ℕ} {l l′ x k : ℕ} → l ≤ l′ → LinkOk ws l x k → LinkOk ws l′ x k
 link-later h o = record { earlier = omega (arith, o .earlier); of-kind = o .of-kind }
 
-pub record SeenTrie (ws txt : List ℕ) (n x : ℕ) (w : Which) (t : Trie) : Type 0 where
+pub record SeenTrie (ws txt : List ℕ) (n x : ℕ) (w : Which) (tr : Trie) : Type 0 where
   pub reads : what w ws txt x trieˢ
-      ≡ trie (what w ws txt (t .bindings) (list bind)) (what w ws txt (t .namespaces) (list ns))
-  pub bindings : LinkOk ws (n + 1) (t .bindings) (kind w (list bind))
-  pub namespaces : LinkOk ws (n + 1) (t .namespaces) (kind w (list ns))
-  pub deep : t .depth ≡ depth (what w ws txt x trieˢ)
+      ≡ trie (what w ws txt (tr .bindings) (list bind)) (what w ws txt (tr .namespaces) (list ns))
+  pub bindings : LinkOk ws (n + 1) (tr .bindings) (kind w (list bind))
+  pub namespaces : LinkOk ws (n + 1) (tr .namespaces) (kind w (list ns))
+  pub deep : tr .depth ≡ depth (what w ws txt x trieˢ)
 
 module _ {ws txt : List ℕ} {n used : ℕ} (o : Used ws txt n used) where
   pub link-fits : {x k : ℕ} → LinkOk ws (n + 1) x k → x * 12 ≤ length ws
@@ -37,12 +37,12 @@ module _ {ws txt : List ℕ} {n used : ℕ} (o : Used ws txt n used) where
   pub link-ok : {x k : ℕ} → LinkOk ws (n + 1) x k → 0 < x → RecordOk ws txt used x
   link-ok i p = o .rows _ p (omega (arith, i .earlier))
 
-  pub link-what : (w : Which) (s : Sort) {x : ℕ} → LinkOk ws (n + 1) x (kind w s) → 0 < x
-      → what w ws txt x s ≡ row w txt (record-at ws x) (what w ws txt) s
-  link-what w s i p = record-what (link-ok i p) w s (i .of-kind (λ e. omega arith)) p
+  pub link-what : (w : Which) (so : Sort) {x : ℕ} → LinkOk ws (n + 1) x (kind w so) → 0 < x
+      → what w ws txt x so ≡ row w txt (record-at ws x) (what w ws txt) so
+  link-what w so i p = record-what (link-ok i p) w so (i .of-kind (λ e. omega arith)) p
 
-  pub trie-seen : (w : Which) {x : ℕ} {t : Trie} → LinkOk ws (n + 1) x (kind w trieˢ) → ReadTrie ws x t
-      → SeenTrie ws txt n x w t
+  pub trie-seen : (w : Which) {x : ℕ} {tr : Trie} → LinkOk ws (n + 1) x (kind w trieˢ) → ReadTrie ws x tr
+      → SeenTrie ws txt n x w tr
   trie-seen w {x} i q = record {
     reads = rw (q .bindings, q .namespaces) (links .0);
     bindings = rw (q .bindings) (links .1);

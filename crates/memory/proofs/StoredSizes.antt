@@ -21,11 +21,11 @@ unfolding stored
 stored-some ws x k p = rw (ne-eqb x 0 (λ e. omega arith))
 
 module _ {ws txt : List ℕ} {used l : ℕ} (rows : (j : ℕ) → 0 < j → j < l → RecordOk ws txt used j) (w : Which) where
-  through : (k : ℕ) (s : Sort) (f : Of (Item w) s → ℕ) → f (nothing w s) ≡ 0
-      → ((x : ℕ) → RecordOk ws txt used x → word (record-at ws x) 0 ≡ kind w s
-      → word (record-at ws x) k ≡ f (what w ws txt x s))
-      → (x : ℕ) → LinkOk ws l x (kind w s) → stored ws x k ≡ f (what w ws txt x s)
-  through k s f z g x h =
+  through : (k : ℕ) (so : Sort) (f : Of (Item w) so → ℕ) → f (nothing w so) ≡ 0
+      → ((x : ℕ) → RecordOk ws txt used x → word (record-at ws x) 0 ≡ kind w so
+      → word (record-at ws x) k ≡ f (what w ws txt x so))
+      → (x : ℕ) → LinkOk ws l x (kind w so) → stored ws x k ≡ f (what w ws txt x so)
+  through k so f z g x h =
       zero-some x
       (λ e. rw (e, stored-none ws k, what-none w ws txt) (sym z))
       (λ p. stored-some ws x k p ∙ g x (rows x p (h .earlier)) (h .of-kind (λ q. omega arith)))

@@ -13,13 +13,13 @@ use Rattle.memory.specs.Layout.{record-at, word, Which, Sort, tree, list
 abbrev pub HeldEarlier : Sort → ℕ → ℕ → Type 0
 HeldEarlier (tree bind) x l = Unit {0}
 HeldEarlier (tree ns) x l = x < l
-HeldEarlier (list v) x l = Unit {0}
+HeldEarlier (list ℓ) x l = Unit {0}
 HeldEarlier trieˢ x l = Unit {0}
 
-pub record Earlier (s : Sort) (r : List ℕ) (l : ℕ) : Type 0 where
+pub record Earlier (so : Sort) (r : List ℕ) (l : ℕ) : Type 0 where
   pub first : word r 3 < l
   pub second : word r 4 < l
-  pub held : HeldEarlier s (word r 5) l
+  pub held : HeldEarlier so (word r 5) l
 
 module _ (w : Which) (ws txt : List ℕ) where
   pub among-own : (n l : ℕ) → l ≤ n → among w ws txt n l ≡ what w ws txt l
@@ -36,15 +36,15 @@ module _ (w : Which) (ws txt : List ℕ) where
   unfolding what among
   what-among n = rw (eq-eqb (suc n) (suc n) refl)
 
-  row-own : (n : ℕ) (r : List ℕ) (s : Sort) → Earlier s r (suc n)
-      → row w txt r (among w ws txt n) s ≡ row w txt r (what w ws txt) s
+  row-own : (n : ℕ) (r : List ℕ) (so : Sort) → Earlier so r (suc n)
+      → row w txt r (among w ws txt n) so ≡ row w txt r (what w ws txt) so
   row-own n r (tree bind) e = rw (among-own n (word r 3) (omega arith), among-own n (word r 4) (omega arith))
   row-own n r (tree ns) e = rw (among-own n (word r 3) (omega arith), among-own n (word r 4) (omega arith), among-own n (word r 5) (omega (arith, e .held)))
-  row-own n r (list v) e = rw (among-own n (word r 3) (omega arith), among-own n (word r 4) (omega arith))
+  row-own n r (list ℓ) e = rw (among-own n (word r 3) (omega arith), among-own n (word r 4) (omega arith))
   row-own n r trieˢ e = rw (among-own n (word r 3) (omega arith), among-own n (word r 4) (omega arith))
 
   -- The record of a link, where its own links are earlier.
-  pub what-row : (s : Sort) (l : ℕ) → 0 < l → Earlier s (record-at ws l) l
-      → what w ws txt l s ≡ row w txt (record-at ws l) (what w ws txt) s
-  what-row s zero p e = absurd (omega arith)
-  what-row s (suc n) p e = rw (what-among n) (row-own n (record-at ws (suc n)) s e)
+  pub what-row : (so : Sort) (l : ℕ) → 0 < l → Earlier so (record-at ws l) l
+      → what w ws txt l so ≡ row w txt (record-at ws l) (what w ws txt) so
+  what-row so zero p e = absurd (omega arith)
+  what-row so (suc n) p e = rw (what-among n) (row-own n (record-at ws (suc n)) so e)

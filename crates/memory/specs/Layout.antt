@@ -148,8 +148,8 @@ pub data Sort : Type 0 where
 
 -- The source's type of each.
 abbrev pub Of : Type 0 → Sort → Type 0
-Of A (tree v) = Tree A v
-Of A (list v) = NameList A v
+Of A (tree ℓ) = Tree A ℓ
+Of A (list ℓ) = NameList A ℓ
 Of A trieˢ = Value A ns
 
 -- The kind of the records of each, in the names table.
@@ -162,17 +162,17 @@ kind-in trieˢ = 5
 
 -- The kind of the records of each, in either table.
 abbrev pub kind : Which → Sort → ℕ
-kind names s = kind-in s
-kind modules s = kind-in s + 5
+kind names so = kind-in so
+kind modules so = kind-in so + 5
 
 -- What a link reads as, for each sort.
 abbrev pub Reading : Which → Type 0
-Reading w = (s : Sort) → Of (Item w) s
+Reading w = (so : Sort) → Of (Item w) so
 
 -- What link 0 reads as.
 abbrev pub nothing : (w : Which) → Reading w
-nothing w (tree v) = StrEmpty
-nothing w (list v) = []ᴺ
+nothing w (tree ℓ) = StrEmpty
+nothing w (list ℓ) = []ᴺ
 nothing w trieˢ = trie []ᴺ []ᴺ
 
 -- The key of a branch.
@@ -190,11 +190,11 @@ value w txt r f ns = f (word r 5) trieˢ
 
 -- What a record reads as, where f reads its links.
 abbrev pub row : (w : Which) → List ℕ → List ℕ → (ℕ → Reading w) → Reading w
-row w txt r f (tree v) = StrBranch (key-of txt r) (value w txt r f v) (f (word r 3) (tree v)) (f (word r 4) (tree v))
-row w txt r f (list v) =
+row w txt r f (tree ℓ) = StrBranch (key-of txt r) (value w txt r f ℓ) (f (word r 3) (tree ℓ)) (f (word r 4) (tree ℓ))
+row w txt r f (list ℓ) =
     pick (eqb (word r 5) 0)
-    (Names (f (word r 3) (tree v)) (f (word r 4) (list v)))
-    (ImportedNames (span txt (word r 1) (word r 2)) (f (word r 3) (list v)) (f (word r 4) (list v)))
+    (Names (f (word r 3) (tree ℓ)) (f (word r 4) (list ℓ)))
+    (ImportedNames (span txt (word r 1) (word r 2)) (f (word r 3) (list ℓ)) (f (word r 4) (list ℓ)))
 row w txt r f trieˢ = trie (f (word r 3) (list bind)) (f (word r 4) (list ns))
 
 -- What link l reads as among the first n records: link 0 and a link past n read as nothing.

@@ -38,4 +38,4 @@ collection-row kind c depth =
 
 -- A trie.
 abbrev pub trie-row : ℕ → Trie → List ℕ
-trie-row kind t = kind ∷ 0 ∷ 0 ∷ t .bindings ∷ t .namespaces ∷ 0 ∷ 0 ∷ 0 ∷ 0 ∷ 0 ∷ 0 ∷ t .depth ∷ []
+trie-row kind tr = kind ∷ 0 ∷ 0 ∷ tr .bindings ∷ tr .namespaces ∷ 0 ∷ 0 ∷ 0 ∷ 0 ∷ 0 ∷ 0 ∷ tr .depth ∷ []

@@ -18,7 +18,7 @@ use Rattle.memory.specs.declared.Trie.{Trie}
 
 -- The text of a span.
 abbrev pub text-of : List ℕ → Span → Str
-text-of txt s = span txt (s .start) (s .len)
+text-of txt sp = span txt (sp .start) (sp .len)
 
 -- Link x names a record whose key or label lies in the text.
 pub record TextIn (ws txt : List ℕ) (x : ℕ) : Type 0 where
@@ -58,7 +58,7 @@ pub record ReadCollection (r : List ℕ) (c : Collection) : Type 0 where
   pub weighs : c .weight ≡ word r 10
 
 -- The words of the trie that link x names, 0 where it names none.
-pub record ReadTrie (ws : List ℕ) (x : ℕ) (t : Trie) : Type 0 where
-  pub bindings : t .bindings ≡ stored ws x 3
-  pub namespaces : t .namespaces ≡ stored ws x 4
-  pub deep : t .depth ≡ stored ws x 11
+pub record ReadTrie (ws : List ℕ) (x : ℕ) (tr : Trie) : Type 0 where
+  pub bindings : tr .bindings ≡ stored ws x 3
+  pub namespaces : tr .namespaces ≡ stored ws x 4
+  pub deep : tr .depth ≡ stored ws x 11

@@ -61,18 +61,18 @@ ItemOk txt used names r = is-kind (word r 6) ≡ true
 ItemOk txt used modules r = SymbolOk txt used r
 
 -- The weight of a list: as stored, and no more than a list may weigh.
-pub record WeightOk {A : Type 0} {ℓ : Level} (r : List ℕ) (t : NameList A ℓ) : Type 0 where
-  pub weighs : word r 10 ≡ weight t
-  pub light : weight t ≤ heaviest-list
+pub record WeightOk {A : Type 0} {ℓ : Level} (r : List ℕ) (nl : NameList A ℓ) : Type 0 where
+  pub weighs : word r 10 ≡ weight nl
+  pub light : weight nl ≤ heaviest-list
 
 -- The record r of link l, which reads as t: links and texts; keys ascend strictly; weights and depths.
-abbrev pub RecordAs : (ws txt : List ℕ) (used l : ℕ) (w : Which) (s : Sort) (r : List ℕ) (t : Of (Item w) s) → Type 0
-RecordAs ws txt used l w (tree bind) r t = BranchOk ws txt used l w r bind × Ordered t × ItemOk txt used w r
-RecordAs ws txt used l w (tree ns) r t =
-    BranchOk ws txt used l w r ns × Ordered t × LinkOk ws l (word r 5) (kind w trieˢ) × (word r 11 ≡ depth-tree t)
-RecordAs ws txt used l w (list bind) r t = CollectionOk ws txt used l w r bind × WeightOk r t
-RecordAs ws txt used l w (list ns) r t = CollectionOk ws txt used l w r ns × WeightOk r t × (word r 11 ≡ depth-names t)
-RecordAs ws txt used l w trieˢ r t = TrieOk ws txt used l w r × (word r 11 ≡ depth t) × (depth t ≤ deepest-trie)
+abbrev pub RecordAs : (ws txt : List ℕ) (used l : ℕ) (w : Which) (so : Sort) (r : List ℕ) (v : Of (Item w) so) → Type 0
+RecordAs ws txt used l w (tree bind) r v = BranchOk ws txt used l w r bind × Ordered v × ItemOk txt used w r
+RecordAs ws txt used l w (tree ns) r v =
+    BranchOk ws txt used l w r ns × Ordered v × LinkOk ws l (word r 5) (kind w trieˢ) × (word r 11 ≡ depth-tree v)
+RecordAs ws txt used l w (list bind) r v = CollectionOk ws txt used l w r bind × WeightOk r v
+RecordAs ws txt used l w (list ns) r v = CollectionOk ws txt used l w r ns × WeightOk r v × (word r 11 ≡ depth-names v)
+RecordAs ws txt used l w trieˢ r v = TrieOk ws txt used l w r × (word r 11 ≡ depth v) × (depth v ≤ deepest-trie)
 
 -- The record of link l has a known kind, and is right as what that kind says.
 pub record RecordOk (ws txt : List ℕ) (used l : ℕ) : Type 0 where
@@ -90,13 +90,13 @@ pub record Used (ws txt : List ℕ) (records used : ℕ) : Type 0 where
   pub rows : (l : ℕ) → 0 < l → l ≤ records → RecordOk ws txt used l
 
 -- Link x names a tree, a list or a trie of the table w, or none, in a memory whose used records are right.
-pub record At (ws txt : List ℕ) (w : Which) (s : Sort) (x : ℕ) : Type 0 where
+pub record At (ws txt : List ℕ) (w : Which) (so : Sort) (x : ℕ) : Type 0 where
   pub records : ℕ
   pub used : ℕ
   pub sound : Used ws txt records used
-  pub link : LinkOk ws (records + 1) x (kind w s)
+  pub link : LinkOk ws (records + 1) x (kind w so)
 
--- The link r, no later than x, reads as the trie t.
-pub record Reads (ws txt : List ℕ) (w : Which) (x r : ℕ) (t : Trie (Item w)) : Type 0 where
+-- The link r, no later than x, reads as the trie tr.
+pub record Reads (ws txt : List ℕ) (w : Which) (x r : ℕ) (tr : Trie (Item w)) : Type 0 where
   pub link : LinkOk ws (x + 1) r (kind w trieˢ)
-  pub says : what w ws txt r trieˢ ≡ t
+  pub says : what w ws txt r trieˢ ≡ tr

@@ -24,7 +24,7 @@ module _ (s t : List ℕ) where
   pub words-front : (n : ℕ) → n * 4 ≤ length s → words-at (s ++ t) n ≡ words-at s n
   unfolding words-at
   words-front zero h = refl
-  words-front (suc n) h = ap₂ (λ (l : List ℕ) (w : ℕ). l ++ (w ∷ [])) (words-front n (omega arith)) (word-front n (omega arith))
+  words-front (suc n) h = ap₂ (λ (xs : List ℕ) (w : ℕ). xs ++ (w ∷ [])) (words-front n (omega arith)) (word-front n (omega arith))
 
 -- All the words that were stored from the start on.
 pub words-stored : {ws bs bs′ : List ℕ} {n : ℕ} → length ws ≡ n → Stored ws 0 n bs bs′ → words-at bs′ n ≡ ws

@@ -26,10 +26,10 @@ module _ {ws txt : List ℕ} {n used : ℕ} (o : Used ws txt n used) (ws′ txt�
         rows = λ l p h. ok-same n ws ws′ e p h (u .rows l p h);
       }
 
-  reads-same : (w : Which) (s : Sort) {x : ℕ} → LinkOk ws (n + 1) x (kind w s)
-      → what w ws′ txt′ x s ≡ what w ws txt x s
-  reads-same w s {x} i =
-      ap (λ (r : Reading w). r s) (what-same n ws ws′ e w txt′ x (omega (arith, i .earlier))) ∙ what-text-same o txt′ f w s (omega arith) i
+  reads-same : (w : Which) (so : Sort) {x : ℕ} → LinkOk ws (n + 1) x (kind w so)
+      → what w ws′ txt′ x so ≡ what w ws txt x so
+  reads-same w so {x} i =
+      ap (λ (r : Reading w). r so) (what-same n ws ws′ e w txt′ x (omega (arith, i .earlier))) ∙ what-text-same o txt′ f w so (omega arith) i
 
 -- ---- The used part
 
@@ -58,7 +58,7 @@ module _ {ws txt : List ℕ} {h : Header} (o : Sound ws txt h) where
 
 -- ---- From a part to the whole
 
-module _ (ws txt : List ℕ) (m k : ℕ) {w : Which} {s : Sort} {x : ℕ} (t : At (take m ws) (take k txt) w s x) where
+module _ (ws txt : List ℕ) (m k : ℕ) {w : Which} {so : Sort} {x : ℕ} (t : At (take m ws) (take k txt) w so x) where
   part-words : take (t .records * 12) ws ≡ take (t .records * 12) (take m ws)
   part-words = sym (take-take (t .records * 12) m ws (omega (arith, length-take m ws, t .sound .records-fit)))
 
@@ -68,7 +68,7 @@ module _ (ws txt : List ℕ) (m k : ℕ) {w : Which} {s : Sort} {x : ℕ} (t : A
   pub part-record : 0 < x → record-at ws x ≡ record-at (take m ws) x
   part-record p = record-same (t .records) (take m ws) ws part-words x p (omega (arith, t .link .earlier))
 
-  pub part-at : At ws txt w s x
+  pub part-at : At ws txt w so x
   part-at = record {
     records = t .records;
     used = t .used;

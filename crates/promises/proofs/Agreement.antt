@@ -140,7 +140,7 @@ module _ {A : Type 0} (Item : A → Type 0) (f : PathOf × A → Line A)
         lines : List (Line A)
         lines = lines-of-text (without-last name) (map f (trie-find-prefix′ by-first tr [] (segments query) []))
 
-        go : (n : Query) → segments name ≡ n → is-empty n ≡ false → Covers (segments query) n
+        go : (full : Query) → segments name ≡ full → is-empty full ≡ false → Covers (segments query) full
             → Shows lines (look-up true tr name)
         go [] e h c = absurd (true≢false h)
         go (s ∷ q) e h c =

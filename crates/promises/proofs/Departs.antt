@@ -59,33 +59,33 @@ module _ {A : Type 0} {ℓ : Level} where
   same-ends k (x ∷ []) a = refl
   same-ends k (x ∷ (y ∷ xs)) a = ap some (a .0 ∙ sym (a .1 .0)) ∙ same-ends k (y ∷ xs) (a .1)
 
-  module _ (n : NameList A ℓ) (term : SearchTerm) (o : OrderedN n) where
-    pub list-departs : ListDeparts n term
+  module _ (nl : NameList A ℓ) (term : SearchTerm) (o : OrderedN nl) where
+    pub list-departs : ListDeparts nl term
     unfolding rows-of
     list-departs = record {
-      same-keys = decreasing-unique elem-key elem-key _ _ (find-first-decreasing n term o) (find-rev-decreasing n term o)
-          (λ k. ap (Option·map elem-key) (find-first-at n term k o) ∙ same-ends k (rows-of n term k) (have-key k _)
-          ∙ sym (ap (Option·map elem-key) (find-rev-at n term k o)));
-      by-source = λ k. key-descending k (names-find-rev n term) (find-rev-decreasing n term o) ∙ ap to-list (find-rev-at n term k o);
-      by-listing = λ k. key-descending k (names-find-rev-first n term) (find-first-decreasing n term o) ∙ ap to-list (find-first-at n term k o);
-      rows-hold = λ k. rows-hold n term k o;
+      same-keys = decreasing-unique elem-key elem-key _ _ (find-first-decreasing nl term o) (find-rev-decreasing nl term o)
+          (λ k. ap (Option·map elem-key) (find-first-at nl term k o) ∙ same-ends k (rows-of nl term k) (have-key k _)
+          ∙ sym (ap (Option·map elem-key) (find-rev-at nl term k o)));
+      by-source = λ k. key-descending k (names-find-rev nl term) (find-rev-decreasing nl term o) ∙ ap to-list (find-rev-at nl term k o);
+      by-listing = λ k. key-descending k (names-find-rev-first nl term) (find-first-decreasing nl term o) ∙ ap to-list (find-first-at nl term k o);
+      rows-hold = λ k. rows-hold nl term k o;
     }
 
     -- One holder of each key: the same rows.
-    same-rows : ((k : Str) → length (rows-of n term k) ≤ 1) → names-find-rev-first n term ≡ names-find-rev n term
+    same-rows : ((k : Str) → length (rows-of nl term k) ≤ 1) → names-find-rev-first nl term ≡ names-find-rev nl term
     same-rows h =
-        sym (map-id (names-find-rev-first n term))
-        ∙ decreasing-unique elem-key (λ x. x) _ _ (find-first-decreasing n term o) (find-rev-decreasing n term o)
-        (λ k. ap (Option·map (λ x. x)) (find-first-at n term k o ∙ one-of (rows-of n term k) (h k) ∙ sym (find-rev-at n term k o)))
-        ∙ map-id (names-find-rev n term)
+        sym (map-id (names-find-rev-first nl term))
+        ∙ decreasing-unique elem-key (λ x. x) _ _ (find-first-decreasing nl term o) (find-rev-decreasing nl term o)
+        (λ k. ap (Option·map (λ x. x)) (find-first-at nl term k o ∙ one-of (rows-of nl term k) (h k) ∙ sym (find-rev-at nl term k o)))
+        ∙ map-id (names-find-rev nl term)
 
     -- One holder of a key that the term accepts: the same row.
-    same-row : (k : Str) → accepts term k ≡ true → length (holders (flatten n) k) ≤ 1
-        → lookup elem-key k (names-find-rev-first n term) ≡ lookup elem-key k (names-find-rev n term)
+    same-row : (k : Str) → accepts term k ≡ true → length (holders (flatten nl) k) ≤ 1
+        → lookup elem-key k (names-find-rev-first nl term) ≡ lookup elem-key k (names-find-rev nl term)
     same-row k e h =
-        let held : map (λ x. x .1) (rows-of n term k) ≡ holders (flatten n) k = rows-hold n term k o ∙ ap (λ b. cond b (holders (flatten n) k) []) e in
-        find-first-at n term k o ∙ one-of (rows-of n term k) (omega (arith, length-map (rows-of n term k) (λ x. x .1), ap length held))
-        ∙ sym (find-rev-at n term k o)
+        let held : map (λ x. x .1) (rows-of nl term k) ≡ holders (flatten nl) k = rows-hold nl term k o ∙ ap (λ b. cond b (holders (flatten nl) k) []) e in
+        find-first-at nl term k o ∙ one-of (rows-of nl term k) (omega (arith, length-map (rows-of nl term k) (λ x. x .1), ap length held))
+        ∙ sym (find-rev-at nl term k o)
 
 -- ---- a run, and the line of a name
 module _ {A : Type 0} (Item : A → Type 0) where
@@ -160,7 +160,7 @@ module _ {A : Type 0} (Item : A → Type 0) where
   root-line f text tr sound name query asked covers one =
       go (segments name) refl (look-up-segment true name (look-up-admitted tr name asked)) covers one
     where
-      go : (n : Query) → segments name ≡ n → is-empty n ≡ false → Covers (segments query) n → OneHolder tr n
+      go : (full : Query) → segments name ≡ full → is-empty full ≡ false → Covers (segments query) full → OneHolder tr full
           → lines-of-text (without-last name) (map f (trie-find-prefix-first tr (segments query)))
           ≡ lines-of-text (without-last name) (map f (trie-find-prefix tr (segments query)))
       go [] e h c o = absurd (true≢false h)

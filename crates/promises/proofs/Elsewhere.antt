@@ -17,10 +17,10 @@ module _ {A : Type 0} where
   find-empty (s ∷ []) = refl
   find-empty (s ∷ (t ∷ q)) = refl
 
-  pub find-scope : (n : NameList A ns) (s : Str) (q : Query)
-      → trie-find-exact (scope-of n s) q ≡ bind-option (names-find-exact n s) (λ scope. trie-find-exact scope q)
+  pub find-scope : (nl : NameList A ns) (s : Str) (q : Query)
+      → trie-find-exact (scope-of nl s) q ≡ bind-option (names-find-exact nl s) (λ scope. trie-find-exact scope q)
   unfolding scope-of dflt bind-option
-  find-scope n s q = go (names-find-exact n s)
+  find-scope nl s q = go (names-find-exact nl s)
     where
       go : (o : Option (Trie A))
           → trie-find-exact (dflt trie-empty o) q ≡ bind-option o (λ scope. trie-find-exact scope q)

@@ -25,7 +25,7 @@ Loads q (alias key host included) = ⊥
 Loads q (module-path loaded query path) = (loaded ≡ true) × (segments query ≡ q)
 
 -- One of the calls that made the state does.
-abbrev pub EverLoads : {s : State} → Query → Made s → Type 0
+abbrev pub EverLoads : {σ : State} → Query → Made σ → Type 0
 EverLoads q made-fresh = ⊥
 EverLoads q (made-by sound lent c m e) = Loads q c ⊎ EverLoads q m
 
@@ -46,7 +46,7 @@ begins (h ∷ q) (s ∷ o) = go (key-same-or-not h s) (begins q o)
 module _ (p : Query) (s : Str) where
   -- Whether look-up gives a loaded Module.
   abbrev is-loaded : Table → Bool
-  is-loaded t = loaded-module (find-module-or-ns t (p ++ (s ∷ [])))
+  is-loaded tab = loaded-module (find-module-or-ns tab (p ++ (s ∷ [])))
 
   module _ (tbl : Table) (loaded : Bool) (path : Str) where
     abbrev new : Query → Table
@@ -57,11 +57,11 @@ module _ (p : Query) (s : Str) where
         → is-loaded (new (p ++ (s ∷ (t ∷ q)))) ≡ loaded-module o
     unfolding loaded-module
     passed t q none e = rw (namespace-first tbl loaded path p s t q e)
-    passed t q (some (item (Module n f l))) e = rw (namespace-keeps tbl loaded path p s t q (Module n f l) e tt)
+    passed t q (some (item (Module n f b))) e = rw (namespace-keeps tbl loaded path p s t q (Module n f b) e tt)
     passed t q (some (item (Namespace n true))) e = rw (namespace-keeps tbl loaded path p s t q (Namespace n true) e tt)
     passed t q (some (item (Namespace n false))) e = go loaded
       where
-        go : (l : Bool) → is-loaded (register-module-stays-loaded tbl l path (p ++ (s ∷ (t ∷ q)))) ≡ false
+        go : (b : Bool) → is-loaded (register-module-stays-loaded tbl b path (p ++ (s ∷ (t ∷ q)))) ≡ false
         go true = rw (namespace-replaces tbl path p s t q n e) (namespace-unloaded n true)
         go false = rw (unloaded-keeps tbl path p s t q (Namespace n false) e) (namespace-unloaded n false)
 

@@ -62,25 +62,25 @@ module _ {A : Type 0} (key : A → Str) where
   aux-step (HeapOf (run pr v (w ∷ tl)) hh) acc = aux-pop (run pr v (w ∷ tl)) hh acc
 
   -- The last arm of merge_increasing_lists_rev.
-  pub merge-nonempty-aux : (l m : List A) (ls : List (List A))
-      → merge-nonempty key (l ∷ (m ∷ ls)) ≡ aux (heap-from-list (run-cmp key) (add-priorities 0 [] (l ∷ (m ∷ ls)))) []
+  pub merge-nonempty-aux : (xs m : List A) (ls : List (List A))
+      → merge-nonempty key (xs ∷ (m ∷ ls)) ≡ aux (heap-from-list (run-cmp key) (add-priorities 0 [] (xs ∷ (m ∷ ls)))) []
   unfolding merge-nonempty aux
-  merge-nonempty-aux l m ls =
-      ap (λ n. merge-aux key n (heap-from-list (run-cmp key) (add-priorities 0 [] (l ∷ (m ∷ ls)))) []) (sym (from-list-size key (l ∷ (m ∷ ls))))
+  merge-nonempty-aux xs m ls =
+      ap (λ n. merge-aux key n (heap-from-list (run-cmp key) (add-priorities 0 [] (xs ∷ (m ∷ ls)))) []) (sym (from-list-size key (xs ∷ (m ∷ ls))))
 
 -- ---- The listing
 pub fold-leftᶜ-same : {B C : Type 0} (P : B → Type 0) (f g : C → B → Counted C)
-    → ((c : C) (b : B) → P b → f c b ≡ g c b) → (c : C) (l : List B) → Allˡ P l
-    → fold-leftᶜ f c l ≡ fold-leftᶜ g c l
+    → ((c : C) (b : B) → P b → f c b ≡ g c b) → (c : C) (xs : List B) → Allˡ P xs
+    → fold-leftᶜ f c xs ≡ fold-leftᶜ g c xs
 unfolding fold-leftᶜ
 fold-leftᶜ-same P f g h c [] a = refl
-fold-leftᶜ-same P f g h c (b ∷ l) a =
-    ap (λ m. m >>= λ c. fold-leftᶜ f c l) (h c b (a .0)) ∙ ap (λ k. g c b >>= k) (fun-ext (λ c. fold-leftᶜ-same P f g h c l (a .1)))
+fold-leftᶜ-same P f g h c (b ∷ xs) a =
+    ap (λ m. m >>= λ c. fold-leftᶜ f c xs) (h c b (a .0)) ∙ ap (λ k. g c b >>= k) (fun-ext (λ c. fold-leftᶜ-same P f g h c xs (a .1)))
 
 -- Of either way to find the rows of a list, whose values have less depth than the list.
 module _ {A : Type 0} (find : Finder A)
-    (shallow : (n : NameList A ns) (term : SearchTerm)
-    → Allˡ (λ x. depth (x .1) < depth-names n) (find ns n term)) where
+    (shallow : (nl : NameList A ns) (term : SearchTerm)
+    → Allˡ (λ x. depth (x .1) < depth-names nl) (find ns nl term)) where
   -- The namespaces listed for a query, and what is put onto acc for the bindings.
   abbrev rows : Trie A → Query → List (PathElem × Trie A)
   rows tr q = find ns (namespaces tr) (ns-search-term q)
@@ -90,7 +90,7 @@ module _ {A : Type 0} (find : Finder A)
 
   rows-depth : (tr : Trie A) (q : Query) → Allˡ (λ x. depth (x .1) < depth tr) (rows tr q)
   unfolding depth namespaces
-  rows-depth (trie b n) q = shallow n (ns-search-term q)
+  rows-depth (trie b nl) q = shallow nl (ns-search-term q)
 
   pub find-prefix-fuelᶜ-enough : (n m : ℕ) (tr : Trie A) (path : PathOf) (q : Query) (acc : List (PathOf × A))
       → depth tr < n → depth tr < m

@@ -19,31 +19,31 @@ use Rattle.source.proofs.Flat.{values-all-is, values-prefix-is}
 
 module _ {A : Type 0} {ℓ : Level} where
   abbrev rows-in : SearchTerm → List Str → NameList A ℓ → List (PathElem × Value A ℓ)
-  rows-in term imports n = flatMap (λ x. with-imports (x .0, tree-matches term (x .1))) (flat-in imports n)
+  rows-in term imports nl = flatMap (λ x. with-imports (x .0, tree-matches term (x .1))) (flat-in imports nl)
 
-  turned-rows : (term : SearchTerm) (n : NameList A ℓ)
-      → matching-values n term ≡ reverse (map (λ x. (x .0, tree-matches term (x .1))) (flat n))
-      → flatMap with-imports (reverse (matching-values n term)) ≡ rows-in term [] n
-  turned-rows term n e =
-      ap (λ ms. flatMap with-imports (reverse ms)) e ∙ ap (flatMap with-imports) (reverse-reverse (map (λ x. (x .0, tree-matches term (x .1))) (flat n)))
-      ∙ flatMap-map with-imports (λ x. (x .0, tree-matches term (x .1))) (flat n)
+  turned-rows : (term : SearchTerm) (nl : NameList A ℓ)
+      → matching-values nl term ≡ reverse (map (λ x. (x .0, tree-matches term (x .1))) (flat nl))
+      → flatMap with-imports (reverse (matching-values nl term)) ≡ rows-in term [] nl
+  turned-rows term nl e =
+      ap (λ ms. flatMap with-imports (reverse ms)) e ∙ ap (flatMap with-imports) (reverse-reverse (map (λ x. (x .0, tree-matches term (x .1))) (flat nl)))
+      ∙ flatMap-map with-imports (λ x. (x .0, tree-matches term (x .1))) (flat nl)
 
   no-rows : (ts : List (List Str × Tree A ℓ)) → flatMap (λ x. with-imports (x .0, tree-matches NSTNone (x .1))) ts ≡ []
   unfolding flatMap with-imports tree-matches
   no-rows [] = refl
   no-rows (t ∷ ts) = no-rows ts
 
-  rows-are : (n : NameList A ℓ) (term : SearchTerm) (k : Str) → rows-of n term k ≡ with-key k (rows-in term [] n)
+  rows-are : (nl : NameList A ℓ) (term : SearchTerm) (k : Str) → rows-of nl term k ≡ with-key k (rows-in term [] nl)
   unfolding rows-of flatMap
-  rows-are n NSTAll k = ap (with-key k) (turned-rows NSTAll n (values-all-is n))
-  rows-are n NSTNone k = ap (with-key k) (rw (values-none n) (sym (no-rows (flat n))))
-  rows-are n (NSTPrefix p) k = ap (with-key k) (turned-rows (NSTPrefix p) n (values-prefix-is n p))
+  rows-are nl NSTAll k = ap (with-key k) (turned-rows NSTAll nl (values-all-is nl))
+  rows-are nl NSTNone k = ap (with-key k) (rw (values-none nl) (sym (no-rows (flat nl))))
+  rows-are nl (NSTPrefix p) k = ap (with-key k) (turned-rows (NSTPrefix p) nl (values-prefix-is nl p))
 
   abbrev accepted : SearchTerm → Str → List (Value A ℓ) → List (Value A ℓ)
   accepted term k vs = cond (accepts term k) vs []
 
-  hold-in : (term : SearchTerm) (k : Str) (imports : List Str) (n : NameList A ℓ) → OrderedN n
-      → map (λ x. x .1) (with-key k (rows-in term imports n)) ≡ accepted term k (holders (flatten n) k)
+  hold-in : (term : SearchTerm) (k : Str) (imports : List Str) (nl : NameList A ℓ) → OrderedN nl
+      → map (λ x. x .1) (with-key k (rows-in term imports nl)) ≡ accepted term k (holders (flatten nl) k)
   unfolding flat-in flatten holders flatMap with-key found-onto
   hold-in term k imports []ᴺ o = sym (go (accepts term k))
     where
@@ -73,13 +73,13 @@ module _ {A : Type 0} {ℓ : Level} where
       go true = refl
       go false = refl
 
-  pub rows-hold : (n : NameList A ℓ) (term : SearchTerm) (k : Str) → OrderedN n
-      → map (λ x. x .1) (rows-of n term k) ≡ cond (accepts term k) (holders (flatten n) k) []
-  rows-hold n term k o = ap (map (λ x. x .1)) (rows-are n term k) ∙ hold-in term k [] n o
+  pub rows-hold : (nl : NameList A ℓ) (term : SearchTerm) (k : Str) → OrderedN nl
+      → map (λ x. x .1) (rows-of nl term k) ≡ cond (accepts term k) (holders (flatten nl) k) []
+  rows-hold nl term k o = ap (map (λ x. x .1)) (rows-are nl term k) ∙ hold-in term k [] nl o
 
   -- What the listing finds of a key that the term accepts.
-  pub first-found : (n : NameList A ℓ) (term : SearchTerm) (k : Str) → OrderedN n → accepts term k ≡ true
-      → valof (lookup elem-key k (names-find-rev-first n term)) ≡ first-of (holders (flatten n) k)
-  first-found n term k o e =
-      ap valof (find-first-at n term k o) ∙ value-of-first (rows-of n term k)
-      ∙ ap first-of (rows-hold n term k o ∙ ap (λ b. cond b (holders (flatten n) k) []) e)
+  pub first-found : (nl : NameList A ℓ) (term : SearchTerm) (k : Str) → OrderedN nl → accepts term k ≡ true
+      → valof (lookup elem-key k (names-find-rev-first nl term)) ≡ first-of (holders (flatten nl) k)
+  first-found nl term k o e =
+      ap valof (find-first-at nl term k o) ∙ value-of-first (rows-of nl term k)
+      ∙ ap first-of (rows-hold nl term k o ∙ ap (λ b. cond b (holders (flatten nl) k) []) e)

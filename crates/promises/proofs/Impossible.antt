@@ -123,10 +123,10 @@ module _ {A B : Type 0} (f : A → B) where
     merge-agrees (HeapOf v hh) EmptyHeap = refl
     merge-agrees (HeapOf v hh) (HeapOf w gg) = rw (agree v w) (go (is-lt (cmp v w)))
       where
-        go : (t : Bool)
-            → some (cond t (HeapOf (f v) (HeapOf (f w) (forest-map f gg) ∷ᶠ forest-map f hh))
+        go : (test : Bool)
+            → some (cond test (HeapOf (f v) (HeapOf (f w) (forest-map f gg) ∷ᶠ forest-map f hh))
             (HeapOf (f w) (HeapOf (f v) (forest-map f hh) ∷ᶠ forest-map f gg)))
-            ≡ some (heap-map f (cond t (HeapOf v (HeapOf w gg ∷ᶠ hh)) (HeapOf w (HeapOf v hh ∷ᶠ gg))))
+            ≡ some (heap-map f (cond test (HeapOf v (HeapOf w gg ∷ᶠ hh)) (HeapOf w (HeapOf v hh ∷ᶠ gg))))
         go true = refl
         go false = refl
 
@@ -148,11 +148,11 @@ module _ {A B : Type 0} (f : A → B) where
     unfolding heap-insert? heap-insert
     insert-agrees h v = merge-agrees (HeapOf v []ᶠ) h
 
-    insert-all-agrees : (h : Heap A) (l : List A)
-        → heap-insert-all? cmpᵒ (heap-map f h) (map f l) ≡ some (heap-map f (heap-insert-all cmp h l))
+    insert-all-agrees : (h : Heap A) (xs : List A)
+        → heap-insert-all? cmpᵒ (heap-map f h) (map f xs) ≡ some (heap-map f (heap-insert-all cmp h xs))
     unfolding heap-insert-all? heap-insert-all _>>=_
     insert-all-agrees h [] = refl
-    insert-all-agrees h (v ∷ l) = rw (insert-agrees h v) (insert-all-agrees (heap-insert cmp h v) l)
+    insert-all-agrees h (v ∷ xs) = rw (insert-agrees h v) (insert-all-agrees (heap-insert cmp h v) xs)
 
 -- ---- The merge
 module _ {A : Type 0} (key : A → Str) where
@@ -160,7 +160,7 @@ module _ {A : Type 0} (key : A → Str) where
   pair : Run A → ℕ × List A
   pair (run pr v tl) = (pr, v ∷ tl)
 
-  cmp-agrees : (r s : Run A) → cmp? key (pair r) (pair s) ≡ some (run-cmp key r s)
+  cmp-agrees : (r r₂ : Run A) → cmp? key (pair r) (pair r₂) ≡ some (run-cmp key r r₂)
   unfolding cmp? pair run-cmp first priority
   cmp-agrees (run pr v tl) (run pr′ v′ tl′) = refl
 

@@ -31,10 +31,10 @@ module _ {A : Type 0} (Key Label : Str → Type 0) (Item : A → Type 0) where
   Ok v = Formed Key Label Item v
 
   abbrev pub OkTree : {ℓ : Level} → Tree A ℓ → Type 0
-  OkTree t = FormedTree Key Label Item t
+  OkTree bt = FormedTree Key Label Item bt
 
   abbrev pub OkNames : {ℓ : Level} → NameList A ℓ → Type 0
-  OkNames n = FormedNames Key Label Item n
+  OkNames nl = FormedNames Key Label Item nl
 
   abbrev pub OkOption : {ℓ : Level} → Option (Value A ℓ) → Type 0
   OkOption none = Unit {0}
@@ -65,7 +65,7 @@ module _ {A : Type 0} (Key Label : Str → Type 0) (Item : A → Type 0) where
   bind-option-formed none f g h = tt
   bind-option-formed (some tr) f g h = h tr g
 
-  pub btree-find-exact-formed : {ℓ : Level} (t : Tree A ℓ) (k : Str) → OkTree t → OkOption (btree-find-exact t k)
+  pub btree-find-exact-formed : {ℓ : Level} (bt : Tree A ℓ) (k : Str) → OkTree bt → OkOption (btree-find-exact bt k)
   unfolding btree-find-exact
   btree-find-exact-formed StrEmpty k g = tt
   btree-find-exact-formed {ℓ} (StrBranch k′ v lbt rbt) k g =
@@ -77,7 +77,7 @@ module _ {A : Type 0} (Key Label : Str → Type 0) (Item : A → Type 0) where
       go i j Ordering·eq = g .1
       go i j Ordering·gt = j
 
-  pub names-find-exact-formed : {ℓ : Level} (n : NameList A ℓ) (k : Str) → OkNames n → OkOption (names-find-exact n k)
+  pub names-find-exact-formed : {ℓ : Level} (nl : NameList A ℓ) (k : Str) → OkNames nl → OkOption (names-find-exact nl k)
   unfolding names-find-exact
   names-find-exact-formed []ᴺ k g = tt
   names-find-exact-formed (Names bt tl) k g = or-else-formed _ _ (btree-find-exact-formed bt k (g .0)) (names-find-exact-formed tl k (g .1))
@@ -90,17 +90,17 @@ module _ {A : Type 0} (Key Label : Str → Type 0) (Item : A → Type 0) where
   trie-descend-exact-formed tr (s ∷ q) g =
       bind-option-formed _ _ (names-find-exact-formed (namespaces tr) s (namespaces-formed tr g)) (λ scope h. trie-descend-exact-formed scope q h)
 
-  pub scope-of-formed : (n : NameList A ns) (s : Str) → OkNames n → Ok (scope-of n s)
+  pub scope-of-formed : (nl : NameList A ns) (s : Str) → OkNames nl → Ok (scope-of nl s)
   unfolding scope-of
-  scope-of-formed n s g = dflt-formed _ (names-find-exact-formed n s g)
+  scope-of-formed nl s g = dflt-formed _ (names-find-exact-formed nl s g)
 
   pub included-formed : (tr : Trie A) (q : Query) → Ok tr → Ok (included tr q)
   unfolding included
   included-formed tr q g = dflt-formed _ (trie-descend-exact-formed tr q g)
 
   -- ---- inserts
-  pub names-insert-formed : {ℓ : Level} (n : NameList A ℓ) (k : Str) (v : Value A ℓ) → Key k → Ok v → OkNames n
-      → OkNames (names-insert n k v)
+  pub names-insert-formed : {ℓ : Level} (nl : NameList A ℓ) (k : Str) (v : Value A ℓ) → Key k → Ok v → OkNames nl
+      → OkNames (names-insert nl k v)
   unfolding names-insert
   names-insert-formed []ᴺ k v o g t = (btree-insert-replace-formed Key Label Item StrEmpty k v o g tt, tt)
   names-insert-formed (Names bt tl) k v o g t = (btree-insert-replace-formed Key Label Item bt k v o g (t .0), t .1)
@@ -111,17 +111,17 @@ module _ {A : Type 0} (Key Label : Str → Type 0) (Item : A → Type 0) where
   -- The whole query, reverseAux rev-acc q, is the same at each step: node may use what is known of it.
   pub trie-mutate-formed : (Whole : Query → Type 0) (tr : Trie A) (q rev-acc : Query) (node : MutNode A)
       (leaf : MutLeaf A)
-      → ((tr : Trie A) (id : Str) (q r : Query) (n : NameList A ns) → Whole (reverseAux r (id ∷ q)) → Key id → Ok tr
-      → OkNames n → Ok (node tr id q r n))
+      → ((tr : Trie A) (id : Str) (q r : Query) (nl : NameList A ns) → Whole (reverseAux r (id ∷ q)) → Key id → Ok tr
+      → OkNames nl → Ok (node tr id q r nl))
       → ((tr : Trie A) (r : Query) → Ok tr → Ok (leaf tr r))
       → Whole (reverseAux rev-acc q) → Allˡ Key q → Ok tr → Ok (trie-mutate tr q rev-acc node leaf)
   unfolding trie-mutate
   trie-mutate-formed Whole tr [] r node leaf hn hl w a g = hl tr r g
   trie-mutate-formed Whole tr (id ∷ q) r node leaf hn hl w a g =
-      let n = namespaces-formed tr g in
+      let nl = namespaces-formed tr g in
       hn tr id q r _ w (a .0) g
       (names-insert-formed (namespaces tr) id _ (a .0)
-      (trie-mutate-formed Whole (scope-of (namespaces tr) id) q (id ∷ r) node leaf hn hl w (a .1) (scope-of-formed (namespaces tr) id n)) n)
+      (trie-mutate-formed Whole (scope-of (namespaces tr) id) q (id ∷ r) node leaf hn hl w (a .1) (scope-of-formed (namespaces tr) id nl)) nl)
 
   pub trie-mutate-leaf-formed : (tr : Trie A) (q : Query) (leaf : MutLeaf A)
       → ((tr : Trie A) (r : Query) → Ok tr → Ok (leaf tr r)) → Allˡ Key q → Ok tr → Ok (trie-mutate-leaf tr q leaf)
@@ -232,13 +232,13 @@ formed-sound tbl f c d =
       mods = record { formed = f .mods; light = omega (arith, w); shallow = omega (arith, h) };
     }
 
-pub accepted-sound : (sound : Bool) (lent : Lent) (s s′ : State) (c : Call)
-    → SoundTable (s .table) → register sound lent s c ≡ accepted s′ → SoundTable (s′ .table)
+pub accepted-sound : (sound : Bool) (lent : Lent) (σ σ′ : State) (c : Call)
+    → SoundTable (σ .table) → register sound lent σ c ≡ accepted σ′ → SoundTable (σ′ .table)
 unfolding after
-accepted-sound sound lent s s′ c t e =
-    let a = accepted-acceptable sound lent s s′ c e in
-    let f = registered-formed (s .table) c (admitted-keeps sound (arguments c) (a .admitted)) (record { lids = t .lids .formed; mods = t .mods .formed }) in
-    rw (accepted-is sound lent s s′ c e) (formed-sound (registered (s .table) c) f (a .light) (a .shallow))
+accepted-sound sound lent σ σ′ c t e =
+    let a = accepted-acceptable sound lent σ σ′ c e in
+    let f = registered-formed (σ .table) c (admitted-keeps sound (arguments c) (a .admitted)) (record { lids = t .lids .formed; mods = t .mods .formed }) in
+    rw (accepted-is sound lent σ σ′ c e) (formed-sound (registered (σ .table) c) f (a .light) (a .shallow))
 
 pub fresh-sound : SoundTable (fresh .table)
 unfolding fresh empty trie-empty heaviest heaviest-names depth depth-names
@@ -251,9 +251,9 @@ fresh-sound =
 -- The states that accepted calls make from the fresh one.
 pub data Made : State → Type 0 where
   made-fresh : Made fresh
-  made-by : {s s′ : State} (sound : Bool) (lent : Lent) (c : Call) → Made s → register sound lent s c ≡ accepted s′
-      → Made s′
+  made-by : {σ σ′ : State} (sound : Bool) (lent : Lent) (c : Call) → Made σ → register sound lent σ c ≡ accepted σ′
+      → Made σ′
 
-pub made-sound : {s : State} → Made s → SoundTable (s .table)
+pub made-sound : {σ : State} → Made σ → SoundTable (σ .table)
 made-sound made-fresh = fresh-sound
 made-sound (made-by sound lent c m e) = accepted-sound sound lent _ _ c (made-sound m) e

@@ -40,29 +40,29 @@ use Rattle.promises.proofs.ListedTexts.{NoDot, rev-map-all, fold-all}
 use Rattle.promises.proofs.Agreement.{key-no-dot, completed-lines}
 
 -- ---- the rows of a list are its first holders
-lookup-each : {B : Type 0} (key : B → Str) (l : List B) → Decreasing key l → Allˡ (λ y. lookup key (key y) l ≡ some y) l
+lookup-each : {B : Type 0} (key : B → Str) (xs : List B) → Decreasing key xs → Allˡ (λ y. lookup key (key y) xs ≡ some y) xs
 lookup-each key [] d = tt
-lookup-each key (x ∷ l) d = (
-  lookup-hit key x l,
-  Allˡ-zip l (λ y b e. lookup-miss key (key y) x l (lt-ne (key y) (key x) b) ∙ e) (d .0) (lookup-each key l (d .1)),
+lookup-each key (x ∷ xs) d = (
+  lookup-hit key x xs,
+  Allˡ-zip xs (λ y b e. lookup-miss key (key y) x xs (lt-ne (key y) (key x) b) ∙ e) (d .0) (lookup-each key xs (d .1)),
 )
 
 module _ {A : Type 0} {ℓ : Level} where
   -- A row's key passes the term, and its value is the first holder's.
   abbrev Holds : NameList A ℓ → SearchTerm → PathElem × Value A ℓ → Type 0
-  Holds n term y = (accepts term (elem-key y) ≡ true) × (first-of (holders (flatten n) (elem-key y)) ≡ some (y .1))
+  Holds nl term y = (accepts term (elem-key y) ≡ true) × (first-of (holders (flatten nl) (elem-key y)) ≡ some (y .1))
 
-  rows-first : (n : NameList A ℓ) (term : SearchTerm) → OrderedN n → Allˡ (Holds n term) (names-find-rev-first n term)
+  rows-first : (nl : NameList A ℓ) (term : SearchTerm) → OrderedN nl → Allˡ (Holds nl term) (names-find-rev-first nl term)
   unfolding first-of
-  rows-first n term o = Allˡ-map (names-find-rev-first n term) row (lookup-each elem-key (names-find-rev-first n term) (find-first-decreasing n term o))
+  rows-first nl term o = Allˡ-map (names-find-rev-first nl term) row (lookup-each elem-key (names-find-rev-first nl term) (find-first-decreasing nl term o))
     where
-      row : (y : PathElem × Value A ℓ) → lookup elem-key (elem-key y) (names-find-rev-first n term) ≡ some y
-          → Holds n term y
-      row y e = go (accepts term (elem-key y)) (sym (ap first-of (rows-hold n term (elem-key y) o)) ∙ sym (value-of-first (rows-of n term (elem-key y)))
-          ∙ ap valof (sym (find-first-at n term (elem-key y) o) ∙ e))
+      row : (y : PathElem × Value A ℓ) → lookup elem-key (elem-key y) (names-find-rev-first nl term) ≡ some y
+          → Holds nl term y
+      row y e = go (accepts term (elem-key y)) (sym (ap first-of (rows-hold nl term (elem-key y) o)) ∙ sym (value-of-first (rows-of nl term (elem-key y)))
+          ∙ ap valof (sym (find-first-at nl term (elem-key y) o) ∙ e))
         where
-          go : (b : Bool) → first-of (cond b (holders (flatten n) (elem-key y)) []) ≡ some (y .1)
-              → (b ≡ true) × (first-of (holders (flatten n) (elem-key y)) ≡ some (y .1))
+          go : (b : Bool) → first-of (cond b (holders (flatten nl) (elem-key y)) []) ≡ some (y .1)
+              → (b ≡ true) × (first-of (holders (flatten nl) (elem-key y)) ≡ some (y .1))
           go true h = (refl, h)
           go false h = absurd (Option·none-ne-some (y .1) h)
 
@@ -111,13 +111,13 @@ module _ {A : Type 0} (Key Label : Str → Type 0) (Item : A → Type 0) where
 
   -- What a row of a formed list keeps.
   abbrev RowFine : {ℓ : Level} → NameList A ℓ → SearchTerm → PathElem × Value A ℓ → Type 0
-  RowFine n term y = (Key (elem-key y) × Formed Key Label Item (y .1)) × Holds n term y
+  RowFine nl term y = (Key (elem-key y) × Formed Key Label Item (y .1)) × Holds nl term y
 
-  rows-fine : {ℓ : Level} (n : NameList A ℓ) (term : SearchTerm) → FormedNames Key Label Item n
-      → Allˡ (RowFine n term) (names-find-rev-first n term)
-  rows-fine n term g =
-      Allˡ-zip (names-find-rev-first n term) (λ y k h. (k, h)) (rows-formed Key Label Item n term g)
-      (rows-first n term (formed-orderedN Key Label Item n g))
+  rows-fine : {ℓ : Level} (nl : NameList A ℓ) (term : SearchTerm) → FormedNames Key Label Item nl
+      → Allˡ (RowFine nl term) (names-find-rev-first nl term)
+  rows-fine nl term g =
+      Allˡ-zip (names-find-rev-first nl term) (λ y k h. (k, h)) (rows-formed Key Label Item nl term g)
+      (rows-first nl term (formed-orderedN Key Label Item nl g))
 
   -- Where each way below a path gives a line that is fine, all lines that the listing adds are fine.
   lines-lead : (P : PathOf × A → Type 0) (n : ℕ) (tr : Trie A) (path : PathOf) (q : Query) (acc : List (PathOf × A))
@@ -170,10 +170,10 @@ dot-ends [] = refl
 dot-ends (b ∷ []) = refl
 dot-ends (b ∷ (c ∷ s)) = dot-ends (c ∷ s)
 
-any-none : {B : Type 0} (p : B → Bool) (l : List B) → Allˡ (λ a. p a ≡ false) l → any p l ≡ false
+any-none : {B : Type 0} (p : B → Bool) (xs : List B) → Allˡ (λ a. p a ≡ false) xs → any p xs ≡ false
 unfolding any
 any-none p [] a = refl
-any-none p (x ∷ l) a = rw (a .0) (any-none p l (a .1))
+any-none p (x ∷ xs) a = rw (a .0) (any-none p xs (a .1))
 
 key-some : (s : Str) → IsKey s → is-empty s ≡ false
 unfolding is-empty

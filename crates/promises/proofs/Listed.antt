@@ -46,10 +46,10 @@ module _ {A : Type 0} where
 module _ {A : Type 0} (Key Label : Str → Type 0) (Item : A → Type 0) where
   -- What a listing asks of the rows of a list.
   pub record Finds (find : Finder A) : Type 0 where
-    pub descends : (ℓ : Level) (n : NameList A ℓ) (term : SearchTerm) → OrderedN n → Decreasing elem-key (find ℓ n term)
-    pub formed : (ℓ : Level) (n : NameList A ℓ) (term : SearchTerm) → FormedNames Key Label Item n
-        → Allˡ (λ y. Key (elem-key y) × Formed Key Label Item (y .1)) (find ℓ n term)
-    pub shallow : (n : NameList A ns) (term : SearchTerm) → Allˡ (λ y. depth (y .1) < depth-names n) (find ns n term)
+    pub descends : (ℓ : Level) (nl : NameList A ℓ) (term : SearchTerm) → OrderedN nl → Decreasing elem-key (find ℓ nl term)
+    pub formed : (ℓ : Level) (nl : NameList A ℓ) (term : SearchTerm) → FormedNames Key Label Item nl
+        → Allˡ (λ y. Key (elem-key y) × Formed Key Label Item (y .1)) (find ℓ nl term)
+    pub shallow : (nl : NameList A ns) (term : SearchTerm) → Allˡ (λ y. depth (y .1) < depth-names nl) (find ns nl term)
 
   pub source-finds : Finds of-source
   source-finds = record {
@@ -141,18 +141,18 @@ module _ {A : Type 0} where
       go true e = absurd (n (same-names-eq (keys (x .0)) T e))
       go false e = refl
 
-  rev-map-is : {B : Type 0} (g : B → PathOf × A) (l : List B) (acc : List (PathOf × A))
-      → rev-map-onto g l acc ≡ fold-left (λ acc x. g x ∷ acc) acc l
+  rev-map-is : {B : Type 0} (g : B → PathOf × A) (xs : List B) (acc : List (PathOf × A))
+      → rev-map-onto g xs acc ≡ fold-left (λ acc x. g x ∷ acc) acc xs
   unfolding rev-map-onto fold-left
   rev-map-is g [] acc = refl
-  rev-map-is g (x ∷ l) acc = rev-map-is g l (g x ∷ acc)
+  rev-map-is g (x ∷ xs) acc = rev-map-is g xs (g x ∷ acc)
 
   fold-foreign : {B : Type 0} (T : List Str) (f : List (PathOf × A) → B → List (PathOf × A))
       → ((acc : List (PathOf × A)) (x : B) → named T (f acc x) ≡ named T acc)
-      → (l : List B) (acc : List (PathOf × A)) → named T (fold-left f acc l) ≡ named T acc
+      → (xs : List B) (acc : List (PathOf × A)) → named T (fold-left f acc xs) ≡ named T acc
   unfolding fold-left
   fold-foreign T f h [] acc = refl
-  fold-foreign T f h (x ∷ l) acc = fold-foreign T f h l (f acc x) ∙ h acc x
+  fold-foreign T f h (x ∷ xs) acc = fold-foreign T f h xs (f acc x) ∙ h acc x
 
   -- a fold over a decreasing list, where only the row with key s adds lines of that name
   module _ {ℓ : Level} (T : List Str) (f : List (PathOf × A) → PathElem × Value A ℓ → List (PathOf × A)) (s : Str)

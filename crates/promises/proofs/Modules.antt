@@ -41,11 +41,11 @@ module _ {A : Type 0} where
     no-imports (item a) g = tt
     no-imports (trie b n) g = (no-imports-names b (g .0), no-imports-names n (g .1))
 
-    no-imports-tree : {ℓ : Level} (t : Tree A ℓ) → FormedTree Any No Any t → NoImportsTree t
+    no-imports-tree : {ℓ : Level} (bt : Tree A ℓ) → FormedTree Any No Any bt → NoImportsTree bt
     no-imports-tree StrEmpty g = tt
     no-imports-tree (StrBranch k v lbt rbt) g = (no-imports v (g .1), no-imports-tree lbt (g .4), no-imports-tree rbt (g .5))
 
-    no-imports-names : {ℓ : Level} (n : NameList A ℓ) → FormedNames Any No Any n → NoImportsNames n
+    no-imports-names : {ℓ : Level} (nl : NameList A ℓ) → FormedNames Any No Any nl → NoImportsNames nl
     no-imports-names []ᴺ g = tt
     no-imports-names (Names bt tl) g = (no-imports-tree bt (g .0), no-imports-names tl (g .1))
     no-imports-names (ImportedNames label inner tl) g = absurd (g .0)
@@ -84,11 +84,11 @@ registered-plain tbl (opens false host q) g = g
 registered-plain tbl (alias key host q) g = g
 registered-plain tbl (module-path loaded query path) g = module-plain tbl loaded path (segments query) g
 
-made-plain : {s : State} → Made s → Plain (s .table .tbl-mods)
+made-plain : {σ : State} → Made σ → Plain (σ .table .tbl-mods)
 unfolding fresh empty trie-empty after
 made-plain made-fresh = (tt, tt)
 made-plain (made-by sound lent c m e) = rw (accepted-is sound lent _ _ c e) (registered-plain _ c (made-plain m))
 
 -- The module table of every state that accepted calls make from the fresh one holds no imported list.
-pub made-modules-own : {s : State} → Made s → NoImports (s .table .tbl-mods)
-made-modules-own {s} m = no-imports (s .table .tbl-mods) (made-plain m)
+pub made-modules-own : {σ : State} → Made σ → NoImports (σ .table .tbl-mods)
+made-modules-own {σ} m = no-imports (σ .table .tbl-mods) (made-plain m)

@@ -24,26 +24,26 @@ use Rattle.source.proofs.Names.{OrderedN, tree-ascends, labelled-increasing, va
 
 -- ---- first and last elements
 module _ {A : Type 0} where
-  first-append : (l m : List A) → first-of (l ++ m) ≡ or-else (first-of l) (first-of m)
+  first-append : (xs m : List A) → first-of (xs ++ m) ≡ or-else (first-of xs) (first-of m)
   unfolding first-of or-else
   first-append [] m = refl
-  first-append (a ∷ l) m = refl
+  first-append (a ∷ xs) m = refl
 
-  last-cons : (a : A) (l : List A) → last-opt (a ∷ l) ≡ or-else (last-opt l) (some a)
+  last-cons : (a : A) (xs : List A) → last-opt (a ∷ xs) ≡ or-else (last-opt xs) (some a)
   unfolding last-opt or-else
   last-cons a [] = refl
-  last-cons a (b ∷ l) = sym (some-last b l)
+  last-cons a (b ∷ xs) = sym (some-last b xs)
     where
-      some-last : (b : A) (l : List A) → or-else (last-opt (b ∷ l)) (some a) ≡ last-opt (b ∷ l)
+      some-last : (b : A) (xs : List A) → or-else (last-opt (b ∷ xs)) (some a) ≡ last-opt (b ∷ xs)
       some-last b [] = refl
-      some-last b (c ∷ l) = some-last c l
+      some-last b (c ∷ xs) = some-last c xs
 
-  last-append : (l m : List A) → last-opt (l ++ m) ≡ or-else (last-opt m) (last-opt l)
+  last-append : (xs m : List A) → last-opt (xs ++ m) ≡ or-else (last-opt m) (last-opt xs)
   unfolding last-opt
   last-append [] m = sym (or-else-none (last-opt m))
-  last-append (a ∷ l) m =
-      last-cons a (l ++ m) ∙ ap (λ o. or-else o (some a)) (last-append l m) ∙ or-assoc (last-opt m) (last-opt l) (some a)
-      ∙ ap (or-else (last-opt m)) (sym (last-cons a l))
+  last-append (a ∷ xs) m =
+      last-cons a (xs ++ m) ∙ ap (λ o. or-else o (some a)) (last-append xs m) ∙ or-assoc (last-opt m) (last-opt xs) (some a)
+      ∙ ap (or-else (last-opt m)) (sym (last-cons a xs))
 
 ends-of : {B : Type 0} (o : Option B) → (first-of (to-list o) ≡ o) × (last-opt (to-list o) ≡ o)
 unfolding first-of last-opt
@@ -54,10 +54,10 @@ map-to-list : {B C : Type 0} (o : Option (B × C)) → map (λ x. x .1) (to-list
 map-to-list none = refl
 map-to-list (some x) = refl
 
-pub value-of-first : {B C : Type 0} (l : List (B × C)) → valof (first-of l) ≡ first-of (map (λ x. x .1) l)
+pub value-of-first : {B C : Type 0} (xs : List (B × C)) → valof (first-of xs) ≡ first-of (map (λ x. x .1) xs)
 unfolding first-of
 value-of-first [] = refl
-value-of-first (x ∷ l) = refl
+value-of-first (x ∷ xs) = refl
 
 -- ---- look-up takes the first holder
 module _ {A : Type 0} where
@@ -78,8 +78,8 @@ module _ {A : Type 0} where
       go none = refl
       go (some v) = refl
 
-  pub find-exact-is-first : {ℓ : Level} (n : NameList A ℓ) (k : Str)
-      → names-find-exact n k ≡ first-of (holders (flatten n) k)
+  pub find-exact-is-first : {ℓ : Level} (nl : NameList A ℓ) (k : Str)
+      → names-find-exact nl k ≡ first-of (holders (flatten nl) k)
   unfolding names-find-exact flatten holders first-of
   find-exact-is-first []ᴺ k = refl
   find-exact-is-first (Names bt tl) k =
@@ -171,38 +171,38 @@ module _ {A : Type 0} where
       ∙ last-append (with-key k (flatMap with-imports (reverse ms))) (with-key k (with-imports m)))
 
   -- ---- what a search gives: descending, and at each key the last row or the first
-  pub find-rev-decreasing : {ℓ : Level} (n : NameList A ℓ) (term : SearchTerm) → OrderedN n
-      → Decreasing elem-key (names-find-rev n term)
+  pub find-rev-decreasing : {ℓ : Level} (nl : NameList A ℓ) (term : SearchTerm) → OrderedN nl
+      → Decreasing elem-key (names-find-rev nl term)
   unfolding names-find-rev
-  find-rev-decreasing n term o = merge-decreasing elem-key (map with-imports (matching-values n term)) (values-increasing term n o)
+  find-rev-decreasing nl term o = merge-decreasing elem-key (map with-imports (matching-values nl term)) (values-increasing term nl o)
 
-  pub find-rev-at : {ℓ : Level} (n : NameList A ℓ) (term : SearchTerm) (k : Str) → OrderedN n
-      → lookup elem-key k (names-find-rev n term) ≡ last-opt (rows-of n term k)
+  pub find-rev-at : {ℓ : Level} (nl : NameList A ℓ) (term : SearchTerm) (k : Str) → OrderedN nl
+      → lookup elem-key k (names-find-rev nl term) ≡ last-opt (rows-of nl term k)
   unfolding names-find-rev rows-of
-  find-rev-at n term k o =
-      merge-at elem-key (map with-imports (matching-values n term)) (values-increasing term n o) k
-      ∙ last-row k (matching-values n term) (values-increasing term n o)
+  find-rev-at nl term k o =
+      merge-at elem-key (map with-imports (matching-values nl term)) (values-increasing term nl o) k
+      ∙ last-row k (matching-values nl term) (values-increasing term nl o)
 
-  pub find-first-decreasing : {ℓ : Level} (n : NameList A ℓ) (term : SearchTerm) → OrderedN n
-      → Decreasing elem-key (names-find-rev-first n term)
+  pub find-first-decreasing : {ℓ : Level} (nl : NameList A ℓ) (term : SearchTerm) → OrderedN nl
+      → Decreasing elem-key (names-find-rev-first nl term)
   unfolding names-find-rev-first
-  find-first-decreasing n term o = merge-decreasing elem-key (map with-imports (reverse (matching-values n term))) (turned-increasing term n o)
+  find-first-decreasing nl term o = merge-decreasing elem-key (map with-imports (reverse (matching-values nl term))) (turned-increasing term nl o)
 
-  pub find-first-at : {ℓ : Level} (n : NameList A ℓ) (term : SearchTerm) (k : Str) → OrderedN n
-      → lookup elem-key k (names-find-rev-first n term) ≡ first-of (rows-of n term k)
+  pub find-first-at : {ℓ : Level} (nl : NameList A ℓ) (term : SearchTerm) (k : Str) → OrderedN nl
+      → lookup elem-key k (names-find-rev-first nl term) ≡ first-of (rows-of nl term k)
   unfolding names-find-rev-first rows-of
-  find-first-at n term k o =
-      merge-at elem-key (map with-imports (reverse (matching-values n term))) (turned-increasing term n o) k
-      ∙ first-match-row k (reverse (matching-values n term)) (turned-increasing term n o)
+  find-first-at nl term k o =
+      merge-at elem-key (map with-imports (reverse (matching-values nl term))) (turned-increasing term nl o) k
+      ∙ first-match-row k (reverse (matching-values nl term)) (turned-increasing term nl o)
 
   -- ---- the row of a key in one tree
-  tree-at : {ℓ : Level} (term : SearchTerm) (t : Tree A ℓ) (k : Str) → Ordered t
-      → valof (lookup entry-key k (tree-matches term t)) ≡ gate (accepts term k) (btree-find-exact t k)
+  tree-at : {ℓ : Level} (term : SearchTerm) (bt : Tree A ℓ) (k : Str) → Ordered bt
+      → valof (lookup entry-key k (tree-matches term bt)) ≡ gate (accepts term k) (btree-find-exact bt k)
   unfolding tree-matches lookup starts-with
-  tree-at NSTAll t k o = find-all-exactly none t k o
-  tree-at NSTNone t k o = refl
-  tree-at (NSTPrefix []) t k o = find-all-exactly (some []) t k o
-  tree-at (NSTPrefix (c ∷ p)) t k o = find-prefix-exactly t (c ∷ p) k o
+  tree-at NSTAll bt k o = find-all-exactly none bt k o
+  tree-at NSTNone bt k o = refl
+  tree-at (NSTPrefix []) bt k o = find-all-exactly (some []) bt k o
+  tree-at (NSTPrefix (c ∷ p)) bt k o = find-prefix-exactly bt (c ∷ p) k o
 
   pub tree-row : {ℓ : Level} (term : SearchTerm) (k : Str) (i : List Str) (bt : Tree A ℓ) → Ordered bt
       → map (λ x. x .1) (with-key k (with-imports (i, tree-matches term bt)))

@@ -56,7 +56,7 @@ narrowed-longest p s [] h a = h
 narrowed-longest p s (t ∷ ss) h a = narrowed-longest p (common-prefix s t) ss (common-longest p s t h (a .0)) (a .1)
 
 -- It is a beginning of each text.
-pub shared-begins : (l : List Str) → Allˡ (Begins (shared-beginning l)) l
+pub shared-begins : (xs : List Str) → Allˡ (Begins (shared-beginning xs)) xs
 unfolding shared-beginning
 shared-begins [] = tt
 shared-begins (s ∷ ss) = narrowed-begins s ss

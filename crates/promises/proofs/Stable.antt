@@ -85,9 +85,9 @@ shows-stable told ls (refused n) h = absurd (h (λ x. x))
 abbrev Stable : Type 0 → Type 0
 Stable P = ((P → ⊥) → ⊥) → P
 
-all-stable : {B : Type 0} {P : B → Type 0} → ((x : B) → Stable (P x)) → (l : List B) → Stable (Allˡ P l)
+all-stable : {B : Type 0} {P : B → Type 0} → ((x : B) → Stable (P x)) → (xs : List B) → Stable (Allˡ P xs)
 all-stable g [] h = tt
-all-stable g (x ∷ l) h = (g x (λ n. h (λ p. n (p .0))), all-stable g l (λ n. h (λ p. n (p .1))))
+all-stable g (x ∷ xs) h = (g x (λ n. h (λ p. n (p .0))), all-stable g xs (λ n. h (λ p. n (p .1))))
 
 covers-stable : (query name : Query) → Stable (Covers query name)
 covers-stable [] name h = tt

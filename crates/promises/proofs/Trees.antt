@@ -33,7 +33,7 @@ gate-none false = refl
 
 module _ {A : Type 0} {ℓ : Level} where
   -- a key that no branch has
-  pub find-absent : (k : Str) (t : Tree A ℓ) → AllKeys (λ x. k ≡ x → ⊥) t → btree-find-exact t k ≡ none
+  pub find-absent : (k : Str) (bt : Tree A ℓ) → AllKeys (λ x. k ≡ x → ⊥) bt → btree-find-exact bt k ≡ none
   unfolding btree-find-exact
   find-absent k StrEmpty a = refl
   find-absent k (StrBranch k′ v lbt rbt) a = go (find-absent k lbt (a .1)) (find-absent k rbt (a .2)) (string-compare k k′) (compare-strings k k′)
@@ -48,15 +48,15 @@ module _ {A : Type 0} {ℓ : Level} where
   abbrev at-key : Str → List (PrefixMatch × Value A ℓ) → Option (Value A ℓ)
   at-key k acc = valof (lookup entry-key k acc)
 
-  below-ne : (k k′ : Str) (t : Tree A ℓ) → k <ˢ k′ → AllKeys (λ x. k′ <ˢ x) t → AllKeys (λ x. k ≡ x → ⊥) t
-  below-ne k k′ t h a = AllKeys-map t (λ x y e. <ˢ-irrefl x (rw e at (<ˢ-trans k k′ x h y))) a
+  below-ne : (k k′ : Str) (bt : Tree A ℓ) → k <ˢ k′ → AllKeys (λ x. k′ <ˢ x) bt → AllKeys (λ x. k ≡ x → ⊥) bt
+  below-ne k k′ bt h a = AllKeys-map bt (λ x y e. <ˢ-irrefl x (rw e at (<ˢ-trans k k′ x h y))) a
 
-  above-ne : (k k′ : Str) (t : Tree A ℓ) → k′ <ˢ k → AllKeys (λ x. x <ˢ k′) t → AllKeys (λ x. k ≡ x → ⊥) t
-  above-ne k k′ t h a = AllKeys-map t (λ x y e. <ˢ-irrefl x (rw e at (<ˢ-trans x k′ k y h))) a
+  above-ne : (k k′ : Str) (bt : Tree A ℓ) → k′ <ˢ k → AllKeys (λ x. x <ˢ k′) bt → AllKeys (λ x. k ≡ x → ⊥) bt
+  above-ne k k′ bt h a = AllKeys-map bt (λ x y e. <ˢ-irrefl x (rw e at (<ˢ-trans x k′ k y h))) a
 
-  pub select-at : (p : Option Str) (b : Str → Bool) (k : Str) (t : Tree A ℓ) (acc : List (PrefixMatch × Value A ℓ))
-      → Ordered t
-      → at-key k (select p b t acc) ≡ or-else (gate (b k) (btree-find-exact t k)) (at-key k acc)
+  pub select-at : (p : Option Str) (b : Str → Bool) (k : Str) (bt : Tree A ℓ) (acc : List (PrefixMatch × Value A ℓ))
+      → Ordered bt
+      → at-key k (select p b bt acc) ≡ or-else (gate (b k) (btree-find-exact bt k)) (at-key k acc)
   unfolding select btree-find-exact or-else entry-key
   select-at p b k StrEmpty acc o = rw (gate-none (b k))
   select-at p b k (StrBranch k′ v lbt rbt) acc o =
@@ -96,15 +96,15 @@ module _ {A : Type 0} {ℓ : Level} where
           rw (no-left (find-absent k lbt (above-ne k k′ lbt w (o .0)))) (mid i (λ d. <ˢ-irrefl k′ (rw d at w)) ∙ r)
 
   -- ---- the two searches
-  exactly : (p : Option Str) (b : Str → Bool) (t : Tree A ℓ) (k : Str) → Ordered t
-      → valof (lookup entry-key k (select p b t [])) ≡ gate (b k) (btree-find-exact t k)
+  exactly : (p : Option Str) (b : Str → Bool) (bt : Tree A ℓ) (k : Str) → Ordered bt
+      → valof (lookup entry-key k (select p b bt [])) ≡ gate (b k) (btree-find-exact bt k)
   unfolding lookup
-  exactly p b t k o = select-at p b k t [] o ∙ or-else-none (gate (b k) (btree-find-exact t k))
+  exactly p b bt k o = select-at p b k bt [] o ∙ or-else-none (gate (b k) (btree-find-exact bt k))
 
-  pub find-prefix-exactly : (t : Tree A ℓ) (p k : Str) → Ordered t
-      → valof (lookup entry-key k (btree-find-prefix t p)) ≡ gate (starts-with k p) (btree-find-exact t k)
-  find-prefix-exactly t p k o = rw (find-prefix-is t p o) (exactly (some p) (λ k. starts-with k p) t k o)
+  pub find-prefix-exactly : (bt : Tree A ℓ) (p k : Str) → Ordered bt
+      → valof (lookup entry-key k (btree-find-prefix bt p)) ≡ gate (starts-with k p) (btree-find-exact bt k)
+  find-prefix-exactly bt p k o = rw (find-prefix-is bt p o) (exactly (some p) (λ k. starts-with k p) bt k o)
 
-  pub find-all-exactly : (p : Option Str) (t : Tree A ℓ) (k : Str) → Ordered t
-      → valof (lookup entry-key k (btree-find-all p t)) ≡ btree-find-exact t k
-  find-all-exactly p t k o = rw (find-all-is p t) (exactly p (λ k. true) t k o)
+  pub find-all-exactly : (p : Option Str) (bt : Tree A ℓ) (k : Str) → Ordered bt
+      → valof (lookup entry-key k (btree-find-all p bt)) ≡ btree-find-exact bt k
+  find-all-exactly p bt k o = rw (find-all-is p bt) (exactly p (λ k. true) bt k o)

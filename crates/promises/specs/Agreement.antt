@@ -38,7 +38,7 @@ module _ {A : Type 0} where
 
   -- Exactly one line, which carries the item; or no line, and none.
   abbrev pub Shows : List (Line A) → Found A → Type 0
-  Shows ls (found a) = (l : Line A) × (ls ≡ l ∷ []) × (l .item-of ≡ a)
+  Shows ls (found a) = (ln : Line A) × (ls ≡ ln ∷ []) × (ln .item-of ≡ a)
   Shows ls not-found = ls ≡ []
   Shows ls (refused n) = ⊥
 
@@ -84,7 +84,7 @@ pub record FilteredAgree : Type 0 where
 
 -- The full name of a line: its candidate with a dot after it.
 abbrev pub full-name : {A : Type 0} → Line A → Str
-full-name l = l .candidate ++ (dot ∷ [])
+full-name ln = ln .candidate ++ (dot ∷ [])
 
 -- Each line of a completion has a full name that the query covers, and look-up of it finds the line's item.
 pub record EachFound {A : Type 0} (Finds : Str → Found A → Type 0) (Lists : Str → List (Line A) → Type 0) : Type 0 where

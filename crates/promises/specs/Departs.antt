@@ -36,15 +36,15 @@ module _ {A : Type 0} {ℓ : Level} where
 
   -- What a merge chooses from at a key, in flattened order.
   unfoldable pub rows-of : NameList A ℓ → SearchTerm → Str → List (PathElem × Value A ℓ)
-  rows-of n term k = with-key k (flatMap with-imports (reverse (matching-values n term)))
+  rows-of nl term k = with-key k (flatMap with-imports (reverse (matching-values nl term)))
 
   -- In a list: the same keys in the same order; of each the last row by the source, the first by the listing.
   -- The rows are those of the holders where the term takes the key, else none.
-  pub record ListDeparts (n : NameList A ℓ) (term : SearchTerm) : Type 0 where
-    pub same-keys : map elem-key (names-find-rev-first n term) ≡ map elem-key (names-find-rev n term)
-    pub by-source : (k : Str) → with-key k (names-find-rev n term) ≡ to-list (last-opt (rows-of n term k))
-    pub by-listing : (k : Str) → with-key k (names-find-rev-first n term) ≡ to-list (first-of (rows-of n term k))
-    pub rows-hold : (k : Str) → map (λ x. x .1) (rows-of n term k) ≡ cond (accepts term k) (holders (flatten n) k) []
+  pub record ListDeparts (nl : NameList A ℓ) (term : SearchTerm) : Type 0 where
+    pub same-keys : map elem-key (names-find-rev-first nl term) ≡ map elem-key (names-find-rev nl term)
+    pub by-source : (k : Str) → with-key k (names-find-rev nl term) ≡ to-list (last-opt (rows-of nl term k))
+    pub by-listing : (k : Str) → with-key k (names-find-rev-first nl term) ≡ to-list (first-of (rows-of nl term k))
+    pub rows-hold : (k : Str) → map (λ x. x .1) (rows-of nl term k) ≡ cond (accepts term k) (holders (flatten nl) k) []
 
 module _ {A : Type 0} where
   -- No list that a run meets has a key with more than one holder.

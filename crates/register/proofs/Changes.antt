@@ -47,7 +47,7 @@ change-at k inc at host other key = record {
 module _ (txt : List ℕ) (at : ℕ) (s : Str) (e : span txt at (length s) ≡ s) (d : ends-in-dot s ≡ true) where
   pub label-is : text-of txt (label-in (record { start = at; len = length s })) ≡ query-to-string (segments s)
   unfolding span
-  label-is = sym (take-take (length s - 1) (length s) (drop at txt) (omega arith)) ∙ ap (λ (l : List ℕ). take (length s - 1) l) e ∙ sym (string-is s d)
+  label-is = sym (take-take (length s - 1) (length s) (drop at txt) (omega arith)) ∙ ap (λ (xs : List ℕ). take (length s - 1) xs) e ∙ sym (string-is s d)
 
   pub label-right : {used : ℕ} → at + length s ≤ used → IsQuery (segments s) → TextOk IsLabel txt used at (length s - 1)
   label-right h q = record { inside = omega arith; keeps = rw label-is (query-to-string-label (segments s) q) }

@@ -89,18 +89,18 @@ module _ (ws txt : List ℕ) (h : Header) where
   root-reads modules = refl
 
 -- ---- Rows
-module _ (lent : Lent) (s : State) (c : Call) where
+module _ (lent : Lent) (σ : State) (c : Call) where
   pub rows-refused : {n : ℕ} → first-row (argument-rows true (arguments c)) ≡ some n
-      → first-row (registration-rows true lent s c) ≡ some n
+      → first-row (registration-rows true lent σ c) ≡ some n
   unfolding registration-rows
   rows-refused e = first-row-stops (argument-rows true (arguments c)) _ e
 
-  pub rows-planned : {p : Plan} {taken : ℕ} → SoundTable (s .table) → Planned (s .table) c p
+  pub rows-planned : {p : Plan} {taken : ℕ} → SoundTable (σ .table) → Planned (σ .table) c p
       → taken ≡ text-taken (arguments c) → first-row (argument-rows true (arguments c)) ≡ none
-      → first-row (registration-rows true lent s c) ≡ first-row (capacity-rows
+      → first-row (registration-rows true lent σ c) ≡ first-row (capacity-rows
       (record { crowded = p .crowded; deep = p .deep; records = p .records; text = taken })
-      (record { words = lent .words; records = s .records-used; text = lent .text; used = s .text-used }))
+      (record { words = lent .words; records = σ .records-used; text = lent .text; used = σ .text-used }))
   unfolding registration-rows
   rows-planned o p e f =
       first-row-past (argument-rows true (arguments c)) _ f
-      ∙ rw (crowded-planned (s .table) c o, deep-planned (s .table) c o, records-planned (s .table) c, e, p .records, p .crowded, p .deep)
+      ∙ rw (crowded-planned (σ .table) c o, deep-planned (σ .table) c o, records-planned (σ .table) c, e, p .records, p .crowded, p .deep)

@@ -16,7 +16,7 @@ put-text-beyond : (t : List ℕ) (at : ℕ) (s : Str) (m : ℕ) → at + length 
     → drop (at + length s + m) (put-text t at s) ≡ drop (at + length s + m) t
 unfolding put-text
 put-text-beyond t at s m h =
-    sym (drop-drop m (at + length s) _) ∙ ap (λ (l : List ℕ). drop m l) (drop-paste t at s (length s) (omega arith) (omega arith))
+    sym (drop-drop m (at + length s) _) ∙ ap (λ (xs : List ℕ). drop m xs) (drop-paste t at s (length s) (omega arith) (omega arith))
     ∙ drop-drop m (at + length s) t
 
 module _ (txt : List ℕ) (at : ℕ) (host other key : Str)

@@ -50,10 +50,10 @@ untouched (opens is-module host included) = modules
 untouched (alias key host included) = modules
 untouched (module-path loaded query path) = names
 
--- By the call c the header h has become h′, which reads as the state s and has the other root as it was. Only the free part that
+-- By the call c the header h has become h′, which reads as the state σ and has the other root as it was. Only the free part that
 -- was taken has changed, and of the text it is the call's texts.
-pub record Accepts (ws txt ws′ txt′ : List ℕ) (h h′ : Header) (c : Call) (s : State) : Type 0 where
-  pub reads : state-of ws′ txt′ h′ ≡ s
+pub record Accepts (ws txt ws′ txt′ : List ℕ) (h h′ : Header) (c : Call) (σ : State) : Type 0 where
+  pub reads : state-of ws′ txt′ h′ ≡ σ
   pub sound : Sound ws′ txt′ h′
   pub other-root : root-at (untouched c) h′ ≡ root-at (untouched c) h
   pub words : Outside (h .records * record-words) (h′ .records * record-words) ws ws′

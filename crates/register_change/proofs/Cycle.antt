@@ -60,11 +60,11 @@ module _ {ws txt : List ℕ} {n used x at len : ℕ} {d : Descent} (g : Namespac
           });
         }
 
-    module _ {ws₁ : List ℕ} {s n₁ k : ℕ} (S : Mutated ws ws₁ txt n (below-in way) (at + len + 1) d s n₁)
+    module _ {ws₁ : List ℕ} {i n₁ k : ℕ} (S : Mutated ws ws₁ txt n (below-in way) (at + len + 1) d i n₁)
         (h : Kinds (d .change) k) where
       scope-builds : Builds ws ws₁ txt n used (which-of (d .change)) trieˢ
           (mutated ws txt (d .change) (scope-of (what (which-of (d .change)) ws txt x (list ns)) (span txt at len))
-          (d .from) (at + len + 1) (d .end)) s n₁
+          (d .from) (at + len + 1) (d .end)) i n₁
       scope-builds = rw (z .first .next .says) at (S used spaces-mutation)
 
       kind-is : k + kind-in (tree ns) ≡ kind (which-of (d .change)) (tree ns)
@@ -72,7 +72,7 @@ module _ {ws txt : List ℕ} {n used x at len : ℕ} {d : Descent} (g : Namespac
 
       -- The row of the segment.
       abbrev spaces-row : List ℕ
-      spaces-row = namespace-row k (record { start = at; len = len }) s
+      spaces-row = namespace-row k (record { start = at; len = len }) i
 
       pub spaces-insertion : NamesInsertion ws₁ txt (which-of (d .change)) ns n₁ used x (count-in way) spaces-row
       spaces-insertion = scope-insertion scope-builds (g .change .sound) (g .link) k kind-is _ spaces-key (z .first .builds) (g .fits .room) (g .fits .light)
@@ -120,8 +120,8 @@ segment-ready m h = (
 )
 
 -- The links of a change stay.
-change-stays : {ch : Change} {ws ws′ txt : List ℕ} {n n′ used : ℕ} {w : Which} {s : Sort} {r : ℕ} {t : Of (Item w) s}
-    → Made ws ws′ txt n n′ used w s r t → ChangeOk ws txt n used ch → ChangeOk ws′ txt n′ used ch
+change-stays : {ch : Change} {ws ws′ txt : List ℕ} {n n′ used : ℕ} {w : Which} {so : Sort} {r : ℕ} {v : Of (Item w) so}
+    → Made ws ws′ txt n n′ used w so r v → ChangeOk ws txt n used ch → ChangeOk ws′ txt n′ used ch
 change-stays {ch} {ws} {ws′} {n = n} {n′} m c = record { sound = m .sound; text = c .text; key = c .key; inc = stays (shape-of (ch .kind) .form) (c .inc) }
   where
     stays : (f : Form) → Included f ws n (ch .inc) → Included f ws′ n′ (ch .inc)

@@ -57,11 +57,11 @@ module _ (ch : Change) where
   kinds-module e = rw e (omega arith, λ s. refl)
 
 -- ---- ins
-pub placed-part : {ws txt : List ℕ} {x holder count wt : ℕ} (s l : ℕ)
-    → NamesPlaced ws txt x (take (s + l - s) (drop s txt)) holder count wt
-    → NamesPlaced ws txt x (span txt s l) holder count wt
+pub placed-part : {ws txt : List ℕ} {x holder count wt : ℕ} (start m : ℕ)
+    → NamesPlaced ws txt x (take (start + m - start) (drop start txt)) holder count wt
+    → NamesPlaced ws txt x (span txt start m) holder count wt
 unfolding span
-placed-part {txt = txt} s l z = rw (part-is txt s l) at z
+placed-part {txt = txt} start m z = rw (part-is txt start m) at z
 
 last-in : (s : Str) → ends-in-dot s ≡ true → (last : Bool) → (last ≡ true → length s ≡ 0)
     → (last ≡ false → 0 < length s) → last ≡ is-empty (segments s)
@@ -90,8 +90,8 @@ ins-is p id (s ∷ q) revq b last loaded inserts m e f g = rw (e, f) (go (ns-ins
     new : Counted (NameList S.ModSymbol bind)
     new = names-insertᶜ b id (item (S.Namespace (name-of-revq (id ∷ revq)) loaded))
 
-    go : (t : Bool)
-        → (elim t as (λ _. Counted (NameList S.ModSymbol bind)) [ true ↦ new | false ↦ pure b ]) ≡ cond t new (pure b)
+    go : (test : Bool)
+        → (elim test as (λ _. Counted (NameList S.ModSymbol bind)) [ true ↦ new | false ↦ pure b ]) ≡ cond test new (pure b)
     go true = refl
     go false = refl
 

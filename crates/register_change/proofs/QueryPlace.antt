@@ -36,9 +36,9 @@ unfolding before-dot
 before-take [] n h = refl
 before-take (b ∷ s) n h = go (eqb b dot) n h (before-take s)
   where
-    go : (t : Bool) (n : ℕ) → cond t 0 (suc (before-dot s)) ≤ n
+    go : (test : Bool) (n : ℕ) → cond test 0 (suc (before-dot s)) ≤ n
         → ((m : ℕ) → before-dot s ≤ m → before-dot (take (suc m) s) ≡ before-dot s)
-        → cond t 0 (suc (before-dot (take n s))) ≡ cond t 0 (suc (before-dot s))
+        → cond test 0 (suc (before-dot (take n s))) ≡ cond test 0 (suc (before-dot s))
     go true n h f = refl
     go false zero h f = absurd (omega arith)
     go false (suc n) h f = ap suc (f n (omega arith))
@@ -128,9 +128,9 @@ module _ {txt : List ℕ} {used from at len end : ℕ} (p : QueryPlace txt used 
   whole-is : between txt from end ≡ between txt from at ++ (span txt at len ∷ between txt (at + len + 1) end)
   whole-is = rw (span-join txt from at end (p .early) (p .inside)) (segments-append _ _ (p .passes) ∙ rw (c .splits))
 
-  middle : (l : Query) (x : Str) (m : Query) → Allˡ IsKey (l ++ (x ∷ m)) → IsKey x
+  middle : (q : Query) (x : Str) (m : Query) → Allˡ IsKey (q ++ (x ∷ m)) → IsKey x
   middle [] x m a = a .0
-  middle (y ∷ l) x m a = middle l x m (a .1)
+  middle (y ∷ q) x m a = middle q x m (a .1)
 
   pub key-in : TextOk IsKey txt used at len
   key-in = record { inside = omega (arith, c .inside, p .within); keeps = middle (between txt from at) _ _ (rw whole-is at (p .query .keys)) }

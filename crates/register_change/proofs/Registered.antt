@@ -109,7 +109,7 @@ module _ (ws txt : List ℕ) (at end : ℕ) (tbl : Table) (host : Str) (h : betw
   module-registers loaded file e =
       rw (module-change ws txt at end, h, e)
       (record {
-        root = ap (λ (t : Table). t .tbl-mods) (register-module-stays-loaded-value tbl loaded file (segments host));
+        root = ap (λ (tab : Table). tab .tbl-mods) (register-module-stays-loaded-value tbl loaded file (segments host));
         number = omega (arith, register-module-stays-loaded-count tbl loaded file (segments host));
       })
 

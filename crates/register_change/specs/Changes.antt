@@ -59,7 +59,7 @@ of-modules = kind modules trieˢ - kind names trieˢ
 
 -- What is added to them in the table of a change.
 abbrev pub Kinds : Change → ℕ → Type 0
-Kinds ch r = (r ≤ of-modules) × ((s : Sort) → kind (which-of ch) s ≡ kind-in s + r)
+Kinds ch r = (r ≤ of-modules) × ((so : Sort) → kind (which-of ch) so ≡ kind-in so + r)
 
 -- The bindings that mut_node gives a trie: a module path's alone are changed.
 unfoldable pub bindings-by : List ℕ → (f : Form) → Span → NameList (Item (which-by f)) bind → Str → Query → Query
@@ -83,9 +83,9 @@ mutated ws txt ch tr from at end =
 -- namespaces_mutate of a change.
 abbrev pub namespaces-mutated : (ws txt : List ℕ) (ch : Change) → NameList (Item (which-of ch)) ns
     → (from at len end : ℕ) → Counted (NameList (Item (which-of ch)) ns)
-namespaces-mutated ws txt ch n from at len end = do
-  scope ← mutated ws txt ch (scope-of n (span txt at len)) from (at + len + 1) end
-  names-insertᶜ n (span txt at len) scope
+namespaces-mutated ws txt ch nl from at len end = do
+  scope ← mutated ws txt ch (scope-of nl (span txt at len)) from (at + len + 1) end
+  names-insertᶜ nl (span txt at len) scope
 
 -- ---- On the way down
 

@@ -65,7 +65,7 @@ module _ (k : CallKind) (key : Str) {n : ℕ} (e : n ≡ key-size k (length key)
   cut-call host other = rw (e, used-taken, used-twice)
 
 -- An open of a module is an include: the same answer and the same state after it, whatever is lent.
-pub open-module-is-include : (sound : Bool) (l : Lent) (s : State) (host query : Str)
-    → register sound l s (opens true host query) ≡ register sound l s (include host query)
+pub open-module-is-include : (sound : Bool) (lent : Lent) (σ : State) (host query : Str)
+    → register sound lent σ (opens true host query) ≡ register sound lent σ (include host query)
 unfolding register registration-rows after arguments registered register-open records register-openᶜ
-open-module-is-include sound l s host query = refl
+open-module-is-include sound lent σ host query = refl

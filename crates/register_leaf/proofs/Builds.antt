@@ -24,25 +24,25 @@ use Rattle.insert_list.proofs.NamesInsertion.{insertion-after}
 use Rattle.register_leaf.specs.Leaves.{Builds}
 
 -- ---- One after another
-module _ {ws ws′ txt : List ℕ} {n n′ used : ℕ} {w : Which} {s : Sort} {c : Counted (Of (Item w) s)} {x : ℕ}
-    (b : Builds ws ws′ txt n used w s c x n′) where
-  pub builds-then : {ws″ : List ℕ} {n″ : ℕ} {t : Sort} (f : Of (Item w) s → Counted (Of (Item w) t)) {y : ℕ}
-      → Builds ws′ ws″ txt n′ used w t (f (c .value)) y n″
-      → Builds ws ws″ txt n used w t (c >>= f) y n″
+module _ {ws ws′ txt : List ℕ} {n n′ used : ℕ} {w : Which} {so : Sort} {c : Counted (Of (Item w) so)} {x : ℕ}
+    (b : Builds ws ws′ txt n used w so c x n′) where
+  pub builds-then : {ws″ : List ℕ} {n″ : ℕ} {so₂ : Sort} (f : Of (Item w) so → Counted (Of (Item w) so₂)) {y : ℕ}
+      → Builds ws′ ws″ txt n′ used w so₂ (f (c .value)) y n″
+      → Builds ws ws″ txt n used w so₂ (c >>= f) y n″
   unfolding _>>=_
   builds-then f d = record { number = omega (arith, b .number, d .number); made = made-then (b .made) (d .made) }
 
 -- Nothing is built.
-pub builds-none : {ws txt : List ℕ} {n used : ℕ} {w : Which} (s : Sort) {x : ℕ} → Used ws txt n used
-    → LinkOk ws (n + 1) x (kind w s)
-    → Builds ws ws txt n used w s (pure (what w ws txt x s)) x n
+pub builds-none : {ws txt : List ℕ} {n used : ℕ} {w : Which} (so : Sort) {x : ℕ} → Used ws txt n used
+    → LinkOk ws (n + 1) x (kind w so)
+    → Builds ws ws txt n used w so (pure (what w ws txt x so)) x n
 unfolding pure
-builds-none s o i = record { number = omega arith; made = made-none s o i }
+builds-none so o i = record { number = omega arith; made = made-none so o i }
 
 -- One record.
-pub builds-one : {ws ws′ txt : List ℕ} {n n′ used : ℕ} {w : Which} {s : Sort} {t : Of (Item w) s} {x : ℕ}
-    → Made ws ws′ txt n (n + 1) used w s x t → n′ ≡ n + 1
-    → Builds ws ws′ txt n used w s (one t) x n′
+pub builds-one : {ws ws′ txt : List ℕ} {n n′ used : ℕ} {w : Which} {so : Sort} {v : Of (Item w) so} {x : ℕ}
+    → Made ws ws′ txt n (n + 1) used w so x v → n′ ≡ n + 1
+    → Builds ws ws′ txt n used w so (one v) x n′
 unfolding one
 builds-one m e = record { number = e; made = rw e m }
 
@@ -67,11 +67,11 @@ by-order P Ordering·gt p q r = r
 
 module _ {A : Type 0} where
   -- A value that is inserted is no heavier and less deep than what it is inserted into.
-  record Within {ℓ : Level} (v : Value A ℓ) (t : Tree A ℓ) : Type 0 where
-    heavy : heaviest v ≤ heaviest-tree t
-    high : suc (depth v) ≤ depth-tree t
+  record Within {ℓ : Level} (v : Value A ℓ) (bt : Tree A ℓ) : Type 0 where
+    heavy : heaviest v ≤ heaviest-tree bt
+    high : suc (depth v) ≤ depth-tree bt
 
-  tree-within : {ℓ : Level} (t : Tree A ℓ) (k : Str) (v : Value A ℓ) → Within v (btree-insert-replace t k v)
+  tree-within : {ℓ : Level} (bt : Tree A ℓ) (k : Str) (v : Value A ℓ) → Within v (btree-insert-replace bt k v)
   unfolding btree-insert-replace heaviest-tree depth-tree
   tree-within StrEmpty k v = record { heavy = omega arith; high = omega arith }
   tree-within (StrBranch k′ v′ lbt rbt) k v =
@@ -82,12 +82,12 @@ module _ {A : Type 0} where
       (record { heavy = omega arith; high = omega arith })
       (record { heavy = omega (arith, g .heavy); high = omega (arith, g .high) })
 
-  pub record Inserted {ℓ : Level} (n : NameList A ℓ) (k : Str) (v : Value A ℓ) : Type 0 where
-    pub weighs : weight (names-insert n k v) ≤ heaviest-names (names-insert n k v)
-    pub heavy : heaviest v ≤ heaviest-names (names-insert n k v)
-    pub high : suc (depth v) ≤ depth-names (names-insert n k v)
+  pub record Inserted {ℓ : Level} (nl : NameList A ℓ) (k : Str) (v : Value A ℓ) : Type 0 where
+    pub weighs : weight (names-insert nl k v) ≤ heaviest-names (names-insert nl k v)
+    pub heavy : heaviest v ≤ heaviest-names (names-insert nl k v)
+    pub high : suc (depth v) ≤ depth-names (names-insert nl k v)
 
-  pub inserted-within : {ℓ : Level} (n : NameList A ℓ) (k : Str) (v : Value A ℓ) → Inserted n k v
+  pub inserted-within : {ℓ : Level} (nl : NameList A ℓ) (k : Str) (v : Value A ℓ) → Inserted nl k v
   unfolding names-insert heaviest-names depth-names
   inserted-within []ᴺ k v = let t = tree-within StrEmpty k v in record { weighs = omega arith; heavy = omega (arith, t .heavy); high = omega (arith, t .high) }
   inserted-within (Names bt tl) k v = let t = tree-within bt k v in
@@ -95,9 +95,9 @@ module _ {A : Type 0} where
   inserted-within (ImportedNames label inner tl) k v = let t = tree-within StrEmpty k v in
       record { weighs = omega arith; heavy = omega (arith, t .heavy); high = omega (arith, t .high) }
 
-pub insert-light : {A : Type 0} {ℓ : Level} (n : NameList A ℓ) (k : Str) (v : Value A ℓ)
-    → heaviest-names (names-insert n k v) ≤ 96 → weight (names-insert n k v) ≤ 96
-insert-light n k v h = omega (arith, inserted-within n k v .weighs)
+pub insert-light : {A : Type 0} {ℓ : Level} (nl : NameList A ℓ) (k : Str) (v : Value A ℓ)
+    → heaviest-names (names-insert nl k v) ≤ 96 → weight (names-insert nl k v) ≤ 96
+insert-light nl k v h = omega (arith, inserted-within nl k v .weighs)
 
 -- ---- A trie of a new list
 module _ {ws ws₁ txt : List ℕ} {n n₁ used : ℕ} {w : Which} where
@@ -145,13 +145,13 @@ module _ {ws ws₁ txt : List ℕ} {n n₁ used : ℕ} {w : Which} where
 
 -- ---- Insertions
 -- An insertion of so many branches.
-pub insert-count : {A : Type 0} {ℓ : Level} (n : NameList A ℓ) (key : Str) (t : Value A ℓ) {count : ℕ}
-    → count ≡ insert-branches (first-tree n) key → names-insertᶜ n key t .count ≡ count + 1
-insert-count n key t e = rw names-insert-count (omega (arith, e))
+pub insert-count : {A : Type 0} {ℓ : Level} (nl : NameList A ℓ) (key : Str) (v : Value A ℓ) {count : ℕ}
+    → count ≡ insert-branches (first-tree nl) key → names-insertᶜ nl key v .count ≡ count + 1
+insert-count nl key v e = rw names-insert-count (omega (arith, e))
 
 -- A trie, built before, goes into a list of namespaces that stood.
-module _ {ws ws₁ txt : List ℕ} {n n₁ used : ℕ} {w : Which} {c : Counted (Trie (Item w))} {s : ℕ}
-    (S : Builds ws ws₁ txt n used w trieˢ c s n₁)
+module _ {ws ws₁ txt : List ℕ} {n n₁ used : ℕ} {w : Which} {c : Counted (Trie (Item w))} {first : ℕ}
+    (S : Builds ws ws₁ txt n used w trieˢ c first n₁)
     (o : Used ws txt n used) {x count : ℕ} (j : LinkOk ws (n + 1) x (kind w (list ns))) (of : ℕ)
     (k : of + kind-in (tree ns) ≡ kind w (tree ns))
     (key : Span) (i : TextOk IsKey txt used (key .start) (key .len))
@@ -160,17 +160,17 @@ module _ {ws ws₁ txt : List ℕ} {n n₁ used : ℕ} {w : Which} {c : Counted 
       ((c >>= λ scope. names-insertᶜ (what w ws txt x (list ns)) (span txt (key .start) (key .len)) scope) .count)
       → heaviest-names ((c >>= λ scope. names-insertᶜ (what w ws txt x (list ns))
       (span txt (key .start) (key .len)) scope) .value) ≤ 96
-      → NamesInsertion ws₁ txt w ns n₁ used x count (namespace-row of key s)
+      → NamesInsertion ws₁ txt w ns n₁ used x count (namespace-row of key first)
   unfolding _>>=_
   scope-insertion room light =
-      insertion-after (S .made) (record { records = n; used = used; sound = o; link = j }) (omega (arith, j .earlier)) (namespace-row of key s) e
+      insertion-after (S .made) (record { records = n; used = used; sound = o; link = j }) (omega (arith, j .earlier)) (namespace-row of key first) e
       (c .value) (insert-light (what w ws txt x (list ns)) (span txt (key .start) (key .len)) (c .value) (rw names-insert-value at light))
       (made-room (S .made) (c .count) (S .number) (rw (insert-count (what w ws txt x (list ns)) (span txt (key .start) (key .len)) (c .value) e) at room))
       (record { known = k; key = i; holds = S .made .link })
 
-  pub scope-built : {ws₂ : List ℕ} {y : ℕ} → NamesInsertion ws₁ txt w ns n₁ used x count (namespace-row of key s)
+  pub scope-built : {ws₂ : List ℕ} {y : ℕ} → NamesInsertion ws₁ txt w ns n₁ used x count (namespace-row of key first)
       → y ≡ n₁ + count + 1
-      → NamesInserts ws₁ ws₂ txt n₁ x count (namespace-row of key s) y
+      → NamesInserts ws₁ ws₂ txt n₁ x count (namespace-row of key first) y
       → Builds ws ws₂ txt n used w (list ns)
       (c >>= λ scope. names-insertᶜ (what w ws txt x (list ns)) (span txt (key .start) (key .len)) scope) y y
   scope-built g f m =

@@ -238,22 +238,22 @@ module _ {ws txt : List ℕ} {n used x : ℕ} {text key : Span} {inc : ℕ} {p p
       unfolding one depth-names
       alias-fresh-ready = bindings-ready alias-builds (no-link n _) (less-room alias-room (omega arith)) (rw (what-none names ws txt) (omega arith))
 
-      module _ {ws₂ : List ℕ} {s : ℕ} (f : s ≡ b + 1) (g : MadeTrie ws₁ ws₂ b (kind names trieˢ) b 0 s) where
-        fresh-builds : Builds ws ws₂ txt n used names trieˢ fresh s s
+      module _ {ws₂ : List ℕ} {first : ℕ} (f : first ≡ b + 1) (g : MadeTrie ws₁ ws₂ b (kind names trieˢ) b 0 first) where
+        fresh-builds : Builds ws ws₂ txt n used names trieˢ fresh first first
         fresh-builds = rw (what-none names ws txt) at (bindings-built alias-builds (no-link n _) refl f g)
 
         abbrev alias-row : List ℕ
-        alias-row = namespace-row 0 key s
+        alias-row = namespace-row 0 key first
 
-        pub alias-insertion : NamesInsertion ws₂ txt names ns s used (p .namespaces) count alias-row
+        pub alias-insertion : NamesInsertion ws₂ txt names ns first used (p .namespaces) count alias-row
         unfolding _>>=_ one
         alias-insertion =
             scope-insertion fresh-builds (l .change .sound) (alias-lists .n-link) 0 refl key (l .change .key) (rw (alias-lists .n-reads) z)
             (rw (alias-lists .n-reads, alias-count) (less-room alias-room (omega arith)))
             (rw names-insert-value alias-light)
 
-        module _ {ws₃ : List ℕ} {y : ℕ} (h : y ≡ s + count + 1)
-            (i : NamesInserts ws₂ ws₃ txt s (p .namespaces) count alias-row y) where
+        module _ {ws₃ : List ℕ} {y : ℕ} (h : y ≡ first + count + 1)
+            (i : NamesInserts ws₂ ws₃ txt first (p .namespaces) count alias-row y) where
           alias-spaces : Builds ws ws₃ txt n used names (list ns)
               (fresh >>= λ scope. names-insertᶜ (namespaces (what names ws txt x trieˢ))
               (span txt (key .start) (key .len)) scope) y y

@@ -113,10 +113,10 @@ pub record Some (P : ℕ → Type 0) : Type 0 where
 -- ---- What a change makes
 
 -- The records of a counted value are made, and no other: link reads as the value, and n′ records are used.
-pub record Builds (ws ws′ txt : List ℕ) (n used : ℕ) (w : Which) (s : Sort) (c : Counted (Of (Item w) s))
+pub record Builds (ws ws′ txt : List ℕ) (n used : ℕ) (w : Which) (so : Sort) (c : Counted (Of (Item w) so))
     (link n′ : ℕ) : Type 0 where
   pub number : n′ ≡ n + c .count
-  pub made : Made ws ws′ txt n n′ used w s link (c .value)
+  pub made : Made ws ws′ txt n n′ used w so link (c .value)
 
 -- mut_leaf, for any text used.
 abbrev pub LeafBuilt : (ws ws′ txt : List ℕ) (n x : ℕ) (ch : Change) (link n′ : ℕ) → Type 0

@@ -43,8 +43,8 @@ use Rattle.find_trie.proofs.Links.{scope-up, holder-scope}
 use Rattle.memory.specs.Sound.{At}
 
 -- ---- an insertion
-pub insert-weight : {A : Type 0} {ℓ : Level} (n : NameList A ℓ) (k : Str) (v : Value A ℓ)
-    → weight (names-insert n k v) ≡ inserted-weight n
+pub insert-weight : {A : Type 0} {ℓ : Level} (nl : NameList A ℓ) (k : Str) (v : Value A ℓ)
+    → weight (names-insert nl k v) ≡ inserted-weight nl
 unfolding names-insert weight inserted-weight
 insert-weight []ᴺ k v = refl
 insert-weight (Names bt tl) k v = refl

@@ -73,13 +73,13 @@ HostBuilds Open other key tr count = Unit {0}
 HostBuilds Alias other key tr count = count ≡ insert-branches (first-tree (namespaces tr)) key
 HostBuilds (Module loaded) other key tr count = Unit {0}
 
--- What the first step of a way says of a step by the segment s from the list n of namespaces:
+-- What the first step of a way says of a step by the segment s from the list nl of namespaces:
 -- the trie below it, no later than x, and the branches that the insertion of s builds.
-pub record StepNoted (ws txt : List ℕ) (w : Which) (x : ℕ) (n : NameList (Item w) ns) (s : Str)
+pub record StepNoted (ws txt : List ℕ) (w : Which) (x : ℕ) (nl : NameList (Item w) ns) (s : Str)
     (way : List ℕ) : Type 0 where
   pub long : step-size ≤ length way
-  pub next : Reads ws txt w x (below-in way) (scope-of n s)
-  pub builds : count-in way ≡ insert-branches (first-tree n) s
+  pub next : Reads ws txt w x (below-in way) (scope-of nl s)
+  pub builds : count-in way ≡ insert-branches (first-tree nl) s
 
 -- The way from the trie x down a query, to the branches at the host.
 module _ (ws txt : List ℕ) (w : Which) (k : CallKind) (other key : Str) where

@@ -26,9 +26,9 @@ use Rattle.screen_calls.specs.Replies.{flag-for, chosen, unchosen, answe
 use Rattle.memory_bytes.proofs.Bytes.{read-back}
 use Rattle.screen_calls.proofs.Held.{Held, says-memory, says-unsound}
 
-answer-unsound : (l : Lent) (s : State) (c : Option Call) → answer-to false l s c ≡ C.refused 1
-answer-unsound l s (some c) = register-unsound l s c
-answer-unsound l s none = refl
+answer-unsound : (loan : Lent) (σ : State) (c : Option Call) → answer-to false loan σ c ≡ C.refused 1
+answer-unsound loan σ (some c) = register-unsound loan σ c
+answer-unsound loan σ none = refl
 
 pub reply-unsound : {st bs txt : List ℕ} {c : Option Call} → (SoundBytes st bs txt → ⊥)
     → Replies st bs txt st bs txt c 1
@@ -38,7 +38,7 @@ reply-unsound {c = c} e = record {
 
 -- ---- No call
 
-pub reply-none : {st bs m txt : List ℕ} {t : Table} {k : ℕ} (r : Bool) → Held st bs m t → Says r (IsSound m txt t)
+pub reply-none : {st bs m txt : List ℕ} {tab : Table} {k : ℕ} (r : Bool) → Held st bs m tab → Says r (IsSound m txt tab)
     → C.refused k ≡ unchosen r → Replies st bs txt st bs txt none k
 reply-none {txt = txt} r h p e = record {
   says = λ b i. rw (says-same _ b r (says-memory txt h b i) p, ← e) (refl, record { state = refl; words = refl; text = refl });
@@ -69,19 +69,19 @@ module _ {A : Type 0} {st bs txt st′ bs′ txt′ : List ℕ} {r : ℕ} (f : A
 -- ---- A call, by crate table's answer
 
 -- The records of an accepted call fit the words lent.
-module _ (ws txt ws′ txt′ : List ℕ) (t : Table) (c : Call) (r : Registration)
+module _ (ws txt ws′ txt′ : List ℕ) (tab : Table) (c : Call) (r : Registration)
     (taken : refusal-of (r .answer) ≡ none) where
-  fit-as : (x : C.Registered) → AnswersAs x ws txt ws′ txt′ t c r → r .table .header .records * 12 ≤ length ws
+  fit-as : (x : C.Registered) → AnswersAs x ws txt ws′ txt′ tab c r → r .table .header .records * 12 ≤ length ws
   fit-as (C.accepted s) a = omega (arith, a .1 .sound .right .records-fit, a .1 .words .size)
   fit-as (C.refused n) a = absurd (Option·none-ne-some n (sym taken ∙ a .0))
 
 by-bytes : (n : ℕ) → n * 12 * 4 ≡ n * 48
 by-bytes n = omega arith
 
-module _ {st bs txt m ws txt′ : List ℕ} {t : Table} {c : Call} {r : Registration} (h : Held st bs m t)
-    (sound : IsSound m txt t) (a : Answers true m txt ws txt′ t c r) where
+module _ {st bs txt m ws txt′ : List ℕ} {tab : Table} {c : Call} {r : Registration} (h : Held st bs m tab)
+    (sound : IsSound m txt tab) (a : Answers true m txt ws txt′ tab c r) where
   accepted-fits : refusal-of (r .answer) ≡ none → r .table .header .records * 12 ≤ length (words-in bs)
-  accepted-fits taken = rw (h .lent) at (fit-as m txt ws txt′ t c r taken (register true (lent m txt) (state m txt t) c) (a .says))
+  accepted-fits taken = rw (h .lent) at (fit-as m txt ws txt′ tab c r taken (register true (lent m txt) (state m txt tab) c) (a .says))
 
   pub store-fits : refusal-of (r .answer) ≡ none → length ws ≡ length m
       → (r .table .header .records * 12 * 4 ≤ length bs) × (r .table .header .records * 12 ≤ length ws)
@@ -94,7 +94,7 @@ module _ {st bs txt m ws txt′ : List ℕ} {t : Table} {c : Call} {r : Registra
 
   -- It is accepted, and the new words and the new header are stored.
   module _ {st′ bs′ : List ℕ} (taken : refusal-of (r .answer) ≡ none)
-      (saved : Saved ws (t .header .records) (r .table .header) bs bs′ st′) where
+      (saved : Saved ws (tab .header .records) (r .table .header) bs bs′ st′) where
     kept : Stored ws (header-in st .records * 12) (r .table .header .records * 12) bs bs′
     kept = rw (h .spelt .header) (saved .stored)
 

@@ -63,14 +63,14 @@ module _ {st bs txt : List ℕ} {query : Str} {ls out : List ℕ} where
     says = λ b h. rw (says-unsound b e h, completion-unsound _ (request .ask) _ _ _) (record { reply = p; lines = refl; text = refl });
   }
 
-  pub lines-replied : {m ls′ out′ : List ℕ} {t : Table} {request : Request} (r : Listing) {c : CompleteReply}
-      → Held st bs m t
-      → Completes m txt t request query ls ls′ out out′ r → c ≡ lines-reply (r .answer)
+  pub lines-replied : {m ls′ out′ : List ℕ} {tab : Table} {request : Request} (r : Listing) {c : CompleteReply}
+      → Held st bs m tab
+      → Completes m txt tab request query ls ls′ out out′ r → c ≡ lines-reply (r .answer)
       → RepliesLines st bs txt (some (request .ask)) query (request .budget) ls ls′ out out′ c
-  lines-replied {m} {ls′} {out′} {t} {request} r h g p = record {
+  lines-replied {m} {ls′} {out′} {tab} {request} r h g p = record {
     says = λ b i. rw (← h .lent, h .spelt .header, p)
-        (replied-as (request .ask) (used-words m (t .header)) (used-text txt (t .header)) ls ls′ out out′ (r .answer)
-        (completion b (table-in m txt t) (request .ask) (request .budget) (output ls out) query)
+        (replied-as (request .ask) (used-words m (tab .header)) (used-text txt (tab .header)) ls ls′ out out′ (r .answer)
+        (completion b (table-in m txt tab) (request .ask) (request .budget) (output ls out) query)
         (g .says b (says-memory txt h b i)));
   }
 

@@ -33,12 +33,12 @@ module _ {st bs txt : List ℕ} {q : Str} (e : SoundBytes st bs txt → ⊥) whe
   module-unsound p = record { says = λ b h. record { found = Refused Unsound; reply = p; says = rw (says-unsound b e h, look-up-unsound); inside = tt } }
 
 -- A look-up by crate table.
-module _ {st bs txt m : List ℕ} {t : Table} {q : Str} (h : Held st bs m t) where
-  pub name-looked : {f : Finding} {r : NameReply} → Finds m txt t q f → r ≡ name-reply (name-found (f .answer))
+module _ {st bs txt m : List ℕ} {tab : Table} {q : Str} (h : Held st bs m tab) where
+  pub name-looked : {f : Finding} {r : NameReply} → Finds m txt tab q f → r ≡ name-reply (name-found (f .answer))
       → RepliesName st bs txt q r
   name-looked g p = record { says = λ b i. rw (← h .lent, h .spelt .header, ← g .says b (says-memory txt h b i)) p }
 
-  pub module-looked : {f : ModuleFinding} {r : ModuleReply} → FindsModule m txt t q f → r ≡ module-reply (f .answer)
+  pub module-looked : {f : ModuleFinding} {r : ModuleReply} → FindsModule m txt tab q f → r ≡ module-reply (f .answer)
       → RepliesModule st bs txt q r
   module-looked {f} g p = record {
     says = λ b i. record {

@@ -65,8 +65,8 @@ module _ {st bs txt : List ℕ} {ask : Option Ask} {query : Str} {budget : ℕ} 
   replies-candidates = left-candidates (which ask) _ _ ls ls′ out out′ (r .lines) (answer st bs txt query budget ls out ask)
       (left st bs txt query budget ls out ls′ out′ r ask x)
 
-  pub replies-shared : {s : SharedReply} → s ≡ shared-reply r (shared-seen ls′ out′ (r .lines))
-      → RepliesShared st bs txt ask query budget ls ls′ out out′ s
+  pub replies-shared : {reply : SharedReply} → reply ≡ shared-reply r (shared-seen ls′ out′ (r .lines))
+      → RepliesShared st bs txt ask query budget ls ls′ out out′ reply
   replies-shared e = rw e (record {
     lines = x;
     shared = λ b h. leaves-shared (which ask) _ _ ls ls′ out out′ (r .lines) (answer st bs txt query budget ls out ask b)

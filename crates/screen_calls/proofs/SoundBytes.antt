@@ -22,7 +22,7 @@ module _ (bs txt : List ℕ) where
   unfolding header-in word-at
   zero-fresh = fresh-state (words-in bs) txt
 
-pub bytes-accepted-sound : {st bs txt st′ bs′ txt′ : List ℕ} {c : Call} {s : State}
-    → AcceptsBytes st bs txt st′ bs′ txt′ c s
+pub bytes-accepted-sound : {st bs txt st′ bs′ txt′ : List ℕ} {c : Call} {σ : State}
+    → AcceptsBytes st bs txt st′ bs′ txt′ c σ
     → SoundBytes st′ bs′ txt′
 bytes-accepted-sound a = record { size = a .size; sound = a .table .sound }

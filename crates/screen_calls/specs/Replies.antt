@@ -43,14 +43,14 @@ unchosen false = C.refused 1
 
 -- What a registration hands back.
 abbrev pub answer-to : (sound : Bool) → Lent → State → Option Call → C.Registered
-answer-to sound l s (some c) = register sound l s c
-answer-to sound l s none = unchosen sound
+answer-to sound loan σ (some c) = register sound loan σ c
+answer-to sound loan σ none = unchosen sound
 
--- By the call c the bytes stand for the state s. Only the free records and text that were taken have changed, and the text taken is
+-- By the call c the bytes stand for the state σ. Only the free records and text that were taken have changed, and the text taken is
 -- the call's texts.
-pub record AcceptsBytes (st bs txt st′ bs′ txt′ : List ℕ) (c : Call) (s : State) : Type 0 where
+pub record AcceptsBytes (st bs txt st′ bs′ txt′ : List ℕ) (c : Call) (σ : State) : Type 0 where
   pub size : length st′ ≡ state-bytes
-  pub table : Accepts (words-in bs) txt (words-in bs′) txt′ (table-at st) (table-at st′) c s
+  pub table : Accepts (words-in bs) txt (words-in bs′) txt′ (table-at st) (table-at st′) c σ
   pub bytes : Outside (header-in st .records * record-bytes) (header-in st′ .records * record-bytes) bs bs′
 
 -- No byte has changed.

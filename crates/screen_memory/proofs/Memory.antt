@@ -10,9 +10,9 @@ use Rattle.screen_memory.specs.Memory.{state-bytes, record-bytes, record
 use Rattle.memory_bytes.proofs.Bytes.{word-before, words-length}
 
 -- A header put word by word.
-pub header-put : {s s₁ s₂ s₃ s₄ : List ℕ} {a b c d : ℕ} → length s ≡ state-bytes → Put 0 a s s₁ → Put 1 b s₁ s₂
-    → Put 2 c s₂ s₃ → Put 3 d s₃ s₄
-    → Spells s₄ (record { names = a; modules = b; records = c; text = d })
+pub header-put : {st st₁ st₂ st₃ st₄ : List ℕ} {a b c d : ℕ} → length st ≡ state-bytes → Put 0 a st st₁ → Put 1 b st₁ st₂
+    → Put 2 c st₂ st₃ → Put 3 d st₃ st₄
+    → Spells st₄ (record { names = a; modules = b; records = c; text = d })
 unfolding header-in
 header-put h p q r t = record {
   size = t .rest .size ∙ r .rest .size ∙ q .rest .size ∙ p .rest .size ∙ h;

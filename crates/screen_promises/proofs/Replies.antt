@@ -77,7 +77,7 @@ symbol-reply-is (Module n p l) (Namespace n′ l′) e = absurd (omega (arith, a
 symbol-reply-is (Namespace n l) (Module n′ p′ l′) e = absurd (omega (arith, ap (λ (r : ModuleReply). r .sort) e))
 
 -- A module or namespace is answered with 0.
-symbol-answer : (s : ModSymbol) → symbol-reply s .answer ≡ 0
+symbol-answer : (symbol : ModSymbol) → symbol-reply symbol .answer ≡ 0
 symbol-answer (Module n p l) = refl
 symbol-answer (Namespace n l) = refl
 

@@ -25,28 +25,28 @@ use Rattle.table_shared.specs.declared.Sharing.{Sharing}
 use Rattle.screen_tests.specs.Replies.{ask-of, reply-of, shared-of, RegisterReplies, FindReplies, ListReplies, SharedReplies}
 use Rattle.screen_tests.specs.declared.Reply.{Reply}
 
-module _ {ws txt ws′ txt′ : List ℕ} {t t′ : Table} {c : Call} {x : Registration} {r : Reply} where
-  pub register-replies : t ≡ t′ → Total ws txt ws′ txt′ t c x → r ≡ reply-of x → RegisterReplies ws txt ws′ txt′ t′ c r
+module _ {ws txt ws′ txt′ : List ℕ} {tab tab′ : Table} {c : Call} {x : Registration} {r : Reply} where
+  pub register-replies : tab ≡ tab′ → Total ws txt ws′ txt′ tab c x → r ≡ reply-of x → RegisterReplies ws txt ws′ txt′ tab′ c r
   register-replies e a f = record { answer = x; total = subst (λ u. Total ws txt ws′ txt′ u c x) e a; reply = f }
 
   -- In a sound memory.
-  pub replies-sound : t ≡ t′ → IsSound ws txt t′ → Answers true ws txt ws′ txt′ t c x → r ≡ reply-of x
-      → RegisterReplies ws txt ws′ txt′ t′ c r
+  pub replies-sound : tab ≡ tab′ → IsSound ws txt tab′ → Answers true ws txt ws′ txt′ tab c x → r ≡ reply-of x
+      → RegisterReplies ws txt ws′ txt′ tab′ c r
   replies-sound e o a f = record { answer = x; total = λ b h. rw (says-same _ b true h o) (subst (λ u. Answers true ws txt ws′ txt′ u c x) e a); reply = f }
 
-pub finds-replies : {ws txt : List ℕ} {t t′ : Table} {query : Str} {x : Finding} {r : NameReply} → t ≡ t′
-    → Finds ws txt t query x → r ≡ name-reply (name-found (x .answer)) → FindReplies ws txt t′ query r
+pub finds-replies : {ws txt : List ℕ} {tab tab′ : Table} {query : Str} {x : Finding} {r : NameReply} → tab ≡ tab′
+    → Finds ws txt tab query x → r ≡ name-reply (name-found (x .answer)) → FindReplies ws txt tab′ query r
 finds-replies {ws} {txt} {query = query} {x} e a f = record { answer = x; finds = subst (λ u. Finds ws txt u query x) e a; reply = f }
 
 -- What is said of a table and of what is asked is said of equal ones.
-same-asked : (P : Table → Ask → Type 0) {t t′ : Table} {ask ask′ : Ask} → t ≡ t′ → ask ≡ ask′ → P t ask → P t′ ask′
-same-asked P {t′ = t′} {ask} e g x = subst (P t′) g (subst (λ (u : Table). P u ask) e x)
+same-asked : (P : Table → Ask → Type 0) {tab tab′ : Table} {ask ask′ : Ask} → tab ≡ tab′ → ask ≡ ask′ → P tab ask → P tab′ ask′
+same-asked P {t′ = tab′} {ask} e g x = subst (P tab′) g (subst (λ (u : Table). P u ask) e x)
 
-module _ {ws txt : List ℕ} {t t′ : Table} {ask : Ask} {n : ℕ} {query : Str} {budget : ℕ} {flat flat′ out out′ : List ℕ}
-    (e : t ≡ t′) (g : ask ≡ ask-of n) where
+module _ {ws txt : List ℕ} {tab tab′ : Table} {ask : Ask} {n : ℕ} {query : Str} {budget : ℕ} {flat flat′ out out′ : List ℕ}
+    (e : tab ≡ tab′) (g : ask ≡ ask-of n) where
   pub lists-replies : {x : Listing} {r : CompleteReply}
-      → Completes ws txt t (record { ask = ask; budget = budget }) query flat flat′ out out′ x → r ≡ lines-reply (x .answer)
-      → ListReplies ws txt t′ n query budget flat flat′ out out′ r
+      → Completes ws txt tab (record { ask = ask; budget = budget }) query flat flat′ out out′ x → r ≡ lines-reply (x .answer)
+      → ListReplies ws txt tab′ n query budget flat flat′ out out′ r
   lists-replies {x} a f = record {
     answer = x;
     completes = same-asked (λ u k. Completes ws txt u (record { ask = k; budget = budget }) query flat flat′ out out′ x) e g a;
@@ -54,8 +54,8 @@ module _ {ws txt : List ℕ} {t t′ : Table} {ask : Ask} {n : ℕ} {query : Str
   }
 
   pub shares-replies : {x : Sharing} {r : SharedReply}
-      → CompletesShared ws txt t (record { ask = ask; budget = budget }) query flat flat′ out out′ x → r ≡ shared-of x
-      → SharedReplies ws txt t′ n query budget flat flat′ out out′ r
+      → CompletesShared ws txt tab (record { ask = ask; budget = budget }) query flat flat′ out out′ x → r ≡ shared-of x
+      → SharedReplies ws txt tab′ n query budget flat flat′ out out′ r
   shares-replies {x} a f = record {
     answer = x;
     completes = same-asked (λ u k. CompletesShared ws txt u (record { ask = k; budget = budget }) query flat flat′ out out′ x) e g a;

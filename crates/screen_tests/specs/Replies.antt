@@ -62,35 +62,35 @@ reply-of x = record {
 }
 
 -- The reply to a registration: that of what table's contract says.
-pub record RegisterReplies (ws txt ws′ txt′ : List ℕ) (t : Table) (c : Call) (r : Reply) : Type 0 where
+pub record RegisterReplies (ws txt ws′ txt′ : List ℕ) (tab : Table) (c : Call) (r : Reply) : Type 0 where
   pub answer : Registration
-  pub total : Total ws txt ws′ txt′ t c answer
+  pub total : Total ws txt ws′ txt′ tab c answer
   pub reply : r ≡ reply-of answer
 
 -- ---- Look-ups
 
 -- The reply to a look-up of a name: that of what table's contract says.
-pub record FindReplies (ws txt : List ℕ) (t : Table) (query : Str) (r : NameReply) : Type 0 where
+pub record FindReplies (ws txt : List ℕ) (tab : Table) (query : Str) (r : NameReply) : Type 0 where
   pub answer : Finding
-  pub finds : Finds ws txt t query answer
+  pub finds : Finds ws txt tab query answer
   pub reply : r ≡ name-reply (name-found (answer .answer))
 
 -- ---- Completions
 
 -- The reply to a completion: that of what table's contract says.
-pub record ListReplies (ws txt : List ℕ) (t : Table) (ask : ℕ) (query : Str) (budget : ℕ) (flat flat′ out out′ : List ℕ)
+pub record ListReplies (ws txt : List ℕ) (tab : Table) (ask : ℕ) (query : Str) (budget : ℕ) (flat flat′ out out′ : List ℕ)
     (r : CompleteReply) : Type 0 where
   pub answer : Listing
-  pub completes : Completes ws txt t (record { ask = ask-of ask; budget = budget }) query flat flat′ out out′ answer
+  pub completes : Completes ws txt tab (record { ask = ask-of ask; budget = budget }) query flat flat′ out out′ answer
   pub reply : r ≡ lines-reply (answer .answer)
 
 abbrev pub shared-of : Sharing → SharedReply
 shared-of x = shared-reply (lines-reply (x .listing .answer)) (x .shared)
 
 -- The reply to a completion with its shared length: that of what sharing's contract says.
-pub record SharedReplies (ws txt : List ℕ) (t : Table) (ask : ℕ) (query : Str) (budget : ℕ)
+pub record SharedReplies (ws txt : List ℕ) (tab : Table) (ask : ℕ) (query : Str) (budget : ℕ)
     (flat flat′ out out′ : List ℕ) (r : SharedReply) : Type 0 where
   pub answer : Sharing
-  pub completes : CompletesShared ws txt t
+  pub completes : CompletesShared ws txt tab
       (record { ask = ask-of ask; budget = budget }) query flat flat′ out out′ answer
   pub reply : r ≡ shared-of answer

@@ -36,7 +36,7 @@ command-key (ask what q) = AskKey what
 
 -- The command is of this form, and the line is spelled so.
 abbrev pub Keyed : Str → Command → Key → Type 0
-Keyed line c NameKey = (host : Str) × (id : Str) × (n : LidSymbol) × (c ≡ name host id n) × NameLine line host id n
+Keyed line c NameKey = (host : Str) × (id : Str) × (item : LidSymbol) × (c ≡ name host id item) × NameLine line host id item
 Keyed line c (ImportKey how) = (host : Str) × (q : Str) × (c ≡ import how host q) × ImportLine how line host q
 Keyed line c AliasKey = (word : Str) × (host : Str) × (q : Str) × (c ≡ alias word host q) × AliasLine line word host q
 Keyed line c (ModuleKey loaded) = (q : Str) × (path : Str) × (c ≡ module-path loaded q path) × ModuleLine loaded line q path

@@ -16,7 +16,7 @@ use Rattle.script_decimal.specs.Numerals.{value-from, Numeral, digits, d
 pub by-ten : {A : Type 0} (n : ℕ) → (n < 10 → A) → (10 ≤ n → A) → A
 by-ten {A} n f g = go (ltb n 10) refl
   where
-    go : (t : Bool) → ltb n 10 ≡ t → A
+    go : (b : Bool) → ltb n 10 ≡ b → A
     go true e = f (ltb-true n 10 e)
     go false e = g (ltb-false n 10 e)
 

@@ -35,8 +35,8 @@ module _ (sort : Sort) where
   run-all [] = tt
   run-all (b ∷ s) = go (run-all s) (byte-ok sort b) refl
     where
-      go : All sort (take (run-length sort s) s) → (t : Bool) → byte-ok sort b ≡ t
-          → All sort (take (counted t (run-length sort s)) (b ∷ s))
+      go : All sort (take (run-length sort s) s) → (test : Bool) → byte-ok sort b ≡ test
+          → All sort (take (counted test (run-length sort s)) (b ∷ s))
       go r true e = (e, r)
       go r false e = tt
 
@@ -45,7 +45,7 @@ module _ (sort : Sort) where
   run-le [] = zero-le
   run-le (b ∷ s) = go (run-le s) (byte-ok sort b)
     where
-      go : run-length sort s ≤ length s → (t : Bool) → counted t (run-length sort s) ≤ suc (length s)
+      go : run-length sort s ≤ length s → (test : Bool) → counted test (run-length sort s) ≤ suc (length s)
       go r true = omega arith
       go r false = zero-le
 
@@ -55,9 +55,9 @@ module _ (sort : Sort) where
   run-after [] l = absurd (omega arith)
   run-after (b ∷ s) l = go (λ h. run-after s h) (byte-ok sort b) refl l
     where
-      go : (run-length sort s < length s → byte-ok sort (getD s (run-length sort s) 0) ≡ false) → (t : Bool)
-          → byte-ok sort b ≡ t → counted t (run-length sort s) < suc (length s)
-          → byte-ok sort (getD (b ∷ s) (counted t (run-length sort s)) 0) ≡ false
+      go : (run-length sort s < length s → byte-ok sort (getD s (run-length sort s) 0) ≡ false) → (test : Bool)
+          → byte-ok sort b ≡ test → counted test (run-length sort s) < suc (length s)
+          → byte-ok sort (getD (b ∷ s) (counted test (run-length sort s)) 0) ≡ false
       go f true e l = f (omega arith)
       go f false e l = e
 

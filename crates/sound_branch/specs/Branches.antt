@@ -23,8 +23,8 @@ module _ (ws txt : List ℕ) (used l : ℕ) (r : List ℕ) where
       → Says b (BranchOk ws txt used l w r ℓ × Ordered (row w txt r (what w ws txt) (tree ℓ)))
 
   -- The trie that a branch holds, and the branch's depth, are right.
-  abbrev pub SaysHeld : (t : ℕ) → Bool → Type 0
-  SaysHeld t b =
-      (w : Which) → t ≡ kind w trieˢ → BranchOk ws txt used l w r ns
+  abbrev pub SaysHeld : (m : ℕ) → Bool → Type 0
+  SaysHeld m b =
+      (w : Which) → m ≡ kind w trieˢ → BranchOk ws txt used l w r ns
       → Says b (LinkOk ws l (trie-link r) (kind w trieˢ)
       × (depth-word r ≡ depth-tree (row w txt r (what w ws txt) (tree ns))))

@@ -36,7 +36,7 @@ abbrev pub away : Side → ℕ
 away left = 3
 away right = 4
 
-on-trans : (s : Side) (x y z : Str) → On s x y → On s y z → On s x z
+on-trans : (side : Side) (x y z : Str) → On side x y → On side y z → On side x z
 on-trans left x y z h k = <ˢ-trans x y z h k
 on-trans right x y z h k = <ˢ-trans z y x k h
 
@@ -45,7 +45,7 @@ Some StrEmpty = ⊥
 Some (StrBranch k ℓ lbt rbt) = Unit {0}
 
 -- A key of a tree that is not empty.
-some-key : {A : Type 0} {ℓ : Level} (t : Tree A ℓ) (P Q : Str → Type 0) → Some t → AllKeys P t → AllKeys Q t
+some-key : {A : Type 0} {ℓ : Level} (bt : Tree A ℓ) (P Q : Str → Type 0) → Some bt → AllKeys P bt → AllKeys Q bt
     → (k : Str) × (P k × Q k)
 some-key StrEmpty P Q s a b = absurd s
 some-key (StrBranch k ℓ lbt rbt) P Q s a b = (k, (a .0, b .0))
@@ -63,8 +63,8 @@ pub says-end : (b : Bool) {ws txt : List ℕ} {used l r : ℕ} {P : Str → Type
 says-end b i h = says-iff b h (i .to) (i .fro)
 
 module _ {ws txt : List ℕ} {used l : ℕ} (b : Before ws txt used l) where
-  pub toward-falls : (s : Side) (from : ℕ) → from < l → (j : ℕ) → 0 < j → j ≤ from
-      → word (record-at ws j) (toward s) < j
+  pub toward-falls : (side : Side) (from : ℕ) → from < l → (j : ℕ) → 0 < j → j ≤ from
+      → word (record-at ws j) (toward side) < j
   toward-falls left from h j p q = links-earlier (b .rows j p (omega arith)) .1
   toward-falls right from h j p q = links-earlier (b .rows j p (omega arith)) .0
 
@@ -75,7 +75,7 @@ module _ {ws txt : List ℕ} {used l : ℕ} (b : Before ws txt used l) where
     pub none-all : (P : Str → Type 0) (x : ℕ) → x ≡ 0 → AllKeys P (the x)
     none-all P x e = rw (e, what-none w ws txt) tt
 
-    module _ (s : Side) (x : ℕ) (p : 0 < x) (h : x < l) (e : kind-word (record-at ws x) ≡ kind w (tree ℓ)) where
+    module _ (side : Side) (x : ℕ) (p : 0 < x) (h : x < l) (e : kind-word (record-at ws x) ≡ kind w (tree ℓ)) where
       ok : RecordOk ws txt used x
       ok = b .rows x p h
 
@@ -85,74 +85,74 @@ module _ {ws txt : List ℕ} {used l : ℕ} (b : Before ws txt used l) where
       is-some : Some (the x)
       is-some = rw seen tt
 
-      pub toward-link : LinkOk ws x (word (record-at ws x) (toward s)) (kind w (tree ℓ))
-      toward-link = go s
+      pub toward-link : LinkOk ws x (word (record-at ws x) (toward side)) (kind w (tree ℓ))
+      toward-link = go side
         where
-          go : (s : Side) → LinkOk ws x (word (record-at ws x) (toward s)) (kind w (tree ℓ))
+          go : (side : Side) → LinkOk ws x (word (record-at ws x) (toward side)) (kind w (tree ℓ))
           go left = branch-at ok w ℓ e .right
           go right = branch-at ok w ℓ e .left
 
-      all-at : (P : Str → Type 0) → P (key-of txt (record-at ws x)) → AllKeys P (the (word (record-at ws x) (away s)))
-          → AllKeys P (the (word (record-at ws x) (toward s))) → AllKeys P (the x)
-      all-at P = go s
+      all-at : (P : Str → Type 0) → P (key-of txt (record-at ws x)) → AllKeys P (the (word (record-at ws x) (away side)))
+          → AllKeys P (the (word (record-at ws x) (toward side))) → AllKeys P (the x)
+      all-at P = go side
         where
-          go : (s : Side) → P (key-of txt (record-at ws x)) → AllKeys P (the (word (record-at ws x) (away s)))
-              → AllKeys P (the (word (record-at ws x) (toward s))) → AllKeys P (the x)
+          go : (side : Side) → P (key-of txt (record-at ws x)) → AllKeys P (the (word (record-at ws x) (away side)))
+              → AllKeys P (the (word (record-at ws x) (toward side))) → AllKeys P (the x)
           go left k i j = rw seen (k, i, j)
           go right k i j = rw seen (k, j, i)
 
       at-all : (P : Str → Type 0) → AllKeys P (the x)
-          → P (key-of txt (record-at ws x)) × AllKeys P (the (word (record-at ws x) (toward s)))
-      at-all P a = go s (rw seen at a)
+          → P (key-of txt (record-at ws x)) × AllKeys P (the (word (record-at ws x) (toward side)))
+      at-all P a = go side (rw seen at a)
         where
-          go : (s : Side) → P (key-of txt (record-at ws x)) × AllKeys P (the (left-link (record-at ws x)))
+          go : (side : Side) → P (key-of txt (record-at ws x)) × AllKeys P (the (left-link (record-at ws x)))
               × AllKeys P (the (right-link (record-at ws x)))
-              → P (key-of txt (record-at ws x)) × AllKeys P (the (word (record-at ws x) (toward s)))
+              → P (key-of txt (record-at ws x)) × AllKeys P (the (word (record-at ws x) (toward side)))
           go left a = (a .0, a .2)
           go right a = (a .0, a .1)
 
-      sides : AllKeys (λ y. On s y (key-of txt (record-at ws x))) (the (word (record-at ws x) (away s)))
-          × AllKeys (λ y. On s (key-of txt (record-at ws x)) y) (the (word (record-at ws x) (toward s)))
-      sides = go s (rw seen at (ordered-at ok w ℓ e))
+      sides : AllKeys (λ y. On side y (key-of txt (record-at ws x))) (the (word (record-at ws x) (away side)))
+          × AllKeys (λ y. On side (key-of txt (record-at ws x)) y) (the (word (record-at ws x) (toward side)))
+      sides = go side (rw seen at (ordered-at ok w ℓ e))
         where
-          go : (s : Side) → Ordered (row w txt (record-at ws x) (what w ws txt) (tree ℓ))
-              → AllKeys (λ y. On s y (key-of txt (record-at ws x))) (the (word (record-at ws x) (away s)))
-              × AllKeys (λ y. On s (key-of txt (record-at ws x)) y) (the (word (record-at ws x) (toward s)))
+          go : (side : Side) → Ordered (row w txt (record-at ws x) (what w ws txt) (tree ℓ))
+              → AllKeys (λ y. On side y (key-of txt (record-at ws x))) (the (word (record-at ws x) (away side)))
+              × AllKeys (λ y. On side (key-of txt (record-at ws x)) y) (the (word (record-at ws x) (toward side)))
           go left o = (o .0, o .1)
           go right o = (o .1, o .0)
 
       -- Where the branch's own key is on the side of k, so are those away from k.
-      away-all : (k : Str) → On s (key-of txt (record-at ws x)) k
-          → AllKeys (λ y. On s y k) (the (word (record-at ws x) (away s)))
-      away-all k q = AllKeys-map (the (word (record-at ws x) (away s))) (λ y i. on-trans s y (key-of txt (record-at ws x)) k i q) (sides .0)
+      away-all : (k : Str) → On side (key-of txt (record-at ws x)) k
+          → AllKeys (λ y. On side y k) (the (word (record-at ws x) (away side)))
+      away-all k q = AllKeys-map (the (word (record-at ws x) (away side))) (λ y i. on-trans side y (key-of txt (record-at ws x)) k i q) (sides .0)
 
-    pub far-outermost : (s : Side) (k : Str) {x r : ℕ} → Far ws (toward s) x r → 0 < x → x < l
+    pub far-outermost : (side : Side) (k : Str) {x r : ℕ} → Far ws (toward side) x r → 0 < x → x < l
         → kind-word (record-at ws x) ≡ kind w (tree ℓ)
-        → End ws txt used l r (λ y. On s y k) (AllKeys (λ y. On s y k) (the x))
-    far-outermost s k {x} (here z) p h e = record {
+        → End ws txt used l r (λ y. On side y k) (AllKeys (λ y. On side y k) (the x))
+    far-outermost side k {x} (here z) p h e = record {
       some = p;
       before = h;
       inside = branch-at (b .rows x p h) w ℓ e .key .inside;
-      to = λ q. all-at s x p h e (λ y. On s y k) q (away-all s x p h e k q) (none-all (λ y. On s y k) _ z);
-      fro = λ a. at-all s x p h e (λ y. On s y k) a .0;
+      to = λ q. all-at side x p h e (λ y. On side y k) q (away-all side x p h e k q) (none-all (λ y. On side y k) _ z);
+      fro = λ a. at-all side x p h e (λ y. On side y k) a .0;
     }
-    far-outermost s k {x} {r} (on z f) p h e =
-        let n = toward-link s x p h e in
-        let y = word (record-at ws x) (toward s) in
+    far-outermost side k {x} {r} (on z f) p h e =
+        let n = toward-link side x p h e in
+        let y = word (record-at ws x) (toward side) in
         let c : kind-word (record-at ws y) ≡ kind w (tree ℓ) = n .of-kind (λ q. omega arith) in
         let m : y < l = omega (arith, n .earlier) in
-        let i : End ws txt used l r (λ y. On s y k) (AllKeys (λ y. On s y k) (the y)) = far-outermost s k f z m c in
+        let i : End ws txt used l r (λ y. On side y k) (AllKeys (λ y. On side y k) (the y)) = far-outermost side k f z m c in
         record {
           some = i .some;
           before = i .before;
           inside = i .inside;
           to = λ q.
-              let t = some-key (the y) (λ u. On s (key-of txt (record-at ws x)) u) (λ u. On s u k) (is-some s y z m c)
-              (sides s x p h e .1) (i .to q) in
-              let g : On s (key-of txt (record-at ws x)) k =
-              on-trans s (key-of txt (record-at ws x)) (t .0) k (t .1 .0) (t .1 .1) in
-              all-at s x p h e (λ y. On s y k) g (away-all s x p h e k g) (i .to q);
-          fro = λ a. i .fro (at-all s x p h e (λ y. On s y k) a .1);
+              let t = some-key (the y) (λ u. On side (key-of txt (record-at ws x)) u) (λ u. On side u k) (is-some side y z m c)
+              (sides side x p h e .1) (i .to q) in
+              let g : On side (key-of txt (record-at ws x)) k =
+              on-trans side (key-of txt (record-at ws x)) (t .0) k (t .1 .0) (t .1 .1) in
+              all-at side x p h e (λ y. On side y k) g (away-all side x p h e k g) (i .to q);
+          fro = λ a. i .fro (at-all side x p h e (λ y. On side y k) a .1);
         }
 
 -- The end of the spine of a subtree: its words and its key are lent.
@@ -161,14 +161,14 @@ pub record EndLent (ws txt : List ℕ) (r : ℕ) : Type 0 where
   pub fits : r * 12 ≤ length ws
   pub inside : text-start (record-at ws r) + text-len (record-at ws r) ≤ length txt
 
-module _ {ws txt : List ℕ} {used l k top start len : ℕ} (q : Subtree ws txt used l k top start len) (s : Side) where
-  pub subtree-end : {r : ℕ} → (w : Which) (ℓ : Level) → k ≡ kind w (tree ℓ) → (top ≡ 0 → ⊥) → Far ws (toward s) top r
-      → End ws txt used l r (λ y. On s y (span txt start len))
-      (AllKeys (λ y. On s y (span txt start len)) (what w ws txt top (tree ℓ)))
+module _ {ws txt : List ℕ} {used l k top start len : ℕ} (q : Subtree ws txt used l k top start len) (side : Side) where
+  pub subtree-end : {r : ℕ} → (w : Which) (ℓ : Level) → k ≡ kind w (tree ℓ) → (top ≡ 0 → ⊥) → Far ws (toward side) top r
+      → End ws txt used l r (λ y. On side y (span txt start len))
+      (AllKeys (λ y. On side y (span txt start len)) (what w ws txt top (tree ℓ)))
   subtree-end w ℓ e n f =
-      far-outermost (q .before) w ℓ s (span txt start len) f (zero-some top (λ z. absurd (n z)) (λ p. p)) (q .link .earlier) (q .link .of-kind n ∙ e)
+      far-outermost (q .before) w ℓ side (span txt start len) f (zero-some top (λ z. absurd (n z)) (λ p. p)) (q .link .earlier) (q .link .of-kind n ∙ e)
 
-  pub end-lent : {r : ℕ} → (top ≡ 0 → ⊥) → Far ws (toward s) top r → EndLent ws txt r
+  pub end-lent : {r : ℕ} → (top ≡ 0 → ⊥) → Far ws (toward side) top r → EndLent ws txt r
   end-lent n f =
       let i = subtree-end (q .branches .which) (q .branches .level) (q .branches .is) n f in
       record {

@@ -10,20 +10,20 @@ use Rattle.memory.specs.Layout.{span}
 use Rattle.memory.specs.Sound.{Says, TextOk}
 use Rattle.memory.proofs.Pasted.{part-span, span-length}
 
-pub says-text : (p : ℕ → Bool) (low high : ℕ) (b : Bool) (txt : List ℕ) (used s n : ℕ) → used ≤ length txt
-    → s + n ≤ used → low ≤ n → n ≤ high
-    → b ≡ all p (take (s + n - s) (drop s txt)) → Says b (TextOk (Fits p low high) txt used s n)
-says-text p low high true txt used s n u i lo hi e =
-    let l : length (span txt s n) ≡ n = span-length txt s n (omega arith) in
+pub says-text : (p : ℕ → Bool) (low high : ℕ) (b : Bool) (txt : List ℕ) (used start n : ℕ) → used ≤ length txt
+    → start + n ≤ used → low ≤ n → n ≤ high
+    → b ≡ all p (take (start + n - start) (drop start txt)) → Says b (TextOk (Fits p low high) txt used start n)
+says-text p low high true txt used start n u i lo hi e =
+    let l : length (span txt start n) ≡ n = span-length txt start n (omega arith) in
     record {
       inside = i;
-      keeps = record { bytes = rw (← part-span txt s n) (sym e); long = omega arith; short = omega arith };
+      keeps = record { bytes = rw (← part-span txt start n) (sym e); long = omega arith; short = omega arith };
     }
-says-text p low high false txt used s n u i lo hi e = λ o. let z : _≡_ {A = ℕ} 0 1 = cc (part-span txt s n, o .keeps .bytes) in omega arith
+says-text p low high false txt used start n u i lo hi e = λ o. let z : _≡_ {A = ℕ} 0 1 = cc (part-span txt start n, o .keeps .bytes) in omega arith
 
 -- A text that is in the used part is as long as it says.
-pub text-long : {p : ℕ → Bool} {low high : ℕ} {txt : List ℕ} {used s n : ℕ} → used ≤ length txt
-    → TextOk (Fits p low high) txt used s n → (low ≤ n) × (n ≤ high)
-text-long {txt = txt} {s = s} {n = n} u o =
-    let l : length (span txt s n) ≡ n = span-length txt s n (omega (arith, o .inside)) in
+pub text-long : {p : ℕ → Bool} {low high : ℕ} {txt : List ℕ} {used start n : ℕ} → used ≤ length txt
+    → TextOk (Fits p low high) txt used start n → (low ≤ n) × (n ≤ high)
+text-long {txt = txt} {start = start} {n = n} u o =
+    let l : length (span txt start n) ≡ n = span-length txt start n (omega (arith, o .inside)) in
     (omega (arith, o .keeps .long), omega (arith, o .keeps .short))

@@ -31,8 +31,8 @@ says-collection b before {w} {r = r} o {n} e h =
     says-iff b h (λ q. (o, record { weighs = q .0 ∙ d; light = omega (arith, q .1) })) (λ q. (q .1 .weighs ∙ sym d, omega (arith, q .1 .light)))
 
 pub says-trie : (b : Bool) {ws txt : List ℕ} {used l : ℕ} → Before ws txt used l → (w : Which) (r : List ℕ)
-    → TrieOk ws txt used l w r → {s d : ℕ} → s ≡ depth-word r → d ≡ depth-in ws (right-link r) → d ≤ 16
-    → Says b (s ≡ d) → Says b (RecordAs ws txt used l w trieˢ r (row w txt r (what w ws txt) trieˢ))
+    → TrieOk ws txt used l w r → {start d : ℕ} → start ≡ depth-word r → d ≡ depth-in ws (right-link r) → d ≤ 16
+    → Says b (start ≡ d) → Says b (RecordAs ws txt used l w trieˢ r (row w txt r (what w ws txt) trieˢ))
 says-trie b before w r o e f h k =
     let g = f ∙ depth-trie (before .rows) w o in
     says-iff b k (λ q. (o, sym e ∙ q ∙ g, omega arith)) (λ q. e ∙ q .1 ∙ sym g)

@@ -10,9 +10,9 @@ use Rattle.memory.specs.Sound.{Says, CollectionOk, WeightOk, RecordAs}
 -- What the answer b says, of each table and level that the kinds are of.
 module _ (ws txt : List ℕ) (used l : ℕ) (r : List ℕ) where
   -- The links and the label of a collection, and the weight of its list, are right.
-  abbrev pub SaysCollection : (k t : ℕ) → Bool → Type 0
-  SaysCollection k t b =
-      (w : Which) (ℓ : Level) → k ≡ kind w (list ℓ) → t ≡ kind w (tree ℓ)
+  abbrev pub SaysCollection : (k m : ℕ) → Bool → Type 0
+  SaysCollection k m b =
+      (w : Which) (ℓ : Level) → k ≡ kind w (list ℓ) → m ≡ kind w (tree ℓ)
       → Says b (CollectionOk ws txt used l w r ℓ × WeightOk r (row w txt r (what w ws txt) (list ℓ)))
 
   -- A trie is right.

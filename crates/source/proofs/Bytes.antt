@@ -9,10 +9,10 @@ use borrow.Author.Tests.{le-leb, lt-leb, ne-eqb}
 use Rattle.source.specs.Text.{dot, name-byte, query-byte, path-byte}
 use Rattle.source.proofs.Quoted.{bytes}
 
--- The numbers below n, ascending, before l.
+-- The numbers below n, ascending, before xs.
 unfoldable pub below : ℕ → List ℕ → List ℕ
-below zero l = l
-below (suc n) l = below n (n ∷ l)
+below zero xs = xs
+below (suc n) xs = below n (n ∷ xs)
 
 -- Those that pass the test.
 unfoldable pub passing : (ℕ → Bool) → List ℕ → List ℕ

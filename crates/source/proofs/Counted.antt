@@ -35,31 +35,31 @@ by-order f Ordering·gt p q r = r
 
 module _ {A : Type 0} where
   -- ---- Trees and lists of collections
-  pub btree-insert-replace-value : {ℓ : Level} (t : Tree A ℓ) (k : Str) (v : Value A ℓ)
-      → btree-insert-replaceᶜ t k v .value ≡ btree-insert-replace t k v
+  pub btree-insert-replace-value : {ℓ : Level} (bt : Tree A ℓ) (k : Str) (v : Value A ℓ)
+      → btree-insert-replaceᶜ bt k v .value ≡ btree-insert-replace bt k v
   unfolding btree-insert-replaceᶜ btree-insert-replace _>>=_ one
   btree-insert-replace-value StrEmpty k v = refl
   btree-insert-replace-value (StrBranch k′ v′ lbt rbt) k v =
       by-order (λ (c : Counted (Tree A _)). c .value) (string-compare k k′)
-      (ap (λ t. StrBranch k′ v′ t rbt) (btree-insert-replace-value lbt k v)) refl (ap (StrBranch k′ v′ lbt) (btree-insert-replace-value rbt k v))
+      (ap (λ bt. StrBranch k′ v′ bt rbt) (btree-insert-replace-value lbt k v)) refl (ap (StrBranch k′ v′ lbt) (btree-insert-replace-value rbt k v))
 
-  pub btree-insert-replace-count : {ℓ : Level} (t : Tree A ℓ) (k : Str) (v : Value A ℓ)
-      → btree-insert-replaceᶜ t k v .count ≡ insert-branches t k
+  pub btree-insert-replace-count : {ℓ : Level} (bt : Tree A ℓ) (k : Str) (v : Value A ℓ)
+      → btree-insert-replaceᶜ bt k v .count ≡ insert-branches bt k
   unfolding btree-insert-replaceᶜ insert-branches _>>=_ one
   btree-insert-replace-count StrEmpty k v = refl
   btree-insert-replace-count (StrBranch k′ v′ lbt rbt) k v =
       by-order (λ (c : Counted (Tree A _)). c .count) (string-compare k k′)
       (omega (arith, btree-insert-replace-count lbt k v)) refl (omega (arith, btree-insert-replace-count rbt k v))
 
-  pub names-insert-value : {ℓ : Level} (n : NameList A ℓ) (id : Str) (v : Value A ℓ)
-      → names-insertᶜ n id v .value ≡ names-insert n id v
+  pub names-insert-value : {ℓ : Level} (nl : NameList A ℓ) (id : Str) (v : Value A ℓ)
+      → names-insertᶜ nl id v .value ≡ names-insert nl id v
   unfolding names-insertᶜ names-insert _>>=_ one
   names-insert-value []ᴺ id v = rw btree-insert-replace-value
   names-insert-value (Names bt tl) id v = rw btree-insert-replace-value
   names-insert-value (ImportedNames label inner tl) id v = rw btree-insert-replace-value
 
-  pub names-insert-count : {ℓ : Level} (n : NameList A ℓ) (id : Str) (v : Value A ℓ)
-      → names-insertᶜ n id v .count ≡ suc (insert-branches (first-tree n) id)
+  pub names-insert-count : {ℓ : Level} (nl : NameList A ℓ) (id : Str) (v : Value A ℓ)
+      → names-insertᶜ nl id v .count ≡ suc (insert-branches (first-tree nl) id)
   unfolding names-insertᶜ first-tree _>>=_ one
   names-insert-count []ᴺ id v = omega (arith, btree-insert-replace-count StrEmpty id v)
   names-insert-count (Names bt tl) id v = omega (arith, btree-insert-replace-count bt id v)
@@ -67,8 +67,8 @@ module _ {A : Type 0} where
 
   -- ---- Tries
   module _ (nodeᶜ : MutNodeᶜ A) (leafᶜ : MutLeafᶜ A) (node : MutNode A) (leaf : MutLeaf A)
-      (node-value : (tr : Trie A) (id : Str) (q rev-acc : Query) (n : NameList A ns)
-      → nodeᶜ tr id q rev-acc n .value ≡ node tr id q rev-acc n)
+      (node-value : (tr : Trie A) (id : Str) (q rev-acc : Query) (nl : NameList A ns)
+      → nodeᶜ tr id q rev-acc nl .value ≡ node tr id q rev-acc nl)
       (leaf-value : (tr : Trie A) (rev-acc : Query) → leafᶜ tr rev-acc .value ≡ leaf tr rev-acc) where
     pub trie-mutate-value : (tr : Trie A) (q rev-acc : Query)
         → trie-mutateᶜ tr q rev-acc nodeᶜ leafᶜ .value ≡ trie-mutate tr q rev-acc node leaf
@@ -79,8 +79,8 @@ module _ {A : Type 0} where
 
   -- Nodes that count alike, whatever list they are given.
   trie-mutate-same-count : (node node′ : MutNodeᶜ A) (leaf : MutLeafᶜ A)
-      → ((tr : Trie A) (id : Str) (q rev-acc : Query) (n n′ : NameList A ns)
-      → node tr id q rev-acc n .count ≡ node′ tr id q rev-acc n′ .count)
+      → ((tr : Trie A) (id : Str) (q rev-acc : Query) (nl nl′ : NameList A ns)
+      → node tr id q rev-acc nl .count ≡ node′ tr id q rev-acc nl′ .count)
       → (tr : Trie A) (q rev-acc : Query)
       → trie-mutateᶜ tr q rev-acc node leaf .count ≡ trie-mutateᶜ tr q rev-acc node′ leaf .count
   unfolding trie-mutateᶜ _>>=_
@@ -238,17 +238,17 @@ registered-count tbl (module-path loaded query path) = register-module-stays-loa
 
 -- ---- The listing
 module _ {A B : Type 0} (fᶜ : B → A → Counted B) where
-  pub fold-left-value : (f : B → A → B) → ((b : B) (a : A) → fᶜ b a .value ≡ f b a) → (b : B) (l : List A)
-      → fold-leftᶜ fᶜ b l .value ≡ fold-left f b l
+  pub fold-left-value : (f : B → A → B) → ((b : B) (a : A) → fᶜ b a .value ≡ f b a) → (b : B) (xs : List A)
+      → fold-leftᶜ fᶜ b xs .value ≡ fold-left f b xs
   unfolding fold-leftᶜ fold-left _>>=_ pure
   fold-left-value f h b [] = refl
-  fold-left-value f h b (a ∷ l) = rw (h b a) (fold-left-value f h (f b a) l)
+  fold-left-value f h b (a ∷ xs) = rw (h b a) (fold-left-value f h (f b a) xs)
 
-  pub fold-left-count : (c : A → ℕ) → ((b : B) (a : A) → fᶜ b a .count ≡ c a) → (b : B) (l : List A)
-      → fold-leftᶜ fᶜ b l .count ≡ sumˡ c l
+  pub fold-left-count : (c : A → ℕ) → ((b : B) (a : A) → fᶜ b a .count ≡ c a) → (b : B) (xs : List A)
+      → fold-leftᶜ fᶜ b xs .count ≡ sumˡ c xs
   unfolding fold-leftᶜ _>>=_ pure
   fold-left-count c h b [] = refl
-  fold-left-count c h b (a ∷ l) = omega (arith, h b a, fold-left-count c h (fᶜ b a .value) l)
+  fold-left-count c h b (a ∷ xs) = omega (arith, h b a, fold-left-count c h (fᶜ b a .value) xs)
 
 module _ {A : Type 0} (find : Finder A) where
   pub find-prefix-fuel-value : (n : ℕ) (tr : Trie A) (path : PathOf) (q : Query) (acc : List (PathOf × A))

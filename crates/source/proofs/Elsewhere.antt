@@ -20,8 +20,8 @@ key-same-or-not j k = go (string-compare j k) (compare-strings j k)
 
 module _ {A : Type 0} where
   -- another key is found as before
-  find-other : {ℓ : Level} (t : Tree A ℓ) (k j : Str) (v : Value A ℓ) → (j ≡ k → ⊥)
-      → btree-find-exact (btree-insert-replace t k v) j ≡ btree-find-exact t j
+  find-other : {ℓ : Level} (bt : Tree A ℓ) (k j : Str) (v : Value A ℓ) → (j ≡ k → ⊥)
+      → btree-find-exact (btree-insert-replace bt k v) j ≡ btree-find-exact bt j
   unfolding btree-insert-replace btree-find-exact
   find-other {ℓ} StrEmpty k j v n = go (string-compare j k) (compare-strings j k)
     where
@@ -53,8 +53,8 @@ module _ {A : Type 0} where
       go Ordering·eq w f g = same w (string-compare j k′) (compare-strings j k′)
       go Ordering·gt w f g = ap (λ x. elim (string-compare j k′) [ Ordering·lt ↦ btree-find-exact lbt j | Ordering·eq ↦ some v′ | Ordering·gt ↦ x ]) g
 
-  pub names-find-other : {ℓ : Level} (n : NameList A ℓ) (k j : Str) (v : Value A ℓ) → (j ≡ k → ⊥)
-      → names-find-exact (names-insert n k v) j ≡ names-find-exact n j
+  pub names-find-other : {ℓ : Level} (nl : NameList A ℓ) (k j : Str) (v : Value A ℓ) → (j ≡ k → ⊥)
+      → names-find-exact (names-insert nl k v) j ≡ names-find-exact nl j
   unfolding names-insert names-find-exact or-else btree-find-exact
   names-find-other []ᴺ k j v d = rw (find-other StrEmpty k j v d)
   names-find-other (Names bt tl) k j v d = rw (find-other bt k j v d)

@@ -16,8 +16,8 @@ last-import label [] = refl
 last-import label (i ∷ imports) = rw (last-import i imports)
 
 module _ {A : Type 0} {ℓ : Level} where
-  revmap-onto-is : {B : Type 0} (fn : Tree A ℓ → B) (acc : List (List Str × B)) (imports : List Str) (n : NameList A ℓ)
-      → revmap-onto fn acc imports n ≡ reverseAux (map (λ x. (x .0, fn (x .1))) (flat-in imports n)) acc
+  revmap-onto-is : {B : Type 0} (fn : Tree A ℓ → B) (acc : List (List Str × B)) (imports : List Str) (nl : NameList A ℓ)
+      → revmap-onto fn acc imports nl ≡ reverseAux (map (λ x. (x .0, fn (x .1))) (flat-in imports nl)) acc
   unfolding revmap-onto flat-in
   revmap-onto-is fn acc imports []ᴺ = refl
   revmap-onto-is fn acc imports (Names bt tl) = revmap-onto-is fn ((imports, fn bt) ∷ acc) imports tl
@@ -30,16 +30,16 @@ module _ {A : Type 0} {ℓ : Level} where
       with-fn : List Str × Tree A ℓ → List Str × B
       with-fn x = (x .0, fn (x .1))
 
-  pub names-revmap-is : {B : Type 0} (fn : Tree A ℓ → B) (n : NameList A ℓ)
-      → names-revmap fn n ≡ reverse (map (λ x. (x .0, fn (x .1))) (flat n))
+  pub names-revmap-is : {B : Type 0} (fn : Tree A ℓ → B) (nl : NameList A ℓ)
+      → names-revmap fn nl ≡ reverse (map (λ x. (x .0, fn (x .1))) (flat nl))
   unfolding names-revmap
-  names-revmap-is fn n = revmap-onto-is fn [] [] n
+  names-revmap-is fn nl = revmap-onto-is fn [] [] nl
 
   -- ---- what names_find_rev asks of the trees
-  pub values-all-is : (n : NameList A ℓ)
-      → matching-values n NSTAll ≡ reverse (map (λ x. (x .0, tree-matches NSTAll (x .1))) (flat n))
-  values-all-is n = values-all n ∙ names-revmap-is (tree-matches NSTAll) n
+  pub values-all-is : (nl : NameList A ℓ)
+      → matching-values nl NSTAll ≡ reverse (map (λ x. (x .0, tree-matches NSTAll (x .1))) (flat nl))
+  values-all-is nl = values-all nl ∙ names-revmap-is (tree-matches NSTAll) nl
 
-  pub values-prefix-is : (n : NameList A ℓ) (p : Str)
-      → matching-values n (NSTPrefix p) ≡ reverse (map (λ x. (x .0, tree-matches (NSTPrefix p) (x .1))) (flat n))
-  values-prefix-is n p = values-prefix n p ∙ names-revmap-is (tree-matches (NSTPrefix p)) n
+  pub values-prefix-is : (nl : NameList A ℓ) (p : Str)
+      → matching-values nl (NSTPrefix p) ≡ reverse (map (λ x. (x .0, tree-matches (NSTPrefix p) (x .1))) (flat nl))
+  values-prefix-is nl p = values-prefix nl p ∙ names-revmap-is (tree-matches (NSTPrefix p)) nl

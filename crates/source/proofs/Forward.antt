@@ -102,7 +102,7 @@ module _ {A : Type 0} where
 
   -- A list that is not empty, with a priority.
   abbrev pub IsRun : ℕ → List A → Run A → Type 0
-  IsRun pr l r = (priority r ≡ pr) × (first r ∷ rest r ≡ l)
+  IsRun pr xs r = (priority r ≡ pr) × (first r ∷ rest r ≡ xs)
 
   -- r gives the lists in order, the k-th with priority k.
   abbrev pub AreRuns : List (List A) → (ℕ → Run A) → Type 0
@@ -172,7 +172,7 @@ module _ {A B : Type 0} (f : A → B) where
     held-mapᶠ (h ∷ᶠ hh) = ap₂ _+_ (held-map h) (held-mapᶠ hh)
 
   module _ (key : A → Str) (key′ : B → Str) (same-key : (a : A) → key′ (f a) ≡ key a) where
-    cmp-map : (r s : Run A) → run-cmp key′ (map-run r) (map-run s) ≡ run-cmp key r s
+    cmp-map : (r r₂ : Run A) → run-cmp key′ (map-run r) (map-run r₂) ≡ run-cmp key r r₂
     unfolding run-cmp first priority
     cmp-map (run p v tl) (run q w ul) = rw (same-key v, same-key w)
 

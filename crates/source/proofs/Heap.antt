@@ -74,11 +74,11 @@ module _ {A : Type 0} where
     countedᶠ P f (h ∷ᶠ hh) l p = pick (sum f h) (sumᶠ f hh) l (λ k. sum-counted P f h k (p .0)) (λ k. countedᶠ P f hh k (p .1))
 
   module _ (cmp : A → A → Ordering) where
-    pub insert-all-more : (h : Heap A) (l : List A) (a : A)
-        → heap-insert-all cmp h (l ++ (a ∷ [])) ≡ heap-insert cmp (heap-insert-all cmp h l) a
+    pub insert-all-more : (h : Heap A) (xs : List A) (a : A)
+        → heap-insert-all cmp h (xs ++ (a ∷ [])) ≡ heap-insert cmp (heap-insert-all cmp h xs) a
     unfolding heap-insert-all
     insert-all-more h [] a = refl
-    insert-all-more h (b ∷ l) a = insert-all-more (heap-insert cmp h b) l a
+    insert-all-more h (b ∷ xs) a = insert-all-more (heap-insert cmp h b) xs a
 
     pub sum-merge : (f : A → ℕ) (a b : Heap A) → sum f (heap-merge cmp a b) ≡ sum f a + sum f b
     unfolding heap-merge
@@ -86,7 +86,7 @@ module _ {A : Type 0} where
     sum-merge f (HeapOf v hh) EmptyHeap = omega arith
     sum-merge f (HeapOf v hh) (HeapOf w gg) = go (is-lt (cmp v w))
       where
-        go : (t : Bool) → sum f (cond t (HeapOf v (HeapOf w gg ∷ᶠ hh)) (HeapOf w (HeapOf v hh ∷ᶠ gg)))
+        go : (test : Bool) → sum f (cond test (HeapOf v (HeapOf w gg ∷ᶠ hh)) (HeapOf w (HeapOf v hh ∷ᶠ gg)))
             ≡ f v + sumᶠ f hh + (f w + sumᶠ f gg)
         go true = omega arith
         go false = omega arith
@@ -108,7 +108,7 @@ module _ {A : Type 0} where
     All-merge P (HeapOf v hh) EmptyHeap p q = p
     All-merge P (HeapOf v hh) (HeapOf w gg) p q = go (is-lt (cmp v w))
       where
-        go : (t : Bool) → All P (cond t (HeapOf v (HeapOf w gg ∷ᶠ hh)) (HeapOf w (HeapOf v hh ∷ᶠ gg)))
+        go : (test : Bool) → All P (cond test (HeapOf v (HeapOf w gg ∷ᶠ hh)) (HeapOf w (HeapOf v hh ∷ᶠ gg)))
         go true = (p .0, (q, p .1))
         go false = (q .0, (p, q .1))
 
@@ -119,14 +119,14 @@ module _ {A : Type 0} where
     sum-pop f (HeapOf w hh) v h′ e =
         subst (λ x. f w + sumᶠ f hh ≡ f (x .0) + sum f (x .1)) (Option·some-injective _ (v, h′) e) (ap (λ n. f w + n) (sym (sum-pairs f hh)))
 
-    pub sum-insert-all : (f : A → ℕ) (h : Heap A) (l : List A) → sum f (heap-insert-all cmp h l) ≡ sum f h + sumˡ f l
+    pub sum-insert-all : (f : A → ℕ) (h : Heap A) (xs : List A) → sum f (heap-insert-all cmp h xs) ≡ sum f h + sumˡ f xs
     unfolding heap-insert-all heap-insert
     sum-insert-all f h [] = omega arith
-    sum-insert-all f h (v ∷ l) = omega (arith, sum-insert-all f (heap-insert cmp h v) l, sum-merge f (HeapOf v []ᶠ) h)
+    sum-insert-all f h (v ∷ xs) = omega (arith, sum-insert-all f (heap-insert cmp h v) xs, sum-merge f (HeapOf v []ᶠ) h)
 
-    pub sum-from-list : (f : A → ℕ) (l : List A) → sum f (heap-from-list cmp l) ≡ sumˡ f l
+    pub sum-from-list : (f : A → ℕ) (xs : List A) → sum f (heap-from-list cmp xs) ≡ sumˡ f xs
     unfolding heap-from-list
-    sum-from-list f l = omega (arith, sum-insert-all f EmptyHeap l)
+    sum-from-list f xs = omega (arith, sum-insert-all f EmptyHeap xs)
 
     mutual
       unfolding heap-merge-pairs
@@ -149,8 +149,8 @@ module _ {A : Type 0} where
       Heaped-merge (HeapOf v hh) EmptyHeap p q = p
       Heaped-merge (HeapOf v hh) (HeapOf w gg) p q = go (is-lt (cmp v w)) refl
         where
-          go : (t : Bool) → is-lt (cmp v w) ≡ t
-              → Heaped R (cond t (HeapOf v (HeapOf w gg ∷ᶠ hh)) (HeapOf w (HeapOf v hh ∷ᶠ gg)))
+          go : (test : Bool) → is-lt (cmp v w) ≡ test
+              → Heaped R (cond test (HeapOf v (HeapOf w gg ∷ᶠ hh)) (HeapOf w (HeapOf v hh ∷ᶠ gg)))
           go true e = let r : R v w = is-less v w e in (((r, Allᶠ-map gg (λ x k. trans v w x r k) (q .0)), p .0), (q, p .1))
           go false e = let r : R w v = not-less v w e in (((r, Allᶠ-map hh (λ x k. trans w v x r k) (p .0)), q .0), (p, q .1))
 
@@ -174,11 +174,11 @@ module _ {A : Type 0} where
       pop-least (HeapOf w hh) v h′ p e =
           subst (λ x. All (R (x .0)) (x .1) × Heaped R (x .1)) (Option·some-injective _ (v, h′) e) (All-pairs (R w) hh (p .0), Heaped-pairs hh (p .1))
 
-      pub Heaped-insert-all : (h : Heap A) (l : List A) → Heaped R h → Heaped R (heap-insert-all cmp h l)
+      pub Heaped-insert-all : (h : Heap A) (xs : List A) → Heaped R h → Heaped R (heap-insert-all cmp h xs)
       unfolding heap-insert-all heap-insert
       Heaped-insert-all h [] p = p
-      Heaped-insert-all h (v ∷ l) p = Heaped-insert-all (heap-insert cmp h v) l (Heaped-merge (HeapOf v []ᶠ) h (tt, tt) p)
+      Heaped-insert-all h (v ∷ xs) p = Heaped-insert-all (heap-insert cmp h v) xs (Heaped-merge (HeapOf v []ᶠ) h (tt, tt) p)
 
-      pub Heaped-from-list : (l : List A) → Heaped R (heap-from-list cmp l)
+      pub Heaped-from-list : (xs : List A) → Heaped R (heap-from-list cmp xs)
       unfolding heap-from-list
-      Heaped-from-list l = Heaped-insert-all EmptyHeap l tt
+      Heaped-from-list xs = Heaped-insert-all EmptyHeap xs tt

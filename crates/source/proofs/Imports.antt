@@ -13,8 +13,8 @@ use Rattle.source.specs.Plans.{host-of}
 
 module _ {A : Type 0} where
   -- a key that was inserted is found
-  pub find-inserted : {ℓ : Level} (t : Tree A ℓ) (k : Str) (v : Value A ℓ)
-      → btree-find-exact (btree-insert-replace t k v) k ≡ some v
+  pub find-inserted : {ℓ : Level} (bt : Tree A ℓ) (k : Str) (v : Value A ℓ)
+      → btree-find-exact (btree-insert-replace bt k v) k ≡ some v
   unfolding btree-insert-replace btree-find-exact
   find-inserted StrEmpty k v = rw (compare-self k)
   find-inserted {ℓ} (StrBranch k′ v′ lbt rbt) k v = go (string-compare k k′) refl (find-inserted lbt k v) (find-inserted rbt k v)
@@ -30,8 +30,8 @@ module _ {A : Type 0} where
       go Ordering·eq e i j = rw (e, btree-find-exact)
       go Ordering·gt e i j = rw (e, btree-find-exact) j
 
-  pub names-find-inserted : {ℓ : Level} (n : NameList A ℓ) (k : Str) (v : Value A ℓ)
-      → names-find-exact (names-insert n k v) k ≡ some v
+  pub names-find-inserted : {ℓ : Level} (nl : NameList A ℓ) (k : Str) (v : Value A ℓ)
+      → names-find-exact (names-insert nl k v) k ≡ some v
   unfolding names-insert names-find-exact or-else
   names-find-inserted []ᴺ k v = rw (find-inserted StrEmpty k v)
   names-find-inserted (Names bt tl) k v = rw (find-inserted bt k v)

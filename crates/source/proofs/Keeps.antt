@@ -18,8 +18,8 @@ use Rattle.source.specs.Queries.{Keeps}
 
 module _ {A : Type 0} {ℓ : Level} where
   -- An insert adds no key but its own.
-  insert-keys : (P : Str → Type 0) (t : Tree A ℓ) (k : Str) (v : Value A ℓ) → P k → AllKeys P t
-      → AllKeys P (btree-insert-replace t k v)
+  insert-keys : (P : Str → Type 0) (bt : Tree A ℓ) (k : Str) (v : Value A ℓ) → P k → AllKeys P bt
+      → AllKeys P (btree-insert-replace bt k v)
   unfolding btree-insert-replace
   insert-keys P StrEmpty k v p a = (p, tt, tt)
   insert-keys P (StrBranch k′ v′ lbt rbt) k v p a = go (insert-keys P lbt k v p (a .1)) (insert-keys P rbt k v p (a .2)) (string-compare k k′)
@@ -35,12 +35,12 @@ module _ {A : Type 0} {ℓ : Level} where
       go i j Ordering·gt = (a .0, a .1, j)
 
 module _ {A : Type 0} (Key Label : Str → Type 0) (Item : A → Type 0) where
-  pub btree-insert-replace-formed : {ℓ : Level} (t : Tree A ℓ) (k : Str) (v : Value A ℓ) → Key k
-      → Formed Key Label Item v → FormedTree Key Label Item t → FormedTree Key Label Item (btree-insert-replace t k v)
+  pub btree-insert-replace-formed : {ℓ : Level} (bt : Tree A ℓ) (k : Str) (v : Value A ℓ) → Key k
+      → Formed Key Label Item v → FormedTree Key Label Item bt → FormedTree Key Label Item (btree-insert-replace bt k v)
   unfolding btree-insert-replace
-  btree-insert-replace-formed StrEmpty k v o g t = (o, g, tt, tt, tt, tt)
-  btree-insert-replace-formed {ℓ} (StrBranch k′ v′ lbt rbt) k v o g t =
-      go (btree-insert-replace-formed lbt k v o g (t .4)) (btree-insert-replace-formed rbt k v o g (t .5)) (string-compare k k′) (compare-strings k k′)
+  btree-insert-replace-formed StrEmpty k v o g bt = (o, g, tt, tt, tt, tt)
+  btree-insert-replace-formed {ℓ} (StrBranch k′ v′ lbt rbt) k v o g bt =
+      go (btree-insert-replace-formed lbt k v o g (bt .4)) (btree-insert-replace-formed rbt k v o g (bt .5)) (string-compare k k′) (compare-strings k k′)
     where
       go : FormedTree Key Label Item (btree-insert-replace lbt k v)
           → FormedTree Key Label Item (btree-insert-replace rbt k v) → (c : Ordering) → View k k′ c
@@ -49,9 +49,9 @@ module _ {A : Type 0} (Key Label : Str → Type 0) (Item : A → Type 0) where
             | Ordering·eq ↦ StrBranch k′ v lbt rbt
             | Ordering·gt ↦ StrBranch k′ v′ lbt (btree-insert-replace rbt k v)
           ])
-      go i j Ordering·lt w = (t .0, t .1, insert-keys (λ x. x <ˢ k′) lbt k v w (t .2), t .3, i, t .5)
-      go i j Ordering·eq w = (t .0, g, t .2, t .3, t .4, t .5)
-      go i j Ordering·gt w = (t .0, t .1, t .2, insert-keys (λ x. k′ <ˢ x) rbt k v w (t .3), t .4, j)
+      go i j Ordering·lt w = (bt .0, bt .1, insert-keys (λ x. x <ˢ k′) lbt k v w (bt .2), bt .3, i, bt .5)
+      go i j Ordering·eq w = (bt .0, g, bt .2, bt .3, bt .4, bt .5)
+      go i j Ordering·gt w = (bt .0, bt .1, bt .2, insert-keys (λ x. k′ <ˢ x) rbt k v w (bt .3), bt .4, j)
 
 -- ---- calls
 

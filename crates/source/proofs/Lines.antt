@@ -25,39 +25,39 @@ use Rattle.source.proofs.Lookup.{sumˡ-reverse}
 
 -- ---- lists
 module _ {A B : Type 0} where
-  pub flatMap-append : (f : A → List B) (l m : List A) → flatMap f (l ++ m) ≡ flatMap f l ++ flatMap f m
+  pub flatMap-append : (f : A → List B) (xs m : List A) → flatMap f (xs ++ m) ≡ flatMap f xs ++ flatMap f m
   unfolding flatMap
   flatMap-append f [] m = refl
-  flatMap-append f (a ∷ l) m = rw (flatMap-append f l m) (sym (append-assoc (f a) (flatMap f l) (flatMap f m)))
+  flatMap-append f (a ∷ xs) m = rw (flatMap-append f xs m) (sym (append-assoc (f a) (flatMap f xs) (flatMap f m)))
 
-  rev-map-onto-is : (f : A → B) (l : List A) (acc : List B) → rev-map-onto f l acc ≡ map f (reverse l) ++ acc
+  rev-map-onto-is : (f : A → B) (xs : List A) (acc : List B) → rev-map-onto f xs acc ≡ map f (reverse xs) ++ acc
   unfolding rev-map-onto
   rev-map-onto-is f [] acc = refl
-  rev-map-onto-is f (a ∷ l) acc =
-      rev-map-onto-is f l (f a ∷ acc)
-      ∙ sym (rw (reverse-cons a l, map-append f (reverse l) (a ∷ [])) (append-assoc (map f (reverse l)) (f a ∷ []) acc))
+  rev-map-onto-is f (a ∷ xs) acc =
+      rev-map-onto-is f xs (f a ∷ acc)
+      ∙ sym (rw (reverse-cons a xs, map-append f (reverse xs) (a ∷ [])) (append-assoc (map f (reverse xs)) (f a ∷ []) acc))
 
   -- A fold that puts lists in front.
-  fold-left-is : (g : List B → A → List B) (f : A → List B) (l : List A) (acc : List B)
+  fold-left-is : (g : List B → A → List B) (f : A → List B) (xs : List A) (acc : List B)
       → ((acc : List B) (x : A) → g acc x ≡ f x ++ acc)
-      → fold-left g acc l ≡ flatMap f (reverse l) ++ acc
+      → fold-left g acc xs ≡ flatMap f (reverse xs) ++ acc
   unfolding fold-left flatMap
   fold-left-is g f [] acc h = refl
-  fold-left-is g f (a ∷ l) acc h =
-      fold-left-is g f l (g acc a) h
-      ∙ rw (h acc a, reverse-cons a l, flatMap-append f (reverse l) (a ∷ []), append-nil (f a)) (sym (append-assoc (flatMap f (reverse l)) (f a) acc))
+  fold-left-is g f (a ∷ xs) acc h =
+      fold-left-is g f xs (g acc a) h
+      ∙ rw (h acc a, reverse-cons a xs, flatMap-append f (reverse xs) (a ∷ []), append-nil (f a)) (sym (append-assoc (flatMap f (reverse xs)) (f a) acc))
 
-  pub flatMap-map : {C : Type 0} (g : B → List C) (f : A → B) (l : List A)
-      → flatMap g (map f l) ≡ flatMap (λ x. g (f x)) l
+  pub flatMap-map : {C : Type 0} (g : B → List C) (f : A → B) (xs : List A)
+      → flatMap g (map f xs) ≡ flatMap (λ x. g (f x)) xs
   unfolding flatMap
   flatMap-map g f [] = refl
-  flatMap-map g f (a ∷ l) = ap (λ r. g (f a) ++ r) (flatMap-map g f l)
+  flatMap-map g f (a ∷ xs) = ap (λ r. g (f a) ++ r) (flatMap-map g f xs)
 
-flatMap-flatMap : {A B C : Type 0} (g : B → List C) (f : A → List B) (l : List A)
-    → flatMap g (flatMap f l) ≡ flatMap (λ x. flatMap g (f x)) l
+flatMap-flatMap : {A B C : Type 0} (g : B → List C) (f : A → List B) (xs : List A)
+    → flatMap g (flatMap f xs) ≡ flatMap (λ x. flatMap g (f x)) xs
 unfolding flatMap
 flatMap-flatMap g f [] = refl
-flatMap-flatMap g f (a ∷ l) = flatMap-append g (f a) (flatMap f l) ∙ ap (λ r. flatMap g (f a) ++ r) (flatMap-flatMap g f l)
+flatMap-flatMap g f (a ∷ xs) = flatMap-append g (f a) (flatMap f xs) ∙ ap (λ r. flatMap g (f a) ++ r) (flatMap-flatMap g f xs)
 
 -- ---- the listing
 module _ {A : Type 0} where
@@ -117,18 +117,18 @@ module _ {B : Type 0} where
 
 -- The lines that are kept of a listing.
 kept-made : {A : Type 0} (result : PathOf × A → Line A) → ((x : PathOf × A) → result x .item-of ≡ x .1)
-    → (keep : A → Bool) (l : List (PathOf × A))
-    → kept keep (map result l) ≡ flatMap (kept-line result keep) l
+    → (keep : A → Bool) (xs : List (PathOf × A))
+    → kept keep (map result xs) ≡ flatMap (kept-line result keep) xs
 unfolding kept flatMap kept-line
 kept-made result h keep [] = refl
-kept-made result h keep (x ∷ l) =
-    subst (λ b. cond (keep (result x .item-of)) (result x ∷ kept keep (map result l)) (kept keep (map result l))
-    ≡ cond b (result x ∷ []) [] ++ flatMap (kept-line result keep) l)
-    (ap keep (h x)) (go (keep (result x .item-of)) (kept-made result h keep l))
+kept-made result h keep (x ∷ xs) =
+    subst (λ b. cond (keep (result x .item-of)) (result x ∷ kept keep (map result xs)) (kept keep (map result xs))
+    ≡ cond b (result x ∷ []) [] ++ flatMap (kept-line result keep) xs)
+    (ap keep (h x)) (go (keep (result x .item-of)) (kept-made result h keep xs))
   where
-    go : (b : Bool) → kept keep (map result l) ≡ flatMap (kept-line result keep) l
-        → cond b (result x ∷ kept keep (map result l)) (kept keep (map result l))
-        ≡ cond b (result x ∷ []) [] ++ flatMap (kept-line result keep) l
+    go : (b : Bool) → kept keep (map result xs) ≡ flatMap (kept-line result keep) xs
+        → cond b (result x ∷ kept keep (map result xs)) (kept keep (map result xs))
+        ≡ cond b (result x ∷ []) [] ++ flatMap (kept-line result keep) xs
     go true e = ap (_∷_ (result x)) e
     go false e = e
 

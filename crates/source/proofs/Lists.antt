@@ -60,7 +60,7 @@ at-zero q r h e = omega (arith, at-same q r e)
 module _ {A : Type 0} (key : A → Str) where
   -- ---- the order of runs
   RLe : Run A → Run A → Type 0
-  RLe r s = (key (first r) <ˢ key (first s)) ⊎ ((key (first r) ≡ key (first s)) × (priority r ≤ priority s))
+  RLe r r₂ = (key (first r) <ˢ key (first r₂)) ⊎ ((key (first r) ≡ key (first r₂)) × (priority r ≤ priority r₂))
 
   RLe-trans : (a b c : Run A) → RLe a b → RLe b c → RLe a c
   unfolding RLe
@@ -204,11 +204,11 @@ module _ {A : Type 0} (key : A → Str) where
             (rw (getD-set-same ls p tl [] (in-range ls p v tl here)) (subst (Increasing key) here (inv .increasing p) .1))
         incr q (no n) = rw (getD-set-other ls p q tl [] (λ e. n (sym e))) (inv .increasing q)
 
-  above-trans : (k k′ : Str) (l : List A) → k <ˢ k′ → Above key k′ l → Above key k l
-  above-trans k k′ l h a = Allˡ-map l (λ y j. <ˢ-trans k k′ (key y) h j) a
+  above-trans : (k k′ : Str) (xs : List A) → k <ˢ k′ → Above key k′ xs → Above key k xs
+  above-trans k k′ xs h a = Allˡ-map xs (λ y j. <ˢ-trans k k′ (key y) h j) a
 
-  below-trans : (k k′ : Str) (l : List A) → k′ <ˢ k → Below key k′ l → Below key k l
-  below-trans k k′ l h a = Allˡ-map l (λ y j. <ˢ-trans (key y) k′ k j h) a
+  below-trans : (k k′ : Str) (xs : List A) → k′ <ˢ k → Below key k′ xs → Below key k xs
+  below-trans k k′ xs h a = Allˡ-map xs (λ y j. <ˢ-trans (key y) k′ k j h) a
 
   -- the first list that has the key is the one at p
   first-at : (ls : List (List A)) (p : ℕ) (v : A) (tl : List A) → getD ls p [] ≡ v ∷ tl
@@ -477,21 +477,21 @@ module _ {A : Type 0} (key : A → Str) where
       }
 
   -- ---- one list: its reverse
-  reversed : (l acc : List A) → Increasing key l → Decreasing key acc → Allˡ (λ a. Above key (key a) l) acc
-      → Decreasing key (reverseAux l acc)
+  reversed : (xs acc : List A) → Increasing key xs → Decreasing key acc → Allˡ (λ a. Above key (key a) xs) acc
+      → Decreasing key (reverseAux xs acc)
   reversed [] acc i d a = d
-  reversed (x ∷ l) acc i d a =
-      reversed l (x ∷ acc) (i .1) (Allˡ-map acc (λ y p. p .0) a, d) (i .0, Allˡ-map acc (λ y p. p .1) a)
+  reversed (x ∷ xs) acc i d a =
+      reversed xs (x ∷ acc) (i .1) (Allˡ-map acc (λ y p. p .0) a, d) (i .0, Allˡ-map acc (λ y p. p .1) a)
 
-  reversed-at : (k : Str) (l acc : List A) → Increasing key l
-      → lookup key k (reverseAux l acc) ≡ or-else (lookup key k l) (lookup key k acc)
+  reversed-at : (k : Str) (xs acc : List A) → Increasing key xs
+      → lookup key k (reverseAux xs acc) ≡ or-else (lookup key k xs) (lookup key k acc)
   unfolding lookup or-else Same
   reversed-at k [] acc i = refl
-  reversed-at k (x ∷ l) acc i = reversed-at k l (x ∷ acc) (i .1) ∙ go (same-view k (key x))
+  reversed-at k (x ∷ xs) acc i = reversed-at k xs (x ∷ acc) (i .1) ∙ go (same-view k (key x))
     where
-      go : Same k (key x) → or-else (lookup key k l) (cond (same k (key x)) (some x) (lookup key k acc))
-          ≡ or-else (cond (same k (key x)) (some x) (lookup key k l)) (lookup key k acc)
-      go (inl (t, e)) = rw (t, lookup-above key k l (rw (← e) at (i .0)))
+      go : Same k (key x) → or-else (lookup key k xs) (cond (same k (key x)) (some x) (lookup key k acc))
+          ≡ or-else (cond (same k (key x)) (some x) (lookup key k xs)) (lookup key k acc)
+      go (inl (t, e)) = rw (t, lookup-above key k xs (rw (← e) at (i .0)))
       go (inr (f, x)) = rw f
 
   nonempty-at : (k : Str) (ls : List (List A)) → first-lookup key k (nonempty ls) ≡ first-lookup key k ls

@@ -68,7 +68,7 @@ module _ {A : Type 0} {ℓ : Level} (f : Value A ℓ → ℕ) where
   or-else-found none y = omega arith
   or-else-found (some v) y = omega arith
 
-  tree-found : (t : Tree A ℓ) (k : Str) → of-found (btree-find-exact t k) ≤ greatest t
+  tree-found : (bt : Tree A ℓ) (k : Str) → of-found (btree-find-exact bt k) ≤ greatest bt
   unfolding btree-find-exact greatest
   tree-found StrEmpty k = omega arith
   tree-found (StrBranch k′ v lbt rbt) k =
@@ -76,12 +76,12 @@ module _ {A : Type 0} {ℓ : Level} (f : Value A ℓ → ℕ) where
       (omega (arith, tree-found lbt k)) (omega arith) (omega (arith, tree-found rbt k))
 
   -- Over a number that no value of the tree is over, an insertion counts as its value.
-  tree-inserted : (m : ℕ) (t : Tree A ℓ) (k : Str) (v : Value A ℓ) → greatest t ≤ m
-      → max m (greatest (btree-insert-replace t k v)) ≡ max m (f v)
+  tree-inserted : (m : ℕ) (bt : Tree A ℓ) (k : Str) (v : Value A ℓ) → greatest bt ≤ m
+      → max m (greatest (btree-insert-replace bt k v)) ≡ max m (f v)
   unfolding btree-insert-replace greatest
   tree-inserted m StrEmpty k v h = omega arith
   tree-inserted m (StrBranch k′ v′ lbt rbt) k v h =
-      by-order (λ t. max m (greatest t) ≡ max m (f v)) (string-compare k k′)
+      by-order (λ bt. max m (greatest bt) ≡ max m (f v)) (string-compare k k′)
       (over-right m _ _ (omega arith) ∙ over-left m _ _ (omega arith) ∙ tree-inserted m lbt k v (omega arith))
       (over-left m _ _ (omega arith))
       (over-right m _ _ (omega arith) ∙ over-right m _ _ (omega arith) ∙ tree-inserted m rbt k v (omega arith))
@@ -92,12 +92,12 @@ module _ {A : Type 0} where
   abbrev level : {ℓ : Level} → Value A ℓ → ℕ
   level v = suc (depth v)
 
-  depth-greatest : {ℓ : Level} (t : Tree A ℓ) → depth-tree t ≡ greatest level t
+  depth-greatest : {ℓ : Level} (bt : Tree A ℓ) → depth-tree bt ≡ greatest level bt
   unfolding depth-tree greatest
   depth-greatest StrEmpty = refl
   depth-greatest (StrBranch k v lbt rbt) = rw (depth-greatest lbt, depth-greatest rbt)
 
-  names-found-depth : {ℓ : Level} (n : NameList A ℓ) (k : Str) → of-found level (names-find-exact n k) ≤ depth-names n
+  names-found-depth : {ℓ : Level} (nl : NameList A ℓ) (k : Str) → of-found level (names-find-exact nl k) ≤ depth-names nl
   unfolding names-find-exact depth-names
   names-found-depth []ᴺ k = omega arith
   names-found-depth (Names bt tl) k =
@@ -121,9 +121,9 @@ module _ {A : Type 0} where
   dflt-depth none = omega arith
   dflt-depth (some tr) = omega arith
 
-  pub scope-of-depth : (n : NameList A ns) (s : Str) → depth (scope-of n s) ≤ pred (depth-names n)
+  pub scope-of-depth : (nl : NameList A ns) (s : Str) → depth (scope-of nl s) ≤ pred (depth-names nl)
   unfolding scope-of
-  scope-of-depth n s = omega (arith, dflt-depth (names-find-exact n s), names-found-depth n s)
+  scope-of-depth nl s = omega (arith, dflt-depth (names-find-exact nl s), names-found-depth nl s)
 
   pub depth-namespaces : (tr : Trie A) → depth tr ≡ depth-names (namespaces tr)
   unfolding depth namespaces
@@ -135,12 +135,12 @@ module _ {A : Type 0} where
   host-of-depth tr (s ∷ q) =
       omega (arith, host-of-depth (scope-of (namespaces tr) s) q, scope-of-depth (namespaces tr) s, depth-namespaces tr)
 
-  tree-insert-depth : {ℓ : Level} (m : ℕ) (t : Tree A ℓ) (k : Str) (v : Value A ℓ) → depth-tree t ≤ m
-      → max m (depth-tree (btree-insert-replace t k v)) ≡ max m (suc (depth v))
-  tree-insert-depth m t k v h = rw depth-greatest (tree-inserted level m t k v (rw depth-greatest at h))
+  tree-insert-depth : {ℓ : Level} (m : ℕ) (bt : Tree A ℓ) (k : Str) (v : Value A ℓ) → depth-tree bt ≤ m
+      → max m (depth-tree (btree-insert-replace bt k v)) ≡ max m (suc (depth v))
+  tree-insert-depth m bt k v h = rw depth-greatest (tree-inserted level m bt k v (rw depth-greatest at h))
 
-  pub names-insert-depth : {ℓ : Level} (m : ℕ) (n : NameList A ℓ) (k : Str) (v : Value A ℓ) → depth-names n ≤ m
-      → max m (depth-names (names-insert n k v)) ≡ max m (suc (depth v))
+  pub names-insert-depth : {ℓ : Level} (m : ℕ) (nl : NameList A ℓ) (k : Str) (v : Value A ℓ) → depth-names nl ≤ m
+      → max m (depth-names (names-insert nl k v)) ≡ max m (suc (depth v))
   unfolding names-insert depth-tree
   names-insert-depth m []ᴺ k v h = over-left m _ 0 (omega arith) ∙ tree-insert-depth m StrEmpty k v (omega arith)
   names-insert-depth m (Names bt tl) k v h = over-left m _ _ (omega arith) ∙ tree-insert-depth m bt k v (omega arith)
@@ -148,13 +148,13 @@ module _ {A : Type 0} where
 
 -- ---- Weight
 module _ {A : Type 0} where
-  heaviest-greatest : {ℓ : Level} (t : Tree A ℓ) → heaviest-tree t ≡ greatest heaviest t
+  heaviest-greatest : {ℓ : Level} (bt : Tree A ℓ) → heaviest-tree bt ≡ greatest heaviest bt
   unfolding heaviest-tree greatest
   heaviest-greatest StrEmpty = refl
   heaviest-greatest (StrBranch k v lbt rbt) = rw (heaviest-greatest lbt, heaviest-greatest rbt)
 
-  names-found-heaviest : {ℓ : Level} (n : NameList A ℓ) (k : Str)
-      → of-found heaviest (names-find-exact n k) ≤ heaviest-names n
+  names-found-heaviest : {ℓ : Level} (nl : NameList A ℓ) (k : Str)
+      → of-found heaviest (names-find-exact nl k) ≤ heaviest-names nl
   unfolding names-find-exact heaviest-names
   names-found-heaviest []ᴺ k = omega arith
   names-found-heaviest (Names bt tl) k =
@@ -182,9 +182,9 @@ module _ {A : Type 0} where
   unfolding heaviest bindings namespaces
   heaviest-lists (trie b n) = refl
 
-  pub scope-of-heaviest : (n : NameList A ns) (s : Str) → heaviest (scope-of n s) ≤ heaviest-names n
+  pub scope-of-heaviest : (nl : NameList A ns) (s : Str) → heaviest (scope-of nl s) ≤ heaviest-names nl
   unfolding scope-of
-  scope-of-heaviest n s = omega (arith, dflt-heaviest (names-find-exact n s), names-found-heaviest n s)
+  scope-of-heaviest nl s = omega (arith, dflt-heaviest (names-find-exact nl s), names-found-heaviest nl s)
 
   pub host-of-heaviest : (tr : Trie A) (q : Query) → heaviest (host-of tr q) ≤ heaviest tr
   unfolding host-of
@@ -192,12 +192,12 @@ module _ {A : Type 0} where
   host-of-heaviest tr (s ∷ q) =
       omega (arith, host-of-heaviest (scope-of (namespaces tr) s) q, scope-of-heaviest (namespaces tr) s, heaviest-lists tr)
 
-  tree-insert-heaviest : {ℓ : Level} (m : ℕ) (t : Tree A ℓ) (k : Str) (v : Value A ℓ) → heaviest-tree t ≤ m
-      → max m (heaviest-tree (btree-insert-replace t k v)) ≡ max m (heaviest v)
-  tree-insert-heaviest m t k v h = rw heaviest-greatest (tree-inserted heaviest m t k v (rw heaviest-greatest at h))
+  tree-insert-heaviest : {ℓ : Level} (m : ℕ) (bt : Tree A ℓ) (k : Str) (v : Value A ℓ) → heaviest-tree bt ≤ m
+      → max m (heaviest-tree (btree-insert-replace bt k v)) ≡ max m (heaviest v)
+  tree-insert-heaviest m bt k v h = rw heaviest-greatest (tree-inserted heaviest m bt k v (rw heaviest-greatest at h))
 
-  pub names-insert-heaviest : {ℓ : Level} (m : ℕ) (n : NameList A ℓ) (k : Str) (v : Value A ℓ) → heaviest-names n ≤ m
-      → max m (heaviest-names (names-insert n k v)) ≡ max m (max (inserted-weight n) (heaviest v))
+  pub names-insert-heaviest : {ℓ : Level} (m : ℕ) (nl : NameList A ℓ) (k : Str) (v : Value A ℓ) → heaviest-names nl ≤ m
+      → max m (heaviest-names (names-insert nl k v)) ≡ max m (max (inserted-weight nl) (heaviest v))
   unfolding names-insert heaviest-tree inserted-weight weight
   names-insert-heaviest m []ᴺ k v h = over-both m 1 1 _ _ refl (over-left m _ 0 (omega arith) ∙ tree-insert-heaviest m StrEmpty k v (omega arith))
   names-insert-heaviest m (Names bt tl) k v h =

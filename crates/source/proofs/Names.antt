@@ -12,10 +12,10 @@ use Rattle.source.specs.Listing.{SearchTerm, NSTAll, NSTNone, NSTPrefix,
 use Rattle.source.proofs.Trees.{entry-key, find-prefix-ascends, find-all-ascends}
 use Rattle.source.specs.Forward.{tree-matches}
 
-pub map-reverse : {A B : Type 0} (f : A → B) (l acc : List A)
-    → map f (reverseAux l acc) ≡ reverseAux (map f l) (map f acc)
+pub map-reverse : {A B : Type 0} (f : A → B) (xs acc : List A)
+    → map f (reverseAux xs acc) ≡ reverseAux (map f xs) (map f acc)
 map-reverse f [] acc = refl
-map-reverse f (a ∷ l) acc = map-reverse f l (a ∷ acc)
+map-reverse f (a ∷ xs) acc = map-reverse f xs (a ∷ acc)
 
 module _ {A : Type 0} where
   -- ---- sound lists: each tree's keys ascend
@@ -25,13 +25,13 @@ module _ {A : Type 0} where
   OrderedN (ImportedNames label inner tl) = OrderedN inner × OrderedN tl
 
   -- ---- one tree: what names_find_rev asks of it
-  pub tree-ascends : {ℓ : Level} (term : SearchTerm) (t : Tree A ℓ) → Ordered t
-      → Increasing entry-key (tree-matches term t)
+  pub tree-ascends : {ℓ : Level} (term : SearchTerm) (bt : Tree A ℓ) → Ordered bt
+      → Increasing entry-key (tree-matches term bt)
   unfolding tree-matches
-  tree-ascends NSTAll t o = find-all-ascends none t o
-  tree-ascends NSTNone t o = tt
-  tree-ascends (NSTPrefix []) t o = find-all-ascends (some []) t o
-  tree-ascends (NSTPrefix (c ∷ p)) t o = find-prefix-ascends t (c ∷ p) o
+  tree-ascends NSTAll bt o = find-all-ascends none bt o
+  tree-ascends NSTNone bt o = tt
+  tree-ascends (NSTPrefix []) bt o = find-all-ascends (some []) bt o
+  tree-ascends (NSTPrefix (c ∷ p)) bt o = find-prefix-ascends bt (c ∷ p) o
 
   -- ---- with its imports
   labelled-above : {ℓ : Level} (i : List Str) (k : Str) (m : List (PrefixMatch × Value A ℓ))
@@ -48,9 +48,9 @@ module _ {A : Type 0} where
 
   -- ---- all the trees
   revmap-increasing : {ℓ : Level} (term : SearchTerm) (acc : List (List Str × List (PrefixMatch × Value A ℓ)))
-      (i : List Str) (n : NameList A ℓ) → OrderedN n
+      (i : List Str) (nl : NameList A ℓ) → OrderedN nl
       → Allˡ (Increasing elem-key) (map with-imports acc)
-      → Allˡ (Increasing elem-key) (map with-imports (revmap-onto (tree-matches term) acc i n))
+      → Allˡ (Increasing elem-key) (map with-imports (revmap-onto (tree-matches term) acc i nl))
   unfolding revmap-onto with-imports
   revmap-increasing term acc i []ᴺ o a = a
   revmap-increasing term acc i (Names bt tl) o a =
@@ -59,29 +59,29 @@ module _ {A : Type 0} where
       revmap-increasing term (revmap-onto (tree-matches term) acc (label ∷ i) inner) i tl (o .1) (revmap-increasing term acc (label ∷ i) inner (o .0) a)
 
   -- names_find_rev asks each tree the same
-  pub values-all : {ℓ : Level} (n : NameList A ℓ) → matching-values n NSTAll ≡ names-revmap (tree-matches NSTAll) n
+  pub values-all : {ℓ : Level} (nl : NameList A ℓ) → matching-values nl NSTAll ≡ names-revmap (tree-matches NSTAll) nl
   unfolding matching-values tree-matches
-  values-all n = refl
+  values-all nl = refl
 
-  pub values-none : {ℓ : Level} (n : NameList A ℓ) → matching-values n NSTNone ≡ []
+  pub values-none : {ℓ : Level} (nl : NameList A ℓ) → matching-values nl NSTNone ≡ []
   unfolding matching-values
-  values-none n = refl
+  values-none nl = refl
 
-  pub values-prefix : {ℓ : Level} (n : NameList A ℓ) (p : Str)
-      → matching-values n (NSTPrefix p) ≡ names-revmap (tree-matches (NSTPrefix p)) n
+  pub values-prefix : {ℓ : Level} (nl : NameList A ℓ) (p : Str)
+      → matching-values nl (NSTPrefix p) ≡ names-revmap (tree-matches (NSTPrefix p)) nl
   unfolding matching-values tree-matches
-  values-prefix n [] = refl
-  values-prefix n (c ∷ p) = refl
+  values-prefix nl [] = refl
+  values-prefix nl (c ∷ p) = refl
 
-  pub values-increasing : {ℓ : Level} (term : SearchTerm) (n : NameList A ℓ) → OrderedN n
-      → Allˡ (Increasing elem-key) (map with-imports (matching-values n term))
+  pub values-increasing : {ℓ : Level} (term : SearchTerm) (nl : NameList A ℓ) → OrderedN nl
+      → Allˡ (Increasing elem-key) (map with-imports (matching-values nl term))
   unfolding names-revmap
-  values-increasing NSTAll n o = rw (values-all n) (revmap-increasing NSTAll [] [] n o tt)
-  values-increasing NSTNone n o = rw (values-none n) tt
-  values-increasing (NSTPrefix p) n o = rw (values-prefix n p) (revmap-increasing (NSTPrefix p) [] [] n o tt)
+  values-increasing NSTAll nl o = rw (values-all nl) (revmap-increasing NSTAll [] [] nl o tt)
+  values-increasing NSTNone nl o = rw (values-none nl) tt
+  values-increasing (NSTPrefix p) nl o = rw (values-prefix nl p) (revmap-increasing (NSTPrefix p) [] [] nl o tt)
 
-  pub turned-increasing : {ℓ : Level} (term : SearchTerm) (n : NameList A ℓ) → OrderedN n
-      → Allˡ (Increasing elem-key) (map with-imports (reverse (matching-values n term)))
-  turned-increasing term n o =
-      rw (map-reverse with-imports (matching-values n term) [])
-      (Allˡ-reverse (Increasing elem-key) (map with-imports (matching-values n term)) [] (values-increasing term n o) tt)
+  pub turned-increasing : {ℓ : Level} (term : SearchTerm) (nl : NameList A ℓ) → OrderedN nl
+      → Allˡ (Increasing elem-key) (map with-imports (reverse (matching-values nl term)))
+  turned-increasing term nl o =
+      rw (map-reverse with-imports (matching-values nl term) [])
+      (Allˡ-reverse (Increasing elem-key) (map with-imports (matching-values nl term)) [] (values-increasing term nl o) tt)

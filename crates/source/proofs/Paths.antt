@@ -63,11 +63,11 @@ unfoldable pub matched : PathOf → Matched
 matched [] = record { so-far = 0; last-prefix = []; last-completion = 0 }
 matched (el ∷ path) = match-elem (matched path) el
 
-fold-left-last : {A B : Type 0} (f : B → A → B) (b : B) (l : List A) (a : A)
-    → fold-left f b (l ++ (a ∷ [])) ≡ f (fold-left f b l) a
+fold-left-last : {A B : Type 0} (f : B → A → B) (b : B) (xs : List A) (a : A)
+    → fold-left f b (xs ++ (a ∷ [])) ≡ f (fold-left f b xs) a
 unfolding fold-left
 fold-left-last f b [] a = refl
-fold-left-last f b (x ∷ l) a = fold-left-last f (f b x) l a
+fold-left-last f b (x ∷ xs) a = fold-left-last f (f b x) xs a
 
 matched-is : (path : PathOf)
     → fold-left match-elem (record { so-far = 0; last-prefix = []; last-completion = 0 }) (reverse path) ≡ matched path

@@ -19,15 +19,15 @@ use Rattle.source.specs.Plans.{plan-depth}
 use Rattle.source.proofs.StaysLoaded.{stays-loaded-depth}
 use Rattle.source.proofs.Measures.{depth-namespaces, scope-of-depth, host-of-depth, names-insert-depth, over-left, over-right, over-ltb}
 
--- One step down: the depth x after an insertion of depth y, where l + d is planned for y.
-step-over : (m x y l d : ℕ) → max m x ≡ max m (suc y) → max (pred m) y ≡ max (pred m) (l + d)
-    → max m x ≡ max m (suc l + d)
-step-over m x y l d p q = omega arith
+-- One step down: the depth x after an insertion of depth y, where i + d is planned for y.
+step-over : (m x y i d : ℕ) → max m x ≡ max m (suc y) → max (pred m) y ≡ max (pred m) (i + d)
+    → max m x ≡ max m (suc i + d)
+step-over m x y i d p q = omega arith
 
 module _ {A : Type 0} where
   module _ (node : MutNode A) (leaf : Trie A → Trie A)
-      (node-depth : (tr : Trie A) (id : Str) (q rev-acc : Query) (n : NameList A ns)
-      → depth (node tr id q rev-acc n) ≡ depth-names n) where
+      (node-depth : (tr : Trie A) (id : Str) (q rev-acc : Query) (nl : NameList A ns)
+      → depth (node tr id q rev-acc nl) ≡ depth-names nl) where
     -- The old depth is at most m: over m, the new depth is the query's length and the depth of the new host.
     pub trie-mutate-depth : (m : ℕ) (tr : Trie A) (q rev-acc : Query) → depth tr ≤ m
         → max m (depth (trie-mutate tr q rev-acc node (λ at _. leaf at)))
@@ -35,10 +35,10 @@ module _ {A : Type 0} where
     unfolding trie-mutate host-of
     trie-mutate-depth m tr [] rev-acc h = omega arith
     trie-mutate-depth m tr (id ∷ q) rev-acc h =
-        let n : NameList A ns = namespaces tr in
-        let v : Trie A = trie-mutate (scope-of n id) q (id ∷ rev-acc) node (λ at _. leaf at) in
-        let i = trie-mutate-depth (pred m) (scope-of n id) q (id ∷ rev-acc) (omega (arith, scope-of-depth n id, depth-namespaces tr)) in
-        rw node-depth (step-over m _ (depth v) (length q) _ (names-insert-depth m n id v (omega (arith, depth-namespaces tr))) i)
+        let nl : NameList A ns = namespaces tr in
+        let v : Trie A = trie-mutate (scope-of nl id) q (id ∷ rev-acc) node (λ at _. leaf at) in
+        let i = trie-mutate-depth (pred m) (scope-of nl id) q (id ∷ rev-acc) (omega (arith, scope-of-depth nl id, depth-namespaces tr)) in
+        rw node-depth (step-over m _ (depth v) (length q) _ (names-insert-depth m nl id v (omega (arith, depth-namespaces tr))) i)
 
   pub trie-mutate-leaf-depth : (m : ℕ) (tr : Trie A) (q : Query) (leaf : Trie A → Trie A) → depth tr ≤ m
       → max m (depth (trie-mutate-leaf tr q (λ at _. leaf at))) ≡ max m (length q + depth (leaf (host-of tr q)))

@@ -18,14 +18,14 @@ use Rattle.source.specs.Plans.{along, inserted-records, ins-inserts, ste
 use Rattle.source.specs.Plans.{module-host, plan-records}
 
 module _ {A : Type 0} where
-  names-insert-records : {ℓ : Level} (n : NameList A ℓ) (id : Str) (v : Value A ℓ)
-      → names-insertᶜ n id v .count ≡ inserted-records n id
+  names-insert-records : {ℓ : Level} (nl : NameList A ℓ) (id : Str) (v : Value A ℓ)
+      → names-insertᶜ nl id v .count ≡ inserted-records nl id
   unfolding inserted-records
-  names-insert-records n id v = names-insert-count n id v
+  names-insert-records nl id v = names-insert-count nl id v
 
   module _ (node : MutNodeᶜ A) (leaf : MutLeafᶜ A) (step : Trie A → Str → Query → ℕ) (end : Trie A → ℕ)
-      (node-records : (tr : Trie A) (id : Str) (q rev-acc : Query) (n : NameList A ns)
-      → inserted-records (namespaces tr) id + node tr id q rev-acc n .count ≡ step tr id q)
+      (node-records : (tr : Trie A) (id : Str) (q rev-acc : Query) (nl : NameList A ns)
+      → inserted-records (namespaces tr) id + node tr id q rev-acc nl .count ≡ step tr id q)
       (leaf-records : (tr : Trie A) (rev-acc : Query) → leaf tr rev-acc .count ≡ end tr) where
     pub trie-mutate-records : (tr : Trie A) (q rev-acc : Query)
         → trie-mutateᶜ tr q rev-acc node leaf .count ≡ along _+_ step end tr q
@@ -33,12 +33,12 @@ module _ {A : Type 0} where
     trie-mutate-records tr [] rev-acc = leaf-records tr rev-acc
     trie-mutate-records tr (id ∷ q) rev-acc =
         let scope : Counted (Trie A) = trie-mutateᶜ (scope-of (namespaces tr) id) q (id ∷ rev-acc) node leaf in
-        let n : NameList A ns = names-insertᶜ (namespaces tr) id (scope .value) .value in
+        let nl : NameList A ns = names-insertᶜ (namespaces tr) id (scope .value) .value in
         omega (
           arith,
           trie-mutate-records (scope-of (namespaces tr) id) q (id ∷ rev-acc),
           names-insert-records (namespaces tr) id (scope .value),
-          node-records tr id q rev-acc n,
+          node-records tr id q rev-acc nl,
         )
 
   module _ (leaf : MutLeafᶜ A) (end : Trie A → ℕ)

@@ -38,10 +38,10 @@ module _ (m : ℕ) {A : Type 0} where
         (trie-mutate-weight (scope-of (namespaces tr) id) q (id ∷ rev-acc) (omega (arith, scope-of-heaviest (namespaces tr) id, heaviest-lists tr)))
 
   -- A new namespaces list beside old bindings, and the other way round.
-  beside-bindings : (tr : Trie A) (n : NameList A ns) → heaviest tr ≤ m
-      → max m (heaviest (trie (bindings tr) n)) ≡ max m (heaviest-names n)
+  beside-bindings : (tr : Trie A) (nl : NameList A ns) → heaviest tr ≤ m
+      → max m (heaviest (trie (bindings tr) nl)) ≡ max m (heaviest-names nl)
   unfolding heaviest
-  beside-bindings tr n h = over-right m _ _ (omega (arith, heaviest-lists tr))
+  beside-bindings tr nl h = over-right m _ _ (omega (arith, heaviest-lists tr))
 
   beside-namespaces : (tr : Trie A) (b : NameList A bind) → heaviest tr ≤ m
       → max m (heaviest (trie b (namespaces tr))) ≡ max m (heaviest-names b)

@@ -25,10 +25,10 @@ pub or-parts : (a b : Bool) → a || b ≡ false → (a ≡ false) × (b ≡ fal
 or-parts true b e = absurd (true≢false e)
 or-parts false b e = (refl, e)
 
-pub any-false : {A : Type 0} (p : A → Bool) (l : List A) → any p l ≡ false → Allˡ (λ a. p a ≡ false) l
+pub any-false : {A : Type 0} (p : A → Bool) (xs : List A) → any p xs ≡ false → Allˡ (λ a. p a ≡ false) xs
 unfolding any
 any-false p [] e = tt
-any-false p (a ∷ l) e = let h = or-parts (p a) (any p l) e in (h .0, any-false p l (h .1))
+any-false p (a ∷ xs) e = let h = or-parts (p a) (any p xs) e in (h .0, any-false p xs (h .1))
 
 pub all-map : (p r : ℕ → Bool) → ((b : ℕ) → p b ≡ true → r b ≡ true) → (s : Str) → all p s ≡ true → all r s ≡ true
 unfolding all
@@ -41,14 +41,14 @@ all-append p [] t e f = f
 all-append p (b ∷ s) t e f = let h = and-parts (p b) (all p s) e in rw (h .0) (all-append p s t (h .1) f)
 
 -- ---- lists
-Allˡ-beginning : {A : Type 0} (P : A → Type 0) (l m : List A) → Allˡ P (l ++ m) → Allˡ P l
+Allˡ-beginning : {A : Type 0} (P : A → Type 0) (xs m : List A) → Allˡ P (xs ++ m) → Allˡ P xs
 Allˡ-beginning P [] m p = tt
-Allˡ-beginning P (a ∷ l) m p = (p .0, Allˡ-beginning P l m (p .1))
+Allˡ-beginning P (a ∷ xs) m p = (p .0, Allˡ-beginning P xs m (p .1))
 
-pub nonempty-length : {A : Type 0} (l : List A) → is-empty l ≡ false → 1 ≤ length l
+pub nonempty-length : {A : Type 0} (xs : List A) → is-empty xs ≡ false → 1 ≤ length xs
 unfolding is-empty
 nonempty-length [] e = absurd (true≢false e)
-nonempty-length (a ∷ l) e = omega arith
+nonempty-length (a ∷ xs) e = omega arith
 
 -- ---- segments
 
@@ -170,7 +170,7 @@ segments-some b s = go (eqb b dot) refl
     onto [] = omega arith
     onto (g ∷ q) = omega arith
 
-    go : (t : Bool) → eqb b dot ≡ t → 0 < length (segments (b ∷ s))
+    go : (test : Bool) → eqb b dot ≡ test → 0 < length (segments (b ∷ s))
     go true e = rw (segments-dot b s e) (omega arith)
     go false e = rw (segments-other b s e) (onto (segments s))
 
@@ -211,10 +211,10 @@ unfolding ends-in-dot segments query-to-string
 string-cons b [] e = rw (segments-dot b [] e)
 string-cons b (c ∷ s) e = go (eqb b dot) refl (string-cons c s e)
   where
-    go : (t : Bool) → eqb b dot ≡ t → query-to-string (segments (c ∷ s)) ≡ take (length s) (c ∷ s)
+    go : (test : Bool) → eqb b dot ≡ test → query-to-string (segments (c ∷ s)) ≡ take (length s) (c ∷ s)
         → query-to-string (segments (b ∷ (c ∷ s))) ≡ b ∷ take (length s) (c ∷ s)
     go true d ih = rw (segments-dot b (c ∷ s) d) (string-empty (segments (c ∷ s)) (segments-some c s) ∙ cc (eqb-true b dot d))
-    go false d ih = rw (segments-other b (c ∷ s) d) (string-onto b (segments (c ∷ s)) ∙ ap (λ (l : Str). b ∷ l) ih)
+    go false d ih = rw (segments-other b (c ∷ s) d) (string-onto b (segments (c ∷ s)) ∙ ap (λ (t : Str). b ∷ t) ih)
 
 pub string-is : (s : Str) → ends-in-dot s ≡ true → query-to-string (segments s) ≡ take (length s - 1) s
 unfolding segments query-to-string

@@ -102,17 +102,17 @@ look-up-segment sound name h =
     or-parts (any is-empty (segments name)) (is-empty (segments name)) (or-parts (empty-name (a-look-up name)) false (h .named) .0) .1
 
 -- A registration that passes rows 1 to 8.
-pub record Acceptable (sound : Bool) (lent : Lent) (s : State) (c : Call) : Type 0 where
+pub record Acceptable (sound : Bool) (lent : Lent) (σ : State) (c : Call) : Type 0 where
   pub admitted : Admitted sound (arguments c)
-  pub light : crowded (registered (s .table) c) ≡ false
-  pub shallow : deep (registered (s .table) c) ≡ false
-  pub records-fit : ltb (free (whole-records (lent .words)) (s .records-used)) (records (s .table) c) ≡ false
-  pub text-fits : ltb (free (lent .text) (s .text-used)) (text-taken (arguments c)) ≡ false
+  pub light : crowded (registered (σ .table) c) ≡ false
+  pub shallow : deep (registered (σ .table) c) ≡ false
+  pub records-fit : ltb (free (whole-records (lent .words)) (σ .records-used)) (records (σ .table) c) ≡ false
+  pub text-fits : ltb (free (lent .text) (σ .text-used)) (text-taken (arguments c)) ≡ false
 
-pub registration-rows-none : (sound : Bool) (lent : Lent) (s : State) (c : Call)
-    → first-row (registration-rows sound lent s c) ≡ none → Acceptable sound lent s c
+pub registration-rows-none : (sound : Bool) (lent : Lent) (σ : State) (c : Call)
+    → first-row (registration-rows sound lent σ c) ≡ none → Acceptable sound lent σ c
 unfolding registration-rows
-registration-rows-none sound lent s c e =
+registration-rows-none sound lent σ c e =
     let p = first-row-parts (argument-rows sound (arguments c)) _ e in
     let h = first-row-none _ (p .1) in
     record {
@@ -124,23 +124,23 @@ registration-rows-none sound lent s c e =
     }
 
 -- ---- accepted registrations
-accepted-view : (sound : Bool) (lent : Lent) (s s′ : State) (c : Call)
-    → register sound lent s c ≡ accepted s′ → Acceptable sound lent s c × (s′ ≡ after s c)
+accepted-view : (sound : Bool) (lent : Lent) (σ σ′ : State) (c : Call)
+    → register sound lent σ c ≡ accepted σ′ → Acceptable sound lent σ c × (σ′ ≡ after σ c)
 unfolding register
-accepted-view sound lent s s′ c e = go (first-row (registration-rows sound lent s c)) (registration-rows-none sound lent s c) e
+accepted-view sound lent σ σ′ c e = go (first-row (registration-rows sound lent σ c)) (registration-rows-none sound lent σ c) e
   where
-    go : (o : Option ℕ) → (o ≡ none → Acceptable sound lent s c)
-        → _≡_ {A = Registered} (elim o [ none ↦ accepted (after s c) | some n ↦ refused n ]) (accepted s′) → Acceptable sound lent s c × (s′ ≡ after s c)
+    go : (o : Option ℕ) → (o ≡ none → Acceptable sound lent σ c)
+        → _≡_ {A = Registered} (elim o [ none ↦ accepted (after σ c) | some n ↦ refused n ]) (accepted σ′) → Acceptable sound lent σ c × (σ′ ≡ after σ c)
     go none f e = (f refl, cc)
     go (some n) f e = let z : _≡_ {A = ℕ} 0 1 = cc in absurd (omega arith)
 
-pub accepted-is : (sound : Bool) (lent : Lent) (s s′ : State) (c : Call) → register sound lent s c ≡ accepted s′
-    → s′ ≡ after s c
-accepted-is sound lent s s′ c e = accepted-view sound lent s s′ c e .1
+pub accepted-is : (sound : Bool) (lent : Lent) (σ σ′ : State) (c : Call) → register sound lent σ c ≡ accepted σ′
+    → σ′ ≡ after σ c
+accepted-is sound lent σ σ′ c e = accepted-view sound lent σ σ′ c e .1
 
-pub accepted-acceptable : (sound : Bool) (lent : Lent) (s s′ : State) (c : Call) → register sound lent s c ≡ accepted s′
-    → Acceptable sound lent s c
-accepted-acceptable sound lent s s′ c e = accepted-view sound lent s s′ c e .0
+pub accepted-acceptable : (sound : Bool) (lent : Lent) (σ σ′ : State) (c : Call) → register sound lent σ c ≡ accepted σ′
+    → Acceptable sound lent σ c
+accepted-acceptable sound lent σ σ′ c e = accepted-view sound lent σ σ′ c e .0
 
 -- ---- refused look-ups and completions
 pub look-up-refused : {A : Type 0} (sound : Bool) (root : Trie A) (q : Str) {n : ℕ} → look-up sound root q ≡ refused n

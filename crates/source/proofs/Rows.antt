@@ -33,8 +33,8 @@ module _ {A : Type 0} {ℓ : Level} (P : Str → Value A ℓ → Type 0) where
   either true m m′ a b = a
   either false m m′ a b = b
 
-  find-prefix-onto-all : (t : Tree A ℓ) (p : Str) (acc : List (PrefixMatch × Value A ℓ)) → AllBranches t → Matches acc
-      → Matches (find-prefix-onto t p acc)
+  find-prefix-onto-all : (bt : Tree A ℓ) (p : Str) (acc : List (PrefixMatch × Value A ℓ)) → AllBranches bt → Matches acc
+      → Matches (find-prefix-onto bt p acc)
   unfolding find-prefix-onto
   find-prefix-onto-all StrEmpty p acc a b = b
   find-prefix-onto-all (StrBranch k v lbt rbt) p acc a b =
@@ -47,8 +47,8 @@ module _ {A : Type 0} {ℓ : Level} (P : Str → Value A ℓ → Type 0) where
       let middle-all : Matches middle = either starts (row ∷ right) right (a .0, right-all) right-all in
       either le middle (find-prefix-onto lbt p middle) middle-all (find-prefix-onto-all lbt p middle (a .1) middle-all)
 
-  fold-all : (p : Option Str) (t : Tree A ℓ) (acc : List (PrefixMatch × Value A ℓ)) → AllBranches t → Matches acc
-      → Matches (btree-fold t (λ k v acc. (record { prefix = p; completion = k }, v) ∷ acc) acc)
+  fold-all : (p : Option Str) (bt : Tree A ℓ) (acc : List (PrefixMatch × Value A ℓ)) → AllBranches bt → Matches acc
+      → Matches (btree-fold bt (λ k v acc. (record { prefix = p; completion = k }, v) ∷ acc) acc)
   unfolding btree-fold
   fold-all p StrEmpty acc a b = b
   fold-all p (StrBranch k v lbt rbt) acc a b = fold-all p lbt _ (a .1) (a .0, fold-all p rbt acc (a .2) b)
@@ -56,23 +56,23 @@ module _ {A : Type 0} {ℓ : Level} (P : Str → Value A ℓ → Type 0) where
   abbrev AllMatches : List (List Str × List (PrefixMatch × Value A ℓ)) → Type 0
   AllMatches ms = Allˡ (λ m. Matches (m .1)) ms
 
-  revmap-all : (fn : Tree A ℓ → List (PrefixMatch × Value A ℓ)) → ((t : Tree A ℓ) → AllBranches t → Matches (fn t))
-      → (acc : List (List Str × List (PrefixMatch × Value A ℓ))) (i : List Str) (n : NameList A ℓ) → AllNamed n
+  revmap-all : (fn : Tree A ℓ → List (PrefixMatch × Value A ℓ)) → ((bt₁ : Tree A ℓ) → AllBranches bt₁ → Matches (fn bt₁))
+      → (acc : List (List Str × List (PrefixMatch × Value A ℓ))) (i : List Str) (nl : NameList A ℓ) → AllNamed nl
       → AllMatches acc
-      → AllMatches (revmap-onto fn acc i n)
+      → AllMatches (revmap-onto fn acc i nl)
   unfolding revmap-onto
   revmap-all fn f acc i []ᴺ a b = b
   revmap-all fn f acc i (Names bt tl) a b = revmap-all fn f ((i, fn bt) ∷ acc) i tl (a .1) (f bt (a .0), b)
   revmap-all fn f acc i (ImportedNames nm inner tl) a b =
       revmap-all fn f (revmap-onto fn acc (nm ∷ i) inner) i tl (a .1) (revmap-all fn f acc (nm ∷ i) inner (a .0) b)
 
-  matching-values-all : (n : NameList A ℓ) (term : SearchTerm) → AllNamed n → AllMatches (matching-values n term)
+  matching-values-all : (nl : NameList A ℓ) (term : SearchTerm) → AllNamed nl → AllMatches (matching-values nl term)
   unfolding matching-values names-revmap btree-find-all btree-find-prefix
-  matching-values-all n NSTNone a = tt
-  matching-values-all n NSTAll a = revmap-all (btree-find-all none) (λ t b. fold-all none t [] b tt) [] [] n a tt
-  matching-values-all n (NSTPrefix []) a = revmap-all (btree-find-all (some [])) (λ t b. fold-all (some []) t [] b tt) [] [] n a tt
-  matching-values-all n (NSTPrefix (c ∷ p)) a =
-      revmap-all (λ bt. btree-find-prefix bt (c ∷ p)) (λ t b. find-prefix-onto-all t (c ∷ p) [] b tt) [] [] n a tt
+  matching-values-all nl NSTNone a = tt
+  matching-values-all nl NSTAll a = revmap-all (btree-find-all none) (λ t b. fold-all none t [] b tt) [] [] nl a tt
+  matching-values-all nl (NSTPrefix []) a = revmap-all (btree-find-all (some [])) (λ t b. fold-all (some []) t [] b tt) [] [] nl a tt
+  matching-values-all nl (NSTPrefix (c ∷ p)) a =
+      revmap-all (λ bt. btree-find-prefix bt (c ∷ p)) (λ t b. find-prefix-onto-all t (c ∷ p) [] b tt) [] [] nl a tt
 
   abbrev Row : PathElem × Value A ℓ → Type 0
   Row x = P (elem-key x) (x .1)
@@ -87,38 +87,38 @@ module _ {A : Type 0} {ℓ : Level} (P : Str → Value A ℓ → Type 0) where
   all-with-imports [] a = tt
   all-with-imports (m ∷ ms) a = (with-imports-all (m .0) (m .1) (a .0), all-with-imports ms (a .1))
 
-  pub names-find-rev-all : (n : NameList A ℓ) (term : SearchTerm) → AllNamed n → Allˡ Row (names-find-rev n term)
+  pub names-find-rev-all : (nl : NameList A ℓ) (term : SearchTerm) → AllNamed nl → Allˡ Row (names-find-rev nl term)
   unfolding names-find-rev
-  names-find-rev-all n term a =
-      merge-all elem-key Row (map with-imports (matching-values n term)) (all-with-imports (matching-values n term) (matching-values-all n term a))
+  names-find-rev-all nl term a =
+      merge-all elem-key Row (map with-imports (matching-values nl term)) (all-with-imports (matching-values nl term) (matching-values-all nl term a))
 
-  pub names-find-first-all : (n : NameList A ℓ) (term : SearchTerm) → AllNamed n
-      → Allˡ Row (names-find-rev-first n term)
+  pub names-find-first-all : (nl : NameList A ℓ) (term : SearchTerm) → AllNamed nl
+      → Allˡ Row (names-find-rev-first nl term)
   unfolding names-find-rev-first
-  names-find-first-all n term a =
-      merge-all elem-key Row (map with-imports (reverse (matching-values n term)))
-      (all-with-imports (reverse (matching-values n term)) (Allˡ-reverse (λ m. Matches (m .1)) (matching-values n term) [] (matching-values-all n term a) tt))
+  names-find-first-all nl term a =
+      merge-all elem-key Row (map with-imports (reverse (matching-values nl term)))
+      (all-with-imports (reverse (matching-values nl term)) (Allˡ-reverse (λ m. Matches (m .1)) (matching-values nl term) [] (matching-values-all nl term a) tt))
 
 -- ---- Depth
 module _ {A : Type 0} {ℓ : Level} (d : ℕ) where
   abbrev Shallow : Str → Value A ℓ → Type 0
   Shallow k v = depth v < d
 
-  tree-shallow : (t : Tree A ℓ) → depth-tree t ≤ d → AllBranches Shallow t
+  tree-shallow : (bt : Tree A ℓ) → depth-tree bt ≤ d → AllBranches Shallow bt
   unfolding depth-tree
   tree-shallow StrEmpty h = tt
   tree-shallow (StrBranch k v lbt rbt) h = (omega arith, tree-shallow lbt (omega arith), tree-shallow rbt (omega arith))
 
-  names-shallow : (n : NameList A ℓ) → depth-names n ≤ d → AllNamed Shallow n
+  names-shallow : (nl : NameList A ℓ) → depth-names nl ≤ d → AllNamed Shallow nl
   unfolding depth-names
   names-shallow []ᴺ h = tt
   names-shallow (Names bt tl) h = (tree-shallow bt (omega arith), names-shallow tl (omega arith))
   names-shallow (ImportedNames label inner tl) h = (names-shallow inner (omega arith), names-shallow tl (omega arith))
 
 -- Each row's value has less depth than the list.
-module _ {A : Type 0} {ℓ : Level} (n : NameList A ℓ) (term : SearchTerm) where
-  pub names-find-rev-depth : Allˡ (λ x. depth (x .1) < depth-names n) (names-find-rev n term)
-  names-find-rev-depth = names-find-rev-all (λ k v. depth v < depth-names n) n term (names-shallow (depth-names n) n (omega arith))
+module _ {A : Type 0} {ℓ : Level} (nl : NameList A ℓ) (term : SearchTerm) where
+  pub names-find-rev-depth : Allˡ (λ x. depth (x .1) < depth-names nl) (names-find-rev nl term)
+  names-find-rev-depth = names-find-rev-all (λ k v. depth v < depth-names nl) nl term (names-shallow (depth-names nl) nl (omega arith))
 
-  pub names-find-first-depth : Allˡ (λ x. depth (x .1) < depth-names n) (names-find-rev-first n term)
-  names-find-first-depth = names-find-first-all (λ k v. depth v < depth-names n) n term (names-shallow (depth-names n) n (omega arith))
+  pub names-find-first-depth : Allˡ (λ x. depth (x .1) < depth-names nl) (names-find-rev-first nl term)
+  names-find-first-depth = names-find-first-all (λ k v. depth v < depth-names nl) nl term (names-shallow (depth-names nl) nl (omega arith))

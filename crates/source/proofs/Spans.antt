@@ -11,7 +11,7 @@ use Rattle.source.specs.Calls.{Span, LineRecord, output-text, output-lin
 
 -- The bytes of a span.
 abbrev pub cut : Str → Span → Str
-cut text s = take (s .len) (drop (s .start) text)
+cut text sp = take (sp .len) (drop (sp .start) text)
 
 module _ {A : Type 0} (text : Str) where
   -- Line records from a place on, and the lines that they stand for.

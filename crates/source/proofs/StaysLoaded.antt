@@ -18,8 +18,8 @@ use Rattle.source.proofs.ModuleRules.{find-in}
 
 -- ---- What was put at a key is changed there
 module _ {A : Type 0} {ℓ : Level} where
-  at-key-inserted : (t : Tree A ℓ) (k : Str) (v : Value A ℓ) (f : Value A ℓ → Value A ℓ)
-      → at-key (btree-insert-replace t k v) k f ≡ btree-insert-replace t k (f v)
+  at-key-inserted : (bt : Tree A ℓ) (k : Str) (v : Value A ℓ) (f : Value A ℓ → Value A ℓ)
+      → at-key (btree-insert-replace bt k v) k f ≡ btree-insert-replace bt k (f v)
   unfolding at-key btree-insert-replace
   at-key-inserted StrEmpty k v f = rw (compare-self k)
   at-key-inserted (StrBranch k′ u lbt rbt) k v f =
@@ -40,8 +40,8 @@ module _ {A : Type 0} {ℓ : Level} where
       go Ordering·eq e i j = rw e
       go Ordering·gt e i j = rw (e, j)
 
-  in-front-inserted : (n : NameList A ℓ) (k : Str) (v : Value A ℓ) (f : Value A ℓ → Value A ℓ)
-      → in-front (names-insert n k v) k f ≡ names-insert n k (f v)
+  in-front-inserted : (nl : NameList A ℓ) (k : Str) (v : Value A ℓ) (f : Value A ℓ → Value A ℓ)
+      → in-front (names-insert nl k v) k f ≡ names-insert nl k (f v)
   unfolding in-front names-insert
   in-front-inserted []ᴺ k v f = rw (at-key-inserted StrEmpty k v f)
   in-front-inserted (Names bt tl) k v f = rw (at-key-inserted bt k v f)
@@ -67,15 +67,15 @@ module _ (path : Str) (loaded : Bool) where
   departs tr (s ∷ []) rev = go (loaded-module (names-find-exact (bindings tr) s)) loaded
     where
       symbol : Bool → Value ModSymbol bind
-      symbol l = item (Module (name-of-revq (s ∷ rev)) path l)
+      symbol test = item (Module (name-of-revq (s ∷ rev)) path test)
 
       put : Bool → Trie ModSymbol
-      put l = trie (names-insert (bindings tr) s (symbol l)) (names-insert (namespaces tr) s (scope-of (namespaces tr) s))
+      put test = trie (names-insert (bindings tr) s (symbol test)) (names-insert (namespaces tr) s (scope-of (namespaces tr) s))
 
-      go : (m l : Bool) → put (m || l) ≡ either (m && not l) (put l) (s ∷ [])
+      go : (m test : Bool) → put (m || test) ≡ either (m && not test) (put test) (s ∷ [])
       go true true = refl
       go true false = rw in-front-inserted
-      go false l = refl
+      go false test = refl
   departs tr (s ∷ (t ∷ q)) rev = rw (← find-in tr s (t ∷ q), departs (scope-of (namespaces tr) s) (t ∷ q) (s ∷ rev))
       (go (loaded-module (trie-find-exact (scope-of (namespaces tr) s) (t ∷ q)) && not loaded))
     where
@@ -103,7 +103,7 @@ module _ {ℓ : Level} (f : Value ModSymbol ℓ → Value ModSymbol ℓ) (of-tre
   at-key-measure : ((k : Str) (v : Value ModSymbol ℓ) (lbt rbt : Tree ModSymbol ℓ)
       → of-tree (StrBranch k v lbt rbt) ≡ by (of-value v) (of-tree lbt) (of-tree rbt))
       → ((v : Value ModSymbol ℓ) → of-value (f v) ≡ of-value v)
-      → (t : Tree ModSymbol ℓ) (k : Str) → of-tree (at-key t k f) ≡ of-tree t
+      → (bt : Tree ModSymbol ℓ) (k : Str) → of-tree (at-key bt k f) ≡ of-tree bt
   unfolding at-key
   at-key-measure step same StrEmpty k = refl
   at-key-measure step same (StrBranch k′ v lbt rbt) k =
@@ -120,16 +120,16 @@ module _ {ℓ : Level} (f : Value ModSymbol ℓ → Value ModSymbol ℓ) (of-tre
       go Ordering·gt i j = rw (step k′ v lbt (at-key rbt k f), j, step k′ v lbt rbt)
 
 module _ {ℓ : Level} (f : Value ModSymbol ℓ → Value ModSymbol ℓ) where
-  in-front-heaviest : ((v : Value ModSymbol ℓ) → heaviest (f v) ≡ heaviest v) → (n : NameList ModSymbol ℓ) (k : Str)
-      → heaviest-names (in-front n k f) ≡ heaviest-names n
+  in-front-heaviest : ((v : Value ModSymbol ℓ) → heaviest (f v) ≡ heaviest v) → (nl : NameList ModSymbol ℓ) (k : Str)
+      → heaviest-names (in-front nl k f) ≡ heaviest-names nl
   unfolding in-front heaviest weight
   in-front-heaviest h []ᴺ k = refl
   in-front-heaviest h (Names bt tl) k =
       rw (at-key-measure f heaviest-tree heaviest (λ v l r. max v (max l r)) (λ k v l r. refl) h bt k)
   in-front-heaviest h (ImportedNames label inner tl) k = refl
 
-  in-front-depth : ((v : Value ModSymbol ℓ) → depth (f v) ≡ depth v) → (n : NameList ModSymbol ℓ) (k : Str)
-      → depth-names (in-front n k f) ≡ depth-names n
+  in-front-depth : ((v : Value ModSymbol ℓ) → depth (f v) ≡ depth v) → (nl : NameList ModSymbol ℓ) (k : Str)
+      → depth-names (in-front nl k f) ≡ depth-names nl
   unfolding in-front depth
   in-front-depth h []ᴺ k = refl
   in-front-depth h (Names bt tl) k =

@@ -51,12 +51,12 @@ past-prefix (a ∷ k) (c ∷ k′) (b ∷ p) h f l = go (past-prefix k k′ p) (
     go ih Ordering·gt v Ordering·eq w f h (inr l) = absurd (omega arith)
 
 module _ {A : Type 0} {ℓ : Level} where
-  pub AllKeys-map : {P Q : Str → Type 0} → (t : Tree A ℓ) → ((k : Str) → P k → Q k) → AllKeys P t → AllKeys Q t
+  pub AllKeys-map : {P Q : Str → Type 0} → (bt : Tree A ℓ) → ((k : Str) → P k → Q k) → AllKeys P bt → AllKeys Q bt
   AllKeys-map StrEmpty f a = tt
   AllKeys-map (StrBranch k v lbt rbt) f a = (f k (a .0), AllKeys-map lbt f (a .1), AllKeys-map rbt f (a .2))
 
-  pub AllKeys-zip : {P Q S : Str → Type 0} → (t : Tree A ℓ) → ((k : Str) → P k → Q k → S k) → AllKeys P t → AllKeys Q t
-      → AllKeys S t
+  pub AllKeys-zip : {P Q S : Str → Type 0} → (bt : Tree A ℓ) → ((k : Str) → P k → Q k → S k) → AllKeys P bt → AllKeys Q bt
+      → AllKeys S bt
   AllKeys-zip StrEmpty f a b = tt
   AllKeys-zip (StrBranch k v lbt rbt) f a b = (f k (a .0) (b .0), AllKeys-zip lbt f (a .1) (b .1), AllKeys-zip rbt f (a .2) (b .2))
 
@@ -70,15 +70,15 @@ module _ {A : Type 0} {ℓ : Level} where
   unfoldable pub entry-key : PrefixMatch × Value A ℓ → Str
   entry-key x = x .0 .completion
 
-  select-none : (p : Option Str) (b : Str → Bool) (t : Tree A ℓ) (acc : List (PrefixMatch × Value A ℓ))
-      → AllKeys (λ k. b k ≡ false) t → select p b t acc ≡ acc
+  select-none : (p : Option Str) (b : Str → Bool) (bt : Tree A ℓ) (acc : List (PrefixMatch × Value A ℓ))
+      → AllKeys (λ k. b k ≡ false) bt → select p b bt acc ≡ acc
   unfolding select
   select-none p b StrEmpty acc a = refl
   select-none p b (StrBranch k v lbt rbt) acc a = rw (a .0) (select-none p b lbt (select p b rbt acc) (a .1) ∙ select-none p b rbt acc (a .2))
 
   -- the search leaves out only what does not match
-  prefix-select : (t : Tree A ℓ) (p : Str) (acc : List (PrefixMatch × Value A ℓ)) → Ordered t
-      → find-prefix-onto t p acc ≡ select (some p) (λ k. starts-with k p) t acc
+  prefix-select : (bt : Tree A ℓ) (p : Str) (acc : List (PrefixMatch × Value A ℓ)) → Ordered bt
+      → find-prefix-onto bt p acc ≡ select (some p) (λ k. starts-with k p) bt acc
   unfolding find-prefix-onto select
   prefix-select StrEmpty p acc o = refl
   prefix-select (StrBranch k v lbt rbt) p acc o =
@@ -107,25 +107,25 @@ module _ {A : Type 0} {ℓ : Level} where
       go r lh Ordering·gt w true e = rw r (lh _)
       go r lh Ordering·gt w false e = rw (select-none (some p) b rbt acc (AllKeys-map rbt (λ x y. past-prefix k x p w e y) (o .1))) (lh acc)
 
-  all-select : (p : Option Str) (t : Tree A ℓ) (acc : List (PrefixMatch × Value A ℓ))
-      → btree-fold t (λ k v acc. (record { prefix = p; completion = k }, v) ∷ acc) acc ≡ select p (λ k. true) t acc
+  all-select : (p : Option Str) (bt : Tree A ℓ) (acc : List (PrefixMatch × Value A ℓ))
+      → btree-fold bt (λ k v acc. (record { prefix = p; completion = k }, v) ∷ acc) acc ≡ select p (λ k. true) bt acc
   unfolding btree-fold select
   all-select p StrEmpty acc = refl
   all-select p (StrBranch k v lbt rbt) acc =
       all-select p lbt _ ∙ ap (λ r. select p (λ k. true) lbt ((record { prefix = p; completion = k }, v) ∷ r)) (all-select p rbt acc)
 
-  pub find-prefix-is : (t : Tree A ℓ) (p : Str) → Ordered t
-      → btree-find-prefix t p ≡ select (some p) (λ k. starts-with k p) t []
+  pub find-prefix-is : (bt : Tree A ℓ) (p : Str) → Ordered bt
+      → btree-find-prefix bt p ≡ select (some p) (λ k. starts-with k p) bt []
   unfolding btree-find-prefix
-  find-prefix-is t p o = prefix-select t p [] o
+  find-prefix-is bt p o = prefix-select bt p [] o
 
-  pub find-all-is : (p : Option Str) (t : Tree A ℓ) → btree-find-all p t ≡ select p (λ k. true) t []
+  pub find-all-is : (p : Option Str) (bt : Tree A ℓ) → btree-find-all p bt ≡ select p (λ k. true) bt []
   unfolding btree-find-all
-  find-all-is p t = all-select p t []
+  find-all-is p bt = all-select p bt []
 
   -- ---- what is selected, in increasing order
-  above-select : (p : Option Str) (b : Str → Bool) (x : Str) (t : Tree A ℓ) (acc : List (PrefixMatch × Value A ℓ))
-      → AllKeys (λ y. x <ˢ y) t → Above entry-key x acc → Above entry-key x (select p b t acc)
+  above-select : (p : Option Str) (b : Str → Bool) (x : Str) (bt : Tree A ℓ) (acc : List (PrefixMatch × Value A ℓ))
+      → AllKeys (λ y. x <ˢ y) bt → Above entry-key x acc → Above entry-key x (select p b bt acc)
   unfolding select entry-key
   above-select p b x StrEmpty acc a h = h
   above-select p b x (StrBranch k v lbt rbt) acc a h = above-select p b x lbt _ (a .1) (go (b k) (above-select p b x rbt acc (a .2) h))
@@ -135,9 +135,9 @@ module _ {A : Type 0} {ℓ : Level} where
       go true r = (a .0, r)
       go false r = r
 
-  pub select-increasing : (p : Option Str) (b : Str → Bool) (t : Tree A ℓ) (acc : List (PrefixMatch × Value A ℓ))
-      → Ordered t → AllKeys (λ x. Above entry-key x acc) t → Increasing entry-key acc
-      → Increasing entry-key (select p b t acc)
+  pub select-increasing : (p : Option Str) (b : Str → Bool) (bt : Tree A ℓ) (acc : List (PrefixMatch × Value A ℓ))
+      → Ordered bt → AllKeys (λ x. Above entry-key x acc) bt → Increasing entry-key acc
+      → Increasing entry-key (select p b bt acc)
   unfolding select entry-key
   select-increasing p b StrEmpty acc o a i = i
   select-increasing p b (StrBranch k v lbt rbt) acc o a i =
@@ -158,16 +158,16 @@ module _ {A : Type 0} {ℓ : Level} where
       go true r = (kr, r)
       go false r = r
 
-  pub no-keys : (t : Tree A ℓ) → AllKeys (λ x. Unit {0}) t
+  pub no-keys : (bt : Tree A ℓ) → AllKeys (λ x. Unit {0}) bt
   no-keys StrEmpty = tt
   no-keys (StrBranch k v lbt rbt) = (tt, no-keys lbt, no-keys rbt)
 
   -- ---- the two searches
-  ascends : (p : Option Str) (b : Str → Bool) (t : Tree A ℓ) → Ordered t → Increasing entry-key (select p b t [])
-  ascends p b t o = select-increasing p b t [] o (no-keys t) tt
+  ascends : (p : Option Str) (b : Str → Bool) (bt : Tree A ℓ) → Ordered bt → Increasing entry-key (select p b bt [])
+  ascends p b bt o = select-increasing p b bt [] o (no-keys bt) tt
 
-  pub find-prefix-ascends : (t : Tree A ℓ) (p : Str) → Ordered t → Increasing entry-key (btree-find-prefix t p)
-  find-prefix-ascends t p o = rw (find-prefix-is t p o) (ascends (some p) (λ k. starts-with k p) t o)
+  pub find-prefix-ascends : (bt : Tree A ℓ) (p : Str) → Ordered bt → Increasing entry-key (btree-find-prefix bt p)
+  find-prefix-ascends bt p o = rw (find-prefix-is bt p o) (ascends (some p) (λ k. starts-with k p) bt o)
 
-  pub find-all-ascends : (p : Option Str) (t : Tree A ℓ) → Ordered t → Increasing entry-key (btree-find-all p t)
-  find-all-ascends p t o = rw (find-all-is p t) (ascends p (λ k. true) t o)
+  pub find-all-ascends : (p : Option Str) (bt : Tree A ℓ) → Ordered bt → Increasing entry-key (btree-find-all p bt)
+  find-all-ascends p bt o = rw (find-all-is p bt) (ascends p (λ k. true) bt o)

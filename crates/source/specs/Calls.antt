@@ -165,20 +165,20 @@ unfoldable pub deep : Table → Bool
 deep tbl = ltb deepest-trie (max (depth (tbl .tbl-lids)) (depth (tbl .tbl-mods)))
 
 unfoldable pub registration-rows : (sound : Bool) → Lent → State → Call → List Row
-registration-rows sound lent s c =
+registration-rows sound lent σ c =
     argument-rows sound (arguments c)
-    ++ (5 when crowded (registered (s .table) c))
-    ∷ (6 when deep (registered (s .table) c))
-    ∷ (7 when ltb (free (whole-records (lent .words)) (s .records-used)) (records (s .table) c))
-    ∷ (8 when ltb (free (lent .text) (s .text-used)) (text-taken (arguments c)))
+    ++ (5 when crowded (registered (σ .table) c))
+    ∷ (6 when deep (registered (σ .table) c))
+    ∷ (7 when ltb (free (whole-records (lent .words)) (σ .records-used)) (records (σ .table) c))
+    ∷ (8 when ltb (free (lent .text) (σ .text-used)) (text-taken (arguments c)))
     ∷ []
 
 -- The table after an accepted registration.
 unfoldable pub after : State → Call → State
-after s c = record {
-  table = registered (s .table) c;
-  records-used = s .records-used + records (s .table) c;
-  text-used = s .text-used + text-taken (arguments c);
+after σ c = record {
+  table = registered (σ .table) c;
+  records-used = σ .records-used + records (σ .table) c;
+  text-used = σ .text-used + text-taken (arguments c);
 }
 
 pub data Registered : Type 0 where
@@ -187,8 +187,8 @@ pub data Registered : Type 0 where
 
 -- What a registration hands back. Refused, the table comes back equal.
 unfoldable pub register : (sound : Bool) → Lent → State → Call → Registered
-register sound lent s c =
-    elim (first-row (registration-rows sound lent s c)) [ none ↦ accepted (after s c) | some n ↦ refused n ]
+register sound lent σ c =
+    elim (first-row (registration-rows sound lent σ c)) [ none ↦ accepted (after σ c) | some n ↦ refused n ]
 
 -- ---- Look-ups
 

@@ -87,11 +87,11 @@ module _ {A : Type 0} {ℓ : Level} where
   flat-in imports (ImportedNames label inner tl) = flat-in (label ∷ imports) inner ++ flat-in imports tl
 
   abbrev pub flat : NameList A ℓ → List (List Str × Tree A ℓ)
-  flat n = flat-in [] n
+  flat nl = flat-in [] nl
 
   -- What is found, ascending: of each key the row of its first holder.
   unfoldable pub found : NameList A ℓ → SearchTerm → List (PathElem × Value A ℓ)
-  found n term = reverse (names-find-rev-first n term)
+  found nl term = reverse (names-find-rev-first nl term)
 
 -- ---- Lines
 

@@ -15,7 +15,7 @@ abbrev pub new : {X : Type 0} → Both (RefT X) (RefT X) → X
 new x = now (x .exit)
 
 -- A list is as it was, except from a place up to another.
-pub record Outside (from to : ℕ) (l l′ : List ℕ) : Type 0 where
-  pub before : take from l′ ≡ take from l
-  pub after : drop to l′ ≡ drop to l
-  pub size : length l′ ≡ length l
+pub record Outside (from to : ℕ) (xs xs′ : List ℕ) : Type 0 where
+  pub before : take from xs′ ≡ take from xs
+  pub after : drop to xs′ ≡ drop to xs
+  pub size : length xs′ ≡ length xs

@@ -47,15 +47,15 @@ module _ {A : Type 0} where
       revmap-onto fn (revmap-onto fn acc (nm ∷ imports) inner) imports tl
 
   unfoldable pub names-revmap : {ℓ : Level} {B : Type 0} → (Tree A ℓ → B) → NameList A ℓ → List (List Str × B)
-  names-revmap fn n = revmap-onto fn [] [] n
+  names-revmap fn nl = revmap-onto fn [] [] nl
 
   -- matching_values_per_collection_with_imports of names_find_rev
   unfoldable pub matching-values : {ℓ : Level} → NameList A ℓ → SearchTerm
       → List (List Str × List (PrefixMatch × Value A ℓ))
-  matching-values n NSTNone = []
-  matching-values n NSTAll = names-revmap (btree-find-all none) n
-  matching-values n (NSTPrefix []) = names-revmap (btree-find-all (some [])) n
-  matching-values n (NSTPrefix (b ∷ id)) = names-revmap (λ bt. btree-find-prefix bt (b ∷ id)) n
+  matching-values nl NSTNone = []
+  matching-values nl NSTAll = names-revmap (btree-find-all none) nl
+  matching-values nl (NSTPrefix []) = names-revmap (btree-find-all (some [])) nl
+  matching-values nl (NSTPrefix (b ∷ id)) = names-revmap (λ bt. btree-find-prefix bt (b ∷ id)) nl
 
   -- One collection's matches with its imports (mk_path_el).
   unfoldable pub with-imports : {ℓ : Level} → List Str × List (PrefixMatch × Value A ℓ) → List (PathElem × Value A ℓ)
@@ -66,11 +66,11 @@ module _ {A : Type 0} where
   elem-key x = x .0 .segment .completion
 
   unfoldable pub names-find-rev : {ℓ : Level} → NameList A ℓ → SearchTerm → List (PathElem × Value A ℓ)
-  names-find-rev n id = merge-increasing-lists-rev elem-key (map with-imports (matching-values n id))
+  names-find-rev nl id = merge-increasing-lists-rev elem-key (map with-imports (matching-values nl id))
 
   -- Departs from the source: the lists go to the merge in flattened order, so that of equal keys the first holder is kept.
   unfoldable pub names-find-rev-first : {ℓ : Level} → NameList A ℓ → SearchTerm → List (PathElem × Value A ℓ)
-  names-find-rev-first n id = merge-increasing-lists-rev elem-key (map with-imports (reverse (matching-values n id)))
+  names-find-rev-first nl id = merge-increasing-lists-rev elem-key (map with-imports (reverse (matching-values nl id)))
 
 -- How the rows of a list are found: by names_find_rev, or by what departs from it.
 abbrev pub Finder : Type 0 → Type 0

@@ -53,7 +53,7 @@ module _ {A : Type 0} {ℓ : Level} where
 
   -- The records that names_insert builds.
   unfoldable pub inserted-records : NameList A ℓ → Str → ℕ
-  inserted-records n id = suc (insert-branches (first-tree n) id)
+  inserted-records nl id = suc (insert-branches (first-tree nl) id)
 
 -- Whether ins inserts, by the segments left.
 unfoldable pub ins-inserts : Bool → NameList ModSymbol bind → Str → Query → Bool

@@ -38,7 +38,7 @@ IsPath s = Fits path-byte 0 longest-path s
 
 -- The items of the names table (any kind and number), and of the module table.
 abbrev pub NameItem : LidSymbol → Type 0
-NameItem n = Unit {0}
+NameItem i = Unit {0}
 
 abbrev pub ModItem : ModSymbol → Type 0
 ModItem (Module name path loaded) = IsFullName name × IsPath path

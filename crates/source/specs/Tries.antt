@@ -51,7 +51,7 @@ module _ {A : Type 0} where
 
   -- The trie that namespaces_mutate goes on with.
   unfoldable pub scope-of : NameList A ns → Str → Trie A
-  scope-of n s = dflt trie-empty (names-find-exact n s)
+  scope-of nl s = dflt trie-empty (names-find-exact nl s)
 
   -- Written out, since antt's recursion is on the query alone; the source's cycle is trie-mutate-step of proofs/Tries.antt.
   unfoldable pub trie-mutate : Trie A → Query → Query → MutNode A → MutLeaf A → Trie A
@@ -62,8 +62,8 @@ module _ {A : Type 0} where
       (trie-mutate (scope-of (namespaces tr) id) q (id ∷ rev-acc) mut-node mut-leaf))
 
   unfoldable pub namespaces-mutate : NameList A ns → Str → Query → Query → MutNode A → MutLeaf A → NameList A ns
-  namespaces-mutate n s q rev-acc mut-node mut-leaf =
-      names-insert n s (trie-mutate (scope-of n s) q rev-acc mut-node mut-leaf)
+  namespaces-mutate nl s q rev-acc mut-node mut-leaf =
+      names-insert nl s (trie-mutate (scope-of nl s) q rev-acc mut-node mut-leaf)
 
   unfoldable pub trie-mutate-leaf : Trie A → Query → MutLeaf A → Trie A
   trie-mutate-leaf tr query mut-leaf = trie-mutate tr query [] (λ tr _ _ _ n. trie (bindings tr) n) mut-leaf

@@ -20,38 +20,38 @@ use Rattle.refusals.specs.declared.Refusal.the-variants.{Unsound}
 use Rattle.table.specs.declared.Registration.{Registration}
 use Rattle.table.specs.declared.Registered.the-variants.{Accepted, Refused}
 
-module _ (b : Bool) (l : Lent) (s : State) (c : Call) where
-  register-refused : {n : ℕ} → first-row (registration-rows b l s c) ≡ some n → register b l s c ≡ refused n
+module _ (b : Bool) (loan : Lent) (σ : State) (c : Call) where
+  register-refused : {n : ℕ} → first-row (registration-rows b loan σ c) ≡ some n → register b loan σ c ≡ refused n
   unfolding register
   register-refused e = rw (register, e)
 
-  register-accepted : first-row (registration-rows b l s c) ≡ none → register b l s c ≡ accepted (after s c)
+  register-accepted : first-row (registration-rows b loan σ c) ≡ none → register b loan σ c ≡ accepted (after σ c)
   unfolding register
   register-accepted e = rw (register, e)
 
-pub register-unsound : (l : Lent) (s : State) (c : Call) → register false l s c ≡ refused 1
+pub register-unsound : (loan : Lent) (σ : State) (c : Call) → register false loan σ c ≡ refused 1
 unfolding register registration-rows argument-rows first-row
-register-unsound l s c = refl
+register-unsound loan σ c = refl
 
-module _ {ws txt : List ℕ} {t : Table} {c : Call} where
+module _ {ws txt : List ℕ} {tab : Table} {c : Call} where
   pub answers-refused : {x : Refusal}
-      → first-row (registration-rows true (lent ws txt) (state ws txt t) c) ≡ some (number x)
-      → Answers true ws txt ws txt t c (record { table = t; answer = Refused x })
+      → first-row (registration-rows true (lent ws txt) (state ws txt tab) c) ≡ some (number x)
+      → Answers true ws txt ws txt tab c (record { table = tab; answer = Refused x })
   answers-refused e = record { says = rw (register-refused true _ _ c e) (refl, record { table = refl; words = refl; text = refl }) }
 
-  pub answers-accepted : {ws′ txt′ : List ℕ} {t′ : Table}
-      → first-row (registration-rows true (lent ws txt) (state ws txt t) c) ≡ none
-      → Accepts ws txt ws′ txt′ t t′ c (after (state ws txt t) c)
-      → Answers true ws txt ws′ txt′ t c (record { table = t′; answer = Accepted })
+  pub answers-accepted : {ws′ txt′ : List ℕ} {tab′ : Table}
+      → first-row (registration-rows true (lent ws txt) (state ws txt tab) c) ≡ none
+      → Accepts ws txt ws′ txt′ tab tab′ c (after (state ws txt tab) c)
+      → Answers true ws txt ws′ txt′ tab c (record { table = tab′; answer = Accepted })
   answers-accepted e a = record { says = rw (register-accepted true _ _ c e) (refl, a) }
 
-  pub answers-unsound : Answers false ws txt ws txt t c (record { table = t; answer = Refused Unsound })
+  pub answers-unsound : Answers false ws txt ws txt tab c (record { table = tab; answer = Refused Unsound })
   answers-unsound = record { says = rw register-unsound (refl, record { table = refl; words = refl; text = refl }) }
 
 -- Calls with the same texts and the same other root are accepted alike.
-pub accepts-like : {ws txt ws′ txt′ : List ℕ} {h h′ : Header} {c d : Call} {s : State} → laid-texts c ≡ laid-texts d
+pub accepts-like : {ws txt ws′ txt′ : List ℕ} {h h′ : Header} {c d : Call} {σ : State} → laid-texts c ≡ laid-texts d
     → untouched c ≡ untouched d
-    → R.Accepts ws txt ws′ txt′ h h′ c s → R.Accepts ws txt ws′ txt′ h h′ d s
+    → R.Accepts ws txt ws′ txt′ h h′ c σ → R.Accepts ws txt ws′ txt′ h h′ d σ
 accepts-like e f a = record {
   reads = a .reads;
   sound = a .sound;
@@ -61,19 +61,19 @@ accepts-like e f a = record {
   laid = a .laid ∙ e;
 }
 
-module _ (ws txt ws′ txt′ : List ℕ) (t : Table) (r : Registration) (c d : Call) (e : laid-texts c ≡ laid-texts d)
+module _ (ws txt ws′ txt′ : List ℕ) (tab : Table) (r : Registration) (c d : Call) (e : laid-texts c ≡ laid-texts d)
     (f : untouched c ≡ untouched d) where
-  answers-like : (v : Registered) → AnswersAs v ws txt ws′ txt′ t c r → AnswersAs v ws txt ws′ txt′ t d r
+  answers-like : (v : Registered) → AnswersAs v ws txt ws′ txt′ tab c r → AnswersAs v ws txt ws′ txt′ tab d r
   answers-like (accepted s) (n, a) = (n, accepts-like e f a)
   answers-like (refused n) a = a
 
 -- register_open_module promises what register_include does, at either door.
-pub open-module-answers : {b : Bool} {ws txt ws′ txt′ : List ℕ} {t : Table} {host query : Str} {r : Registration}
-    → Answers b ws txt ws′ txt′ t (opens true host query) r ↔ Answers b ws txt ws′ txt′ t (include host query) r
-open-module-answers {b} {ws} {txt} {ws′} {txt′} {t} {host} {query} {r} =
+pub open-module-answers : {b : Bool} {ws txt ws′ txt′ : List ℕ} {tab : Table} {host query : Str} {r : Registration}
+    → Answers b ws txt ws′ txt′ tab (opens true host query) r ↔ Answers b ws txt ws′ txt′ tab (include host query) r
+open-module-answers {b} {ws} {txt} {ws′} {txt′} {tab} {host} {query} {r} =
     let o = opens true host query in
     let i = include host query in
-    let v : Call → Registered = register b (lent ws txt) (state ws txt t) in (
-      λ a. record { says = rw (← open-module-is-include) (answers-like ws txt ws′ txt′ t r o i refl refl (v o) (a .says)) },
-      λ a. record { says = rw open-module-is-include (answers-like ws txt ws′ txt′ t r i o refl refl (v i) (a .says)) },
+    let v : Call → Registered = register b (lent ws txt) (state ws txt tab) in (
+      λ a. record { says = rw (← open-module-is-include) (answers-like ws txt ws′ txt′ tab r o i refl refl (v o) (a .says)) },
+      λ a. record { says = rw open-module-is-include (answers-like ws txt ws′ txt′ tab r i o refl refl (v i) (a .says)) },
     )

@@ -23,40 +23,40 @@ use Rattle.listing.specs.declared.Completed.{Completed}
 use Rattle.listing.specs.declared.Completed.the-variants.{Refused}
 use Rattle.table.proofs.Says.{says-same}
 
-on-table : (ws txt : List ℕ) (t : Table) (ask : Ask) (budget : ℕ) (out : Output) (query : Str)
-    → completed true budget out query (lines-of ask (what (asked ask) ws txt (root-for (t .header) ask) trieˢ)
-    (segments query)) (tries-entered (what (asked ask) ws txt (root-for (t .header) ask) trieˢ) (segments query))
-    ≡ completion true (table-in ws txt t) ask budget out query
+on-table : (ws txt : List ℕ) (tab : Table) (ask : Ask) (budget : ℕ) (out : Output) (query : Str)
+    → completed true budget out query (lines-of ask (what (asked ask) ws txt (root-for (tab .header) ask) trieˢ)
+    (segments query)) (tries-entered (what (asked ask) ws txt (root-for (tab .header) ask) trieˢ) (segments query))
+    ≡ completion true (table-in ws txt tab) ask budget out query
 unfolding complete complete-modules
-on-table ws txt t (Names f) budget out query = rw (autocomplete-lid-is (table-in ws txt t) (segments query) (keeps-kind f))
-on-table ws txt t (Modules f) budget out query = rw (autocomplete-mod-or-ns-is (table-in ws txt t) (segments query) (keeps (filter-in f)))
+on-table ws txt tab (Names f) budget out query = rw (autocomplete-lid-is (table-in ws txt tab) (segments query) (keeps-kind f))
+on-table ws txt tab (Modules f) budget out query = rw (autocomplete-mod-or-ns-is (table-in ws txt tab) (segments query) (keeps (filter-in f)))
 
-pub completes-table : {ws txt : List ℕ} {t : Table} {request : Request} {query : Str} {flat flat′ out out′ : List ℕ}
-    {r : Completed} → IsSound ws txt t
-    → CompletesOn (used-words ws (t .header)) (used-text txt (t .header)) request (root-for (t .header) (request .ask))
+pub completes-table : {ws txt : List ℕ} {tab : Table} {request : Request} {query : Str} {flat flat′ out out′ : List ℕ}
+    {r : Completed} → IsSound ws txt tab
+    → CompletesOn (used-words ws (tab .header)) (used-text txt (tab .header)) request (root-for (tab .header) (request .ask))
     query flat flat′ out out′ r
-    → Completes ws txt t request query flat flat′ out out′ (record { table = t; answer = r })
-completes-table {ws} {txt} {t} {request} {query} {flat} {flat′} {out} {out′} {r} o c =
-    let ws′ : List ℕ = used-words ws (t .header) in
-    let txt′ : List ℕ = used-text txt (t .header) in
+    → Completes ws txt tab request query flat flat′ out out′ (record { table = tab; answer = r })
+completes-table {ws} {txt} {tab} {request} {query} {flat} {flat′} {out} {out′} {r} o c =
+    let ws′ : List ℕ = used-words ws (tab .header) in
+    let txt′ : List ℕ = used-text txt (tab .header) in
     record {
       table = refl;
       says = λ b h. rw (says-same _ b true h o)
           (subst (CompletesAs (request .ask) ws′ txt′ flat flat′ out out′ r)
-          (on-table ws′ txt′ t (request .ask) (request .budget) (output flat out) query
+          (on-table ws′ txt′ tab (request .ask) (request .budget) (output flat out) query
           ∙ ap (λ tbl. completion true tbl (request .ask) (request .budget) (output flat out) query)
           (used-part-table o)) (c .says));
     }
 
 -- A memory that is not sound is refused, whatever is asked.
-pub completes-unsound : {ws txt : List ℕ} {t : Table} {request : Request} {query : Str} {flat out : List ℕ}
-    → (IsSound ws txt t → ⊥)
-    → Completes ws txt t request query flat flat out out (record { table = t; answer = Refused Unsound })
+pub completes-unsound : {ws txt : List ℕ} {tab : Table} {request : Request} {query : Str} {flat out : List ℕ}
+    → (IsSound ws txt tab → ⊥)
+    → Completes ws txt tab request query flat flat out out (record { table = tab; answer = Refused Unsound })
 unfolding complete complete-modules completed completion-rows first-row argument-rows
-completes-unsound {ws} {txt} {t} {request} {query} {flat} {out} o = record { table = refl; says = λ b h. rw (says-same _ b false h o) (go (request .ask)) }
+completes-unsound {ws} {txt} {tab} {request} {query} {flat} {out} o = record { table = refl; says = λ b h. rw (says-same _ b false h o) (go (request .ask)) }
   where
     go : (ask : Ask)
-        → CompletesAs ask (used-words ws (t .header)) (used-text txt (t .header)) flat flat out out (Refused Unsound)
-        (completion false (table-in ws txt t) ask (request .budget) (output flat out) query)
+        → CompletesAs ask (used-words ws (tab .header)) (used-text txt (tab .header)) flat flat out out (Refused Unsound)
+        (completion false (table-in ws txt tab) ask (request .budget) (output flat out) query)
     go (Names f) = (refl, refl, refl)
     go (Modules f) = (refl, refl, refl)

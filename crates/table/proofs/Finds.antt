@@ -16,20 +16,20 @@ use Rattle.table_roots.specs.declared.FoundModule.{FoundModule}
 use Rattle.table_roots.specs.declared.FoundModule.the-variants.{Refused as Not-found}
 use Rattle.table.proofs.Says.{says-same}
 
-module _ {ws txt : List ℕ} {t : Table} {query : Str} where
-  pub finds-sound : {f : Found} → IsSound ws txt t → name-found f ≡ look-up true (names-in ws txt t) query
-      → Finds ws txt t query (record { table = t; answer = f })
+module _ {ws txt : List ℕ} {tab : Table} {query : Str} where
+  pub finds-sound : {f : Found} → IsSound ws txt tab → name-found f ≡ look-up true (names-in ws txt tab) query
+      → Finds ws txt tab query (record { table = tab; answer = f })
   finds-sound o e = record { table = refl; says = λ b h. rw (says-same _ b true h o) e }
 
-  pub finds-unsound : (IsSound ws txt t → ⊥) → Finds ws txt t query (record { table = t; answer = Refused Unsound })
+  pub finds-unsound : (IsSound ws txt tab → ⊥) → Finds ws txt tab query (record { table = tab; answer = Refused Unsound })
   unfolding first-row argument-rows look-up
   finds-unsound o = record { table = refl; says = λ b h. rw (says-same _ b false h o) refl }
 
-  pub finds-module-sound : {f : FoundModule} → IsSound ws txt t → FindsModuleOn ws txt (t .header) query f
-      → FindsModule ws txt t query (record { table = t; answer = f })
+  pub finds-module-sound : {f : FoundModule} → IsSound ws txt tab → FindsModuleOn ws txt (tab .header) query f
+      → FindsModule ws txt tab query (record { table = tab; answer = f })
   finds-module-sound o m = record { table = refl; says = λ b h. rw (says-same _ b true h o) (m .says); inside = m .inside }
 
-  pub finds-module-unsound : (IsSound ws txt t → ⊥)
-      → FindsModule ws txt t query (record { table = t; answer = Not-found Unsound })
+  pub finds-module-unsound : (IsSound ws txt tab → ⊥)
+      → FindsModule ws txt tab query (record { table = tab; answer = Not-found Unsound })
   unfolding first-row argument-rows look-up
   finds-module-unsound o = record { table = refl; says = λ b h. rw (says-same _ b false h o) refl; inside = tt }

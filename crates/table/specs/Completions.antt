@@ -27,10 +27,10 @@ completion sound tbl (Modules f) budget out query = complete-modules sound tbl (
 
 -- What a completion hands back, in any memory: the table as it was, and the answer of the definition, its lines' items from used records, their
 -- texts in the used text; b says whether the memory is sound.
-pub record Completes (ws txt : List ℕ) (t : Table) (request : Request) (query : Str) (flat flat′ out out′ : List ℕ)
+pub record Completes (ws txt : List ℕ) (tab : Table) (request : Request) (query : Str) (flat flat′ out out′ : List ℕ)
     (r : Listing) : Type 0 where
-  pub table : r .table ≡ t
-  pub says : (b : Bool) → Says b (IsSound ws txt t)
-      → CompletesAs (request .ask) (used-words ws (t .header)) (used-text txt (t .header))
+  pub table : r .table ≡ tab
+  pub says : (b : Bool) → Says b (IsSound ws txt tab)
+      → CompletesAs (request .ask) (used-words ws (tab .header)) (used-text txt (tab .header))
       flat flat′ out out′ (r .answer)
-      (completion b (table-in ws txt t) (request .ask) (request .budget) (output flat out) query)
+      (completion b (table-in ws txt tab) (request .ask) (request .budget) (output flat out) query)

@@ -14,28 +14,28 @@ use Rattle.table.specs.declared.Table.{Table}
 
 -- The lent memory is a sound table.
 abbrev pub IsSound : (ws txt : List ℕ) → Table → Type 0
-IsSound ws txt t = Sound ws txt (t .header)
+IsSound ws txt tab = Sound ws txt (tab .header)
 
 -- The source's table.
 abbrev pub table-in : (ws txt : List ℕ) → Table → S.Table
-table-in ws txt t = table-of ws txt (t .header)
+table-in ws txt tab = table-of ws txt (tab .header)
 
 -- The table by value.
 abbrev pub state : (ws txt : List ℕ) → Table → State
-state ws txt t = state-of ws txt (t .header)
+state ws txt tab = state-of ws txt (tab .header)
 
 -- Its root of names.
 abbrev pub names-in : (ws txt : List ℕ) → Table → Trie LidSymbol
-names-in ws txt t = what names ws txt (t .header .names) trieˢ
+names-in ws txt tab = what names ws txt (tab .header .names) trieˢ
 
 -- Its root of modules.
 abbrev pub modules-in : (ws txt : List ℕ) → Table → Trie ModSymbol
 modules-in ws txt t = what modules ws txt (t .header .modules) trieˢ
 
 -- The fresh table, whatever is lent.
-pub record Fresh (t : Table) : Type 0 where
-  pub sound : (ws txt : List ℕ) → IsSound ws txt t
-  pub reads : (ws txt : List ℕ) → state ws txt t ≡ fresh
+pub record Fresh (tab : Table) : Type 0 where
+  pub sound : (ws txt : List ℕ) → IsSound ws txt tab
+  pub reads : (ws txt : List ℕ) → state ws txt tab ≡ fresh
 
 -- What is lent with it.
 abbrev pub lent : (ws txt : List ℕ) → Lent

@@ -20,28 +20,28 @@ abbrev pub refusal-of : Registered → Option ℕ
 refusal-of Accepted = none
 refusal-of (Refused r) = some (number r)
 
--- By the call c the table t has become t′, which reads as the state s and has the other root as it was. Only the free part that
+-- By the call c the table tab has become tab′, which reads as the state σ and has the other root as it was. Only the free part that
 -- was taken has changed, and of the text it is the call's texts.
-abbrev pub Accepts : (ws txt ws′ txt′ : List ℕ) (t t′ : Table) (c : Call) (s : State) → Type 0
-Accepts ws txt ws′ txt′ t t′ c s = R.Accepts ws txt ws′ txt′ (t .header) (t′ .header) c s
+abbrev pub Accepts : (ws txt ws′ txt′ : List ℕ) (tab tab′ : Table) (c : Call) (σ : State) → Type 0
+Accepts ws txt ws′ txt′ tab tab′ c σ = R.Accepts ws txt ws′ txt′ (tab .header) (tab′ .header) c σ
 
 -- Nothing has changed.
-pub record Unchanged (ws txt ws′ txt′ : List ℕ) (t t′ : Table) : Type 0 where
-  pub table : t′ ≡ t
+pub record Unchanged (ws txt ws′ txt′ : List ℕ) (tab tab′ : Table) : Type 0 where
+  pub table : tab′ ≡ tab
   pub words : ws′ ≡ ws
   pub text : txt′ ≡ txt
 
 -- The answer to a call, by that of the definition.
 abbrev pub AnswersAs : C.Registered → (ws txt ws′ txt′ : List ℕ) → Table → Call → Registration → Type 0
-AnswersAs (C.accepted s) ws txt ws′ txt′ t c r =
-    (refusal-of (r .answer) ≡ none) × Accepts ws txt ws′ txt′ t (r .table) c s
-AnswersAs (C.refused n) ws txt ws′ txt′ t c r =
-    (refusal-of (r .answer) ≡ some n) × Unchanged ws txt ws′ txt′ t (r .table)
+AnswersAs (C.accepted s) ws txt ws′ txt′ tab c r =
+    (refusal-of (r .answer) ≡ none) × Accepts ws txt ws′ txt′ tab (r .table) c s
+AnswersAs (C.refused n) ws txt ws′ txt′ tab c r =
+    (refusal-of (r .answer) ≡ some n) × Unchanged ws txt ws′ txt′ tab (r .table)
 
 -- The answer r to a call; b says whether the memory is sound.
-pub record Answers (b : Bool) (ws txt ws′ txt′ : List ℕ) (t : Table) (c : Call) (r : Registration) : Type 0 where
-  pub says : AnswersAs (register b (lent ws txt) (state ws txt t) c) ws txt ws′ txt′ t c r
+pub record Answers (b : Bool) (ws txt ws′ txt′ : List ℕ) (tab : Table) (c : Call) (r : Registration) : Type 0 where
+  pub says : AnswersAs (register b (lent ws txt) (state ws txt tab) c) ws txt ws′ txt′ tab c r
 
 -- The same, of any memory.
 abbrev pub Total : (ws txt ws′ txt′ : List ℕ) → Table → Call → Registration → Type 0
-Total ws txt ws′ txt′ t c r = (b : Bool) → Says b (IsSound ws txt t) → Answers b ws txt ws′ txt′ t c r
+Total ws txt ws′ txt′ tab c r = (b : Bool) → Says b (IsSound ws txt tab) → Answers b ws txt ws′ txt′ tab c r

@@ -50,31 +50,31 @@ listed-lines ask ws txt h flat flat′ out out′ n entered (C.listed lines e) x
     (lines, rw f, rw k (written-seen (written-whole ws txt (h .records * 12) (h .text) (asked ask) (x .1))))
 listed-lines ask ws txt h flat flat′ out out′ n entered (C.refused m) x = absurd (Option·none-ne-some m (x .0))
 
-module _ (ws txt : List ℕ) (t : Table) (name query : Str) (cover : Covers (segments query) (segments name)) where
-  names-agree : (a : C.Found LidSymbol) (lines : List (Line LidSymbol)) → HoldsName ws txt t name a → NotRefused a
-      → HoldsLines ws txt t (Names Every) query lines
-      → (b : Bool) → Says b (IsSound ws txt t) → Shows (lines-of-text (without-last name) lines) a
+module _ (ws txt : List ℕ) (tab : Table) (name query : Str) (cover : Covers (segments query) (segments name)) where
+  names-agree : (a : C.Found LidSymbol) (lines : List (Line LidSymbol)) → HoldsName ws txt tab name a → NotRefused a
+      → HoldsLines ws txt tab (Names Every) query lines
+      → (b : Bool) → Says b (IsSound ws txt tab) → Shows (lines-of-text (without-last name) lines) a
   unfolding look-up first-row argument-rows
   names-agree a lines f ok c false s = absurd (rw (sym (f .is) ∙ f .finds .says false s) at ok)
   names-agree a lines f ok c true s =
       let l =
-      listed-lines (Names Every) ws txt (t .header) (c .flat) (c .flat′) (c .out) (c .out′) (c .count) (c .entered) _
+      listed-lines (Names Every) ws txt (tab .header) (c .flat) (c .flat′) (c .out) (c .out′) (c .count) (c .entered) _
       (rw (c .listed) at (c .completes .says true s)) in
       rw (← c .read, l .2)
-      (agreement .names (table-in ws txt t) (sound-table s) .shows name query a (l .0) (sym (f .finds .says true s) ∙ f .is) ok
+      (agreement .names (table-in ws txt tab) (sound-table s) .shows name query a (l .0) (sym (f .finds .says true s) ∙ f .is) ok
       (c .budget, output (c .flat) (c .out), c .entered, l .1) cover)
 
-  modules-agree : (a : C.Found ModSymbol) (lines : List (Line ModSymbol)) → HoldsModule ws txt t name a → NotRefused a
-      → HoldsLines ws txt t (Modules All) query lines
-      → (b : Bool) → Says b (IsSound ws txt t) → Shows (lines-of-text (without-last name) lines) a
+  modules-agree : (a : C.Found ModSymbol) (lines : List (Line ModSymbol)) → HoldsModule ws txt tab name a → NotRefused a
+      → HoldsLines ws txt tab (Modules All) query lines
+      → (b : Bool) → Says b (IsSound ws txt tab) → Shows (lines-of-text (without-last name) lines) a
   unfolding look-up first-row argument-rows
   modules-agree a lines f ok c false s = absurd (rw (sym (f .is) ∙ f .finds .says false s) at ok)
   modules-agree a lines f ok c true s =
       let l =
-      listed-lines (Modules All) ws txt (t .header) (c .flat) (c .flat′) (c .out) (c .out′) (c .count) (c .entered) _
+      listed-lines (Modules All) ws txt (tab .header) (c .flat) (c .flat′) (c .out) (c .out′) (c .count) (c .entered) _
       (rw (c .listed) at (c .completes .says true s)) in
       rw (← c .read, l .2)
-      (agreement .modules (table-in ws txt t) (sound-table s) .shows name query a (l .0) (sym (f .finds .says true s) ∙ f .is) ok
+      (agreement .modules (table-in ws txt tab) (sound-table s) .shows name query a (l .0) (sym (f .finds .says true s) ∙ f .is) ok
       (c .budget, output (c .flat) (c .out), c .entered, l .1) cover)
 
 -- Demand 3, of the calls: what the memory is need not be known.
@@ -87,34 +87,34 @@ calls-agree = record {
 
 -- ---- The other way round
 
-module _ (ws txt : List ℕ) (t : Table) (query : Str) where
-  names-found : (f : KindFilter) (lines : List (Line LidSymbol)) → HoldsLines ws txt t (Names f) query lines
-      → (b : Bool) → Says b (IsSound ws txt t) → LinesAre (HoldsName ws txt t) query lines
+module _ (ws txt : List ℕ) (tab : Table) (query : Str) where
+  names-found : (f : KindFilter) (lines : List (Line LidSymbol)) → HoldsLines ws txt tab (Names f) query lines
+      → (b : Bool) → Says b (IsSound ws txt tab) → LinesAre (HoldsName ws txt tab) query lines
   unfolding complete completed completion-rows argument-rows first-row
   names-found f lines c false s =
       absurd (Option·none-ne-some 1 (sym (ap refused-by (c .listed)) ∙ c .completes .says false s .0))
   names-found f lines c true s =
       let l =
-      listed-lines (Names f) ws txt (t .header) (c .flat) (c .flat′) (c .out) (c .out′) (c .count) (c .entered) _
+      listed-lines (Names f) ws txt (tab .header) (c .flat) (c .flat′) (c .out) (c .out′) (c .count) (c .entered) _
       (rw (c .listed) at (c .completes .says true s)) in
-      let g = lines-found .names (table-in ws txt t) (sound-table s) f in
-      let k : ListsNames (table-in ws txt t) f query (l .0) = (c .budget, output (c .flat) (c .out), c .entered, l .1) in
+      let g = lines-found .names (table-in ws txt tab) (sound-table s) f in
+      let k : ListsNames (table-in ws txt tab) f query (l .0) = (c .budget, output (c .flat) (c .out), c .entered, l .1) in
       rw (← c .read, l .2) (
         g .covered query (l .0) k,
         Allˡ-map (l .0) (λ x i a h. i a (sym (h .finds .says true s) ∙ h .is)) (g .found-item query (l .0) k),
       )
 
-  modules-found : (f : Filter) (lines : List (Line ModSymbol)) → HoldsLines ws txt t (Modules f) query lines
-      → (b : Bool) → Says b (IsSound ws txt t) → LinesAre (HoldsModule ws txt t) query lines
+  modules-found : (f : Filter) (lines : List (Line ModSymbol)) → HoldsLines ws txt tab (Modules f) query lines
+      → (b : Bool) → Says b (IsSound ws txt tab) → LinesAre (HoldsModule ws txt tab) query lines
   unfolding complete-modules completed completion-rows argument-rows first-row
   modules-found f lines c false s =
       absurd (Option·none-ne-some 1 (sym (ap refused-by (c .listed)) ∙ c .completes .says false s .0))
   modules-found f lines c true s =
       let l =
-      listed-lines (Modules f) ws txt (t .header) (c .flat) (c .flat′) (c .out) (c .out′) (c .count) (c .entered) _
+      listed-lines (Modules f) ws txt (tab .header) (c .flat) (c .flat′) (c .out) (c .out′) (c .count) (c .entered) _
       (rw (c .listed) at (c .completes .says true s)) in
-      let g = lines-found .modules (table-in ws txt t) (sound-table s) (filter-in f) in
-      let k : ListsModules (table-in ws txt t) (filter-in f) query (l .0) = (c .budget, output (c .flat) (c .out), c .entered, l .1) in
+      let g = lines-found .modules (table-in ws txt tab) (sound-table s) (filter-in f) in
+      let k : ListsModules (table-in ws txt tab) (filter-in f) query (l .0) = (c .budget, output (c .flat) (c .out), c .entered, l .1) in
       rw (← c .read, l .2) (
         g .covered query (l .0) k,
         Allˡ-map (l .0) (λ x i a h. i a (sym (h .finds .says true s) ∙ h .is)) (g .found-item query (l .0) k),

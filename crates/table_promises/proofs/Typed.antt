@@ -60,11 +60,11 @@ halves-same s t x y n e = (
 )
 
 module _ {A : Type 0} where
-  line-same : (l l′ : S.Line A) → l .match-length ≡ l′ .match-length → l .item-of ≡ l′ .item-of
-      → l .candidate ≡ l′ .candidate → l .annotation ≡ l′ .annotation → l ≡ l′
-  line-same l l′ m i c a =
-      ap₂ (λ x y. record { match-length = x; item-of = y; candidate = l .candidate; annotation = l .annotation }) m i
-      ∙ ap₂ (λ x y. record { match-length = l′ .match-length; item-of = l′ .item-of; candidate = x; annotation = y }) c a
+  line-same : (ln ln′ : S.Line A) → ln .match-length ≡ ln′ .match-length → ln .item-of ≡ ln′ .item-of
+      → ln .candidate ≡ ln′ .candidate → ln .annotation ≡ ln′ .annotation → ln ≡ ln′
+  line-same ln ln′ m i c a =
+      ap₂ (λ x y. record { match-length = x; item-of = y; candidate = ln .candidate; annotation = ln .annotation }) m i
+      ∙ ap₂ (λ x y. record { match-length = ln′ .match-length; item-of = ln′ .item-of; candidate = x; annotation = y }) c a
 
   -- The lines' records have the lengths of their texts, by which the output text is cut.
   lines-same : (at at′ : ℕ) (ls ls′ : List (S.Line A)) (x x′ : Str)
@@ -143,29 +143,29 @@ listed-lines ask ws txt h flat flat′ out out′ ls ls′ n entered (C.listed l
     (lines, rw f, record { count = k; shown = shown-whole (asked ask) txt (h .text) s; texts = rw z at (x .1 .out-laid) })
 listed-lines ask ws txt h flat flat′ out out′ ls ls′ n entered (C.refused m) x s = absurd (Option·none-ne-some m (x .0))
 
-module _ (ws txt : List ℕ) (t : Table) (name query : Str) (cover : Covers (segments query) (segments name)) where
-  names-agree : (a : C.Found LidSymbol) (lines : List (S.Line LidSymbol)) → HoldsName ws txt t name a → NotRefused a
-      → HoldsTyped ws txt t (Names Every) query lines
-      → (b : Bool) → Says b (IsSound ws txt t) → Shows (lines-of-text (without-last name) lines) a
+module _ (ws txt : List ℕ) (tab : Table) (name query : Str) (cover : Covers (segments query) (segments name)) where
+  names-agree : (a : C.Found LidSymbol) (lines : List (S.Line LidSymbol)) → HoldsName ws txt tab name a → NotRefused a
+      → HoldsTyped ws txt tab (Names Every) query lines
+      → (b : Bool) → Says b (IsSound ws txt tab) → Shows (lines-of-text (without-last name) lines) a
   unfolding look-up first-row argument-rows
   names-agree a lines f ok c false s = absurd (rw (sym (f .is) ∙ f .finds .says false s) at ok)
   names-agree a lines f ok c true s =
-      let l = listed-lines (Names Every) ws txt (t .header) (c .flat) (c .flat′) (c .out) (c .out′) (c .ls) (c .ls′) (c .count) (c .entered) _
+      let l = listed-lines (Names Every) ws txt (tab .header) (c .flat) (c .flat′) (c .out) (c .out′) (c .ls) (c .ls′) (c .count) (c .entered) _
       (rw (c .listed) at (c .completes .says true s)) (c .completes .shows true s) in
       rw (stand-same lines (l .0) (c .stand) (l .2))
-      (agreement .names (table-in ws txt t) (sound-table s) .shows name query a (l .0) (sym (f .finds .says true s) ∙ f .is) ok
+      (agreement .names (table-in ws txt tab) (sound-table s) .shows name query a (l .0) (sym (f .finds .says true s) ∙ f .is) ok
       (c .budget, output (length (c .ls)) (c .flat) (c .out), c .entered, l .1) cover)
 
-  modules-agree : (a : C.Found ModSymbol) (lines : List (S.Line ModSymbol)) → HoldsModule ws txt t name a → NotRefused a
-      → HoldsTyped ws txt t (Modules All) query lines
-      → (b : Bool) → Says b (IsSound ws txt t) → Shows (lines-of-text (without-last name) lines) a
+  modules-agree : (a : C.Found ModSymbol) (lines : List (S.Line ModSymbol)) → HoldsModule ws txt tab name a → NotRefused a
+      → HoldsTyped ws txt tab (Modules All) query lines
+      → (b : Bool) → Says b (IsSound ws txt tab) → Shows (lines-of-text (without-last name) lines) a
   unfolding look-up first-row argument-rows
   modules-agree a lines f ok c false s = absurd (rw (sym (f .is) ∙ f .finds .says false s) at ok)
   modules-agree a lines f ok c true s =
-      let l = listed-lines (Modules All) ws txt (t .header) (c .flat) (c .flat′) (c .out) (c .out′) (c .ls) (c .ls′) (c .count) (c .entered) _
+      let l = listed-lines (Modules All) ws txt (tab .header) (c .flat) (c .flat′) (c .out) (c .out′) (c .ls) (c .ls′) (c .count) (c .entered) _
       (rw (c .listed) at (c .completes .says true s)) (c .completes .shows true s) in
       rw (stand-same lines (l .0) (c .stand) (l .2))
-      (agreement .modules (table-in ws txt t) (sound-table s) .shows name query a (l .0) (sym (f .finds .says true s) ∙ f .is) ok
+      (agreement .modules (table-in ws txt tab) (sound-table s) .shows name query a (l .0) (sym (f .finds .says true s) ∙ f .is) ok
       (c .budget, output (length (c .ls)) (c .flat) (c .out), c .entered, l .1) cover)
 
 -- Demand 3, of the typed completion: what the memory is need not be known.
@@ -178,32 +178,32 @@ typed-agree = record {
 
 -- ---- The other way round
 
-module _ (ws txt : List ℕ) (t : Table) (query : Str) where
-  names-found : (f : KindFilter) (lines : List (S.Line LidSymbol)) → HoldsTyped ws txt t (Names f) query lines
-      → (b : Bool) → Says b (IsSound ws txt t) → LinesAre (HoldsName ws txt t) query lines
+module _ (ws txt : List ℕ) (tab : Table) (query : Str) where
+  names-found : (f : KindFilter) (lines : List (S.Line LidSymbol)) → HoldsTyped ws txt tab (Names f) query lines
+      → (b : Bool) → Says b (IsSound ws txt tab) → LinesAre (HoldsName ws txt tab) query lines
   unfolding complete completed completion-rows argument-rows first-row
   names-found f lines c false s =
       absurd (Option·none-ne-some 1 (sym (ap refused-by (c .listed)) ∙ c .completes .says false s .0))
   names-found f lines c true s =
-      let l = listed-lines (Names f) ws txt (t .header) (c .flat) (c .flat′) (c .out) (c .out′) (c .ls) (c .ls′) (c .count) (c .entered) _
+      let l = listed-lines (Names f) ws txt (tab .header) (c .flat) (c .flat′) (c .out) (c .out′) (c .ls) (c .ls′) (c .count) (c .entered) _
       (rw (c .listed) at (c .completes .says true s)) (c .completes .shows true s) in
-      let g = lines-found .names (table-in ws txt t) (sound-table s) f in
-      let k : ListsNames (table-in ws txt t) f query (l .0) = (c .budget, output (length (c .ls)) (c .flat) (c .out), c .entered, l .1) in
+      let g = lines-found .names (table-in ws txt tab) (sound-table s) f in
+      let k : ListsNames (table-in ws txt tab) f query (l .0) = (c .budget, output (length (c .ls)) (c .flat) (c .out), c .entered, l .1) in
       rw (stand-same lines (l .0) (c .stand) (l .2)) (
         g .covered query (l .0) k,
         Allˡ-map (l .0) (λ x i a h. i a (sym (h .finds .says true s) ∙ h .is)) (g .found-item query (l .0) k),
       )
 
-  modules-found : (f : Filter) (lines : List (S.Line ModSymbol)) → HoldsTyped ws txt t (Modules f) query lines
-      → (b : Bool) → Says b (IsSound ws txt t) → LinesAre (HoldsModule ws txt t) query lines
+  modules-found : (f : Filter) (lines : List (S.Line ModSymbol)) → HoldsTyped ws txt tab (Modules f) query lines
+      → (b : Bool) → Says b (IsSound ws txt tab) → LinesAre (HoldsModule ws txt tab) query lines
   unfolding complete-modules completed completion-rows argument-rows first-row
   modules-found f lines c false s =
       absurd (Option·none-ne-some 1 (sym (ap refused-by (c .listed)) ∙ c .completes .says false s .0))
   modules-found f lines c true s =
-      let l = listed-lines (Modules f) ws txt (t .header) (c .flat) (c .flat′) (c .out) (c .out′) (c .ls) (c .ls′) (c .count) (c .entered) _
+      let l = listed-lines (Modules f) ws txt (tab .header) (c .flat) (c .flat′) (c .out) (c .out′) (c .ls) (c .ls′) (c .count) (c .entered) _
       (rw (c .listed) at (c .completes .says true s)) (c .completes .shows true s) in
-      let g = lines-found .modules (table-in ws txt t) (sound-table s) (filter-in f) in
-      let k : ListsModules (table-in ws txt t) (filter-in f) query (l .0) = (c .budget, output (length (c .ls)) (c .flat) (c .out), c .entered, l .1) in
+      let g = lines-found .modules (table-in ws txt tab) (sound-table s) (filter-in f) in
+      let k : ListsModules (table-in ws txt tab) (filter-in f) query (l .0) = (c .budget, output (length (c .ls)) (c .flat) (c .out), c .entered, l .1) in
       rw (stand-same lines (l .0) (c .stand) (l .2)) (
         g .covered query (l .0) k,
         Allˡ-map (l .0) (λ x i a h. i a (sym (h .finds .says true s) ∙ h .is)) (g .found-item query (l .0) k),

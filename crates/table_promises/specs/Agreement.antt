@@ -26,19 +26,19 @@ use Rattle.table.specs.declared.Listing.{Listing}
 use Rattle.listing.specs.declared.Completed.the-variants.{Listed}
 
 -- What a caller holds of a look-up of a name that answered a.
-pub record HoldsName (ws txt : List ℕ) (t : Table) (name : Str) (a : Found LidSymbol) : Type 0 where
+pub record HoldsName (ws txt : List ℕ) (tab : Table) (name : Str) (a : Found LidSymbol) : Type 0 where
   pub reply : Finding
-  pub finds : Finds ws txt t name reply
+  pub finds : Finds ws txt tab name reply
   pub is : name-found (reply .answer) ≡ a
 
 -- The same of a module or namespace.
-pub record HoldsModule (ws txt : List ℕ) (t : Table) (name : Str) (a : Found ModSymbol) : Type 0 where
+pub record HoldsModule (ws txt : List ℕ) (tab : Table) (name : Str) (a : Found ModSymbol) : Type 0 where
   pub reply : ModuleFinding
-  pub finds : FindsModule ws txt t name reply
+  pub finds : FindsModule ws txt tab name reply
   pub is : module-found txt (reply .answer) ≡ a
 
 -- What a caller holds of a completion that is not refused, and the lines that it reads in the lent output.
-pub record HoldsLines (ws txt : List ℕ) (t : Table) (ask : Ask) (query : Str)
+pub record HoldsLines (ws txt : List ℕ) (tab : Table) (ask : Ask) (query : Str)
     (lines : List (Line (Item (asked ask)))) : Type 0 where
   pub budget : ℕ
   pub count : ℕ
@@ -48,18 +48,18 @@ pub record HoldsLines (ws txt : List ℕ) (t : Table) (ask : Ask) (query : Str)
   pub out : List ℕ
   pub out′ : List ℕ
   pub reply : Listing
-  pub completes : Completes ws txt t (record { ask = ask; budget = budget }) query flat flat′ out out′ reply
+  pub completes : Completes ws txt tab (record { ask = ask; budget = budget }) query flat flat′ out out′ reply
   pub listed : reply .answer ≡ Listed count entered
   pub read : lines-seen (asked ask) txt flat′ out′ count ≡ lines
 
 -- Whatever memory is lent, on either root: the lines that a completion of all kinds, or unfiltered, left there show what look-up answered.
 pub record CallsAgree : Type 0 where
-  pub names : (ws txt : List ℕ) (t : Table) → Agree (HoldsName ws txt t) (HoldsLines ws txt t (Names Every))
-  pub modules : (ws txt : List ℕ) (t : Table) → Agree (HoldsModule ws txt t) (HoldsLines ws txt t (Modules All))
+  pub names : (ws txt : List ℕ) (tab : Table) → Agree (HoldsName ws txt tab) (HoldsLines ws txt tab (Names Every))
+  pub modules : (ws txt : List ℕ) (tab : Table) → Agree (HoldsModule ws txt tab) (HoldsLines ws txt tab (Modules All))
 
 -- The other way round, of every kind and filter: each line that a completion left there is what look-up finds.
 pub record CallsFound : Type 0 where
-  pub names : (ws txt : List ℕ) (t : Table) (f : KindFilter)
-      → EachFound (HoldsName ws txt t) (HoldsLines ws txt t (Names f))
-  pub modules : (ws txt : List ℕ) (t : Table) (f : Filter)
-      → EachFound (HoldsModule ws txt t) (HoldsLines ws txt t (Modules f))
+  pub names : (ws txt : List ℕ) (tab : Table) (f : KindFilter)
+      → EachFound (HoldsName ws txt tab) (HoldsLines ws txt tab (Names f))
+  pub modules : (ws txt : List ℕ) (tab : Table) (f : Filter)
+      → EachFound (HoldsModule ws txt tab) (HoldsLines ws txt tab (Modules f))

@@ -31,7 +31,7 @@ pub record LinesStand (w : L.Which) (txt : List ℕ) (ls ls′ : List Line) (out
   pub texts : Laid out out′ 0 (length (output-text lines)) (output-text lines)
 
 -- What a caller holds of a typed completion that is not refused, and the lines that stand in its line structs.
-pub record HoldsTyped (ws txt : List ℕ) (t : Table) (ask : Ask) (query : Str)
+pub record HoldsTyped (ws txt : List ℕ) (tab : Table) (ask : Ask) (query : Str)
     (lines : List (S.Line (L.Item (asked ask)))) : Type 0 where
   pub budget : ℕ
   pub count : ℕ
@@ -43,18 +43,18 @@ pub record HoldsTyped (ws txt : List ℕ) (t : Table) (ask : Ask) (query : Str)
   pub out : List ℕ
   pub out′ : List ℕ
   pub reply : Listing
-  pub completes : CompletesLines ws txt t (record { ask = ask; budget = budget }) query ls ls′ flat flat′ out out′ reply
+  pub completes : CompletesLines ws txt tab (record { ask = ask; budget = budget }) query ls ls′ flat flat′ out out′ reply
   pub listed : reply .answer ≡ Listed count entered
   pub stand : LinesStand (asked ask) txt ls ls′ out out′ count lines
 
 -- Whatever memory is lent, on either root: lines of a completion of all kinds, or unfiltered, show look-up's answer.
 pub record TypedAgree : Type 0 where
-  pub names : (ws txt : List ℕ) (t : Table) → Agree (HoldsName ws txt t) (HoldsTyped ws txt t (Names Every))
-  pub modules : (ws txt : List ℕ) (t : Table) → Agree (HoldsModule ws txt t) (HoldsTyped ws txt t (Modules All))
+  pub names : (ws txt : List ℕ) (tab : Table) → Agree (HoldsName ws txt tab) (HoldsTyped ws txt tab (Names Every))
+  pub modules : (ws txt : List ℕ) (tab : Table) → Agree (HoldsModule ws txt tab) (HoldsTyped ws txt tab (Modules All))
 
 -- The other way round, of every kind and filter: each line in the line structs is what look-up finds.
 pub record TypedFound : Type 0 where
-  pub names : (ws txt : List ℕ) (t : Table) (f : KindFilter)
-      → EachFound (HoldsName ws txt t) (HoldsTyped ws txt t (Names f))
-  pub modules : (ws txt : List ℕ) (t : Table) (f : Filter)
-      → EachFound (HoldsModule ws txt t) (HoldsTyped ws txt t (Modules f))
+  pub names : (ws txt : List ℕ) (tab : Table) (f : KindFilter)
+      → EachFound (HoldsName ws txt tab) (HoldsTyped ws txt tab (Names f))
+  pub modules : (ws txt : List ℕ) (tab : Table) (f : Filter)
+      → EachFound (HoldsModule ws txt tab) (HoldsTyped ws txt tab (Modules f))

@@ -32,28 +32,28 @@ module _ (ask : Ask) (ws txt flat flat′ out out′ : List ℕ) where
   leaves (Listed lines entered) (C.refused n) a = absurd (Option·none-ne-some n (a .0))
   leaves (Refused x) (C.refused n) a = refl
 
-module _ {ws txt : List ℕ} {t : Table} {request : Request} {query : Str} {flat flat′ out out′ : List ℕ} {l : Listing}
-    (x : Completes ws txt t request query flat flat′ out out′ l) where
+module _ {ws txt : List ℕ} {tab : Table} {request : Request} {query : Str} {flat flat′ out out′ : List ℕ} {got : Listing}
+    (x : Completes ws txt tab request query flat flat′ out out′ got) where
   abbrev answer : Bool → C.Completed (Item (asked (request .ask)))
-  answer b = completion b (table-in ws txt t) (request .ask) (request .budget) (output flat out) query
+  answer b = completion b (table-in ws txt tab) (request .ask) (request .budget) (output flat out) query
 
   -- The memory that the lines are from.
   abbrev ws′ : List ℕ
-  ws′ = used-words ws (t .header)
+  ws′ = used-words ws (tab .header)
 
   abbrev txt′ : List ℕ
-  txt′ = used-text txt (t .header)
+  txt′ = used-text txt (tab .header)
 
-  left : (b : Bool) → Says b (IsSound ws txt t)
-      → Leaves (asked (request .ask)) ws′ txt′ flat flat′ out out′ (lines-in (l .answer)) (answer b)
-  left b h = leaves (request .ask) ws′ txt′ flat flat′ out out′ (l .answer) (answer b) (x .says b h)
+  left : (b : Bool) → Says b (IsSound ws txt tab)
+      → Leaves (asked (request .ask)) ws′ txt′ flat flat′ out out′ (lines-in (got .answer)) (answer b)
+  left b h = leaves (request .ask) ws′ txt′ flat flat′ out out′ (got .answer) (answer b) (x .says b h)
 
-  pub completes-candidates : CandidatesIn flat′ out′ (lines-in (l .answer))
-  completes-candidates = left-candidates (asked (request .ask)) ws′ txt′ flat flat′ out out′ (lines-in (l .answer)) answer left
+  pub completes-candidates : CandidatesIn flat′ out′ (lines-in (got .answer))
+  completes-candidates = left-candidates (asked (request .ask)) ws′ txt′ flat flat′ out out′ (lines-in (got .answer)) answer left
 
-  pub completes-shared : {r : Sharing} → r ≡ sharing-seen flat′ out′ l
-      → CompletesShared ws txt t request query flat flat′ out out′ r
+  pub completes-shared : {r : Sharing} → r ≡ sharing-seen flat′ out′ got
+      → CompletesShared ws txt tab request query flat flat′ out out′ r
   completes-shared e = rw e (record {
     listing = x;
-    shared = λ b h. leaves-shared (asked (request .ask)) ws′ txt′ flat flat′ out out′ (lines-in (l .answer)) (answer b) (left b h);
+    shared = λ b h. leaves-shared (asked (request .ask)) ws′ txt′ flat flat′ out out′ (lines-in (got .answer)) (answer b) (left b h);
   })

@@ -18,12 +18,12 @@ use Rattle.table_shared.specs.declared.Sharing.{Sharing}
 
 -- A listing, with what its lines share where they stand in flat and out.
 abbrev pub sharing-seen : (flat out : List ℕ) → Listing → Sharing
-sharing-seen flat out l = record { listing = l; shared = shared-seen flat out (lines-in (l .answer)) }
+sharing-seen flat out r = record { listing = r; shared = shared-seen flat out (lines-in (r .answer)) }
 
 -- In any memory: all that a completion hands back and leaves, and the shared length of the definition's answer; b says whether the memory is sound.
-pub record CompletesShared (ws txt : List ℕ) (t : Table) (request : Request) (query : Str)
+pub record CompletesShared (ws txt : List ℕ) (tab : Table) (request : Request) (query : Str)
     (flat flat′ out out′ : List ℕ) (r : Sharing) : Type 0 where
-  pub listing : Completes ws txt t request query flat flat′ out out′ (r .listing)
-  pub shared : (b : Bool) → Says b (IsSound ws txt t)
+  pub listing : Completes ws txt tab request query flat flat′ out out′ (r .listing)
+  pub shared : (b : Bool) → Says b (IsSound ws txt tab)
       → r .shared
-      ≡ shared-length (completion b (table-in ws txt t) (request .ask) (request .budget) (output flat out) query)
+      ≡ shared-length (completion b (table-in ws txt tab) (request .ask) (request .budget) (output flat out) query)

@@ -109,29 +109,29 @@ module _ (ask : Ask) (ws txt flat flat′ out out′ : List ℕ) (r : Completed)
       shown lines (c .1) a (omega (arith, h, ap lines-in (c .0))) (e ∙ ap (stored-lines (line-at ask flat′) ls) (ap lines-in (c .0)))
   shown-as (C.refused n) c a h e = e ∙ ap (stored-lines (line-at ask flat′) ls) (refused-none r (c .0))
 
-all-held : (ws txt : List ℕ) (t : Table) (ask : Ask) (query : Str) (budget : ℕ) (b : Bool) → Says b (IsSound ws txt t)
-    → (o : Output) → AnswerHeld (completion b (table-in ws txt t) ask budget o query)
+all-held : (ws txt : List ℕ) (tab : Table) (ask : Ask) (query : Str) (budget : ℕ) (b : Bool) → Says b (IsSound ws txt tab)
+    → (o : Output) → AnswerHeld (completion b (table-in ws txt tab) ask budget o query)
 unfolding complete complete-modules completed completion-rows first-row argument-rows
-all-held ws txt t ask query budget true s o = answer-held true (table-in ws txt t) ask budget o query (sound-table s)
-all-held ws txt t ask query budget false s o = go ask
+all-held ws txt tab ask query budget true s o = answer-held true (table-in ws txt tab) ask budget o query (sound-table s)
+all-held ws txt tab ask query budget false s o = go ask
   where
-    go : (ask : Ask) → AnswerHeld (completion false (table-in ws txt t) ask budget o query)
+    go : (ask : Ask) → AnswerHeld (completion false (table-in ws txt tab) ask budget o query)
     go (Names f) = tt
     go (Modules f) = tt
 
-module _ {ws txt : List ℕ} {t : Table} {q : Request} {query : Str} {flat flat′ out out′ : List ℕ} {r : Listing}
+module _ {ws txt : List ℕ} {tab : Table} {q : Request} {query : Str} {flat flat′ out out′ : List ℕ} {r : Listing}
     {n : ℕ} where
-  pub asked-at : {room : ℕ} → FlatCompletes ws txt t q query room flat flat′ out out′ r → n ≡ lines-in (r .answer)
+  pub asked-at : {room : ℕ} → FlatCompletes ws txt tab q query room flat flat′ out out′ r → n ≡ lines-in (r .answer)
       → length flat′ ≡ length flat → (n ≤ room) × (n * line-bytes ≤ length flat′)
   asked-at c e l = (omega (arith, c .fit, e), omega (arith, c .lent, e, l))
 
-  pub told-at : {ls ls′ : List Line} → FlatCompletes ws txt t q query (length ls) flat flat′ out out′ r
+  pub told-at : {ls ls′ : List Line} → FlatCompletes ws txt tab q query (length ls) flat flat′ out out′ r
       → n ≡ lines-in (r .answer) → ls′ ≡ stored-lines (line-at (q .ask) flat′) ls n
-      → CompletesLines ws txt t q query ls ls′ flat flat′ out out′ r
+      → CompletesLines ws txt tab q query ls ls′ flat flat′ out out′ r
   told-at {ls} {ls′} c e s = record {
     table = c .table;
     says = c .says;
-    shows = λ b h. shown-as (q .ask) (used-words ws (t .header)) (used-text txt (t .header)) flat flat′ out out′ (r .answer) ls ls′
-        (completion b (table-in ws txt t) (q .ask) (q .budget) (output (length ls) flat out) query) (c .says b h)
-        (all-held ws txt t (q .ask) query (q .budget) b h (output (length ls) flat out)) (c .fit) (s ∙ ap (stored-lines (line-at (q .ask) flat′) ls) e);
+    shows = λ b h. shown-as (q .ask) (used-words ws (tab .header)) (used-text txt (tab .header)) flat flat′ out out′ (r .answer) ls ls′
+        (completion b (table-in ws txt tab) (q .ask) (q .budget) (output (length ls) flat out) query) (c .says b h)
+        (all-held ws txt tab (q .ask) query (q .budget) b h (output (length ls) flat out)) (c .fit) (s ∙ ap (stored-lines (line-at (q .ask) flat′) ls) e);
   }

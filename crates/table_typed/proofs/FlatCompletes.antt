@@ -74,50 +74,50 @@ output-part room k flat out h e =
     let n : length (take k flat) / line-bytes ≡ min (length flat / line-bytes) room = ap (λ m. m / line-bytes) (length-take-le k flat h ∙ e) ∙ omega arith in
     ap (λ m. record { lines = min m 4294967295; text = min (length out) 4294967295 }) n
 
-module _ {ws txt : List ℕ} {t : Table} {q : Request} {query : Str} {room : ℕ} {flat out : List ℕ} where
-  pub flat-completes : {f out′ : List ℕ} {r : Listing} {k : ℕ} → IsSound ws txt t
+module _ {ws txt : List ℕ} {tab : Table} {q : Request} {query : Str} {room : ℕ} {flat out : List ℕ} where
+  pub flat-completes : {f out′ : List ℕ} {r : Listing} {k : ℕ} → IsSound ws txt tab
       → k ≡ min (length flat / line-bytes) room * line-bytes
-      → T.Completes ws txt t q query (take k flat) f out out′ r
-      → FlatCompletes ws txt t q query room flat (f ++ drop k flat) out out′ r
+      → T.Completes ws txt tab q query (take k flat) f out out′ r
+      → FlatCompletes ws txt tab q query room flat (f ++ drop k flat) out out′ r
   flat-completes {f} {out′} {r} {k} o e c =
       let ask : Ask = q .ask in
       let budget : ℕ = q .budget in
       let a : Completed = r .answer in
-      let ws′ : List ℕ = used-words ws (t .header) in
-      let txt′ : List ℕ = used-text txt (t .header) in
+      let ws′ : List ℕ = used-words ws (tab .header) in
+      let txt′ : List ℕ = used-text txt (tab .header) in
       let h : k ≤ length flat = omega (arith, e) in
       let n : lines-in a * line-bytes ≤ k = omega (
         arith,
-        part-fits ask ws′ txt′ flat f out out′ a k (completion true (table-in ws txt t) ask budget (F.output (take k flat) out) query) (c .says true o),
+        part-fits ask ws′ txt′ flat f out out′ a k (completion true (table-in ws txt tab) ask budget (F.output (take k flat) out) query) (c .says true o),
         length-take-le k flat h,
       ) in
       record {
         table = c .table;
         says = λ b s. subst (λ x. CompletesAs ask ws′ txt′ flat (f ++ drop k flat) out out′ a
-            (completion x (table-in ws txt t) ask budget (output room flat out) query)) (sym (says-same _ b true s o))
+            (completion x (table-in ws txt tab) ask budget (output room flat out) query)) (sym (says-same _ b true s o))
             (part-as ask ws′ txt′ flat f out out′ a k h
-            (completion true (table-in ws txt t) ask budget (output room flat out) query)
+            (completion true (table-in ws txt tab) ask budget (output room flat out) query)
             (subst (λ x. CompletesAs ask ws′ txt′ (take k flat) f out out′ a
-            (completion true (table-in ws txt t) ask budget x query)) (output-part room k flat out h e)
+            (completion true (table-in ws txt tab) ask budget x query)) (output-part room k flat out h e)
             (c .says true o)));
         fit = omega (arith, n, e);
         lent = omega (arith, n, h);
       }
 
   -- A memory that is not sound.
-  pub flat-unsound : (IsSound ws txt t → ⊥)
-      → FlatCompletes ws txt t q query room flat flat out out (record { table = t; answer = Refused Unsound })
+  pub flat-unsound : (IsSound ws txt tab → ⊥)
+      → FlatCompletes ws txt tab q query room flat flat out out (record { table = tab; answer = Refused Unsound })
   unfolding complete complete-modules completed completion-rows first-row argument-rows
   flat-unsound o = record {
     table = refl;
-    says = λ b s. subst (λ x. CompletesAs (q .ask) (used-words ws (t .header)) (used-text txt (t .header)) flat flat out out (Refused Unsound)
-        (completion x (table-in ws txt t) (q .ask) (q .budget) (output room flat out) query)) (sym (says-same _ b false s o)) (go (q .ask));
+    says = λ b s. subst (λ x. CompletesAs (q .ask) (used-words ws (tab .header)) (used-text txt (tab .header)) flat flat out out (Refused Unsound)
+        (completion x (table-in ws txt tab) (q .ask) (q .budget) (output room flat out) query)) (sym (says-same _ b false s o)) (go (q .ask));
     fit = zero-le;
     lent = zero-le;
   }
     where
       go : (ask : Ask)
-          → CompletesAs ask (used-words ws (t .header)) (used-text txt (t .header)) flat flat out out (Refused Unsound)
-          (completion false (table-in ws txt t) ask (q .budget) (output room flat out) query)
+          → CompletesAs ask (used-words ws (tab .header)) (used-text txt (tab .header)) flat flat out out (Refused Unsound)
+          (completion false (table-in ws txt tab) ask (q .budget) (output room flat out) query)
       go (Names f) = (refl, refl, refl)
       go (Modules f) = (refl, refl, refl)

@@ -40,25 +40,25 @@ Held (negsuc m) = m ≡ 0
 
 -- ---- lists
 module _ {A : Type 0} (P : A → Type 0) where
-  all-append : (l m : List A) → Allˡ P l → Allˡ P m → Allˡ P (l ++ m)
+  all-append : (xs m : List A) → Allˡ P xs → Allˡ P m → Allˡ P (xs ++ m)
   all-append [] m a b = b
-  all-append (x ∷ l) m a b = (a .0, all-append l m (a .1) b)
+  all-append (x ∷ xs) m a b = (a .0, all-append xs m (a .1) b)
 
-  pub all-flatMap : {B : Type 0} (Q : B → Type 0) (f : B → List A) → ((b : B) → Q b → Allˡ P (f b)) → (l : List B)
-      → Allˡ Q l → Allˡ P (flatMap f l)
+  pub all-flatMap : {B : Type 0} (Q : B → Type 0) (f : B → List A) → ((b : B) → Q b → Allˡ P (f b)) → (xs : List B)
+      → Allˡ Q xs → Allˡ P (flatMap f xs)
   unfolding flatMap
   all-flatMap Q f h [] a = tt
-  all-flatMap Q f h (b ∷ l) a = all-append (f b) (flatMap f l) (h b (a .0)) (all-flatMap Q f h l (a .1))
+  all-flatMap Q f h (b ∷ xs) a = all-append (f b) (flatMap f xs) (h b (a .0)) (all-flatMap Q f h xs (a .1))
 
-  all-of-map : {B : Type 0} (f : B → A) (l : List B) → Allˡ (λ b. P (f b)) l → Allˡ P (map f l)
+  all-of-map : {B : Type 0} (f : B → A) (xs : List B) → Allˡ (λ b. P (f b)) xs → Allˡ P (map f xs)
   all-of-map f [] a = tt
-  all-of-map f (b ∷ l) a = (a .0, all-of-map f l (a .1))
+  all-of-map f (b ∷ xs) a = (a .0, all-of-map f xs (a .1))
 
 -- ---- a prefix is no longer than the key that it begins
 le-of : {a b : ℕ} → (b < a → ⊥) → a ≤ b
 le-of {a} {b} f = go (ltb b a) refl
   where
-    go : (t : Bool) → ltb b a ≡ t → a ≤ b
+    go : (test : Bool) → ltb b a ≡ test → a ≤ b
     go true e = absurd (f (ltb-true b a e))
     go false e = ltb-false b a e
 
@@ -81,8 +81,8 @@ module _ {A : Type 0} {ℓ : Level} where
   either true m m′ a b = a refl
   either false m m′ a b = b
 
-  find-prefix-fine : (t : Tree A ℓ) (p : Str) (acc : List (PrefixMatch × Value A ℓ)) → Matches acc
-      → Matches (find-prefix-onto t p acc)
+  find-prefix-fine : (bt : Tree A ℓ) (p : Str) (acc : List (PrefixMatch × Value A ℓ)) → Matches acc
+      → Matches (find-prefix-onto bt p acc)
   unfolding find-prefix-onto
   find-prefix-fine StrEmpty p acc b = b
   find-prefix-fine (StrBranch k v lbt rbt) p acc b =
@@ -95,9 +95,9 @@ module _ {A : Type 0} {ℓ : Level} where
       let middle-all : Matches middle = either starts (row ∷ right) right (λ e. (starts-length k p e, right-all)) right-all in
       either le middle (find-prefix-onto lbt p middle) (λ e. middle-all) (find-prefix-fine lbt p middle middle-all)
 
-  fold-fine : (p : Option Str) → ((k : Str) → Begins p k) → (t : Tree A ℓ) (acc : List (PrefixMatch × Value A ℓ))
+  fold-fine : (p : Option Str) → ((k : Str) → Begins p k) → (bt : Tree A ℓ) (acc : List (PrefixMatch × Value A ℓ))
       → Matches acc
-      → Matches (btree-fold t (λ k v acc. (record { prefix = p; completion = k }, v) ∷ acc) acc)
+      → Matches (btree-fold bt (λ k v acc. (record { prefix = p; completion = k }, v) ∷ acc) acc)
   unfolding btree-fold
   fold-fine p f StrEmpty acc b = b
   fold-fine p f (StrBranch k v lbt rbt) acc b = fold-fine p f lbt _ (f k, fold-fine p f rbt acc b)
@@ -105,20 +105,20 @@ module _ {A : Type 0} {ℓ : Level} where
   abbrev AllMatches : List (List Str × List (PrefixMatch × Value A ℓ)) → Type 0
   AllMatches ms = Allˡ (λ m. Matches (m .1)) ms
 
-  revmap-fine : (fn : Tree A ℓ → List (PrefixMatch × Value A ℓ)) → ((t : Tree A ℓ) → Matches (fn t))
-      → (acc : List (List Str × List (PrefixMatch × Value A ℓ))) (i : List Str) (n : NameList A ℓ) → AllMatches acc
-      → AllMatches (revmap-onto fn acc i n)
+  revmap-fine : (fn : Tree A ℓ → List (PrefixMatch × Value A ℓ)) → ((bt₁ : Tree A ℓ) → Matches (fn bt₁))
+      → (acc : List (List Str × List (PrefixMatch × Value A ℓ))) (i : List Str) (nl : NameList A ℓ) → AllMatches acc
+      → AllMatches (revmap-onto fn acc i nl)
   unfolding revmap-onto
   revmap-fine fn f acc i []ᴺ b = b
   revmap-fine fn f acc i (Names bt tl) b = revmap-fine fn f ((i, fn bt) ∷ acc) i tl (f bt, b)
   revmap-fine fn f acc i (ImportedNames nm inner tl) b = revmap-fine fn f (revmap-onto fn acc (nm ∷ i) inner) i tl (revmap-fine fn f acc (nm ∷ i) inner b)
 
-  matching-fine : (n : NameList A ℓ) (term : SearchTerm) → AllMatches (matching-values n term)
+  matching-fine : (nl : NameList A ℓ) (term : SearchTerm) → AllMatches (matching-values nl term)
   unfolding matching-values names-revmap btree-find-all btree-find-prefix
-  matching-fine n NSTNone = tt
-  matching-fine n NSTAll = revmap-fine (btree-find-all none) (λ t. fold-fine none (λ k. tt) t [] tt) [] [] n tt
-  matching-fine n (NSTPrefix []) = revmap-fine (btree-find-all (some [])) (λ t. fold-fine (some []) (λ k. omega arith) t [] tt) [] [] n tt
-  matching-fine n (NSTPrefix (c ∷ p)) = revmap-fine (λ bt. btree-find-prefix bt (c ∷ p)) (λ t. find-prefix-fine t (c ∷ p) [] tt) [] [] n tt
+  matching-fine nl NSTNone = tt
+  matching-fine nl NSTAll = revmap-fine (btree-find-all none) (λ t. fold-fine none (λ k. tt) t [] tt) [] [] nl tt
+  matching-fine nl (NSTPrefix []) = revmap-fine (btree-find-all (some [])) (λ t. fold-fine (some []) (λ k. omega arith) t [] tt) [] [] nl tt
+  matching-fine nl (NSTPrefix (c ∷ p)) = revmap-fine (λ bt. btree-find-prefix bt (c ∷ p)) (λ t. find-prefix-fine t (c ∷ p) [] tt) [] [] nl tt
 
   abbrev Row : PathElem × Value A ℓ → Type 0
   Row x = Begins (x .0 .segment .prefix) (x .0 .segment .completion)
@@ -133,10 +133,10 @@ module _ {A : Type 0} {ℓ : Level} where
   all-fine [] a = tt
   all-fine (m ∷ ms) a = (with-imports-fine (m .0) (m .1) (a .0), all-fine ms (a .1))
 
-  rows-fine : (n : NameList A ℓ) (term : SearchTerm) → Allˡ Row (names-find-rev-first n term)
+  rows-fine : (nl : NameList A ℓ) (term : SearchTerm) → Allˡ Row (names-find-rev-first nl term)
   unfolding names-find-rev-first
-  rows-fine n term = merge-all elem-key Row (map with-imports (reverse (matching-values n term)))
-      (all-fine (reverse (matching-values n term)) (Allˡ-reverse (λ m. Matches (m .1)) (matching-values n term) [] (matching-fine n term) tt))
+  rows-fine nl term = merge-all elem-key Row (map with-imports (reverse (matching-values nl term)))
+      (all-fine (reverse (matching-values nl term)) (Allˡ-reverse (λ m. Matches (m .1)) (matching-values nl term) [] (matching-fine nl term) tt))
 
 -- ---- paths
 -- An element of a sound table's path.
@@ -174,12 +174,12 @@ module _ {A : Type 0} (Item : A → Type 0) where
   abbrev RowOk : {ℓ : Level} → PathElem × Value A ℓ → Type 0
   RowOk y = Short (y .0) × Formed IsKey IsLabel Item (y .1)
 
-  rows-short : {ℓ : Level} (n : NameList A ℓ) (term : SearchTerm) → FormedNames IsKey IsLabel Item n
-      → Allˡ RowOk (found n term)
+  rows-short : {ℓ : Level} (nl : NameList A ℓ) (term : SearchTerm) → FormedNames IsKey IsLabel Item nl
+      → Allˡ RowOk (found nl term)
   unfolding found elem-key
-  rows-short n term g =
-      Allˡ-reverse RowOk (names-find-rev-first n term) []
-      (Allˡ-zip (names-find-rev-first n term) (λ y k b. ((k .0 .short, b), k .1)) (rows-formed IsKey IsLabel Item n term g) (rows-fine n term)) tt
+  rows-short nl term g =
+      Allˡ-reverse RowOk (names-find-rev-first nl term) []
+      (Allˡ-zip (names-find-rev-first nl term) (λ y k b. ((k .0 .short, b), k .1)) (rows-formed IsKey IsLabel Item nl term g) (rows-fine nl term)) tt
 
   abbrev LineOk : PathOf × A → Type 0
   LineOk x = Held (match-length-of-path (x .0))
@@ -227,7 +227,7 @@ kept-held : {A : Type 0} (result : PathOf × A → Line A)
 unfolding kept-line
 kept-held result e keep x h = go (keep (x .1))
   where
-    go : (t : Bool) → Allˡ (λ l. Held (l .match-length)) (cond t (result x ∷ []) [])
+    go : (b : Bool) → Allˡ (λ l. Held (l .match-length)) (cond b (result x ∷ []) [])
     go true = (rw (e x) h, tt)
     go false = tt
 

@@ -43,25 +43,25 @@ abbrev pub ShownAs : (ask : Ask) (txt : List ℕ) (ls ls′ : List Line) → C.C
 ShownAs ask txt ls ls′ (C.listed lines entered) = Shown (asked ask) txt ls ls′ lines
 ShownAs ask txt ls ls′ (C.refused n) = ls′ ≡ ls
 
-module _ (ws txt : List ℕ) (t : Table) (q : Request) (query : Str) where
+module _ (ws txt : List ℕ) (tab : Table) (q : Request) (query : Str) where
   -- The requirements' answer; b says whether the memory is sound.
   abbrev pub answer : (b : Bool) → Output → C.Completed (L.Item (asked (q .ask)))
-  answer b out = completion b (table-in ws txt t) (q .ask) (q .budget) out query
+  answer b out = completion b (table-in ws txt tab) (q .ask) (q .budget) out query
 
   -- The completion into bytes, lent for at most so many lines; the table comes back as it was.
   pub record FlatCompletes (room : ℕ) (flat flat′ out out′ : List ℕ) (r : Listing) : Type 0 where
-    pub table : r .table ≡ t
-    pub says : (b : Bool) → Says b (IsSound ws txt t)
-        → CompletesAs (q .ask) (used-words ws (t .header)) (used-text txt (t .header)) flat flat′ out out′ (r .answer)
+    pub table : r .table ≡ tab
+    pub says : (b : Bool) → Says b (IsSound ws txt tab)
+        → CompletesAs (q .ask) (used-words ws (tab .header)) (used-text txt (tab .header)) flat flat′ out out′ (r .answer)
         (answer b (output room flat out))
     pub fit : lines-in (r .answer) ≤ room
     pub lent : lines-in (r .answer) * line-bytes ≤ length flat
 
   -- The completion into line structs: as into bytes (roots' CompletesAs), and the lines are shown, their items' texts in the used text.
   pub record CompletesLines (ls ls′ : List Line) (flat flat′ out out′ : List ℕ) (r : Listing) : Type 0 where
-    pub table : r .table ≡ t
-    pub says : (b : Bool) → Says b (IsSound ws txt t)
-        → CompletesAs (q .ask) (used-words ws (t .header)) (used-text txt (t .header)) flat flat′ out out′ (r .answer)
+    pub table : r .table ≡ tab
+    pub says : (b : Bool) → Says b (IsSound ws txt tab)
+        → CompletesAs (q .ask) (used-words ws (tab .header)) (used-text txt (tab .header)) flat flat′ out out′ (r .answer)
         (answer b (output (length ls) flat out))
-    pub shows : (b : Bool) → Says b (IsSound ws txt t)
-        → ShownAs (q .ask) (used-text txt (t .header)) ls ls′ (answer b (output (length ls) flat out))
+    pub shows : (b : Bool) → Says b (IsSound ws txt tab)
+        → ShownAs (q .ask) (used-text txt (tab .header)) ls ls′ (answer b (output (length ls) flat out))

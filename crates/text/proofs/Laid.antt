@@ -28,7 +28,7 @@ laid-more {d} {d′} {d″} {s} {t} {at} {r} {r′} x y =
         front,
         back,
       ) (append-assoc (take at d) s (t ++ drop r′ d)
-          ∙ ap (λ (l : List ℕ). take at d ++ l) (sym (append-assoc s t (drop r′ d))));
+          ∙ ap (λ (xs : List ℕ). take at d ++ xs) (sym (append-assoc s t (drop r′ d))));
     }
   where
     whole : d′ ≡ (take at d ++ s) ++ drop r d

@@ -150,9 +150,9 @@ pub record Passing (p : ℕ → Bool) (s : Str) (ok : Bool) (i : ℕ) : Type 0 w
   pub says : all p s ≡ ok && all p (drop i s)
 
 module _ {p : ℕ → Bool} {s : Str} {ok : Bool} {i : ℕ} (f : Passing p s ok i) where
-  pub pass-byte : i < length s → {t : Bool} → t ≡ p (getD s i 0) → Passing p s (ok && t) (i + 1)
+  pub pass-byte : i < length s → {b : Bool} → b ≡ p (getD s i 0) → Passing p s (ok && b) (i + 1)
   unfolding all
-  pass-byte h {t} e = record { within = omega arith; says = f .says ∙ rw (drop-at s i, ← e) (sym (and-assoc ok t (all p (drop (i + 1) s)))) }
+  pass-byte h {b} e = record { within = omega arith; says = f .says ∙ rw (drop-at s i, ← e) (sym (and-assoc ok b (all p (drop (i + 1) s)))) }
 
   pub pass-end : length s ≤ i → ok ≡ all p s
   unfolding all

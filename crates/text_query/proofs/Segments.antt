@@ -33,7 +33,7 @@ pub record First (s : Str) : Type 0 where
   pub splits : segments s ≡ take (before-dot s) s ∷ segments (drop (suc (before-dot s)) s)
   pub ends : ends-in-dot (drop (suc (before-dot s)) s) ≡ ends-in-dot s
 
-first-cons : (b : ℕ) (s : Str) (t : Bool) → eqb b dot ≡ t → before-dot (b ∷ s) < suc (length s)
+first-cons : (b : ℕ) (s : Str) (test : Bool) → eqb b dot ≡ test → before-dot (b ∷ s) < suc (length s)
     → (before-dot s < length s → First s) → First (b ∷ s)
 unfolding before-dot onto-first
 first-cons b s true e h f = record { splits = rw (e, segments-dot b s e); ends = rw e (sym (ends-dot b s e)) }
@@ -53,7 +53,7 @@ before-cons : (b : ℕ) (s : Str) → before-dot (b ∷ s) ≤ suc (before-dot s
 unfolding before-dot
 before-cons b s = go (eqb b dot) (before-dot s)
   where
-    go : (t : Bool) (n : ℕ) → cond t 0 (suc n) ≤ suc n
+    go : (test : Bool) (n : ℕ) → cond test 0 (suc n) ≤ suc n
     go true n = omega arith
     go false n = omega arith
 
@@ -71,7 +71,7 @@ no-dot-cons : (b : ℕ) (s : Str) → before-dot (b ∷ s) ≡ suc (length s) �
 unfolding before-dot
 no-dot-cons b s = go (eqb b dot) (before-dot s) (length s)
   where
-    go : (t : Bool) (n m : ℕ) → cond t 0 (suc n) ≡ suc m → (t ≡ false) × (n ≡ m)
+    go : (test : Bool) (n m : ℕ) → cond test 0 (suc n) ≡ suc m → (test ≡ false) × (n ≡ m)
     go true n m e = absurd (omega arith)
     go false n m e = (refl, omega arith)
 
@@ -89,7 +89,7 @@ no-dot (b ∷ s) h e = let k : (eqb b dot ≡ false) × (before-dot s ≡ length
 pub segment-undotted : (s : Str) → 0 < length s → before-dot s ≡ length s → ends-in-dot s ≡ false
 segment-undotted s h e = go (ends-in-dot s) refl
   where
-    go : (t : Bool) → ends-in-dot s ≡ t → t ≡ false
+    go : (b : Bool) → ends-in-dot s ≡ b → b ≡ false
     go true d = absurd (omega (arith, before-inside s d h))
     go false d = refl
 

@@ -30,10 +30,10 @@ pub record Surveying (s : Str) (ok empty long : Bool) (n start i : ℕ) : Type 0
   pub scanned : before-dot (drop start s) ≡ i - start + before-dot (drop i s)
 
 -- One segment more is tested.
-any-more : (p : Str → Bool) (b t : Bool) (q : Query) {r rest : Query} {g : Str} → any p q ≡ b || any p r → r ≡ g ∷ rest
-    → p g ≡ t → any p q ≡ (b || t) || any p rest
+any-more : (p : Str → Bool) (b test : Bool) (q : Query) {r rest : Query} {g : Str} → any p q ≡ b || any p r → r ≡ g ∷ rest
+    → p g ≡ test → any p q ≡ (b || test) || any p rest
 unfolding any
-any-more p b t q {rest = rest} h e k = h ∙ rw (e, k) (sym (or-assoc b t (any p rest)))
+any-more p b test q {rest = rest} h e k = h ∙ rw (e, k) (sym (or-assoc b test (any p rest)))
 
 pub empty-length : {A : Type 0} (g : List A) → is-empty g ≡ eqb (length g) 0
 unfolding is-empty
@@ -53,18 +53,18 @@ survey-none s =
       scanned = omega arith;
     }
 
-module _ {s : Str} {o e l : Bool} {n a i : ℕ} (f : Surveying s o e l n a i) where
+module _ {s : Str} {o e test : Bool} {n a i : ℕ} (f : Surveying s o e test n a i) where
   -- The segment from start to i is tested.
   tested : {g : Str} {rest : Query} → segments (drop a s) ≡ g ∷ rest → length g ≡ i - a
       → (any is-empty (segments s) ≡ (e || eqb (i - a) 0) || any is-empty rest)
-      × (any over (segments s) ≡ (l || ltb 31 (i - a)) || any over rest)
+      × (any over (segments s) ≡ (test || ltb 31 (i - a)) || any over rest)
   tested {g} x k = (
     any-more is-empty e (eqb (i - a) 0) (segments s) (f .empties) x (empty-length g ∙ ap (λ (j : ℕ). eqb j 0) k),
-    any-more over l (ltb 31 (i - a)) (segments s) (f .longs) x (ap (ltb 31) k),
+    any-more over test (ltb 31 (i - a)) (segments s) (f .longs) x (ap (ltb 31) k),
   )
 
   pub survey-dot : i < length s → getD s i 0 ≡ dot
-      → Surveying s o (e || eqb (i - a) 0) (l || ltb 31 (i - a)) (n + 1) (i + 1) (i + 1)
+      → Surveying s o (e || eqb (i - a) 0) (test || ltb 31 (i - a)) (n + 1) (i + 1) (i + 1)
   unfolding query-byte name-byte
   survey-dot h d =
       let g : Segment s a (i - a) = segment-at s a (i - a) (omega (arith, before-at-dot s i h d)) (omega arith) in
@@ -82,8 +82,8 @@ module _ {s : Str} {o e l : Bool} {n a i : ℕ} (f : Surveying s o e l n a i) wh
         scanned = omega arith;
       }
 
-  pub survey-byte : i < length s → (getD s i 0 ≡ dot → ⊥) → {t : Bool} → t ≡ name-byte (getD s i 0)
-      → Surveying s (o && t) e l n a (i + 1)
+  pub survey-byte : i < length s → (getD s i 0 ≡ dot → ⊥) → {b : Bool} → b ≡ name-byte (getD s i 0)
+      → Surveying s (o && b) e test n a (i + 1)
   survey-byte h d k =
       record {
         passing = pass-byte (f .passing) h (k ∙ sym (other-byte (getD s i 0) d));
@@ -98,7 +98,7 @@ module _ {s : Str} {o e l : Bool} {n a i : ℕ} (f : Surveying s o e l n a i) wh
 
   -- The last segment has no dot.
   pub survey-open : length s ≤ i → a < i
-      → Surveyed s (record { malformed = true; empty = e; long = l || ltb 31 (i - a) || ltb 17 (n + 1); segments = n + 1 })
+      → Surveyed s (record { malformed = true; empty = e; long = test || ltb 31 (i - a) || ltb 17 (n + 1); segments = n + 1 })
   unfolding bad-query long-query any
   survey-open h k =
       let j : length (drop a s) ≡ i - a = simp length-drop (omega arith) in
@@ -115,7 +115,7 @@ module _ {s : Str} {o e l : Bool} {n a i : ℕ} (f : Surveying s o e l n a i) wh
 
   -- The last byte is a dot, or there is none.
   pub survey-closed : length s ≤ i → i ≤ a
-      → Surveyed s (record { malformed = not o; empty = e; long = l || ltb 17 n; segments = n })
+      → Surveyed s (record { malformed = not o; empty = e; long = test || ltb 17 n; segments = n })
   unfolding bad-query long-query any ends-in-dot
   survey-closed h k =
       let q : length s ≤ a = omega arith in

@@ -23,10 +23,10 @@ abbrev μ-names-find-exact : Measures 3 kinds.ps ℕ
 μ-names-find-exact κs a = weight-in (a .0 .now) (a .1 .1 .0)
 
 abbrev at : ℕ → In 3 kinds.ps
-at t = and 3 kinds.ps (is 3 kinds.ps μ-names-find-exact t) names-find-exact.Pre
+at m = and 3 kinds.ps (is 3 kinds.ps μ-names-find-exact m) names-find-exact.Pre
 
 abbrev below : ℕ → In 3 kinds.ps
-below t = and 3 kinds.ps (falls 3 kinds.ps _<_ μ-names-find-exact t) names-find-exact.Pre
+below m = and 3 kinds.ps (falls 3 kinds.ps _<_ μ-names-find-exact m) names-find-exact.Pre
 
 abbrev Inv-loop : lts.InvT-loop
 Inv-loop words text list key link₀ link = Find words text list key link
@@ -35,21 +35,21 @@ abbrev μ-loop : lts.MeasureT-loop
 μ-loop words text list key link₀ link = link
 
 -- What the collection at hand has, after the branch.
-first : (t : ℕ) (c : lts.Joined1 (
+first : (m : ℕ) (c : lts.Joined1 (
   own-of.Asked,
   own-of.Learnt,
   sort-of.Asked,
   sort-of.Learnt,
-  below t,
+  below m,
   names-find-exact.Post,
   btree-find-exact.Asked,
   btree-find-exact.Learnt,
   rest-of.Asked,
   rest-of.Learnt,
-) (at t) names-find-exact.Post Inv-loop μ-loop)
+) (at m) names-find-exact.Post Inv-loop μ-loop)
     → (let s = c .before .before .before .before in let a = s .before .before .before .before .args in
     First (a .words .now) (a .text .now) (s .loop .link) (a .key .now) (c .if1 .found))
-first t c =
+first m c =
     let p = c .before .before .before .loop-test .taken in
     let own = c .before .before .own-of .ensures in
     let sort = c .before .sort-of .ensures in

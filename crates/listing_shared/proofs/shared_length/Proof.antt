@@ -52,7 +52,7 @@ shared-length-spec =
       arith,
       c .before .loop .inv .short,
       first-length (s2 .before .before .before .before .before .pre) (omega arith) (s2 .text-of .ensures ∙ rw (s2 .before .candidate-at .ensures) refl),
-      ap (λ (s : Span). s .len) (s2 .before .candidate-at .ensures),
+      ap (λ (sp : Span). sp .len) (s2 .before .candidate-at .ensures),
       c .before .before .struct-known .given .1 .0 .fits,
     ))
     {- returns-3 -}

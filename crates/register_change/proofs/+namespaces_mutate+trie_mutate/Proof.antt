@@ -34,28 +34,28 @@ abbrev μ-trie-mutate : Measures 3 trie-mutate-kinds.ps ℕ
 μ-trie-mutate κs a = 2 * length (between (a .1 .0 .now) (a .1 .1 .1 .1 .0) (a .1 .1 .1 .1 .1 .0 .end))
 
 abbrev namespaces-mutate-at : ℕ → In 3 namespaces-mutate-kinds.ps
-namespaces-mutate-at t =
+namespaces-mutate-at m =
     and
     3
     namespaces-mutate-kinds.ps
-    (is 3 namespaces-mutate-kinds.ps μ-namespaces-mutate t)
+    (is 3 namespaces-mutate-kinds.ps μ-namespaces-mutate m)
     namespaces-mutate.Pre
 
 abbrev namespaces-mutate-below : ℕ → In 3 namespaces-mutate-kinds.ps
-namespaces-mutate-below t =
+namespaces-mutate-below m =
     and
     3
     namespaces-mutate-kinds.ps
-    (falls 3 namespaces-mutate-kinds.ps _<_ μ-namespaces-mutate t)
+    (falls 3 namespaces-mutate-kinds.ps _<_ μ-namespaces-mutate m)
     namespaces-mutate.Pre
 
 abbrev trie-mutate-at : ℕ → In 3 trie-mutate-kinds.ps
-trie-mutate-at t =
-    and 3 trie-mutate-kinds.ps (is 3 trie-mutate-kinds.ps μ-trie-mutate t) trie-mutate.Pre
+trie-mutate-at m =
+    and 3 trie-mutate-kinds.ps (is 3 trie-mutate-kinds.ps μ-trie-mutate m) trie-mutate.Pre
 
 abbrev trie-mutate-below : ℕ → In 3 trie-mutate-kinds.ps
-trie-mutate-below t =
-    and 3 trie-mutate-kinds.ps (falls 3 trie-mutate-kinds.ps _<_ μ-trie-mutate t) trie-mutate.Pre
+trie-mutate-below m =
+    and 3 trie-mutate-kinds.ps (falls 3 trie-mutate-kinds.ps _<_ μ-trie-mutate m) trie-mutate.Pre
 
 pub +namespaces-mutate+trie-mutate-spec : {M : Type 1} → statement M
 +namespaces-mutate+trie-mutate-spec =

@@ -15,10 +15,10 @@ abbrev μ : Measures 3 kinds.ps ℕ
 μ κs a = 1 - length (a .1 .1 .1 .0 .now)
 
 abbrev at : ℕ → In 3 kinds.ps
-at t = and 3 kinds.ps (is 3 kinds.ps μ t) sound-large.Pre
+at m = and 3 kinds.ps (is 3 kinds.ps μ m) sound-large.Pre
 
 abbrev below : ℕ → In 3 kinds.ps
-below t = and 3 kinds.ps (falls 3 kinds.ps _<_ μ t) sound-large.Pre
+below m = and 3 kinds.ps (falls 3 kinds.ps _<_ μ m) sound-large.Pre
 
 pub +sound-large-spec : {M : Type 1} → statement M
 +sound-large-spec = close μ λ t. lts.spec (below t, sound-large.Post, pass-reads.Asked, pass-reads.Learnt) (at t) sound-large.Post

@@ -111,19 +111,19 @@ module _ {M : Type 1} (𝓤 : URA M) (H : Heap 𝓤) (A : Atoms 𝓤) (mem : Mem
 
 module _ {M : Type 1} (𝓤 : URA M) (H : Heap 𝓤) (A : Atoms 𝓤) (W : Given 𝓤 H A) (mem : Memory → SProp 𝓤)
     (run : Routine → Fun 𝓤)
-    (κ0 κ1 κ2 κ3 κ4 κ5 : Lft) (q0 q1 q2 q3 q4 q5 : Share) (t : Table)
-    (t-is : Is Tb.the-row t (LL.val Tb.the-type Tb′.the-laws t ∷ []))
+    (κ0 κ1 κ2 κ3 κ4 κ5 : Lft) (q0 q1 q2 q3 q4 q5 : Share) (tab : Table)
+    (t-is : Is Tb.the-row tab (LL.val Tb.the-type Tb′.the-laws tab ∷ []))
     (w x : RefT (List ℕ)) (rq : Request) (rq-is : Is Rq.the-row rq (LL.val Rq.the-type Rq′.the-laws rq ∷ []))
     (y : RefT (List ℕ)) (b o : ℕ) (γ : GName) (fs : List ℕ) (ou : RefT (List ℕ)) (ln : RefT (List Line)) where
-  -- the bytes, under the name δ at the list l
+  -- the bytes, under the name δ at the list xs
   abbrev f : GName → List ℕ → RefT (List ℕ)
-  f δ l = record { ptr = (b, o); name = δ; now = l }
+  f δ xs = record { ptr = (b, o); name = δ; now = xs }
 
   abbrev m : ℕ
   m = length (ln .now)
 
   abbrev v₁ : Val
-  v₁ = LL.val Tb.the-type Tb′.the-laws t
+  v₁ = LL.val Tb.the-type Tb′.the-laws tab
 
   abbrev v₂ : Val
   v₂ = sliceVal (w .ptr) (length (w .now))
@@ -160,7 +160,7 @@ module _ {M : Type 1} (𝓤 : URA M) (H : Heap 𝓤) (A : Atoms 𝓤) (W : Given
   Arg = Table × (RefT (List ℕ) × (RefT (List ℕ) × (Request × (RefT (List ℕ) × (RefT (List Line) × (RefT (List ℕ) × (RefT (List ℕ) × Unit {0})))))))
 
   abbrev a : Arg
-  a = (t, (w, (x, (rq, (y, (ln, (f γ fs, (ou, tt))))))))
+  a = (tab, (w, (x, (rq, (y, (ln, (f γ fs, (ou, tt))))))))
 
   abbrev Vals : Type 0
   Vals = List Val × (List Val × (List Val × (List Val × (List Val × (List Val × (List Val × (List Val × Unit {0})))))))
@@ -188,7 +188,7 @@ module _ {M : Type 1} (𝓤 : URA M) (H : Heap 𝓤) (A : Atoms 𝓤) (W : Given
   Lines = MutSlice (named 3) κ3 T.the-row .own ln (v₈ ∷ [])
 
   exits : (r : Listing) (u : Val) (gs os : List ℕ) (zs : List Line) → Is R.the-row r (u ∷ [])
-      → CompletesLines (w .now) (x .now) t rq (y .now) (ln .now) zs fs gs (ou .now) os r
+      → CompletesLines (w .now) (x .now) tab rq (y .now) (ln .now) zs fs gs (ou .now) os r
       → length gs ≡ length fs → length os ≡ length (ou .now) → length zs ≡ m
       → ent 𝓤 (⋆ 𝓤 H A (‵ (flft κ0 q0) ∷ ‵ (flft κ1 q1) ∷ ‵ (flft κ2 q2) ∷ ‵ (flft κ3 q3) ∷ ‵ (flft κ4 q4)
       ∷ ‵ (flft κ5 q5) ∷ ‵ Words ∷ ‵ Text ∷ ‵ Query ∷ ‵ (MutSlice (named 4) κ4 u8 .own (f γ gs) (v₆ ∷ []))
@@ -203,7 +203,7 @@ module _ {M : Type 1} (𝓤 : URA M) (H : Heap 𝓤) (A : Atoms 𝓤) (W : Given
       move ! (2 ∷ 0 ∷ []) $ join ! $ move ! (1 ∷ 0 ∷ []) $ join ! $ frame ! $
       nothing ! $ move ! (5 ∷ 0 ∷ []) $ fjoin ! $ move ! (4 ∷ 0 ∷ []) $ fjoin ! $ move ! (4 ∷ 0 ∷ []) $ fjoin ! $ move ! (3 ∷ 0 ∷ []) $ fjoin ! $
       owned ! Rq.the-row (Is Rq.the-row) (LL.makes Rq.the-type Rq′.the-plain 𝓤 H A) rq _ rq-is $ fjoin ! $ move ! (2 ∷ 0 ∷ []) $ fjoin ! $ move ! (1 ∷ 0 ∷ []) $
-      fjoin ! $ owned ! Tb.the-row (Is Tb.the-row) (LL.makes Tb.the-type Tb′.the-plain 𝓤 H A) t _ t-is $ fjoin ! $
+      fjoin ! $ owned ! Tb.the-row (Is Tb.the-row) (LL.makes Tb.the-type Tb′.the-plain 𝓤 H A) tab _ t-is $ fjoin ! $
       owned ! R.the-row (Is R.the-row) (LL.makes R.the-type R′.the-plain 𝓤 H A) r _ r-is $ move ! (1 ∷ 0 ∷ []) $
       done !
 
@@ -214,7 +214,7 @@ module _ {M : Type 1} (𝓤 : URA M) (H : Heap 𝓤) (A : Atoms 𝓤) (W : Given
       (κ0, (κ1, (κ2, (ν ∷ [], (κ5, tt))))),
       (q0, (q1, (q2, (fullShare, (q5, tt))))),
       tt,
-      (t, (w, (x, (rq, (y, (m, (f δ fs, (ou, tt)))))))),
+      (tab, (w, (x, (rq, (y, (m, (f δ fs, (ou, tt)))))))),
       (v₁ ∷ [], (v₂ ∷ [], (v₃ ∷ [], (vq ∷ [], (v₄ ∷ [], (vint w64 m ∷ [], (v₆ ∷ [], (v₇ ∷ [], tt)))))))),
     ),
     tt,
@@ -229,7 +229,7 @@ module _ {M : Type 1} (𝓤 : URA M) (H : Heap 𝓤) (A : Atoms 𝓤) (W : Given
       ∷ ‵ (flft (ν ∷ []) fullShare) ∷ ‵ (flft κ5 q5) ∷ []) ∵
       nothing ! $ move ! (4 ∷ 0 ∷ []) $ fjoin ! $ move ! (4 ∷ 0 ∷ []) $ fjoin ! $ owned ! usize (Is usize) (uint-makes 𝓤 H A W w64) m _ (refl, m-fits) $
       fjoin ! $ move ! (3 ∷ 0 ∷ []) $ fjoin ! $ owned ! Rq.the-row (Is Rq.the-row) (LL.makes Rq.the-type Rq′.the-plain 𝓤 H A) rq _ rq-is $ fjoin ! $
-      move ! (2 ∷ 0 ∷ []) $ fjoin ! $ move ! (1 ∷ 0 ∷ []) $ fjoin ! $ owned ! Tb.the-row (Is Tb.the-row) (LL.makes Tb.the-type Tb′.the-plain 𝓤 H A) t _ t-is $
+      move ! (2 ∷ 0 ∷ []) $ fjoin ! $ move ! (1 ∷ 0 ∷ []) $ fjoin ! $ owned ! Tb.the-row (Is Tb.the-row) (LL.makes Tb.the-type Tb′.the-plain 𝓤 H A) tab _ t-is $
       fjoin ! $ nothing ! $ move ! (6 ∷ 0 ∷ []) $ join ! $ move ! (5 ∷ 0 ∷ []) $ join ! $ move ! (4 ∷ 0 ∷ []) $ join ! $ move ! (3 ∷ 0 ∷ []) $ join ! $
       move ! (2 ∷ 0 ∷ []) $ join ! $ join ! $ frame ! $
       done !
@@ -282,7 +282,7 @@ module _ {M : Type 1} (𝓤 : URA M) (H : Heap 𝓤) (A : Atoms 𝓤) (W : Given
         (λ l9. alloc1 ! (λ l10. alloc1 ! (λ l11. alloc1 !
         (λ l12. alloc1 ! (λ l13. alloc1 !
         (λ l14. alloc1 ! (λ l15. alloc1 ! (λ l16. alloc1 ! (λ l17. alloc1 ! (λ l18. alloc1 ! (λ l19. alloc1 ! (λ l20. alloc0 ! $ params1 ! $
-        pass1 ! (init ! 38 refl (LL.lawful Tb.the-type Tb′.the-laws 𝓤 H A W .typed t _ t-is .0)) $
+        pass1 ! (init ! 38 refl (LL.lawful Tb.the-type Tb′.the-laws 𝓤 H A W .typed tab _ t-is .0)) $
         pass1 ! (init ! 36 refl (shr-slice-lawful 𝓤 H A W (named 0) κ0 u32 .typed w (v₂ ∷ []) p₂ .0)) $
         pass1 ! (init ! 34 refl (shr-slice-lawful 𝓤 H A W (named 1) κ1 u8 .typed x (v₃ ∷ []) p₃ .0)) $
         pass1 ! (init ! 32 refl (LL.lawful Rq.the-type Rq′.the-laws 𝓤 H A W .typed rq _ rq-is .0)) $
@@ -325,12 +325,12 @@ module _ {M : Type 1} (𝓤 : URA M) (H : Heap 𝓤) (A : Atoms 𝓤) (W : Given
         use1 W (later (some (λ (r : Listing). ((‵ (flft κ0 q0)
         ⊛ (‵ (flft κ1 q1) ⊛ (‵ (flft κ2 q2) ⊛ (‵ (flft (ν ∷ []) fullShare) ⊛ (‵ (flft κ5 q5) ⊛ ‵ ftrue))))) ⊛ ‵ (R.the-row .own r (u ∷ [])))
         ⊛ raw (ensured 𝓤 H A complete-flat.ended (complete-flat.clauses 𝓤 H A mem run) (κ0, (κ1, (κ2, (ν ∷ [], (κ5, tt)))))
-        (t, (w, (x, (rq, (y, (m, (f δ fs, (ou, tt)))))))) tt r)))) (id⊢ 𝓤 _) $ await ! tt $ pick ! (λ r. split ! $
+        (tab, (w, (x, (rq, (y, (m, (f δ fs, (ou, tt)))))))) tt r)))) (id⊢ 𝓤 _) $ await ! tt $ pick ! (λ r. split ! $
         move ! (1 ∷ []) $ use1 W (some (λ (gs : Unit {0} × (Unit {0} × (Unit {0} × (Unit {0} × (Unit {0} × (Unit {0} × (List ℕ × (List ℕ × Unit {0})))))))). ‵
-        (lasts complete-flat.ended (κ0, (κ1, (κ2, (ν ∷ [], (κ5, tt))))) (t, (w, (x, (rq, (y, (m, (f δ fs, (ou, tt)))))))) gs)
-        ⊛ raw (fact 𝓤 (FlatCompletes (w .now) (x .now) t rq (y .now) m fs (gs .1 .1 .1 .1 .1 .1 .0) (ou .now) (gs .1 .1 .1 .1 .1 .1 .1 .0) r)))) (id⊢ 𝓤 _) $
+        (lasts complete-flat.ended (κ0, (κ1, (κ2, (ν ∷ [], (κ5, tt))))) (tab, (w, (x, (rq, (y, (m, (f δ fs, (ou, tt)))))))) gs)
+        ⊛ raw (fact 𝓤 (FlatCompletes (w .now) (x .now) tab rq (y .now) m fs (gs .1 .1 .1 .1 .1 .1 .0) (ou .now) (gs .1 .1 .1 .1 .1 .1 .1 .0) r)))) (id⊢ 𝓤 _) $
         pick ! (λ gs. split ! $ move ! (1 ∷ []) $
-        heard ! (FlatCompletes (w .now) (x .now) t rq (y .now) m fs (gs .1 .1 .1 .1 .1 .1 .0) (ou .now) (gs .1 .1 .1 .1 .1 .1 .1 .0) r) (λ said.
+        heard ! (FlatCompletes (w .now) (x .now) tab rq (y .now) m fs (gs .1 .1 .1 .1 .1 .1 .0) (ou .now) (gs .1 .1 .1 .1 .1 .1 .1 .0) r) (λ said.
         fsplit ! $ move ! (1 ∷ []) $ fsplit ! $ move ! (1 ∷ []) $ fsplit ! $ move ! (1 ∷ []) $ fsplit ! $ move ! (1 ∷ []) $ fsplit ! $ move ! (1 ∷ []) $
         fsplit ! $ move ! (1 ∷ []) $ fsplit ! $ fsplit ! $ move ! (1 ∷ []) $
         feqL ! (λ lf. move ! (1 ∷ []) $ fsplit ! $ fsplit ! $ move ! (1 ∷ []) $ feqL ! (λ lo.

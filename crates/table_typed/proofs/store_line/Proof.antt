@@ -58,7 +58,7 @@ module _ {M : Type 1} (𝓤 : URA M) (H : Heap 𝓤) (A : Atoms 𝓤) (W : Given
     (run : Routine → Fun 𝓤) (κ : Lft) (q : Share) (b o : ℕ) (γ : GName) (ys : List Line) (n : ℕ) (v : Line)
     (n-fits : n < 2 ^ 64) (v-is : Is T.the-row v (mach v ∷ [])) where
   abbrev x : List Line → RefT (List Line)
-  x l = record { ptr = (b, o); name = γ; now = l }
+  x xs = record { ptr = (b, o); name = γ; now = xs }
 
   abbrev Arg : Type 0
   Arg = RefT (List Line) × (ℕ × (Line × Unit {0}))
@@ -136,8 +136,8 @@ module _ {M : Type 1} (𝓤 : URA M) (H : Heap 𝓤) (A : Atoms 𝓤) (W : Given
       walk 𝓤 H A W mem run (κs .0) (qs .0) (a .0 .ptr .0) (a .0 .ptr .1) (a .0 .name) (a .0 .now) (a .1 .0) (a .1 .1 .0) (are .1 .0 .1) (are .1 .1 .0) C Λ
       (are .0 .0 .1) (scaled (a .1 .0) (length (a .0 .now)) (are .0 .0 .1 .1) within) within))
     where
-      scaled : (n l : ℕ) → l * 48 < 2 ^ 63 → n < l → n * 48 < 2 ^ 64
-      scaled n l r w = omega (arith, r, w)
+      scaled : (n m : ℕ) → m * 48 < 2 ^ 63 → n < m → n * 48 < 2 ^ 64
+      scaled n m r w = omega (arith, r, w)
 
   goes : AllGo 𝓤 H A W 1 (store-line.signature .params) (store-line.ended .kept) stayed
   goes = (

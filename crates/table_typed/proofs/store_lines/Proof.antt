@@ -83,11 +83,11 @@ stayed = (
 )
 
 -- ---- numbers and lists
-holds : (t : Bool) → Holds t → t ≡ true
+holds : (b : Bool) → Holds b → b ≡ true
 holds true _ = refl
 holds false a = absurd a
 
-either : {X : Type 1} (t : Bool) → (Holds t → X) → (Holds (not t) → X) → X
+either : {X : Type 1} (b : Bool) → (Holds b → X) → (Holds (not b) → X) → X
 either true f g = f tt
 either false f g = g tt
 
@@ -136,7 +136,7 @@ module _ {M : Type 1} (𝓤 : URA M) (H : Heap 𝓤) (A : Atoms 𝓤) (W : Given
     (κ κ₁ : Lft) (q q₁ : Share) (b o : ℕ) (γ : GName) (ys : List Line) (w : RefT (List ℕ)) (n : ℕ) (n-fits : n < 2 ^ 64)
     (ak : Ask) (va : Val) (ak-is : Is Q.the-row ak (va ∷ [])) where
   abbrev x : GName → List Line → RefT (List Line)
-  x δ l = record { ptr = (b, o); name = δ; now = l }
+  x δ xs = record { ptr = (b, o); name = δ; now = xs }
 
   abbrev ws : List ℕ
   ws = w .now
@@ -164,7 +164,7 @@ module _ {M : Type 1} (𝓤 : URA M) (H : Heap 𝓤) (A : Atoms 𝓤) (W : Given
   Post = walkOf 𝓤 H A store-lines.ended stayed (store-lines.clauses 𝓤 H A mem run) .post (((κ, (κ₁, tt)), (q, (q₁, tt)), tt, a, vals), tt)
 
   abbrev Mine : GName → List Line → Fml
-  Mine δ l = MutSlice (named 0) κ T.the-row .own (x δ l) (s ∷ [])
+  Mine δ xs = MutSlice (named 0) κ T.the-row .own (x δ xs) (s ∷ [])
 
   abbrev Flat : Fml
   Flat = ShrSlice (named 1) κ₁ u8 .own w (v ∷ [])
@@ -221,7 +221,7 @@ module _ {M : Type 1} (𝓤 : URA M) (H : Heap 𝓤) (A : Atoms 𝓤) (W : Given
   module _ (𝓣 : Tables 𝓤 H) (known-line-at : Triple 𝓤 (𝓣 .C #typed·line-at) (LineAt 𝓤 H A mem run))
       (known-store : Triple 𝓤 (𝓣 .C #typed·store-line) (StoreLine 𝓤 H A mem run))
       (room : Room T.the-row (length ys)) (enough : n ≤ length ys)
-      (asked : (i : ℕ) → i < n → (i * line-bytes + line-bytes ≤ length ws)) (l₀ l₁ l₂ l₃ lₐ l₄ l₅ l₆ l₇ l₈ l₉ : ℕ) where
+      (asked : (i : ℕ) → i < n → (i * line-bytes + line-bytes ≤ length ws)) (j₀ j₁ j₂ j₃ lₐ j₄ j₅ j₆ j₇ j₈ j₉ : ℕ) where
     abbrev C : Calls 𝓤 H
     C = 𝓣 .C
 
@@ -229,18 +229,18 @@ module _ {M : Type 1} (𝓤 : URA M) (H : Heap 𝓤) (A : Atoms 𝓤) (W : Given
     Λ = 𝓣 .Λ
 
     abbrev En : Env 𝓤 H
-    En = (tyUnit, l₀) ∷ (slice₁, l₁) ∷ (slice₂, l₂) ∷ (word, l₃) ∷ (ask₄, lₐ) ∷ (word, l₄) ∷ (line₆, l₅) ∷ (tyBool, l₆) ∷ (tyUnit, l₇) ∷ (ref₉, l₈)
-        ∷ (slice₁₀, l₉) ∷ []
+    En = (tyUnit, j₀) ∷ (slice₁, j₁) ∷ (slice₂, j₂) ∷ (word, j₃) ∷ (ask₄, lₐ) ∷ (word, j₄) ∷ (line₆, j₅) ∷ (tyBool, j₆) ∷ (tyUnit, j₇) ∷ (ref₉, j₈)
+        ∷ (slice₁₀, j₉) ∷ []
 
     -- the invariant: the borrows with their tokens, and the locals, the last first
     abbrev At : Upto → List (Item 𝓤)
     At i = ‵ (Mine γ (st (i .0))) ∷ ‵ (flft κ q) ∷ ‵ Flat ∷ ‵ (flft κ₁ q₁)
-        ∷ ‵ (froom slice₁₀ l₉ 0) ∷ ‵ (fdies slice₁₀ l₉) ∷ ‵ (froom ref₉ l₈ 0) ∷ ‵ (fdies ref₉ l₈) ∷ ‵ (froom tyUnit l₇ 0) ∷ ‵ (fdies tyUnit l₇)
-        ∷ ‵ (froom tyBool l₆ 0) ∷ ‵ (fdies tyBool l₆)
-        ∷ ‵ (froom line₆ l₅ 0) ∷ ‵ (fdies line₆ l₅) ∷ ‵ (fat fullShare word l₄ 0 (vint w64 (i .0))) ∷ ‵ (fdies word l₄) ∷ ‵ (fat fullShare ask₄ lₐ 0 va)
-        ∷ ‵ (fdies ask₄ lₐ) ∷ ‵ (fat fullShare word l₃ 0 (vint w64 n)) ∷ ‵ (fdies word l₃)
-        ∷ ‵ (fat fullShare slice₂ l₂ 0 v) ∷ ‵ (fdies slice₂ l₂) ∷ ‵ (fat fullShare slice₁ l₁ 0 s) ∷ ‵ (fdies slice₁ l₁) ∷ ‵ (froom tyUnit l₀ 0)
-        ∷ ‵ (fdies tyUnit l₀) ∷ []
+        ∷ ‵ (froom slice₁₀ j₉ 0) ∷ ‵ (fdies slice₁₀ j₉) ∷ ‵ (froom ref₉ j₈ 0) ∷ ‵ (fdies ref₉ j₈) ∷ ‵ (froom tyUnit j₇ 0) ∷ ‵ (fdies tyUnit j₇)
+        ∷ ‵ (froom tyBool j₆ 0) ∷ ‵ (fdies tyBool j₆)
+        ∷ ‵ (froom line₆ j₅ 0) ∷ ‵ (fdies line₆ j₅) ∷ ‵ (fat fullShare word j₄ 0 (vint w64 (i .0))) ∷ ‵ (fdies word j₄) ∷ ‵ (fat fullShare ask₄ lₐ 0 va)
+        ∷ ‵ (fdies ask₄ lₐ) ∷ ‵ (fat fullShare word j₃ 0 (vint w64 n)) ∷ ‵ (fdies word j₃)
+        ∷ ‵ (fat fullShare slice₂ j₂ 0 v) ∷ ‵ (fdies slice₂ j₂) ∷ ‵ (fat fullShare slice₁ j₁ 0 s) ∷ ‵ (fdies slice₁ j₁) ∷ ‵ (froom tyUnit j₀ 0)
+        ∷ ‵ (fdies tyUnit j₀) ∷ []
 
     abbrev Left : Out → SProp 𝓤
     Left = afterBlock 𝓤 H (afterSeq 𝓤 H (Wp 𝓤 H C Λ En body.t-3 (atReturn 𝓤 H En Post)) (atReturn 𝓤 H En Post))
@@ -266,7 +266,7 @@ module _ {M : Type 1} (𝓤 : URA M) (H : Heap 𝓤) (A : Atoms 𝓤) (W : Given
     more i less =
         assigns ! (bin ! (load ! (from ! (stop !)) (look ! 14 refl)) (load ! (from ! (stop !)) (look ! 18 refl)) tt) (from ! (stop !))
         (init ! 10 refl (tt, tt)) $
-        rewrite ! 10 (λ (t : Bool). ‵ (fat fullShare tyBool l₆ 0 (vbool t))) (holds (ltb (i .0) n) (lt→ltb (i .0) n less)) refl $
+        rewrite ! 10 (λ (test : Bool). ‵ (fat fullShare tyBool j₆ 0 (vbool test))) (holds (ltb (i .0) n) (lt→ltb (i .0) n less)) refl $
         stays ! (load ! (from ! (stop !)) (look ! 10 refl)) $
         -- the line is decoded
         move ! (2 ∷ []) $ use1 W (‵ Flat ⊛ ‵ Flat) (shr-slice-copy 𝓤 H A W (named 1) κ₁ u8 .twice w (v ∷ [])) $ split ! $ move ! (0 ∷ 4 ∷ []) $
@@ -304,20 +304,20 @@ module _ {M : Type 1} (𝓤 : URA M) (H : Heap 𝓤) (A : Atoms 𝓤) (W : Given
         split ! $ move ! (1 ∷ []) $ use1 W (some (λ (ls : List Line × (Unit {0} × (Unit {0} × Unit {0}))). ‵
         (lasts store-line.ended (ν ∷ [], tt) (x δ (st (i .0)), (i .0, (r, tt))) ls) ⊛ raw (fact 𝓤 (ls .0 ≡ set (st (i .0)) (i .0) r)))) (id⊢ 𝓤 _) $
         pick ! (λ ls.
-        split ! $ move ! (1 ∷ []) $ heard ! (ls .0 ≡ set (st (i .0)) (i .0) r) (λ e′. fsplit ! $ fsplit ! $ move ! (1 ∷ []) $ feqL ! (λ l.
+        split ! $ move ! (1 ∷ []) $ heard ! (ls .0 ≡ set (st (i .0)) (i .0) r) (λ e′. fsplit ! $ fsplit ! $ move ! (1 ∷ []) $ feqL ! (λ j.
         move ! (2 ∷ []) $ split ! $ move ! (1 ∷ []) $ peeks ! Nothing (Is Nothing) (shows 𝓤 H A Nothing) z (u′ ∷ []) (λ isu.
         land ! (from ! (stop !)) (init ! 12 refl (nothing-lawful 𝓤 H A W .typed z _ isu .0)) $
         -- the lifetime is ended, and the slice comes back
         move ! (1 ∷ []) $ split ! $ lft-end ! tt $ move ! (0 ∷ 5 ∷ 3 ∷ []) $
         use3 W (later (‵ (MutSlice (named 0) κ T.the-row .own (x γ (ls .0)) (sliceVal (b, o) (length (st (i .0))) ∷ [])) ⊛ ‵ (flft κ q)))
-        (comes-back T.the-row κ (ν ∷ []) q γ b o 𝓤 H A W (named 0) (named 0) (st (i .0)) δ (ls .0) (subst (Room T.the-row) (sym (len i)) room) l) $ await ! tt $
+        (comes-back T.the-row κ (ν ∷ []) q γ b o 𝓤 H A W (named 0) (named 0) (st (i .0)) δ (ls .0) (subst (Room T.the-row) (sym (len i)) room) j) $ await ! tt $
         split ! $
         rewrite ! 0 (λ (m : ℕ). ‵ (MutSlice (named 0) κ T.the-row .own (x γ (ls .0)) (sliceVal (b, o) m ∷ []))) (len i) refl $
         -- [lines; its token; true; ();  rest; flat's token; true; flat; _9 at 8; …]
         assigns-last ! (bin ! (load ! (from ! (stop !)) (look ! 18 refl)) (lit ! tt) (record { fits = next-fits i less })) (from ! (stop !))
         (store ! 18 refl (tt, record { fits = next-fits i less })) $
         forget ! 8 refl $ forget ! 10 refl $ forget ! 12 refl $ forget ! 14 refl $ forget ! 16 refl $
-        rewrite ! 0 (λ (k : List Line). ‵ (Mine γ k)) (e′ ∙ ap (λ (t : Line). set (st (i .0)) (i .0) t) e ∙ ap st (sym (add-one (i .0)))) refl $
+        rewrite ! 0 (λ (k : List Line). ‵ (Mine γ k)) (e′ ∙ ap (λ (test : Line). set (st (i .0)) (i .0) test) e ∙ ap st (sym (add-one (i .0)))) refl $
         keep ! (0 ∷ 1 ∷ 7 ∷ 5 ∷ 8 ∷ 9 ∷ 10 ∷ 11 ∷ 12 ∷ 13 ∷ 14 ∷ 15 ∷ 16 ∷ 17 ∷ 18 ∷ 19 ∷ 20 ∷ 21 ∷ 22 ∷ 23 ∷ 24 ∷ 25 ∷ 26 ∷ 27 ∷ 28 ∷ 29 ∷ []) $
         again ! Nearer At i (i .0 + 1, add-one-le less) (add-one-dec n (i .0) less)))))))))))))
 
@@ -327,7 +327,7 @@ module _ {M : Type 1} (𝓤 : URA M) (H : Heap 𝓤) (A : Atoms 𝓤) (W : Given
     ends i over =
         assigns ! (bin ! (load ! (from ! (stop !)) (look ! 14 refl)) (load ! (from ! (stop !)) (look ! 18 refl)) tt) (from ! (stop !))
         (init ! 10 refl (tt, tt)) $
-        rewrite ! 10 (λ (t : Bool). ‵ (fat fullShare tyBool l₆ 0 (vbool t))) (le-ltb (i .0) n over) refl $
+        rewrite ! 10 (λ (b : Bool). ‵ (fat fullShare tyBool j₆ 0 (vbool b))) (le-ltb (i .0) n over) refl $
         leaves-loop ! (load ! (from ! (stop !)) (look ! 10 refl)) $ exec ! C Λ En body.t-3 (atRet En Post) $
         assigns ! (of-opd ! (unit-lit !)) (from ! (stop !)) (init ! 24 refl (tt, tt)) $
         rewrite ! 0 (λ (k : ℕ). ‵ (Mine γ (st k))) (le-antisymm (i .1) over) refl $
@@ -374,8 +374,8 @@ module _ {M : Type 1} (𝓤 : URA M) (H : Heap 𝓤) (A : Atoms 𝓤) (W : Given
       (a .1 .1 .1 .0) (LE.val Q.the-type Q′.the-laws (a .1 .1 .1 .0)) (are .1 .1 .1 .0) 𝓣 known-line-at known-store (are .0 .0 .1) (are .1 .0) (pre .0)
       (λ i less. scaled i (a .1 .1 .0) (length (a .1 .0 .now)) (pre .1) less)))
     where
-      scaled : (i n l : ℕ) → n * line-bytes ≤ l → i < n → i * line-bytes + line-bytes ≤ l
-      scaled i n l r h = omega (arith, r, h)
+      scaled : (i n m : ℕ) → n * line-bytes ≤ m → i < n → i * line-bytes + line-bytes ≤ m
+      scaled i n m r h = omega (arith, r, h)
 
   goes : AllGo 𝓤 H A W 2 (store-lines.signature .params) (store-lines.ended .kept) stayed
   goes = (

@@ -17,12 +17,12 @@ use Rattle.script_decimal.proofs.digits.+put_digits.Tie.{close}
 abbrev μ : Measures 1 kinds.ps ℕ
 μ κs a = a .1 .1 .0
 
-module _ (t : ℕ) where
+module _ (m : ℕ) where
   abbrev given : In 1 kinds.ps
-  given = and 1 kinds.ps (is 1 kinds.ps μ t) reads.Pre
+  given = and 1 kinds.ps (is 1 kinds.ps μ m) reads.Pre
 
   abbrev below : In 1 kinds.ps
-  below = and 1 kinds.ps (falls 1 kinds.ps _<_ μ t) reads.Pre
+  below = and 1 kinds.ps (falls 1 kinds.ps _<_ μ m) reads.Pre
 
   slice-write-out : lts.Need-slice-write-out (below, reads.Post) given reads.Post
   slice-write-out c = omega (arith, c .before .before .pre .1, ap length (decimal-small (c .before .before .args .n) (c .if1 .taken)))
