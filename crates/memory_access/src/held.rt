@@ -19,7 +19,7 @@ ghost use lib.ListN.{length};
 ghost use Rattle.source.specs.Lent.{old};
 ghost use Rattle.source.specs.Limits.{record-words};
 ghost use Rattle.memory.specs.Layout.{record-at, text-len, left-link, right-link, trie-link, own-link, rest-link, sort-word, note-link, note-side};
-ghost use Rattle.memory.specs.Stored.{weight-in, depth-in, trie-in, left-in, right-in};
+ghost use Rattle.memory.specs.Stored.{weight-in, depth-in, trie-in};
 
 // The length of the key of a branch, or of the label of a collection.
 pub fn text_len(words: &[u32], link: u32) -> u32
@@ -117,20 +117,4 @@ pub fn trie_held(words: &[u32], link: u32) -> u32
     ensures { λ r. ⌜ r ≡ trie-in (old words) link ⌝ }
 {
     stored(words, link, HELD)
-}
-
-// The left side of a branch.
-pub fn left_side(words: &[u32], link: u32) -> u32
-    requires { ⌜ link * record-words ≤ length (now words) ⌝ }
-    ensures { λ r. ⌜ r ≡ left-in (old words) link ⌝ }
-{
-    stored(words, link, LEFT)
-}
-
-// The right side of a branch.
-pub fn right_side(words: &[u32], link: u32) -> u32
-    requires { ⌜ link * record-words ≤ length (now words) ⌝ }
-    ensures { λ r. ⌜ r ≡ right-in (old words) link ⌝ }
-{
-    stored(words, link, RIGHT)
 }

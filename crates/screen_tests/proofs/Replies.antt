@@ -40,7 +40,7 @@ finds-replies {ws} {txt} {query = query} {x} e a f = record { answer = x; finds 
 
 -- What is said of a table and of what is asked is said of equal ones.
 same-asked : (P : Table → Ask → Type 0) {tab tab′ : Table} {ask ask′ : Ask} → tab ≡ tab′ → ask ≡ ask′ → P tab ask → P tab′ ask′
-same-asked P {t′ = tab′} {ask} e g x = subst (P tab′) g (subst (λ (u : Table). P u ask) e x)
+same-asked P {tab′ = tab′} {ask} e g x = subst (P tab′) g (subst (λ (u : Table). P u ask) e x)
 
 module _ {ws txt : List ℕ} {tab tab′ : Table} {ask : Ask} {n : ℕ} {query : Str} {budget : ℕ} {flat flat′ out out′ : List ℕ}
     (e : tab ≡ tab′) (g : ask ≡ ask-of n) where

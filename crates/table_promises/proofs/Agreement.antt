@@ -39,7 +39,7 @@ use Rattle.listing.specs.declared.Completed.{Completed}
 use Rattle.listing.specs.declared.Completed.the-variants.{Listed}
 
 -- A listing that was not refused.
-listed-lines : (ask : Ask) (ws txt : List ℕ) (h : Header) (flat flat′ out out′ : List ℕ) (n entered : ℕ)
+pub listed-lines : (ask : Ask) (ws txt : List ℕ) (h : Header) (flat flat′ out out′ : List ℕ) (n entered : ℕ)
     (o : C.Completed (Item (asked ask)))
     → CompletesAs ask (used-words ws h) (used-text txt h) flat flat′ out out′ (Listed n entered) o
     → (lines : List (Line (Item (asked ask)))) × (o ≡ C.listed lines entered)

@@ -16,7 +16,8 @@ use Rattle.table.specs.declared.Registration.{Registration}
 use Rattle.table.specs.Header.{table-in, state, lent, names-in}
 use Rattle.table.specs.Registrations.{refusal-of, AnswersAs, Answers}
 
-module _ {ws txt ws′ txt′ : List ℕ} {tab : Table} {c : Call} {r : Registration} (a : Answers true ws txt ws′ txt′ tab c r)
+module _ {ws txt ws′ txt′ : List ℕ} {tab : Table} {c : Call} {r : Registration}
+    (a : Answers true ws txt ws′ txt′ tab c r)
     (e : refusal-of (r .answer) ≡ none) where
   -- The definition accepts, with the state that the new header reads as.
   accepts : register true (lent ws txt) (state ws txt tab) c ≡ C.accepted (state ws′ txt′ (r .table))

@@ -1,3 +1,4 @@
 pub mod Agreement
 pub mod Typed
 pub mod Calls
+pub mod HandedOut

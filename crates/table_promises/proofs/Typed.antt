@@ -156,7 +156,8 @@ module _ (ws txt : List ℕ) (tab : Table) (name query : Str) (cover : Covers (s
       (agreement .names (table-in ws txt tab) (sound-table s) .shows name query a (l .0) (sym (f .finds .says true s) ∙ f .is) ok
       (c .budget, output (length (c .ls)) (c .flat) (c .out), c .entered, l .1) cover)
 
-  modules-agree : (a : C.Found ModSymbol) (lines : List (S.Line ModSymbol)) → HoldsModule ws txt tab name a → NotRefused a
+  modules-agree : (a : C.Found ModSymbol) (lines : List (S.Line ModSymbol)) → HoldsModule ws txt tab name a
+      → NotRefused a
       → HoldsTyped ws txt tab (Modules All) query lines
       → (b : Bool) → Says b (IsSound ws txt tab) → Shows (lines-of-text (without-last name) lines) a
   unfolding look-up first-row argument-rows

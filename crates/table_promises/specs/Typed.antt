@@ -43,7 +43,8 @@ pub record HoldsTyped (ws txt : List ℕ) (tab : Table) (ask : Ask) (query : Str
   pub out : List ℕ
   pub out′ : List ℕ
   pub reply : Listing
-  pub completes : CompletesLines ws txt tab (record { ask = ask; budget = budget }) query ls ls′ flat flat′ out out′ reply
+  pub completes : CompletesLines ws txt tab
+      (record { ask = ask; budget = budget }) query ls ls′ flat flat′ out out′ reply
   pub listed : reply .answer ≡ Listed count entered
   pub stand : LinesStand (asked ask) txt ls ls′ out out′ count lines
 
