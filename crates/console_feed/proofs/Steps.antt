@@ -5,7 +5,7 @@ use mathlib.Core.Path.{_≡_, refl, sym, ap, ap₂, _∙_, subst}
 use mathlib.Core.Bool.{true, false, true≢false}
 use mathlib.Core.List.{List, [], _∷_, append-nil}
 use lib.ListN.{length, take, drop, take-append-drop, length-drop}
-use lib.Seq.{take-take, take-nil, drop-drop, length-take-le}
+use lib.Seq.{take-take, take-nil, take-at, drop-drop, length-take-le}
 use Rattle.source.specs.Calls.{Output}
 use Rattle.text.proofs.Laid.{laid-none}
 use Rattle.script_decimal.specs.Bytes.{Str, _·_, All}
@@ -52,7 +52,8 @@ moved-is {input} {input′} {from} {have} {n} h m =
     ∙ ap (λ (k : ℕ). take k (drop from (take have input))) e
     ∙ ap (take n) (drop-take from have input)
     ∙ take-take n (have - from) (drop from input) (omega (arith, m .size))
-    ∙ sym (m .is)
+    ∙ sym (take-at (take n (drop from input)) (drop n input) n (length-take-le n (drop from input) (omega (arith, m .size, length-drop from input))))
+    ∙ ap (take n) (sym (m .is))
 
 -- ---- A step
 
