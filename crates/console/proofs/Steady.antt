@@ -5,7 +5,6 @@ use mathlib.Core.Path.{_≡_, refl, sym, _∙_}
 use mathlib.Core.Bool.{Bool, true, false, not, true≢false}
 use mathlib.Core.List.{List}
 use lib.ListN.{length}
-use Rattle.source.specs.Calls.{Output}
 use Rattle.text.specs.Laid.{Laid}
 use Rattle.text.proofs.Laid.{laid-length}
 use Rattle.table.specs.Header.{IsSound}
@@ -52,9 +51,9 @@ steady-start flat pane reply s i =
     }
 
 pub steady-on : {words₀ text₀ input₀ flat₀ pane₀ reply₀ words text input flat pane reply
-    words′ text′ input′ flat′ pane′ reply′ : List ℕ} {out : Output} {g : Feed} {r : Progress}
+    words′ text′ input′ flat′ pane′ reply′ : List ℕ} {g : Feed} {r : Progress}
     → Steady words₀ text₀ input₀ flat₀ pane₀ reply₀ words text input flat pane reply g
-    → Feeds words text words′ text′ g input input′ out reply reply′ r
+    → Feeds words text words′ text′ g input input′ flat flat′ pane pane′ reply reply′ r
     → length input′ ≡ length input → length flat′ ≡ length flat → length pane′ ≡ length pane
     → Steady words₀ text₀ input₀ flat₀ pane₀ reply₀ words′ text′ input′ flat′ pane′ reply′ (r .feed)
 steady-on s x i f p = record {

@@ -4,11 +4,11 @@
 // and nothing of a partial line is executed.
 ghost use Prim.Native.Nat.{_≤_};
 ghost use lib.ListN.{length};
-ghost use Rattle.source.specs.Lent.{new};
+ghost use Rattle.source.specs.Lent.{old, new};
 ghost use Rattle.table.specs.Header.{IsSound};
 ghost use Rattle.console_questions.specs.RowReplies.{room};
 ghost use Rattle.console_feed.specs.Feed.{Inside};
-ghost use Rattle.console.specs.Fed.{Rests};
+ghost use Rattle.console.specs.Fed.{Rests, Closes};
 use console_feed::Feed;
 use libc::STDOUT_FILENO;
 use table::Table;
@@ -67,6 +67,8 @@ fn reply_last(
     requires { ⌜ IsSound (now words) (now text) (f .table) ⌝ }
     requires { ⌜ room (now flat) (now pane) ≤ length (now reply) ⌝ }
     requires { ⌜ Inside f (now input) ⌝ }
+    ensures { λ r. ⌜ Closes (old words) (old text) (new words) (new text) f (old input) (old flat) (new flat)
+        (old pane) (new pane) (old reply) (new reply) r ⌝ }
 {
     let d = console_feed::last(f, words, text, input, flat, pane, reply);
     let e = d.end;

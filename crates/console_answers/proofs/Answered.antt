@@ -1,7 +1,7 @@
 -- The answer to a line is that of its command (`Answered`).
 use Prim.Native.Nat.{ℕ}
 use native.Mathlib.Omega.{arith}
-use mathlib.Core.Path.{_≡_, refl, sym, ap, _∙_}
+use mathlib.Core.Path.{_≡_, refl, sym, ap, _∙_, subst}
 use mathlib.Core.Bool.{true}
 use mathlib.Core.List.{List}
 use mathlib.Core.Option.{some}
@@ -18,8 +18,10 @@ use Rattle.register_kind.specs.declared.CallKind.{CallKind}
 use Rattle.register_kind.specs.Shapes.{call-of}
 use Rattle.register_kind.proofs.Shapes.{open-module-is-include}
 use Rattle.script.specs.declared.Question.{Question}
+use Rattle.script.specs.declared.Question.the-variants.{Find, Complete, Modules}
 use Rattle.script.proofs.ReadsOnce.{reads-once}
 use Rattle.script_replies.specs.Replies.{bad-reply}
+use Rattle.listing.specs.Completes.{output}
 use Rattle.table.specs.Header.{IsSound, state, lent, table-in}
 use Rattle.table.specs.Registrations.{Unchanged}
 use Rattle.table.specs.declared.Table.{Table}
@@ -27,8 +29,9 @@ use Rattle.console_registrations.specs.Registers.{Outcome, registration, Leaves
 use Rattle.console_registrations.specs.declared.Done.{Done}
 use Rattle.source.proofs.Outside.{outside-none}
 use Rattle.console_questions.specs.Questions.{asked-text}
-use Rattle.console_answers.specs.Outcomes.{import-call, outcome, command-call, Accepted}
-use Rattle.console_answers.specs.Answers.{Answered}
+use Rattle.console_questions.specs.Left.{OutputKept, AskedLine}
+use Rattle.console_answers.specs.Outcomes.{import-call, outcome, command-call, Accepted, NoCompletion}
+use Rattle.console_answers.specs.Answers.{AsksLeave, Answered}
 
 pub ask-reads : {line : Str} {what : Question} {q q′ : Str} → q ≡ q′ → Reads line (ask what q′)
     → Reads line (ask what q)
@@ -71,39 +74,57 @@ same-outcome : {text : Str} {after : State} (o : Outcome) → text ≡ o .text �
     → record { text = text; after = after } ≡ o
 same-outcome o p q = rw (p, q) refl
 
-module _ {ws txt ws′ txt′ reply reply′ : List ℕ} {t : Table} {line : Str} {at : ℕ} {r : Done} (out : Output) where
-  answered-by : {c : Command} → Reads line c
-      → Leaves ws txt ws′ txt′ t reply reply′ at (outcome (lent ws txt) out (state ws txt t) c) r
-      → ((Accepted (lent ws txt) (state ws txt t) c → ⊥) → Unchanged ws txt ws′ txt′ t (r .table))
-      → Answered ws txt ws′ txt′ t line out reply reply′ at r
-  answered-by {c} h l k = record {
-    text = outcome (lent ws txt) out (state ws txt t) c .text;
-    replied = record {
-      says = λ d i. same-outcome (outcome (lent ws txt) out (state ws txt t) c) refl (l .reads)
-          ∙ ap (outcome (lent ws txt) out (state ws txt t)) (reads-once line c d h i);
-      bad = λ n. absurd (n c h);
-    };
-    laid = l .laid;
-    sound = l .sound;
-    words = l .words;
-    texts = l .texts;
-    grows = l .grows;
-    still = λ n. k (n c h);
-  }
+-- What a registration and a line that says nothing leave of the lent output.
+kept : {flat pane : List ℕ} → OutputKept flat flat pane pane
+kept = record { flat-is = refl; pane-is = refl }
 
-  -- A line that says a registration.
+module _ {ws txt ws′ txt′ flat flat′ pane pane′ reply reply′ : List ℕ} {t : Table} {line : Str} {at : ℕ}
+    {r : Done} where
+  answered-by : {c : Command} → Reads line c
+      → Leaves ws txt ws′ txt′ t reply reply′ at (outcome (lent ws txt) (output flat pane) (state ws txt t) c) r
+      → ((Accepted (lent ws txt) (state ws txt t) c → ⊥) → Unchanged ws txt ws′ txt′ t (r .table))
+      → AsksLeave ws txt t flat flat′ pane pane′ line → (NoCompletion line → OutputKept flat flat′ pane pane′)
+      → Answered ws txt ws′ txt′ t line flat flat′ pane pane′ reply reply′ at r
+  answered-by {c} h l k a q =
+      let o : Outcome = outcome (lent ws txt) (output flat pane) (state ws txt t) c in
+      record {
+        text = o .text;
+        replied = record {
+          says = λ d i. same-outcome o refl (l .reads)
+              ∙ ap (outcome (lent ws txt) (output flat pane) (state ws txt t)) (reads-once line c d h i);
+          bad = λ n. absurd (n c h);
+        };
+        laid = l .laid;
+        sound = l .sound;
+        words = l .words;
+        texts = l .texts;
+        grows = l .grows;
+        still = λ n. k (n c h);
+        asks = a;
+        quiet = q;
+      }
+
+-- A line that says a registration.
+module _ {ws txt ws′ txt′ reply reply′ : List ℕ} {t : Table} {line : Str} {at : ℕ} {r : Done} (flat pane : List ℕ) where
   pub answered-call : {k : CallKind} {host other key : Extent} {h o y : Str} → RegistrationLine line k host other key
       → h ≡ part-of line host → o ≡ part-of line other → y ≡ part-of line key
       → Registers ws txt ws′ txt′ t (call-of k h o y) reply reply′ at r
-      → Answered ws txt ws′ txt′ t line out reply reply′ at r
+      → Answered ws txt ws′ txt′ t line flat flat pane pane reply reply′ at r
   answered-call {k} {host} {other} {key} {h} {o} {y} l p q z x =
       answered-by (l .reads) leaves (go (register true (lent ws txt) (state ws txt t) (i .call)) refl)
+      (λ what u e. absurd (no-question what u e)) (λ _. kept)
     where
+      no-question : (what : Question) (u : Str) → Reads line (ask what u) → ⊥
+      no-question what u e =
+          subst (λ (d : Command). OfKind d k (part-of line host) (part-of line other) (part-of line key))
+          (reads-once line (l .command) (ask what u) (l .reads) e) (l .of-kind)
+
       i : IsCall (l .command) k h o y
       i = rw (p, q, z) (is-call (l .command) (l .of-kind))
 
-      leaves : Leaves ws txt ws′ txt′ t reply reply′ at (outcome (lent ws txt) out (state ws txt t) (l .command)) r
-      leaves = rw (i .outcome-is (lent ws txt) out (state ws txt t), sym (i .same (lent ws txt) (state ws txt t))) (x .leaves)
+      leaves : Leaves ws txt ws′ txt′ t reply reply′ at
+          (outcome (lent ws txt) (output flat pane) (state ws txt t) (l .command)) r
+      leaves = rw (i .outcome-is (lent ws txt) (output flat pane) (state ws txt t), sym (i .same (lent ws txt) (state ws txt t))) (x .leaves)
 
       go : (v : C.Registered) → register true (lent ws txt) (state ws txt t) (i .call) ≡ v
           → (Accepted (lent ws txt) (state ws txt t) (l .command) → ⊥) → Unchanged ws txt ws′ txt′ t (r .table)
@@ -127,22 +148,43 @@ leaves-same {ws} {txt} {t = t} s sound l =
 same : {ws txt : List ℕ} {t : Table} → Unchanged ws txt ws txt t t
 same = record { table = refl; words = refl; text = refl }
 
-module _ {ws txt reply reply′ : List ℕ} {t : Table} {line : Str} {at e : ℕ} (out : Output)
-    (sound : IsSound ws txt t) where
-  pub answered-ask : {what : Question} {q : Str} → Reads line (ask what q)
-      → Laid reply reply′ at e (asked-text out (table-in ws txt t) what q)
-      → Answered ws txt ws txt t line out reply reply′ at (record { table = t; end = e })
-  answered-ask {what} {q} h l = answered-by out h (leaves-same (asked-text out (table-in ws txt t) what q) sound l) (λ _. same)
+-- A line that says a question.
+module _ {ws txt flat flat′ pane pane′ reply reply′ : List ℕ} {t : Table} {line : Str} {at e : ℕ} where
+  asks-as : {what : Question} {q : Str} → Reads line (ask what q)
+      → AskedLine ws txt t what q flat flat′ pane pane′ reply reply′ at e
+      → AsksLeave ws txt t flat flat′ pane pane′ line
+  asks-as {what} {q} h x what′ q′ i =
+      let same-line : ask what q ≡ ask what′ q′ = reads-once line (ask what q) (ask what′ q′) h i in
+      let w : what ≡ what′ = cc in let u : q ≡ q′ = cc in rw (sym w, sym u) (x .leaves)
 
-  pub answered-bad : ((c : Command) → Reads line c → ⊥) → Laid reply reply′ at e bad-reply
-      → Answered ws txt ws txt t line out reply reply′ at (record { table = t; end = e })
-  answered-bad n l = record {
-    text = bad-reply;
-    replied = record { says = λ c h. absurd (n c h); bad = λ _. refl };
-    laid = l;
-    sound = sound;
-    words = outside-none ws;
-    texts = outside-none txt;
-    grows = (omega arith, omega arith);
-    still = λ _. same;
-  }
+  asks-quiet : (what : Question) {q : Str} → Reads line (ask what q)
+      → AskedLine ws txt t what q flat flat′ pane pane′ reply reply′ at e
+      → NoCompletion line → OutputKept flat flat′ pane pane′
+  asks-quiet Find h x n = x .leaves
+  asks-quiet Complete {q} h x n = absurd (n q .0 h)
+  asks-quiet Modules {q} h x n = absurd (n q .1 h)
+
+  pub answered-ask : {what : Question} {q : Str} → IsSound ws txt t → Reads line (ask what q)
+      → AskedLine ws txt t what q flat flat′ pane pane′ reply reply′ at e
+      → Answered ws txt ws txt t line flat flat′ pane pane′ reply reply′ at (record { table = t; end = e })
+  answered-ask {what} {q} sound h x =
+      answered-by h (leaves-same (asked-text (output flat pane) (table-in ws txt t) what q) sound (x .laid)) (λ _. same)
+      (asks-as h x) (asks-quiet what h x)
+
+-- A line that says nothing.
+pub answered-bad : {ws txt reply reply′ : List ℕ} {t : Table} {line : Str} {at e : ℕ} (flat pane : List ℕ)
+    → IsSound ws txt t → ((c : Command) → Reads line c → ⊥) → Laid reply reply′ at e bad-reply
+    → Answered ws txt ws txt t line flat flat pane pane reply reply′ at (record { table = t; end = e })
+answered-bad {ws} {txt} flat pane sound n l =
+    record {
+      text = bad-reply;
+      replied = record { says = λ c h. absurd (n c h); bad = λ _. refl };
+      laid = l;
+      sound = sound;
+      words = outside-none ws;
+      texts = outside-none txt;
+      grows = (omega arith, omega arith);
+      still = λ _. same;
+      asks = λ what q h. absurd (n (ask what q) h);
+      quiet = λ _. kept;
+    }

@@ -14,12 +14,14 @@ use Rattle.script_decimal.specs.declared.Sort.the-variants.{Line}
 use Rattle.listing.specs.Completes.{output}
 use Rattle.table.specs.Header.{IsSound, state, lent}
 use Rattle.source.specs.Lent.{Outside}
+use Rattle.table.specs.Registrations.{Unchanged}
 use Rattle.table.specs.declared.Table.{Table}
 use Rattle.console_registrations.specs.Registers.{Outcome}
 use Rattle.console_registrations.specs.declared.Done.{Done}
 use Rattle.source.proofs.Outside.{outside-none, outside-next}
 use Rattle.console_questions.specs.RowReplies.{room}
-use Rattle.console_answers.specs.Outcomes.{Replied, Session, none, then, unlines}
+use Rattle.console_questions.specs.Left.{OutputKept}
+use Rattle.console_answers.specs.Outcomes.{NoneAccepted, NoCompletion, Replied, Session, none, then, unlines}
 use Rattle.console_answers.specs.Answers.{Answered, Talked}
 
 session-on : {k : Lent} {out : Output} {s m : State} {lines : List Str} {text : Str} {line : Str} (o : Outcome)
@@ -34,6 +36,18 @@ each-on : (lines : List Str) (line : Str) → Allˡ (All Line) lines → All Lin
     → Allˡ (All Line) (lines ++ (line ∷ []))
 each-on [] line a b = (b, tt)
 each-on (l ∷ ls) line a b = (a .0, each-on ls line (a .1) b)
+
+each-off : (P : Str → Type 0) (lines : List Str) (line : Str) → Allˡ P (lines ++ (line ∷ [])) → Allˡ P lines × P line
+each-off P [] line a = (tt, a .0)
+each-off P (l ∷ ls) line a = ((a .0, each-off P ls line (a .1) .0), each-off P ls line (a .1) .1)
+
+-- Nothing registered so far, and nothing by one line more.
+still-on : {ws₀ txt₀ ws txt ws′ txt′ : List ℕ} {t₀ t t′ : Table} (line : Str) → Unchanged ws₀ txt₀ ws txt t₀ t
+    → (NoneAccepted (lent ws txt) (state ws txt t) line → Unchanged ws txt ws′ txt′ t t′)
+    → NoneAccepted (lent ws₀ txt₀) (state ws₀ txt₀ t₀) line → Unchanged ws₀ txt₀ ws′ txt′ t₀ t′
+still-on line u a n =
+    let v = a (rw (u .table, u .words, u .text) n) in
+    record { table = v .table ∙ u .table; words = v .words ∙ u .words; text = v .text ∙ u .text }
 
 unlines-on : (lines : List Str) (line : Str) → unlines (lines ++ (line ∷ [])) ≡ unlines lines · (line · (10 ∷ []))
 unfolding unlines
@@ -59,6 +73,8 @@ pub record Going (ws₀ txt₀ : List ℕ) (t₀ : Table) (input : Str) (from : 
   pub after : from ≤ i
   pub inside : i ≤ length input
   pub fits : at ≤ length reply₀
+  pub still : Allˡ (NoneAccepted (lent ws₀ txt₀) (state ws₀ txt₀ t₀)) lines → Unchanged ws₀ txt₀ ws txt t₀ t
+  pub quiet : Allˡ NoCompletion lines → OutputKept flat₀ flat pane₀ pane
   pub started : i ≡ from → at ≡ 0
 
 pub talk-going-start : {ws txt flat pane reply : List ℕ} {t : Table} {input : Str} {from : ℕ} → IsSound ws txt t
@@ -84,6 +100,8 @@ talk-going-start {ws} {txt} {reply = reply} {t} {from = from} s h =
       after = omega arith;
       inside = h;
       fits = omega arith;
+      still = λ _. record { table = refl; words = refl; text = refl };
+      quiet = λ _. record { flat-is = refl; pane-is = refl };
       started = λ _. refl;
     }
 
@@ -102,12 +120,13 @@ module _ {ws₀ txt₀ flat₀ pane₀ reply₀ ws txt flat pane reply : List �
 
     pub talk-going-on : {ws′ txt′ flat′ pane′ reply′ : List ℕ} {d : Done} → length flat′ ≡ length flat
         → length pane′ ≡ length pane
-        → Answered ws txt ws′ txt′ t (take (i + r - i) (drop i input)) (output flat pane) reply reply′ at d
+        → Answered ws txt ws′ txt′ t (take (i + r - i) (drop i input)) flat flat′ pane pane′ reply reply′ at d
         → Going ws₀ txt₀ t₀ input from flat₀ pane₀ reply₀ ws′ txt′ flat′ pane′ reply′ (d .table) (d .end) (i + r + 1)
     talk-going-on f p a =
         let q : i + r - i ≡ r = omega arith in
         let n : i + r + 1 - from ≡ i - from + suc r = omega (arith, g .after) in
         let k : from + (i - from) ≡ i = omega (arith, g .after) in
+        let line : Str = take r (drop i input) in
         record {
           lines = g .lines ++ (take r (drop i input) ∷ []);
           each = each-on (g .lines) (take r (drop i input)) (g .each) (rw rest-is at (x .line));
@@ -130,11 +149,16 @@ module _ {ws₀ txt₀ flat₀ pane₀ reply₀ ws txt flat pane reply : List �
           after = omega (arith, g .after);
           inside = omega arith;
           fits = omega (arith, a .laid .fits, g .reply-size);
+          still = λ y. let z = each-off (NoneAccepted (lent ws₀ txt₀) (state ws₀ txt₀ t₀)) (g .lines) line y in
+              still-on line (g .still (z .0)) (rw q at (a .still)) (z .1);
+          quiet = λ y. let z = each-off NoCompletion (g .lines) line y in let u = g .quiet (z .0) in
+              let v = (rw q at (a .quiet)) (z .1) in
+              record { flat-is = v .flat-is ∙ u .flat-is; pane-is = v .pane-is ∙ u .pane-is };
           started = λ e. absurd (omega (arith, g .after));
         }
 
   abbrev Says : Type 0
-  Says = Talked ws₀ txt₀ ws txt t₀ input from (output flat₀ pane₀) reply₀ reply (record { table = t; end = at; next = i })
+  Says = Talked ws₀ txt₀ ws txt t₀ input from flat₀ flat pane₀ pane reply₀ reply (record { table = t; end = at; next = i })
 
   talked : (i ≡ from → All Line (drop from input)) → Says
   talked h = record {
@@ -147,6 +171,8 @@ module _ {ws₀ txt₀ flat₀ pane₀ reply₀ ws txt flat pane reply : List �
     sound = g .sound;
     words = g .words;
     texts = g .texts;
+    still = g .still;
+    quiet = g .quiet;
     next-fits = (g .after, g .inside);
     goes-on = λ z. (g .started z, h z);
   }

@@ -9,6 +9,7 @@ use Rattle.script_decimal.specs.Bytes.{Str, _·_}
 use Rattle.script.specs.Script.{Command, name, import, alias, module-path, ask, Reads}
 use Rattle.script.specs.declared.Import.{Import}
 use Rattle.script.specs.declared.Import.the-variants.{Include, OpenModule, OpenNamespace}
+use Rattle.script.specs.declared.Question.the-variants.{Complete, Modules}
 use Rattle.script_replies.specs.Replies.{bad-reply}
 use Rattle.console_registrations.specs.Registers.{Outcome, registration}
 use Rattle.console_questions.specs.Questions.{asked-text}
@@ -41,6 +42,14 @@ pub record Accepted (lent : Lent) (s : State) (c : Command) : Type 0 where
   pub is : command-call c ≡ some call
   pub after : State
   pub accepted : register true lent s call ≡ C.accepted after
+
+-- The line registers nothing in this table.
+abbrev pub NoneAccepted : Lent → State → Str → Type 0
+NoneAccepted lent s line = (c : Command) → Reads line c → Accepted lent s c → ⊥
+
+-- The line asks for no completion.
+abbrev pub NoCompletion : Str → Type 0
+NoCompletion line = (q : Str) → (Reads line (ask Complete q) → ⊥) × (Reads line (ask Modules q) → ⊥)
 
 -- What a line that says none does.
 abbrev pub bad-outcome : State → Outcome

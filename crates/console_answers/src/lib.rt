@@ -11,7 +11,6 @@ ghost use Prim.Native.Nat.{_+_, _≤_};
 ghost use lib.ListN.{length};
 ghost use Rattle.source.specs.Lent.{old, new};
 ghost use Rattle.script_parts.specs.Parts.{Within, part-of};
-ghost use Rattle.listing.specs.Completes.{output};
 ghost use Rattle.table.specs.Header.{IsSound};
 ghost use Rattle.console_questions.specs.RowReplies.{room};
 ghost use Rattle.console_answers.specs.Answers.{Answered, Talked};
@@ -33,7 +32,8 @@ fn part(line: &[u8], s: Extent) -> &[u8]
     &line[a..e]
 }
 
-// The answer to a line, without its line feed: its call is made and its reply written at `at`. `flat` and `pane` are scratch.
+// The answer to a line, without its line feed: its call is made and its reply written at `at`. The lines of a
+// completion stand in `flat` and `pane`.
 pub fn answer(
     table: Table,
     words: &mut [u32],
@@ -46,8 +46,8 @@ pub fn answer(
 ) -> Done
     requires { ⌜ IsSound (now words) (now text) table ⌝ }
     requires { ⌜ at + room (now flat) (now pane) ≤ length (now reply) ⌝ }
-    ensures { λ r. ⌜ Answered (old words) (old text) (new words) (new text) table (old line)
-        (output (old flat) (old pane)) (old reply) (new reply) at r ⌝ }
+    ensures { λ r. ⌜ Answered (old words) (old text) (new words) (new text) table (old line) (old flat) (new flat)
+        (old pane) (new pane) (old reply) (new reply) at r ⌝ }
 {
     let form = script::parse(line);
     match form {
@@ -117,8 +117,8 @@ pub fn answer_lines(
     requires { ⌜ IsSound (now words) (now text) table ⌝ }
     requires { ⌜ room (now flat) (now pane) ≤ length (now reply) ⌝ }
     requires { ⌜ from ≤ length (now input) ⌝ }
-    ensures { λ r. ⌜ Talked (old words) (old text) (new words) (new text) table (old input) from
-        (output (old flat) (old pane)) (old reply) (new reply) r ⌝ }
+    ensures { λ r. ⌜ Talked (old words) (old text) (new words) (new text) table (old input) from (old flat) (new flat)
+        (old pane) (new pane) (old reply) (new reply) r ⌝ }
 {
     let size = flat.len() / listing_output::LINE_BYTES * 40 + pane.len() + 40;
     let mut t = table;

@@ -4,7 +4,7 @@ use native.Mathlib.Omega.{arith}
 use native.Mathlib.Numerals.{add-one}
 use mathlib.Core.Path.{_≡_, refl, sym, ap, ap₂, _∙_}
 use mathlib.Core.List.{List, [], _∷_, _++_}
-use lib.ListN.{length, getD, take, drop, set, length-set, length-drop}
+use lib.ListN.{length, getD, take, drop, set, length-set, length-drop, take-append-drop}
 use lib.Seq.{take-suc, take-suc-set, drop-set-lt, drop-drop, getD-drop}
 
 -- The first i bytes are moved.
@@ -15,6 +15,11 @@ pub record Moved (input₀ input : List ℕ) (from i : ℕ) : Type 0 where
 
 pub moved-start : (input : List ℕ) (from : ℕ) → Moved input input from 0
 moved-start input from = record { size = refl; done = refl; left = refl }
+
+-- What was moved, then what was there.
+pub moved-whole : {input₀ input : List ℕ} {from i : ℕ} → Moved input₀ input from i
+    → input ≡ take i (drop from input₀) ++ drop i input₀
+moved-whole {input = input} {i = i} m = sym (take-append-drop i input) ∙ ap₂ (λ (s u : List ℕ). s ++ u) (m .done) (m .left)
 
 module _ {input₀ input : List ℕ} {from i : ℕ} (m : Moved input₀ input from i) (h : from + i < length input₀) where
   byte-is : getD input (from + i) 0 ≡ getD (drop from input₀) i 0

@@ -123,13 +123,15 @@ run-session {out} {p} {written = written} {s} (read {reads = reads} input n i e 
     (ap (λ (t : Str). t · joined reads) (read-pending p input n i e)
     ∙ append-assoc (pending (p .feed) (p .input)) (take n (drop (p .feed .have) input)) (joined reads))
     (run-session x)
-run-session {out} {p} {s = s} (step {reads = reads} {written = w} {ws = ws} {txt = txt} {r = r} x y) =
+run-session {out} {p} {s = s} (step {reads = reads} {written = w} {ws = ws} {txt = txt} {r = r} e x y) =
+    let here : Session (lent (p .words) (p .text)) out (state (p .words) (p .text) (p .feed .table)) (x .lines) (x .text) (state ws txt (r .feed .table)) =
+    rw e (x .session) in
     let rest : Session (lent (p .words) (p .text)) out (state ws txt (r .feed .table)) (lines-of (x .rest · joined reads)) w s =
     session-kept (joined reads) (x .kept) (rw (x .words .size, x .texts .size) at (run-session y)) in
     rw (x .cut, append-assoc (unlines (x .lines)) (x .rest) (joined reads), lines-then (x .lines) (x .rest · joined reads) (x .each), laid-text (x .laid))
-    (session-join (x .session) rest)
-run-session {out} {p} (end a x) =
-    rw (append-nil (pending (p .feed) (p .input)), laid-text (x .laid), lines-line (pending (p .feed) (p .input)) a) (x .session)
+    (session-join here rest)
+run-session {out} {p} (end a e x) =
+    rw (e, append-nil (pending (p .feed) (p .input)), laid-text (x .laid), lines-line (pending (p .feed) (p .input)) a) (x .session)
 
 -- From a fresh table and no bytes: for every division of an input into reads, what is handed to the writes, put together, is the
 -- session of the input's lines.

@@ -5,11 +5,11 @@ use mathlib.Core.Path.{_≡_, refl, sym, ap, ap₂, _∙_, subst}
 use mathlib.Core.Bool.{true, false, true≢false}
 use mathlib.Core.List.{List, [], _∷_, append-nil}
 use lib.ListN.{length, take, drop, take-append-drop, length-drop}
-use lib.Seq.{take-take, take-nil, drop-drop, length-take-le}
-use Rattle.source.specs.Calls.{Output}
+use lib.Seq.{take-take, take-nil, take-at, drop-drop, length-take-le}
 use Rattle.text.proofs.Laid.{laid-none}
 use Rattle.script_decimal.specs.Bytes.{Str, _·_, All}
 use Rattle.script_decimal.specs.declared.Sort.the-variants.{Line}
+use Rattle.listing.specs.Completes.{output}
 use Rattle.table.specs.Header.{IsSound, state, lent}
 use Rattle.console_registrations.specs.declared.Done.{Done}
 use Rattle.source.proofs.Outside.{outside-none}
@@ -52,12 +52,14 @@ moved-is {input} {input′} {from} {have} {n} h m =
     ∙ ap (λ (k : ℕ). take k (drop from (take have input))) e
     ∙ ap (take n) (drop-take from have input)
     ∙ take-take n (have - from) (drop from input) (omega (arith, m .size))
-    ∙ sym (m .is)
+    ∙ sym (take-at (take n (drop from input)) (drop n input) n (length-take-le n (drop from input) (omega (arith, m .size, length-drop from input))))
+    ∙ ap (take n) (sym (m .is))
 
 -- ---- A step
 
-module _ {ws txt ws′ txt′ input reply reply′ : List ℕ} {out : Output} {f : Feed} {r : AfterLines} (i : Inside f input)
-    (x : Talked ws txt ws′ txt′ (f .table) (take (f .have) input) (f .from) out reply reply′ r) where
+module _ {ws txt ws′ txt′ input flat flat′ pane pane′ reply reply′ : List ℕ} {f : Feed} {r : AfterLines}
+    (i : Inside f input)
+    (x : Talked ws txt ws′ txt′ (f .table) (take (f .have) input) (f .from) flat flat′ pane pane′ reply reply′ r) where
   abbrev rest : Str
   rest = drop (r .next) (take (f .have) input)
 
@@ -69,7 +71,7 @@ module _ {ws txt ws′ txt′ input reply reply′ : List ℕ} {out : Output} {f
 
   -- Whole lines may be left.
   pub steps-on : f .from < r .next
-      → Feeds ws txt ws′ txt′ f input input out reply reply′
+      → Feeds ws txt ws′ txt′ f input input flat flat′ pane pane′ reply reply′
       (record { feed = record { table = r .table; from = r .next; have = f .have }; end = r .end; more = true })
   steps-on l = record {
     lines = x .lines;
@@ -83,6 +85,8 @@ module _ {ws txt ws′ txt′ input reply reply′ : List ℕ} {out : Output} {f
     sound = x .sound;
     words = x .words;
     texts = x .texts;
+    still = x .still;
+    quiet = x .quiet;
     inside = record { started = omega (arith, x .next-fits .1, length-take-le (f .have) input (i .ended)); ended = i .ended };
     goes-on = λ _. (l, refl);
     stops = λ e. absurd (true≢false e);
@@ -91,7 +95,8 @@ module _ {ws txt ws′ txt′ input reply reply′ : List ℕ} {out : Output} {f
   -- There is none left.
   pub steps-out : {input′ : List ℕ} {n : ℕ} → r .next ≤ f .from → length input′ ≡ length input
       → Moves input input′ (f .from) (f .have) n
-      → Feeds ws txt ws′ txt′ f input input′ out reply reply′ (record { feed = record { table = r .table; from = 0; have = n }; end = r .end; more = false })
+      → Feeds ws txt ws′ txt′ f input input′ flat flat′ pane pane′ reply reply′
+      (record { feed = record { table = r .table; from = 0; have = n }; end = r .end; more = false })
   steps-out {input′} {n} l size m =
       let e : r .next ≡ f .from = omega (arith, x .next-fits .0) in
       let a : All Line rest = rw e (x .goes-on e .1) in
@@ -108,6 +113,8 @@ module _ {ws txt ws′ txt′ input reply reply′ : List ℕ} {out : Output} {f
         sound = x .sound;
         words = x .words;
         texts = x .texts;
+        still = x .still;
+        quiet = x .quiet;
         inside = record { started = omega arith; ended = omega (arith, m .size, i .ended, size) };
         goes-on = λ z. absurd (true≢false (sym z));
         stops = λ _. (refl, omega (arith, m .size), subst (All Line) k (all-take bytes-kept rest a));
@@ -115,10 +122,11 @@ module _ {ws txt ws′ txt′ input reply reply′ : List ℕ} {out : Output} {f
 
 -- ---- The end
 
-module _ {ws txt ws′ txt′ input reply reply′ : List ℕ} {out : Output} {f : Feed} where
+module _ {ws txt ws′ txt′ input flat flat′ pane pane′ reply reply′ : List ℕ} {f : Feed} where
   pub ends-some : {r : Done} → LastLine true (take (f .have - f .from) (drop (f .from) input))
-      → Answered ws txt ws′ txt′ (f .table) (take (f .have - f .from) (drop (f .from) input)) out reply reply′ 0 r
-      → Ends ws txt ws′ txt′ f input out reply reply′ r
+      → Answered ws txt ws′ txt′ (f .table)
+      (take (f .have - f .from) (drop (f .from) input)) flat flat′ pane pane′ reply reply′ 0 r
+      → Ends ws txt ws′ txt′ f input flat flat′ pane pane′ reply reply′ r
   ends-some {r} e x =
       let p : pending f input ≡ take (f .have - f .from) (drop (f .from) input) = drop-take (f .from) (f .have) input in
       record {
@@ -126,18 +134,22 @@ module _ {ws txt ws′ txt′ input reply reply′ : List ℕ} {out : Output} {f
         session = rw (
           p,
           e,
-        ) (subst (λ (t : Str). Session (lent ws txt) out (state ws txt (f .table)) _ t (state ws′ txt′ (r .table)))
+        ) (subst (λ (t : Str). Session (lent ws txt) (output flat pane) (state ws txt (f .table)) _ t
+            (state ws′ txt′ (r .table)))
             (append-nil (x .text)) (then (record { text = x .text; after = _ }) (x .replied) none));
         laid = x .laid;
         sound = x .sound;
         words = x .words;
         texts = x .texts;
+        still = rw (p, e) (λ n. x .still (n .0));
+        asks = rw (p, e) (x .asks, tt);
+        quiet = rw (p, e) (λ n. x .quiet (n .0));
       }
 
-pub feed-ends-none : {ws txt input reply : List ℕ} {out : Output} {f : Feed}
+pub feed-ends-none : {ws txt input flat pane reply : List ℕ} {f : Feed}
     → LastLine false (take (f .have - f .from) (drop (f .from) input)) → IsSound ws txt (f .table)
-    → Ends ws txt ws txt f input out reply reply (record { table = f .table; end = 0 })
-feed-ends-none {ws} {txt} {input} {reply} {out} {f} e sound =
+    → Ends ws txt ws txt f input flat flat pane pane reply reply (record { table = f .table; end = 0 })
+feed-ends-none {ws} {txt} {input} {reply = reply} {f} e sound =
     let p : pending f input ≡ take (f .have - f .from) (drop (f .from) input) = drop-take (f .from) (f .have) input in
     record {
       text = [];
@@ -146,4 +158,7 @@ feed-ends-none {ws} {txt} {input} {reply} {out} {f} e sound =
       sound = sound;
       words = outside-none ws;
       texts = outside-none txt;
+      still = λ _. record { table = refl; words = refl; text = refl };
+      asks = rw (p, e) tt;
+      quiet = λ _. record { flat-is = refl; pane-is = refl };
     }

@@ -6,7 +6,6 @@ use table::Table;
 ghost use Prim.Native.Nat.{_≤_};
 ghost use lib.ListN.{length};
 ghost use Rattle.source.specs.Lent.{old, new};
-ghost use Rattle.listing.specs.Completes.{output};
 ghost use Rattle.table.specs.Header.{IsSound};
 ghost use Rattle.console_questions.specs.RowReplies.{room};
 ghost use Rattle.console_feed.specs.Feed.{Inside, Feeds, Ends};
@@ -39,8 +38,8 @@ pub fn step(
     requires { ⌜ IsSound (now words) (now text) (f .table) ⌝ }
     requires { ⌜ room (now flat) (now pane) ≤ length (now reply) ⌝ }
     requires { ⌜ Inside f (now input) ⌝ }
-    ensures { λ r. ⌜ Feeds (old words) (old text) (new words) (new text) f (old input) (new input)
-        (output (old flat) (old pane)) (old reply) (new reply) r ⌝ }
+    ensures { λ r. ⌜ Feeds (old words) (old text) (new words) (new text) f (old input) (new input) (old flat) (new flat)
+        (old pane) (new pane) (old reply) (new reply) r ⌝ }
 {
     let t = f.table;
     let from = f.from;
@@ -72,7 +71,8 @@ pub fn step(
     }
 }
 
-// Answers what is left at the end of the input: a last line that has no line feed. `flat` and `pane` are scratch.
+// Answers what is left at the end of the input: a last line that has no line feed. The lines of a
+// completion stand in `flat` and `pane`.
 pub fn last(
     f: Feed,
     words: &mut [u32],
@@ -85,8 +85,8 @@ pub fn last(
     requires { ⌜ IsSound (now words) (now text) (f .table) ⌝ }
     requires { ⌜ room (now flat) (now pane) ≤ length (now reply) ⌝ }
     requires { ⌜ Inside f (now input) ⌝ }
-    ensures { λ r. ⌜ Ends (old words) (old text) (new words) (new text) f (old input) (output (old flat) (old pane))
-        (old reply) (new reply) r ⌝ }
+    ensures { λ r. ⌜ Ends (old words) (old text) (new words) (new text) f (old input) (old flat) (new flat)
+        (old pane) (new pane) (old reply) (new reply) r ⌝ }
 {
     let t = f.table;
     let from = f.from;

@@ -8,7 +8,6 @@ use source::KindFilter;
 use table::Table;
 use table_roots::Found;
 ghost use mathlib.Core.Path.{_≡_};
-ghost use mathlib.Core.Bool.{true};
 ghost use Prim.Native.Nat.{_+_, _≤_};
 ghost use lib.ListN.{length};
 ghost use Rattle.source.specs.Lent.{old, new};
@@ -16,12 +15,11 @@ ghost use Rattle.text.specs.Laid.{Laid};
 ghost use Rattle.script_replies.specs.Replies.{reply-room};
 ghost use Rattle.listing_ask.specs.Ask.{asked};
 ghost use Rattle.listing_row.specs.Rows.{TextsIn, words-from};
-ghost use Rattle.listing.specs.Completes.{output};
-ghost use Rattle.table.specs.Header.{IsSound, table-in};
+ghost use Rattle.table.specs.Header.{IsSound};
 ghost use Rattle.table_roots.specs.Answers.{name-found};
-ghost use Rattle.table.specs.Completions.{completion};
-ghost use Rattle.console_questions.specs.Questions.{found-text, completed-text, asked-text};
+ghost use Rattle.console_questions.specs.Questions.{found-text};
 ghost use Rattle.console_questions.specs.RowReplies.{item-shown, row-room, row-text, RowsIn, rows-room, rows-text, room, RowsShown, shown-text};
+ghost use Rattle.console_questions.specs.Left.{CompletedLine, AskedLine};
 
 // Writes the reply to a look-up.
 fn put_found(reply: &mut [u8], at: usize, f: Found) -> usize
@@ -139,10 +137,8 @@ fn complete_line(
 ) -> usize
     requires { ⌜ IsSound (now words) (now text) (start .table) ⌝ }
     requires { ⌜ start .at + room (now flat) (now pane) ≤ length (now reply) ⌝ }
-    ensures { λ e. ⌜ Laid (old reply) (new reply) (start .at) e
-        (completed-text (asked ask)
-        (completion true (table-in (old words) (old text) (start .table)) ask 4096 (output (old flat) (old pane))
-        (old query))) ⌝ }
+    ensures { λ e. ⌜ CompletedLine (old words) (old text) (start .table) ask (old query) (old flat) (new flat)
+        (old pane) (new pane) (old reply) (new reply) (start .at) e ⌝ }
 {
     let table = start.table;
     let request = listing_ask::Request {
@@ -167,9 +163,8 @@ pub fn ask_line(
 ) -> usize
     requires { ⌜ IsSound (now words) (now text) (start .table) ⌝ }
     requires { ⌜ start .at + room (now flat) (now pane) ≤ length (now reply) ⌝ }
-    ensures { λ e. ⌜ Laid (old reply) (new reply) (start .at) e
-        (asked-text (output (old flat) (old pane)) (table-in (old words) (old text) (start .table)) what
-        (old query)) ⌝ }
+    ensures { λ e. ⌜ AskedLine (old words) (old text) (start .table) what (old query) (old flat) (new flat)
+        (old pane) (new pane) (old reply) (new reply) (start .at) e ⌝ }
 {
     match what {
         script::Question::Find => {

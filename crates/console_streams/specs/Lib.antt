@@ -1,1 +1,3 @@
 pub mod Filled
+pub mod Put
+pub mod Help

@@ -1,17 +1,31 @@
 // What `console --help` writes.
+use text::Order;
+ghost use mathlib.Core.Path.{_≡_};
+ghost use Rattle.source.specs.Lent.{old};
+ghost use Rattle.source.specs.Shared.{same};
+ghost use Rattle.console_streams.specs.Help.{is-help};
 
-// Whether an argument is `--help` or `-h`.
-pub fn asked(arg: &[u8]) -> bool {
-    if arg.len() == 2 {
-        return arg[0] == b'-' && arg[1] == b'h';
+// Whether two texts are equal.
+fn same(a: &[u8], b: &[u8]) -> bool
+    ensures { λ r. ⌜ r ≡ same (old a) (old b) ⌝ }
+{
+    let c = text::string_compare(a, b);
+    let o = c.order;
+    match o {
+        Order::Less => false,
+        Order::Same => true,
+        Order::More => false,
     }
-    if arg.len() != 6 {
-        return false;
+}
+
+// Whether an argument is `-h` or `--help`.
+pub fn asked(arg: &[u8]) -> bool
+    ensures { λ r. ⌜ r ≡ is-help (old arg) ⌝ }
+{
+    if same(arg, b"-h") {
+        return true;
     }
-    if arg[0] != b'-' || arg[1] != b'-' || arg[2] != b'h' {
-        return false;
-    }
-    arg[3] == b'e' && arg[4] == b'l' && arg[5] == b'p'
+    same(arg, b"--help")
 }
 
 fn forms() {

@@ -6,6 +6,7 @@ ghost use Prim.Native.Nat.{_≤_};
 ghost use lib.ListN.{length};
 ghost use Rattle.source.specs.Lent.{old, new};
 ghost use Rattle.console_streams.specs.Filled.{Filled};
+ghost use Rattle.console_streams.specs.Put.{Put};
 
 // How many bytes there are after a read, whether it failed, and whether it was only interrupted.
 pub struct Got {
@@ -17,7 +18,7 @@ pub struct Got {
 // Reads more into `input`, after the first `have` bytes.
 pub fn fill(input: &mut [u8], have: usize) -> Got
     requires { ⌜ have ≤ length (now input) ⌝ }
-    ensures { λ r. ⌜ Filled (old input) (new input) have (r .n) ⌝ }
+    ensures { λ r. ⌜ Filled (old input) (new input) have r ⌝ }
 {
     let got = libc::read(STDIN_FILENO, &mut input[have..]);
     if got < 0 {
@@ -35,7 +36,9 @@ pub fn fill(input: &mut [u8], have: usize) -> Got
 }
 
 // Writes all of `text`, and says whether it did. A write that is interrupted is tried again.
-pub fn put(fd: i32, text: &[u8]) -> bool {
+pub fn put(fd: i32, text: &[u8]) -> bool
+    ensures { λ r. ⌜ Put (old text) r ⌝ }
+{
     let mut done = 0;
     let mut left: u64 = 18446744073709551615;
     while done < text.len() {

@@ -20,4 +20,9 @@ reply-last-spec =
     (λ c. search needs)
     (λ c. search needs)
     (λ c. search needs)
-    (λ c. search needs))
+    {- returns -}
+    (λ c. let s = c .before .before .before .before .before .before .before .before .before .before .before .before in record {
+      done = s .last .result;
+      ends = s .last .ensures;
+      written = c .put .ensures;
+    }))

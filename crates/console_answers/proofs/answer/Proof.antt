@@ -1,6 +1,5 @@
 -- `answer` meets its contract.
 use Rattle.console_answers.proofs.Answered.{ask-reads, answered-call, answered-ask, answered-bad}
-use Rattle.listing.specs.Completes.{output}
 use borrow.Author.Needs.{needs}
 use Rattle.console_answers.proofs.answer.Statement.{statement}
 use Rattle.console_answers.proofs.answer.Tie as tie
@@ -35,7 +34,7 @@ same-length-3 c = search needs
 returns : tie.Need-returns
 returns c = let s = c .before .before .before .before .before .before in let s2 = s .before .before in
     let s3 = s2 .before .before .before .before .before .before in let s4 = s3 .before .before .before .before .before .before .before .before .before in
-    answered-call (output (s4 .args .flat .now) (s4 .args .pane .now)) (rw (s3 .form .given .1) at (s3 .before .before .parse .ensures))
+    answered-call (s4 .args .flat .now) (s4 .args .pane .now) (rw (s3 .form .given .1) at (s3 .before .before .parse .ensures))
     (s2 .before .before .part .ensures) (s2 .before .part2 .ensures) (s2 .part3 .ensures) (s .register-line .ensures)
 
 same-length-4 : tie.Need-same-length-4
@@ -56,7 +55,7 @@ same-length-8 c = search needs
 returns-2 : tie.Need-returns-2
 returns-2 c = let s = c .before .before .before .before .before .before in let s2 = s .before .before .before .before in
     let s3 = s2 .before .before .before .before in let s4 = s3 .before .before .before .before .before .before .before .before .before in
-    answered-ask (output (s4 .args .flat .now) (s4 .args .pane .now)) (s4 .pre .0)
+    answered-ask (s4 .pre .0)
     (ask-reads (s2 .part4 .ensures) ((rw (s3 .form2 .given .1) at (s3 .before .before .parse .ensures)) .1)) (s .ask-line .ensures)
 
 same-length-9 : tie.Need-same-length-9
@@ -64,7 +63,7 @@ same-length-9 c = search needs
 
 returns-3 : tie.Need-returns-3
 returns-3 c = let s = c .before .before .before .before in let s2 = s .before .before .before .before .before .before .before .before .before in
-    answered-bad (output (s2 .args .flat .now) (s2 .args .pane .now)) (s2 .pre .0) (rw (s .enum-told .given .1) at (s .before .before .parse .ensures))
+    answered-bad (s2 .args .flat .now) (s2 .args .pane .now) (s2 .pre .0) (rw (s .enum-told .given .1) at (s .before .before .parse .ensures))
     (c .before .before .put-bad .ensures)
 
 pub answer-spec : {M : Type 1} → statement M

@@ -1,5 +1,5 @@
 -- `keep` meets its contract.
-use Rattle.console_backlog.proofs.Moves.{Moved, moved-start, moved-on}
+use Rattle.console_backlog.proofs.Moves.{Moved, moved-start, moved-whole, moved-on}
 use Rattle.console_backlog.specs.Moves.{bytes-kept}
 use mathlib.Core.Path.{_≡_}
 use Prim.Native.Nat.{_≤_, _-_, min}
@@ -35,7 +35,7 @@ same-length c = c .before .loop .inv .2 .size
 returns : tie.Need-returns Inv-loop μ-loop
 returns c = record {
   size = c .before .loop .inv .0;
-  is = let e : c .before .loop .i ≡ c .before .before .short .result = omega arith in rw (← e) (c .before .loop .inv .2 .done);
+  is = let e : c .before .loop .i ≡ c .before .before .short .result = omega arith in rw (← e) (moved-whole (c .before .loop .inv .2));
 }
 
 pub keep-spec : {M : Type 1} → statement M

@@ -1,4 +1,5 @@
 -- `ask_line` meets its contract.
+use mathlib.Core.Path.{refl}
 use mathlib.Core.Bool.{true}
 use borrow.Author.Needs.{needs}
 use Rattle.console_questions.proofs.ask_line.Statement.{statement}
@@ -30,9 +31,11 @@ same-length c = search needs
 
 returns : tie.Need-returns
 returns c = let s = c .before .before .before .before in
-    rw (s .before .before .enum-told .given .1) (rw
-    (s .find-sound .ensures .says true (s .before .before .before .before .before .before .before .before .before .before .pre .0)) at
-    (c .before .before .put-found .ensures))
+    rw (s .before .before .enum-told .given .1) (record {
+      laid = rw (s .find-sound .ensures .says true (s .before .before .before .before .before .before .before .before .before .before .pre .0)) at
+          (c .before .before .put-found .ensures);
+      leaves = record { flat-is = refl; pane-is = refl };
+    })
 
 same-length-2 : tie.Need-same-length-2
 same-length-2 c = search needs
@@ -45,7 +48,7 @@ same-length-4 c = search needs
 
 returns-2 : tie.Need-returns-2
 returns-2 c = let s = c .before .before .before .before .before .before in
-    rw (s .before .before .before .before .enum-told2 .given .1) (s .complete-line .ensures)
+    rw (s .before .before .before .before .enum-told2 .given .1) (record { laid = s .complete-line .ensures .laid; leaves = s .complete-line .ensures .lists })
 
 same-length-5 : tie.Need-same-length-5
 same-length-5 c = search needs
@@ -58,7 +61,8 @@ same-length-7 c = search needs
 
 returns-3 : tie.Need-returns-3
 returns-3 c = let s = c .before .before .before .before .before .before in
-    rw (s .before .before .before .before .enum-told3 .given .1) (s .complete-line2 .ensures)
+    rw (s .before .before .before .before .enum-told3 .given .1)
+    (record { laid = s .complete-line2 .ensures .laid; leaves = s .complete-line2 .ensures .lists })
 
 pub ask-line-spec : {M : Type 1} → statement M
 ask-line-spec =

@@ -14,8 +14,12 @@ put-completed-requires c κs = let s = c .before .before .before .before .before
 
 returns : tie.Need-returns
 returns c = let s = c .before .before .before .before .before .before .before .before .before .before in
-    subst (Laid _ _ _ _) (completes-tells (s .before .before .before .before .before .before .before .before .before .before .pre .0)
-    (s .complete-sound .ensures) .text-is) (c .before .before .put-completed .ensures)
+    record {
+      laid = subst (Laid _ _ _ _)
+          (completes-tells (s .before .before .before .before .before .before .before .before .before .before .pre .0)
+          (s .complete-sound .ensures) .text-is) (c .before .before .put-completed .ensures);
+      lists = record { listing = s .complete-sound .result; completes = s .complete-sound .ensures };
+    }
 
 pub complete-line-spec : {M : Type 1} → statement M
 complete-line-spec =

@@ -1,4 +1,6 @@
 -- `fill` meets its contract.
+use mathlib.Core.Path.{refl, sym}
+use mathlib.Core.Bool.{true≢false}
 use native.Mathlib.Omega.{arith}
 use lib.Seq.{take-at, length-take-le}
 use borrow.Author.Needs.{needs}
@@ -20,6 +22,8 @@ fill-spec =
       kept = take-at _ _ _ (length-take-le _ _ (c .before .before .before .before .before .before .before .pre));
       more = omega arith;
       inside = search needs;
+      none = λ _. refl;
+      once = λ e. absurd (true≢false e);
     })
     (λ c. search needs)
     (λ c. search needs)
@@ -32,4 +36,6 @@ fill-spec =
       kept = take-at _ _ _ (length-take-le _ _ (c .before .before .before .before .before .before .before .before .before .pre));
       more = omega arith;
       inside = search needs;
+      none = λ e. absurd (true≢false (sym e));
+      once = λ _. refl;
     }))

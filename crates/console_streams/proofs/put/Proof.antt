@@ -1,5 +1,6 @@
 -- `put` meets its contract.
 use Prim.Native.Nat.{_≤_}
+use mathlib.Core.Path.{refl}
 use lib.ListN.{length}
 use native.Mathlib.Omega.{arith}
 use borrow.Author.Needs.{needs}
@@ -19,20 +20,24 @@ put-spec =
     Inv-loop
     μ-loop
     (λ c. omega arith)
-    (λ c. search needs)
-    (λ c. search needs)
-    (λ c. search needs)
-    (λ c. search needs)
-    (λ c. search needs)
-    (λ c κs. search needs)
-    (λ c κs. search needs)
-    (λ c. search needs)
+    {- returns -}
+    (λ c. record { none = λ e. absurd (omega (arith, c .before .loop-test .taken)) })
     (λ c. search needs)
     (λ c. search needs)
     (λ c. search needs)
     (λ c. search needs)
     (λ c κs. search needs)
+    (λ c κs. search needs)
+    {- returns-2 -}
+    (λ c. record { none = λ e. absurd (omega (arith, c .before .before .before .before .before .before .loop-test .taken)) })
+    {- returns-3 -}
+    (λ c. record { none = λ e. absurd (omega (arith, c .before .before .before .before .before .loop-test .taken)) })
     (λ c. search needs)
     (λ c. search needs)
     (λ c. search needs)
-    (λ c. search needs))
+    (λ c κs. search needs)
+    (λ c. search needs)
+    (λ c. search needs)
+    (λ c. search needs)
+    {- returns-4 -}
+    (λ c. record { none = λ _. refl }))
