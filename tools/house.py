@@ -7,7 +7,7 @@ function proofs, must-fail edits, lines that are too long (tools/wrap.py); then 
   a dependency that crates.txt names and no file uses (a type or a definition that a used crate's structs or contracts name counts as used);
   a use that crates.txt does not name; a definition (specs/, or a contract) that cites proofs/;
   a bare word number outside crate memory, in code (`word_of(words, x, 3)`, `row[3]`) or in definitions and laws (`word r 3`, `stored ws x 10`);
-  a function of more than eight parameters that is not exported; an edit of a proof;
+  a function of more than eight parameters that is not exported, but for those named below; an edit of a proof;
   a page that does not show what crates.txt has: README the rooms and their picture, docs/HOUSE.md each crate by the first line of its code.
 --check prints these alone and closes with 'N passed, M failed'. --write writes the pages anew. --above says how many crates stand on each one named.
 """
@@ -23,6 +23,8 @@ KINDS = ['code', 'definitions', 'laws', 'proofs', 'edits', 'long']
 # Where the words of a line, which are not a record's, have their names.
 LAYOUTS = ('listing_output/specs/Output.antt',)
 MOST_PARAMETERS = 8
+# One more: a merge goes on with the heads and the heap in arrays of 96 (docs/REQUIREMENTS.md, section 12), which no struct by value holds without a copy.
+ONE_MORE = ('crates/merge/src/lib.rt: take', 'crates/merge/src/lib.rt: merge_next')
 CITE = re.compile(r'^\s*(?:pub )?(?:ghost )?use Rattle·([a-z0-9_]+)(?:·(?:specs|proofs))?\.(specs|proofs)\.')
 CALL = re.compile(r'\b([a-z][a-z0-9_]*)::')
 BARE_CODE = re.compile(r'\b(?:word_of|stored)\([^;]*, \d+\)|\b(?:row|old|new|r|item)\[\d+\]')
@@ -78,7 +80,7 @@ def parameters(where, text):
     """The functions of a file of code that have too many."""
     for m in re.finditer(r'^ *((?:pub )?(?:extern "C" )?)fn (\w+)(?:<[^>]*>)?\(([^{]*?)\)(?: ->|$| \{)', text, re.M | re.S):
         count = len([p for p in m.group(3).split(',') if p.strip()])
-        if 'extern' not in m.group(1) and count > MOST_PARAMETERS:
+        if 'extern' not in m.group(1) and count > MOST_PARAMETERS + (f'{where}: {m.group(2)}' in ONE_MORE):
             yield f'{where}:{text.count(chr(10), 0, m.start()) + 1}: {m.group(2)} has {count} parameters'
 
 

@@ -117,7 +117,8 @@ fn list_merged(
     let len = place.len;
     let rest = place.next;
     let mut roots = [0; merge::CELLS];
-    let mut heads = [0u64; merge::HEADS];
+    let mut heads = [0; merge::CELLS];
+    let mut beginnings = [0; merge::CELLS];
     let mut labels = [0; merge::CELLS];
     let start = merge::merge_start(
         words,
@@ -126,6 +127,7 @@ fn list_merged(
         list,
         &mut roots,
         &mut heads,
+        &mut beginnings,
         &mut labels,
     );
     let n = start.n;
@@ -151,6 +153,7 @@ fn list_merged(
             &query[0..len],
             &mut roots,
             &mut heads,
+            &mut beginnings,
             &mut child,
             &mut next,
             turn,

@@ -58,20 +58,19 @@ module _ {ws txt : List ℕ} {w : Which} {ℓ : Level} {x : ℕ} (here : At ws t
   pub branch-head : {y : ℕ} → BranchOf ws w ℓ x y → TextIn ws txt y
   branch-head o = let t = cell-branch-tree o in text-in (t .1) (t .0)
 
-  pub branch-few : {y : ℕ} → BranchOf ws w ℓ x y → y ≤ 65536
-  branch-few o = omega (arith, o .link .earlier, here .link .earlier, here .sound .few)
-
 module _ {ws txt : List ℕ} {w : Which} {ℓ : Level} {x : ℕ} {p : Str} {m : Merge} {h : Heap ℕ}
     (g : Holding ws txt w ℓ x p m h) where
   pub cell-tree : (j : ℕ) → j < m .n → At ws txt w (tree ℓ) (getD (m .roots) j 0)
   cell-tree j l = at-of (g .here) (tree _) (omega arith) (g .cells j l .root-link)
 
-  pub heads-of : Heads ws txt (m .heads) (m .n)
+  pub heads-of : Heads ws txt (m .heads) (m .beginnings) (m .n)
   heads-of = record {
     few = g .few;
-    each = λ j l. branch-head (g .here) (g .cells j l .branch);
-    small = λ j l. branch-few (g .here) (g .cells j l .branch);
-    begun = g .begun;
+    each = λ j l. record {
+      small = omega (arith, g .few);
+      text-in = branch-head (g .here) (g .cells j l .branch);
+      begun = g .begun j l;
+    };
   }
 
 -- The next match of a cell is a branch of the list's trees.

@@ -35,7 +35,7 @@ use Rattle.find_tree.proofs.Matches.{matches-none, matches-of, matches-increasi
 use Rattle.find_list.specs.Entries.{Entry, entry-key, label-at, shown, outer, Asks}
 use Rattle.merge_collect.specs.Lists.{TreePart, elements, HasPart, HasParts, more, match-lists-in, CollectedIn, Collected}
 use Rattle.merge.specs.Stream.{later, run-at, CellOk, Starts, state, OneTree}
-use Rattle.merge.proofs.Cells.{branch-head, branch-few, cell-stands}
+use Rattle.merge.proofs.Cells.{branch-head, cell-stands}
 use Rattle.memory.specs.Sound.{At}
 use Rattle.memory.proofs.At.{no-link, at-of}
 
@@ -130,16 +130,17 @@ module _ (ws txt : List ℕ) where
     unfolding outer shown row-at
     element-shows m = rw (m .labelled)
 
-module _ {ws txt : List ℕ} {w : Which} {ℓ : Level} {x : ℕ} {p : Str} {roots heads labels : List ℕ}
+module _ {ws txt : List ℕ} {w : Which} {ℓ : Level} {x : ℕ} {p : Str} {roots heads beginnings labels : List ℕ}
     (here : At ws txt w (list ℓ) x) where
-  part-at : (i : ℕ) (parts : List (TreePart ws txt)) → HasParts ws txt w ℓ x p roots heads labels i parts → (k j : ℕ)
+  part-at : (i : ℕ) (parts : List (TreePart ws txt)) → HasParts ws txt w ℓ x p roots heads beginnings labels i parts
+      → (k j : ℕ)
       → j ≡ i + k → k < length parts
-      → HasPart ws txt w ℓ x p roots heads labels j (getD parts k (no-part ws txt))
+      → HasPart ws txt w ℓ x p roots heads beginnings labels j (getD parts k (no-part ws txt))
   part-at i [] a k j e h = absurd (omega arith)
   part-at i (c ∷ parts) (more b a) zero j e h = let f : i ≡ j = omega arith in rw f at b
   part-at i (c ∷ parts) (more b a) (suc k) j e h = part-at (suc i) parts a k j (omega arith) (omega arith)
 
-  module _ {j : ℕ} {c : TreePart ws txt} (o : HasPart ws txt w ℓ x p roots heads labels j c) where
+  module _ {j : ℕ} {c : TreePart ws txt} (o : HasPart ws txt w ℓ x p roots heads beginnings labels j c) where
     part-tree : At ws txt w (tree ℓ) (c .root)
     part-tree = at-of here (tree _) (omega arith) (o .root-link)
 
@@ -171,7 +172,7 @@ module _ {ws txt : List ℕ} {w : Which} {ℓ : Level} {x : ℕ} {p : Str} {root
         go zero e f = absurd (nil≢cons (sym (matches-none ws txt p) ∙ e))
         go (suc r) e f = omega arith
 
-  module _ (parts : List (TreePart ws txt)) (a : HasParts ws txt w ℓ x p roots heads labels 0 parts) where
+  module _ (parts : List (TreePart ws txt)) (a : HasParts ws txt w ℓ x p roots heads beginnings labels 0 parts) where
     -- The cells stand for what is merged.
     cells-are : (q : Option Str) → AreRuns (map (elements w ws txt ℓ q p) parts)
         (λ k. map-run (element ws txt w ℓ q) (run-of ws txt p heads parts k))
@@ -199,29 +200,32 @@ ordered : {ws txt : List ℕ} {w : Which} {ℓ : Level} {x : ℕ} (t : At ws txt
 ordered {ws} {txt} {w} {ℓ} {x} t =
     formed-orderedN IsKey IsLabel (IsItem w) {ℓ = ℓ} (what w ws txt x (list ℓ)) (link-fine (t .sound) w (list ℓ) (omega arith) (t .link) .0)
 
-module _ {ws txt : List ℕ} {p : Str} {x n : ℕ} {roots₀ heads₀ labels₀ roots heads labels : List ℕ}
-    (d : Collected ws txt p x 0 0 n roots₀ heads₀ labels₀ roots heads labels) where
+module _ {ws txt : List ℕ} {p : Str} {x n : ℕ}
+    {roots₀ heads₀ beginnings₀ labels₀ roots heads beginnings labels : List ℕ}
+    (d : Collected ws txt p x 0 0 n roots₀ heads₀ beginnings₀ labels₀ roots heads beginnings labels) where
   collected : (w : Which) (ℓ : Level) → At ws txt w (list ℓ) x
-      → CollectedIn ws txt p x 0 0 n roots₀ heads₀ labels₀ roots heads labels w ℓ x []
+      → CollectedIn ws txt p x 0 0 n roots₀ heads₀ beginnings₀ labels₀ roots heads beginnings labels w ℓ x []
   unfolding last-opt
   collected w ℓ t = d .says w ℓ x [] t (omega arith) (record { link = no-link x _; imports = λ l. absurd (omega arith) }) refl
 
   module _ {w : Which} {ℓ : Level} (t : At ws txt w (list ℓ) x) where
     has-cell : (j : ℕ) → j < n
-        → HasPart ws txt w ℓ x p roots heads labels j (getD (collected w ℓ t .parts) j (no-part ws txt))
+        → HasPart ws txt w ℓ x p roots heads beginnings labels j (getD (collected w ℓ t .parts) j (no-part ws txt))
     has-cell j l = part-at t 0 (collected w ℓ t .parts) (collected w ℓ t .has) j j (omega arith) (omega (arith, collected w ℓ t .count))
 
-    pub start-heads : n ≤ 96 → Heads ws txt heads n
+    pub start-heads : n ≤ 96 → Heads ws txt heads beginnings n
     start-heads few = record {
       few = few;
-      each = λ j l. branch-head t (part-cell t (has-cell j l) .branch);
-      small = λ j l. branch-few t (part-cell t (has-cell j l) .branch);
-      begun = λ j l. has-cell j l .begun;
+      each = λ j l. record {
+        small = omega arith;
+        text-in = branch-head t (part-cell t (has-cell j l) .branch);
+        begun = has-cell j l .begun;
+      };
     }
 
   pub merge-starts : {child next : List ℕ} {root : ℕ} → n ≤ 96
       → Rep n child next root (heap-from-list (cell-cmp ws txt heads) (first-cells n))
-      → Starts ws txt x p (state roots heads labels child next n root 0)
+      → Starts ws txt x p (state roots heads beginnings labels child next n root 0)
   unfolding match-lists
   merge-starts {child} {next} {root} few rep w v t =
       let s = collected w v t in
@@ -280,7 +284,8 @@ module _ {ws txt : List ℕ} {p : Str} {x n : ℕ} {roots₀ heads₀ labels₀ 
       shows q c [] = refl
       shows q c (b ∷ l) = ap₂ _∷_ (rw (c .labelled)) (shows q c l)
 
-      go : (parts : List (TreePart ws txt)) → length parts ≡ 1 → HasParts ws txt w ℓ x p roots heads labels 0 parts
+      go : (parts : List (TreePart ws txt)) → length parts ≡ 1
+          → HasParts ws txt w ℓ x p roots heads beginnings labels 0 parts
           → ((term : SearchTerm) (q : Option Str) → Asks term p q
           → match-lists-in w ws txt ℓ term [] x ≡ map (elements w ws txt ℓ q p) parts)
           → OneTree ws txt w ℓ x p (getD roots 0 0) (getD labels 0 0)

@@ -45,16 +45,17 @@ last-branch ws w ℓ x l none g n = absurd (n g)
 last-branch ws w ℓ x l (some y) g n = g .1
 
 module _ {ws txt : List ℕ} {p : Str} {n root last : ℕ}
-    {roots heads labels child next roots′ heads′ child′ next′ : List ℕ} {t : Taken}
-    (takes : Takes ws txt p n root roots heads child next roots′ heads′ child′ next′ t) {w : Which} {ℓ : Level} {x : ℕ}
+    {roots heads beginnings labels child next roots′ heads′ beginnings′ child′ next′ : List ℕ} {t : Taken}
+    (takes : Takes ws txt p n root roots heads beginnings child next roots′ heads′ beginnings′ child′ next′ t)
+    {w : Which} {ℓ : Level} {x : ℕ}
     {s : List Entry}
-    (g : Rest ws txt w ℓ x p (state roots heads labels child next n root last) s) where
+    (g : Rest ws txt w ℓ x p (state roots heads beginnings labels child next n root last) s) where
   pub step-end : t .cell ≡ 96 → s ≡ []
   step-end e = go (g .heap) (g .holding) (g .says)
     where
-      go : (h : Heap ℕ) → Holding ws txt w ℓ x p (state roots heads labels child next n root last) h
+      go : (h : Heap ℕ) → Holding ws txt w ℓ x p (state roots heads beginnings labels child next n root last) h
           → s ≡ forward (entry-key ws txt) (g .fuel)
-          (heap-of ws txt p (state roots heads labels child next n root last) h) (g .given) → s ≡ []
+          (heap-of ws txt p (state roots heads beginnings labels child next n root last) h) (g .given) → s ≡ []
       go EmptyHeap o q = q ∙ forward-empty (entry-key ws txt) (g .fuel) (g .given)
       go (HeapOf c hh) o q = let k = takes .took labels last w ℓ x (HeapOf c hh) o in absurd (omega (arith, k .cell-is, k .below, o .few))
 
@@ -70,8 +71,9 @@ module _ {ws txt : List ℕ} {p : Str} {n root last : ℕ}
     pub passed : List Entry
     pub after : List Entry
     pub splits : s ≡ cond (again (entry-key ws txt) entry (g .given)) passed (entry ∷ after)
-    pub passed-rest : Rest ws txt w ℓ x p (state roots′ heads′ labels child′ next′ n (t .root) last) passed
-    pub after-rest : Rest ws txt w ℓ x p (state roots′ heads′ labels child′ next′ n (t .root) (t .branch)) after
+    pub passed-rest : Rest ws txt w ℓ x p (state roots′ heads′ beginnings′ labels child′ next′ n (t .root) last) passed
+    pub after-rest : Rest ws txt w ℓ x p
+        (state roots′ heads′ beginnings′ labels child′ next′ n (t .root) (t .branch)) after
     pub fewer : remaining ws txt p roots′ heads′ n < remaining ws txt p roots heads n
 
   pub merge-steps : (t .cell ≡ 96 → ⊥) → Stepped
@@ -79,10 +81,10 @@ module _ {ws txt : List ℕ} {p : Str} {n root last : ℕ}
   merge-steps ne = go (g .heap) (g .holding) (g .enough) (g .says)
     where
       m : Merge
-      m = state roots heads labels child next n root last
+      m = state roots heads beginnings labels child next n root last
 
       m′ : Merge
-      m′ = state roots′ heads′ labels child′ next′ n (t .root) last
+      m′ = state roots′ heads′ beginnings′ labels child′ next′ n (t .root) last
 
       go : (h : Heap ℕ) → Holding ws txt w ℓ x p m h → held (heap-of ws txt p m h) ≤ g .fuel
           → s ≡ forward (entry-key ws txt) (g .fuel) (heap-of ws txt p m h) (g .given) → Stepped
@@ -128,29 +130,30 @@ module _ {ws txt : List ℕ} {p : Str} {n root last : ℕ}
           }
         where
           relast : {h : Heap ℕ} {l : ℕ}
-              → Holding ws txt w ℓ x p (state roots′ heads′ labels child′ next′ n (t .root) last) h
-              → Holding ws txt w ℓ x p (state roots′ heads′ labels child′ next′ n (t .root) l) h
+              → Holding ws txt w ℓ x p (state roots′ heads′ beginnings′ labels child′ next′ n (t .root) last) h
+              → Holding ws txt w ℓ x p (state roots′ heads′ beginnings′ labels child′ next′ n (t .root) l) h
           relast o = record { here = o .here; few = o .few; full = o .full; cells = o .cells; begun = o .begun; rep = o .rep; live = o .live }
 
 -- ---- merge_next
 
 -- What is left of the entries of m after those passed over.
-pub record Passing (ws txt : List ℕ) (p : Str) (m : Merge) (roots heads child next : List ℕ) (root : ℕ) : Type 0 where
+pub record Passing (ws txt : List ℕ) (p : Str) (m : Merge) (roots heads beginnings child next : List ℕ)
+    (root : ℕ) : Type 0 where
   pub says : (w : Which) (ℓ : Level) (x : ℕ) (s : List Entry) → Rest ws txt w ℓ x p m s
-      → Rest ws txt w ℓ x p (state roots heads (m .labels) child next (m .n) root (m .last)) s
+      → Rest ws txt w ℓ x p (state roots heads beginnings (m .labels) child next (m .n) root (m .last)) s
   pub fewer : remaining ws txt p roots heads (m .n) ≤ left-in ws txt p m
 
 pub passing-none : {ws txt : List ℕ} {p : Str} (m : Merge)
-    → Passing ws txt p m (m .roots) (m .heads) (m .child) (m .next) (m .root)
+    → Passing ws txt p m (m .roots) (m .heads) (m .beginnings) (m .child) (m .next) (m .root)
 passing-none m = record { says = λ w v x s g. g; fewer = omega arith }
 
-module _ {ws txt : List ℕ} {p : Str} {m : Merge} {roots heads child next : List ℕ} {root : ℕ}
-    (o : Passing ws txt p m roots heads child next root) (y : AnyRest ws txt p m) where
+module _ {ws txt : List ℕ} {p : Str} {m : Merge} {roots heads beginnings child next : List ℕ} {root : ℕ}
+    (o : Passing ws txt p m roots heads beginnings child next root) (y : AnyRest ws txt p m) where
   abbrev now-rest : Rest ws txt (y .which) (y .level) (y .link) p
-      (state roots heads (m .labels) child next (m .n) root (m .last)) (y .entries)
+      (state roots heads beginnings (m .labels) child next (m .n) root (m .last)) (y .entries)
   now-rest = o .says (y .which) (y .level) (y .link) (y .entries) (y .rest)
 
-  pub passing-ready : CellsReady ws txt p (m .n) root roots heads child next
+  pub passing-ready : CellsReady ws txt p (m .n) root roots heads beginnings child next
   passing-ready = record {
     labels = m .labels;
     last = m .last;
@@ -161,8 +164,8 @@ module _ {ws txt : List ℕ} {p : Str} {m : Merge} {roots heads child next : Lis
     holding = now-rest .holding;
   }
 
-  module _ {roots′ heads′ child′ next′ : List ℕ} {t : Taken}
-      (takes : Takes ws txt p (m .n) root roots heads child next roots′ heads′ child′ next′ t)
+  module _ {roots′ heads′ beginnings′ child′ next′ : List ℕ} {t : Taken}
+      (takes : Takes ws txt p (m .n) root roots heads beginnings child next roots′ heads′ beginnings′ child′ next′ t)
       (ne : t .cell ≡ 96 → ⊥) where
     pub passing-small : t .cell < 96
     passing-small = omega (arith, merge-steps takes now-rest ne .below, now-rest .holding .few)
@@ -176,22 +179,23 @@ module _ {ws txt : List ℕ} {p : Str} {m : Merge} {roots heads child next : Lis
     pub passing-last : (m .last ≡ 0 → ⊥) → (0 < m .last) × AnyTree ws txt (m .last)
     passing-last n = cell-branch-tree (now-rest .holding .here) (last-branch ws (y .which) (y .level) (y .link) (m .last) (now-rest .given) (now-rest .last) n)
 
-module _ {ws txt : List ℕ} {p : Str} {m : Merge} {roots heads child next : List ℕ} {root : ℕ}
-    (o : Passing ws txt p m roots heads child next root)
-    {roots′ heads′ child′ next′ : List ℕ} {t : Taken}
-    (takes : Takes ws txt p (m .n) root roots heads child next roots′ heads′ child′ next′ t) where
+module _ {ws txt : List ℕ} {p : Str} {m : Merge} {roots heads beginnings child next : List ℕ} {root : ℕ}
+    (o : Passing ws txt p m roots heads beginnings child next root)
+    {roots′ heads′ beginnings′ child′ next′ : List ℕ} {t : Taken}
+    (takes : Takes ws txt p
+    (m .n) root roots heads beginnings child next roots′ heads′ beginnings′ child′ next′ t) where
   pub passing-end : (r : Step) → r .branch ≡ 0 → t .cell ≡ 96 → Gives ws txt p m r
   passing-end r z e w v x s g = subst (λ (s : List Entry). GivesIn ws txt w v x p m s r) (sym (step-end takes (o .says w v x s g) e)) z
 
   module _ (ne : t .cell ≡ 96 → ⊥) where
     pub passing-on : remaining ws txt p roots′ heads′ (m .n) < remaining ws txt p roots heads (m .n) → (m .last ≡ 0 → ⊥)
         → same (key-at ws txt (t .branch)) (key-at ws txt (m .last)) ≡ true
-        → Passing ws txt p m roots′ heads′ child′ next′ (t .root)
+        → Passing ws txt p m roots′ heads′ beginnings′ child′ next′ (t .root)
     passing-on f n e = record {
       says = λ w v x s g.
           let r = o .says w v x s g in
           let k = merge-steps takes r ne in
-          subst (λ (s : List Entry). Rest ws txt w v x p (state roots′ heads′ (m .labels) child′ next′ (m .n) (t .root) (m .last)) s)
+          subst (λ (s : List Entry). Rest ws txt w v x p (state roots′ heads′ beginnings′ (m .labels) child′ next′ (m .n) (t .root) (m .last)) s)
           (sym (k .splits ∙ rw (again-same ws txt w v x (m .last) (k .entry) (r .given) (r .last) n (rw (k .branch-is) at e)))) (k .passed-rest);
       fewer = omega (arith, o .fewer);
     }
@@ -200,7 +204,7 @@ module _ {ws txt : List ℕ} {p : Str} {m : Merge} {roots heads child next : Lis
         → Gives ws txt p m (record {
           branch = t .branch;
           label = getD (m .labels) (t .cell) 0;
-          m = state roots′ heads′ (m .labels) child′ next′ (m .n) (t .root) (t .branch);
+          m = state roots′ heads′ beginnings′ (m .labels) child′ next′ (m .n) (t .root) (t .branch);
         })
     passing-gives f w v x s g =
         let r = o .says w v x s g in
@@ -208,7 +212,7 @@ module _ {ws txt : List ℕ} {p : Str} {m : Merge} {roots heads child next : Lis
         let step : Step = record {
           branch = t .branch;
           label = getD (m .labels) (t .cell) 0;
-          m = state roots′ heads′ (m .labels) child′ next′ (m .n) (t .root) (t .branch);
+          m = state roots′ heads′ beginnings′ (m .labels) child′ next′ (m .n) (t .root) (t .branch);
         } in
         let d : GivenIn ws txt w v x p m (k .entry) (k .after) step =
         record {

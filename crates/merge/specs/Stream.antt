@@ -27,10 +27,11 @@ use Rattle.merge.specs.declared.Start.{Start}
 use Rattle.merge.specs.declared.Cursor.{Cursor}
 use Rattle.merge.specs.declared.Taken.{Taken}
 
--- The state of a merge: the cells of the heap, each with a tree, its current branch and its label, and the last branch given.
+-- The state of a merge: the cells of the heap, each with a tree, its current branch, the beginning of that one's key and its label, and the last branch given.
 pub record Merge : Type 0 where
   pub roots : List ℕ
   pub heads : List ℕ
+  pub beginnings : List ℕ
   pub labels : List ℕ
   pub child : List ℕ
   pub next : List ℕ
@@ -39,11 +40,12 @@ pub record Merge : Type 0 where
   pub last : ℕ
 
 -- The state of these cells.
-abbrev pub state : (roots heads labels child next : List ℕ) (n root last : ℕ) → Merge
-state roots heads labels child next n root last =
+abbrev pub state : (roots heads beginnings labels child next : List ℕ) (n root last : ℕ) → Merge
+state roots heads beginnings labels child next n root last =
     record {
       roots = roots;
       heads = heads;
+      beginnings = beginnings;
       labels = labels;
       child = child;
       next = next;
@@ -90,10 +92,10 @@ pub record CellOk (ws txt : List ℕ) (w : Which) (ℓ : Level) (x : ℕ) (p : S
 pub record Holding (ws txt : List ℕ) (w : Which) (ℓ : Level) (x : ℕ) (p : Str) (m : Merge) (h : Heap ℕ) : Type 0 where
   pub here : At ws txt w (list ℓ) x
   pub few : m .n ≤ heaviest-list
-  pub full : Full (m .roots) (m .heads) (m .labels)
+  pub full : Full (m .roots) (m .heads) (m .beginnings) (m .labels)
   pub cells : (j : ℕ) → j < m .n
       → CellOk ws txt w ℓ x p (getD (m .roots) j 0) (getD (m .heads) j 0) (getD (m .labels) j 0)
-  pub begun : (j : ℕ) → j < m .n → Begun ws txt (m .heads) j
+  pub begun : (j : ℕ) → j < m .n → Begun ws txt (m .heads) (m .beginnings) j
   pub rep : Rep (m .n) (m .child) (m .next) (m .root) h
   pub live : (j : ℕ) → 0 < count j h → 0 < getD (m .roots) j 0
 
@@ -183,22 +185,24 @@ TookIn ws txt w ℓ x p m m′ t EmptyHeap = t .cell ≡ heaviest-list
 TookIn ws txt w ℓ x p m m′ t (HeapOf c hh) = TookCell ws txt w ℓ x p m m′ t c hh
 
 -- The same, for any labels and whatever heap the cells have.
-pub record Takes (ws txt : List ℕ) (p : Str) (n root : ℕ) (roots heads child next roots′ heads′ child′ next′ : List ℕ)
+pub record Takes (ws txt : List ℕ) (p : Str) (n root : ℕ)
+    (roots heads beginnings child next roots′ heads′ beginnings′ child′ next′ : List ℕ)
     (t : Taken) : Type 0 where
   pub took : (labels : List ℕ) (last : ℕ) (w : Which) (ℓ : Level) (x : ℕ) (h : Heap ℕ)
-      → Holding ws txt w ℓ x p (state roots heads labels child next n root last) h
-      → TookIn ws txt w ℓ x p (state roots heads labels child next n root last)
-      (state roots′ heads′ labels child′ next′ n (t .root) last) t h
+      → Holding ws txt w ℓ x p (state roots heads beginnings labels child next n root last) h
+      → TookIn ws txt w ℓ x p (state roots heads beginnings labels child next n root last)
+      (state roots′ heads′ beginnings′ labels child′ next′ n (t .root) last) t h
 
 -- The cells have some heap.
-pub record CellsReady (ws txt : List ℕ) (p : Str) (n root : ℕ) (roots heads child next : List ℕ) : Type 0 where
+pub record CellsReady (ws txt : List ℕ) (p : Str) (n root : ℕ)
+    (roots heads beginnings child next : List ℕ) : Type 0 where
   pub labels : List ℕ
   pub last : ℕ
   pub which : Which
   pub level : Level
   pub link : ℕ
   pub heap : Heap ℕ
-  pub holding : Holding ws txt which level link p (state roots heads labels child next n root last) heap
+  pub holding : Holding ws txt which level link p (state roots heads beginnings labels child next n root last) heap
 
 -- ---- The contracts: labels are read by the caller
 
@@ -210,23 +214,25 @@ pub record OneTree (ws txt : List ℕ) (w : Which) (ℓ : Level) (x : ℕ) (p : 
       → map outer (found (what w ws txt x (list ℓ)) term)
       ≡ map (shown w ws txt ℓ q) (map (λ b. record { branch = b; label = label }) (matches ws txt root p))
 
-pub record Begins (ws txt : List ℕ) (p : Str) (x : ℕ) (roots heads labels : List ℕ) (r : Start) : Type 0 where
-  pub starts : Starts ws txt x p (state roots heads labels (r .child) (r .next) (r .n) (r .root) 0)
+pub record Begins (ws txt : List ℕ) (p : Str) (x : ℕ) (roots heads beginnings labels : List ℕ)
+    (r : Start) : Type 0 where
+  pub starts : Starts ws txt x p (state roots heads beginnings labels (r .child) (r .next) (r .n) (r .root) 0)
   pub one : r .n ≡ 1 → (w : Which) (ℓ : Level) → At ws txt w (list ℓ) x
       → OneTree ws txt w ℓ x p (getD roots 0 0) (getD labels 0 0)
 
 -- The cells, with some labels, still give some entries.
-pub record Stands (ws txt : List ℕ) (p : Str) (roots heads child next : List ℕ) (t : Cursor) : Type 0 where
+pub record Stands (ws txt : List ℕ) (p : Str) (roots heads beginnings child next : List ℕ) (t : Cursor) : Type 0 where
   pub labels : List ℕ
-  pub any : AnyRest ws txt p (state roots heads labels child next (t .n) (t .root) (t .last))
+  pub any : AnyRest ws txt p (state roots heads beginnings labels child next (t .n) (t .root) (t .last))
 
 -- The next entry is given, whatever the labels.
-pub record Steps (ws txt : List ℕ) (p : Str) (roots heads child next : List ℕ) (t : Cursor)
-    (roots′ heads′ child′ next′ : List ℕ) (r : Taken) : Type 0 where
+pub record Steps (ws txt : List ℕ) (p : Str) (roots heads beginnings child next : List ℕ) (t : Cursor)
+    (roots′ heads′ beginnings′ child′ next′ : List ℕ) (r : Taken) : Type 0 where
   pub small : (r .branch ≡ 0 → ⊥) → r .cell < heaviest-list
-  pub gives : (labels : List ℕ) → Gives ws txt p (state roots heads labels child next (t .n) (t .root) (t .last))
+  pub gives : (labels : List ℕ)
+      → Gives ws txt p (state roots heads beginnings labels child next (t .n) (t .root) (t .last))
       (record {
         branch = r .branch;
         label = getD labels (r .cell) 0;
-        m = state roots′ heads′ labels child′ next′ (t .n) (r .root) (r .branch);
+        m = state roots′ heads′ beginnings′ labels child′ next′ (t .n) (r .root) (r .branch);
       })

@@ -16,10 +16,8 @@ ghost use Rattle.merge_collect.specs.Lists.{Full};
 ghost use Rattle.merge.specs.Single.{Single};
 ghost use Rattle.merge.specs.Stream.{CellsReady, Takes, Begins, Stands, Steps};
 
-// The most trees of a list, whose weight is at most 96, and the size of their heads.
+// The most trees of a list, whose weight is at most 96.
 pub const CELLS: usize = merge_heads::CELLS;
-
-pub const HEADS: usize = merge_heads::HEADS;
 
 // The heap at the start of a merge: its cells, each with a tree, its current branch and its label in lent arrays, how many they are, and its root.
 pub struct Start {
@@ -29,7 +27,7 @@ pub struct Start {
     pub root: usize,
 }
 
-// How many cells a merge has, the root of their heap, and the last branch given, 0 for none.
+// How many cells a merge has, which is for the contracts alone, the root of their heap, and the last branch given, 0 for none.
 pub struct Cursor {
     pub n: usize,
     pub root: usize,
@@ -79,26 +77,26 @@ fn take(
     text: &[u8],
     prefix: &[u8],
     roots: &mut [u32; CELLS],
-    heads: &mut [u64; HEADS],
+    heads: &mut [u32; CELLS],
+    beginnings: &mut [u64; CELLS],
     child: &mut [u8; CELLS],
     next: &mut [u8; CELLS],
     turn: Cursor,
 ) -> Taken
     requires { ⌜ CellsReady (now words) (now text) (now prefix) (turn .n) (turn .root) (now roots) (now heads)
-        (now child) (now next) ⌝ }
+        (now beginnings) (now child) (now next) ⌝ }
     ensures { λ r. ⌜ Takes (old words) (old text) (old prefix) (turn .n) (turn .root) (old roots) (old heads)
-        (old child) (old next) (new roots)
-        (new heads) (new child) (new next) r ⌝ }
+        (old beginnings) (old child) (old next)
+        (new roots) (new heads) (new beginnings) (new child) (new next) r ⌝ }
 {
-    let n = turn.n;
-    match merge_heap::heap_pop(child, next, words, text, heads, n, turn.root) {
+    match merge_heap::heap_pop(child, next, words, text, heads, beginnings, turn.root) {
         Popped::Nothing => Taken {
             cell: CELLS,
             branch: 0,
             root: CELLS,
         },
         Popped::Least(cell, rest) => {
-            let branch = heads[cell] as u32;
+            let branch = heads[cell];
             let own = roots[cell];
             let after = match_next::tree_next(words, text, own, prefix, branch);
             if after == 0 {
@@ -109,8 +107,17 @@ fn take(
                     root: rest,
                 };
             }
-            merge_heads::set_head(words, text, heads, cell, after);
-            let top = merge_heap::heap_insert(child, next, words, text, heads, n, rest, cell);
+            merge_heads::set_head(words, text, heads, beginnings, cell, after);
+            let top = merge_heap::heap_insert(
+                child,
+                next,
+                words,
+                text,
+                heads,
+                beginnings,
+                rest,
+                cell,
+            );
             Taken {
                 cell: cell,
                 branch: branch,
@@ -127,19 +134,22 @@ pub fn merge_start(
     prefix: &[u8],
     list: u32,
     roots: &mut [u32; CELLS],
-    heads: &mut [u64; HEADS],
+    heads: &mut [u32; CELLS],
+    beginnings: &mut [u64; CELLS],
     labels: &mut [u32; CELLS],
 ) -> Start
     requires { ⌜ AnyList (now words) (now text) list ⌝ }
-    requires { ⌜ Full (now roots) (now heads) (now labels) ⌝ }
-    ensures { λ r. ⌜ Begins (old words) (old text) (old prefix) list (new roots) (new heads) (new labels) r ⌝ }
+    requires { ⌜ Full (now roots) (now heads) (now beginnings) (now labels) ⌝ }
+    ensures { λ r. ⌜ Begins (old words) (old text) (old prefix) list (new roots) (new heads) (new beginnings)
+        (new labels) r ⌝ }
 {
     let whole = LabelledList {
         list: list,
         label: 0,
+        at: 0,
     };
-    let n = merge_collect::collect(words, text, prefix, whole, roots, heads, labels, 0);
-    let cells = merge_heap::heap_from_list(words, text, heads, n);
+    let n = merge_collect::collect(words, text, prefix, whole, roots, heads, beginnings, labels);
+    let cells = merge_heap::heap_from_list(words, text, heads, beginnings, n);
     let child = cells.child;
     let next = cells.next;
     Start {
@@ -156,15 +166,17 @@ pub fn merge_next(
     text: &[u8],
     prefix: &[u8],
     roots: &mut [u32; CELLS],
-    heads: &mut [u64; HEADS],
+    heads: &mut [u32; CELLS],
+    beginnings: &mut [u64; CELLS],
     child: &mut [u8; CELLS],
     next: &mut [u8; CELLS],
     turn: Cursor,
 ) -> Taken
-    requires { ⌜ Stands (now words) (now text) (now prefix) (now roots) (now heads) (now child) (now next) turn ⌝ }
-    ensures { λ r. ⌜ Steps (old words) (old text) (old prefix) (old roots) (old heads) (old child) (old next) turn
-        (new roots) (new heads) (new child)
-        (new next) r ⌝ }
+    requires { ⌜ Stands (now words) (now text) (now prefix) (now roots) (now heads) (now beginnings) (now child)
+        (now next) turn ⌝ }
+    ensures { λ r. ⌜ Steps (old words) (old text) (old prefix) (old roots) (old heads) (old beginnings) (old child)
+        (old next) turn
+        (new roots) (new heads) (new beginnings) (new child) (new next) r ⌝ }
 {
     let n = turn.n;
     let last = turn.last;
@@ -175,7 +187,17 @@ pub fn merge_next(
             root: root,
             last: last,
         };
-        let t = take(words, text, prefix, roots, heads, child, next, here);
+        let t = take(
+            words,
+            text,
+            prefix,
+            roots,
+            heads,
+            beginnings,
+            child,
+            next,
+            here,
+        );
         let branch = t.branch;
         if t.cell == CELLS {
             return Taken {

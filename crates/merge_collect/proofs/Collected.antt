@@ -26,8 +26,8 @@ use Rattle.memory.specs.Stored.{weight-in}
 use Rattle.memory.specs.Read.{TextIn}
 use Rattle.memory.proofs.What.{what-none}
 use Rattle.memory.proofs.Seen.{link-later}
-use Rattle.merge_heads.specs.Compare.{with-head}
-use Rattle.merge_heads.proofs.Heads.{head-length, own-head, other-head, other-beginning, head-begun}
+use Rattle.merge_heads.specs.Compare.{with-beginning}
+use Rattle.merge_heads.proofs.Heads.{head-begun}
 use Rattle.find_tree.specs.Tree.{AnyTree}
 use Rattle.find_tree.specs.Links.{matches, head0, row-at}
 use Rattle.find_tree.proofs.Branches.{text-in}
@@ -154,10 +154,11 @@ module _ {ws txt : List ℕ} {x own rest sort : ℕ} (s : Seen ws txt x own rest
 
 -- ---- Cells that have parts
 module _ {ws txt : List ℕ} {w : Which} {ℓ : Level} {l : ℕ} {p : Str}
-    {roots heads labels roots′ heads′ labels′ : List ℕ} where
+    {roots heads beginnings labels roots′ heads′ beginnings′ labels′ : List ℕ} where
   has-kept : (i r : ℕ) (cs : List (TreePart ws txt)) → r ≡ i + length cs
-      → ((j : ℕ) → j < r → SameCell roots heads labels roots′ heads′ labels′ j)
-      → HasParts ws txt w ℓ l p roots heads labels i cs → HasParts ws txt w ℓ l p roots′ heads′ labels′ i cs
+      → ((j : ℕ) → j < r → SameCell roots heads beginnings labels roots′ heads′ beginnings′ labels′ j)
+      → HasParts ws txt w ℓ l p roots heads beginnings labels i cs
+      → HasParts ws txt w ℓ l p roots′ heads′ beginnings′ labels′ i cs
   has-kept i r [] e k no-more = no-more
   has-kept i r (c ∷ cs) e k (more b a) =
       let s = k i (omega arith) in
@@ -173,26 +174,30 @@ module _ {ws txt : List ℕ} {w : Which} {ℓ : Level} {l : ℕ} {p : Str}
       })
       (has-kept (suc i) r cs (omega arith) k a)
 
-has-append : {ws txt : List ℕ} {w : Which} {ℓ : Level} {l : ℕ} {p : Str} {roots heads labels : List ℕ} (i j : ℕ)
+has-append : {ws txt : List ℕ} {w : Which} {ℓ : Level} {l : ℕ} {p : Str} {roots heads beginnings labels : List ℕ}
+    (i j : ℕ)
     (cs ds : List (TreePart ws txt)) → j ≡ i + length cs
-    → HasParts ws txt w ℓ l p roots heads labels i cs → HasParts ws txt w ℓ l p roots heads labels j ds
-    → HasParts ws txt w ℓ l p roots heads labels i (cs ++ ds)
+    → HasParts ws txt w ℓ l p roots heads beginnings labels i cs
+    → HasParts ws txt w ℓ l p roots heads beginnings labels j ds
+    → HasParts ws txt w ℓ l p roots heads beginnings labels i (cs ++ ds)
 has-append i j [] ds e no-more b = let f : j ≡ i = omega arith in rw f at b
 has-append i j (c ∷ cs) ds e (more h a) b = more h (has-append (suc i) j cs ds (omega arith) a b)
 
-pub full-set : (ws txt : List ℕ) {roots heads labels : List ℕ} (i a b c : ℕ) → Full roots heads labels
-    → Full (set roots i a) (with-head ws txt heads i b) (set labels i c)
-full-set ws txt {roots} {heads} {labels} i a b c f =
+pub full-set : (ws txt : List ℕ) {roots heads beginnings labels : List ℕ} (i a b c : ℕ)
+    → Full roots heads beginnings labels
+    → Full (set roots i a) (set heads i b) (with-beginning ws txt beginnings i b) (set labels i c)
+full-set ws txt {roots} {heads} {beginnings} {labels} i a b c f =
     record {
       of-roots = length-set roots i a ∙ f .of-roots;
-      of-heads = head-length ws txt heads i b ∙ f .of-heads;
+      of-heads = length-set heads i b ∙ f .of-heads;
+      of-beginnings = length-set beginnings i _ ∙ f .of-beginnings;
       of-labels = length-set labels i c ∙ f .of-labels;
     }
 
 -- ---- One collection
-pub collected-none : {ws txt : List ℕ} {p : Str} {x label i : ℕ} {roots heads labels : List ℕ} → x ≡ 0
-    → Full roots heads labels
-    → Collected ws txt p x label i i roots heads labels roots heads labels
+pub collected-none : {ws txt : List ℕ} {p : Str} {x label i : ℕ} {roots heads beginnings labels : List ℕ} → x ≡ 0
+    → Full roots heads beginnings labels
+    → Collected ws txt p x label i i roots heads beginnings labels roots heads beginnings labels
 unfolding flat-in nonempty
 collected-none {ws} {txt} e f = record {
   from = omega arith;
@@ -226,16 +231,18 @@ module _ {ws txt : List ℕ} {w : Which} {ℓ : Level} {x own rest sort : ℕ} (
     unfolding flat-in nonempty with-imports
     lists-cell e = rw (names-reads t (s .some) (of-tree s t n), ← s .own-is, ← s .rest-is, term-rows (own-at s t n) asks, e)
 
-module _ {ws txt : List ℕ} {p : Str} {x own rest sort label i r : ℕ} {roots heads labels roots′ heads′ labels′ : List ℕ}
+module _ {ws txt : List ℕ} {p : Str} {x own rest sort label i r : ℕ}
+    {roots heads beginnings labels roots′ heads′ beginnings′ labels′ : List ℕ}
     (s : Seen ws txt x own rest sort) where
   -- An imported list, and then the rest.
-  module _ {mid inner : ℕ} {roots₁ heads₁ labels₁ : List ℕ} (e : sort ≡ 1) where
+  module _ {mid inner : ℕ} {roots₁ heads₁ beginnings₁ labels₁ : List ℕ} (e : sort ≡ 1) where
     imported-in : {w : Which} {ℓ : Level} {l : ℕ} {imports : List Str} → At ws txt w (list ℓ) x
-        → ((j : ℕ) → j < mid → SameCell roots₁ heads₁ labels₁ roots′ heads′ labels′ j)
-        → CollectedIn ws txt p own inner i mid roots heads labels roots₁ heads₁ labels₁ w ℓ l
+        → ((j : ℕ) → j < mid → SameCell roots₁ heads₁ beginnings₁ labels₁ roots′ heads′ beginnings′ labels′ j)
+        → CollectedIn ws txt p own inner i mid roots heads beginnings labels roots₁ heads₁ beginnings₁ labels₁ w ℓ l
         (span txt (text-start (record-at ws x)) (text-len (record-at ws x)) ∷ imports)
-        → CollectedIn ws txt p rest label mid r roots₁ heads₁ labels₁ roots′ heads′ labels′ w ℓ l imports
-        → CollectedIn ws txt p x label i r roots heads labels roots′ heads′ labels′ w ℓ l imports
+        → CollectedIn ws txt p rest label mid r roots₁ heads₁ beginnings₁ labels₁ roots′ heads′ beginnings′ labels′ w ℓ
+        l imports
+        → CollectedIn ws txt p x label i r roots heads beginnings labels roots′ heads′ beginnings′ labels′ w ℓ l imports
     imported-in {w} {ℓ} {l} {imports} t kept a b = record {
       parts = a .parts ++ b .parts;
       count = omega (arith, a .count, b .count, length-append (a .parts) (b .parts));
@@ -246,9 +253,9 @@ module _ {ws txt : List ℕ} {p : Str} {x own rest sort label i r : ℕ} {roots 
     }
 
     pub collected-imported : inner ≡ outermost label x
-        → Collected ws txt p own inner i mid roots heads labels roots₁ heads₁ labels₁
-        → Collected ws txt p rest label mid r roots₁ heads₁ labels₁ roots′ heads′ labels′
-        → Collected ws txt p x label i r roots heads labels roots′ heads′ labels′
+        → Collected ws txt p own inner i mid roots heads beginnings labels roots₁ heads₁ beginnings₁ labels₁
+        → Collected ws txt p rest label mid r roots₁ heads₁ beginnings₁ labels₁ roots′ heads′ beginnings′ labels′
+        → Collected ws txt p x label i r roots heads beginnings labels roots′ heads′ beginnings′ labels′
     collected-imported f a b = record {
       from = omega (arith, a .from, b .from);
       full = b .full;
@@ -266,8 +273,9 @@ module _ {ws txt : List ℕ} {p : Str} {x own rest sort label i r : ℕ} {roots 
 
   module _ (n : sort ≡ 1 → ⊥) {first : ℕ} (e : first ≡ head0 (matches ws txt own p)) where
     -- A tree without a match.
-    pub collected-skip : first ≡ 0 → Collected ws txt p rest label i r roots heads labels roots′ heads′ labels′
-        → Collected ws txt p x label i r roots heads labels roots′ heads′ labels′
+    pub collected-skip : first ≡ 0
+        → Collected ws txt p rest label i r roots heads beginnings labels roots′ heads′ beginnings′ labels′
+        → Collected ws txt p x label i r roots heads beginnings labels roots′ heads′ beginnings′ labels′
     collected-skip z b = record {
       from = b .from;
       full = b .full;
@@ -276,8 +284,10 @@ module _ {ws txt : List ℕ} {p : Str} {x own rest sort label i r : ℕ} {roots 
     }
       where
         skip-in : {w : Which} {ℓ : Level} {l : ℕ} {imports : List Str} → At ws txt w (list ℓ) x
-            → CollectedIn ws txt p rest label i r roots heads labels roots′ heads′ labels′ w ℓ l imports
-            → CollectedIn ws txt p x label i r roots heads labels roots′ heads′ labels′ w ℓ l imports
+            → CollectedIn ws txt p rest label i r roots heads beginnings labels roots′ heads′ beginnings′ labels′ w ℓ l
+            imports
+            → CollectedIn ws txt p x label i r roots heads beginnings labels roots′ heads′ beginnings′ labels′ w ℓ l
+            imports
         skip-in {imports = imports} t b = record {
           parts = b .parts;
           count = b .count;
@@ -287,13 +297,16 @@ module _ {ws txt : List ℕ} {p : Str} {x own rest sort label i r : ℕ} {roots 
         }
 
     -- A tree with one.
-    module _ (z : first ≡ 0 → ⊥) (f : Full roots heads labels) (small : i < 96) where
+    module _ (z : first ≡ 0 → ⊥) (f : Full roots heads beginnings labels) (small : i < 96) where
       cell-in : {w : Which} {ℓ : Level} {l : ℕ} {imports : List Str} → At ws txt w (list ℓ) x → x ≤ l
           → LabelOk ws w ℓ l label → label-at ws txt label ≡ last-opt imports
-          → SameCell (set roots i own) (with-head ws txt heads i first) (set labels i label) roots′ heads′ labels′ i
-          → CollectedIn ws txt p rest label (i + 1) r (set roots i own) (with-head ws txt heads i first)
-          (set labels i label) roots′ heads′ labels′ w ℓ l imports
-          → CollectedIn ws txt p x label i r roots heads labels roots′ heads′ labels′ w ℓ l imports
+          → SameCell (set roots i own) (set heads i first) (with-beginning ws txt beginnings i first)
+          (set labels i label) roots′ heads′ beginnings′ labels′ i
+          → CollectedIn ws txt p rest label (i + 1) r (set roots i own) (set heads i first)
+          (with-beginning ws txt beginnings i first)
+          (set labels i label) roots′ heads′ beginnings′ labels′ w ℓ l imports
+          → CollectedIn ws txt p x label i r roots heads beginnings labels roots′ heads′ beginnings′ labels′ w ℓ l
+          imports
       unfolding elements
       cell-in {w} {ℓ} {l} {imports} t h o labelled y b =
           let m = head-tail (matches ws txt own p) first e z in
@@ -305,9 +318,11 @@ module _ {ws txt : List ℕ} {p : Str} {x own rest sort label i r : ℕ} {roots 
                   root-is = y .root ∙ getD-set-same roots i own 0 (omega (arith, f .of-roots));
                   label-is = y .label ∙ getD-set-same labels i label 0 (omega (arith, f .of-labels));
                   others = m .0;
-                  first-is = m .1 ∙ rw (y .head, own-head ws txt heads i first small (f .of-heads));
+                  first-is = m .1 ∙ rw (y .head, getD-set-same heads i first 0 (omega (arith, f .of-heads)));
                   begun = rw (y .beginning, y .head)
-                      (head-begun ws txt heads i first small (f .of-heads) i small (λ n. absurd (n refl)));
+                      (head-begun ws txt heads beginnings i first (omega (arith, f .of-heads))
+                      (omega (arith, f .of-beginnings)) i
+                      (λ n. absurd (n refl)));
                   root-link =
                       rw (s .own-is) (link-later (omega arith) (collection-right t (s .some) .own (of-tree s t n)));
                   label-ok = o;
@@ -319,9 +334,10 @@ module _ {ws txt : List ℕ} {p : Str} {x own rest sort label i r : ℕ} {roots 
                 (imports, map (row-at w ws txt ℓ q) (matches ws txt own p)) ∷ ls) (b .lists term q asks);
           }
 
-      pub collected-cell : Collected ws txt p rest label (i + 1) r (set roots i own) (with-head ws txt heads i first)
-          (set labels i label) roots′ heads′ labels′
-          → Collected ws txt p x label i r roots heads labels roots′ heads′ labels′
+      pub collected-cell : Collected ws txt p rest label (i + 1) r (set roots i own) (set heads i first)
+          (with-beginning ws txt beginnings i first)
+          (set labels i label) roots′ heads′ beginnings′ labels′
+          → Collected ws txt p x label i r roots heads beginnings labels roots′ heads′ beginnings′ labels′
       collected-cell b = record {
         from = omega (arith, b .from);
         full = b .full;
@@ -329,8 +345,8 @@ module _ {ws txt : List ℕ} {p : Str} {x own rest sort label i r : ℕ} {roots 
             let y = b .kept j (omega arith) in
             record {
               root = y .root ∙ getD-set-other roots i j own 0 (λ q. omega arith);
-              head = y .head ∙ other-head ws txt heads i first small j (omega arith) (λ q. omega arith);
-              beginning = y .beginning ∙ other-beginning ws txt heads i first small j (λ q. omega arith);
+              head = y .head ∙ getD-set-other heads i j first 0 (λ q. omega arith);
+              beginning = y .beginning ∙ getD-set-other beginnings i j _ 0 (λ q. omega arith);
               label = y .label ∙ getD-set-other labels i j label 0 (λ q. omega arith);
             };
         says = λ w v l imports t h o q.

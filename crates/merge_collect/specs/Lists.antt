@@ -1,5 +1,5 @@
 -- The trees of a list of collections that have a match, in flattened order, one to a cell.
-use Prim.Native.Nat.{ℕ, suc, _+_, _*_, _<_, _≤_}
+use Prim.Native.Nat.{ℕ, suc, _+_, _<_, _≤_}
 use mathlib.Core.Path.{_≡_}
 use mathlib.Core.List.{List, [], _∷_, map}
 use mathlib.Core.Option.{Option}
@@ -31,27 +31,28 @@ unfoldable pub elements : (w : Which) (ws txt : List ℕ) (ℓ : Level) → Opti
     → List (PathElem × Value (Item w) ℓ)
 elements w ws txt ℓ q p c = with-imports (c .imports, map (row-at w ws txt ℓ q) (matches ws txt (c .root) p))
 
--- There are 96 of each, with a beginning for each head.
-pub record Full (roots heads labels : List ℕ) : Type 0 where
+-- There are 96 of each.
+pub record Full (roots heads beginnings labels : List ℕ) : Type 0 where
   pub of-roots : length roots ≡ heaviest-list
-  pub of-heads : length heads ≡ 2 * heaviest-list
+  pub of-heads : length heads ≡ heaviest-list
+  pub of-beginnings : length beginnings ≡ heaviest-list
   pub of-labels : length labels ≡ heaviest-list
 
 -- The cell i is as it was.
-pub record SameCell (roots heads labels roots′ heads′ labels′ : List ℕ) (i : ℕ) : Type 0 where
+pub record SameCell (roots heads beginnings labels roots′ heads′ beginnings′ labels′ : List ℕ) (i : ℕ) : Type 0 where
   pub root : getD roots′ i 0 ≡ getD roots i 0
   pub head : getD heads′ i 0 ≡ getD heads i 0
-  pub beginning : getD heads′ (heaviest-list + i) 0 ≡ getD heads (heaviest-list + i) 0
+  pub beginning : getD beginnings′ i 0 ≡ getD beginnings i 0
   pub label : getD labels′ i 0 ≡ getD labels i 0
 
-module _ (ws txt : List ℕ) (w : Which) (ℓ : Level) (l : ℕ) (p : Str) (roots heads labels : List ℕ) where
+module _ (ws txt : List ℕ) (w : Which) (ℓ : Level) (l : ℕ) (p : Str) (roots heads beginnings labels : List ℕ) where
   -- The cell i has the tree of c, its first match with the beginning of its key, and its label. Their links are no later than l.
   pub record HasPart (i : ℕ) (c : TreePart ws txt) : Type 0 where
     pub root-is : getD roots i 0 ≡ c .root
     pub label-is : getD labels i 0 ≡ c .label
     pub others : List ℕ
     pub first-is : matches ws txt (c .root) p ≡ getD heads i 0 ∷ others
-    pub begun : Begun ws txt heads i
+    pub begun : Begun ws txt heads beginnings i
     pub root-link : LinkOk ws (l + 1) (c .root) (kind w (tree ℓ))
     pub label-ok : LabelOk ws w ℓ l (c .label)
 
@@ -67,20 +68,21 @@ abbrev pub match-lists-in : (w : Which) (ws txt : List ℕ) (ℓ : Level) → Se
 match-lists-in w ws txt ℓ term imports x =
     nonempty (map (λ t. with-imports (t .0, tree-matches term (t .1))) (flat-in imports (what w ws txt x (list ℓ))))
 
-module _ (ws txt : List ℕ) (p : Str) (x label i r : ℕ) (roots heads labels roots′ heads′ labels′ : List ℕ) where
+module _ (ws txt : List ℕ) (p : Str) (x label i r : ℕ)
+    (roots heads beginnings labels roots′ heads′ beginnings′ labels′ : List ℕ) where
   -- The cells from i to r have the trees of the list x that have a match; those before i are as they were.
   pub record CollectedIn (w : Which) (ℓ : Level) (l : ℕ) (imports : List Str) : Type 0 where
     pub parts : List (TreePart ws txt)
     pub count : r ≡ i + length parts
-    pub has : HasParts ws txt w ℓ l p roots′ heads′ labels′ i parts
+    pub has : HasParts ws txt w ℓ l p roots′ heads′ beginnings′ labels′ i parts
     pub lists : (term : SearchTerm) (q : Option Str) → Asks term p q
         → match-lists-in w ws txt ℓ term imports x ≡ map (elements w ws txt ℓ q p) parts
 
   -- The same for any table, level, imports with that label, and later link.
   pub record Collected : Type 0 where
     pub from : i ≤ r
-    pub full : Full roots′ heads′ labels′
-    pub kept : (j : ℕ) → j < i → SameCell roots heads labels roots′ heads′ labels′ j
+    pub full : Full roots′ heads′ beginnings′ labels′
+    pub kept : (j : ℕ) → j < i → SameCell roots heads beginnings labels roots′ heads′ beginnings′ labels′ j
     pub says : (w : Which) (ℓ : Level) (l : ℕ) (imports : List Str) → At ws txt w (list ℓ) x → x ≤ l
         → LabelOk ws w ℓ l label
         → label-at ws txt label ≡ last-opt imports → CollectedIn w ℓ l imports

@@ -22,7 +22,7 @@ use Rattle.text.specs.Text.{ordering}
 use Rattle.text.specs.declared.Order.{Order}
 use Rattle.text.proofs.Beginnings.{Bytes, Before, beginning-says}
 use Rattle.memory.specs.Layout.{record-at, text-start, text-len, span, key-at}
-use Rattle.merge_heads.specs.Compare.{Heads, cell-cmp, sign, Stands}
+use Rattle.merge_heads.specs.Compare.{Head, cell-cmp, sign, Stands}
 
 -- ---- Signed differences of small numbers
 small : (n : ℕ) → n < 96 → toZ w32 n ≡ pos n
@@ -85,15 +85,15 @@ key-bytes ws txt x b =
     take-bytes (text-len (record-at ws x)) (drop at txt) (λ j. rw (getD-drop at txt j 0) (b (at + j)))
 
 -- The cell with the smaller beginning comes first.
-pub by-beginning : {ws txt heads : List ℕ} {n a b : ℕ} → Bytes txt → Heads ws txt heads n → a < n → b < n
-    → getD heads (96 + a) 0 < getD heads (96 + b) 0
+pub by-beginning : {ws txt heads beginnings : List ℕ} {a b : ℕ} → Bytes txt → Head ws txt heads beginnings a
+    → Head ws txt heads beginnings b → getD beginnings a 0 < getD beginnings b 0
     → (Ordering·lt ≡ cell-cmp ws txt heads a b) × (Ordering·gt ≡ cell-cmp ws txt heads b a)
 unfolding cell-cmp then
-by-beginning {ws} {txt} {heads} {n} {a} {b} f o h k l =
+by-beginning {ws} {txt} {heads} {beginnings} {a} {b} f h k l =
     let x = key-at ws txt (getD heads a 0) in
     let y = key-at ws txt (getD heads b 0) in
     let r : Before x y =
-    beginning-says x y (key-bytes ws txt (getD heads a 0) f) (key-bytes ws txt (getD heads b 0) f) (omega (arith, o .begun a h, o .begun b k)) in
+    beginning-says x y (key-bytes ws txt (getD heads a 0) f) (key-bytes ws txt (getD heads b 0) f) (omega (arith, h .begun, k .begun)) in
     (rw (r .is-less), rw (r .is-more))
 
 module _ (ws txt heads : List ℕ) (a b : ℕ) {o : Order}

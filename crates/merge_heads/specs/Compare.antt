@@ -1,30 +1,34 @@
 -- How two cells compare: by the keys of their heads, then by their priorities.
-use Prim.Native.Nat.{ℕ, zero, suc, _+_, _≤_, _<_, compare, Ordering, Ordering·lt, Ordering·eq, Ordering·gt}
+use Prim.Native.Nat.{ℕ, zero, suc, _≤_, _<_, compare, Ordering, Ordering·lt, Ordering·eq, Ordering·gt}
 use mathlib.Core.Path.{_≡_}
 use mathlib.Core.List.{List}
 use lib.IntN.{ℤ, pos, negsuc}
 use lib.ListN.{getD, set}
-use Rattle.source.specs.Limits.{heaviest-list, most-used}
+use Rattle.source.specs.Limits.{heaviest-list}
 use Rattle.source.specs.Text.{Str, then, string-compare}
 use Rattle.source.specs.Lists.{Run, first, priority}
 use Rattle.text.specs.Text.{beginning}
 use Rattle.memory.specs.Read.{TextIn}
 use Rattle.memory.specs.Layout.{key-at}
 
--- 96 places after the head of cell j stands the beginning of its key.
-abbrev pub Begun : (ws txt heads : List ℕ) (j : ℕ) → Type 0
-Begun ws txt heads j = getD heads (heaviest-list + j) 0 ≡ beginning (key-at ws txt (getD heads j 0))
+-- The beginning kept for the cell j is that of its head's key.
+abbrev pub Begun : (ws txt heads beginnings : List ℕ) (j : ℕ) → Type 0
+Begun ws txt heads beginnings j = getD beginnings j 0 ≡ beginning (key-at ws txt (getD heads j 0))
 
--- The heads, once the cell c has the branch x.
-unfoldable pub with-head : (ws txt heads : List ℕ) (c x : ℕ) → List ℕ
-with-head ws txt heads c x = set (set heads c x) (heaviest-list + c) (beginning (key-at ws txt x))
+-- The beginnings, once the cell c has the branch x.
+abbrev pub with-beginning : (ws txt beginnings : List ℕ) (c x : ℕ) → List ℕ
+with-beginning ws txt beginnings c x = set beginnings c (beginning (key-at ws txt x))
 
--- At most 96 cells. Each one's head is a link of a record with its key in the text, whose beginning stands beside.
-pub record Heads (ws txt heads : List ℕ) (n : ℕ) : Type 0 where
+-- One of 96 cells. Its head is a link of a record with its key in the text, whose beginning stands beside.
+pub record Head (ws txt heads beginnings : List ℕ) (j : ℕ) : Type 0 where
+  pub small : j < heaviest-list
+  pub text-in : TextIn ws txt (getD heads j 0)
+  pub begun : Begun ws txt heads beginnings j
+
+-- The cells below n, at most 96, have a head each.
+pub record Heads (ws txt heads beginnings : List ℕ) (n : ℕ) : Type 0 where
   pub few : n ≤ heaviest-list
-  pub each : (j : ℕ) → j < n → TextIn ws txt (getD heads j 0)
-  pub small : (j : ℕ) → j < n → getD heads j 0 ≤ most-used
-  pub begun : (j : ℕ) → j < n → Begun ws txt heads j
+  pub each : (j : ℕ) → j < n → Head ws txt heads beginnings j
 
 -- The source's run-cmp on cells: a cell's place is its priority.
 unfoldable pub cell-cmp : List ℕ → List ℕ → List ℕ → ℕ → ℕ → Ordering

@@ -9,7 +9,7 @@ use borrow.Author.Tests.{eq-eqb, ne-eqb}
 use Rattle.source.specs.Heap.{Heap, Forest, EmptyHeap, HeapOf, []ᶠ, _∷ᶠ_}
 use Rattle.source.specs.Forward.{sumᶠ}
 use Rattle.source.proofs.Heap.{All, Allᶠ, sum-counted}
-use Rattle.merge_heap.specs.Cells.{Root, Holds, Holdsᶠ, is, count, Sized, Rep, Repᶠ, Apart, Same, Makes}
+use Rattle.merge_heap.specs.Cells.{Holds, Holdsᶠ, is, count, Sized, Rep, Repᶠ, Apart, Same, Makes}
 
 pub is-self : (v : ℕ) → is v v ≡ 1
 unfolding is
@@ -31,12 +31,12 @@ pub same-trans : {child next child₁ next₁ child₂ next₂ : List ℕ} {j : 
 same-trans p q = record { first-child = q .first-child ∙ p .first-child; next-sibling = q .next-sibling ∙ p .next-sibling }
 
 module _ (n : ℕ) (child next : List ℕ) (few : n ≤ 96) where
-  pub root-in : {i : ℕ} {h : Heap ℕ} → Rep n child next i h → Root n i
-  root-in {i} {h} p = go h (p .holds)
+  pub root-in : {i : ℕ} {h : Heap ℕ} → Rep n child next i h → (i ≡ 96 → ⊥) → i < n
+  root-in {i} {h} p ne = go h (p .holds)
     where
-      go : (h : Heap ℕ) → Holds n child next i h → Root n i
-      go EmptyHeap s ne = absurd (ne s)
-      go (HeapOf v hh) s ne = omega arith
+      go : (h : Heap ℕ) → Holds n child next i h → i < n
+      go EmptyHeap s = absurd (ne s)
+      go (HeapOf v hh) s = omega arith
 
   pub root-small : (i : ℕ) (hh : Forest ℕ) → Holdsᶠ n child next i hh → i ≤ 96
   root-small i []ᶠ s = omega arith

@@ -10,7 +10,7 @@ use lib.Seq.{getD-set-same, getD-set-other}
 use Rattle.source.specs.Heap.{Heap, Forest, EmptyHeap, HeapOf, []ᶠ, _∷ᶠ_, is-lt, heap-merge, heap-insert}
 use Rattle.source.proofs.Heap.{sum-merge}
 use Rattle.merge_heap.specs.Cells.{Holdsᶠ, is, count, Sized, Rep, Apart, Same, Makes, Merges, Inserts}
-use Rattle.merge_heap.proofs.CellCounts.{is-self, is-other, is-none, not-both, same-trans, by-root, holds-keptᶠ, rep-kept, makes-unchanged}
+use Rattle.merge_heap.proofs.CellCounts.{is-self, is-other, is-none, not-both, same-trans, root-in, by-root, holds-keptᶠ, rep-kept, makes-unchanged}
 
 module _ (n : ℕ) (child next : List ℕ) (few : n ≤ 96) where
   -- What link does to the cells v and w.
@@ -55,27 +55,29 @@ module _ (n : ℕ) (child next : List ℕ) (few : n ≤ 96) where
             (λ j l. others j (is-none j v (omega (arith, a j))) (is-none j w (omega (arith, a j)))) (q .holds .2)
 
   module _ (cmp : ℕ → ℕ → Ordering) (a b : ℕ) (child′ next′ : List ℕ) (r : ℕ) where
-    by-roots : a < n → b < n
+    by-roots : (a ≡ 96 → ⊥) → (b ≡ 96 → ⊥)
         → ((hh gg : Forest ℕ) → Rep n child next a (HeapOf a hh) → Rep n child next b (HeapOf b gg)
         → Apart (HeapOf a hh) (HeapOf b gg)
         → Makes n child next child′ next′ r (heap-merge cmp (HeapOf a hh) (HeapOf b gg)))
         → Merges cmp n child next child′ next′ r a b
-    by-roots la lb f h g p q =
+    by-roots na nb f h g p q =
+        let la = root-in n child next few p na in
+        let lb = root-in n child next few q nb in
         by-root n child next few (λ (h : Heap ℕ). Apart h g → Makes n child next child′ next′ r (heap-merge cmp h g)) a la
         (λ hh p. by-root n child next few (λ (g : Heap ℕ). Apart (HeapOf a hh) g → Makes n child next child′ next′ r (heap-merge cmp (HeapOf a hh) g)) b lb
         (λ gg q. f hh gg p q) g q) h p
 
-    pub merge-first : a < n → b < n → is-lt (cmp a b) ≡ true
+    pub merge-first : (a ≡ 96 → ⊥) → (b ≡ 96 → ⊥) → is-lt (cmp a b) ≡ true
         → (r ≡ a) × (child′ ≡ set child a b) × (next′ ≡ set next b (getD child a 0))
         → Merges cmp n child next child′ next′ r a b
     unfolding heap-merge
-    merge-first la lb t e = by-roots la lb λ hh gg p q s. rw (t, e .0, e .1, e .2) (link-makes a b hh gg p q s)
+    merge-first na nb t e = by-roots na nb λ hh gg p q s. rw (t, e .0, e .1, e .2) (link-makes a b hh gg p q s)
 
-    pub merge-second : a < n → b < n → is-lt (cmp a b) ≡ false
+    pub merge-second : (a ≡ 96 → ⊥) → (b ≡ 96 → ⊥) → is-lt (cmp a b) ≡ false
         → (r ≡ b) × (child′ ≡ set child b a) × (next′ ≡ set next a (getD child b 0))
         → Merges cmp n child next child′ next′ r a b
     unfolding heap-merge
-    merge-second la lb t e = by-roots la lb λ hh gg p q s. rw (t, e .0, e .1, e .2) (link-makes b a gg hh q p (λ j. omega (arith, s j)))
+    merge-second na nb t e = by-roots na nb λ hh gg p q s. rw (t, e .0, e .1, e .2) (link-makes b a gg hh q p (λ j. omega (arith, s j)))
 
   -- One of the two is empty.
   pub merge-none : (cmp : ℕ → ℕ → Ordering) (a b : ℕ) → a ≡ 96 → Merges cmp n child next child next b a b

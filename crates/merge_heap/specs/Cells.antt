@@ -9,12 +9,13 @@ use lib.ListN.{length, getD}
 use Rattle.source.specs.Limits.{heaviest-list}
 use Rattle.source.specs.Heap.{Heap, Forest, EmptyHeap, HeapOf, []ᶠ, _∷ᶠ_, heap-merge, heap-insert, heap-merge-pairs, heap-pop}
 use Rattle.source.specs.Forward.{sum, sumᶠ}
+use Rattle.merge_heads.specs.Compare.{Head, Heads}
 use Rattle.merge_heap.specs.declared.Popped.{Popped}
 use Rattle.merge_heap.specs.declared.Popped.the-variants.{Nothing, Least}
 
--- A root: one of n cells, or none.
-abbrev pub Root : ℕ → ℕ → Type 0
-Root n i = (i ≡ heaviest-list → ⊥) → i < n
+-- A root: a cell that has a head, or none.
+abbrev pub Root : (ws txt heads beginnings : List ℕ) → ℕ → Type 0
+Root ws txt heads beginnings i = (i ≡ heaviest-list → ⊥) → Head ws txt heads beginnings i
 
 module _ (n : ℕ) (child next : List ℕ) where
   abbrev mutual
@@ -53,6 +54,20 @@ pub record Repᶠ (n : ℕ) (child next : List ℕ) (i : ℕ) (hh : Forest ℕ) 
   pub holds : Holdsᶠ n child next i hh
   pub once : (j : ℕ) → sumᶠ (is j) hh ≤ 1
 
+-- The heap of root i is some heap of cells below some n, which have heads.
+pub record AnyHeap (ws txt heads beginnings child next : List ℕ) (i : ℕ) : Type 0 where
+  pub n : ℕ
+  pub headed : Heads ws txt heads beginnings n
+  pub heap : Heap ℕ
+  pub rep : Rep n child next i heap
+
+-- The same, of the heaps of root i and of its next siblings.
+pub record AnyForest (ws txt heads beginnings child next : List ℕ) (i : ℕ) : Type 0 where
+  pub n : ℕ
+  pub headed : Heads ws txt heads beginnings n
+  pub forest : Forest ℕ
+  pub rep : Repᶠ n child next i forest
+
 -- No cell is in both.
 abbrev pub Apart : Heap ℕ → Heap ℕ → Type 0
 Apart h g = (j : ℕ) → count j h + count j g ≤ 1
@@ -67,7 +82,7 @@ pub record Makes (n : ℕ) (child next child′ next′ : List ℕ) (r : ℕ) (h
   pub rep : Rep n child′ next′ r h
   pub kept : (j : ℕ) → count j h ≡ 0 → Same child next child′ next′ j
 
--- What the functions give: the cells and the root r that they leave, of every heap that they were given.
+-- What the functions give: the cells and the root r that they leave, of every heap of cells below n that they were given.
 module _ (cmp : ℕ → ℕ → Ordering) (n : ℕ) (child next child′ next′ : List ℕ) (r : ℕ) where
   -- heap_merge, of two heaps with no cell in common.
   abbrev pub Merges : (a b : ℕ) → Type 0

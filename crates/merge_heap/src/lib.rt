@@ -1,15 +1,14 @@
 // The source's pairing heap in at most 96 cells. A cell stands for a list, whose head is a branch's link.
 // `child` and `next` have each cell's first child and next sibling; 96 is no cell, and as a root the empty heap.
 use merge_heads::CELLS;
-use merge_heads::HEADS;
 ghost use mathlib.Core.Path.{_≡_};
-ghost use Prim.Native.Nat.{ℕ, _<_};
+ghost use Prim.Native.Nat.{ℕ, _≤_, _<_};
 ghost use lib.ListN.{getD, set};
 ghost use Rattle.source.specs.Lent.{old, new};
 ghost use Rattle.source.specs.Limits.{heaviest-list};
-ghost use Rattle.source.specs.Heap.{Heap, Forest, heap-from-list};
-ghost use Rattle.merge_heads.specs.Compare.{Heads, cell-cmp};
-ghost use Rattle.merge_heap.specs.Cells.{Root, Rep, Repᶠ, Merges, Inserts, Pairs, Pops, first-cells};
+ghost use Rattle.source.specs.Heap.{heap-from-list};
+ghost use Rattle.merge_heads.specs.Compare.{Head, Heads, cell-cmp};
+ghost use Rattle.merge_heap.specs.Cells.{Root, Rep, AnyHeap, AnyForest, Merges, Inserts, Pairs, Pops, first-cells};
 
 const NO_CELL: u8 = memory::HEAVIEST as u8;
 
@@ -43,15 +42,15 @@ pub fn heap_merge(
     next: &mut [u8; CELLS],
     words: &[u32],
     text: &[u8],
-    heads: &[u64; HEADS],
-    n: usize,
+    heads: &[u32; CELLS],
+    beginnings: &[u64; CELLS],
     a: usize,
     b: usize,
 ) -> usize
-    requires { ⌜ Heads (now words) (now text) (now heads) n ⌝ }
-    requires { ⌜ Root n a × Root n b ⌝ }
-    ensures { λ r. ⌜ Merges (cell-cmp (old words) (old text) (old heads)) n (old child) (old next) (new child)
-        (new next) r a b ⌝ }
+    requires { ⌜ Root (now words) (now text) (now heads) (now beginnings) a ⌝ }
+    requires { ⌜ Root (now words) (now text) (now heads) (now beginnings) b ⌝ }
+    ensures { λ r. ⌜ ((n : ℕ) → n ≤ heaviest-list → Merges (cell-cmp (old words) (old text) (old heads)) n
+        (old child) (old next) (new child) (new next) r a b) ⌝ }
 {
     if a == CELLS {
         return b;
@@ -59,7 +58,7 @@ pub fn heap_merge(
     if b == CELLS {
         return a;
     }
-    if merge_heads::cell_cmp(words, text, heads, n, a, b) < 0 {
+    if merge_heads::cell_cmp(words, text, heads, beginnings, a, b) < 0 {
         link(child, next, a, b)
     } else {
         link(child, next, b, a)
@@ -72,18 +71,18 @@ pub fn heap_insert(
     next: &mut [u8; CELLS],
     words: &[u32],
     text: &[u8],
-    heads: &[u64; HEADS],
-    n: usize,
+    heads: &[u32; CELLS],
+    beginnings: &[u64; CELLS],
     i: usize,
     v: usize,
 ) -> usize
-    requires { ⌜ Heads (now words) (now text) (now heads) n ⌝ }
-    requires { ⌜ Root n i × (v < n) ⌝ }
-    ensures { λ r. ⌜ Inserts (cell-cmp (old words) (old text) (old heads)) n (old child) (old next) (new child)
-        (new next) r i v ⌝ }
+    requires { ⌜ Root (now words) (now text) (now heads) (now beginnings) i ⌝ }
+    requires { ⌜ Head (now words) (now text) (now heads) (now beginnings) v ⌝ }
+    ensures { λ r. ⌜ ((n : ℕ) → n ≤ heaviest-list → v < n → Inserts (cell-cmp (old words) (old text) (old heads)) n
+        (old child) (old next) (new child) (new next) r i v) ⌝ }
 {
     child[v] = NO_CELL;
-    heap_merge(child, next, words, text, heads, n, v, i)
+    heap_merge(child, next, words, text, heads, beginnings, v, i)
 }
 
 // heap_merge_pairs, of the heaps of root `i` and of its next siblings: each two are merged, and what comes of them
@@ -93,14 +92,13 @@ pub fn heap_merge_pairs(
     next: &mut [u8; CELLS],
     words: &[u32],
     text: &[u8],
-    heads: &[u64; HEADS],
-    n: usize,
+    heads: &[u32; CELLS],
+    beginnings: &[u64; CELLS],
     i: usize,
 ) -> usize
-    requires { ⌜ Heads (now words) (now text) (now heads) n ⌝ }
-    requires { ⌜ ((hh : Forest ℕ) × Repᶠ n (now child) (now next) i hh) ⌝ }
-    ensures { λ r. ⌜ Pairs (cell-cmp (old words) (old text) (old heads)) n (old child) (old next) (new child)
-        (new next) r i ⌝ }
+    requires { ⌜ AnyForest (now words) (now text) (now heads) (now beginnings) (now child) (now next) i ⌝ }
+    ensures { λ r. ⌜ ((n : ℕ) → n ≤ heaviest-list → Pairs (cell-cmp (old words) (old text) (old heads)) n
+        (old child) (old next) (new child) (new next) r i) ⌝ }
 {
     let mut stack = CELLS;
     let mut at = i;
@@ -112,7 +110,7 @@ pub fn heap_merge_pairs(
             at = CELLS;
         } else {
             let rest = next[k] as usize;
-            let m = heap_merge(child, next, words, text, heads, n, at, k);
+            let m = heap_merge(child, next, words, text, heads, beginnings, at, k);
             next[m] = stack as u8;
             stack = m;
             at = rest;
@@ -121,7 +119,7 @@ pub fn heap_merge_pairs(
     let mut r = CELLS;
     while stack != CELLS {
         let below = next[stack] as usize;
-        r = heap_merge(child, next, words, text, heads, n, stack, r);
+        r = heap_merge(child, next, words, text, heads, beginnings, stack, r);
         stack = below;
     }
     r
@@ -133,26 +131,31 @@ pub fn heap_pop(
     next: &mut [u8; CELLS],
     words: &[u32],
     text: &[u8],
-    heads: &[u64; HEADS],
-    n: usize,
+    heads: &[u32; CELLS],
+    beginnings: &[u64; CELLS],
     i: usize,
 ) -> Popped
-    requires { ⌜ Heads (now words) (now text) (now heads) n ⌝ }
-    requires { ⌜ ((h : Heap ℕ) × Rep n (now child) (now next) i h) ⌝ }
-    ensures { λ r. ⌜ Pops (cell-cmp (old words) (old text) (old heads)) n (old child) (old next) (new child)
-        (new next) r i ⌝ }
+    requires { ⌜ AnyHeap (now words) (now text) (now heads) (now beginnings) (now child) (now next) i ⌝ }
+    ensures { λ r. ⌜ ((n : ℕ) → n ≤ heaviest-list → Pops (cell-cmp (old words) (old text) (old heads)) n
+        (old child) (old next) (new child) (new next) r i) ⌝ }
 {
     if i == CELLS {
         return Popped::Nothing;
     }
     let k = child[i] as usize;
-    let rest = heap_merge_pairs(child, next, words, text, heads, n, k);
+    let rest = heap_merge_pairs(child, next, words, text, heads, beginnings, k);
     Popped::Least(i, rest)
 }
 
 // heap_from_list, of the cells below `n`, the first one first.
-pub fn heap_from_list(words: &[u32], text: &[u8], heads: &[u64; HEADS], n: usize) -> Cells
-    requires { ⌜ Heads (now words) (now text) (now heads) n ⌝ }
+pub fn heap_from_list(
+    words: &[u32],
+    text: &[u8],
+    heads: &[u32; CELLS],
+    beginnings: &[u64; CELLS],
+    n: usize,
+) -> Cells
+    requires { ⌜ Heads (now words) (now text) (now heads) (now beginnings) n ⌝ }
     ensures { λ r. ⌜ Rep n (r .child) (r .next) (r .root)
         (heap-from-list (cell-cmp (old words) (old text) (old heads)) (first-cells n)) ⌝ }
 {
@@ -161,7 +164,16 @@ pub fn heap_from_list(words: &[u32], text: &[u8], heads: &[u64; HEADS], n: usize
     let mut root = CELLS;
     let mut v = 0;
     while v < n {
-        root = heap_insert(&mut child, &mut next, words, text, heads, n, root, v);
+        root = heap_insert(
+            &mut child,
+            &mut next,
+            words,
+            text,
+            heads,
+            beginnings,
+            root,
+            v,
+        );
         v += 1;
     }
     Cells {

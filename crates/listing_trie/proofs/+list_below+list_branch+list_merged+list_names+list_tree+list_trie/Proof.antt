@@ -124,16 +124,18 @@ list-trie-below t =
     and 6 list-trie-kinds.ps (falls 6 list-trie-kinds.ps _<_ μ-list-trie t) list-trie.Pre
 
 abbrev list-merged-Inv-loop : list-merged-lts.InvT-loop
-list-merged-Inv-loop words text query place list run₀ flat₀ out₀ budget len rest roots₀ heads₀ labels n child₀ next₀
-    turn₀ run flat out roots heads child next
+list-merged-Inv-loop words text query place list run₀ flat₀ out₀ budget len rest roots₀ heads₀ beginnings₀ labels n
+    child₀ next₀
+    turn₀ run flat out roots heads beginnings child next
     turn =
-    Merging words text query place list run₀ run flat₀ flat out₀ out (state roots heads labels child next (turn .n) (turn .root) (turn .last))
+    Merging words text query place list run₀ run flat₀ flat out₀ out (state roots heads beginnings labels child next (turn .n) (turn .root) (turn .last))
 
 abbrev list-merged-μ-loop : list-merged-lts.MeasureT-loop
-list-merged-μ-loop words text query place list run₀ flat₀ out₀ budget len rest roots₀ heads₀ labels n child₀ next₀ turn₀
-    run flat out roots heads child next
+list-merged-μ-loop words text query place list run₀ flat₀ out₀ budget len rest roots₀ heads₀ beginnings₀ labels n child₀
+    next₀ turn₀
+    run flat out roots heads beginnings child next
     turn =
-    left-in words text (take (place .len) query) (state roots heads labels child next (turn .n) (turn .root) (turn .last))
+    left-in words text (take (place .len) query) (state roots heads beginnings labels child next (turn .n) (turn .root) (turn .last))
 
 abbrev list-tree-Inv-loop : list-tree-lts.InvT-loop
 list-tree-Inv-loop words text query place found run₀ flat₀ out₀ budget len rest root notes₀ step₀ run flat out notes step =
@@ -231,16 +233,16 @@ pub +list-below+list-branch+list-merged+list-names+list-tree+list-trie-spec : {M
     (λ c. omega (arith, c .before .before .before .before .before .before .pre .1 .place-ok .len-inside))
     {- merge-start-requires -}
     (λ c κs. (
-      list-any (c .before .before .before .before .before .before .before .before .before .before .pre .1 .can),
-      record { of-roots = refl; of-heads = refl; of-labels = refl },
+      list-any (c .before .before .before .before .before .before .before .before .before .before .before .pre .1 .can),
+      record { of-roots = refl; of-heads = refl; of-beginnings = refl; of-labels = refl },
     ))
-    {- array-read-t38 -}
+    {- array-read-t40 -}
     (λ c. search needs)
-    {- array-read-t41 -}
+    {- array-read-t43 -}
     (λ c. search needs)
     {- list-tree-requires -}
     (λ c κs. let s = c .before .before .before in
-    let pre = s .before .before .before .before .before .before .before .before .before .before .before .before .pre in (
+    let pre = s .before .before .before .before .before .before .before .before .before .before .before .before .before .pre in (
       omega (arith, pre .0, one-earlier (pre .1) ((rw front-is at (s .before .merge-start .ensures)) .one (s .if1 .taken) _ _ (pre .1 .can .list-at))),
       one-ready (pre .1) ((rw front-is at (s .before .merge-start .ensures)) .one (s .if1 .taken) _ _ (pre .1 .can .list-at)),
     ))
@@ -250,64 +252,65 @@ pub +list-below+list-branch+list-merged+list-names+list-tree+list-trie-spec : {M
     (λ c. search needs)
     {- returns -}
     (λ c. let s = c .before .before .before .before in let s2 = s .before .before .before .before in
-    let s3 = s2 .before .before .before .before .before .before .before .before .before .before .before .before in
+    let s3 = s2 .before .before .before .before .before .before .before .before .before .before .before .before .before in
     one-runs (s3 .pre .1) ((rw front-is at (s2 .before .merge-start .ensures)) .one (s2 .if1 .taken) _ _ (s3 .pre .1 .can .list-at)) (s .list-tree .ensures))
     {- loop-holds -}
-    (λ c. merging-first (c .before .before .before .before .before .before .before .before .before .before .before .before .before .before .pre .1)
+    (λ c. merging-first (c .before .before .before .before .before .before .before .before .before .before .before .before .before .before .before .pre .1)
     ((rw front-is at (c .before .before .before .merge-start .ensures)) .starts))
     {- sub-merge-next -}
     (λ c. search needs)
     {- part-merge-next-start -}
     (λ c. search needs)
     {- part-merge-next-end -}
-    (λ c. let s = c .before .before .before .before .before .before .before .before .before .before .before .before .before .before in
+    (λ c. let s = c .before .before .before .before .before .before .before .before .before .before .before .before .before .before .before in
     omega (arith, s .before .pre .1 .place-ok .len-inside))
     {- merge-next-requires -}
-    (λ c κs. rw front-is (record { labels = _; any = merging-any (c .before .before .before .before .before .loop .inv) }))
+    (λ c κs. rw front-is (record { labels = _; any = merging-any (c .before .before .before .before .before .before .loop .inv) }))
     {- same-length-3 -}
-    (λ c. c .before .before .before .before .before .before .before .loop .inv .left .flat-size)
+    (λ c. c .before .before .before .before .before .before .before .before .loop .inv .left .flat-size)
     {- same-length-4 -}
-    (λ c. c .before .before .before .before .before .before .before .loop .inv .left .out-size)
+    (λ c. c .before .before .before .before .before .before .before .before .loop .inv .left .out-size)
     {- returns-2 -}
-    (λ c. merging-done (c .before .before .before .before .before .before .before .loop .inv) ((rw front-is at (c .before .merge-next .ensures)) .gives _)
+    (λ c. merging-done (c .before .before .before .before .before .before .before .before .loop .inv) ((rw front-is at (c .before .merge-next .ensures)) .gives _)
     (c .if2 .taken))
-    {- mul-t49 -}
+    {- mul-t51 -}
     (λ c. omega (arith, c .before .merge-next .ensures .small (c .if2 .left)))
-    {- array-read-t59 -}
+    {- array-read-t62 -}
     (λ c. c .before .merge-next .ensures .small (c .if2 .left))
     {- sub-list-branch -}
-    (λ c. let s = c .before .before .before .before .before .before .before .before .before .before .before .before .before .before in
+    (λ c. let s = c .before .before .before .before .before .before .before .before .before .before .before .before .before .before .before .before in
     omega (arith, s .before .before .before .before .before .before .before .before .pre .1 .place-ok .next-inside))
     {- part-list-branch-start -}
-    (λ c. let s = c .before .before .before .before .before .before .before .before .before .before .before .before .before .before in
+    (λ c. let s = c .before .before .before .before .before .before .before .before .before .before .before .before .before .before .before .before in
     omega (arith, s .before .before .before .before .before .before .before .before .pre .1 .place-ok .next-inside))
     {- part-list-branch-end -}
     (λ c. search needs)
     {- list-branch-requires -}
-    (λ c κs. let s = c .before .before .before .before in let s2 = s .before .before .before .before .before .before .before in
-    let s3 = s2 .before .before .before .before .before .before .before .before .before .before .before .before .before .before in let s4 = s3 .before in (
+    (λ c κs. let s = c .before .before .before .before in let s2 = s .before .before .before .before .before .before .before .before in
+    let s3 = s2 .before .before .before .before .before .before .before .before .before .before .before .before .before .before .before in
+    let s4 = s3 .before in (
       omega (arith, s4 .pre .0, merging-earlier (s2 .loop .inv) ((rw front-is at (s .before .merge-next .ensures)) .gives _) (s .if2 .left)),
       rw tail-is (merging-branch (s2 .loop .inv) ((rw front-is at (s .before .merge-next .ensures)) .gives _) (s .if2 .left) (s4 .pre .1)),
     ))
     {- same-length-5 -}
     (λ c. let s = c .before .before .before .before in let s2 = s .before .before .before .before .before .before in
-    merging-next (s2 .before .before .before .before .before .before .before .loop .inv) ((rw front-is at (s2 .before .merge-next .ensures)) .gives _)
+    merging-next (s2 .before .before .before .before .before .before .before .before .loop .inv) ((rw front-is at (s2 .before .merge-next .ensures)) .gives _)
     (s2 .if2 .left) (rw tail-is at (s .before .list-branch .ensures)) (s .flat2 .given) (c .before .before .out2 .given) .left .flat-size)
     {- same-length-6 -}
     (λ c. let s = c .before .before .before .before in let s2 = s .before .before .before .before .before .before in
-    merging-next (s2 .before .before .before .before .before .before .before .loop .inv) ((rw front-is at (s2 .before .merge-next .ensures)) .gives _)
+    merging-next (s2 .before .before .before .before .before .before .before .before .loop .inv) ((rw front-is at (s2 .before .merge-next .ensures)) .gives _)
     (s2 .if2 .left) (rw tail-is at (s .before .list-branch .ensures)) (s .flat2 .given) (c .before .before .out2 .given) .left .out-size)
     {- returns-3 -}
     (λ c. let s = c .before .before .before .before in let s2 = s .before .before .before .before .before .before in
-    merging-spent (s2 .before .before .before .before .before .before .before .loop .inv) ((rw front-is at (s2 .before .merge-next .ensures)) .gives _)
+    merging-spent (s2 .before .before .before .before .before .before .before .before .loop .inv) ((rw front-is at (s2 .before .merge-next .ensures)) .gives _)
     (s2 .if2 .left) (rw tail-is at (s .before .list-branch .ensures)) (s .flat2 .given) (c .before .before .out2 .given) (c .if3 .taken))
     {- loop-less -}
     (λ c. let s = c .before .before .before .before .before .before .before .before .before .before in
-    merging-less (s .before .before .before .before .before .before .before .loop .inv) ((rw front-is at (s .before .merge-next .ensures)) .gives _)
+    merging-less (s .before .before .before .before .before .before .before .before .loop .inv) ((rw front-is at (s .before .merge-next .ensures)) .gives _)
     (s .if2 .left))
     {- loop-again -}
     (λ c. let s = c .before .before .before .before in let s2 = s .before .before .before .before .before .before in
-    merging-next (s2 .before .before .before .before .before .before .before .loop .inv) ((rw front-is at (s2 .before .merge-next .ensures)) .gives _)
+    merging-next (s2 .before .before .before .before .before .before .before .before .loop .inv) ((rw front-is at (s2 .before .merge-next .ensures)) .gives _)
     (s2 .if2 .left) (rw tail-is at (s .before .list-branch .ensures)) (s .flat2 .given) (c .before .before .out2 .given)))
     (λ t. list-names-lts.spec (single-reads.Asked, single-reads.Learnt, list-tree-below t, list-tree.Post, list-merged-below t, list-merged.Post)
     (list-names-at t)

@@ -21,14 +21,14 @@ use Rattle.merge_collect.proofs.+collect.{statement}
 use Rattle.merge_collect.proofs.+collect.Tie.{close}
 use Rattle.memory.proofs.At.{at-fits}
 
-abbrev μ-collect : Measures 6 kinds.ps ℕ
+abbrev μ-collect : Measures 7 kinds.ps ℕ
 μ-collect κs a = weight-in (a .0 .now) (a .1 .1 .1 .0 .list)
 
-abbrev at : ℕ → In 6 kinds.ps
-at t = and 6 kinds.ps (is 6 kinds.ps μ-collect t) collect.Pre
+abbrev at : ℕ → In 7 kinds.ps
+at t = and 7 kinds.ps (is 7 kinds.ps μ-collect t) collect.Pre
 
-abbrev below : ℕ → In 6 kinds.ps
-below t = and 6 kinds.ps (falls 6 kinds.ps _<_ μ-collect t) collect.Pre
+abbrev below : ℕ → In 7 kinds.ps
+below t = and 7 kinds.ps (falls 7 kinds.ps _<_ μ-collect t) collect.Pre
 
 -- The words read of the first collection.
 seen : (t : ℕ) (c : lts.After-sort-of (
@@ -83,7 +83,7 @@ pub +collect-spec : {M : Type 1} → statement M
     (λ c κs. omega (arith, at-fits (c .before .before .before .before .before .before .pre .1 .0 .list), c .before .before .if1 .left))
     {- collect-requires -}
     (λ c κs.
-    let s2 = c .before .before .before .before in let s = seen t (s2 .before) in
+    let s2 = c .before .before .before .before .before in let s = seen t (s2 .before) in
     let e = s2 .if2 .taken in
     let p = s2 .before .before .before .before .before .before .before .before .pre in
     let own = seen-list s e in
@@ -91,7 +91,7 @@ pub +collect-spec : {M : Type 1} → statement M
     (omega (arith, both-less s e, p .0), (search needs, (omega (arith, both-less s e, p .1 .1 .0), p .1 .1 .1))))
     {- collect-requires-2 -}
     (λ c κs.
-    let s2 = c .before .before .before in let s3 = s2 .before .before .before .before .before in let s = seen t (s3 .before) in
+    let s2 = c .before .before .before .before in let s3 = s2 .before .before .before .before .before .before in let s = seen t (s3 .before) in
     let e = s3 .if2 .taken in
     let p = s3 .before .before .before .before .before .before .before .before .pre in
     let own = seen-list s e in
@@ -99,7 +99,7 @@ pub +collect-spec : {M : Type 1} → statement M
     (omega (arith, both-less s e, p .0), (search needs, (omega (arith, both-less s e, p .1 .1 .0, s2 .collect .ensures .0), s2 .collect .ensures .1 .full))))
     {- returns-2 -}
     (λ c.
-    let s2 = c .before .before .before .before in let s3 = s2 .before .before .before .before in let s = seen t (s3 .before .before) in
+    let s2 = c .before .before .before .before .before in let s3 = s2 .before .before .before .before .before in let s = seen t (s3 .before .before) in
     let e = s3 .before .if2 .taken in (
       omega (arith, both-less s e, s2 .collect .ensures .0, c .collect2 .ensures .0),
       collected-imported s e (⊎-elim (λ w. w .1 ∙ outermost-none _ _ (w .0 .taken)) (λ w. w .1 ∙ outermost-some _ _ (w .0 .left)) (s3 .if3 .came))
@@ -109,12 +109,12 @@ pub +collect-spec : {M : Type 1} → statement M
     (λ c κs. seen-tree (seen t (c .before)) (c .if2 .left))
     {- collect-requires-3 -}
     (λ c κs.
-    let s2 = c .before .before .before .before .before .before in let s = seen t s2 in
+    let s2 = c .before .before .before .before .before .before .before in let s = seen t s2 in
     let p = s2 .before .before .before .before .before .before .before .pre in
     (omega (arith, rest-less s, p .0), (seen-rest s, (omega (arith, rest-less s, p .1 .1 .0), p .1 .1 .1))))
     {- returns-3 -}
     (λ c.
-    let s2 = c .before .before .before .before in let s = seen t (s2 .before .before .before) in (
+    let s2 = c .before .before .before .before .before in let s = seen t (s2 .before .before .before) in (
       omega (arith, rest-less s, c .collect3 .ensures .0),
       collected-skip s (s2 .before .before .if2 .left) (s2 .before .tree-first .ensures) (s2 .if4 .taken) (c .collect3 .ensures .1),
     ))
@@ -132,39 +132,38 @@ pub +collect-spec : {M : Type 1} → statement M
     ))
     {- set-head-requires -}
     (λ c κs.
-    let s2 = c .before .before .before in let s = seen t (s2 .before) in (
-      first-in s (s2 .if2 .left) _ (c .before .before .tree-first .ensures) (c .before .if4 .left),
-      omega (arith, rest-less s, s2 .before .before .before .before .before .before .before .before .pre .1 .1 .0),
+    let s2 = c .before .before .before in let s = seen t (s2 .before .before) in (
+      first-in s (s2 .before .if2 .left) _ (s2 .tree-first .ensures) (c .before .before .if4 .left),
+      omega (arith, rest-less s, s2 .before .before .before .before .before .before .before .before .before .pre .1 .1 .0),
     ))
     {- mul-labels -}
-    (λ c. let s2 = c .before .before .before .before .before in
+    (λ c. let s2 = c .before .before .before .before .before .before in
     omega (arith, rest-less (seen t s2), s2 .before .before .before .before .before .before .before .pre .1 .1 .0))
     {- element-write-labels -}
-    (λ c. let s2 = c .before .before .before .before .before in
+    (λ c. let s2 = c .before .before .before .before .before .before in
     omega (arith, rest-less (seen t s2), s2 .before .before .before .before .before .before .before .pre .1 .1 .0))
-    {- add-collect -}
-    (λ c. let s2 = c .before .before .before .before .before .before .before .before .before .before .before .before .before .before in
-    omega (arith, s2 .before .pre .1 .1 .0))
+    {- add-next -}
+    (λ c. omega (arith, c .before .before .before .before .before .before .before .before .before .before .before .before .before .pre .1 .1 .0))
     {- collect-requires-4 -}
     (λ c κs.
-    let s2 = c .before .before .before .before .before .before in let s3 = s2 .before .before in
-    let s4 = s3 .before .before .before .before .before .before .before in let s = seen t s3 in
-    let p = s4 .pre in (
+    let s2 = c .before .before .before .before in let s3 = s2 .before .before .before .before in let s4 = s3 .before .before in
+    let s5 = s4 .before .before .before .before .before .before .before in let s = seen t s4 in
+    let p = s5 .pre in (
       omega (arith, rest-less s, p .0),
       (
         seen-rest s,
         (
           omega (arith, rest-less s, p .1 .1 .0),
-          rw (c .before .before .before .set-head .ensures)
-              (full-set _ _ (s4 .args .at) (s3 .before .before .own-of .result) (s2 .tree-first .result) (s4 .args .part .label) (p .1 .1 .1)),
+          rw (s2 .set-head .ensures .0, s2 .set-head .ensures .1)
+              (full-set _ _ (s5 .args .part .at) (s4 .before .before .own-of .result) (s3 .tree-first .result) (s5 .args .part .label) (p .1 .1 .1)),
         ),
       ),
     ))
     {- returns-4 -}
     (λ c.
-    let s2 = c .before .before .before .before in let s3 = s2 .before .before in let s4 = s3 .before .before in let s = seen t (s4 .before) in
+    let s2 = c .before .before .before .before .before in let s3 = s2 .before .before .before in let s4 = s3 .before .before in let s = seen t (s4 .before) in
     let p = s4 .before .before .before .before .before .before .before .before .pre in (
       omega (arith, rest-less s, c .collect4 .ensures .0),
       collected-cell s (s4 .if2 .left) (s3 .before .tree-first .ensures) (s3 .if4 .left) (p .1 .1 .1) (omega (arith, rest-less s, p .1 .1 .0))
-          (rw (s2 .set-head .ensures) at (c .collect4 .ensures .1)),
+          (rw (s2 .set-head .ensures .0, s2 .set-head .ensures .1) at (c .collect4 .ensures .1)),
     ))
