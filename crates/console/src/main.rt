@@ -5,6 +5,7 @@
 ghost use Prim.Native.Nat.{_≤_};
 ghost use lib.ListN.{length};
 ghost use Rattle.source.specs.Lent.{old, new};
+ghost use Rattle.listing.specs.Completes.{output};
 ghost use Rattle.table.specs.Header.{IsSound};
 ghost use Rattle.console_questions.specs.RowReplies.{room};
 ghost use Rattle.console_feed.specs.Feed.{Inside};
@@ -32,7 +33,8 @@ fn reply_all(
     requires { ⌜ IsSound (now words) (now text) (f .table) ⌝ }
     requires { ⌜ room (now flat) (now pane) ≤ length (now reply) ⌝ }
     requires { ⌜ Inside f (now input) ⌝ }
-    ensures { λ r. ⌜ Rests (new words) (new text) (new input) r ⌝ }
+    ensures { λ r. ⌜ Rests (old words) (old text) (new words) (new text) (old input) (new input)
+        (output (old flat) (old pane)) f r ⌝ }
 {
     let mut g = f;
     loop {

@@ -5,7 +5,7 @@ use mathlib.Core.Path.{_≡_, refl, sym, ap, ap₂, _∙_, subst}
 use mathlib.Core.Bool.{true, false, true≢false}
 use mathlib.Core.List.{List, [], _∷_, append-nil}
 use lib.ListN.{length, take, drop, take-append-drop, length-drop}
-use lib.Seq.{take-take, take-nil, take-at, drop-drop, length-take-le}
+use lib.Seq.{take-take, take-nil, take-at, drop-at, drop-drop, length-take-le}
 use Rattle.text.proofs.Laid.{laid-none}
 use Rattle.script_decimal.specs.Bytes.{Str, _·_, All}
 use Rattle.script_decimal.specs.declared.Sort.the-variants.{Line}
@@ -43,6 +43,16 @@ part-length : (input : List ℕ) (from have : ℕ) → have ≤ length input
     → length (drop from (take have input)) ≡ have - from
 part-length input from have h = omega (arith, length-drop from (take have input), length-take-le have input h)
 
+-- What is moved is as long as it says, and nothing past it is moved.
+moved-length : {input input′ : List ℕ} {from have n : ℕ} → have ≤ length input → Moves input input′ from have n
+    → length (take n (drop from input)) ≡ n
+moved-length {input} {from = from} {n = n} h m = length-take-le n (drop from input) (omega (arith, m .size, length-drop from input))
+
+moved-past : {input input′ : List ℕ} {from have n : ℕ} → have ≤ length input → Moves input input′ from have n
+    → drop n input′ ≡ drop n input
+moved-past {input} {from = from} {n = n} h m =
+    ap (drop n) (m .is) ∙ drop-at (take n (drop from input)) (drop n input) n (moved-length h m)
+
 -- What is moved is the start of what followed.
 moved-is : {input input′ : List ℕ} {from have n : ℕ} → have ≤ length input → Moves input input′ from have n
     → take bytes-kept (drop from (take have input)) ≡ take n input′
@@ -52,7 +62,7 @@ moved-is {input} {input′} {from} {have} {n} h m =
     ∙ ap (λ (k : ℕ). take k (drop from (take have input))) e
     ∙ ap (take n) (drop-take from have input)
     ∙ take-take n (have - from) (drop from input) (omega (arith, m .size))
-    ∙ sym (take-at (take n (drop from input)) (drop n input) n (length-take-le n (drop from input) (omega (arith, m .size, length-drop from input))))
+    ∙ sym (take-at (take n (drop from input)) (drop n input) n (moved-length h m))
     ∙ ap (take n) (sym (m .is))
 
 -- ---- A step
@@ -88,7 +98,8 @@ module _ {ws txt ws′ txt′ input flat flat′ pane pane′ reply reply′ : L
     still = x .still;
     quiet = x .quiet;
     inside = record { started = omega (arith, x .next-fits .1, length-take-le (f .have) input (i .ended)); ended = i .ended };
-    goes-on = λ _. (l, refl);
+    past = refl;
+    goes-on = λ _. (l, refl, refl);
     stops = λ e. absurd (true≢false e);
   }
 
@@ -116,6 +127,7 @@ module _ {ws txt ws′ txt′ input flat flat′ pane pane′ reply reply′ : L
         still = x .still;
         quiet = x .quiet;
         inside = record { started = omega arith; ended = omega (arith, m .size, i .ended, size) };
+        past = moved-past (i .ended) m;
         goes-on = λ z. absurd (true≢false (sym z));
         stops = λ _. (refl, omega (arith, m .size), subst (All Line) k (all-take bytes-kept rest a));
       }

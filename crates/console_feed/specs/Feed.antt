@@ -36,8 +36,8 @@ pub data Kept : Str → Str → Type 0 where
   whole : {s : Str} → Kept s s
   start : {s : Str} → All Line s → Kept s (take bytes-kept s)
 
--- A step: the session of some whole lines, its replies at the start of the reply text, and what follows them kept. Where no line
--- registers, header, words and text are as they were; where none asks for a completion, the lent output is.
+-- A step: the session of some whole lines, its replies at the start of the reply text, and what follows them kept; the input past
+-- that is as it was. Where no line registers, header, words and text are; where none asks for a completion, the lent output is.
 pub record Feeds (ws txt ws′ txt′ : List ℕ) (f : Feed) (input input′ flat flat′ pane pane′ reply reply′ : List ℕ)
     (r : Progress) : Type 0 where
   pub lines : List Str
@@ -56,7 +56,8 @@ pub record Feeds (ws txt ws′ txt′ : List ℕ) (f : Feed) (input input′ fla
       → Unchanged ws txt ws′ txt′ (f .table) (r .feed .table)
   pub quiet : Allˡ NoCompletion lines → OutputKept flat flat′ pane pane′
   pub inside : Inside (r .feed) input′
-  pub goes-on : r .more ≡ true → (f .from < r .feed .from) × (r .feed .have ≡ f .have)
+  pub past : drop (r .feed .have) input′ ≡ drop (r .feed .have) input
+  pub goes-on : r .more ≡ true → (f .from < r .feed .from) × (r .feed .have ≡ f .have) × (input′ ≡ input)
   pub stops : r .more ≡ false → (r .feed .from ≡ 0) × (r .feed .have ≤ bytes-kept) × All Line (pending (r .feed) input′)
 
 -- The end of the input: the session of what is left, as a line, and what it leaves.

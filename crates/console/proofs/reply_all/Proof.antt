@@ -6,14 +6,14 @@ use Prim.Native.Nat.{_-_}
 use lib.ListN.{length}
 use lib.Seq.{length-take-le}
 use native.Mathlib.Omega.{arith}
-use Rattle.console.proofs.Steady.{not-true, not-false, laid-fits, Steady, steady-start, steady-on}
+use Rattle.console.proofs.Steady.{not-true, not-false, laid-fits, Steady, steady-start, steady-on, steady-rests}
 use Rattle.console.proofs.reply_all.Statement.{statement}
 use Rattle.console.proofs.reply_all.Tie as tie
 use borrow.Author.Needs.{needs}
 
 abbrev Inv-loop : tie.InvT-loop
 Inv-loop words₀ text₀ input₀ flat₀ pane₀ reply₀ g₀ words text input flat pane reply g =
-    Steady words₀ text₀ input₀ flat₀ pane₀ reply₀ words text input flat pane reply g
+    Steady words₀ text₀ input₀ flat₀ pane₀ reply₀ g₀ words text input flat pane reply g
 
 abbrev μ-loop : tie.MeasureT-loop
 μ-loop words₀ text₀ input₀ flat₀ pane₀ reply₀ g₀ words text input flat pane reply g = length input - g .from
@@ -57,7 +57,9 @@ reply-all-spec =
     let s2 = s .before .before in laid-length (s2 .step .ensures .laid) ∙ s2 .before .before .before .before .before .before .before .loop .inv .reply-size)
     {- returns -}
     (λ c. let s = c .before .before .before .before .before .before .before .before .before .before .before .before .before .before in
-    let step = s .before .before .step .ensures in record { sound = step .sound; inside = step .inside; short = λ e. absurd (true≢false (sym e)) })
+    let s2 = s .before .before in
+    steady-rests (steady-on (s2 .before .before .before .before .before .before .before .loop .inv) (s2 .step .ensures) (search needs) (search needs)
+    (search needs)) (λ e. absurd (true≢false (sym e))))
     {- same-length-7 -}
     (λ c. let s = c .before .before .before .before .before .before .before .before .before .before .before .before .before .before in
     let s2 = s .before .before .before .before in
@@ -81,12 +83,9 @@ reply-all-spec =
     laid-length (s2 .step .ensures .laid) ∙ s2 .before .before .before .before .before .before .before .loop .inv .reply-size)
     {- returns-2 -}
     (λ c. let s = c .before .before .before .before .before .before .before .before .before .before .before .before .before .before in
-    let step = s .before .before .before .before .step .ensures in
-    record {
-      sound = step .sound;
-      inside = step .inside;
-      short = λ _. (step .stops (not-true _ (c .if2 .taken)) .0, step .stops (not-true _ (c .if2 .taken)) .1);
-    })
+    let s2 = s .before .before .before .before in
+    steady-rests (steady-on (s2 .before .before .before .before .before .before .before .loop .inv) (s2 .step .ensures) (search needs) (search needs)
+    (search needs)) (λ _. s2 .step .ensures .stops (not-true _ (c .if2 .taken))))
     {- loop-less -}
     (λ c. let s = c .before .before .before .before .before .before .before .before .before .before .before .before .before .before in
     let step = s .before .before .before .before .step .ensures in
