@@ -7,6 +7,7 @@ use mathlib.Core.Option.{none, some}
 use mathlib.Core.Logic.{inl, inr}
 use native.Mathlib.Omega.{arith}
 use lib.Dec.{ltb}
+use lib.IntN.{negsuc}
 use lib.ListN.{length}
 use borrow.Author.Tests.{ltb-true, ltb-false, lt-ltb, le-ltb}
 use borrow.Rule.Slice.PartMut.{putMid}
@@ -33,7 +34,7 @@ use Rattle.listing_ask.specs.declared.Request.{Request}
 use Rattle.listing_line.proofs.Capped.{tally-is, tells-past}
 use Rattle.listing_trie.specs.Runs.{trie-gives, TrieReady, TrieRuns, TrieListed}
 use Rattle.listing_start.specs.Outset.{start-run}
-use Rattle.listing_start.proofs.Outset.{unmatched, root-matching}
+use Rattle.listing_start.proofs.Outset.{root-matching}
 use Rattle.refusals.specs.declared.Refusal.the-variants.{Spent, Lines}
 use Rattle.listing.specs.Completes.{output, lines-of, CompletesAs, CompletesOn}
 use Rattle.listing.specs.declared.Completed.{Completed}
@@ -41,7 +42,7 @@ use Rattle.listing.specs.declared.Completed.the-variants.{Listed, Refuse
 use Rattle.listing_trie.proofs.Listed.{no-label}
 use Rattle.memory.specs.Sound.{At}
 
--- The path to the root, nothing counted, and no element matched.
+-- The path to the root, and nothing counted.
 abbrev root-path : Limits → Path
 root-path lim = path-in (start-run (lim .budget) (lim .lines) (lim .bytes))
 
@@ -87,9 +88,9 @@ module _ (ws txt : List ℕ) (ask : Ask) (root : ℕ) (query : Str) where
   -- What a run from the root gives.
   pub root-runs : {budget lines bytes : ℕ} {run run′ flat flat′ out out′ : List ℕ} {n : ℕ}
       → run ≡ start-run budget lines bytes
-      → TrieListed ws txt query ask run run′ flat flat′ out out′ root n
+      → TrieListed ws txt query (record { ask = ask; matched = negsuc 0 }) run run′ flat flat′ out out′ root n
       → let lim : Limits = record { budget = budget; lines = lines; bytes = bytes } in
-      TrieRuns ws txt ask query (root-path lim) lim unmatched nothing-yet (tally-in run′) flat flat′ out out′ root
+      TrieRuns ws txt ask query (root-path lim) lim (negsuc 0) nothing-yet (tally-in run′) flat flat′ out out′ root
   root-runs e t = (rw e at t) .runs
 
   on-root : (lim : Limits) → OnPath ws txt (root-path lim) []
@@ -97,7 +98,7 @@ module _ (ws txt : List ℕ) (ask : Ask) (root : ℕ) (query : Str) where
   on-root lim = record { count = refl; text = refl; label-is = refl }
 
   module _ {lim : Limits} {a : Tally} {flat flat′ out out′ : List ℕ}
-      (r : TrieRuns ws txt ask query (root-path lim) lim unmatched nothing-yet a flat flat′ out out′ root) where
+      (r : TrieRuns ws txt ask query (root-path lim) lim (negsuc 0) nothing-yet a flat flat′ out out′ root) where
     run-goes : Goes (asked ask) ws txt lim nothing-yet a flat flat′ out out′
         (trie-gives ask (suc (depth tr)) tr [] (segments query))
     run-goes = r .goes [] (suc (depth tr)) (on-root lim) (root-matching (segments query)) (omega arith)
@@ -134,7 +135,7 @@ module _ (ws txt : List ℕ) (ask : Ask) (root : ℕ) (query : Str) where
 -- What is written where the output is as it was.
 pub writes-then : (ws txt : List ℕ) (ask : Ask) (root : ℕ) (query : Str) {lim : Limits} {a : Tally}
     {flat flat₁ flat′ out out₁ out′ : List ℕ} → flat₁ ≡ flat → out₁ ≡ out
-    → TrieRuns ws txt ask query (root-path lim) lim unmatched nothing-yet a flat₁ flat′ out₁ out′ root
+    → TrieRuns ws txt ask query (root-path lim) lim (negsuc 0) nothing-yet a flat₁ flat′ out₁ out′ root
     → Fit lim flat out (tries ws txt ask root query) (length (listed ws txt ask root query))
     (length (output-text (listed ws txt ask root query)))
     → Written (asked ask) ws txt flat flat′ out out′ 0 0 (listed ws txt ask root query)

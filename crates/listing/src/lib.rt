@@ -1,5 +1,6 @@
 // Completion on a root, of a query that is admitted: rows 9 and 10, counted before anything is written.
 use listing_ask::Request;
+use listing_output::Want;
 use refusals::Refusal;
 ghost use mathlib.Core.Path.{_≡_};
 ghost use mathlib.Core.Bool.{true};
@@ -18,7 +19,7 @@ pub enum Completed {
     Refused(Refusal),
 }
 
-// Completion on a root: counted first, so that a refusal writes nothing, then written.
+// Completion on a root: counted first, so that a refusal writes nothing, then written. At the root no element was matched: -1.
 pub fn complete(
     words: &[u32],
     text: &[u8],
@@ -34,6 +35,10 @@ pub fn complete(
         (old flat) (new flat) (old out) (new out) r ⌝ }
 {
     let ask = request.ask;
+    let want = Want {
+        ask: ask,
+        matched: -1,
+    };
     let lines = listing_start::lines_lent(flat.len());
     let bytes = listing_start::lent(out.len());
     let most = request.budget as usize;
@@ -42,7 +47,7 @@ pub fn complete(
         words,
         text,
         query,
-        ask,
+        want,
         root,
         &mut run,
         &mut flat[0..0],
@@ -60,6 +65,6 @@ pub fn complete(
         return Completed::Refused(Refusal::Lines);
     }
     let mut again = listing_start::start(most, lines, bytes);
-    listing_trie::list_trie(words, text, query, ask, root, &mut again, flat, out);
+    listing_trie::list_trie(words, text, query, want, root, &mut again, flat, out);
     Completed::Listed(count as u32, entered as u32)
 }

@@ -5,6 +5,7 @@ use mathlib.Core.Bool.{Bool, true, false, cond}
 use mathlib.Core.List.{List, [], _∷_, reverse}
 use mathlib.Core.Option.{Option}
 use native.Mathlib.Omega.{arith}
+use lib.IntN.{ℤ}
 use lib.ListN.{length}
 use borrow.Author.Tests.{ne-eqb}
 use Rattle.source.specs.Text.{Str}
@@ -30,8 +31,8 @@ use Rattle.listing_line.specs.Parts.{PutLine}
 use Rattle.listing_ask.specs.declared.Ask.{Ask}
 use Rattle.listing_annotation.specs.declared.Labelled.{Labelled}
 use Rattle.listing_ask.specs.declared.Ask.the-variants.{Names, Modules}
-use Rattle.listing_output.specs.Run.{path-in, tally-in, job-in}
-use Rattle.listing_line.specs.SameRun.{SameRun}
+use Rattle.listing_output.specs.Run.{path-in, tally-in, job-in, Told}
+use Rattle.listing_line.specs.SameRun.{SamePath}
 use Rattle.listing_line.proofs.Goes.{goes-none}
 use Rattle.listing_line.proofs.Run.{same-run}
 use Rattle.listing_annotation.proofs.Noted.{noted, noted-symbol}
@@ -65,39 +66,39 @@ unfolding kept-line
 kept-is result keep y a e = ap (λ a. cond (keep a) (result y ∷ []) []) e
 
 -- What line answers: nothing for an item that does not pass, else its line.
-module _ {ws txt : List ℕ} {f : Labelled} {run flat out : List ℕ} where
+module _ {ws txt : List ℕ} {f : Labelled} {run flat out : List ℕ} {m : ℤ} where
   pub listed-none : (ask : Ask) → passes ask (item-of (asked ask) txt (record-at ws (f .link))) ≡ false
-      → Listed ws txt ask f run run flat flat out out
+      → Listed ws txt (record { ask = ask; matched = m }) f run run flat flat out out
   listed-none ask h = record {
     same = same-run run;
-    goes = λ path x q o e m.
+    goes = λ path x q o e k.
         let i = element (asked ask) (f .link) (f .label) x q o e in
         rw (kept-is (result-of ask) (passes ask) (line path x) _ (i .item), h) (goes-none (tally-in run) flat out);
   }
 
-  pub listed-one : {run′ flat′ out′ : List ℕ} (ask : Ask) → BranchAt ws txt (asked ask) bind (f .link)
-      → SameRun run run′ → passes ask (item-of (asked ask) txt (record-at ws (f .link))) ≡ true
-      → PutLine ws txt (job-in (f .link) run) (noted ask ws txt (record { link = f .link; label = outermost (path-in run) (f .label) }))
+  pub listed-one : {run′ flat′ out′ : List ℕ} (ask : Ask) → BranchAt ws txt (asked ask) bind (f .link) → Told m
+      → SamePath run run′ → passes ask (item-of (asked ask) txt (record-at ws (f .link))) ≡ true
+      → PutLine ws txt (job-in (f .link) m run) (noted ask ws txt (record { link = f .link; label = outermost (path-in run) (f .label) }))
       (tally-in run′) flat flat′ out out′
-      → Listed ws txt ask f run run′ flat flat′ out out′
+      → Listed ws txt (record { ask = ask; matched = m }) f run run′ flat flat′ out out′
   unfolding completion-result-of-lid completion-result-of-ns-or-mod
-  listed-one (Names g) b s h put = record {
+  listed-one (Names g) b t s h put = record {
     same = s;
-    goes = λ path x q o e m.
+    goes = λ path x q o e k.
         let i = element names (f .link) (f .label) x q o e in
         rw (kept-is completion-result-of-lid (keeps-kind g) (line path x) _ (i .item), h)
         (put names (completion-result-of-lid (line path x))
-        (record { branch-at = b; length-is = m; item-is = i .item; candidate-is = i .candidate; annotation-is = ap (dflt []) (i .import) }));
+        (record { branch-at = b; length-is = k ∙ sym t; item-is = i .item; candidate-is = i .candidate; annotation-is = ap (dflt []) (i .import) }));
   }
-  listed-one (Modules g) b s h put = record {
+  listed-one (Modules g) b t s h put = record {
     same = s;
-    goes = λ path x q o e m.
+    goes = λ path x q o e k.
         let i = element modules (f .link) (f .label) x q o e in
         rw (kept-is completion-result-of-ns-or-mod (keeps (filter-in g)) (line path x) _ (i .item), h)
         (put modules (completion-result-of-ns-or-mod (line path x))
         (record {
           branch-at = b;
-          length-is = m;
+          length-is = k ∙ sym t;
           item-is = i .item;
           candidate-is = i .candidate;
           annotation-is = ap mod-annotation (i .item) ∙ sym (noted-symbol _);

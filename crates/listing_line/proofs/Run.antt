@@ -9,14 +9,11 @@ use Rattle.source.specs.Listing.{PathOf}
 use Rattle.memory.specs.Layout.{Which}
 use Rattle.listing_output.specs.Path.{joined}
 use Rattle.listing_line.specs.OnPath.{PathOk, OnPath}
-use Rattle.listing_output.specs.Run.{path-in, tally-in, limits-in, matched-in, run-size}
-use Rattle.listing_line.specs.SameRun.{SamePath, SameRun}
+use Rattle.listing_output.specs.Run.{path-in, tally-in, limits-in, run-size}
+use Rattle.listing_line.specs.SameRun.{SamePath}
 
-pub same-run : (run : List ℕ) → SameRun run run
-same-run run = record {
-  path = record { size = refl; links = λ j h. refl; count = refl; len-is = refl; label-is = refl; limits-same = refl };
-  matched-same = refl;
-}
+pub same-run : (run : List ℕ) → SamePath run run
+same-run run = record { size = refl; links = λ j h. refl; count = refl; len-is = refl; label-is = refl; limits-same = refl }
 
 pub path-then : {run run₁ run₂ : List ℕ} → SamePath run run₁ → SamePath run₁ run₂ → SamePath run run₂
 path-then s t = record {
@@ -28,37 +25,28 @@ path-then s t = record {
   limits-same = t .limits-same ∙ s .limits-same;
 }
 
-pub same-then : {run run₁ run₂ : List ℕ} → SameRun run run₁ → SameRun run₁ run₂ → SameRun run run₂
-same-then s t = record { path = path-then (s .path) (t .path); matched-same = t .matched-same ∙ s .matched-same }
-
--- A number that is neither of the path nor a limit is set.
-module _ (run : List ℕ) (k v : ℕ) (few : getD run 16 0 ≤ 16) (h : 18 < k)
-    (apart : (j : ℕ) → 21 < j → j < 25 → j ≡ k → ⊥) where
-  pub path-kept : SamePath run (set run k v)
-  path-kept = record {
+-- A number of the tally is set.
+module _ (run : List ℕ) (k v : ℕ) (few : getD run 16 0 ≤ 16) (h : 18 < k) (i : k < 22) where
+  pub same-set : SamePath run (set run k v)
+  same-set = record {
     size = length-set run k v;
     links = λ j i. getD-set-other run k j v 0 (λ e. omega arith);
     count = getD-set-other run k 16 v 0 (λ e. omega arith);
     len-is = getD-set-other run k 17 v 0 (λ e. omega arith);
     label-is = getD-set-other run k 18 v 0 (λ e. omega arith);
     limits-same = rw (
-      getD-set-other run k 22 v 0 (apart 22 (omega arith) (omega arith)),
-      getD-set-other run k 23 v 0 (apart 23 (omega arith) (omega arith)),
-      getD-set-other run k 24 v 0 (apart 24 (omega arith) (omega arith)),
+      getD-set-other run k 22 v 0 (λ e. omega arith),
+      getD-set-other run k 23 v 0 (λ e. omega arith),
+      getD-set-other run k 24 v 0 (λ e. omega arith),
     );
   }
 
--- A number of the tally is set.
-module _ (run : List ℕ) (k v : ℕ) (few : getD run 16 0 ≤ 16) (h : 18 < k) (i : k < 22) where
-  pub same-set : SameRun run (set run k v)
-  same-set = record { path = path-kept run k v few h (λ j a b e. omega arith); matched-same = getD-set-other run k 25 v 0 (λ e. omega arith) }
-
 -- The lines and the bytes are counted.
 module _ (run : List ℕ) (l b : ℕ) where
-  pub same-counted : getD run 16 0 ≤ 16 → SameRun run (set (set run 20 l) 21 b)
+  pub same-counted : getD run 16 0 ≤ 16 → SamePath run (set (set run 20 l) 21 b)
   same-counted few =
       let s = same-set run 20 l few (omega arith) (omega arith) in
-      same-then s (same-set (set run 20 l) 21 b (omega (arith, s .path .count)) (omega arith) (omega arith))
+      path-then s (same-set (set run 20 l) 21 b (omega (arith, s .count)) (omega arith) (omega arith))
 
   pub tally-counted : length run ≡ run-size
       → tally-in (set (set run 20 l) 21 b) ≡ record { entered = getD run 19 0; lines = l; bytes = b }
@@ -75,33 +63,6 @@ module _ (run : List ℕ) (l : ℕ) where
       → tally-in (set run 19 l) ≡ record { entered = l; lines = getD run 20 0; bytes = getD run 21 0 }
   tally-entered e =
       rw (getD-set-same run 19 l 0 (omega arith), getD-set-other run 19 20 l 0 (λ z. omega arith), getD-set-other run 19 21 l 0 (λ z. omega arith))
-
--- The match length is set.
-module _ (run : List ℕ) (m : ℕ) where
-  pub tally-matched : tally-in (set run 25 m) ≡ tally-in run
-  tally-matched = rw (
-    getD-set-other run 25 19 m 0 (λ z. omega arith),
-    getD-set-other run 25 20 m 0 (λ z. omega arith),
-    getD-set-other run 25 21 m 0 (λ z. omega arith),
-  )
-
-  pub path-matched : getD run 16 0 ≤ 16 → SamePath run (set run 25 m)
-  path-matched few = path-kept run 25 m few (omega arith) (λ j a b e. omega arith)
-
--- A trie is entered, and what is listed in it has the match length m.
-module _ (run : List ℕ) (l m : ℕ) where
-  abbrev pub run-inside : List ℕ
-  run-inside = set (set run 19 l) 25 m
-
-  pub path-inside : getD run 16 0 ≤ 16 → SamePath run run-inside
-  path-inside few = let s = same-set run 19 l few (omega arith) (omega arith) .path in path-then s (path-matched (set run 19 l) m (omega (arith, s .count)))
-
-  module _ (e : length run ≡ run-size) where
-    pub tally-inside : tally-in run-inside ≡ record { entered = l; lines = getD run 20 0; bytes = getD run 21 0 }
-    tally-inside = tally-matched (set run 19 l) m ∙ tally-entered run l e
-
-    pub matched-inside : matched-in run-inside ≡ m
-    matched-inside = getD-set-same (set run 19 l) 25 m 0 (omega (arith, length-set run 19 l))
 
 -- What stands after the path is as it was.
 module _ (run run′ : List ℕ) (s : (k : ℕ) → 18 < k → getD run′ k 0 ≡ getD run k 0) where

@@ -19,7 +19,7 @@ use Rattle.listing_output.specs.Run.{path-in, job-in}
 use Rattle.listing_line.specs.Lines.{CanList}
 use Rattle.listing_output.specs.Parts.{TextAt, PathAt, JobOk}
 use Rattle.listing_annotation.specs.Annotations.{outermost}
-use Rattle.listing_ask.specs.declared.Ask.{Ask}
+use Rattle.listing_output.specs.declared.Want.{Want}
 use Rattle.listing_annotation.specs.declared.Labelled.{Labelled}
 
 module _ {ws txt : List ℕ} {n used x k : ℕ} (o : Used ws txt n used) (i : LinkOk ws (n + 1) x k) (p : 0 < x) where
@@ -52,9 +52,9 @@ pub path-at : {ws txt : List ℕ} {w : Which} {p : Path} → PathOk ws txt w p �
 path-at o = record { sized = o .sized; few = o .few; each = λ j h. branch-text (o .each j h); len-is = o .len-is; short = o .short }
 
 -- What line is given is what its parts need.
-module _ {ws txt : List ℕ} {ask : Ask} {f : Labelled} {run : List ℕ} (o : CanList ws txt ask f run) where
-  pub job-ok : JobOk ws txt (job-in (f .link) run)
-  job-ok = record { path = path-at (o .path-ok); branch = branch-text (o .branch-at); small = o .small; fits = o .fits }
+module _ {ws txt : List ℕ} {want : Want} {f : Labelled} {run : List ℕ} (o : CanList ws txt want f run) where
+  pub job-ok : JobOk ws txt (job-in (f .link) (want .matched) run)
+  job-ok = record { path = path-at (o .path-ok); branch = branch-text (o .branch-at); small = o .small }
 
   pub outermost-text : {x : ℕ} → x ≡ outermost (path-in run) (f .label) → 0 < x → TextAt ws txt x
   outermost-text e h = rw e (go (eqb (path-in run .n) 0) (rw e at h))

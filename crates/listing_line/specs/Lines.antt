@@ -1,9 +1,8 @@
 -- What one line of a listing says.
-use Prim.Native.Nat.{ℕ, _≤_}
+use Prim.Native.Nat.{ℕ}
 use mathlib.Core.Path.{_≡_}
 use mathlib.Core.List.{List, _∷_, reverse}
 use mathlib.Core.Option.{Option}
-use Rattle.source.specs.Calls.{signed-word}
 use Rattle.source.specs.Text.{Str}
 use Rattle.source.specs.Types.{Value, bind}
 use Rattle.source.specs.Trees.{PathElem}
@@ -16,29 +15,29 @@ use Rattle.listing_ask.specs.Ask.{asked, line-for}
 use Rattle.listing_output.specs.Path.{BranchAt}
 use Rattle.listing_line.specs.OnPath.{LabelAt, PathOk, OnPath}
 use Rattle.listing_line.specs.Goes.{Result, Goes}
-use Rattle.listing_output.specs.Run.{Small, path-in, tally-in, limits-in, matched-in}
-use Rattle.listing_line.specs.SameRun.{SameRun}
-use Rattle.listing_ask.specs.declared.Ask.{Ask}
+use Rattle.listing_output.specs.Run.{Small, path-in, tally-in, limits-in, Told}
+use Rattle.listing_line.specs.SameRun.{SamePath}
+use Rattle.listing_output.specs.declared.Want.{Want}
 use Rattle.listing_annotation.specs.declared.Labelled.{Labelled}
 
 -- Lines alone.
 abbrev pub only : {A : Type 0} → List (Line A) → Result A
 only ls = record { lines = ls; entered = 0 }
 
--- The path, a found branch of bindings and its label are there, the limits are small, and the match length fits.
-pub record CanList (ws txt : List ℕ) (ask : Ask) (f : Labelled) (run : List ℕ) : Type 0 where
-  pub path-ok : PathOk ws txt (asked ask) (path-in run)
-  pub branch-at : BranchAt ws txt (asked ask) bind (f .link)
-  pub label-at : LabelAt ws txt (asked ask) bind (f .label)
+-- The path, a found branch of bindings and its label are there, the limits are small, and the match length is one.
+pub record CanList (ws txt : List ℕ) (want : Want) (f : Labelled) (run : List ℕ) : Type 0 where
+  pub path-ok : PathOk ws txt (asked (want .ask)) (path-in run)
+  pub branch-at : BranchAt ws txt (asked (want .ask)) bind (f .link)
+  pub label-at : LabelAt ws txt (asked (want .ask)) bind (f .label)
   pub small : Small (limits-in run)
-  pub fits : matched-in run ≤ 4294967295
+  pub told : Told (want .matched)
 
 -- The run went on by what is asked of a found element of bindings, where the branch and the label show it and it ends a path.
-pub record Listed (ws txt : List ℕ) (ask : Ask) (f : Labelled) (run run′ flat flat′ out out′ : List ℕ) : Type 0 where
-  pub same : SameRun run run′
-  pub goes : (path : PathOf) (x : PathElem × Value (Item (asked ask)) bind) (q : Option Str)
+pub record Listed (ws txt : List ℕ) (want : Want) (f : Labelled) (run run′ flat flat′ out out′ : List ℕ) : Type 0 where
+  pub same : SamePath run run′
+  pub goes : (path : PathOf) (x : PathElem × Value (Item (asked (want .ask))) bind) (q : Option Str)
       → OnPath ws txt (path-in run) path
-      → outer x ≡ shown (asked ask) ws txt bind q (record { branch = f .link; label = f .label })
-      → match-length-of-path (reverse (x .0 ∷ path)) ≡ signed-word (matched-in run)
-      → Goes (asked ask) ws txt (limits-in run) (tally-in run) (tally-in run′) flat flat′ out out′
-      (only (line-for ask (line path x)))
+      → outer x ≡ shown (asked (want .ask)) ws txt bind q (record { branch = f .link; label = f .label })
+      → match-length-of-path (reverse (x .0 ∷ path)) ≡ want .matched
+      → Goes (asked (want .ask)) ws txt (limits-in run) (tally-in run) (tally-in run′) flat flat′ out out′
+      (only (line-for (want .ask) (line path x)))

@@ -3,7 +3,7 @@ use Prim.Native.Nat.{ℕ, _<_}
 use mathlib.Core.Path.{_≡_}
 use mathlib.Core.List.{List}
 use lib.ListN.{length, getD}
-use Rattle.listing_output.specs.Run.{limits-in, matched-in}
+use Rattle.listing_output.specs.Run.{limits-in}
 
 -- The path and the limits are as they were.
 pub record SamePath (run run′ : List ℕ) : Type 0 where
@@ -13,8 +13,3 @@ pub record SamePath (run run′ : List ℕ) : Type 0 where
   pub len-is : getD run′ 17 0 ≡ getD run 17 0
   pub label-is : getD run′ 18 0 ≡ getD run 18 0
   pub limits-same : limits-in run′ ≡ limits-in run
-
--- All is but what has been taken.
-pub record SameRun (run run′ : List ℕ) : Type 0 where
-  pub path : SamePath run run′
-  pub matched-same : matched-in run′ ≡ matched-in run

@@ -1,6 +1,5 @@
 // One line of a listing: counted, and written where it fits the lent output.
 use listing_annotation::Labelled;
-use listing_ask::Ask;
 use listing_output::BYTES;
 use listing_output::LENGTH;
 use listing_output::LINE_BYTES;
@@ -8,13 +7,14 @@ use listing_output::LINES;
 use listing_output::MOST_BYTES;
 use listing_output::MOST_LINES;
 use listing_output::RUN;
+use listing_output::Want;
 ghost use Prim.Native.Nat.{ℕ, _+_, _≤_};
 ghost use lib.ListN.{length};
 ghost use Rattle.source.specs.Lent.{old, new};
 ghost use Rattle.source.specs.Limits.{longest-full-name, most-used};
 ghost use Rattle.memory.specs.Sound.{Says};
 ghost use Rattle.listing_output.specs.Run.{tally-in, job-in};
-ghost use Rattle.listing_line.specs.SameRun.{SameRun};
+ghost use Rattle.listing_line.specs.SameRun.{SamePath};
 ghost use Rattle.listing_line.specs.Goes.{Capped};
 ghost use Rattle.listing_line.specs.Lines.{CanList, Listed};
 ghost use Rattle.listing_output.specs.Parts.{JobOk};
@@ -53,13 +53,14 @@ fn try_line(
     text: &[u8],
     branch: u32,
     note: &[u8],
+    want: Want,
     run: &[usize; RUN],
     flat: &mut [u8],
     out: &mut [u8],
 )
-    requires { ⌜ JobOk (now words) (now text) (job-in branch (now run)) ⌝ }
+    requires { ⌜ JobOk (now words) (now text) (job-in branch (want .matched) (now run)) ⌝ }
     requires { ⌜ length (now note) ≤ longest-full-name ⌝ }
-    ensures { λ _. ⌜ TriedLine (old words) (old text) (job-in branch (old run)) (old note)
+    ensures { λ _. ⌜ TriedLine (old words) (old text) (job-in branch (want .matched) (old run)) (old note)
         (old flat) (new flat) (old out) (new out) ⌝ }
 {
     if !fits(run[LINES], 1, run[MOST_LINES], flat.len() / LINE_BYTES) {
@@ -69,7 +70,7 @@ fn try_line(
     if !fits(run[BYTES], size, run[MOST_BYTES], out.len()) {
         return;
     }
-    listing_output::write_line(words, text, branch, note, run, flat, out);
+    listing_output::write_line(words, text, branch, note, want, run, flat, out);
 }
 
 // Counts the line with the annotation `note`, and writes it where it fits.
@@ -78,20 +79,21 @@ fn put_line(
     text: &[u8],
     branch: u32,
     note: &[u8],
+    want: Want,
     run: &mut [usize; RUN],
     flat: &mut [u8],
     out: &mut [u8],
 )
-    requires { ⌜ JobOk (now words) (now text) (job-in branch (now run)) ⌝ }
+    requires { ⌜ JobOk (now words) (now text) (job-in branch (want .matched) (now run)) ⌝ }
     requires { ⌜ length (now note) ≤ longest-full-name ⌝ }
-    ensures { λ _. ⌜ SameRun (old run) (new run) ⌝ }
-    ensures { λ _. ⌜ PutLine (old words) (old text) (job-in branch (old run)) (old note)
+    ensures { λ _. ⌜ SamePath (old run) (new run) ⌝ }
+    ensures { λ _. ⌜ PutLine (old words) (old text) (job-in branch (want .matched) (old run)) (old note)
         (tally-in (new run)) (old flat) (new flat) (old out) (new out) ⌝ }
 {
     let lines = run[LINES];
     let bytes = run[BYTES];
     let size = run[LENGTH] + memory_access::text_len(words, branch) as usize + note.len();
-    try_line(words, text, branch, note, run, flat, out);
+    try_line(words, text, branch, note, want, run, flat, out);
     let most = run[MOST_BYTES];
     run[LINES] = add(lines, 1, run[MOST_LINES]);
     run[BYTES] = add(bytes, size, most);
@@ -101,16 +103,17 @@ fn put_line(
 pub fn line(
     words: &[u32],
     text: &[u8],
-    ask: Ask,
     found: Labelled,
     run: &mut [usize; RUN],
+    want: Want,
     flat: &mut [u8],
     out: &mut [u8],
 )
-    requires { ⌜ CanList (now words) (now text) ask found (now run) ⌝ }
-    ensures { λ _. ⌜ Listed (old words) (old text) ask found (old run) (new run)
+    requires { ⌜ CanList (now words) (now text) want found (now run) ⌝ }
+    ensures { λ _. ⌜ Listed (old words) (old text) want found (old run) (new run)
         (old flat) (new flat) (old out) (new out) ⌝ }
 {
+    let ask = want.ask;
     if !listing_annotation::kept(words, ask, found.link) {
         return;
     }
@@ -128,5 +131,5 @@ pub fn line(
         b" ns ",
         b"(ns)",
     );
-    put_line(words, text, found.link, note, run, flat, out);
+    put_line(words, text, found.link, note, want, run, flat, out);
 }

@@ -35,12 +35,13 @@ module _ {ws txt : List ℕ} {j : Job} (ok : JobOk ws txt j) where
     pub note-room : length note ≤ length (midOf end (length out₁ - end) out₁)
     note-room = room-left out₁ end (length note) (omega (arith, x .end, laid-length x, candidate-length, room .out-room))
 
-    pub line-put : {out₂ flat₁ row : List ℕ} → out₂ ≡ put-text (midOf end (length out₁ - end) out₁) 0 note
-        → row ≡ line-row (record-at ws (j .branch)) (j .matched) (j .tally .bytes) (end - j .tally .bytes) (length note)
+    pub line-put : {out₂ flat₁ row : List ℕ} {m : ℕ} → out₂ ≡ put-text (midOf end (length out₁ - end) out₁) 0 note
+        → m ≡ j .matched
+        → row ≡ line-row (record-at ws (j .branch)) m (j .tally .bytes) (end - j .tally .bytes) (length note)
         → Stored row 0 12 (midOf (j .tally .lines * line-bytes) (length flat - j .tally .lines * line-bytes) flat) flat₁
         → LinePut ws txt j note flat (putMid (j .tally .lines * line-bytes)
         (length flat - j .tally .lines * line-bytes) flat flat₁) out (putMid end (length out₁ - end) out₁ out₂)
-    line-put {flat₁ = flat₁} {row} p q r =
+    line-put {flat₁ = flat₁} {row} p k q r =
         let e : end - j .tally .bytes ≡ length (candidate-of ws txt (j .path) (j .branch)) = omega (arith, x .end) in
         let z : j .tally .bytes + length (candidate-of ws txt (j .path) (j .branch) ++ note) ≡ end + length note =
         omega (arith, x .end, length-append (candidate-of ws txt (j .path) (j .branch)) note) in
@@ -48,7 +49,7 @@ module _ {ws txt : List ℕ} {j : Job} (ok : JobOk ws txt j) where
         let some = room-left flat (j .tally .lines * line-bytes) line-bytes (room .flat-room) in
         record {
           bytes = take line-bytes flat₁;
-          spell = row-spelled size some r ∙ q ∙ rw e;
+          spell = row-spelled size some r ∙ q ∙ rw (k, e);
           flat-laid = lent-laid (j .tally .lines * line-bytes) (omega (arith, room .flat-room)) (row-laid size some r);
           out-laid = rw z (laid-more x
               (lent-laid end (omega (arith, x .end, x .fits, laid-length x)) (text-laid refl note-room refl p)));

@@ -39,7 +39,6 @@ pub record JobOk (ws txt : List ℕ) (j : Job) : Type 0 where
   pub path : PathAt ws txt (j .path)
   pub branch : TextAt ws txt (j .branch)
   pub small : Small (j .lim)
-  pub fits : j .matched ≤ 4294967295
 
 -- The candidate of a branch below a path.
 abbrev pub candidate-of : (ws txt : List ℕ) → Path → ℕ → Str

@@ -1,4 +1,4 @@
--- The lent run: the path to the trie at hand, what the completion has taken and may take, and the match length.
+-- The lent run: the path to the trie at hand, what the completion has taken and may take.
 --
 --   number   of a run
 --   0..15    the path's links
@@ -7,15 +7,17 @@
 --   18       the path's label
 --   19..21   tries entered, lines, bytes
 --   22..24   how many of each may be
---   25       match length, 4294967295 for -1
 use Prim.Native.Nat.{ℕ, _≤_}
+use mathlib.Core.Path.{_≡_}
 use mathlib.Core.List.{List}
+use lib.IntN.{ℤ, pos, negsuc}
 use lib.ListN.{getD}
+use Rattle.source.specs.Calls.{signed-word}
 use Rattle.listing_output.specs.Path.{Path}
 
 -- How many numbers a run is.
 abbrev pub run-size : ℕ
-run-size = 26
+run-size = 25
 
 -- What a completion has taken.
 pub record Tally : Type 0 where
@@ -44,10 +46,16 @@ tally-in run = record { entered = getD run 19 0; lines = getD run 20 0; bytes = 
 abbrev pub limits-in : List ℕ → Limits
 limits-in run = record { budget = getD run 22 0; lines = getD run 23 0; bytes = getD run 24 0 }
 
-abbrev pub matched-in : List ℕ → ℕ
-matched-in run = getD run 25 0
+-- The word that a line has for a match length: 4294967295 for -1.
+abbrev pub length-word : ℤ → ℕ
+length-word (pos m) = m
+length-word (negsuc k) = 4294967295
 
--- A line to list: its path and branch, what matched, what the completion may take and what it has taken.
+-- A match length that its word tells: -1, or one that 32 bits hold.
+abbrev pub Told : ℤ → Type 0
+Told m = signed-word (length-word m) ≡ m
+
+-- A line to list: its path and branch, the word of what matched, what the completion may take and what it has taken.
 pub record Job : Type 0 where
   pub path : Path
   pub branch : ℕ
@@ -55,6 +63,6 @@ pub record Job : Type 0 where
   pub lim : Limits
   pub tally : Tally
 
-abbrev pub job-in : ℕ → List ℕ → Job
-job-in branch run =
-    record { path = path-in run; branch = branch; matched = matched-in run; lim = limits-in run; tally = tally-in run }
+abbrev pub job-in : ℕ → ℤ → List ℕ → Job
+job-in branch m run =
+    record { path = path-in run; branch = branch; matched = length-word m; lim = limits-in run; tally = tally-in run }

@@ -1,4 +1,5 @@
 // The writing of one line into the lent output: its candidate, its annotation, its twelve words.
+use listing_ask::Ask;
 ghost use mathlib.Core.Path.{_≡_};
 ghost use Prim.Native.Nat.{_+_, _*_, _<_, _≤_};
 ghost use lib.ListN.{length};
@@ -6,8 +7,14 @@ ghost use Rattle.source.specs.Lent.{old, new};
 ghost use Rattle.source.specs.Limits.{record-words};
 ghost use Rattle.memory.specs.Layout.{record-at, key-at};
 ghost use Rattle.text.specs.Laid.{Laid};
-ghost use Rattle.listing_output.specs.Run.{path-in, job-in};
+ghost use Rattle.listing_output.specs.Run.{path-in, length-word, job-in};
 ghost use Rattle.listing_output.specs.Parts.{TextAt, PathAt, JobOk, LineFits, candidate-of, line-row, LinePut};
+
+// What is wanted of a branch or a trie: what is asked, and the match length of what is listed.
+pub struct Want {
+    pub ask: Ask,
+    pub matched: i32,
+}
 
 // Words of a line, and its bytes.
 pub const LINE: usize = 12;
@@ -39,13 +46,10 @@ pub const BUDGET: usize = 22;
 // lines,
 pub const MOST_LINES: usize = 23;
 
-// bytes;
+// bytes.
 pub const MOST_BYTES: usize = 24;
 
-// the match length of what is listed, 4294967295 for -1.
-pub const MATCHED: usize = 25;
-
-pub const RUN: usize = 26;
+pub const RUN: usize = 25;
 
 // Writes the key of a branch from `at` on: lends on the part after the last text.
 fn put_key(words: &[u32], text: &[u8], branch: u32, out: &mut [u8], at: usize) -> usize
@@ -86,6 +90,16 @@ fn put_candidate(
     put_key(words, text, branch, out, end)
 }
 
+// The word that a line has for a match length: 4294967295 for -1.
+fn length_word(matched: i32) -> u32
+    ensures { λ r. ⌜ r ≡ length-word matched ⌝ }
+{
+    if matched < 0 {
+        return 4294967295;
+    }
+    matched as u32
+}
+
 // The words of a line.
 fn line_row(
     words: &[u32],
@@ -121,13 +135,14 @@ pub fn write_line(
     text: &[u8],
     branch: u32,
     note: &[u8],
+    want: Want,
     run: &[usize; RUN],
     flat: &mut [u8],
     out: &mut [u8],
 )
-    requires { ⌜ JobOk (now words) (now text) (job-in branch (now run)) ⌝ }
-    requires { ⌜ LineFits (now words) (job-in branch (now run)) (now note) (now flat) (now out) ⌝ }
-    ensures { λ _. ⌜ LinePut (old words) (old text) (job-in branch (old run)) (old note)
+    requires { ⌜ JobOk (now words) (now text) (job-in branch (want .matched) (now run)) ⌝ }
+    requires { ⌜ LineFits (now words) (job-in branch (want .matched) (now run)) (now note) (now flat) (now out) ⌝ }
+    ensures { λ _. ⌜ LinePut (old words) (old text) (job-in branch (want .matched) (old run)) (old note)
         (old flat) (new flat) (old out) (new out) ⌝ }
 {
     let at = run[BYTES];
@@ -137,7 +152,7 @@ pub fn write_line(
     let row = line_row(
         words,
         branch,
-        run[MATCHED] as u32,
+        length_word(want.matched),
         at as u32,
         (end - at) as u32,
         note.len() as u32,

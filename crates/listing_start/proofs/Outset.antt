@@ -1,16 +1,16 @@
--- At the root no element was matched: that is the match length that a run begins with.
-use Prim.Native.Nat.{ℕ}
+-- At the root no element was matched: the match length is -1.
+use mathlib.Core.Path.{refl}
 use mathlib.Core.List.{[]}
+use lib.IntN.{negsuc}
 use Rattle.source.specs.Text.{Query}
 use Rattle.source.specs.Calls.{signed-word}
 use Rattle.source.proofs.Paths.{match-length-none}
-use Rattle.listing_output.specs.Run.{matched-in}
+use Rattle.listing_output.specs.Run.{Told}
 use Rattle.listing_step.specs.Steps.{Matching}
-use Rattle.listing_start.specs.Outset.{start-run}
 
-abbrev pub unmatched : ℕ
-unmatched = matched-in (start-run 0 0 0)
-
-pub root-matching : (q : Query) → Matching [] q unmatched
-unfolding signed-word
+pub root-matching : (q : Query) → Matching [] q (negsuc 0)
 root-matching q = record { length-is = match-length-none [] tt; all-matched = λ n. tt }
+
+pub root-told : Told (negsuc 0)
+unfolding signed-word
+root-told = refl

@@ -3,6 +3,6 @@ use Prim.Native.Nat.{ℕ}
 use mathlib.Core.List.{List, [], _∷_, _++_}
 use lib.ListN.{replicate}
 
--- A run at the root: an empty path, nothing taken, what may be taken, and no element matched.
+-- A run at the root: an empty path, nothing taken, and what may be taken.
 abbrev pub start-run : (budget lines bytes : ℕ) → List ℕ
-start-run budget lines bytes = replicate 22 0 ++ (budget ∷ lines ∷ bytes ∷ 4294967295 ∷ [])
+start-run budget lines bytes = replicate 22 0 ++ (budget ∷ lines ∷ bytes ∷ [])

@@ -21,7 +21,7 @@ pub fn lines_lent(bytes: usize) -> usize
     lent(bytes / listing_output::LINE_BYTES)
 }
 
-// A run at the root: nothing is taken, so much may be, and -1 is the match length, since no element was matched.
+// A run at the root: nothing is taken, and so much may be.
 pub fn start(budget: usize, lines: usize, bytes: usize) -> [usize; listing_output::RUN]
     ensures { λ r. ⌜ r ≡ start-run budget lines bytes ⌝ }
 {
@@ -29,6 +29,5 @@ pub fn start(budget: usize, lines: usize, bytes: usize) -> [usize; listing_outpu
     run[listing_output::BUDGET] = budget;
     run[listing_output::MOST_LINES] = lines;
     run[listing_output::MOST_BYTES] = bytes;
-    run[listing_output::MATCHED] = 4294967295;
     run
 }

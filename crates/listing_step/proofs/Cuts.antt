@@ -6,7 +6,7 @@ use mathlib.Core.List.{[], _∷_, nil≢cons}
 use mathlib.Core.Option.{none, some}
 use native.Mathlib.Omega.{arith}
 use native.Mathlib.Numerals.{add-one}
-use lib.IntN.{pos}
+use lib.IntN.{ℤ, pos}
 use lib.ListN.{length, take, drop, length-drop}
 use lib.Seq.{length-take-le}
 use borrow.Author.Tests.{ne-eqb}
@@ -17,6 +17,7 @@ use Rattle.source.proofs.Paths.{match-length-skip, match-length-some, so-far-is
 use Rattle.text_query.specs.Queries.{before-dot}
 use Rattle.text_query.proofs.Segments.{first-segment, before-inside}
 use Rattle.find_list.specs.Entries.{by-prefix, by-all}
+use Rattle.listing_output.specs.declared.Want.{Want}
 use Rattle.listing_step.specs.Steps.{Cuts}
 
 signed-small : (m : ℕ) → m < 4294967295 → signed-word m ≡ pos m
@@ -24,10 +25,10 @@ unfolding signed-word
 signed-small m h = rw (ne-eqb m 4294967295 (λ e. omega arith))
 
 -- No segment left: an element that is not matched adds nothing.
-pub cuts-none : (query : Str) (len matched : ℕ) → length query ≡ 0
-    → Cuts query len matched (record { len = 0; next = 0; matched = matched })
+pub cuts-none : (query : Str) (len : ℕ) (want : Want) → length query ≡ 0
+    → Cuts query len want (record { len = 0; next = 0; want = want })
 unfolding segments ns-search-term bindings-search-term ends-in-dot
-cuts-none [] len matched e = record {
+cuts-none [] len want e = record {
   within = omega arith;
   inside = omega arith;
   ends = refl;
@@ -37,9 +38,10 @@ cuts-none [] len matched e = record {
   last-one = λ h. refl;
   more = λ h. absurd (omega arith);
   steps = λ path l m el p. record { length-is = match-length-skip el path p ∙ m .length-is; all-matched = λ n. absurd (n refl) };
-  fits = λ h. h;
+  told = λ h. h;
+  ask-same = refl;
 }
-cuts-none (b ∷ s) len matched e = absurd (omega arith)
+cuts-none (b ∷ s) len want e = absurd (omega arith)
 
 no-rest : (s : Str) → length s ≡ 0 → segments s ≡ []
 unfolding segments
@@ -54,11 +56,13 @@ unfolding bindings-search-term
 two s x = rw (x .2)
 
 -- A segment: what it takes is matched.
-pub cuts-some : (query : Str) (len matched k m : ℕ) → ends-in-dot query ≡ true → (length query ≡ 0 → ⊥)
+pub cuts-some : (query : Str) (len : ℕ) (want : Want) (k : ℕ) (m : ℤ) → ends-in-dot query ≡ true
+    → (length query ≡ 0 → ⊥)
     → length query ≤ 544 → len ≤ 544
-    → k ≡ before-dot query → m ≡ len + k → Cuts query len matched (record { len = k; next = k + 1; matched = m })
+    → k ≡ before-dot query → m ≡ pos (len + k)
+    → Cuts query len want (record { len = k; next = k + 1; want = record { ask = want .ask; matched = m } })
 unfolding ns-search-term bindings-search-term
-cuts-some query len matched k m d n short small e em =
+cuts-some query len want k m d n short small e em =
     let inside = before-inside query d (omega arith) in
     let f = first-segment query inside in
     let split : segments query ≡ take k query ∷ segments (drop (k + 1) query) = rw (add-one k, e) (f .splits) in
@@ -77,17 +81,17 @@ cuts-some query len matched k m d n short small e em =
           record {
             length-is =
                 match-length-some el path (take k query) p
-                ∙ ap pos (let q : _ ≡ m = omega (
+                ∙ ap pos (let q : _ ≡ len + k = omega (
                   arith,
                   so-far-is path (g .all-matched (λ z. nil≢cons (sym z ∙ split))),
                   l,
-                  em,
                   length-take-le k query (omega arith),
                 ) in q)
-                ∙ sym (signed-small m (omega arith));
+                ∙ sym em;
             all-matched = λ z. ((take k query, p), g .all-matched (λ z. nil≢cons (sym z ∙ split)));
           };
-      fits = λ h. omega arith;
+      told = λ h. rw em (signed-small (len + k) (omega arith));
+      ask-same = refl;
     }
 
 -- What `&s[0..n]` holds.

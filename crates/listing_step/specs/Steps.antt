@@ -6,8 +6,8 @@ use mathlib.Core.Logic.{_⊎_}
 use mathlib.Core.List.{List, [], _∷_, reverse, tail}
 use mathlib.Core.Option.{Option, some}
 use lib.Dec.{eqb}
+use lib.IntN.{ℤ}
 use lib.ListN.{length, getD, set, take, drop}
-use Rattle.source.specs.Calls.{signed-word}
 use Rattle.source.specs.Limits.{deepest-trie}
 use Rattle.source.specs.Text.{Str, Query, segments, ends-in-dot}
 use Rattle.source.specs.Trees.{PathElem}
@@ -19,24 +19,25 @@ use Rattle.memory.specs.Layout.{record-at, text-len, pick}
 use Rattle.find_list.specs.Entries.{Asks}
 use Rattle.listing_output.specs.Path.{Path}
 use Rattle.listing_line.specs.Goes.{Past}
-use Rattle.listing_output.specs.Run.{path-in, limits-in, matched-in}
+use Rattle.listing_output.specs.Run.{path-in, limits-in, Told}
+use Rattle.listing_output.specs.declared.Want.{Want}
 use Rattle.listing_annotation.specs.declared.Labelled.{Labelled}
 use Rattle.listing_step.specs.declared.Before.{Before}
 use Rattle.listing_step.specs.declared.Cut.{Cut}
 
 -- ---- The place in the source's listing
 
--- The match length of a path, by its word; where segments are left each element was matched.
-pub record Matching (path : PathOf) (q : Query) (m : ℕ) : Type 0 where
-  pub length-is : match-length-of-path (reverse path) ≡ signed-word m
+-- The match length of a path; where segments are left each element was matched.
+pub record Matching (path : PathOf) (q : Query) (m : ℤ) : Type 0 where
+  pub length-is : match-length-of-path (reverse path) ≡ m
   pub all-matched : (q ≡ [] → ⊥) → Allˡ (λ el. (p : Str) × (el .segment .prefix ≡ some p)) path
 
 -- The same of each path that an element with the prefix field o makes.
-abbrev pub MatchingOn : (path : PathOf) (o : Option Str) (q : Query) (m : ℕ) → Type 0
+abbrev pub MatchingOn : (path : PathOf) (o : Option Str) (q : Query) (m : ℤ) → Type 0
 MatchingOn path o q m = (el : PathElem) → el .segment .prefix ≡ o → Matching (el ∷ path) q m
 
 -- Where a query is cut: before its first dot, and after it. An empty one has no segment.
-pub record Cuts (query : Str) (len matched : ℕ) (c : Cut) : Type 0 where
+pub record Cuts (query : Str) (len : ℕ) (want : Want) (c : Cut) : Type 0 where
   pub within : c .len ≤ c .next
   pub inside : c .next ≤ length query
   pub ends : ends-in-dot (drop (c .next) query) ≡ true
@@ -45,27 +46,27 @@ pub record Cuts (query : Str) (len matched : ℕ) (c : Cut) : Type 0 where
   pub rest : segments (drop (c .next) query) ≡ tail (segments query)
   pub last-one : length query ≤ c .next → bindings-search-term (segments query) ≡ ns-search-term (segments query)
   pub more : c .next < length query → bindings-search-term (segments query) ≡ NSTNone
-  pub steps : (path : PathOf) → len ≡ length (base path) → Matching path (segments query) matched
-      → MatchingOn path prefix-is (tail (segments query)) (c .matched)
-  pub fits : matched ≤ 4294967295 → c .matched ≤ 4294967295
+  pub steps : (path : PathOf) → len ≡ length (base path) → Matching path (segments query) (want .matched)
+      → MatchingOn path prefix-is (tail (segments query)) (c .want .matched)
+  pub told : Told (want .matched) → Told (c .want .matched)
+  pub ask-same : c .want .ask ≡ want .ask
 
 -- Bindings are skipped only where more than one segment is left, or the tally is past the limits.
 pub record Skips (run : List ℕ) (size next : ℕ) (r : Bool) : Type 0 where
   pub when : r ≡ true → (next < size) ⊎ Past (limits-in run) (getD run 20 0) (getD run 21 0)
   pub unless : r ≡ false → size ≤ next
 
--- The run with one more trie entered, and the match length m.
-abbrev pub begun : List ℕ → ℕ → List ℕ
-begun run m = set (set run 19 (getD run 19 0 + 1)) 25 m
+-- The run with one more trie entered.
+abbrev pub begun : List ℕ → List ℕ
+begun run = set run 19 (getD run 19 0 + 1)
 
 -- What a run has before it enters a namespace.
 abbrev pub before-of : List ℕ → Before
-before-of run =
-    record { n = path-in run .n; len = path-in run .len; label = path-in run .label; matched = matched-in run }
+before-of run = record { n = path-in run .n; len = path-in run .len; label = path-in run .label }
 
 -- The run with that again.
 unfoldable pub left : List ℕ → Before → List ℕ
-left run b = set (set (set (set run 16 (b .n)) 17 (b .len)) 18 (b .label)) 25 (b .matched)
+left run b = set (set (set run 16 (b .n)) 17 (b .len)) 18 (b .label)
 
 -- The path p with one more branch.
 pub record PathDown (ws : List ℕ) (p : Path) (branch label : ℕ) (r : Path) : Type 0 where

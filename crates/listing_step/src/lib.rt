@@ -1,5 +1,6 @@
 // The steps between two lists of a run: the cut of the query, the limits, the path.
 use listing_annotation::Labelled;
+use listing_output::Want;
 ghost use mathlib.Core.Path.{_≡_};
 ghost use mathlib.Core.Bool.{true};
 ghost use Prim.Native.Nat.{_+_, _*_, _≤_, _<_};
@@ -10,30 +11,35 @@ ghost use Rattle.source.specs.Text.{ends-in-dot};
 ghost use Rattle.listing_output.specs.Run.{path-in, tally-in, run-size};
 ghost use Rattle.listing_step.specs.Steps.{Cuts, Skips, Entered, PathSet, begun, before-of, left};
 
-// Where a query is cut: the first segment's length, where the rest begins, and the match length of what the segment takes.
+// Where a query is cut: the first segment's length, where the rest begins, and what is wanted of what the segment takes.
 pub struct Cut {
     pub len: usize,
     pub next: usize,
-    pub matched: usize,
+    pub want: Want,
 }
 
 // Cuts the first segment off, if there is one.
-pub fn cut_query(query: &[u8], base: usize, matched: usize) -> Cut
+pub fn cut_query(query: &[u8], base: usize, want: Want) -> Cut
     requires { ⌜ (ends-in-dot (now query) ≡ true) × (length (now query) ≤ longest-query) × (base ≤ longest-query) ⌝ }
-    ensures { λ r. ⌜ Cuts (old query) base matched r ⌝ }
+    ensures { λ r. ⌜ Cuts (old query) base want r ⌝ }
 {
     if query.len() == 0 {
         return Cut {
             len: 0,
             next: 0,
-            matched: matched,
+            want: want,
         };
     }
     let len = text_query::segment_length(query);
+    let ask = want.ask;
+    let here = Want {
+        ask: ask,
+        matched: (base + len) as i32,
+    };
     Cut {
         len: len,
         next: len + 1,
-        matched: base + len,
+        want: here,
     }
 }
 
@@ -50,21 +56,19 @@ pub fn skips_bindings(run: &[usize; listing_output::RUN], size: usize, next: usi
     run[listing_output::MOST_BYTES] < run[listing_output::BYTES]
 }
 
-// Counts the trie at hand as entered, and gives the run the match length of its lists.
-pub fn begin(run: &mut [usize; listing_output::RUN], matched: usize)
+// Counts the trie at hand as entered.
+pub fn begin(run: &mut [usize; listing_output::RUN])
     requires { ⌜ (length (now run) ≡ run-size) × (tally-in (now run) .entered ≤ 4294967295) ⌝ }
-    ensures { λ _. ⌜ new run ≡ begun (old run) matched ⌝ }
+    ensures { λ _. ⌜ new run ≡ begun (old run) ⌝ }
 {
     run[listing_output::ENTERED] = run[listing_output::ENTERED] + 1;
-    run[listing_output::MATCHED] = matched;
 }
 
-// What a run has again when it leaves a namespace: the numbers of its path, and its match length.
+// What a run has again when it leaves a namespace: the numbers of its path.
 pub struct Before {
     pub n: usize,
     pub len: usize,
     pub label: usize,
-    pub matched: usize,
 }
 
 // Gives the path as many of its links, the length and the label.
@@ -90,7 +94,6 @@ pub fn enter(words: &[u32], found: Labelled, run: &mut [usize; listing_output::R
         n: n,
         len: run[listing_output::LENGTH],
         label: run[listing_output::LABEL],
-        matched: run[listing_output::MATCHED],
     };
     let len = before.len + memory_access::text_len(words, found.link) as usize + 1;
     let mut label = before.label;
@@ -110,5 +113,4 @@ pub fn leave(run: &mut [usize; listing_output::RUN], before: Before)
     run[listing_output::COUNT] = before.n;
     run[listing_output::LENGTH] = before.len;
     run[listing_output::LABEL] = before.label;
-    run[listing_output::MATCHED] = before.matched;
 }

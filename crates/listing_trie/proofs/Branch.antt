@@ -5,8 +5,8 @@ use mathlib.Core.Bool.{Bool, true, false, true≢false}
 use mathlib.Core.List.{List, _∷_}
 use mathlib.Core.Option.{Option}
 use native.Mathlib.Omega.{arith}
+use lib.IntN.{ℤ}
 use lib.ListN.{length, getD}
-use lib.Seq.{getD-set-same}
 use Rattle.source.specs.Text.{Str}
 use Rattle.source.specs.Types.{Level, Value, bind, ns}
 use Rattle.source.specs.Trees.{PathElem}
@@ -21,9 +21,10 @@ use Rattle.find_list.specs.Entries.{shown, outer}
 use Rattle.listing_ask.specs.Ask.{asked}
 use Rattle.listing_output.specs.Path.{Path, BranchAt}
 use Rattle.listing_line.specs.OnPath.{LabelAt}
-use Rattle.listing_output.specs.Run.{Tally, Limits, path-in, tally-in, limits-in, matched-in, run-size}
+use Rattle.listing_output.specs.Run.{Tally, Limits, path-in, tally-in, limits-in, run-size}
+use Rattle.listing_output.specs.declared.Want.{Want}
 use Rattle.listing_line.specs.SameRun.{SamePath}
-use Rattle.listing_line.proofs.Run.{path-then, path-matched, tally-matched, tally-after, limits-after}
+use Rattle.listing_line.proofs.Run.{tally-after, limits-after}
 use Rattle.listing_line.specs.Lines.{CanList, Listed}
 use Rattle.listing_ask.specs.declared.Ask.{Ask}
 use Rattle.listing_annotation.specs.declared.Labelled.{Labelled}
@@ -60,19 +61,19 @@ module _ (ws txt : List ℕ) (w : Which) (ℓ : Level) (o : Option Str) (branch 
   shown-prefix = ap (λ y. y .1 .0 .prefix) e
 
 -- The line of a branch of bindings.
-pub leaf-runs : {ws txt : List ℕ} {rest : Str} {ask : Ask} {leaf : Bool} {f : Labelled}
+pub leaf-runs : {ws txt : List ℕ} {rest : Str} {want : Want} {leaf : Bool} {f : Labelled}
     {run run′ flat flat′ out out′ : List ℕ} → leaf ≡ true
-    → Listed ws txt ask f run run′ flat flat′ out out′
-    → BranchListed ws txt rest ask leaf run run′ flat flat′ out out′ f (tally-in run′ .entered)
-leaf-runs {ws} {txt} {rest} {ask} {leaf} {f} {run} {run′} {flat} {flat′} {out} {out′} e l = record { count = refl; same = l .same; runs = go leaf e }
+    → Listed ws txt want f run run′ flat flat′ out out′
+    → BranchListed ws txt rest want leaf run run′ flat flat′ out out′ f (tally-in run′ .entered)
+leaf-runs {ws} {txt} {rest} {want} {leaf} {f} {run} {run′} {flat} {flat′} {out} {out′} e l = record { count = refl; same = l .same; runs = go leaf e }
   where
     go : (z : Bool) → z ≡ true
-        → BranchRuns ws txt ask rest (path-in run) (limits-in run) (matched-in run) (tally-in run)
+        → BranchRuns ws txt (want .ask) rest (path-in run) (limits-in run) (want .matched) (tally-in run)
         (tally-in run′) flat flat′ out out′ z (f .link) (f .label)
     go false e = absurd (true≢false (sym e))
     go true e = record {
       goes = λ path x o n on st sh dp.
-          l .goes path x o on sh (st (x .0) (shown-prefix ws txt (asked ask) bind o (f .link) (f .label) x sh) .length-is);
+          l .goes path x o on sh (st (x .0) (shown-prefix ws txt (asked (want .ask)) bind o (f .link) (f .label) x sh) .length-is);
     }
 
 module _ {ws txt : List ℕ} {ask : Ask} {rest : Str} {p : Path} {lim : Limits} where
@@ -116,7 +117,7 @@ module _ {ws txt : List ℕ} {ask : Ask} {rest : Str} {p : Path} {lim : Limits} 
           room = rw c (omega (arith, r .room e, d .count, ap depth (child-reads (space-at .0))));
         }
 
-        pub space-runs : {matched : ℕ} {a t : Tally} {flat flat′ out out′ : List ℕ}
+        pub space-runs : {matched : ℤ} {a t : Tally} {flat flat′ out out′ : List ℕ}
             → TrieRuns ws txt ask rest longer lim matched a t flat flat′ out out′ child
             → BranchRuns ws txt ask rest p lim matched a t flat flat′ out out′ leaf branch label
         space-runs {matched} {a} {t} {flat} {flat′} {out} {out′} runs = go leaf e
@@ -133,29 +134,29 @@ module _ {ws txt : List ℕ} {ask : Ask} {rest : Str} {p : Path} {lim : Limits} 
             }
 
 -- A line can be listed.
-pub line-ready : {ws txt : List ℕ} {rest : Str} {ask : Ask} {leaf : Bool} {f : Labelled} {run : List ℕ}
-    → BranchAsked ws txt rest ask leaf run f
-    → leaf ≡ true → CanList ws txt ask f run
+pub line-ready : {ws txt : List ℕ} {rest : Str} {want : Want} {leaf : Bool} {f : Labelled} {run : List ℕ}
+    → BranchAsked ws txt rest want leaf run f
+    → leaf ≡ true → CanList ws txt want f run
 line-ready r e = record {
   path-ok = r .can .ready .path-ok;
   branch-at = leaf-at (r .can) e .0;
   label-at = leaf-at (r .can) e .1;
   small = r .can .ready .small;
-  fits = r .fits;
+  told = r .told;
 }
 
 -- A namespace is entered, listed and left.
-module _ {ws txt : List ℕ} {rest : Str} {ask : Ask} {f : Labelled} {run run₁ : List ℕ} {child : ℕ}
-    (r : BranchAsked ws txt rest ask false run f) (d : Entered ws f run run₁)
+module _ {ws txt : List ℕ} {rest : Str} {want : Want} {f : Labelled} {run run₁ : List ℕ} {child : ℕ}
+    (r : BranchAsked ws txt rest want false run f) (d : Entered ws f run run₁)
     (c : child ≡ trie-link (record-at ws (f .link))) where
-  pub namespace-ready : TrieAsked ws txt rest ask run₁ child
+  pub namespace-ready : TrieAsked ws txt rest want run₁ child
   namespace-ready = record {
     can = rw (limits-after run run₁ (d .after)) (child-ready (r .can) refl (d .down) c);
-    fits = omega (arith, d .after 25 (omega arith), r .fits);
+    told = r .told;
   }
 
   module _ {run₂ flat flat′ out out′ : List ℕ} {e : ℕ}
-      (t : TrieListed ws txt rest ask run₁ run₂ flat flat′ out out′ child e) where
+      (t : TrieListed ws txt rest want run₁ run₂ flat flat′ out out′ child e) where
     pub namespace-sized : length run₂ ≡ run-size
     namespace-sized = t .same .size ∙ d .down .size ∙ r .can .ready .path-ok .sized
 
@@ -177,15 +178,12 @@ module _ {ws txt : List ℕ} {rest : Str} {ask : Ask} {f : Labelled} {run run₁
     }
 
     pub namespace-runs : {b : Before} {run₃ : List ℕ} → b ≡ before-of run → run₃ ≡ left run₂ b
-        → BranchListed ws txt rest ask false run run₃ flat flat′ out out′ f e
+        → BranchListed ws txt rest want false run run₃ flat flat′ out out′ f e
     unfolding left
     namespace-runs h k = rw (k, h) (record {
-      count = t .count ∙ sym (ap (λ z. z .entered) (tally-matched back (matched-in run) ∙ tally-after run₂ back (set-back .after)));
-      same = record {
-        path = path-then path-back (path-matched back (matched-in run) (omega (arith, set-back .count, r .can .ready .path-ok .few)));
-        matched-same = getD-set-same back 25 (matched-in run) 0 (omega (arith, path-back .size, r .can .ready .path-ok .sized));
-      };
+      count = t .count ∙ sym (ap (λ z. z .entered) (tally-after run₂ back (set-back .after)));
+      same = path-back;
       runs =
-          let k = rw (limits-after run run₁ (d .after), d .after 25 (omega arith), tally-after run run₁ (d .after)) at (t .runs) in
-          space-runs (r .can) refl (d .down) c (rw (tally-matched back (matched-in run), tally-after run₂ back (set-back .after)) k);
+          let k = rw (limits-after run run₁ (d .after), tally-after run run₁ (d .after)) at (t .runs) in
+          space-runs (r .can) refl (d .down) c (rw (tally-after run₂ back (set-back .after)) k);
     })

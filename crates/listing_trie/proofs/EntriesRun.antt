@@ -4,6 +4,7 @@ use mathlib.Core.Path.{_≡_, refl, sym, _∙_}
 use mathlib.Core.Bool.{Bool, false}
 use mathlib.Core.List.{List, [], _∷_, map, nil≢cons}
 use mathlib.Core.Option.{Option}
+use lib.IntN.{ℤ}
 use lib.ListN.{length}
 use Rattle.source.specs.Text.{Str, segments}
 use Rattle.source.specs.Types.{Value}
@@ -23,7 +24,7 @@ use Rattle.listing_line.proofs.Goes.{goes-none, goes-then, goes-spent}
 use Rattle.listing_step.specs.Steps.{MatchingOn}
 use Rattle.listing_trie.specs.Runs.{HasRoom, level-of, elements-give, BranchRuns, EntriesRun}
 
-module _ (ws txt : List ℕ) (ask : Ask) (rest : Str) (p : Path) (lim : Limits) (matched : ℕ) (leaf : Bool) where
+module _ (ws txt : List ℕ) (ask : Ask) (rest : Str) (p : Path) (lim : Limits) (matched : ℤ) (leaf : Bool) where
   abbrev pub Element : Type 0
   Element = PathElem × Value (Item (asked ask)) (level-of leaf)
 

@@ -7,6 +7,7 @@ use mathlib.Core.Option.{Option, some}
 use native.Mathlib.Omega.{arith}
 use native.Mathlib.Decide.{ℕ-discrete}
 use lib.Dec.{eqb}
+use lib.IntN.{ℤ}
 use lib.ListN.{length, getD, take, drop}
 use borrow.Author.Tests.{eq-eqb, ne-eqb}
 use Rattle.source.specs.Text.{Str, starts-with}
@@ -36,14 +37,14 @@ use Rattle.merge.specs.Stream as M
 use Rattle.merge.specs.Stream.{Merge, Step, later, left-in, AnyRest, Starts, Gives, OneTree}
 use Rattle.merge.proofs.Cells.{later-end, later-next}
 use Rattle.merge.proofs.Rest.{rest-any, gives-end, gives-more}
-use Rattle.listing_output.specs.Run.{Tally, Limits, path-in, tally-in, limits-in, matched-in}
+use Rattle.listing_output.specs.Run.{Tally, Limits, path-in, tally-in, limits-in}
 use Rattle.listing_ask.specs.Ask.{asked}
 use Rattle.listing_output.specs.Path.{Path, BranchAt}
 use Rattle.listing_line.specs.OnPath.{LabelAt}
-use Rattle.listing_line.specs.SameRun.{SameRun}
+use Rattle.listing_line.specs.SameRun.{SamePath}
 use Rattle.listing_ask.specs.declared.Ask.{Ask}
 use Rattle.listing_annotation.specs.declared.Labelled.{Labelled}
-use Rattle.listing_line.proofs.Run.{same-run, same-then}
+use Rattle.listing_line.proofs.Run.{same-run, path-then}
 use Rattle.listing_trie.specs.Runs.{HasRoom, level-of, elements-give, tree-entries, BranchReady, BranchRuns, TreeReady, EntriesRun, ListReady, ListRuns}
 use Rattle.listing_trie.specs.Runs.{BranchAsked, BranchListed, TreeAsked, TreeListed, ListAsked, ListListed}
 use Rattle.listing_trie.specs.declared.Search.{Search}
@@ -106,7 +107,7 @@ module _ {ws txt : List ℕ} {w : Which} {ℓ : Level} {root : ℕ} (t : At ws t
       go (yes z) = (rw (ne-eqb at 0 n, eq-eqb r 0 z, later-end t prefix at (sym e ∙ z)), record { matching = λ m. absurd (m z) })
       go (no m) = let k = later-next t prefix at r e m in (rw (ne-eqb at 0 n, ne-eqb r 0 m, k .is-next), record { matching = λ m. k .match })
 
-module _ (ws txt : List ℕ) (ask : Ask) (rest : Str) (p : Path) (lim : Limits) (matched : ℕ) (leaf : Bool)
+module _ (ws txt : List ℕ) (ask : Ask) (rest : Str) (p : Path) (lim : Limits) (matched : ℤ) (leaf : Bool)
     (root label : ℕ) (prefix : Str) where
   -- The run over a tree has come to the branch at.
   pub record Along (a t : Tally) (flat flat′ out out′ : List ℕ) (at : ℕ) : Type 0 where
@@ -115,7 +116,7 @@ module _ (ws txt : List ℕ) (ask : Ask) (rest : Str) (p : Path) (lim : Limits) 
         (labelled label (onward ws txt prefix root at))
     pub standing : Standing tree-at prefix at
 
-module _ {ws txt : List ℕ} {ask : Ask} {rest : Str} {p : Path} {lim : Limits} {matched : ℕ} {leaf : Bool}
+module _ {ws txt : List ℕ} {ask : Ask} {rest : Str} {p : Path} {lim : Limits} {matched : ℤ} {leaf : Bool}
     {root label : ℕ} {prefix : Str} where
   pub along-first : {a : Tally} {flat out : List ℕ} {at : ℕ} → TreeReady ws txt ask rest p lim leaf root label prefix
       → at ≡ head0 (matches ws txt root prefix)
@@ -191,8 +192,9 @@ module _ {ws txt : List ℕ} {ask : Ask} {rest : Str} {p : Path} {lim : Limits} 
 module _ (ws txt : List ℕ) (query : Str) (place : Search) (f : Labelled) (run run′ flat flat′ out out′ notes : List ℕ)
     (s : Next) where
   pub record Stepping : Type 0 where
-    pub same : SameRun run run′
-    pub along : Along ws txt (place .ask) (drop (place .next) query) (path-in run) (limits-in run) (matched-in run)
+    pub same : SamePath run run′
+    pub along : Along ws txt (place .want .ask) (drop (place .next) query) (path-in run) (limits-in run)
+        (place .want .matched)
         (place .leaf)
         (f .link) (f .label) (take (place .len) query) (tally-in run) (tally-in run′) flat flat′ out out′ (s .link)
     pub noted : (s .link ≡ 0 → ⊥) → Noted ws txt (take (place .len) query) notes (s .n) (s .link)
@@ -224,21 +226,21 @@ module _ {ws txt : List ℕ} {query : Str} {place : Search} {f : Labelled} {run 
 
     module _ (n : s .link ≡ 0 → ⊥) where
       pub stepping-branch : TreeAsked ws txt query place run f
-          → BranchAsked ws txt (drop (place .next) query) (place .ask) (place .leaf) run′ at-hand
+          → BranchAsked ws txt (drop (place .next) query) (place .want) (place .leaf) run′ at-hand
       stepping-branch r = record {
-        can = branch-ready-at (g .same .path) (along-branch (g .along) n (r .can));
-        fits = omega (arith, g .same .matched-same, r .place-ok .fits);
+        can = branch-ready-at (g .same) (along-branch (g .along) n (r .can));
+        told = r .place-ok .told;
       }
 
       module _ {run″ flat″ out″ : List ℕ} {e : ℕ}
-          (b : BranchListed ws txt (drop (place .next) query) (place .ask)
+          (b : BranchListed ws txt (drop (place .next) query) (place .want)
           (place .leaf) run′ run″ flat′ flat″ out′ out″ at-hand e)
           (lf : length flat″ ≡ length flat′) (lo : length out″ ≡ length out′) where
         pub stepping-spent : getD run 22 0 < e
             → TreeListed ws txt query place run run″ flat flat″ out out″ f
         stepping-spent k = record {
-          same = same-then (g .same) (b .same);
-          runs = along-spent (g .along) n (branch-runs-at (g .same .path) (g .same .matched-same) (b .runs)) lf lo (omega (arith, b .count));
+          same = path-then (g .same) (b .same);
+          runs = along-spent (g .along) n (branch-runs-at (g .same) (b .runs)) lf lo (omega (arith, b .count));
         }
 
         module _ {notes′ : List ℕ} {s′ : Next}
@@ -247,8 +249,8 @@ module _ {ws txt : List ℕ} {query : Str} {place : Search} {f : Labelled} {run 
           pub stepping-next : Stepping ws txt query place f run run″ flat flat″ out out″ notes′ s′
           unfolding onward
           stepping-next = record {
-            same = same-then (g .same) (b .same);
-            along = along-next (g .along) n (branch-runs-at (g .same .path) (g .same .matched-same) (b .runs)) lf lo (w .head);
+            same = path-then (g .same) (b .same);
+            along = along-next (g .along) n (branch-runs-at (g .same) (b .runs)) lf lo (w .head);
             noted = noted-after ws txt (take (place .len) query) (f .link) w
                 (let e = next-onward (g .along .tree-at) (take (place .len) query) (s .link) (s′ .link) n (w .head) .0 in
                 tail-of (sym (rw (ne-eqb (s .link) 0 n) at e)));
@@ -259,7 +261,7 @@ module _ {ws txt : List ℕ} {query : Str} {place : Search} {f : Labelled} {run 
 
           pub stepping-less : length (onward ws txt (take (place .len) query) (f .link) (s′ .link))
               < length (onward ws txt (take (place .len) query) (f .link) (s .link))
-          stepping-less = along-less (g .along) n (branch-runs-at (g .same .path) (g .same .matched-same) (b .runs)) lf lo (w .head)
+          stepping-less = along-less (g .along) n (branch-runs-at (g .same) (b .runs)) lf lo (w .head)
 
 -- ---- A list
 
@@ -300,7 +302,7 @@ module _ {ws txt : List ℕ} {ask : Ask} {rest : Str} {p : Path} {lim : Limits} 
           (found-deep n (NSTPrefix prefix)))
 
 -- What runs over entries that show what is found runs over the list.
-pub entries-list : {ws txt : List ℕ} {ask : Ask} {rest : Str} {p : Path} {lim : Limits} {matched : ℕ} {leaf : Bool}
+pub entries-list : {ws txt : List ℕ} {ask : Ask} {rest : Str} {p : Path} {lim : Limits} {matched : ℤ} {leaf : Bool}
     {x : ℕ} {prefix : Str} {es : List Entry} {a t : Tally} {flat flat′ out out′ : List ℕ}
     → ((term : SearchTerm) (o : Option Str) → Asks term prefix o
     → map outer (found (what (asked ask) ws txt x (list (level-of leaf))) term)
@@ -329,8 +331,8 @@ unfolding elements-give
 none-runs {ws} {txt} {place = place} {run = run} {flat} {out} {x} e = record {
   same = same-run run;
   runs = record {
-    goes = λ path term o n on st asks dp. rw (found-empty (what (asked (place .ask)) ws txt x (list (level-of (place .leaf))))
-        (rw (e, what-none (asked (place .ask)) ws txt)) term) (goes-none (tally-in run) flat out);
+    goes = λ path term o n on st asks dp. rw (found-empty (what (asked (place .want .ask)) ws txt x (list (level-of (place .leaf))))
+        (rw (e, what-none (asked (place .want .ask)) ws txt)) term) (goes-none (tally-in run) flat out);
   };
 }
 
@@ -338,7 +340,8 @@ none-runs {ws} {txt} {place = place} {run = run} {flat} {out} {x} e = record {
 
 module _ {ws txt : List ℕ} {query : Str} {place : Search} {run : List ℕ} {x root label : ℕ}
     (r : ListAsked ws txt query place run x)
-    (o : OneTree ws txt (asked (place .ask)) (level-of (place .leaf)) x (take (place .len) query) root label) where
+    (o : OneTree ws txt (asked (place .want .ask)) (level-of (place .leaf)) x
+    (take (place .len) query) root label) where
   abbrev pub alone : Labelled
   alone = record { link = root; label = label }
 
@@ -346,8 +349,8 @@ module _ {ws txt : List ℕ} {query : Str} {place : Search} {run : List ℕ} {x 
   one-earlier = omega (arith, o .root-link .earlier)
 
   one-says : (term : SearchTerm) (q : Option Str) → Asks term (take (place .len) query) q
-      → map outer (found (what (asked (place .ask)) ws txt x (list (level-of (place .leaf)))) term)
-      ≡ map (shown (asked (place .ask)) ws txt (level-of (place .leaf)) q)
+      → map outer (found (what (asked (place .want .ask)) ws txt x (list (level-of (place .leaf)))) term)
+      ≡ map (shown (asked (place .want .ask)) ws txt (level-of (place .leaf)) q)
       (tree-entries ws txt root label (take (place .len) query))
   unfolding tree-entries
   one-says term q asks = o .says term q asks
@@ -373,14 +376,15 @@ module _ (ws txt : List ℕ) (query : Str) (place : Search) (x : ℕ) (run run�
     (m : Merge) where
   -- The run over a list has come to what the state m gives.
   pub record Merging : Type 0 where
-    pub same : SameRun run run′
+    pub same : SamePath run run′
     pub all : List Entry
     pub says : (term : SearchTerm) (o : Option Str) → Asks term (take (place .len) query) o
-        → map outer (found (what (asked (place .ask)) ws txt x (list (level-of (place .leaf)))) term)
-        ≡ map (shown (asked (place .ask)) ws txt (level-of (place .leaf)) o) all
+        → map outer (found (what (asked (place .want .ask)) ws txt x (list (level-of (place .leaf)))) term)
+        ≡ map (shown (asked (place .want .ask)) ws txt (level-of (place .leaf)) o) all
     pub entries : List Entry
-    pub gives : M.Rest ws txt (asked (place .ask)) (level-of (place .leaf)) x (take (place .len) query) m entries
-    pub left : Left ws txt (place .ask) (drop (place .next) query) (path-in run) (limits-in run) (matched-in run)
+    pub gives : M.Rest ws txt (asked (place .want .ask)) (level-of (place .leaf)) x (take (place .len) query) m entries
+    pub left : Left ws txt (place .want .ask) (drop (place .next) query) (path-in run) (limits-in run)
+        (place .want .matched)
         (place .leaf)
         (tally-in run) (tally-in run′) flat flat′ out out′ all entries
 
@@ -388,14 +392,15 @@ module _ {ws txt : List ℕ} {query : Str} {place : Search} {x : ℕ} {run : Lis
   pub merging-first : {flat out : List ℕ} {m : Merge} → ListAsked ws txt query place run x
       → Starts ws txt x (take (place .len) query) m → Merging ws txt query place x run run flat flat out out m
   merging-first r s =
-      let k = s (asked (place .ask)) (level-of (place .leaf)) (r .can .list-at) in
+      let k = s (asked (place .want .ask)) (level-of (place .leaf)) (r .can .list-at) in
       record {
         same = same-run run;
         all = k .entries;
         says = k .says;
         entries = k .entries;
         gives = k .rest;
-        left = left-all ws txt (place .ask) (drop (place .next) query) (path-in run) (limits-in run) (matched-in run)
+        left = left-all ws txt (place .want .ask) (drop (place .next) query) (path-in run) (limits-in run)
+            (place .want .matched)
             (place .leaf)
             (list-room (r .can) (take (place .len) query) (k .entries) (k .says));
       }
@@ -420,13 +425,13 @@ module _ {ws txt : List ℕ} {query : Str} {place : Search} {x : ℕ} {run : Lis
         merging-less = gives-more (g .gives) f n .given .fewer
 
         pub merging-branch : ListAsked ws txt query place run x
-            → BranchAsked ws txt (drop (place .next) query) (place .ask) (place .leaf) run′ given
+            → BranchAsked ws txt (drop (place .next) query) (place .want) (place .leaf) run′ given
         merging-branch r =
             let k = gives-more (g .gives) f n in
             let t = r .can .list-at in
             record {
-              fits = omega (arith, g .same .matched-same, r .place-ok .fits);
-              can = branch-ready-at (g .same .path) (record {
+              told = r .place-ok .told;
+              can = branch-ready-at (g .same) (record {
                 ready = r .can .ready;
                 branch-at = record {
                   some = k .given .branch .some;
@@ -441,20 +446,20 @@ module _ {ws txt : List ℕ} {query : Str} {place : Search} {x : ℕ} {run : Lis
             }
 
         module _ {run″ flat″ out″ : List ℕ} {e : ℕ}
-            (b : BranchListed ws txt (drop (place .next) query) (place .ask)
+            (b : BranchListed ws txt (drop (place .next) query) (place .want)
             (place .leaf) run′ run″ flat′ flat″ out′ out″ given e)
             (lf : length flat″ ≡ length flat′) (lo : length out″ ≡ length out′) where
           pub merging-next : Merging ws txt query place x run run″ flat flat″ out out″ (s .m)
           merging-next =
               let k = gives-more (g .gives) f n in
               record {
-                same = same-then (g .same) (b .same);
+                same = path-then (g .same) (b .same);
                 all = g .all;
                 says = g .says;
                 entries = k .after;
                 gives = k .given .rest;
                 left = left-next ws txt _ _ _ _ _ _ (rw (k .is) at (g .left))
-                    (branch-runs-at (g .same .path) (g .same .matched-same) (b .runs)) lf lo;
+                    (branch-runs-at (g .same) (b .runs)) lf lo;
               }
 
           pub merging-spent : getD run 22 0 < e

@@ -6,6 +6,7 @@ use mathlib.Core.List.{List, []}
 use mathlib.Core.Logic.{_⊎_, inl, inr}
 use native.Mathlib.Omega.{arith}
 use lib.Dec.{ltb}
+use lib.IntN.{ℤ}
 use borrow.Author.Tests.{ltb-true, ltb-false}
 use lib.ListN.{length, getD, set, take, drop, length-drop}
 use Rattle.source.specs.Text.{Str, segments, ends-in-dot}
@@ -23,19 +24,20 @@ use Rattle.memory.proofs.Tries.{lists-seen, bindings-at, namespaces-at, binding
 use Rattle.listing_ask.specs.Ask.{asked}
 use Rattle.listing_output.specs.Path.{Path}
 use Rattle.listing_line.specs.OnPath.{OnPath}
-use Rattle.listing_output.specs.Run.{Tally, Limits, path-in, tally-in, limits-in, matched-in}
+use Rattle.listing_output.specs.Run.{Tally, Limits, path-in, tally-in, limits-in}
+use Rattle.listing_output.specs.declared.Want.{Want}
 use Rattle.listing_line.specs.Goes.{Result, Past, Shows, Goes}
-use Rattle.listing_line.specs.SameRun.{SamePath, SameRun}
+use Rattle.listing_line.specs.SameRun.{SamePath}
 use Rattle.listing_ask.specs.declared.Ask.{Ask}
-use Rattle.listing_line.proofs.Run.{path-then, same-set, tally-entered, run-inside, path-inside, tally-inside, matched-inside}
+use Rattle.listing_line.proofs.Run.{path-then, same-set, tally-entered}
 use Rattle.listing_output.proofs.Written.{written-none}
 use Rattle.listing_line.proofs.Goes.{goes-none, goes-then, goes-past}
-use Rattle.listing_step.specs.Steps.{Matching, Cuts}
+use Rattle.listing_step.specs.Steps.{Matching, Cuts, begun}
 use Rattle.listing_trie.specs.Runs.{trie-gives, elements-give, RunReady, ListReady, ListRuns, TrieReady, TrieRuns, PlaceOk, ListAsked, ListListed}
 use Rattle.listing_trie.specs.Runs.{TrieAsked, TrieListed}
 use Rattle.listing_trie.specs.declared.Search.{Search}
 use Rattle.listing_step.specs.declared.Cut.{Cut}
-use Rattle.listing_trie.proofs.Runs.{list-ready-at, list-runs-at, place-ok-at}
+use Rattle.listing_trie.proofs.Runs.{list-ready-at, list-runs-at}
 use Rattle.listing_trie.proofs.TrieGives.{once, bind-entered, trie-gives-is}
 use Rattle.memory.proofs.At.{at-fits}
 
@@ -92,7 +94,7 @@ module _ {w : Which} {ws txt : List ℕ} {lim : Limits} where
 
 module _ {ws txt : List ℕ} {ask : Ask} {query : Str} {p : Path} {lim : Limits} {trie-link : ℕ}
     (r : TrieReady ws txt ask query p lim trie-link) where
-  pub trie-over : {matched : ℕ} {a : Tally} {flat out : List ℕ} → lim .budget ≤ a .entered
+  pub trie-over : {matched : ℤ} {a : Tally} {flat out : List ℕ} → lim .budget ≤ a .entered
       → TrieRuns ws txt ask query p lim matched a (record { entered = lim .budget + 1; lines = a .lines; bytes = a .bytes }) flat flat out out trie-link
   unfolding entered
   trie-over {matched} {a} {flat} {out} h = record { goes = λ path n on m d. goes-over a flat out _ h (some-entered n d) }
@@ -108,8 +110,8 @@ module _ {ws txt : List ℕ} {ask : Ask} {query : Str} {p : Path} {lim : Limits}
   pub cut-ready : (ends-in-dot query ≡ true) × (length query ≤ 544) × (p .len ≤ 544)
   cut-ready = (r .ready .ends, r .ready .short, omega (arith, r .ready .path-ok .short, r .ready .path-ok .few))
 
-  module _ {t : Trie} (seen : ReadTrie ws trie-link t) {matched : ℕ} {c : Cut}
-      (cut : Cuts query (p .len) matched c) where
+  module _ {t : Trie} (seen : ReadTrie ws trie-link t) {matched : ℤ} {c : Cut}
+      (cut : Cuts query (p .len) (record { ask = ask; matched = matched }) c) where
     pub bindings-earlier : t .bindings ≤ trie-link
     bindings-earlier = omega (arith, lists-seen (r .trie-at) seen .bindings .earlier)
 
@@ -143,9 +145,9 @@ module _ {ws txt : List ℕ} {ask : Ask} {query : Str} {p : Path} {lim : Limits}
     -- Both lists, or where more segments are left only the namespaces.
     module _ {a : Tally} (h : a .entered < lim .budget) where
       pub trie-both : {m e : Tally} {flat flat₁ flat₂ out out₁ out₂ : List ℕ} → length query ≤ c .next
-          → ListRuns ws txt ask (drop (c .next) query) p lim (c .matched) (inside a) m flat flat₁ out out₁ true
+          → ListRuns ws txt ask (drop (c .next) query) p lim (c .want .matched) (inside a) m flat flat₁ out out₁ true
           (t .bindings) (take (c .len) query)
-          → ListRuns ws txt ask (drop (c .next) query) p lim (c .matched) m e flat₁ flat₂ out₁ out₂ false
+          → ListRuns ws txt ask (drop (c .next) query) p lim (c .want .matched) m e flat₁ flat₂ out₁ out₂ false
           (t .namespaces) (take (c .len) query)
           → TrieRuns ws txt ask query p lim matched a e flat flat₂ out out₂ trie-link
       trie-both {m} {e} {flat} {flat₁} {flat₂} {out} {out₁} {out₂} last b n = record { goes = λ path k on mt d. go path k on mt d }
@@ -170,7 +172,7 @@ module _ {ws txt : List ℕ} {ask : Ask} {query : Str} {p : Path} {lim : Limits}
               (n .goes path _ (cut .prefix-is) k on (rw (cut .rest) st) (cut .asks) (λ z. omega (arith, deep)))))
 
       pub trie-spaces : {e : Tally} {flat flat₂ out out₂ : List ℕ} → c .next < length query
-          → ListRuns ws txt ask (drop (c .next) query) p lim (c .matched) (inside a) e flat flat₂ out out₂ false
+          → ListRuns ws txt ask (drop (c .next) query) p lim (c .want .matched) (inside a) e flat flat₂ out out₂ false
           (t .namespaces) (take (c .len) query)
           → TrieRuns ws txt ask query p lim matched a e flat flat₂ out out₂ trie-link
       unfolding elements-give
@@ -197,7 +199,7 @@ module _ {ws txt : List ℕ} {ask : Ask} {query : Str} {p : Path} {lim : Limits}
 
       -- Where lines or bytes are past the limits the bindings need no counting.
       pub trie-past : {e : Tally} {flat flat₂ out out₂ : List ℕ} → Past lim (a .lines) (a .bytes)
-          → ListRuns ws txt ask (drop (c .next) query) p lim (c .matched) (inside a) e flat flat₂ out out₂ false
+          → ListRuns ws txt ask (drop (c .next) query) p lim (c .want .matched) (inside a) e flat flat₂ out out₂ false
           (t .namespaces) (take (c .len) query)
           → TrieRuns ws txt ask query p lim matched a e flat flat₂ out out₂ trie-link
       trie-past {e} {flat} {flat₂} {out} {out₂} past n = record { goes = λ path k on mt d. go path k on mt d }
@@ -221,64 +223,58 @@ module _ {ws txt : List ℕ} {ask : Ask} {query : Str} {p : Path} {lim : Limits}
 
 -- ---- The lent run
 
-module _ {ws txt : List ℕ} {query : Str} {ask : Ask} {run : List ℕ} {x : ℕ} (r : TrieAsked ws txt query ask run x) where
+module _ {ws txt : List ℕ} {query : Str} {want : Want} {run : List ℕ} {x : ℕ}
+    (r : TrieAsked ws txt query want run x) where
   pub trie-spent : {flat out : List ℕ} → getD run 22 0 ≤ getD run 19 0
-      → TrieListed ws txt query ask run (set run 19 (getD run 22 0 + 1)) flat flat out out x (getD run 22 0 + 1)
+      → TrieListed ws txt query want run (set run 19 (getD run 22 0 + 1)) flat flat out out x (getD run 22 0 + 1)
   trie-spent h = record {
     count = sym (ap (λ z. z .entered) (tally-entered run (getD run 22 0 + 1) (r .can .ready .path-ok .sized)));
-    same = same-set run 19 (getD run 22 0 + 1) (r .can .ready .path-ok .few) (omega arith) (omega arith) .path;
+    same = same-set run 19 (getD run 22 0 + 1) (r .can .ready .path-ok .few) (omega arith) (omega arith);
     runs = rw (tally-entered run (getD run 22 0 + 1) (r .can .ready .path-ok .sized)) (trie-over (r .can) h);
   }
 
-  module _ {t : Trie} (seen : ReadTrie ws x t) {c : Cut} (cut : Cuts query (getD run 17 0) (matched-in run) c)
+  module _ {t : Trie} (seen : ReadTrie ws x t) {c : Cut} (cut : Cuts query (getD run 17 0) want c)
       (h : getD run 19 0 < getD run 22 0) where
     abbrev pub down : Bool → Search
-    down leaf = record { ask = ask; leaf = leaf; len = c .len; next = c .next }
+    down leaf = record { want = c .want; leaf = leaf; len = c .len; next = c .next }
 
     abbrev pub run₁ : List ℕ
-    run₁ = run-inside run (getD run 19 0 + 1) (c .matched)
+    run₁ = begun run
 
     same₁ : SamePath run run₁
-    same₁ = path-inside run (getD run 19 0 + 1) (c .matched) (r .can .ready .path-ok .few)
+    same₁ = same-set run 19 (getD run 19 0 + 1) (r .can .ready .path-ok .few) (omega arith) (omega arith)
 
     tally₁ : tally-in run₁ ≡ inside (tally-in run)
-    tally₁ = tally-inside run (getD run 19 0 + 1) (c .matched) (r .can .ready .path-ok .sized)
+    tally₁ = tally-entered run (getD run 19 0 + 1) (r .can .ready .path-ok .sized)
 
-    matched₁ : matched-in run₁ ≡ c .matched
-    matched₁ = matched-inside run (getD run 19 0 + 1) (c .matched) (r .can .ready .path-ok .sized)
-
-    place-ok : (leaf : Bool) → PlaceOk query (down leaf) run₁
-    place-ok leaf = record {
-      len-inside = omega (arith, cut .within, cut .inside);
-      next-inside = cut .inside;
-      fits = omega (arith, matched₁, cut .fits (r .fits));
-    }
+    place-ok : (leaf : Bool) → PlaceOk query (down leaf)
+    place-ok leaf = record { len-inside = omega (arith, cut .within, cut .inside); next-inside = cut .inside; told = cut .told (r .told) }
 
     pub bindings-asked : ListAsked ws txt query (down true) run₁ (t .bindings)
-    bindings-asked = record { place-ok = place-ok true; can = list-ready-at same₁ (trie-bindings-ready (r .can) seen cut) }
+    bindings-asked = record { place-ok = place-ok true; can = list-ready-at same₁ (rw (cut .ask-same) (trie-bindings-ready (r .can) seen cut)) }
 
-    pub namespaces-asked : {run₂ : List ℕ} → SameRun run₁ run₂
+    pub namespaces-asked : {run₂ : List ℕ} → SamePath run₁ run₂
         → ListAsked ws txt query (down false) run₂ (t .namespaces)
     namespaces-asked s = record {
-      place-ok = place-ok-at s (place-ok false);
-      can = list-ready-at (path-then same₁ (s .path)) (trie-namespaces-ready (r .can) seen cut);
+      place-ok = place-ok false;
+      can = list-ready-at (path-then same₁ s) (rw (cut .ask-same) (trie-namespaces-ready (r .can) seen cut));
     }
 
     module _ {run₂ flat flat₁ out out₁ : List ℕ} where
       pub trie-few : (c .next < length query) ⊎ Past (limits-in run) (getD run 20 0) (getD run 21 0)
           → ListListed ws txt query (down false) run₁ run₂ flat flat₁ out out₁ (t .namespaces)
-          → TrieListed ws txt query ask run run₂ flat flat₁ out out₁ x (tally-in run₂ .entered)
+          → TrieListed ws txt query want run run₂ flat flat₁ out out₁ x (tally-in run₂ .entered)
       trie-few skip n =
           record {
             count = refl;
-            same = path-then same₁ (n .same .path);
-            runs = go skip (rw tally₁ at (list-runs-at same₁ matched₁ (n .runs)));
+            same = path-then same₁ (n .same);
+            runs = go skip (rw (cut .ask-same, tally₁) at (list-runs-at same₁ (n .runs)));
           }
         where
           go : (c .next < length query) ⊎ Past (limits-in run) (getD run 20 0) (getD run 21 0)
-              → ListRuns ws txt ask (drop (c .next) query) (path-in run) (limits-in run) (c .matched)
+              → ListRuns ws txt (want .ask) (drop (c .next) query) (path-in run) (limits-in run) (c .want .matched)
               (inside (tally-in run)) (tally-in run₂) flat flat₁ out out₁ false (t .namespaces) (take (c .len) query)
-              → TrieRuns ws txt ask query (path-in run) (limits-in run) (matched-in run) (tally-in run)
+              → TrieRuns ws txt (want .ask) query (path-in run) (limits-in run) (want .matched) (tally-in run)
               (tally-in run₂) flat flat₁ out out₁ x
           go (inl more) m = trie-spaces (r .can) seen cut h more m
           go (inr past) m = trie-past (r .can) seen cut h past m
@@ -286,10 +282,10 @@ module _ {ws txt : List ℕ} {query : Str} {ask : Ask} {run : List ℕ} {x : ℕ
       pub trie-all : {run₃ flat₂ out₂ : List ℕ} → length query ≤ c .next
           → ListListed ws txt query (down true) run₁ run₂ flat flat₁ out out₁ (t .bindings)
           → ListListed ws txt query (down false) run₂ run₃ flat₁ flat₂ out₁ out₂ (t .namespaces)
-          → TrieListed ws txt query ask run run₃ flat flat₂ out out₂ x (tally-in run₃ .entered)
+          → TrieListed ws txt query want run run₃ flat flat₂ out out₂ x (tally-in run₃ .entered)
       trie-all last b n = record {
         count = refl;
-        same = path-then same₁ (path-then (b .same .path) (n .same .path));
-        runs = trie-both (r .can) seen cut h last (rw tally₁ at (list-runs-at same₁ matched₁ (b .runs)))
-            (list-runs-at (path-then same₁ (b .same .path)) (b .same .matched-same ∙ matched₁) (n .runs));
+        same = path-then same₁ (path-then (b .same) (n .same));
+        runs = trie-both (r .can) seen cut h last (rw (cut .ask-same, tally₁) at (list-runs-at same₁ (b .runs)))
+            (rw (cut .ask-same) at (list-runs-at (path-then same₁ (b .same)) (n .runs)));
       }

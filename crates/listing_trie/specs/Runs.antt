@@ -4,6 +4,7 @@ use mathlib.Core.Path.{_≡_}
 use mathlib.Core.Bool.{Bool, true, false}
 use mathlib.Core.List.{List, [], _∷_, map}
 use mathlib.Core.Option.{Option}
+use lib.IntN.{ℤ}
 use lib.ListN.{length, take, drop}
 use Rattle.source.specs.Limits.{longest-query, deepest-trie}
 use Rattle.source.specs.Text.{Str, Query, segments, ends-in-dot}
@@ -23,9 +24,10 @@ use Rattle.listing_ask.specs.Ask.{asked, line-for}
 use Rattle.listing_output.specs.Path.{Path, BranchAt}
 use Rattle.listing_line.specs.OnPath.{LabelAt, PathOk, OnPath}
 use Rattle.listing_line.specs.Goes.{Result, _⊕_, Goes}
-use Rattle.listing_output.specs.Run.{Tally, Limits, Small, path-in, tally-in, limits-in, matched-in}
+use Rattle.listing_output.specs.Run.{Tally, Limits, Small, path-in, tally-in, limits-in, Told}
+use Rattle.listing_output.specs.declared.Want.{Want}
 use Rattle.listing_line.specs.Lines.{only}
-use Rattle.listing_line.specs.SameRun.{SamePath, SameRun}
+use Rattle.listing_line.specs.SameRun.{SamePath}
 use Rattle.listing_ask.specs.declared.Ask.{Ask}
 use Rattle.listing_annotation.specs.declared.Labelled.{Labelled}
 use Rattle.listing_step.specs.Steps.{Matching, MatchingOn}
@@ -96,7 +98,7 @@ module _ (ws txt : List ℕ) (ask : Ask) (rest : Str) (p : Path) (lim : Limits) 
     pub room : p .n + depth (what (asked ask) ws txt trie trieˢ) ≤ deepest-trie
 
   -- The run went on by what is listed, wherever in the source's listing it stands.
-  module _ (matched : ℕ) (a t : Tally) (flat flat′ out out′ : List ℕ) where
+  module _ (matched : ℤ) (a t : Tally) (flat flat′ out out′ : List ℕ) where
     abbrev Went : Result (Item (asked ask)) → Type 0
     Went r = Goes (asked ask) ws txt lim a t flat flat′ out out′ r
 
@@ -134,53 +136,55 @@ module _ (ws txt : List ℕ) (ask : Ask) (rest : Str) (p : Path) (lim : Limits) 
 
 -- ---- The contracts: of a query that is cut, and the lent run; e is what is returned, the tries entered so far
 
-module _ (ws txt : List ℕ) (rest : Str) (ask : Ask) (leaf : Bool) (run : List ℕ) where
+module _ (ws txt : List ℕ) (rest : Str) (want : Want) (leaf : Bool) (run : List ℕ) where
   pub record BranchAsked (f : Labelled) : Type 0 where
-    pub can : BranchReady ws txt ask rest (path-in run) (limits-in run) leaf (f .link) (f .label)
-    pub fits : matched-in run ≤ 4294967295
+    pub can : BranchReady ws txt (want .ask) rest (path-in run) (limits-in run) leaf (f .link) (f .label)
+    pub told : Told (want .matched)
 
   pub record BranchListed (run′ flat flat′ out out′ : List ℕ) (f : Labelled) (e : ℕ) : Type 0 where
     pub count : e ≡ tally-in run′ .entered
-    pub same : SameRun run run′
-    pub runs : BranchRuns ws txt ask rest (path-in run) (limits-in run) (matched-in run)
+    pub same : SamePath run run′
+    pub runs : BranchRuns ws txt (want .ask) rest (path-in run) (limits-in run) (want .matched)
         (tally-in run) (tally-in run′) flat flat′ out out′ leaf (f .link) (f .label)
 
--- The query is cut within, and the match length fits.
-pub record PlaceOk (query : Str) (place : Search) (run : List ℕ) : Type 0 where
+-- The query is cut within, and the match length is one.
+pub record PlaceOk (query : Str) (place : Search) : Type 0 where
   pub len-inside : place .len ≤ length query
   pub next-inside : place .next ≤ length query
-  pub fits : matched-in run ≤ 4294967295
+  pub told : Told (place .want .matched)
 
 module _ (ws txt : List ℕ) (query : Str) (place : Search) (run : List ℕ) where
   pub record TreeAsked (f : Labelled) : Type 0 where
-    pub place-ok : PlaceOk query place run
-    pub can : TreeReady ws txt (place .ask) (drop (place .next) query) (path-in run) (limits-in run) (place .leaf)
+    pub place-ok : PlaceOk query place
+    pub can : TreeReady ws txt (place .want .ask) (drop (place .next) query) (path-in run) (limits-in run) (place .leaf)
         (f .link) (f .label) (take (place .len) query)
 
   pub record ListAsked (x : ℕ) : Type 0 where
-    pub place-ok : PlaceOk query place run
-    pub can : ListReady ws txt (place .ask) (drop (place .next) query) (path-in run) (limits-in run) (place .leaf) x
+    pub place-ok : PlaceOk query place
+    pub can : ListReady ws txt (place .want .ask) (drop (place .next) query) (path-in run) (limits-in run)
+        (place .leaf) x
 
   module _ (run′ flat flat′ out out′ : List ℕ) where
     pub record TreeListed (f : Labelled) : Type 0 where
-      pub same : SameRun run run′
-      pub runs : EntriesRun ws txt (place .ask) (drop (place .next) query) (path-in run) (limits-in run)
-          (matched-in run)
+      pub same : SamePath run run′
+      pub runs : EntriesRun ws txt (place .want .ask) (drop (place .next) query) (path-in run) (limits-in run)
+          (place .want .matched)
           (tally-in run) (tally-in run′) flat flat′ out out′ (place .leaf)
           (tree-entries ws txt (f .link) (f .label) (take (place .len) query))
 
     pub record ListListed (x : ℕ) : Type 0 where
-      pub same : SameRun run run′
-      pub runs : ListRuns ws txt (place .ask) (drop (place .next) query) (path-in run) (limits-in run) (matched-in run)
+      pub same : SamePath run run′
+      pub runs : ListRuns ws txt (place .want .ask) (drop (place .next) query) (path-in run) (limits-in run)
+          (place .want .matched)
           (tally-in run) (tally-in run′) flat flat′ out out′ (place .leaf) x (take (place .len) query)
 
-module _ (ws txt : List ℕ) (query : Str) (ask : Ask) (run : List ℕ) where
+module _ (ws txt : List ℕ) (query : Str) (want : Want) (run : List ℕ) where
   pub record TrieAsked (x : ℕ) : Type 0 where
-    pub can : TrieReady ws txt ask query (path-in run) (limits-in run) x
-    pub fits : matched-in run ≤ 4294967295
+    pub can : TrieReady ws txt (want .ask) query (path-in run) (limits-in run) x
+    pub told : Told (want .matched)
 
   pub record TrieListed (run′ flat flat′ out out′ : List ℕ) (x e : ℕ) : Type 0 where
     pub count : e ≡ tally-in run′ .entered
     pub same : SamePath run run′
-    pub runs : TrieRuns ws txt ask query (path-in run) (limits-in run) (matched-in run) (tally-in run)
+    pub runs : TrieRuns ws txt (want .ask) query (path-in run) (limits-in run) (want .matched) (tally-in run)
         (tally-in run′) flat flat′ out out′ x

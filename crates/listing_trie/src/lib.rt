@@ -2,39 +2,39 @@
 // One run serves counting and writing: a line is written where it fits what is lent, and counting lends nothing.
 // The calls go no deeper than six to a trie, and tries no deeper than 17. The listing of a trie, and of a branch, returns the tries entered so far.
 use listing_annotation::Labelled;
-use listing_ask::Ask;
+use listing_output::Want;
 use merge::Cursor;
 ghost use mathlib.Core.Bool.{true, false};
 ghost use Prim.Native.Nat.{_+_, _<_};
 ghost use Rattle.source.specs.Lent.{old, new};
 ghost use Rattle.listing_trie.specs.Runs.{BranchAsked, BranchListed, TreeAsked, TreeListed, ListAsked, ListListed, TrieAsked, TrieListed};
 
-// Where a run stands in a trie: what is asked, whether the list is of bindings, and where the query is cut.
+// Where a run stands in a trie: what is wanted, whether the list is of bindings, and where the query is cut.
 struct Search {
-    ask: Ask,
+    want: Want,
     leaf: bool,
     len: usize,
     next: usize,
 }
 
-// What a found namespace gives, its listing: path and match length are those of the namespace meanwhile.
+// What a found namespace gives, its listing: the path is that of the namespace meanwhile.
 fn list_below(
     words: &[u32],
     text: &[u8],
     rest: &[u8],
-    ask: Ask,
+    want: Want,
     found: Labelled,
     run: &mut [usize; listing_output::RUN],
     flat: &mut [u8],
     out: &mut [u8],
 ) -> usize
-    requires { ⌜ BranchAsked (now words) (now text) (now rest) ask false (now run) found ⌝ }
-    ensures { λ e. ⌜ BranchListed (old words) (old text) (old rest) ask false
+    requires { ⌜ BranchAsked (now words) (now text) (now rest) want false (now run) found ⌝ }
+    ensures { λ e. ⌜ BranchListed (old words) (old text) (old rest) want false
         (old run) (new run) (old flat) (new flat) (old out) (new out) found e ⌝ }
 {
     let child = memory_access::held_of(words, found.link);
     let before = listing_step::enter(words, found, run);
-    let entered = list_trie(words, text, rest, ask, child, run, flat, out);
+    let entered = list_trie(words, text, rest, want, child, run, flat, out);
     listing_step::leave(run, before);
     entered
 }
@@ -50,16 +50,16 @@ fn list_branch(
     flat: &mut [u8],
     out: &mut [u8],
 ) -> usize
-    requires { ⌜ BranchAsked (now words) (now text) (now rest) (place .ask) (place .leaf) (now run) found ⌝ }
-    ensures { λ e. ⌜ BranchListed (old words) (old text) (old rest) (place .ask) (place .leaf)
+    requires { ⌜ BranchAsked (now words) (now text) (now rest) (place .want) (place .leaf) (now run) found ⌝ }
+    ensures { λ e. ⌜ BranchListed (old words) (old text) (old rest) (place .want) (place .leaf)
         (old run) (new run) (old flat) (new flat) (old out) (new out) found e ⌝ }
 {
-    let ask = place.ask;
+    let want = place.want;
     if place.leaf {
-        listing_line::line(words, text, ask, found, run, flat, out);
+        listing_line::line(words, text, found, run, want, flat, out);
         return run[listing_output::ENTERED];
     }
-    list_below(words, text, rest, ask, found, run, flat, out)
+    list_below(words, text, rest, want, found, run, flat, out)
 }
 
 // What the branches of a tree that begin with a prefix give, in order, each with the tree's label. Stops once the budget is passed.
@@ -207,19 +207,19 @@ fn list_names(
 }
 
 // The source's trie_find_prefix': the trie is entered, then its bindings, where at most one segment is left, and its namespaces.
-// Once lines or bytes are past the limits only the tries entered are counted. Leaves the match length of its own lists in the run.
+// Once lines or bytes are past the limits only the tries entered are counted.
 pub fn list_trie(
     words: &[u32],
     text: &[u8],
     query: &[u8],
-    ask: Ask,
+    want: Want,
     trie: u32,
     run: &mut [usize; listing_output::RUN],
     flat: &mut [u8],
     out: &mut [u8],
 ) -> usize
-    requires { ⌜ TrieAsked (now words) (now text) (now query) ask (now run) trie ⌝ }
-    ensures { λ e. ⌜ TrieListed (old words) (old text) (old query) ask (old run) (new run)
+    requires { ⌜ TrieAsked (now words) (now text) (now query) want (now run) trie ⌝ }
+    ensures { λ e. ⌜ TrieListed (old words) (old text) (old query) want (old run) (new run)
         (old flat) (new flat) (old out) (new out) trie e ⌝ }
 {
     let budget = run[listing_output::BUDGET];
@@ -230,13 +230,14 @@ pub fn list_trie(
         return budget + 1;
     }
     let t = memory_access::trie_of(words, trie);
-    let c = listing_step::cut_query(query, base, run[listing_output::MATCHED]);
+    let c = listing_step::cut_query(query, base, want);
     let skip = listing_step::skips_bindings(run, query.len(), c.next);
-    listing_step::begin(run, c.matched);
+    listing_step::begin(run);
+    let here = c.want;
     let len = c.len;
     let next = c.next;
     let namespaces = Search {
-        ask: ask,
+        want: here,
         leaf: false,
         len: len,
         next: next,
@@ -246,7 +247,7 @@ pub fn list_trie(
         return run[listing_output::ENTERED];
     }
     let bindings = Search {
-        ask: ask,
+        want: here,
         leaf: true,
         len: len,
         next: next,

@@ -5,6 +5,7 @@ use native.Mathlib.Omega.{arith}
 use Rattle.listing.proofs.Completes.{root-ready, root-runs, root-shows, flat-kept, out-kept, writes-then, set-small, all-fit, completes-spent}
 use Rattle.listing.proofs.Completes.{completes-past, completes-listed}
 use Rattle.listing.proofs.Admitted.{query-whole}
+use Rattle.listing_start.proofs.Outset.{root-told}
 use borrow.Author.Needs.{needs}
 use Rattle.listing.proofs.complete.Statement.{statement}
 use Rattle.listing.proofs.complete.Tie as tie
@@ -46,7 +47,7 @@ complete-spec =
             lines-are = c .before .before .before .before .before .before .lines-lent .ensures;
             bytes-are = c .before .before .before .before .before .lent .ensures;
           }));
-      fits = omega arith;
+      told = root-told;
     }))
     {- same-length -}
     (λ c. search needs)
@@ -123,12 +124,12 @@ complete-spec =
             bytes-are = (let u = c .before .before .before .before .before .before .before .before .before .before .before .before .before .before in
                 u .before .before .before .lent .ensures);
           }));
-      fits = omega arith;
+      told = root-told;
     }))
-    {- cast-t40 -}
+    {- cast-t41 -}
     (λ c. let s = c .before .before .before .before .before .before .before .before .before .before in
     omega (arith, s .if2 .left, s .before .before .before .before .before .before .before .before .before .before .before .before .before .lines-lent .ensures))
-    {- cast-t41 -}
+    {- cast-t42 -}
     (λ c. let s = c .before .before .before .before .before .before .before .before .before .before .before in
     omega (arith, s .if1 .left, s .before .before .before .before .before .before .before .before .before .before .struct-known .given .1 .0 .fits))
     {- same-length-7 -}

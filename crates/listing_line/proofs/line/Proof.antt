@@ -17,7 +17,7 @@ line-spec =
     {- kept-requires -}
     (λ c κs. search needs)
     {- returns -}
-    (λ c. listed-none (c .before .before .before .before .before .before .args .ask) (sym (c .before .kept .ensures _) ∙ not-true _ (c .if1 .taken)))
+    (λ c. listed-none (c .before .before .before .before .before .before .args .want .ask) (sym (c .before .kept .ensures _) ∙ not-true _ (c .if1 .taken)))
     {- outermost-requires -}
     (λ c κs. search needs)
     {- slice-aggregate-annotation -}
@@ -36,7 +36,7 @@ line-spec =
     let s2 = s .before .before .before .before .before .before .before .before in (
       job-ok (s2 .pre),
       rw (c .before .before .before .annotation .ensures)
-          (noted-short (s2 .args .ask) (s2 .args .words .now) (s2 .args .text .now) _ (outermost-text (s2 .pre) (s .outermost .ensures))),
+          (noted-short (s2 .args .want .ask) (s2 .args .words .now) (s2 .args .text .now) _ (outermost-text (s2 .pre) (s .outermost .ensures))),
     ))
     {- same-length -}
     (λ c. search needs)
@@ -45,5 +45,6 @@ line-spec =
     {- returns-2 -}
     (λ c. let s = c .before .before .before .before in let s2 = s .before .before .before .before in let s3 = s2 .before .before .before .before .before in
     let s4 = s3 .before .before in let s5 = s4 .before .before .before .before .before .before in
-    listed-one (s5 .args .ask) (s5 .pre .branch-at) (s .put-line .ensures .0) (sym (s4 .before .kept .ensures _) ∙ not-false _ (s4 .if1 .left))
+    listed-one (s5 .args .want .ask) (s5 .pre .branch-at) (s5 .pre .told) (s .put-line .ensures .0)
+    (sym (s4 .before .kept .ensures _) ∙ not-false _ (s4 .if1 .left))
     (rw (s2 .annotation .ensures, s3 .outermost .ensures) at (s .put-line .ensures .1))))

@@ -1,5 +1,9 @@
 -- `listing_output::write_line` meets its contract.
 use Rattle.listing_output.proofs.Put.{candidate-length, note-room, line-put}
+use mathlib.Core.Path.{ap, _∙_}
+use mir.Syntax.{w32}
+use mir.ValLaws.{toZ-ofZ}
+use Rattle.listing_output.specs.Run.{length-word}
 use native.Mathlib.Omega.{arith}
 use Rattle.listing_output.proofs.write_line.Statement.{statement}
 use Rattle.listing_output.proofs.write_line.Tie as tie
@@ -26,22 +30,20 @@ write-line-spec =
     {- put-text-requires -}
     (λ c κs. let s = c .before .before .before .before .before .before .before .before .before .before .before .before in
     omega (arith, note-room (s .pre .0) (s .pre .1) (c .before .before .before .put-candidate .ensures)))
-    {- element-copy-out-line-row -}
-    (λ c. search needs)
+    {- length-word-requires -}
+    (λ c κs. search needs)
     {- cast-line-row -}
-    (λ c. search needs)
-    {- cast-line-row-2 -}
     (λ c. search needs)
     {- sub-line-row -}
     (λ c. search needs)
-    {- cast-line-row-3 -}
-    (λ c. let s = c .before .before .before .before .before .before .before in
+    {- cast-line-row-2 -}
+    (λ c. let s = c .before .before .before .before .before .before .before .before in
     let s2 = s .before .before .before .before .before .before .before .before .before in
     omega (arith, s .put-candidate .ensures .end, candidate-length (s2 .pre .0), s2 .pre .1 .small))
-    {- cast-line-row-4 -}
+    {- cast-line-row-3 -}
     (λ c. search needs)
     {- line-row-requires -}
-    (λ c κs. let s = c .before .before .before .before .before .before .before in
+    (λ c κs. let s = c .before .before .before .before .before .before .before .before in
     let pre = s .before .before .before .before .before .before .before .before .before .pre in
     omega (arith, s .put-candidate .ensures .end, candidate-length (pre .0), pre .1 .small, pre .0 .branch .some, pre .0 .branch .within))
     {- sub-store -}
@@ -59,6 +61,11 @@ write-line-spec =
     {- same-length-2 -}
     (λ c. search needs)
     {- returns -}
-    (λ c. let s = c .before .before .before .before .before in let s2 = s .before .before .before .before in let s3 = s2 .before .before .before .before in
+    (λ c. let s = c .before .before .before .before .before in let s2 = s .before .before .before .before .before in
+    let s3 = s2 .before .before .before .before in
     let s4 = s3 .before .before .before .before .before .before .before .before .before in
-    line-put (s4 .pre .0) (s4 .pre .1) (s3 .put-candidate .ensures) (s2 .put-text .ensures) (s .line-row .ensures) (c .before .before .store .ensures)))
+    line-put (s4 .pre .0) (s4 .pre .1) (s3 .put-candidate .ensures) (s2 .put-text .ensures)
+    (c .before .before .before .before .before .before .length-word .ensures
+    ∙ ap length-word (toZ-ofZ w32 (s4 .args .want .matched)
+    (record { sfits = c .before .before .before .before .before .before .before .struct-told .given .1 .0 .1 }))) (s .line-row .ensures)
+    (c .before .before .store .ensures)))

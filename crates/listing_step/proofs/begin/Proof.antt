@@ -1,4 +1,4 @@
--- `begin` counts one trie, and gives the match length.
+-- `begin` counts one trie.
 use mathlib.Core.Path.{refl}
 use borrow.Author.Needs.{needs}
 use Rattle.listing_step.proofs.begin.Statement.{statement}
@@ -13,8 +13,6 @@ begin-spec =
     {- add-run -}
     (λ c. search needs)
     {- element-write-run -}
-    (λ c. search needs)
-    {- element-write-run-2 -}
     (λ c. search needs)
     {- returns -}
     (λ c. refl))

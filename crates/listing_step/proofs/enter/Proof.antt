@@ -16,8 +16,6 @@ enter-spec =
     (λ c. search needs)
     {- element-copy-out-len -}
     (λ c. search needs)
-    {- element-copy-out-run -}
-    (λ c. search needs)
     {- element-copy-out-len-2 -}
     (λ c. search needs)
     {- text-len-requires -}
@@ -41,7 +39,7 @@ enter-spec =
     {- set-path-requires -}
     (λ c κs. search needs)
     {- returns -}
-    (λ c. let s = c .before .before .before in let s2 = s .before .before .before .before .before .before .before .before in (
+    (λ c. let s = c .before .before .before in let s2 = s .before .before .before .before .before .before .before in (
       refl,
       run-entered (s2 .args .found) (s2 .pre .1) (c .set-path .ensures) (omega (arith, s .before .before .text-len .ensures))
           (⊎-elim (λ z. z .2 ∙ rw (eq-eqb _ 0 (z .0 .taken))) (λ z. z .1 ∙ rw (ne-eqb _ 0 (z .0 .left))) (s .if1 .came)),

@@ -16,7 +16,5 @@ leave-spec =
     (λ c. search needs)
     {- element-write-run-3 -}
     (λ c. search needs)
-    {- element-write-run-4 -}
-    (λ c. search needs)
     {- returns -}
     (λ c. refl))

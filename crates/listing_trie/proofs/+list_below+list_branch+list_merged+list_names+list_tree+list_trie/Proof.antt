@@ -191,7 +191,7 @@ pub +list-below+list-branch+list-merged+list-names+list-tree+list-trie-spec : {M
     (list-branch-at t)
     list-branch.Post
     {- line-requires -}
-    (λ c κs. line-ready (c .before .before .before .before .before .before .before .before .before .pre .1) (c .before .before .before .if1 .taken))
+    (λ c κs. line-ready (c .before .before .before .before .before .before .before .before .before .before .pre .1) (c .before .before .before .if1 .taken))
     {- element-copy-out-result -}
     (λ c. search needs)
     {- same-length -}
@@ -201,7 +201,7 @@ pub +list-below+list-branch+list-merged+list-names+list-tree+list-trie-spec : {M
     {- returns -}
     (λ c. let s = c .before .before .before .before .before in leaf-runs (s .before .before .before .before .if1 .taken) (s .line .ensures))
     {- list-below-requires -}
-    (λ c κs. let s = c .before .before .before .before .before .before .before .before .before in
+    (λ c κs. let s = c .before .before .before .before .before .before .before .before .before .before in
     (omega (arith, s .pre .0), rw (c .before .before .before .if1 .left) at (s .pre .1)))
     {- same-length-3 -}
     (λ c. search needs)
@@ -445,18 +445,16 @@ pub +list-below+list-branch+list-merged+list-names+list-tree+list-trie-spec : {M
     (λ c. trie-spent (c .before .before .before .before .before .before .before .before .before .pre .1) (c .if1 .taken))
     {- trie-of-requires -}
     (λ c κs. trie-named (c .before .before .before .before .before .before .before .before .before .pre .1 .can))
-    {- element-copy-out-cut-query -}
-    (λ c. search needs)
     {- cut-query-requires -}
-    (λ c κs. cut-ready (c .before .before .before .before .before .before .before .before .before .before .before .pre .1 .can))
+    (λ c κs. cut-ready (c .before .before .before .before .before .before .before .before .before .before .pre .1 .can))
     {- skips-bindings-requires -}
     (λ c κs. search needs)
     {- begin-requires -}
-    (λ c κs. let s = c .before .before .before .before .before .before in
+    (λ c κs. let s = c .before .before .before .before .before in
     let ready = s .before .before .before .before .before .before .before .before .before .pre .1 .can .ready in
     (ready .path-ok .sized, omega (arith, s .if1 .left, ready .small .budget-small)))
     {- list-names-requires -}
-    (λ c κs. let s = c .before .before .before .before in let s2 = s .before .before .before .before in let s3 = s2 .before .before in
+    (λ c κs. let s = c .before .before .before .before .before in let s2 = s .before .before .before .before in let s3 = s2 .before in
     let pre = s3 .before .before .before .before .before .before .before .before .before .before .pre in (
       omega (arith, pre .0, namespaces-earlier (pre .1 .can) (s3 .trie-of .ensures) (s2 .cut-query .ensures)),
       rw (s .begin .ensures) (namespaces-asked (pre .1) (s3 .trie-of .ensures) (s2 .cut-query .ensures) (omega (arith, s3 .before .if1 .left)) (same-run _)),
@@ -469,20 +467,20 @@ pub +list-below+list-branch+list-merged+list-names+list-tree+list-trie-spec : {M
     (λ c. search needs)
     {- returns-2 -}
     (λ c. let s = c .before .before .before .before .before in let s2 = s .before .before .before .before in
-    let s3 = s2 .before .before .before .before .before in
-    let s4 = s3 .before .before in
+    let s3 = s2 .before .before .before .before .before .before in
+    let s4 = s3 .before in
     trie-few (s4 .before .before .before .before .before .before .before .before .before .before .pre .1) (s4 .trie-of .ensures) (s3 .cut-query .ensures)
-    (omega (arith, s4 .before .if1 .left)) (s2 .before .before .before .skips-bindings .ensures .when (s2 .if2 .taken))
-    (rw (s2 .before .begin .ensures) at (s .list-names .ensures)))
+    (omega (arith, s4 .before .if1 .left)) (s2 .before .before .before .before .skips-bindings .ensures .when (s2 .if2 .taken))
+    (rw (s2 .before .before .begin .ensures) at (s .list-names .ensures)))
     {- list-names-requires-2 -}
-    (λ c κs. let s = c .before .before .before .before in let s2 = s .before .before .before .before in let s3 = s2 .before .before in
+    (λ c κs. let s = c .before .before .before .before .before in let s2 = s .before .before .before .before in let s3 = s2 .before in
     let pre = s3 .before .before .before .before .before .before .before .before .before .before .pre in (
       omega (arith, pre .0, bindings-earlier (pre .1 .can) (s3 .trie-of .ensures) (s2 .cut-query .ensures)),
       rw (s .begin .ensures) (bindings-asked (pre .1) (s3 .trie-of .ensures) (s2 .cut-query .ensures) (omega (arith, s3 .before .if1 .left))),
     ))
     {- list-names-requires-3 -}
-    (λ c κs. let s = c .before .before .before .before .before .before .before in let s2 = s .before .before .before .before .before in
-    let s3 = s2 .before .before .before .before in let s4 = s3 .before .before in
+    (λ c κs. let s = c .before .before .before .before .before .before .before in let s2 = s .before .before .before .before .before .before in
+    let s3 = s2 .before .before .before .before in let s4 = s3 .before in
     let pre = s4 .before .before .before .before .before .before .before .before .before .before .pre in (
       omega (arith, pre .0, namespaces-earlier (pre .1 .can) (s4 .trie-of .ensures) (s3 .cut-query .ensures)),
       namespaces-asked (pre .1) (s4 .trie-of .ensures) (s3 .cut-query .ensures) (omega (arith, s4 .before .if1 .left))
@@ -496,7 +494,7 @@ pub +list-below+list-branch+list-merged+list-names+list-tree+list-trie-spec : {M
     (λ c. search needs)
     {- returns-3 -}
     (λ c. let s = c .before .before .before .before .before in let s2 = s .before .before .before .before .before .before .before .before in
-    let s3 = s2 .before .before .before .before in let s4 = s3 .before .before .before .before .before in let s5 = s4 .before .before in
+    let s3 = s2 .before .before .before .before in let s4 = s3 .before .before .before .before .before .before in let s5 = s4 .before in
     trie-all (s5 .before .before .before .before .before .before .before .before .before .before .pre .1) (s5 .trie-of .ensures) (s4 .cut-query .ensures)
-    (omega (arith, s5 .before .if1 .left)) (s3 .before .before .before .skips-bindings .ensures .unless (s3 .if2 .left))
-    (rw (s3 .before .begin .ensures) at (s2 .list-names2 .ensures)) (s .list-names3 .ensures))
+    (omega (arith, s5 .before .if1 .left)) (s3 .before .before .before .before .skips-bindings .ensures .unless (s3 .if2 .left))
+    (rw (s3 .before .before .begin .ensures) at (s2 .list-names2 .ensures)) (s .list-names3 .ensures))
