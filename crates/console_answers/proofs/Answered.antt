@@ -41,14 +41,15 @@ ask-reads p r = rw p r
 record IsCall (c : Command) (k : CallKind) (h o y : Str) : Type 0 where
   call : Call
   is : command-call c ≡ some call
-  outcome-is : (l : Lent) (out : Output) (s : State) → outcome l out s c ≡ registration s (register true l s call)
-  same : (l : Lent) (s : State) → register true l s (call-of k h o y) ≡ register true l s call
+  outcome-is : (loan : Lent) (out : Output) (σ : State)
+      → outcome loan out σ c ≡ registration σ (register true loan σ call)
+  same : (loan : Lent) (σ : State) → register true loan σ (call-of k h o y) ≡ register true loan σ call
 
-import-same : (how : Import) (l : Lent) (s : State) (host q key : Str)
-    → register true l s (call-of (import-kind how) host q key) ≡ register true l s (import-call how host q)
-import-same Include l s host q key = refl
-import-same OpenModule l s host q key = sym (open-module-is-include true l s host q)
-import-same OpenNamespace l s host q key = refl
+import-same : (how : Import) (loan : Lent) (σ : State) (host q key : Str)
+    → register true loan σ (call-of (import-kind how) host q key) ≡ register true loan σ (import-call how host q)
+import-same Include loan σ host q key = refl
+import-same OpenModule loan σ host q key = sym (open-module-is-include true loan σ host q)
+import-same OpenNamespace loan σ host q key = refl
 
 is-call : (c : Command) {k : CallKind} {h o y : Str} → OfKind c k h o y → IsCall c k h o y
 is-call (name host id n) e = record { call = C.name host id n; is = refl; outcome-is = λ l out s. refl; same = λ l s. rw (e .0, e .1, e .2) refl }
@@ -78,20 +79,20 @@ same-outcome o p q = rw (p, q) refl
 kept : {flat pane : List ℕ} → OutputKept flat flat pane pane
 kept = record { flat-is = refl; pane-is = refl }
 
-module _ {ws txt ws′ txt′ flat flat′ pane pane′ reply reply′ : List ℕ} {t : Table} {line : Str} {at : ℕ}
+module _ {ws txt ws′ txt′ flat flat′ pane pane′ reply reply′ : List ℕ} {tab : Table} {line : Str} {at : ℕ}
     {r : Done} where
   answered-by : {c : Command} → Reads line c
-      → Leaves ws txt ws′ txt′ t reply reply′ at (outcome (lent ws txt) (output flat pane) (state ws txt t) c) r
-      → ((Accepted (lent ws txt) (state ws txt t) c → ⊥) → Unchanged ws txt ws′ txt′ t (r .table))
-      → AsksLeave ws txt t flat flat′ pane pane′ line → (NoCompletion line → OutputKept flat flat′ pane pane′)
-      → Answered ws txt ws′ txt′ t line flat flat′ pane pane′ reply reply′ at r
+      → Leaves ws txt ws′ txt′ tab reply reply′ at (outcome (lent ws txt) (output flat pane) (state ws txt tab) c) r
+      → ((Accepted (lent ws txt) (state ws txt tab) c → ⊥) → Unchanged ws txt ws′ txt′ tab (r .table))
+      → AsksLeave ws txt tab flat flat′ pane pane′ line → (NoCompletion line → OutputKept flat flat′ pane pane′)
+      → Answered ws txt ws′ txt′ tab line flat flat′ pane pane′ reply reply′ at r
   answered-by {c} h l k a q =
-      let o : Outcome = outcome (lent ws txt) (output flat pane) (state ws txt t) c in
+      let o : Outcome = outcome (lent ws txt) (output flat pane) (state ws txt tab) c in
       record {
         text = o .text;
         replied = record {
           says = λ d i. same-outcome o refl (l .reads)
-              ∙ ap (outcome (lent ws txt) (output flat pane) (state ws txt t)) (reads-once line c d h i);
+              ∙ ap (outcome (lent ws txt) (output flat pane) (state ws txt tab)) (reads-once line c d h i);
           bad = λ n. absurd (n c h);
         };
         laid = l .laid;
@@ -105,13 +106,14 @@ module _ {ws txt ws′ txt′ flat flat′ pane pane′ reply reply′ : List �
       }
 
 -- A line that says a registration.
-module _ {ws txt ws′ txt′ reply reply′ : List ℕ} {t : Table} {line : Str} {at : ℕ} {r : Done} (flat pane : List ℕ) where
+module _ {ws txt ws′ txt′ reply reply′ : List ℕ} {tab : Table} {line : Str} {at : ℕ} {r : Done}
+    (flat pane : List ℕ) where
   pub answered-call : {k : CallKind} {host other key : Extent} {h o y : Str} → RegistrationLine line k host other key
       → h ≡ part-of line host → o ≡ part-of line other → y ≡ part-of line key
-      → Registers ws txt ws′ txt′ t (call-of k h o y) reply reply′ at r
-      → Answered ws txt ws′ txt′ t line flat flat pane pane reply reply′ at r
+      → Registers ws txt ws′ txt′ tab (call-of k h o y) reply reply′ at r
+      → Answered ws txt ws′ txt′ tab line flat flat pane pane reply reply′ at r
   answered-call {k} {host} {other} {key} {h} {o} {y} l p q z x =
-      answered-by (l .reads) leaves (go (register true (lent ws txt) (state ws txt t) (i .call)) refl)
+      answered-by (l .reads) leaves (go (register true (lent ws txt) (state ws txt tab) (i .call)) refl)
       (λ what u e. absurd (no-question what u e)) (λ _. kept)
     where
       no-question : (what : Question) (u : Str) → Reads line (ask what u) → ⊥
@@ -122,20 +124,20 @@ module _ {ws txt ws′ txt′ reply reply′ : List ℕ} {t : Table} {line : Str
       i : IsCall (l .command) k h o y
       i = rw (p, q, z) (is-call (l .command) (l .of-kind))
 
-      leaves : Leaves ws txt ws′ txt′ t reply reply′ at
-          (outcome (lent ws txt) (output flat pane) (state ws txt t) (l .command)) r
-      leaves = rw (i .outcome-is (lent ws txt) (output flat pane) (state ws txt t), sym (i .same (lent ws txt) (state ws txt t))) (x .leaves)
+      leaves : Leaves ws txt ws′ txt′ tab reply reply′ at
+          (outcome (lent ws txt) (output flat pane) (state ws txt tab) (l .command)) r
+      leaves = rw (i .outcome-is (lent ws txt) (output flat pane) (state ws txt tab), sym (i .same (lent ws txt) (state ws txt tab))) (x .leaves)
 
-      go : (v : C.Registered) → register true (lent ws txt) (state ws txt t) (i .call) ≡ v
-          → (Accepted (lent ws txt) (state ws txt t) (l .command) → ⊥) → Unchanged ws txt ws′ txt′ t (r .table)
+      go : (v : C.Registered) → register true (lent ws txt) (state ws txt tab) (i .call) ≡ v
+          → (Accepted (lent ws txt) (state ws txt tab) (l .command) → ⊥) → Unchanged ws txt ws′ txt′ tab (r .table)
       go (C.accepted s) e n = absurd (n (record { call = i .call; is = i .is; after = s; accepted = e }))
-      go (C.refused m) e n = x .still m (i .same (lent ws txt) (state ws txt t) ∙ e)
+      go (C.refused m) e n = x .still m (i .same (lent ws txt) (state ws txt tab) ∙ e)
 
 -- Nothing has changed but the reply.
-leaves-same : {ws txt reply reply′ : List ℕ} {t : Table} {at e : ℕ} (s : Str) → IsSound ws txt t
+leaves-same : {ws txt reply reply′ : List ℕ} {tab : Table} {at e : ℕ} (s : Str) → IsSound ws txt tab
     → Laid reply reply′ at e s
-    → Leaves ws txt ws txt t reply reply′ at (record { text = s; after = state ws txt t }) (record { table = t; end = e })
-leaves-same {ws} {txt} {t = t} s sound l =
+    → Leaves ws txt ws txt tab reply reply′ at (record { text = s; after = state ws txt tab }) (record { table = tab; end = e })
+leaves-same {ws} {txt} {tab = tab} s sound l =
     record {
       sound = sound;
       reads = refl;
@@ -145,36 +147,36 @@ leaves-same {ws} {txt} {t = t} s sound l =
       laid = l;
     }
 
-same : {ws txt : List ℕ} {t : Table} → Unchanged ws txt ws txt t t
+same : {ws txt : List ℕ} {tab : Table} → Unchanged ws txt ws txt tab tab
 same = record { table = refl; words = refl; text = refl }
 
 -- A line that says a question.
-module _ {ws txt flat flat′ pane pane′ reply reply′ : List ℕ} {t : Table} {line : Str} {at e : ℕ} where
+module _ {ws txt flat flat′ pane pane′ reply reply′ : List ℕ} {tab : Table} {line : Str} {at e : ℕ} where
   asks-as : {what : Question} {q : Str} → Reads line (ask what q)
-      → AskedLine ws txt t what q flat flat′ pane pane′ reply reply′ at e
-      → AsksLeave ws txt t flat flat′ pane pane′ line
+      → AskedLine ws txt tab what q flat flat′ pane pane′ reply reply′ at e
+      → AsksLeave ws txt tab flat flat′ pane pane′ line
   asks-as {what} {q} h x what′ q′ i =
       let same-line : ask what q ≡ ask what′ q′ = reads-once line (ask what q) (ask what′ q′) h i in
       let w : what ≡ what′ = cc in let u : q ≡ q′ = cc in rw (sym w, sym u) (x .leaves)
 
   asks-quiet : (what : Question) {q : Str} → Reads line (ask what q)
-      → AskedLine ws txt t what q flat flat′ pane pane′ reply reply′ at e
+      → AskedLine ws txt tab what q flat flat′ pane pane′ reply reply′ at e
       → NoCompletion line → OutputKept flat flat′ pane pane′
   asks-quiet Find h x n = x .leaves
   asks-quiet Complete {q} h x n = absurd (n q .0 h)
   asks-quiet Modules {q} h x n = absurd (n q .1 h)
 
-  pub answered-ask : {what : Question} {q : Str} → IsSound ws txt t → Reads line (ask what q)
-      → AskedLine ws txt t what q flat flat′ pane pane′ reply reply′ at e
-      → Answered ws txt ws txt t line flat flat′ pane pane′ reply reply′ at (record { table = t; end = e })
+  pub answered-ask : {what : Question} {q : Str} → IsSound ws txt tab → Reads line (ask what q)
+      → AskedLine ws txt tab what q flat flat′ pane pane′ reply reply′ at e
+      → Answered ws txt ws txt tab line flat flat′ pane pane′ reply reply′ at (record { table = tab; end = e })
   answered-ask {what} {q} sound h x =
-      answered-by h (leaves-same (asked-text (output flat pane) (table-in ws txt t) what q) sound (x .laid)) (λ _. same)
+      answered-by h (leaves-same (asked-text (output flat pane) (table-in ws txt tab) what q) sound (x .laid)) (λ _. same)
       (asks-as h x) (asks-quiet what h x)
 
 -- A line that says nothing.
-pub answered-bad : {ws txt reply reply′ : List ℕ} {t : Table} {line : Str} {at e : ℕ} (flat pane : List ℕ)
-    → IsSound ws txt t → ((c : Command) → Reads line c → ⊥) → Laid reply reply′ at e bad-reply
-    → Answered ws txt ws txt t line flat flat pane pane reply reply′ at (record { table = t; end = e })
+pub answered-bad : {ws txt reply reply′ : List ℕ} {tab : Table} {line : Str} {at e : ℕ} (flat pane : List ℕ)
+    → IsSound ws txt tab → ((c : Command) → Reads line c → ⊥) → Laid reply reply′ at e bad-reply
+    → Answered ws txt ws txt tab line flat flat pane pane reply reply′ at (record { table = tab; end = e })
 answered-bad {ws} {txt} flat pane sound n l =
     record {
       text = bad-reply;

@@ -24,13 +24,13 @@ use Rattle.console_questions.specs.Left.{OutputKept}
 use Rattle.console_answers.specs.Outcomes.{NoneAccepted, NoCompletion, Replied, Session, none, then, unlines}
 use Rattle.console_answers.specs.Answers.{Answered, Talked}
 
-session-on : {k : Lent} {out : Output} {s m : State} {lines : List Str} {text : Str} {line : Str} (o : Outcome)
-    → Session k out s lines text m → Replied k out m line o
-    → Session k out s (lines ++ (line ∷ [])) (text · o .text) (o .after)
-session-on {k} {out} {s} {line = line} o none r =
-    subst (λ (t : Str). Session k out s (line ∷ []) t (o .after)) (append-nil (o .text)) (then o r none)
-session-on {k} {out} {s} {line = line} o (then {line = l} {lines = ls} {text = t} o′ r′ rest) r =
-    subst (λ (u : Str). Session k out s (l ∷ (ls ++ (line ∷ []))) u (o .after)) (sym (append-assoc (o′ .text) t (o .text))) (then o′ r′ (session-on o rest r))
+session-on : {k : Lent} {out : Output} {σ m : State} {lines : List Str} {text : Str} {line : Str} (o : Outcome)
+    → Session k out σ lines text m → Replied k out m line o
+    → Session k out σ (lines ++ (line ∷ [])) (text · o .text) (o .after)
+session-on {k} {out} {σ} {line = line} o none r =
+    subst (λ (t : Str). Session k out σ (line ∷ []) t (o .after)) (append-nil (o .text)) (then o r none)
+session-on {k} {out} {σ} {line = line} o (then {line = l} {lines = ls} {text = t} o′ r′ rest) r =
+    subst (λ (u : Str). Session k out σ (l ∷ (ls ++ (line ∷ []))) u (o .after)) (sym (append-assoc (o′ .text) t (o .text))) (then o′ r′ (session-on o rest r))
 
 each-on : (lines : List Str) (line : Str) → Allˡ (All Line) lines → All Line line
     → Allˡ (All Line) (lines ++ (line ∷ []))
@@ -42,9 +42,9 @@ each-off P [] line a = (tt, a .0)
 each-off P (l ∷ ls) line a = ((a .0, each-off P ls line (a .1) .0), each-off P ls line (a .1) .1)
 
 -- Nothing registered so far, and nothing by one line more.
-still-on : {ws₀ txt₀ ws txt ws′ txt′ : List ℕ} {t₀ t t′ : Table} (line : Str) → Unchanged ws₀ txt₀ ws txt t₀ t
-    → (NoneAccepted (lent ws txt) (state ws txt t) line → Unchanged ws txt ws′ txt′ t t′)
-    → NoneAccepted (lent ws₀ txt₀) (state ws₀ txt₀ t₀) line → Unchanged ws₀ txt₀ ws′ txt′ t₀ t′
+still-on : {ws₀ txt₀ ws txt ws′ txt′ : List ℕ} {tab₀ tab tab′ : Table} (line : Str) → Unchanged ws₀ txt₀ ws txt tab₀ tab
+    → (NoneAccepted (lent ws txt) (state ws txt tab) line → Unchanged ws txt ws′ txt′ tab tab′)
+    → NoneAccepted (lent ws₀ txt₀) (state ws₀ txt₀ tab₀) line → Unchanged ws₀ txt₀ ws′ txt′ tab₀ tab′
 still-on line u a n =
     let v = a (rw (u .table, u .words, u .text) n) in
     record { table = v .table ∙ u .table; words = v .words ∙ u .words; text = v .text ∙ u .text }
@@ -55,33 +55,33 @@ unlines-on [] line = refl
 unlines-on (l ∷ ls) line = ap (λ (s : Str). l · (10 ∷ s)) (unlines-on ls line) ∙ sym (append-assoc l (10 ∷ unlines ls) (line · (10 ∷ [])))
 
 -- The lines up to i are answered.
-pub record Going (ws₀ txt₀ : List ℕ) (t₀ : Table) (input : Str) (from : ℕ) (flat₀ pane₀ reply₀ : List ℕ)
-    (ws txt flat pane reply : List ℕ) (t : Table) (at i : ℕ) : Type 0 where
+pub record Going (ws₀ txt₀ : List ℕ) (tab₀ : Table) (input : Str) (from : ℕ) (flat₀ pane₀ reply₀ : List ℕ)
+    (ws txt flat pane reply : List ℕ) (tab : Table) (at i : ℕ) : Type 0 where
   pub lines : List Str
   pub each : Allˡ (All Line) lines
   pub cut : take (i - from) (drop from input) ≡ unlines lines
   pub text : Str
   pub laid : Laid reply₀ reply 0 at text
-  pub session : Session (lent ws₀ txt₀) (output flat₀ pane₀) (state ws₀ txt₀ t₀) lines text (state ws txt t)
-  pub sound : IsSound ws txt t
-  pub words : Outside (t₀ .header .records * 12) (t .header .records * 12) ws₀ ws
-  pub texts : Outside (t₀ .header .text) (t .header .text) txt₀ txt
-  pub grows : (t₀ .header .records ≤ t .header .records) × (t₀ .header .text ≤ t .header .text)
+  pub session : Session (lent ws₀ txt₀) (output flat₀ pane₀) (state ws₀ txt₀ tab₀) lines text (state ws txt tab)
+  pub sound : IsSound ws txt tab
+  pub words : Outside (tab₀ .header .records * 12) (tab .header .records * 12) ws₀ ws
+  pub texts : Outside (tab₀ .header .text) (tab .header .text) txt₀ txt
+  pub grows : (tab₀ .header .records ≤ tab .header .records) × (tab₀ .header .text ≤ tab .header .text)
   pub flat-size : length flat ≡ length flat₀
   pub pane-size : length pane ≡ length pane₀
   pub reply-size : length reply ≡ length reply₀
   pub after : from ≤ i
   pub inside : i ≤ length input
   pub fits : at ≤ length reply₀
-  pub still : Allˡ (NoneAccepted (lent ws₀ txt₀) (state ws₀ txt₀ t₀)) lines → Unchanged ws₀ txt₀ ws txt t₀ t
+  pub still : Allˡ (NoneAccepted (lent ws₀ txt₀) (state ws₀ txt₀ tab₀)) lines → Unchanged ws₀ txt₀ ws txt tab₀ tab
   pub quiet : Allˡ NoCompletion lines → OutputKept flat₀ flat pane₀ pane
   pub started : i ≡ from → at ≡ 0
 
-pub talk-going-start : {ws txt flat pane reply : List ℕ} {t : Table} {input : Str} {from : ℕ} → IsSound ws txt t
+pub talk-going-start : {ws txt flat pane reply : List ℕ} {tab : Table} {input : Str} {from : ℕ} → IsSound ws txt tab
     → from ≤ length input
-    → Going ws txt t input from flat pane reply ws txt flat pane reply t 0 from
+    → Going ws txt tab input from flat pane reply ws txt flat pane reply tab 0 from
 unfolding unlines
-talk-going-start {ws} {txt} {reply = reply} {t} {from = from} s h =
+talk-going-start {ws} {txt} {reply = reply} {tab} {from = from} s h =
     let z : from - from ≡ 0 = omega arith in
     record {
       lines = [];
@@ -105,8 +105,8 @@ talk-going-start {ws} {txt} {reply = reply} {t} {from = from} s h =
       started = λ _. refl;
     }
 
-module _ {ws₀ txt₀ flat₀ pane₀ reply₀ ws txt flat pane reply : List ℕ} {t₀ t : Table} {input : Str} {from at i : ℕ}
-    (g : Going ws₀ txt₀ t₀ input from flat₀ pane₀ reply₀ ws txt flat pane reply t at i) where
+module _ {ws₀ txt₀ flat₀ pane₀ reply₀ ws txt flat pane reply : List ℕ} {tab₀ tab : Table} {input : Str} {from at i : ℕ}
+    (g : Going ws₀ txt₀ tab₀ input from flat₀ pane₀ reply₀ ws txt flat pane reply tab at i) where
   -- The next line, with its line feed.
   module _ {r : ℕ} (x : LineEnd (take (length input - i) (drop i input)) r) (l : i + r < length input) where
     rest-is : take (length input - i) (drop i input) ≡ drop i input
@@ -120,8 +120,8 @@ module _ {ws₀ txt₀ flat₀ pane₀ reply₀ ws txt flat pane reply : List �
 
     pub talk-going-on : {ws′ txt′ flat′ pane′ reply′ : List ℕ} {d : Done} → length flat′ ≡ length flat
         → length pane′ ≡ length pane
-        → Answered ws txt ws′ txt′ t (take (i + r - i) (drop i input)) flat flat′ pane pane′ reply reply′ at d
-        → Going ws₀ txt₀ t₀ input from flat₀ pane₀ reply₀ ws′ txt′ flat′ pane′ reply′ (d .table) (d .end) (i + r + 1)
+        → Answered ws txt ws′ txt′ tab (take (i + r - i) (drop i input)) flat flat′ pane pane′ reply reply′ at d
+        → Going ws₀ txt₀ tab₀ input from flat₀ pane₀ reply₀ ws′ txt′ flat′ pane′ reply′ (d .table) (d .end) (i + r + 1)
     talk-going-on f p a =
         let q : i + r - i ≡ r = omega arith in
         let n : i + r + 1 - from ≡ i - from + suc r = omega (arith, g .after) in
@@ -149,7 +149,7 @@ module _ {ws₀ txt₀ flat₀ pane₀ reply₀ ws txt flat pane reply : List �
           after = omega (arith, g .after);
           inside = omega arith;
           fits = omega (arith, a .laid .fits, g .reply-size);
-          still = λ y. let z = each-off (NoneAccepted (lent ws₀ txt₀) (state ws₀ txt₀ t₀)) (g .lines) line y in
+          still = λ y. let z = each-off (NoneAccepted (lent ws₀ txt₀) (state ws₀ txt₀ tab₀)) (g .lines) line y in
               still-on line (g .still (z .0)) (rw q at (a .still)) (z .1);
           quiet = λ y. let z = each-off NoCompletion (g .lines) line y in let u = g .quiet (z .0) in
               let v = (rw q at (a .quiet)) (z .1) in
@@ -158,7 +158,7 @@ module _ {ws₀ txt₀ flat₀ pane₀ reply₀ ws txt flat pane reply : List �
         }
 
   abbrev Says : Type 0
-  Says = Talked ws₀ txt₀ ws txt t₀ input from flat₀ flat pane₀ pane reply₀ reply (record { table = t; end = at; next = i })
+  Says = Talked ws₀ txt₀ ws txt tab₀ input from flat₀ flat pane₀ pane reply₀ reply (record { table = tab; end = at; next = i })
 
   talked : (i ≡ from → All Line (drop from input)) → Says
   talked h = record {

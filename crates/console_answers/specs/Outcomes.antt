@@ -22,11 +22,11 @@ import-call OpenNamespace host q = C.opens false host q
 
 -- What a line that says a command does, where so much memory and so much output is lent.
 abbrev pub outcome : Lent → Output → State → Command → Outcome
-outcome lent out s (name host id n) = registration s (register true lent s (C.name host id n))
-outcome lent out s (import how host q) = registration s (register true lent s (import-call how host q))
-outcome lent out s (alias word host q) = registration s (register true lent s (C.alias word host q))
-outcome lent out s (module-path loaded q path) = registration s (register true lent s (C.module-path loaded q path))
-outcome lent out s (ask what q) = record { text = asked-text out (s .table) what q; after = s }
+outcome lent out σ (name host id n) = registration σ (register true lent σ (C.name host id n))
+outcome lent out σ (import how host q) = registration σ (register true lent σ (import-call how host q))
+outcome lent out σ (alias word host q) = registration σ (register true lent σ (C.alias word host q))
+outcome lent out σ (module-path loaded q path) = registration σ (register true lent σ (C.module-path loaded q path))
+outcome lent out σ (ask what q) = record { text = asked-text out (σ .table) what q; after = σ }
 
 -- The registration that a command asks for, none of a question.
 abbrev pub command-call : Command → Option Call
@@ -37,15 +37,15 @@ command-call (module-path loaded q path) = some (C.module-path loaded q path)
 command-call (ask what q) = no-call
 
 -- The command registers: its call is accepted.
-pub record Accepted (lent : Lent) (s : State) (c : Command) : Type 0 where
+pub record Accepted (lent : Lent) (σ : State) (c : Command) : Type 0 where
   pub call : Call
   pub is : command-call c ≡ some call
   pub after : State
-  pub accepted : register true lent s call ≡ C.accepted after
+  pub accepted : register true lent σ call ≡ C.accepted after
 
 -- The line registers nothing in this table.
 abbrev pub NoneAccepted : Lent → State → Str → Type 0
-NoneAccepted lent s line = (c : Command) → Reads line c → Accepted lent s c → ⊥
+NoneAccepted lent σ line = (c : Command) → Reads line c → Accepted lent σ c → ⊥
 
 -- The line asks for no completion.
 abbrev pub NoCompletion : Str → Type 0
@@ -53,21 +53,21 @@ NoCompletion line = (q : Str) → (Reads line (ask Complete q) → ⊥) × (Read
 
 -- What a line that says none does.
 abbrev pub bad-outcome : State → Outcome
-bad-outcome s = record { text = bad-reply; after = s }
+bad-outcome σ = record { text = bad-reply; after = σ }
 
 -- The outcome of a line: that of the command that it says, or of none.
-pub record Replied (lent : Lent) (out : Output) (s : State) (line : Str) (o : Outcome) : Type 0 where
-  pub says : (c : Command) → Reads line c → o ≡ outcome lent out s c
-  pub bad : ((c : Command) → Reads line c → ⊥) → o ≡ bad-outcome s
+pub record Replied (lent : Lent) (out : Output) (σ : State) (line : Str) (o : Outcome) : Type 0 where
+  pub says : (c : Command) → Reads line c → o ≡ outcome lent out σ c
+  pub bad : ((c : Command) → Reads line c → ⊥) → o ≡ bad-outcome σ
 
 -- Lines one after another: their replies together, and the table after the last.
 pub data Session (lent : Lent) (out : Output) : State → List Str → Str → State → Type 0 where
-  none : {s : State} → Session lent out s [] [] s
-  then : {s s′ : State} {line : Str} {lines : List Str} {text : Str} (o : Outcome) → Replied lent out s line o
-      → Session lent out (o .after) lines text s′
-      → Session lent out s (line ∷ lines) (o .text · text) s′
+  none : {σ : State} → Session lent out σ [] [] σ
+  then : {σ σ′ : State} {line : Str} {lines : List Str} {text : Str} (o : Outcome) → Replied lent out σ line o
+      → Session lent out (o .after) lines text σ′
+      → Session lent out σ (line ∷ lines) (o .text · text) σ′
 
 -- The bytes of lines, each with its line feed.
 unfoldable pub unlines : List Str → Str
 unlines [] = []
-unlines (l ∷ ls) = l · (10 ∷ unlines ls)
+unlines (s ∷ ss) = s · (10 ∷ unlines ss)

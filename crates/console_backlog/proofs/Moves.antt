@@ -27,7 +27,7 @@ module _ {input₀ input : List ℕ} {from i : ℕ} (m : Moved input₀ input fr
       let e : from + i ≡ i + from = omega arith in
       ap (λ (k : ℕ). getD input k 0) e
       ∙ sym (getD-drop i input from 0)
-      ∙ ap (λ (l : List ℕ). getD l from 0) (m .left)
+      ∙ ap (λ (xs : List ℕ). getD xs from 0) (m .left)
       ∙ getD-drop i input₀ from 0
       ∙ ap (λ (k : ℕ). getD input₀ k 0) (sym e)
       ∙ sym (getD-drop from input₀ i 0)

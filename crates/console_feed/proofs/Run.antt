@@ -35,7 +35,7 @@ on-line (b ∷ x) line s a = go (on-line x (line ++ (b ∷ [])) s (a .1)) (eqb b
     go : lines-after (line ++ (b ∷ [])) (x · s) ≡ lines-after ((line ++ (b ∷ [])) · x) s → (z : Bool) → eqb b 10 ≡ z
         → lines-after line ((b ∷ x) · s) ≡ lines-after (line · (b ∷ x)) s
     go h true e = absurd (true≢false (sym (a .0) ∙ ap not e))
-    go h false e = rw (e, lines-after) (h ∙ ap (λ (l : Str). lines-after l s) (append-assoc line (b ∷ []) x))
+    go h false e = rw (e, lines-after) (h ∙ ap (λ (t : Str). lines-after t s) (append-assoc line (b ∷ []) x))
 
 -- A line that has no line feed.
 lines-line : (x : Str) → All Line x → lines-of x ≡ last-line x
@@ -51,52 +51,52 @@ lines-then (l ∷ ls) s a =
 
 -- ---- A line that is too long, whatever follows
 
-long-replied : {k : Lent} {out : Output} {s : State} {o : Outcome} (p q : Str) → 2048 < length p → 2048 < length q
-    → Replied k out s p o → Replied k out s q o
+long-replied : {k : Lent} {out : Output} {σ : State} {o : Outcome} (p q : Str) → 2048 < length p → 2048 < length q
+    → Replied k out σ p o → Replied k out σ q o
 long-replied p q hp hq r = record {
   says = λ c x. absurd (omega (arith, x .short));
   bad = λ _. r .bad (λ c x. omega (arith, x .short));
 }
 
 module _ {k : Lent} {out : Output} where
-  session-line : {s s′ : State} {w : Str} (p q : Str) (ls : List Str) → 2048 < length p → 2048 < length q
-      → Session k out s (p ∷ ls) w s′ → Session k out s (q ∷ ls) w s′
+  session-line : {σ σ′ : State} {w : Str} (p q : Str) (ls : List Str) → 2048 < length p → 2048 < length q
+      → Session k out σ (p ∷ ls) w σ′ → Session k out σ (q ∷ ls) w σ′
   session-line p q ls hp hq (then o r rest) = then o (long-replied p q hp hq r) rest
 
-  session-long : {s s′ : State} {w : Str} (c p q : Str) → 2048 < length p → 2048 < length q
-      → Session k out s (lines-after p c) w s′ → Session k out s (lines-after q c) w s′
+  session-long : {σ σ′ : State} {w : Str} (c p q : Str) → 2048 < length p → 2048 < length q
+      → Session k out σ (lines-after p c) w σ′ → Session k out σ (lines-after q c) w σ′
   unfolding lines-after
-  session-long {s} {s′} {w} [] p q hp hq x =
-      subst (λ (ls : List Str). Session k out s ls w s′) (sym (last-some q (omega arith)))
-      (session-line p q [] hp hq (subst (λ (ls : List Str). Session k out s ls w s′) (last-some p (omega arith)) x))
-  session-long {s} {s′} {w} (b ∷ c) p q hp hq x =
+  session-long {σ} {σ′} {w} [] p q hp hq x =
+      subst (λ (ls : List Str). Session k out σ ls w σ′) (sym (last-some q (omega arith)))
+      (session-line p q [] hp hq (subst (λ (ls : List Str). Session k out σ ls w σ′) (last-some p (omega arith)) x))
+  session-long {σ} {σ′} {w} (b ∷ c) p q hp hq x =
       go (session-long c (p ++ (b ∷ [])) (q ++ (b ∷ [])) (omega (arith, length-append p (b ∷ []))) (omega (arith, length-append q (b ∷ [])))) (eqb b 10) refl
     where
-      go : (Session k out s (lines-after (p ++ (b ∷ [])) c) w s′ → Session k out s (lines-after (q ++ (b ∷ [])) c) w s′)
-          → (z : Bool) → eqb b 10 ≡ z → Session k out s (lines-after q (b ∷ c)) w s′
+      go : (Session k out σ (lines-after (p ++ (b ∷ [])) c) w σ′ → Session k out σ (lines-after (q ++ (b ∷ [])) c) w σ′)
+          → (z : Bool) → eqb b 10 ≡ z → Session k out σ (lines-after q (b ∷ c)) w σ′
       go h true e = rw (e, lines-after) (session-line p q (lines-after [] c) hp hq (rw (e, lines-after) at x))
       go h false e = rw (e, lines-after) (h (rw (e, lines-after) at x))
 
   -- What is kept serves as what it was kept of.
-  session-kept : {s s′ : State} {w rest kept : Str} (c : Str) → Kept rest kept
-      → Session k out s (lines-of (kept · c)) w s′ → Session k out s (lines-of (rest · c)) w s′
+  session-kept : {σ σ′ : State} {w rest kept : Str} (c : Str) → Kept rest kept
+      → Session k out σ (lines-of (kept · c)) w σ′ → Session k out σ (lines-of (rest · c)) w σ′
   session-kept c whole x = x
-  session-kept {s} {s′} {w} {rest} c (start a) x = rw (on-line rest [] c a) (go (ltb bytes-kept (length rest)) refl)
+  session-kept {σ} {σ′} {w} {rest} c (start a) x = rw (on-line rest [] c a) (go (ltb bytes-kept (length rest)) refl)
     where
-      y : Session k out s (lines-after (take bytes-kept rest) c) w s′
+      y : Session k out σ (lines-after (take bytes-kept rest) c) w σ′
       y = rw (on-line (take bytes-kept rest) [] c (all-take bytes-kept rest a)) at x
 
-      go : (z : Bool) → ltb bytes-kept (length rest) ≡ z → Session k out s (lines-after rest c) w s′
+      go : (z : Bool) → ltb bytes-kept (length rest) ≡ z → Session k out σ (lines-after rest c) w σ′
       go true e = session-long c (take bytes-kept rest) rest
           (omega (arith, ltb-true bytes-kept (length rest) e, length-take-le bytes-kept rest (omega (arith, ltb-true bytes-kept (length rest) e))))
           (omega (arith, ltb-true bytes-kept (length rest) e)) y
       go false e = rw (take-all bytes-kept rest (omega (arith, ltb-false bytes-kept (length rest) e))) at y
 
-  session-join : {s m s′ : State} {ls ms : List Str} {t w : Str} → Session k out s ls t m → Session k out m ms w s′
-      → Session k out s (ls ++ ms) (t · w) s′
+  session-join : {σ m σ′ : State} {ls ms : List Str} {t w : Str} → Session k out σ ls t m → Session k out m ms w σ′
+      → Session k out σ (ls ++ ms) (t · w) σ′
   session-join none y = y
-  session-join {s} {m} {s′} {ms = ms} {w = w} (then {line = l} {lines = ls} {text = t} o r x) y =
-      subst (λ (u : Str). Session k out s (l ∷ (ls ++ ms)) u s′) (sym (append-assoc (o .text) t w)) (then o r (session-join x y))
+  session-join {σ} {m} {σ′} {ms = ms} {w = w} (then {line = l} {lines = ls} {text = t} o r x) y =
+      subst (λ (u : Str). Session k out σ (l ∷ (ls ++ ms)) u σ′) (sym (append-assoc (o .text) t w)) (then o r (session-join x y))
 
 -- ---- A run
 
@@ -114,19 +114,19 @@ read-pending p input n i e =
     (omega (arith, i .started, length-take-le (p .feed .have) (p .input) (i .ended)))
 
 -- From what the program holds on.
-run-session : {out : Output} {p : Program} {reads : List Str} {written : Str} {s : State} → Run out p reads written s
+run-session : {out : Output} {p : Program} {reads : List Str} {written : Str} {σ : State} → Run out p reads written σ
     → Session (lent (p .words) (p .text)) out (state (p .words) (p .text) (p .feed .table))
-    (lines-of (pending (p .feed) (p .input) · joined reads)) written s
+    (lines-of (pending (p .feed) (p .input) · joined reads)) written σ
 unfolding joined lines-after
-run-session {out} {p} {written = written} {s} (read {reads = reads} input n i e h x) =
-    subst (λ (t : Str). Session (lent (p .words) (p .text)) out (state (p .words) (p .text) (p .feed .table)) (lines-of t) written s)
+run-session {out} {p} {written = written} {σ} (read {reads = reads} input n i e h x) =
+    subst (λ (t : Str). Session (lent (p .words) (p .text)) out (state (p .words) (p .text) (p .feed .table)) (lines-of t) written σ)
     (ap (λ (t : Str). t · joined reads) (read-pending p input n i e)
     ∙ append-assoc (pending (p .feed) (p .input)) (take n (drop (p .feed .have) input)) (joined reads))
     (run-session x)
-run-session {out} {p} {s = s} (step {reads = reads} {written = w} {ws = ws} {txt = txt} {r = r} e x y) =
+run-session {out} {p} {σ = σ} (step {reads = reads} {written = w} {ws = ws} {txt = txt} {r = r} e x y) =
     let here : Session (lent (p .words) (p .text)) out (state (p .words) (p .text) (p .feed .table)) (x .lines) (x .text) (state ws txt (r .feed .table)) =
     rw e (x .session) in
-    let rest : Session (lent (p .words) (p .text)) out (state ws txt (r .feed .table)) (lines-of (x .rest · joined reads)) w s =
+    let rest : Session (lent (p .words) (p .text)) out (state ws txt (r .feed .table)) (lines-of (x .rest · joined reads)) w σ =
     session-kept (joined reads) (x .kept) (rw (x .words .size, x .texts .size) at (run-session y)) in
     rw (x .cut, append-assoc (unlines (x .lines)) (x .rest) (joined reads), lines-then (x .lines) (x .rest · joined reads) (x .each), laid-text (x .laid))
     (session-join here rest)
@@ -135,8 +135,8 @@ run-session {out} {p} (end a e x) =
 
 -- From a fresh table and no bytes: for every division of an input into reads, what is handed to the writes, put together, is the
 -- session of the input's lines.
-pub whole-input : {ws txt input : List ℕ} {out : Output} {t : Table} {reads : List Str} {written : Str} {s : State}
-    → Fresh t
-    → Run out (record { words = ws; text = txt; input = input; feed = record { table = t; from = 0; have = 0 } }) reads written s
-    → Session (lent ws txt) out fresh (lines-of (joined reads)) written s
+pub whole-input : {ws txt input : List ℕ} {out : Output} {tab : Table} {reads : List Str} {written : Str} {σ : State}
+    → Fresh tab
+    → Run out (record { words = ws; text = txt; input = input; feed = record { table = tab; from = 0; have = 0 } }) reads written σ
+    → Session (lent ws txt) out fresh (lines-of (joined reads)) written σ
 whole-input {ws} {txt} f x = rw (f .reads ws txt) at (run-session x)

@@ -23,21 +23,21 @@ use Rattle.console_feed.specs.declared.Feed.{Feed}
 
 -- ---- Parts of lists
 
-drop-take : (n k : ℕ) (l : List ℕ) → drop n (take k l) ≡ take (k - n) (drop n l)
-drop-take zero k l = let e : k - 0 ≡ k = omega arith in rw e refl
-drop-take (suc n) zero l = let e : 0 - suc n ≡ 0 = omega arith in rw e refl
+drop-take : (n k : ℕ) (xs : List ℕ) → drop n (take k xs) ≡ take (k - n) (drop n xs)
+drop-take zero k xs = let e : k - 0 ≡ k = omega arith in rw e refl
+drop-take (suc n) zero xs = let e : 0 - suc n ≡ 0 = omega arith in rw e refl
 drop-take (suc n) (suc k) [] = sym (take-nil (suc k - suc n))
-drop-take (suc n) (suc k) (x ∷ l) = let e : suc k - suc n ≡ k - n = omega arith in rw e (drop-take n k l)
+drop-take (suc n) (suc k) (x ∷ xs) = let e : suc k - suc n ≡ k - n = omega arith in rw e (drop-take n k xs)
 
 pub all-take : (n : ℕ) (s : Str) → All Line s → All Line (take n s)
 all-take zero s a = tt
 all-take (suc n) [] a = tt
 all-take (suc n) (b ∷ s) a = (a .0, all-take n s (a .1))
 
-take-least : (n : ℕ) (l : List ℕ) → take (min (length l) n) l ≡ take n l
-take-least zero l = let e : min (length l) 0 ≡ 0 = omega arith in rw e refl
+take-least : (n : ℕ) (xs : List ℕ) → take (min (length xs) n) xs ≡ take n xs
+take-least zero xs = let e : min (length xs) 0 ≡ 0 = omega arith in rw e refl
 take-least (suc n) [] = take-nil (min 0 (suc n))
-take-least (suc n) (x ∷ l) = let e : min (suc (length l)) (suc n) ≡ suc (min (length l) n) = omega arith in rw e (ap (_∷_ x) (take-least n l))
+take-least (suc n) (x ∷ xs) = let e : min (suc (length xs)) (suc n) ≡ suc (min (length xs) n) = omega arith in rw e (ap (_∷_ x) (take-least n xs))
 
 part-length : (input : List ℕ) (from have : ℕ) → have ≤ length input
     → length (drop from (take have input)) ≡ have - from

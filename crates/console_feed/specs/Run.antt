@@ -47,15 +47,15 @@ fed p input n = record {
 -- From what it holds: the bytes of each read to come, what is handed to the writes to come put together, and the table after.
 -- As much output is lent to each step.
 pub data Run (out : Output) : Program → List Str → Str → State → Type 0 where
-  read : {p : Program} {reads : List Str} {written : Str} {s : State} (input : List ℕ) (n : ℕ)
+  read : {p : Program} {reads : List Str} {written : Str} {σ : State} (input : List ℕ) (n : ℕ)
       → Inside (p .feed) (p .input)
       → take (p .feed .have) input ≡ take (p .feed .have) (p .input) → p .feed .have + n ≤ length input
-      → Run out (fed p input n) reads written s → Run out p (take n (drop (p .feed .have) input) ∷ reads) written s
-  step : {p : Program} {reads : List Str} {written : Str} {s : State} {ws txt input reply reply′ : List ℕ}
+      → Run out (fed p input n) reads written σ → Run out p (take n (drop (p .feed .have) input) ∷ reads) written σ
+  step : {p : Program} {reads : List Str} {written : Str} {σ : State} {ws txt input reply reply′ : List ℕ}
       {flat flat′ pane pane′ : List ℕ} {r : Progress} → out ≡ output flat pane
       → Feeds (p .words) (p .text) ws txt (p .feed) (p .input) input flat flat′ pane pane′ reply reply′ r
-      → Run out (record { words = ws; text = txt; input = input; feed = r .feed }) reads written s
-      → Run out p reads (take (r .end) reply′ · written) s
+      → Run out (record { words = ws; text = txt; input = input; feed = r .feed }) reads written σ
+      → Run out p reads (take (r .end) reply′ · written) σ
   end : {p : Program} {ws txt flat flat′ pane pane′ reply reply′ : List ℕ} {r : Done}
       → All Line (pending (p .feed) (p .input)) → out ≡ output flat pane
       → Ends (p .words) (p .text) ws txt (p .feed) (p .input) flat flat′ pane pane′ reply reply′ r

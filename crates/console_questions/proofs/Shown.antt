@@ -67,11 +67,11 @@ module _ (ask : Ask) (ws txt flat flat′ out out′ : List ℕ) where
       })
   tells r (C.refused n) (e, w, o) = tells-refused ask flat′ out′ n r e
 
-pub completes-tells : {ws txt flat flat′ out out′ query : List ℕ} {t : Table} {request : Request} {r : Listing}
-    → IsSound ws txt t → Completes ws txt t request query flat flat′ out out′ r
+pub completes-tells : {ws txt flat flat′ out out′ query : List ℕ} {tab : Table} {request : Request} {r : Listing}
+    → IsSound ws txt tab → Completes ws txt tab request query flat flat′ out out′ r
     → Tells (request .ask) flat′ out′ (r .answer)
-    (completion true (table-in ws txt t) (request .ask) (request .budget) (output flat out) query)
-completes-tells {ws} {txt} {flat} {flat′} {out} {out′} {query} {t} {request} {r} o x =
-    tells (request .ask) (used-words ws (t .header)) (used-text txt (t .header)) flat flat′ out out′ (r .answer)
-    (completion true (table-in ws txt t) (request .ask) (request .budget) (output flat out) query)
+    (completion true (table-in ws txt tab) (request .ask) (request .budget) (output flat out) query)
+completes-tells {ws} {txt} {flat} {flat′} {out} {out′} {query} {tab} {request} {r} o x =
+    tells (request .ask) (used-words ws (tab .header)) (used-text txt (tab .header)) flat flat′ out out′ (r .answer)
+    (completion true (table-in ws txt tab) (request .ask) (request .budget) (output flat out) query)
     (x .says true o)

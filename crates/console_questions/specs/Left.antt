@@ -25,26 +25,28 @@ pub record OutputKept (flat flat′ pane pane′ : List ℕ) : Type 0 where
   pub pane-is : pane′ ≡ pane
 
 -- They are as a completion leaves them: listed, with its lines from the start on; refused, as they were.
-pub record OutputListed (ws txt : List ℕ) (t : Table) (a : Ask) (q : Str)
+pub record OutputListed (ws txt : List ℕ) (tab : Table) (a : Ask) (q : Str)
     (flat flat′ pane pane′ : List ℕ) : Type 0 where
   pub listing : Listing
-  pub completes : Completes ws txt t (record { ask = a; budget = budget }) q flat flat′ pane pane′ listing
+  pub completes : Completes ws txt tab (record { ask = a; budget = budget }) q flat flat′ pane pane′ listing
 
 -- What a question leaves of them.
-abbrev pub OutputLeft : (ws txt : List ℕ) (t : Table) (q : Str) (flat flat′ pane pane′ : List ℕ) → Question → Type 0
-OutputLeft ws txt t q flat flat′ pane pane′ Find = OutputKept flat flat′ pane pane′
-OutputLeft ws txt t q flat flat′ pane pane′ Complete = OutputListed ws txt t (ask.Names Every) q flat flat′ pane pane′
-OutputLeft ws txt t q flat flat′ pane pane′ Modules = OutputListed ws txt t (ask.Modules All) q flat flat′ pane pane′
+abbrev pub OutputLeft : (ws txt : List ℕ) (tab : Table) (q : Str) (flat flat′ pane pane′ : List ℕ) → Question → Type 0
+OutputLeft ws txt tab q flat flat′ pane pane′ Find = OutputKept flat flat′ pane pane′
+OutputLeft ws txt tab q flat flat′ pane pane′ Complete =
+    OutputListed ws txt tab (ask.Names Every) q flat flat′ pane pane′
+OutputLeft ws txt tab q flat flat′ pane pane′ Modules =
+    OutputListed ws txt tab (ask.Modules All) q flat flat′ pane pane′
 
 -- The line of a completion: its reply stands in the reply text from at to e.
-pub record CompletedLine (ws txt : List ℕ) (t : Table) (a : Ask) (q : Str)
+pub record CompletedLine (ws txt : List ℕ) (tab : Table) (a : Ask) (q : Str)
     (flat flat′ pane pane′ reply reply′ : List ℕ) (at e : ℕ) : Type 0 where
   pub laid : Laid reply reply′ at e
-      (completed-text (asked a) (completion true (table-in ws txt t) a budget (output flat pane) q))
-  pub lists : OutputListed ws txt t a q flat flat′ pane pane′
+      (completed-text (asked a) (completion true (table-in ws txt tab) a budget (output flat pane) q))
+  pub lists : OutputListed ws txt tab a q flat flat′ pane pane′
 
 -- The line of a question.
-pub record AskedLine (ws txt : List ℕ) (t : Table) (what : Question) (q : Str)
+pub record AskedLine (ws txt : List ℕ) (tab : Table) (what : Question) (q : Str)
     (flat flat′ pane pane′ reply reply′ : List ℕ) (at e : ℕ) : Type 0 where
-  pub laid : Laid reply reply′ at e (asked-text (output flat pane) (table-in ws txt t) what q)
-  pub leaves : OutputLeft ws txt t q flat flat′ pane pane′ what
+  pub laid : Laid reply reply′ at e (asked-text (output flat pane) (table-in ws txt tab) what q)
+  pub leaves : OutputLeft ws txt tab q flat flat′ pane pane′ what

@@ -34,12 +34,12 @@ item-reply modules (S.Namespace full loaded) = Namespace
 
 -- One `[line ..]`.
 unfoldable pub line-text : (w : Which) → Line (Item w) → Str
-line-text w l = line-reply (l .match-length) (item-reply w (l .item-of)) (l .annotation) (l .candidate)
+line-text w ln = line-reply (ln .match-length) (item-reply w (ln .item-of)) (ln .annotation) (ln .candidate)
 
 -- One after another.
 unfoldable pub lines-text : (w : Which) → List (Line (Item w)) → Str
 lines-text w [] = []
-lines-text w (l ∷ ls) = line-text w l · lines-text w ls
+lines-text w (ln ∷ ls) = line-text w ln · lines-text w ls
 
 -- The lines, then `[end lines entered]`.
 abbrev pub completed-text : (w : Which) → C.Completed (Item w) → Str

@@ -30,24 +30,24 @@ text-refused records n (Refused x) e = let z : number x ≡ n = cc in ap refused
 
 -- What is used never shrinks.
 Grows : State → C.Registered → Type 0
-Grows s (C.accepted s′) = (s .records-used ≤ s′ .records-used) × (s .text-used ≤ s′ .text-used)
-Grows s (C.refused n) = Unit {0}
+Grows σ (C.accepted σ′) = (σ .records-used ≤ σ′ .records-used) × (σ .text-used ≤ σ′ .text-used)
+Grows σ (C.refused n) = Unit {0}
 
-register-grows : (k : Lent) (s : State) (c : Call) → Grows s (register true k s c)
+register-grows : (k : Lent) (σ : State) (c : Call) → Grows σ (register true k σ c)
 unfolding register after Grows
-register-grows k s c = go (first-row (registration-rows true k s c))
+register-grows k σ c = go (first-row (registration-rows true k σ c))
   where
-    go : (o : Option ℕ) → Grows s (elim o [ none ↦ C.accepted (after s c) | some n ↦ C.refused n ])
+    go : (o : Option ℕ) → Grows σ (elim o [ none ↦ C.accepted (after σ c) | some n ↦ C.refused n ])
     go none = (omega arith, omega arith)
     go (some n) = tt
 
-module _ {ws txt ws′ txt′ reply reply′ : List ℕ} {t : Table} {at : ℕ} {r : Registration} {a : Done}
+module _ {ws txt ws′ txt′ reply reply′ : List ℕ} {tab : Table} {at : ℕ} {r : Registration} {a : Done}
     (f : Finished reply reply′ at r a) where
-  leaves : (c : Call) → IsSound ws txt t → (v : C.Registered) → Grows (state ws txt t) v
-      → AnswersAs v ws txt ws′ txt′ t c r
-      → Leaves ws txt ws′ txt′ t reply reply′ at (registration (state ws txt t) v) a
+  leaves : (c : Call) → IsSound ws txt tab → (v : C.Registered) → Grows (state ws txt tab) v
+      → AnswersAs v ws txt ws′ txt′ tab c r
+      → Leaves ws txt ws′ txt′ tab reply reply′ at (registration (state ws txt tab) v) a
   unfolding Grows
-  leaves c sound (C.accepted s) g (e, x) =
+  leaves c sound (C.accepted σ) g (e, x) =
       rw (f .table-is) (record {
         sound = x .sound;
         reads = x .reads;
@@ -55,7 +55,7 @@ module _ {ws txt ws′ txt′ reply reply′ : List ℕ} {t : Table} {at : ℕ} 
         texts = x .text;
         grows = (omega (arith, g .0, ap (λ (z : State). z .records-used) (x .reads)), omega (arith, g .1, ap (λ (z : State). z .text-used) (x .reads)));
         laid = subst (Laid reply reply′ at (a .end))
-            (text-accepted (r .table .header .records) (r .answer) e ∙ ap (λ (s : State). ok-reply (s .records-used)) (x .reads)) (f .laid);
+            (text-accepted (r .table .header .records) (r .answer) e ∙ ap (λ (σ : State). ok-reply (σ .records-used)) (x .reads)) (f .laid);
       })
   leaves c sound (C.refused n) g (e, x) =
       rw (f .table-is, x .table, x .words, x .text) (record {
@@ -67,20 +67,20 @@ module _ {ws txt ws′ txt′ reply reply′ : List ℕ} {t : Table} {at : ℕ} 
         laid = subst (Laid reply reply′ at (a .end)) (text-refused (r .table .header .records) n (r .answer) e) (f .laid);
       })
 
-  accepts : (c : Call) (v : C.Registered) → AnswersAs v ws txt ws′ txt′ t c r → (s : State) → v ≡ C.accepted s
-      → Accepts ws txt ws′ txt′ t (a .table) c s
-  accepts c (C.accepted z) (e, x) s p = let q : z ≡ s = cc in rw (f .table-is, ← q) x
-  accepts c (C.refused n) x s p = let z : _≡_ {A = ℕ} 0 1 = cc in absurd (omega arith)
+  accepts : (c : Call) (v : C.Registered) → AnswersAs v ws txt ws′ txt′ tab c r → (σ : State) → v ≡ C.accepted σ
+      → Accepts ws txt ws′ txt′ tab (a .table) c σ
+  accepts c (C.accepted z) (e, x) σ p = let q : z ≡ σ = cc in rw (f .table-is, ← q) x
+  accepts c (C.refused n) x σ p = let z : _≡_ {A = ℕ} 0 1 = cc in absurd (omega arith)
 
-  still : (c : Call) (v : C.Registered) → AnswersAs v ws txt ws′ txt′ t c r → (n : ℕ) → v ≡ C.refused n
-      → Unchanged ws txt ws′ txt′ t (a .table)
+  still : (c : Call) (v : C.Registered) → AnswersAs v ws txt ws′ txt′ tab c r → (n : ℕ) → v ≡ C.refused n
+      → Unchanged ws txt ws′ txt′ tab (a .table)
   still c (C.accepted s) x n e = let z : _≡_ {A = ℕ} 0 1 = cc in absurd (omega arith)
   still c (C.refused m) (e, x) n p = rw (f .table-is) x
 
-  pub line-registers : {c : Call} → IsSound ws txt t → Answers true ws txt ws′ txt′ t c r
-      → Registers ws txt ws′ txt′ t c reply reply′ at a
+  pub line-registers : {c : Call} → IsSound ws txt tab → Answers true ws txt ws′ txt′ tab c r
+      → Registers ws txt ws′ txt′ tab c reply reply′ at a
   line-registers {c} s x = record {
-    leaves = leaves c s (register true (lent ws txt) (state ws txt t) c) (register-grows (lent ws txt) (state ws txt t) c) (x .says);
-    accepts = accepts c (register true (lent ws txt) (state ws txt t) c) (x .says);
-    still = still c (register true (lent ws txt) (state ws txt t) c) (x .says);
+    leaves = leaves c s (register true (lent ws txt) (state ws txt tab) c) (register-grows (lent ws txt) (state ws txt tab) c) (x .says);
+    accepts = accepts c (register true (lent ws txt) (state ws txt tab) c) (x .says);
+    still = still c (register true (lent ws txt) (state ws txt tab) c) (x .says);
   }

@@ -26,29 +26,29 @@ pub record Outcome : Type 0 where
 
 -- Accepted: all records used. Refused: the table is as before.
 abbrev pub registration : State → C.Registered → Outcome
-registration s (C.accepted s′) = record { text = ok-reply (s′ .records-used); after = s′ }
-registration s (C.refused n) = record { text = refused-reply n; after = s }
+registration σ (C.accepted σ′) = record { text = ok-reply (σ′ .records-used); after = σ′ }
+registration σ (C.refused n) = record { text = refused-reply n; after = σ }
 
 -- The table has become one that reads as the outcome's and is sound, only the free part that was taken has changed, and the
 -- outcome's reply stands in the reply text from at on.
-pub record Leaves (ws txt ws′ txt′ : List ℕ) (t : Table) (reply reply′ : List ℕ) (at : ℕ) (o : Outcome)
+pub record Leaves (ws txt ws′ txt′ : List ℕ) (tab : Table) (reply reply′ : List ℕ) (at : ℕ) (o : Outcome)
     (r : Done) : Type 0 where
   pub sound : IsSound ws′ txt′ (r .table)
   pub reads : state ws′ txt′ (r .table) ≡ o .after
-  pub words : Outside (t .header .records * record-words) (r .table .header .records * record-words) ws ws′
-  pub texts : Outside (t .header .text) (r .table .header .text) txt txt′
-  pub grows : (t .header .records ≤ r .table .header .records) × (t .header .text ≤ r .table .header .text)
+  pub words : Outside (tab .header .records * record-words) (r .table .header .records * record-words) ws ws′
+  pub texts : Outside (tab .header .text) (r .table .header .text) txt txt′
+  pub grows : (tab .header .records ≤ r .table .header .records) × (tab .header .text ≤ r .table .header .text)
   pub laid : Laid reply reply′ at (r .end) (o .text)
 
 -- A registration; an accepted one has its texts laid and the other root as it was, a refused one leaves header, words and text.
-pub record Registers (ws txt ws′ txt′ : List ℕ) (t : Table) (c : Call) (reply reply′ : List ℕ) (at : ℕ)
+pub record Registers (ws txt ws′ txt′ : List ℕ) (tab : Table) (c : Call) (reply reply′ : List ℕ) (at : ℕ)
     (r : Done) : Type 0 where
-  pub leaves : Leaves ws txt ws′ txt′ t reply reply′ at
-      (registration (state ws txt t) (register true (lent ws txt) (state ws txt t) c)) r
-  pub accepts : (s : State) → register true (lent ws txt) (state ws txt t) c ≡ C.accepted s
-      → Accepts ws txt ws′ txt′ t (r .table) c s
-  pub still : (n : ℕ) → register true (lent ws txt) (state ws txt t) c ≡ C.refused n
-      → Unchanged ws txt ws′ txt′ t (r .table)
+  pub leaves : Leaves ws txt ws′ txt′ tab reply reply′ at
+      (registration (state ws txt tab) (register true (lent ws txt) (state ws txt tab) c)) r
+  pub accepts : (σ : State) → register true (lent ws txt) (state ws txt tab) c ≡ C.accepted σ
+      → Accepts ws txt ws′ txt′ tab (r .table) c σ
+  pub still : (n : ℕ) → register true (lent ws txt) (state ws txt tab) c ≡ C.refused n
+      → Unchanged ws txt ws′ txt′ tab (r .table)
 
 -- ---- From the answer of the call
 

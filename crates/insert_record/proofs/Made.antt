@@ -29,7 +29,8 @@ module _ {ws txt : List ℕ} {n used : ℕ} {w : Which} where
       → Made ws ws txt n n used w so r (what w ws txt r so)
   made-none so o i = record { grows = omega arith; sound = o; stays = stays-same n ws; beyond = refl; link = i; reads = refl }
 
-  module _ {ws′ : List ℕ} {n′ : ℕ} {so : Sort} {r : ℕ} {v : Of (Item w) so} (m : Made ws ws′ txt n n′ used w so r v) where
+  module _ {ws′ : List ℕ} {n′ : ℕ} {so : Sort} {r : ℕ} {v : Of (Item w) so}
+      (m : Made ws ws′ txt n n′ used w so r v) where
     pub made-as : {v′ : Of (Item w) so} → v ≡ v′ → Made ws ws′ txt n n′ used w so r v′
     made-as e = rw (← e) m
 

@@ -19,7 +19,8 @@ pub record Room (ws : List ℕ) (n m : ℕ) : Type 0 where
   pub fits : (n + m) * record-words ≤ length ws
 
 -- After the first n records, which stay, those up to n′ are right; link r reads as v; no word past them has changed.
-pub record Made (ws ws′ txt : List ℕ) (n n′ used : ℕ) (w : Which) (so : Sort) (r : ℕ) (v : Of (Item w) so) : Type 0 where
+pub record Made (ws ws′ txt : List ℕ) (n n′ used : ℕ) (w : Which) (so : Sort) (r : ℕ)
+    (v : Of (Item w) so) : Type 0 where
   pub grows : n ≤ n′
   pub sound : Used ws′ txt n′ used
   pub stays : Stays n ws ws′

@@ -157,7 +157,7 @@ set-small s =
     }
 
 -- What a tally says of the totals.
-module _ {lim : Limits} {e l b : ℕ} {a : Tally} (s : Shows lim e l b a) where
+module _ {lim : Limits} {e n b : ℕ} {a : Tally} (s : Shows lim e n b a) where
   by-budget : {P : Type 0} → (lim .budget < e → P) → (e ≤ lim .budget → P) → P
   by-budget {P} f g = go (ltb (lim .budget) e) refl
     where
@@ -172,10 +172,10 @@ module _ {lim : Limits} {e l b : ℕ} {a : Tally} (s : Shows lim e l b a) where
   passed h = by-budget (λ p. p) (λ i. absurd (omega (arith, s .entered-is i)))
 
   module _ (h : a .entered ≤ lim .budget) (lines-fit : a .lines ≤ lim .lines) (bytes-fit : a .bytes ≤ lim .bytes) where
-    exact : (a .entered ≡ e) × (a .lines ≡ l) × (a .bytes ≡ b)
+    exact : (a .entered ≡ e) × (a .lines ≡ n) × (a .bytes ≡ b)
     exact = let t = tally-is lim a lines-fit bytes-fit (s .counted (within h)) in (s .entered-is (within h), t .0, t .1)
 
-    pub all-fit : {budget : ℕ} {flat out : List ℕ} → Set lim budget flat out → Fit lim flat out e l b
+    pub all-fit : {budget : ℕ} {flat out : List ℕ} → Set lim budget flat out → Fit lim flat out e n b
     all-fit set = record {
       entered-fit = within h;
       lines-fit = omega (arith, exact .1);
@@ -184,8 +184,8 @@ module _ {lim : Limits} {e l b : ℕ} {a : Tally} (s : Shows lim e l b a) where
       out-lent = omega (arith, set .bytes-are);
     }
 
-affordable : {lim : Limits} {budget : ℕ} {flat out : List ℕ} {e l b : ℕ} {a : Tally} → Set lim budget flat out
-    → Shows lim e l b a → a .entered ≤ lim .budget → ltb budget e ≡ false
+affordable : {lim : Limits} {budget : ℕ} {flat out : List ℕ} {e n b : ℕ} {a : Tally} → Set lim budget flat out
+    → Shows lim e n b a → a .entered ≤ lim .budget → ltb budget e ≡ false
 affordable {budget = budget} {e = e} set s h = le-ltb budget e (omega (arith, within s h, set .budget-is))
 
 -- Rows 9 and 10.

@@ -24,54 +24,54 @@ over limit x k a h (inl e) = omega arith
 over limit x k a h (inr p) = p .1
 
 module _ (lim : Limits) where
-  pub past-more : {l b : ℕ} (n m : ℕ) → Past lim l b → Past lim (l + n) (b + m)
+  pub past-more : {i b : ℕ} (n m : ℕ) → Past lim i b → Past lim (i + n) (b + m)
   past-more n m (inl h) = inl (omega arith)
   past-more n m (inr h) = inr (omega arith)
 
-  pub not-past : {P : Type 0} {l b : ℕ} → l ≤ lim .lines → b ≤ lim .bytes → Past lim l b → P
+  pub not-past : {P : Type 0} {n b : ℕ} → n ≤ lim .lines → b ≤ lim .bytes → Past lim n b → P
   not-past f g (inl h) = absurd (omega arith)
   not-past f g (inr h) = absurd (omega arith)
 
-  abbrev Tells : (l b : ℕ) (t : Tally) → Type 0
-  Tells l b t = ((t .lines ≡ l) × (t .bytes ≡ b)) ⊎ (Past lim l b × Past lim (t .lines) (t .bytes))
+  abbrev Tells : (n b : ℕ) (τ : Tally) → Type 0
+  Tells n b τ = ((τ .lines ≡ n) × (τ .bytes ≡ b)) ⊎ (Past lim n b × Past lim (τ .lines) (τ .bytes))
 
-  module _ {l b : ℕ} (t : Tally) where
+  module _ {n b : ℕ} (τ : Tally) where
     -- Within the limits it is exact.
-    pub tells-is : l ≤ lim .lines → b ≤ lim .bytes → Tells l b t → (t .lines ≡ l) × (t .bytes ≡ b)
+    pub tells-is : n ≤ lim .lines → b ≤ lim .bytes → Tells n b τ → (τ .lines ≡ n) × (τ .bytes ≡ b)
     tells-is f g (inl p) = p
     tells-is f g (inr p) = not-past f g (p .0)
 
-    pub tally-is : t .lines ≤ lim .lines → t .bytes ≤ lim .bytes → Tells l b t → (t .lines ≡ l) × (t .bytes ≡ b)
+    pub tally-is : τ .lines ≤ lim .lines → τ .bytes ≤ lim .bytes → Tells n b τ → (τ .lines ≡ n) × (τ .bytes ≡ b)
     tally-is f g (inl p) = p
     tally-is f g (inr p) = not-past f g (p .1)
 
     -- A tally past the limits is of totals past them.
-    pub tells-past : Past lim (t .lines) (t .bytes) → Tells l b t → Past lim l b
+    pub tells-past : Past lim (τ .lines) (τ .bytes) → Tells n b τ → Past lim n b
     tells-past p (inl e) = rw (e .0, e .1) at p
     tells-past p (inr q) = q .0
 
   -- n lines and m bytes more.
-  module _ (n m : ℕ) (t t′ : Tally)
-      (more-lines : (x : ℕ) → Capped (lim .lines) x (t .lines) → Capped (lim .lines) (x + n) (t′ .lines))
-      (more-bytes : (x : ℕ) → Capped (lim .bytes) x (t .bytes) → Capped (lim .bytes) (x + m) (t′ .bytes)) where
-    both : (l b : ℕ) → Capped (lim .lines) (l + n) (t′ .lines) → Capped (lim .bytes) (b + m) (t′ .bytes)
-        → Tells (l + n) (b + m) t′
-    both l b (inl e) (inl f) = inl (e, f)
-    both l b (inr p) f = inr (inl (p .0), inl (p .1))
-    both l b (inl e) (inr p) = inr (inr (p .0), inr (p .1))
+  module _ (n m : ℕ) (τ τ′ : Tally)
+      (more-lines : (x : ℕ) → Capped (lim .lines) x (τ .lines) → Capped (lim .lines) (x + n) (τ′ .lines))
+      (more-bytes : (x : ℕ) → Capped (lim .bytes) x (τ .bytes) → Capped (lim .bytes) (x + m) (τ′ .bytes)) where
+    both : (i b : ℕ) → Capped (lim .lines) (i + n) (τ′ .lines) → Capped (lim .bytes) (b + m) (τ′ .bytes)
+        → Tells (i + n) (b + m) τ′
+    both i b (inl e) (inl f) = inl (e, f)
+    both i b (inr p) f = inr (inl (p .0), inl (p .1))
+    both i b (inl e) (inr p) = inr (inr (p .0), inr (p .1))
 
-    still : Past lim (t .lines) (t .bytes) → Past lim (t′ .lines) (t′ .bytes)
-    still (inl h) = inl (over (lim .lines) (t .lines) n (t′ .lines) h (more-lines (t .lines) (inl refl)))
-    still (inr h) = inr (over (lim .bytes) (t .bytes) m (t′ .bytes) h (more-bytes (t .bytes) (inl refl)))
+    still : Past lim (τ .lines) (τ .bytes) → Past lim (τ′ .lines) (τ′ .bytes)
+    still (inl h) = inl (over (lim .lines) (τ .lines) n (τ′ .lines) h (more-lines (τ .lines) (inl refl)))
+    still (inr h) = inr (over (lim .bytes) (τ .bytes) m (τ′ .bytes) h (more-bytes (τ .bytes) (inl refl)))
 
-    pub tells-more : (l b : ℕ) → Tells l b t → Tells (l + n) (b + m) t′
-    tells-more l b (inl p) = both l b (more-lines l (inl (p .0))) (more-bytes b (inl (p .1)))
-    tells-more l b (inr p) = inr (past-more n m (p .0), still (p .1))
+    pub tells-more : (i b : ℕ) → Tells i b τ → Tells (i + n) (b + m) τ′
+    tells-more i b (inl p) = both i b (more-lines i (inl (p .0))) (more-bytes b (inl (p .1)))
+    tells-more i b (inr p) = inr (past-more n m (p .0), still (p .1))
 
 pub room-says : (at n limit lent : ℕ) → n ≤ limit - at → at ≤ limit → at ≤ lent
     → Says (leb n (lent - at)) ((at + n ≤ limit) × (at + n ≤ lent))
 room-says at n limit lent h k l = go (leb n (lent - at)) refl
   where
-    go : (t : Bool) → leb n (lent - at) ≡ t → Says t ((at + n ≤ limit) × (at + n ≤ lent))
+    go : (b : Bool) → leb n (lent - at) ≡ b → Says b ((at + n ≤ limit) × (at + n ≤ lent))
     go true e = (omega arith, omega (arith, leb-true n (lent - at) e))
     go false e = λ p. omega (arith, leb-false n (lent - at) e)

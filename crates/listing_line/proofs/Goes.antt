@@ -25,41 +25,41 @@ module _ {w : Which} {ws txt : List ℕ} {lim : Limits} where
   }
 
   -- One part, then the next.
-  pub goes-then : {a m t : Tally} {flat flat₁ flat₂ out out₁ out₂ : List ℕ} {r s : Result (Item w)}
-      → Goes w ws txt lim a m flat flat₁ out out₁ r → Goes w ws txt lim m t flat₁ flat₂ out₁ out₂ s
-      → Goes w ws txt lim a t flat flat₂ out out₂ (r ⊕ s)
+  pub goes-then : {a m τ : Tally} {flat flat₁ flat₂ out out₁ out₂ : List ℕ} {r r₂ : Result (Item w)}
+      → Goes w ws txt lim a m flat flat₁ out out₁ r → Goes w ws txt lim m τ flat₁ flat₂ out₁ out₂ r₂
+      → Goes w ws txt lim a τ flat flat₂ out out₂ (r ⊕ r₂)
   unfolding _⊕_
-  goes-then {a} {m} {t} {flat} {flat₁} {flat₂} {out} {out₁} {out₂} {r} {s} x y = record {
+  goes-then {a} {m} {τ} {flat} {flat₁} {flat₂} {out} {out₁} {out₂} {r} {r₂} x y = record {
     flat-size = y .flat-size ∙ x .flat-size;
     out-size = y .out-size ∙ x .out-size;
-    shows = λ e l b h. rw (entered e, count l, bytes b) (y .shows _ _ _ (x .shows e l b h));
-    writes = λ e l b h f.
+    shows = λ e n b h. rw (entered e, count n, bytes b) (y .shows _ _ _ (x .shows e n b h));
+    writes = λ e n b h f.
         written-then
-        (x .writes e l b h (record {
+        (x .writes e n b h (record {
           entered-fit = omega (arith, f .entered-fit);
-          lines-fit = omega (arith, f .lines-fit, count l);
+          lines-fit = omega (arith, f .lines-fit, count n);
           bytes-fit = omega (arith, f .bytes-fit, bytes b);
           flat-lent = f .flat-lent;
           out-lent = f .out-lent;
         }))
-        (y .writes _ _ _ (x .shows e l b h) (record {
+        (y .writes _ _ _ (x .shows e n b h) (record {
           entered-fit = omega (arith, f .entered-fit);
-          lines-fit = omega (arith, f .lines-fit, count l);
+          lines-fit = omega (arith, f .lines-fit, count n);
           bytes-fit = omega (arith, f .bytes-fit, bytes b);
           flat-lent = omega (arith, f .flat-lent, x .flat-size);
           out-lent = omega (arith, f .out-lent, x .out-size);
         }));
   }
     where
-      entered : (e : ℕ) → e + (r .entered + s .entered) ≡ e + r .entered + s .entered
+      entered : (e : ℕ) → e + (r .entered + r₂ .entered) ≡ e + r .entered + r₂ .entered
       entered e = omega arith
 
-      count : (l : ℕ) → l + length (r .lines ++ s .lines) ≡ l + length (r .lines) + length (s .lines)
-      count l = omega (arith, length-append (r .lines) (s .lines))
+      count : (n : ℕ) → n + length (r .lines ++ r₂ .lines) ≡ n + length (r .lines) + length (r₂ .lines)
+      count n = omega (arith, length-append (r .lines) (r₂ .lines))
 
-      bytes : (b : ℕ) → b + length (output-text (r .lines ++ s .lines))
-          ≡ b + length (output-text (r .lines)) + length (output-text (s .lines))
-      bytes b = omega (arith, ap length (output-text-append (r .lines) (s .lines)), length-append (output-text (r .lines)) (output-text (s .lines)))
+      bytes : (b : ℕ) → b + length (output-text (r .lines ++ r₂ .lines))
+          ≡ b + length (output-text (r .lines)) + length (output-text (r₂ .lines))
+      bytes b = omega (arith, ap length (output-text-append (r .lines) (r₂ .lines)), length-append (output-text (r .lines)) (output-text (r₂ .lines)))
 
   -- Past the budget nothing more is said.
   pub goes-spent : {a : Tally} (flat out : List ℕ) (r : Result (Item w)) → lim .budget < a .entered

@@ -20,15 +20,15 @@ use Rattle.listing_line.proofs.Capped.{tells-is, tells-more}
 use Rattle.listing_output.proofs.Put.{line-size, written-line}
 
 -- The tally after a line of some bytes.
-pub record Counted (j : Job) (size : ℕ) (t : Tally) : Type 0 where
-  pub entered-same : t .entered ≡ j .tally .entered
-  pub lines-more : (x : ℕ) → Capped (j .lim .lines) x (j .tally .lines) → Capped (j .lim .lines) (x + 1) (t .lines)
-  pub bytes-more : (x : ℕ) → Capped (j .lim .bytes) x (j .tally .bytes) → Capped (j .lim .bytes) (x + size) (t .bytes)
+pub record Counted (j : Job) (size : ℕ) (τ : Tally) : Type 0 where
+  pub entered-same : τ .entered ≡ j .tally .entered
+  pub lines-more : (x : ℕ) → Capped (j .lim .lines) x (j .tally .lines) → Capped (j .lim .lines) (x + 1) (τ .lines)
+  pub bytes-more : (x : ℕ) → Capped (j .lim .bytes) x (j .tally .bytes) → Capped (j .lim .bytes) (x + size) (τ .bytes)
 
-pub counts-kept : {j : Job} {size n l b : ℕ} → n ≡ size
-    → ((x : ℕ) → Capped (j .lim .lines) x (j .tally .lines) → Capped (j .lim .lines) (x + 1) l)
+pub counts-kept : {j : Job} {size n m b : ℕ} → n ≡ size
+    → ((x : ℕ) → Capped (j .lim .lines) x (j .tally .lines) → Capped (j .lim .lines) (x + 1) m)
     → ((x : ℕ) → Capped (j .lim .bytes) x (j .tally .bytes) → Capped (j .lim .bytes) (x + n) b)
-    → Counted j size (record { entered = j .tally .entered; lines = l; bytes = b })
+    → Counted j size (record { entered = j .tally .entered; lines = m; bytes = b })
 counts-kept e f g = record { entered-same = refl; lines-more = f; bytes-more = rw e at g }
 
 -- What is tested before it is written.
@@ -39,13 +39,13 @@ abbrev TextFits : Job → ℕ → List ℕ → Type 0
 TextFits j n out = (j .tally .bytes + n ≤ j .lim .bytes) × (j .tally .bytes + n ≤ length out)
 
 module _ {ws txt : List ℕ} {j : Job} (ok : JobOk ws txt j) where
-  module _ {note : Str} {t : Tally} (c : Counted j (size-of ws j note) t) where
+  module _ {note : Str} {τ : Tally} (c : Counted j (size-of ws j note) τ) where
     goes-line : {flat flat′ out out′ : List ℕ} → length flat′ ≡ length flat → length out′ ≡ length out
-        → ((w : Which) (l : Line (Item w)) → Spells ws txt w (j .path) (j .branch) (j .matched) note l
+        → ((w : Which) (ln : Line (Item w)) → Spells ws txt w (j .path) (j .branch) (j .matched) note ln
         → (e : ℕ) → Fit (j .lim) flat out e (j .tally .lines + 1) (j .tally .bytes + size-of ws j note)
-        → Written w ws txt flat flat′ out out′ (j .tally .lines) (j .tally .bytes) (l ∷ []))
-        → PutLine ws txt j note t flat flat′ out out′
-    goes-line f o put w l s =
+        → Written w ws txt flat flat′ out out′ (j .tally .lines) (j .tally .bytes) (ln ∷ []))
+        → PutLine ws txt j note τ flat flat′ out out′
+    goes-line f o put w ln s =
         let size = line-size ok s in
         record {
           flat-size = f;
@@ -53,7 +53,7 @@ module _ {ws txt : List ℕ} {j : Job} (ok : JobOk ws txt j) where
           shows = λ e i b h. record {
             spent = λ k. omega (arith, c .entered-same, h .spent (omega arith));
             entered-is = λ k. omega (arith, c .entered-same, h .entered-is (omega arith));
-            counted = λ k. rw size (tells-more (j .lim) 1 (size-of ws j note) (j .tally) t (c .lines-more)
+            counted = λ k. rw size (tells-more (j .lim) 1 (size-of ws j note) (j .tally) τ (c .lines-more)
                 (c .bytes-more) i b (h .counted (omega arith)));
           };
           writes = λ e i b h k.
@@ -61,7 +61,7 @@ module _ {ws txt : List ℕ} {j : Job} (ok : JobOk ws txt j) where
               (h .counted (omega (arith, k .entered-fit))) in
               let el = is .0 in
               let eb = is .1 in
-              rw (← el, ← eb) (put w l s e (record {
+              rw (← el, ← eb) (put w ln s e (record {
                 entered-fit = omega (arith, k .entered-fit);
                 lines-fit = omega (arith, k .lines-fit);
                 bytes-fit = omega (arith, k .bytes-fit);
@@ -72,7 +72,7 @@ module _ {ws txt : List ℕ} {j : Job} (ok : JobOk ws txt j) where
 
     -- It is written where it fits.
     pub line-counted : {flat flat′ out out′ : List ℕ} → TriedLine ws txt j note flat flat′ out out′
-        → PutLine ws txt j note t flat flat′ out out′
+        → PutLine ws txt j note τ flat flat′ out out′
     line-counted p = goes-line (p .flat-size) (p .out-size) (λ w l s e f. written-line ok s (p .put e f))
 
   module _ {note : Str} where

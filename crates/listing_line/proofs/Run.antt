@@ -42,27 +42,27 @@ module _ (run : List ℕ) (k v : ℕ) (few : getD run 16 0 ≤ 16) (h : 18 < k) 
   }
 
 -- The lines and the bytes are counted.
-module _ (run : List ℕ) (l b : ℕ) where
-  pub same-counted : getD run 16 0 ≤ 16 → SamePath run (set (set run 20 l) 21 b)
+module _ (run : List ℕ) (n b : ℕ) where
+  pub same-counted : getD run 16 0 ≤ 16 → SamePath run (set (set run 20 n) 21 b)
   same-counted few =
-      let s = same-set run 20 l few (omega arith) (omega arith) in
-      path-then s (same-set (set run 20 l) 21 b (omega (arith, s .count)) (omega arith) (omega arith))
+      let s = same-set run 20 n few (omega arith) (omega arith) in
+      path-then s (same-set (set run 20 n) 21 b (omega (arith, s .count)) (omega arith) (omega arith))
 
   pub tally-counted : length run ≡ run-size
-      → tally-in (set (set run 20 l) 21 b) ≡ record { entered = getD run 19 0; lines = l; bytes = b }
+      → tally-in (set (set run 20 n) 21 b) ≡ record { entered = getD run 19 0; lines = n; bytes = b }
   tally-counted e = rw (
-    getD-set-other (set run 20 l) 21 19 b 0 (λ z. omega arith),
-    getD-set-other run 20 19 l 0 (λ z. omega arith),
-    getD-set-other (set run 20 l) 21 20 b 0 (λ z. omega arith),
-    getD-set-same run 20 l 0 (omega arith),
-    getD-set-same (set run 20 l) 21 b 0 (omega (arith, length-set run 20 l)),
+    getD-set-other (set run 20 n) 21 19 b 0 (λ z. omega arith),
+    getD-set-other run 20 19 n 0 (λ z. omega arith),
+    getD-set-other (set run 20 n) 21 20 b 0 (λ z. omega arith),
+    getD-set-same run 20 n 0 (omega arith),
+    getD-set-same (set run 20 n) 21 b 0 (omega (arith, length-set run 20 n)),
   )
 
-module _ (run : List ℕ) (l : ℕ) where
+module _ (run : List ℕ) (n : ℕ) where
   pub tally-entered : length run ≡ run-size
-      → tally-in (set run 19 l) ≡ record { entered = l; lines = getD run 20 0; bytes = getD run 21 0 }
+      → tally-in (set run 19 n) ≡ record { entered = n; lines = getD run 20 0; bytes = getD run 21 0 }
   tally-entered e =
-      rw (getD-set-same run 19 l 0 (omega arith), getD-set-other run 19 20 l 0 (λ z. omega arith), getD-set-other run 19 21 l 0 (λ z. omega arith))
+      rw (getD-set-same run 19 n 0 (omega arith), getD-set-other run 19 20 n 0 (λ z. omega arith), getD-set-other run 19 21 n 0 (λ z. omega arith))
 
 -- What stands after the path is as it was.
 module _ (run run′ : List ℕ) (s : (k : ℕ) → 18 < k → getD run′ k 0 ≡ getD run k 0) where

@@ -25,30 +25,30 @@ abbrev pub Capped : (limit x a : ℕ) → Type 0
 Capped limit x a = (a ≡ x) ⊎ ((limit < x) × (limit < a))
 
 -- Lines or bytes past the limits.
-abbrev pub Past : (lim : Limits) (l b : ℕ) → Type 0
-Past lim l b = (lim .lines < l) ⊎ (lim .bytes < b)
+abbrev pub Past : (lim : Limits) (n b : ℕ) → Type 0
+Past lim n b = (lim .lines < n) ⊎ (lim .bytes < b)
 
--- A tally of e tries entered, l lines and b bytes. Past the budget it says only that; past the lines or bytes it says that of lines and bytes.
-pub record Shows (lim : Limits) (e l b : ℕ) (t : Tally) : Type 0 where
-  pub spent : lim .budget < e → lim .budget < t .entered
-  pub entered-is : e ≤ lim .budget → t .entered ≡ e
-  pub counted : e ≤ lim .budget → ((t .lines ≡ l) × (t .bytes ≡ b)) ⊎ (Past lim l b × Past lim (t .lines) (t .bytes))
+-- A tally of e tries entered, n lines and b bytes. Past the budget it says only that; past the lines or bytes it says that of lines and bytes.
+pub record Shows (lim : Limits) (e n b : ℕ) (τ : Tally) : Type 0 where
+  pub spent : lim .budget < e → lim .budget < τ .entered
+  pub entered-is : e ≤ lim .budget → τ .entered ≡ e
+  pub counted : e ≤ lim .budget → ((τ .lines ≡ n) × (τ .bytes ≡ b)) ⊎ (Past lim n b × Past lim (τ .lines) (τ .bytes))
 
 -- Totals within the limits, and these within what is lent.
-pub record Fit (lim : Limits) (flat out : List ℕ) (e l b : ℕ) : Type 0 where
+pub record Fit (lim : Limits) (flat out : List ℕ) (e n b : ℕ) : Type 0 where
   pub entered-fit : e ≤ lim .budget
-  pub lines-fit : l ≤ lim .lines
+  pub lines-fit : n ≤ lim .lines
   pub bytes-fit : b ≤ lim .bytes
   pub flat-lent : lim .lines * line-bytes ≤ length flat
   pub out-lent : lim .bytes ≤ length out
 
 -- The run went on by the part r: it is counted, and where all fits it is written.
-pub record Goes (w : Which) (ws txt : List ℕ) (lim : Limits) (a t : Tally) (flat flat′ out out′ : List ℕ)
+pub record Goes (w : Which) (ws txt : List ℕ) (lim : Limits) (a τ : Tally) (flat flat′ out out′ : List ℕ)
     (r : Result (Item w)) : Type 0 where
   pub flat-size : length flat′ ≡ length flat
   pub out-size : length out′ ≡ length out
-  pub shows : (e l b : ℕ) → Shows lim e l b a
-      → Shows lim (e + r .entered) (l + length (r .lines)) (b + length (output-text (r .lines))) t
-  pub writes : (e l b : ℕ) → Shows lim e l b a
-      → Fit lim flat out (e + r .entered) (l + length (r .lines)) (b + length (output-text (r .lines)))
-      → Written w ws txt flat flat′ out out′ l b (r .lines)
+  pub shows : (e n b : ℕ) → Shows lim e n b a
+      → Shows lim (e + r .entered) (n + length (r .lines)) (b + length (output-text (r .lines))) τ
+  pub writes : (e n b : ℕ) → Shows lim e n b a
+      → Fit lim flat out (e + r .entered) (n + length (r .lines)) (b + length (output-text (r .lines)))
+      → Written w ws txt flat flat′ out out′ n b (r .lines)

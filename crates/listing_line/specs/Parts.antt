@@ -19,7 +19,7 @@ pub record TriedLine (ws txt : List ℕ) (j : Job) (note flat flat′ out out′
       → LinePut ws txt j note flat flat′ out out′
 
 -- The run went on by the line, whatever the table.
-abbrev pub PutLine : (ws txt : List ℕ) (j : Job) (note : Str) (t : Tally) (flat flat′ out out′ : List ℕ) → Type 0
-PutLine ws txt j note t flat flat′ out out′ =
-    (w : Which) (l : Line (Item w)) → Spells ws txt w (j .path) (j .branch) (j .matched) note l
-    → Goes w ws txt (j .lim) (j .tally) t flat flat′ out out′ (only (l ∷ []))
+abbrev pub PutLine : (ws txt : List ℕ) (j : Job) (note : Str) (τ : Tally) (flat flat′ out out′ : List ℕ) → Type 0
+PutLine ws txt j note τ flat flat′ out out′ =
+    (w : Which) (ln : Line (Item w)) → Spells ws txt w (j .path) (j .branch) (j .matched) note ln
+    → Goes w ws txt (j .lim) (j .tally) τ flat flat′ out out′ (only (ln ∷ []))

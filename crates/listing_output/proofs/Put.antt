@@ -20,9 +20,9 @@ use Rattle.listing_output.specs.Parts.{Spells, JobOk, candidate-of, line
 use Rattle.listing_output.proofs.Texts.{text-laid, row-laid, row-spelled}
 
 -- A line's words read as the item of its branch.
-row-item : (w : Which) (txt r : List ℕ) (m s n k : ℕ) → item-of w txt (line-row r m s n k) ≡ item-of w txt r
-row-item names txt r m s n k = refl
-row-item modules txt r m s n k = refl
+row-item : (w : Which) (txt r : List ℕ) (m start n k : ℕ) → item-of w txt (line-row r m start n k) ≡ item-of w txt r
+row-item names txt r m start n k = refl
+row-item modules txt r m start n k = refl
 
 module _ {ws txt : List ℕ} {j : Job} (ok : JobOk ws txt j) where
   pub candidate-length : length (candidate-of ws txt (j .path) (j .branch))
@@ -55,17 +55,17 @@ module _ {ws txt : List ℕ} {j : Job} (ok : JobOk ws txt j) where
               (lent-laid end (omega (arith, x .end, x .fits, laid-length x)) (text-laid refl note-room refl p)));
         }
 
-  module _ {note : Str} {w : Which} {l : Line (Item w)}
-      (s : Spells ws txt w (j .path) (j .branch) (j .matched) note l) where
-    line-text : output-text (l ∷ []) ≡ candidate-of ws txt (j .path) (j .branch) ++ note
+  module _ {note : Str} {w : Which} {ln : Line (Item w)}
+      (s : Spells ws txt w (j .path) (j .branch) (j .matched) note ln) where
+    line-text : output-text (ln ∷ []) ≡ candidate-of ws txt (j .path) (j .branch) ++ note
     unfolding output-text
     line-text = rw (s .candidate-is, s .annotation-is, append-nil note)
 
-    pub line-size : length (output-text (l ∷ [])) ≡ size-of ws j note
+    pub line-size : length (output-text (ln ∷ [])) ≡ size-of ws j note
     line-size = omega (arith, ap length line-text, length-append (candidate-of ws txt (j .path) (j .branch)) note, candidate-length)
 
     pub written-line : {flat flat′ out out′ : List ℕ} → LinePut ws txt j note flat flat′ out out′
-        → Written w ws txt flat flat′ out out′ (j .tally .lines) (j .tally .bytes) (l ∷ [])
+        → Written w ws txt flat flat′ out out′ (j .tally .lines) (j .tally .bytes) (ln ∷ [])
     unfolding output-lines line-of rows-flat flatMap
     written-line p =
         let e : (j .tally .lines + 1) * line-bytes ≡ j .tally .lines * line-bytes + line-bytes = omega arith in

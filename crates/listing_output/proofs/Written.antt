@@ -21,24 +21,24 @@ unfolding rows-flat
 rows-append xs ys = flatMap-append (λ r. r) xs ys
 
 module _ {w : Which} {ws txt : List ℕ} where
-  pub written-none : (flat out : List ℕ) (l b : ℕ) → l * line-bytes ≤ length flat → b ≤ length out
-      → Written w ws txt flat flat out out l b []
+  pub written-none : (flat out : List ℕ) (n b : ℕ) → n * line-bytes ≤ length flat → b ≤ length out
+      → Written w ws txt flat flat out out n b []
   unfolding output-text output-lines rows-flat flatMap
-  written-none flat out l b h k = record {
+  written-none flat out n b h k = record {
     rows = [];
     sized = tt;
     from = tt;
     reads = refl;
-    flat-laid = laid-none flat (l * line-bytes) ((l + 0) * line-bytes) (omega arith) (omega arith);
+    flat-laid = laid-none flat (n * line-bytes) ((n + 0) * line-bytes) (omega arith) (omega arith);
     out-laid = laid-none out b (b + 0) (omega arith) (omega arith);
   }
 
-  pub written-then : {flat flat₁ flat₂ out out₁ out₂ : List ℕ} {l b : ℕ} {xs ys : List (Line (Item w))}
-      → Written w ws txt flat flat₁ out out₁ l b xs
-      → Written w ws txt flat₁ flat₂ out₁ out₂ (l + length xs) (b + length (output-text xs)) ys
-      → Written w ws txt flat flat₂ out out₂ l b (xs ++ ys)
-  written-then {l = l} {b = b} {xs = xs} {ys = ys} x y =
-      let el : (l + length (xs ++ ys)) * line-bytes ≡ (l + length xs + length ys) * line-bytes = omega (arith, length-append xs ys) in
+  pub written-then : {flat flat₁ flat₂ out out₁ out₂ : List ℕ} {n b : ℕ} {xs ys : List (Line (Item w))}
+      → Written w ws txt flat flat₁ out out₁ n b xs
+      → Written w ws txt flat₁ flat₂ out₁ out₂ (n + length xs) (b + length (output-text xs)) ys
+      → Written w ws txt flat flat₂ out out₂ n b (xs ++ ys)
+  written-then {n = n} {b = b} {xs = xs} {ys = ys} x y =
+      let el : (n + length (xs ++ ys)) * line-bytes ≡ (n + length xs + length ys) * line-bytes = omega (arith, length-append xs ys) in
       let eb : b + length (output-text (xs ++ ys)) ≡ b + length (output-text xs) + length (output-text ys) =
       omega (arith, ap length (output-text-append xs ys), length-append (output-text xs) (output-text ys)) in
       record {

@@ -68,12 +68,12 @@ pub record RowFrom (ws txt : List ℕ) (w : Which) (r : List ℕ) : Type 0 where
   pub item-is : item-words r ≡ item-words (record-at ws branch)
   pub last : word r 11 ≡ 0
 
--- The lines are written after the first l line records and the first b bytes, and nothing else changed; rows are the bytes of each line.
-pub record Written (w : Which) (ws txt flat flat′ out out′ : List ℕ) (l b : ℕ)
+-- The lines are written after the first n line records and the first b bytes, and nothing else changed; rows are the bytes of each line.
+pub record Written (w : Which) (ws txt flat flat′ out out′ : List ℕ) (n b : ℕ)
     (lines : List (Line (Item w))) : Type 0 where
   pub rows : List (List ℕ)
   pub sized : Allˡ (λ r. length r ≡ line-bytes) rows
   pub from : Allˡ (RowFrom ws txt w) (map line-words rows)
   pub reads : map (line-of w txt) (map line-words rows) ≡ output-lines b lines
-  pub flat-laid : Laid flat flat′ (l * line-bytes) ((l + length lines) * line-bytes) (rows-flat rows)
+  pub flat-laid : Laid flat flat′ (n * line-bytes) ((n + length lines) * line-bytes) (rows-flat rows)
   pub out-laid : Laid out out′ b (b + length (output-text lines)) (output-text lines)

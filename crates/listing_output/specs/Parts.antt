@@ -48,12 +48,12 @@ candidate-of ws txt p branch = joined ws txt (p .links) (p .n) ++ key-at ws txt 
 
 -- The line of a branch below a path.
 pub record Spells (ws txt : List ℕ) (w : Which) (p : Path) (branch matched : ℕ) (note : Str)
-    (l : Line (Item w)) : Type 0 where
+    (ln : Line (Item w)) : Type 0 where
   pub branch-at : BranchAt ws txt w bind branch
-  pub length-is : l .match-length ≡ signed-word matched
-  pub item-is : l .item-of ≡ item-of w txt (record-at ws branch)
-  pub candidate-is : l .candidate ≡ joined ws txt (p .links) (p .n) ++ key-at ws txt branch
-  pub annotation-is : l .annotation ≡ note
+  pub length-is : ln .match-length ≡ signed-word matched
+  pub item-is : ln .item-of ≡ item-of w txt (record-at ws branch)
+  pub candidate-is : ln .candidate ≡ joined ws txt (p .links) (p .n) ++ key-at ws txt branch
+  pub annotation-is : ln .annotation ≡ note
 
 -- The words of a line from the branch r.
 abbrev pub line-row : (r : List ℕ) (matched start len note : ℕ) → List ℕ

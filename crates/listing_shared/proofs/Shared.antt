@@ -139,7 +139,8 @@ module _ {w : Which} {ws txt flat flat′ out out′ : List ℕ} {lines : List (
       (go (words-from flat′ 0 (length lines)) ∙ ap (map (λ (ln : Line (Item w)). ln .candidate)) (written-lines x))
     where
       go : (rows : List (List ℕ))
-          → map (candidate-seen out′) rows ≡ map (λ (ln : Line (Item w)). ln .candidate) (map (line-seen w txt out′) rows)
+          → map (candidate-seen out′) rows
+          ≡ map (λ (ln : Line (Item w)). ln .candidate) (map (line-seen w txt out′) rows)
       go [] = refl
       go (r ∷ rows) = ap (λ (ss : List Str). candidate-seen out′ r ∷ ss) (go rows)
 

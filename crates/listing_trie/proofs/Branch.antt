@@ -117,13 +117,13 @@ module _ {ws txt : List ℕ} {ask : Ask} {rest : Str} {p : Path} {lim : Limits} 
           room = rw c (omega (arith, r .room e, d .count, ap depth (child-reads (space-at .0))));
         }
 
-        pub space-runs : {matched : ℤ} {a t : Tally} {flat flat′ out out′ : List ℕ}
-            → TrieRuns ws txt ask rest longer lim matched a t flat flat′ out out′ child
-            → BranchRuns ws txt ask rest p lim matched a t flat flat′ out out′ leaf branch label
-        space-runs {matched} {a} {t} {flat} {flat′} {out} {out′} runs = go leaf e
+        pub space-runs : {matched : ℤ} {a τ : Tally} {flat flat′ out out′ : List ℕ}
+            → TrieRuns ws txt ask rest longer lim matched a τ flat flat′ out out′ child
+            → BranchRuns ws txt ask rest p lim matched a τ flat flat′ out out′ leaf branch label
+        space-runs {matched} {a} {τ} {flat} {flat′} {out} {out′} runs = go leaf e
           where
             go : (z : Bool) → z ≡ false
-                → BranchRuns ws txt ask rest p lim matched a t flat flat′ out out′ z branch label
+                → BranchRuns ws txt ask rest p lim matched a τ flat flat′ out out′ z branch label
             go true e = absurd (true≢false e)
             go false e = record {
               goes = λ path x o n on st sh dp.

@@ -55,10 +55,10 @@ use Rattle.memory.proofs.What.{what-none}
 use Rattle.listing_line.proofs.Goes.{goes-none}
 
 -- What is found in a list of namespaces is less deep than the list.
-found-deep : {A : Type 0} {ℓ : Level} (n : NameList A ℓ) (term : SearchTerm)
-    → Allˡ (λ x. depth (x .1) < depth-names n) (found n term)
+found-deep : {A : Type 0} {ℓ : Level} (nl : NameList A ℓ) (term : SearchTerm)
+    → Allˡ (λ x. depth (x .1) < depth-names nl) (found nl term)
 unfolding found
-found-deep n term = Allˡ-reverse _ (names-find-rev-first n term) [] (names-find-first-depth n term) tt
+found-deep nl term = Allˡ-reverse _ (names-find-rev-first nl term) [] (names-find-first-depth nl term) tt
 
 -- No label.
 pub no-label : {ws txt : List ℕ} {w : Which} {ℓ : Level} {n used : ℕ} → Used ws txt n used → LabelAt ws txt w ℓ 0
@@ -76,7 +76,7 @@ unfoldable pub onward : (ws txt : List ℕ) (prefix : Str) (root at : ℕ) → L
 onward ws txt prefix root at = cond (eqb at 0) [] (at ∷ later ws txt prefix root at)
 
 abbrev labelled : ℕ → List ℕ → List Entry
-labelled label l = map (λ b. record { branch = b; label = label }) l
+labelled label xs = map (λ b. record { branch = b; label = label }) xs
 
 module _ {ws txt : List ℕ} {w : Which} {ℓ : Level} {root : ℕ} (t : At ws txt w (tree ℓ) root) (prefix : Str) where
   -- The branch stands among the matches.
@@ -88,12 +88,12 @@ module _ {ws txt : List ℕ} {w : Which} {ℓ : Level} {root : ℕ} (t : At ws t
   unfolding onward
   first-onward at e = go (matches ws txt root prefix) refl (matches-of t prefix) (matches-increasing t prefix) e
     where
-      go : (l : List ℕ) → matches ws txt root prefix ≡ l → Allˡ (MatchOf ws txt w ℓ root prefix) l
-          → Increasing (key-at ws txt) l → at ≡ head0 l
-          → (cond (eqb at 0) [] (at ∷ later ws txt prefix root at) ≡ l) × Standing at
+      go : (xs : List ℕ) → matches ws txt root prefix ≡ xs → Allˡ (MatchOf ws txt w ℓ root prefix) xs
+          → Increasing (key-at ws txt) xs → at ≡ head0 xs
+          → (cond (eqb at 0) [] (at ∷ later ws txt prefix root at) ≡ xs) × Standing at
       go [] q a i e = (rw (eq-eqb at 0 e), record { matching = λ n. absurd (n e) })
-      go (y ∷ l) q a i e = (
-        rw (e, ne-eqb y 0 (λ z. omega (arith, a .0 .branch .some)), q) (ap (_∷_ y) (after-first (key-at ws txt) y l i)),
+      go (y ∷ xs) q a i e = (
+        rw (e, ne-eqb y 0 (λ z. omega (arith, a .0 .branch .some)), q) (ap (_∷_ y) (after-first (key-at ws txt) y xs i)),
         record { matching = λ n. rw e (a .0) },
       )
 
@@ -110,9 +110,9 @@ module _ {ws txt : List ℕ} {w : Which} {ℓ : Level} {root : ℕ} (t : At ws t
 module _ (ws txt : List ℕ) (ask : Ask) (rest : Str) (p : Path) (lim : Limits) (matched : ℤ) (leaf : Bool)
     (root label : ℕ) (prefix : Str) where
   -- The run over a tree has come to the branch at.
-  pub record Along (a t : Tally) (flat flat′ out out′ : List ℕ) (at : ℕ) : Type 0 where
+  pub record Along (a τ : Tally) (flat flat′ out out′ : List ℕ) (at : ℕ) : Type 0 where
     pub tree-at : At ws txt (asked ask) (tree (level-of leaf)) root
-    pub left : Left ws txt ask rest p lim matched leaf a t flat flat′ out out′ (tree-entries ws txt root label prefix)
+    pub left : Left ws txt ask rest p lim matched leaf a τ flat flat′ out out′ (tree-entries ws txt root label prefix)
         (labelled label (onward ws txt prefix root at))
     pub standing : Standing tree-at prefix at
 
@@ -130,8 +130,8 @@ module _ {ws txt : List ℕ} {ask : Ask} {rest : Str} {p : Path} {lim : Limits} 
         standing = f .1;
       }
 
-  module _ {a t : Tally} {flat flat′ out out′ : List ℕ} {at : ℕ}
-      (g : Along ws txt ask rest p lim matched leaf root label prefix a t flat flat′ out out′ at) where
+  module _ {a τ : Tally} {flat flat′ out out′ : List ℕ} {at : ℕ}
+      (g : Along ws txt ask rest p lim matched leaf root label prefix a τ flat flat′ out out′ at) where
     module _ (n : at ≡ 0 → ⊥) where
       here : MatchOf ws txt (asked ask) (level-of leaf) root prefix at
       here = g .standing .matching n
@@ -162,16 +162,16 @@ module _ {ws txt : List ℕ} {ask : Ask} {rest : Str} {p : Path} {lim : Limits} 
       pub along-begins : starts-with (key-at ws txt at) prefix ≡ true
       along-begins = here .begins
 
-      module _ {t′ : Tally} {flat″ out″ : List ℕ}
-          (b : BranchRuns ws txt ask rest p lim matched t t′ flat′ flat″ out′ out″ leaf at label)
+      module _ {τ′ : Tally} {flat″ out″ : List ℕ}
+          (b : BranchRuns ws txt ask rest p lim matched τ τ′ flat′ flat″ out′ out″ leaf at label)
           (lf : length flat″ ≡ length flat′) (lo : length out″ ≡ length out′) where
-        pub along-spent : lim .budget < t′ .entered
-            → EntriesRun ws txt ask rest p lim matched a t′ flat flat″ out out″ leaf
+        pub along-spent : lim .budget < τ′ .entered
+            → EntriesRun ws txt ask rest p lim matched a τ′ flat flat″ out out″ leaf
             (tree-entries ws txt root label prefix)
         along-spent s = left-spent ws txt ask rest p lim matched leaf (left-next ws txt ask rest p lim matched leaf (rw split at (g .left)) b lf lo) s
 
         module _ {r : ℕ} (e : r ≡ head0 (later ws txt prefix root at)) where
-          pub along-next : Along ws txt ask rest p lim matched leaf root label prefix a t′ flat flat″ out out″ r
+          pub along-next : Along ws txt ask rest p lim matched leaf root label prefix a τ′ flat flat″ out out″ r
           along-next =
               let f = next-onward (g .tree-at) prefix at r n e in
               record {
@@ -184,47 +184,47 @@ module _ {ws txt : List ℕ} {ask : Ask} {rest : Str} {p : Path} {lim : Limits} 
           along-less = let f = next-onward (g .tree-at) prefix at r n e in omega (arith, ap length (f .0))
 
     pub along-done : at ≡ 0
-        → EntriesRun ws txt ask rest p lim matched a t flat flat′ out out′ leaf (tree-entries ws txt root label prefix)
+        → EntriesRun ws txt ask rest p lim matched a τ flat flat′ out out′ leaf (tree-entries ws txt root label prefix)
     unfolding onward
     along-done z = left-none ws txt ask rest p lim matched leaf (rw (eq-eqb at 0 z) at (g .left))
 
 -- The run, with notes of the branches after the one at hand.
 module _ (ws txt : List ℕ) (query : Str) (place : Search) (f : Labelled) (run run′ flat flat′ out out′ notes : List ℕ)
-    (s : Next) where
+    (step : Next) where
   pub record Stepping : Type 0 where
     pub same : SamePath run run′
     pub along : Along ws txt (place .want .ask) (drop (place .next) query) (path-in run) (limits-in run)
         (place .want .matched)
         (place .leaf)
-        (f .link) (f .label) (take (place .len) query) (tally-in run) (tally-in run′) flat flat′ out out′ (s .link)
-    pub noted : (s .link ≡ 0 → ⊥) → Noted ws txt (take (place .len) query) notes (s .n) (s .link)
-        (later ws txt (take (place .len) query) (f .link) (s .link))
+        (f .link) (f .label) (take (place .len) query) (tally-in run) (tally-in run′) flat flat′ out out′ (step .link)
+    pub noted : (step .link ≡ 0 → ⊥) → Noted ws txt (take (place .len) query) notes (step .n) (step .link)
+        (later ws txt (take (place .len) query) (f .link) (step .link))
 
-noted-after : (ws txt : List ℕ) (prefix : Str) (root : ℕ) {notes : List ℕ} {l : List ℕ} {s : Next}
-    → Matched ws txt prefix notes l s → onward ws txt prefix root (s .link) ≡ l → (s .link ≡ 0 → ⊥)
-    → Noted ws txt prefix notes (s .n) (s .link) (later ws txt prefix root (s .link))
+noted-after : (ws txt : List ℕ) (prefix : Str) (root : ℕ) {notes : List ℕ} {xs : List ℕ} {step : Next}
+    → Matched ws txt prefix notes xs step → onward ws txt prefix root (step .link) ≡ xs → (step .link ≡ 0 → ⊥)
+    → Noted ws txt prefix notes (step .n) (step .link) (later ws txt prefix root (step .link))
 unfolding onward
-noted-after ws txt prefix root {s = s} w e n = w .noted (s .link) (later ws txt prefix root (s .link)) (sym e ∙ rw (ne-eqb (s .link) 0 n))
+noted-after ws txt prefix root {step = step} w e n = w .noted (step .link) (later ws txt prefix root (step .link)) (sym e ∙ rw (ne-eqb (step .link) 0 n))
 
 module _ {ws txt : List ℕ} {query : Str} {place : Search} {f : Labelled} {run : List ℕ} where
-  pub stepping-first : {flat out notes : List ℕ} {s : Next} → TreeAsked ws txt query place run f
-      → Matched ws txt (take (place .len) query) notes (matches ws txt (f .link) (take (place .len) query)) s
-      → Stepping ws txt query place f run run flat flat out out notes s
-  stepping-first {s = s} r w = record {
+  pub stepping-first : {flat out notes : List ℕ} {step : Next} → TreeAsked ws txt query place run f
+      → Matched ws txt (take (place .len) query) notes (matches ws txt (f .link) (take (place .len) query)) step
+      → Stepping ws txt query place f run run flat flat out out notes step
+  stepping-first {step = step} r w = record {
     same = same-run run;
     along = along-first (r .can) (w .head);
-    noted = noted-after ws txt (take (place .len) query) (f .link) w (first-onward (r .can .tree-at) (take (place .len) query) (s .link) (w .head) .0);
+    noted = noted-after ws txt (take (place .len) query) (f .link) w (first-onward (r .can .tree-at) (take (place .len) query) (step .link) (w .head) .0);
   }
 
-  module _ {run′ flat flat′ out out′ notes : List ℕ} {s : Next}
-      (g : Stepping ws txt query place f run run′ flat flat′ out out′ notes s) where
+  module _ {run′ flat flat′ out out′ notes : List ℕ} {step : Next}
+      (g : Stepping ws txt query place f run run′ flat flat′ out out′ notes step) where
     abbrev pub at-hand : Labelled
-    at-hand = record { link = s .link; label = f .label }
+    at-hand = record { link = step .link; label = f .label }
 
-    pub stepping-done : s .link ≡ 0 → TreeListed ws txt query place run run′ flat flat′ out out′ f
+    pub stepping-done : step .link ≡ 0 → TreeListed ws txt query place run run′ flat flat′ out out′ f
     stepping-done z = record { same = g .same; runs = along-done (g .along) z }
 
-    module _ (n : s .link ≡ 0 → ⊥) where
+    module _ (n : step .link ≡ 0 → ⊥) where
       pub stepping-branch : TreeAsked ws txt query place run f
           → BranchAsked ws txt (drop (place .next) query) (place .want) (place .leaf) run′ at-hand
       stepping-branch r = record {
@@ -243,24 +243,24 @@ module _ {ws txt : List ℕ} {query : Str} {place : Search} {f : Labelled} {run 
           runs = along-spent (g .along) n (branch-runs-at (g .same) (b .runs)) lf lo (omega (arith, b .count));
         }
 
-        module _ {notes′ : List ℕ} {s′ : Next}
+        module _ {notes′ : List ℕ} {step′ : Next}
             (w : Matched ws txt (take (place .len) query) notes′
-            (later ws txt (take (place .len) query) (f .link) (s .link)) s′) where
-          pub stepping-next : Stepping ws txt query place f run run″ flat flat″ out out″ notes′ s′
+            (later ws txt (take (place .len) query) (f .link) (step .link)) step′) where
+          pub stepping-next : Stepping ws txt query place f run run″ flat flat″ out out″ notes′ step′
           unfolding onward
           stepping-next = record {
             same = path-then (g .same) (b .same);
             along = along-next (g .along) n (branch-runs-at (g .same) (b .runs)) lf lo (w .head);
             noted = noted-after ws txt (take (place .len) query) (f .link) w
-                (let e = next-onward (g .along .tree-at) (take (place .len) query) (s .link) (s′ .link) n (w .head) .0 in
-                tail-of (sym (rw (ne-eqb (s .link) 0 n) at e)));
+                (let e = next-onward (g .along .tree-at) (take (place .len) query) (step .link) (step′ .link) n (w .head) .0 in
+                tail-of (sym (rw (ne-eqb (step .link) 0 n) at e)));
           }
             where
-              tail-of : {x : ℕ} {l m : List ℕ} → x ∷ l ≡ x ∷ m → l ≡ m
+              tail-of : {x : ℕ} {xs m : List ℕ} → x ∷ xs ≡ x ∷ m → xs ≡ m
               tail-of e = cc
 
-          pub stepping-less : length (onward ws txt (take (place .len) query) (f .link) (s′ .link))
-              < length (onward ws txt (take (place .len) query) (f .link) (s .link))
+          pub stepping-less : length (onward ws txt (take (place .len) query) (f .link) (step′ .link))
+              < length (onward ws txt (take (place .len) query) (f .link) (step .link))
           stepping-less = along-less (g .along) n (branch-runs-at (g .same) (b .runs)) lf lo (w .head)
 
 -- ---- A list
@@ -303,12 +303,12 @@ module _ {ws txt : List ℕ} {ask : Ask} {rest : Str} {p : Path} {lim : Limits} 
 
 -- What runs over entries that show what is found runs over the list.
 pub entries-list : {ws txt : List ℕ} {ask : Ask} {rest : Str} {p : Path} {lim : Limits} {matched : ℤ} {leaf : Bool}
-    {x : ℕ} {prefix : Str} {es : List Entry} {a t : Tally} {flat flat′ out out′ : List ℕ}
+    {x : ℕ} {prefix : Str} {es : List Entry} {a τ : Tally} {flat flat′ out out′ : List ℕ}
     → ((term : SearchTerm) (o : Option Str) → Asks term prefix o
     → map outer (found (what (asked ask) ws txt x (list (level-of leaf))) term)
     ≡ map (shown (asked ask) ws txt (level-of leaf) o) es)
-    → EntriesRun ws txt ask rest p lim matched a t flat flat′ out out′ leaf es
-    → ListRuns ws txt ask rest p lim matched a t flat flat′ out out′ leaf x prefix
+    → EntriesRun ws txt ask rest p lim matched a τ flat flat′ out out′ leaf es
+    → ListRuns ws txt ask rest p lim matched a τ flat flat′ out out′ leaf x prefix
 entries-list {ws} {txt} {ask} {leaf = leaf} {x} says runs = record {
   goes = λ path term o n on st asks dp.
       let l : NameList (Item (asked ask)) (level-of leaf) = what (asked ask) ws txt x (list (level-of leaf)) in
@@ -318,12 +318,12 @@ entries-list {ws} {txt} {ask} {leaf = leaf} {x} says runs = record {
 
 -- ---- No list
 
-found-empty : {A : Type 0} {ℓ : Level} (n : NameList A ℓ) → n ≡ []ᴺ → (term : SearchTerm) → found n term ≡ []
+found-empty : {A : Type 0} {ℓ : Level} (nl : NameList A ℓ) → nl ≡ []ᴺ → (term : SearchTerm) → found nl term ≡ []
 unfolding found names-find-rev-first matching-values names-revmap revmap-onto merge-increasing-lists-rev merge-nonempty nonempty
-found-empty n e NSTAll = rw e
-found-empty n e NSTNone = refl
-found-empty n e (NSTPrefix []) = rw e
-found-empty n e (NSTPrefix (b ∷ id)) = rw e
+found-empty nl e NSTAll = rw e
+found-empty nl e NSTNone = refl
+found-empty nl e (NSTPrefix []) = rw e
+found-empty nl e (NSTPrefix (b ∷ id)) = rw e
 
 pub none-runs : {ws txt : List ℕ} {query : Str} {place : Search} {run flat out : List ℕ} {x : ℕ} → x ≡ 0
     → ListListed ws txt query place run run flat flat out out x

@@ -25,19 +25,19 @@ module _ {ws txt : List ℕ} {ask : Ask} {rest : Str} {run run′ : List ℕ} (s
       → ListReady ws txt ask rest (path-in run′) (limits-in run′) leaf x
   list-ready-at r = record { ready = ready-at (r .ready); list-at = r .list-at; room = λ z. omega (arith, s .count, r .room z) }
 
-  module _ {m : ℤ} {a t : Tally} {flat flat′ out out′ : List ℕ} {leaf : Bool} where
+  module _ {m : ℤ} {a τ : Tally} {flat flat′ out out′ : List ℕ} {leaf : Bool} where
     pub branch-runs-at : {branch label : ℕ}
-        → BranchRuns ws txt ask rest (path-in run′) (limits-in run′) m a t flat flat′ out out′ leaf branch label
-        → BranchRuns ws txt ask rest (path-in run) (limits-in run) m a t flat flat′ out out′ leaf branch label
+        → BranchRuns ws txt ask rest (path-in run′) (limits-in run′) m a τ flat flat′ out out′ leaf branch label
+        → BranchRuns ws txt ask rest (path-in run) (limits-in run) m a τ flat flat′ out out′ leaf branch label
     branch-runs-at {branch} {label} b = rw (s .limits-same) at b′
       where
-        b′ : BranchRuns ws txt ask rest (path-in run) (limits-in run′) m a t flat flat′ out out′ leaf branch label
+        b′ : BranchRuns ws txt ask rest (path-in run) (limits-in run′) m a τ flat flat′ out out′ leaf branch label
         b′ = record { goes = λ path x o n on. b .goes path x o n (on-path-at s on) }
 
     pub list-runs-at : {x : ℕ} {prefix : Str}
-        → ListRuns ws txt ask rest (path-in run′) (limits-in run′) m a t flat flat′ out out′ leaf x prefix
-        → ListRuns ws txt ask rest (path-in run) (limits-in run) m a t flat flat′ out out′ leaf x prefix
+        → ListRuns ws txt ask rest (path-in run′) (limits-in run′) m a τ flat flat′ out out′ leaf x prefix
+        → ListRuns ws txt ask rest (path-in run) (limits-in run) m a τ flat flat′ out out′ leaf x prefix
     list-runs-at {x} {prefix} b = rw (s .limits-same) at b′
       where
-        b′ : ListRuns ws txt ask rest (path-in run) (limits-in run′) m a t flat flat′ out out′ leaf x prefix
+        b′ : ListRuns ws txt ask rest (path-in run) (limits-in run′) m a τ flat flat′ out out′ leaf x prefix
         b′ = record { goes = λ path term o n on. b .goes path term o n (on-path-at s on) }

@@ -46,9 +46,9 @@ abbrev pub inside : Tally → Tally
 inside a = record { entered = a .entered + 1; lines = a .lines; bytes = a .bytes }
 
 -- Bindings are not searched while more than one segment is left.
-found-none : {A : Type 0} {ℓ : Level} (n : NameList A ℓ) → found n NSTNone ≡ []
+found-none : {A : Type 0} {ℓ : Level} (nl : NameList A ℓ) → found nl NSTNone ≡ []
 unfolding found names-find-rev-first matching-values merge-increasing-lists-rev merge-nonempty nonempty
-found-none n = refl
+found-none nl = refl
 
 module _ {w : Which} {ws txt : List ℕ} {lim : Limits} where
   -- A trie is entered within the budget.
@@ -58,18 +58,18 @@ module _ {w : Which} {ws txt : List ℕ} {lim : Limits} where
   goes-once a flat out h = record {
     flat-size = refl;
     out-size = refl;
-    shows = λ e l b s.
-        let el : l + 0 ≡ l = omega arith in
+    shows = λ e n b s.
+        let el : n + 0 ≡ n = omega arith in
         let eb : b + 0 ≡ b = omega arith in
         rw (el, eb) (record {
           spent = λ k. absurd (within e s (omega arith));
           entered-is = λ k. omega (arith, s .entered-is (omega arith));
           counted = λ k. s .counted (omega arith);
         });
-    writes = λ e l b s f. written-none flat out l b (omega (arith, f .lines-fit, f .flat-lent)) (omega (arith, f .bytes-fit, f .out-lent));
+    writes = λ e n b s f. written-none flat out n b (omega (arith, f .lines-fit, f .flat-lent)) (omega (arith, f .bytes-fit, f .out-lent));
   }
     where
-      within : (e : ℕ) {l b : ℕ} → Shows lim e l b a → lim .budget ≤ e → ⊥
+      within : (e : ℕ) {n b : ℕ} → Shows lim e n b a → lim .budget ≤ e → ⊥
       within e s k = go (ltb (lim .budget) e) refl
         where
           go : (z : Bool) → ltb (lim .budget) e ≡ z → ⊥
@@ -110,12 +110,12 @@ module _ {ws txt : List ℕ} {ask : Ask} {query : Str} {p : Path} {lim : Limits}
   pub cut-ready : (ends-in-dot query ≡ true) × (length query ≤ 544) × (p .len ≤ 544)
   cut-ready = (r .ready .ends, r .ready .short, omega (arith, r .ready .path-ok .short, r .ready .path-ok .few))
 
-  module _ {t : Trie} (seen : ReadTrie ws trie-link t) {matched : ℤ} {c : Cut}
+  module _ {tr₂ : Trie} (seen : ReadTrie ws trie-link tr₂) {matched : ℤ} {c : Cut}
       (cut : Cuts query (p .len) (record { ask = ask; matched = matched }) c) where
-    pub bindings-earlier : t .bindings ≤ trie-link
+    pub bindings-earlier : tr₂ .bindings ≤ trie-link
     bindings-earlier = omega (arith, lists-seen (r .trie-at) seen .bindings .earlier)
 
-    pub namespaces-earlier : t .namespaces ≤ trie-link
+    pub namespaces-earlier : tr₂ .namespaces ≤ trie-link
     namespaces-earlier = omega (arith, lists-seen (r .trie-at) seen .namespaces .earlier)
 
     rest-ready : RunReady ws txt ask (drop (c .next) query) p lim
@@ -127,28 +127,28 @@ module _ {ws txt : List ℕ} {ask : Ask} {query : Str} {p : Path} {lim : Limits}
           small = r .ready .small;
         }
 
-    pub trie-bindings-ready : ListReady ws txt ask (drop (c .next) query) p lim true (t .bindings)
+    pub trie-bindings-ready : ListReady ws txt ask (drop (c .next) query) p lim true (tr₂ .bindings)
     trie-bindings-ready = record { ready = rest-ready; list-at = bindings-at (r .trie-at) seen; room = λ z. absurd (true≢false z) }
 
     deep : depth (what (asked ask) ws txt trie-link trieˢ)
-        ≡ depth-names (what (asked ask) ws txt (t .namespaces) (list ns))
+        ≡ depth-names (what (asked ask) ws txt (tr₂ .namespaces) (list ns))
     unfolding depth namespaces
     deep = go (what (asked ask) ws txt trie-link trieˢ) (namespaces-read (r .trie-at) seen)
       where
-        go : (tr : Value (Item (asked ask)) ns) → what (asked ask) ws txt (t .namespaces) (list ns) ≡ namespaces tr
-            → depth tr ≡ depth-names (what (asked ask) ws txt (t .namespaces) (list ns))
+        go : (tr : Value (Item (asked ask)) ns) → what (asked ask) ws txt (tr₂ .namespaces) (list ns) ≡ namespaces tr
+            → depth tr ≡ depth-names (what (asked ask) ws txt (tr₂ .namespaces) (list ns))
         go (trie b n) e = rw e
 
-    pub trie-namespaces-ready : ListReady ws txt ask (drop (c .next) query) p lim false (t .namespaces)
+    pub trie-namespaces-ready : ListReady ws txt ask (drop (c .next) query) p lim false (tr₂ .namespaces)
     trie-namespaces-ready = record { ready = rest-ready; list-at = namespaces-at (r .trie-at) seen; room = λ z. omega (arith, r .room, deep) }
 
     -- Both lists, or where more segments are left only the namespaces.
     module _ {a : Tally} (h : a .entered < lim .budget) where
       pub trie-both : {m e : Tally} {flat flat₁ flat₂ out out₁ out₂ : List ℕ} → length query ≤ c .next
           → ListRuns ws txt ask (drop (c .next) query) p lim (c .want .matched) (inside a) m flat flat₁ out out₁ true
-          (t .bindings) (take (c .len) query)
+          (tr₂ .bindings) (take (c .len) query)
           → ListRuns ws txt ask (drop (c .next) query) p lim (c .want .matched) m e flat₁ flat₂ out₁ out₂ false
-          (t .namespaces) (take (c .len) query)
+          (tr₂ .namespaces) (take (c .len) query)
           → TrieRuns ws txt ask query p lim matched a e flat flat₂ out out₂ trie-link
       trie-both {m} {e} {flat} {flat₁} {flat₂} {out} {out₁} {out₂} last b n = record { goes = λ path k on mt d. go path k on mt d }
         where
@@ -173,7 +173,7 @@ module _ {ws txt : List ℕ} {ask : Ask} {query : Str} {p : Path} {lim : Limits}
 
       pub trie-spaces : {e : Tally} {flat flat₂ out out₂ : List ℕ} → c .next < length query
           → ListRuns ws txt ask (drop (c .next) query) p lim (c .want .matched) (inside a) e flat flat₂ out out₂ false
-          (t .namespaces) (take (c .len) query)
+          (tr₂ .namespaces) (take (c .len) query)
           → TrieRuns ws txt ask query p lim matched a e flat flat₂ out out₂ trie-link
       unfolding elements-give
       trie-spaces {e} {flat} {flat₂} {out} {out₂} more n = record { goes = λ path k on mt d. go path k on mt d }
@@ -200,7 +200,7 @@ module _ {ws txt : List ℕ} {ask : Ask} {query : Str} {p : Path} {lim : Limits}
       -- Where lines or bytes are past the limits the bindings need no counting.
       pub trie-past : {e : Tally} {flat flat₂ out out₂ : List ℕ} → Past lim (a .lines) (a .bytes)
           → ListRuns ws txt ask (drop (c .next) query) p lim (c .want .matched) (inside a) e flat flat₂ out out₂ false
-          (t .namespaces) (take (c .len) query)
+          (tr₂ .namespaces) (take (c .len) query)
           → TrieRuns ws txt ask query p lim matched a e flat flat₂ out out₂ trie-link
       trie-past {e} {flat} {flat₂} {out} {out₂} past n = record { goes = λ path k on mt d. go path k on mt d }
         where
@@ -233,7 +233,7 @@ module _ {ws txt : List ℕ} {query : Str} {want : Want} {run : List ℕ} {x : �
     runs = rw (tally-entered run (getD run 22 0 + 1) (r .can .ready .path-ok .sized)) (trie-over (r .can) h);
   }
 
-  module _ {t : Trie} (seen : ReadTrie ws x t) {c : Cut} (cut : Cuts query (getD run 17 0) want c)
+  module _ {tr : Trie} (seen : ReadTrie ws x tr) {c : Cut} (cut : Cuts query (getD run 17 0) want c)
       (h : getD run 19 0 < getD run 22 0) where
     abbrev pub down : Bool → Search
     down leaf = record { want = c .want; leaf = leaf; len = c .len; next = c .next }
@@ -250,11 +250,11 @@ module _ {ws txt : List ℕ} {query : Str} {want : Want} {run : List ℕ} {x : �
     place-ok : (leaf : Bool) → PlaceOk query (down leaf)
     place-ok leaf = record { len-inside = omega (arith, cut .within, cut .inside); next-inside = cut .inside; told = cut .told (r .told) }
 
-    pub bindings-asked : ListAsked ws txt query (down true) run₁ (t .bindings)
+    pub bindings-asked : ListAsked ws txt query (down true) run₁ (tr .bindings)
     bindings-asked = record { place-ok = place-ok true; can = list-ready-at same₁ (rw (cut .ask-same) (trie-bindings-ready (r .can) seen cut)) }
 
     pub namespaces-asked : {run₂ : List ℕ} → SamePath run₁ run₂
-        → ListAsked ws txt query (down false) run₂ (t .namespaces)
+        → ListAsked ws txt query (down false) run₂ (tr .namespaces)
     namespaces-asked s = record {
       place-ok = place-ok false;
       can = list-ready-at (path-then same₁ s) (rw (cut .ask-same) (trie-namespaces-ready (r .can) seen cut));
@@ -262,7 +262,7 @@ module _ {ws txt : List ℕ} {query : Str} {want : Want} {run : List ℕ} {x : �
 
     module _ {run₂ flat flat₁ out out₁ : List ℕ} where
       pub trie-few : (c .next < length query) ⊎ Past (limits-in run) (getD run 20 0) (getD run 21 0)
-          → ListListed ws txt query (down false) run₁ run₂ flat flat₁ out out₁ (t .namespaces)
+          → ListListed ws txt query (down false) run₁ run₂ flat flat₁ out out₁ (tr .namespaces)
           → TrieListed ws txt query want run run₂ flat flat₁ out out₁ x (tally-in run₂ .entered)
       trie-few skip n =
           record {
@@ -273,15 +273,15 @@ module _ {ws txt : List ℕ} {query : Str} {want : Want} {run : List ℕ} {x : �
         where
           go : (c .next < length query) ⊎ Past (limits-in run) (getD run 20 0) (getD run 21 0)
               → ListRuns ws txt (want .ask) (drop (c .next) query) (path-in run) (limits-in run) (c .want .matched)
-              (inside (tally-in run)) (tally-in run₂) flat flat₁ out out₁ false (t .namespaces) (take (c .len) query)
+              (inside (tally-in run)) (tally-in run₂) flat flat₁ out out₁ false (tr .namespaces) (take (c .len) query)
               → TrieRuns ws txt (want .ask) query (path-in run) (limits-in run) (want .matched) (tally-in run)
               (tally-in run₂) flat flat₁ out out₁ x
           go (inl more) m = trie-spaces (r .can) seen cut h more m
           go (inr past) m = trie-past (r .can) seen cut h past m
 
       pub trie-all : {run₃ flat₂ out₂ : List ℕ} → length query ≤ c .next
-          → ListListed ws txt query (down true) run₁ run₂ flat flat₁ out out₁ (t .bindings)
-          → ListListed ws txt query (down false) run₂ run₃ flat₁ flat₂ out₁ out₂ (t .namespaces)
+          → ListListed ws txt query (down true) run₁ run₂ flat flat₁ out out₁ (tr .bindings)
+          → ListListed ws txt query (down false) run₂ run₃ flat₁ flat₂ out₁ out₂ (tr .namespaces)
           → TrieListed ws txt query want run run₃ flat flat₂ out out₂ x (tally-in run₃ .entered)
       trie-all last b n = record {
         count = refl;

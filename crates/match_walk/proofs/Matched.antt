@@ -96,7 +96,8 @@ module _ {ws txt : List ℕ} {p : Str} (low : Str) (strict : Bool) {xs xs′ : L
 
 -- The last note is the first of the list.
 pub matched-top : {ws txt : List ℕ} {p : Str} (low : Str) (strict : Bool) {notes : List ℕ} {n : ℕ} {xs : List ℕ}
-    {r : Next} → Noting ws txt p (past strict low) notes n [] xs → Allˡ (λ x. past strict low (key-at ws txt x) ≡ true) xs
+    {r : Next} → Noting ws txt p (past strict low) notes n [] xs
+    → Allˡ (λ x. past strict low (key-at ws txt x) ≡ true) xs
     → 0 < n
     → LastNote notes n r → Matched ws txt p notes xs r
 unfolding to-come
@@ -160,14 +161,16 @@ module _ {ws txt : List ℕ} (p : Str) {at : ℕ} (a : (0 < at) × AnyTree ws tx
   pub right-after : AllAfter ws txt p (right-link (record-at ws at))
   right-after = all-beyond (a .1) (a .0) (λ y. p <ˢ y) (λ y. after-prefix p (key-at ws txt at) y s)
 
-  pub next-here : {notes notes′ xs : List ℕ} {n x r : ℕ} → Noted ws txt p notes n at xs → x ≡ right-link (record-at ws at)
+  pub next-here : {notes notes′ xs : List ℕ} {n x r : ℕ} → Noted ws txt p notes n at xs
+      → x ≡ right-link (record-at ws at)
       → NotesLeft ws txt p x notes notes′ n r → Noting ws txt p (past true (key-at ws txt at)) notes′ r [] xs
   next-here {xs = xs} o e d =
       (rw e at d) .notes-on (past true (key-at ws txt at)) xs
       (all-beyond (a .1) (a .0) (λ y. past true (key-at ws txt at) y ≡ true) (λ y. past-after true (key-at ws txt at) y)) o
 
 -- With no note: what notes that were not dropped said was all.
-pub next-end : {ws txt : List ℕ} {p : Str} {b : Str → Bool} {notes xs : List ℕ} {n : ℕ} → Noting ws txt p b notes n [] xs
+pub next-end : {ws txt : List ℕ} {p : Str} {b : Str → Bool} {notes xs : List ℕ} {n : ℕ}
+    → Noting ws txt p b notes n [] xs
     → n ≤ 0 → getD notes dropped 0 ≡ 0 → Matched ws txt p notes xs (record { link = 0; n = 0 })
 unfolding to-come
 next-end {n = n} o h z = let e : n ≡ 0 = omega arith in matched-none (o .fits .sized) (o .says ∙ rw (e, o .whole z))

@@ -14,7 +14,8 @@ use Rattle.match_marks.specs.declared.Next.{Next}
 -- The list xs, all after the branch at, begins with the matches to its right and what the first n notes say.
 abbrev pub Noted : (ws txt : List ℕ) (prefix : Str) (notes : List ℕ) (n at : ℕ) (xs : List ℕ) → Type 0
 Noted ws txt prefix notes n at xs =
-    Noting ws txt prefix (past true (key-at ws txt at)) notes n (matches ws txt (right-link (record-at ws at)) prefix) xs
+    Noting ws txt prefix (past true (key-at ws txt at)) notes n
+    (matches ws txt (right-link (record-at ws at)) prefix) xs
 
 -- The first of the list xs, 0 where it is empty, and notes of the rest.
 pub record Matched (ws txt : List ℕ) (prefix : Str) (notes : List ℕ) (xs : List ℕ) (r : Next) : Type 0 where

@@ -67,7 +67,8 @@ module _ (ws txt : List ℕ) (used l : ℕ) (w : Which) (r : List ℕ)
 
 module _ {ws txt : List ℕ} {n used : ℕ} (o : Used ws txt n used) where
   -- Of every link of a sound memory.
-  pub link-fine : (w : Which) (so : Sort) {l x : ℕ} → l ≤ n + 1 → LinkOk ws l x (kind w so) → Fine w so (what w ws txt x so)
+  pub link-fine : (w : Which) (so : Sort) {l x : ℕ} → l ≤ n + 1 → LinkOk ws l x (kind w so)
+      → Fine w so (what w ws txt x so)
   link-fine =
       by-links (o .rows) (λ w so x. Fine w so (what w ws txt x so)) (none-fine ws txt)
       (λ w so l p r ih.

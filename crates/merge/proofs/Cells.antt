@@ -43,10 +43,10 @@ module _ {ws txt : List ℕ} {w : Which} {ℓ : Level} {root : ℕ} (t : At ws t
   pub later-next : (r : ℕ) → r ≡ head0 (later ws txt p root head) → (r ≡ 0 → ⊥) → Next r
   later-next r e n = go (later ws txt p root head) refl later-of e
     where
-      go : (l : List ℕ) → later ws txt p root head ≡ l → Allˡ (MatchOf ws txt w ℓ root p) l → r ≡ head0 l → Next r
+      go : (xs : List ℕ) → later ws txt p root head ≡ xs → Allˡ (MatchOf ws txt w ℓ root p) xs → r ≡ head0 xs → Next r
       go [] q a e = absurd (n e)
-      go (y ∷ l) q a e = record {
-        is-next = q ∙ rw (e, ← after-next (key-at ws txt) (key-at ws txt head) (matches ws txt root p) (matches-increasing t p) y l q);
+      go (y ∷ xs) q a e = record {
+        is-next = q ∙ rw (e, ← after-next (key-at ws txt) (key-at ws txt head) (matches ws txt root p) (matches-increasing t p) y xs q);
         match = rw e (a .0);
       }
 

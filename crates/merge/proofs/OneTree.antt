@@ -51,17 +51,17 @@ module _ {ws txt : List ℕ} {w : Which} {ℓ : Level} {x r : ℕ} (t : At ws tx
   single-found = go (matches ws txt r p) lists-single ∙ shows (matches ws txt r p)
     where
       rows : List ℕ → List (PathElem × Value (Item w) ℓ)
-      rows l = with-imports ([], map (row-at w ws txt ℓ q) l)
+      rows xs = with-imports ([], map (row-at w ws txt ℓ q) xs)
 
-      go : (l : List ℕ) → match-lists term (what w ws txt x (list ℓ)) ≡ rows l ∷ []
-          → map outer (found (what w ws txt x (list ℓ)) term) ≡ map outer (rows l)
+      go : (xs : List ℕ) → match-lists term (what w ws txt x (list ℓ)) ≡ rows xs ∷ []
+          → map outer (found (what w ws txt x (list ℓ)) term) ≡ map outer (rows xs)
       go [] e = ap (map outer) (found-empty (what w ws txt x (list ℓ)) term (ap nonempty e))
-      go (b ∷ l) e = ap (map outer) (found-one (what w ws txt x (list ℓ)) term (rows (b ∷ l)) (ap nonempty e))
+      go (b ∷ xs) e = ap (map outer) (found-one (what w ws txt x (list ℓ)) term (rows (b ∷ xs)) (ap nonempty e))
 
-      shows : (l : List ℕ)
-          → map outer (rows l) ≡ map (shown w ws txt ℓ q) (map (λ b. record { branch = b; label = 0 }) l)
+      shows : (xs : List ℕ)
+          → map outer (rows xs) ≡ map (shown w ws txt ℓ q) (map (λ b. record { branch = b; label = 0 }) xs)
       shows [] = refl
-      shows (b ∷ l) = ap (_∷_ (shown w ws txt ℓ q (record { branch = b; label = 0 }))) (shows l)
+      shows (b ∷ xs) = ap (_∷_ (shown w ws txt ℓ q (record { branch = b; label = 0 }))) (shows xs)
 
 pub single-one : {ws txt : List ℕ} {w : Which} {ℓ : Level} {x r : ℕ} (p : Str) → At ws txt w (list ℓ) x → Single ws x r
     → 0 < r → OneTree ws txt w ℓ x p r 0

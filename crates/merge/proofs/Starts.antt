@@ -39,15 +39,15 @@ use Rattle.merge.proofs.Cells.{branch-head, cell-stands}
 use Rattle.memory.specs.Sound.{At}
 use Rattle.memory.proofs.At.{no-link, at-of}
 
-getD-map : {A B : Type 0} (f : A → B) (l : List A) (k : ℕ) (a : A) (b : B) → k < length l
-    → getD (map f l) k b ≡ f (getD l k a)
+getD-map : {A B : Type 0} (f : A → B) (xs : List A) (k : ℕ) (a : A) (b : B) → k < length xs
+    → getD (map f xs) k b ≡ f (getD xs k a)
 getD-map f [] k a b h = absurd (omega arith)
-getD-map f (y ∷ l) zero a b h = refl
-getD-map f (y ∷ l) (suc k) a b h = getD-map f l k a b (omega arith)
+getD-map f (y ∷ xs) zero a b h = refl
+getD-map f (y ∷ xs) (suc k) a b h = getD-map f xs k a b (omega arith)
 
-map-ext : {A B : Type 0} (f g : A → B) → ((a : A) → f a ≡ g a) → (l : List A) → map f l ≡ map g l
+map-ext : {A B : Type 0} (f g : A → B) → ((a : A) → f a ≡ g a) → (xs : List A) → map f xs ≡ map g xs
 map-ext f g e [] = refl
-map-ext f g e (y ∷ l) = ap₂ _∷_ (e y) (map-ext f g e l)
+map-ext f g e (y ∷ xs) = ap₂ _∷_ (e y) (map-ext f g e xs)
 
 -- ---- The heap of the first cells
 built-ext : {A : Type 0} (key : A → Str) (r r′ : ℕ → Run A) (k : ℕ) → ((j : ℕ) → j < k → r j ≡ r′ j)
@@ -120,11 +120,11 @@ module _ (ws txt : List ℕ) where
     unfolding elem-key row-at
     element-key m = refl
 
-    part-elements : (c : TreePart ws txt) (l : List ℕ)
-        → with-imports (c .imports, map (row-at w ws txt ℓ q) l) ≡ map element (map (match-of c) l)
+    part-elements : (c : TreePart ws txt) (xs : List ℕ)
+        → with-imports (c .imports, map (row-at w ws txt ℓ q) xs) ≡ map element (map (match-of c) xs)
     unfolding with-imports
     part-elements c [] = refl
-    part-elements c (b ∷ l) = ap (_∷_ (element (match-of c b))) (part-elements c l)
+    part-elements c (b ∷ xs) = ap (_∷_ (element (match-of c b))) (part-elements c xs)
 
     element-shows : (m : Match ws txt) → outer (element m) ≡ shown w ws txt ℓ q (entry-of m)
     unfolding outer shown row-at
@@ -148,7 +148,7 @@ module _ {ws txt : List ℕ} {w : Which} {ℓ : Level} {x : ℕ} {p : Str} {root
     part-later =
         let e : later ws txt p (c .root) (getD heads j 0) ≡ o .others =
         rw (o .first-is) (after-first (key-at ws txt) (getD heads j 0) (o .others) (rw (o .first-is) at (matches-increasing part-tree p))) in
-        o .first-is ∙ ap (λ (l : List ℕ). getD heads j 0 ∷ l) (sym e)
+        o .first-is ∙ ap (λ (xs : List ℕ). getD heads j 0 ∷ xs) (sym e)
 
     part-cell : CellOk ws txt w ℓ x p (getD roots j 0) (getD heads j 0) (getD labels j 0)
     part-cell =
@@ -178,12 +178,12 @@ module _ {ws txt : List ℕ} {w : Which} {ℓ : Level} {x : ℕ} {p : Str} {root
         (λ k. map-run (element ws txt w ℓ q) (run-of ws txt p heads parts k))
     unfolding priority first rest elements with-imports run-of
     cells-are q k h =
-        let l : k < length parts = omega (arith, length-map parts (elements w ws txt ℓ q p)) in
-        let o = part-at 0 parts a k k (omega arith) l in
+        let xs : k < length parts = omega (arith, length-map parts (elements w ws txt ℓ q p)) in
+        let o = part-at 0 parts a k k (omega arith) xs in
         let c = getD parts k (no-part ws txt) in (
           refl,
-          sym (getD-map (elements w ws txt ℓ q p) parts k (no-part ws txt) [] l
-              ∙ ap (λ (l : List ℕ). with-imports (c .imports, map (row-at w ws txt ℓ q) l)) (part-later o)
+          sym (getD-map (elements w ws txt ℓ q p) parts k (no-part ws txt) [] xs
+              ∙ ap (λ (xs : List ℕ). with-imports (c .imports, map (row-at w ws txt ℓ q) xs)) (part-later o)
               ∙ part-elements ws txt w ℓ q c (getD heads k 0 ∷ later ws txt p (c .root) (getD heads k 0))),
         )
 
@@ -227,8 +227,8 @@ module _ {ws txt : List ℕ} {p : Str} {x n : ℕ}
       → Rep n child next root (heap-from-list (cell-cmp ws txt heads) (first-cells n))
       → Starts ws txt x p (state roots heads beginnings labels child next n root 0)
   unfolding match-lists
-  merge-starts {child} {next} {root} few rep w v t =
-      let s = collected w v t in
+  merge-starts {child} {next} {root} few rep w ℓ t =
+      let s = collected w ℓ t in
       let h = cells-heap ws txt p roots heads labels n n in
       let r = run-of ws txt p heads (s .parts) in
       let same-heap : heap-map (val ws txt p roots heads labels n) h ≡ map-heap (entry-of ws txt) (built (match-key ws txt) r n) =
@@ -257,17 +257,17 @@ module _ {ws txt : List ℕ} {p : Str} {x n : ℕ}
         };
         says = λ term q asks.
             ap (map outer)
-            (found-read (what w ws txt x (list v)) term (element ws txt w v q) (match-key ws txt) r n fuel (ordered t)
-            (element-key ws txt w v q)
-            (omega (arith, s .count, ap length (s .lists term q asks), length-map (s .parts) (elements w ws txt v q p)))
+            (found-read (what w ws txt x (list ℓ)) term (element ws txt w ℓ q) (match-key ws txt) r n fuel (ordered t)
+            (element-key ws txt w ℓ q)
+            (omega (arith, s .count, ap length (s .lists term q asks), length-map (s .parts) (elements w ws txt ℓ q p)))
             (rw (s .lists term q asks) (cells-are t (s .parts) (s .has) q))
             (omega arith))
-            ∙ map-map outer (element ws txt w v q) (forward (match-key ws txt) fuel (built (match-key ws txt) r n) none)
-            ∙ map-ext _ _ (element-shows ws txt w v q)
+            ∙ map-map outer (element ws txt w ℓ q) (forward (match-key ws txt) fuel (built (match-key ws txt) r n) none)
+            ∙ map-ext _ _ (element-shows ws txt w ℓ q)
             (forward (match-key ws txt) fuel (built (match-key ws txt) r n) none)
-            ∙ sym (map-map (shown w ws txt v q) (entry-of ws txt)
+            ∙ sym (map-map (shown w ws txt ℓ q) (entry-of ws txt)
             (forward (match-key ws txt) fuel (built (match-key ws txt) r n) none))
-            ∙ ap (map (shown w ws txt v q)) (sym
+            ∙ ap (map (shown w ws txt ℓ q)) (sym
             (forward-map (entry-of ws txt) (match-key ws txt) (entry-key ws txt) (λ m. refl) fuel
             (built (match-key ws txt) r n) none)
             ∙ ap (λ (g : Heap (Run Entry)). forward (entry-key ws txt) fuel g none) (sym same-heap));
@@ -279,10 +279,11 @@ module _ {ws txt : List ℕ} {p : Str} {x n : ℕ}
   unfolding match-lists nonempty elements with-imports outer shown row-at
   starts-one e w ℓ t = go (collected w ℓ t .parts) (omega (arith, collected w ℓ t .count)) (collected w ℓ t .has) (collected w ℓ t .lists)
     where
-      shows : (q : Option Str) (c : TreePart ws txt) (l : List ℕ)
-          → map outer (with-imports (c .imports, map (row-at w ws txt ℓ q) l)) ≡ map (shown w ws txt ℓ q) (map (λ b. record { branch = b; label = c .label }) l)
+      shows : (q : Option Str) (c : TreePart ws txt) (xs : List ℕ)
+          → map outer (with-imports (c .imports, map (row-at w ws txt ℓ q) xs))
+          ≡ map (shown w ws txt ℓ q) (map (λ b. record { branch = b; label = c .label }) xs)
       shows q c [] = refl
-      shows q c (b ∷ l) = ap₂ _∷_ (rw (c .labelled)) (shows q c l)
+      shows q c (b ∷ xs) = ap₂ _∷_ (rw (c .labelled)) (shows q c xs)
 
       go : (parts : List (TreePart ws txt)) → length parts ≡ 1
           → HasParts ws txt w ℓ x p roots heads beginnings labels 0 parts

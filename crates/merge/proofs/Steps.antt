@@ -45,38 +45,39 @@ last-branch ws w ℓ x l none g n = absurd (n g)
 last-branch ws w ℓ x l (some y) g n = g .1
 
 module _ {ws txt : List ℕ} {p : Str} {n root last : ℕ}
-    {roots heads beginnings labels child next roots′ heads′ beginnings′ child′ next′ : List ℕ} {t : Taken}
-    (takes : Takes ws txt p n root roots heads beginnings child next roots′ heads′ beginnings′ child′ next′ t)
+    {roots heads beginnings labels child next roots′ heads′ beginnings′ child′ next′ : List ℕ} {taken : Taken}
+    (takes : Takes ws txt p n root roots heads beginnings child next roots′ heads′ beginnings′ child′ next′ taken)
     {w : Which} {ℓ : Level} {x : ℕ}
-    {s : List Entry}
-    (g : Rest ws txt w ℓ x p (state roots heads beginnings labels child next n root last) s) where
-  pub step-end : t .cell ≡ 96 → s ≡ []
+    {es : List Entry}
+    (g : Rest ws txt w ℓ x p (state roots heads beginnings labels child next n root last) es) where
+  pub step-end : taken .cell ≡ 96 → es ≡ []
   step-end e = go (g .heap) (g .holding) (g .says)
     where
       go : (h : Heap ℕ) → Holding ws txt w ℓ x p (state roots heads beginnings labels child next n root last) h
-          → s ≡ forward (entry-key ws txt) (g .fuel)
-          (heap-of ws txt p (state roots heads beginnings labels child next n root last) h) (g .given) → s ≡ []
+          → es ≡ forward (entry-key ws txt) (g .fuel)
+          (heap-of ws txt p (state roots heads beginnings labels child next n root last) h) (g .given) → es ≡ []
       go EmptyHeap o q = q ∙ forward-empty (entry-key ws txt) (g .fuel) (g .given)
       go (HeapOf c hh) o q = let k = takes .took labels last w ℓ x (HeapOf c hh) o in absurd (omega (arith, k .cell-is, k .below, o .few))
 
   -- The cell gives an entry, unless that has the key of the last one; what the state gives then, in both cases.
   pub record Stepped : Type 0 where
     pub entry : Entry
-    pub branch-is : t .branch ≡ entry .branch
-    pub label-is : getD labels (t .cell) 0 ≡ entry .label
-    pub below : t .cell < n
-    pub branch : BranchOf ws w ℓ x (t .branch)
-    pub begins : starts-with (key-at ws txt (t .branch)) p ≡ true
-    pub label-ok : LabelOk ws w ℓ x (getD labels (t .cell) 0)
+    pub branch-is : taken .branch ≡ entry .branch
+    pub label-is : getD labels (taken .cell) 0 ≡ entry .label
+    pub below : taken .cell < n
+    pub branch : BranchOf ws w ℓ x (taken .branch)
+    pub begins : starts-with (key-at ws txt (taken .branch)) p ≡ true
+    pub label-ok : LabelOk ws w ℓ x (getD labels (taken .cell) 0)
     pub passed : List Entry
     pub after : List Entry
-    pub splits : s ≡ cond (again (entry-key ws txt) entry (g .given)) passed (entry ∷ after)
-    pub passed-rest : Rest ws txt w ℓ x p (state roots′ heads′ beginnings′ labels child′ next′ n (t .root) last) passed
+    pub splits : es ≡ cond (again (entry-key ws txt) entry (g .given)) passed (entry ∷ after)
+    pub passed-rest : Rest ws txt w ℓ x p
+        (state roots′ heads′ beginnings′ labels child′ next′ n (taken .root) last) passed
     pub after-rest : Rest ws txt w ℓ x p
-        (state roots′ heads′ beginnings′ labels child′ next′ n (t .root) (t .branch)) after
+        (state roots′ heads′ beginnings′ labels child′ next′ n (taken .root) (taken .branch)) after
     pub fewer : remaining ws txt p roots′ heads′ n < remaining ws txt p roots heads n
 
-  pub merge-steps : (t .cell ≡ 96 → ⊥) → Stepped
+  pub merge-steps : (taken .cell ≡ 96 → ⊥) → Stepped
   unfolding first run-at
   merge-steps ne = go (g .heap) (g .holding) (g .enough) (g .says)
     where
@@ -84,10 +85,10 @@ module _ {ws txt : List ℕ} {p : Str} {n root last : ℕ}
       m = state roots heads beginnings labels child next n root last
 
       m′ : Merge
-      m′ = state roots′ heads′ beginnings′ labels child′ next′ n (t .root) last
+      m′ = state roots′ heads′ beginnings′ labels child′ next′ n (taken .root) last
 
       go : (h : Heap ℕ) → Holding ws txt w ℓ x p m h → held (heap-of ws txt p m h) ≤ g .fuel
-          → s ≡ forward (entry-key ws txt) (g .fuel) (heap-of ws txt p m h) (g .given) → Stepped
+          → es ≡ forward (entry-key ws txt) (g .fuel) (heap-of ws txt p m h) (g .given) → Stepped
       go EmptyHeap o h q = absurd (ne (takes .took labels last w ℓ x EmptyHeap o))
       go (HeapOf c hh) o h q =
           let k = takes .took labels last w ℓ x (HeapOf c hh) o in
@@ -130,8 +131,8 @@ module _ {ws txt : List ℕ} {p : Str} {n root last : ℕ}
           }
         where
           relast : {h : Heap ℕ} {l : ℕ}
-              → Holding ws txt w ℓ x p (state roots′ heads′ beginnings′ labels child′ next′ n (t .root) last) h
-              → Holding ws txt w ℓ x p (state roots′ heads′ beginnings′ labels child′ next′ n (t .root) l) h
+              → Holding ws txt w ℓ x p (state roots′ heads′ beginnings′ labels child′ next′ n (taken .root) last) h
+              → Holding ws txt w ℓ x p (state roots′ heads′ beginnings′ labels child′ next′ n (taken .root) l) h
           relast o = record { here = o .here; few = o .few; full = o .full; cells = o .cells; begun = o .begun; rep = o .rep; live = o .live }
 
 -- ---- merge_next
@@ -139,8 +140,8 @@ module _ {ws txt : List ℕ} {p : Str} {n root last : ℕ}
 -- What is left of the entries of m after those passed over.
 pub record Passing (ws txt : List ℕ) (p : Str) (m : Merge) (roots heads beginnings child next : List ℕ)
     (root : ℕ) : Type 0 where
-  pub says : (w : Which) (ℓ : Level) (x : ℕ) (s : List Entry) → Rest ws txt w ℓ x p m s
-      → Rest ws txt w ℓ x p (state roots heads beginnings (m .labels) child next (m .n) root (m .last)) s
+  pub says : (w : Which) (ℓ : Level) (x : ℕ) (es : List Entry) → Rest ws txt w ℓ x p m es
+      → Rest ws txt w ℓ x p (state roots heads beginnings (m .labels) child next (m .n) root (m .last)) es
   pub fewer : remaining ws txt p roots heads (m .n) ≤ left-in ws txt p m
 
 pub passing-none : {ws txt : List ℕ} {p : Str} (m : Merge)
@@ -164,16 +165,17 @@ module _ {ws txt : List ℕ} {p : Str} {m : Merge} {roots heads beginnings child
     holding = now-rest .holding;
   }
 
-  module _ {roots′ heads′ beginnings′ child′ next′ : List ℕ} {t : Taken}
-      (takes : Takes ws txt p (m .n) root roots heads beginnings child next roots′ heads′ beginnings′ child′ next′ t)
-      (ne : t .cell ≡ 96 → ⊥) where
-    pub passing-small : t .cell < 96
+  module _ {roots′ heads′ beginnings′ child′ next′ : List ℕ} {taken : Taken}
+      (takes : Takes ws txt p
+      (m .n) root roots heads beginnings child next roots′ heads′ beginnings′ child′ next′ taken)
+      (ne : taken .cell ≡ 96 → ⊥) where
+    pub passing-small : taken .cell < 96
     passing-small = omega (arith, merge-steps takes now-rest ne .below, now-rest .holding .few)
 
     pub passing-fewer : remaining ws txt p roots′ heads′ (m .n) < remaining ws txt p roots heads (m .n)
     passing-fewer = merge-steps takes now-rest ne .fewer
 
-    pub passing-branch : (0 < t .branch) × AnyTree ws txt (t .branch)
+    pub passing-branch : (0 < taken .branch) × AnyTree ws txt (taken .branch)
     passing-branch = let k = merge-steps takes now-rest ne in cell-branch-tree (now-rest .holding .here) (k .branch)
 
     pub passing-last : (m .last ≡ 0 → ⊥) → (0 < m .last) × AnyTree ws txt (m .last)
@@ -181,38 +183,38 @@ module _ {ws txt : List ℕ} {p : Str} {m : Merge} {roots heads beginnings child
 
 module _ {ws txt : List ℕ} {p : Str} {m : Merge} {roots heads beginnings child next : List ℕ} {root : ℕ}
     (o : Passing ws txt p m roots heads beginnings child next root)
-    {roots′ heads′ beginnings′ child′ next′ : List ℕ} {t : Taken}
+    {roots′ heads′ beginnings′ child′ next′ : List ℕ} {taken : Taken}
     (takes : Takes ws txt p
-    (m .n) root roots heads beginnings child next roots′ heads′ beginnings′ child′ next′ t) where
-  pub passing-end : (r : Step) → r .branch ≡ 0 → t .cell ≡ 96 → Gives ws txt p m r
-  passing-end r z e w v x s g = subst (λ (s : List Entry). GivesIn ws txt w v x p m s r) (sym (step-end takes (o .says w v x s g) e)) z
+    (m .n) root roots heads beginnings child next roots′ heads′ beginnings′ child′ next′ taken) where
+  pub passing-end : (r : Step) → r .branch ≡ 0 → taken .cell ≡ 96 → Gives ws txt p m r
+  passing-end r z e w v x es g = subst (λ (es : List Entry). GivesIn ws txt w v x p m es r) (sym (step-end takes (o .says w v x es g) e)) z
 
-  module _ (ne : t .cell ≡ 96 → ⊥) where
+  module _ (ne : taken .cell ≡ 96 → ⊥) where
     pub passing-on : remaining ws txt p roots′ heads′ (m .n) < remaining ws txt p roots heads (m .n) → (m .last ≡ 0 → ⊥)
-        → same (key-at ws txt (t .branch)) (key-at ws txt (m .last)) ≡ true
-        → Passing ws txt p m roots′ heads′ beginnings′ child′ next′ (t .root)
+        → same (key-at ws txt (taken .branch)) (key-at ws txt (m .last)) ≡ true
+        → Passing ws txt p m roots′ heads′ beginnings′ child′ next′ (taken .root)
     passing-on f n e = record {
-      says = λ w v x s g.
-          let r = o .says w v x s g in
+      says = λ w v x es g.
+          let r = o .says w v x es g in
           let k = merge-steps takes r ne in
-          subst (λ (s : List Entry). Rest ws txt w v x p (state roots′ heads′ beginnings′ (m .labels) child′ next′ (m .n) (t .root) (m .last)) s)
+          subst (λ (es : List Entry). Rest ws txt w v x p (state roots′ heads′ beginnings′ (m .labels) child′ next′ (m .n) (taken .root) (m .last)) es)
           (sym (k .splits ∙ rw (again-same ws txt w v x (m .last) (k .entry) (r .given) (r .last) n (rw (k .branch-is) at e)))) (k .passed-rest);
       fewer = omega (arith, o .fewer);
     }
 
-    pub passing-gives : ((m .last ≡ 0 → ⊥) → same (key-at ws txt (t .branch)) (key-at ws txt (m .last)) ≡ false)
+    pub passing-gives : ((m .last ≡ 0 → ⊥) → same (key-at ws txt (taken .branch)) (key-at ws txt (m .last)) ≡ false)
         → Gives ws txt p m (record {
-          branch = t .branch;
-          label = getD (m .labels) (t .cell) 0;
-          m = state roots′ heads′ beginnings′ (m .labels) child′ next′ (m .n) (t .root) (t .branch);
+          branch = taken .branch;
+          label = getD (m .labels) (taken .cell) 0;
+          m = state roots′ heads′ beginnings′ (m .labels) child′ next′ (m .n) (taken .root) (taken .branch);
         })
-    passing-gives f w v x s g =
-        let r = o .says w v x s g in
+    passing-gives f w v x es g =
+        let r = o .says w v x es g in
         let k = merge-steps takes r ne in
         let step : Step = record {
-          branch = t .branch;
-          label = getD (m .labels) (t .cell) 0;
-          m = state roots′ heads′ beginnings′ (m .labels) child′ next′ (m .n) (t .root) (t .branch);
+          branch = taken .branch;
+          label = getD (m .labels) (taken .cell) 0;
+          m = state roots′ heads′ beginnings′ (m .labels) child′ next′ (m .n) (taken .root) (taken .branch);
         } in
         let d : GivenIn ws txt w v x p m (k .entry) (k .after) step =
         record {
@@ -224,5 +226,6 @@ module _ {ws txt : List ℕ} {p : Str} {m : Merge} {roots heads beginnings child
           rest = k .after-rest;
           fewer = omega (arith, o .fewer, k .fewer);
         } in
-        let e : s ≡ k .entry ∷ k .after = k .splits ∙ rw (again-new ws txt w v x (m .last) (k .entry) (r .given) (r .last) (λ n. rw (k .branch-is) at (f n))) in
-        subst (λ (s : List Entry). GivesIn ws txt w v x p m s step) (sym e) d
+        let e : es ≡ k .entry ∷ k .after =
+        k .splits ∙ rw (again-new ws txt w v x (m .last) (k .entry) (r .given) (r .last) (λ n. rw (k .branch-is) at (f n))) in
+        subst (λ (es : List Entry). GivesIn ws txt w v x p m es step) (sym e) d

@@ -221,21 +221,21 @@ module _ {ws txt : List ℕ} {p : Str} {n root : ℕ} {roots heads beginnings ch
       go labels last w ℓ x EmptyHeap s = refl
       go labels last w ℓ x (HeapOf c hh) s = absurd (pop (HeapOf c hh) s)
 
-  module _ {cell rest : ℕ} {roots′ heads′ beginnings′ child″ next″ : List ℕ} {t : Taken}
+  module _ {cell rest : ℕ} {roots′ heads′ beginnings′ child″ next″ : List ℕ} {taken : Taken}
       (pop : Pops (cell-cmp ws txt heads) n child next child′ next′ (Least cell rest) root) where
     takes-some : ((labels : List ℕ) (last : ℕ) (w : Which) (ℓ : Level) (x c : ℕ) (hh : Forest ℕ)
         (g : Holding ws txt w ℓ x p (state roots heads beginnings labels child next n root last) (HeapOf c hh))
         → cell ≡ c → Makes n child next child′ next′ rest (others g)
         → TookCell ws txt w ℓ x p (state roots heads beginnings labels child next n root last)
-        (state roots′ heads′ beginnings′ labels child″ next″ n (t .root) last) t c hh)
-        → Takes ws txt p n root roots heads beginnings child next roots′ heads′ beginnings′ child″ next″ t
+        (state roots′ heads′ beginnings′ labels child″ next″ n (taken .root) last) taken c hh)
+        → Takes ws txt p n root roots heads beginnings child next roots′ heads′ beginnings′ child″ next″ taken
     unfolding heap-pop
     takes-some f = record { took = go }
       where
         go : (labels : List ℕ) (last : ℕ) (w : Which) (ℓ : Level) (x : ℕ) (h : Heap ℕ)
             → Holding ws txt w ℓ x p (state roots heads beginnings labels child next n root last) h
             → TookIn ws txt w ℓ x p (state roots heads beginnings labels child next n root last)
-            (state roots′ heads′ beginnings′ labels child″ next″ n (t .root) last) t h
+            (state roots′ heads′ beginnings′ labels child″ next″ n (taken .root) last) taken h
         go labels last w ℓ x EmptyHeap g = absurd (pop EmptyHeap (g .rep))
         go labels last w ℓ x (HeapOf c hh) g = let q = pop (HeapOf c hh) (g .rep) in f labels last w ℓ x c hh g (q .0) (q .1)
 

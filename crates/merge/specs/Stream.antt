@@ -108,15 +108,15 @@ abbrev pub Last : (ws : List ℕ) (w : Which) (ℓ : Level) (x l : ℕ) → Opti
 Last ws w ℓ x l none = l ≡ 0
 Last ws w ℓ x l (some e) = (e .branch ≡ l) × BranchOf ws w ℓ x l
 
--- The state m still gives the entries s, of the list x.
-pub record Rest (ws txt : List ℕ) (w : Which) (ℓ : Level) (x : ℕ) (p : Str) (m : Merge) (s : List Entry) : Type 0 where
+-- The state m still gives the entries es, of the list x.
+pub record Rest (ws txt : List ℕ) (w : Which) (ℓ : Level) (x : ℕ) (p : Str) (m : Merge) (es : List Entry) : Type 0 where
   pub heap : Heap ℕ
   pub holding : Holding ws txt w ℓ x p m heap
   pub given : Option Entry
   pub last : Last ws w ℓ x (m .last) given
   pub fuel : ℕ
   pub enough : held (heap-of ws txt p m heap) ≤ fuel
-  pub says : s ≡ forward (entry-key ws txt) fuel (heap-of ws txt p m heap) given
+  pub says : es ≡ forward (entry-key ws txt) fuel (heap-of ws txt p m heap) given
 
 -- The same, of some table, level, list and entries.
 pub record AnyRest (ws txt : List ℕ) (p : Str) (m : Merge) : Type 0 where
@@ -142,14 +142,14 @@ abbrev pub left-in : (ws txt : List ℕ) (p : Str) (m : Merge) → ℕ
 left-in ws txt p m = remaining ws txt p (m .roots) (m .heads) (m .n)
 
 -- The first entry is given, a branch of a tree of the list, and the state gives the rest.
-pub record GivenIn (ws txt : List ℕ) (w : Which) (ℓ : Level) (x : ℕ) (p : Str) (m : Merge) (e : Entry) (s : List Entry)
+pub record GivenIn (ws txt : List ℕ) (w : Which) (ℓ : Level) (x : ℕ) (p : Str) (m : Merge) (e : Entry) (es : List Entry)
     (r : Step) : Type 0 where
   pub branch-is : r .branch ≡ e .branch
   pub label-is : r .label ≡ e .label
   pub branch : BranchOf ws w ℓ x (r .branch)
   pub begins : starts-with (key-at ws txt (r .branch)) p ≡ true
   pub label-ok : LabelOk ws w ℓ x (r .label)
-  pub rest : Rest ws txt w ℓ x p (r .m) s
+  pub rest : Rest ws txt w ℓ x p (r .m) es
   pub fewer : left-in ws txt p (r .m) < left-in ws txt p m
 
 -- What a step gives of the entries: branch 0 at the end.
@@ -160,17 +160,17 @@ GivesIn ws txt w ℓ x p m (e ∷ s) r = GivenIn ws txt w ℓ x p m e s r
 
 -- The same, of whatever the state gives.
 abbrev pub Gives : (ws txt : List ℕ) (p : Str) (m : Merge) (r : Step) → Type 0
-Gives ws txt p m r = (w : Which) (ℓ : Level) (x : ℕ) (s : List Entry) → Rest ws txt w ℓ x p m s
-    → GivesIn ws txt w ℓ x p m s r
+Gives ws txt p m r = (w : Which) (ℓ : Level) (x : ℕ) (es : List Entry) → Rest ws txt w ℓ x p m es
+    → GivesIn ws txt w ℓ x p m es r
 
 -- ---- One cell taken from the heap
 
 -- The least cell c is taken, and the rest of its list put back.
-pub record TookCell (ws txt : List ℕ) (w : Which) (ℓ : Level) (x : ℕ) (p : Str) (m m′ : Merge) (t : Taken) (c : ℕ)
+pub record TookCell (ws txt : List ℕ) (w : Which) (ℓ : Level) (x : ℕ) (p : Str) (m m′ : Merge) (taken : Taken) (c : ℕ)
     (hh : Forest ℕ) : Type 0 where
-  pub cell-is : t .cell ≡ c
+  pub cell-is : taken .cell ≡ c
   pub below : c < m .n
-  pub branch-is : t .branch ≡ getD (m .heads) c 0
+  pub branch-is : taken .branch ≡ getD (m .heads) c 0
   pub heap : Heap ℕ
   pub holding : Holding ws txt w ℓ x p m′ heap
   pub heap-is : heap-of ws txt p m′ heap
@@ -179,19 +179,19 @@ pub record TookCell (ws txt : List ℕ) (w : Which) (ℓ : Level) (x : ℕ) (p :
   pub fewer : remaining ws txt p (m′ .roots) (m′ .heads) (m .n) < remaining ws txt p (m .roots) (m .heads) (m .n)
 
 -- What is taken of a heap: cell 96 of the empty one.
-abbrev pub TookIn : (ws txt : List ℕ) (w : Which) (ℓ : Level) (x : ℕ) (p : Str) (m m′ : Merge) (t : Taken) → Heap ℕ
+abbrev pub TookIn : (ws txt : List ℕ) (w : Which) (ℓ : Level) (x : ℕ) (p : Str) (m m′ : Merge) (taken : Taken) → Heap ℕ
     → Type 0
-TookIn ws txt w ℓ x p m m′ t EmptyHeap = t .cell ≡ heaviest-list
-TookIn ws txt w ℓ x p m m′ t (HeapOf c hh) = TookCell ws txt w ℓ x p m m′ t c hh
+TookIn ws txt w ℓ x p m m′ taken EmptyHeap = taken .cell ≡ heaviest-list
+TookIn ws txt w ℓ x p m m′ taken (HeapOf c hh) = TookCell ws txt w ℓ x p m m′ taken c hh
 
 -- The same, for any labels and whatever heap the cells have.
 pub record Takes (ws txt : List ℕ) (p : Str) (n root : ℕ)
     (roots heads beginnings child next roots′ heads′ beginnings′ child′ next′ : List ℕ)
-    (t : Taken) : Type 0 where
+    (taken : Taken) : Type 0 where
   pub took : (labels : List ℕ) (last : ℕ) (w : Which) (ℓ : Level) (x : ℕ) (h : Heap ℕ)
       → Holding ws txt w ℓ x p (state roots heads beginnings labels child next n root last) h
       → TookIn ws txt w ℓ x p (state roots heads beginnings labels child next n root last)
-      (state roots′ heads′ beginnings′ labels child′ next′ n (t .root) last) t h
+      (state roots′ heads′ beginnings′ labels child′ next′ n (taken .root) last) taken h
 
 -- The cells have some heap.
 pub record CellsReady (ws txt : List ℕ) (p : Str) (n root : ℕ)
@@ -221,18 +221,19 @@ pub record Begins (ws txt : List ℕ) (p : Str) (x : ℕ) (roots heads beginning
       → OneTree ws txt w ℓ x p (getD roots 0 0) (getD labels 0 0)
 
 -- The cells, with some labels, still give some entries.
-pub record Stands (ws txt : List ℕ) (p : Str) (roots heads beginnings child next : List ℕ) (t : Cursor) : Type 0 where
+pub record Stands (ws txt : List ℕ) (p : Str) (roots heads beginnings child next : List ℕ)
+    (turn : Cursor) : Type 0 where
   pub labels : List ℕ
-  pub any : AnyRest ws txt p (state roots heads beginnings labels child next (t .n) (t .root) (t .last))
+  pub any : AnyRest ws txt p (state roots heads beginnings labels child next (turn .n) (turn .root) (turn .last))
 
 -- The next entry is given, whatever the labels.
-pub record Steps (ws txt : List ℕ) (p : Str) (roots heads beginnings child next : List ℕ) (t : Cursor)
+pub record Steps (ws txt : List ℕ) (p : Str) (roots heads beginnings child next : List ℕ) (turn : Cursor)
     (roots′ heads′ beginnings′ child′ next′ : List ℕ) (r : Taken) : Type 0 where
   pub small : (r .branch ≡ 0 → ⊥) → r .cell < heaviest-list
   pub gives : (labels : List ℕ)
-      → Gives ws txt p (state roots heads beginnings labels child next (t .n) (t .root) (t .last))
+      → Gives ws txt p (state roots heads beginnings labels child next (turn .n) (turn .root) (turn .last))
       (record {
         branch = r .branch;
         label = getD labels (r .cell) 0;
-        m = state roots′ heads′ beginnings′ labels child′ next′ (t .n) (r .root) (r .branch);
+        m = state roots′ heads′ beginnings′ labels child′ next′ (turn .n) (r .root) (r .branch);
       })

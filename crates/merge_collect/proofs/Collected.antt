@@ -57,13 +57,13 @@ module _ {ws txt : List ℕ} {w : Which} {ℓ : Level} {root : ℕ} (t : At ws t
 
 module _ {ws txt : List ℕ} {w : Which} {ℓ : Level} {root : ℕ} (t : At ws txt w (tree ℓ) root) (p : Str) where
   -- Where the first of some matches is none, there are none.
-  pub no-match : (l : List ℕ) → Allˡ (MatchOf ws txt w ℓ root p) l → head0 l ≡ 0 → l ≡ []
+  pub no-match : (xs : List ℕ) → Allˡ (MatchOf ws txt w ℓ root p) xs → head0 xs ≡ 0 → xs ≡ []
   no-match [] a e = refl
-  no-match (y ∷ l) a e = absurd (omega (arith, a .0 .branch .some))
+  no-match (y ∷ xs) a e = absurd (omega (arith, a .0 .branch .some))
 
-head-tail : (l : List ℕ) (r : ℕ) → r ≡ head0 l → (r ≡ 0 → ⊥) → (tl : List ℕ) × (l ≡ r ∷ tl)
+head-tail : (xs : List ℕ) (r : ℕ) → r ≡ head0 xs → (r ≡ 0 → ⊥) → (tl : List ℕ) × (xs ≡ r ∷ tl)
 head-tail [] r e n = absurd (n e)
-head-tail (y ∷ l) r e n = (l, rw e)
+head-tail (y ∷ xs) r e n = (xs, rw e)
 
 -- ---- The outermost label
 -- The outermost label, once the collection x is entered.

@@ -66,7 +66,7 @@ module _ (ws txt : List ℕ) (w : Which) (ℓ : Level) (l : ℕ) (p : Str) (root
 abbrev pub match-lists-in : (w : Which) (ws txt : List ℕ) (ℓ : Level) → SearchTerm → List Str → ℕ
     → List (List (PathElem × Value (Item w) ℓ))
 match-lists-in w ws txt ℓ term imports x =
-    nonempty (map (λ t. with-imports (t .0, tree-matches term (t .1))) (flat-in imports (what w ws txt x (list ℓ))))
+    nonempty (map (λ u. with-imports (u .0, tree-matches term (u .1))) (flat-in imports (what w ws txt x (list ℓ))))
 
 module _ (ws txt : List ℕ) (p : Str) (x label i r : ℕ)
     (roots heads beginnings labels roots′ heads′ beginnings′ labels′ : List ℕ) where

@@ -31,7 +31,7 @@ small n h = toZ-ofZ w32 (pos n) (record { sfits = omega arith })
 read-difference : (a b : ℕ) → a < 96 → b < 96 → toZ w32 a -ℤ toZ w32 b ≡ pos a -ℤ pos b
 read-difference a b h k = ap₂ _-ℤ_ (small a h) (small b k)
 
-mag-cond : (t : Bool) (x y : ℕ) → x < 96 → y < 96 → mag (cond t (negsuc x) (pos y)) < 96
+mag-cond : (b : Bool) (x y : ℕ) → x < 96 → y < 96 → mag (cond b (negsuc x) (pos y)) < 96
 mag-cond true x y h k = h
 mag-cond false x y h k = k
 
@@ -65,8 +65,8 @@ is-lt-sign (pos zero) = refl
 is-lt-sign (pos (suc k)) = le-ltb (suc k) 0 zero-le
 
 -- What the test that an answer is below 0 says.
-pub is-lt-test : (z : ℤ) {o : Ordering} {t : Bool} → mag z < 2 ^ hbits w32 → sign z ≡ o
-    → ltZ (toZ w32 (ofZ w32 z)) (pos 0) ≡ t → is-lt o ≡ t
+pub is-lt-test : (z : ℤ) {o : Ordering} {b : Bool} → mag z < 2 ^ hbits w32 → sign z ≡ o
+    → ltZ (toZ w32 (ofZ w32 z)) (pos 0) ≡ b → is-lt o ≡ b
 is-lt-test z f e g = ap is-lt (sym e) ∙ sym (is-lt-sign z) ∙ ap (λ (x : ℤ). ltZ x (pos 0)) (sym (toZ-ofZ w32 z (sfits-of f))) ∙ g
 
 -- ---- The comparator
@@ -107,7 +107,7 @@ pub by-place : (a b : ℕ) → a < 96 → b < 96 → sign (toZ w32 (ofZ w32 (toZ
 by-place a b h k = ap sign (toZ-ofZ w32 _ (difference-fits a b h k) ∙ read-difference a b h k) ∙ sign-difference a b
 
 -- run-cmp, seen through cells.
-pub cell-cmp-run : {A : Type 0} (key : A → Str) (ws txt heads : List ℕ) (a b : ℕ) {r s : Run A}
-    → Stands key ws txt heads a r → Stands key ws txt heads b s → run-cmp key r s ≡ cell-cmp ws txt heads a b
+pub cell-cmp-run : {A : Type 0} (key : A → Str) (ws txt heads : List ℕ) (a b : ℕ) {r r₂ : Run A}
+    → Stands key ws txt heads a r → Stands key ws txt heads b r₂ → run-cmp key r r₂ ≡ cell-cmp ws txt heads a b
 unfolding cell-cmp run-cmp
 cell-cmp-run key ws txt heads a b p q = rw (p .key-is, q .key-is, p .priority-is, q .priority-is)

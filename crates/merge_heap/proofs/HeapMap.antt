@@ -15,10 +15,10 @@ module _ {A B : Type 0} (f : A → B) (cmp : A → A → Ordering) (cmp′ : B �
   map-merge (HeapOf v hh) EmptyHeap p q = refl
   map-merge (HeapOf v hh) (HeapOf w gg) p q = rw (agree v w (p .0) (q .0)) (go (is-lt (cmp v w)))
     where
-      go : (t : Bool)
-          → cond t (HeapOf (f v) (HeapOf (f w) (forest-map f gg) ∷ᶠ forest-map f hh))
+      go : (b : Bool)
+          → cond b (HeapOf (f v) (HeapOf (f w) (forest-map f gg) ∷ᶠ forest-map f hh))
           (HeapOf (f w) (HeapOf (f v) (forest-map f hh) ∷ᶠ forest-map f gg))
-          ≡ heap-map f (cond t (HeapOf v (HeapOf w gg ∷ᶠ hh)) (HeapOf w (HeapOf v hh ∷ᶠ gg)))
+          ≡ heap-map f (cond b (HeapOf v (HeapOf w gg ∷ᶠ hh)) (HeapOf w (HeapOf v hh ∷ᶠ gg)))
       go true = refl
       go false = refl
 

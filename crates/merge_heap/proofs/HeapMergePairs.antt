@@ -106,20 +106,20 @@ module _ {n : ℕ} {child next : List ℕ} (few : n ≤ 96) {i : ℕ} where
       go (h ∷ᶠ hh) q = (hh, then q)
 
 -- The next sibling of the cell m is changed.
-module _ {n : ℕ} {child next : List ℕ} (few : n ≤ 96) (m s : ℕ) where
-  others : (j : ℕ) → (j ≡ m → ⊥) → Same child next child (set next m s) j
-  others j ne = record { first-child = refl; next-sibling = getD-set-other next m j s 0 ne }
+module _ {n : ℕ} {child next : List ℕ} (few : n ≤ 96) (m start : ℕ) where
+  others : (j : ℕ) → (j ≡ m → ⊥) → Same child next child (set next m start) j
+  others j ne = record { first-child = refl; next-sibling = getD-set-other next m j start 0 ne }
 
-  resized : Sized child next → Sized child (set next m s)
+  resized : Sized child next → Sized child (set next m start)
   resized z = record { children = z .children; siblings = simp length-set (z .siblings) }
 
-  aside : {i : ℕ} (hh : Forest ℕ) → sumᶠ (is m) hh ≡ 0 → Repᶠ n child next i hh → Repᶠ n child (set next m s) i hh
+  aside : {i : ℕ} (hh : Forest ℕ) → sumᶠ (is m) hh ≡ 0 → Repᶠ n child next i hh → Repᶠ n child (set next m start) i hh
   aside hh z p =
-      rep-keptᶠ n child next few child (set next m s) (resized (p .sized)) (λ j l. others j (λ e. omega (arith, ap (λ (x : ℕ). sumᶠ (is x) hh) e))) p
+      rep-keptᶠ n child next few child (set next m start) (resized (p .sized)) (λ j l. others j (λ e. omega (arith, ap (λ (x : ℕ). sumᶠ (is x) hh) e))) p
 
-  -- The heap of root m is put before those of root s.
-  put-before : (h : Heap ℕ) (hh : Forest ℕ) → m < n → Rep n child next m h → Repᶠ n child next s hh
-      → ((j : ℕ) → count j h + sumᶠ (is j) hh ≤ 1) → Repᶠ n child (set next m s) m (h ∷ᶠ hh)
+  -- The heap of root m is put before those of root start.
+  put-before : (h : Heap ℕ) (hh : Forest ℕ) → m < n → Rep n child next m h → Repᶠ n child next start hh
+      → ((j : ℕ) → count j h + sumᶠ (is j) hh ≤ 1) → Repᶠ n child (set next m start) m (h ∷ᶠ hh)
   put-before EmptyHeap hh l p q a = absurd (omega (arith, p .holds))
   put-before (HeapOf v kk) hh l p q a = record {
     sized = resized (p .sized);
@@ -128,10 +128,10 @@ module _ {n : ℕ} {child next : List ℕ} (few : n ≤ 96) (m s : ℕ) where
       (
         p .holds .0,
         p .holds .1,
-        holds-keptᶠ n child next few child (set next m s) kk (getD child v 0)
+        holds-keptᶠ n child next few child (set next m start) kk (getD child v 0)
             (λ j k. others j (λ e. is-none j v (omega (arith, p .once j)) (e ∙ p .holds .0))) (p .holds .2),
       ),
-      rw (getD-set-same next m s 0 (omega (arith, p .sized .siblings)))
+      rw (getD-set-same next m start 0 (omega (arith, p .sized .siblings)))
           (aside hh (omega (arith, a m, root-counted n child next few m (HeapOf v kk) l (p .holds))) q .holds),
     );
     once = a;

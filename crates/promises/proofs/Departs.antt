@@ -160,7 +160,8 @@ module _ {A : Type 0} (Item : A → Type 0) where
   root-line f text tr sound name query asked covers one =
       go (segments name) refl (look-up-segment true name (look-up-admitted tr name asked)) covers one
     where
-      go : (full : Query) → segments name ≡ full → is-empty full ≡ false → Covers (segments query) full → OneHolder tr full
+      go : (full : Query) → segments name ≡ full → is-empty full ≡ false → Covers (segments query) full
+          → OneHolder tr full
           → lines-of-text (without-last name) (map f (trie-find-prefix-first tr (segments query)))
           ≡ lines-of-text (without-last name) (map f (trie-find-prefix tr (segments query)))
       go [] e h c o = absurd (true≢false h)

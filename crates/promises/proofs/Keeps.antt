@@ -77,7 +77,8 @@ module _ {A : Type 0} (Key Label : Str → Type 0) (Item : A → Type 0) where
       go i j Ordering·eq = g .1
       go i j Ordering·gt = j
 
-  pub names-find-exact-formed : {ℓ : Level} (nl : NameList A ℓ) (k : Str) → OkNames nl → OkOption (names-find-exact nl k)
+  pub names-find-exact-formed : {ℓ : Level} (nl : NameList A ℓ) (k : Str) → OkNames nl
+      → OkOption (names-find-exact nl k)
   unfolding names-find-exact
   names-find-exact-formed []ᴺ k g = tt
   names-find-exact-formed (Names bt tl) k g = or-else-formed _ _ (btree-find-exact-formed bt k (g .0)) (names-find-exact-formed tl k (g .1))

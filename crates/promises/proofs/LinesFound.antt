@@ -40,7 +40,8 @@ use Rattle.promises.proofs.ListedTexts.{NoDot, rev-map-all, fold-all}
 use Rattle.promises.proofs.Agreement.{key-no-dot, completed-lines}
 
 -- ---- the rows of a list are its first holders
-lookup-each : {B : Type 0} (key : B → Str) (xs : List B) → Decreasing key xs → Allˡ (λ y. lookup key (key y) xs ≡ some y) xs
+lookup-each : {B : Type 0} (key : B → Str) (xs : List B) → Decreasing key xs
+    → Allˡ (λ y. lookup key (key y) xs ≡ some y) xs
 lookup-each key [] d = tt
 lookup-each key (x ∷ xs) d = (
   lookup-hit key x xs,
@@ -52,7 +53,8 @@ module _ {A : Type 0} {ℓ : Level} where
   abbrev Holds : NameList A ℓ → SearchTerm → PathElem × Value A ℓ → Type 0
   Holds nl term y = (accepts term (elem-key y) ≡ true) × (first-of (holders (flatten nl) (elem-key y)) ≡ some (y .1))
 
-  rows-first : (nl : NameList A ℓ) (term : SearchTerm) → OrderedN nl → Allˡ (Holds nl term) (names-find-rev-first nl term)
+  rows-first : (nl : NameList A ℓ) (term : SearchTerm) → OrderedN nl
+      → Allˡ (Holds nl term) (names-find-rev-first nl term)
   unfolding first-of
   rows-first nl term o = Allˡ-map (names-find-rev-first nl term) row (lookup-each elem-key (names-find-rev-first nl term) (find-first-decreasing nl term o))
     where

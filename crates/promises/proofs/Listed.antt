@@ -46,7 +46,8 @@ module _ {A : Type 0} where
 module _ {A : Type 0} (Key Label : Str → Type 0) (Item : A → Type 0) where
   -- What a listing asks of the rows of a list.
   pub record Finds (find : Finder A) : Type 0 where
-    pub descends : (ℓ : Level) (nl : NameList A ℓ) (term : SearchTerm) → OrderedN nl → Decreasing elem-key (find ℓ nl term)
+    pub descends : (ℓ : Level) (nl : NameList A ℓ) (term : SearchTerm) → OrderedN nl
+        → Decreasing elem-key (find ℓ nl term)
     pub formed : (ℓ : Level) (nl : NameList A ℓ) (term : SearchTerm) → FormedNames Key Label Item nl
         → Allˡ (λ y. Key (elem-key y) × Formed Key Label Item (y .1)) (find ℓ nl term)
     pub shallow : (nl : NameList A ns) (term : SearchTerm) → Allˡ (λ y. depth (y .1) < depth-names nl) (find ns nl term)

@@ -69,7 +69,8 @@ module _ {A : Type 0} where
       go at (x ∷ []) d = refl
       go at (x ∷ (y ∷ r)) d = absurd (d x y r refl)
 
-  alias-walk : (tr : Trie A) (key : Str) (host q full : Query) → ((y : Str) (r : Query) → full ≡ host ++ (key ∷ (y ∷ r)) → ⊥)
+  alias-walk : (tr : Trie A) (key : Str) (host q full : Query)
+      → ((y : Str) (r : Query) → full ≡ host ++ (key ∷ (y ∷ r)) → ⊥)
       → trie-find-exact (trie-add-alias tr key host q) full ≡ trie-find-exact tr full
   unfolding trie-add-alias trie-import trie-find-exact
   alias-walk tr key host q full d =

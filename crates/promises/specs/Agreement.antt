@@ -33,8 +33,8 @@ module _ {A : Type 0} where
   -- The lines with that text. A line's text is its candidate.
   unfoldable pub lines-of-text : Str → List (Line A) → List (Line A)
   lines-of-text t [] = []
-  lines-of-text t (l ∷ ls) =
-      elim (isEq (string-compare (l .candidate) t)) [ true ↦ l ∷ lines-of-text t ls | false ↦ lines-of-text t ls ]
+  lines-of-text t (ln ∷ ls) =
+      elim (isEq (string-compare (ln .candidate) t)) [ true ↦ ln ∷ lines-of-text t ls | false ↦ lines-of-text t ls ]
 
   -- Exactly one line, which carries the item; or no line, and none.
   abbrev pub Shows : List (Line A) → Found A → Type 0
@@ -89,9 +89,9 @@ full-name ln = ln .candidate ++ (dot ∷ [])
 -- Each line of a completion has a full name that the query covers, and look-up of it finds the line's item.
 pub record EachFound {A : Type 0} (Finds : Str → Found A → Type 0) (Lists : Str → List (Line A) → Type 0) : Type 0 where
   pub covered : (query : Str) (lines : List (Line A)) → Lists query lines
-      → Allˡ (λ l. Covers (segments query) (segments (full-name l))) lines
+      → Allˡ (λ ln. Covers (segments query) (segments (full-name ln))) lines
   pub found-item : (query : Str) (lines : List (Line A)) → Lists query lines
-      → Allˡ (λ l. (a : Found A) → Finds (full-name l) a → a ≡ found (l .item-of)) lines
+      → Allˡ (λ ln. (a : Found A) → Finds (full-name ln) a → a ≡ found (ln .item-of)) lines
 
 -- Demand 3 the other way round, on either root of every sound table, of every kind and filter.
 pub record LinesFound : Type 0 where

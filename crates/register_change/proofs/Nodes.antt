@@ -91,7 +91,8 @@ ins-is p id (s ∷ q) revq b last loaded inserts m e f g = rw (e, f) (go (ns-ins
     new = names-insertᶜ b id (item (S.Namespace (name-of-revq (id ∷ revq)) loaded))
 
     go : (test : Bool)
-        → (elim test as (λ _. Counted (NameList S.ModSymbol bind)) [ true ↦ new | false ↦ pure b ]) ≡ cond test new (pure b)
+        → (elim test as (λ _. Counted (NameList S.ModSymbol bind)) [ true ↦ new | false ↦ pure b ])
+        ≡ cond test new (pure b)
     go true = refl
     go false = refl
 

@@ -238,7 +238,8 @@ module _ {ws txt : List ℕ} {n used x : ℕ} {text key : Span} {inc : ℕ} {p p
       unfolding one depth-names
       alias-fresh-ready = bindings-ready alias-builds (no-link n _) (less-room alias-room (omega arith)) (rw (what-none names ws txt) (omega arith))
 
-      module _ {ws₂ : List ℕ} {first : ℕ} (f : first ≡ b + 1) (g : MadeTrie ws₁ ws₂ b (kind names trieˢ) b 0 first) where
+      module _ {ws₂ : List ℕ} {first : ℕ} (f : first ≡ b + 1)
+          (g : MadeTrie ws₁ ws₂ b (kind names trieˢ) b 0 first) where
         fresh-builds : Builds ws ws₂ txt n used names trieˢ fresh first first
         fresh-builds = rw (what-none names ws txt) at (bindings-built alias-builds (no-link n _) refl f g)
 

@@ -61,8 +61,8 @@ pub record SameBytes (st bs txt st′ bs′ txt′ : List ℕ) : Type 0 where
 
 -- The reply r, by what the definition hands back: 0, for a call, or the number of the refusal.
 abbrev pub RepliesAs : C.Registered → (st bs txt st′ bs′ txt′ : List ℕ) → Option Call → ℕ → Type 0
-RepliesAs (C.accepted s) st bs txt st′ bs′ txt′ (some c) r = (r ≡ 0) × AcceptsBytes st bs txt st′ bs′ txt′ c s
-RepliesAs (C.accepted s) st bs txt st′ bs′ txt′ none r = ⊥
+RepliesAs (C.accepted σ) st bs txt st′ bs′ txt′ (some c) r = (r ≡ 0) × AcceptsBytes st bs txt st′ bs′ txt′ c σ
+RepliesAs (C.accepted σ) st bs txt st′ bs′ txt′ none r = ⊥
 RepliesAs (C.refused n) st bs txt st′ bs′ txt′ c r = (r ≡ n) × SameBytes st bs txt st′ bs′ txt′
 
 -- The reply r to a registration; b says whether the bytes are a sound table.

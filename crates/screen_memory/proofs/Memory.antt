@@ -10,7 +10,8 @@ use Rattle.screen_memory.specs.Memory.{state-bytes, record-bytes, record
 use Rattle.memory_bytes.proofs.Bytes.{word-before, words-length}
 
 -- A header put word by word.
-pub header-put : {st st₁ st₂ st₃ st₄ : List ℕ} {a b c d : ℕ} → length st ≡ state-bytes → Put 0 a st st₁ → Put 1 b st₁ st₂
+pub header-put : {st st₁ st₂ st₃ st₄ : List ℕ} {a b c d : ℕ} → length st ≡ state-bytes → Put 0 a st st₁
+    → Put 1 b st₁ st₂
     → Put 2 c st₂ st₃ → Put 3 d st₃ st₄
     → Spells st₄ (record { names = a; modules = b; records = c; text = d })
 unfolding header-in

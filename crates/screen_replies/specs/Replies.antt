@@ -69,7 +69,7 @@ symbol-reply (Namespace name loaded) =
 
 -- The reply to a look-up of a module or namespace: 0 with its symbol, no-answer, else the number of the refusal.
 abbrev pub module-reply : FoundModule → ModuleReply
-module-reply (Symbol s) = symbol-reply s
+module-reply (Symbol symbol) = symbol-reply symbol
 module-reply Nothing = no-module no-answer
 module-reply (Refused x) = no-module (number x)
 

@@ -26,7 +26,8 @@ use Rattle.screen_tests.specs.Replies.{ask-of, reply-of, shared-of, Regi
 use Rattle.screen_tests.specs.declared.Reply.{Reply}
 
 module _ {ws txt ws′ txt′ : List ℕ} {tab tab′ : Table} {c : Call} {x : Registration} {r : Reply} where
-  pub register-replies : tab ≡ tab′ → Total ws txt ws′ txt′ tab c x → r ≡ reply-of x → RegisterReplies ws txt ws′ txt′ tab′ c r
+  pub register-replies : tab ≡ tab′ → Total ws txt ws′ txt′ tab c x → r ≡ reply-of x
+      → RegisterReplies ws txt ws′ txt′ tab′ c r
   register-replies e a f = record { answer = x; total = subst (λ u. Total ws txt ws′ txt′ u c x) e a; reply = f }
 
   -- In a sound memory.
@@ -39,10 +40,12 @@ pub finds-replies : {ws txt : List ℕ} {tab tab′ : Table} {query : Str} {x : 
 finds-replies {ws} {txt} {query = query} {x} e a f = record { answer = x; finds = subst (λ u. Finds ws txt u query x) e a; reply = f }
 
 -- What is said of a table and of what is asked is said of equal ones.
-same-asked : (P : Table → Ask → Type 0) {tab tab′ : Table} {ask ask′ : Ask} → tab ≡ tab′ → ask ≡ ask′ → P tab ask → P tab′ ask′
+same-asked : (P : Table → Ask → Type 0) {tab tab′ : Table} {ask ask′ : Ask} → tab ≡ tab′ → ask ≡ ask′ → P tab ask
+    → P tab′ ask′
 same-asked P {tab′ = tab′} {ask} e g x = subst (P tab′) g (subst (λ (u : Table). P u ask) e x)
 
-module _ {ws txt : List ℕ} {tab tab′ : Table} {ask : Ask} {n : ℕ} {query : Str} {budget : ℕ} {flat flat′ out out′ : List ℕ}
+module _ {ws txt : List ℕ} {tab tab′ : Table} {ask : Ask} {n : ℕ} {query : Str} {budget : ℕ}
+    {flat flat′ out out′ : List ℕ}
     (e : tab ≡ tab′) (g : ask ≡ ask-of n) where
   pub lists-replies : {x : Listing} {r : CompleteReply}
       → Completes ws txt tab (record { ask = ask; budget = budget }) query flat flat′ out out′ x → r ≡ lines-reply (x .answer)

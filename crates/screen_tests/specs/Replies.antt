@@ -78,7 +78,8 @@ pub record FindReplies (ws txt : List ℕ) (tab : Table) (query : Str) (r : Name
 -- ---- Completions
 
 -- The reply to a completion: that of what table's contract says.
-pub record ListReplies (ws txt : List ℕ) (tab : Table) (ask : ℕ) (query : Str) (budget : ℕ) (flat flat′ out out′ : List ℕ)
+pub record ListReplies (ws txt : List ℕ) (tab : Table) (ask : ℕ) (query : Str) (budget : ℕ)
+    (flat flat′ out out′ : List ℕ)
     (r : CompleteReply) : Type 0 where
   pub answer : Listing
   pub completes : Completes ws txt tab (record { ask = ask-of ask; budget = budget }) query flat flat′ out out′ answer

@@ -92,7 +92,8 @@ module _ {ws txt : List ℕ} {used l : ℕ} (b : Before ws txt used l) where
           go left = branch-at ok w ℓ e .right
           go right = branch-at ok w ℓ e .left
 
-      all-at : (P : Str → Type 0) → P (key-of txt (record-at ws x)) → AllKeys P (the (word (record-at ws x) (away side)))
+      all-at : (P : Str → Type 0) → P (key-of txt (record-at ws x))
+          → AllKeys P (the (word (record-at ws x) (away side)))
           → AllKeys P (the (word (record-at ws x) (toward side))) → AllKeys P (the x)
       all-at P = go side
         where
@@ -147,7 +148,8 @@ module _ {ws txt : List ℕ} {used l : ℕ} (b : Before ws txt used l) where
           before = i .before;
           inside = i .inside;
           to = λ q.
-              let t = some-key (the y) (λ u. On side (key-of txt (record-at ws x)) u) (λ u. On side u k) (is-some side y z m c)
+              let t = some-key (the y) (λ u. On side (key-of txt (record-at ws x)) u) (λ u. On side u k)
+              (is-some side y z m c)
               (sides side x p h e .1) (i .to q) in
               let g : On side (key-of txt (record-at ws x)) k =
               on-trans side (key-of txt (record-at ws x)) (t .0) k (t .1 .0) (t .1 .1) in

@@ -19,7 +19,8 @@ use Rattle.sound_field.specs.Fields.{Before}
 pub known-as : (so : Sort) {k : ℕ} → (k ≡ kind names so) ⊎ (k ≡ kind modules so) → (w : Which) × (k ≡ kind w so)
 known-as so e = ⊎-elim (λ x. (names, x)) (λ x. (modules, x)) e
 
-pub kind-beside : (w : Which) (so so₂ : Sort) {k m : ℕ} → k ≡ kind w so → k + kind-in so₂ ≡ m + kind-in so → m ≡ kind w so₂
+pub kind-beside : (w : Which) (so so₂ : Sort) {k m : ℕ} → k ≡ kind w so → k + kind-in so₂ ≡ m + kind-in so
+    → m ≡ kind w so₂
 kind-beside names so so₂ e f = omega arith
 kind-beside modules so so₂ e f = omega arith
 

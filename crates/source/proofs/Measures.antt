@@ -97,7 +97,8 @@ module _ {A : Type 0} where
   depth-greatest StrEmpty = refl
   depth-greatest (StrBranch k v lbt rbt) = rw (depth-greatest lbt, depth-greatest rbt)
 
-  names-found-depth : {ℓ : Level} (nl : NameList A ℓ) (k : Str) → of-found level (names-find-exact nl k) ≤ depth-names nl
+  names-found-depth : {ℓ : Level} (nl : NameList A ℓ) (k : Str)
+      → of-found level (names-find-exact nl k) ≤ depth-names nl
   unfolding names-find-exact depth-names
   names-found-depth []ᴺ k = omega arith
   names-found-depth (Names bt tl) k =

@@ -27,7 +27,8 @@ outside-wider {a} {b} a′ b′ {xs} {m} h g p = record {
 }
 
 -- One part, then the next.
-pub outside-next : {a b c : ℕ} {xs ys zs : List ℕ} → a ≤ b → b ≤ c → Outside a b xs ys → Outside b c ys zs → Outside a c xs zs
+pub outside-next : {a b c : ℕ} {xs ys zs : List ℕ} → a ≤ b → b ≤ c → Outside a b xs ys → Outside b c ys zs
+    → Outside a c xs zs
 outside-next h g p q = outside-then (outside-wider _ _ (omega arith) g p) (outside-wider _ _ h (omega arith) q)
 
 module _ {a b : ℕ} {xs m : List ℕ} (p : Outside a b xs m) (k : ℕ) where

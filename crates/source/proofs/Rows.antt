@@ -56,7 +56,8 @@ module _ {A : Type 0} {ℓ : Level} (P : Str → Value A ℓ → Type 0) where
   abbrev AllMatches : List (List Str × List (PrefixMatch × Value A ℓ)) → Type 0
   AllMatches ms = Allˡ (λ m. Matches (m .1)) ms
 
-  revmap-all : (fn : Tree A ℓ → List (PrefixMatch × Value A ℓ)) → ((bt₁ : Tree A ℓ) → AllBranches bt₁ → Matches (fn bt₁))
+  revmap-all : (fn : Tree A ℓ → List (PrefixMatch × Value A ℓ))
+      → ((bt₁ : Tree A ℓ) → AllBranches bt₁ → Matches (fn bt₁))
       → (acc : List (List Str × List (PrefixMatch × Value A ℓ))) (i : List Str) (nl : NameList A ℓ) → AllNamed nl
       → AllMatches acc
       → AllMatches (revmap-onto fn acc i nl)
@@ -97,7 +98,8 @@ module _ {A : Type 0} {ℓ : Level} (P : Str → Value A ℓ → Type 0) where
   unfolding names-find-rev-first
   names-find-first-all nl term a =
       merge-all elem-key Row (map with-imports (reverse (matching-values nl term)))
-      (all-with-imports (reverse (matching-values nl term)) (Allˡ-reverse (λ m. Matches (m .1)) (matching-values nl term) [] (matching-values-all nl term a) tt))
+      (all-with-imports (reverse (matching-values nl term))
+      (Allˡ-reverse (λ m. Matches (m .1)) (matching-values nl term) [] (matching-values-all nl term a) tt))
 
 -- ---- Depth
 module _ {A : Type 0} {ℓ : Level} (d : ℕ) where

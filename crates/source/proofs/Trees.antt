@@ -55,7 +55,8 @@ module _ {A : Type 0} {ℓ : Level} where
   AllKeys-map StrEmpty f a = tt
   AllKeys-map (StrBranch k v lbt rbt) f a = (f k (a .0), AllKeys-map lbt f (a .1), AllKeys-map rbt f (a .2))
 
-  pub AllKeys-zip : {P Q S : Str → Type 0} → (bt : Tree A ℓ) → ((k : Str) → P k → Q k → S k) → AllKeys P bt → AllKeys Q bt
+  pub AllKeys-zip : {P Q S : Str → Type 0} → (bt : Tree A ℓ) → ((k : Str) → P k → Q k → S k) → AllKeys P bt
+      → AllKeys Q bt
       → AllKeys S bt
   AllKeys-zip StrEmpty f a b = tt
   AllKeys-zip (StrBranch k v lbt rbt) f a b = (f k (a .0) (b .0), AllKeys-zip lbt f (a .1) (b .1), AllKeys-zip rbt f (a .2) (b .2))

@@ -37,11 +37,11 @@ text-of (a-completion s) = s
 
 unfoldable pub is-empty : {A : Type 0} → List A → Bool
 is-empty [] = true
-is-empty (a ∷ l) = false
+is-empty (a ∷ xs) = false
 
 unfoldable pub any : {A : Type 0} → (A → Bool) → List A → Bool
 any p [] = false
-any p (a ∷ l) = p a || any p l
+any p (a ∷ xs) = p a || any p xs
 
 -- A query that is not empty and does not end in a dot, or a byte that is neither a name byte nor a dot.
 unfoldable pub bad-query : Str → Bool
@@ -230,19 +230,19 @@ module _ {A : Type 0} where
   -- The texts of the lines, one after another: candidate, then annotation.
   unfoldable pub output-text : List (Line A) → Str
   output-text [] = []
-  output-text (l ∷ ls) = l .candidate ++ (l .annotation ++ output-text ls)
+  output-text (ln ∷ ls) = ln .candidate ++ (ln .annotation ++ output-text ls)
 
   -- The line records, where the texts are laid from a place on.
   unfoldable pub output-lines : ℕ → List (Line A) → List (LineRecord A)
   output-lines at [] = []
-  output-lines at (l ∷ ls) =
+  output-lines at (ln ∷ ls) =
       record {
-        match-length = l .match-length;
-        item-of = l .item-of;
-        candidate = record { start = at; len = length (l .candidate) };
-        annotation = record { start = at + length (l .candidate); len = length (l .annotation) };
+        match-length = ln .match-length;
+        item-of = ln .item-of;
+        candidate = record { start = at; len = length (ln .candidate) };
+        annotation = record { start = at + length (ln .candidate); len = length (ln .annotation) };
       }
-      ∷ output-lines (at + length (l .candidate) + length (l .annotation)) ls
+      ∷ output-lines (at + length (ln .candidate) + length (ln .annotation)) ls
 
 -- The output lent for a completion: how many line records, how many bytes.
 pub record Output : Type 0 where
@@ -274,7 +274,7 @@ tries-entered root query = trie-find-prefix′ᶜ by-first root [] query [] .cou
 -- What a completion keeps: the lines whose item passes, in order and as they are.
 unfoldable pub kept : {A : Type 0} → (A → Bool) → List (Line A) → List (Line A)
 kept keep [] = []
-kept keep (l ∷ ls) = cond (keep (l .item-of)) (l ∷ kept keep ls) (kept keep ls)
+kept keep (ln ∷ ls) = cond (keep (ln .item-of)) (ln ∷ kept keep ls) (kept keep ls)
 
 -- The filter of names.
 unfoldable pub keeps-kind : KindFilter → LidSymbol → Bool
@@ -316,5 +316,5 @@ shared-beginning (s ∷ ss) = fold-left common-prefix s ss
 
 -- That of the candidates of a listing, its length; 0 where it is refused.
 unfoldable pub shared-length : {A : Type 0} → Completed A → ℕ
-shared-length (listed lines entered) = string-length (shared-beginning (map (λ l. l .candidate) lines))
+shared-length (listed lines entered) = string-length (shared-beginning (map (λ ln. ln .candidate) lines))
 shared-length (refused n) = 0

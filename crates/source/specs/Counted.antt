@@ -160,9 +160,9 @@ register-module-stays-loadedᶜ tbl loaded path mod-query = do
 
 unfoldable pub fold-leftᶜ : {A B : Type 0} → (B → A → Counted B) → B → List A → Counted B
 fold-leftᶜ f b [] = pure b
-fold-leftᶜ f b (a ∷ l) = do
+fold-leftᶜ f b (a ∷ xs) = do
   b ← f b a
-  fold-leftᶜ f b l
+  fold-leftᶜ f b xs
 
 module _ {A : Type 0} (find : Finder A) where
   unfoldable pub find-prefix-fuelᶜ : ℕ → Trie A → PathOf → Query → List (PathOf × A) → Counted (List (PathOf × A))

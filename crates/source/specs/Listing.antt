@@ -20,12 +20,12 @@ pub data SearchTerm : Type 0 where
 -- List.fold_left
 unfoldable pub fold-left : {A B : Type 0} → (B → A → B) → B → List A → B
 fold-left f b [] = b
-fold-left f b (a ∷ l) = fold-left f (f b a) l
+fold-left f b (a ∷ xs) = fold-left f (f b a) xs
 
 -- List.rev_map_onto
 unfoldable pub rev-map-onto : {A B : Type 0} → (A → B) → List A → List B → List B
 rev-map-onto f [] acc = acc
-rev-map-onto f (a ∷ l) acc = rev-map-onto f l (f a ∷ acc)
+rev-map-onto f (a ∷ xs) acc = rev-map-onto f xs (f a ∷ acc)
 
 -- The search terms of trie_find_prefix' for a query.
 unfoldable pub ns-search-term : Query → SearchTerm
@@ -91,10 +91,10 @@ module _ {A : Type 0} where
     trie-find-prefix′ tr path-acc q acc = find-prefix-fuel (suc (depth tr)) tr path-acc q acc
 
   abbrev pub of-source : Finder A
-  of-source l n id = names-find-rev n id
+  of-source ℓ nl id = names-find-rev nl id
 
   abbrev pub by-first : Finder A
-  by-first l n id = names-find-rev-first n id
+  by-first ℓ nl id = names-find-rev-first nl id
 
   unfoldable pub trie-find-prefix : Trie A → Query → List (PathOf × A)
   trie-find-prefix tr q = trie-find-prefix′ of-source tr [] q []

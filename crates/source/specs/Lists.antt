@@ -32,12 +32,12 @@ add-priorities n acc ((v ∷ tl) ∷ ls) = add-priorities (suc n) (run n v tl �
 -- How many elements the lists have.
 unfoldable pub total : {A : Type 0} → List (List A) → ℕ
 total [] = 0
-total (l ∷ ls) = length l + total ls
+total (xs ∷ xss) = length xs + total xss
 
 module _ {A : Type 0} (key-fn : A → Str) where
   unfoldable pub push-nodup : A → List A → List A
   push-nodup x [] = x ∷ []
-  push-nodup x (h ∷ t) = cond (isEq (string-compare (key-fn x) (key-fn h))) (h ∷ t) (x ∷ (h ∷ t))
+  push-nodup x (y ∷ ys) = cond (isEq (string-compare (key-fn x) (key-fn y))) (y ∷ ys) (x ∷ (y ∷ ys))
 
   -- cmp: by key, then by the sign of pr1 - pr2.
   unfoldable pub run-cmp : Run A → Run A → Ordering
@@ -58,9 +58,9 @@ module _ {A : Type 0} (key-fn : A → Str) where
   -- The source's last match, on the filtered lists.
   unfoldable pub merge-nonempty : List (List A) → List A
   merge-nonempty [] = []
-  merge-nonempty (l ∷ []) = reverse l
-  merge-nonempty (l ∷ (m ∷ ls)) =
-      merge-aux (total (l ∷ (m ∷ ls))) (heap-from-list run-cmp (add-priorities 0 [] (l ∷ (m ∷ ls)))) []
+  merge-nonempty (xs ∷ []) = reverse xs
+  merge-nonempty (xs ∷ (ys ∷ xss)) =
+      merge-aux (total (xs ∷ (ys ∷ xss))) (heap-from-list run-cmp (add-priorities 0 [] (xs ∷ (ys ∷ xss)))) []
 
   unfoldable pub merge-increasing-lists-rev : List (List A) → List A
   merge-increasing-lists-rev lists = merge-nonempty (nonempty lists)

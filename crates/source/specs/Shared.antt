@@ -12,9 +12,9 @@ same s t = isEq (string-compare s t)
 -- Every element of a list.
 abbrev pub Allˡ : {A : Type 0} → (A → Type 0) → List A → Type 0
 Allˡ P [] = Unit {0}
-Allˡ P (x ∷ l) = P x × Allˡ P l
+Allˡ P (x ∷ xs) = P x × Allˡ P xs
 
 -- The sum over a list.
 abbrev pub sumˡ : {A : Type 0} → (A → ℕ) → List A → ℕ
 sumˡ f [] = 0
-sumˡ f (a ∷ l) = f a + sumˡ f l
+sumˡ f (a ∷ xs) = f a + sumˡ f xs

@@ -42,7 +42,7 @@ register-open tbl false host q =
 -- When ins_ns inserts: never seen before, or seen, but not loaded yet.
 unfoldable pub ns-inserts : Option (Value ModSymbol bind) → Bool → Bool
 ns-inserts none loaded = true
-ns-inserts (some (item (Module name path l))) loaded = false
+ns-inserts (some (item (Module name path b))) loaded = false
 ns-inserts (some (item (Namespace name true))) loaded = false
 ns-inserts (some (item (Namespace name false))) loaded = loaded
 
@@ -120,7 +120,7 @@ match-length-of-path path =
 unfoldable pub last-opt : {A : Type 0} → List A → Option A
 last-opt [] = none
 last-opt (a ∷ []) = some a
-last-opt (a ∷ (b ∷ l)) = last-opt (b ∷ l)
+last-opt (a ∷ (b ∷ xs)) = last-opt (b ∷ xs)
 
 unfoldable pub first-import-of-path : PathOf → Option Str
 first-import-of-path [] = none
@@ -169,7 +169,7 @@ autocomplete-lid-first tbl query = map completion-result-of-lid (trie-find-prefi
 -- List.filter_map
 unfoldable pub filter-map : {A B : Type 0} → (A → Option B) → List A → List B
 filter-map f [] = []
-filter-map f (a ∷ l) = elim (f a) [ none ↦ filter-map f l | some b ↦ b ∷ filter-map f l ]
+filter-map f (a ∷ xs) = elim (f a) [ none ↦ filter-map f xs | some b ↦ b ∷ filter-map f xs ]
 
 unfoldable pub autocomplete-mod-or-ns : Table → Query → (PathOf × ModSymbol → Option (PathOf × ModSymbol))
     → List (Line ModSymbol)

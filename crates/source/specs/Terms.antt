@@ -25,7 +25,7 @@ module _ {A : Type 0} where
   -- Holders of a name, in flattened order, by what they give.
   unfoldable pub holders : {ℓ : Level} → List (Tree A ℓ) → Str → List (Value A ℓ)
   holders [] k = []
-  holders (t ∷ ts) k = found-onto (btree-find-exact t k) (holders ts k)
+  holders (bt ∷ bts) k = found-onto (btree-find-exact bt k) (holders bts k)
 
   -- Weight of a list: one for each collection, plus the weight of each imported list.
   unfoldable pub weight : {ℓ : Level} → NameList A ℓ → ℕ

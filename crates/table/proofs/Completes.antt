@@ -33,7 +33,8 @@ on-table ws txt tab (Modules f) budget out query = rw (autocomplete-mod-or-ns-is
 
 pub completes-table : {ws txt : List ℕ} {tab : Table} {request : Request} {query : Str} {flat flat′ out out′ : List ℕ}
     {r : Completed} → IsSound ws txt tab
-    → CompletesOn (used-words ws (tab .header)) (used-text txt (tab .header)) request (root-for (tab .header) (request .ask))
+    → CompletesOn (used-words ws (tab .header)) (used-text txt (tab .header)) request
+    (root-for (tab .header) (request .ask))
     query flat flat′ out out′ r
     → Completes ws txt tab request query flat flat′ out out′ (record { table = tab; answer = r })
 completes-table {ws} {txt} {tab} {request} {query} {flat} {flat′} {out} {out′} {r} o c =
@@ -56,7 +57,8 @@ unfolding complete complete-modules completed completion-rows first-row argument
 completes-unsound {ws} {txt} {tab} {request} {query} {flat} {out} o = record { table = refl; says = λ b h. rw (says-same _ b false h o) (go (request .ask)) }
   where
     go : (ask : Ask)
-        → CompletesAs ask (used-words ws (tab .header)) (used-text txt (tab .header)) flat flat out out (Refused Unsound)
+        → CompletesAs ask (used-words ws (tab .header)) (used-text txt (tab .header)) flat flat out out
+        (Refused Unsound)
         (completion false (table-in ws txt tab) ask (request .budget) (output flat out) query)
     go (Names f) = (refl, refl, refl)
     go (Modules f) = (refl, refl, refl)

@@ -21,7 +21,8 @@ module _ {ws txt : List ℕ} {tab : Table} {query : Str} where
       → Finds ws txt tab query (record { table = tab; answer = f })
   finds-sound o e = record { table = refl; says = λ b h. rw (says-same _ b true h o) e }
 
-  pub finds-unsound : (IsSound ws txt tab → ⊥) → Finds ws txt tab query (record { table = tab; answer = Refused Unsound })
+  pub finds-unsound : (IsSound ws txt tab → ⊥)
+      → Finds ws txt tab query (record { table = tab; answer = Refused Unsound })
   unfolding first-row argument-rows look-up
   finds-unsound o = record { table = refl; says = λ b h. rw (says-same _ b false h o) refl }
 

@@ -30,7 +30,7 @@ names-in ws txt tab = what names ws txt (tab .header .names) trieˢ
 
 -- Its root of modules.
 abbrev pub modules-in : (ws txt : List ℕ) → Table → Trie ModSymbol
-modules-in ws txt t = what modules ws txt (t .header .modules) trieˢ
+modules-in ws txt tab = what modules ws txt (tab .header .modules) trieˢ
 
 -- The fresh table, whatever is lent.
 pub record Fresh (tab : Table) : Type 0 where

@@ -33,8 +33,8 @@ pub record Unchanged (ws txt ws′ txt′ : List ℕ) (tab tab′ : Table) : Typ
 
 -- The answer to a call, by that of the definition.
 abbrev pub AnswersAs : C.Registered → (ws txt ws′ txt′ : List ℕ) → Table → Call → Registration → Type 0
-AnswersAs (C.accepted s) ws txt ws′ txt′ tab c r =
-    (refusal-of (r .answer) ≡ none) × Accepts ws txt ws′ txt′ tab (r .table) c s
+AnswersAs (C.accepted σ) ws txt ws′ txt′ tab c r =
+    (refusal-of (r .answer) ≡ none) × Accepts ws txt ws′ txt′ tab (r .table) c σ
 AnswersAs (C.refused n) ws txt ws′ txt′ tab c r =
     (refusal-of (r .answer) ≡ some n) × Unchanged ws txt ws′ txt′ tab (r .table)
 

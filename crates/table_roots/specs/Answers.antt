@@ -33,13 +33,13 @@ name-found (Refused r) = C.refused (number r)
 
 -- The answer of a look-up of a module or namespace, with its texts.
 abbrev pub module-found : List ℕ → FoundModule → C.Found ModSymbol
-module-found txt (Symbol s) = C.found (symbol-of txt s)
+module-found txt (Symbol symbol) = C.found (symbol-of txt symbol)
 module-found txt No-symbol = C.not-found
 module-found txt (Not-found r) = C.refused (number r)
 
 -- The texts of an answer lie in a text of so many bytes.
 abbrev pub FoundInside : ℕ → FoundModule → Type 0
-FoundInside size (Symbol s) = SymbolInside size s
+FoundInside size (Symbol symbol) = SymbolInside size symbol
 FoundInside size No-symbol = Unit {0}
 FoundInside size (Not-found r) = Unit {0}
 

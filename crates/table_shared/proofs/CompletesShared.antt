@@ -32,7 +32,8 @@ module _ (ask : Ask) (ws txt flat flat′ out out′ : List ℕ) where
   leaves (Listed lines entered) (C.refused n) a = absurd (Option·none-ne-some n (a .0))
   leaves (Refused x) (C.refused n) a = refl
 
-module _ {ws txt : List ℕ} {tab : Table} {request : Request} {query : Str} {flat flat′ out out′ : List ℕ} {got : Listing}
+module _ {ws txt : List ℕ} {tab : Table} {request : Request} {query : Str} {flat flat′ out out′ : List ℕ}
+    {got : Listing}
     (x : Completes ws txt tab request query flat flat′ out out′ got) where
   abbrev answer : Bool → C.Completed (Item (asked (request .ask)))
   answer b = completion b (table-in ws txt tab) (request .ask) (request .budget) (output flat out) query

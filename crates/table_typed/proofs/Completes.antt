@@ -109,7 +109,8 @@ module _ (ask : Ask) (ws txt flat flat′ out out′ : List ℕ) (r : Completed)
       shown lines (c .1) a (omega (arith, h, ap lines-in (c .0))) (e ∙ ap (stored-lines (line-at ask flat′) ls) (ap lines-in (c .0)))
   shown-as (C.refused n) c a h e = e ∙ ap (stored-lines (line-at ask flat′) ls) (refused-none r (c .0))
 
-all-held : (ws txt : List ℕ) (tab : Table) (ask : Ask) (query : Str) (budget : ℕ) (b : Bool) → Says b (IsSound ws txt tab)
+all-held : (ws txt : List ℕ) (tab : Table) (ask : Ask) (query : Str) (budget : ℕ) (b : Bool)
+    → Says b (IsSound ws txt tab)
     → (o : Output) → AnswerHeld (completion b (table-in ws txt tab) ask budget o query)
 unfolding complete complete-modules completed completion-rows first-row argument-rows
 all-held ws txt tab ask query budget true s o = answer-held true (table-in ws txt tab) ask budget o query (sound-table s)

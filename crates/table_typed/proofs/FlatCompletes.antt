@@ -117,7 +117,8 @@ module _ {ws txt : List ℕ} {tab : Table} {q : Request} {query : Str} {room : �
   }
     where
       go : (ask : Ask)
-          → CompletesAs ask (used-words ws (tab .header)) (used-text txt (tab .header)) flat flat out out (Refused Unsound)
+          → CompletesAs ask (used-words ws (tab .header)) (used-text txt (tab .header)) flat flat out out
+          (Refused Unsound)
           (completion false (table-in ws txt tab) ask (q .budget) (output room flat out) query)
       go (Names f) = (refl, refl, refl)
       go (Modules f) = (refl, refl, refl)

@@ -35,7 +35,7 @@ output room flat out =
 -- The lines stand in the first line structs, their items' texts in the table's text, and the structs after are as they were.
 pub record Shown (w : L.Which) (txt : List ℕ) (ls ls′ : List Line) (lines : List (S.Line (L.Item w))) : Type 0 where
   pub first : map (record-seen w txt) (take (length lines) ls′) ≡ map some (output-lines 0 lines)
-  pub inside : Allˡ (λ l. ItemInside (length txt) (l .item)) (take (length lines) ls′)
+  pub inside : Allˡ (λ ln. ItemInside (length txt) (ln .item)) (take (length lines) ls′)
   pub after : drop (length lines) ls′ ≡ drop (length lines) ls
 
 -- By the requirements' answer: listed, the lines are shown; refused, no line has changed.
@@ -52,7 +52,8 @@ module _ (ws txt : List ℕ) (tab : Table) (q : Request) (query : Str) where
   pub record FlatCompletes (room : ℕ) (flat flat′ out out′ : List ℕ) (r : Listing) : Type 0 where
     pub table : r .table ≡ tab
     pub says : (b : Bool) → Says b (IsSound ws txt tab)
-        → CompletesAs (q .ask) (used-words ws (tab .header)) (used-text txt (tab .header)) flat flat′ out out′ (r .answer)
+        → CompletesAs (q .ask) (used-words ws (tab .header)) (used-text txt (tab .header)) flat flat′ out out′
+        (r .answer)
         (answer b (output room flat out))
     pub fit : lines-in (r .answer) ≤ room
     pub lent : lines-in (r .answer) * line-bytes ≤ length flat
@@ -61,7 +62,8 @@ module _ (ws txt : List ℕ) (tab : Table) (q : Request) (query : Str) where
   pub record CompletesLines (ls ls′ : List Line) (flat flat′ out out′ : List ℕ) (r : Listing) : Type 0 where
     pub table : r .table ≡ tab
     pub says : (b : Bool) → Says b (IsSound ws txt tab)
-        → CompletesAs (q .ask) (used-words ws (tab .header)) (used-text txt (tab .header)) flat flat′ out out′ (r .answer)
+        → CompletesAs (q .ask) (used-words ws (tab .header)) (used-text txt (tab .header)) flat flat′ out out′
+        (r .answer)
         (answer b (output (length ls) flat out))
     pub shows : (b : Bool) → Says b (IsSound ws txt tab)
         → ShownAs (q .ask) (used-text txt (tab .header)) ls ls′ (answer b (output (length ls) flat out))

@@ -36,14 +36,14 @@ stored-lines f ls (suc n) = set (stored-lines f ls n) n (f n)
 
 -- The line record of a line with this item.
 abbrev pub record-with : {A : Type 0} → Line → Option A → Option (LineRecord A)
-record-with l none = none
-record-with l (some a) = some (record {
-  match-length = l .«match_length»;
+record-with ln none = none
+record-with ln (some a) = some (record {
+  match-length = ln .«match_length»;
   item-of = a;
-  candidate = record { start = l .candidate .start; len = l .candidate .len };
-  annotation = record { start = l .annotation .start; len = l .annotation .len };
+  candidate = record { start = ln .candidate .start; len = ln .candidate .len };
+  annotation = record { start = ln .annotation .start; len = ln .annotation .len };
 })
 
 -- The line record that a line is, its item's texts in the table's text; none where it has an item of the other table.
 abbrev pub record-seen : (w : Which) → List ℕ → Line → Option (LineRecord (Item w))
-record-seen w txt l = record-with l (item-seen w txt (l .item))
+record-seen w txt ln = record-with ln (item-seen w txt (ln .item))

@@ -30,7 +30,8 @@ pub record Surveying (s : Str) (ok empty long : Bool) (n start i : ℕ) : Type 0
   pub scanned : before-dot (drop start s) ≡ i - start + before-dot (drop i s)
 
 -- One segment more is tested.
-any-more : (p : Str → Bool) (b test : Bool) (q : Query) {r rest : Query} {g : Str} → any p q ≡ b || any p r → r ≡ g ∷ rest
+any-more : (p : Str → Bool) (b test : Bool) (q : Query) {r rest : Query} {g : Str} → any p q ≡ b || any p r
+    → r ≡ g ∷ rest
     → p g ≡ test → any p q ≡ (b || test) || any p rest
 unfolding any
 any-more p b test q {rest = rest} h e k = h ∙ rw (e, k) (sym (or-assoc b test (any p rest)))

@@ -79,49 +79,49 @@ abbrev μ-list-trie : Measures 6 list-trie-kinds.ps ℕ
 μ-list-trie κs a = 6 * a .1 .1 .1 .1 .0 + 5
 
 abbrev list-below-at : ℕ → In 6 list-below-kinds.ps
-list-below-at t = and 6 list-below-kinds.ps (is 6 list-below-kinds.ps μ-list-below t) list-below.Pre
+list-below-at m = and 6 list-below-kinds.ps (is 6 list-below-kinds.ps μ-list-below m) list-below.Pre
 
 abbrev list-below-below : ℕ → In 6 list-below-kinds.ps
-list-below-below t =
-    and 6 list-below-kinds.ps (falls 6 list-below-kinds.ps _<_ μ-list-below t) list-below.Pre
+list-below-below m =
+    and 6 list-below-kinds.ps (falls 6 list-below-kinds.ps _<_ μ-list-below m) list-below.Pre
 
 abbrev list-branch-at : ℕ → In 6 list-branch-kinds.ps
-list-branch-at t =
-    and 6 list-branch-kinds.ps (is 6 list-branch-kinds.ps μ-list-branch t) list-branch.Pre
+list-branch-at m =
+    and 6 list-branch-kinds.ps (is 6 list-branch-kinds.ps μ-list-branch m) list-branch.Pre
 
 abbrev list-branch-below : ℕ → In 6 list-branch-kinds.ps
-list-branch-below t =
-    and 6 list-branch-kinds.ps (falls 6 list-branch-kinds.ps _<_ μ-list-branch t) list-branch.Pre
+list-branch-below m =
+    and 6 list-branch-kinds.ps (falls 6 list-branch-kinds.ps _<_ μ-list-branch m) list-branch.Pre
 
 abbrev list-merged-at : ℕ → In 6 list-merged-kinds.ps
-list-merged-at t =
-    and 6 list-merged-kinds.ps (is 6 list-merged-kinds.ps μ-list-merged t) list-merged.Pre
+list-merged-at m =
+    and 6 list-merged-kinds.ps (is 6 list-merged-kinds.ps μ-list-merged m) list-merged.Pre
 
 abbrev list-merged-below : ℕ → In 6 list-merged-kinds.ps
-list-merged-below t =
-    and 6 list-merged-kinds.ps (falls 6 list-merged-kinds.ps _<_ μ-list-merged t) list-merged.Pre
+list-merged-below m =
+    and 6 list-merged-kinds.ps (falls 6 list-merged-kinds.ps _<_ μ-list-merged m) list-merged.Pre
 
 abbrev list-names-at : ℕ → In 6 list-names-kinds.ps
-list-names-at t =
-    and 6 list-names-kinds.ps (is 6 list-names-kinds.ps μ-list-names t) list-names.Pre
+list-names-at m =
+    and 6 list-names-kinds.ps (is 6 list-names-kinds.ps μ-list-names m) list-names.Pre
 
 abbrev list-names-below : ℕ → In 6 list-names-kinds.ps
-list-names-below t =
-    and 6 list-names-kinds.ps (falls 6 list-names-kinds.ps _<_ μ-list-names t) list-names.Pre
+list-names-below m =
+    and 6 list-names-kinds.ps (falls 6 list-names-kinds.ps _<_ μ-list-names m) list-names.Pre
 
 abbrev list-tree-at : ℕ → In 6 list-tree-kinds.ps
-list-tree-at t = and 6 list-tree-kinds.ps (is 6 list-tree-kinds.ps μ-list-tree t) list-tree.Pre
+list-tree-at m = and 6 list-tree-kinds.ps (is 6 list-tree-kinds.ps μ-list-tree m) list-tree.Pre
 
 abbrev list-tree-below : ℕ → In 6 list-tree-kinds.ps
-list-tree-below t =
-    and 6 list-tree-kinds.ps (falls 6 list-tree-kinds.ps _<_ μ-list-tree t) list-tree.Pre
+list-tree-below m =
+    and 6 list-tree-kinds.ps (falls 6 list-tree-kinds.ps _<_ μ-list-tree m) list-tree.Pre
 
 abbrev list-trie-at : ℕ → In 6 list-trie-kinds.ps
-list-trie-at t = and 6 list-trie-kinds.ps (is 6 list-trie-kinds.ps μ-list-trie t) list-trie.Pre
+list-trie-at m = and 6 list-trie-kinds.ps (is 6 list-trie-kinds.ps μ-list-trie m) list-trie.Pre
 
 abbrev list-trie-below : ℕ → In 6 list-trie-kinds.ps
-list-trie-below t =
-    and 6 list-trie-kinds.ps (falls 6 list-trie-kinds.ps _<_ μ-list-trie t) list-trie.Pre
+list-trie-below m =
+    and 6 list-trie-kinds.ps (falls 6 list-trie-kinds.ps _<_ μ-list-trie m) list-trie.Pre
 
 abbrev list-merged-Inv-loop : list-merged-lts.InvT-loop
 list-merged-Inv-loop words text query place list run₀ flat₀ out₀ budget len rest roots₀ heads₀ beginnings₀ labels n
@@ -271,7 +271,8 @@ pub +list-below+list-branch+list-merged+list-names+list-tree+list-trie-spec : {M
     {- same-length-4 -}
     (λ c. c .before .before .before .before .before .before .before .before .loop .inv .left .out-size)
     {- returns-2 -}
-    (λ c. merging-done (c .before .before .before .before .before .before .before .before .loop .inv) ((rw front-is at (c .before .merge-next .ensures)) .gives _)
+    (λ c. merging-done (c .before .before .before .before .before .before .before .before .loop .inv)
+    ((rw front-is at (c .before .merge-next .ensures)) .gives _)
     (c .if2 .taken))
     {- mul-t51 -}
     (λ c. omega (arith, c .before .merge-next .ensures .small (c .if2 .left)))

@@ -25,29 +25,29 @@ abbrev μ-collect : Measures 7 kinds.ps ℕ
 μ-collect κs a = weight-in (a .0 .now) (a .1 .1 .1 .0 .list)
 
 abbrev at : ℕ → In 7 kinds.ps
-at t = and 7 kinds.ps (is 7 kinds.ps μ-collect t) collect.Pre
+at m = and 7 kinds.ps (is 7 kinds.ps μ-collect m) collect.Pre
 
 abbrev below : ℕ → In 7 kinds.ps
-below t = and 7 kinds.ps (falls 7 kinds.ps _<_ μ-collect t) collect.Pre
+below m = and 7 kinds.ps (falls 7 kinds.ps _<_ μ-collect m) collect.Pre
 
 -- The words read of the first collection.
-seen : (t : ℕ) (c : lts.After-sort-of (
+seen : (m : ℕ) (c : lts.After-sort-of (
   own-of-reads.Asked,
   own-of-reads.Learnt,
   rest-of-reads.Asked,
   rest-of-reads.Learnt,
   sort-of-reads.Asked,
   sort-of-reads.Learnt,
-  below t,
+  below m,
   collect.Post,
   tree-first-reads.Asked,
   tree-first-reads.Learnt,
   set-head-reads.Asked,
   set-head-reads.Learnt,
-) (at t) collect.Post)
+) (at m) collect.Post)
     → (let a = c .before .before .before .before .before .before .before .args in
     Seen (a .words .now) (a .text .now) (a .part .list) (c .before .before .own-of .result) (c .before .rest-of .result) (c .sort-of .result))
-seen t c = let s2 = c .before .before in record {
+seen m c = let s2 = c .before .before in record {
   any = s2 .before .before .before .before .before .pre .1 .0;
   some = omega (arith, s2 .before .if1 .left);
   own-is = s2 .own-of .ensures;
