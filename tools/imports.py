@@ -31,6 +31,7 @@ def swept(text, rattle):
     text = re.sub(r'^((?:pub )?(?:ghost )?use [^{};\n]+\.\{)\n((?:[^}])*)\}', lambda m: m.group(1) + ' '.join(m.group(2).split()).rstrip(',') + '}', text, flags=re.M)
     lines = text.split('\n')
     body = '\n'.join(l for l in lines if not USE.match(l) or l.lstrip().startswith('pub use'))
+    body = re.sub(r'"[^"\n]*"', '', body)
     body = re.sub(r'//.*' if rattle else r'--.*', '', body)
     kept, gone = [], []
     for line in lines:

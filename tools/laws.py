@@ -55,7 +55,7 @@ def names_in(text, by_name, places):
 
 def main():
     files = [p for p in sorted(glob.glob('crates/*/**/*', recursive=True)) if p.endswith(('.rt', '.antt')) and '/must-fail/' not in p]
-    texts = {p: re.sub(r'--.*' if p.endswith('.antt') else r'//.*', '', open(p, encoding='utf-8').read()) for p in files}
+    texts = {p: re.sub(r'--.*' if p.endswith('.antt') else r'//.*', '', re.sub(r'"[^"\n]*"', '', open(p, encoding='utf-8').read())) for p in files}
     docs = ''.join(open(p, encoding='utf-8').read() for p in glob.glob('docs/*.md') + ['README.md'])
     documented = set(re.findall(r'`([^`\s]+)`', docs))
     laws, roots = [], []

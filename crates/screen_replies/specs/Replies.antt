@@ -1,7 +1,5 @@
 -- Replies as numbers, by what crate table hands back.
 use Prim.Native.Nat.{ℕ}
-use mathlib.Core.Path.{_≡_}
-use mathlib.Core.Logic.{_⊎_}
 use mathlib.Core.Bool.{Bool, true, false}
 use Rattle.source.specs.Items.{kind-number}
 use Rattle.source.specs.Calls as C
@@ -23,10 +21,6 @@ use Rattle.screen_replies.specs.declared.SharedReply.{SharedReply}
 -- The answer of a look-up that finds nothing: no refusal has this number.
 abbrev pub no-answer : ℕ
 no-answer = 4294967295
-
--- The answer of a look-up that is not refused.
-abbrev pub Answered : ℕ → Type 0
-Answered a = (a ≡ 0) ⊎ (a ≡ no-answer)
 
 -- The reply to a look-up of a name: 0 with the kind and number of the item, no-answer, else the number of the refusal.
 abbrev pub name-reply : C.Found LidSymbol → NameReply
