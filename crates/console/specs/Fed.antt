@@ -36,7 +36,7 @@ pub record Rests (ws txt ws′ txt′ input input′ : List ℕ) (out : Output) 
   pub short : r .written ≡ true
       → (r .feed .from ≡ 0) × (r .feed .have ≤ bytes-kept) × All Line (pending (r .feed) input′)
 
--- The end of the input is answered, and its reply was handed on to be written.
+-- The end of the input is answered; of the writing of its reply no more is known than `Put` says.
 pub record Closes (ws txt ws′ txt′ : List ℕ) (f : Feed) (input flat flat′ pane pane′ reply reply′ : List ℕ)
     (r : Bool) : Type 0 where
   pub done : Done
