@@ -6,7 +6,7 @@ use mathlib.Core.List.{[], _∷_}
 use native.Mathlib.Decide.{ℕ-discrete}
 use native.Mathlib.Omega.{arith}
 use native.Mathlib.Numerals.{add-one}
-use lib.Dec.{eqb, leb, leb·zero, leb·suc-zero, leb·suc-suc}
+use lib.Dec.{eqb, isEq, leb, leb·zero, leb·suc-zero, leb·suc-suc}
 use borrow.Author.Tests.{eq-eqb, ne-eqb}
 use lib.ListN.{length, getD, take, drop, length-drop, drop-of-length-le}
 use lib.Seq.{drop-cons, take-all}
@@ -157,3 +157,7 @@ module _ {p : ℕ → Bool} {s : Str} {ok : Bool} {i : ℕ} (f : Passing p s ok 
   pub pass-end : length s ≤ i → ok ≡ all p s
   unfolding all
   pass-end h = rw (f .says, drop-of-length-le s h) (sym (and-true ok))
+
+-- Whether two texts are equal, by which of the three orders it is.
+pub same-order : {o k : Order} {y : Ordering} → ordering o ≡ y → o ≡ k → isEq (ordering k) ≡ isEq y
+same-order e f = ap isEq (ap ordering (sym f) ∙ e)

@@ -1,16 +1,9 @@
 -- `merge::same_key` meets its contract.
-use Prim.Native.Nat.{Ordering}
-use mathlib.Core.Path.{_≡_, sym, ap, _∙_}
 use borrow.Author.Needs.{needs}
-use lib.Dec.{isEq}
-use Rattle.text.specs.Text.{ordering}
-use Rattle.text.specs.declared.Order.{Order}
+use Rattle.text.proofs.Texts.{same-order}
 use Rattle.find_tree.proofs.Branches.{tree-fits, key-inside}
 use Rattle.merge.proofs.same_key.Statement.{statement}
 use Rattle.merge.proofs.same_key.Tie as tie
-
-told : {o k : Order} {y : Ordering} → ordering o ≡ y → o ≡ k → isEq (ordering k) ≡ isEq y
-told e f = ap isEq (ap ordering (sym f) ∙ e)
 
 pub same-key-spec : {M : Type 1} → statement M
 same-key-spec =
@@ -27,8 +20,8 @@ same-key-spec =
     {- enum-told-3 -}
     (λ c. search needs)
     {- returns -}
-    (λ c. told (rw (c .before .before .before .key-of .ensures) at (c .before .before .key-order .ensures)) (c .enum-told .given .1))
+    (λ c. same-order (rw (c .before .before .before .key-of .ensures) at (c .before .before .key-order .ensures)) (c .enum-told .given .1))
     {- returns-2 -}
-    (λ c. told (rw (c .before .before .before .key-of .ensures) at (c .before .before .key-order .ensures)) (c .enum-told2 .given .1))
+    (λ c. same-order (rw (c .before .before .before .key-of .ensures) at (c .before .before .key-order .ensures)) (c .enum-told2 .given .1))
     {- returns-3 -}
-    (λ c. told (rw (c .before .before .before .key-of .ensures) at (c .before .before .key-order .ensures)) (c .enum-told3 .given .1)))
+    (λ c. same-order (rw (c .before .before .before .key-of .ensures) at (c .before .before .key-order .ensures)) (c .enum-told3 .given .1)))
