@@ -1,16 +1,9 @@
 -- At the root no element was matched: the match length is -1.
-use mathlib.Core.Path.{refl}
 use mathlib.Core.List.{[]}
 use lib.IntN.{negsuc}
 use Rattle.source.specs.Text.{Query}
-use Rattle.source.specs.Calls.{signed-word}
 use Rattle.source.proofs.Paths.{match-length-none}
-use Rattle.listing_output.specs.Run.{Told}
 use Rattle.listing_step.specs.Steps.{Matching}
 
 pub root-matching : (q : Query) → Matching [] q (negsuc 0)
 root-matching q = record { length-is = match-length-none [] tt; all-matched = λ n. tt }
-
-pub root-told : Told (negsuc 0)
-unfolding signed-word
-root-told = refl

@@ -65,8 +65,8 @@ module _ (ws txt : List ℕ) (m k : ℕ) {w : Which} {so : Sort} {x : ℕ} (t : 
   pub part-text : take (t .used) txt ≡ take (t .used) (take k txt)
   part-text = sym (take-take (t .used) k txt (omega (arith, length-take k txt, t .sound .text-fits)))
 
-  pub part-record : 0 < x → record-at ws x ≡ record-at (take m ws) x
-  part-record p = record-same (t .records) (take m ws) ws part-words x p (omega (arith, t .link .earlier))
+  pub part-record-at : 0 < x → record-at ws x ≡ record-at (take m ws) x
+  part-record-at p = record-same (t .records) (take m ws) ws part-words x p (omega (arith, t .link .earlier))
 
   pub part-at : At ws txt w so x
   part-at = record {

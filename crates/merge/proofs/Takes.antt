@@ -136,8 +136,8 @@ module _ {ws txt : List ℕ} {w : Which} {ℓ : Level} {x : ℕ} {p : Str} {n ro
     head-set : getD (set heads c r) c 0 ≡ r
     head-set = getD-set-same heads c r 0 (omega (arith, small, g .full .of-heads))
 
-    head-other : (j : ℕ) → j < n → (j ≡ c → ⊥) → getD (set heads c r) j 0 ≡ getD heads j 0
-    head-other j l ne = getD-set-other heads c j r 0 ne
+    head-other : (j : ℕ) → (j ≡ c → ⊥) → getD (set heads c r) j 0 ≡ getD heads j 0
+    head-other j ne = getD-set-other heads c j r 0 ne
 
     val-next : put-back (entry-key ws txt) (val c) (heap-map val others)
         ≡ heap-insert (run-cmp (entry-key ws txt)) (heap-map val others) (val′ c)
@@ -170,15 +170,15 @@ module _ {ws txt : List ℕ} {w : Which} {ℓ : Level} {x : ℕ} {p : Str} {n ro
                   root-link = k .root-link;
                   branch = elim (ℕ-discrete j c) [
                     | yes q ↦ rw (q, head-set) (next-branch g below next-match)
-                    | no ne ↦ rw (head-other j l ne) (k .branch)
+                    | no ne ↦ rw (head-other j ne) (k .branch)
                   ];
                   among = elim (ℕ-discrete j c) [
                     | yes q ↦ rw (q, head-set) (λ z. next-match .match .among)
-                    | no ne ↦ rw (head-other j l ne) (k .among)
+                    | no ne ↦ rw (head-other j ne) (k .among)
                   ];
                   begins = elim (ℕ-discrete j c) [
                     | yes q ↦ rw (q, head-set) (next-match .match .begins)
-                    | no ne ↦ rw (head-other j l ne) (k .begins)
+                    | no ne ↦ rw (head-other j ne) (k .begins)
                   ];
                   label-ok = k .label-ok;
                 };
@@ -199,7 +199,7 @@ module _ {ws txt : List ℕ} {w : Which} {ℓ : Level} {x : ℕ} {p : Str} {n ro
               ∙ stands-insert (entry-key ws txt) ws txt (set heads c r) n val′
               (λ j l. cell-stands ws txt p roots (set heads c r) labels j) val c below
               (λ j l ne. run-same ws txt p roots heads roots (set heads c r) labels j refl
-              (sym (head-other j l ne)))
+              (sym (head-other j ne)))
               others (rep-below n child′ next′ (g .few) (made .rep)) free);
           fewer = remaining-less ws txt p roots heads roots (set heads c r) c
               (λ j l ne. (refl, getD-set-other heads c j r 0 ne)) n (g .few) below

@@ -8,7 +8,7 @@ use Rattle.source.specs.Calls.{LineRecord}
 use Rattle.source.specs.Shared.{Allˡ}
 use Rattle.memory.specs.Layout.{Which, Item}
 use Rattle.memory.proofs.Keeps.{item-same}
-use Rattle.memory_table.proofs.UsedPart.{part-text, part-record, part-at}
+use Rattle.memory_table.proofs.UsedPart.{part-text, part-record-at, part-at}
 use Rattle.listing_output.specs.Output.{item-words, line-of, line-words, RowFrom, Written}
 use Rattle.listing_row.proofs.Inside.{row-ok}
 
@@ -19,7 +19,7 @@ module _ (ws txt : List ℕ) (m k : ℕ) (w : Which) where
       record {
         branch = f .branch;
         at = record { some = b .some; at = part-at ws txt m k (b .at) };
-        item-is = f .item-is ∙ ap item-words (sym (part-record ws txt m k (b .at) (b .some)));
+        item-is = f .item-is ∙ ap item-words (sym (part-record-at ws txt m k (b .at) (b .some)));
         last = f .last;
       }
 

@@ -5,12 +5,13 @@ use native.Mathlib.Omega.{arith}
 use Rattle.listing.proofs.Completes.{root-ready, root-runs, root-shows, flat-kept, out-kept, writes-then, set-small, all-fit, completes-spent}
 use Rattle.listing.proofs.Completes.{completes-past, completes-listed}
 use Rattle.listing.proofs.Admitted.{query-whole}
-use Rattle.listing_start.proofs.Outset.{root-told}
+use Rattle.source.specs.Calls.{signed-word}
 use borrow.Author.Needs.{needs}
 use Rattle.listing.proofs.complete.Statement.{statement}
 use Rattle.listing.proofs.complete.Tie as tie
 
 pub complete-spec : {M : Type 1} → statement M
+unfolding signed-word
 complete-spec =
     tie.close
     (tie.spec
@@ -47,7 +48,7 @@ complete-spec =
             lines-are = c .before .before .before .before .before .before .lines-lent .ensures;
             bytes-are = c .before .before .before .before .before .lent .ensures;
           }));
-      told = root-told;
+      told = refl;
     }))
     {- same-length -}
     (λ c. search needs)
@@ -124,7 +125,7 @@ complete-spec =
             bytes-are = (let u = c .before .before .before .before .before .before .before .before .before .before .before .before .before .before in
                 u .before .before .before .lent .ensures);
           }));
-      told = root-told;
+      told = refl;
     }))
     {- cast-t41 -}
     (λ c. let s = c .before .before .before .before .before .before .before .before .before .before in

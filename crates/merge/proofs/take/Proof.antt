@@ -30,7 +30,7 @@ least : (c : lts.After-known-told (
     (s .beginnings .now) (s .child .now) (s .next .now) (l .0) (l .1 .0) (q .0) (q .1 .0))
 least c = let s2 = c .before .before .before .before .before .before .before .before .before .before .before in
     record {
-      ready = (s2 .pre);
+      ready = s2 .pre;
       pops = rw (c .before .cell .given .1) at (c .before .before .before .heap-pop .ensures _ (s2 .pre .holding .few));
     }
 
