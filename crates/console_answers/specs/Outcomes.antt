@@ -22,7 +22,7 @@ import-call OpenNamespace host q = C.opens false host q
 
 -- What a line that says a command does, where so much memory and so much output is lent.
 abbrev pub outcome : Lent → Output → State → Command → Outcome
-outcome lent out σ (name host id n) = registration σ (register true lent σ (C.name host id n))
+outcome lent out σ (name host id item) = registration σ (register true lent σ (C.name host id item))
 outcome lent out σ (import how host q) = registration σ (register true lent σ (import-call how host q))
 outcome lent out σ (alias word host q) = registration σ (register true lent σ (C.alias word host q))
 outcome lent out σ (module-path loaded q path) = registration σ (register true lent σ (C.module-path loaded q path))
@@ -30,7 +30,7 @@ outcome lent out σ (ask what q) = record { text = asked-text out (σ .table) wh
 
 -- The registration that a command asks for, none of a question.
 abbrev pub command-call : Command → Option Call
-command-call (name host id n) = some (C.name host id n)
+command-call (name host id item) = some (C.name host id item)
 command-call (import how host q) = some (import-call how host q)
 command-call (alias word host q) = some (C.alias word host q)
 command-call (module-path loaded q path) = some (C.module-path loaded q path)

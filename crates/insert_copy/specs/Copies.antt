@@ -4,11 +4,11 @@ use mathlib.Core.Path.{_≡_}
 use mathlib.Core.Bool.{Bool, true, cond, _||_}
 use mathlib.Core.List.{List}
 use lib.Dec.{eqb}
-use lib.ListN.{length, set}
+use lib.ListN.{length}
 use Rattle.source.specs.Limits.{deepest-trie, most-used, record-words}
 use Rattle.memory.specs.Layout.{record-at, kind-word, text-start, text-len, left-link, right-link, trie-link, note-link, note-side, kind}
 use Rattle.memory.specs.Stored.{depth-in, left-in, right-in}
-use Rattle.memory.specs.Made.{sided-row}
+use Rattle.memory.specs.Made.{sided-row, keyed-row}
 
 -- The link and the side that record number n notes.
 abbrev pub noted-link : List ℕ → ℕ → ℕ
@@ -55,7 +55,7 @@ pub record RaiseOk (ws : List ℕ) (n : ℕ) : Type 0 where
 
 -- The words of a branch with the key of the branch that link x names.
 unfoldable pub with-key : List ℕ → List ℕ → ℕ → List ℕ
-with-key ws r x = set (set r 1 (text-start (record-at ws x))) 2 (text-len (record-at ws x))
+with-key ws r x = keyed-row r (text-start (record-at ws x)) (text-len (record-at ws x))
 
 -- The new branch r with the key and the sides of the branch that record number n notes; as it is, without sides, where none is noted.
 unfoldable pub lowest-row : List ℕ → ℕ → List ℕ → List ℕ

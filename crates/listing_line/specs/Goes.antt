@@ -43,12 +43,12 @@ pub record Fit (lim : Limits) (flat out : List ℕ) (e n b : ℕ) : Type 0 where
   pub out-lent : lim .bytes ≤ length out
 
 -- The run went on by the part r: it is counted, and where all fits it is written.
-pub record Goes (w : Which) (ws txt : List ℕ) (lim : Limits) (a τ : Tally) (flat flat′ out out′ : List ℕ)
+pub record Goes (w : Which) (ws txt : List ℕ) (lim : Limits) (τ τ′ : Tally) (flat flat′ out out′ : List ℕ)
     (r : Result (Item w)) : Type 0 where
   pub flat-size : length flat′ ≡ length flat
   pub out-size : length out′ ≡ length out
-  pub shows : (e n b : ℕ) → Shows lim e n b a
-      → Shows lim (e + r .entered) (n + length (r .lines)) (b + length (output-text (r .lines))) τ
-  pub writes : (e n b : ℕ) → Shows lim e n b a
+  pub shows : (e n b : ℕ) → Shows lim e n b τ
+      → Shows lim (e + r .entered) (n + length (r .lines)) (b + length (output-text (r .lines))) τ′
+  pub writes : (e n b : ℕ) → Shows lim e n b τ
       → Fit lim flat out (e + r .entered) (n + length (r .lines)) (b + length (output-text (r .lines)))
       → Written w ws txt flat flat′ out out′ n b (r .lines)

@@ -98,9 +98,9 @@ module _ (ws txt : List ℕ) (ask : Ask) (rest : Str) (p : Path) (lim : Limits) 
     pub room : p .n + depth (what (asked ask) ws txt trie trieˢ) ≤ deepest-trie
 
   -- The run went on by what is listed, wherever in the source's listing it stands.
-  module _ (matched : ℤ) (a τ : Tally) (flat flat′ out out′ : List ℕ) where
+  module _ (matched : ℤ) (τ τ′ : Tally) (flat flat′ out out′ : List ℕ) where
     abbrev Went : Result (Item (asked ask)) → Type 0
-    Went r = Goes (asked ask) ws txt lim a τ flat flat′ out out′ r
+    Went r = Goes (asked ask) ws txt lim τ τ′ flat flat′ out out′ r
 
     -- By an element that the branch and the label show.
     pub record BranchRuns (leaf : Bool) (branch label : ℕ) : Type 0 where

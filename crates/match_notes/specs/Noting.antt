@@ -23,11 +23,11 @@ to-come ws txt prefix notes (suc n) =
 abbrev pub passing : (ws txt : List ℕ) (prefix : Str) → (Str → Bool) → ℕ → List ℕ
 passing ws txt prefix b m = keep (key-at ws txt) b (matches ws txt m prefix)
 
--- The list xs begins with the matches of the tree m that pass b.
-pub record Ahead (ws txt : List ℕ) (prefix : Str) (b : Str → Bool) (xs : List ℕ) (m : ℕ) : Type 0 where
-  pub any : AnyTree ws txt m
+-- The list xs begins with the matches of the tree x that pass b.
+pub record Ahead (ws txt : List ℕ) (prefix : Str) (b : Str → Bool) (xs : List ℕ) (x : ℕ) : Type 0 where
+  pub any : AnyTree ws txt x
   pub rest : List ℕ
-  pub says : xs ≡ passing ws txt prefix b m ++ rest
+  pub says : xs ≡ passing ws txt prefix b x ++ rest
 
 -- A branch that matches, and the same of its tree.
 pub record NoteOk (ws txt : List ℕ) (prefix : Str) (b : Str → Bool) (xs : List ℕ) (x : ℕ) : Type 0 where

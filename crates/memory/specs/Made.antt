@@ -26,6 +26,10 @@ symbol-row key (Namespace name loaded) =
 abbrev pub namespace-row : ℕ → Span → ℕ → List ℕ
 namespace-row of key trie = (of + 2) ∷ key .start ∷ key .len ∷ 0 ∷ 0 ∷ trie ∷ 0 ∷ 0 ∷ 0 ∷ 0 ∷ 0 ∷ 0 ∷ []
 
+-- A branch with another key.
+abbrev pub keyed-row : List ℕ → (start len : ℕ) → List ℕ
+keyed-row r start len = set (set r 1 start) 2 len
+
 -- A branch with other sides and another depth.
 abbrev pub sided-row : List ℕ → (left right depth : ℕ) → List ℕ
 sided-row r left right depth = set (set (set r 3 left) 4 right) 11 depth
