@@ -2,6 +2,7 @@
 // What is read and written no contract can say: crate console_feed says what the replies are, and here its steps are fed.
 // Replies are written out before each read, so that whoever types a line sees its reply. A read or a write that fails ends the program,
 // and nothing of a partial line is executed.
+#![tactic(auto)]
 ghost use Rattle.std.specs.Prelude.{◌≤◌, length};
 ghost use Rattle.listing.specs.Completes.{output};
 ghost use Rattle.table.specs.Header.{IsSound};
@@ -14,7 +15,7 @@ use libc::STDOUT_FILENO;
 use table::Table;
 
 // What is left after a read was answered, and whether every reply was written.
-#[derive(Drop)]
+#[derive(Clone, Copy)]
 struct AfterRead {
     feed: Feed,
     written: bool,

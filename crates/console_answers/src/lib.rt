@@ -1,5 +1,6 @@
 // What the program `console` answers to a line: it is read, its call is made on a table that is sound by proof, its reply is written.
 // A line that is no form is `[bad]`, and changes nothing.
+#![tactic(auto)]
 ghost use Rattle.std.specs.Prelude.{◌≡◌, ◌+◌, ◌≤◌, length};
 ghost use Rattle.script_parts.specs.Parts.{Within, part_of};
 ghost use Rattle.table.specs.Header.{IsSound};
@@ -14,7 +15,7 @@ use script_parts::Extent;
 use table::Table;
 
 // The table after some lines of an input, where their replies end, and where the next line starts.
-#[derive(Drop)]
+#[derive(Clone, Copy)]
 pub struct AfterLines {
     pub table: Table,
     pub end: usize,

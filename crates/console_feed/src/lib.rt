@@ -1,6 +1,7 @@
 // The program `console` as steps over bytes: what is kept of the last read, the table and the next bytes go in, replies come out.
 // `main` reads bytes to the end of what is kept, and writes the replies of each step. proofs/Run.antt: whatever the reads are, the
 // replies are the session of the input's lines.
+#![tactic(auto)]
 ghost use Rattle.std.specs.Prelude.{◌≤◌, length};
 ghost use Rattle.table.specs.Header.{IsSound};
 ghost use Rattle.console_questions.specs.RowReplies.{room};
@@ -10,7 +11,7 @@ use console_registrations::Done;
 use table::Table;
 
 // The table, and which bytes of the input text are not answered yet: those from `from` up to `have`.
-#[derive(Drop)]
+#[derive(Clone, Copy)]
 pub struct Feed {
     pub table: Table,
     pub from: usize,
@@ -18,7 +19,7 @@ pub struct Feed {
 }
 
 // What a step leaves, where its replies end, and whether whole lines may be left.
-#[derive(Drop)]
+#[derive(Clone, Copy)]
 pub struct Progress {
     pub feed: Feed,
     pub end: usize,

@@ -1,4 +1,5 @@
 // The line of a question answered: a look-up or a completion of a table whose memory is sound by proof, and its reply.
+#![tactic(auto)]
 ghost use Rattle.std.specs.Prelude.{◌≡◌, ◌+◌, ◌≤◌, length};
 ghost use Rattle.text.specs.Laid.{Laid};
 ghost use Rattle.script_replies.specs.Replies.{reply_room};
@@ -116,7 +117,7 @@ fn put_completed(
 }
 
 // The table that is asked, and where its reply begins.
-#[derive(Drop)]
+#[derive(Clone, Copy)]
 pub struct Asking {
     pub table: Table,
     pub at: usize,

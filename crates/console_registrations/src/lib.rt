@@ -1,4 +1,5 @@
 // The line of a registration answered: its call is made on a table whose memory is sound by proof, and its reply is written.
+#![tactic(auto)]
 ghost use Rattle.std.specs.Prelude.{◌+◌, ◌≤◌, length};
 ghost use Rattle.text.specs.Laid.{Laid};
 ghost use Rattle.register_kind.specs.Shapes.{call_of};
@@ -10,7 +11,7 @@ use register_kind::Entry;
 use table::{Registered, Registration, Table};
 
 // The table after the lines so far, and where their replies end.
-#[derive(Drop)]
+#[derive(Clone, Copy)]
 pub struct Done {
     pub table: Table,
     pub end: usize,

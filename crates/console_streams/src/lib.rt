@@ -1,4 +1,5 @@
 // What the program `console` reads and writes: standard input, a text, its help.
+#![tactic(auto)]
 pub mod help;
 
 ghost use Rattle.std.specs.Prelude.{◌≤◌, length};
@@ -8,7 +9,7 @@ ghost use Rattle.console_streams.specs.Put.{Put};
 use libc::STDIN_FILENO;
 
 // How many bytes there are after a read, whether it failed, and whether it was only interrupted.
-#[derive(Drop)]
+#[derive(Clone, Copy)]
 pub struct Got {
     pub n: usize,
     pub failed: bool,

@@ -1,11 +1,12 @@
 // Lists of collections of the record memory: find, and the place of a key.
 // A list is the link of its first collection; the same functions serve both tables and both levels.
+#![tactic(auto)]
 ghost use Rattle.std.specs.Prelude.{◌*◌, ◌≤◌, length};
 ghost use Rattle.source.specs.Limits.{record_words};
 ghost use Rattle.find_list.specs.Names.{AnyList, Led, Holder, NamesPlaced};
 
 // The tree that a list begins with, 0 for none, and the rest after it.
-#[derive(Drop)]
+#[derive(Clone, Copy)]
 pub struct Lead {
     pub tree: u32,
     pub rest: u32,
@@ -53,7 +54,7 @@ pub fn names_find_exact(words: &[u32], text: &[u8], list: u32, key: &[u8]) -> u3
 }
 
 // The branch of the first holder of a key, 0 for none; how many branches an insertion of the key builds; the weight of the list that it gives.
-#[derive(Drop)]
+#[derive(Clone, Copy)]
 pub struct NamesPlace {
     pub holder: u32,
     pub count: u32,

@@ -1,5 +1,6 @@
 // One tree of the record memory: a key beside that of a branch, and the place of a key.
 // A tree is the link of its root; the same functions serve both tables and both levels.
+#![tactic(auto)]
 ghost use Rattle.std.specs.Prelude.{◌≡◌, ◌<◌};
 ghost use Rattle.source.specs.Text.{string_compare, starts_with};
 ghost use Rattle.memory.specs.Layout.{key_at};
@@ -27,7 +28,7 @@ pub fn key_begins(words: &[u32], text: &[u8], link: u32, prefix: &[u8]) -> bool
 }
 
 // Where a key stands in a tree: its branch, 0 for none, and how many branches an insertion builds.
-#[derive(Drop)]
+#[derive(Clone, Copy)]
 pub struct Place {
     pub link: u32,
     pub count: u32,

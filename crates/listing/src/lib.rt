@@ -1,4 +1,5 @@
 // Completion on a root, of a query that is admitted: rows 9 and 10, counted before anything is written.
+#![tactic(auto)]
 ghost use Rattle.std.specs.Prelude.{◌≡◌, true, [], ◌∷◌};
 ghost use Rattle.std.proofs.Math.Option.{none};
 ghost use Rattle.source.specs.Calls.{a_completion, first_row, argument_rows};
@@ -12,7 +13,7 @@ use listing_output::Want;
 use refusals::Refusal;
 
 // The answer of a completion: how many lines and tries entered, or a refusal.
-#[derive(Drop)]
+#[derive(Clone, Copy)]
 pub enum Completed {
     Listed(u32, u32),
     Refused(Refusal),

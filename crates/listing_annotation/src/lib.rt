@@ -1,4 +1,5 @@
 // What stands beside a found branch in a listing: its annotation, and whether a filter keeps it.
+#![tactic(auto)]
 ghost use Rattle.std.specs.Prelude.{◌≡◌, ℕ, ◌*◌, ◌<◌, ◌≤◌, List, length};
 ghost use Rattle.source.specs.Items.{same_kind};
 ghost use Rattle.source.specs.Limits.{record_words, most_used};
@@ -14,7 +15,7 @@ use memory::ModSymbol;
 use source::{ItemKind, KindFilter};
 
 // A branch or a tree that was found, and the collection of its outermost label, 0 for none.
-#[derive(Drop)]
+#[derive(Clone, Copy)]
 pub struct Labelled {
     pub link: u32,
     pub label: u32,

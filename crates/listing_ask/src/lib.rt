@@ -1,4 +1,5 @@
 // What a completion asks: names, or modules and namespaces, with a filter; and what the filter of modules keeps.
+#![tactic(auto)]
 ghost use Rattle.std.specs.Prelude.{◌≡◌};
 ghost use Rattle.source.specs.Text.{Str};
 ghost use Rattle.source.specs.Table.{Module, Namespace};
@@ -9,7 +10,7 @@ ghost use Rattle.listing_ask.specs.Ask.{filter_in};
 use source::KindFilter;
 
 // The filter of modules: Loaded is of either sort. That of names is source's KindFilter.
-#[derive(Drop)]
+#[derive(Clone, Copy)]
 pub enum Filter {
     All,
     Loaded,
@@ -18,14 +19,14 @@ pub enum Filter {
 }
 
 // What a completion asks: names, or modules and namespaces, with a filter.
-#[derive(Drop)]
+#[derive(Clone, Copy)]
 pub enum Ask {
     Names(KindFilter),
     Modules(Filter),
 }
 
 // What a completion is asked, beside its query: which lines, and how many tries it may enter.
-#[derive(Drop)]
+#[derive(Clone, Copy)]
 pub struct Request {
     pub ask: Ask,
     pub budget: u32,

@@ -1,4 +1,5 @@
 // The writing of one line into the lent output: its candidate, its annotation, its twelve words.
+#![tactic(auto)]
 ghost use Rattle.std.specs.Prelude.{◌≡◌, ◌+◌, ◌*◌, ◌<◌, ◌≤◌, length};
 ghost use Rattle.source.specs.Limits.{record_words};
 ghost use Rattle.memory.specs.Layout.{record_at, key_at};
@@ -9,7 +10,7 @@ ghost use Rattle.listing_output.specs.Parts.{TextAt, PathAt, JobOk, LineFits, ca
 use listing_ask::Ask;
 
 // What is wanted of a branch or a trie: what is asked, and the match length of what is listed.
-#[derive(Drop)]
+#[derive(Clone, Copy)]
 pub struct Want {
     pub ask: Ask,
     pub matched: i32,

@@ -1,4 +1,5 @@
 // A listing read back from the lent output: each row as a struct, and its texts as parts of the text that they are in.
+#![tactic(auto)]
 ghost use Rattle.std.specs.Prelude.{◌≡◌, ◌+◌, ◌*◌, ◌≤◌, length};
 ghost use Rattle.memory.specs.Layout.{record_at};
 ghost use Rattle.memory.specs.Read.{text_of};
@@ -22,14 +23,14 @@ const ANNOTATION_START: usize = 3;
 const ANNOTATION_LEN: usize = 4;
 
 // The item of a row: of names its kind and number, of modules and namespaces the mod symbol, whose spans are in the table text.
-#[derive(Drop)]
+#[derive(Clone, Copy)]
 pub enum RowItem {
     Name(LidSymbol),
     Symbol(ModSymbol),
 }
 
 // A row. Its match length is a word, 4294967295 for -1; its spans are in the output text.
-#[derive(Drop)]
+#[derive(Clone, Copy)]
 pub struct Row {
     pub matched: u32,
     pub item: RowItem,

@@ -1,4 +1,5 @@
 // The steps between two lists of a run: the cut of the query, the limits, the path.
+#![tactic(auto)]
 ghost use Rattle.std.specs.Prelude.{◌≡◌, true, ◌+◌, ◌*◌, ◌≤◌, ◌<◌, length};
 ghost use Rattle.source.specs.Limits.{longest_query, deepest_trie, record_words};
 ghost use Rattle.source.specs.Text.{ends_in_dot};
@@ -9,7 +10,7 @@ use listing_annotation::Labelled;
 use listing_output::Want;
 
 // Where a query is cut: the first segment's length, where the rest begins, and what is wanted of what the segment takes.
-#[derive(Drop)]
+#[derive(Clone, Copy)]
 pub struct Cut {
     pub len: usize,
     pub next: usize,
@@ -63,7 +64,7 @@ pub fn begin(run: &mut [usize; listing_output::RUN])
 }
 
 // What a run has again when it leaves a namespace: the numbers of its path.
-#[derive(Drop)]
+#[derive(Clone, Copy)]
 pub struct Before {
     pub n: usize,
     pub len: usize,

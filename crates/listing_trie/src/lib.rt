@@ -1,6 +1,7 @@
 // The listing of a trie: bindings ascending, then each namespace ascending with its own listing.
 // One run serves counting and writing: a line is written where it fits what is lent, and counting lends nothing.
 // The calls go no deeper than six to a trie, and tries no deeper than 17. The listing of a trie, and of a branch, returns the tries entered so far.
+#![tactic(auto)]
 ghost use Rattle.std.specs.Prelude.{true, false, ◌+◌, ◌<◌};
 ghost use Rattle.listing_trie.specs.Runs.{BranchAsked, BranchListed, TreeAsked, TreeListed, ListAsked, ListListed, TrieAsked, TrieListed};
 
@@ -9,7 +10,7 @@ use listing_output::Want;
 use merge::Cursor;
 
 // Where a run stands in a trie: what is wanted, whether the list is of bindings, and where the query is cut.
-#[derive(Drop)]
+#[derive(Clone, Copy)]
 struct Search {
     want: Want,
     leaf: bool,

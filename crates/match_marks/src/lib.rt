@@ -1,5 +1,6 @@
 // The array of notes: branches still to come, and marks of those whose notes were dropped.
 // Where the notes are full they are dropped, and the first of them is marked. Marks are near or far, a far one for as many near ones as there is room for.
+#![tactic(auto)]
 ghost use Rattle.std.specs.Prelude.{◌<◌};
 ghost use Rattle.match_marks.specs.Marks.{Fits, PartOk, PutAt, Marks, MarkTaken, NotedAt, LastNote};
 
@@ -26,7 +27,7 @@ pub const DROPPED: usize = 63;
 pub const NOTES: usize = 64;
 
 // A branch, 0 for none, and how many notes there are beside what is to its right.
-#[derive(Drop)]
+#[derive(Clone, Copy)]
 pub struct Next {
     pub link: u32,
     pub n: usize,

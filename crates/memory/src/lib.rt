@@ -1,5 +1,6 @@
 // Records in the lent words: the words by name, what a record holds as structs.
 // specs/Layout.antt has the layout, specs/Sound.antt what a right record is; crate memory_access reads and makes records.
+#![tactic(auto)]
 
 // The words, kinds and limits by name.
 mod layout;
@@ -14,21 +15,21 @@ pub use layout::{
 };
 
 // A text: a start and a length in the lent text.
-#[derive(Drop)]
+#[derive(Clone, Copy)]
 pub struct Span {
     pub start: u32,
     pub len: u32,
 }
 
 // mod_symbol: a Module has its full name, file path and whether it is loaded, a Namespace its full name and whether it is loaded.
-#[derive(Drop)]
+#[derive(Clone, Copy)]
 pub enum ModSymbol {
     Module(Span, Span, bool),
     Namespace(Span, bool),
 }
 
 // A branch: its value is the item's number or the trie's link; its symbol is for the module table.
-#[derive(Drop)]
+#[derive(Clone, Copy)]
 pub struct Branch {
     pub key: Span,
     pub left: u32,
@@ -38,7 +39,7 @@ pub struct Branch {
 }
 
 // A collection: its own link is a tree, or a list if it is imported.
-#[derive(Drop)]
+#[derive(Clone, Copy)]
 pub struct Collection {
     pub imported: bool,
     pub label: Span,
@@ -48,7 +49,7 @@ pub struct Collection {
 }
 
 // A trie: the links of its two lists, and its depth.
-#[derive(Drop)]
+#[derive(Clone, Copy)]
 pub struct Trie {
     pub bindings: u32,
     pub namespaces: u32,

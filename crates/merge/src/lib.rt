@@ -1,5 +1,6 @@
 // The branches of a list of collections that begin with a prefix, ascending, one of each key, the first holder's.
 // Each comes with the collection that has its outermost label, 0 for none.
+#![tactic(auto)]
 ghost use Rattle.std.specs.Prelude.{◌≡◌, ◌<◌, ◌≤◌, ◌*◌, length};
 ghost use Rattle.source.specs.Limits.{record_words};
 ghost use Rattle.source.specs.Shared.{same};
@@ -18,7 +19,7 @@ use text::Order;
 pub const CELLS: usize = merge_heads::CELLS;
 
 // The heap at the start of a merge: its cells, each with a tree, its current branch and its label in lent arrays, how many they are, and its root.
-#[derive(Drop)]
+#[derive(Clone, Copy)]
 pub struct Start {
     pub child: [u8; CELLS],
     pub next: [u8; CELLS],
@@ -27,7 +28,7 @@ pub struct Start {
 }
 
 // How many cells a merge has, which is for the contracts alone, the root of their heap, and the last branch given, 0 for none.
-#[derive(Drop)]
+#[derive(Clone, Copy)]
 pub struct Cursor {
     pub n: usize,
     pub root: usize,
@@ -35,7 +36,7 @@ pub struct Cursor {
 }
 
 // A cell, 96 for none, its branch, 0 for none, and the root of the heap after it.
-#[derive(Drop)]
+#[derive(Clone, Copy)]
 pub struct Taken {
     pub cell: usize,
     pub branch: u32,

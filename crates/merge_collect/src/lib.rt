@@ -1,4 +1,5 @@
 // The trees of a list of collections that have a match, in flattened order, one to a cell of a merge.
+#![tactic(auto)]
 ghost use Rattle.std.specs.Prelude.{◌+◌, ◌≤◌};
 ghost use Rattle.source.specs.Limits.{heaviest_list};
 ghost use Rattle.memory.specs.Stored.{weight_in};
@@ -8,7 +9,7 @@ ghost use Rattle.merge_collect.specs.Lists.{Full, Collected};
 use merge_heads::CELLS;
 
 // A list, the collection of the outermost label above it, 0 for none, and the cell of its first tree.
-#[derive(Drop)]
+#[derive(Clone, Copy)]
 pub struct LabelledList {
     pub list: u32,
     pub label: u32,

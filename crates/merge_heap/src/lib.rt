@@ -1,5 +1,6 @@
 // The source's pairing heap in at most 96 cells. A cell stands for a list, whose head is a branch's link.
 // `child` and `next` have each cell's first child and next sibling; 96 is no cell, and as a root the empty heap.
+#![tactic(auto)]
 ghost use Rattle.std.specs.Prelude.{◌≡◌, ℕ, ◌≤◌, ◌<◌, get_or, set};
 ghost use Rattle.source.specs.Limits.{heaviest_list};
 ghost use Rattle.source.specs.Heap.{heap_from_list};
@@ -11,14 +12,14 @@ use merge_heads::CELLS;
 const NO_CELL: u8 = memory::HEAVIEST as u8;
 
 // What heap_pop answers: nothing, or the least cell and the root of the rest.
-#[derive(Drop)]
+#[derive(Clone, Copy)]
 pub enum Popped {
     Nothing,
     Least(usize, usize),
 }
 
 // A heap by value.
-#[derive(Drop)]
+#[derive(Clone, Copy)]
 pub struct Cells {
     pub child: [u8; CELLS],
     pub next: [u8; CELLS],

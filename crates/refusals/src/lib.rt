@@ -1,4 +1,5 @@
 // The refusals of the requirements: their numbers, and the conditions of rows 2 to 8.
+#![tactic(auto)]
 ghost use Rattle.std.specs.Prelude.{◌≡◌, ltb};
 ghost use Rattle.source.specs.Calls.{a_query, a_name, a_path, a_look_up, a_completion, first_row, whole_records, free};
 ghost use Rattle.refusals.specs.Refusals.{number, row_of};
@@ -10,7 +11,7 @@ use text_query::Rule;
 const MOST: usize = memory::CAPACITY as usize;
 
 // The refusals of the requirements.
-#[derive(Drop)]
+#[derive(Clone, Copy)]
 pub enum Refusal {
     Unsound,
     Malformed,
@@ -43,7 +44,7 @@ pub fn number(r: Refusal) -> u32
 }
 
 // Whether a call passes the rows that were tested, or the first that it meets.
-#[derive(Drop)]
+#[derive(Clone, Copy)]
 pub enum Admission {
     Admitted,
     Refused(Refusal),
@@ -52,7 +53,7 @@ pub enum Admission {
 // ---- Arguments
 
 // Which of the rows Malformed, Empty and TooLong an argument meets.
-#[derive(Drop)]
+#[derive(Clone, Copy)]
 pub struct Flags {
     pub malformed: bool,
     pub empty: bool,
@@ -158,7 +159,7 @@ pub fn admit(flags: Flags) -> Admission
 // ---- Capacity
 
 // What is lent, and how much of it is used: words and records, bytes of text.
-#[derive(Drop)]
+#[derive(Clone, Copy)]
 pub struct Capacity {
     pub words: usize,
     pub records: u32,
@@ -167,7 +168,7 @@ pub struct Capacity {
 }
 
 // What a registration would make: whether some list weighs over 96, whether a root is over 16 deep, the records that it builds, the text that it takes.
-#[derive(Drop)]
+#[derive(Clone, Copy)]
 pub struct Demand {
     pub crowded: bool,
     pub deep: bool,

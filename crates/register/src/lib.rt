@@ -1,4 +1,5 @@
 // A registration over a header: the rows that it must pass, and what it writes.
+#![tactic(auto)]
 ghost use Rattle.std.specs.Prelude.{◌≡◌, false, cond, [], ◌∷◌, ◌+◌, ◌≤◌, length};
 ghost use Rattle.source.specs.Limits.{most_used};
 ghost use Rattle.source.specs.Calls.{a_name, malformed, arguments, after};
@@ -24,7 +25,7 @@ use register_way::{INCLUDED, STEPS};
 pub const WAY: usize = register_way::WAY;
 
 // Whether a registration passes every row.
-#[derive(Drop)]
+#[derive(Clone, Copy)]
 pub enum Checked {
     Passed,
     Refused(Refusal),

@@ -1,4 +1,5 @@
 // The change of a trie: the source's namespaces_mutate and trie_mutate with mut_node and mut_leaf, building records after the used ones.
+#![tactic(auto)]
 ghost use Rattle.std.specs.Prelude.{◌≡◌, true, ◌+◌, ◌-◌, ◌<◌, ◌≤◌, length};
 ghost use Rattle.source.specs.Limits.{most_used};
 ghost use Rattle.source.specs.Text.{ends_in_dot};
@@ -14,7 +15,7 @@ use register_leaf::{Built, Change, mut_leaf};
 use register_way::{BELOW, COUNT, STEP};
 
 // What stays the same on the way down a query: where the query begins and ends in the text, and the change at its end.
-#[derive(Drop)]
+#[derive(Clone, Copy)]
 pub struct Descent {
     pub from: u32,
     pub end: u32,

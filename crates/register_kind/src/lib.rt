@@ -1,11 +1,12 @@
 // The kinds of registration, and what each is made of.
+#![tactic(auto)]
 ghost use Rattle.std.specs.Prelude.{◌≡◌, ◌≤◌};
 ghost use Rattle.register_kind.specs.Shapes.{shape_of, key_size};
 
 use source::ItemKind;
 
 // The kind of a registration.
-#[derive(Drop)]
+#[derive(Clone, Copy)]
 pub enum CallKind {
     // The source's insert: a name with its item, its kind and number.
     Name(ItemKind, u32),
@@ -20,14 +21,14 @@ pub enum CallKind {
 }
 
 // What is registered apart from its texts: its kind.
-#[derive(Drop)]
+#[derive(Clone, Copy)]
 pub struct Entry {
     pub kind: CallKind,
 }
 
 // What a registration is of: a name, whose second text is an id; an import, whose second text is the included query;
 // a module path, loaded or not, whose second text is a file path. A module path changes the table of modules, the others that of names.
-#[derive(Drop)]
+#[derive(Clone, Copy)]
 pub enum Form {
     Name,
     Import,
@@ -35,7 +36,7 @@ pub enum Form {
 }
 
 // What a kind is made of: its form, and whether it has a key.
-#[derive(Drop)]
+#[derive(Clone, Copy)]
 pub struct Shape {
     pub form: Form,
     pub keyed: bool,

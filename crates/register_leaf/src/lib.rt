@@ -1,4 +1,5 @@
 // mut_leaf of each kind of registration: what is put into the trie at the end of a query, building records after the used ones.
+#![tactic(auto)]
 ghost use Rattle.std.specs.Prelude.{◌≡◌, ◌-◌};
 ghost use Rattle.register_kind.specs.declared.CallKind.TheVariants.{Name, Include, Open, Alias};
 ghost use Rattle.register_leaf.specs.Leaves.{with_kind, label_in, Some, Leaf, LeafBuilds, LeafBuilt};
@@ -9,7 +10,7 @@ use source::LidSymbol;
 
 // A change of a trie: its kind, its second text and key as spans of the table's text, and the included trie.
 // What the kind does not use is of no account.
-#[derive(Drop)]
+#[derive(Clone, Copy)]
 pub struct Change {
     pub kind: CallKind,
     pub text: Span,
@@ -18,7 +19,7 @@ pub struct Change {
 }
 
 // A link, and the records used after its making.
-#[derive(Drop)]
+#[derive(Clone, Copy)]
 pub struct Built {
     pub link: u32,
     pub records: u32,

@@ -1,5 +1,6 @@
 // Planning: the records that a registration would build, and whether a list would be too heavy or a root too deep.
 // It goes down the host's path and reads what stands there; what the change will need of it is noted in an array, the way.
+#![tactic(auto)]
 ghost use Rattle.std.specs.Prelude.{◌≡◌, true, [], ◌≤◌, ◌<◌, length};
 ghost use Rattle.source.specs.Limits.{most_segments};
 ghost use Rattle.source.specs.Text.{segments, ends_in_dot};
@@ -16,7 +17,7 @@ use register_kind::CallKind;
 use register_way::WAY;
 
 // One step down the path of a host: the trie that it goes to, the records that it builds, whether its new list weighs over 96.
-#[derive(Drop)]
+#[derive(Clone, Copy)]
 struct StepDown {
     link: u32,
     records: u32,
@@ -48,7 +49,7 @@ fn plan_step(
 }
 
 // The host of a query: its trie, the number of segments, and what the steps down to it make.
-#[derive(Drop)]
+#[derive(Clone, Copy)]
 struct Walk {
     link: u32,
     segments: u32,
@@ -88,7 +89,7 @@ fn plan_path(words: &[u32], text: &[u8], root: u32, host: &[u8], way: &mut [u32;
 }
 
 // What a call would make: the records that it builds, whether some new list weighs over 96, whether the new root is over 16 deep.
-#[derive(Drop)]
+#[derive(Clone, Copy)]
 pub struct Plan {
     pub records: u32,
     pub crowded: bool,
@@ -207,7 +208,7 @@ fn plan_alias(
 }
 
 // What ins makes of the bindings of a trie: the records that it builds, whether its new list weighs over 96.
-#[derive(Drop)]
+#[derive(Clone, Copy)]
 struct Insertion {
     records: u32,
     crowded: bool,

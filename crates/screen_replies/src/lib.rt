@@ -1,4 +1,5 @@
 // Replies as numbers, by what crate table hands back, and what is asked by number.
+#![tactic(auto)]
 ghost use Rattle.std.specs.Prelude.{◌<◌, ◌≡◌};
 ghost use Rattle.std.proofs.Math.Option.{some};
 ghost use Rattle.source.specs.Calls.{refused};
@@ -19,7 +20,7 @@ pub const NONE: u32 = 4294967295;
 // The reply to a look-up of a name: 0 with the kind and the number of its item, NONE, else the number of the refusal.
 // What does not apply is 0.
 #[repr(C)]
-#[derive(Drop)]
+#[derive(Clone, Copy)]
 pub struct NameReply {
     pub answer: u32,
     pub kind: u32,
@@ -29,7 +30,7 @@ pub struct NameReply {
 // The reply to a look-up of a module or namespace: 0 with its sort (0 a Module, 1 a Namespace), the spans of its full name and
 // path in the used text, and 1 if it is loaded; NONE, else the number of the refusal. What does not apply is 0.
 #[repr(C)]
-#[derive(Drop)]
+#[derive(Clone, Copy)]
 pub struct ModuleReply {
     pub answer: u32,
     pub sort: u32,
@@ -42,7 +43,7 @@ pub struct ModuleReply {
 
 // The reply to a completion: 0 with the lines written and the tries entered, else the number of the refusal and zeros.
 #[repr(C)]
-#[derive(Drop)]
+#[derive(Clone, Copy)]
 pub struct CompleteReply {
     pub answer: u32,
     pub lines: u32,
@@ -51,7 +52,7 @@ pub struct CompleteReply {
 
 // The reply to a completion with its shared length: that of a completion, and the length of the beginning that its lines share.
 #[repr(C)]
-#[derive(Drop)]
+#[derive(Clone, Copy)]
 pub struct SharedReply {
     pub answer: u32,
     pub lines: u32,

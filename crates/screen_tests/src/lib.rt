@@ -1,5 +1,6 @@
 // Calls for tests and benchmarks outside Rattle: slices pass as a pointer and a length, a table as its four numbers.
 // Each replies what crate table hands back.
+#![tactic(auto)]
 ghost use Rattle.std.specs.Prelude.{◌≡◌, true, false};
 ghost use Rattle.source.specs.Calls.{name, include, opens, alias, module_path};
 ghost use Rattle.memory.specs.Sound.{Says};
@@ -16,7 +17,7 @@ use table_shared::Sharing;
 
 // A registration's reply: 0 or the number of the refusal, and the table.
 #[repr(C)]
-#[derive(Drop)]
+#[derive(Clone, Copy)]
 pub struct Reply {
     pub refusal: u32,
     pub names: u32,

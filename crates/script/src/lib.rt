@@ -1,4 +1,5 @@
 // The forms of a line of the program `console`. `parse` answers the form that spells a line, or that none does. Nothing is assumed.
+#![tactic(auto)]
 ghost use Rattle.std.specs.Prelude.{◌≡◌};
 ghost use Rattle.script_parts.specs.Parts.{WordSays};
 ghost use Rattle.script.specs.Script.{key, import_kind, Parsed};
@@ -11,7 +12,7 @@ use script_parts::{
 };
 
 // The forms of a host and a query: `include`, `open m`, `open n`.
-#[derive(Drop)]
+#[derive(Clone, Copy)]
 pub enum Import {
     Include,
     OpenModule,
@@ -19,7 +20,7 @@ pub enum Import {
 }
 
 // The forms of a query alone: `find`, `complete`, `modules`.
-#[derive(Drop)]
+#[derive(Clone, Copy)]
 pub enum Question {
     Find,
     Complete,
@@ -28,7 +29,7 @@ pub enum Question {
 
 // What a line is: a registration, its kind and its texts (host or module query; id, included query or file path; key, empty where the
 // kind has none); a question; or neither.
-#[derive(Drop)]
+#[derive(Clone, Copy)]
 pub enum LineForm {
     Register {
         kind: CallKind,
@@ -44,7 +45,7 @@ pub enum LineForm {
 }
 
 // A form, by what its line begins with.
-#[derive(Drop)]
+#[derive(Clone, Copy)]
 enum Key {
     Name,
     Alias,

@@ -1,11 +1,12 @@
 // Numbers in decimal, read and written, and the sorts of bytes that stand in a part of a line.
+#![tactic(auto)]
 ghost use Rattle.std.specs.Prelude.{◌≡◌};
 ghost use Rattle.script_decimal.specs.Bytes.{byte_ok};
 
 pub mod digits;
 
 // What kind of bytes a part has.
-#[derive(Drop)]
+#[derive(Clone, Copy)]
 pub enum Sort {
     Query,
     Word,
@@ -14,7 +15,7 @@ pub enum Sort {
 }
 
 // The number that digits are, or that they are none.
-#[derive(Drop)]
+#[derive(Clone, Copy)]
 pub enum Number {
     At(u32),
     No,

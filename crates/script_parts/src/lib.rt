@@ -1,4 +1,5 @@
 // The parts of a line: a run of bytes of one sort, what closes it, and where it ends. Nothing is known of the forms of a script.
+#![tactic(auto)]
 ghost use Rattle.std.specs.Prelude.{◌≡◌, ◌+◌, ◌≤◌, length, get_or, drop};
 ghost use Rattle.script_parts.specs.Parts.{run_length, StartsSays, Stops, PieceSays, QuerySays, PairSays, LastSays, NumberedSays, ItemSays, IdSays};
 ghost use Rattle.script_parts.specs.Parts.{WordSays};
@@ -8,35 +9,35 @@ use script_decimal::{Number, Sort};
 use source::{ItemKind, LidSymbol};
 
 // A part of a line: where it starts, and its length.
-#[derive(Drop)]
+#[derive(Clone, Copy)]
 pub struct Extent {
     pub start: usize,
     pub len: usize,
 }
 
 // Where a part ends, or that it does not stand there.
-#[derive(Drop)]
+#[derive(Clone, Copy)]
 pub enum Part {
     At(usize),
     No,
 }
 
 // A host and a query, or that they do not stand there.
-#[derive(Drop)]
+#[derive(Clone, Copy)]
 pub enum Pair {
     At { host: Extent, query: Extent },
     No,
 }
 
 // An item, or that none is written.
-#[derive(Drop)]
+#[derive(Clone, Copy)]
 pub enum Item {
     At(LidSymbol),
     No,
 }
 
 // An id and an item, or that they do not stand there.
-#[derive(Drop)]
+#[derive(Clone, Copy)]
 pub enum Tail {
     At { id: Extent, item: LidSymbol },
     No,

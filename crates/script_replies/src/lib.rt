@@ -1,5 +1,6 @@
 // The replies of the program `console`. Each function writes one at `at` and returns where it ends; every other byte of `out` stays.
 // Nothing is assumed.
+#![tactic(auto)]
 ghost use Rattle.std.specs.Prelude.{◌+◌, ◌≤◌, length};
 ghost use Rattle.source.specs.Calls.{signed_word};
 ghost use Rattle.text.specs.Laid.{Laid};
@@ -13,7 +14,7 @@ use script_decimal::digits::put_number;
 use source::LidSymbol;
 
 // The item of a line: its kind and number in `complete`, module or namespace in `modules`.
-#[derive(Drop)]
+#[derive(Clone, Copy)]
 pub enum ItemReply {
     Name(LidSymbol),
     Module,

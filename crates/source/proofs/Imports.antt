@@ -16,7 +16,7 @@ module _ {A : Type 0} where
   pub find_inserted : {ℓ : Level} (bt : Tree A ℓ) (k : Str) (v : Value A ℓ)
       → btree_find_exact (btree_insert_replace bt k v) k ≡ some v
   unfolding btree_insert_replace btree_find_exact
-  find_inserted StrEmpty k v = rw (compare_self k)
+  find_inserted StrEmpty k v = rw (compare_self k, btree_find_exact)
   find_inserted {ℓ} (StrBranch k' v' lbt rbt) k v = go (string_compare k k') refl (find_inserted lbt k v) (find_inserted rbt k v)
     where
       go : (o : Ordering) → string_compare k k' ≡ o → btree_find_exact (btree_insert_replace lbt k v) k ≡ some v

@@ -24,9 +24,9 @@ up a b Ordering.gt h = suc-le-suc h
 
 pub compare_view : (a b : ℕ) → Viewℕ a b (compare a b)
 compare_view zero zero = refl
-compare_view zero (suc b) = rw compare.zero_suc (suc-le-suc zero-le)
-compare_view (suc a) zero = rw compare.suc_zero (suc-le-suc zero-le)
-compare_view (suc a) (suc b) = rw compare.suc_suc (up a b (compare a b) (compare_view a b))
+compare_view zero (suc b) = rw compare.zero-suc (suc-le-suc zero-le)
+compare_view (suc a) zero = rw compare.suc-zero (suc-le-suc zero-le)
+compare_view (suc a) (suc b) = rw compare.suc-suc (up a b (compare a b) (compare_view a b))
 
 -- strings
 abbrev pub View : Str → Str → Ordering → Type 0

@@ -21,7 +21,7 @@ module _ {A : Type 0} {ℓ : Level} where
   at_key_inserted : (bt : Tree A ℓ) (k : Str) (v : Value A ℓ) (f : Value A ℓ → Value A ℓ)
       → at_key (btree_insert_replace bt k v) k f ≡ btree_insert_replace bt k (f v)
   unfolding at_key btree_insert_replace
-  at_key_inserted StrEmpty k v f = rw (compare_self k)
+  at_key_inserted StrEmpty k v f = rw (compare_self k, at_key)
   at_key_inserted (StrBranch k' u lbt rbt) k v f =
       go (string_compare k k') refl (at_key_inserted lbt k v f) (at_key_inserted rbt k v f)
     where
@@ -36,9 +36,9 @@ module _ {A : Type 0} {ℓ : Level} where
           → at_key (btree_insert_replace lbt k v) k f ≡ btree_insert_replace lbt k (f v)
           → at_key (btree_insert_replace rbt k v) k f ≡ btree_insert_replace rbt k (f v)
           → at_key (by o v) k f ≡ by o (f v)
-      go Ordering.lt e i j = rw (e, i)
-      go Ordering.eq e i j = rw e
-      go Ordering.gt e i j = rw (e, j)
+      go Ordering.lt e i j = rw (e, at_key, i)
+      go Ordering.eq e i j = rw (e, at_key)
+      go Ordering.gt e i j = rw (e, at_key, j)
 
   in_front_inserted : (nl : NameList A ℓ) (k : Str) (v : Value A ℓ) (f : Value A ℓ → Value A ℓ)
       → in_front (names_insert nl k v) k f ≡ names_insert nl k (f v)

@@ -1,5 +1,6 @@
 // The calls on a table: a header by value, with the lent words and text. Each hands the table back with its answer.
 // Each call has a form for callers that have proved the memory sound, and a total one that tests it first.
+#![tactic(auto)]
 mod registers;
 
 ghost use Rattle.std.specs.Prelude.{true};
@@ -19,41 +20,41 @@ use register_kind::Entry;
 use table_roots::{Found, FoundModule};
 
 // A table: its header by value.
-#[derive(Drop)]
+#[derive(Clone, Copy)]
 pub struct Table {
     pub header: Header,
 }
 
 // The table that a look-up of a name hands back, with its answer.
-#[derive(Drop)]
+#[derive(Clone, Copy)]
 pub struct Finding {
     pub table: Table,
     pub answer: Found,
 }
 
 // The table that a look-up of a module or namespace hands back, with its answer.
-#[derive(Drop)]
+#[derive(Clone, Copy)]
 pub struct ModuleFinding {
     pub table: Table,
     pub answer: FoundModule,
 }
 
 // The table that a completion hands back, with its answer.
-#[derive(Drop)]
+#[derive(Clone, Copy)]
 pub struct Listing {
     pub table: Table,
     pub answer: Completed,
 }
 
 // The answer of a registration.
-#[derive(Drop)]
+#[derive(Clone, Copy)]
 pub enum Registered {
     Accepted,
     Refused(Refusal),
 }
 
 // The table that a registration hands back, with its answer.
-#[derive(Drop)]
+#[derive(Clone, Copy)]
 pub struct Registration {
     pub table: Table,
     pub answer: Registered,

@@ -1,4 +1,5 @@
 // Look-up and completion in a sound memory, each on the root that is asked.
+#![tactic(auto)]
 ghost use Rattle.std.specs.Prelude.{◌≡◌, true};
 ghost use Rattle.source.specs.Calls.{look_up};
 ghost use Rattle.memory.specs.Layout.{names, trieˢ, what};
@@ -16,7 +17,7 @@ use refusals::{Admission, Refusal};
 use source::LidSymbol;
 
 // What a look-up ends at: a branch of bindings, or none.
-#[derive(Drop)]
+#[derive(Clone, Copy)]
 enum Looked {
     Branch(u32),
     Nothing,
@@ -24,7 +25,7 @@ enum Looked {
 }
 
 // The answer of a look-up of a name.
-#[derive(Drop)]
+#[derive(Clone, Copy)]
 pub enum Found {
     Item(LidSymbol),
     Nothing,
@@ -32,7 +33,7 @@ pub enum Found {
 }
 
 // The answer of a look-up of a module or namespace. Its texts are in the used text.
-#[derive(Drop)]
+#[derive(Clone, Copy)]
 pub enum FoundModule {
     Symbol(ModSymbol),
     Nothing,

@@ -1,5 +1,6 @@
 // Completions that say, beside what a completion says, how long the beginning is that all its lines share.
 // The completion is crate table's; the lines that it wrote are read once.
+#![tactic(auto)]
 ghost use Rattle.std.specs.Prelude.{◌≡◌};
 ghost use Rattle.listing_shared.specs.Shared.{CandidatesIn};
 ghost use Rattle.table_count.specs.LinesIn.{lines_in};
@@ -10,7 +11,7 @@ use listing_ask::Request;
 use table::{Listing, Table};
 
 // What a completion hands back, and the length of the beginning that its lines share: 0 if it lists none or is refused.
-#[derive(Drop)]
+#[derive(Clone, Copy)]
 pub struct Sharing {
     pub listing: Listing,
     pub shared: u32,

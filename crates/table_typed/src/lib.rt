@@ -1,5 +1,6 @@
 // The typed completion: a line is a struct, and lines go into a lent slice of these.
 // `store_line`, `store_lines` and `complete` are proved by hand; what they call is covered.
+#![tactic(auto)]
 ghost use Rattle.std.specs.Prelude.{◌≡◌, ◌+◌, ◌*◌, ◌≤◌, ◌<◌, length, set};
 ghost use Rattle.listing_output.specs.Output.{line_bytes};
 ghost use Rattle.table_typed.specs.Lines.{line_of_row, line_at, stored_lines};
@@ -13,7 +14,7 @@ use refusals::Refusal;
 use table::{Listing, Table};
 
 // A line record. Its spans are in the output text.
-#[derive(Drop)]
+#[derive(Clone, Copy)]
 pub struct Line {
     pub match_length: i32,
     pub item: RowItem,

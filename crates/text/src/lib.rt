@@ -1,4 +1,5 @@
 // Texts as bytes: comparison, prefix, beginnings.
+#![tactic(auto)]
 ghost use Rattle.std.specs.Prelude.{◌≡◌};
 ghost use Prim.Native.Nat.{min, compare};
 ghost use Rattle.source.specs.Text.{starts_with};
@@ -8,7 +9,7 @@ ghost use Rattle.text.specs.Text.{ordering, Compares, beginning};
 const BEGINNING: usize = 8;
 
 // How one text stands to another.
-#[derive(Drop)]
+#[derive(Clone, Copy)]
 pub enum Order {
     Less,
     Same,
@@ -16,7 +17,7 @@ pub enum Order {
 }
 
 // How one text compares with another: the order, and how many leading bytes are equal.
-#[derive(Drop)]
+#[derive(Clone, Copy)]
 pub struct Comparison {
     pub order: Order,
     pub agree: usize,

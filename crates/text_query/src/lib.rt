@@ -1,4 +1,5 @@
 // Queries, names and paths in bytes: which bytes may stand in each, the segments of a query, and what a survey tells of one.
+#![tactic(auto)]
 ghost use Rattle.std.specs.Prelude.{◌≡◌};
 ghost use Rattle.source.specs.Text.{name_byte};
 ghost use Rattle.source.specs.Rules.{all};
@@ -19,7 +20,7 @@ pub const PATH_MOST: usize = 120;
 pub const DOT: u8 = 46;
 
 // The byte rules: of names, of queries, labels and full names, of file paths.
-#[derive(Drop)]
+#[derive(Clone, Copy)]
 pub enum Rule {
     Name,
     Query,
@@ -72,7 +73,7 @@ pub fn segment_length(s: &[u8]) -> usize
 }
 
 // Of a query: whether it is malformed, has an empty segment, is too long, and how many segments it has.
-#[derive(Drop)]
+#[derive(Clone, Copy)]
 pub struct Survey {
     pub malformed: bool,
     pub empty: bool,
