@@ -1,0 +1,14 @@
+-- `put_found` meets its contract.
+use Rattle.console_questions.proofs.put_found.Goals as goal
+
+pub returns-in-Item : goal.returns-in-Item
+returns-in-Item c =
+    rw c.f-1.given.1 c.put_found.ensures
+
+pub returns-in-Nothing : goal.returns-in-Nothing
+returns-in-Nothing c =
+    rw c.enum_told-1.given.1 c.put_none.ensures
+
+pub returns-in-Refused : goal.returns-in-Refused
+returns-in-Refused c =
+    rw c.f-in-Refused-1.given.1 (rw c.number-n.ensures at c.Put-refused.ensures)

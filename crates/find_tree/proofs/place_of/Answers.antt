@@ -1,0 +1,55 @@
+-- place_of meets its contract: what the tree at hand says is what the whole says.
+use Rattle.find_tree.proofs.Branches.{tree_fits, sides_earlier}
+use Rattle.find_tree.proofs.Placed.{search_all, search_left, search_right, search_here, search_none}
+use native.Mathlib.Omega.{arith}
+use Rattle.find_tree.proofs.place_of.Goals as goal
+
+pub loop-link-init : goal.loop-link-init
+loop-link-init c =
+    search_all c.requires
+
+pub key_order-requires : goal.key_order-requires
+key_order-requires c =
+    (c.loop-link-test.true, c.loop-link.invariant.any)
+
+pub left_of-link-requires : goal.left_of-link-requires
+left_of-link-requires c =
+    omega (arith, tree_fits c.loop-link.invariant.any, c.loop-link-test.true)
+
+pub overflow_add-count : goal.overflow_add-count
+overflow_add-count c =
+    omega (arith, c.loop-link.invariant.small)
+
+pub loop-link-smaller-in-Less : goal.loop-link-smaller-in-Less
+loop-link-smaller-in-Less c =
+    omega (arith, c.left_of-link.ensures, sides_earlier c.loop-link.invariant.any c.loop-link-test.true)
+
+pub loop-link-preserved-in-Less : goal.loop-link-preserved-in-Less
+loop-link-preserved-in-Less c =
+    search_left c.loop-link.invariant c.loop-link-test.true (rw c.enum_told-1.given.1 at c.key_order.ensures)
+    c.left_of-link.ensures
+
+pub returns-in-Same : goal.returns-in-Same
+returns-in-Same c =
+    search_here c.loop-link.invariant c.loop-link-test.true (rw c.enum_told-in-Same-1.given.1 at c.key_order.ensures)
+
+pub right_of-link-requires : goal.right_of-link-requires
+right_of-link-requires c =
+    omega (arith, tree_fits c.loop-link.invariant.any, c.loop-link-test.true)
+
+pub overflow_add-count-in-More : goal.overflow_add-count-in-More
+overflow_add-count-in-More c =
+    omega (arith, c.loop-link.invariant.small)
+
+pub loop-link-smaller : goal.loop-link-smaller
+loop-link-smaller c =
+    omega (arith, c.right_of-link.ensures, sides_earlier c.loop-link.invariant.any c.loop-link-test.true)
+
+pub loop-link-preserved : goal.loop-link-preserved
+loop-link-preserved c =
+    search_right c.loop-link.invariant c.loop-link-test.true (rw c.enum_told-in-More-1.given.1 at c.key_order.ensures)
+    c.right_of-link.ensures
+
+pub returns : goal.returns
+returns c =
+    search_none c.loop-link.invariant c.loop-link-test.false

@@ -1,0 +1,117 @@
+-- `complete` meets its contract: counted over an empty output, then written.
+use mathlib.Core.Path.{refl}
+use mathlib.Core.Logic.{inl, inr}
+use native.Mathlib.Omega.{arith}
+use Rattle.listing.proofs.Completes.{root_ready, root_runs, root_shows, flat_kept, out_kept, writes_then, set_small, all_fit, completes_spent}
+use Rattle.listing.proofs.Completes.{completes_past, completes_listed}
+use Rattle.listing.proofs.Admitted.{query_whole}
+use Rattle.source.specs.Calls.{signed_word}
+use Rattle.listing.proofs.complete.Goals as goal
+
+pub overflow_cast-most : goal.overflow_cast-most
+unfolding signed_word
+overflow_cast-most c =
+    omega (arith, c.struct_known-1.given.1.0.fits)
+
+pub list_trie-entered-requires : goal.list_trie-entered-requires
+unfolding signed_word
+list_trie-entered-requires c =
+    rw c.start-run.ensures
+    (record {
+      can = root_ready _ _ _ _ _ c.requires.at
+          (query_whole _ c.requires.query_value)
+          (set_small {flat = c.args.flat.now}
+          {out = c.args.out.now}
+          (record {
+            budget_is = refl;
+            budget_fits = omega (arith, c.struct_known-1.given.1.0.fits);
+            lines_are = c.lines_lent-lines.ensures;
+            bytes_are = c.lent-bytes.ensures;
+          }));
+      told = refl;
+    })
+
+pub returns-then-most-entered : goal.returns-then-most-entered
+unfolding signed_word
+returns-then-most-entered c =
+    let list-trie = c.list_trie-entered.ensures in completes_spent c.requires.query_value (record {
+      budget_is = refl;
+      budget_fits = omega (arith, c.struct_known-1.given.1.0.fits);
+      lines_are = c.lines_lent-lines.ensures;
+      bytes_are = c.lent-bytes.ensures;
+    }) (root_shows _ _ _ _ _ (root_runs _ _ _ _ _ c.start-run.ensures list-trie)) (omega (arith, list-trie.count, c.if-most-entered.true))
+    (flat_kept _ _ _ _ _ (root_runs _ _ _ _ _ c.start-run.ensures list-trie) c.args.flat.now refl)
+    (out_kept _ _ _ _ _ (root_runs _ _ _ _ _ c.start-run.ensures list-trie) c.args.out.now refl)
+
+pub returns-then-lines-count : goal.returns-then-lines-count
+unfolding signed_word
+returns-then-lines-count c =
+    let list-trie = c.list_trie-entered.ensures in completes_past c.requires.query_value (record {
+      budget_is = refl;
+      budget_fits = omega (arith, c.struct_known-1.given.1.0.fits);
+      lines_are = c.lines_lent-lines.ensures;
+      bytes_are = c.lent-bytes.ensures;
+    }) (root_shows _ _ _ _ _ (root_runs _ _ _ _ _ c.start-run.ensures list-trie)) (omega (arith, list-trie.count, c.if-most-entered.false)) (inl c.if-lines-count.true)
+    (flat_kept _ _ _ _ _ (root_runs _ _ _ _ _ c.start-run.ensures list-trie) c.args.flat.now refl)
+    (out_kept _ _ _ _ _ (root_runs _ _ _ _ _ c.start-run.ensures list-trie) c.args.out.now refl)
+
+pub returns-then-bytes-size : goal.returns-then-bytes-size
+unfolding signed_word
+returns-then-bytes-size c =
+    let list-trie = c.list_trie-entered.ensures in
+    completes_past c.requires.query_value (record {
+      budget_is = refl;
+      budget_fits = omega (arith, c.struct_known-1.given.1.0.fits);
+      lines_are = c.lines_lent-lines.ensures;
+      bytes_are = c.lent-bytes.ensures;
+    }) (root_shows _ _ _ _ _ (root_runs _ _ _ _ _ c.start-run.ensures list-trie)) (omega (arith, list-trie.count, c.if-most-entered.false))
+    (inr c.if-bytes-size.true)
+    (flat_kept _ _ _ _ _ (root_runs _ _ _ _ _ c.start-run.ensures list-trie) c.args.flat.now refl)
+    (out_kept _ _ _ _ _ (root_runs _ _ _ _ _ c.start-run.ensures list-trie) c.args.out.now refl)
+
+pub list_trie-requires : goal.list_trie-requires
+unfolding signed_word
+list_trie-requires c =
+    rw c.start-again.ensures
+    (record {
+      can = root_ready _ _ _ _ _ (c.requires.at)
+          (query_whole _ (c.requires.query_value))
+          (set_small {flat = (c.args.flat.now)}
+          {out = (c.args.out.now)}
+          (record {
+            budget_is = refl;
+            budget_fits = omega (
+              arith,
+              (c.struct_known-1.given.1.0.fits),
+            );
+            lines_are = (c.lines_lent-lines.ensures);
+            bytes_are = (c.lent-bytes.ensures);
+          }));
+      told = refl;
+    })
+
+pub overflow_cast-result : goal.overflow_cast-result
+unfolding signed_word
+overflow_cast-result c =
+    omega (arith, c.if-lines-count.false, c.lines_lent-lines.ensures)
+
+pub overflow_cast-result-2 : goal.overflow_cast-result-2
+unfolding signed_word
+overflow_cast-result-2 c =
+    omega (arith, c.if-most-entered.false, c.struct_known-1.given.1.0.fits)
+
+pub returns : goal.returns
+unfolding signed_word
+returns c =
+    let list-trie = c.list_trie-entered.ensures in let start = c.start-run.ensures in let fits' = c.struct_known-1.given.1.0.fits in
+    let within = c.if-most-entered.false in
+    rw list-trie.count (completes_listed c.requires.query_value (record {
+      budget_is = refl;
+      budget_fits = omega (arith, fits');
+      lines_are = c.lines_lent-lines.ensures;
+      bytes_are = c.lent-bytes.ensures;
+    }) (root_shows _ _ _ _ _ (root_runs _ _ _ _ _ start list-trie)) (omega (arith, list-trie.count, within)) c.if-lines-count.false c.if-bytes-size.false
+    (writes_then _ _ _ _ _ (flat_kept _ _ _ _ _ (root_runs _ _ _ _ _ start list-trie) c.args.flat.now refl)
+    (out_kept _ _ _ _ _ (root_runs _ _ _ _ _ start list-trie) c.args.out.now refl) (root_runs _ _ _ _ _ c.start-again.ensures c.list_trie.ensures)
+    (all_fit (root_shows _ _ _ _ _ (root_runs _ _ _ _ _ start list-trie)) (omega (arith, list-trie.count, within)) c.if-lines-count.false c.if-bytes-size.false
+    (record { budget_is = refl; budget_fits = omega (arith, fits'); lines_are = c.lines_lent-lines.ensures; bytes_are = c.lent-bytes.ensures }))))

@@ -1,0 +1,6 @@
+-- binding_row is the definition.
+use Rattle.memory_access.proofs.make.binding_row.Goals as goal
+
+pub returns : goal.returns
+returns c =
+    rw c.number_of_lem.ensures

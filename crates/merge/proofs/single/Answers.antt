@@ -1,0 +1,22 @@
+-- `merge::single` meets its contract.
+use mathlib.Core.Path.{◌∙◌}
+use native.Mathlib.Omega.{arith}
+use Rattle.merge.proofs.OneTree.{single_none, single_tree}
+use Rattle.merge.proofs.single.Goals as goal
+
+pub returns-then-list-eq0 : goal.returns-then-list-eq0
+returns-then-list-eq0 c =
+    single_none
+
+pub returns-then-sort_of-eq-IMPORTED : goal.returns-then-sort_of-eq-IMPORTED
+returns-then-sort_of-eq-IMPORTED c =
+    single_none
+
+pub returns-then-rest_of-gt0 : goal.returns-then-rest_of-gt0
+returns-then-rest_of-gt0 c =
+    single_none
+
+pub returns : goal.returns
+returns c =
+    single_tree (omega (arith, c.if-list-eq0.false)) (λ e. c.if-sort_of-eq-IMPORTED.false (c.sort_of.ensures ∙ e))
+    (omega (arith, c.rest_of.ensures, c.if-rest_of-gt0.false)) c.own_of_lem.ensures

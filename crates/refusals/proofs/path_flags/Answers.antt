@@ -1,0 +1,10 @@
+-- path_flags meets its contract, by the byte rule and the length.
+use mathlib.Core.Bool.{not}
+use mathlib.Core.Path.{refl, ap}
+use Rattle.source.specs.Calls.{malformed, empty_name, too_long}
+use Rattle.refusals.proofs.path_flags.Goals as goal
+
+pub returns : goal.returns
+unfolding malformed empty_name too_long
+returns c =
+    record { malformed = ap not c.all_allowed.ensures; empty = refl; long = refl }

@@ -1,0 +1,29 @@
+-- insert_leaf meets its contract.
+use Rattle.source.specs.Types.{bind}
+use Rattle.memory.specs.Layout.{names}
+use Rattle.register_leaf.proofs.Leaves.{leaf_fits, name_insertion, name_trie_ready, name_built}
+use Rattle.register_leaf.proofs.insert_leaf.Goals as goal
+
+pub trie_of-t-requires : goal.trie_of-t-requires
+trie_of-t-requires c =
+    leaf_fits c.requires.some.holds
+
+pub names_insert-b-requires : goal.names_insert-b-requires
+names_insert-b-requires c =
+    let pre = c.requires in
+    rw c.binding_row-row.ensures (record {
+      which = names;
+      level = bind;
+      used = pre.0.used;
+      insertion = name_insertion pre.0.holds c.trie_of-t.ensures pre.1;
+    })
+
+pub put_trie-link-requires : goal.put_trie-link-requires
+put_trie-link-requires c =
+    name_trie_ready c.requires.some.holds c.trie_of-t.ensures c.requires.leaf_builds c.names_insert-b.ensures.0
+    (rw c.binding_row-row.ensures at c.names_insert-b.ensures.1)
+
+pub returns : goal.returns
+returns c used l =
+    name_built l c.trie_of-t.ensures c.requires.leaf_builds c.names_insert-b.ensures.0
+    (rw c.binding_row-row.ensures at c.names_insert-b.ensures.1) c.put_trie-link.ensures.0 c.put_trie-link.ensures.1

@@ -1,0 +1,25 @@
+-- open_leaf meets its contract.
+use Rattle.register_leaf.proofs.Leaves.{leaf_fits, inc_fits, open_ready, open_trie_ready, open_built}
+use Rattle.register_leaf.proofs.open_leaf.Goals as goal
+
+pub trie_of-t-requires : goal.trie_of-t-requires
+trie_of-t-requires c =
+    leaf_fits c.requires.holds
+
+pub trie_of-i-requires : goal.trie_of-i-requires
+trie_of-i-requires c =
+    let change = c.requires.holds.change in inc_fits change.sound change.inc
+
+pub imported-n-requires : goal.imported-n-requires
+imported-n-requires c =
+    open_ready c.requires.holds c.trie_of-t.ensures c.trie_of-i.ensures
+
+pub put_trie-link-requires : goal.put_trie-link-requires
+put_trie-link-requires c =
+    open_trie_ready c.requires.holds c.trie_of-t.ensures
+    c.trie_of-i.ensures c.imported-n.ensures.0 (rw c.label_of-label.ensures at c.imported-n.ensures.1)
+
+pub returns : goal.returns
+returns c used l =
+    open_built l c.trie_of-t.ensures c.trie_of-i.ensures c.imported-n.ensures.0
+    (rw c.label_of-label.ensures at c.imported-n.ensures.1) c.put_trie-link.ensures.0 c.put_trie-link.ensures.1

@@ -1,0 +1,58 @@
+-- plan_include meets its contract.
+use Rattle.find_list.proofs.Collections.{list_light}
+use Rattle.memory.proofs.Tries.{bindings_at}
+use Rattle.register_plan.proofs.Plans.{include_planned}
+use Rattle.register_way.proofs.Way.{noted_path}
+use Rattle.register_kind.specs.declared.CallKind.TheVariants.{Include}
+use native.Mathlib.Omega.{arith}
+use Rattle.memory.proofs.At.{at_fits}
+use Rattle.register_plan.proofs.plan_include.Goals as goal
+
+pub trie_of-t-requires : goal.trie_of-t-requires
+trie_of-t-requires c =
+    at_fits c.plan_path-p.ensures.0.here
+
+pub trie_of-i-requires : goal.trie_of-i-requires
+trie_of-i-requires c =
+    at_fits c.requires.at.1
+
+pub weight_of-requires : goal.weight_of-requires
+weight_of-requires c =
+    omega (arith, at_fits (bindings_at c.requires.at.1 c.trie_of-i.ensures))
+
+pub weight_of-requires-2 : goal.weight_of-requires-2
+weight_of-requires-2 c =
+    omega (arith, at_fits (bindings_at c.plan_path-p.ensures.0.here c.trie_of-t.ensures))
+
+pub overflow_add-weight : goal.overflow_add-weight
+overflow_add-weight c =
+    omega (
+      arith,
+      list_light (bindings_at c.plan_path-p.ensures.0.here c.trie_of-t.ensures),
+      list_light (bindings_at c.requires.at.1 c.trie_of-i.ensures),
+      c.weight_of.ensures,
+      c.weight_of-2.ensures,
+    )
+
+pub overflow_add-weight-2 : goal.overflow_add-weight-2
+overflow_add-weight-2 c =
+    omega (
+      arith,
+      list_light (bindings_at c.plan_path-p.ensures.0.here c.trie_of-t.ensures),
+      list_light (bindings_at c.requires.at.1 c.trie_of-i.ensures),
+      c.weight_of.ensures,
+      c.weight_of-2.ensures,
+    )
+
+pub overflow_add-result : goal.overflow_add-result
+overflow_add-result c =
+    let plan-path = c.plan_path-p.ensures.0 in omega (arith, plan-path.few, plan-path.gives.small)
+
+pub returns : goal.returns
+returns c =
+    let plan-path = c.plan_path-p.ensures in
+    (
+      λ tbl q e f. include_planned _ plan-path.0 c.trie_of-t.ensures tbl e c.requires.at.1 c.trie_of-i.ensures q f
+          c.weight_of.ensures c.weight_of-2.ensures,
+      λ other key. noted_path plan-path.1 (omega (arith, plan-path.0.few, plan-path.1.kept.size, c.requires.host_value.2)) Include other key tt,
+    )

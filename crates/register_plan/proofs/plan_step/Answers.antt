@@ -1,0 +1,36 @@
+-- plan_step meets its contract.
+use Rattle.find_trie.proofs.Links.{any_namespaces, holder_fits}
+use Rattle.register_plan.proofs.Plans.{placed_small, path_stepped}
+use native.Mathlib.Omega.{arith}
+use Rattle.memory.proofs.At.{at_fits}
+use Rattle.register_plan.proofs.plan_step.Goals as goal
+
+pub trie_of-t-requires : goal.trie_of-t-requires
+trie_of-t-requires c =
+    at_fits c.requires.0.trie
+
+pub names_place-p-requires : goal.names_place-p-requires
+names_place-p-requires c =
+    any_namespaces c.requires.0.trie c.trie_of-t.ensures
+
+pub trie_held-link-requires : goal.trie_held-link-requires
+trie_held-link-requires c =
+    omega (
+      arith,
+      holder_fits (any_namespaces c.requires.0.trie c.trie_of-t.ensures) c.names_place-p.ensures.found,
+    )
+
+pub note_step-requires : goal.note_step-requires
+note_step-requires c =
+    (c.requires.1, c.requires.2)
+
+pub overflow_add-result : goal.overflow_add-result
+overflow_add-result c =
+    omega (
+      arith,
+      placed_small (any_namespaces c.requires.0.trie c.trie_of-t.ensures) c.names_place-p.ensures,
+    )
+
+pub returns : goal.returns
+returns c w t =
+    path_stepped t c.trie_of-t.ensures c.names_place-p.ensures c.trie_held-link.ensures c.note_step.ensures

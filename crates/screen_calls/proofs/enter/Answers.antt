@@ -1,0 +1,37 @@
+-- enter meets its contract.
+use mathlib.Core.Path.{ap}
+use Rattle.memory.proofs.Says.{says_passes, says_refuses}
+use Rattle.table.specs.Registrations.{refusal_of}
+use Rattle.screen_calls.proofs.Held.{held_is, unsound_memory}
+use Rattle.screen_calls.proofs.Replies.{store_fits, reply_unsound, reply_accepted, reply_refused}
+use Rattle.screen_calls.proofs.enter.Goals as goal
+
+pub returns-then-not-is_sound_small : goal.returns-then-not-is_sound_small
+returns-then-not-is_sound_small c =
+    reply_unsound (unsound_memory _ (held_is c.requires.state_len c.table_of-t.ensures c.requires.memory_value)
+    (says_refuses c.is_sound_small.result c.is_sound_small.ensures c.if-not-is_sound_small.true))
+
+pub register_sound-r-requires : goal.register_sound-r-requires
+register_sound-r-requires c =
+    says_passes c.is_sound_small.result c.is_sound_small.ensures c.if-not-is_sound_small.false
+
+pub save-requires : goal.save-requires
+save-requires c =
+    let pre = c.requires in (
+      pre.0,
+      store_fits (held_is pre.0 c.table_of-t.ensures pre.1)
+          (says_passes c.is_sound_small.result c.is_sound_small.ensures c.if-not-is_sound_small.false) c.register_sound-r.ensures
+          (ap refusal_of c.enum_told-1.given.1) c.register_sound-r.auto.1.0,
+    )
+
+pub returns-in-Accepted : goal.returns-in-Accepted
+returns-in-Accepted c =
+    reply_accepted (held_is c.requires.state_len c.table_of-t.ensures c.requires.memory_value)
+    (says_passes c.is_sound_small.result c.is_sound_small.ensures c.if-not-is_sound_small.false) c.register_sound-r.ensures
+    (ap refusal_of c.enum_told-1.given.1) c.save.ensures
+
+pub returns-in-Refused : goal.returns-in-Refused
+returns-in-Refused c =
+    reply_refused (held_is c.requires.state_len c.table_of-t.ensures c.requires.memory_value)
+    (says_passes c.is_sound_small.result c.is_sound_small.ensures c.if-not-is_sound_small.false) c.register_sound-r.ensures
+    (ap refusal_of c.a-1.given.1) c.number.ensures

@@ -1,0 +1,40 @@
+-- find_item meets its contract.
+use Rattle.memory.proofs.Says.{says_passes, says_refuses}
+use Rattle.screen_memory.proofs.Memory.{loaded_fits, loaded_count}
+use Rattle.screen_calls.proofs.Held.{held_is, unsound_memory, unsound_short}
+use Rattle.screen_calls.proofs.RepliesModule.{name_unsound, name_looked}
+use Rattle.screen_calls.proofs.find_item.Goals as goal
+
+pub returns-then-state-ne-STATE_BYTES : goal.returns-then-state-ne-STATE_BYTES
+returns-then-state-ne-STATE_BYTES c =
+    name_unsound (unsound_short c.if-state-ne-STATE_BYTES.true) c.no_name.ensures
+
+pub slice_bounds-memory-end : goal.slice_bounds-memory-end
+slice_bounds-memory-end c =
+    loaded_fits c.load-n.ensures
+
+pub slice_bounds-is_sound_small-end : goal.slice_bounds-is_sound_small-end
+slice_bounds-is_sound_small-end c =
+    loaded_count c.load-n.ensures
+
+pub returns-then-not-is_sound_small : goal.returns-then-not-is_sound_small
+returns-then-not-is_sound_small c =
+    name_unsound (unsound_memory _ (held_is c.if-state-ne-STATE_BYTES.false c.table_of-t.ensures c.load-n.ensures.words)
+    (says_refuses c.is_sound_small.result c.is_sound_small.ensures c.if-not-is_sound_small.true)) c.no_name-then-not-is_sound_small.ensures
+
+pub slice_bounds-memory-end-2 : goal.slice_bounds-memory-end-2
+slice_bounds-memory-end-2 c =
+    loaded_fits c.load-n.ensures
+
+pub slice_bounds-find_sound-end : goal.slice_bounds-find_sound-end
+slice_bounds-find_sound-end c =
+    loaded_count c.load-n.ensures
+
+pub find_sound-requires : goal.find_sound-requires
+find_sound-requires c =
+    says_passes c.is_sound_small.result c.is_sound_small.ensures c.if-not-is_sound_small.false
+
+pub returns : goal.returns
+returns c =
+    name_looked (held_is c.if-state-ne-STATE_BYTES.false c.table_of-t.ensures c.load-n.ensures.words)
+    c.find_sound.ensures c.name_reply.ensures

@@ -1,0 +1,19 @@
+-- `ask_word` answers by its definition.
+use Rattle.script.specs.Script.{key}
+use Rattle.script_decimal.specs.Bytes.{bytes}
+use Rattle.script.proofs.ask_word.Goals as goal
+
+pub returns-in-Find : goal.returns-in-Find
+unfolding key bytes
+returns-in-Find c =
+    rw c.enum_told-1.given.1 c.word_end.ensures
+
+pub returns-in-Complete : goal.returns-in-Complete
+unfolding key bytes
+returns-in-Complete c =
+    rw c.enum_told-in-Complete-1.given.1 c.word_end-in-Complete.ensures
+
+pub returns-in-Modules : goal.returns-in-Modules
+unfolding key bytes
+returns-in-Modules c =
+    rw c.enum_told-in-Modules-1.given.1 c.word_end-in-Modules.ensures

@@ -1,0 +1,37 @@
+-- `id_end` answers by its definition.
+use mathlib.Core.Path.{subst}
+use native.Mathlib.Omega.{arith}
+use Rattle.script_parts.specs.Parts.{PieceSays, LastSays, ItemSays}
+use Rattle.script_parts.proofs.Parts.{stops_word, id_piece, id_yes, id_empty, id_open, id_item}
+use Rattle.script_parts.proofs.id_end.Goals as goal
+
+pub piece-requires : goal.piece-requires
+piece-requires c =
+    (c.requires, stops_word)
+
+pub returns-then-e-at : goal.returns-then-e-at
+returns-then-e-at c =
+    id_empty (subst (PieceSays _ _ _ _) c.e-1.given.1 c.piece.ensures) c.if-e-at.true
+
+pub returns-in-At-item_of : goal.returns-in-At-item_of
+returns-in-At-item_of c =
+    let piece = c.piece.ensures in (
+      omega (arith, (subst (PieceSays _ _ _ _) c.e-1.given.1 piece).start, (subst (PieceSays _ _ _ _) c.e-1.given.1 piece).end),
+      id_yes (subst (PieceSays _ _ _ _) c.e-1.given.1 piece) c.if-e-at.false (subst (LastSays _ _) c.f-1.given.1 c.last_end.ensures)
+          (subst (ItemSays _) c.item-1.given.1 c.item_of.ensures),
+    )
+
+pub returns-in-No-item_of : goal.returns-in-No-item_of
+returns-in-No-item_of c =
+    id_item (subst (PieceSays _ _ _ _) c.e-1.given.1 c.piece.ensures)
+    (subst (LastSays _ _) c.f-1.given.1 c.last_end.ensures)
+    (subst (ItemSays _) c.enum_told-1.given.1 c.item_of.ensures)
+
+pub returns-in-No-last_end : goal.returns-in-No-last_end
+returns-in-No-last_end c =
+    id_open (subst (PieceSays _ _ _ _) c.e-1.given.1 c.piece.ensures)
+    (subst (LastSays _ _) c.enum_told-in-No-last_end-1.given.1 c.last_end.ensures)
+
+pub returns-in-No : goal.returns-in-No
+returns-in-No c =
+    λ id n r. subst (PieceSays _ _ _ _) c.enum_told-in-No-1.given.1 c.piece.ensures id _ (id_piece r)

@@ -1,0 +1,39 @@
+-- Table::register_sound meets its contract.
+use Rattle.register_kind.proofs.Shapes.{cut_used, cut_call}
+use Rattle.table.proofs.Answers.{answers_refused, answers_accepted}
+use mathlib.Core.Path.{refl, sym}
+use lib.Seq.{length-take-le}
+use Rattle.table.proofs.Table.register_sound.Goals as goal
+
+pub slice_bounds-check-end : goal.slice_bounds-check-end
+slice_bounds-check-end c =
+    sym (length-take-le _ _ c.key_size-n.ensures.1)
+
+pub check-k-requires : goal.check-k-requires
+check-k-requires c =
+    (c.requires, (cut_used c.args.entry.kind c.args.key.now c.key_size-n.ensures.0, refl))
+
+pub slice_bounds-write-end : goal.slice_bounds-write-end
+slice_bounds-write-end c =
+    sym (length-take-le _ _ c.key_size-n.ensures.1)
+
+pub slice_bounds-write-end-in-Passed : goal.slice_bounds-write-end-in-Passed
+slice_bounds-write-end-in-Passed c =
+    sym (rw c.enum_told-1.given.1 at c.check-k.ensures).size
+
+pub write-h-requires : goal.write-h-requires
+write-h-requires c =
+    rw c.enum_told-1.given.1 at c.check-k.ensures
+
+pub returns-in-Refused : goal.returns-in-Refused
+returns-in-Refused c =
+    let a = c.args in
+    answers_refused (rw (cut_call a.entry.kind a.key.now c.key_size-n.ensures.0 a.host.now a.other.now) at
+    (rw c.k-1.given.1 at c.check-k.ensures))
+
+pub returns-in-Passed : goal.returns-in-Passed
+returns-in-Passed c =
+    let a = c.args in
+    answers_accepted (rw (cut_call a.entry.kind a.key.now c.key_size-n.ensures.0 a.host.now a.other.now) at
+    (rw c.enum_told-1.given.1 at c.check-k.ensures).rows)
+    (rw (cut_call a.entry.kind a.key.now c.key_size-n.ensures.0 a.host.now a.other.now) at c.write-h.ensures)

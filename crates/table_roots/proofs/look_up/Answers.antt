@@ -1,0 +1,38 @@
+-- look_up meets its contract.
+use Rattle.refusals.proofs.Rows.{one_flagged, admitted_none, refused_lowest}
+use Rattle.table_roots.proofs.Finds.{look_up_query_whole, look_up_rows_refused, look_up_none, look_up_found, found_fits}
+use Rattle.table_roots.proofs.look_up.Goals as goal
+
+pub trie_find_exact-link-requires : goal.trie_find_exact-link-requires
+trie_find_exact-link-requires c =
+    (
+      c.requires,
+      look_up_query_whole _ (admitted_none (one_flagged c.look_up_flags.ensures) c.admit-a.ensures c.enum_told-1.given.1),
+    )
+
+pub returns-then-link-eq0 : goal.returns-then-link-eq0
+returns-then-link-eq0 c =
+    record {
+      fits = tt;
+      link = λ w t. tt;
+      says = λ w t. look_up_none _ (admitted_none (one_flagged c.look_up_flags.ensures) c.admit-a.ensures
+          c.enum_told-1.given.1) (c.trie_find_exact-link.ensures w t) c.if-link-eq0.true;
+    }
+
+pub returns-in-Refused : goal.returns-in-Refused
+returns-in-Refused c =
+    record {
+      fits = tt;
+      link = λ w t. tt;
+      says = λ w t. look_up_rows_refused _ _ (refused_lowest (one_flagged c.look_up_flags.ensures)
+          c.admit-a.ensures c.a-1.given.1);
+    }
+
+pub returns-else-link-eq0 : goal.returns-else-link-eq0
+returns-else-link-eq0 c =
+    let trie_find_exact = c.trie_find_exact-link.ensures in record {
+      fits = found_fits c.requires trie_find_exact c.if-link-eq0.false;
+      link = λ w t. (trie_find_exact w t).link;
+      says = λ w t. look_up_found _ (admitted_none (one_flagged c.look_up_flags.ensures) c.admit-a.ensures
+          c.enum_told-1.given.1) (trie_find_exact w t) c.if-link-eq0.false;
+    }

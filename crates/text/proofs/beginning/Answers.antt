@@ -1,0 +1,34 @@
+-- beginning meets its contract: n is the number of the first i bytes.
+use Prim.Native.Nat.{◌-◌, ◌<◌}
+use mathlib.Core.Path.{◌≡◌}
+use mathlib.Core.Logic.{⊎_elim}
+use native.Mathlib.Omega.{arith}
+use Rattle.text.proofs.Beginnings.{leading_none, leading_byte, leading_end, leading_fits}
+use Rattle.text.proofs.beginning.Goals as goal
+
+pub loop-i-init : goal.loop-i-init
+loop-i-init c =
+    leading_none _
+
+pub overflow_mul-n : goal.overflow_mul-n
+overflow_mul-n c =
+    omega (arith, leading_fits c.loop-i.invariant (omega arith))
+
+pub overflow_cast-n : goal.overflow_cast-n
+overflow_cast-n c =
+    omega (arith, c.type_inv.s c.loop-i.i)
+
+pub overflow_add-n : goal.overflow_add-n
+overflow_add-n c =
+    omega (arith, c.type_inv.s c.loop-i.i, leading_fits c.loop-i.invariant (omega arith))
+
+pub loop-i-preserved : goal.loop-i-preserved
+loop-i-preserved c =
+    let o = c.loop-i.invariant in
+    let h : c.loop-i.i < 8 = omega arith in
+    ⊎_elim (λ w. rw w.2 (leading_byte o h (omega (arith, w.1.given c.loop-i.i))))
+    (λ w. rw w.1 (leading_end o h (omega (arith, w.0.left)))) c.if-i-s.branch-raw
+
+pub returns : goal.returns
+returns c =
+    let o = c.loop-i.invariant in let e : c.loop-i.i ≡ 8 = omega (arith, o.few, c.loop-i-test.false) in rw e at o.is
