@@ -31,8 +31,8 @@ fn reply_all(
     pane: &mut [u8],
     reply: &mut [u8],
 ) -> AfterRead
-    requires sound { IsSound words.text.old.f.now.table }
-    requires pane_in_bounds { room flat.pane.old.old ≤ length reply.old }
+    requires sound { IsSound words.old text.old f.table }
+    requires pane_in_bounds { room flat.old pane.old ≤ length reply.old }
     requires inside { Inside f input.old }
     ensures { Rests words.old text.old words.new text.new input.old input.new
         (output flat.old pane.old) f result }
@@ -67,8 +67,8 @@ fn reply_last(
     pane: &mut [u8],
     reply: &mut [u8],
 ) -> bool
-    requires sound { IsSound words.text.old.f.now.table }
-    requires pane_in_bounds { room flat.pane.old.old ≤ length reply.old }
+    requires sound { IsSound words.old text.old f.table }
+    requires pane_in_bounds { room flat.old pane.old ≤ length reply.old }
     requires inside { Inside f input.now }
     ensures { Closes words.old text.old words.new text.new f input.now flat.old flat.new
         pane.old pane.new reply.old reply.new result }

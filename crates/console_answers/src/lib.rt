@@ -44,8 +44,8 @@ pub fn answer(
     reply: &mut [u8],
     at: usize,
 ) -> Done
-    requires sound { IsSound words.text.old.table.now }
-    requires pane_in_bounds { at + room flat.pane.old.old ≤ length reply.old }
+    requires sound { IsSound words.old text.old table }
+    requires pane_in_bounds { at + room flat.old pane.old ≤ length reply.old }
     ensures { Answered words.old text.old words.new text.new table line.now flat.old flat.new
         pane.old pane.new reply.old reply.new at result }
 {
@@ -114,8 +114,8 @@ pub fn answer_lines(
     pane: &mut [u8],
     reply: &mut [u8],
 ) -> AfterLines
-    requires sound { IsSound words.text.old.table.now }
-    requires pane_in_bounds { room flat.pane.old.old ≤ length reply.old }
+    requires sound { IsSound words.old text.old table }
+    requires pane_in_bounds { room flat.old pane.old ≤ length reply.old }
     requires from_in_bounds { from ≤ length input.now }
     ensures { Talked words.old text.old words.new text.new table input.now from flat.old flat.new
         pane.old pane.new reply.old reply.new result }

@@ -37,8 +37,8 @@ pub fn step(
     pane: &mut [u8],
     reply: &mut [u8],
 ) -> Progress
-    requires sound { IsSound words.text.old.f.now.table }
-    requires pane_in_bounds { room flat.pane.old.old ≤ length reply.old }
+    requires sound { IsSound words.old text.old f.table }
+    requires pane_in_bounds { room flat.old pane.old ≤ length reply.old }
     requires inside { Inside f input.old }
     ensures { Feeds words.old text.old words.new text.new f input.old input.new flat.old flat.new
         pane.old pane.new reply.old reply.new result }
@@ -84,8 +84,8 @@ pub fn last(
     pane: &mut [u8],
     reply: &mut [u8],
 ) -> Done
-    requires sound { IsSound words.text.old.f.now.table }
-    requires pane_in_bounds { room flat.pane.old.old ≤ length reply.old }
+    requires sound { IsSound words.old text.old f.table }
+    requires pane_in_bounds { room flat.old pane.old ≤ length reply.old }
     requires inside { Inside f input.now }
     ensures { Ends words.old text.old words.new text.new f input.now flat.old flat.new
         pane.old pane.new reply.old reply.new result }

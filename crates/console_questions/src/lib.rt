@@ -135,7 +135,7 @@ fn complete_line(
     reply: &mut [u8],
 ) -> usize
     requires sound { IsSound words.now text.now start.table }
-    requires pane_in_bounds { start.at + room flat.pane.old.old ≤ length reply.old }
+    requires pane_in_bounds { start.at + room flat.old pane.old ≤ length reply.old }
     ensures { CompletedLine words.now text.now start.table ask query.now flat.old flat.new
         pane.old pane.new reply.old reply.new start.at result }
 {
@@ -161,7 +161,7 @@ pub fn ask_line(
     reply: &mut [u8],
 ) -> usize
     requires sound { IsSound words.now text.now start.table }
-    requires pane_in_bounds { start.at + room flat.pane.old.old ≤ length reply.old }
+    requires pane_in_bounds { start.at + room flat.old pane.old ≤ length reply.old }
     ensures { AskedLine words.now text.now start.table what query.now flat.old flat.new
         pane.old pane.new reply.old reply.new start.at result }
 {

@@ -53,7 +53,7 @@ pub fn register_line(
     key: &[u8],
     reply: &mut [u8],
 ) -> Done
-    requires sound { IsSound words.text.old.start.now.table }
+    requires sound { IsSound words.old text.old start.table }
     requires reply_room_in_bounds { start.end + reply_room ≤ length reply.old }
     ensures { Registers words.old text.old words.new text.new start.table
         (call_of entry.kind host.now other.now key.now) reply.old reply.new start.end result }

@@ -13,7 +13,7 @@ pub fn names_insert(
     count: u32,
     row: [u32; memory::ROW],
 ) -> u32
-    requires { AnyNamesInsertion words.text.now.now records list count row }
+    requires { AnyNamesInsertion words.old text.now records list count row }
     ensures value { result ≡ records + count + 1 }
     ensures names_inserts { NamesInserts words.old words.new text.now records list count row result }
 {

@@ -10,7 +10,7 @@ use memory::{Collection, Span, Trie};
 
 // Puts the record of a collection, with the greater depth of its two links. The answer is its link.
 fn put_collection(words: &mut [u32], records: u32, kind: u32, c: Collection) -> u32
-    requires room { Room words.records.now 1 }
+    requires room { Room words.old records 1 }
     requires own_le_records { (c.own ≤ records) × (c.rest ≤ records) }
     ensures value { result ≡ records + 1 }
     ensures words_value { words.new ≡ put words.old records (collection_over words.old kind c) }
@@ -27,8 +27,8 @@ fn put_collection(words: &mut [u32], records: u32, kind: u32, c: Collection) -> 
 
 // Puts the tree `own` in front of the list `rest`. The answer is the new list.
 pub fn put_names(words: &mut [u32], records: u32, kind: u32, own: u32, rest: u32) -> u32
-    requires room { Room words.records.now 1 }
-    requires own_le_records { (own ≤ records) × (rest ≤ records) × (weight_in words.rest.now < heaviest_list) }
+    requires room { Room words.old records 1 }
+    requires own_le_records { (own ≤ records) × (rest ≤ records) × (weight_in words.old rest < heaviest_list) }
     ensures value { result ≡ records + 1 }
     ensures made_names { MadeNames words.old words.new records kind own rest result }
 {
@@ -52,9 +52,9 @@ pub fn imported(
     inner: u32,
     list: u32,
 ) -> u32
-    requires room { Room words.records.now 1 }
+    requires room { Room words.old records 1 }
     requires inner_le_records { (inner ≤ records) × (list ≤ records)
-        × (weight_in words.inner.now + weight_in words.list.now < heaviest_list) }
+        × (weight_in words.old inner + weight_in words.old list < heaviest_list) }
     ensures value { result ≡ records + 1 }
     ensures made_imported { MadeImported words.old words.new records kind label.start label.len inner list result }
 {
@@ -71,8 +71,8 @@ pub fn imported(
 
 // Puts the trie of two lists. The answer is its link.
 pub fn put_trie(words: &mut [u32], records: u32, kind: u32, bindings: u32, namespaces: u32) -> u32
-    requires room { Room words.records.now 1 }
-    requires namespaces_le_records { (namespaces ≤ records) × (depth_in words.namespaces.now ≤ deepest_trie) }
+    requires room { Room words.old records 1 }
+    requires namespaces_le_records { (namespaces ≤ records) × (depth_in words.old namespaces ≤ deepest_trie) }
     ensures value { result ≡ records + 1 }
     ensures made_trie { MadeTrie words.old words.new records kind bindings namespaces result }
 {

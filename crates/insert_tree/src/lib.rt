@@ -20,8 +20,8 @@ fn put_note(words: &mut [u32], at: u32, link: u32, side: u32)
 
 // Notes the way down to the key: the root in the last of the `count` records after the used ones, each branch before the one above it.
 fn note_path(words: &mut [u32], text: &[u8], records: u32, root: u32, count: u32, key: &[u8])
-    requires any_tree { AnyTree words.text.now.now root }
-    requires builds { Builds words.text.now.now root key.now count }
+    requires any_tree { AnyTree words.old text.now root }
+    requires builds { Builds words.old text.now root key.now count }
     requires root_le_records { (root ≤ records) × ((records + count) * record_words ≤ length words.old)
         × (records + count ≤ most_used) }
     ensures { Marked words.old words.new text.now key.now records root count }
@@ -61,7 +61,7 @@ pub fn btree_insert_replace(
     count: u32,
     row: [u32; memory::ROW],
 ) -> u32
-    requires { AnyInsertion words.text.now.now records root count row }
+    requires { AnyInsertion words.old text.now records root count row }
     ensures { Inserts words.old words.new text.now records root count row result }
 {
     let start = row[memory::TEXT_START] as usize;

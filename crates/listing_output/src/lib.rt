@@ -141,7 +141,7 @@ pub fn write_line(
     out: &mut [u8],
 )
     requires job_ok { JobOk words.now text.now (job_in branch want.matched run.now) }
-    requires line_fits { LineFits words.now (job_in branch want.matched run.now) note.now flat.out.old.old }
+    requires line_fits { LineFits words.now (job_in branch want.matched run.now) note.now flat.old out.old }
     ensures { LinePut words.now text.now (job_in branch want.matched run.now) note.now
         flat.old flat.new out.old out.new }
 {

@@ -30,7 +30,7 @@ fn list_below(
     flat: &mut [u8],
     out: &mut [u8],
 ) -> usize
-    requires { BranchAsked words.now text.now rest.now want false run.found.now }
+    requires { BranchAsked words.now text.now rest.now want false run.old found }
     ensures { BranchListed words.now text.now rest.now want false
         run.old run.new flat.old flat.new out.old out.new found result }
 {
@@ -53,7 +53,7 @@ fn list_branch(
     flat: &mut [u8],
     out: &mut [u8],
 ) -> usize
-    requires { BranchAsked words.now text.now rest.now place.want place.leaf run.found.now }
+    requires { BranchAsked words.now text.now rest.now place.want place.leaf run.old found }
     ensures { BranchListed words.now text.now rest.now place.want place.leaf
         run.old run.new flat.old flat.new out.old out.new found result }
 {
@@ -77,7 +77,7 @@ fn list_tree(
     flat: &mut [u8],
     out: &mut [u8],
 )
-    requires { TreeAsked words.now text.now query.now place run.found.now }
+    requires { TreeAsked words.now text.now query.now place run.old found }
     ensures { TreeListed words.now text.now query.now place run.old run.new
         flat.old flat.new out.old out.new found }
 {
@@ -114,7 +114,7 @@ fn list_merged(
     flat: &mut [u8],
     out: &mut [u8],
 )
-    requires { ListAsked words.now text.now query.now place run.list.now }
+    requires { ListAsked words.now text.now query.now place run.old list }
     ensures { ListListed words.now text.now query.now place run.old run.new
         flat.old flat.new out.old out.new list }
 {
@@ -193,7 +193,7 @@ fn list_names(
     flat: &mut [u8],
     out: &mut [u8],
 )
-    requires { ListAsked words.now text.now query.now place run.list.now }
+    requires { ListAsked words.now text.now query.now place run.old list }
     ensures { ListListed words.now text.now query.now place run.old run.new
         flat.old flat.new out.old out.new list }
 {
@@ -225,7 +225,7 @@ pub fn list_trie(
     flat: &mut [u8],
     out: &mut [u8],
 ) -> usize
-    requires { TrieAsked words.now text.now query.now want run.trie.now }
+    requires { TrieAsked words.now text.now query.now want run.old trie }
     ensures { TrieListed words.now text.now query.now want run.old run.new
         flat.old flat.new out.old out.new trie result }
 {

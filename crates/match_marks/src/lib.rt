@@ -35,7 +35,7 @@ pub struct Next {
 
 // Puts a branch after the others of a part. Where the part is full the others are dropped.
 fn put(notes: &mut [u32; NOTES], start: usize, most: u32, count: usize, branch: u32)
-    requires { PartOk notes.start.now most count }
+    requires { PartOk notes.old start most count }
     ensures { PutAt notes.old notes.new start most count branch }
 {
     let k = notes[count];
@@ -84,7 +84,7 @@ pub fn take_mark(notes: &mut [u32; NOTES]) -> u32
 
 // Notes a branch after the others. Where the notes are full the others are dropped, and the first of them is marked.
 pub fn note(notes: &mut [u32; NOTES], n: usize, branch: u32) -> usize
-    requires { Fits notes.n.now }
+    requires { Fits notes.old n }
     ensures { NotedAt notes.old notes.new n branch result }
 {
     if n == MOST_NOTES {

@@ -49,7 +49,7 @@ pub fn note_left(
 ) -> usize
     requires any_tree { AnyTree words.now text.now from }
     requires all_after { AllAfter words.now text.now prefix.now from }
-    requires fits { Fits notes.count.now }
+    requires fits { Fits notes.old count }
     ensures { NotesLeft words.now text.now prefix.now from notes.old notes.new count result }
 {
     let mut at = from;

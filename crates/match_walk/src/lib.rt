@@ -48,7 +48,7 @@ pub fn next_match(
     requires any_tree { AnyTree words.now text.now root }
     requires at_nonzero { (0 < at) × AnyTree words.now text.now at }
     requires prefix_value { starts_with (key_at words.now text.now at) prefix.now ≡ true }
-    requires noted { Noted words.now text.now prefix.now notes.n.now at
+    requires noted { Noted words.now text.now prefix.now notes.old n at
         (after (key_at words.now text.now) (key_at words.now text.now at)
         (matches words.now text.now root prefix.now)) }
     ensures { Matched words.now text.now prefix.now notes.new

@@ -85,8 +85,8 @@ fn take(
     next: &mut [u8; CELLS],
     turn: Cursor,
 ) -> Taken
-    requires { CellsReady words.now text.now prefix.now turn.n turn.root roots.heads.old.old
-        beginnings.child.old.next.old.old }
+    requires { CellsReady words.now text.now prefix.now turn.n turn.root roots.old heads.old
+        beginnings.old child.old next.old }
     ensures { Takes words.now text.now prefix.now turn.n turn.root roots.old heads.old
         beginnings.old child.old next.old
         roots.new heads.new beginnings.new child.new next.new result }
@@ -134,7 +134,7 @@ pub fn merge_start(
     labels: &mut [u32; CELLS],
 ) -> Start
     requires any_list { AnyList words.now text.now list }
-    requires full { Full roots.heads.old.beginnings.old.labels.old.old }
+    requires full { Full roots.old heads.old beginnings.old labels.old }
     ensures { Begins words.now text.now prefix.now list roots.new heads.new beginnings.new
         labels.new result }
 {
@@ -167,8 +167,8 @@ pub fn merge_next(
     next: &mut [u8; CELLS],
     turn: Cursor,
 ) -> Taken
-    requires { Stands words.now text.now prefix.now roots.heads.old.beginnings.old.child.old.old
-        next.turn.now }
+    requires { Stands words.now text.now prefix.now roots.old heads.old beginnings.old child.old
+        next.old turn }
     ensures { Steps words.now text.now prefix.now roots.old heads.old beginnings.old child.old
         next.old turn
         roots.new heads.new beginnings.new child.new next.new result }

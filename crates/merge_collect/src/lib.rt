@@ -30,7 +30,7 @@ pub fn collect(
 ) -> usize
     requires any_list { AnyList words.now text.now part.list }
     requires list_bound { part.at + weight_in words.now part.list ≤ heaviest_list }
-    requires full { Full roots.heads.old.beginnings.old.labels.old.old }
+    requires full { Full roots.old heads.old beginnings.old labels.old }
     ensures upper_bound { result ≤ part.at + weight_in words.now part.list }
     ensures collected { Collected words.now text.now prefix.now part.list part.label part.at result
         roots.old heads.old beginnings.old labels.old

@@ -97,7 +97,7 @@ pub fn heap_merge_pairs(
     beginnings: &[u64; CELLS],
     i: usize,
 ) -> usize
-    requires { AnyForest words.now text.now heads.now beginnings.now child.next.old.i.now }
+    requires { AnyForest words.now text.now heads.now beginnings.now child.old next.old i }
     ensures { (n : ℕ) → n ≤ heaviest_list → Pairs (cell_cmp words.now text.now heads.now) n
         child.old next.old child.new next.new result i }
 {
@@ -136,7 +136,7 @@ pub fn heap_pop(
     beginnings: &[u64; CELLS],
     i: usize,
 ) -> Popped
-    requires { AnyHeap words.now text.now heads.now beginnings.now child.next.old.i.now }
+    requires { AnyHeap words.now text.now heads.now beginnings.now child.old next.old i }
     ensures { (n : ℕ) → n ≤ heaviest_list → Pops (cell_cmp words.now text.now heads.now) n
         child.old next.old child.new next.new result i }
 {

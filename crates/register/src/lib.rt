@@ -180,7 +180,7 @@ pub fn write(
     key: &[u8],
     way: &[u32],
 ) -> Header
-    requires { Passes words.text.old.h.now entry.kind host.now other.now key.now way.now }
+    requires { Passes words.old text.old h entry.kind host.now other.now key.now way.now }
     ensures { Accepts words.old text.old words.new text.new h result
         (call_of entry.kind host.now other.now key.now)
         (after (state_of words.old text.old h) (call_of entry.kind host.now other.now key.now)) }

@@ -84,7 +84,7 @@ fn ins(
     d: Descent,
     loaded: bool,
 ) -> Built
-    requires { Some (λ used. Bindings words.text.now.now records used bindings at len d (form.Module loaded)) }
+    requires { Some (λ used. Bindings words.old text.now records used bindings at len d (form.Module loaded)) }
     ensures { BindingsBuilt words.old words.new text.now records bindings at len d (form.Module loaded)
         result.link result.records }
 {
@@ -118,7 +118,7 @@ fn mut_bindings(
     len: u32,
     d: Descent,
 ) -> Built
-    requires { Some (λ used. Bindings words.text.now.now records used bindings at len d (form_of d)) }
+    requires { Some (λ used. Bindings words.old text.now records used bindings at len d (form_of d)) }
     ensures { BindingsBuilt words.old words.new text.now records bindings at len d (form_of d) result.link
         result.records }
 {
@@ -150,7 +150,7 @@ fn mut_node(
     len: u32,
     d: Descent,
 ) -> Built
-    requires { Some (λ used. Node words.text.now.now records used trie namespaces at len d) }
+    requires { Some (λ used. Node words.old text.now records used trie namespaces at len d) }
     ensures { NodeBuilt words.old words.new text.now records trie namespaces at len d result.link
         result.records }
 {
@@ -177,8 +177,8 @@ fn namespaces_mutate(
     d: Descent,
     way: &[u32],
 ) -> Built
-    requires some { Some (λ used. NamespacesMutation words.text.now.now records used namespaces at len d) }
-    requires namespaces_way { NamespacesWay words.text.now.now records namespaces at len d way.now }
+    requires some { Some (λ used. NamespacesMutation words.old text.now records used namespaces at len d) }
+    requires namespaces_way { NamespacesWay words.old text.now records namespaces at len d way.now }
     ensures { NamespacesMutated words.old words.new text.now records namespaces at len d result.link
         result.records }
 {
@@ -215,8 +215,8 @@ pub fn trie_mutate(
     d: Descent,
     way: &[u32],
 ) -> Built
-    requires some { Some (λ used. Mutation words.text.now.now records used trie at d) }
-    requires trie_way { TrieWay words.text.now.now trie at d way.now }
+    requires some { Some (λ used. Mutation words.old text.now records used trie at d) }
+    requires trie_way { TrieWay words.old text.now trie at d way.now }
     ensures { Mutated words.old words.new text.now records trie at d result.link result.records }
 {
     if at == d.end {

@@ -55,9 +55,9 @@ fn insert_leaf(
     item: LidSymbol,
     count: u32,
 ) -> Built
-    requires some { Some (λ used. Leaf words.text.now.now records used trie
+    requires some { Some (λ used. Leaf words.old text.now records used trie
         (with_kind (Name item.kind item.number) change)) }
-    requires leaf_builds { LeafBuilds words.text.now.now trie (with_kind (Name item.kind item.number) change) count }
+    requires leaf_builds { LeafBuilds words.old text.now trie (with_kind (Name item.kind item.number) change) count }
     ensures { LeafBuilt words.old words.new text.now records trie
         (with_kind (Name item.kind item.number) change) result.link result.records }
 {
@@ -73,7 +73,7 @@ fn insert_leaf(
 
 // trie_include's.
 fn include_leaf(words: &mut [u32], text: &[u8], records: u32, trie: u32, change: Change) -> Built
-    requires { Some (λ used. Leaf words.text.now.now records used trie (with_kind Include change)) }
+    requires { Some (λ used. Leaf words.old text.now records used trie (with_kind Include change)) }
     ensures { LeafBuilt words.old words.new text.now records trie (with_kind Include change) result.link
         result.records }
 {
@@ -90,7 +90,7 @@ fn include_leaf(words: &mut [u32], text: &[u8], records: u32, trie: u32, change:
 
 // trie_open_namespace's.
 fn open_leaf(words: &mut [u32], text: &[u8], records: u32, trie: u32, change: Change) -> Built
-    requires { Some (λ used. Leaf words.text.now.now records used trie (with_kind Open change)) }
+    requires { Some (λ used. Leaf words.old text.now records used trie (with_kind Open change)) }
     ensures { LeafBuilt words.old words.new text.now records trie (with_kind Open change) result.link
         result.records }
 {
@@ -121,8 +121,8 @@ fn alias_leaf(
     change: Change,
     count: u32,
 ) -> Built
-    requires some { Some (λ used. Leaf words.text.now.now records used trie (with_kind Alias change)) }
-    requires leaf_builds { LeafBuilds words.text.now.now trie (with_kind Alias change) count }
+    requires some { Some (λ used. Leaf words.old text.now records used trie (with_kind Alias change)) }
+    requires leaf_builds { LeafBuilds words.old text.now trie (with_kind Alias change) count }
     ensures { LeafBuilt words.old words.new text.now records trie (with_kind Alias change) result.link
         result.records }
 {
@@ -149,8 +149,8 @@ pub fn mut_leaf(
     change: Change,
     count: u32,
 ) -> Built
-    requires some { Some (λ used. Leaf words.text.now.now records used trie change) }
-    requires leaf_builds { LeafBuilds words.text.now.now trie change count }
+    requires some { Some (λ used. Leaf words.old text.now records used trie change) }
+    requires leaf_builds { LeafBuilds words.old text.now trie change count }
     ensures { LeafBuilt words.old words.new text.now records trie change result.link result.records }
 {
     let kind = change.kind;

@@ -301,7 +301,7 @@ pub extern "C" fn name_table_insert_sound(
     kind: u32,
     number: u32,
 ) -> Reply
-    requires { IsSound words.text.old.old (table_of names modules records used) }
+    requires { IsSound words.old text.old (table_of names modules records used) }
     ensures { RegisterReplies words.old text.old words.new text.new (table_of names modules records used)
         (name host.now id.now (item_of kind number)) result }
 {

@@ -9,7 +9,7 @@ use memory_table::Header;
 
 // Notes the record of `link`, which is right.
 fn note(words: &[u32], link: u32, least: &mut [u32], greatest: &mut [u32])
-    requires { CanNote words.now link least.greatest.old.old }
+    requires { CanNote words.now link least.old greatest.old }
     ensures { NotesOn words.now (link + 1) least.old greatest.old least.new greatest.new }
 {
     sound_field::note(words, link, memory::LEFT, least);

@@ -193,7 +193,7 @@ impl Table {
         other: &[u8],
         key: &[u8],
     ) -> Registration
-        requires { IsSound words.text.old.self.now }
+        requires { IsSound words.old text.old self }
         ensures { Answers true words.old text.old words.new text.new self
             (call_of entry.kind host.now other.now key.now) result }
     {

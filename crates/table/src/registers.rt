@@ -36,7 +36,7 @@ impl Table {
         id: &[u8],
         item: LidSymbol,
     ) -> Registration
-        requires { IsSound words.text.old.self.now }
+        requires { IsSound words.old text.old self }
         ensures { Answers true words.old text.old words.new text.new self
             (name host.now id.now item) result }
     {
@@ -71,7 +71,7 @@ impl Table {
         host: &[u8],
         query: &[u8],
     ) -> Registration
-        requires { IsSound words.text.old.self.now }
+        requires { IsSound words.old text.old self }
         ensures { Answers true words.old text.old words.new text.new self
             (include host.now query.now) result }
     {
@@ -106,7 +106,7 @@ impl Table {
         host: &[u8],
         query: &[u8],
     ) -> Registration
-        requires { IsSound words.text.old.self.now }
+        requires { IsSound words.old text.old self }
         ensures { Answers true words.old text.old words.new text.new self
             (opens false host.now query.now) result }
     {
@@ -141,7 +141,7 @@ impl Table {
         host: &[u8],
         query: &[u8],
     ) -> Registration
-        requires { IsSound words.text.old.self.now }
+        requires { IsSound words.old text.old self }
         ensures { Answers true words.old text.old words.new text.new self
             (opens true host.now query.now) result }
     {
@@ -178,7 +178,7 @@ impl Table {
         host: &[u8],
         query: &[u8],
     ) -> Registration
-        requires { IsSound words.text.old.self.now }
+        requires { IsSound words.old text.old self }
         ensures { Answers true words.old text.old words.new text.new self
             (alias key.now host.now query.now) result }
     {
@@ -215,7 +215,7 @@ impl Table {
         query: &[u8],
         path: &[u8],
     ) -> Registration
-        requires { IsSound words.text.old.self.now }
+        requires { IsSound words.old text.old self }
         ensures { Answers true words.old text.old words.new text.new self
             (module_path loaded query.now path.now) result }
     {
