@@ -5,7 +5,7 @@ use Rattle.console_questions.proofs.ask_line.Goals as goal
 
 pub returns-in-Find : goal.returns-in-Find
 returns-in-Find c =
-    rw c.enum_told-1.given.1 (record {
+    rw c.in-Find.is (record {
       laid = rw (c.find_sound-f.ensures.says true c.requires.sound) at
           c.put_found.ensures;
       leaves = record { flat_is = refl; pane_is = refl };
@@ -13,9 +13,9 @@ returns-in-Find c =
 
 pub returns-in-Complete : goal.returns-in-Complete
 returns-in-Complete c =
-    rw c.enum_told-in-Complete-1.given.1 (record { laid = c.complete_line.ensures.laid; leaves = c.complete_line.ensures.lists })
+    rw c.in-Complete.is (record { laid = c.complete_line.ensures.laid; leaves = c.complete_line.ensures.lists })
 
 pub returns-in-Modules : goal.returns-in-Modules
 returns-in-Modules c =
-    rw c.enum_told-in-Modules-1.given.1
+    rw c.in-Modules.is
     (record { laid = c.complete_line-in-Modules.ensures.laid; leaves = c.complete_line-in-Modules.ensures.lists })

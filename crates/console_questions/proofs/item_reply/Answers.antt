@@ -3,12 +3,12 @@ use Rattle.console_questions.proofs.item_reply.Goals as goal
 
 pub returns-in-Name : goal.returns-in-Name
 returns-in-Name c =
-    rw c.item-1.given.1
+    rw c.in-Name.is
 
 pub returns-in-Module : goal.returns-in-Module
 returns-in-Module c =
-    rw (c.item-in-Symbol-1.given.1, c.s-1.given.1)
+    rw (c.in-Symbol.is, c.in-Module.is)
 
 pub returns-in-Namespace : goal.returns-in-Namespace
 returns-in-Namespace c =
-    rw (c.item-in-Symbol-1.given.1, c.s-in-Symbol-1.given.1)
+    rw (c.in-Symbol.is, c.in-Namespace.is)

@@ -5,17 +5,17 @@ use Rattle.console_questions.proofs.put_completed.Goals as goal
 
 pub put_rows-e-requires : goal.put_rows-e-requires
 put_rows-e-requires c =
-    let p = rw c.c-1.given.1 at c.requires.rows_shown in
+    let p = rw c.in-Listed.is at c.requires.rows_shown in
     (p.0, omega (arith, p.1, c.requires.pane_in_bounds))
 
 pub put_end-requires : goal.put_end-requires
 put_end-requires c =
-    let p = rw c.c-1.given.1 at c.requires.rows_shown in omega (arith, c.put_rows-e.ensures.1, p.1, c.requires.pane_in_bounds, laid_length c.put_rows-e.ensures.0)
+    let p = rw c.in-Listed.is at c.requires.rows_shown in omega (arith, c.put_rows-e.ensures.1, p.1, c.requires.pane_in_bounds, laid_length c.put_rows-e.ensures.0)
 
 pub returns-in-Listed : goal.returns-in-Listed
 returns-in-Listed c =
-    rw c.c-1.given.1 (laid_more c.put_rows-e.ensures.0 c.put_end.ensures)
+    rw c.in-Listed.is (laid_more c.put_rows-e.ensures.0 c.put_end.ensures)
 
 pub returns-in-Refused : goal.returns-in-Refused
 returns-in-Refused c =
-    rw c.c-in-Refused-1.given.1 (rw c.number-n.ensures at c.Put-refused.ensures)
+    rw c.in-Refused.is (rw c.number-n.ensures at c.Put-refused.ensures)

@@ -3,12 +3,12 @@ use Rattle.console_questions.proofs.put_found.Goals as goal
 
 pub returns-in-Item : goal.returns-in-Item
 returns-in-Item c =
-    rw c.f-1.given.1 c.put_found.ensures
+    rw c.in-Item.is c.put_found.ensures
 
 pub returns-in-Nothing : goal.returns-in-Nothing
 returns-in-Nothing c =
-    rw c.enum_told-1.given.1 c.put_none.ensures
+    rw c.in-Nothing.is c.put_none.ensures
 
 pub returns-in-Refused : goal.returns-in-Refused
 returns-in-Refused c =
-    rw c.f-in-Refused-1.given.1 (rw c.number-n.ensures at c.Put-refused.ensures)
+    rw c.in-Refused.is (rw c.number-n.ensures at c.Put-refused.ensures)

@@ -5,27 +5,6 @@ use Rattle.text.proofs.Laid.{laid_length}
 use Rattle.console_questions.proofs.RowReplies.{rows_going_start, going_texts, going_space, rows_going_on, rows_going_end}
 use Rattle.console_questions.proofs.put_rows.Goals as goal
 
-put-row-requires : tie.Need-put-row-requires invariant-loop decreases-loop
-put-row-requires c κs =
-    let l : c.before.before.before.loop.i < c.before.before.before.before.before.before.before.args.n = omega arith in
-    rw c.before.row_at.ensures (
-      (going_texts c.before.before.before.loop.invariant l).0,
-      omega (
-        arith,
-        going_space c.before.before.before.loop.invariant l,
-        c.before.before.before.before.before.before.before.requires.1,
-        laid_length c.before.before.before.loop.invariant.laid,
-      ),
-    )
-
-loop-again : tie.Need-loop-preserved invariant-loop decreases-loop
-loop-again c =
-    let l : c.before.before.before.before.before.before.loop.i
-    < c.before.before.before.before.before.before.before.before.before.before.args.n = omega arith in
-    rows_going_on c.before.before.before.before.before.before.loop.invariant l
-    (rw c.before.before.before.before.row_at.ensures at c.before.before.put-row.ensures.0)
-    (rw c.before.before.before.before.row_at.ensures at c.before.before.put-row.ensures.1)
-
 pub loop-i-init : goal.loop-i-init
 loop-i-init c =
     rows_going_start c.requires.rows_in (omega (arith, c.requires.n_in_bounds))
@@ -35,12 +14,25 @@ row_at-r-requires c =
     omega (arith, c.requires.rows_in.whole)
 
 pub put_row-e-requires : goal.put_row-e-requires
-put_row-e-requires =
-    put-row-requires
+put_row-e-requires c =
+    let l : c.loop-i.i < c.args.n = omega arith in
+    rw c.row_at-r.ensures (
+      (going_texts c.loop-i.invariant l).0,
+      omega (
+        arith,
+        going_space c.loop-i.invariant l,
+        c.requires.n_in_bounds,
+        laid_length c.loop-i.invariant.laid,
+      ),
+    )
 
 pub loop-i-preserved : goal.loop-i-preserved
-loop-i-preserved =
-    loop-again
+loop-i-preserved c =
+    let l : c.loop-i.i
+    < c.args.n = omega arith in
+    rows_going_on c.loop-i.invariant l
+    (rw c.row_at-r.ensures at c.put_row-e.ensures.0)
+    (rw c.row_at-r.ensures at c.put_row-e.ensures.1)
 
 pub shape_of-reply : goal.shape_of-reply
 shape_of-reply c =

@@ -3,8 +3,8 @@ use Rattle.console_registrations.proofs.put_registered.Goals as goal
 
 pub returns-in-Accepted : goal.returns-in-Accepted
 returns-in-Accepted c =
-    rw c.enum_told-1.given.1 c.put_ok.ensures
+    rw c.in-Accepted.is c.put_ok.ensures
 
 pub returns-in-Refused : goal.returns-in-Refused
 returns-in-Refused c =
-    rw c.r-1.given.1 (rw c.number-code.ensures at c.Put-refused.ensures)
+    rw c.in-Refused.is (rw c.number-code.ensures at c.Put-refused.ensures)

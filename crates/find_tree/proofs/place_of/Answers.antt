@@ -26,12 +26,12 @@ loop-link-smaller-in-Less c =
 
 pub loop-link-preserved-in-Less : goal.loop-link-preserved-in-Less
 loop-link-preserved-in-Less c =
-    search_left c.loop-link.invariant c.loop-link-test.true (rw c.enum_told-1.given.1 at c.key_order.ensures)
+    search_left c.loop-link.invariant c.loop-link-test.true (rw c.in-Less.is at c.key_order.ensures)
     c.left_of-link.ensures
 
 pub returns-in-Same : goal.returns-in-Same
 returns-in-Same c =
-    search_here c.loop-link.invariant c.loop-link-test.true (rw c.enum_told-in-Same-1.given.1 at c.key_order.ensures)
+    search_here c.loop-link.invariant c.loop-link-test.true (rw c.in-Same.is at c.key_order.ensures)
 
 pub right_of-link-requires : goal.right_of-link-requires
 right_of-link-requires c =
@@ -47,7 +47,7 @@ loop-link-smaller c =
 
 pub loop-link-preserved : goal.loop-link-preserved
 loop-link-preserved c =
-    search_right c.loop-link.invariant c.loop-link-test.true (rw c.enum_told-in-More-1.given.1 at c.key_order.ensures)
+    search_right c.loop-link.invariant c.loop-link-test.true (rw c.in-More.is at c.key_order.ensures)
     c.right_of-link.ensures
 
 pub returns : goal.returns

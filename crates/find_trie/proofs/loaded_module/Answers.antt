@@ -8,8 +8,8 @@ returns-then-holder-eq0 c =
 
 pub returns-in-Module : goal.returns-in-Module
 returns-in-Module c =
-    loaded_is_module c.if-holder-eq0.false c.symbol_of.ensures c.loaded-1.given.1
+    loaded_is_module c.if-holder-eq0.false c.symbol_of.ensures c.in-Module.is
 
 pub returns-in-Namespace : goal.returns-in-Namespace
 returns-in-Namespace c =
-    loaded_is_namespace c.if-holder-eq0.false c.symbol_of.ensures c.enum_told-1.given.1
+    loaded_is_namespace c.if-holder-eq0.false c.symbol_of.ensures c.in-Namespace.is

@@ -8,8 +8,8 @@ returns-then-holder-eq0 c =
 
 pub returns-in-Module : goal.returns-in-Module
 returns-in-Module c =
-    ns_inserts_module c.if-holder-eq0.false c.symbol_of.ensures c.enum_told-1.given.1
+    ns_inserts_module c.if-holder-eq0.false c.symbol_of.ensures c.in-Module.is
 
 pub returns-in-Namespace : goal.returns-in-Namespace
 returns-in-Namespace c =
-    ns_inserts_namespace c.if-holder-eq0.false c.symbol_of.ensures c.seen-1.given.1
+    ns_inserts_namespace c.if-holder-eq0.false c.symbol_of.ensures c.in-Namespace.is

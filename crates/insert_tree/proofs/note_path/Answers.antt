@@ -33,7 +33,7 @@ put_note-requires c =
 
 pub overflow_sub-at-in-Less : goal.overflow_sub-at-in-Less
 overflow_sub-at-in-Less c =
-    left_room c.loop-link.invariant c.loop-link-test.true (rw c.enum_told-1.given.1 at c.key_order.ensures)
+    left_room c.loop-link.invariant c.loop-link-test.true (rw c.in-Less.is at c.key_order.ensures)
 
 pub loop-link-smaller-in-Less : goal.loop-link-smaller-in-Less
 loop-link-smaller-in-Less c =
@@ -41,7 +41,7 @@ loop-link-smaller-in-Less c =
 
 pub loop-link-preserved-in-Less : goal.loop-link-preserved-in-Less
 loop-link-preserved-in-Less c =
-    mark_left c.loop-link.invariant c.loop-link-test.true (rw c.enum_told-1.given.1 at c.key_order.ensures) c.left_of-next.ensures
+    mark_left c.loop-link.invariant c.loop-link-test.true (rw c.in-Less.is at c.key_order.ensures) c.left_of-next.ensures
     c.put_note.ensures
 
 pub put_note-requires-in-Same : goal.put_note-requires-in-Same
@@ -50,7 +50,7 @@ put_note-requires-in-Same c =
 
 pub returns-in-Same : goal.returns-in-Same
 returns-in-Same c =
-    mark_here c.loop-link.invariant c.loop-link-test.true (rw c.enum_told-in-Same-1.given.1 at c.key_order.ensures)
+    mark_here c.loop-link.invariant c.loop-link-test.true (rw c.in-Same.is at c.key_order.ensures)
     c.put_note-in-Same.ensures
 
 pub right_of-next-requires : goal.right_of-next-requires
@@ -63,7 +63,7 @@ put_note-requires-in-More c =
 
 pub overflow_sub-at-in-More : goal.overflow_sub-at-in-More
 overflow_sub-at-in-More c =
-    right_room c.loop-link.invariant c.loop-link-test.true (rw c.enum_told-in-More-1.given.1 at c.key_order.ensures)
+    right_room c.loop-link.invariant c.loop-link-test.true (rw c.in-More.is at c.key_order.ensures)
 
 pub loop-link-smaller : goal.loop-link-smaller
 loop-link-smaller c =
@@ -71,7 +71,7 @@ loop-link-smaller c =
 
 pub loop-link-preserved : goal.loop-link-preserved
 loop-link-preserved c =
-    mark_right c.loop-link.invariant c.loop-link-test.true (rw c.enum_told-in-More-1.given.1 at c.key_order.ensures) c.right_of-next.ensures
+    mark_right c.loop-link.invariant c.loop-link-test.true (rw c.in-More.is at c.key_order.ensures) c.right_of-next.ensures
     c.put_note-in-More.ensures
 
 pub put_note-requires-2 : goal.put_note-requires-2

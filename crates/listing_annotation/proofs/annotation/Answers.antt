@@ -6,8 +6,8 @@ pub returns-then-loaded : goal.returns-then-loaded
 returns-then-loaded c =
     let a = c.args in
     rw (
-      c.enum_told-in-Modules-1.given.1,
-      module_at a.words.now a.text.now a.found.link c.symbol_of-symbol.ensures c.symbol-1.given.1,
+      c.in-Modules.is,
+      module_at a.words.now a.text.now a.found.link c.symbol_of-symbol.ensures c.in-Module.is,
       c.if-loaded.true,
     )
 
@@ -15,21 +15,21 @@ pub returns-then-loaded-2 : goal.returns-then-loaded-2
 returns-then-loaded-2 c =
     let a = c.args in
     rw (
-      c.enum_told-in-Modules-1.given.1,
-      namespace_at a.words.now a.text.now a.found.link c.symbol_of-symbol.ensures c.symbol-in-Namespace-1.given.1,
+      c.in-Modules.is,
+      namespace_at a.words.now a.text.now a.found.link c.symbol_of-symbol.ensures c.in-Namespace.is,
       c.if-loaded-2.true,
     )
 
 pub returns-in-Names : goal.returns-in-Names
 returns-in-Names c =
-    rw c.enum_told-1.given.1 c.note_of.ensures
+    rw c.in-Names.is c.note_of.ensures
 
 pub returns-else-loaded : goal.returns-else-loaded
 returns-else-loaded c =
     let a = c.args in
     rw (
-      c.enum_told-in-Modules-1.given.1,
-      module_at a.words.now a.text.now a.found.link c.symbol_of-symbol.ensures c.symbol-1.given.1,
+      c.in-Modules.is,
+      module_at a.words.now a.text.now a.found.link c.symbol_of-symbol.ensures c.in-Module.is,
       c.if-loaded.false,
     )
 
@@ -37,7 +37,7 @@ pub returns-else-loaded-2 : goal.returns-else-loaded-2
 returns-else-loaded-2 c =
     let a = c.args in
     rw (
-      c.enum_told-in-Modules-1.given.1,
-      namespace_at a.words.now a.text.now a.found.link c.symbol_of-symbol.ensures c.symbol-in-Namespace-1.given.1,
+      c.in-Modules.is,
+      namespace_at a.words.now a.text.now a.found.link c.symbol_of-symbol.ensures c.in-Namespace.is,
       c.if-loaded-2.false,
     )

@@ -9,12 +9,12 @@ key_of-requires c =
 
 pub returns-in-Less : goal.returns-in-Less
 returns-in-Less c =
-    same_order (rw c.key_of.ensures at c.key_order.ensures) c.enum_told-1.given.1
+    same_order (rw c.key_of.ensures at c.key_order.ensures) c.in-Less.is
 
 pub returns-in-Same : goal.returns-in-Same
 returns-in-Same c =
-    same_order (rw c.key_of.ensures at c.key_order.ensures) c.enum_told-in-Same-1.given.1
+    same_order (rw c.key_of.ensures at c.key_order.ensures) c.in-Same.is
 
 pub returns-in-More : goal.returns-in-More
 returns-in-More c =
-    same_order (rw c.key_of.ensures at c.key_order.ensures) c.enum_told-in-More-1.given.1
+    same_order (rw c.key_of.ensures at c.key_order.ensures) c.in-More.is

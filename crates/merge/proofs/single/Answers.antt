@@ -19,4 +19,4 @@ returns-then-rest_of-gt0 c =
 pub returns : goal.returns
 returns c =
     single_tree (omega (arith, c.if-list-eq0.false)) (λ e. c.if-sort_of-eq-IMPORTED.false (c.sort_of.ensures ∙ e))
-    (omega (arith, c.rest_of.ensures, c.if-rest_of-gt0.false)) c.own_of_lem.ensures
+    (omega (arith, c.rest_of.ensures, c.if-rest_of-gt0.false)) c.own_of.ensures

@@ -80,7 +80,7 @@ heap_insert-top-requires c =
 
 pub returns-in-Nothing : goal.returns-in-Nothing
 returns-in-Nothing c =
-    takes_none (rw c.enum_told-1.given.1 at
+    takes_none (rw c.in-Nothing.is at
     (c.heap_pop.ensures _ c.requires.holding.few))
 
 pub returns-else-after-eq0 : goal.returns-else-after-eq0

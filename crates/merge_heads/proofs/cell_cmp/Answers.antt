@@ -79,14 +79,14 @@ overflow_sub-result c =
 pub returns-in-Less : goal.returns-in-Less
 unfolding then
 returns-in-Less c =
-    by_key _ _ _ _ _ c.compare_keys.ensures Less c.enum_told-1.given.1
+    by_key _ _ _ _ _ c.compare_keys.ensures Less c.in-Less.is
 
 pub returns-in-Same : goal.returns-in-Same
 unfolding then
 returns-in-Same c =
-    by_place _ _ c.requires.head.small c.requires.head_2.small ∙ by_key _ _ _ _ _ c.compare_keys.ensures Same c.enum_told-in-Same-1.given.1
+    by_place _ _ c.requires.head.small c.requires.head_2.small ∙ by_key _ _ _ _ _ c.compare_keys.ensures Same c.in-Same.is
 
 pub returns-in-More : goal.returns-in-More
 unfolding then
 returns-in-More c =
-    by_key _ _ _ _ _ c.compare_keys.ensures More c.enum_told-in-More-1.given.1
+    by_key _ _ _ _ _ c.compare_keys.ensures More c.in-More.is

@@ -1,7 +1,7 @@
 -- `merge_heap::heap_pop` meets its contract.
 use native.Mathlib.Omega.{arith}
 use Rattle.merge_heap.proofs.CellCounts.{root_in}
-use Rattle.merge_heap.proofs.HeapPop.{rep_kids, pop_none, pop_rep}
+use Rattle.merge_heap.proofs.HeapPop.{rep_kids, kids_small, pop_none, pop_rep}
 use Rattle.merge_heap.proofs.heap_pop.Goals as goal
 
 pub returns-then-i-eq-CELLS : goal.returns-then-i-eq-CELLS
@@ -11,6 +11,11 @@ returns-then-i-eq-CELLS c n few =
 pub bounds-child-i : goal.bounds-child-i
 bounds-child-i c =
     let pre = c.requires in omega (arith, pre.headed.few, root_in _ _ _ pre.headed.few pre.rep c.if-i-eq-CELLS.false)
+
+pub overflow_cast-k : goal.overflow_cast-k
+overflow_cast-k c =
+    let pre = c.requires in
+    omega (arith, kids_small _ _ _ pre.headed.few _ pre.heap pre.rep c.if-i-eq-CELLS.false)
 
 pub heap_merge_pairs-rest-requires : goal.heap_merge_pairs-rest-requires
 heap_merge_pairs-rest-requires c =

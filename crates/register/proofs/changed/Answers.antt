@@ -3,12 +3,12 @@ use Rattle.register.proofs.changed.Goals as goal
 
 pub returns-in-Name : goal.returns-in-Name
 returns-in-Name c =
-    rw c.enum_told-1.given.1
+    rw c.in-Name.is
 
 pub returns-in-Import : goal.returns-in-Import
 returns-in-Import c =
-    rw c.enum_told-in-Import-1.given.1
+    rw c.in-Import.is
 
 pub returns-in-Module : goal.returns-in-Module
 returns-in-Module c =
-    rw c.enum_told-in-Module-1.given.1
+    rw c.in-Module.is

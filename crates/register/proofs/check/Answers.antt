@@ -15,7 +15,7 @@ included-requires c =
     (
       names_trie c.requires.sound,
       rw c.shape_of-s.ensures (call_ready c.args.entry.kind c.args.host.now c.args.other.now c.args.key.now
-          (argument_rows_none _ _ (admitted_none c.flags_of.ensures c.admit-a.ensures c.enum_told-1.given.1))).other_fine,
+          (argument_rows_none _ _ (admitted_none c.flags_of.ensures c.admit-a.ensures c.in-Admitted.is))).other_fine,
     )
 
 pub plan_of-p-requires : goal.plan_of-p-requires
@@ -24,7 +24,7 @@ plan_of-p-requires c =
       rw (c.root_of-root.ensures, c.shape_of-s.ensures) (either_trie c.requires.sound (which_by (shape_of a.entry.kind).form)),
       (
         let r = call_ready a.entry.kind a.host.now a.other.now a.key.now
-            (argument_rows_none _ _ (admitted_none c.flags_of.ensures c.admit-a.ensures c.enum_told-1.given.1)) in
+            (argument_rows_none _ _ (admitted_none c.flags_of.ensures c.admit-a.ensures c.in-Admitted.is)) in
             (r.host_ends, r.host_keeps.few, (included_written a.way.now included c.requires.no_key.1).1),
         rw (c.root_of-root.ensures, (included_written a.way.now included c.requires.no_key.1).0, ← c.shape_of-s.ensures)
             (carries_root a.words.now a.text.now a.h c.shape_of-s.result.form a.other.now included c.included.ensures),
@@ -34,27 +34,27 @@ plan_of-p-requires c =
 pub overflow_add-demand : goal.overflow_add-demand
 overflow_add-demand c =
     let s = ready_short c.args.entry.kind c.args.host.now c.args.other.now c.args.key.now
-    (call_ready _ _ _ _ (argument_rows_none _ _ (admitted_none c.flags_of.ensures c.admit-a.ensures c.enum_told-1.given.1)))
+    (call_ready _ _ _ _ (argument_rows_none _ _ (admitted_none c.flags_of.ensures c.admit-a.ensures c.in-Admitted.is)))
     c.requires.no_key.0 in omega (arith, s.host_short, s.other_short, s.key_short)
 
 pub overflow_add-demand-in-Admitted : goal.overflow_add-demand-in-Admitted
 overflow_add-demand-in-Admitted c =
     let s = ready_short c.args.entry.kind c.args.host.now c.args.other.now c.args.key.now
-    (call_ready _ _ _ _ (argument_rows_none _ _ (admitted_none c.flags_of.ensures c.admit-a.ensures c.enum_told-1.given.1)))
+    (call_ready _ _ _ _ (argument_rows_none _ _ (admitted_none c.flags_of.ensures c.admit-a.ensures c.in-Admitted.is)))
     c.requires.no_key.0 in omega (arith, s.host_short, s.other_short, s.key_short)
 
 pub returns-in-Refused : goal.returns-in-Refused
 returns-in-Refused c =
     rows_refused _ _ _
-    (refused_lowest c.flags_of.ensures c.admit-a.ensures c.a-1.given.1)
+    (refused_lowest c.flags_of.ensures c.admit-a.ensures c.in-Refused.is)
 
 pub returns-in-Refused-b : goal.returns-in-Refused-b
 returns-in-Refused-b c =
     rows_planned _ _ _ (sound_table c.requires.sound) (c.plan_of-p.ensures.0 _
     (rw (c.root_of-root.ensures, c.shape_of-s.ensures) (root_reads _ _ _ (which_by (shape_of c.args.entry.kind).form))))
     (sym (taken_all c.args.entry.kind c.args.host.now c.args.other.now c.args.key.now c.requires.no_key.0))
-    (admitted_none c.flags_of.ensures c.admit-a.ensures c.enum_told-1.given.1)
-    ∙ sym (rw c.b-1.given.1 at c.afford-b.ensures)
+    (admitted_none c.flags_of.ensures c.admit-a.ensures c.in-Admitted.is)
+    ∙ sym (rw c.in-Refused-b.is at c.afford-b.ensures)
 
 pub returns-in-Admitted-b : goal.returns-in-Admitted-b
 returns-in-Admitted-b c =
@@ -65,8 +65,8 @@ returns-in-Admitted-b c =
       rows = rows_planned _ _ _ (sound_table c.requires.sound)
           (plan-of.0 _ (rw (c.root_of-root.ensures, shape-of') (root_reads _ _ _ (which_by (shape_of a.entry.kind).form))))
           (sym (taken_all a.entry.kind a.host.now a.other.now a.key.now c.requires.no_key.0))
-          (admitted_none c.flags_of.ensures c.admit-a.ensures c.enum_told-1.given.1)
-          ∙ sym (rw c.enum_told-in-Admitted-b-1.given.1 at c.afford-b.ensures);
+          (admitted_none c.flags_of.ensures c.admit-a.ensures c.in-Admitted.is)
+          ∙ sym (rw c.in-Admitted-b.is at c.afford-b.ensures);
       size = (included_stays a.way.now included.result c.requires.no_key.1 plan-of.1.kept).1;
       carries = rw ((included_stays a.way.now included.result c.requires.no_key.1 plan-of.1.kept).0, ← shape-of') included.ensures;
       leads = rw (c.root_of-root.ensures, shape-of') at plan-of.1.leads;

@@ -5,16 +5,16 @@ use Rattle.register.proofs.included.Goals as goal
 
 pub trie_descend-requires : goal.trie_descend-requires
 trie_descend-requires c =
-    (record { which = names; trie = c.requires.at }, query_ends _ (rw c.enum_told-in-Import-1.given.1 at c.requires.other_value))
+    (record { which = names; trie = c.requires.at }, query_ends _ (rw c.in-Import.is at c.requires.other_value))
 
 pub returns-in-Name : goal.returns-in-Name
 returns-in-Name c =
-    rw c.enum_told-1.given.1
+    rw c.in-Name.is
 
 pub returns-in-Import : goal.returns-in-Import
 returns-in-Import c =
-    rw c.enum_told-in-Import-1.given.1 (c.trie_descend.ensures names c.requires.at)
+    rw c.in-Import.is (c.trie_descend.ensures names c.requires.at)
 
 pub returns-in-Module : goal.returns-in-Module
 returns-in-Module c =
-    rw c.enum_told-in-Module-1.given.1
+    rw c.in-Module.is

@@ -4,12 +4,12 @@ use Rattle.register_change.proofs.kinds_of.Goals as goal
 
 pub returns-in-Name : goal.returns-in-Name
 returns-in-Name c =
-    kinds_name c.args.change (rw c.shape_of-s.ensures at c.enum_told-1.given.1)
+    kinds_name c.args.change (rw c.shape_of-s.ensures at c.in-Name.is)
 
 pub returns-in-Import : goal.returns-in-Import
 returns-in-Import c =
-    kinds_import c.args.change (rw c.shape_of-s.ensures at c.enum_told-in-Import-1.given.1)
+    kinds_import c.args.change (rw c.shape_of-s.ensures at c.in-Import.is)
 
 pub returns-in-Module : goal.returns-in-Module
 returns-in-Module c =
-    kinds_module c.args.change (rw c.shape_of-s.ensures at c.enum_told-in-Module-1.given.1)
+    kinds_module c.args.change (rw c.shape_of-s.ensures at c.in-Module.is)

@@ -4,36 +4,36 @@ use Rattle.register_leaf.proofs.mut_leaf.Goals as goal
 
 pub insert_leaf-requires : goal.insert_leaf-requires
 insert_leaf-requires c =
-    inserting_as c.args.change c.kind-1.given.1 c.args.count c.requires
+    inserting_as c.args.change c.in-Name.is c.args.count c.requires
 
 pub include_leaf-requires : goal.include_leaf-requires
 include_leaf-requires c =
-    leaf_as c.args.change c.enum_told-1.given.1 c.requires.some
+    leaf_as c.args.change c.in-Include.is c.requires.some
 
 pub open_leaf-requires : goal.open_leaf-requires
 open_leaf-requires c =
-    leaf_as c.args.change c.enum_told-in-Open-1.given.1 c.requires.some
+    leaf_as c.args.change c.in-Open.is c.requires.some
 
 pub alias_leaf-requires : goal.alias_leaf-requires
 alias_leaf-requires c =
-    inserting_as c.args.change c.enum_told-in-Alias-1.given.1 c.args.count c.requires
+    inserting_as c.args.change c.in-Alias.is c.args.count c.requires
 
 pub returns-in-Name : goal.returns-in-Name
 returns-in-Name c =
-    leaf_built c.args.change c.kind-1.given.1 c.insert_leaf.ensures
+    leaf_built c.args.change c.in-Name.is c.insert_leaf.ensures
 
 pub returns-in-Include : goal.returns-in-Include
 returns-in-Include c =
-    leaf_built c.args.change c.enum_told-1.given.1 c.include_leaf.ensures
+    leaf_built c.args.change c.in-Include.is c.include_leaf.ensures
 
 pub returns-in-Open : goal.returns-in-Open
 returns-in-Open c =
-    leaf_built c.args.change c.enum_told-in-Open-1.given.1 c.open_leaf.ensures
+    leaf_built c.args.change c.in-Open.is c.open_leaf.ensures
 
 pub returns-in-Alias : goal.returns-in-Alias
 returns-in-Alias c =
-    leaf_built c.args.change c.enum_told-in-Alias-1.given.1 c.alias_leaf.ensures
+    leaf_built c.args.change c.in-Alias.is c.alias_leaf.ensures
 
 pub returns-in-Module : goal.returns-in-Module
 returns-in-Module c =
-    let change = c.args.change in leaf_built change c.enum_told-in-Module-1.given.1 (leaf_module change)
+    let change = c.args.change in leaf_built change c.in-Module.is (leaf_module change)

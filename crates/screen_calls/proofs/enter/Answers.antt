@@ -21,17 +21,17 @@ save-requires c =
       pre.0,
       store_fits (held_is pre.0 c.table_of-t.ensures pre.1)
           (says_passes c.is_sound_small.result c.is_sound_small.ensures c.if-not-is_sound_small.false) c.register_sound-r.ensures
-          (ap refusal_of c.enum_told-1.given.1) c.register_sound-r.auto.1.0,
+          (ap refusal_of c.in-Accepted.is) c.register_sound-r.auto.1.0,
     )
 
 pub returns-in-Accepted : goal.returns-in-Accepted
 returns-in-Accepted c =
     reply_accepted (held_is c.requires.state_len c.table_of-t.ensures c.requires.memory_value)
     (says_passes c.is_sound_small.result c.is_sound_small.ensures c.if-not-is_sound_small.false) c.register_sound-r.ensures
-    (ap refusal_of c.enum_told-1.given.1) c.save.ensures
+    (ap refusal_of c.in-Accepted.is) c.save.ensures
 
 pub returns-in-Refused : goal.returns-in-Refused
 returns-in-Refused c =
     reply_refused (held_is c.requires.state_len c.table_of-t.ensures c.requires.memory_value)
     (says_passes c.is_sound_small.result c.is_sound_small.ensures c.if-not-is_sound_small.false) c.register_sound-r.ensures
-    (ap refusal_of c.a-1.given.1) c.number.ensures
+    (ap refusal_of c.in-Refused.is) c.number.ensures

@@ -5,8 +5,8 @@ use Rattle.screen_replies.proofs.lines_reply.Goals as goal
 
 pub returns-in-Listed : goal.returns-in-Listed
 returns-in-Listed c =
-    rw c.c-1.given.1
+    rw c.in-Listed.is
 
 pub returns-in-Refused : goal.returns-in-Refused
 returns-in-Refused c =
-    rw c.c-in-Refused-1.given.1 (c.no_lines.ensures ∙ ap no_lines c.number.ensures)
+    rw c.in-Refused.is (c.no_lines.ensures ∙ ap no_lines c.number.ensures)

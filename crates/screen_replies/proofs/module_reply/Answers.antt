@@ -5,8 +5,8 @@ use Rattle.screen_replies.proofs.module_reply.Goals as goal
 
 pub returns-in-Nothing : goal.returns-in-Nothing
 returns-in-Nothing c =
-    rw c.enum_told-1.given.1 c.no_module.ensures
+    rw c.in-Nothing.is c.no_module.ensures
 
 pub returns-in-Refused : goal.returns-in-Refused
 returns-in-Refused c =
-    rw c.f-in-Refused-1.given.1 (c.no_module-in-Refused.ensures ∙ ap no_module c.number.ensures)
+    rw c.in-Refused.is (c.no_module-in-Refused.ensures ∙ ap no_module c.number.ensures)

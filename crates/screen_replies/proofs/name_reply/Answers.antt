@@ -7,12 +7,12 @@ use Rattle.screen_replies.proofs.name_reply.Goals as goal
 
 pub returns-in-Item : goal.returns-in-Item
 returns-in-Item c =
-    rw (c.f-1.given.1, c.number_of_lem.ensures)
+    rw (c.in-Item.is, c.number_of.ensures)
 
 pub returns-in-Nothing : goal.returns-in-Nothing
 returns-in-Nothing c =
-    rw c.enum_told-1.given.1 c.no_name.ensures
+    rw c.in-Nothing.is c.no_name.ensures
 
 pub returns-in-Refused : goal.returns-in-Refused
 returns-in-Refused c =
-    rw c.f-in-Refused-1.given.1 (c.no_name-in-Refused.ensures ∙ ap (λ (n : ℕ). name_reply (refused n)) c.number.ensures)
+    rw c.in-Refused.is (c.no_name-in-Refused.ensures ∙ ap (λ (n : ℕ). name_reply (refused n)) c.number.ensures)

@@ -3,8 +3,8 @@ use Rattle.screen_replies.proofs.symbol_reply.Goals as goal
 
 pub returns-in-Module : goal.returns-in-Module
 returns-in-Module c =
-    rw (c.s-1.given.1, c.flag_of.ensures)
+    rw (c.in-Module.is, c.flag_of.ensures)
 
 pub returns-in-Namespace : goal.returns-in-Namespace
 returns-in-Namespace c =
-    rw (c.s-in-Namespace-1.given.1, c.flag_of-in-Namespace.ensures)
+    rw (c.in-Namespace.is, c.flag_of-in-Namespace.ensures)

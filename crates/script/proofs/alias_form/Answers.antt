@@ -1,5 +1,6 @@
 -- `alias_form` answers for every form: a line that begins so can be no other.
 use mathlib.Core.Path.{subst}
+use native.Mathlib.Omega.{arith}
 use Rattle.script.specs.Script.{key}
 use Rattle.script_decimal.specs.Bytes.{bytes}
 use Rattle.script_parts.specs.Parts.{WordSays, PieceSays, PairSays}
@@ -9,38 +10,46 @@ use Rattle.script.proofs.alias_form.Goals as goal
 
 pub piece-requires : goal.piece-requires
 piece-requires c =
-    ((subst (WordSays _ _) c.at-1.given.1 c.word_end.ensures).end, stops_word)
+    ((subst (WordSays _ _) c.in-At.is c.word_end.ensures).end, stops_word)
 
 pub returns-then-e-at : goal.returns-then-e-at
 unfolding key bytes
 returns-then-e-at c =
-    alias_empty c.requires (subst (WordSays _ _) c.at-1.given.1 c.word_end.ensures)
-    (subst (PieceSays _ _ _ _) c.e-1.given.1 c.piece.ensures) c.if-e-at.true
+    alias_empty c.requires (subst (WordSays _ _) c.in-At.is c.word_end.ensures)
+    (subst (PieceSays _ _ _ _) c.in-At-piece.is c.piece.ensures) c.if-e-at.true
+
+pub overflow_add-e : goal.overflow_add-e
+overflow_add-e c =
+    omega (arith, (subst (PieceSays _ _ _ _) c.in-At-piece.is c.piece.ensures).end)
 
 pub pair_end-requires : goal.pair_end-requires
 pair_end-requires c =
-    (subst (PieceSays _ _ _ _) c.e-1.given.1 c.piece.ensures).end
+    (subst (PieceSays _ _ _ _) c.in-At-piece.is c.piece.ensures).end
+
+pub overflow_sub-result : goal.overflow_sub-result
+overflow_sub-result c =
+    (subst (PieceSays _ _ _ _) c.in-At-piece.is c.piece.ensures).start
 
 pub returns-in-At-pair_end : goal.returns-in-At-pair_end
 unfolding key bytes
 returns-in-At-pair_end c =
-    alias_yes c.requires (subst (WordSays _ _) c.at-1.given.1 c.word_end.ensures)
-    (subst (PieceSays _ _ _ _) c.e-1.given.1 c.piece.ensures) c.if-e-at.false _ _
-    (subst (PairSays _ _) c.host-1.given.1 c.pair_end.ensures)
+    alias_yes c.requires (subst (WordSays _ _) c.in-At.is c.word_end.ensures)
+    (subst (PieceSays _ _ _ _) c.in-At-piece.is c.piece.ensures) c.if-e-at.false _ _
+    (subst (PairSays _ _) c.in-At-pair_end.is c.pair_end.ensures)
 
 pub returns-in-No-pair_end : goal.returns-in-No-pair_end
 unfolding key bytes
 returns-in-No-pair_end c =
-    alias_no c.requires (subst (WordSays _ _) c.at-1.given.1 c.word_end.ensures)
-    (subst (PieceSays _ _ _ _) c.e-1.given.1 c.piece.ensures) (subst (PairSays _ _) c.enum_told-1.given.1 c.pair_end.ensures)
+    alias_no c.requires (subst (WordSays _ _) c.in-At.is c.word_end.ensures)
+    (subst (PieceSays _ _ _ _) c.in-At-piece.is c.piece.ensures) (subst (PairSays _ _) c.in-No-pair_end.is c.pair_end.ensures)
 
 pub returns-in-No-piece : goal.returns-in-No-piece
 unfolding key bytes
 returns-in-No-piece c =
-    alias_none c.requires (subst (WordSays _ _) c.at-1.given.1 c.word_end.ensures)
-    (subst (PieceSays _ _ _ _) c.enum_told-in-No-piece-1.given.1 c.piece.ensures)
+    alias_none c.requires (subst (WordSays _ _) c.in-At.is c.word_end.ensures)
+    (subst (PieceSays _ _ _ _) c.in-No-piece.is c.piece.ensures)
 
 pub returns-in-No : goal.returns-in-No
 unfolding key bytes
 returns-in-No c =
-    word_none c.requires (subst (WordSays _ _) c.enum_told-in-No-1.given.1 c.word_end.ensures)
+    word_none c.requires (subst (WordSays _ _) c.in-No.is c.word_end.ensures)

@@ -6,14 +6,14 @@ use Rattle.script.proofs.ask_word.Goals as goal
 pub returns-in-Find : goal.returns-in-Find
 unfolding key bytes
 returns-in-Find c =
-    rw c.enum_told-1.given.1 c.word_end.ensures
+    rw c.in-Find.is c.word_end.ensures
 
 pub returns-in-Complete : goal.returns-in-Complete
 unfolding key bytes
 returns-in-Complete c =
-    rw c.enum_told-in-Complete-1.given.1 c.word_end-in-Complete.ensures
+    rw c.in-Complete.is c.word_end-in-Complete.ensures
 
 pub returns-in-Modules : goal.returns-in-Modules
 unfolding key bytes
 returns-in-Modules c =
-    rw c.enum_told-in-Modules-1.given.1 c.word_end-in-Modules.ensures
+    rw c.in-Modules.is c.word_end-in-Modules.ensures

@@ -6,14 +6,14 @@ use Rattle.script.proofs.import_word.Goals as goal
 pub returns-in-Include : goal.returns-in-Include
 unfolding key bytes
 returns-in-Include c =
-    rw c.enum_told-1.given.1 c.word_end.ensures
+    rw c.in-Include.is c.word_end.ensures
 
 pub returns-in-OpenModule : goal.returns-in-OpenModule
 unfolding key bytes
 returns-in-OpenModule c =
-    rw c.enum_told-in-OpenModule-1.given.1 c.word_end-in-OpenModule.ensures
+    rw c.in-OpenModule.is c.word_end-in-OpenModule.ensures
 
 pub returns-in-OpenNamespace : goal.returns-in-OpenNamespace
 unfolding key bytes
 returns-in-OpenNamespace c =
-    rw c.enum_told-in-OpenNamespace-1.given.1 c.word_end-in-OpenNamespace.ensures
+    rw c.in-OpenNamespace.is c.word_end-in-OpenNamespace.ensures

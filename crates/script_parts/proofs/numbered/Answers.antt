@@ -5,8 +5,8 @@ use Rattle.script_parts.proofs.numbered.Goals as goal
 
 pub returns-in-At : goal.returns-in-At
 returns-in-At c =
-    (refl, subst (NumberSays _) c.n-1.given.1 c.numeral.ensures)
+    (refl, subst (NumberSays _) c.in-At.is c.numeral.ensures)
 
 pub returns-in-No : goal.returns-in-No
 returns-in-No c =
-    subst (NumberSays _) c.enum_told-1.given.1 c.numeral.ensures
+    subst (NumberSays _) c.in-No.is c.numeral.ensures

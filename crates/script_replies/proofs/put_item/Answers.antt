@@ -7,14 +7,14 @@ use Rattle.script_replies.proofs.put_item.Goals as goal
 pub returns-in-Name : goal.returns-in-Name
 unfolding item_text bytes
 returns-in-Name c =
-    rw c.item-1.given.1 c.put_name.ensures
+    rw c.in-Name.is c.put_name.ensures
 
 pub returns-in-Module : goal.returns-in-Module
 unfolding item_text bytes
 returns-in-Module c =
-    rw c.enum_told-1.given.1 (c.put.ensures, omega (arith, c.put.ensures.end))
+    rw c.in-Module.is (c.put.ensures, omega (arith, c.put.ensures.end))
 
 pub returns-in-Namespace : goal.returns-in-Namespace
 unfolding item_text bytes
 returns-in-Namespace c =
-    rw c.enum_told-in-Namespace-1.given.1 (c.put-in-Namespace.ensures, omega (arith, c.put-in-Namespace.ensures.end))
+    rw c.in-Namespace.is (c.put-in-Namespace.ensures, omega (arith, c.put-in-Namespace.ensures.end))

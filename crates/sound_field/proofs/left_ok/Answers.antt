@@ -21,20 +21,20 @@ end_of-x-requires c =
 
 pub word_of-s-requires : goal.word_of-s-requires
 word_of-s-requires c =
-    let i = end_lent c.requires.subtree left c.if-top-eq0.false c.end_of_lem.ensures in omega arith
+    let i = end_lent c.requires.subtree left c.if-top-eq0.false c.end_of-x.ensures in omega arith
 
 pub word_of-n-requires : goal.word_of-n-requires
 word_of-n-requires c =
-    let i = end_lent c.requires.subtree left c.if-top-eq0.false c.end_of_lem.ensures in
+    let i = end_lent c.requires.subtree left c.if-top-eq0.false c.end_of-x.ensures in
     omega arith
 
 pub spans_less-requires : goal.spans_less-requires
 spans_less-requires c =
     let pre = c.requires.subtree in
-    let i = end_lent pre left c.if-top-eq0.false c.end_of_lem.ensures in
+    let i = end_lent pre left c.if-top-eq0.false c.end_of-x.ensures in
     omega (arith, c.word_of-s.ensures, c.word_of-n.ensures, pre.inside, pre.before.text)
 
 pub returns : goal.returns
 returns c w v e =
-    says_end c.spans_less.result (subtree_end c.requires.subtree left w v e c.if-top-eq0.false c.end_of_lem.ensures)
+    says_end c.spans_less.result (subtree_end c.requires.subtree left w v e c.if-top-eq0.false c.end_of-x.ensures)
     (rw (← c.word_of-s.ensures, ← c.word_of-n.ensures) c.spans_less.ensures)

@@ -17,12 +17,12 @@ more s t e h = <ˢ_irrefl s (<ˢ_trans s t s h (told s t Ordering.gt e))
 
 pub returns-in-Less : goal.returns-in-Less
 returns-in-Less c =
-    told _ _ Ordering.lt (rw c.enum_told-1.given.1 at c.string_compare-c.ensures.order)
+    told _ _ Ordering.lt (rw c.in-Less.is at c.string_compare-c.ensures.order)
 
 pub returns-in-Same : goal.returns-in-Same
 returns-in-Same c =
-    same _ _ (rw c.enum_told-in-Same-1.given.1 at c.string_compare-c.ensures.order)
+    same _ _ (rw c.in-Same.is at c.string_compare-c.ensures.order)
 
 pub returns-in-More : goal.returns-in-More
 returns-in-More c =
-    more _ _ (rw c.enum_told-in-More-1.given.1 at c.string_compare-c.ensures.order)
+    more _ _ (rw c.in-More.is at c.string_compare-c.ensures.order)

@@ -5,14 +5,14 @@ use Rattle.source_item.proofs.letter_of.Goals as goal
 pub returns-in-Timer : goal.returns-in-Timer
 unfolding kind_letter
 returns-in-Timer c =
-    rw c.enum_told-1.given.1
+    rw c.in-Timer.is
 
 pub returns-in-Port : goal.returns-in-Port
 unfolding kind_letter
 returns-in-Port c =
-    rw c.enum_told-in-Port-1.given.1
+    rw c.in-Port.is
 
 pub returns-in-Register : goal.returns-in-Register
 unfolding kind_letter
 returns-in-Register c =
-    rw c.enum_told-in-Register-1.given.1
+    rw c.in-Register.is

@@ -5,4 +5,4 @@ use Rattle.source_item.proofs.same_kind.Goals as goal
 pub returns : goal.returns
 unfolding same_kind
 returns c =
-    rw (← c.number_of_lem.ensures, ← c.number_of-2.ensures)
+    rw (← c.number_of.ensures, ← c.number_of-2.ensures)

@@ -33,13 +33,13 @@ pub complete-requires : goal.complete-requires
 complete-requires c =
     (
       rw c.root_for-root.ensures (root_trie (used_part_sound c.requires) c.args.request.ask),
-      admitted_none (one_flagged c.completion_flags.ensures) c.admit-a.ensures c.enum_told-1.given.1,
+      admitted_none (one_flagged c.completion_flags.ensures) c.admit-a.ensures c.in-Admitted.is,
     )
 
 pub returns-in-Refused : goal.returns-in-Refused
 returns-in-Refused c =
     completes_refused (refused_lowest (one_flagged c.completion_flags.ensures)
-    c.admit-a.ensures c.a-1.given.1)
+    c.admit-a.ensures c.in-Refused.is)
 
 pub returns-in-Admitted : goal.returns-in-Admitted
 returns-in-Admitted c =

@@ -12,19 +12,19 @@ look_up-l-requires c =
 
 pub lid_of-requires : goal.lid_of-requires
 lid_of-requires c =
-    let h = rw c.l-1.given.1 at c.look_up-l.ensures.fits in omega arith
+    let h = rw c.in-Branch.is at c.look_up-l.ensures.fits in omega arith
 
 pub returns-in-Branch : goal.returns-in-Branch
 returns-in-Branch c =
     ap found c.lid_of.ensures
-    ∙ rw c.l-1.given.1 at (c.look_up-l.ensures.says names (names_trie c.requires))
+    ∙ rw c.in-Branch.is at (c.look_up-l.ensures.says names (names_trie c.requires))
 
 pub returns-in-Nothing : goal.returns-in-Nothing
 returns-in-Nothing c =
-    rw c.enum_told-1.given.1 at
+    rw c.in-Nothing.is at
     (c.look_up-l.ensures.says names (names_trie c.requires))
 
 pub returns-in-Refused : goal.returns-in-Refused
 returns-in-Refused c =
-    rw c.l-in-Refused-1.given.1 at
+    rw c.in-Refused.is at
     (c.look_up-l.ensures.says names (names_trie c.requires))

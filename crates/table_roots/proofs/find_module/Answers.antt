@@ -15,23 +15,23 @@ look_up-l-requires c =
 
 pub branch_of-b-requires : goal.branch_of-b-requires
 branch_of-b-requires c =
-    let h = rw c.l-1.given.1 at c.look_up-l.ensures.fits in omega arith
+    let h = rw c.in-Branch.is at c.look_up-l.ensures.fits in omega arith
 
 pub returns-in-Branch : goal.returns-in-Branch
 returns-in-Branch c =
     let look_up = c.look_up-l.ensures in record {
       says = ap found (ap (symbol_of _) c.branch_of-b.ensures.symbol
-          ∙ symbol_item c.args.text.now (record_at c.args.words.now c.l-1.given.0.0))
-          ∙ rw c.l-1.given.1 at (look_up.says modules (modules_trie c.requires));
-      inside = let h = rw c.l-1.given.1 at look_up.fits in
+          ∙ symbol_item c.args.text.now (record_at c.args.words.now c.in-Branch.link))
+          ∙ rw c.in-Branch.is at (look_up.says modules (modules_trie c.requires));
+      inside = let h = rw c.in-Branch.is at look_up.fits in
           rw c.branch_of-b.ensures.symbol
-          (symbol_inside c.requires (rw c.l-1.given.1 at (look_up.link modules (modules_trie c.requires))) h.0);
+          (symbol_inside c.requires (rw c.in-Branch.is at (look_up.link modules (modules_trie c.requires))) h.0);
     }
 
 pub returns-in-Nothing : goal.returns-in-Nothing
 returns-in-Nothing c =
     record {
-      says = rw c.enum_told-1.given.1 at
+      says = rw c.in-Nothing.is at
           (c.look_up-l.ensures.says modules (modules_trie c.requires));
       inside = tt;
     }
@@ -39,7 +39,7 @@ returns-in-Nothing c =
 pub returns-in-Refused : goal.returns-in-Refused
 returns-in-Refused c =
     record {
-      says = rw c.l-in-Refused-1.given.1 at
+      says = rw c.in-Refused.is at
           (c.look_up-l.ensures.says modules (modules_trie c.requires));
       inside = tt;
     }

@@ -7,7 +7,7 @@ pub trie_find_exact-link-requires : goal.trie_find_exact-link-requires
 trie_find_exact-link-requires c =
     (
       c.requires,
-      look_up_query_whole _ (admitted_none (one_flagged c.look_up_flags.ensures) c.admit-a.ensures c.enum_told-1.given.1),
+      look_up_query_whole _ (admitted_none (one_flagged c.look_up_flags.ensures) c.admit-a.ensures c.in-Admitted.is),
     )
 
 pub returns-then-link-eq0 : goal.returns-then-link-eq0
@@ -16,7 +16,7 @@ returns-then-link-eq0 c =
       fits = tt;
       link = λ w t. tt;
       says = λ w t. look_up_none _ (admitted_none (one_flagged c.look_up_flags.ensures) c.admit-a.ensures
-          c.enum_told-1.given.1) (c.trie_find_exact-link.ensures w t) c.if-link-eq0.true;
+          c.in-Admitted.is) (c.trie_find_exact-link.ensures w t) c.if-link-eq0.true;
     }
 
 pub returns-in-Refused : goal.returns-in-Refused
@@ -25,7 +25,7 @@ returns-in-Refused c =
       fits = tt;
       link = λ w t. tt;
       says = λ w t. look_up_rows_refused _ _ (refused_lowest (one_flagged c.look_up_flags.ensures)
-          c.admit-a.ensures c.a-1.given.1);
+          c.admit-a.ensures c.in-Refused.is);
     }
 
 pub returns-else-link-eq0 : goal.returns-else-link-eq0
@@ -34,5 +34,5 @@ returns-else-link-eq0 c =
       fits = found_fits c.requires trie_find_exact c.if-link-eq0.false;
       link = λ w t. (trie_find_exact w t).link;
       says = λ w t. look_up_found _ (admitted_none (one_flagged c.look_up_flags.ensures) c.admit-a.ensures
-          c.enum_told-1.given.1) (trie_find_exact w t) c.if-link-eq0.false;
+          c.in-Admitted.is) (trie_find_exact w t) c.if-link-eq0.false;
     }

@@ -5,14 +5,14 @@ use Rattle.text_query.proofs.allowed.Goals as goal
 pub returns-in-Name : goal.returns-in-Name
 unfolding query_byte path_byte
 returns-in-Name c =
-    rw c.enum_told-1.given.1 c.name_byte.ensures
+    rw c.in-Name.is c.name_byte.ensures
 
 pub returns-in-Query : goal.returns-in-Query
 unfolding query_byte path_byte
 returns-in-Query c =
-    rw (c.enum_told-in-Query-1.given.1, c.name_byte-in-Query.ensures)
+    rw (c.in-Query.is, c.name_byte-in-Query.ensures)
 
 pub returns-in-Path : goal.returns-in-Path
 unfolding query_byte path_byte
 returns-in-Path c =
-    rw c.enum_told-in-Path-1.given.1
+    rw c.in-Path.is

@@ -4,12 +4,12 @@ use Rattle.console_streams.proofs.help.same.Goals as goal
 
 pub returns-in-Less : goal.returns-in-Less
 returns-in-Less c =
-    same_order c.string_compare-c.ensures.order c.enum_told-1.given.1
+    same_order c.string_compare-c.ensures.order c.in-Less.is
 
 pub returns-in-Same : goal.returns-in-Same
 returns-in-Same c =
-    same_order c.string_compare-c.ensures.order c.enum_told-in-Same-1.given.1
+    same_order c.string_compare-c.ensures.order c.in-Same.is
 
 pub returns-in-More : goal.returns-in-More
 returns-in-More c =
-    same_order c.string_compare-c.ensures.order c.enum_told-in-More-1.given.1
+    same_order c.string_compare-c.ensures.order c.in-More.is

@@ -3,4 +3,4 @@ use Rattle.memory_access.proofs.make.binding_row.Goals as goal
 
 pub returns : goal.returns
 returns c =
-    rw c.number_of_lem.ensures
+    rw c.number_of.ensures

@@ -19,21 +19,21 @@ slice_bounds-write-end c =
 
 pub slice_bounds-write-end-in-Passed : goal.slice_bounds-write-end-in-Passed
 slice_bounds-write-end-in-Passed c =
-    sym (rw c.enum_told-1.given.1 at c.check-k.ensures).size
+    sym (rw c.in-Passed.is at c.check-k.ensures).size
 
 pub write-h-requires : goal.write-h-requires
 write-h-requires c =
-    rw c.enum_told-1.given.1 at c.check-k.ensures
+    rw c.in-Passed.is at c.check-k.ensures
 
 pub returns-in-Refused : goal.returns-in-Refused
 returns-in-Refused c =
     let a = c.args in
     answers_refused (rw (cut_call a.entry.kind a.key.now c.key_size-n.ensures.0 a.host.now a.other.now) at
-    (rw c.k-1.given.1 at c.check-k.ensures))
+    (rw c.in-Refused.is at c.check-k.ensures))
 
 pub returns-in-Passed : goal.returns-in-Passed
 returns-in-Passed c =
     let a = c.args in
     answers_accepted (rw (cut_call a.entry.kind a.key.now c.key_size-n.ensures.0 a.host.now a.other.now) at
-    (rw c.enum_told-1.given.1 at c.check-k.ensures).rows)
+    (rw c.in-Passed.is at c.check-k.ensures).rows)
     (rw (cut_call a.entry.kind a.key.now c.key_size-n.ensures.0 a.host.now a.other.now) at c.write-h.ensures)
