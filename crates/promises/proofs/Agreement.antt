@@ -177,6 +177,7 @@ module _ {A : Type 0} (keep : A → Bool) where
       go true = (l, refl, i)
       go false = refl
   shows_kept ls not_found e = rw e refl
+  shows_kept ls (refused n) e = elim e [ ]
 
   pub passing_all : (a : Found A) → ((x : A) → keep x ≡ true) → passing keep a ≡ a
   unfolding passing

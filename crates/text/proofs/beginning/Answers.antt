@@ -26,8 +26,8 @@ pub loop-i-preserved : goal.loop-i-preserved
 loop-i-preserved c =
     let o = c.loop-i.invariant in
     let h : c.loop-i.i < 8 = omega arith in
-    ⊎_elim (λ w. rw w.2 (leading_byte o h (omega (arith, w.1.given c.loop-i.i))))
-    (λ w. rw w.1 (leading_end o h (omega (arith, w.0.left)))) c.if-i-s.branch-raw
+    ⊎_elim (λ w. rw w.n-is (leading_byte o h (omega (arith, w.shared_slice_known-1.given c.loop-i.i))))
+    (λ w. rw w.n-is (leading_end o h (omega (arith, w.if-i-s.false)))) c.if-i-s.branch-raw
 
 pub returns : goal.returns
 returns c =
