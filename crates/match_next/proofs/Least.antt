@@ -106,7 +106,7 @@ module _ {ws txt : List ℕ} (strict : Bool) (low : Str) {root link found : ℕ}
 
 module _ {ws txt : List ℕ} {link at : ℕ} (a : AnyTree ws txt link) (m : Memᴰ at (branches ws link)) where
   pub among_some : 0 < link
-  among_some = zero_some link (λ z. absurd (Memᴰ.not_nil (rw (z, branches_none ws) at m))) (λ p. p)
+  among_some = zero_some link (λ z. absurd (Memᴰ.not-nil (rw (z, branches_none ws) at m))) (λ p. p)
 
   among_earlier : at ≤ link
   among_earlier = omega (arith, (among_branch a.tree m).link.earlier)
@@ -128,8 +128,8 @@ module _ {ws txt : List ℕ} {link at : ℕ} (a : AnyTree ws txt link) (m : Mem�
       (λ i. ⊎_elim
       (λ e. absurd (n (sym e)))
       (λ j. g j (past_low true (key_at ws txt at) k (allˡ_at (λ y. k <ˢ key_at ws txt y) (branches ws right) (all_beyond a p (λ y. k <ˢ y) (λ y z. z)) at j)))
-      (Memᴰ.cases_cons i))
-      (Memᴰ.append_cases (branches ws left) (rw (branches_at a.tree p) at m))
+      (Memᴰ.cases-cons i))
+      (Memᴰ.append-cases (branches ws left) (rw (branches_at a.tree p) at m))
 
   -- The sides' links tell.
   pub left_by : right_link (record_at ws link) < at → true ≡ past true (key_at ws txt at) (key_at ws txt link)

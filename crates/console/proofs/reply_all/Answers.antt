@@ -15,10 +15,7 @@ loop-r-init c =
 
 pub step-r-requires : goal.step-r-requires
 step-r-requires c =
-    let inv = c.loop-r.invariant in (
-      inv.sound,
-      (omega (arith, c.requires.pane_in_bounds, inv.flat_size, inv.pane_size, inv.reply_size), inv.inside),
-    )
+    let inv = c.loop-r.invariant in record { sound = inv.sound; pane_in_bounds = omega (arith, c.requires.pane_in_bounds, inv.flat_size, inv.pane_size, inv.reply_size); inside = inv.inside }
 
 pub slice_bounds-put-end : goal.slice_bounds-put-end
 slice_bounds-put-end c =

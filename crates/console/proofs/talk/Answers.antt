@@ -19,33 +19,21 @@ loop-left-preserved-else-not-got c =
 
 pub reply_last-requires : goal.reply_last-requires
 reply_last-requires c =
-    (
-      c.loop-left.invariant.7,
-      (
-        omega (
+    record { sound = c.loop-left.invariant.7; pane_in_bounds = omega (
           arith,
           c.loop-left.invariant.2,
           c.loop-left.invariant.3,
           c.loop-left.invariant.4,
-        ),
-        record { started = omega arith; ended = c.fill-got.ensures.inside },
-      ),
-    )
+        ); inside = record { started = omega arith; ended = c.fill-got.ensures.inside } }
 
 pub reply_all-r-requires : goal.reply_all-r-requires
 reply_all-r-requires c =
-    (
-      c.loop-left.invariant.7,
-      (
-        omega (
+    record { sound = c.loop-left.invariant.7; pane_in_bounds = omega (
           arith,
           c.loop-left.invariant.2,
           c.loop-left.invariant.3,
           c.loop-left.invariant.4,
-        ),
-        record { started = omega arith; ended = c.fill-got.ensures.inside },
-      ),
-    )
+        ); inside = record { started = omega arith; ended = c.fill-got.ensures.inside } }
 
 pub loop-left-smaller : goal.loop-left-smaller
 loop-left-smaller c =

@@ -25,7 +25,7 @@ overflow_add-e c =
 pub answer-d-requires : goal.answer-d-requires
 answer-d-requires c =
     let inv = c.loop-reply.invariant in
-    (inv.1.sound, omega (arith, inv.1.fits, inv.1.reply_size, inv.1.flat_size, inv.1.pane_size, inv.0))
+    record { sound = inv.1.sound; pane_in_bounds = omega (arith, inv.1.fits, inv.1.reply_size, inv.1.flat_size, inv.1.pane_size, inv.0) }
 
 pub overflow_add-i : goal.overflow_add-i
 overflow_add-i c =

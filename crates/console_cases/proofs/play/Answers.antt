@@ -14,14 +14,11 @@ laid_fits x = omega (arith, x.fits, laid_length x)
 
 pub answer_lines-a-requires : goal.answer_lines-a-requires
 answer_lines-a-requires c =
-    (c.fresh-fresh.ensures.sound _ _, (omega arith, zero-le))
+    record { sound = c.fresh-fresh.ensures.sound _ _; pane_in_bounds = omega arith; from_in_bounds = zero-le }
 
 pub answer_lines-b-requires : goal.answer_lines-b-requires
 answer_lines-b-requires c =
-    (
-  c.answer_lines-a.ensures.sound,
-  (omega (arith, c.reply-2-1.given, c.pane-2-1.given, c.flat-2-1.given), zero-le),
-)
+    record { sound = c.answer_lines-a.ensures.sound; pane_in_bounds = omega (arith, c.reply-2-1.given, c.pane-2-1.given, c.flat-2-1.given); from_in_bounds = zero-le }
 
 pub slice_bounds-say-end : goal.slice_bounds-say-end
 slice_bounds-say-end c =

@@ -6,7 +6,7 @@ use Rattle.console_questions.proofs.put_completed.Goals as goal
 pub put_rows-e-requires : goal.put_rows-e-requires
 put_rows-e-requires c =
     let p = rw c.in-Listed.is at c.requires.rows_shown in
-    (p.0, omega (arith, p.1, c.requires.pane_in_bounds))
+    record { rows_in = p.0; n_in_bounds = omega (arith, p.1, c.requires.pane_in_bounds) }
 
 pub put_end-requires : goal.put_end-requires
 put_end-requires c =

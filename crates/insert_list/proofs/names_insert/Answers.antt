@@ -16,13 +16,10 @@ overflow_add-row c =
 
 pub put_names-requires : goal.put_names-requires
 put_names-requires c =
-    let a = c.requires in
+    let p = let a = c.requires in
     let d = c.lead_of-lead.ensures in
-    rest_ready a.insertion d (c.btree_insert_replace-tree.ensures _ _ _ (first_insertion a.insertion d))
+    rest_ready a.insertion d (c.btree_insert_replace-tree.ensures _ _ _ (first_insertion a.insertion d)) in record { room = p.0; own_le_records = p.1 }
 
 pub returns : goal.returns
 returns c =
-    let d = c.lead_of-lead.ensures in (
-      c.put_names.ensures.0,
-      λ w v used i. names_inserted i d (c.btree_insert_replace-tree.ensures w v used (first_insertion i d)) refl c.put_names.ensures.1,
-    )
+    let d = c.lead_of-lead.ensures in record { value = c.put_names.ensures.0; names_inserts = λ w v used i. names_inserted i d (c.btree_insert_replace-tree.ensures w v used (first_insertion i d)) refl c.put_names.ensures.1 }

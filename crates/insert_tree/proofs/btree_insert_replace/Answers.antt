@@ -40,7 +40,7 @@ slice_bounds-note_path-end c =
 pub note_path-requires : goal.note_path-requires
 note_path-requires c =
     let insertion = c.requires.insertion in
-    (insertion_tree insertion, (insertion_builds insertion, (omega (arith, insertion.link.earlier), insertion.room, insertion.few)))
+    record { any_tree = insertion_tree insertion; builds = insertion_builds insertion; root_le_records = (omega (arith, insertion.link.earlier), insertion.room, insertion.few) }
 
 pub lowest_row-low-requires : goal.lowest_row-low-requires
 lowest_row-low-requires c =

@@ -15,16 +15,13 @@ returns-then-not-kept c =
 pub annotation-note-requires : goal.annotation-note-requires
 unfolding mod_annotation
 annotation-note-requires c =
-    let j = job_ok c.requires in ((j.branch.some, j.branch.within), outermost_text c.requires c.outermost.ensures)
+    let j = job_ok c.requires in record { link_nonzero = (j.branch.some, j.branch.within); text_at = outermost_text c.requires c.outermost.ensures }
 
 pub put_line-requires : goal.put_line-requires
 unfolding mod_annotation
 put_line-requires c =
-    (
-      job_ok c.requires,
-      rw c.annotation-note.ensures
-          (noted_short c.args.want.ask c.args.words.now c.args.text.now _ (outermost_text c.requires c.outermost.ensures)),
-    )
+    record { job_ok = job_ok c.requires; note_len_bound = rw c.annotation-note.ensures
+          (noted_short c.args.want.ask c.args.words.now c.args.text.now _ (outermost_text c.requires c.outermost.ensures)) }
 
 pub returns : goal.returns
 unfolding mod_annotation

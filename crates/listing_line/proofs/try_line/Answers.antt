@@ -15,11 +15,8 @@ returns-then-not-fits-2 c =
 
 pub write_line-requires : goal.write_line-requires
 write_line-requires c =
-    (
-      c.requires.job_ok,
-      both_fit c.requires.job_ok c.fits-2.result c.fits3.result (omega (arith, c.text_len.ensures))
-          c.fits-2.ensures c.if-not-fits.false c.fits3.ensures c.if-not-fits-2.false,
-    )
+    record { job_ok = c.requires.job_ok; line_fits = both_fit c.requires.job_ok c.fits-2.result c.fits3.result (omega (arith, c.text_len.ensures))
+          c.fits-2.ensures c.if-not-fits.false c.fits3.ensures c.if-not-fits-2.false }
 
 pub returns : goal.returns
 returns c =

@@ -7,11 +7,11 @@ use Rattle.match_walk.proofs.first_match.Goals as goal
 
 pub descend-n-requires : goal.descend-n-requires
 descend-n-requires c =
-    (c.requires.any_tree, (starts_self c.args.prefix.now, clear_fits c.args.notes.now c.requires.notes_len))
+    record { any_tree = c.requires.any_tree; prefix_value = starts_self c.args.prefix.now; fits = clear_fits c.args.notes.now c.requires.notes_len }
 
 pub last_note-requires : goal.last_note-requires
 last_note-requires c =
-    (c.descend-n.ensures.fits, c.if-n-gt0.true)
+    record { fits = c.descend-n.ensures.fits; n_nonzero = c.if-n-gt0.true }
 
 pub returns-then-n-gt0 : goal.returns-then-n-gt0
 returns-then-n-gt0 c =

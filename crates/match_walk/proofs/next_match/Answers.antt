@@ -11,14 +11,11 @@ use Rattle.match_walk.proofs.next_match.Goals as goal
 
 pub note_left-here-requires : goal.note_left-here-requires
 note_left-here-requires c =
-    (
-      rw c.right_of-right.ensures (any_right c.requires.at_nonzero.1 c.requires.at_nonzero.0),
-      (rw c.right_of-right.ensures (right_after c.args.prefix.now c.requires.at_nonzero c.requires.prefix_value), c.requires.noted.fits),
-    )
+    record { any_tree = rw c.right_of-right.ensures (any_right c.requires.at_nonzero.1 c.requires.at_nonzero.0); all_after = rw c.right_of-right.ensures (right_after c.args.prefix.now c.requires.at_nonzero c.requires.prefix_value); fits = c.requires.noted.fits }
 
 pub last_note-requires : goal.last_note-requires
 last_note-requires c =
-    (c.note_left-here.ensures.fits, c.if-here-gt0.true)
+    record { fits = c.note_left-here.ensures.fits; n_nonzero = c.if-here-gt0.true }
 
 pub returns-then-here-gt0 : goal.returns-then-here-gt0
 returns-then-here-gt0 c =
@@ -45,21 +42,15 @@ take_mark-marked-requires c =
 
 pub descend-near-requires : goal.descend-near-requires
 descend-near-requires c =
-    let a = c.args in let pre = c.requires in (
-      (mark_ahead (key_at a.words.now a.text.now a.at)
+    let a = c.args in let pre = c.requires in record { any_tree = (mark_ahead (key_at a.words.now a.text.now a.at)
           (next_here a.prefix.now pre.0 pre.1.0 pre.1.1 c.right_of-right.ensures c.note_left-here.ensures) c.if-here-gt0.false
-          (no_tree c.requires.any_tree) c.take_mark-marked.ensures).any,
-      (
-        rw c.key_of-low.ensures pre.1.0,
-        taken_fits (none_fits (key_at a.words.now a.text.now a.at)
+          (no_tree c.requires.any_tree) c.take_mark-marked.ensures).any; prefix_value = rw c.key_of-low.ensures pre.1.0; fits = taken_fits (none_fits (key_at a.words.now a.text.now a.at)
             (next_here a.prefix.now pre.0 pre.1.0 pre.1.1 c.right_of-right.ensures c.note_left-here.ensures) c.if-here-gt0.false)
-            c.take_mark-marked.ensures,
-      ),
-    )
+            c.take_mark-marked.ensures }
 
 pub last_note-requires-then-near-gt0 : goal.last_note-requires-then-near-gt0
 last_note-requires-then-near-gt0 c =
-    (c.descend-near.ensures.fits, c.if-near-gt0.true)
+    record { fits = c.descend-near.ensures.fits; n_nonzero = c.if-near-gt0.true }
 
 pub returns-then-near-gt0 : goal.returns-then-near-gt0
 returns-then-near-gt0 c =
@@ -72,21 +63,15 @@ returns-then-near-gt0 c =
 
 pub descend-all-requires : goal.descend-all-requires
 descend-all-requires c =
-    let a = c.args in (
-      c.requires.any_tree,
-      (
-        rw c.key_of-low.ensures c.requires.prefix_value,
-        none_fits (key_at a.words.now a.text.now a.at)
+    let a = c.args in record { any_tree = c.requires.any_tree; prefix_value = rw c.key_of-low.ensures c.requires.prefix_value; fits = none_fits (key_at a.words.now a.text.now a.at)
             (next_near (key_at a.words.now a.text.now a.at) _ c.key_of-low.ensures
             (next_here a.prefix.now c.requires.at_nonzero c.requires.prefix_value c.requires.noted c.right_of-right.ensures
             c.note_left-here.ensures) c.if-here-gt0.false c.if-notes-eq0.false (no_tree c.requires.any_tree) c.take_mark-marked.ensures
-            c.descend-near.ensures) c.if-near-gt0.false,
-      ),
-    )
+            c.descend-near.ensures) c.if-near-gt0.false }
 
 pub last_note-requires-then-all-gt0 : goal.last_note-requires-then-all-gt0
 last_note-requires-then-all-gt0 c =
-    (c.descend-all.ensures.fits, c.if-all-gt0.true)
+    record { fits = c.descend-all.ensures.fits; n_nonzero = c.if-all-gt0.true }
 
 pub returns-then-all-gt0 : goal.returns-then-all-gt0
 returns-then-all-gt0 c =

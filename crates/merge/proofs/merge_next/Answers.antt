@@ -25,10 +25,7 @@ returns-then-t-eq-CELLS c =
 
 pub same_key-requires : goal.same_key-requires
 same_key-requires c =
-    let pre = c.requires in (
-      passing_branch (c.loop-t.invariant pre.labels) pre.any c.take-t.ensures c.if-t-eq-CELLS.false,
-      passing_last (c.loop-t.invariant pre.labels) pre.any c.take-t.ensures c.if-t-eq-CELLS.false c.if-last-eq0.false,
-    )
+    let pre = c.requires in record { a_nonzero = passing_branch (c.loop-t.invariant pre.labels) pre.any c.take-t.ensures c.if-t-eq-CELLS.false; b_nonzero = passing_last (c.loop-t.invariant pre.labels) pre.any c.take-t.ensures c.if-t-eq-CELLS.false c.if-last-eq0.false }
 
 pub returns-then-last-eq0 : goal.returns-then-last-eq0
 returns-then-last-eq0 c =

@@ -6,7 +6,7 @@ use Rattle.merge.proofs.merge_start.Goals as goal
 
 pub collect-n-requires : goal.collect-n-requires
 collect-n-requires c =
-    let pre = c.requires in (pre.0, (omega (arith, list_light pre.0.list), pre.1))
+    let pre = c.requires in record { any_list = pre.0; list_bound = omega (arith, list_light pre.0.list); full = pre.1 }
 
 pub heap_from_list-cells-requires : goal.heap_from_list-cells-requires
 heap_from_list-cells-requires c =

@@ -55,7 +55,7 @@ bounds-roots-cell c =
 
 pub tree_next-after-requires : goal.tree_next-after-requires
 tree_next-after-requires c =
-    next_asks (least c.before.before)
+    let p = next_asks (least c.before.before) in record { any_tree = p.0; fact = p.1; prefix_value = p.2 }
 
 pub offset_bounds-roots-cell-then-after-eq0 : goal.offset_bounds-roots-cell-then-after-eq0
 offset_bounds-roots-cell-then-after-eq0 c =
@@ -71,12 +71,12 @@ returns-then-after-eq0 c =
 
 pub set_head-requires : goal.set_head-requires
 set_head-requires c =
-    next_in (least s2.before.before.before.before) c.tree_next-after.ensures c.if-after-eq0.false
+    let p = next_in (least s2.before.before.before.before) c.tree_next-after.ensures c.if-after-eq0.false in record { text_in = p.0; cell_lt_heaviest_list = p.1 }
 
 pub heap_insert-top-requires : goal.heap_insert-top-requires
 heap_insert-top-requires c =
-    rw (c.set_head.ensures.0, c.set_head.ensures.1)
-    (insert_asks (least s3.before.before.before.before) c.tree_next-after.ensures c.if-after-eq0.false)
+    let p = rw (c.set_head.ensures.0, c.set_head.ensures.1)
+    (insert_asks (least s3.before.before.before.before) c.tree_next-after.ensures c.if-after-eq0.false) in record { root = p.0; head = p.1 }
 
 pub returns-in-Nothing : goal.returns-in-Nothing
 returns-in-Nothing c =

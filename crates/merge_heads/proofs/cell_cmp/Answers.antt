@@ -59,7 +59,7 @@ bounds-heads-b c =
 pub compare_keys-requires : goal.compare_keys-requires
 unfolding then
 compare_keys-requires c =
-    (c.requires.head.text_in, c.requires.head_2.text_in)
+    record { text_in = c.requires.head.text_in; text_in_2 = c.requires.head_2.text_in }
 
 pub overflow_cast-result : goal.overflow_cast-result
 unfolding then

@@ -13,7 +13,7 @@ loop-v-init c =
 pub heap_insert-root-requires : goal.heap_insert-root-requires
 heap_insert-root-requires c =
     let pre = c.requires in
-    ((λ ne. pre.each _ (root_in _ _ _ pre.few c.loop-v.invariant.rep ne)), pre.each _ (omega arith))
+    record { root = (λ ne. pre.each _ (root_in _ _ _ pre.few c.loop-v.invariant.rep ne)); head = pre.each _ (omega arith) }
 
 pub overflow_add-v : goal.overflow_add-v
 overflow_add-v c =

@@ -8,7 +8,7 @@ bounds-child-v c =
 
 pub heap_merge-requires : goal.heap_merge-requires
 heap_merge-requires c =
-    ((λ _. c.requires.head), c.requires.root)
+    record { root = (λ _. c.requires.head); root_2 = c.requires.root }
 
 pub returns : goal.returns
 returns c n few l =

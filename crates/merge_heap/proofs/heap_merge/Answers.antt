@@ -14,7 +14,7 @@ returns-then-b-eq-CELLS c n few =
 
 pub cell_cmp-requires : goal.cell_cmp-requires
 cell_cmp-requires c =
-    (c.requires.root c.if-a-eq-CELLS.false, c.requires.root_2 c.if-b-eq-CELLS.false)
+    record { head = c.requires.root c.if-a-eq-CELLS.false; head_2 = c.requires.root_2 c.if-b-eq-CELLS.false }
 
 pub link-requires : goal.link-requires
 link-requires c =

@@ -12,24 +12,15 @@ use Rattle.register.proofs.check.Goals as goal
 
 pub included-requires : goal.included-requires
 included-requires c =
-    (
-      names_trie c.requires.sound,
-      rw c.shape_of-s.ensures (call_ready c.args.entry.kind c.args.host.now c.args.other.now c.args.key.now
-          (argument_rows_none _ _ (admitted_none c.flags_of.ensures c.admit-a.ensures c.in-Admitted.is))).other_fine,
-    )
+    record { at = names_trie c.requires.sound; other_value = rw c.shape_of-s.ensures (call_ready c.args.entry.kind c.args.host.now c.args.other.now c.args.key.now
+          (argument_rows_none _ _ (admitted_none c.flags_of.ensures c.admit-a.ensures c.in-Admitted.is))).other_fine }
 
 pub plan_of-p-requires : goal.plan_of-p-requires
 plan_of-p-requires c =
-    let included = c.included.result in let a = c.args in (
-      rw (c.root_of-root.ensures, c.shape_of-s.ensures) (either_trie c.requires.sound (which_by (shape_of a.entry.kind).form)),
-      (
-        let r = call_ready a.entry.kind a.host.now a.other.now a.key.now
+    let included = c.included.result in let a = c.args in record { at = rw (c.root_of-root.ensures, c.shape_of-s.ensures) (either_trie c.requires.sound (which_by (shape_of a.entry.kind).form)); host_value = let r = call_ready a.entry.kind a.host.now a.other.now a.key.now
             (argument_rows_none _ _ (admitted_none c.flags_of.ensures c.admit-a.ensures c.in-Admitted.is)) in
-            (r.host_ends, r.host_keeps.few, (included_written a.way.now included c.requires.no_key.1).1),
-        rw (c.root_of-root.ensures, (included_written a.way.now included c.requires.no_key.1).0, ← c.shape_of-s.ensures)
-            (carries_root a.words.now a.text.now a.h c.shape_of-s.result.form a.other.now included c.included.ensures),
-      ),
-    )
+            (r.host_ends, r.host_keeps.few, (included_written a.way.now included c.requires.no_key.1).1); carries = rw (c.root_of-root.ensures, (included_written a.way.now included c.requires.no_key.1).0, ← c.shape_of-s.ensures)
+            (carries_root a.words.now a.text.now a.h c.shape_of-s.result.form a.other.now included c.included.ensures) }
 
 pub overflow_add-demand : goal.overflow_add-demand
 overflow_add-demand c =

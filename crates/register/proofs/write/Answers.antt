@@ -27,7 +27,7 @@ overflow_add-end c =
 
 pub put_texts-requires : goal.put_texts-requires
 put_texts-requires c =
-    text_room c.requires
+    let p = text_room c.requires in record { key_in_bounds = p.0; key_bound = p.1 }
 
 pub bounds-way-0 : goal.bounds-way-0
 bounds-way-0 c =
@@ -47,8 +47,8 @@ slice_bounds-trie_mutate-end c =
 
 pub trie_mutate-b-requires : goal.trie_mutate-b-requires
 trie_mutate-b-requires c =
-    rw (c.root_of-root.ensures, c.shape_of-s.ensures, tail_is c.args.way.now steps_at)
-    (record { used = _; holds = write_mutation c.requires c.put_texts.ensures }, write_way c.requires c.put_texts.ensures)
+    let p = rw (c.root_of-root.ensures, c.shape_of-s.ensures, tail_is c.args.way.now steps_at)
+    (record { used = _; holds = write_mutation c.requires c.put_texts.ensures }, write_way c.requires c.put_texts.ensures) in record { some = p.0; trie_way = p.1 }
 
 pub overflow_add-end-2 : goal.overflow_add-end-2
 overflow_add-end-2 c =

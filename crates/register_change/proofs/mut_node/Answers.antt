@@ -17,7 +17,7 @@ overflow_add-kinds c =
 
 pub put_trie-link-requires : goal.put_trie-link-requires
 put_trie-link-requires c =
-    node_ready c.requires.holds c.trie_of-t.ensures c.mut_bindings-b.ensures
+    let p = node_ready c.requires.holds c.trie_of-t.ensures c.mut_bindings-b.ensures in record { room = p.0; namespaces_le_records = p.1 }
 
 pub returns : goal.returns
 returns c used i =

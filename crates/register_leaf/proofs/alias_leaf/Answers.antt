@@ -14,12 +14,12 @@ trie_of-i-requires c =
 
 pub imported-b-requires : goal.imported-b-requires
 imported-b-requires c =
-    alias_ready c.requires.some.holds c.trie_of-t.ensures c.trie_of-i.ensures c.requires.leaf_builds
+    let p = alias_ready c.requires.some.holds c.trie_of-t.ensures c.trie_of-i.ensures c.requires.leaf_builds in record { room = p.0; inner_le_records = p.1 }
 
 pub put_trie-scope-requires : goal.put_trie-scope-requires
 put_trie-scope-requires c =
-    alias_fresh_ready c.requires.some.holds c.trie_of-t.ensures c.trie_of-i.ensures c.requires.leaf_builds c.imported-b.ensures.0
-    (rw c.label_of-label.ensures at c.imported-b.ensures.1)
+    let p = alias_fresh_ready c.requires.some.holds c.trie_of-t.ensures c.trie_of-i.ensures c.requires.leaf_builds c.imported-b.ensures.0
+    (rw c.label_of-label.ensures at c.imported-b.ensures.1) in record { room = p.0; namespaces_le_records = p.1 }
 
 pub names_insert-n-requires : goal.names_insert-n-requires
 names_insert-n-requires c =
@@ -34,9 +34,9 @@ names_insert-n-requires c =
 
 pub put_trie-link-requires : goal.put_trie-link-requires
 put_trie-link-requires c =
-    alias_trie_ready c.requires.some.holds c.trie_of-t.ensures c.trie_of-i.ensures c.requires.leaf_builds c.imported-b.ensures.0
+    let p = alias_trie_ready c.requires.some.holds c.trie_of-t.ensures c.trie_of-i.ensures c.requires.leaf_builds c.imported-b.ensures.0
     (rw c.label_of-label.ensures at c.imported-b.ensures.1) c.put_trie-scope.ensures.0 c.put_trie-scope.ensures.1 c.names_insert-n.ensures.0
-    (rw c.namespace_row-row.ensures at c.names_insert-n.ensures.1)
+    (rw c.namespace_row-row.ensures at c.names_insert-n.ensures.1) in record { room = p.0; namespaces_le_records = p.1 }
 
 pub returns : goal.returns
 returns c used l =

@@ -12,12 +12,12 @@ trie_of-i-requires c =
 
 pub imported-b-requires : goal.imported-b-requires
 imported-b-requires c =
-    include_ready c.requires.holds c.trie_of-t.ensures c.trie_of-i.ensures
+    let p = include_ready c.requires.holds c.trie_of-t.ensures c.trie_of-i.ensures in record { room = p.0; inner_le_records = p.1 }
 
 pub put_trie-link-requires : goal.put_trie-link-requires
 put_trie-link-requires c =
-    include_trie_ready c.requires.holds c.trie_of-t.ensures
-    c.trie_of-i.ensures c.imported-b.ensures.0 (rw c.label_of-label.ensures at c.imported-b.ensures.1)
+    let p = include_trie_ready c.requires.holds c.trie_of-t.ensures
+    c.trie_of-i.ensures c.imported-b.ensures.0 (rw c.label_of-label.ensures at c.imported-b.ensures.1) in record { room = p.0; namespaces_le_records = p.1 }
 
 pub returns : goal.returns
 returns c used l =

@@ -20,8 +20,8 @@ names_insert-b-requires c =
 
 pub put_trie-link-requires : goal.put_trie-link-requires
 put_trie-link-requires c =
-    name_trie_ready c.requires.some.holds c.trie_of-t.ensures c.requires.leaf_builds c.names_insert-b.ensures.0
-    (rw c.binding_row-row.ensures at c.names_insert-b.ensures.1)
+    let p = name_trie_ready c.requires.some.holds c.trie_of-t.ensures c.requires.leaf_builds c.names_insert-b.ensures.0
+    (rw c.binding_row-row.ensures at c.names_insert-b.ensures.1) in record { room = p.0; namespaces_le_records = p.1 }
 
 pub returns : goal.returns
 returns c used l =

@@ -12,12 +12,12 @@ trie_of-i-requires c =
 
 pub imported-n-requires : goal.imported-n-requires
 imported-n-requires c =
-    open_ready c.requires.holds c.trie_of-t.ensures c.trie_of-i.ensures
+    let p = open_ready c.requires.holds c.trie_of-t.ensures c.trie_of-i.ensures in record { room = p.0; inner_le_records = p.1 }
 
 pub put_trie-link-requires : goal.put_trie-link-requires
 put_trie-link-requires c =
-    open_trie_ready c.requires.holds c.trie_of-t.ensures
-    c.trie_of-i.ensures c.imported-n.ensures.0 (rw c.label_of-label.ensures at c.imported-n.ensures.1)
+    let p = open_trie_ready c.requires.holds c.trie_of-t.ensures
+    c.trie_of-i.ensures c.imported-n.ensures.0 (rw c.label_of-label.ensures at c.imported-n.ensures.1) in record { room = p.0; namespaces_le_records = p.1 }
 
 pub returns : goal.returns
 returns c used l =

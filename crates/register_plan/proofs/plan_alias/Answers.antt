@@ -59,9 +59,6 @@ overflow_add-result-3 c =
 
 pub returns : goal.returns
 returns c =
-    let plan-path = c.plan_path-p.ensures in (
-      λ tbl q e f. alias_planned _ plan-path.0 c.trie_of-t.ensures tbl e c.requires.at.1 c.trie_of-i.ensures q f c.names_place-a.ensures
-          c.weight_of-weight.ensures,
-      λ other. noted_count plan-path.1 (omega (arith, plan-path.0.few, plan-path.1.kept.size, c.requires.host_value.2)) Alias other c.args.key.now
-          c.note_host.ensures (namespaces_builds plan-path.0.here c.trie_of-t.ensures c.names_place-a.ensures),
-    )
+    let plan-path = c.plan_path-p.ensures in record { alias_planned = λ tbl q e f. alias_planned _ plan-path.0 c.trie_of-t.ensures tbl e c.requires.at.1 c.trie_of-i.ensures q f c.names_place-a.ensures
+          c.weight_of-weight.ensures; alias_noted = λ other. noted_count plan-path.1 (omega (arith, plan-path.0.few, plan-path.1.kept.size, c.requires.host_value.2)) Alias other c.args.key.now
+          c.note_host.ensures (namespaces_builds plan-path.0.here c.trie_of-t.ensures c.names_place-a.ensures) }

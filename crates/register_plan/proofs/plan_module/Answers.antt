@@ -61,8 +61,5 @@ loop-at-preserved c =
 
 pub returns : goal.returns
 returns c =
-    let inv = c.loop-at.invariant in (
-      λ tbl path e. module_planned _ path tbl (stands_last inv.0 c.loop-at-test.false) e,
-      λ other key. noted_path (leads_end c.args.query.now inv.1 c.loop-at-test.false)
-          (omega (arith, inv.1.kept.size, inv.0.says.number, c.requires.query_value.1, c.requires.query_value.2)) (Module c.args.loaded) other key tt,
-    )
+    let inv = c.loop-at.invariant in record { module_planned = λ tbl path e. module_planned _ path tbl (stands_last inv.0 c.loop-at-test.false) e; path_noted = λ other key. noted_path (leads_end c.args.query.now inv.1 c.loop-at-test.false)
+          (omega (arith, inv.1.kept.size, inv.0.says.number, c.requires.query_value.1, c.requires.query_value.2)) (Module c.args.loaded) other key tt }

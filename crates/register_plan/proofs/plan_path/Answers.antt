@@ -46,4 +46,4 @@ loop-at-preserved c =
 
 pub returns : goal.returns
 returns c =
-    (path_last c.loop-at.invariant.0 c.requires.host_value.1 c.loop-at-test.false, leads_end c.args.host.now c.loop-at.invariant.1 c.loop-at-test.false)
+    record { path = path_last c.loop-at.invariant.0 c.requires.host_value.1 c.loop-at-test.false; leads = leads_end c.args.host.now c.loop-at.invariant.1 c.loop-at-test.false }

@@ -17,12 +17,9 @@ register_sound-r-requires c =
 
 pub save-requires : goal.save-requires
 save-requires c =
-    let pre = c.requires in (
-      pre.0,
-      store_fits (held_is pre.0 c.table_of-t.ensures pre.1)
+    let pre = c.requires in record { state_len = pre.0; record_words_in_bounds = store_fits (held_is pre.0 c.table_of-t.ensures pre.1)
           (says_passes c.is_sound_small.result c.is_sound_small.ensures c.if-not-is_sound_small.false) c.register_sound-r.ensures
-          (ap refusal_of c.in-Accepted.is) c.register_sound-r.auto.1.0,
-    )
+          (ap refusal_of c.in-Accepted.is) c.register_sound-r.auto.1.0 }
 
 pub returns-in-Accepted : goal.returns-in-Accepted
 returns-in-Accepted c =

@@ -96,13 +96,7 @@ slice_bounds-record_ok-end c =
 
 pub record_ok-requires : goal.record_ok-requires
 record_ok-requires c =
-    let g = c.loop-link.invariant in (
-      record { some = omega arith; fits = omega arith; text = omega arith; rows = g.2.right },
-      (
-        part_record (c.args.words.now) c.loop-link.link,
-        notes_at g.3,
-      ),
-    )
+    let g = c.loop-link.invariant in record { before = record { some = omega arith; fits = omega arith; text = omega arith; rows = g.2.right }; r_value = part_record (c.args.words.now) c.loop-link.link; notes = notes_at g.3 }
 
 pub shape_of-least-then-not-record_ok : goal.shape_of-least-then-not-record_ok
 shape_of-least-then-not-record_ok c =

@@ -22,15 +22,12 @@ returns-then-not-text_ok c w v e o =
 
 pub left_ok-requires : goal.left_ok-requires
 left_ok-requires c =
-    let pre = c.requires in (
-      record {
+    let pre = c.requires in record { subtree = record {
         before = pre.0;
         branches = pre.1.0;
         link = (says_passes c.link_ok.result c.link_ok.ensures c.if-not-link_ok.false);
         inside = (says_passes c.text_ok.result c.text_ok.ensures c.if-not-text_ok.false).inside;
-      },
-      pre.1.1.1.greatest_noted,
-    )
+      }; ways_noted = pre.1.1.1.greatest_noted }
 
 pub returns-then-not-left_ok : goal.returns-then-not-left_ok
 returns-then-not-left_ok c w v e o =
@@ -38,15 +35,12 @@ returns-then-not-left_ok c w v e o =
 
 pub right_ok-requires : goal.right_ok-requires
 right_ok-requires c =
-    let pre = c.requires in (
-      record {
+    let pre = c.requires in record { subtree = record {
         before = pre.0;
         branches = pre.1.0;
         link = (says_passes c.link_ok-2.result c.link_ok-2.ensures c.if-not-link_ok-2.false);
         inside = (says_passes c.text_ok.result c.text_ok.ensures c.if-not-text_ok.false).inside;
-      },
-      pre.1.1.1.least_noted,
-    )
+      }; ways_noted = pre.1.1.1.least_noted }
 
 pub returns : goal.returns
 returns c w v e =

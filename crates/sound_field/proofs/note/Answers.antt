@@ -8,7 +8,7 @@ use Rattle.sound_field.proofs.note.Goals as goal
 
 pub returns-then-notes-at : goal.returns-then-notes-at
 returns-then-notes-at c =
-    (noted_past c.requires (omega arith), refl)
+    record { ways_noted = noted_past c.requires (omega arith); notes_len = refl }
 
 pub bounds-notes-next : goal.bounds-notes-next
 bounds-notes-next c =
@@ -16,8 +16,5 @@ bounds-notes-next c =
 
 pub returns : goal.returns
 returns c =
-    let pre = c.requires in let e = c.word_of-next.ensures in (
-      noted_more pre (omega arith)
-          (⊎_elim (λ w. rw w.2 (far_on pre e w.0.taken (omega arith))) (λ w. rw w.1 (far_here pre e w.0.left)) c.if-next-gt0.branch-raw),
-      simp length-set,
-    )
+    let pre = c.requires in let e = c.word_of-next.ensures in record { ways_noted = noted_more pre (omega arith)
+          (⊎_elim (λ w. rw w.2 (far_on pre e w.0.taken (omega arith))) (λ w. rw w.1 (far_here pre e w.0.left)) c.if-next-gt0.branch-raw); notes_len = simp length-set }

@@ -21,7 +21,7 @@ bounds-r-0 c =
 pub branch_ok-requires : goal.branch_ok-requires
 branch_ok-requires c =
     let pre = c.requires in
-    (pre.0, (record { which = names; level = bind; is = c.in-1.is }, (before_length pre.0 pre.1.0, pre.1.1)))
+    record { before = pre.0; tree_kind = record { which = names; level = bind; is = c.in-1.is }; r_len = before_length pre.0 pre.1.0; notes = pre.1.1 }
 
 pub returns-then-not-branch_ok : goal.returns-then-not-branch_ok
 returns-then-not-branch_ok c o =
@@ -35,7 +35,7 @@ bounds-r-6 c =
 pub branch_ok-requires-in-6 : goal.branch_ok-requires-in-6
 branch_ok-requires-in-6 c =
     let pre = c.requires in
-    (pre.0, (record { which = modules; level = bind; is = c.in-6.is }, (before_length pre.0 pre.1.0, pre.1.1)))
+    record { before = pre.0; tree_kind = record { which = modules; level = bind; is = c.in-6.is }; r_len = before_length pre.0 pre.1.0; notes = pre.1.1 }
 
 pub returns-then-not-branch_ok-2 : goal.returns-then-not-branch_ok-2
 returns-then-not-branch_ok-2 c o =
@@ -49,7 +49,7 @@ symbol_ok-requires c =
 pub branch_ok-requires-in-2 : goal.branch_ok-requires-in-2
 branch_ok-requires-in-2 c =
     let pre = c.requires in let n = known_as (tree ns) c.in-2.is in
-    (pre.0, (record { which = n.0; level = ns; is = n.1 }, (before_length pre.0 pre.1.0, pre.1.1)))
+    record { before = pre.0; tree_kind = record { which = n.0; level = ns; is = n.1 }; r_len = before_length pre.0 pre.1.0; notes = pre.1.1 }
 
 pub returns-then-not-branch_ok-3 : goal.returns-then-not-branch_ok-3
 returns-then-not-branch_ok-3 c o =
@@ -66,7 +66,7 @@ held_ok-requires c =
     let pre = c.requires in
     let n = known_as (tree ns) c.in-2.is in
     let a = (says_passes c.branch_ok-in-2.result (c.branch_ok-in-2.ensures n.0 ns n.1) c.if-not-branch_ok-3.false).0 in
-    (pre.0, (before_length pre.0 pre.1.0, (a.left.earlier, a.right.earlier)))
+    record { before = pre.0; r_len = before_length pre.0 pre.1.0; r_bound = (a.left.earlier, a.right.earlier) }
 
 pub overflow_sub-k : goal.overflow_sub-k
 overflow_sub-k c =
@@ -74,7 +74,7 @@ overflow_sub-k c =
 
 pub collection_ok-requires : goal.collection_ok-requires
 collection_ok-requires c =
-    let pre = c.requires in (pre.0, before_length pre.0 pre.1.0)
+    let pre = c.requires in record { before = pre.0; r_len = before_length pre.0 pre.1.0 }
 
 pub overflow_sub-k-in-4 : goal.overflow_sub-k-in-4
 overflow_sub-k-in-4 c =
@@ -82,7 +82,7 @@ overflow_sub-k-in-4 c =
 
 pub collection_ok-requires-in-4 : goal.collection_ok-requires-in-4
 collection_ok-requires-in-4 c =
-    let pre = c.requires in (pre.0, before_length pre.0 pre.1.0)
+    let pre = c.requires in record { before = pre.0; r_len = before_length pre.0 pre.1.0 }
 
 pub returns-then-not-collection_ok : goal.returns-then-not-collection_ok
 returns-then-not-collection_ok c o =
@@ -112,7 +112,7 @@ overflow_sub-k-in-5-2 c =
 
 pub trie_ok-requires : goal.trie_ok-requires
 trie_ok-requires c =
-    let pre = c.requires in (pre.0, before_length pre.0 pre.1.0)
+    let pre = c.requires in record { before = pre.0; r_len = before_length pre.0 pre.1.0 }
 
 pub returns-else-not-branch_ok : goal.returns-else-not-branch_ok
 returns-else-not-branch_ok c =

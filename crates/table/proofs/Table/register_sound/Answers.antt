@@ -11,7 +11,7 @@ slice_bounds-check-end c =
 
 pub check-k-requires : goal.check-k-requires
 check-k-requires c =
-    (c.requires, (cut_used c.args.entry.kind c.args.key.now c.key_size-n.ensures.0, refl))
+    record { sound = c.requires; no_key = (cut_used c.args.entry.kind c.args.key.now c.key_size-n.ensures.0, refl) }
 
 pub slice_bounds-write-end : goal.slice_bounds-write-end
 slice_bounds-write-end c =
