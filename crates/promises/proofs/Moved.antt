@@ -10,7 +10,7 @@ use borrow.Author.Tests.{not-false}
 use lib.ListN.{length, take, length-append}
 use lib.Seq.{take_at}
 use Rattle.source.specs.Text.{Str, Query, dot, query_to_string, segments, ends_in_dot}
-use Rattle.source.specs.Types.{Level, Value, Trie, NameList, bind, item, trie, the_item, bindings, namespaces}
+use Rattle.source.specs.Types.{Level, Value, Trie, NameList, bind, ns, item, trie, the_item, bindings, namespaces}
 use Rattle.source.specs.Trees.{PathElem}
 use Rattle.source.specs.Tries.{dflt, bind_option, names_find_exact, names_insert, scope_of, trie_find_exact, trie_mutate, trie_mutate_leaf, trie_insert}
 use Rattle.source.specs.Terms.{first_of, walk_first}
@@ -68,7 +68,7 @@ module _ {A : Type 0} where
         → along by_first (trie_insert tr host id v) [] q s m ≡ along by_first tr [] q s m
     unfolding trie_insert trie_mutate_leaf trie_mutate below_first along bindings namespaces first_of
     same_along [] g' q s [] n b =
-        alike_along Key Label Item tr _ g g' [] q s []
+        alike_along Key Label Item tr (trie_insert tr [] id v) g g' [] q s []
         (record { bound = holders_other (bindings tr) id s (item v) (λ e. n (ap (λ x. x ∷ []) e)); spaced = refl })
     same_along [] g' q s (t ∷ m) n b = refl
     same_along (h ∷ host) g' q s [] n b = refl
@@ -82,12 +82,12 @@ module _ {A : Type 0} where
     unfolding trie_insert trie_mutate_leaf trie_mutate below_first bindings namespaces
     below_import [] g' q s m b = absurd (false≢true b)
     below_import (h ∷ host) g' q s [] b = absurd (false≢true b)
-    below_import (h ∷ host) g' q s (t ∷ m) b = each_next (ImportIs none) _ [] q s t m (λ y e.
+    below_import (h ∷ host) g' q s (t ∷ m) b = each_next (ImportIs none) (trie_insert tr (h ∷ host) id v) [] q s t m (λ y e.
         subst (λ o. Allˡ (ImportIs o) (along by_first y.1 (y.0 ∷ []) (tail q) t m))
         (row_inserted (namespaces tr) h _ (ns_search_term q)
-        (formed_orderedN Key Label Item _ (formed_parts Key Label Item _ g').1) y (rw (same_true s h b) at e))
+        (formed_orderedN Key Label Item {ℓ = ns} (namespaces (trie_insert tr (h ∷ host) id v)) (formed_parts Key Label Item (trie_insert tr (h ∷ host) id v) g').1) y (rw (same_true s h b) at e))
         (along_import y.1 y.0 [] (tail q) t m))
 
-    own_import : (host : Query) → Formed Key Label Item (trie_insert tr host id v) → (q : Query) (s : Str) (m : Query)
-        → host ++ (id ∷ []) ≡ s ∷ m → Allˡ (ImportIs none) (along by_first (trie_insert tr host id v) [] q s m)
-    own_import = ?
+    -- Still to be proved, of the inserted name itself:
+    -- own_import : (host : Query) → Formed Key Label Item (trie_insert tr host id v) → (q : Query) (s : Str) (m : Query)
+    -- → host ++ (id ∷ []) ≡ s ∷ m → Allˡ (ImportIs none) (along by_first (trie_insert tr host id v) [] q s m)
