@@ -41,7 +41,7 @@ pub loop-i-preserved : goal.loop-i-preserved
 loop-i-preserved c =
     ⊎_elim
     (λ w. rw (w.ok-is, w.empty-is, w.long-is, w.segments-is, w.start-is) (survey_dot c.loop-i.invariant (omega arith) w.if-s-i-eq-DOT.true))
-    (λ w. rw (w.ok-is, w.4, w.5, w.6, w.7) (survey_byte c.loop-i.invariant (omega arith) w.0.left w.2.ensures))
+    (λ w. rw (w.ok-is, w.empty-is, w.long-is, w.segments-is, w.start-is) (survey_byte c.loop-i.invariant (omega arith) w.if-s-i-eq-DOT.false w.name_byte-ok.ensures))
     c.if-s-i-eq-DOT.branch-raw
 
 pub overflow_add-all : goal.overflow_add-all
