@@ -1,5 +1,6 @@
 // Numbers in decimal, read and written, and the sorts of bytes that stand in a part of a line.
 #![tactic(auto)]
+
 ghost use Rattle.std.specs.Prelude.{◌≡◌};
 ghost use Rattle.script_decimal.specs.Bytes.{byte_ok};
 

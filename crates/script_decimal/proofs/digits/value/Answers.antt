@@ -13,15 +13,15 @@ loop-i-init c =
 pub returns-then-not-byte_ok : goal.returns-then-not-byte_ok
 returns-then-not-byte_ok c =
     counted_other c.loop-i.invariant c.loop-i-test.true
-    (sym c.byte_ok.ensures ∙ not-true _ c.if-not-byte_ok.true)
+    (sym c.byte_ok.ensures ∙ c.if-not-byte_ok.true)
 
 pub overflow_sub-v : goal.overflow_sub-v
 overflow_sub-v c =
-    omega (arith, (digit_bounds _ (sym c.byte_ok.ensures ∙ not-false _ c.if-not-byte_ok.false)).0)
+    omega (arith, (digit_bounds _ (sym c.byte_ok.ensures ∙ c.if-not-byte_ok.false)).0)
 
 pub overflow_add-v : goal.overflow_add-v
 overflow_add-v c =
-    omega (arith, (digit_bounds _ (sym c.byte_ok.ensures ∙ not-false _ c.if-not-byte_ok.false)).1)
+    omega (arith, (digit_bounds _ (sym c.byte_ok.ensures ∙ c.if-not-byte_ok.false)).1)
 
 pub returns-then-v-gt4294967295 : goal.returns-then-v-gt4294967295
 returns-then-v-gt4294967295 c =
@@ -30,7 +30,7 @@ returns-then-v-gt4294967295 c =
 pub loop-i-preserved : goal.loop-i-preserved
 loop-i-preserved c =
     counted_more c.loop-i.invariant c.loop-i-test.true
-    (sym c.byte_ok.ensures ∙ not-false _ c.if-not-byte_ok.false) (omega arith) (omega arith)
+    (sym c.byte_ok.ensures ∙ c.if-not-byte_ok.false) (omega arith) (omega arith)
 
 pub returns : goal.returns
 returns c =
