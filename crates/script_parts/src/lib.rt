@@ -1,5 +1,6 @@
 // The parts of a line: a run of bytes of one sort, what closes it, and where it ends. Nothing is known of the forms of a script.
 #![tactic(auto)]
+
 ghost use Rattle.std.specs.Prelude.{◌≡◌, ◌+◌, ◌≤◌, length, get_or, drop};
 ghost use Rattle.script_parts.specs.Parts.{run_length, StartsSays, Stops, PieceSays, QuerySays, PairSays, LastSays, NumberedSays, ItemSays, IdSays};
 ghost use Rattle.script_parts.specs.Parts.{WordSays};

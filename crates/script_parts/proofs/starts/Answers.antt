@@ -21,11 +21,11 @@ returns-then-line-at-2 c =
 pub loop-i-preserved : goal.loop-i-preserved
 loop-i-preserved c =
     let a = c.args in (
-  omega arith,
-  omega arith,
-  starts_step a.line.now a.at a.text.now c.loop-i.i c.loop-i.invariant.1 c.loop-i-test.true c.if-line-at-2.false
-      c.loop-i.invariant.2,
-)
+      omega arith,
+      omega arith,
+      starts_step a.line.now a.at a.text.now c.loop-i.i c.loop-i.invariant.1 c.loop-i-test.true c.if-line-at-2.false
+          c.loop-i.invariant.2,
+    )
 
 pub returns : goal.returns
 returns c =
