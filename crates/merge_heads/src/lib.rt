@@ -1,5 +1,6 @@
 // The lists of a merge, at most 96: each is a cell, whose head is a branch's link. How two cells compare.
 #![tactic(auto)]
+
 ghost use Rattle.std.specs.Prelude.{◌≡◌, ◌<◌, set};
 ghost use Rattle.source.specs.Limits.{heaviest_list};
 ghost use Rattle.source.specs.Text.{string_compare};

@@ -28,10 +28,10 @@ pub returns-then-cell_cmp-lt0 : goal.returns-then-cell_cmp-lt0
 returns-then-cell_cmp-lt0 c n few =
     let r = c.cell_cmp in
     merge_first _ _ _ few _ _ _ _ _ _ c.if-a-eq-CELLS.false c.if-b-eq-CELLS.false
-    (is_lt_test r.result r.type-inv r.ensures c.if-cell_cmp-lt0.true) c.link.ensures
+    (is_lt_test r.result r.type_inv r.ensures c.if-cell_cmp-lt0.true) c.link.ensures
 
 pub returns-else-cell_cmp-lt0 : goal.returns-else-cell_cmp-lt0
 returns-else-cell_cmp-lt0 c n few =
     let r = c.cell_cmp in
     merge_second _ _ _ few _ _ _ _ _ _ c.if-a-eq-CELLS.false c.if-b-eq-CELLS.false
-    (is_lt_test r.result r.type-inv r.ensures c.if-cell_cmp-lt0.false) c.link-else-cell_cmp-lt0.ensures
+    (is_lt_test r.result r.type_inv r.ensures c.if-cell_cmp-lt0.false) c.link-else-cell_cmp-lt0.ensures

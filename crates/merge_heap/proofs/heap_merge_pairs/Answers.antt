@@ -2,7 +2,7 @@
 use native.Mathlib.Omega.{arith}
 use Rattle.merge_heap.proofs.CellCounts.{root_in}
 use Rattle.merge_heap.proofs.HeapMergePairs.{some_siblings, held_small, held_inside, held_next, none_paired, odd_one}
-use Rattle.merge_heap.proofs.HeapMergePairs.{pair_up, all_paired, all_merged}
+use Rattle.merge_heap.proofs.HeapMergePairs.{pair_up, all_paired, merge_on, all_merged}
 use Rattle.merge_heap.proofs.heap_merge_pairs.Goals as goal
 
 pub loop-at-init : goal.loop-at-init
@@ -97,6 +97,16 @@ heap_merge-r-requires c =
     let pre = c.requires in let f = pre.headed.few in
     let v = c.loop-stack.invariant _ f _ _ _ (all_paired f (c.loop-at.invariant _ f pre.forest pre.rep) c.loop-at-test.false) in
     record { root = (λ ne. pre.headed.each _ (held_inside f v.stage.done ne)); root_2 = (λ ne. pre.headed.each _ (root_in _ _ _ f v.root ne)) }
+
+pub loop-stack-smaller : goal.loop-stack-smaller
+loop-stack-smaller c =
+    let pre = c.requires in let f = pre.headed.few in
+    let v = c.loop-stack.invariant _ f _ _ _ (all_paired f (c.loop-at.invariant _ f pre.forest pre.rep) c.loop-at-test.false) in
+    (merge_on f v c.loop-stack-test.true (c.heap_merge-r.ensures _ f)).1
+
+pub loop-stack-preserved : goal.loop-stack-preserved
+loop-stack-preserved c n f child₁ next₁ all w =
+    (merge_on f (c.loop-stack.invariant n f child₁ next₁ all w) c.loop-stack-test.true (c.heap_merge-r.ensures _ f)).0
 
 pub returns : goal.returns
 returns c n f hh p =
