@@ -1,6 +1,7 @@
 // The source's pairing heap in at most 96 cells. A cell stands for a list, whose head is a branch's link.
 // `child` and `next` have each cell's first child and next sibling; 96 is no cell, and as a root the empty heap.
 #![tactic(auto)]
+
 ghost use Rattle.std.specs.Prelude.{◌≡◌, ℕ, ◌≤◌, ◌<◌, get_or, set};
 ghost use Rattle.source.specs.Limits.{heaviest_list};
 ghost use Rattle.source.specs.Heap.{heap_from_list};
