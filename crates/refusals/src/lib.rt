@@ -1,5 +1,6 @@
 // The refusals of the requirements: their numbers, and the conditions of rows 2 to 8.
 #![tactic(auto)]
+
 ghost use Rattle.std.specs.Prelude.{◌≡◌, ltb};
 ghost use Rattle.source.specs.Calls.{a_query, a_name, a_path, a_look_up, a_completion, first_row, whole_records, free};
 ghost use Rattle.refusals.specs.Refusals.{number, row_of};
