@@ -1,5 +1,6 @@
 // The forms of a line of the program `console`. `parse` answers the form that spells a line, or that none does. Nothing is assumed.
 #![tactic(auto)]
+
 ghost use Rattle.std.specs.Prelude.{◌≡◌};
 ghost use Rattle.script_parts.specs.Parts.{WordSays};
 ghost use Rattle.script.specs.Script.{key, import_kind, Parsed};
