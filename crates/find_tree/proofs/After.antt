@@ -36,7 +36,7 @@ module _ (key : ℕ → Str) where
       let g : y ≡ x = cc in
       let h : after key k xs ≡ tl = cc in
       sym h ∙ after_all k xs (Allˡ-map {P = λ u. key y <ˢ key u} {Q = λ u. k <ˢ key u} xs (λ u. <ˢ_trans k (key y) (key u) (past_true k (key y) z)) i.0)
-      ∙ rw (← g) (sym (after_first y xs i)))
+      ∙ subst (λ u. xs ≡ after key (key u) (y ∷ xs)) g (sym (after_first y xs i)))
       (λ z.
       let f : after key k xs ≡ x ∷ tl = rw z at e in
       let h : key y <ˢ key x = (subst (λ (m : List ℕ). Allˡ (λ u. key y <ˢ key u) m) f (all_after (λ u. key y <ˢ key u) k xs i.0)).0 in

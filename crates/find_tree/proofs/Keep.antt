@@ -27,7 +27,7 @@ all_always P f (x ∷ xs) = (f x, all_always P f xs)
 -- What holds of all holds of each.
 pub allˡ_at : {A : Type 0} (P : A → Type 0) (xs : List A) → Allˡ P xs → (x : A) → Memᴰ x xs → P x
 allˡ_at P [] a x m = absurd (Memᴰ.not-nil m)
-allˡ_at P (y ∷ xs) a x m = ⊎_elim (λ e. subst P (sym e) a.0) (allˡ_at P xs a.1 x) (Memᴰ.cases-cons m)
+allˡ_at P (y ∷ xs) a x m = ⊎_elim (λ e. subst P (sym e) a.0) (allˡ_at P xs a.1 x) (Memᴰ.cases_cons m)
 
 -- Each is one of them.
 pub all_among : {A : Type 0} (xs : List A) → Allˡ (λ x. Memᴰ x xs) xs

@@ -62,7 +62,7 @@ module _ {ws txt : List ℕ} {root : ℕ} {key : Str} {link count : ℕ} (g : Se
     search_left e q =
         rw q
         (search_on (left_link (record_at ws link)) (sides_earlier g.any p).0 (any_left g.any p)
-        (λ w v t. (left_tree t p, rw (branch_reads t p, ← e), rw (branch_reads t p, insert_branches, ← e) (sym (add-one _)))))
+        (λ w v t. (left_tree t p, rw (branch_reads t p, btree_find_exact, ← e), rw (branch_reads t p, insert_branches, ← e) (sym (add-one _)))))
 
     pub search_right : {j : ℕ} → Ordering.gt ≡ string_compare key (key_at ws txt link)
         → j ≡ right_link (record_at ws link) → Search ws txt root key j (count + 1)
@@ -70,7 +70,7 @@ module _ {ws txt : List ℕ} {root : ℕ} {key : Str} {link count : ℕ} (g : Se
     search_right e q =
         rw q
         (search_on (right_link (record_at ws link)) (sides_earlier g.any p).1 (any_right g.any p)
-        (λ w v t. (right_tree t p, rw (branch_reads t p, ← e), rw (branch_reads t p, insert_branches, ← e) (sym (add-one _)))))
+        (λ w v t. (right_tree t p, rw (branch_reads t p, btree_find_exact, ← e), rw (branch_reads t p, insert_branches, ← e) (sym (add-one _)))))
 
     pub search_here : Ordering.eq ≡ string_compare key (key_at ws txt link) → Placed ws txt root key link count
     unfolding btree_find_exact insert_branches
@@ -80,7 +80,7 @@ module _ {ws txt : List ℕ} {root : ℕ} {key : Str} {link count : ℕ} (g : Se
           record {
             link = record { earlier = omega (arith, g.small, g.some); of_kind = s.here.link.of_kind };
             has_key = λ _. sym (compare_eq_same key (key_at ws txt link) e);
-            says = s.finds ∙ rw (branch_reads s.here p, ← e, ne_eqb link 0 (λ z. omega arith));
+            says = s.finds ∙ rw (branch_reads s.here p, btree_find_exact, ← e, ne_eqb link 0 (λ z. omega arith));
           };
       builds = record {
         small = omega (arith, g.small);

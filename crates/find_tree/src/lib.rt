@@ -1,6 +1,7 @@
 // One tree of the record memory: a key beside that of a branch, and the place of a key.
 // A tree is the link of its root; the same functions serve both tables and both levels.
 #![tactic(auto)]
+
 ghost use Rattle.std.specs.Prelude.{◌≡◌, ◌<◌};
 ghost use Rattle.source.specs.Text.{string_compare, starts_with};
 ghost use Rattle.memory.specs.Layout.{key_at};
