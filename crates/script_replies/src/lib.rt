@@ -1,6 +1,7 @@
 // The replies of the program `console`. Each function writes one at `at` and returns where it ends; every other byte of `out` stays.
 // Nothing is assumed.
 #![tactic(auto)]
+
 ghost use Rattle.std.specs.Prelude.{◌+◌, ◌≤◌, length};
 ghost use Rattle.source.specs.Calls.{signed_word};
 ghost use Rattle.text.specs.Laid.{Laid};

@@ -6,8 +6,7 @@ use Rattle.script_replies.proofs.put_name.Goals as goal
 
 pub returns : goal.returns
 unfolding name_text
-returns c =
-    (
-      rw c.letter_of.ensures at (laid_more c.put-a.ensures c.put_number.ensures.0),
-      omega (arith, c.put-a.ensures.end, c.put_number.ensures.1),
-    )
+returns c = (
+  rw c.letter_of.ensures at (laid_more c.put-a.ensures c.put_number.ensures.0),
+  omega (arith, c.put-a.ensures.end, c.put_number.ensures.1),
+)
