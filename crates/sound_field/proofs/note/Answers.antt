@@ -17,4 +17,4 @@ bounds-notes-next c =
 pub returns : goal.returns
 returns c =
     let pre = c.requires in let e = c.word_of-next.ensures in record { ways_noted = noted_more pre (omega arith)
-          (⊎_elim (λ w. rw w.2 (far_on pre e w.0.taken (omega arith))) (λ w. rw w.1 (far_here pre e w.0.left)) c.if-next-gt0.branch-raw); notes_len = simp length-set }
+          (⊎_elim (λ w. rw w.end-is (far_on pre e w.if-next-gt0.true (omega arith))) (λ w. rw w.end-is (far_here pre e w.if-next-gt0.false)) c.if-next-gt0.branch-raw); notes_len = simp length-set }
