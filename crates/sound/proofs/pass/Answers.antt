@@ -1,7 +1,7 @@
 -- `sound::pass` meets its contract. The loop's invariant: the records before the link are right, and noted.
 use Prim.Native.Nat.{◌-◌}
 use native.Mathlib.Omega.{arith}
-use Rattle.memory.proofs.Says.{says_passes, says_refuses}
+use Rattle.memory.proofs.Says.{says_holds, says_fails}
 use Rattle.sound.proofs.Notes.{notes_start, notes_at, notes_next, can_note}
 use Rattle.sound.proofs.Rows.{part_record, rows_more}
 use Rattle.sound.proofs.pass.Goals as goal
@@ -44,7 +44,7 @@ link_ok-requires c =
 
 pub returns-then-not-link_ok : goal.returns-then-not-link_ok
 returns-then-not-link_ok c o =
-    says_refuses c.link_ok.result c.link_ok.ensures c.if-not-link_ok.true o.names_link
+    says_fails c.link_ok.result c.link_ok.ensures c.if-not-link_ok.true o.names_link
 
 pub overflow_add-records-2 : goal.overflow_add-records-2
 overflow_add-records-2 c =
@@ -56,7 +56,7 @@ link_ok-requires-2 c =
 
 pub returns-then-not-link_ok-2 : goal.returns-then-not-link_ok-2
 returns-then-not-link_ok-2 c o =
-    says_refuses c.link_ok-2.result c.link_ok-2.ensures c.if-not-link_ok-2.true o.modules_link
+    says_fails c.link_ok-2.result c.link_ok-2.ensures c.if-not-link_ok-2.true o.modules_link
 
 pub loop-link-init : goal.loop-link-init
 loop-link-init c =
@@ -108,12 +108,12 @@ shape_of-greatest-then-not-record_ok c =
 
 pub returns-then-not-record_ok : goal.returns-then-not-record_ok
 returns-then-not-record_ok c o =
-    says_refuses c.record_ok.result c.record_ok.ensures c.if-not-record_ok.true
+    says_fails c.record_ok.result c.record_ok.ensures c.if-not-record_ok.true
     (o.right.rows c.loop-link.link (omega arith) (omega arith))
 
 pub note-requires : goal.note-requires
 note-requires c =
-    can_note (omega arith) (omega arith) (says_passes c.record_ok.result c.record_ok.ensures c.if-not-record_ok.false)
+    can_note (omega arith) (omega arith) (says_holds c.record_ok.result c.record_ok.ensures c.if-not-record_ok.false)
     (notes_at c.loop-link.invariant.3)
 
 pub overflow_add-link : goal.overflow_add-link
@@ -130,7 +130,7 @@ loop-link-preserved c =
       omega arith,
       omega arith,
       rows_more c.loop-link.invariant.2
-          (says_passes c.record_ok.result
+          (says_holds c.record_ok.result
           c.record_ok.ensures
           c.if-not-record_ok.false),
       notes_next c.loop-link.invariant.3
@@ -155,6 +155,6 @@ returns c =
         text_fits = omega arith;
         rows = λ l p h. c.loop-link.invariant.2.right l p (omega arith);
       };
-      names_link = (says_passes c.link_ok.result c.link_ok.ensures c.if-not-link_ok.false);
-      modules_link = (says_passes c.link_ok-2.result c.link_ok-2.ensures c.if-not-link_ok-2.false);
+      names_link = (says_holds c.link_ok.result c.link_ok.ensures c.if-not-link_ok.false);
+      modules_link = (says_holds c.link_ok-2.result c.link_ok-2.ensures c.if-not-link_ok-2.false);
     }

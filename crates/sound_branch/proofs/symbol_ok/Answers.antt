@@ -1,6 +1,6 @@
 -- `sound::symbol_ok` meets its contract.
 use native.Mathlib.Omega.{arith}
-use Rattle.memory.proofs.Says.{says_passes, says_refuses, says_iff}
+use Rattle.memory.proofs.Says.{says_holds, says_fails, says_iff}
 use Rattle.sound_branch.proofs.symbol_ok.Goals as goal
 
 pub returns-then-r-gt1 : goal.returns-then-r-gt1
@@ -13,13 +13,13 @@ returns-then-r-gt1-2 c o =
 
 pub returns-then-not-text_ok : goal.returns-then-not-text_ok
 returns-then-not-text_ok c o =
-    says_refuses c.text_ok.result c.text_ok.ensures c.if-not-text_ok.true o.name
+    says_fails c.text_ok.result c.text_ok.ensures c.if-not-text_ok.true o.name
 
 pub returns-then-r-eq1 : goal.returns-then-r-eq1
 returns-then-r-eq1 c =
     record {
       sort = c.if-r-gt1.false;
-      name = (says_passes c.text_ok.result c.text_ok.ensures c.if-not-text_ok.false);
+      name = (says_holds c.text_ok.result c.text_ok.ensures c.if-not-text_ok.false);
       path = λ e. absurd (omega arith);
       loaded = c.if-r-gt1-2.false;
     }
@@ -29,7 +29,7 @@ returns c =
     says_iff c.text_ok-2.result c.text_ok-2.ensures
     (λ q. record {
       sort = c.if-r-gt1.false;
-      name = (says_passes c.text_ok.result c.text_ok.ensures c.if-not-text_ok.false);
+      name = (says_holds c.text_ok.result c.text_ok.ensures c.if-not-text_ok.false);
       path = λ e. q;
       loaded = c.if-r-gt1-2.false;
     })

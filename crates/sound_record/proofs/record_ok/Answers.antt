@@ -7,7 +7,7 @@ use mathlib.Core.Logic.{⊎_elim}
 use native.Mathlib.Omega.{arith}
 use Rattle.source.specs.Types.{bind, ns}
 use Rattle.memory.specs.Layout.{names, modules, tree, list, trieˢ}
-use Rattle.memory.proofs.Says.{says_passes, says_refuses, says_iff, says_true}
+use Rattle.memory.proofs.Says.{says_holds, says_fails, says_iff, says_true}
 use Rattle.memory.proofs.RecordOk.{own_earlier}
 use Rattle.memory.proofs.StoredSizes.{depth_collection}
 use Rattle.sound_record.proofs.RecordOk.{known_as, kind_beside, kind_none, right_as, says_record, before_length}
@@ -21,12 +21,12 @@ bounds-r-0 c =
 pub branch_ok-requires : goal.branch_ok-requires
 branch_ok-requires c =
     let pre = c.requires in
-    record { before = pre.0; tree_kind = record { which = names; level = bind; is = c.in-1.is }; r_len = before_length pre.0 pre.1.0; notes = pre.1.1 }
+    record { before = pre.before; tree_kind = record { which = names; level = bind; is = c.in-1.is }; r_len = before_length pre.before pre.r_value; notes = pre.notes }
 
 pub returns-then-not-branch_ok : goal.returns-then-not-branch_ok
 returns-then-not-branch_ok c o =
     let a = right_as c.requires.before c.requires.r_value names (tree bind) c.in-1.is o in
-    says_refuses c.branch_ok.result (c.branch_ok.ensures names bind c.in-1.is) c.if-not-branch_ok.true (a.0, a.1)
+    says_fails c.branch_ok.result (c.branch_ok.ensures names bind c.in-1.is) c.if-not-branch_ok.true (a.0, a.1)
 
 pub bounds-r-6 : goal.bounds-r-6
 bounds-r-6 c =
@@ -35,27 +35,27 @@ bounds-r-6 c =
 pub branch_ok-requires-in-6 : goal.branch_ok-requires-in-6
 branch_ok-requires-in-6 c =
     let pre = c.requires in
-    record { before = pre.0; tree_kind = record { which = modules; level = bind; is = c.in-6.is }; r_len = before_length pre.0 pre.1.0; notes = pre.1.1 }
+    record { before = pre.before; tree_kind = record { which = modules; level = bind; is = c.in-6.is }; r_len = before_length pre.before pre.r_value; notes = pre.notes }
 
 pub returns-then-not-branch_ok-2 : goal.returns-then-not-branch_ok-2
 returns-then-not-branch_ok-2 c o =
     let a = right_as c.requires.before c.requires.r_value modules (tree bind) c.in-6.is o in
-    says_refuses c.branch_ok-in-6.result (c.branch_ok-in-6.ensures modules bind c.in-6.is) c.if-not-branch_ok-2.true (a.0, a.1)
+    says_fails c.branch_ok-in-6.result (c.branch_ok-in-6.ensures modules bind c.in-6.is) c.if-not-branch_ok-2.true (a.0, a.1)
 
 pub symbol_ok-requires : goal.symbol_ok-requires
 symbol_ok-requires c =
-    let pre = c.requires in (pre.0.text, before_length pre.0 pre.1.0)
+    let pre = c.requires in (pre.before.text, before_length pre.before pre.r_value)
 
 pub branch_ok-requires-in-2 : goal.branch_ok-requires-in-2
 branch_ok-requires-in-2 c =
     let pre = c.requires in let n = known_as (tree ns) c.in-2.is in
-    record { before = pre.0; tree_kind = record { which = n.0; level = ns; is = n.1 }; r_len = before_length pre.0 pre.1.0; notes = pre.1.1 }
+    record { before = pre.before; tree_kind = record { which = n.0; level = ns; is = n.1 }; r_len = before_length pre.before pre.r_value; notes = pre.notes }
 
 pub returns-then-not-branch_ok-3 : goal.returns-then-not-branch_ok-3
 returns-then-not-branch_ok-3 c o =
     let n = known_as (tree ns) c.in-2.is in
     let a = right_as c.requires.before c.requires.r_value n.0 (tree ns) n.1 o in
-    says_refuses c.branch_ok-in-2.result (c.branch_ok-in-2.ensures n.0 ns n.1) c.if-not-branch_ok-3.true (a.0, a.1)
+    says_fails c.branch_ok-in-2.result (c.branch_ok-in-2.ensures n.0 ns n.1) c.if-not-branch_ok-3.true (a.0, a.1)
 
 pub overflow_add-k : goal.overflow_add-k
 overflow_add-k c =
@@ -65,8 +65,8 @@ pub held_ok-requires : goal.held_ok-requires
 held_ok-requires c =
     let pre = c.requires in
     let n = known_as (tree ns) c.in-2.is in
-    let a = (says_passes c.branch_ok-in-2.result (c.branch_ok-in-2.ensures n.0 ns n.1) c.if-not-branch_ok-3.false).0 in
-    record { before = pre.0; r_len = before_length pre.0 pre.1.0; r_bound = (a.left.earlier, a.right.earlier) }
+    let a = (says_holds c.branch_ok-in-2.result (c.branch_ok-in-2.ensures n.0 ns n.1) c.if-not-branch_ok-3.false).0 in
+    record { before = pre.before; r_len = before_length pre.before pre.r_value; r_bound = (a.left.earlier, a.right.earlier) }
 
 pub overflow_sub-k : goal.overflow_sub-k
 overflow_sub-k c =
@@ -74,7 +74,7 @@ overflow_sub-k c =
 
 pub collection_ok-requires : goal.collection_ok-requires
 collection_ok-requires c =
-    let pre = c.requires in record { before = pre.0; r_len = before_length pre.0 pre.1.0 }
+    let pre = c.requires in record { before = pre.before; r_len = before_length pre.before pre.r_value }
 
 pub overflow_sub-k-in-4 : goal.overflow_sub-k-in-4
 overflow_sub-k-in-4 c =
@@ -82,14 +82,14 @@ overflow_sub-k-in-4 c =
 
 pub collection_ok-requires-in-4 : goal.collection_ok-requires-in-4
 collection_ok-requires-in-4 c =
-    let pre = c.requires in record { before = pre.0; r_len = before_length pre.0 pre.1.0 }
+    let pre = c.requires in record { before = pre.before; r_len = before_length pre.before pre.r_value }
 
 pub returns-then-not-collection_ok : goal.returns-then-not-collection_ok
 returns-then-not-collection_ok c o =
     let n = known_as (list ns) c.in-4.is in
     let t = kind_beside n.0 (list ns) (tree ns) n.1 (⊎_elim (λ e. omega arith) (λ e. omega arith) c.in-4.is) in
     let a = right_as c.requires.before c.requires.r_value n.0 (list ns) n.1 o in
-    says_refuses c.collection_ok-in-4.result (c.collection_ok-in-4.ensures n.0 ns n.1 t) c.if-not-collection_ok.true (a.0, a.1)
+    says_fails c.collection_ok-in-4.result (c.collection_ok-in-4.ensures n.0 ns n.1 t) c.if-not-collection_ok.true (a.0, a.1)
 
 pub bounds-r-11 : goal.bounds-r-11
 bounds-r-11 c =
@@ -99,7 +99,7 @@ pub deeper-requires : goal.deeper-requires
 deeper-requires c =
     let n = known_as (list ns) c.in-4.is in
     let t = kind_beside n.0 (list ns) (tree ns) n.1 (⊎_elim (λ e. omega arith) (λ e. omega arith) c.in-4.is) in
-    let a = (says_passes c.collection_ok-in-4.result (c.collection_ok-in-4.ensures n.0 ns n.1 t) c.if-not-collection_ok.false).0 in
+    let a = (says_holds c.collection_ok-in-4.result (c.collection_ok-in-4.ensures n.0 ns n.1 t) c.if-not-collection_ok.false).0 in
     (c.requires.before.fits, before_length c.requires.before c.requires.r_value, own_earlier a, a.rest.earlier)
 
 pub overflow_sub-k-in-5 : goal.overflow_sub-k-in-5
@@ -112,24 +112,24 @@ overflow_sub-k-in-5-2 c =
 
 pub trie_ok-requires : goal.trie_ok-requires
 trie_ok-requires c =
-    let pre = c.requires in record { before = pre.0; r_len = before_length pre.0 pre.1.0 }
+    let pre = c.requires in record { before = pre.before; r_len = before_length pre.before pre.r_value }
 
 pub returns-else-not-branch_ok : goal.returns-else-not-branch_ok
 returns-else-not-branch_ok c =
-    let b = (says_passes c.branch_ok.result (c.branch_ok.ensures names bind c.in-1.is) c.if-not-branch_ok.false) in
+    let b = (says_holds c.branch_ok.result (c.branch_ok.ensures names bind c.in-1.is) c.if-not-branch_ok.false) in
     says_record c.requires.before c.requires.r_value names (tree bind) c.in-1.is c.is_kind.result
     (says_iff c.is_kind.result (says_true c.is_kind.result _ c.is_kind.ensures) (λ a. (b.0, b.1, a)) (λ a. a.2))
 
 pub returns-else-not-branch_ok-2 : goal.returns-else-not-branch_ok-2
 returns-else-not-branch_ok-2 c =
-    let b = (says_passes c.branch_ok-in-6.result (c.branch_ok-in-6.ensures modules bind c.in-6.is) c.if-not-branch_ok-2.false) in
+    let b = (says_holds c.branch_ok-in-6.result (c.branch_ok-in-6.ensures modules bind c.in-6.is) c.if-not-branch_ok-2.false) in
     says_record c.requires.before c.requires.r_value modules (tree bind) c.in-6.is c.symbol_ok.result
     (says_iff c.symbol_ok.result c.symbol_ok.ensures (λ a. (b.0, b.1, a)) (λ a. a.2))
 
 pub returns-else-not-branch_ok-3 : goal.returns-else-not-branch_ok-3
 returns-else-not-branch_ok-3 c =
     let n = known_as (tree ns) c.in-2.is in
-    let b = (says_passes c.branch_ok-in-2.result (c.branch_ok-in-2.ensures n.0 ns n.1) c.if-not-branch_ok-3.false) in
+    let b = (says_holds c.branch_ok-in-2.result (c.branch_ok-in-2.ensures n.0 ns n.1) c.if-not-branch_ok-3.false) in
     let t = kind_beside n.0 (tree ns) trieˢ n.1 (⊎_elim (λ e. omega arith) (λ e. omega arith) c.in-2.is) in
     says_record c.requires.before c.requires.r_value n.0 (tree ns) n.1 c.held_ok.result
     (says_iff c.held_ok.result (c.held_ok.ensures n.0 t b.0) (λ a. (b.0, b.1, a.0, a.1)) (λ a. (a.2, a.3)))
@@ -145,7 +145,7 @@ returns-else-not-collection_ok c =
     let n = known_as (list ns) c.in-4.is in
     let t = kind_beside n.0 (list ns) (tree ns) n.1
     (⊎_elim (λ e. omega arith) (λ e. omega arith) c.in-4.is) in
-    let b = (says_passes c.collection_ok-in-4.result (c.collection_ok-in-4.ensures n.0 ns n.1 t) c.if-not-collection_ok.false) in
+    let b = (says_holds c.collection_ok-in-4.result (c.collection_ok-in-4.ensures n.0 ns n.1 t) c.if-not-collection_ok.false) in
     says_record c.requires.before c.requires.r_value n.0 (list ns) n.1 c.same.result
     (says_iff c.same.result (says_equal c.same.result c.wide.ensures
     (c.wide-in-4.ensures ∙ c.deeper.ensures ∙ depth_collection c.requires.before.rows n.0 b.0) c.same.ensures)
