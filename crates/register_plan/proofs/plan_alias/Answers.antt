@@ -11,7 +11,7 @@ use Rattle.register_plan.proofs.plan_alias.Goals as goal
 
 pub trie_of-t-requires : goal.trie_of-t-requires
 trie_of-t-requires c =
-    at_fits c.plan_path-p.ensures.0.here
+    at_fits c.plan_path-p.ensures.path.here
 
 pub trie_of-i-requires : goal.trie_of-i-requires
 trie_of-i-requires c =
@@ -19,11 +19,11 @@ trie_of-i-requires c =
 
 pub names_place-a-requires : goal.names_place-a-requires
 names_place-a-requires c =
-    any_namespaces c.plan_path-p.ensures.0.here c.trie_of-t.ensures
+    any_namespaces c.plan_path-p.ensures.path.here c.trie_of-t.ensures
 
 pub note_host-requires : goal.note_host-requires
 note_host-requires c =
-    (c.plan_path-p.ensures.0.few, omega (arith, c.plan_path-p.ensures.1.kept.size, c.requires.host_value.2))
+    (c.plan_path-p.ensures.path.few, omega (arith, c.plan_path-p.ensures.leads.kept.size, c.requires.host_value.2))
 
 pub weight_of-weight-requires : goal.weight_of-weight-requires
 weight_of-weight-requires c =
@@ -45,20 +45,20 @@ pub overflow_add-result : goal.overflow_add-result
 overflow_add-result c =
     omega (
       arith,
-      placed_small (any_namespaces c.plan_path-p.ensures.0.here c.trie_of-t.ensures) c.names_place-a.ensures,
+      placed_small (any_namespaces c.plan_path-p.ensures.path.here c.trie_of-t.ensures) c.names_place-a.ensures,
     )
 
 pub overflow_add-result-2 : goal.overflow_add-result-2
 overflow_add-result-2 c =
-    let plan-path = c.plan_path-p.ensures.0 in
+    let plan-path = c.plan_path-p.ensures.path in
     omega (arith, placed_small (any_namespaces plan-path.here c.trie_of-t.ensures) c.names_place-a.ensures, plan-path.few, plan-path.gives.small)
 
 pub overflow_add-result-3 : goal.overflow_add-result-3
 overflow_add-result-3 c =
-    omega (arith, c.plan_path-p.ensures.0.few)
+    omega (arith, c.plan_path-p.ensures.path.few)
 
 pub returns : goal.returns
 returns c =
-    let plan-path = c.plan_path-p.ensures in record { alias_planned = λ tbl q e f. alias_planned _ plan-path.0 c.trie_of-t.ensures tbl e c.requires.at.1 c.trie_of-i.ensures q f c.names_place-a.ensures
-          c.weight_of-weight.ensures; alias_noted = λ other. noted_count plan-path.1 (omega (arith, plan-path.0.few, plan-path.1.kept.size, c.requires.host_value.2)) Alias other c.args.key.now
-          c.note_host.ensures (namespaces_builds plan-path.0.here c.trie_of-t.ensures c.names_place-a.ensures) }
+    let plan-path = c.plan_path-p.ensures in record { alias_planned = λ tbl q e f. alias_planned _ plan-path.path c.trie_of-t.ensures tbl e c.requires.at.1 c.trie_of-i.ensures q f c.names_place-a.ensures
+          c.weight_of-weight.ensures; alias_noted = λ other. noted_count plan-path.leads (omega (arith, plan-path.path.few, plan-path.leads.kept.size, c.requires.host_value.2)) Alias other c.args.key.now
+          c.note_host.ensures (namespaces_builds plan-path.path.here c.trie_of-t.ensures c.names_place-a.ensures) }

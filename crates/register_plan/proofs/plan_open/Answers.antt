@@ -10,7 +10,7 @@ use Rattle.register_plan.proofs.plan_open.Goals as goal
 
 pub trie_of-t-requires : goal.trie_of-t-requires
 trie_of-t-requires c =
-    at_fits c.plan_path-p.ensures.0.here
+    at_fits c.plan_path-p.ensures.path.here
 
 pub trie_of-i-requires : goal.trie_of-i-requires
 trie_of-i-requires c =
@@ -22,13 +22,13 @@ weight_of-requires c =
 
 pub weight_of-requires-2 : goal.weight_of-requires-2
 weight_of-requires-2 c =
-    omega (arith, at_fits (namespaces_at c.plan_path-p.ensures.0.here c.trie_of-t.ensures))
+    omega (arith, at_fits (namespaces_at c.plan_path-p.ensures.path.here c.trie_of-t.ensures))
 
 pub overflow_add-weight : goal.overflow_add-weight
 overflow_add-weight c =
     omega (
       arith,
-      list_light (namespaces_at c.plan_path-p.ensures.0.here c.trie_of-t.ensures),
+      list_light (namespaces_at c.plan_path-p.ensures.path.here c.trie_of-t.ensures),
       list_light (namespaces_at c.requires.at.1 c.trie_of-i.ensures),
       c.weight_of.ensures,
       c.weight_of-2.ensures,
@@ -38,7 +38,7 @@ pub overflow_add-weight-2 : goal.overflow_add-weight-2
 overflow_add-weight-2 c =
     omega (
       arith,
-      list_light (namespaces_at c.plan_path-p.ensures.0.here c.trie_of-t.ensures),
+      list_light (namespaces_at c.plan_path-p.ensures.path.here c.trie_of-t.ensures),
       list_light (namespaces_at c.requires.at.1 c.trie_of-i.ensures),
       c.weight_of.ensures,
       c.weight_of-2.ensures,
@@ -46,15 +46,15 @@ overflow_add-weight-2 c =
 
 pub overflow_add-result : goal.overflow_add-result
 overflow_add-result c =
-    let plan-path = c.plan_path-p.ensures.0 in omega (arith, plan-path.few, plan-path.gives.small)
+    let plan-path = c.plan_path-p.ensures.path in omega (arith, plan-path.few, plan-path.gives.small)
 
 pub overflow_add-result-2 : goal.overflow_add-result-2
 overflow_add-result-2 c =
     let pre = c.requires.at.1 in
-    omega (arith, c.plan_path-p.ensures.0.few, (lists_seen pre c.trie_of-i.ensures).deep, trie_shallow pre)
+    omega (arith, c.plan_path-p.ensures.path.few, (lists_seen pre c.trie_of-i.ensures).deep, trie_shallow pre)
 
 pub returns : goal.returns
 returns c =
     let plan-path = c.plan_path-p.ensures in
-    record { open_planned = λ tbl q e f. open_planned _ plan-path.0 c.trie_of-t.ensures tbl e c.requires.at.1 c.trie_of-i.ensures q f
-          c.weight_of.ensures c.weight_of-2.ensures; path_noted = λ other key. noted_path plan-path.1 (omega (arith, plan-path.0.few, plan-path.1.kept.size, c.requires.host_value.2)) Open other key tt }
+    record { open_planned = λ tbl q e f. open_planned _ plan-path.path c.trie_of-t.ensures tbl e c.requires.at.1 c.trie_of-i.ensures q f
+          c.weight_of.ensures c.weight_of-2.ensures; path_noted = λ other key. noted_path plan-path.leads (omega (arith, plan-path.path.few, plan-path.leads.kept.size, c.requires.host_value.2)) Open other key tt }
