@@ -1,5 +1,6 @@
 // Is a collection, or a trie, right, given that the records before it are? By what these store.
 #![tactic(auto)]
+
 ghost use Rattle.std.specs.Prelude.{◌≡◌, ◌≤◌, ◌<◌, length};
 ghost use Rattle.source.specs.Limits.{heaviest_list, record_words};
 ghost use Rattle.memory.specs.Layout.{weight_word};

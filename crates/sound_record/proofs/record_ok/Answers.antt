@@ -160,6 +160,6 @@ returns-in-5 c =
 
 pub returns-in_default : goal.returns-in_default
 returns-in_default c o =
-    let rest = c.in_default.rest in
+    let rest = c.in_default.in_default-own.rest in
     kind_none o.which o.sort (ap (λ (x : List ℕ). get_or x 0 0) c.requires.r_value ∙ o.known)
     rest.0.0.0.0.0.1 rest.0.0.0.0.1 rest.0.0.0.1 rest.0.0.1 rest.0.1 rest.1
