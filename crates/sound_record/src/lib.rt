@@ -1,5 +1,6 @@
 // Is a record right, given that those before it are? A test for each kind.
 #![tactic(auto)]
+
 ghost use Rattle.std.specs.Prelude.{◌≡◌};
 ghost use Rattle.memory.specs.Layout.{record_at};
 ghost use Rattle.memory.specs.Sound.{Says, RecordOk};
