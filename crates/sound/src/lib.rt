@@ -1,5 +1,6 @@
 // Is the lent memory a sound table? One pass over the used records, each tested by what the records before it store.
 #![tactic(auto)]
+
 ghost use Rattle.std.specs.Prelude.{◌+◌};
 ghost use Rattle.memory.specs.Sound.{Says};
 ghost use Rattle.memory_table.specs.Table.{Sound};

@@ -125,17 +125,16 @@ loop-link-smaller c =
     omega arith
 
 pub loop-link-preserved : goal.loop-link-preserved
-loop-link-preserved c =
-    (
-      omega arith,
-      omega arith,
-      rows_more c.loop-link.invariant.2
-          (says_holds c.record_ok.result
-          c.record_ok.ensures
-          c.if-not-record_ok.false),
-      notes_next c.loop-link.invariant.3
-          c.note.ensures,
-    )
+loop-link-preserved c = (
+  omega arith,
+  omega arith,
+  rows_more c.loop-link.invariant.2
+      (says_holds c.record_ok.result
+      c.record_ok.ensures
+      c.if-not-record_ok.false),
+  notes_next c.loop-link.invariant.3
+      c.note.ensures,
+)
 
 pub shape_of-least : goal.shape_of-least
 shape_of-least c =
