@@ -128,8 +128,8 @@ module _ {ws txt : List ℕ} {link at : ℕ} (a : AnyTree ws txt link) (m : Mem�
       (λ i. ⊎_elim
       (λ e. absurd (n (sym e)))
       (λ j. g j (past_low true (key_at ws txt at) k (allˡ_at (λ y. k <ˢ key_at ws txt y) (branches ws right) (all_beyond a p (λ y. k <ˢ y) (λ y z. z)) at j)))
-      (Memᴰ.cases-cons i))
-      (Memᴰ.append-cases (branches ws left) (rw (branches_at a.tree p) at m))
+      (Memᴰ.cases_cons i))
+      (Memᴰ.append_cases (branches ws left) (rw (branches_at a.tree p) at m))
 
   -- The sides' links tell.
   pub left_by : right_link (record_at ws link) < at → true ≡ past true (key_at ws txt at) (key_at ws txt link)

@@ -6,20 +6,20 @@ use Rattle.match_next.proofs.is_left.Goals as goal
 
 pub right_of-requires : goal.right_of-requires
 right_of-requires c =
-    let pre = c.requires in (among_some pre.0 pre.1.0, tree_fits pre.0)
+    let pre = c.requires in (among_some pre.any_tree pre.fact, tree_fits pre.any_tree)
 
 pub returns-then-right_of-at : goal.returns-then-right_of-at
 returns-then-right_of-at c =
-    let pre = c.requires in left_by pre.0 pre.1.0 pre.1.1 (rw c.right_of.ensures at c.if-right_of-at.true)
+    let pre = c.requires in left_by pre.any_tree pre.fact pre.fact_2 (rw c.right_of.ensures at c.if-right_of-at.true)
 
 pub left_of-requires : goal.left_of-requires
 left_of-requires c =
-    let pre = c.requires in (among_some pre.0 pre.1.0, tree_fits pre.0)
+    let pre = c.requires in (among_some pre.any_tree pre.fact, tree_fits pre.any_tree)
 
 pub returns-then-left_of-at : goal.returns-then-left_of-at
 returns-then-left_of-at c =
     let pre = c.requires in
-    right_by pre.0 pre.1.0 pre.1.1 (rw c.left_of.ensures at c.if-left_of-at.true)
+    right_by pre.any_tree pre.fact pre.fact_2 (rw c.left_of.ensures at c.if-left_of-at.true)
 
 pub key_of-key-requires : goal.key_of-key-requires
 key_of-key-requires c =
@@ -27,7 +27,7 @@ key_of-key-requires c =
 
 pub key_past-requires : goal.key_past-requires
 key_past-requires c =
-    let pre = c.requires in (among_some pre.0 pre.1.0, pre.0)
+    let pre = c.requires in (among_some pre.any_tree pre.fact, pre.any_tree)
 
 pub returns : goal.returns
 returns c =

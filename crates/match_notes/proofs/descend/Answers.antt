@@ -7,7 +7,7 @@ use Rattle.match_notes.proofs.descend.Goals as goal
 
 pub loop-at-init : goal.loop-at-init
 loop-at-init c =
-    let pre = c.requires in descending_all pre.0 pre.1.0 pre.1.1
+    let pre = c.requires in descending_all pre.any_tree pre.prefix_value pre.fits
 
 pub key_past-requires : goal.key_past-requires
 key_past-requires c =

@@ -7,7 +7,7 @@ use Rattle.match_notes.proofs.note_left.Goals as goal
 
 pub loop-at-init : goal.loop-at-init
 loop-at-init c =
-    let pre = c.requires in lefting_all pre.0 pre.1.0 pre.1.1
+    let pre = c.requires in lefting_all pre.any_tree pre.all_after pre.fits
 
 pub key_begins-requires : goal.key_begins-requires
 key_begins-requires c =

@@ -43,9 +43,9 @@ take_mark-marked-requires c =
 pub descend-near-requires : goal.descend-near-requires
 descend-near-requires c =
     let a = c.args in let pre = c.requires in record { any_tree = (mark_ahead (key_at a.words.now a.text.now a.at)
-          (next_here a.prefix.now pre.0 pre.1.0 pre.1.1 c.right_of-right.ensures c.note_left-here.ensures) c.if-here-gt0.false
-          (no_tree c.requires.any_tree) c.take_mark-marked.ensures).any; prefix_value = rw c.key_of-low.ensures pre.1.0; fits = taken_fits (none_fits (key_at a.words.now a.text.now a.at)
-            (next_here a.prefix.now pre.0 pre.1.0 pre.1.1 c.right_of-right.ensures c.note_left-here.ensures) c.if-here-gt0.false)
+          (next_here a.prefix.now pre.at_nonzero pre.prefix_value pre.noted c.right_of-right.ensures c.note_left-here.ensures) c.if-here-gt0.false
+          (no_tree c.requires.any_tree) c.take_mark-marked.ensures).any; prefix_value = rw c.key_of-low.ensures pre.prefix_value; fits = taken_fits (none_fits (key_at a.words.now a.text.now a.at)
+            (next_here a.prefix.now pre.at_nonzero pre.prefix_value pre.noted c.right_of-right.ensures c.note_left-here.ensures) c.if-here-gt0.false)
             c.take_mark-marked.ensures }
 
 pub last_note-requires-then-near-gt0 : goal.last_note-requires-then-near-gt0
