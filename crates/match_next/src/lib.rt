@@ -1,6 +1,7 @@
 // The branches of a tree that begin with a prefix: the first one, and the one after another.
 // Each is found from the links and keys alone, so that no more than the current branch is kept.
 #![tactic(auto)]
+
 ghost use Rattle.std.specs.Prelude.{◌≡◌, true, false};
 ghost use mathlib.Core.List.{Memᴰ};
 ghost use Rattle.source.specs.Text.{starts_with};

@@ -1,5 +1,6 @@
 // The branches of a tree that begin with a prefix, noted on the way down to the first of them.
 #![tactic(auto)]
+
 ghost use Rattle.std.specs.Prelude.{◌≡◌, true};
 ghost use Rattle.source.specs.Text.{starts_with};
 ghost use Rattle.find_tree.specs.Tree.{AnyTree};

@@ -60,7 +60,7 @@ module _ (key : ℕ → Str) where
         let g : y ≡ x = cc in
         let h : keep key (past strict low) xs ≡ tl = cc in
         sym h ∙ keep_all key (past strict low) xs (Allˡ-map {P = λ u. key y <ˢ key u} {Q = λ u. past strict low (key u) ≡ true} xs
-        (λ u. past_up strict low (key y) (key u) z) i.0) ∙ rw (← g) (sym (after_first key y xs i)))
+        (λ u. past_up strict low (key y) (key u) z) i.0) ∙ subst (λ u. xs ≡ after key (key u) (y ∷ xs)) g (sym (after_first key y xs i)))
         (λ z.
         let f : keep key (past strict low) xs ≡ x ∷ tl = rw z at e in
         let h : key y <ˢ key x = (subst (λ (m : List ℕ). Allˡ (λ u. key y <ˢ key u) m) f

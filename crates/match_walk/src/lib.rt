@@ -2,6 +2,7 @@
 // Once the notes run out and some were dropped, the tree of the last mark is walked down again, to the branches past the last one given.
 // Where notes were dropped and no mark is left the walk starts at the root.
 #![tactic(auto)]
+
 ghost use Rattle.std.specs.Prelude.{◌≡◌, true, ◌<◌, length};
 ghost use Rattle.find_tree.specs.Tree.{AnyTree};
 ghost use Rattle.source.specs.Text.{starts_with};

@@ -42,11 +42,15 @@ take_mark-marked-requires c =
 
 pub descend-near-requires : goal.descend-near-requires
 descend-near-requires c =
-    let a = c.args in let pre = c.requires in record { any_tree = (mark_ahead (key_at a.words.now a.text.now a.at)
+    let a = c.args in let pre = c.requires in record {
+      any_tree = (mark_ahead (key_at a.words.now a.text.now a.at)
           (next_here a.prefix.now pre.at_nonzero pre.prefix_value pre.noted c.right_of-right.ensures c.note_left-here.ensures) c.if-here-gt0.false
-          (no_tree c.requires.any_tree) c.take_mark-marked.ensures).any; prefix_value = rw c.key_of-low.ensures pre.prefix_value; fits = taken_fits (none_fits (key_at a.words.now a.text.now a.at)
-            (next_here a.prefix.now pre.at_nonzero pre.prefix_value pre.noted c.right_of-right.ensures c.note_left-here.ensures) c.if-here-gt0.false)
-            c.take_mark-marked.ensures }
+          (no_tree c.requires.any_tree) c.take_mark-marked.ensures).any;
+      prefix_value = rw c.key_of-low.ensures pre.prefix_value;
+      fits = taken_fits (none_fits (key_at a.words.now a.text.now a.at)
+          (next_here a.prefix.now pre.at_nonzero pre.prefix_value pre.noted c.right_of-right.ensures c.note_left-here.ensures) c.if-here-gt0.false)
+          c.take_mark-marked.ensures;
+    }
 
 pub last_note-requires-then-near-gt0 : goal.last_note-requires-then-near-gt0
 last_note-requires-then-near-gt0 c =
@@ -63,11 +67,15 @@ returns-then-near-gt0 c =
 
 pub descend-all-requires : goal.descend-all-requires
 descend-all-requires c =
-    let a = c.args in record { any_tree = c.requires.any_tree; prefix_value = rw c.key_of-low.ensures c.requires.prefix_value; fits = none_fits (key_at a.words.now a.text.now a.at)
-            (next_near (key_at a.words.now a.text.now a.at) _ c.key_of-low.ensures
-            (next_here a.prefix.now c.requires.at_nonzero c.requires.prefix_value c.requires.noted c.right_of-right.ensures
-            c.note_left-here.ensures) c.if-here-gt0.false c.if-notes-eq0.false (no_tree c.requires.any_tree) c.take_mark-marked.ensures
-            c.descend-near.ensures) c.if-near-gt0.false }
+    let a = c.args in record {
+      any_tree = c.requires.any_tree;
+      prefix_value = rw c.key_of-low.ensures c.requires.prefix_value;
+      fits = none_fits (key_at a.words.now a.text.now a.at)
+          (next_near (key_at a.words.now a.text.now a.at) _ c.key_of-low.ensures
+          (next_here a.prefix.now c.requires.at_nonzero c.requires.prefix_value c.requires.noted c.right_of-right.ensures
+          c.note_left-here.ensures) c.if-here-gt0.false c.if-notes-eq0.false (no_tree c.requires.any_tree) c.take_mark-marked.ensures
+          c.descend-near.ensures) c.if-near-gt0.false;
+    }
 
 pub last_note-requires-then-all-gt0 : goal.last_note-requires-then-all-gt0
 last_note-requires-then-all-gt0 c =
