@@ -1,5 +1,6 @@
 // The writing of one line into the lent output: its candidate, its annotation, its twelve words.
 #![tactic(auto)]
+
 ghost use Rattle.std.specs.Prelude.{◌≡◌, ◌+◌, ◌*◌, ◌<◌, ◌≤◌, length};
 ghost use Rattle.source.specs.Limits.{record_words};
 ghost use Rattle.memory.specs.Layout.{record_at, key_at};

@@ -18,7 +18,7 @@ overflow_cast-end c =
 pub line_row-row-requires : goal.line_row-row-requires
 line_row-row-requires c =
     let pre = c.requires in
-    omega (arith, c.put_candidate-end.ensures.end, candidate_length pre.0, pre.1.small, pre.0.branch.some, pre.0.branch.within)
+    omega (arith, c.put_candidate-end.ensures.end, candidate_length pre.job_ok, pre.line_fits.small, pre.job_ok.branch.some, pre.job_ok.branch.within)
 
 pub returns : goal.returns
 returns c =
