@@ -20,11 +20,11 @@ all: $(ARCHIVE) example
 example: examples/session examples/prompt
 
 $(ARCHIVE): $(CRATES)
-	rt staticlib screen
+	bash tools/build screen
 	@touch $@
 
 $(PROGRAM): $(CRATES)
-	rt check console
+	bash tools/build console
 	@touch $@
 
 examples/session: examples/session.c include/name_console.h $(ARCHIVE)

@@ -25,7 +25,7 @@ LAYOUTS = ('listing_output/specs/Output.antt',)
 MOST_PARAMETERS = 8
 # One more: a merge goes on with the heads and the heap in arrays of 96 (docs/REQUIREMENTS.md, section 12), which no struct by value holds without a copy.
 ONE_MORE = ('crates/merge/src/lib.rt: take', 'crates/merge/src/lib.rt: merge_next')
-CITE = re.compile(r'^\s*(?:pub )?(?:ghost )?use Rattle·([a-z0-9_]+)(?:·(?:specs|proofs))?\.(specs|proofs)\.')
+CITE = re.compile(r'^\s*(?:pub )?(?:ghost )?use Rattle\.(?!std\.)([a-z0-9_]+)\.(specs|proofs)\.')
 CALL = re.compile(r'\b([a-z][a-z0-9_]*)::')
 BARE_CODE = re.compile(r'\b(?:word_of|stored)\([^;]*, \d+\)|\b(?:row|old|new|r|item)\[\d+\]')
 BARE_SPEC = re.compile(r'(?<![\w·.-])(?:word (?:\((?:[^()]|\([^()]*\))*\)|[^\s()]+)|stored (?:\([^()]*\)|[^\s()]+) (?:\((?:[^()]|\([^()]*\))*\)|[^\s()]+)) \d+(?![\w·])')
@@ -57,7 +57,7 @@ def lines_of(crate):
         rel = os.path.relpath(path, top)
         part = rel.split(os.sep)[0]
         if path.endswith(('.rt', '.antt')) and part in ('src', 'specs', 'proofs'):
-            kind = {'src': 'code', 'specs': 'definitions'}.get(part, 'proofs' if rel.endswith('Proof.antt') else 'laws')
+            kind = {'src': 'code', 'specs': 'definitions'}.get(part, 'proofs' if rel.endswith(('Proof.antt', 'Answers.antt', 'Invariants.antt')) else 'laws')
             yield rel, kind, read(path).split('\n')
 
 
@@ -66,10 +66,10 @@ def reached(crates):
     out = collections.defaultdict(set)
     for crate in crates:
         for path in glob.glob(f'crates/{crate}/specs/*.antt'):
-            out[crate] |= set(re.findall(r'^use Rattle·([a-z0-9_]+)\.specs', read(path), re.M))
+            out[crate] |= set(re.findall(r'^use Rattle\.(?!std\.|%s\.)([a-z0-9_]+)\.specs' % crate, read(path), re.M))
         for path in glob.glob(f'crates/{crate}/src/*.rt'):
             text = read(path)
-            out[crate] |= set(re.findall(r'^ghost use Rattle·([a-z0-9_]+)\.specs', text, re.M))
+            out[crate] |= set(re.findall(r'^ghost use Rattle\.(?!std\.|%s\.)([a-z0-9_]+)\.specs' % crate, text, re.M))
             origin = dict((t, c) for c, t in re.findall(r'^use (\w+)::(\w+);', text, re.M))
             for body in re.findall(r'pub (?:struct|enum) \w+ \{(.*?)\n\}', text, re.S):
                 out[crate] |= {origin[t] for t in re.findall(r'\b([A-Z]\w*)\b', body) if t in origin}

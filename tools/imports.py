@@ -2,7 +2,7 @@
 """imports.py [--check] [PATH...]: takes names out of `use` lines that the file does not use.
 
 PATH is a file or a folder (crates). With --check it changes nothing, names each place, and closes with 'N passed, M failed', a file being one.
-A name with underscores (`_+_`) is used where its parts stand; `_>>=_` where a `do` does.
+A name with holes (`◌+◌`) is used where its parts stand; `◌>>=◌` where a `do` does. `rt check` notes such imports too, and `rt tidy` takes them out.
 """
 import os
 import re
@@ -15,11 +15,11 @@ WORD = r"[^\s(){}\[\],;.`⌜⌝⟦⟧]"
 def used(name, body):
     """Whether `body` uses the imported name."""
     name = name.split(' as ')[-1].strip()
-    if name == '_>>=_' and re.search(r'(?<!%s)do(?!%s)' % (WORD, WORD), body):
+    if name == '◌>>=◌' and re.search(r'(?<!%s)do(?!%s)' % (WORD, WORD), body):
         return True
     if re.search(r'(?<!%s)%s(?!%s)' % (WORD, re.escape(name), WORD), body):
         return True
-    parts = [p for p in name.split('_') if p] if '_' in name else [name]
+    parts = [p for p in name.split('◌') if p]
     for p in parts:
         if not re.search(r'(?<!%s)%s(?!%s)' % (WORD, re.escape(p), WORD), body):
             return False
@@ -58,7 +58,7 @@ def files(paths):
         if os.path.isfile(path):
             yield path
         for folder, _, names in os.walk(path):
-            if 'must-fail' not in folder.split(os.sep):
+            if not {'must-fail', 'out'} & set(folder.split(os.sep)):
                 yield from (os.path.join(folder, n) for n in sorted(names) if n.endswith(('.rt', '.antt')))
 
 

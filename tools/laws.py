@@ -14,7 +14,7 @@ WORD = r"[^\s(){}\[\],;.`⌜⌝⟦⟧]+"
 MARK = r'(?:(?:pub|abbrev|unfoldable) )*'
 GROUP = re.compile(r'\s*(?:%smutual|(?:pub )?module\b.*)\s*$' % MARK)
 DECL = re.compile(r'(\s*)(%s)(?:(record|data) (%s)|(%s(?: %s)*) :(?:\s|$))' % (MARK, WORD, WORD, WORD))
-CITE = re.compile(r'Rattle·(\w+)(?:·\w+)?\.(specs|proofs)\.(\w+)')
+CITE = re.compile(r'Rattle\.(\w+)\.(specs|proofs)\.(\w+)')
 
 
 class Law:
@@ -49,12 +49,12 @@ def parse(path, text):
 def names_in(text, by_name, places):
     """The laws that a text names: of the files among `places`."""
     words = set(re.findall(WORD, text))
-    words |= {law for law in by_name if '_' in law and all(p in words for p in law.split('_') if p)}
+    words |= {law for law in by_name if '◌' in law and all(p in words for p in law.split('◌') if p)}
     return [law for word in words for law in by_name.get(word, ()) if law.path in places]
 
 
 def main():
-    files = [p for p in sorted(glob.glob('crates/*/**/*', recursive=True)) if p.endswith(('.rt', '.antt')) and '/must-fail/' not in p]
+    files = [p for p in sorted(glob.glob('crates/*/**/*', recursive=True)) if p.endswith(('.rt', '.antt')) and '/must-fail/' not in p and '/out/' not in p]
     texts = {p: re.sub(r'--.*' if p.endswith('.antt') else r'//.*', '', re.sub(r'"[^"\n]*"', '', open(p, encoding='utf-8').read())) for p in files}
     docs = ''.join(open(p, encoding='utf-8').read() for p in glob.glob('docs/*.md') + ['README.md'])
     documented = set(re.findall(r'`([^`\s]+)`', docs))

@@ -125,20 +125,26 @@ def bare(text):
     return re.sub(r'[,;](?=[)\]}])', '', re.sub(r'\s+', '', text)).replace('[|', '[')
 
 
+def fmt(crate):
+    """What `rt fmt` says in a crate's folder."""
+    done = subprocess.run(['rt', 'fmt'], cwd=crate, capture_output=True, text=True)
+    return done.stderr + done.stdout
+
+
 def main():
     args = [a for a in sys.argv[1:] if a != '--check'] or ['crates']
     found = [f for a in args for f in ([a] if os.path.isfile(a) else glob.glob(f'{a}/**/*.antt', recursive=True) + glob.glob(f'{a}/**/*.rt', recursive=True))]
-    paths = sorted({f for f in found if re.search(r'/(specs|proofs|src)/', f)})
+    paths = sorted({f for f in found if re.search(r'/(specs|proofs|src)/', f) and '/out/' not in f})
     read, write = lambda p: open(p, encoding='utf-8').read(), lambda p, t: open(p, 'w', encoding='utf-8').write(t)
     first, olds, failed = {p: read(p) for p in paths}, {p: named(p) for p in paths}, 0
     moved = set(paths) if '--check' not in sys.argv else set()
     while moved:
         texts = {p: read(p) for p in moved}
         moved = {p for p in moved if (new := wrapped(p, texts[p], olds[p])) != texts[p] and write(p, new)}
-        done = subprocess.run(['rt', 'fmt'], capture_output=True, text=True)
+        said = ''.join(fmt(c) for c in sorted({re.match(r'.*crates/[^/]+', p).group() for p in moved}))
         for p in sorted(moved):
-            if p in done.stderr + done.stdout or bare(read(p)) != bare(first[p]) or any(read(p).count(o) != 1 for o in olds[p]):
-                print(f'{p}: left as it was. {(done.stderr + done.stdout)[:300]}')
+            if p in said or bare(read(p)) != bare(first[p]) or any(read(p).count(o) != 1 for o in olds[p]):
+                print(f'{p}: left as it was. {said[:300]}')
                 write(p, first[p])
         moved = {p for p in moved if read(p) not in (first[p], texts[p])}
     for p in paths:
