@@ -18,8 +18,8 @@ imported-b-requires c =
 
 pub put_trie-scope-requires : goal.put_trie-scope-requires
 put_trie-scope-requires c =
-    let p = alias_fresh_ready c.requires.some.holds c.trie_of-t.ensures c.trie_of-i.ensures c.requires.leaf_builds c.imported-b.ensures.0
-    (rw c.label_of-label.ensures at c.imported-b.ensures.1) in record { room = p.0; namespaces_le_records = p.1 }
+    let p = alias_fresh_ready c.requires.some.holds c.trie_of-t.ensures c.trie_of-i.ensures c.requires.leaf_builds c.imported-b.ensures.value
+    (rw c.label_of-label.ensures at c.imported-b.ensures.made_imported) in record { room = p.0; namespaces_le_records = p.1 }
 
 pub names_insert-n-requires : goal.names_insert-n-requires
 names_insert-n-requires c =
@@ -27,20 +27,20 @@ names_insert-n-requires c =
     rw c.namespace_row-row.ensures (record {
       which = names;
       level = ns;
-      used = pre.0.used;
-      insertion = alias_insertion pre.0.holds c.trie_of-t.ensures c.trie_of-i.ensures pre.1 c.imported-b.ensures.0
-          (rw c.label_of-label.ensures at c.imported-b.ensures.1) c.put_trie-scope.ensures.0 c.put_trie-scope.ensures.1;
+      used = pre.some.used;
+      insertion = alias_insertion pre.some.holds c.trie_of-t.ensures c.trie_of-i.ensures pre.leaf_builds c.imported-b.ensures.value
+          (rw c.label_of-label.ensures at c.imported-b.ensures.made_imported) c.put_trie-scope.ensures.value c.put_trie-scope.ensures.made_trie;
     })
 
 pub put_trie-link-requires : goal.put_trie-link-requires
 put_trie-link-requires c =
-    let p = alias_trie_ready c.requires.some.holds c.trie_of-t.ensures c.trie_of-i.ensures c.requires.leaf_builds c.imported-b.ensures.0
-    (rw c.label_of-label.ensures at c.imported-b.ensures.1) c.put_trie-scope.ensures.0 c.put_trie-scope.ensures.1 c.names_insert-n.ensures.0
-    (rw c.namespace_row-row.ensures at c.names_insert-n.ensures.1) in record { room = p.0; namespaces_le_records = p.1 }
+    let p = alias_trie_ready c.requires.some.holds c.trie_of-t.ensures c.trie_of-i.ensures c.requires.leaf_builds c.imported-b.ensures.value
+    (rw c.label_of-label.ensures at c.imported-b.ensures.made_imported) c.put_trie-scope.ensures.value c.put_trie-scope.ensures.made_trie c.names_insert-n.ensures.value
+    (rw c.namespace_row-row.ensures at c.names_insert-n.ensures.names_inserts) in record { room = p.0; namespaces_le_records = p.1 }
 
 pub returns : goal.returns
 returns c used l =
     alias_built l c.trie_of-t.ensures c.trie_of-i.ensures c.requires.leaf_builds
-    c.imported-b.ensures.0 (rw c.label_of-label.ensures at c.imported-b.ensures.1) c.put_trie-scope.ensures.0 c.put_trie-scope.ensures.1
-    c.names_insert-n.ensures.0 (rw c.namespace_row-row.ensures at c.names_insert-n.ensures.1) c.put_trie-link.ensures.0
-    c.put_trie-link.ensures.1
+    c.imported-b.ensures.value (rw c.label_of-label.ensures at c.imported-b.ensures.made_imported) c.put_trie-scope.ensures.value c.put_trie-scope.ensures.made_trie
+    c.names_insert-n.ensures.value (rw c.namespace_row-row.ensures at c.names_insert-n.ensures.names_inserts) c.put_trie-link.ensures.value
+    c.put_trie-link.ensures.made_trie

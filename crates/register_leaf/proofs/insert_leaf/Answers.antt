@@ -14,16 +14,16 @@ names_insert-b-requires c =
     rw c.binding_row-row.ensures (record {
       which = names;
       level = bind;
-      used = pre.0.used;
-      insertion = name_insertion pre.0.holds c.trie_of-t.ensures pre.1;
+      used = pre.some.used;
+      insertion = name_insertion pre.some.holds c.trie_of-t.ensures pre.leaf_builds;
     })
 
 pub put_trie-link-requires : goal.put_trie-link-requires
 put_trie-link-requires c =
-    let p = name_trie_ready c.requires.some.holds c.trie_of-t.ensures c.requires.leaf_builds c.names_insert-b.ensures.0
-    (rw c.binding_row-row.ensures at c.names_insert-b.ensures.1) in record { room = p.0; namespaces_le_records = p.1 }
+    let p = name_trie_ready c.requires.some.holds c.trie_of-t.ensures c.requires.leaf_builds c.names_insert-b.ensures.value
+    (rw c.binding_row-row.ensures at c.names_insert-b.ensures.names_inserts) in record { room = p.0; namespaces_le_records = p.1 }
 
 pub returns : goal.returns
 returns c used l =
-    name_built l c.trie_of-t.ensures c.requires.leaf_builds c.names_insert-b.ensures.0
-    (rw c.binding_row-row.ensures at c.names_insert-b.ensures.1) c.put_trie-link.ensures.0 c.put_trie-link.ensures.1
+    name_built l c.trie_of-t.ensures c.requires.leaf_builds c.names_insert-b.ensures.value
+    (rw c.binding_row-row.ensures at c.names_insert-b.ensures.names_inserts) c.put_trie-link.ensures.value c.put_trie-link.ensures.made_trie

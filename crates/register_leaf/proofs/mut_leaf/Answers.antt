@@ -4,7 +4,7 @@ use Rattle.register_leaf.proofs.mut_leaf.Goals as goal
 
 pub insert_leaf-requires : goal.insert_leaf-requires
 insert_leaf-requires c =
-    let p = inserting_as c.args.change c.in-Name.is c.args.count c.requires in record { some = p.0; leaf_builds = p.1 }
+    let p = inserting_as c.args.change c.in-Name.is c.args.count (c.requires.some, c.requires.leaf_builds) in record { some = p.0; leaf_builds = p.1 }
 
 pub include_leaf-requires : goal.include_leaf-requires
 include_leaf-requires c =
@@ -16,7 +16,7 @@ open_leaf-requires c =
 
 pub alias_leaf-requires : goal.alias_leaf-requires
 alias_leaf-requires c =
-    let p = inserting_as c.args.change c.in-Alias.is c.args.count c.requires in record { some = p.0; leaf_builds = p.1 }
+    let p = inserting_as c.args.change c.in-Alias.is c.args.count (c.requires.some, c.requires.leaf_builds) in record { some = p.0; leaf_builds = p.1 }
 
 pub returns-in-Name : goal.returns-in-Name
 returns-in-Name c =

@@ -17,9 +17,9 @@ imported-n-requires c =
 pub put_trie-link-requires : goal.put_trie-link-requires
 put_trie-link-requires c =
     let p = open_trie_ready c.requires.holds c.trie_of-t.ensures
-    c.trie_of-i.ensures c.imported-n.ensures.0 (rw c.label_of-label.ensures at c.imported-n.ensures.1) in record { room = p.0; namespaces_le_records = p.1 }
+    c.trie_of-i.ensures c.imported-n.ensures.value (rw c.label_of-label.ensures at c.imported-n.ensures.made_imported) in record { room = p.0; namespaces_le_records = p.1 }
 
 pub returns : goal.returns
 returns c used l =
-    open_built l c.trie_of-t.ensures c.trie_of-i.ensures c.imported-n.ensures.0
-    (rw c.label_of-label.ensures at c.imported-n.ensures.1) c.put_trie-link.ensures.0 c.put_trie-link.ensures.1
+    open_built l c.trie_of-t.ensures c.trie_of-i.ensures c.imported-n.ensures.value
+    (rw c.label_of-label.ensures at c.imported-n.ensures.made_imported) c.put_trie-link.ensures.value c.put_trie-link.ensures.made_trie
