@@ -1,6 +1,7 @@
 // Lists of collections of the record memory: find, and the place of a key.
 // A list is the link of its first collection; the same functions serve both tables and both levels.
 #![tactic(auto)]
+
 ghost use Rattle.std.specs.Prelude.{◌*◌, ◌≤◌, length};
 ghost use Rattle.source.specs.Limits.{record_words};
 ghost use Rattle.find_list.specs.Names.{AnyList, Led, Holder, NamesPlaced};

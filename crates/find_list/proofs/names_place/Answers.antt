@@ -36,7 +36,7 @@ returns c =
     let p = c.place_of-place.ensures in
     names_placed c.requires d p
     (⊎_elim
-    (λ w. rw w.2 (holder_rest d p.found (omega (arith, w.0.taken)) w.1.ensures))
-    (λ w. rw w.1 (holder_first d p.found (omega (arith, w.0.left))))
+    (λ w. rw w.holder-is (holder_rest d p.found (omega (arith, w.if-holder-eq0.true)) w.names_find_exact-holder.ensures))
+    (λ w. rw w.holder-is (holder_first d p.found (omega (arith, w.if-holder-eq0.false))))
     c.if-holder-eq0.branch-raw)
     (omega (arith, c.weight_of.ensures))
