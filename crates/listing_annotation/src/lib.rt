@@ -1,5 +1,6 @@
 // What stands beside a found branch in a listing: its annotation, and whether a filter keeps it.
 #![tactic(auto)]
+
 ghost use Rattle.std.specs.Prelude.{◌≡◌, ℕ, ◌*◌, ◌<◌, ◌≤◌, List, length};
 ghost use Rattle.source.specs.Items.{same_kind};
 ghost use Rattle.source.specs.Limits.{record_words, most_used};

@@ -1,5 +1,6 @@
 // One line of a listing: counted, and written where it fits the lent output.
 #![tactic(auto)]
+
 ghost use Rattle.std.specs.Prelude.{ℕ, ◌+◌, ◌≤◌, length};
 ghost use Rattle.source.specs.Limits.{longest_full_name, most_used};
 ghost use Rattle.memory.specs.Sound.{Says};

@@ -1,5 +1,6 @@
 // A listing read back from the lent output: each row as a struct, and its texts as parts of the text that they are in.
 #![tactic(auto)]
+
 ghost use Rattle.std.specs.Prelude.{◌≡◌, ◌+◌, ◌*◌, ◌≤◌, length};
 ghost use Rattle.memory.specs.Layout.{record_at};
 ghost use Rattle.memory.specs.Read.{text_of};

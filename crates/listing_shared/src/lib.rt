@@ -1,5 +1,6 @@
 // The beginning that all candidates of a written listing share.
 #![tactic(auto)]
+
 ghost use Rattle.std.specs.Prelude.{◌≡◌};
 ghost use Rattle.listing_shared.specs.Shared.{CandidatesIn, shared_seen};
 

@@ -1,5 +1,6 @@
 // The steps between two lists of a run: the cut of the query, the limits, the path.
 #![tactic(auto)]
+
 ghost use Rattle.std.specs.Prelude.{◌≡◌, true, ◌+◌, ◌*◌, ◌≤◌, ◌<◌, length};
 ghost use Rattle.source.specs.Limits.{longest_query, deepest_trie, record_words};
 ghost use Rattle.source.specs.Text.{ends_in_dot};

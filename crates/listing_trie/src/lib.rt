@@ -2,6 +2,7 @@
 // One run serves counting and writing: a line is written where it fits what is lent, and counting lends nothing.
 // The calls go no deeper than six to a trie, and tries no deeper than 17. The listing of a trie, and of a branch, returns the tries entered so far.
 #![tactic(auto)]
+
 ghost use Rattle.std.specs.Prelude.{true, false, ◌+◌, ◌<◌};
 ghost use Rattle.listing_trie.specs.Runs.{BranchAsked, BranchListed, TreeAsked, TreeListed, ListAsked, ListListed, TrieAsked, TrieListed};
 
@@ -19,7 +20,7 @@ struct Search {
 }
 
 // What a found namespace gives, its listing: the path is that of the namespace meanwhile.
-#[cycle(list_below_list_branch_list_merged_list_names_list_tree_list_trie)]
+#[cycle(list)]
 fn list_below(
     words: &[u32],
     text: &[u8],
@@ -42,7 +43,7 @@ fn list_below(
 }
 
 // What a found branch gives: the line of a branch of bindings, the listing of a namespace. So small that the loops take it in.
-#[cycle(list_below_list_branch_list_merged_list_names_list_tree_list_trie)]
+#[cycle(list)]
 fn list_branch(
     words: &[u32],
     text: &[u8],
@@ -66,7 +67,7 @@ fn list_branch(
 }
 
 // What the branches of a tree that begin with a prefix give, in order, each with the tree's label. Stops once the budget is passed.
-#[cycle(list_below_list_branch_list_merged_list_names_list_tree_list_trie)]
+#[cycle(list)]
 fn list_tree(
     words: &[u32],
     text: &[u8],
@@ -103,7 +104,7 @@ fn list_tree(
 
 // What the branches of a list that begin with a prefix give, in order, one of each key. Stops once the budget is passed.
 // A merge of one tree is a run over that tree.
-#[cycle(list_below_list_branch_list_merged_list_names_list_tree_list_trie)]
+#[cycle(list)]
 fn list_merged(
     words: &[u32],
     text: &[u8],
@@ -182,7 +183,7 @@ fn list_merged(
 }
 
 // The same: no list gives nothing, and a list of one tree needs no merge.
-#[cycle(list_below_list_branch_list_merged_list_names_list_tree_list_trie)]
+#[cycle(list)]
 fn list_names(
     words: &[u32],
     text: &[u8],
@@ -214,7 +215,7 @@ fn list_names(
 
 // The source's trie_find_prefix': the trie is entered, then its bindings, where at most one segment is left, and its namespaces.
 // Once lines or bytes are past the limits only the tries entered are counted.
-#[cycle(list_below_list_branch_list_merged_list_names_list_tree_list_trie)]
+#[cycle(list)]
 pub fn list_trie(
     words: &[u32],
     text: &[u8],

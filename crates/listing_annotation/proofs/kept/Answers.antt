@@ -1,4 +1,5 @@
 -- `listing_annotation::kept` meets its contract.
+use mathlib.Core.List.{[]}
 use Rattle.source.specs.Calls.{keeps_kind}
 use Rattle.listing_annotation.proofs.Noted.{module_at, namespace_at}
 use Rattle.listing_annotation.proofs.kept.Goals as goal

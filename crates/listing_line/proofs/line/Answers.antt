@@ -1,6 +1,5 @@
 -- `listing_line::line` meets its contract.
 use mathlib.Core.Path.{sym, ◌∙◌}
-use borrow.Author.Tests.{not-true, not-false}
 use Rattle.source.specs.Table.{mod_annotation}
 use Rattle.listing_line.proofs.TextAt.{job_ok, outermost_text}
 use Rattle.listing_annotation.proofs.Noted.{noted_short}
@@ -10,7 +9,7 @@ use Rattle.listing_line.proofs.line.Goals as goal
 pub returns-then-not-kept : goal.returns-then-not-kept
 unfolding mod_annotation
 returns-then-not-kept c =
-    listed_none c.args.want.ask (sym (c.kept.ensures _) ∙ not-true _ c.if-not-kept.true)
+    listed_none c.args.want.ask (sym (c.kept.ensures _) ∙ c.if-not-kept.true)
 
 pub annotation-note-requires : goal.annotation-note-requires
 unfolding mod_annotation
@@ -20,12 +19,15 @@ annotation-note-requires c =
 pub put_line-requires : goal.put_line-requires
 unfolding mod_annotation
 put_line-requires c =
-    record { job_ok = job_ok c.requires; note_len_bound = rw c.annotation-note.ensures
-          (noted_short c.args.want.ask c.args.words.now c.args.text.now _ (outermost_text c.requires c.outermost.ensures)) }
+    record {
+      job_ok = job_ok c.requires;
+      note_len_bound = rw c.annotation-note.ensures
+          (noted_short c.args.want.ask c.args.words.now c.args.text.now _ (outermost_text c.requires c.outermost.ensures));
+    }
 
 pub returns : goal.returns
 unfolding mod_annotation
 returns c =
-    listed_one c.args.want.ask c.requires.branch_at c.requires.told c.put_line.ensures.0
-    (sym (c.kept.ensures _) ∙ not-false _ c.if-not-kept.false)
-    (rw (c.annotation-note.ensures, c.outermost.ensures) at c.put_line.ensures.1)
+    listed_one c.args.want.ask c.requires.branch_at c.requires.told c.put_line.ensures.same_path
+    (sym (c.kept.ensures _) ∙ c.if-not-kept.false)
+    (rw (c.annotation-note.ensures, c.outermost.ensures) at c.put_line.ensures.put_line)

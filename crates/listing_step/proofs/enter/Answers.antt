@@ -8,5 +8,8 @@ use Rattle.listing_step.proofs.enter.Goals as goal
 
 pub returns : goal.returns
 returns c =
-    record { value = refl; entered = run_entered c.args.found c.requires.run_len c.set_path.ensures (omega (arith, c.text_len.ensures))
-          (⊎_elim (λ z. z.2 ∙ rw (eq-eqb _ 0 z.0.taken)) (λ z. z.1 ∙ rw (ne_eqb _ 0 z.0.left)) c.if-n-eq0.branch-raw) }
+    record {
+      value = refl;
+      entered = run_entered c.args.found c.requires.run_len c.set_path.ensures (omega (arith, c.text_len.ensures))
+          (⊎_elim (λ z. z.label-is ∙ rw (eq-eqb _ 0 z.if-n-eq0.true)) (λ z. z.label-is ∙ rw (ne_eqb _ 0 z.if-n-eq0.false)) c.if-n-eq0.branch-raw);
+    }

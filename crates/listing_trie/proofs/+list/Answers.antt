@@ -1,0 +1,222 @@
+use Rattle.std.proofs.Common.{arith, rules, refl, ◌∙◌}
+use Rattle.text.proofs.Texts.{tail_is}
+use Rattle.find_tree.proofs.Branches.{any_tree}
+use Rattle.memory.proofs.At.{at_fits}
+use Rattle.merge.proofs.OneTree.{single_one}
+use Rattle.listing_line.proofs.Run.{same_run}
+use Rattle.listing_step.proofs.Cuts.{front_is}
+use Rattle.listing_trie.proofs.Branch.{leaf_runs, line_ready, branch_named, space_at, below_ready, child_earlier, namespace_ready, namespace_sized, namespace_runs}
+use Rattle.listing_trie.proofs.Listed.{none_runs, along_earlier, along_tree, along_begins, stepping_first, stepping_branch, stepping_next, stepping_less, stepping_spent, stepping_done, list_any, one_earlier, one_ready, one_runs}
+use Rattle.listing_trie.proofs.Listed.{merging_first, merging_any, merging_done, merging_earlier, merging_less, merging_branch, merging_next, merging_spent}
+use Rattle.listing_trie.proofs.Trie.{trie_spent, trie_named, cut_ready, bindings_earlier, namespaces_earlier, bindings_asked, namespaces_asked, trie_all, trie_few}
+use Rattle.listing_trie.proofs.+list.Goals as goal
+
+-- ---- list_below
+
+pub list_below-held_of-child-requires : goal.list_below-held_of-child-requires
+list_below-held_of-child-requires t c = branch_named c.requires.can
+
+pub list_below-enter-before-requires : goal.list_below-enter-before-requires
+list_below-enter-before-requires t c = record {
+  link_nonzero = branch_named c.requires.can;
+  run_len = below_ready c.requires.can refl;
+}
+
+pub list_below-list_trie-entered-requires : goal.list_below-list_trie-entered-requires
+list_below-list_trie-entered-requires t c = (
+  omega (arith, c.held_of-child.ensures, child_earlier (space_at c.requires.can refl).0),
+  namespace_ready c.requires c.enter-before.ensures.entered c.held_of-child.ensures,
+)
+
+pub list_below-leave-requires : goal.list_below-leave-requires
+list_below-leave-requires t c =
+    namespace_sized c.requires c.enter-before.ensures.entered c.held_of-child.ensures c.list_trie-entered.ensures
+
+pub list_below-returns : goal.list_below-returns
+list_below-returns t c =
+    namespace_runs c.requires c.enter-before.ensures.entered c.held_of-child.ensures c.list_trie-entered.ensures
+    c.enter-before.ensures.value c.leave.ensures
+
+-- ---- list_branch
+
+pub list_branch-line-requires : goal.list_branch-line-requires
+list_branch-line-requires t c = line_ready c.requires c.if-place.true
+
+pub list_branch-returns-then-place : goal.list_branch-returns-then-place
+list_branch-returns-then-place t c = leaf_runs c.if-place.true c.line.ensures
+
+pub list_branch-list_below-requires : goal.list_branch-list_below-requires
+list_branch-list_below-requires t c = (omega arith, rw c.if-place.false at c.requires)
+
+pub list_branch-returns : goal.list_branch-returns
+list_branch-returns t c = rw c.if-place.false c.list_below.ensures
+
+-- ---- list_tree
+
+pub list_tree-first_match-step-requires : goal.list_tree-first_match-step-requires
+list_tree-first_match-step-requires t c = record { any_tree = any_tree c.requires.can.tree_at; notes_len = refl }
+
+pub list_tree-loop-step-init : goal.list_tree-loop-step-init
+list_tree-loop-step-init t c = stepping_first c.requires (rw front_is at c.first_match-step.ensures)
+
+pub list_tree-list_branch-entered-requires : goal.list_tree-list_branch-entered-requires
+list_tree-list_branch-entered-requires t c = (
+  omega (arith, along_earlier c.loop-step.invariant.along (λ z. omega (arith, c.loop-step-test.true))),
+  rw tail_is (stepping_branch c.loop-step.invariant (λ z. omega (arith, c.loop-step-test.true)) c.requires),
+)
+
+pub list_tree-returns-then-budget-entered : goal.list_tree-returns-then-budget-entered
+list_tree-returns-then-budget-entered t c =
+    stepping_spent c.loop-step.invariant (λ z. omega (arith, c.loop-step-test.true)) (rw tail_is at c.list_branch-entered.ensures)
+    (search rules) (search rules) c.if-budget-entered.true
+
+pub list_tree-next_match-step-requires : goal.list_tree-next_match-step-requires
+list_tree-next_match-step-requires t c = record {
+  any_tree = any_tree c.requires.can.tree_at;
+  at_nonzero = along_tree c.loop-step.invariant.along (λ z. omega (arith, c.loop-step-test.true));
+  prefix_value = rw front_is (along_begins c.loop-step.invariant.along (λ z. omega (arith, c.loop-step-test.true)));
+  noted = rw front_is (c.loop-step.invariant.noted (λ z. omega (arith, c.loop-step-test.true)));
+}
+
+pub list_tree-loop-step-smaller : goal.list_tree-loop-step-smaller
+list_tree-loop-step-smaller t c =
+    stepping_less c.loop-step.invariant (λ z. omega (arith, c.loop-step-test.true)) (rw tail_is at c.list_branch-entered.ensures)
+    (search rules) (search rules) (rw front_is at c.next_match-step.ensures)
+
+pub list_tree-loop-step-preserved : goal.list_tree-loop-step-preserved
+list_tree-loop-step-preserved t c =
+    stepping_next c.loop-step.invariant (λ z. omega (arith, c.loop-step-test.true)) (rw tail_is at c.list_branch-entered.ensures)
+    (search rules) (search rules) (rw front_is at c.next_match-step.ensures)
+
+pub list_tree-returns : goal.list_tree-returns
+list_tree-returns t c = stepping_done c.loop-step.invariant (omega (arith, c.loop-step-test.false))
+
+-- ---- list_merged
+
+pub list_merged-merge_start-start-requires : goal.list_merged-merge_start-start-requires
+list_merged-merge_start-start-requires t c = record {
+  any_list = list_any c.requires.can;
+  full = record { of_roots = refl; of_heads = refl; of_beginnings = refl; of_labels = refl };
+}
+
+pub list_merged-list_tree-requires : goal.list_merged-list_tree-requires
+list_merged-list_tree-requires t c =
+    let o = (rw front_is at c.merge_start-start.ensures).one c.if-n-eq1.true _ _ c.requires.can.list_at in
+    (omega (arith, one_earlier c.requires o), one_ready c.requires o)
+
+pub list_merged-returns-then-n-eq1 : goal.list_merged-returns-then-n-eq1
+list_merged-returns-then-n-eq1 t c =
+    one_runs c.requires ((rw front_is at c.merge_start-start.ensures).one c.if-n-eq1.true _ _ c.requires.can.list_at)
+    c.list_tree.ensures
+
+pub list_merged-loop-place-init : goal.list_merged-loop-place-init
+list_merged-loop-place-init t c = merging_first c.requires (rw front_is at c.merge_start-start.ensures).starts
+
+pub list_merged-merge_next-t-requires : goal.list_merged-merge_next-t-requires
+list_merged-merge_next-t-requires t c = rw front_is (record { labels = _; any = merging_any c.loop-place.invariant })
+
+pub list_merged-returns-then-branch-eq0 : goal.list_merged-returns-then-branch-eq0
+list_merged-returns-then-branch-eq0 t c =
+    merging_done c.loop-place.invariant ((rw front_is at c.merge_next-t.ensures).gives _) c.if-branch-eq0.true
+
+pub list_merged-offset_bounds-labels-cell : goal.list_merged-offset_bounds-labels-cell
+list_merged-offset_bounds-labels-cell t c = omega (arith, c.merge_next-t.ensures.small c.if-branch-eq0.false)
+
+pub list_merged-bounds-labels-cell : goal.list_merged-bounds-labels-cell
+list_merged-bounds-labels-cell t c = c.merge_next-t.ensures.small c.if-branch-eq0.false
+
+pub list_merged-list_branch-entered-requires : goal.list_merged-list_branch-entered-requires
+list_merged-list_branch-entered-requires t c = (
+  omega (arith, merging_earlier c.loop-place.invariant ((rw front_is at c.merge_next-t.ensures).gives _) c.if-branch-eq0.false),
+  rw tail_is (merging_branch c.loop-place.invariant ((rw front_is at c.merge_next-t.ensures).gives _) c.if-branch-eq0.false c.requires),
+)
+
+pub list_merged-returns-then-budget-entered : goal.list_merged-returns-then-budget-entered
+list_merged-returns-then-budget-entered t c =
+    merging_spent c.loop-place.invariant ((rw front_is at c.merge_next-t.ensures).gives _) c.if-branch-eq0.false
+    (rw tail_is at c.list_branch-entered.ensures) (search rules) (search rules) c.if-budget-entered.true
+
+pub list_merged-loop-place-smaller : goal.list_merged-loop-place-smaller
+list_merged-loop-place-smaller t c =
+    merging_less c.loop-place.invariant ((rw front_is at c.merge_next-t.ensures).gives _) c.if-branch-eq0.false
+
+pub list_merged-loop-place-preserved : goal.list_merged-loop-place-preserved
+list_merged-loop-place-preserved t c =
+    merging_next c.loop-place.invariant ((rw front_is at c.merge_next-t.ensures).gives _) c.if-branch-eq0.false
+    (rw tail_is at c.list_branch-entered.ensures) (search rules) (search rules)
+
+-- ---- list_names
+
+pub list_names-returns-then-list-eq0 : goal.list_names-returns-then-list-eq0
+list_names-returns-then-list-eq0 t c = none_runs c.if-list-eq0.true
+
+pub list_names-single-root-requires : goal.list_names-single-root-requires
+list_names-single-root-requires t c = at_fits c.requires.can.list_at
+
+pub list_names-list_tree-requires : goal.list_names-list_tree-requires
+list_names-list_tree-requires t c =
+    let o = single_one _ c.requires.can.list_at c.single-root.ensures c.if-root-gt0.true in
+    (omega (arith, one_earlier c.requires o), one_ready c.requires o)
+
+pub list_names-returns-then-root-gt0 : goal.list_names-returns-then-root-gt0
+list_names-returns-then-root-gt0 t c =
+    one_runs c.requires (single_one _ c.requires.can.list_at c.single-root.ensures c.if-root-gt0.true) c.list_tree.ensures
+
+pub list_names-list_merged-requires : goal.list_names-list_merged-requires
+list_names-list_merged-requires t c = (omega arith, c.requires)
+
+pub list_names-returns : goal.list_names-returns
+list_names-returns t c = c.list_merged.ensures
+
+-- ---- list_trie
+
+pub list_trie-overflow_add-run : goal.list_trie-overflow_add-run
+list_trie-overflow_add-run t c = omega (arith, c.requires.can.ready.small.budget_small)
+
+pub list_trie-overflow_add-result : goal.list_trie-overflow_add-result
+list_trie-overflow_add-result t c = omega (arith, c.requires.can.ready.small.budget_small)
+
+pub list_trie-returns-then-budget-before : goal.list_trie-returns-then-budget-before
+list_trie-returns-then-budget-before t c = trie_spent c.requires c.if-budget-before.true
+
+pub list_trie-trie_of-t-requires : goal.list_trie-trie_of-t-requires
+list_trie-trie_of-t-requires t c = trie_named c.requires.can
+
+pub list_trie-cut_query-c-requires : goal.list_trie-cut_query-c-requires
+list_trie-cut_query-c-requires t c = cut_ready c.requires.can
+
+pub list_trie-begin-requires : goal.list_trie-begin-requires
+list_trie-begin-requires t c =
+    let ready = c.requires.can.ready in
+    (ready.path_ok.sized, omega (arith, c.if-budget-before.false, ready.small.budget_small))
+
+pub list_trie-list_names-requires : goal.list_trie-list_names-requires
+list_trie-list_names-requires t c = (
+  omega (arith, namespaces_earlier c.requires.can c.trie_of-t.ensures c.cut_query-c.ensures),
+  rw c.begin.ensures (namespaces_asked c.requires c.trie_of-t.ensures c.cut_query-c.ensures (omega (arith, c.if-budget-before.false)) (same_run _)),
+)
+
+pub list_trie-returns-then-skip : goal.list_trie-returns-then-skip
+list_trie-returns-then-skip t c =
+    trie_few c.requires c.trie_of-t.ensures c.cut_query-c.ensures
+    (omega (arith, c.if-budget-before.false)) (c.skips_bindings-skip.ensures.when c.if-skip.true)
+    (rw c.begin.ensures at c.list_names.ensures)
+
+pub list_trie-list_names-requires-2 : goal.list_trie-list_names-requires-2
+list_trie-list_names-requires-2 t c = (
+  omega (arith, bindings_earlier c.requires.can c.trie_of-t.ensures c.cut_query-c.ensures),
+  rw c.begin.ensures (bindings_asked c.requires c.trie_of-t.ensures c.cut_query-c.ensures (omega (arith, c.if-budget-before.false))),
+)
+
+pub list_trie-list_names-requires-3 : goal.list_trie-list_names-requires-3
+list_trie-list_names-requires-3 t c = (
+  omega (arith, namespaces_earlier c.requires.can c.trie_of-t.ensures c.cut_query-c.ensures),
+  namespaces_asked c.requires c.trie_of-t.ensures c.cut_query-c.ensures (omega (arith, c.if-budget-before.false))
+      (rw c.begin.ensures at c.list_names-2.ensures.same),
+)
+
+pub list_trie-returns : goal.list_trie-returns
+list_trie-returns t c =
+    trie_all c.requires c.trie_of-t.ensures c.cut_query-c.ensures
+    (omega (arith, c.if-budget-before.false)) (c.skips_bindings-skip.ensures.unless c.if-skip.false)
+    (rw c.begin.ensures at c.list_names-2.ensures) c.list_names-3.ensures
