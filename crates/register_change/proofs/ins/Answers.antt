@@ -59,7 +59,7 @@ names_insert-b-requires c =
 pub returns-then-last-ns_inserts : goal.returns-then-last-ns_inserts
 returns-then-last-ns_inserts c used i =
     ins_made i (placed_part _ _ c.names_place-p.ensures) c.ns_inserts.ensures c.if-last-ns_inserts.true
-    c.loaded_module.ensures c.symbol_row-row.ensures c.names_insert-b.ensures.0 c.names_insert-b.ensures.1
+    c.loaded_module.ensures c.symbol_row-row.ensures c.names_insert-b.ensures.value c.names_insert-b.ensures.names_inserts
 
 pub returns : goal.returns
 returns c used i =

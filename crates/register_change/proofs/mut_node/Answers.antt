@@ -22,4 +22,4 @@ put_trie-link-requires c =
 pub returns : goal.returns
 returns c used i =
     node_built i c.trie_of-t.ensures c.mut_bindings-b.ensures c.kinds_of-kinds.ensures
-    c.put_trie-link.ensures.0 c.put_trie-link.ensures.1
+    c.put_trie-link.ensures.value c.put_trie-link.ensures.made_trie
