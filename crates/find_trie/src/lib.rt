@@ -1,6 +1,7 @@
 // Tries of the record memory: the walk down a query by first holders.
 // A trie is the link of its record, 0 for the empty one.
 #![tactic(auto)]
+
 ghost use Rattle.std.specs.Prelude.{◌≡◌, true, ◌*◌, ◌<◌, ◌≤◌, length, drop};
 ghost use Rattle.source.specs.Limits.{record_words};
 ghost use Rattle.source.specs.Text.{segments, ends_in_dot};
