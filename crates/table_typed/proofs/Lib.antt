@@ -1,5 +1,3 @@
-pub mod LentAgain
-pub mod LentShared
 pub mod Lines
 pub mod FlatCompletes
 pub mod MatchLength
