@@ -1,6 +1,7 @@
 // Insertion into a tree, in place of a branch with the same key: the branches on the way down are copied.
 // The way down is noted in the records that the copies take; the way up puts each copy where its note stood.
 #![tactic(auto)]
+
 ghost use Rattle.std.specs.Prelude.{◌+◌, ◌*◌, ◌≤◌, length};
 ghost use Rattle.source.specs.Limits.{most_used, record_words};
 ghost use Rattle.find_tree.specs.Tree.{AnyTree, Builds};

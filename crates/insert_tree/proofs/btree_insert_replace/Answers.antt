@@ -48,13 +48,12 @@ lowest_row-low-requires c =
     lowest_ok insertion (omega arith) (insertion_marked insertion c.note_path.ensures)
 
 pub put_row-requires : goal.put_row-requires
-put_row-requires c =
-    (
-      (lowest_ok c.requires.insertion (omega arith)
-          (insertion_marked c.requires.insertion
-          c.note_path.ensures)).room,
-      omega arith,
-    )
+put_row-requires c = (
+  (lowest_ok c.requires.insertion (omega arith)
+      (insertion_marked c.requires.insertion
+      c.note_path.ensures)).room,
+  omega arith,
+)
 
 pub overflow_add-total : goal.overflow_add-total
 overflow_add-total c =

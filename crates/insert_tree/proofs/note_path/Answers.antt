@@ -12,12 +12,12 @@ overflow_add-at c =
 pub overflow_sub-at : goal.overflow_sub-at
 overflow_sub-at c =
     let pre = c.requires in
-    omega (arith, some_count (record { any = pre.0; builds = pre.1.0; within = pre.1.1.0; room = pre.1.1.1; few = pre.1.1.2 }))
+    omega (arith, some_count (record { any = pre.any_tree; builds = pre.builds; within = pre.root_le_records.0; room = pre.root_le_records.1; few = pre.root_le_records.2 }))
 
 pub loop-link-init : goal.loop-link-init
 loop-link-init c =
     let pre = c.requires in
-    mark_all (record { any = pre.0; builds = pre.1.0; within = pre.1.1.0; room = pre.1.1.1; few = pre.1.1.2 })
+    mark_all (record { any = pre.any_tree; builds = pre.builds; within = pre.root_le_records.0; room = pre.root_le_records.1; few = pre.root_le_records.2 })
 
 pub key_order-requires : goal.key_order-requires
 key_order-requires c =
