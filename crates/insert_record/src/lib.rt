@@ -1,5 +1,6 @@
 // What a list or a trie is made of, put as one record: a tree in front of a list, a list imported in front of a list, the trie of two lists.
 #![tactic(auto)]
+
 ghost use Rattle.std.specs.Prelude.{◌≡◌, ◌+◌, ◌<◌, ◌≤◌};
 ghost use Rattle.source.specs.Limits.{heaviest_list, deepest_trie};
 ghost use Rattle.memory.specs.Stored.{weight_in, depth_in};

@@ -14,9 +14,12 @@ returns c =
     let d : c.if-depth-other.depth
     ≡ max c.depth_of-depth.result
     c.depth_of-other.result =
-    ⊎_elim (λ w. omega arith) (λ w. omega arith) c.if-depth-other.branch-raw in record { value = refl; words_value = c.put_row.ensures ∙ rw (
+    ⊎_elim (λ w. omega arith) (λ w. omega arith) c.if-depth-other.branch-raw in record {
+      value = refl;
+      words_value = c.put_row.ensures ∙ rw (
         c.collection_row-row.ensures,
         d,
         c.depth_of-depth.ensures,
         c.depth_of-other.ensures,
-      ) }
+      );
+    }
