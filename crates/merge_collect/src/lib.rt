@@ -1,5 +1,6 @@
 // The trees of a list of collections that have a match, in flattened order, one to a cell of a merge.
 #![tactic(auto)]
+
 ghost use Rattle.std.specs.Prelude.{◌+◌, ◌≤◌};
 ghost use Rattle.source.specs.Limits.{heaviest_list};
 ghost use Rattle.memory.specs.Stored.{weight_in};
