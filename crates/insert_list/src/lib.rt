@@ -1,5 +1,6 @@
 // Lists of collections of the record memory: insertion, the same for both tables and both levels.
 #![tactic(auto)]
+
 ghost use Rattle.std.specs.Prelude.{◌≡◌, ◌+◌};
 ghost use Rattle.insert_list.specs.Insert.{AnyNamesInsertion, NamesInserts};
 

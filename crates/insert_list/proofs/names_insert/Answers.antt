@@ -22,4 +22,4 @@ put_names-requires c =
 
 pub returns : goal.returns
 returns c =
-    let d = c.lead_of-lead.ensures in record { value = c.put_names.ensures.0; names_inserts = λ w v used i. names_inserted i d (c.btree_insert_replace-tree.ensures w v used (first_insertion i d)) refl c.put_names.ensures.1 }
+    let d = c.lead_of-lead.ensures in record { value = c.put_names.ensures.value; names_inserts = λ w v used i. names_inserted i d (c.btree_insert_replace-tree.ensures w v used (first_insertion i d)) refl c.put_names.ensures.made_names }
