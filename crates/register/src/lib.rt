@@ -1,5 +1,6 @@
 // A registration over a header: the rows that it must pass, and what it writes.
 #![tactic(auto)]
+
 ghost use Rattle.std.specs.Prelude.{◌≡◌, false, cond, [], ◌∷◌, ◌+◌, ◌≤◌, length};
 ghost use Rattle.source.specs.Limits.{most_used};
 ghost use Rattle.source.specs.Calls.{a_name, malformed, arguments, after};

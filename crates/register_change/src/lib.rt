@@ -1,5 +1,6 @@
 // The change of a trie: the source's namespaces_mutate and trie_mutate with mut_node and mut_leaf, building records after the used ones.
 #![tactic(auto)]
+
 ghost use Rattle.std.specs.Prelude.{◌≡◌, true, ◌+◌, ◌-◌, ◌<◌, ◌≤◌, length};
 ghost use Rattle.source.specs.Limits.{most_used};
 ghost use Rattle.source.specs.Text.{ends_in_dot};

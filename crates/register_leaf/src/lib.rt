@@ -1,5 +1,6 @@
 // mut_leaf of each kind of registration: what is put into the trie at the end of a query, building records after the used ones.
 #![tactic(auto)]
+
 ghost use Rattle.std.specs.Prelude.{◌≡◌, ◌-◌};
 ghost use Rattle.register_kind.specs.declared.CallKind.TheVariants.{Name, Include, Open, Alias};
 ghost use Rattle.register_leaf.specs.Leaves.{with_kind, label_in, Some, Leaf, LeafBuilds, LeafBuilt};

@@ -1,6 +1,7 @@
 // Planning: the records that a registration would build, and whether a list would be too heavy or a root too deep.
 // It goes down the host's path and reads what stands there; what the change will need of it is noted in an array, the way.
 #![tactic(auto)]
+
 ghost use Rattle.std.specs.Prelude.{◌≡◌, true, [], ◌≤◌, ◌<◌, length};
 ghost use Rattle.source.specs.Limits.{most_segments};
 ghost use Rattle.source.specs.Text.{segments, ends_in_dot};

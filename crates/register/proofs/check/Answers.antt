@@ -12,15 +12,22 @@ use Rattle.register.proofs.check.Goals as goal
 
 pub included-requires : goal.included-requires
 included-requires c =
-    record { at = names_trie c.requires.sound; other_value = rw c.shape_of-s.ensures (call_ready c.args.entry.kind c.args.host.now c.args.other.now c.args.key.now
-          (argument_rows_none _ _ (admitted_none c.flags_of.ensures c.admit-a.ensures c.in-Admitted.is))).other_fine }
+    record {
+      at = names_trie c.requires.sound;
+      other_value = rw c.shape_of-s.ensures (call_ready c.args.entry.kind c.args.host.now c.args.other.now c.args.key.now
+          (argument_rows_none _ _ (admitted_none c.flags_of.ensures c.admit-a.ensures c.in-Admitted.is))).other_fine;
+    }
 
 pub plan_of-p-requires : goal.plan_of-p-requires
 plan_of-p-requires c =
-    let included = c.included.result in let a = c.args in record { at = rw (c.root_of-root.ensures, c.shape_of-s.ensures) (either_trie c.requires.sound (which_by (shape_of a.entry.kind).form)); host_value = let r = call_ready a.entry.kind a.host.now a.other.now a.key.now
-            (argument_rows_none _ _ (admitted_none c.flags_of.ensures c.admit-a.ensures c.in-Admitted.is)) in
-            (r.host_ends, r.host_keeps.few, (included_written a.way.now included c.requires.no_key.1).1); carries = rw (c.root_of-root.ensures, (included_written a.way.now included c.requires.no_key.1).0, ← c.shape_of-s.ensures)
-            (carries_root a.words.now a.text.now a.h c.shape_of-s.result.form a.other.now included c.included.ensures) }
+    let included = c.included.result in let a = c.args in record {
+      at = rw (c.root_of-root.ensures, c.shape_of-s.ensures) (either_trie c.requires.sound (which_by (shape_of a.entry.kind).form));
+      host_value = let r = call_ready a.entry.kind a.host.now a.other.now a.key.now
+          (argument_rows_none _ _ (admitted_none c.flags_of.ensures c.admit-a.ensures c.in-Admitted.is)) in
+          (r.host_ends, r.host_keeps.few, (included_written a.way.now included c.requires.no_key.1).1);
+      carries = rw (c.root_of-root.ensures, (included_written a.way.now included c.requires.no_key.1).0, ← c.shape_of-s.ensures)
+          (carries_root a.words.now a.text.now a.h c.shape_of-s.result.form a.other.now included c.included.ensures);
+    }
 
 pub overflow_add-demand : goal.overflow_add-demand
 overflow_add-demand c =
@@ -41,7 +48,7 @@ returns-in-Refused c =
 
 pub returns-in-Refused-b : goal.returns-in-Refused-b
 returns-in-Refused-b c =
-    rows_planned _ _ _ (sound_table c.requires.sound) (c.plan_of-p.ensures.0 _
+    rows_planned _ _ _ (sound_table c.requires.sound) (c.plan_of-p.ensures.kind_planned _
     (rw (c.root_of-root.ensures, c.shape_of-s.ensures) (root_reads _ _ _ (which_by (shape_of c.args.entry.kind).form))))
     (sym (taken_all c.args.entry.kind c.args.host.now c.args.other.now c.args.key.now c.requires.no_key.0))
     (admitted_none c.flags_of.ensures c.admit-a.ensures c.in-Admitted.is)
@@ -54,11 +61,11 @@ returns-in-Admitted-b c =
       sound = c.requires.sound;
       no_key = c.requires.no_key.0;
       rows = rows_planned _ _ _ (sound_table c.requires.sound)
-          (plan-of.0 _ (rw (c.root_of-root.ensures, shape-of') (root_reads _ _ _ (which_by (shape_of a.entry.kind).form))))
+          (plan-of.kind_planned _ (rw (c.root_of-root.ensures, shape-of') (root_reads _ _ _ (which_by (shape_of a.entry.kind).form))))
           (sym (taken_all a.entry.kind a.host.now a.other.now a.key.now c.requires.no_key.0))
           (admitted_none c.flags_of.ensures c.admit-a.ensures c.in-Admitted.is)
           ∙ sym (rw c.in-Admitted-b.is at c.afford-b.ensures);
-      size = (included_stays a.way.now included.result c.requires.no_key.1 plan-of.1.kept).1;
-      carries = rw ((included_stays a.way.now included.result c.requires.no_key.1 plan-of.1.kept).0, ← shape-of') included.ensures;
-      leads = rw (c.root_of-root.ensures, shape-of') at plan-of.1.leads;
+      size = (included_stays a.way.now included.result c.requires.no_key.1 plan-of.way_noted.kept).1;
+      carries = rw ((included_stays a.way.now included.result c.requires.no_key.1 plan-of.way_noted.kept).0, ← shape-of') included.ensures;
+      leads = rw (c.root_of-root.ensures, shape-of') at plan-of.way_noted.leads;
     }

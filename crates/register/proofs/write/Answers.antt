@@ -46,9 +46,10 @@ slice_bounds-trie_mutate-end c =
     omega (arith, c.requires.size)
 
 pub trie_mutate-b-requires : goal.trie_mutate-b-requires
-trie_mutate-b-requires c =
-    let p = rw (c.root_of-root.ensures, c.shape_of-s.ensures, tail_is c.args.way.now steps_at)
-    (record { used = _; holds = write_mutation c.requires c.put_texts.ensures }, write_way c.requires c.put_texts.ensures) in record { some = p.0; trie_way = p.1 }
+trie_mutate-b-requires c = record {
+  some = rw (c.root_of-root.ensures, c.shape_of-s.ensures) (record { used = _; holds = write_mutation c.requires c.put_texts.ensures });
+  trie_way = rw (c.root_of-root.ensures, c.shape_of-s.ensures, tail_is c.args.way.now steps_at) (write_way c.requires c.put_texts.ensures);
+}
 
 pub overflow_add-end-2 : goal.overflow_add-end-2
 overflow_add-end-2 c =

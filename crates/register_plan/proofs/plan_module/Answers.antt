@@ -17,12 +17,11 @@ segment_at-n-requires c =
     (c.loop-at-test.true, c.loop-at.invariant.0.ends)
 
 pub plan_step-s-requires : goal.plan_step-s-requires
-plan_step-s-requires c =
-    (
-      record { which = modules; trie = c.loop-at.invariant.0.here },
-      omega (arith, path_few c.loop-at.invariant.0 c.segment_at-n.ensures, c.requires.query_value.1),
-      omega (arith, c.loop-at.invariant.1.kept.size, c.requires.query_value.2),
-    )
+plan_step-s-requires c = (
+  record { which = modules; trie = c.loop-at.invariant.0.here },
+  omega (arith, path_few c.loop-at.invariant.0 c.segment_at-n.ensures, c.requires.query_value.1),
+  omega (arith, c.loop-at.invariant.1.kept.size, c.requires.query_value.2),
+)
 
 pub plan_ins-b-requires : goal.plan_ins-b-requires
 plan_ins-b-requires c =
@@ -61,5 +60,8 @@ loop-at-preserved c =
 
 pub returns : goal.returns
 returns c =
-    let inv = c.loop-at.invariant in record { module_planned = λ tbl path e. module_planned _ path tbl (stands_last inv.0 c.loop-at-test.false) e; path_noted = λ other key. noted_path (leads_end c.args.query.now inv.1 c.loop-at-test.false)
-          (omega (arith, inv.1.kept.size, inv.0.says.number, c.requires.query_value.1, c.requires.query_value.2)) (Module c.args.loaded) other key tt }
+    let inv = c.loop-at.invariant in record {
+      module_planned = λ tbl path e. module_planned _ path tbl (stands_last inv.0 c.loop-at-test.false) e;
+      path_noted = λ other key. noted_path (leads_end c.args.query.now inv.1 c.loop-at-test.false)
+          (omega (arith, inv.1.kept.size, inv.0.says.number, c.requires.query_value.1, c.requires.query_value.2)) (Module c.args.loaded) other key tt;
+    }

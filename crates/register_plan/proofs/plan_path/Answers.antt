@@ -16,12 +16,11 @@ segment_at-n-requires c =
     (c.loop-at-test.true, c.loop-at.invariant.0.ends)
 
 pub plan_step-s-requires : goal.plan_step-s-requires
-plan_step-s-requires c =
-    (
-      record { which = names; trie = c.loop-at.invariant.0.here },
-      omega (arith, path_few c.loop-at.invariant.0 c.segment_at-n.ensures, c.requires.host_value.1),
-      omega (arith, c.loop-at.invariant.1.kept.size, c.requires.host_value.2),
-    )
+plan_step-s-requires c = (
+  record { which = names; trie = c.loop-at.invariant.0.here },
+  omega (arith, path_few c.loop-at.invariant.0 c.segment_at-n.ensures, c.requires.host_value.1),
+  omega (arith, c.loop-at.invariant.1.kept.size, c.requires.host_value.2),
+)
 
 pub overflow_add-segments : goal.overflow_add-segments
 overflow_add-segments c =
