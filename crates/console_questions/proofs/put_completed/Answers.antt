@@ -18,4 +18,4 @@ returns-in-Listed c =
 
 pub returns-in-Refused : goal.returns-in-Refused
 returns-in-Refused c =
-    rw c.in-Refused.is (rw c.number-n.ensures at c.Put-refused.ensures)
+    rw c.in-Refused.is (rw c.number-n.ensures at c.put_refused.ensures)

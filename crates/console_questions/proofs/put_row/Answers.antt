@@ -41,7 +41,7 @@ text_of-requires-2 c =
 pub put_row-requires : goal.put_row-requires
 put_row-requires c =
     let pre = c.requires in
-    omega (arith, pre.1, note-size pre.0 c.text_of.ensures, candidate-size pre.0 c.text_of-2.ensures)
+    omega (arith, pre.row_in_bounds, note-size pre.texts_in c.text_of.ensures, candidate-size pre.texts_in c.text_of-2.ensures)
 
 pub returns : goal.returns
 returns c =
