@@ -15,16 +15,16 @@ row_at-r-requires c =
 
 pub put_row-e-requires : goal.put_row-e-requires
 put_row-e-requires c =
-    let p = let l : c.loop-i.i < c.args.n = omega arith in
-    rw c.row_at-r.ensures (
-      (going_texts c.loop-i.invariant l).0,
-      omega (
+    let l : c.loop-i.i < c.args.n = omega arith in
+    rw c.row_at-r.ensures (record {
+      texts_in = (going_texts c.loop-i.invariant l).0;
+      row_in_bounds = omega (
         arith,
         going_space c.loop-i.invariant l,
         c.requires.n_in_bounds,
         laid_length c.loop-i.invariant.laid,
-      ),
-    ) in record { texts_in = p.0; row_in_bounds = p.1 }
+      );
+    })
 
 pub loop-i-preserved : goal.loop-i-preserved
 loop-i-preserved c =
