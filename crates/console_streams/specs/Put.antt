@@ -1,7 +1,7 @@
 -- What is known of a text that was written.
-use Rattle.std.specs.Prelude.{◌≡◌, Bool, true, length}
+use Rattle.std.specs.Prelude.{◌≡◌, length, Result, IsOk}
 use Rattle.source.specs.Text.{Str}
 
--- What a write took no contract says; where there is nothing to write, all is written.
-pub record Put (text : Str) (r : Bool) : Type 0 where
-  pub none : length text ≡ 0 → r ≡ true
+-- What the system takes no contract says; where there is nothing to write, all is written.
+pub record Put {T E : Type 0} (text : Str) (r : Result T E) : Type 0 where
+  pub none : length text ≡ 0 → IsOk r

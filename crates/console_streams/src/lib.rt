@@ -1,62 +1,50 @@
 // What the program `console` reads and writes: standard input, a text, its help.
 #![tactic(auto)]
+pub mod fault;
 pub mod help;
 
-ghost use Rattle.std.specs.Prelude.{◌≤◌, length};
-ghost use Rattle.console_streams.specs.Filled.{Filled};
+ghost use Rattle.std.specs.Prelude.{◌≤◌, length, OnOk};
+ghost use Rattle.std.specs.Io.KnownBytes.{Appends};
+ghost use Rattle.console_streams.specs.Filled.{Filled, Taken};
 ghost use Rattle.console_streams.specs.Put.{Put};
 
-use libc::STDIN_FILENO;
+use std::io::{self, ErrorKind, Read, Write};
 
-// How many bytes there are after a read, whether it failed, and whether it was only interrupted.
-#[derive(Clone, Copy)]
-pub struct Got {
-    pub n: usize,
-    pub failed: bool,
-    pub again: bool,
-}
-
-// Reads more into `input`, after the first `have` bytes.
-pub fn fill(input: &mut [u8], have: usize) -> Got
+// Reads more into `input`, after the first `have` bytes, and says how many there are then.
+pub fn fill<R: Read>(from: &mut R, input: &mut [u8], have: usize) -> io::Result<usize>
     requires { have ≤ length input.old }
-    ensures { Filled input.old input.new have result }
+    ensures filled { Filled input.old input.new have result }
+    ensures taken { Taken (R.remaining from.old) (R.remaining from.new) input.new have result }
 {
-    let got = libc::read(STDIN_FILENO, &mut input[have..]);
-    if got < 0 {
-        return Got {
-            n: have,
-            failed: true,
-            again: os::errno() == libc::EINTR,
-        };
-    }
-    Got {
-        n: have + io::count(got, &input[have..]),
-        failed: false,
-        again: false,
-    }
+    let got = from.read(&mut input[have..])?;
+    Ok(have + got)
 }
 
-// Writes all of `text`, and says whether it did. A write that is interrupted is tried again.
-pub fn put(fd: i32, text: &[u8]) -> bool
-    ensures { Put text.now result }
+// Writes all of `text`, or says why it did not. A write that is interrupted is tried again.
+pub fn put<W: Write>(to: &mut W, text: &[u8]) -> io::Result<()>
+    ensures none { Put text.now result }
+    ensures all { OnOk result (Appends (W.contents to.old) (W.contents to.new) text.now) }
 {
     let mut done = 0;
     let mut left: u64 = 18446744073709551615;
     while done < text.len() {
         if left == 0 {
-            return false;
+            return Err(io::Error::from(ErrorKind::TimedOut));
         }
         left -= 1;
-        let got = libc::write(fd, &text[done..]);
-        if got < 0 {
-            if os::errno() != libc::EINTR {
-                return false;
+        match to.write(&text[done..]) {
+            Ok(got) => {
+                if got == 0 {
+                    return Err(io::Error::from(ErrorKind::WriteZero));
+                }
+                done += got;
+            }
+            Err(e) => {
+                if e.kind() != ErrorKind::Interrupted {
+                    return Err(e);
+                }
             }
         }
-        if got == 0 {
-            return false;
-        }
-        done += io::count(got, &text[done..]);
     }
-    true
+    Ok(())
 }

@@ -1,12 +1,11 @@
--- `put` meets its contract.
-use Prim.Native.Nat.{◌≤◌}
-use lib.ListN.{length}
+-- The bytes before `done` were written.
+use Rattle.std.proofs.Common.{◌≤◌, length, take}
+use Rattle.std.specs.Io.KnownBytes.{Appends}
 use Rattle.console_streams.proofs.put.Given as goal
 
 abbrev pub invariant-loop-done : goal.invariant-loop-done
-invariant-loop-done l =
-    l.done ≤ length l.text
+invariant-loop-done g l =
+    (l.done ≤ length l.text) × Appends (g.W.Write.contents l.initial.to) (g.W.Write.contents l.to) (take l.done l.text)
 
 abbrev pub decreases-loop-done : goal.decreases-loop-done
-decreases-loop-done l =
-    l.left
+decreases-loop-done g l = l.left
