@@ -1,5 +1,5 @@
 -- What holds between reads.
-use Rattle.std.specs.Prelude.{ℕ, ◌≤◌, ◌≡◌, Bool, true, List, take}
+use Rattle.std.specs.Prelude.{ℕ, ◌≤◌, ◌≡◌, List, take, Result, OnOk}
 use Rattle.source.specs.Calls.{Output}
 use Rattle.script_decimal.specs.Bytes.{All}
 use Rattle.script_decimal.specs.declared.Sort.TheVariants.{Line}
@@ -29,12 +29,11 @@ pub record Rests (ws txt ws' txt' input input' : List ℕ) (out : Output) (f : F
       (record { words = ws'; text = txt'; input = input'; feed = r.feed })
   pub sound : IsSound ws' txt' r.feed.table
   pub inside : Inside r.feed input'
-  pub short : r.written ≡ true
-      → (r.feed.from ≡ 0) × (r.feed.have ≤ bytes_kept) × All Line (pending r.feed input')
+  pub short : OnOk r.written ((r.feed.from ≡ 0) × (r.feed.have ≤ bytes_kept) × All Line (pending r.feed input'))
 
 -- The end of the input is answered; of the writing of its reply no more is known than `Put` says.
-pub record Closes (ws txt ws' txt' : List ℕ) (f : Feed) (input flat flat' pane pane' reply reply' : List ℕ)
-    (r : Bool) : Type 0 where
+pub record Closes {T E : Type 0} (ws txt ws' txt' : List ℕ) (f : Feed) (input flat flat' pane pane' reply reply' : List ℕ)
+    (r : Result T E) : Type 0 where
   pub done : Done
   pub ends : Ends ws txt ws' txt' f input flat flat' pane pane' reply reply' done
   pub written : Put (take done.end reply') r

@@ -11,18 +11,21 @@ ghost use Rattle.console_feed.specs.Feed.{Inside};
 ghost use Rattle.console.specs.Fed.{Rests, Closes};
 
 use console_feed::Feed;
-use libc::STDOUT_FILENO;
+use console_streams::{fault, help};
+use std::env::{Env, FillError};
+use std::io::{self, ErrorKind, Write};
 use table::Table;
 
 // What is left after a read was answered, and whether every reply was written.
 #[derive(Clone, Copy)]
 struct AfterRead {
     feed: Feed,
-    written: bool,
+    written: io::Result<()>,
 }
 
 // Answers the whole lines of what was read, and writes the replies.
-fn reply_all(
+fn reply_all<W: Write>(
+    to: &mut W,
     f: Feed,
     words: &mut [u32],
     text: &mut [u8],
@@ -42,23 +45,24 @@ fn reply_all(
         let r = console_feed::step(g, words, text, input, flat, pane, reply);
         let e = r.end;
         g = r.feed;
-        if !console_streams::put(STDOUT_FILENO, &reply[..e]) {
+        if let Err(fault) = console_streams::put(to, &reply[..e]) {
             return AfterRead {
                 feed: g,
-                written: false,
+                written: Err(fault),
             };
         }
         if !r.more {
             return AfterRead {
                 feed: g,
-                written: true,
+                written: Ok(()),
             };
         }
     }
 }
 
 // Answers what is left at the end of the input, and says whether the reply was written.
-fn reply_last(
+fn reply_last<W: Write>(
+    to: &mut W,
     f: Feed,
     words: &mut [u32],
     text: &mut [u8],
@@ -66,7 +70,7 @@ fn reply_last(
     flat: &mut [u8],
     pane: &mut [u8],
     reply: &mut [u8],
-) -> bool
+) -> io::Result<()>
     requires sound { IsSound words.old text.old f.table }
     requires pane_in_bounds { room flat.old pane.old ≤ length reply.old }
     requires inside { Inside f input.now }
@@ -75,11 +79,13 @@ fn reply_last(
 {
     let d = console_feed::last(f, words, text, input, flat, pane, reply);
     let e = d.end;
-    console_streams::put(STDOUT_FILENO, &reply[..e])
+    console_streams::put(to, &reply[..e])
 }
 
 // Reads and replies to the end of the input, or to the first fault.
-fn talk() {
+fn talk(rt: HostRuntime) {
+    let mut from = rt.stdin();
+    let mut to = rt.stdout();
     let mut words = [0u32; 16384];
     let mut text = [0u8; 32768];
     let mut flat = [0u8; 24576];
@@ -91,53 +97,60 @@ fn talk() {
     let mut left: u64 = 18446744073709551615;
     while 0 < left {
         left -= 1;
-        let got = console_streams::fill(&mut input, have);
-        if got.failed {
-            if !got.again {
-                os::fail(b"console: standard input");
-                return;
-            }
-        } else {
-            let f = Feed {
-                table: table,
-                from: 0,
-                have: got.n,
-            };
-            if got.n == have {
-                if !reply_last(
-                    f, &mut words, &mut text, &input, &mut flat, &mut pane, &mut reply,
-                ) {
-                    os::fail(b"console: standard output");
+        match console_streams::fill(&mut from, &mut input, have) {
+            Err(e) => {
+                if e.kind() != ErrorKind::Interrupted {
+                    fault::say(&mut rt.stderr(), b"console: standard input", e);
+                    return;
                 }
-                return;
             }
-            let r = reply_all(
-                f, &mut words, &mut text, &mut input, &mut flat, &mut pane, &mut reply,
-            );
-            if !r.written {
-                os::fail(b"console: standard output");
-                return;
+            Ok(got) => {
+                let f = Feed {
+                    table: table,
+                    from: 0,
+                    have: got,
+                };
+                if got == have {
+                    let last = reply_last(
+                        &mut to, f, &mut words, &mut text, &input, &mut flat, &mut pane, &mut reply,
+                    );
+                    if let Err(e) = last {
+                        fault::say(&mut rt.stderr(), b"console: standard output", e);
+                    }
+                    return;
+                }
+                let r = reply_all(
+                    &mut to, f, &mut words, &mut text, &mut input, &mut flat, &mut pane, &mut reply,
+                );
+                if let Err(e) = r.written {
+                    fault::say(&mut rt.stderr(), b"console: standard output", e);
+                    return;
+                }
+                let rest = r.feed;
+                table = rest.table;
+                have = rest.have;
             }
-            let rest = r.feed;
-            table = rest.table;
-            have = rest.have;
         }
     }
 }
 
-fn main() {
-    let mut arg = io::buffer();
-    if os::arg_count() < 2 {
-        talk();
-        return;
+fn main(rt: HostRuntime) {
+    let mut arg = [0u8; 4096];
+    match rt.arg(1, &mut arg) {
+        Ok(n) => {
+            if help::asked(&arg[..n]) {
+                help::print(&mut rt.stdout());
+                return;
+            }
+        }
+        Err(FillError::NotPresent) => {
+            talk(rt);
+            return;
+        }
+        Err(FillError::TooLong) => {}
     }
-    let n = os::arg(1, &mut arg);
-    if console_streams::help::asked(&arg[..n]) {
-        console_streams::help::print();
-        return;
-    }
-    console_streams::put(
-        libc::STDERR_FILENO,
+    let _ = console_streams::put(
+        &mut rt.stderr(),
         b"console: unknown argument; --help says what it reads\n",
     );
 }

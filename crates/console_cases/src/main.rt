@@ -2,23 +2,23 @@
 // Cases 1 to 11 are scripts, each on a fresh table as the program `console` has it; what is written is held to the file `stdout`,
 // which is written from the requirements.
 #![tactic(auto)]
-use libc::STDOUT_FILENO;
 use listing::Completed;
 use source::{ItemKind, KindFilter, LidSymbol};
+use std::io::{Print, Stdout};
 use table::{Registered, Registration, Table};
 use table_roots::Found;
 
-fn say(s: &[u8]) {
-    io::write_all(STDOUT_FILENO, s);
+// What cannot be written is missing in the output, which then is not as the file has it.
+fn say(out: Stdout, s: &[u8]) {
+    let _ = out.write_all(s);
 }
 
-fn say_number(n: u32) {
-    io::print_decimal(STDOUT_FILENO, n as u64);
-    say(b"\n");
+fn say_number(out: Stdout, n: u32) {
+    let _ = out.println(n);
 }
 
 // The replies to the lines of a script, after those of another, on a fresh table.
-fn play(first: &[u8], script: &[u8]) {
+fn play(out: Stdout, first: &[u8], script: &[u8]) {
     let mut words = [0u32; 16384];
     let mut text = [0u8; 32768];
     let mut flat = [0u8; 24576];
@@ -33,12 +33,13 @@ fn play(first: &[u8], script: &[u8]) {
         t, &mut words, &mut text, script, 0, &mut flat, &mut pane, &mut reply,
     );
     let e = b.end;
-    say(&reply[..e]);
+    say(out, &reply[..e]);
 }
 
 // The same on table T.
-fn play_t(script: &[u8]) {
+fn play_t(out: Stdout, script: &[u8]) {
     play(
+        out,
         b"[name [Saved.] offset 1]\n[include [Live.] [Saved.]]\n[name [Saved.] late 2]\n[name [Live.] offset 3]\n",
         script,
     );
@@ -62,9 +63,9 @@ fn register(number: u32) -> LidSymbol {
 }
 
 // Case 12: case 1 with so many words and bytes.
-fn tick(words: &mut [u32], text: &mut [u8]) {
+fn tick(out: Stdout, words: &mut [u32], text: &mut [u8]) {
     let r = Table::fresh().insert(words, text, b"", b"tick", register(5));
-    say_number(code(r));
+    say_number(out, code(r));
 }
 
 // The first two calls of table T.
@@ -121,119 +122,123 @@ fn looked(t: Table, words: &[u32], text: &[u8]) -> u32 {
     }
 }
 
-fn scripts() {
-    say(b"case 1\n");
-    play(b"", b"[name [] tick 5]\n");
-    say(b"case 3\n");
-    play_t(b"[find [Live.late.]]\n[find [Saved.late.]]\n");
-    say(b"case 4\n");
-    play_t(b"[find [Live.offset.]]\n");
-    say(b"case 5\n");
-    play_t(b"[complete [Live.off.]]\n");
-    say(b"case 6\n");
-    play_t(b"[complete []]\n");
+fn scripts(out: Stdout) {
+    say(out, b"case 1\n");
+    play(out, b"", b"[name [] tick 5]\n");
+    say(out, b"case 3\n");
+    play_t(out, b"[find [Live.late.]]\n[find [Saved.late.]]\n");
+    say(out, b"case 4\n");
+    play_t(out, b"[find [Live.offset.]]\n");
+    say(out, b"case 5\n");
+    play_t(out, b"[complete [Live.off.]]\n");
+    say(out, b"case 6\n");
+    play_t(out, b"[complete []]\n");
 }
 
-fn more_scripts() {
-    say(b"case 7\n");
-    play_t(b"[complete [.]]\n");
-    say(b"case 8\n");
-    play_t(b"[alias K [Live.] [Saved.]]\n[find [Live.K.late.]]\n");
-    say(b"case 9\n");
+fn more_scripts(out: Stdout) {
+    say(out, b"case 7\n");
+    play_t(out, b"[complete [.]]\n");
+    say(out, b"case 8\n");
+    play_t(out, b"[alias K [Live.] [Saved.]]\n[find [Live.K.late.]]\n");
+    say(out, b"case 9\n");
     play(
+        out,
         b"[name [Saved.] offset 1]\n[include [Live.] [Saved.]]\n[name [Saved.] late 2]\n[name [Live.] offset 3]\n[include [] [Saved.]]\n",
         b"[complete [off.]]\n",
     );
-    say(b"case 10\n");
-    play(b"", b"[module u [IO.Bus.] io/bus]\n[modules [I.]]\n");
+    say(out, b"case 10\n");
+    play(out, b"", b"[module u [IO.Bus.] io/bus]\n[modules [I.]]\n");
 }
 
 // A Timer, a Port and a Register of one number, and what is no item.
-fn kinds() {
-    say(b"kinds\n");
+fn kinds(out: Stdout) {
+    say(out, b"kinds\n");
     play(
+        out,
         b"[name [] tick t5]\n[name [] tock p5]\n[name [] took 5]\n",
         b"[find [tick.]]\n[complete [t.]]\n[name [] x t]\n[name [] x x5]\n[name [] x t05]\n",
     );
 }
 
 // Case 2: records and text bytes used by T.
-fn used() {
+fn used(out: Stdout) {
     let mut words = [0u32; 600];
     let mut text = [0u8; 64];
     let t = build(&mut words, &mut text);
-    say(b"case 2\n");
-    say_number(t.header.records);
-    say_number(t.header.text);
+    say(out, b"case 2\n");
+    say_number(out, t.header.records);
+    say_number(out, t.header.text);
 }
 
-fn limits() {
-    say(b"case 11\n");
-    play(b"", b"[name [] aaaaaaaaaaaaaaaaaaaaaaaaaaaaaaa 1]\n");
-    play(b"", b"[name [] aaaaaaaaaaaaaaaaaaaaaaaaaaaaaaaa 1]\n");
+fn limits(out: Stdout) {
+    say(out, b"case 11\n");
+    play(out, b"", b"[name [] aaaaaaaaaaaaaaaaaaaaaaaaaaaaaaa 1]\n");
+    play(out, b"", b"[name [] aaaaaaaaaaaaaaaaaaaaaaaaaaaaaaaa 1]\n");
     play(
+        out,
         b"",
         b"[name [a.b.c.d.e.f.g.h.i.j.k.l.m.n.o.p.] x 1]\n[find [a.b.c.d.e.f.g.h.i.j.k.l.m.n.o.p.x.]]\n",
     );
-    play(b"", b"[name [a.b.c.d.e.f.g.h.i.j.k.l.m.n.o.p.q.] x 1]\n");
-    play(b"", b"[name [a.b.c.d.e.f.g.h.i.j.k.l.m.n.o.p.q.r.] x 1]\n");
+    play(out, b"", b"[name [a.b.c.d.e.f.g.h.i.j.k.l.m.n.o.p.q.] x 1]\n");
+    play(out, b"", b"[name [a.b.c.d.e.f.g.h.i.j.k.l.m.n.o.p.q.r.] x 1]\n");
 }
 
-fn rooms() {
+fn rooms(out: Stdout) {
     let mut two = [0u32; 24];
     let mut three = [0u32; 36];
     let mut text = [0u8; 8];
-    say(b"case 12\n");
-    tick(&mut two, &mut text);
-    tick(&mut three, &mut text);
+    say(out, b"case 12\n");
+    tick(out, &mut two, &mut text);
+    tick(out, &mut three, &mut text);
 }
 
-fn texts() {
+fn texts(out: Stdout) {
     let mut words = [0u32; 36];
     let mut three = [0u8; 3];
     let mut four = [0u8; 4];
-    tick(&mut words, &mut three);
-    tick(&mut words, &mut four);
+    tick(out, &mut words, &mut three);
+    tick(out, &mut words, &mut four);
 }
 
-fn outputs() {
+fn outputs(out: Stdout) {
     let mut words = [0u32; 600];
     let mut text = [0u8; 64];
     let mut flat = [0u8; 48];
     let mut none = [0u8; 47];
     let mut pane = [0u8; 64];
     let t = build(&mut words, &mut text);
-    say(b"case 13\n");
-    say_number(listed(t, &words, &text, 1, &mut flat, &mut pane));
-    say_number(listed(t, &words, &text, 2, &mut flat, &mut pane));
-    say_number(listed(t, &words, &text, 2, &mut none, &mut pane));
+    say(out, b"case 13\n");
+    say_number(out, listed(t, &words, &text, 1, &mut flat, &mut pane));
+    say_number(out, listed(t, &words, &text, 2, &mut flat, &mut pane));
+    say_number(out, listed(t, &words, &text, 2, &mut none, &mut pane));
 }
 
-fn damaged() {
+fn damaged(out: Stdout) {
     let mut words = [0u32; 600];
     let mut text = [0u8; 64];
     let mut flat = [0u8; 48];
     let mut pane = [0u8; 64];
     let t = build(&mut words, &mut text);
-    say(b"a damaged table\n");
-    say_number(looked(t, &words, &text));
+    say(out, b"a damaged table\n");
+    say_number(out, looked(t, &words, &text));
     words[6] = 4;
-    say_number(looked(t, &words, &text));
+    say_number(out, looked(t, &words, &text));
     words[0] = 99;
-    say_number(looked(t, &words, &text));
-    say_number(listed(t, &words, &text, 2, &mut flat, &mut pane));
+    say_number(out, looked(t, &words, &text));
+    say_number(out, listed(t, &words, &text, 2, &mut flat, &mut pane));
     let r = t.insert(&mut words, &mut text, b"", b"tick", register(5));
-    say_number(code(r));
+    say_number(out, code(r));
 }
 
-fn main() {
-    used();
-    scripts();
-    more_scripts();
-    limits();
-    rooms();
-    texts();
-    outputs();
-    kinds();
-    damaged();
+fn main(rt: HostRuntime) {
+    let out = rt.stdout();
+    used(out);
+    scripts(out);
+    more_scripts(out);
+    limits(out);
+    rooms(out);
+    texts(out);
+    outputs(out);
+    kinds(out);
+    damaged(out);
 }
