@@ -1,5 +1,6 @@
 // What the program `console` reads and writes: standard input, a text, its help.
 #![tactic(auto)]
+
 pub mod fault;
 pub mod help;
 
