@@ -1,5 +1,5 @@
 -- complete meets its contract.
-use Rattle.memory.proofs.Says.{says_passes, says_refuses}
+use Rattle.memory.proofs.Says.{says_holds, says_fails}
 use Rattle.screen_memory.proofs.Memory.{loaded_fits, loaded_count}
 use Rattle.screen_calls.proofs.Held.{held_is, unsound_memory, unsound_short}
 use Rattle.screen_calls.proofs.RepliesLines.{lines_unsound, lines_replied}
@@ -20,7 +20,7 @@ slice_bounds-is_sound_small-end c =
 pub returns-then-not-is_sound_small : goal.returns-then-not-is_sound_small
 returns-then-not-is_sound_small c =
     lines_unsound (unsound_memory _ (held_is c.if-state-ne-STATE_BYTES.false c.table_of-t.ensures c.load-n.ensures.words)
-    (says_refuses c.is_sound_small.result c.is_sound_small.ensures c.if-not-is_sound_small.true)) c.no_lines-then-not-is_sound_small.ensures
+    (says_fails c.is_sound_small.result c.is_sound_small.ensures c.if-not-is_sound_small.true)) c.no_lines-then-not-is_sound_small.ensures
 
 pub slice_bounds-memory-end-2 : goal.slice_bounds-memory-end-2
 slice_bounds-memory-end-2 c =
@@ -32,7 +32,7 @@ slice_bounds-complete_sound-end c =
 
 pub complete_sound-requires : goal.complete_sound-requires
 complete_sound-requires c =
-    says_passes c.is_sound_small.result c.is_sound_small.ensures c.if-not-is_sound_small.false
+    says_holds c.is_sound_small.result c.is_sound_small.ensures c.if-not-is_sound_small.false
 
 pub returns : goal.returns
 returns c =
