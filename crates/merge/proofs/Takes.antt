@@ -1,6 +1,6 @@
 -- One cell taken from the heap: its list is at its end, or is put back from its next match on.
 use Prim.Native.Nat.{ℕ, ◌≤◌, ◌<◌}
-use mathlib.Core.Path.{◌≡◌, refl, sym, ap, ◌∙◌}
+use mathlib.Core.Path.{◌≡◌, refl, sym, ap, ◌∙◌, subst}
 use mathlib.Core.Bool.{true}
 use mathlib.Core.List.{List, [], Memᴰ}
 use native.Mathlib.Omega.{arith}
@@ -19,6 +19,7 @@ use Rattle.memory.specs.Layout.{Which, key_at}
 use Rattle.memory.specs.Read.{TextIn}
 use Rattle.merge_heads.specs.Compare.{Head, with_beginning, cell_cmp}
 use Rattle.merge_heap.specs.Cells.{Root, is, count, Rep, Makes, Inserts, Pops}
+use Rattle.merge_heap.specs.declared.Popped.{Popped}
 use Rattle.merge_heap.specs.declared.Popped.TheVariants.{Nothing, Least}
 use Rattle.merge_heap.proofs.CellCounts.{root_in, rep_below, all_counted, is_self, is_other}
 use Rattle.merge_heads.proofs.Heads.{head_begun}
@@ -245,6 +246,14 @@ pub record Least-cell (ws txt : List ℕ) (p : Str) (n root : ℕ) (roots heads 
     (cell rest : ℕ) : Type 0 where
   pub ready : CellsReady ws txt p n root roots heads beginnings child next
   pub pops : Pops (cell_cmp ws txt heads) n child next child' next' (Least cell rest) root
+
+-- The same, of what heap_pop answered.
+pub least_cell : {ws txt : List ℕ} {p : Str} {n root cell rest : ℕ} {roots heads beginnings child next child' next' : List ℕ}
+    {o : Popped} → CellsReady ws txt p n root roots heads beginnings child next → o ≡ Least cell rest
+    → Pops (cell_cmp ws txt heads) n child next child' next' o root
+    → Least-cell ws txt p n root roots heads beginnings child next child' next' cell rest
+least_cell {ws} {txt} {p} {n} {root} {cell} {rest} {roots} {heads} {beginnings} {child} {next} {child'} {next'} {o} y e f =
+    record { ready = y; pops = subst (λ (r : Popped). Pops (cell_cmp ws txt heads) n child next child' next' r root) e f }
 
 module _ {ws txt : List ℕ} {p : Str} {n root cell rest : ℕ} {roots heads beginnings child next child' next' : List ℕ}
     (k : Least-cell ws txt p n root roots heads beginnings child next child' next' cell rest) where

@@ -1,10 +1,12 @@
 -- `merge::merge_next` meets its contract. The loop passes over cells with the key of the last entry; the measure is how many branches the cells have left.
-use mathlib.Core.Path.{refl, sym, ◌∙◌}
-use mathlib.Core.Logic.{⊎_elim}
-use borrow.Author.Tests.{not-true, not-false}
+use mathlib.Core.Path.{◌≡◌, refl, sym, ◌∙◌}
+use mathlib.Core.Bool.{false}
+use Rattle.source.specs.Shared.{same}
+use Rattle.memory.specs.Layout.{key_at}
 use Rattle.merge.proofs.Steps.{passing_none, passing_ready, passing_end, passing_small, passing_fewer, passing_branch, passing_last, passing_on}
 use Rattle.merge.proofs.Steps.{passing_gives}
 use Rattle.merge.proofs.merge_next.Goals as goal
+use Rattle.merge.proofs.merge_next.Goals.{then-last-eq0-via-then-last-eq0, then-last-eq0-via-else-last-eq0+then-not-same_key}
 
 pub loop-t-init : goal.loop-t-init
 loop-t-init c labels =
@@ -29,10 +31,15 @@ same_key-requires c =
 
 pub returns-then-last-eq0 : goal.returns-then-last-eq0
 returns-then-last-eq0 c =
+    let new : (c.args.turn.last ≡ 0 → ⊥)
+        → same (key_at c.args.words.now c.args.text.now c.take-t.result.branch) (key_at c.args.words.now c.args.text.now c.args.turn.last) ≡ false =
+    elim c.then-last-eq0.branch [
+      then-last-eq0-via-then-last-eq0 w ↦ λ n. absurd (n w.if-last-eq0.true)
+    | then-last-eq0-via-else-last-eq0+then-not-same_key w ↦ λ n. sym w.same_key.ensures ∙ w.if-not-same_key.true
+    ] in
     record {
       small = λ n. passing_small (c.loop-t.invariant c.requires.labels) c.requires.any c.take-t.ensures c.if-t-eq-CELLS.false;
-      gives = λ labels. passing_gives (c.loop-t.invariant labels) c.take-t.ensures c.if-t-eq-CELLS.false
-          (⊎_elim (λ w n. absurd (n w.taken)) (λ w n. sym w.1.ensures ∙ not-true _ w.2.taken) c.then-last-eq0.branch-raw);
+      gives = λ labels. passing_gives (c.loop-t.invariant labels) c.take-t.ensures c.if-t-eq-CELLS.false new;
     }
 
 pub loop-t-smaller : goal.loop-t-smaller
@@ -43,4 +50,4 @@ pub loop-t-preserved : goal.loop-t-preserved
 loop-t-preserved c =
     λ labels. passing_on (c.loop-t.invariant labels) c.take-t.ensures c.if-t-eq-CELLS.false
     (passing_fewer (c.loop-t.invariant c.requires.labels) c.requires.any c.take-t.ensures c.if-t-eq-CELLS.false) c.if-last-eq0.false
-    (sym c.same_key.ensures ∙ not-false _ c.if-not-same_key.false)
+    (sym c.same_key.ensures ∙ c.if-not-same_key.false)
