@@ -1,6 +1,7 @@
 // The branches of a list of collections that begin with a prefix, ascending, one of each key, the first holder's.
 // Each comes with the collection that has its outermost label, 0 for none.
 #![tactic(auto)]
+
 ghost use Rattle.std.specs.Prelude.{◌≡◌, ◌<◌, ◌≤◌, ◌*◌, length};
 ghost use Rattle.source.specs.Limits.{record_words};
 ghost use Rattle.source.specs.Shared.{same};

@@ -32,10 +32,10 @@ same_key-requires c =
 pub returns-then-last-eq0 : goal.returns-then-last-eq0
 returns-then-last-eq0 c =
     let new : (c.args.turn.last ≡ 0 → ⊥)
-        → same (key_at c.args.words.now c.args.text.now c.take-t.result.branch) (key_at c.args.words.now c.args.text.now c.args.turn.last) ≡ false =
+    → same (key_at c.args.words.now c.args.text.now c.take-t.result.branch) (key_at c.args.words.now c.args.text.now c.args.turn.last) ≡ false =
     elim c.then-last-eq0.branch [
-      then-last-eq0-via-then-last-eq0 w ↦ λ n. absurd (n w.if-last-eq0.true)
-    | then-last-eq0-via-else-last-eq0+then-not-same_key w ↦ λ n. sym w.same_key.ensures ∙ w.if-not-same_key.true
+      | then-last-eq0-via-then-last-eq0 w ↦ λ n. absurd (n w.if-last-eq0.true)
+      | then-last-eq0-via-else-last-eq0+then-not-same_key w ↦ λ n. sym w.same_key.ensures ∙ w.if-not-same_key.true
     ] in
     record {
       small = λ n. passing_small (c.loop-t.invariant c.requires.labels) c.requires.any c.take-t.ensures c.if-t-eq-CELLS.false;
