@@ -1,5 +1,6 @@
 // What is kept of the bytes of a read: of a line that has not ended its start, and at the end of the input a last line.
 #![tactic(auto)]
+
 ghost use Rattle.std.specs.Prelude.{◌≤◌, min, ◌≡◌, length};
 ghost use Rattle.console_backlog.specs.Moves.{bytes_kept, Moves};
 ghost use Rattle.console_backlog.specs.LastLine.{LastLine};

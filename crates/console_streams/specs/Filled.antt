@@ -13,5 +13,6 @@ pub record Filled {E : Type 0} (input input' : List ℕ) (have : ℕ) (r : Resul
 -- A read that failed took none.
 abbrev pub Taken : {E : Type 0} → Option (List ℕ) → Option (List ℕ) → List ℕ → ℕ → Result ℕ E → Type 0
 Taken left left' input' have r =
-    MatchResult r (λ n. Consumes left left' (slice_range input' have n) × (n ≡ have → have < length input' → IsAtEnd left'))
+    MatchResult r
+    (λ n. Consumes left left' (slice_range input' have n) × (n ≡ have → have < length input' → IsAtEnd left'))
     (λ _. Keeps left left')

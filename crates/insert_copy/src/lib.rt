@@ -1,6 +1,7 @@
 // The branches that an insertion makes: one of the way down copied with another side, the new one with the key and the sides of the one it replaces.
 // The way down is noted in the records that they take.
 #![tactic(auto)]
+
 ghost use Rattle.std.specs.Prelude.{◌≡◌, ◌*◌, ◌≤◌, ◌<◌, max, length};
 ghost use Rattle.source.specs.Limits.{record_words};
 ghost use Rattle.memory.specs.Layout.{kind_word, trie_link};

@@ -119,7 +119,8 @@ module _ {ws txt : List ℕ} {key : Str} {records root count : ℕ} {ws' : List 
 
     -- The way ends.
     pub mark_end : Builds ws txt root key (g.d + 1)
-        → (0 < link → Ordering.eq ≡ string_compare key (key_at ws' txt link)) → Marked ws ws'' txt key records root count
+        → (0 < link → Ordering.eq ≡ string_compare key (key_at ws' txt link))
+        → Marked ws ws'' txt key records root count
     mark_end b h =
         let c : g.d + 1 ≡ count = same_count g.asked b in
         let z : n ≡ records = omega (arith, g.level) in

@@ -1,5 +1,6 @@
 // What a completion asks: names, or modules and namespaces, with a filter; and what the filter of modules keeps.
 #![tactic(auto)]
+
 ghost use Rattle.std.specs.Prelude.{◌≡◌};
 ghost use Rattle.source.specs.Text.{Str};
 ghost use Rattle.source.specs.Table.{Module, Namespace};
@@ -34,7 +35,8 @@ pub struct Request {
 
 // Whether the filter keeps a symbol: a module where `m`, else a namespace, loaded or not.
 pub fn keeps(f: Filter, m: bool, loaded: bool) -> bool
-    ensures { (name path : Str) → result ≡ C.keeps (filter_in f) (pick m (Module name path loaded) (Namespace name loaded)) }
+    ensures { (name path : Str)
+        → result ≡ C.keeps (filter_in f) (pick m (Module name path loaded) (Namespace name loaded)) }
 {
     match f {
         Filter::All => true,

@@ -20,7 +20,8 @@ module _ {notes : List ℕ} {n : ℕ} (f : Fits notes n) where
   fits_fewer h = record { sized = f.sized; few = omega (arith, f.few); few_near = f.few_near; few_far = f.few_far }
 
 -- Two places written, a third read.
-set_apart : (xs : List ℕ) (i j k a b : ℕ) → (k ≡ i → ⊥) → (k ≡ j → ⊥) → get_or (set (set xs i a) j b) k 0 ≡ get_or xs k 0
+set_apart : (xs : List ℕ) (i j k a b : ℕ) → (k ≡ i → ⊥) → (k ≡ j → ⊥)
+    → get_or (set (set xs i a) j b) k 0 ≡ get_or xs k 0
 set_apart xs i j k a b p q = get_or-set_other (set xs i a) j k b 0 q ∙ get_or-set_other xs i k a 0 p
 
 set_second : (xs : List ℕ) (i j a b : ℕ) → j < length xs → get_or (set (set xs i a) j b) j 0 ≡ b

@@ -1,6 +1,7 @@
 // The array of notes: branches still to come, and marks of those whose notes were dropped.
 // Where the notes are full they are dropped, and the first of them is marked. Marks are near or far, a far one for as many near ones as there is room for.
 #![tactic(auto)]
+
 ghost use Rattle.std.specs.Prelude.{◌<◌};
 ghost use Rattle.match_marks.specs.Marks.{Fits, PartOk, PutAt, Marks, MarkTaken, NotedAt, LastNote};
 

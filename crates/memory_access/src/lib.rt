@@ -1,5 +1,6 @@
 // Records read and made by the names of their words.
 #![tactic(auto)]
+
 ghost use Rattle.std.specs.Prelude.{◌≡◌, ◌+◌, ◌*◌, ◌≤◌, ◌<◌, length};
 ghost use Rattle.source.specs.Limits.{record_words};
 ghost use Rattle.memory.specs.Layout.{record_at, word, lid_in, key_at};

@@ -5,7 +5,8 @@ use Rattle.source.specs.Lent.{Outside}
 -- Word k: the bytes from k * 4 on.
 unfoldable pub word_at : List ℕ → ℕ → ℕ
 word_at bs k =
-    get_or bs (k * 4) 0 + 256 * get_or bs (k * 4 + 1) 0 + 65536 * get_or bs (k * 4 + 2) 0 + 16777216 * get_or bs (k * 4 + 3) 0
+    get_or bs (k * 4) 0 + 256 * get_or bs (k * 4 + 1) 0 + 65536 * get_or bs (k * 4 + 2) 0 + 16777216
+    * get_or bs (k * 4 + 3) 0
 
 -- The first n words.
 unfoldable pub words_at : List ℕ → ℕ → List ℕ

@@ -1,5 +1,6 @@
 // Words spelled by bytes, four to a word, lowest first.
 #![tactic(auto)]
+
 ghost use Rattle.std.specs.Prelude.{◌≡◌, ◌+◌, ◌*◌, ◌%◌, ◌≤◌, ◌<◌, length};
 ghost use Rattle.memory_bytes.specs.Bytes.{word_at, Put, Stored};
 

@@ -1,27 +1,29 @@
 -- A registration in another segment than s leaves what its root holds at s, and so the lines and look-ups in s.
 use mathlib.Core.Path.{◌≡◌, refl, sym, ap, ◌∙◌}
-use mathlib.Core.Bool.{Bool, true, false, cond, ◌||◌, false≢true}
+use mathlib.Core.Bool.{Bool, true, false, cond, false≢true}
 use mathlib.Core.List.{List, [], ◌∷◌, ◌++◌, map, reverse, tail}
-use mathlib.Core.Option.{Option, none, some, none-ne-some, some-injective}
+use mathlib.Core.Option.{some, none-ne-some, some-injective}
 use Rattle.source.specs.Text.{Str, Query, dot, query_to_string, segments}
 use Rattle.source.specs.Types.{Trie, NameList, bind, trie, []ᴺ, ImportedNames, the_item, bindings, namespaces}
-use Rattle.source.specs.Tries.{MutLeaf, or_else, bind_option, names_find_exact, names_insert, trie_find_exact, trie_mutate, trie_mutate_leaf, trie_insert, included, trie_import}
+use Rattle.source.specs.Tries.{MutLeaf, or_else, bind_option, names_find_exact, trie_find_exact, trie_mutate, trie_mutate_leaf, trie_insert, included}
+use Rattle.source.specs.Tries.{trie_import}
 use Rattle.source.specs.Tries.{trie_include, trie_open_namespace, trie_add_alias}
 use Rattle.source.specs.Terms.{first_of}
 use Rattle.source.specs.Listing.{PathOf, by_first, ns_search_term, bindings_search_term, trie_find_prefix_first, trie_find_prefix'}
-use Rattle.source.specs.Table.{Table, ModSymbol, Line, string_of_path, ins_stays_loaded, ins_mod, ins_ns, ns_inserts, insert, register_include, register_open, register_alias}
+use Rattle.source.specs.Table.{Table, ModSymbol, Line, string_of_path, ins_stays_loaded, ins_mod, ins_ns, ns_inserts, insert, register_include, register_open}
+use Rattle.source.specs.Table.{register_alias}
 use Rattle.source.specs.Table.{register_module_stays_loaded}
 use Rattle.source.specs.Rules.{Formed, IsKey, IsLabel}
 use Rattle.source.specs.Calls.{Call, name, include, opens, alias, module_path, registered}
-use Rattle.source.specs.Shared.{same, Allˡ}
+use Rattle.source.specs.Shared.{Allˡ}
 use Rattle.promises.specs.Agreement.{full_name}
 use Rattle.promises.specs.Moved.{segment_of, Elsewhere, begins_in, lines_in}
 use Rattle.source.proofs.Formed.{formed_orderedN, formed_parts}
 use Rattle.source.proofs.Lookup.{Allˡ-map}
 use Rattle.source.proofs.Paths.{keys}
 use Rattle.promises.proofs.Holders.{holders_in, holders_other}
-use Rattle.promises.proofs.Listed.{Finds, first_finds, from, along, named, listed_named, same_true}
-use Rattle.promises.proofs.ListedTexts.{NoDot, LineOk, lines_ok}
+use Rattle.promises.proofs.Listed.{first_finds, from, along, named, listed_named, same_true}
+use Rattle.promises.proofs.ListedTexts.{LineOk, lines_ok}
 use Rattle.promises.proofs.ListingOrder.{listing_increasing, picked, picked_same}
 use Rattle.promises.proofs.Agreement.{key_no_dot}
 use Rattle.promises.proofs.LinesFound.{segments_joined}
@@ -99,8 +101,10 @@ put_holders path h (g ∷ q) nl loaded s n = kept (ns_inserts (names_find_exact 
     kept true nl' f = f
     kept false nl' f = refl
 
-modules_mutated : (tr : Trie ModSymbol) (loaded : Bool) (path : Str) (q : Query) (t s : Str) → first_of q ≡ some t → (t ≡ s → ⊥)
-    → Alike tr (trie_mutate tr q [] (λ tr id q revq n. trie (ins_stays_loaded path id q revq (bindings tr) loaded) n) (λ tr _. tr)) s
+modules_mutated : (tr : Trie ModSymbol) (loaded : Bool) (path : Str) (q : Query) (t s : Str) → first_of q ≡ some t
+    → (t ≡ s → ⊥)
+    → Alike tr (trie_mutate tr q [] (λ tr id q revq n. trie (ins_stays_loaded path id q revq (bindings tr) loaded) n)
+    (λ tr _. tr)) s
 unfolding trie_mutate first_of bindings namespaces
 modules_mutated tr loaded path [] t s e n = absurd (none-ne-some t e)
 modules_mutated tr loaded path (h ∷ q) t s e n =
@@ -110,7 +114,8 @@ modules_mutated tr loaded path (h ∷ q) t s e n =
       spaced = holders_other (namespaces tr) h s _ other;
     }
 
-pub modules_alike : (tbl : Table) (c : Call) (s : Str) → Elsewhere s c → Alike tbl.tbl_mods (registered tbl c).tbl_mods s
+pub modules_alike : (tbl : Table) (c : Call) (s : Str) → Elsewhere s c
+    → Alike tbl.tbl_mods (registered tbl c).tbl_mods s
 unfolding registered segment_of insert register_include register_open register_alias register_module_stays_loaded
 modules_alike tbl (name host id i) s x = alike_self tbl.tbl_mods s
 modules_alike tbl (include host q) s x = alike_self tbl.tbl_mods s
@@ -125,7 +130,8 @@ module _ {A : Type 0} (Item : A → Type 0) where
   abbrev pub Named : PathOf × A → Type 0
   Named x = LineOk IsKey IsLabel Item by_first (first_finds IsKey IsLabel Item) x
 
-  pub listing_named : (tr : Trie A) (q : Query) → Formed IsKey IsLabel Item tr → Allˡ Named (trie_find_prefix_first tr q)
+  pub listing_named : (tr : Trie A) (q : Query) → Formed IsKey IsLabel Item tr
+      → Allˡ Named (trie_find_prefix_first tr q)
   unfolding trie_find_prefix_first trie_find_prefix'
   listing_named tr q g = lines_ok IsKey IsLabel Item by_first (first_finds IsKey IsLabel Item) _ tr [] q [] g tt tt
 
@@ -136,7 +142,8 @@ module _ {A : Type 0} (Item : A → Type 0) where
         ap (λ t. segments (t ++ (dot ∷ []))) (text x ∙ ap query_to_string e)
         ∙ segments_joined k m (Allˡ-map (k ∷ m) (λ s i. key_no_dot s i.bytes) h) ∙ sym e
 
-    lines_picked : (s : Str) (xs : List (PathOf × A)) → Allˡ Named xs → lines_in s (map f xs) ≡ map f (picked (begins_in s) xs)
+    lines_picked : (s : Str) (xs : List (PathOf × A)) → Allˡ Named xs
+        → lines_in s (map f xs) ≡ map f (picked (begins_in s) xs)
     unfolding lines_in picked
     lines_picked s [] a = refl
     lines_picked s (x ∷ xs) a = rw (line_segments x a.0, lines_picked s xs a.1) (go (begins_in s (keys x.0)))
@@ -147,7 +154,8 @@ module _ {A : Type 0} (Item : A → Type 0) where
         go false = refl
 
     -- Where both tries have the same holders of s, listings show the same lines in s.
-    pub alike_lines : (tr tr' : Trie A) (s : Str) (q : Query) → Formed IsKey IsLabel Item tr → Formed IsKey IsLabel Item tr'
+    pub alike_lines : (tr tr' : Trie A) (s : Str) (q : Query) → Formed IsKey IsLabel Item tr
+        → Formed IsKey IsLabel Item tr'
         → Alike tr tr' s
         → lines_in s (map f (trie_find_prefix_first tr' q)) ≡ lines_in s (map f (trie_find_prefix_first tr q))
     unfolding begins_in trie_find_prefix_first
@@ -157,7 +165,8 @@ module _ {A : Type 0} (Item : A → Type 0) where
         (listing_increasing IsKey IsLabel Item tr' q g') (listing_increasing IsKey IsLabel Item tr q g) (λ T e. ap (map f) (at_name T e))
         ∙ sym (lines_picked s _ (listing_named tr q g))
       where
-        at_name : (T : List Str) → begins_in s T ≡ true → named T (trie_find_prefix_first tr' q) ≡ named T (trie_find_prefix_first tr q)
+        at_name : (T : List Str) → begins_in s T ≡ true
+            → named T (trie_find_prefix_first tr' q) ≡ named T (trie_find_prefix_first tr q)
         at_name [] e = absurd (false≢true e)
         at_name (t ∷ m) e =
             listed_named by_first IsKey IsLabel Item (first_finds IsKey IsLabel Item) tr' q t m g'

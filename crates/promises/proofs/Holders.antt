@@ -6,7 +6,7 @@ use mathlib.Core.Option
 use mathlib.Core.Option.{Option, none, some}
 use Rattle.source.specs.Text.{Str}
 use Rattle.source.specs.Types.{Level, Value, Tree, NameList, StrEmpty, []ᴺ, Names, ImportedNames}
-use Rattle.source.specs.Tries.{or_else, names_find_exact, names_insert}
+use Rattle.source.specs.Tries.{names_find_exact, names_insert}
 use Rattle.source.specs.Trees.{PathElem, btree_find_exact, btree_insert_replace}
 use Rattle.source.specs.Terms.{flatten, found_onto, holders, first_of}
 use Rattle.source.specs.Listing.{SearchTerm, NSTAll, NSTNone, NSTPrefix, matching_values, with_imports, elem_key, names_find_rev_first}
@@ -54,7 +54,8 @@ module _ {A : Type 0} {ℓ : Level} where
   holders_in i (Names bt tl) k = held_onto i (btree_find_exact bt k) (holders_in i tl k)
   holders_in i (ImportedNames label inner tl) k = holders_in (label ∷ i) inner k ++ holders_in i tl k
 
-  pub holders_in_values : (i : List Str) (nl : NameList A ℓ) (k : Str) → map (λ x. x.1) (holders_in i nl k) ≡ holders (flatten nl) k
+  pub holders_in_values : (i : List Str) (nl : NameList A ℓ) (k : Str)
+      → map (λ x. x.1) (holders_in i nl k) ≡ holders (flatten nl) k
   unfolding holders_in flatten holders found_onto
   holders_in_values i []ᴺ k = refl
   holders_in_values i (Names bt tl) k = go (btree_find_exact bt k) (holders_in_values i tl k)
@@ -94,7 +95,8 @@ module _ {A : Type 0} {ℓ : Level} where
       ∙ key_append k (rows_in term (label ∷ i) inner) (rows_in term i tl)
       ∙ ap₂ ◌++◌ (hold_in term k (label ∷ i) inner o.0) (hold_in term k i tl o.1) ∙ go (accepts term k)
     where
-      go : (b : Bool) → cond b (map (row term k) (holders_in (label ∷ i) inner k)) [] ++ cond b (map (row term k) (holders_in i tl k)) []
+      go : (b : Bool) → cond b (map (row term k) (holders_in (label ∷ i) inner k)) []
+          ++ cond b (map (row term k) (holders_in i tl k)) []
           ≡ cond b (map (row term k) (holders_in (label ∷ i) inner k ++ holders_in i tl k)) []
       go true = sym (map-append (row term k) (holders_in (label ∷ i) inner k) (holders_in i tl k))
       go false = refl
@@ -107,7 +109,8 @@ module _ {A : Type 0} {ℓ : Level} where
       → map (λ x. x.1) (rows_of nl term k) ≡ cond (accepts term k) (holders (flatten nl) k) []
   rows_hold nl term k o = ap (map (λ x. x.1)) (rows_hold_in nl term k o) ∙ go (accepts term k)
     where
-      go : (b : Bool) → map (λ x. x.1) (cond b (map (row term k) (holders_in [] nl k)) []) ≡ cond b (holders (flatten nl) k) []
+      go : (b : Bool)
+          → map (λ x. x.1) (cond b (map (row term k) (holders_in [] nl k)) []) ≡ cond b (holders (flatten nl) k) []
       go true = map-map (λ x. x.1) (row term k) (holders_in [] nl k) ∙ holders_in_values [] nl k
       go false = refl
 
@@ -133,7 +136,8 @@ module _ {A : Type 0} {ℓ : Level} where
 
   -- ---- after an insert
   -- The inserted value is the first holder, in no import; other keys have the holders that they had.
-  pub holder_inserted : (nl : NameList A ℓ) (k : Str) (v : Value A ℓ) → first_of (holders_in [] (names_insert nl k v) k) ≡ some ([], v)
+  pub holder_inserted : (nl : NameList A ℓ) (k : Str) (v : Value A ℓ)
+      → first_of (holders_in [] (names_insert nl k v) k) ≡ some ([], v)
   unfolding names_insert holders_in first_of
   holder_inserted []ᴺ k v = rw (find_inserted StrEmpty k v)
   holder_inserted (Names bt tl) k v = rw (find_inserted bt k v)

@@ -1,17 +1,17 @@
 -- The line at a name, by the rows along it: its path is the name's plain path but for imports, and of imports only the first row's show.
-use mathlib.Core.Path.{◌≡◌, refl, sym, ap, ap₂, ◌∙◌, subst}
+use mathlib.Core.Path.{◌≡◌, refl, sym, ap, ap₂, ◌∙◌}
 use mathlib.Core.Bool.{Bool, true, false, false≢true}
 use mathlib.Core.List.{List, [], ◌∷◌, map, reverse, reverse_aux, tail, nil≢cons, head-eq_of_cons-eq, tail-eq_of_cons-eq}
 use mathlib.Core.Option
 use mathlib.Core.Option.{Option, none, some, none-ne-some, some-injective}
-use Rattle.source.specs.Text.{Str, Query, query_to_string}
+use Rattle.source.specs.Text.{Str, Query}
 use Rattle.source.specs.Types.{Level, Value, Trie, NameList, bind, the_item, bindings, namespaces}
 use Rattle.source.specs.Trees.{PrefixMatch, PathElem}
 use Rattle.source.specs.Tries.{names_find_exact}
-use Rattle.source.specs.Terms.{flatten, holders, first_of}
+use Rattle.source.specs.Terms.{first_of}
 use Rattle.source.specs.Listing.{PathOf, SearchTerm, fold_left, by_first, elem_key, names_find_rev_first, ns_search_term, bindings_search_term}
 use Rattle.source.specs.Table.{Matched, match_elem, match_length_of_path, string_of_path, first_import_of_path, last_opt, completion_result_of_lid}
-use Rattle.source.specs.Rules.{Formed, FormedNames}
+use Rattle.source.specs.Rules.{Formed}
 use Rattle.source.specs.Shared.{Allˡ}
 use Rattle.source.specs.declared.LidSymbol.{LidSymbol}
 use Rattle.promises.specs.Agreement.{Covers}
@@ -32,7 +32,8 @@ abbrev pub matches : PathOf → List PrefixMatch
 matches p = map (λ el. el.segment) p
 
 -- ---- a line says no more of its path than this and the first import
-fold_matches : (m : Matched) (p p' : PathOf) → matches p ≡ matches p' → fold_left match_elem m p ≡ fold_left match_elem m p'
+fold_matches : (m : Matched) (p p' : PathOf) → matches p ≡ matches p'
+    → fold_left match_elem m p ≡ fold_left match_elem m p'
 unfolding fold_left match_elem
 fold_matches m [] [] e = refl
 fold_matches m [] (y ∷ p') e = absurd (nil≢cons e)
@@ -45,13 +46,15 @@ pub match_length_matches : (p p' : PathOf) → matches p ≡ matches p' → matc
 unfolding match_length_of_path
 match_length_matches p p' e = rw (fold_matches _ p p' e)
 
-pub keys_matches : (p p' : PathOf) → matches p ≡ matches p' → map (λ el. el.segment.completion) p ≡ map (λ el. el.segment.completion) p'
+pub keys_matches : (p p' : PathOf) → matches p ≡ matches p'
+    → map (λ el. el.segment.completion) p ≡ map (λ el. el.segment.completion) p'
 keys_matches [] [] e = refl
 keys_matches [] (y ∷ p') e = absurd (nil≢cons e)
 keys_matches (x ∷ p) [] e = absurd (nil≢cons (sym e))
 keys_matches (x ∷ p) (y ∷ p') e = ap₂ ◌∷◌ (ap (λ m. m.completion) (head-eq_of_cons-eq e)) (keys_matches p p' (tail-eq_of_cons-eq e))
 
-pub line_matches : (p p' : PathOf) (i : LidSymbol) → matches p ≡ matches p' → first_import_of_path p ≡ first_import_of_path p'
+pub line_matches : (p p' : PathOf) (i : LidSymbol) → matches p ≡ matches p'
+    → first_import_of_path p ≡ first_import_of_path p'
     → completion_result_of_lid (p, i) ≡ completion_result_of_lid (p', i)
 unfolding completion_result_of_lid string_of_path
 line_matches p p' i e f = rw (match_length_matches p p' e, keys_matches p p' e, f)
@@ -62,7 +65,8 @@ plain_path_import query [] = refl
 plain_path_import query (s ∷ name) = refl
 
 -- ---- what a query matches of a row's key
-binding_prefix : (q : Query) (s : Str) → accepts (bindings_search_term q) s ≡ true → term_prefix (bindings_search_term q) ≡ first_of q
+binding_prefix : (q : Query) (s : Str) → accepts (bindings_search_term q) s ≡ true
+    → term_prefix (bindings_search_term q) ≡ first_of q
 unfolding bindings_search_term first_of
 binding_prefix [] s e = refl
 binding_prefix (p ∷ []) s e = refl
@@ -153,7 +157,8 @@ module _ {A : Type 0} where
             → Plain path q (s ∷ []) (reverse (y.0 ∷ path), the_item y.1)
         line y e =
             let r = row_seen (bindings tr) (bindings_search_term q) s (formed_orderedN Key Label Item (bindings tr) (formed_parts Key Label Item tr g).0) y e in
-            let z : y.0.segment ≡ record { prefix = first_of q; completion = s } = r.1 ∙ ap (λ p. record { prefix = p; completion = s }) (binding_prefix q s r.0) in
+            let z : y.0.segment ≡ record { prefix = first_of q; completion = s } =
+            r.1 ∙ ap (λ p. record { prefix = p; completion = s }) (binding_prefix q s r.0) in
             (map_reverse (λ el. el.segment) path (y.0 ∷ []) ∙ ap (λ m. reverse_aux (matches path) (m ∷ [])) z, binding_covers q s r.0)
     along_plain tr path q s (t ∷ name) g =
         each_next (Plain path q (s ∷ (t ∷ name))) tr path q s t name (λ y e. below y e (λ f. along_plain y.1 (y.0 ∷ path) (tail q) t name f))

@@ -160,7 +160,8 @@ segments_first [] t n = segments_dot dot t refl
 segments_first (b ∷ s) t n = segments_other b (s ++ (dot ∷ t)) (ne_eqb b dot n.0) ∙ ap (onto_first b) (segments_first s t n.1)
 
 -- A name joined by dots, with a dot after it, has the segments of the name.
-pub segments_joined : (s : Str) (q : Query) → Allˡ NoDot (s ∷ q) → segments (query_to_string (s ∷ q) ++ (dot ∷ [])) ≡ s ∷ q
+pub segments_joined : (s : Str) (q : Query) → Allˡ NoDot (s ∷ q)
+    → segments (query_to_string (s ∷ q) ++ (dot ∷ [])) ≡ s ∷ q
 unfolding query_to_string segments
 segments_joined s [] n = segments_first s [] n.0
 segments_joined s (t ∷ q) n =

@@ -1,47 +1,36 @@
 -- How much one registration can move, the theorem: `moves-little`.
-use Prim.Native.Nat.{ℕ, ◌-◌}
-use mathlib.Core.Path.{◌≡◌, refl, sym, ap, ap₂, ◌∙◌, subst}
-use mathlib.Core.Bool.{Bool, true, false, cond, not, true≢false, false≢true}
-use mathlib.Core.List.{List, [], ◌∷◌, ◌++◌, map, reverse, tail, nil≢cons, head-eq_of_cons-eq, tail-eq_of_cons-eq, append_assoc, map-map}
+use mathlib.Core.Path.{◌≡◌, refl, sym, ap, ◌∙◌, subst}
+use mathlib.Core.Bool.{Bool, true, false, true≢false, false≢true}
+use mathlib.Core.List.{[], ◌∷◌, ◌++◌, map, reverse, tail}
 use mathlib.Core.Option
 use mathlib.Core.Option.{Option, none, some, none-ne-some, some-injective}
-use native.Mathlib.Omega.{arith}
-use borrow.Author.Tests.{not-false}
-use lib.ListN.{length, take, length-append}
-use lib.Seq.{take_at}
-use Rattle.source.specs.Text.{Str, Query, dot, query_to_string, segments, ends_in_dot}
-use Rattle.source.specs.Types.{Level, Value, Trie, NameList, bind, ns, item, trie, the_item, bindings, namespaces}
+use Rattle.source.specs.Text.{Str, Query}
+use Rattle.source.specs.Types.{Level, Value, Trie, NameList, ns, item, trie, bindings, namespaces}
 use Rattle.source.specs.Trees.{PathElem}
-use Rattle.source.specs.Tries.{dflt, bind_option, names_find_exact, names_insert, scope_of, trie_find_exact, trie_mutate, trie_mutate_leaf, trie_insert}
-use Rattle.source.specs.Terms.{first_of, walk_first}
-use Rattle.source.specs.Listing.{PathOf, SearchTerm, by_first, elem_key, names_find_rev_first, bindings_search_term, ns_search_term, trie_find_prefix_first}
-use Rattle.source.specs.Table.{Table, ModSymbol, Line, match_length_of_path, string_of_path, first_import_of_path, last_opt, completion_result_of_lid}
-use Rattle.source.specs.Table.{completion_result_of_ns_or_mod, autocomplete_lid_first, insert}
-use Rattle.source.specs.Rules.{Formed, IsKey, IsLabel, NameItem, ModItem, SoundTable}
-use Rattle.source.specs.Calls.{Call, name, State, Lent, register, accepted, registered, after}
+use Rattle.source.specs.Tries.{bind_option, names_insert, scope_of, trie_find_exact, trie_mutate, trie_mutate_leaf, trie_insert}
+use Rattle.source.specs.Terms.{first_of}
+use Rattle.source.specs.Listing.{SearchTerm, by_first, elem_key, names_find_rev_first, ns_search_term}
+use Rattle.source.specs.Table.{first_import_of_path, last_opt}
+use Rattle.source.specs.Rules.{Formed}
 use Rattle.source.specs.Shared.{same, Allˡ}
-use Rattle.source.specs.declared.LidSymbol.{LidSymbol}
-use Rattle.promises.specs.Agreement.{Covers}
 use Rattle.promises.specs.Departs.{accepts}
-use Rattle.promises.specs.Moved.{below_first, other_lines, unlabelled, plain_path}
+use Rattle.promises.specs.Moved.{below_first}
 use Rattle.source.proofs.Formed.{formed_orderedN, formed_parts}
 use Rattle.source.proofs.Imports.{names_find_inserted}
-use Rattle.source.proofs.Lookup.{lookup, same_self, Allˡ-map, Allˡ-zip}
+use Rattle.source.proofs.Lookup.{lookup, same_self}
 use Rattle.source.proofs.Names.{OrderedN}
-use Rattle.source.proofs.Paths.{keys, first_import_one}
+use Rattle.source.proofs.Paths.{first_import_one}
 use Rattle.promises.proofs.Trees.{gate}
-use Rattle.promises.proofs.Holders.{holders_in, row, first_row_at, holder_inserted, holders_other}
-use Rattle.promises.proofs.Listed.{first_finds, same_true, same_names, same_names_eq, same_names_self, look_up_is_walk, named, along, listed_named, item_list, along_items}
-use Rattle.promises.proofs.ListedTexts.{NoDot, same_test, listed_text}
-use Rattle.promises.proofs.ListingOrder.{listing_increasing, by_test, picked, picked_same}
-use Rattle.promises.proofs.LineAt.{matches, match_length_matches, keys_matches, line_matches, plain_path_import, ImportIs, Plain, each_last, each_next, along_import, along_plain}
-use Rattle.promises.proofs.Apart.{Alike, leaf_alike, alike_along, Named, listing_named, line_segments}
-use Rattle.promises.proofs.Unchanged.{name_walk}
+use Rattle.promises.proofs.Holders.{row, first_row_at, holder_inserted, holders_other}
+use Rattle.promises.proofs.Listed.{same_true, along}
+use Rattle.promises.proofs.LineAt.{ImportIs, each_next, along_import}
+use Rattle.promises.proofs.Apart.{leaf_alike, alike_along}
 
 -- ---- what an insert leaves at a name
 module _ {A : Type 0} where
   -- The row of the inserted key has no import.
-  row_inserted : {ℓ : Level} (nl : NameList A ℓ) (k : Str) (v : Value A ℓ) (term : SearchTerm) → OrderedN (names_insert nl k v)
+  row_inserted : {ℓ : Level} (nl : NameList A ℓ) (k : Str) (v : Value A ℓ) (term : SearchTerm)
+      → OrderedN (names_insert nl k v)
       → (y : PathElem × Value A ℓ) → lookup elem_key k (names_find_rev_first (names_insert nl k v) term) ≡ some y
       → first_import_of_path (reverse (y.0 ∷ [])) ≡ none
   unfolding last_opt
@@ -61,7 +50,8 @@ module _ {A : Type 0} where
   own_found tr (h ∷ []) rev id v = rw (names_find_inserted, bind_option) (own_found (scope_of (namespaces tr) h) [] (h ∷ rev) id v)
   own_found tr (h ∷ (g ∷ host)) rev id v = rw (names_find_inserted, bind_option) (own_found (scope_of (namespaces tr) h) (g ∷ host) (h ∷ rev) id v)
 
-  module _ (Key Label : Str → Type 0) (Item : A → Type 0) (tr : Trie A) (id : Str) (v : A) (g : Formed Key Label Item tr) where
+  module _ (Key Label : Str → Type 0) (Item : A → Type 0) (tr : Trie A) (id : Str) (v : A)
+      (g : Formed Key Label Item tr) where
     -- Another name that is not below the host's first segment.
     same_along : (host : Query) → Formed Key Label Item (trie_insert tr host id v) → (q : Query) (s : Str) (m : Query)
         → (s ∷ m ≡ host ++ (id ∷ []) → ⊥) → below_first host (s ∷ m) ≡ false
@@ -73,7 +63,8 @@ module _ {A : Type 0} where
     same_along [] g' q s (t ∷ m) n b = refl
     same_along (h ∷ host) g' q s [] n b = refl
     same_along (h ∷ host) g' q s (t ∷ m) n b =
-        alike_along Key Label Item tr _ g g' [] q s (t ∷ m) (leaf_alike tr (λ tr _. trie (names_insert (bindings tr) id (item v)) (namespaces tr)) (h ∷ host) h s refl
+        alike_along Key Label Item tr _ g g' [] q s (t ∷ m)
+        (leaf_alike tr (λ tr _. trie (names_insert (bindings tr) id (item v)) (namespaces tr)) (h ∷ host) h s refl
         (λ e. true≢false (sym (same_self s) ∙ ap (same s) (sym e) ∙ b)))
 
     -- No import leads to a name below the host's first segment, and to the inserted name.
@@ -85,9 +76,9 @@ module _ {A : Type 0} where
     below_import (h ∷ host) g' q s (t ∷ m) b = each_next (ImportIs none) (trie_insert tr (h ∷ host) id v) [] q s t m (λ y e.
         subst (λ o. Allˡ (ImportIs o) (along by_first y.1 (y.0 ∷ []) (tail q) t m))
         (row_inserted (namespaces tr) h _ (ns_search_term q)
-        (formed_orderedN Key Label Item {ℓ = ns} (namespaces (trie_insert tr (h ∷ host) id v)) (formed_parts Key Label Item (trie_insert tr (h ∷ host) id v) g').1) y (rw (same_true s h b) at e))
+        (formed_orderedN Key Label Item {ℓ = ns} (namespaces (trie_insert tr (h ∷ host) id v))
+        (formed_parts Key Label Item (trie_insert tr (h ∷ host) id v) g').1) y (rw (same_true s h b) at e))
         (along_import y.1 y.0 [] (tail q) t m))
-
     -- Still to be proved, of the inserted name itself:
     -- own_import : (host : Query) → Formed Key Label Item (trie_insert tr host id v) → (q : Query) (s : Str) (m : Query)
     -- → host ++ (id ∷ []) ≡ s ∷ m → Allˡ (ImportIs none) (along by_first (trie_insert tr host id v) [] q s m)

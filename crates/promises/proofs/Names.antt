@@ -190,7 +190,8 @@ module _ {A : Type 0} where
 
   -- ---- the row of a key in one tree
   tree_at : {ℓ : Level} (term : SearchTerm) (bt : Tree A ℓ) (k : Str) → Ordered bt
-      → lookup entry_key k (tree_matches term bt) ≡ entry (term_prefix term) k (gate (accepts term k) (btree_find_exact bt k))
+      → lookup entry_key k (tree_matches term bt)
+      ≡ entry (term_prefix term) k (gate (accepts term k) (btree_find_exact bt k))
   unfolding tree_matches lookup starts_with
   tree_at NSTAll bt k o = find_all_exactly none bt k o
   tree_at NSTNone bt k o = refl

@@ -24,7 +24,8 @@ covers_exactly [] name = (λ _. (omega arith, λ i h. absurd (omega arith)), λ 
 covers_exactly (p ∷ query) [] = (λ h. absurd h, λ h. absurd (omega (arith, h.0)))
 covers_exactly (p ∷ query) (s ∷ name) = go (covers_exactly query name)
   where
-    at : starts_with s p ≡ true → ((i : ℕ) → i < length query → starts_with (get_or name i []) (get_or query i []) ≡ true)
+    at : starts_with s p ≡ true
+        → ((i : ℕ) → i < length query → starts_with (get_or name i []) (get_or query i []) ≡ true)
         → (i : ℕ) → i < suc (length query) → starts_with (get_or (s ∷ name) i []) (get_or (p ∷ query) i []) ≡ true
     at h f zero l = h
     at h f (suc i) l = f i (omega arith)

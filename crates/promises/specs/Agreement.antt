@@ -30,7 +30,8 @@ module _ {A : Type 0} where
   unfoldable pub lines_of_text : Str → List (Line A) → List (Line A)
   lines_of_text t [] = []
   lines_of_text t (ln ∷ ls) =
-      elim (compare_is_eq (string_compare ln.candidate t)) [ true ↦ ln ∷ lines_of_text t ls | false ↦ lines_of_text t ls ]
+      elim (compare_is_eq (string_compare ln.candidate t))
+      [ true ↦ ln ∷ lines_of_text t ls | false ↦ lines_of_text t ls ]
 
   -- Exactly one line, which carries the item; or no line, and none.
   abbrev pub Shows : List (Line A) → Found A → Type 0

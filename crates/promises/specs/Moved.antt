@@ -1,7 +1,7 @@
 -- How much one registration can move: the lines of one query, and look-ups, before and after an accepted call.
 use Rattle.std.specs.Prelude.{◌≡◌, Bool, true, false, cond}
 use mathlib.Core.List.{List, [], ◌∷◌, ◌++◌, map, tail}
-use Rattle.std.proofs.Math.Option.{Option, none, some}
+use Rattle.std.proofs.Math.Option.{Option, some}
 use Rattle.source.specs.Text.{Str, Query, segments}
 use Rattle.source.specs.Tries.{or_else}
 use Rattle.source.specs.Terms.{first_of}
@@ -52,7 +52,8 @@ unfoldable pub own_line : (host id : Str) → LidSymbol → (query : Str) → Li
 own_line host id item query = completion_result_of_lid (plain_path (segments query) (own_name host id), item)
 
 -- The lines of a query before and after an accepted name, whose own line has the text host ++ id.
-pub record OneLineMoves (host id : Str) (item : LidSymbol) (query : Str) (before after : List (Line LidSymbol)) : Type 0 where
+pub record OneLineMoves (host id : Str) (item : LidSymbol) (query : Str)
+    (before after : List (Line LidSymbol)) : Type 0 where
   -- Every other line was there and is there, in the same order, with the same length and item. Below the first segment of the host annotations
   -- are empty now; all others are as they were.
   pub others_stay : other_lines (host ++ id) after ≡ map (unlabelled host) (other_lines (host ++ id) before)

@@ -1,5 +1,6 @@
 // The kinds of registration, and what each is made of.
 #![tactic(auto)]
+
 ghost use Rattle.std.specs.Prelude.{◌≡◌, ◌≤◌};
 ghost use Rattle.register_kind.specs.Shapes.{shape_of, key_size};
 

@@ -1,5 +1,6 @@
 // A registration's way: what planning finds down the host's path, noted in an array for the change.
 #![tactic(auto)]
+
 ghost use Rattle.std.specs.Prelude.{◌≡◌, ◌≤◌, ◌<◌, length};
 ghost use Rattle.source.specs.Limits.{most_segments};
 ghost use Rattle.register_way.specs.Way.{way_size, NotesStep, NotesHost};

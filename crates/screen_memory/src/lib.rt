@@ -1,5 +1,6 @@
 // A table's memory as a caller in C lends it: the state and the records, words spelled by bytes.
 #![tactic(auto)]
+
 ghost use Rattle.std.specs.Prelude.{◌≡◌, ◌*◌, ◌≤◌, length};
 ghost use Rattle.source.specs.Limits.{record_words};
 ghost use Rattle.screen_memory.specs.Memory.{state_bytes, words_lent_most, header_in, Spells, words_lent, Loaded, Saved};

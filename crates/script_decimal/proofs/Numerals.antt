@@ -64,7 +64,8 @@ module _ {ds : Str} {v i : ℕ} (k : Counted ds v i) where
     pub counted_over : 4294967295 < v * 10 + (get_or ds i 0 - 48) → (n : ℕ) → Valued ds n → ⊥
     counted_over h n r = omega (arith, r.value, r.fits, k.value, value_step v ds i l, value_grows (v * 10 + (get_or ds i 0 - 48)) (drop (i + 1) ds))
 
-    pub counted_more : byte_ok Digit (get_or ds i 0) ≡ true → {w : ℕ} → w ≡ v * 10 + (get_or ds i 0 - 48) → w ≤ 4294967295
+    pub counted_more : byte_ok Digit (get_or ds i 0) ≡ true → {w : ℕ} → w ≡ v * 10 + (get_or ds i 0 - 48)
+        → w ≤ 4294967295
         → Counted ds w (i + 1)
     counted_more h {w} e f = record {
       below = omega arith;

@@ -36,7 +36,8 @@ rest_is (a ∷ s) = sym (take_all (length (a ∷ s) - 1) s (omega arith))
 
 module _ (s : Str) where
   -- A letter, and the digits after it.
-  pub letter_written : (k : ItemKind) → get_or s 0 0 ≡ kind_letter k → (written_kind s ≡ k) × (written_digits s ≡ rest s)
+  pub letter_written : (k : ItemKind) → get_or s 0 0 ≡ kind_letter k
+      → (written_kind s ≡ k) × (written_digits s ≡ rest s)
   unfolding written_kind written_digits kind_letter
   letter_written Timer e = (rw e refl, rw e (rest_is s))
   letter_written Port e = (rw e refl, rw e (rest_is s))

@@ -107,7 +107,8 @@ module _ (line : Str) (at : ℕ) (text : Str) where
       → drop at line ≡ text · rest → ⊥
   starts_differ i h n rest e = n (sym (get_or-drop at line i 0) ∙ ap (λ (s : Str). get_or s i 0) e ∙ get_or-append text rest 0 i h)
 
-  pub starts_step : (i : ℕ) → length text ≤ length line - at → i < length text → get_or line (at + i) 0 ≡ get_or text i 0
+  pub starts_step : (i : ℕ) → length text ≤ length line - at → i < length text
+      → get_or line (at + i) 0 ≡ get_or text i 0
       → take i (drop at line) ≡ take i text → take (i + 1) (drop at line) ≡ take (i + 1) text
   starts_step i room h b e =
       rw (add-one i, take-suc (drop at line) i 0 (rw length-drop (omega arith)), take-suc text i 0 h, e, get_or-drop at line i 0, b)

@@ -1,5 +1,6 @@
 // The parts of the soundness test that look at one field of a record: a text, a link, the keys of a side.
 #![tactic(auto)]
+
 ghost use Rattle.std.specs.Prelude.{◌≡◌, ◌+◌, ◌*◌, ◌≤◌, ◌<◌, length};
 ghost use Rattle.source.specs.Limits.{record_words};
 ghost use Rattle.source.specs.Rules.{Fits, ◌<ˢ◌};

@@ -53,7 +53,8 @@ pub Allˡ-zip : {A : Type 0} {P Q R : A → Type 0} (xs : List A) → ((a : A) �
 Allˡ-zip [] f p q = tt
 Allˡ-zip (a ∷ xs) f p q = (f a p.0 q.0, Allˡ-zip xs f p.1 q.1)
 
-pub Allˡ-reverse : {A : Type 0} (P : A → Type 0) (xs acc : List A) → Allˡ P xs → Allˡ P acc → Allˡ P (reverse_aux xs acc)
+pub Allˡ-reverse : {A : Type 0} (P : A → Type 0) (xs acc : List A) → Allˡ P xs → Allˡ P acc
+    → Allˡ P (reverse_aux xs acc)
 Allˡ-reverse P [] acc a b = b
 Allˡ-reverse P (x ∷ xs) acc a b = Allˡ-reverse P xs (x ∷ acc) a.1 (a.0, b)
 

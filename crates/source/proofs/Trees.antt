@@ -39,7 +39,8 @@ past_prefix (a ∷ k) (c ∷ k') (b ∷ p) h f l = go (past_prefix k k' p) (comp
   where
     go : (p <ˢ k → starts_with k p ≡ false → k <ˢ k' → starts_with k' p ≡ false) → (o : Ordering) → Viewℕ a b o
         → (o' : Ordering) → Viewℕ c b o' → compare_is_eq o && starts_with k p ≡ false
-        → (b < a) ⊎ ((b ≡ a) × (p <ˢ k)) → (a < c) ⊎ ((a ≡ c) × (k <ˢ k')) → compare_is_eq o' && starts_with k' p ≡ false
+        → (b < a) ⊎ ((b ≡ a) × (p <ˢ k)) → (a < c) ⊎ ((a ≡ c) × (k <ˢ k'))
+        → compare_is_eq o' && starts_with k' p ≡ false
     go ih o v Ordering.lt w f h l = refl
     go ih o v Ordering.gt w f h l = refl
     go ih Ordering.lt v Ordering.eq w f (inl h) l = absurd (omega arith)

@@ -1,5 +1,6 @@
 // The kinds of items of the names table, by number and by letter.
 #![tactic(auto)]
+
 ghost use Rattle.std.specs.Prelude.{◌≡◌};
 ghost use Rattle.source.specs.Items.{kind_number, is_kind, read_kind, same_kind, kind_letter};
 

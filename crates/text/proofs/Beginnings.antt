@@ -50,7 +50,8 @@ pub record Before (a b : Str) : Type 0 where
   pub is_more : string_compare b a ≡ Ordering.gt
 
 -- The first byte that differs, with 0 past the end, decides.
-by_byte : (a b : Str) (k : ℕ) → ((j : ℕ) → j < k → get_or a j 0 ≡ get_or b j 0) → get_or a k 0 < get_or b k 0 → Before a b
+by_byte : (a b : Str) (k : ℕ) → ((j : ℕ) → j < k → get_or a j 0 ≡ get_or b j 0) → get_or a k 0 < get_or b k 0
+    → Before a b
 unfolding string_compare then
 by_byte [] [] k e h = absurd (omega arith)
 by_byte [] (y ∷ b) k e h = record { is_less = refl; is_more = refl }

@@ -19,7 +19,8 @@ pub laid_none : (d : List ℕ) (at r : ℕ) → r ≡ at → r ≤ length d → 
 laid_none d at r e h = record { end = omega arith; fits = h; is = rw e (sym (take-append-drop at d)) }
 
 -- One text, then the next.
-pub laid_more : {d d' d'' s t : List ℕ} {at r r' : ℕ} → Laid d d' at r s → Laid d' d'' r r' t → Laid d d'' at r' (s ++ t)
+pub laid_more : {d d' d'' s t : List ℕ} {at r r' : ℕ} → Laid d d' at r s → Laid d' d'' r r' t
+    → Laid d d'' at r' (s ++ t)
 laid_more {d} {d'} {d''} {s} {t} {at} {r} {r'} x y =
     record {
       end = omega (arith, x.end, y.end, length-append s t);

@@ -92,7 +92,8 @@ module _ {a b : Str} {i : ℕ} (f : Comparing a b i) where
           counts = omega (arith, f.counts, ap length same);
         }
 
-    pub bytes_differ : (get_or a i 0 ≡ get_or b i 0 → ⊥) → (o : Order) → ordering o ≡ compare (get_or a i 0) (get_or b i 0)
+    pub bytes_differ : (get_or a i 0 ≡ get_or b i 0 → ⊥) → (o : Order)
+        → ordering o ≡ compare (get_or a i 0) (get_or b i 0)
         → Compares a b (record { order = o; agree = i })
     bytes_differ n o e =
         let none : common_prefix (drop i a) (drop i b) ≡ [] = rw (drop_at a i, drop_at b i) (common_differ _ _ _ _ n) in

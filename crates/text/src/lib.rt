@@ -1,5 +1,6 @@
 // Texts as bytes: comparison, prefix, beginnings.
 #![tactic(auto)]
+
 ghost use Rattle.std.specs.Prelude.{◌≡◌};
 ghost use Prim.Native.Nat.{min, compare};
 ghost use Rattle.source.specs.Text.{starts_with};

@@ -1,5 +1,6 @@
 // Queries, names and paths in bytes: which bytes may stand in each, the segments of a query, and what a survey tells of one.
 #![tactic(auto)]
+
 ghost use Rattle.std.specs.Prelude.{◌≡◌};
 ghost use Rattle.source.specs.Text.{name_byte};
 ghost use Rattle.source.specs.Rules.{all};

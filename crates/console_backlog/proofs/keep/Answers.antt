@@ -1,7 +1,6 @@
 -- `keep` meets its contract.
 use Rattle.console_backlog.proofs.Moves.{moved_start, moved_whole, moved_on}
 use mathlib.Core.Path.{◌≡◌}
-use Prim.Native.Nat.{◌-◌}
 use native.Mathlib.Omega.{arith}
 use Rattle.console_backlog.proofs.keep.Goals as goal
 
@@ -32,6 +31,6 @@ shape_of-input c =
 pub returns : goal.returns
 returns c =
     record {
-  size = c.loop-i.invariant.0;
-  is = let e : c.loop-i.i ≡ c.short-n.result = omega arith in rw (← e) (moved_whole c.loop-i.invariant.2);
-}
+      size = c.loop-i.invariant.0;
+      is = let e : c.loop-i.i ≡ c.short-n.result = omega arith in rw (← e) (moved_whole c.loop-i.invariant.2);
+    }

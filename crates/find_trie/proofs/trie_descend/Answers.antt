@@ -1,5 +1,4 @@
 -- trie_descend meets its contract: a walk by scope_of.
-use Prim.Native.Nat.{◌-◌}
 use Rattle.find_trie.proofs.Links.{any_namespaces}
 use Rattle.find_trie.proofs.Found.{stands_first, stands_next, scope_next, descends_all, descends_next, descend_found}
 use Rattle.memory.proofs.At.{at_fits}

@@ -1,5 +1,4 @@
 -- trie_find_exact meets its contract: a walk by scope_of to the last segment.
-use Prim.Native.Nat.{◌-◌}
 use Rattle.find_trie.proofs.Links.{any_bindings, any_namespaces}
 use Rattle.find_trie.proofs.Found.{stands_first, stands_next, scope_next, finds_all, finds_next, found_last, found_none}
 use Rattle.memory.proofs.At.{at_fits}

@@ -7,7 +7,12 @@ use Rattle.insert_list.proofs.names_insert.Goals as goal
 pub btree_insert_replace-tree-requires : goal.btree_insert_replace-tree-requires
 btree_insert_replace-tree-requires c =
     let a = c.requires in
-    record { which = a.which; level = a.level; used = a.used; insertion = first_insertion a.insertion c.lead_of-lead.ensures }
+    record {
+      which = a.which;
+      level = a.level;
+      used = a.used;
+      insertion = first_insertion a.insertion c.lead_of-lead.ensures;
+    }
 
 pub overflow_add-row : goal.overflow_add-row
 overflow_add-row c =
@@ -22,4 +27,9 @@ put_names-requires c =
 
 pub returns : goal.returns
 returns c =
-    let d = c.lead_of-lead.ensures in record { value = c.put_names.ensures.value; names_inserts = λ w v used i. names_inserted i d (c.btree_insert_replace-tree.ensures w v used (first_insertion i d)) refl c.put_names.ensures.made_names }
+    let d = c.lead_of-lead.ensures in
+    record {
+      value = c.put_names.ensures.value;
+      names_inserts = λ w v used i. names_inserted i d
+          (c.btree_insert_replace-tree.ensures w v used (first_insertion i d)) refl c.put_names.ensures.made_names;
+    }

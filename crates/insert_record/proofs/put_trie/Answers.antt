@@ -10,4 +10,8 @@ put_row-requires c =
 
 pub returns : goal.returns
 returns c =
-    record { value = refl; made_trie = rw (c.put_row.ensures, c.trie_row-row.ensures, c.depth_of.ensures) (made_trie c.requires.room _ _ _ c.requires.namespaces_le_records.1) }
+    record {
+      value = refl;
+      made_trie = rw (c.put_row.ensures, c.trie_row-row.ensures, c.depth_of.ensures)
+          (made_trie c.requires.room _ _ _ c.requires.namespaces_le_records.1);
+    }

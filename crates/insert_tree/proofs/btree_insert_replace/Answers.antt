@@ -1,5 +1,4 @@
 -- btree_insert_replace meets its contract: the new branches are put from the lowest up to the root.
-use Prim.Native.Nat.{◌-◌}
 use Rattle.insert_tree.proofs.Inserted.{insertion_key, insertion_builds, insertion_marked, insertion_tree, lowest_ok, lowest_risen, risen_ok}
 use Rattle.insert_tree.proofs.Inserted.{rising_none, rising_up, all_risen}
 use native.Mathlib.Omega.{arith}
@@ -40,7 +39,11 @@ slice_bounds-note_path-end c =
 pub note_path-requires : goal.note_path-requires
 note_path-requires c =
     let insertion = c.requires.insertion in
-    record { any_tree = insertion_tree insertion; builds = insertion_builds insertion; root_le_records = (omega (arith, insertion.link.earlier), insertion.room, insertion.few) }
+    record {
+      any_tree = insertion_tree insertion;
+      builds = insertion_builds insertion;
+      root_le_records = (omega (arith, insertion.link.earlier), insertion.room, insertion.few);
+    }
 
 pub lowest_row-low-requires : goal.lowest_row-low-requires
 lowest_row-low-requires c =

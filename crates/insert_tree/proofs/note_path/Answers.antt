@@ -12,7 +12,11 @@ overflow_add-at c =
 pub overflow_sub-at : goal.overflow_sub-at
 overflow_sub-at c =
     let pre = c.requires in
-    omega (arith, some_count (record { any = pre.any_tree; builds = pre.builds; within = pre.root_le_records.0; room = pre.root_le_records.1; few = pre.root_le_records.2 }))
+    omega (
+      arith,
+      some_count
+          (record { any = pre.any_tree; builds = pre.builds; within = pre.root_le_records.0; room = pre.root_le_records.1; few = pre.root_le_records.2 }),
+    )
 
 pub loop-link-init : goal.loop-link-init
 loop-link-init c =

@@ -1,5 +1,4 @@
 -- `listing_output::put_candidate` meets its contract. The loop's invariant: the first keys are written, each with a dot.
-use Prim.Native.Nat.{◌-◌}
 use Rattle.text.proofs.Laid.{laid_length, laid_more}
 use Rattle.listing_output.proofs.Texts.{joining_none, joining_room, joining_more, joining_done}
 use native.Mathlib.Omega.{arith}
@@ -20,7 +19,14 @@ overflow_cast-link c =
 
 pub put_key-end-requires : goal.put_key-end-requires
 put_key-end-requires c =
-    let pre = c.requires in record { text_at = pre.path_at.each c.loop-i.i c.loop-i-test.true; branch_in_bounds = omega (arith, joining_room c.loop-i.invariant c.loop-i-test.true (omega (arith, pre.path_at.len_is, pre.branch_in_bounds))) }
+    let pre = c.requires in
+    record {
+      text_at = pre.path_at.each c.loop-i.i c.loop-i-test.true;
+      branch_in_bounds = omega (
+        arith,
+        joining_room c.loop-i.invariant c.loop-i-test.true (omega (arith, pre.path_at.len_is, pre.branch_in_bounds)),
+      );
+    }
 
 pub bounds-out-end : goal.bounds-out-end
 bounds-out-end c =
@@ -47,7 +53,16 @@ loop-i-preserved c =
 pub put_key-requires : goal.put_key-requires
 put_key-requires c =
     let pre = c.requires in
-    record { text_at = pre.text_at; branch_in_bounds = omega (arith, (joining_done c.loop-i.invariant c.loop-i-test.false).end, pre.path_at.len_is, pre.branch_in_bounds, laid_length c.loop-i.invariant.written) }
+    record {
+      text_at = pre.text_at;
+      branch_in_bounds = omega (
+        arith,
+        (joining_done c.loop-i.invariant c.loop-i-test.false).end,
+        pre.path_at.len_is,
+        pre.branch_in_bounds,
+        laid_length c.loop-i.invariant.written,
+      );
+    }
 
 pub shape_of-out : goal.shape_of-out
 shape_of-out c =

@@ -9,7 +9,8 @@ returns-then-n-eq-MOST_NOTES c =
     record {
       k = 0;
       between = _;
-      which = inr (refl, omega (arith, c.if-n-eq-MOST_NOTES.true), record { between = _; marks = c.mark.ensures; is = refl });
+      which = inr
+          (refl, omega (arith, c.if-n-eq-MOST_NOTES.true), record { between = _; marks = c.mark.ensures; is = refl });
       below = omega arith;
       is = refl;
       count = refl;

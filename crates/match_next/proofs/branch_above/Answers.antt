@@ -11,7 +11,11 @@ loop-link-init c =
 
 pub is_left-requires : goal.is_left-requires
 is_left-requires c =
-    record { any_tree = c.loop-link.invariant.seeking.any; fact = c.loop-link.invariant.among; fact_2 = c.loop-link-test.true }
+    record {
+      any_tree = c.loop-link.invariant.seeking.any;
+      fact = c.loop-link.invariant.among;
+      fact_2 = c.loop-link-test.true;
+    }
 
 pub left_of-link-requires : goal.left_of-link-requires
 left_of-link-requires c =

@@ -22,7 +22,11 @@ returns-then-right-gt0 c =
 
 pub branch_above-requires : goal.branch_above-requires
 branch_above-requires c =
-    record { any_tree = c.requires.any_tree; fact = c.requires.fact; at_value = omega (arith, c.right_of-right.ensures, c.if-right-gt0.false) }
+    record {
+      any_tree = c.requires.any_tree;
+      fact = c.requires.fact;
+      at_value = omega (arith, c.right_of-right.ensures, c.if-right-gt0.false);
+    }
 
 pub returns : goal.returns
 returns c =

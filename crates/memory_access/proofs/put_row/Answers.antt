@@ -1,5 +1,4 @@
 -- `memory_access::put_row` meets its contract. The loop's invariant: the first words are put.
-use Prim.Native.Nat.{◌-◌}
 use native.Mathlib.Omega.{arith}
 use Rattle.memory.specs.Grown.{put}
 use Rattle.memory.proofs.Pasted.{pasting_none, pasting_more, pasting_done}

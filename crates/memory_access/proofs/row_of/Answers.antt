@@ -1,5 +1,4 @@
 -- `memory_access::row_of` meets its contract. The loop's invariant: the first words are copied.
-use Prim.Native.Nat.{◌-◌}
 use mathlib.Core.Path.{refl}
 use Rattle.memory.proofs.RecordAt.{record_length, copied_more, copied_all}
 use native.Mathlib.Omega.{arith}

@@ -1,5 +1,4 @@
 -- store meets its contract. The loop's invariant: the words before i are stored.
-use Prim.Native.Nat.{◌-◌}
 use native.Mathlib.Omega.{arith}
 use Rattle.memory_bytes.proofs.Bytes.{storing_none, storing_more, storing_done}
 use Rattle.memory_bytes.proofs.store.Goals as goal

@@ -1,5 +1,4 @@
 -- `merge_heap::heap_from_list` meets its contract. The heap has the cells passed; the measure is the number of cells left.
-use Prim.Native.Nat.{◌-◌}
 use native.Mathlib.Omega.{arith}
 use borrow.Author.Rules.{rules}
 use Rattle.merge_heap.proofs.CellCounts.{root_in}
@@ -13,7 +12,10 @@ loop-v-init c =
 pub heap_insert-root-requires : goal.heap_insert-root-requires
 heap_insert-root-requires c =
     let pre = c.requires in
-    record { root = (λ ne. pre.each _ (root_in _ _ _ pre.few c.loop-v.invariant.rep ne)); head = pre.each _ (omega arith) }
+    record {
+      root = (λ ne. pre.each _ (root_in _ _ _ pre.few c.loop-v.invariant.rep ne));
+      head = pre.each _ (omega arith);
+    }
 
 pub overflow_add-v : goal.overflow_add-v
 overflow_add-v c =

@@ -53,7 +53,11 @@ overflow_cast-rest c =
 pub heap_merge-m-requires : goal.heap_merge-m-requires
 heap_merge-m-requires c =
     let pre = c.requires in let f = pre.headed.few in
-    let w = c.loop-at.invariant _ f pre.forest pre.rep in record { root = (λ _. pre.headed.each _ (held_inside f w.rest c.loop-at-test.true)); root_2 = (λ ne. pre.headed.each _ (held_inside f (held_next f w.rest c.loop-at-test.true) ne)) }
+    let w = c.loop-at.invariant _ f pre.forest pre.rep in
+    record {
+      root = (λ _. pre.headed.each _ (held_inside f w.rest c.loop-at-test.true));
+      root_2 = (λ ne. pre.headed.each _ (held_inside f (held_next f w.rest c.loop-at-test.true) ne));
+    }
 
 pub overflow_cast-next-else-k-eq-CELLS : goal.overflow_cast-next-else-k-eq-CELLS
 overflow_cast-next-else-k-eq-CELLS c =
@@ -96,7 +100,10 @@ pub heap_merge-r-requires : goal.heap_merge-r-requires
 heap_merge-r-requires c =
     let pre = c.requires in let f = pre.headed.few in
     let v = c.loop-stack.invariant _ f _ _ _ (all_paired f (c.loop-at.invariant _ f pre.forest pre.rep) c.loop-at-test.false) in
-    record { root = (λ ne. pre.headed.each _ (held_inside f v.stage.done ne)); root_2 = (λ ne. pre.headed.each _ (root_in _ _ _ f v.root ne)) }
+    record {
+      root = (λ ne. pre.headed.each _ (held_inside f v.stage.done ne));
+      root_2 = (λ ne. pre.headed.each _ (root_in _ _ _ f v.root ne));
+    }
 
 pub loop-stack-smaller : goal.loop-stack-smaller
 loop-stack-smaller c =

@@ -10,7 +10,8 @@ use Rattle.merge_heap.proofs.heap_merge_pairs.Given as goal
 abbrev pub invariant-loop-at : goal.invariant-loop-at
 invariant-loop-at l =
     (n : ℕ) → n ≤ 96 → (hh : Forest ℕ) → Repᶠ n l.initial.child l.initial.next l.i hh
-    → Pairing (cell_cmp l.words l.text l.heads) n l.initial.child l.initial.next (heap_merge_pairs (cell_cmp l.words l.text l.heads) hh) l.child l.next l.stack l.at
+    → Pairing (cell_cmp l.words l.text l.heads) n l.initial.child l.initial.next
+    (heap_merge_pairs (cell_cmp l.words l.text l.heads) hh) l.child l.next l.stack l.at
 
 abbrev pub decreases-loop-at : goal.decreases-loop-at
 decreases-loop-at l =
@@ -18,7 +19,8 @@ decreases-loop-at l =
 
 abbrev pub invariant-loop-stack : goal.invariant-loop-stack
 invariant-loop-stack l =
-    (n : ℕ) → n ≤ 96 → (child₁ next₁ : List ℕ) (all : Heap ℕ) → Merging (cell_cmp l.words l.text l.heads) n child₁ next₁ all l.initial.child l.initial.next l.initial.stack l.initial.r
+    (n : ℕ) → n ≤ 96 → (child₁ next₁ : List ℕ) (all : Heap ℕ)
+    → Merging (cell_cmp l.words l.text l.heads) n child₁ next₁ all l.initial.child l.initial.next l.initial.stack l.initial.r
     → Merging (cell_cmp l.words l.text l.heads) n child₁ next₁ all l.child l.next l.stack l.r
 
 abbrev pub decreases-loop-stack : goal.decreases-loop-stack

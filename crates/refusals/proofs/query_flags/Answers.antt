@@ -1,5 +1,4 @@
 -- query_flags meets its contract, by the survey.
-use Rattle.std.proofs.Common.{rules}
 use Rattle.source.specs.Calls.{malformed, empty_name, too_long}
 use Rattle.refusals.proofs.query_flags.Goals as goal
 

@@ -35,12 +35,14 @@ names_insert-n-requires c =
 pub put_trie-link-requires : goal.put_trie-link-requires
 put_trie-link-requires c =
     let p = alias_trie_ready c.requires.some.holds c.trie_of-t.ensures c.trie_of-i.ensures c.requires.leaf_builds c.imported-b.ensures.value
-    (rw c.label_of-label.ensures at c.imported-b.ensures.made_imported) c.put_trie-scope.ensures.value c.put_trie-scope.ensures.made_trie c.names_insert-n.ensures.value
+    (rw c.label_of-label.ensures at c.imported-b.ensures.made_imported) c.put_trie-scope.ensures.value c.put_trie-scope.ensures.made_trie
+    c.names_insert-n.ensures.value
     (rw c.namespace_row-row.ensures at c.names_insert-n.ensures.names_inserts) in record { room = p.0; namespaces_le_records = p.1 }
 
 pub returns : goal.returns
 returns c used l =
     alias_built l c.trie_of-t.ensures c.trie_of-i.ensures c.requires.leaf_builds
-    c.imported-b.ensures.value (rw c.label_of-label.ensures at c.imported-b.ensures.made_imported) c.put_trie-scope.ensures.value c.put_trie-scope.ensures.made_trie
+    c.imported-b.ensures.value
+    (rw c.label_of-label.ensures at c.imported-b.ensures.made_imported) c.put_trie-scope.ensures.value c.put_trie-scope.ensures.made_trie
     c.names_insert-n.ensures.value (rw c.namespace_row-row.ensures at c.names_insert-n.ensures.names_inserts) c.put_trie-link.ensures.value
     c.put_trie-link.ensures.made_trie

@@ -17,7 +17,8 @@ imported-b-requires c =
 pub put_trie-link-requires : goal.put_trie-link-requires
 put_trie-link-requires c =
     let p = include_trie_ready c.requires.holds c.trie_of-t.ensures
-    c.trie_of-i.ensures c.imported-b.ensures.value (rw c.label_of-label.ensures at c.imported-b.ensures.made_imported) in record { room = p.0; namespaces_le_records = p.1 }
+    c.trie_of-i.ensures c.imported-b.ensures.value (rw c.label_of-label.ensures at c.imported-b.ensures.made_imported) in
+    record { room = p.0; namespaces_le_records = p.1 }
 
 pub returns : goal.returns
 returns c used l =

@@ -17,7 +17,8 @@ imported-n-requires c =
 pub put_trie-link-requires : goal.put_trie-link-requires
 put_trie-link-requires c =
     let p = open_trie_ready c.requires.holds c.trie_of-t.ensures
-    c.trie_of-i.ensures c.imported-n.ensures.value (rw c.label_of-label.ensures at c.imported-n.ensures.made_imported) in record { room = p.0; namespaces_le_records = p.1 }
+    c.trie_of-i.ensures c.imported-n.ensures.value (rw c.label_of-label.ensures at c.imported-n.ensures.made_imported) in
+    record { room = p.0; namespaces_le_records = p.1 }
 
 pub returns : goal.returns
 returns c used l =

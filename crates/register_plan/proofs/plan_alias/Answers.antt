@@ -62,6 +62,7 @@ returns c =
     let plan-path = c.plan_path-p.ensures in record {
       alias_planned = λ tbl q e f. alias_planned _ plan-path.path c.trie_of-t.ensures tbl e c.requires.at.1 c.trie_of-i.ensures q f c.names_place-a.ensures
           c.weight_of-weight.ensures;
-      alias_noted = λ other. noted_count plan-path.leads (omega (arith, plan-path.path.few, plan-path.leads.kept.size, c.requires.host_value.2)) Alias other c.args.key.now
+      alias_noted = λ other. noted_count plan-path.leads
+          (omega (arith, plan-path.path.few, plan-path.leads.kept.size, c.requires.host_value.2)) Alias other c.args.key.now
           c.note_host.ensures (namespaces_builds plan-path.path.here c.trie_of-t.ensures c.names_place-a.ensures);
     }

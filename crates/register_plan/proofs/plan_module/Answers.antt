@@ -1,5 +1,4 @@
 -- plan_module meets its contract: each step adds what it builds.
-use Prim.Native.Nat.{◌-◌}
 use Rattle.memory.specs.Layout.{modules}
 use Rattle.register_way.proofs.Way.{leads_first, noted_path}
 use Rattle.register_kind.specs.declared.CallKind.TheVariants.{Module}

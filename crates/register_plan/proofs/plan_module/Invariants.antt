@@ -12,7 +12,8 @@ use Rattle.register_plan.proofs.plan_module.Given as goal
 abbrev pub invariant-loop-at : goal.invariant-loop-at
 invariant-loop-at l =
     Stands l.words l.text modules l.query l.root l.link l.at
-    (StepsDown (module_step_records l.loaded) (module_step_weight l.loaded) (what modules l.words l.text l.root trieˢ) (segments l.query) l.segments l.records l.crowded)
+    (StepsDown (module_step_records l.loaded) (module_step_weight l.loaded) (what modules l.words l.text l.root trieˢ)
+    (segments l.query) l.segments l.records l.crowded)
     × Leads l.words l.text modules l.root (segments l.query) l.initial.way l.way l.segments l.link (segments (drop l.at l.query))
 
 abbrev pub decreases-loop-at : goal.decreases-loop-at

@@ -33,8 +33,10 @@ pub returns : goal.returns
 returns c =
     let plan-path = c.plan_path-p.ensures in
     record {
-      name_planned = λ tbl number e. name_planned _ plan-path.path c.trie_of-t.ensures tbl e number c.names_place-b.ensures;
-      name_noted = λ number key. noted_count plan-path.leads (omega (arith, plan-path.path.few, plan-path.leads.kept.size, c.requires.host_value.2))
+      name_planned =
+          λ tbl number e. name_planned _ plan-path.path c.trie_of-t.ensures tbl e number c.names_place-b.ensures;
+      name_noted = λ number key. noted_count plan-path.leads
+          (omega (arith, plan-path.path.few, plan-path.leads.kept.size, c.requires.host_value.2))
           (Name number.kind number.number) c.args.id.now key c.note_host.ensures
           (bindings_builds plan-path.path.here c.trie_of-t.ensures c.names_place-b.ensures);
     }

@@ -9,17 +9,26 @@ plan_name-requires c =
 pub plan_include-requires : goal.plan_include-requires
 plan_include-requires c =
     let pre = c.requires in
-    record { at = (let t = rw c.in-Include.is at pre.at in (t, reads_at t (rw c.in-Include.is at pre.carries))); host_value = pre.host_value }
+    record {
+      at = (let t = rw c.in-Include.is at pre.at in (t, reads_at t (rw c.in-Include.is at pre.carries)));
+      host_value = pre.host_value;
+    }
 
 pub plan_open-requires : goal.plan_open-requires
 plan_open-requires c =
     let pre = c.requires in
-    record { at = (let t = rw c.in-Open.is at pre.at in (t, reads_at t (rw c.in-Open.is at pre.carries))); host_value = pre.host_value }
+    record {
+      at = (let t = rw c.in-Open.is at pre.at in (t, reads_at t (rw c.in-Open.is at pre.carries)));
+      host_value = pre.host_value;
+    }
 
 pub plan_alias-requires : goal.plan_alias-requires
 plan_alias-requires c =
     let pre = c.requires in
-    record { at = (let t = rw c.in-Alias.is at pre.at in (t, reads_at t (rw c.in-Alias.is at pre.carries))); host_value = pre.host_value }
+    record {
+      at = (let t = rw c.in-Alias.is at pre.at in (t, reads_at t (rw c.in-Alias.is at pre.carries)));
+      host_value = pre.host_value;
+    }
 
 pub plan_module-requires : goal.plan_module-requires
 plan_module-requires c =

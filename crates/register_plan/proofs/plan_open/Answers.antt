@@ -57,7 +57,9 @@ pub returns : goal.returns
 returns c =
     let plan-path = c.plan_path-p.ensures in
     record {
-      open_planned = λ tbl q e f. open_planned _ plan-path.path c.trie_of-t.ensures tbl e c.requires.at.1 c.trie_of-i.ensures q f
+      open_planned =
+          λ tbl q e f. open_planned _ plan-path.path c.trie_of-t.ensures tbl e c.requires.at.1 c.trie_of-i.ensures q f
           c.weight_of.ensures c.weight_of-2.ensures;
-      path_noted = λ other key. noted_path plan-path.leads (omega (arith, plan-path.path.few, plan-path.leads.kept.size, c.requires.host_value.2)) Open other key tt;
+      path_noted = λ other key. noted_path plan-path.leads
+          (omega (arith, plan-path.path.few, plan-path.leads.kept.size, c.requires.host_value.2)) Open other key tt;
     }

@@ -1,5 +1,4 @@
 -- plan_path meets its contract: each step adds what it builds.
-use Prim.Native.Nat.{◌-◌}
 use Rattle.memory.specs.Layout.{names}
 use Rattle.register_way.proofs.Way.{leads_first}
 use Rattle.find_trie.proofs.Found.{stands_first}
@@ -45,4 +44,7 @@ loop-at-preserved c =
 
 pub returns : goal.returns
 returns c =
-    record { path = path_last c.loop-at.invariant.0 c.requires.host_value.1 c.loop-at-test.false; leads = leads_end c.args.host.now c.loop-at.invariant.1 c.loop-at-test.false }
+    record {
+      path = path_last c.loop-at.invariant.0 c.requires.host_value.1 c.loop-at-test.false;
+      leads = leads_end c.args.host.now c.loop-at.invariant.1 c.loop-at-test.false;
+    }

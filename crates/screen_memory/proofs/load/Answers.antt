@@ -1,5 +1,4 @@
 -- load meets its contract. The loop's invariant: the first words are read.
-use Prim.Native.Nat.{◌-◌}
 use mathlib.Core.Path.{ap, ◌∙◌}
 use native.Mathlib.Omega.{arith}
 use Rattle.memory_bytes.specs.Bytes.{words_at}
@@ -51,4 +50,7 @@ pub returns : goal.returns
 unfolding words_lent words_in
 returns c =
     let words-lent' = c.words_lent-n.ensures in
-    record { count = words-lent'; words = loading_done c.loop-i-test.false c.loop-i.invariant ∙ ap (words_at _) words-lent' }
+    record {
+      count = words-lent';
+      words = loading_done c.loop-i-test.false c.loop-i.invariant ∙ ap (words_at _) words-lent';
+    }

@@ -1,8 +1,6 @@
 -- `run`: what is behind `i` is in the run.
 use mathlib.Core.Path.{sym, ◌∙◌}
-use Prim.Native.Nat.{◌-◌}
 use native.Mathlib.Omega.{arith}
-use borrow.Author.Tests.{not-true, not-false}
 use Rattle.script_parts.proofs.Runs.{run_step, run_stop, run_end}
 use Rattle.script_parts.proofs.run.Goals as goal
 

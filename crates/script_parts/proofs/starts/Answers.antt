@@ -1,6 +1,5 @@
 -- `starts`: what is behind `i` agrees.
 use mathlib.Core.Path.{refl}
-use Prim.Native.Nat.{◌-◌}
 use native.Mathlib.Omega.{arith}
 use Rattle.script_parts.proofs.Runs.{run_starts_short, starts_differ, starts_step, starts_done}
 use Rattle.script_parts.proofs.starts.Goals as goal

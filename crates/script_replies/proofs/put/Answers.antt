@@ -1,5 +1,4 @@
 -- `put`: what is behind `i` is written.
-use Prim.Native.Nat.{◌-◌}
 use native.Mathlib.Omega.{arith}
 use lib.Seq.{take_all}
 use Rattle.text.proofs.Laid.{laid_length, laid_none, laid_step}

@@ -1,5 +1,4 @@
 -- `sound::pass` meets its contract. The loop's invariant: the records before the link are right, and noted.
-use Prim.Native.Nat.{◌-◌}
 use native.Mathlib.Omega.{arith}
 use Rattle.memory.proofs.Says.{says_holds, says_fails}
 use Rattle.sound.proofs.Notes.{notes_start, notes_at, notes_next, can_note}
@@ -96,7 +95,12 @@ slice_bounds-record_ok-end c =
 
 pub record_ok-requires : goal.record_ok-requires
 record_ok-requires c =
-    let g = c.loop-link.invariant in record { before = record { some = omega arith; fits = omega arith; text = omega arith; rows = g.2.right }; r_value = part_record (c.args.words.now) c.loop-link.link; notes = notes_at g.3 }
+    let g = c.loop-link.invariant in
+    record {
+      before = record { some = omega arith; fits = omega arith; text = omega arith; rows = g.2.right };
+      r_value = part_record (c.args.words.now) c.loop-link.link;
+      notes = notes_at g.3;
+    }
 
 pub shape_of-least-then-not-record_ok : goal.shape_of-least-then-not-record_ok
 shape_of-least-then-not-record_ok c =

@@ -16,5 +16,9 @@ bounds-notes-next c =
 
 pub returns : goal.returns
 returns c =
-    let pre = c.requires in let e = c.word_of-next.ensures in record { ways_noted = noted_more pre (omega arith)
-          (⊎_elim (λ w. rw w.end-is (far_on pre e w.if-next-gt0.true (omega arith))) (λ w. rw w.end-is (far_here pre e w.if-next-gt0.false)) c.if-next-gt0.branch-raw); notes_len = simp length-set }
+    let pre = c.requires in let e = c.word_of-next.ensures in record {
+      ways_noted = noted_more pre (omega arith)
+          (⊎_elim (λ w. rw w.end-is (far_on pre e w.if-next-gt0.true (omega arith)))
+          (λ w. rw w.end-is (far_here pre e w.if-next-gt0.false)) c.if-next-gt0.branch-raw);
+      notes_len = simp length-set;
+    }

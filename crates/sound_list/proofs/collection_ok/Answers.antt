@@ -47,7 +47,8 @@ returns-then-not-text_ok c w v e f o =
 
 pub weight_of-requires-then-r-eq-IMPORTED : goal.weight_of-requires-then-r-eq-IMPORTED
 weight_of-requires-then-r-eq-IMPORTED c =
-    let h = (says_holds c.link_ok-then-r-eq-IMPORTED.result c.link_ok-then-r-eq-IMPORTED.ensures c.if-not-link_ok-3.false).earlier in omega (arith, c.requires.before.fits)
+    let h = (says_holds c.link_ok-then-r-eq-IMPORTED.result c.link_ok-then-r-eq-IMPORTED.ensures c.if-not-link_ok-3.false).earlier in
+    omega (arith, c.requires.before.fits)
 
 pub returns-then-r-eq-IMPORTED : goal.returns-then-r-eq-IMPORTED
 returns-then-r-eq-IMPORTED c w v e f =

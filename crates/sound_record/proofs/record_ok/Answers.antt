@@ -21,7 +21,12 @@ bounds-r-0 c =
 pub branch_ok-requires : goal.branch_ok-requires
 branch_ok-requires c =
     let pre = c.requires in
-    record { before = pre.before; tree_kind = record { which = names; level = bind; is = c.in-1.is }; r_len = before_length pre.before pre.r_value; notes = pre.notes }
+    record {
+      before = pre.before;
+      tree_kind = record { which = names; level = bind; is = c.in-1.is };
+      r_len = before_length pre.before pre.r_value;
+      notes = pre.notes;
+    }
 
 pub returns-then-not-branch_ok : goal.returns-then-not-branch_ok
 returns-then-not-branch_ok c o =
@@ -35,7 +40,12 @@ bounds-r-6 c =
 pub branch_ok-requires-in-6 : goal.branch_ok-requires-in-6
 branch_ok-requires-in-6 c =
     let pre = c.requires in
-    record { before = pre.before; tree_kind = record { which = modules; level = bind; is = c.in-6.is }; r_len = before_length pre.before pre.r_value; notes = pre.notes }
+    record {
+      before = pre.before;
+      tree_kind = record { which = modules; level = bind; is = c.in-6.is };
+      r_len = before_length pre.before pre.r_value;
+      notes = pre.notes;
+    }
 
 pub returns-then-not-branch_ok-2 : goal.returns-then-not-branch_ok-2
 returns-then-not-branch_ok-2 c o =
@@ -49,7 +59,12 @@ symbol_ok-requires c =
 pub branch_ok-requires-in-2 : goal.branch_ok-requires-in-2
 branch_ok-requires-in-2 c =
     let pre = c.requires in let n = known_as (tree ns) c.in-2.is in
-    record { before = pre.before; tree_kind = record { which = n.0; level = ns; is = n.1 }; r_len = before_length pre.before pre.r_value; notes = pre.notes }
+    record {
+      before = pre.before;
+      tree_kind = record { which = n.0; level = ns; is = n.1 };
+      r_len = before_length pre.before pre.r_value;
+      notes = pre.notes;
+    }
 
 pub returns-then-not-branch_ok-3 : goal.returns-then-not-branch_ok-3
 returns-then-not-branch_ok-3 c o =
@@ -66,7 +81,11 @@ held_ok-requires c =
     let pre = c.requires in
     let n = known_as (tree ns) c.in-2.is in
     let a = (says_holds c.branch_ok-in-2.result (c.branch_ok-in-2.ensures n.0 ns n.1) c.if-not-branch_ok-3.false).0 in
-    record { before = pre.before; r_len = before_length pre.before pre.r_value; r_bound = (a.left.earlier, a.right.earlier) }
+    record {
+      before = pre.before;
+      r_len = before_length pre.before pre.r_value;
+      r_bound = (a.left.earlier, a.right.earlier);
+    }
 
 pub overflow_sub-k : goal.overflow_sub-k
 overflow_sub-k c =

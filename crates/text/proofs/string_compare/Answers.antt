@@ -1,5 +1,4 @@
 -- string_compare meets its contract: what is left from i on says how the whole compares.
-use Prim.Native.Nat.{◌-◌}
 use mathlib.Core.Path.{refl}
 use native.Mathlib.Omega.{arith}
 use Rattle.text.proofs.Texts.{bytes_same, bytes_differ, compares_ended}

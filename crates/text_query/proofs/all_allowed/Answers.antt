@@ -1,5 +1,4 @@
 -- all_allowed meets its contract: the bytes before i are tested.
-use Prim.Native.Nat.{◌-◌}
 use mathlib.Core.Path.{refl}
 use native.Mathlib.Omega.{arith}
 use Rattle.text.proofs.Texts.{pass_byte, pass_end}

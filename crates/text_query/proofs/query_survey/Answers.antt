@@ -1,5 +1,4 @@
 -- query_survey meets its contract: the segments before start and the bytes before i are surveyed.
-use Prim.Native.Nat.{◌-◌}
 use mathlib.Core.Logic.{⊎_elim}
 use native.Mathlib.Omega.{arith}
 use Rattle.text_query.proofs.Surveys.{survey_none, survey_dot, survey_byte, survey_open, survey_closed}
@@ -41,7 +40,8 @@ pub loop-i-preserved : goal.loop-i-preserved
 loop-i-preserved c =
     ⊎_elim
     (λ w. rw (w.ok-is, w.empty-is, w.long-is, w.segments-is, w.start-is) (survey_dot c.loop-i.invariant (omega arith) w.if-s-i-eq-DOT.true))
-    (λ w. rw (w.ok-is, w.empty-is, w.long-is, w.segments-is, w.start-is) (survey_byte c.loop-i.invariant (omega arith) w.if-s-i-eq-DOT.false w.name_byte-ok.ensures))
+    (λ w. rw (w.ok-is, w.empty-is, w.long-is, w.segments-is, w.start-is)
+    (survey_byte c.loop-i.invariant (omega arith) w.if-s-i-eq-DOT.false w.name_byte-ok.ensures))
     c.if-s-i-eq-DOT.branch-raw
 
 pub overflow_add-all : goal.overflow_add-all

@@ -1,5 +1,4 @@
 -- segment_length meets its contract: no dot stands before i.
-use Prim.Native.Nat.{◌-◌}
 use native.Mathlib.Omega.{arith}
 use Rattle.text_query.proofs.Segments.{before_at_dot, before_at_other, before_end}
 use Rattle.text_query.proofs.segment_length.Goals as goal

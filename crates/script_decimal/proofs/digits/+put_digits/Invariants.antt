@@ -1,7 +1,4 @@
 -- `put_digits`: the measure is the number.
-use Rattle.std.proofs.Common.{◌≡◌, ◌+◌, ◌≤◌, length, ℕ, ◌-◌, ◌*◌, ◌<◌}
-use Rattle.text.specs.Laid.{Laid}
-use Rattle.script_decimal.specs.Numerals.{ValueSays, NumberSays, decimal}
 use Rattle.script_decimal.proofs.digits.+put_digits.Given as goal
 
 abbrev pub decreases-put_digits : goal.decreases-put_digits

@@ -1,8 +1,6 @@
 -- `value`: `v` is the number of the digits behind `i`.
 use mathlib.Core.Path.{refl, sym, ◌∙◌}
-use Prim.Native.Nat.{◌-◌}
 use native.Mathlib.Omega.{arith}
-use borrow.Author.Tests.{not-true, not-false}
 use Rattle.script_decimal.proofs.Numerals.{digit_bounds, counted_more, counted_over, counted_other, counted_done}
 use Rattle.script_decimal.proofs.digits.value.Goals as goal
 
