@@ -74,7 +74,8 @@ fn put_candidate(
 ) -> usize
     requires path_at { PathAt words.now text.now (path_in run.now) }
     requires text_at { TextAt words.now text.now branch }
-    requires branch_in_bounds { at + (path_in run.now).len + length (key_at words.now text.now branch) ≤ length out.old }
+    requires branch_in_bounds { at + (path_in run.now).len
+        + length (key_at words.now text.now branch) ≤ length out.old }
     ensures { Laid out.old out.new at result
         (candidate_of words.now text.now (path_in run.now) branch) }
 {

@@ -14,7 +14,8 @@ pub included-requires : goal.included-requires
 included-requires c =
     record {
       at = names_trie c.requires.sound;
-      other_value = rw c.shape_of-s.ensures (call_ready c.args.entry.kind c.args.host.now c.args.other.now c.args.key.now
+      other_value =
+          rw c.shape_of-s.ensures (call_ready c.args.entry.kind c.args.host.now c.args.other.now c.args.key.now
           (argument_rows_none _ _ (admitted_none c.flags_of.ensures c.admit-a.ensures c.in-Admitted.is))).other_fine;
     }
 
@@ -61,11 +62,15 @@ returns-in-Admitted-b c =
       sound = c.requires.sound;
       no_key = c.requires.no_key.0;
       rows = rows_planned _ _ _ (sound_table c.requires.sound)
-          (plan-of.kind_planned _ (rw (c.root_of-root.ensures, shape-of') (root_reads _ _ _ (which_by (shape_of a.entry.kind).form))))
+          (plan-of.kind_planned _
+          (rw (c.root_of-root.ensures, shape-of') (root_reads _ _ _ (which_by (shape_of a.entry.kind).form))))
           (sym (taken_all a.entry.kind a.host.now a.other.now a.key.now c.requires.no_key.0))
           (admitted_none c.flags_of.ensures c.admit-a.ensures c.in-Admitted.is)
           ∙ sym (rw c.in-Admitted-b.is at c.afford-b.ensures);
       size = (included_stays a.way.now included.result c.requires.no_key.1 plan-of.way_noted.kept).1;
-      carries = rw ((included_stays a.way.now included.result c.requires.no_key.1 plan-of.way_noted.kept).0, ← shape-of') included.ensures;
+      carries = rw (
+        (included_stays a.way.now included.result c.requires.no_key.1 plan-of.way_noted.kept).0,
+        ← shape-of',
+      ) included.ensures;
       leads = rw (c.root_of-root.ensures, shape-of') at plan-of.way_noted.leads;
     }

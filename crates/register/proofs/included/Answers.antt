@@ -5,7 +5,10 @@ use Rattle.register.proofs.included.Goals as goal
 
 pub trie_descend-requires : goal.trie_descend-requires
 trie_descend-requires c =
-    record { any_trie = record { which = names; trie = c.requires.at }; query_value = query_ends _ (rw c.in-Import.is at c.requires.other_value) }
+    record {
+      any_trie = record { which = names; trie = c.requires.at };
+      query_value = query_ends _ (rw c.in-Import.is at c.requires.other_value);
+    }
 
 pub returns-in-Name : goal.returns-in-Name
 returns-in-Name c =
