@@ -1,5 +1,4 @@
 // The typed completion: a line is a struct, and lines go into a lent slice of these.
-// `store_line`, `store_lines` and `complete` are proved by hand; what they call is covered.
 #![tactic(auto)]
 ghost use Rattle.std.specs.Prelude.{◌≡◌, ◌+◌, ◌*◌, ◌≤◌, ◌<◌, length, set};
 ghost use Rattle.listing_output.specs.Output.{line_bytes};
