@@ -18,7 +18,7 @@ use Rattle.source.proofs.Lookup.{lookup, or_else_none}
 use Rattle.promises.proofs.Trees.{gate, valof}
 use Rattle.source.proofs.Lines.{flatMap_append, flatMap_map}
 use Rattle.source.proofs.Names.{OrderedN, values_none}
-use Rattle.promises.proofs.Names.{elem, holders_append, key_append, find_first_at, tree_row, value_of_first}
+use Rattle.promises.proofs.Names.{elem, holders_append, key_append, find_first_at, tree_rows, value_of_first}
 use Rattle.source.proofs.Flat.{values_all_is, values_prefix_is}
 
 module _ {A : Type 0} {ℓ : Level} where
@@ -82,7 +82,7 @@ module _ {A : Type 0} {ℓ : Level} where
       go false = refl
   hold_in term k i (Names bt tl) o =
       key_append k (with_imports (i, tree_matches term bt)) (rows_in term i tl)
-      ∙ ap₂ ◌++◌ (tree_row term k i bt o.0) (hold_in term k i tl o.1) ∙ go (accepts term k) (btree_find_exact bt k)
+      ∙ ap₂ ◌++◌ (tree_rows term k i bt o.0) (hold_in term k i tl o.1) ∙ go (accepts term k) (btree_find_exact bt k)
     where
       go : (b : Bool) (v : Option (Value A ℓ))
           → to_list (Option.map (λ v. row term k (i, v)) (gate b v)) ++ cond b (map (row term k) (holders_in i tl k)) []

@@ -29,7 +29,7 @@ use Rattle.promises.proofs.Apart.{leaf_alike, alike_along}
 -- ---- what an insert leaves at a name
 module _ {A : Type 0} where
   -- The row of the inserted key has no import.
-  row_inserted : {ℓ : Level} (nl : NameList A ℓ) (k : Str) (v : Value A ℓ) (term : SearchTerm)
+  pub row_inserted : {ℓ : Level} (nl : NameList A ℓ) (k : Str) (v : Value A ℓ) (term : SearchTerm)
       → OrderedN (names_insert nl k v)
       → (y : PathElem × Value A ℓ) → lookup elem_key k (names_find_rev_first (names_insert nl k v) term) ≡ some y
       → first_import_of_path (reverse (y.0 ∷ [])) ≡ none
@@ -42,7 +42,7 @@ module _ {A : Type 0} where
       go false e = absurd (none-ne-some y e)
 
   -- Look-up of the inserted name.
-  own_found : (tr : Trie A) (host rev : Query) (id : Str) (v : A)
+  pub own_found : (tr : Trie A) (host rev : Query) (id : Str) (v : A)
       → trie_find_exact (trie_mutate tr host rev (λ tr _ _ _ n. trie (bindings tr) n)
       (λ tr _. trie (names_insert (bindings tr) id (item v)) (namespaces tr))) (host ++ (id ∷ [])) ≡ some (item v)
   unfolding trie_mutate trie_find_exact bind_option bindings namespaces
@@ -53,7 +53,8 @@ module _ {A : Type 0} where
   module _ (Key Label : Str → Type 0) (Item : A → Type 0) (tr : Trie A) (id : Str) (v : A)
       (g : Formed Key Label Item tr) where
     -- Another name that is not below the host's first segment.
-    same_along : (host : Query) → Formed Key Label Item (trie_insert tr host id v) → (q : Query) (s : Str) (m : Query)
+    pub same_along : (host : Query) → Formed Key Label Item (trie_insert tr host id v)
+        → (q : Query) (s : Str) (m : Query)
         → (s ∷ m ≡ host ++ (id ∷ []) → ⊥) → below_first host (s ∷ m) ≡ false
         → along by_first (trie_insert tr host id v) [] q s m ≡ along by_first tr [] q s m
     unfolding trie_insert trie_mutate_leaf trie_mutate below_first along bindings namespaces first_of
@@ -68,7 +69,8 @@ module _ {A : Type 0} where
         (λ e. true≢false (sym (same_self s) ∙ ap (same s) (sym e) ∙ b)))
 
     -- No import leads to a name below the host's first segment, and to the inserted name.
-    below_import : (host : Query) → Formed Key Label Item (trie_insert tr host id v) → (q : Query) (s : Str) (m : Query)
+    pub below_import : (host : Query) → Formed Key Label Item (trie_insert tr host id v)
+        → (q : Query) (s : Str) (m : Query)
         → below_first host (s ∷ m) ≡ true → Allˡ (ImportIs none) (along by_first (trie_insert tr host id v) [] q s m)
     unfolding trie_insert trie_mutate_leaf trie_mutate below_first bindings namespaces
     below_import [] g' q s m b = absurd (false≢true b)

@@ -17,7 +17,7 @@ use Rattle.source.specs.Listing.{SearchTerm, NSTAll, NSTNone, NSTPrefix, matchin
 use Rattle.source.specs.Terms.{flatten, found_onto, holders, first_of}
 use Rattle.source.specs.Table.{last_opt}
 use Rattle.promises.specs.Departs.{accepts, to_list, with_key, rows_of}
-use Rattle.promises.proofs.Trees.{gate, valof, entry, or_assoc, find_all_exactly, find_prefix_exactly}
+use Rattle.promises.proofs.Trees.{gate, valof, entry, or_assoc, find_all_row, find_prefix_row}
 use Rattle.source.proofs.Trees.{entry_key}
 use Rattle.source.proofs.Lines.{flatMap_append}
 use Rattle.source.specs.Forward.{tree_matches}
@@ -193,10 +193,10 @@ module _ {A : Type 0} where
       → lookup entry_key k (tree_matches term bt)
       ≡ entry (term_prefix term) k (gate (accepts term k) (btree_find_exact bt k))
   unfolding tree_matches lookup starts_with
-  tree_at NSTAll bt k o = find_all_exactly none bt k o
+  tree_at NSTAll bt k o = find_all_row none bt k o
   tree_at NSTNone bt k o = refl
-  tree_at (NSTPrefix []) bt k o = find_all_exactly (some []) bt k o
-  tree_at (NSTPrefix (c ∷ p)) bt k o = find_prefix_exactly bt (c ∷ p) k o
+  tree_at (NSTPrefix []) bt k o = find_all_row (some []) bt k o
+  tree_at (NSTPrefix (c ∷ p)) bt k o = find_prefix_row bt (c ∷ p) k o
 
   abbrev under : {ℓ : Level} → List Str → PrefixMatch × Value A ℓ → PathElem × Value A ℓ
   under i x = (record { imports = i; segment = x.0 }, x.1)
@@ -213,16 +213,27 @@ module _ {A : Type 0} where
       go true e = refl
       go false e = e
 
-  pub tree_row : {ℓ : Level} (term : SearchTerm) (k : Str) (i : List Str) (bt : Tree A ℓ) → Ordered bt
+  pub tree_rows : {ℓ : Level} (term : SearchTerm) (k : Str) (i : List Str) (bt : Tree A ℓ) → Ordered bt
       → with_key k (with_imports (i, tree_matches term bt))
       ≡ to_list (Option.map {B = PathElem × Value A ℓ} (λ v. (elem term k i, v)) (gate (accepts term k) (btree_find_exact bt k)))
   unfolding with_imports
-  tree_row {ℓ} term k i bt o =
+  tree_rows {ℓ} term k i bt o =
       let m = tree_matches term bt in
       key_ascending k (with_imports (i, m)) (labelled_increasing i m (tree_ascends term bt o))
       ∙ ap to_list (labelled_at i k m ∙ ap (Option.map (under i)) (tree_at term bt k o) ∙ go (gate (accepts term k) (btree_find_exact bt k)))
     where
       go : (o : Option (Value A ℓ)) → Option.map (under i) (entry (term_prefix term) k o)
           ≡ Option.map {B = PathElem × Value A ℓ} (λ v. (elem term k i, v)) o
+      go none = refl
+      go (some v) = refl
+
+  -- Their values alone.
+  pub tree_row : {ℓ : Level} (term : SearchTerm) (k : Str) (i : List Str) (bt : Tree A ℓ) → Ordered bt
+      → map (λ x. x.1) (with_key k (with_imports (i, tree_matches term bt)))
+      ≡ to_list (gate (accepts term k) (btree_find_exact bt k))
+  tree_row {ℓ} term k i bt o = ap (map (λ x. x.1)) (tree_rows term k i bt o) ∙ go (gate (accepts term k) (btree_find_exact bt k))
+    where
+      go : (o : Option (Value A ℓ))
+          → map (λ x. x.1) (to_list (Option.map {B = PathElem × Value A ℓ} (λ v. (elem term k i, v)) o)) ≡ to_list o
       go none = refl
       go (some v) = refl

@@ -58,13 +58,13 @@ module _ {A : Type 0} {ℓ : Level} where
   above_ne : (k k' : Str) (bt : Tree A ℓ) → k' <ˢ k → AllKeys (λ x. x <ˢ k') bt → AllKeys (λ x. k ≡ x → ⊥) bt
   above_ne k k' bt h a = AllKeys-map bt (λ x y e. <ˢ_irrefl x (rw e at (<ˢ_trans x k' k y h))) a
 
-  pub select_at : (p : Option Str) (b : Str → Bool) (k : Str) (bt : Tree A ℓ) (acc : List (PrefixMatch × Value A ℓ))
+  pub select_row : (p : Option Str) (b : Str → Bool) (k : Str) (bt : Tree A ℓ) (acc : List (PrefixMatch × Value A ℓ))
       → Ordered bt
       → at_key k (select p b bt acc) ≡ or_else (entry p k (gate (b k) (btree_find_exact bt k))) (at_key k acc)
   unfolding select btree_find_exact or_else entry_key
-  select_at p b k StrEmpty acc o = rw (gate_none (b k))
-  select_at p b k (StrBranch k' v lbt rbt) acc o =
-      select_at p b k lbt _ o.2 ∙ go (select_at p b k rbt acc o.3) (string_compare k k') refl (compare_strings k k') (b k') refl
+  select_row p b k StrEmpty acc o = rw (gate_none (b k))
+  select_row p b k (StrBranch k' v lbt rbt) acc o =
+      select_row p b k lbt _ o.2 ∙ go (select_row p b k rbt acc o.3) (string_compare k k') refl (compare_strings k k') (b k') refl
     where
       m : PrefixMatch × Value A ℓ
       m = (record { prefix = p; completion = k' }, v)
@@ -97,15 +97,42 @@ module _ {A : Type 0} {ℓ : Level} where
           rw (no_entry lbt (find_absent k lbt (above_ne k k' lbt w o.0))) (mid i (λ d. <ˢ_irrefl k' (rw d at w)) ∙ r)
 
   -- ---- the two searches
-  exactly : (p : Option Str) (b : Str → Bool) (bt : Tree A ℓ) (k : Str) → Ordered bt
+  exact_row : (p : Option Str) (b : Str → Bool) (bt : Tree A ℓ) (k : Str) → Ordered bt
       → lookup entry_key k (select p b bt []) ≡ entry p k (gate (b k) (btree_find_exact bt k))
   unfolding lookup
-  exactly p b bt k o = select_at p b k bt [] o ∙ or_else_none (entry p k (gate (b k) (btree_find_exact bt k)))
+  exact_row p b bt k o = select_row p b k bt [] o ∙ or_else_none (entry p k (gate (b k) (btree_find_exact bt k)))
+
+  pub find_prefix_row : (bt : Tree A ℓ) (p k : Str) → Ordered bt
+      → lookup entry_key k (btree_find_prefix bt p) ≡ entry (some p) k (gate (starts_with k p) (btree_find_exact bt k))
+  find_prefix_row bt p k o = rw (find_prefix_is bt p o) (exact_row (some p) (λ k. starts_with k p) bt k o)
+
+  pub find_all_row : (p : Option Str) (bt : Tree A ℓ) (k : Str) → Ordered bt
+      → lookup entry_key k (btree_find_all p bt) ≡ entry p k (btree_find_exact bt k)
+  find_all_row p bt k o = rw (find_all_is p bt) (exact_row p (λ k. true) bt k o)
+
+  -- ---- the values alone
+  valof_or_else : (x y : Option (PrefixMatch × Value A ℓ)) → valof (or_else x y) ≡ or_else (valof x) (valof y)
+  unfolding or_else
+  valof_or_else none y = refl
+  valof_or_else (some x) y = refl
+
+  valof_entry : (p : Option Str) (k : Str) (o : Option (Value A ℓ)) → valof (entry p k o) ≡ o
+  valof_entry p k none = refl
+  valof_entry p k (some v) = refl
+
+  pub select_at : (p : Option Str) (b : Str → Bool) (k : Str) (bt : Tree A ℓ) (acc : List (PrefixMatch × Value A ℓ))
+      → Ordered bt
+      → valof (at_key k (select p b bt acc)) ≡ or_else (gate (b k) (btree_find_exact bt k)) (valof (at_key k acc))
+  select_at p b k bt acc o =
+      let g = gate (b k) (btree_find_exact bt k) in
+      ap valof (select_row p b k bt acc o) ∙ valof_or_else (entry p k g) (at_key k acc)
+      ∙ ap (λ x. or_else x (valof (at_key k acc))) (valof_entry p k g)
 
   pub find_prefix_exactly : (bt : Tree A ℓ) (p k : Str) → Ordered bt
-      → lookup entry_key k (btree_find_prefix bt p) ≡ entry (some p) k (gate (starts_with k p) (btree_find_exact bt k))
-  find_prefix_exactly bt p k o = rw (find_prefix_is bt p o) (exactly (some p) (λ k. starts_with k p) bt k o)
+      → valof (lookup entry_key k (btree_find_prefix bt p)) ≡ gate (starts_with k p) (btree_find_exact bt k)
+  find_prefix_exactly bt p k o =
+      ap valof (find_prefix_row bt p k o) ∙ valof_entry (some p) k (gate (starts_with k p) (btree_find_exact bt k))
 
   pub find_all_exactly : (p : Option Str) (bt : Tree A ℓ) (k : Str) → Ordered bt
-      → lookup entry_key k (btree_find_all p bt) ≡ entry p k (btree_find_exact bt k)
-  find_all_exactly p bt k o = rw (find_all_is p bt) (exactly p (λ k. true) bt k o)
+      → valof (lookup entry_key k (btree_find_all p bt)) ≡ btree_find_exact bt k
+  find_all_exactly p bt k o = ap valof (find_all_row p bt k o) ∙ valof_entry p k (btree_find_exact bt k)
