@@ -45,8 +45,9 @@ def listed():
             rooms[room] = head.group(2)
         name, colon, rest = line.split('#')[0].partition(':')
         if colon:
-            deps[name.strip()] = rest.split()
-            room_of[name.strip()] = room
+            name = name.split()[0]  # a static library's has a second word
+            deps[name] = rest.split()
+            room_of[name] = room
     return rooms, deps, room_of
 
 

@@ -4,7 +4,7 @@ use std::env;
 use std::path::{Path, PathBuf};
 use std::process::Command;
 
-/// The archive's name as installed, and as `rt staticlib screen` writes it.
+/// The archive's name as installed, and as `tools/build screen` writes it.
 const NAMES: [&str; 2] = ["name_console", "screen"];
 
 const MISSING: &str = "name-console: there is no archive of the C layer. Run 'make' in the repository (it writes target/staticlib/libscreen.a), \

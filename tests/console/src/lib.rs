@@ -5,7 +5,7 @@ use std::process::{Command, Stdio};
 /// What target/bin/console writes for a script on its standard input.
 pub fn console(script: &[u8]) -> Vec<u8> {
     let program = concat!(env!("CARGO_MANIFEST_DIR"), "/../../target/bin/console");
-    let mut run = Command::new(program).stdin(Stdio::piped()).stdout(Stdio::piped()).spawn().expect("run 'rt check console' first");
+    let mut run = Command::new(program).stdin(Stdio::piped()).stdout(Stdio::piped()).spawn().expect("run 'bash tools/build console' first");
     let mut input = run.stdin.take().unwrap();
     let script = script.to_vec();
     let writer = std::thread::spawn(move || input.write_all(&script));

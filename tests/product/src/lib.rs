@@ -1,4 +1,4 @@
-//! The product's calls, from the static library that `rt staticlib screen_tests` writes.
+//! The product's calls, from the static library that `tools/build screen_tests` writes.
 //! Nothing checks these declarations against crates/screen_tests: keep them few.
 use model::layout::{Header, Memory};
 use model::listings::{both, Shared};
