@@ -1,6 +1,7 @@
 // What the program `console` answers to a line: it is read, its call is made on a table that is sound by proof, its reply is written.
 // A line that is no form is `[bad]`, and changes nothing.
 #![tactic(auto)]
+
 ghost use Rattle.std.specs.Prelude.{◌≡◌, ◌+◌, ◌≤◌, length};
 ghost use Rattle.script_parts.specs.Parts.{Within, part_of};
 ghost use Rattle.table.specs.Header.{IsSound};

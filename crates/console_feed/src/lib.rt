@@ -2,6 +2,7 @@
 // `main` reads bytes to the end of what is kept, and writes the replies of each step. proofs/Run.antt: whatever the reads are, the
 // replies are the session of the input's lines.
 #![tactic(auto)]
+
 ghost use Rattle.std.specs.Prelude.{◌≤◌, length};
 ghost use Rattle.table.specs.Header.{IsSound};
 ghost use Rattle.console_questions.specs.RowReplies.{room};

@@ -1,5 +1,6 @@
 // The line of a question answered: a look-up or a completion of a table whose memory is sound by proof, and its reply.
 #![tactic(auto)]
+
 ghost use Rattle.std.specs.Prelude.{◌≡◌, ◌+◌, ◌≤◌, length};
 ghost use Rattle.text.specs.Laid.{Laid};
 ghost use Rattle.script_replies.specs.Replies.{reply_room};

@@ -1,5 +1,6 @@
 // The line of a registration answered: its call is made on a table whose memory is sound by proof, and its reply is written.
 #![tactic(auto)]
+
 ghost use Rattle.std.specs.Prelude.{◌+◌, ◌≤◌, length};
 ghost use Rattle.text.specs.Laid.{Laid};
 ghost use Rattle.register_kind.specs.Shapes.{call_of};

@@ -38,12 +38,11 @@ overflow_add-i c =
     )
 
 pub loop-reply-preserved : goal.loop-reply-preserved
-loop-reply-preserved c =
-    (
-      c.loop-reply.invariant.0,
-      talk_going_on c.loop-reply.invariant.1 c.line_end.ensures (omega (arith, c.line_end.ensures.within)) (search rules)
-          (search rules) c.answer-d.ensures,
-    )
+loop-reply-preserved c = (
+  c.loop-reply.invariant.0,
+  talk_going_on c.loop-reply.invariant.1 c.line_end.ensures (omega (arith, c.line_end.ensures.within)) (search rules)
+      (search rules) c.answer-d.ensures,
+)
 
 pub shape_of-words-after-loop-reply : goal.shape_of-words-after-loop-reply
 shape_of-words-after-loop-reply c =
