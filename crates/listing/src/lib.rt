@@ -1,5 +1,6 @@
 // Completion on a root, of a query that is admitted: rows 9 and 10, counted before anything is written.
 #![tactic(auto)]
+
 ghost use Rattle.std.specs.Prelude.{◌≡◌, true, [], ◌∷◌};
 ghost use Rattle.std.proofs.Math.Option.{none};
 ghost use Rattle.source.specs.Calls.{a_completion, first_row, argument_rows};

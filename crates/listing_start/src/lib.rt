@@ -1,5 +1,6 @@
 // The outset of a run: what is lent to it, and the run at the root.
 #![tactic(auto)]
+
 ghost use Rattle.std.specs.Prelude.{◌≡◌, ◌/◌, min};
 ghost use Rattle.listing_output.specs.Output.{line_bytes};
 ghost use Rattle.listing_start.specs.Outset.{start_run};
