@@ -248,12 +248,16 @@ pub record Least-cell (ws txt : List ℕ) (p : Str) (n root : ℕ) (roots heads 
   pub pops : Pops (cell_cmp ws txt heads) n child next child' next' (Least cell rest) root
 
 -- The same, of what heap_pop answered.
-pub least_cell : {ws txt : List ℕ} {p : Str} {n root cell rest : ℕ} {roots heads beginnings child next child' next' : List ℕ}
+pub least_cell : {ws txt : List ℕ} {p : Str} {n root cell rest : ℕ}
+    {roots heads beginnings child next child' next' : List ℕ}
     {o : Popped} → CellsReady ws txt p n root roots heads beginnings child next → o ≡ Least cell rest
     → Pops (cell_cmp ws txt heads) n child next child' next' o root
     → Least-cell ws txt p n root roots heads beginnings child next child' next' cell rest
 least_cell {ws} {txt} {p} {n} {root} {cell} {rest} {roots} {heads} {beginnings} {child} {next} {child'} {next'} {o} y e f =
-    record { ready = y; pops = subst (λ (r : Popped). Pops (cell_cmp ws txt heads) n child next child' next' r root) e f }
+    record {
+      ready = y;
+      pops = subst (λ (r : Popped). Pops (cell_cmp ws txt heads) n child next child' next' r root) e f;
+    }
 
 module _ {ws txt : List ℕ} {p : Str} {n root cell rest : ℕ} {roots heads beginnings child next child' next' : List ℕ}
     (k : Least-cell ws txt p n root roots heads beginnings child next child' next' cell rest) where

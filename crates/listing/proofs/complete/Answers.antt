@@ -51,7 +51,8 @@ returns-then-lines-count c =
       budget_fits = omega (arith, c.struct_known-1.given.1.0.fits);
       lines_are = c.lines_lent-lines.ensures;
       bytes_are = c.lent-bytes.ensures;
-    }) (root_shows _ _ _ _ _ (root_runs _ _ _ _ _ c.start-run.ensures list-trie)) (omega (arith, list-trie.count, c.if-most-entered.false)) (inl c.if-lines-count.true)
+    }) (root_shows _ _ _ _ _ (root_runs _ _ _ _ _ c.start-run.ensures list-trie)) (omega (arith, list-trie.count, c.if-most-entered.false))
+    (inl c.if-lines-count.true)
     (flat_kept _ _ _ _ _ (root_runs _ _ _ _ _ c.start-run.ensures list-trie) c.args.flat.now refl)
     (out_kept _ _ _ _ _ (root_runs _ _ _ _ _ c.start-run.ensures list-trie) c.args.out.now refl)
 

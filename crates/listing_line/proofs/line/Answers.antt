@@ -22,7 +22,8 @@ put_line-requires c =
     record {
       job_ok = job_ok c.requires;
       note_len_bound = rw c.annotation-note.ensures
-          (noted_short c.args.want.ask c.args.words.now c.args.text.now _ (outermost_text c.requires c.outermost.ensures));
+          (noted_short c.args.want.ask c.args.words.now c.args.text.now _
+          (outermost_text c.requires c.outermost.ensures));
     }
 
 pub returns : goal.returns

@@ -9,5 +9,6 @@ returns c =
     record {
       same_path = same_counted c.args.run.now c.add.result c.add-2.result c.requires.job_ok.path.few;
       put_line = rw (tally_counted c.args.run.now c.add.result c.add-2.result c.requires.job_ok.path.sized)
-          (line_counted c.requires.job_ok (counts_kept (omega (arith, c.text_len.ensures)) c.add.ensures c.add-2.ensures) c.try_line.ensures);
+          (line_counted c.requires.job_ok
+          (counts_kept (omega (arith, c.text_len.ensures)) c.add.ensures c.add-2.ensures) c.try_line.ensures);
     }

@@ -1,5 +1,4 @@
 -- `words_of` meets its contract. The loop's invariant: the first words are read.
-use Prim.Native.Nat.{◌-◌}
 use mathlib.Core.Path.{sym, ◌∙◌}
 use native.Mathlib.Omega.{arith}
 use lib.Seq.{take_all}

@@ -1,5 +1,4 @@
 -- `shared_length` meets its contract: what the first i candidates share is the front of the first.
-use Prim.Native.Nat.{◌-◌}
 use mathlib.Core.Path.{refl, sym, ap, ◌∙◌}
 use lib.Seq.{length-take-le}
 use native.Mathlib.Omega.{arith}

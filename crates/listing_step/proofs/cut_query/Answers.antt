@@ -18,8 +18,13 @@ overflow_add-here c =
 pub overflow_cast-here : goal.overflow_cast-here
 overflow_cast-here c =
     record {
-      sfits = omega
-          (arith, c.segment_length-len.ensures, c.requires.1, c.requires.2, before_inside c.args.query.now c.requires.0 (omega (arith, c.if-query-eq0.false)));
+      sfits = omega (
+        arith,
+        c.segment_length-len.ensures,
+        c.requires.1,
+        c.requires.2,
+        before_inside c.args.query.now c.requires.0 (omega (arith, c.if-query-eq0.false)),
+      );
     }
 
 pub overflow_add-result : goal.overflow_add-result

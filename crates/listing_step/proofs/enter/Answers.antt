@@ -11,5 +11,6 @@ returns c =
     record {
       value = refl;
       entered = run_entered c.args.found c.requires.run_len c.set_path.ensures (omega (arith, c.text_len.ensures))
-          (⊎_elim (λ z. z.label-is ∙ rw (eq-eqb _ 0 z.if-n-eq0.true)) (λ z. z.label-is ∙ rw (ne_eqb _ 0 z.if-n-eq0.false)) c.if-n-eq0.branch-raw);
+          (⊎_elim (λ z. z.label-is ∙ rw (eq-eqb _ 0 z.if-n-eq0.true))
+          (λ z. z.label-is ∙ rw (ne_eqb _ 0 z.if-n-eq0.false)) c.if-n-eq0.branch-raw);
     }

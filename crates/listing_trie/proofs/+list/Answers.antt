@@ -1,14 +1,17 @@
-use Rattle.std.proofs.Common.{arith, rules, refl, ◌∙◌}
+use Rattle.std.proofs.Common.{arith, rules, refl}
 use Rattle.text.proofs.Texts.{tail_is}
 use Rattle.find_tree.proofs.Branches.{any_tree}
 use Rattle.memory.proofs.At.{at_fits}
 use Rattle.merge.proofs.OneTree.{single_one}
 use Rattle.listing_line.proofs.Run.{same_run}
 use Rattle.listing_step.proofs.Cuts.{front_is}
-use Rattle.listing_trie.proofs.Branch.{leaf_runs, line_ready, branch_named, space_at, below_ready, child_earlier, namespace_ready, namespace_sized, namespace_runs}
-use Rattle.listing_trie.proofs.Listed.{none_runs, along_earlier, along_tree, along_begins, stepping_first, stepping_branch, stepping_next, stepping_less, stepping_spent, stepping_done, list_any, one_earlier, one_ready, one_runs}
+use Rattle.listing_trie.proofs.Branch.{leaf_runs, line_ready, branch_named, space_at, below_ready, child_earlier, namespace_ready, namespace_sized}
+use Rattle.listing_trie.proofs.Branch.{namespace_runs}
+use Rattle.listing_trie.proofs.Listed.{none_runs, along_earlier, along_tree, along_begins, stepping_first, stepping_branch, stepping_next, stepping_less}
+use Rattle.listing_trie.proofs.Listed.{stepping_spent, stepping_done, list_any, one_earlier, one_ready, one_runs}
 use Rattle.listing_trie.proofs.Listed.{merging_first, merging_any, merging_done, merging_earlier, merging_less, merging_branch, merging_next, merging_spent}
-use Rattle.listing_trie.proofs.Trie.{trie_spent, trie_named, cut_ready, bindings_earlier, namespaces_earlier, bindings_asked, namespaces_asked, trie_all, trie_few}
+use Rattle.listing_trie.proofs.Trie.{trie_spent, trie_named, cut_ready, bindings_earlier, namespaces_earlier, bindings_asked, namespaces_asked, trie_all}
+use Rattle.listing_trie.proofs.Trie.{trie_few}
 use Rattle.listing_trie.proofs.+list.Goals as goal
 
 -- ---- list_below

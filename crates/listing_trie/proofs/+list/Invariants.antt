@@ -1,4 +1,4 @@
-use Rattle.std.proofs.Common.{ℕ, ◌+◌, ◌*◌, length, take}
+use Rattle.std.proofs.Common.{◌+◌, ◌*◌, length, take}
 use Rattle.merge.specs.Stream.{state, left_in}
 use Rattle.listing_trie.proofs.Listed.{onward, Stepping, Merging}
 use Rattle.listing_trie.proofs.+list.Given as goal

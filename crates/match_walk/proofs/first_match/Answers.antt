@@ -7,7 +7,11 @@ use Rattle.match_walk.proofs.first_match.Goals as goal
 
 pub descend-n-requires : goal.descend-n-requires
 descend-n-requires c =
-    record { any_tree = c.requires.any_tree; prefix_value = starts_self c.args.prefix.now; fits = clear_fits c.args.notes.now c.requires.notes_len }
+    record {
+      any_tree = c.requires.any_tree;
+      prefix_value = starts_self c.args.prefix.now;
+      fits = clear_fits c.args.notes.now c.requires.notes_len;
+    }
 
 pub last_note-requires : goal.last_note-requires
 last_note-requires c =

@@ -11,7 +11,12 @@ use Rattle.match_walk.proofs.next_match.Goals as goal
 
 pub note_left-here-requires : goal.note_left-here-requires
 note_left-here-requires c =
-    record { any_tree = rw c.right_of-right.ensures (any_right c.requires.at_nonzero.1 c.requires.at_nonzero.0); all_after = rw c.right_of-right.ensures (right_after c.args.prefix.now c.requires.at_nonzero c.requires.prefix_value); fits = c.requires.noted.fits }
+    record {
+      any_tree = rw c.right_of-right.ensures (any_right c.requires.at_nonzero.1 c.requires.at_nonzero.0);
+      all_after =
+          rw c.right_of-right.ensures (right_after c.args.prefix.now c.requires.at_nonzero c.requires.prefix_value);
+      fits = c.requires.noted.fits;
+    }
 
 pub last_note-requires : goal.last_note-requires
 last_note-requires c =

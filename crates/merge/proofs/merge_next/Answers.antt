@@ -27,7 +27,12 @@ returns-then-t-eq-CELLS c =
 
 pub same_key-requires : goal.same_key-requires
 same_key-requires c =
-    let pre = c.requires in record { a_nonzero = passing_branch (c.loop-t.invariant pre.labels) pre.any c.take-t.ensures c.if-t-eq-CELLS.false; b_nonzero = passing_last (c.loop-t.invariant pre.labels) pre.any c.take-t.ensures c.if-t-eq-CELLS.false c.if-last-eq0.false }
+    let pre = c.requires in
+    record {
+      a_nonzero = passing_branch (c.loop-t.invariant pre.labels) pre.any c.take-t.ensures c.if-t-eq-CELLS.false;
+      b_nonzero = passing_last
+          (c.loop-t.invariant pre.labels) pre.any c.take-t.ensures c.if-t-eq-CELLS.false c.if-last-eq0.false;
+    }
 
 pub returns-then-last-eq0 : goal.returns-then-last-eq0
 returns-then-last-eq0 c =
@@ -38,7 +43,8 @@ returns-then-last-eq0 c =
       | then-last-eq0-via-else-last-eq0+then-not-same_key w ↦ λ n. sym w.same_key.ensures ∙ w.if-not-same_key.true
     ] in
     record {
-      small = λ n. passing_small (c.loop-t.invariant c.requires.labels) c.requires.any c.take-t.ensures c.if-t-eq-CELLS.false;
+      small = λ n. passing_small
+          (c.loop-t.invariant c.requires.labels) c.requires.any c.take-t.ensures c.if-t-eq-CELLS.false;
       gives = λ labels. passing_gives (c.loop-t.invariant labels) c.take-t.ensures c.if-t-eq-CELLS.false new;
     }
 

@@ -7,7 +7,9 @@ use Rattle.merge.proofs.merge_next.Given as goal
 
 abbrev pub invariant-loop-t : goal.invariant-loop-t
 invariant-loop-t l =
-    (labels : List ℕ) → Passing l.words l.text l.prefix (state l.initial.roots l.initial.heads l.initial.beginnings labels l.initial.child l.initial.next l.n l.initial.root l.last) l.roots l.heads l.beginnings l.child l.next l.root
+    (labels : List ℕ) → Passing l.words l.text l.prefix
+    (state l.initial.roots l.initial.heads l.initial.beginnings labels l.initial.child l.initial.next l.n l.initial.root l.last) l.roots l.heads l.beginnings
+    l.child l.next l.root
 
 abbrev pub decreases-loop-t : goal.decreases-loop-t
 decreases-loop-t l =
