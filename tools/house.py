@@ -8,7 +8,7 @@ function proofs, must-fail edits, lines that are too long (tools/wrap.py); then 
   a use that crates.txt does not name; a definition (specs/, or a contract) that cites proofs/;
   a bare word number outside crate memory, in code (`word_of(words, x, 3)`, `row[3]`) or in definitions and laws (`word r 3`, `stored ws x 10`);
   a function of more than eight parameters that is not exported, but for those named below; an edit of a proof;
-  a page that does not show what crates.txt has: README the rooms and their picture, docs/HOUSE.md each crate by the first line of its code.
+  a page that does not show what crates.txt has: README the rooms and their picture, docs/HOUSE.md each crate by the first comment of its code.
 --check prints these alone and closes with 'N passed, M failed'. --write writes the pages anew. --above says how many crates stand on each one named.
 """
 import collections
@@ -171,13 +171,13 @@ def picture(rooms, deps, room_of):
 
 
 def register(rooms, deps, room_of):
-    """A row a crate, by the first line of its code."""
+    """A row a crate, by the first comment of its code."""
     lines = ['| room | crate | what |', '|---|---|---|']
     last = None
     for c in deps:
         (path,) = glob.glob(f'crates/{c}/src/lib.rt') + glob.glob(f'crates/{c}/src/main.rt')
         room, last = (room_of[c] if room_of[c] != last else ''), room_of[c]
-        lines.append(f'| {room} | {c} | {read(path).split(chr(10))[0].lstrip("/ ")} |')
+        lines.append(f'| {room} | {c} | {re.search("^// *(.*)", read(path), re.M).group(1)} |')
     return '\n'.join(lines) + '\n'
 
 

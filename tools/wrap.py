@@ -3,8 +3,8 @@
 
 Statements (types of laws and definitions, fields, heads of records, contracts, all of specs/) have at most 120 characters; bodies of proofs/, comments
 and `use` lines 160. A line is broken where its brackets are least deep: after `in`, before `→`, after `=`, before another operator, before an argument;
-a list is opened, an element a line; a `use` line becomes two of the same file. Tokens stay in order; no chain `c .before ..` and no text that a must-fail
-edit names is broken. With --check it changes nothing. It names the lines that stay too long, and closes with 'N passed, M failed', a file being one.
+a list is opened, an element a line; a `use` line becomes two of the same file. Tokens stay in order; no text that a must-fail edit names is
+broken. With --check it changes nothing. It names the lines that stay too long, and closes with 'N passed, M failed', a file being one.
 """
 import glob
 import os
