@@ -2,9 +2,9 @@
 use Prim.Native.Nat.{ℕ, ◌≤◌}
 use native.Mathlib.Omega.{arith}
 use mathlib.Core.Path.{◌≡◌, refl, sym, ◌∙◌}
-use mathlib.Core.Bool.{Bool, true, false, not, true≢false}
 use mathlib.Core.List.{List}
 use lib.ListN.{length}
+use Rattle.std.specs.Prelude.{OnOk}
 use Rattle.text.specs.Laid.{Laid}
 use Rattle.text.proofs.Laid.{laid_length}
 use Rattle.script_decimal.specs.Bytes.{All}
@@ -15,16 +15,8 @@ use Rattle.console_backlog.specs.Moves.{bytes_kept}
 use Rattle.console_feed.specs.Feed.{pending, Inside, Feeds}
 use Rattle.console_feed.specs.declared.Feed.{Feed}
 use Rattle.console_feed.specs.declared.Progress.{Progress}
+use Rattle.console.specs.declared.AfterRead.{AfterRead}
 use Rattle.console.specs.Fed.{Steps, none, more, Rests}
-
--- What a test of `!b` says.
-pub not-true : (b : Bool) → not b ≡ true → b ≡ false
-not-true true e = absurd (true≢false (sym e))
-not-true false e = refl
-
-pub not-false : (b : Bool) → not b ≡ false → b ≡ true
-not-false true e = refl
-not-false false e = absurd (true≢false e)
 
 pub laid_fits : {d d' s : List ℕ} {at r : ℕ} → Laid d d' at r s → r ≤ length d'
 laid_fits x = omega (arith, x.fits, laid_length x)
@@ -77,8 +69,8 @@ steady_on {flat₀ = flat₀} {pane₀} {flat = flat} {pane} s x i f p = let e :
       reply_size = laid_length x.laid ∙ s.reply_size;
     }
 
-pub steady_rests : {words₀ text₀ input₀ flat₀ pane₀ reply₀ words text input flat pane reply : List ℕ} {g₀ g : Feed}
-    {b : Bool} → Steady words₀ text₀ input₀ flat₀ pane₀ reply₀ g₀ words text input flat pane reply g
-    → (b ≡ true → (g.from ≡ 0) × (g.have ≤ bytes_kept) × All Line (pending g input))
-    → Rests words₀ text₀ words text input₀ input (output flat₀ pane₀) g₀ (record { feed = g; written = b })
+pub steady_rests : {words₀ text₀ input₀ flat₀ pane₀ reply₀ words text input flat pane reply : List ℕ} {g₀ : Feed}
+    {r : AfterRead} → Steady words₀ text₀ input₀ flat₀ pane₀ reply₀ g₀ words text input flat pane reply r.feed
+    → OnOk r.written ((r.feed.from ≡ 0) × (r.feed.have ≤ bytes_kept) × All Line (pending r.feed input))
+    → Rests words₀ text₀ words text input₀ input (output flat₀ pane₀) g₀ r
 steady_rests s h = record { steps = s.steps; sound = s.sound; inside = s.inside; short = h }
