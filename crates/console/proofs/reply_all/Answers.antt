@@ -12,7 +12,7 @@ returns-in-Err g c =
 
 pub returns-then-not-r : goal.returns-then-not-r
 returns-then-not-r g c =
-    steady_rests (steady_on c.loop-fault.invariant c.step-r.ensures (search rules) (search rules) (search rules)) (c.step-r.ensures.stops c.if-not-r.true)
+    steady_rests (steady_on c.loop-fault.invariant c.step-r.ensures (search rules) (search rules) (search rules)) (c.step-r.ensures.stops (search rules))
 
 pub loop-fault-preserved : goal.loop-fault-preserved
 loop-fault-preserved g c =
