@@ -1,11 +1,9 @@
 -- What holds before each step over what was read, and after it.
-use Prim.Native.Nat.{ℕ, ◌≤◌}
-use native.Mathlib.Omega.{arith}
-use mathlib.Core.Path.{◌≡◌, refl, sym, ◌∙◌}
+use Prim.Native.Nat.{ℕ}
+use mathlib.Core.Path.{◌≡◌, refl, ◌∙◌}
 use mathlib.Core.List.{List}
 use lib.ListN.{length}
 use Rattle.std.specs.Prelude.{OnOk}
-use Rattle.text.specs.Laid.{Laid}
 use Rattle.text.proofs.Laid.{laid_length}
 use Rattle.script_decimal.specs.Bytes.{All}
 use Rattle.script_decimal.specs.declared.Sort.TheVariants.{Line}
@@ -17,9 +15,6 @@ use Rattle.console_feed.specs.declared.Feed.{Feed}
 use Rattle.console_feed.specs.declared.Progress.{Progress}
 use Rattle.console.specs.declared.AfterRead.{AfterRead}
 use Rattle.console.specs.Fed.{Steps, none, more, Rests}
-
-pub laid_fits : {d d' s : List ℕ} {at r : ℕ} → Laid d d' at r s → r ≤ length d'
-laid_fits x = omega (arith, x.fits, laid_length x)
 
 pub record Steady (words₀ text₀ input₀ flat₀ pane₀ reply₀ : List ℕ) (g₀ : Feed)
     (words text input flat pane reply : List ℕ) (g : Feed) : Type 0 where

@@ -32,8 +32,8 @@ pub record Rests (ws txt ws' txt' input input' : List ℕ) (out : Output) (f : F
   pub short : OnOk r.written ((r.feed.from ≡ 0) × (r.feed.have ≤ bytes_kept) × All Line (pending r.feed input'))
 
 -- The end of the input is answered; of the writing of its reply no more is known than `Put` says.
-pub record Closes {T E : Type 0} (ws txt ws' txt' : List ℕ) (f : Feed) (input flat flat' pane pane' reply reply' : List ℕ)
-    (r : Result T E) : Type 0 where
+pub record Closes {T E : Type 0} (ws txt ws' txt' : List ℕ) (f : Feed)
+    (input flat flat' pane pane' reply reply' : List ℕ) (r : Result T E) : Type 0 where
   pub done : Done
   pub ends : Ends ws txt ws' txt' f input flat flat' pane pane' reply reply' done
   pub written : Put (take done.end reply') r

@@ -3,6 +3,7 @@
 // Replies are written out before each read, so that whoever types a line sees its reply. A read or a write that fails ends the program,
 // and nothing of a partial line is executed.
 #![tactic(auto)]
+
 ghost use Rattle.std.specs.Prelude.{◌≤◌, length};
 ghost use Rattle.listing.specs.Completes.{output};
 ghost use Rattle.table.specs.Header.{IsSound};

@@ -2,6 +2,7 @@
 // Cases 1 to 11 are scripts, each on a fresh table as the program `console` has it; what is written is held to the file `stdout`,
 // which is written from the requirements.
 #![tactic(auto)]
+
 use listing::Completed;
 use source::{ItemKind, KindFilter, LidSymbol};
 use std::io::{Print, Stdout};
@@ -179,8 +180,16 @@ fn limits(out: Stdout) {
         b"",
         b"[name [a.b.c.d.e.f.g.h.i.j.k.l.m.n.o.p.] x 1]\n[find [a.b.c.d.e.f.g.h.i.j.k.l.m.n.o.p.x.]]\n",
     );
-    play(out, b"", b"[name [a.b.c.d.e.f.g.h.i.j.k.l.m.n.o.p.q.] x 1]\n");
-    play(out, b"", b"[name [a.b.c.d.e.f.g.h.i.j.k.l.m.n.o.p.q.r.] x 1]\n");
+    play(
+        out,
+        b"",
+        b"[name [a.b.c.d.e.f.g.h.i.j.k.l.m.n.o.p.q.] x 1]\n",
+    );
+    play(
+        out,
+        b"",
+        b"[name [a.b.c.d.e.f.g.h.i.j.k.l.m.n.o.p.q.r.] x 1]\n",
+    );
 }
 
 fn rooms(out: Stdout) {

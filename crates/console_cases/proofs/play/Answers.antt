@@ -18,7 +18,11 @@ answer_lines-a-requires c =
 
 pub answer_lines-b-requires : goal.answer_lines-b-requires
 answer_lines-b-requires c =
-    record { sound = c.answer_lines-a.ensures.sound; pane_in_bounds = omega (arith, c.reply-2-1.given, c.pane-2-1.given, c.flat-2-1.given); from_in_bounds = zero-le }
+    record {
+      sound = c.answer_lines-a.ensures.sound;
+      pane_in_bounds = omega (arith, c.reply-2-1.given, c.pane-2-1.given, c.flat-2-1.given);
+      from_in_bounds = zero-le;
+    }
 
 pub slice_bounds-say-end : goal.slice_bounds-say-end
 slice_bounds-say-end c =
