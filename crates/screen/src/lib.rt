@@ -2,6 +2,7 @@
 // A slice passes as a pointer and a length. What the calls share is crate screen_calls.
 // Every exported call answers for whatever bytes are lent.
 #![tactic(auto)]
+
 ghost use Rattle.std.specs.Prelude.{true, false};
 ghost use Rattle.std.proofs.Math.Option.{some};
 ghost use Rattle.source.specs.Calls.{name, include, opens, alias, module_path};

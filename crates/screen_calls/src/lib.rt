@@ -2,6 +2,7 @@
 // State and words are bytes as crate memory_bytes reads them; a call copies the words in, tests them with little stack, calls crate table,
 // and copies out what an accepted registration has taken. Lines are written in place.
 #![tactic(auto)]
+
 ghost use Rattle.std.specs.Prelude.{◌≡◌, length};
 ghost use Rattle.std.proofs.Math.Option.{none, some};
 ghost use Rattle.register_kind.specs.Shapes.{call_of};

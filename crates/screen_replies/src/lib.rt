@@ -1,5 +1,6 @@
 // Replies as numbers, by what crate table hands back, and what is asked by number.
 #![tactic(auto)]
+
 ghost use Rattle.std.specs.Prelude.{◌<◌, ◌≡◌};
 ghost use Rattle.std.proofs.Math.Option.{some};
 ghost use Rattle.source.specs.Calls.{refused};

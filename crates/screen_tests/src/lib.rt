@@ -1,6 +1,7 @@
 // Calls for tests and benchmarks outside Rattle: slices pass as a pointer and a length, a table as its four numbers.
 // Each replies what crate table hands back.
 #![tactic(auto)]
+
 ghost use Rattle.std.specs.Prelude.{◌≡◌, true, false};
 ghost use Rattle.source.specs.Calls.{name, include, opens, alias, module_path};
 ghost use Rattle.memory.specs.Sound.{Says};

@@ -1,5 +1,6 @@
 // The typed completion: a line is a struct, and lines go into a lent slice of these.
 #![tactic(auto)]
+
 ghost use Rattle.std.specs.Prelude.{◌≡◌, ◌+◌, ◌*◌, ◌≤◌, ◌<◌, length, set};
 ghost use Rattle.listing_output.specs.Output.{line_bytes};
 ghost use Rattle.table_typed.specs.Lines.{line_of_row, line_at, stored_lines};

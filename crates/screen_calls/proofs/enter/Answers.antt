@@ -17,9 +17,12 @@ register_sound-r-requires c =
 
 pub save-requires : goal.save-requires
 save-requires c =
-    let pre = c.requires in record { state_len = pre.state_len; record_words_in_bounds = store_fits (held_is pre.state_len c.table_of-t.ensures pre.memory_value)
+    let pre = c.requires in record {
+      state_len = pre.state_len;
+      record_words_in_bounds = store_fits (held_is pre.state_len c.table_of-t.ensures pre.memory_value)
           (says_holds c.is_sound_small.result c.is_sound_small.ensures c.if-not-is_sound_small.false) c.register_sound-r.ensures
-          (ap refusal_of c.in-Accepted.is) c.register_sound-r.auto.words }
+          (ap refusal_of c.in-Accepted.is) c.register_sound-r.auto.words;
+    }
 
 pub returns-in-Accepted : goal.returns-in-Accepted
 returns-in-Accepted c =
