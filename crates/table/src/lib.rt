@@ -1,6 +1,7 @@
 // The calls on a table: a header by value, with the lent words and text. Each hands the table back with its answer.
 // Each call has a form for callers that have proved the memory sound, and a total one that tests it first.
 #![tactic(auto)]
+
 mod registers;
 
 ghost use Rattle.std.specs.Prelude.{true};

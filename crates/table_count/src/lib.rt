@@ -1,5 +1,6 @@
 // Line structs in numbers: the match length that one holds, the bytes lent for them, and how many are listed.
 #![tactic(auto)]
+
 ghost use Rattle.std.specs.Prelude.{◌*◌, ◌/◌, min, ◌≡◌};
 ghost use Rattle.listing_output.specs.Output.{line_bytes};
 ghost use Rattle.table_count.specs.MatchLength.{held_length};

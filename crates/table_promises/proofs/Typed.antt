@@ -82,7 +82,8 @@ module _ {A : Type 0} where
       (sym (append_assoc l.annotation _ x) ∙ c.1 ∙ append_assoc l'.annotation _ x') in
       ap₂ ◌∷◌
       (line_same l l' (ap (λ (z : LineRecord A). z.match_length) r) (ap (λ (z : LineRecord A). z.item_of) r) c.0 a.0)
-      (lines_same _ _ ls ls' x x' (tail-eq_of_cons-eq e) a.1)
+      (lines_same (at + length l.candidate + length l.annotation) (at' + length l'.candidate + length l'.annotation) ls ls' x x'
+      (tail-eq_of_cons-eq e) a.1)
 
 stand_same : {w : Which} {txt : List ℕ} {ls ls' : List Line} {out out' : List ℕ} {n : ℕ}
     (lines lines' : List (S.Line (Item w)))

@@ -1,5 +1,6 @@
 // Look-up and completion in a sound memory, each on the root that is asked.
 #![tactic(auto)]
+
 ghost use Rattle.std.specs.Prelude.{◌≡◌, true};
 ghost use Rattle.source.specs.Calls.{look_up};
 ghost use Rattle.memory.specs.Layout.{names, trieˢ, what};

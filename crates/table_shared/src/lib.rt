@@ -1,6 +1,7 @@
 // Completions that say, beside what a completion says, how long the beginning is that all its lines share.
 // The completion is crate table's; the lines that it wrote are read once.
 #![tactic(auto)]
+
 ghost use Rattle.std.specs.Prelude.{◌≡◌};
 ghost use Rattle.listing_shared.specs.Shared.{CandidatesIn};
 ghost use Rattle.table_count.specs.LinesIn.{lines_in};
