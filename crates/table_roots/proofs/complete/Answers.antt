@@ -31,7 +31,10 @@ slice_bounds-texts-end c =
 
 pub complete-requires : goal.complete-requires
 complete-requires c =
-    record { at = rw c.root_for-root.ensures (root_trie (used_part_sound c.requires) c.args.request.ask); query_value = admitted_none (one_flagged c.completion_flags.ensures) c.admit-a.ensures c.in-Admitted.is }
+    record {
+      at = rw c.root_for-root.ensures (root_trie (used_part_sound c.requires) c.args.request.ask);
+      query_value = admitted_none (one_flagged c.completion_flags.ensures) c.admit-a.ensures c.in-Admitted.is;
+    }
 
 pub returns-in-Refused : goal.returns-in-Refused
 returns-in-Refused c =

@@ -5,7 +5,11 @@ use Rattle.table_roots.proofs.look_up.Goals as goal
 
 pub trie_find_exact-link-requires : goal.trie_find_exact-link-requires
 trie_find_exact-link-requires c =
-    record { any_trie = c.requires; query_value = look_up_query_whole _ (admitted_none (one_flagged c.look_up_flags.ensures) c.admit-a.ensures c.in-Admitted.is) }
+    record {
+      any_trie = c.requires;
+      query_value = look_up_query_whole _
+          (admitted_none (one_flagged c.look_up_flags.ensures) c.admit-a.ensures c.in-Admitted.is);
+    }
 
 pub returns-then-link-eq0 : goal.returns-then-link-eq0
 returns-then-link-eq0 c =
