@@ -1,6 +1,5 @@
 -- `answer_lines` meets its contract.
 use Rattle.console_answers.proofs.Talked.{talk_going_start, talk_going_on, talked_out, talked_full}
-use Prim.Native.Nat.{◌-◌}
 use mathlib.Core.Path.{refl}
 use native.Mathlib.Omega.{arith}
 use borrow.Author.Rules.{rules}
@@ -25,7 +24,10 @@ overflow_add-e c =
 pub answer-d-requires : goal.answer-d-requires
 answer-d-requires c =
     let inv = c.loop-reply.invariant in
-    record { sound = inv.1.sound; pane_in_bounds = omega (arith, inv.1.fits, inv.1.reply_size, inv.1.flat_size, inv.1.pane_size, inv.0) }
+    record {
+      sound = inv.1.sound;
+      pane_in_bounds = omega (arith, inv.1.fits, inv.1.reply_size, inv.1.flat_size, inv.1.pane_size, inv.0);
+    }
 
 pub overflow_add-i : goal.overflow_add-i
 overflow_add-i c =

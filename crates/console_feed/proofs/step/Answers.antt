@@ -12,7 +12,16 @@ slice_bounds-answer_lines-end-2 c =
 
 pub answer_lines-r-requires : goal.answer_lines-r-requires
 answer_lines-r-requires c =
-    record { sound = c.requires.sound; pane_in_bounds = c.requires.pane_in_bounds; from_in_bounds = omega (arith, c.requires.inside.started, c.requires.inside.ended, length-take-le c.args.f.have c.args.input.now c.requires.inside.ended) }
+    record {
+      sound = c.requires.sound;
+      pane_in_bounds = c.requires.pane_in_bounds;
+      from_in_bounds = omega (
+        arith,
+        c.requires.inside.started,
+        c.requires.inside.ended,
+        length-take-le c.args.f.have c.args.input.now c.requires.inside.ended,
+      );
+    }
 
 pub returns-then-from-r : goal.returns-then-from-r
 returns-then-from-r c =

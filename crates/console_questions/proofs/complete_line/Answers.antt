@@ -7,7 +7,10 @@ use Rattle.console_questions.proofs.complete_line.Goals as goal
 
 pub put_completed-requires : goal.put_completed-requires
 put_completed-requires c =
-    record { rows_shown = (completes_tells c.requires.sound c.complete_sound-l.ensures).shown; pane_in_bounds = omega (arith, c.requires.pane_in_bounds) }
+    record {
+      rows_shown = (completes_tells c.requires.sound c.complete_sound-l.ensures).shown;
+      pane_in_bounds = omega (arith, c.requires.pane_in_bounds);
+    }
 
 pub returns : goal.returns
 returns c =

@@ -10,7 +10,8 @@ put_rows-e-requires c =
 
 pub put_end-requires : goal.put_end-requires
 put_end-requires c =
-    let p = rw c.in-Listed.is at c.requires.rows_shown in omega (arith, c.put_rows-e.ensures.1, p.1, c.requires.pane_in_bounds, laid_length c.put_rows-e.ensures.0)
+    let p = rw c.in-Listed.is at c.requires.rows_shown in
+    omega (arith, c.put_rows-e.ensures.1, p.1, c.requires.pane_in_bounds, laid_length c.put_rows-e.ensures.0)
 
 pub returns-in-Listed : goal.returns-in-Listed
 returns-in-Listed c =

@@ -1,5 +1,5 @@
 -- `put_rows` meets its contract.
-use Prim.Native.Nat.{◌-◌, ◌<◌}
+use Prim.Native.Nat.{◌<◌}
 use native.Mathlib.Omega.{arith}
 use Rattle.text.proofs.Laid.{laid_length}
 use Rattle.console_questions.proofs.RowReplies.{rows_going_start, going_texts, going_space, rows_going_on, rows_going_end}
