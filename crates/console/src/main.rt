@@ -1,5 +1,5 @@
 // The program `console`: it reads a script from standard input to its end and replies line by line.
-// What is read and written no contract can say: crate console_feed says what the replies are, and here its steps are fed.
+// What the system gives and takes no contract can say: crate console_feed says what the replies are, and here its steps are fed.
 // Replies are written out before each read, so that whoever types a line sees its reply. A read or a write that fails ends the program,
 // and nothing of a partial line is executed.
 #![tactic(auto)]
