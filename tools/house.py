@@ -62,6 +62,17 @@ def lines_of(crate):
             yield rel, kind, read(path).split('\n')
 
 
+def in_clauses(lines):
+    """Of each line of code whether it stands in a clause: from `requires` or `ensures` to the brace that closes it."""
+    out, depth = [], 0
+    for line in lines:
+        begins = not depth and re.match(r'\s*(?:requires|ensures)\*? .*?\{', line)
+        out.append(bool(begins or depth))
+        if out[-1]:
+            depth += line.count('{') - line.count('}')
+    return out
+
+
 def reached(crates):
     """For each crate, the crates whose types stand in fields of its public structs, or whose definitions its contracts cite: a caller needs them too."""
     out = collections.defaultdict(set)
@@ -71,7 +82,7 @@ def reached(crates):
         for path in glob.glob(f'crates/{crate}/src/*.rt'):
             text = read(path)
             out[crate] |= set(re.findall(r'^ghost use Rattle\.(?!std\.|%s\.)([a-z0-9_]+)\.specs' % crate, text, re.M))
-            origin = dict((t, c) for c, t in re.findall(r'^use (\w+)::(\w+);', text, re.M))
+            origin = {t: c for c, ts in re.findall(r'^use (\w+)::\{?([\w, ]+)\}?;', text, re.M) for t in re.findall(r'\w+', ts)}
             for body in re.findall(r'pub (?:struct|enum) \w+ \{(.*?)\n\}', text, re.S):
                 out[crate] |= {origin[t] for t in re.findall(r'\b([A-Z]\w*)\b', body) if t in origin}
     return out
@@ -94,6 +105,7 @@ def survey(deps):
             if kind == 'code':
                 wrong += parameters(f'crates/{crate}/{rel}', '\n'.join(lines))
             size[crate]['long'] += sum(len(s) > most for s, (most, _) in zip(lines, limits(f'crates/{crate}/{rel}', lines)))
+            clause = in_clauses(lines) if kind == 'code' else [True] * len(lines)
             for n, s in enumerate(lines, 1):
                 size[crate][kind] += bool(s.strip())
                 m = CITE.match(s)
@@ -104,7 +116,7 @@ def survey(deps):
                 elif kind == 'code' and not s.lstrip().startswith('//'):
                     used |= {(crate, c) for c in CALL.findall(s) if c in deps}
                 if f'{crate}/{rel}' not in LAYOUTS and crate != 'memory' and not m and not s.lstrip().startswith(('//', '--')) and 'fullShare' not in s:
-                    if (BARE_SPEC if kind != 'code' or '⌜' in s else BARE_CODE).search(s):
+                    if (BARE_SPEC if clause[n - 1] else BARE_CODE).search(s):
                         wrong.append(f'crates/{crate}/{rel}:{n}: a bare word number: {s.strip()[:100]}')
         for path in glob.glob(f'crates/{crate}/must-fail/*.edit'):
             size[crate]['edits'] += 1

@@ -30,7 +30,7 @@ def parse(path, text):
         declared = DECL.match(line)
         if not line.strip() or line.lstrip().startswith('use '):
             continue
-        if now and (indent > depth or not declared and not GROUP.match(line) and not line.startswith('mod')):
+        if now and (indent > depth or not declared and not GROUP.match(line) and not line.startswith('mod ')):
             if into is not None and indent == into and declared:  # a constructor
                 now.names += declared.group(5).split()
             now.text.append(line)
