@@ -1,4 +1,5 @@
 -- How much one registration can move: the lines of one query, and look-ups, before and after an accepted call.
+-- Stated, and not proved yet: no theorem and no contract cites it, so it is no promise (docs/PORT.md, section 8).
 use Rattle.std.specs.Prelude.{◌≡◌, Bool, true, false, cond}
 use mathlib.Core.List.{List, [], ◌∷◌, ◌++◌, map, tail}
 use Rattle.std.proofs.Math.Option.{Option, some}
