@@ -4,19 +4,12 @@ ghost use Rattle.source.specs.Shared.{same};
 ghost use Rattle.console_streams.specs.Help.{is_help};
 
 use std::io::Write;
-use text::Order;
 
 // Whether two texts are equal.
 fn same(a: &[u8], b: &[u8]) -> bool
     ensures { result ≡ same a.now b.now }
 {
-    let c = text::string_compare(a, b);
-    let o = c.order;
-    match o {
-        Order::Less => false,
-        Order::Same => true,
-        Order::More => false,
-    }
+    a == b
 }
 
 // Whether an argument is `-h` or `--help`.

@@ -9,10 +9,10 @@ ghost use Rattle.text.specs.Text.{ordering};
 ghost use Rattle.find_tree.specs.Tree.{AnyTree, FindsBranch, Placed};
 ghost use Rattle.find_tree.specs.Links.{past};
 
-use text::Order;
+use std::cmp::Ordering;
 
 // How `key` compares with the key of a branch.
-pub fn key_order(words: &[u32], text: &[u8], link: u32, key: &[u8]) -> Order
+pub fn key_order(words: &[u32], text: &[u8], link: u32, key: &[u8]) -> Ordering
     requires { (0 < link) × AnyTree words.now text.now link }
     ensures { ordering result ≡ string_compare key.now (key_at words.now text.now link) }
 {
@@ -44,17 +44,17 @@ pub fn place_of(words: &[u32], text: &[u8], root: u32, key: &[u8]) -> Place
     let mut count = 1;
     while 0 < link {
         match key_order(words, text, link, key) {
-            Order::Less => {
+            Ordering::Less => {
                 link = memory_access::left_of(words, link);
                 count += 1;
             }
-            Order::Same => {
+            Ordering::Equal => {
                 return Place {
                     link: link,
                     count: count,
                 };
             }
-            Order::More => {
+            Ordering::Greater => {
                 link = memory_access::right_of(words, link);
                 count += 1;
             }
@@ -80,8 +80,8 @@ pub fn key_past(words: &[u32], text: &[u8], link: u32, low: &[u8], strict: bool)
     ensures { result ≡ past strict low.now (key_at words.now text.now link) }
 {
     match key_order(words, text, link, low) {
-        Order::Less => true,
-        Order::Same => !strict,
-        Order::More => false,
+        Ordering::Less => true,
+        Ordering::Equal => !strict,
+        Ordering::Greater => false,
     }
 }

@@ -7,7 +7,7 @@ ghost use Rattle.source.specs.Limits.{most_used, record_words};
 ghost use Rattle.find_tree.specs.Tree.{AnyTree, Builds};
 ghost use Rattle.insert_tree.specs.Insert.{NotePut, Marked, AnyInsertion, Inserts};
 
-use text::Order;
+use std::cmp::Ordering;
 
 // Notes a branch and a side in record number `at`.
 fn put_note(words: &mut [u32], at: u32, link: u32, side: u32)
@@ -31,17 +31,17 @@ fn note_path(words: &mut [u32], text: &[u8], records: u32, root: u32, count: u32
     let mut link = root;
     while 0 < link {
         match find_tree::key_order(words, text, link, key) {
-            Order::Less => {
+            Ordering::Less => {
                 let next = memory_access::left_of(words, link);
                 put_note(words, at, link, 0);
                 link = next;
                 at -= 1;
             }
-            Order::Same => {
+            Ordering::Equal => {
                 put_note(words, at, link, 0);
                 return;
             }
-            Order::More => {
+            Ordering::Greater => {
                 let next = memory_access::right_of(words, link);
                 put_note(words, at, link, 1);
                 link = next;

@@ -2,7 +2,7 @@
 use Prim.Native.Nat.{ℕ, zero, suc, ◌+◌, ◌<◌, ◌≤◌}
 use mathlib.Core.Path.{◌≡◌, refl, sym, ap, ap₂, ◌∙◌}
 use mathlib.Core.List.{List, [], ◌∷◌, map, map-map, nil≢cons}
-use mathlib.Core.Option.{Option, none, some}
+use mathlib.Core.Option.{Option, none}
 use native.Mathlib.Omega.{arith}
 use lib.ListN.{length, get_or, length-map}
 use Rattle.source.specs.Text.{Str}
@@ -25,7 +25,7 @@ use Rattle.memory.specs.Layout.{Which, Item, list, what, key_at, tree}
 use Rattle.memory.proofs.Seen.{link_later}
 use Rattle.memory.proofs.Fine.{IsItem, link_fine}
 use Rattle.merge_heads.specs.Compare.{Heads, cell_cmp}
-use Rattle.merge_heap.specs.Cells.{count, Rep, first_cells}
+use Rattle.merge_heap.specs.Cells.{Rep, first_cells}
 use Rattle.merge_heads.proofs.Compare.{cell_cmp_run}
 use Rattle.merge_heap.proofs.CellCounts.{rep_below, counted_all}
 use Rattle.merge_heap.proofs.HeapMap.{map_insert}

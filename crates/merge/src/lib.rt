@@ -14,7 +14,7 @@ ghost use Rattle.merge.specs.Stream.{CellsReady, Takes, Begins, Stands, Steps};
 
 use merge_collect::LabelledList;
 use merge_heap::Popped;
-use text::Order;
+use std::cmp::Ordering;
 
 // The most trees of a list, whose weight is at most 96.
 pub const CELLS: usize = merge_heads::CELLS;
@@ -68,9 +68,9 @@ fn same_key(words: &[u32], text: &[u8], a: u32, b: u32) -> bool
     ensures { result ≡ same (key_at words.now text.now a) (key_at words.now text.now b) }
 {
     match find_tree::key_order(words, text, b, memory_access::key_of(words, text, a)) {
-        Order::Less => false,
-        Order::Same => true,
-        Order::More => false,
+        Ordering::Less => false,
+        Ordering::Equal => true,
+        Ordering::Greater => false,
     }
 }
 

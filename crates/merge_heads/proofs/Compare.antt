@@ -19,7 +19,7 @@ use Rattle.source.specs.Heap.{is_lt}
 use Rattle.source.specs.Lists.{Run, run_cmp}
 use Rattle.source.proofs.Order.{Viewℕ, compare_view}
 use Rattle.text.specs.Text.{ordering}
-use Rattle.text.specs.declared.Order.{Order}
+use Rattle.std.specs.declared.cmp.Ordering.{Ordering as Order}
 use Rattle.text.proofs.Beginnings.{Bytes, Before, beginning_says}
 use Rattle.memory.specs.Layout.{record_at, text_start, text_len, span, key_at}
 use Rattle.merge_heads.specs.Compare.{Head, cell_cmp, sign, Stands}

@@ -9,7 +9,7 @@ ghost use Rattle.memory.specs.Layout.{key_at};
 ghost use Rattle.memory.specs.Read.{TextIn};
 ghost use Rattle.merge_heads.specs.Compare.{Head, with_beginning, cell_cmp, sign};
 
-use text::Order;
+use std::cmp::Ordering;
 
 // How many lists a merge takes, and so how many cells there are. As a cell it is none.
 pub const CELLS: usize = memory::HEAVIEST as usize;
@@ -33,7 +33,7 @@ pub fn set_head(
 }
 
 // How the keys of two branches compare.
-fn compare_keys(words: &[u32], text: &[u8], x: u32, y: u32) -> Order
+fn compare_keys(words: &[u32], text: &[u8], x: u32, y: u32) -> Ordering
     requires text_in { TextIn words.now text.now x }
     requires text_in_2 { TextIn words.now text.now y }
     ensures { ordering result ≡ string_compare (key_at words.now text.now x) (key_at words.now text.now y) }
@@ -69,8 +69,8 @@ pub fn cell_cmp(
         return 1;
     }
     match compare_keys(words, text, heads[a], heads[b]) {
-        Order::Less => -1,
-        Order::Same => a as i32 - b as i32,
-        Order::More => 1,
+        Ordering::Less => -1,
+        Ordering::Equal => a as i32 - b as i32,
+        Ordering::Greater => 1,
     }
 }

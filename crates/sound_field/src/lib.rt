@@ -10,7 +10,6 @@ ghost use Rattle.text_query.specs.Queries.{byte_rule};
 ghost use Rattle.sound_field.specs.Fields.{Subtree, Far, WaysNoted, CanNoteWay, Ending, SaysLeft, SaysRight};
 
 use memory::Span;
-use text::Order;
 use text_query::Rule;
 
 // Is the span in the used part, `low` to `high` bytes long, and does each byte keep the rule?
@@ -78,13 +77,7 @@ pub fn link_ok(words: &[u32], link: u32, x: u32, k: u32) -> bool
 fn less(a: &[u8], b: &[u8]) -> bool
     ensures { Says result (a.now <ˢ b.now) }
 {
-    let c = text::string_compare(a, b);
-    let order = c.order;
-    match order {
-        Order::Less => true,
-        Order::Same => false,
-        Order::More => false,
-    }
+    text::string_compare(a, b).order.is_lt()
 }
 
 // Is the text of the first span before that of the second?

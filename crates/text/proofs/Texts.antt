@@ -10,12 +10,16 @@ use lib.Dec.{eqb, compare_is_eq, leb, leb-zero, leb-suc-zero, leb-suc-suc}
 use borrow.Author.Tests.{eq-eqb, ne_eqb}
 use lib.ListN.{length, get_or, take, drop, length-drop, drop_of_length-le}
 use lib.Seq.{drop-cons, take_all}
+use lib.Pointwise.{pointwise}
 use Rattle.source.specs.Text.{Str, dot, then, string_compare, starts_with, common_prefix, name_byte, query_byte}
 use Rattle.source.specs.Rules.{all}
 use Rattle.source.proofs.Order.{Viewℕ, compare_view}
 use Rattle.source.proofs.SharedBeginning.{common_same, common_differ}
 use Rattle.text.specs.Text.{ordering, Compares}
-use Rattle.text.specs.declared.Order.{Order}
+use Rattle.std.specs.declared.cmp.Ordering.{Ordering as Order}
+use Rattle.std.specs.declared.cmp.Ordering.TheVariants.{Less, Equal, Greater}
+use Rattle.std.specs.Ordering.{MatchOrdering, nat_cmp}
+use Rattle.std.proofs.lemmas.Cmp.{ranked}
 
 -- The byte at a position, and what comes after it.
 pub drop_at : (s : Str) (i : ℕ) → i < length s → drop i s ≡ get_or s i 0 ∷ drop (i + 1) s
@@ -43,6 +47,15 @@ compare_is a b o v = go (compare a b) o (compare_view a b) v
     go Ordering.gt Ordering.lt u v = absurd (omega arith)
     go Ordering.gt Ordering.eq u v = absurd (omega arith)
     go Ordering.gt Ordering.gt u v = refl
+
+-- What `x.cmp(&y)` answers.
+pub order_is : (x y : ℕ) (o : Order) → o ≡ nat_cmp x y → ordering o ≡ compare x y
+order_is x y o e = go o (ranked x y o e)
+  where
+    go : (p : Order) → MatchOrdering p (x < y) (x ≡ y) (y < x) → ordering p ≡ compare x y
+    go Less h = sym (compare_is x y Ordering.lt h)
+    go Equal h = sym (compare_is x y Ordering.eq h)
+    go Greater h = sym (compare_is x y Ordering.gt h)
 
 -- What is left from i on says how the whole compares, and how many leading bytes are equal.
 pub record Comparing (a b : Str) (i : ℕ) : Type 0 where
@@ -162,3 +175,20 @@ module _ {p : ℕ → Bool} {s : Str} {ok : Bool} {i : ℕ} (f : Passing p s ok 
 -- Whether two texts are equal, by which of the three orders it is.
 pub same_order : {o k : Order} {y : Ordering} → ordering o ≡ y → o ≡ k → compare_is_eq (ordering k) ≡ compare_is_eq y
 same_order e f = ap compare_is_eq (ap ordering (sym f) ∙ e)
+
+-- What `s == t` answers.
+pub equal_is : (s t : Str) → pointwise eqb s t ≡ compare_is_eq (string_compare s t)
+unfolding string_compare then
+equal_is [] [] = refl
+equal_is [] (b ∷ t) = refl
+equal_is (a ∷ s) [] = refl
+equal_is (a ∷ s) (b ∷ t) =
+    elim (ℕ_discrete a b) [
+      | yes e ↦ rw (eq-eqb a b e, compare_is a b Ordering.eq e) (equal_is s t)
+      | no n ↦ rw (ne_eqb a b n, then_stands a b (string_compare s t) n) (sym (differ (compare a b) (compare_view a b) n))
+    ]
+  where
+    differ : {x y : ℕ} (o : Ordering) → Viewℕ x y o → (x ≡ y → ⊥) → compare_is_eq o ≡ false
+    differ Ordering.lt v m = refl
+    differ Ordering.eq v m = absurd (m v)
+    differ Ordering.gt v m = refl

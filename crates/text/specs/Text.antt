@@ -2,15 +2,15 @@
 use Prim.Native.Nat.{ℕ, zero, suc, ◌+◌, ◌*◌, Ordering}
 use Rattle.std.specs.Prelude.{◌≡◌, length, get_or}
 use Rattle.source.specs.Text.{Str, string_compare, common_prefix}
-use Rattle.text.specs.declared.Order.{Order}
-use Rattle.text.specs.declared.Order.TheVariants.{Less, Same, More}
+use Rattle.std.specs.declared.cmp.Ordering.{Ordering as Order}
+use Rattle.std.specs.declared.cmp.Ordering.TheVariants.{Less, Equal, Greater}
 use Rattle.text.specs.declared.Comparison.{Comparison}
 
 -- The source's answer that an answer of string_compare stands for.
 abbrev pub ordering : Order → Ordering
 ordering Less = Ordering.lt
-ordering Same = Ordering.eq
-ordering More = Ordering.gt
+ordering Equal = Ordering.eq
+ordering Greater = Ordering.gt
 
 -- How two texts compare: the source's order, and the bytes of the longest beginning that both have.
 pub record Compares (a b : Str) (r : Comparison) : Type 0 where

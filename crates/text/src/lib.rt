@@ -2,70 +2,36 @@
 #![tactic(auto)]
 
 ghost use Rattle.std.specs.Prelude.{◌≡◌};
-ghost use Prim.Native.Nat.{min, compare};
 ghost use Rattle.source.specs.Text.{starts_with};
-ghost use Rattle.text.specs.Text.{ordering, Compares, beginning};
+ghost use Rattle.text.specs.Text.{Compares, beginning};
+
+use std::cmp::Ordering;
 
 // Bytes in the number of a beginning.
 const BEGINNING: usize = 8;
 
-// How one text stands to another.
-#[derive(Clone, Copy)]
-pub enum Order {
-    Less,
-    Same,
-    More,
-}
-
 // How one text compares with another: the order, and how many leading bytes are equal.
 #[derive(Clone, Copy)]
 pub struct Comparison {
-    pub order: Order,
+    pub order: Ordering,
     pub agree: usize,
-}
-
-// The shorter of two lengths.
-fn shorter(a: usize, b: usize) -> usize
-    ensures { result ≡ min a b }
-{
-    if a < b {
-        return a;
-    }
-    b
-}
-
-// How one number stands to another.
-fn order_of(x: usize, y: usize) -> Order
-    ensures { ordering result ≡ compare x y }
-{
-    if x < y {
-        return Order::Less;
-    }
-    if x == y {
-        return Order::Same;
-    }
-    Order::More
 }
 
 // The source's string_compare: bytewise, a proper beginning first; with the count of equal leading bytes.
 pub fn string_compare(a: &[u8], b: &[u8]) -> Comparison
     ensures { Compares a.now b.now result }
 {
-    let n = shorter(a.len(), b.len());
-    let mut i = 0;
-    while i < n {
-        let x = a[i];
-        let y = b[i];
-        if x != y {
+    let n = a.len().min(b.len());
+    for i in 0..n {
+        if a[i] != b[i] {
             return Comparison {
-                order: order_of(x as usize, y as usize),
+                order: a[i].cmp(&b[i]),
                 agree: i,
             };
         }
-        i += 1;
     }
     Comparison {
-        order: order_of(a.len(), b.len()),
+        order: a.len().cmp(&b.len()),
         agree: n,
     }
 }
@@ -75,13 +41,11 @@ pub fn beginning(s: &[u8]) -> u64
     ensures { result ≡ beginning s.now }
 {
     let mut n: u64 = 0;
-    let mut i = 0;
-    while i < BEGINNING {
-        n = n * 256;
+    for i in 0..BEGINNING {
+        n *= 256;
         if i < s.len() {
-            n = n + s[i] as u64;
+            n += u64::from(s[i]);
         }
-        i += 1;
     }
     n
 }

@@ -8,12 +8,12 @@ unfolding past_by
 returns-in-Less c =
     past_is c.args.strict c.args.low.now _ (rw c.in-Less.is at c.key_order.ensures)
 
-pub returns-in-Same : goal.returns-in-Same
+pub returns-in-Equal : goal.returns-in-Equal
 unfolding past_by
-returns-in-Same c =
-    past_is c.args.strict c.args.low.now _ (rw c.in-Same.is at c.key_order.ensures)
+returns-in-Equal c =
+    past_is c.args.strict c.args.low.now _ (rw c.in-Equal.is at c.key_order.ensures)
 
-pub returns-in-More : goal.returns-in-More
+pub returns-in-Greater : goal.returns-in-Greater
 unfolding past_by
-returns-in-More c =
-    past_is c.args.strict c.args.low.now _ (rw c.in-More.is at c.key_order.ensures)
+returns-in-Greater c =
+    past_is c.args.strict c.args.low.now _ (rw c.in-Greater.is at c.key_order.ensures)

@@ -29,16 +29,16 @@ loop-link-preserved-in-Less c =
     search_left c.loop-link.invariant c.loop-link-test.true (rw c.in-Less.is at c.key_order.ensures)
     c.left_of-link.ensures
 
-pub returns-in-Same : goal.returns-in-Same
-returns-in-Same c =
-    search_here c.loop-link.invariant c.loop-link-test.true (rw c.in-Same.is at c.key_order.ensures)
+pub returns-in-Equal : goal.returns-in-Equal
+returns-in-Equal c =
+    search_here c.loop-link.invariant c.loop-link-test.true (rw c.in-Equal.is at c.key_order.ensures)
 
 pub right_of-link-requires : goal.right_of-link-requires
 right_of-link-requires c =
     omega (arith, tree_fits c.loop-link.invariant.any, c.loop-link-test.true)
 
-pub overflow_add-count-in-More : goal.overflow_add-count-in-More
-overflow_add-count-in-More c =
+pub overflow_add-count-in-Greater : goal.overflow_add-count-in-Greater
+overflow_add-count-in-Greater c =
     omega (arith, c.loop-link.invariant.small)
 
 pub loop-link-smaller : goal.loop-link-smaller
@@ -47,7 +47,7 @@ loop-link-smaller c =
 
 pub loop-link-preserved : goal.loop-link-preserved
 loop-link-preserved c =
-    search_right c.loop-link.invariant c.loop-link-test.true (rw c.in-More.is at c.key_order.ensures)
+    search_right c.loop-link.invariant c.loop-link-test.true (rw c.in-Greater.is at c.key_order.ensures)
     c.right_of-link.ensures
 
 pub returns : goal.returns

@@ -48,26 +48,26 @@ loop-link-preserved-in-Less c =
     mark_left c.loop-link.invariant c.loop-link-test.true (rw c.in-Less.is at c.key_order.ensures) c.left_of-next.ensures
     c.put_note.ensures
 
-pub put_note-requires-in-Same : goal.put_note-requires-in-Same
-put_note-requires-in-Same c =
+pub put_note-requires-in-Equal : goal.put_note-requires-in-Equal
+put_note-requires-in-Equal c =
     mark_fits c.loop-link.invariant
 
-pub returns-in-Same : goal.returns-in-Same
-returns-in-Same c =
-    mark_here c.loop-link.invariant c.loop-link-test.true (rw c.in-Same.is at c.key_order.ensures)
-    c.put_note-in-Same.ensures
+pub returns-in-Equal : goal.returns-in-Equal
+returns-in-Equal c =
+    mark_here c.loop-link.invariant c.loop-link-test.true (rw c.in-Equal.is at c.key_order.ensures)
+    c.put_note-in-Equal.ensures
 
 pub right_of-next-requires : goal.right_of-next-requires
 right_of-next-requires c =
     omega (arith, tree_fits (mark_tree c.loop-link.invariant), c.loop-link-test.true)
 
-pub put_note-requires-in-More : goal.put_note-requires-in-More
-put_note-requires-in-More c =
+pub put_note-requires-in-Greater : goal.put_note-requires-in-Greater
+put_note-requires-in-Greater c =
     mark_fits c.loop-link.invariant
 
-pub overflow_sub-at-in-More : goal.overflow_sub-at-in-More
-overflow_sub-at-in-More c =
-    right_room c.loop-link.invariant c.loop-link-test.true (rw c.in-More.is at c.key_order.ensures)
+pub overflow_sub-at-in-Greater : goal.overflow_sub-at-in-Greater
+overflow_sub-at-in-Greater c =
+    right_room c.loop-link.invariant c.loop-link-test.true (rw c.in-Greater.is at c.key_order.ensures)
 
 pub loop-link-smaller : goal.loop-link-smaller
 loop-link-smaller c =
@@ -75,8 +75,8 @@ loop-link-smaller c =
 
 pub loop-link-preserved : goal.loop-link-preserved
 loop-link-preserved c =
-    mark_right c.loop-link.invariant c.loop-link-test.true (rw c.in-More.is at c.key_order.ensures) c.right_of-next.ensures
-    c.put_note-in-More.ensures
+    mark_right c.loop-link.invariant c.loop-link-test.true (rw c.in-Greater.is at c.key_order.ensures) c.right_of-next.ensures
+    c.put_note-in-Greater.ensures
 
 pub put_note-requires-2 : goal.put_note-requires-2
 put_note-requires-2 c =

@@ -11,10 +11,10 @@ pub returns-in-Less : goal.returns-in-Less
 returns-in-Less c =
     same_order (rw c.key_of.ensures at c.key_order.ensures) c.in-Less.is
 
-pub returns-in-Same : goal.returns-in-Same
-returns-in-Same c =
-    same_order (rw c.key_of.ensures at c.key_order.ensures) c.in-Same.is
+pub returns-in-Equal : goal.returns-in-Equal
+returns-in-Equal c =
+    same_order (rw c.key_of.ensures at c.key_order.ensures) c.in-Equal.is
 
-pub returns-in-More : goal.returns-in-More
-returns-in-More c =
-    same_order (rw c.key_of.ensures at c.key_order.ensures) c.in-More.is
+pub returns-in-Greater : goal.returns-in-Greater
+returns-in-Greater c =
+    same_order (rw c.key_of.ensures at c.key_order.ensures) c.in-Greater.is

@@ -2,7 +2,7 @@
 use mathlib.Core.Path.{◌∙◌}
 use native.Mathlib.Omega.{arith}
 use Rattle.source.specs.Text.{then}
-use Rattle.text.specs.declared.Order.TheVariants.{Less, Same, More}
+use Rattle.std.specs.declared.cmp.Ordering.TheVariants.{Less, Equal, Greater}
 use Rattle.merge_heads.proofs.Compare.{difference_fits, by_beginning, by_key, by_place}
 use Rattle.merge_heads.proofs.cell_cmp.Goals as goal
 
@@ -66,9 +66,9 @@ unfolding then
 overflow_cast-result c =
     omega (arith, c.requires.head.small)
 
-pub overflow_cast-result-in-Same : goal.overflow_cast-result-in-Same
+pub overflow_cast-result-in-Equal : goal.overflow_cast-result-in-Equal
 unfolding then
-overflow_cast-result-in-Same c =
+overflow_cast-result-in-Equal c =
     omega (arith, c.requires.head_2.small)
 
 pub overflow_sub-result : goal.overflow_sub-result
@@ -81,12 +81,12 @@ unfolding then
 returns-in-Less c =
     by_key _ _ _ _ _ c.compare_keys.ensures Less c.in-Less.is
 
-pub returns-in-Same : goal.returns-in-Same
+pub returns-in-Equal : goal.returns-in-Equal
 unfolding then
-returns-in-Same c =
-    by_place _ _ c.requires.head.small c.requires.head_2.small ∙ by_key _ _ _ _ _ c.compare_keys.ensures Same c.in-Same.is
+returns-in-Equal c =
+    by_place _ _ c.requires.head.small c.requires.head_2.small ∙ by_key _ _ _ _ _ c.compare_keys.ensures Equal c.in-Equal.is
 
-pub returns-in-More : goal.returns-in-More
+pub returns-in-Greater : goal.returns-in-Greater
 unfolding then
-returns-in-More c =
-    by_key _ _ _ _ _ c.compare_keys.ensures More c.in-More.is
+returns-in-Greater c =
+    by_key _ _ _ _ _ c.compare_keys.ensures Greater c.in-Greater.is

@@ -1,9 +1,9 @@
 -- beginning meets its contract: n is the number of the first i bytes.
 use Prim.Native.Nat.{◌<◌}
 use mathlib.Core.Path.{◌≡◌}
-use mathlib.Core.Logic.{⊎_elim}
 use native.Mathlib.Omega.{arith}
 use Rattle.text.proofs.Beginnings.{leading_none, leading_byte, leading_end, leading_fits}
+use Rattle.text.proofs.beginning.Goals.{then-i-s, else-i-s}
 use Rattle.text.proofs.beginning.Goals as goal
 
 pub loop-i-init : goal.loop-i-init
@@ -14,10 +14,6 @@ pub overflow_mul-n : goal.overflow_mul-n
 overflow_mul-n c =
     omega (arith, leading_fits c.loop-i.invariant (omega arith))
 
-pub overflow_cast-n : goal.overflow_cast-n
-overflow_cast-n c =
-    omega (arith, c.type_inv.s c.loop-i.i)
-
 pub overflow_add-n : goal.overflow_add-n
 overflow_add-n c =
     omega (arith, c.type_inv.s c.loop-i.i, leading_fits c.loop-i.invariant (omega arith))
@@ -26,8 +22,10 @@ pub loop-i-preserved : goal.loop-i-preserved
 loop-i-preserved c =
     let o = c.loop-i.invariant in
     let h : c.loop-i.i < 8 = omega arith in
-    ⊎_elim (λ w. rw w.n-is (leading_byte o h (omega (arith, w.shared_slice_known-1.given c.loop-i.i))))
-    (λ w. rw w.n-is (leading_end o h (omega (arith, w.if-i-s.false)))) c.if-i-s.branch-raw
+    elim c.if-i-s.branch [
+      | then-i-s w ↦ rw (w.n-is, w.from-n.ensures) (leading_byte o h (omega (arith, c.type_inv.s c.loop-i.i)))
+      | else-i-s w ↦ rw w.n-is (leading_end o h (omega (arith, w.if-i-s.false)))
+    ]
 
 pub returns : goal.returns
 returns c =
