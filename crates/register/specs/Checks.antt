@@ -1,19 +1,18 @@
 -- The rows of a registration over a header.
-use Rattle.std.specs.Prelude.{ℕ, ◌≡◌, true, false, List, length, drop}
+use Rattle.std.specs.Prelude.{ℕ, ◌≡◌, true, false, List, length, drop, Result, Ok, Err}
 use Rattle.std.proofs.Math.Option.{none, some}
 use Rattle.source.specs.Text.{Str, segments, ends_in_dot}
 use Rattle.source.specs.Calls.{Lent, malformed, first_row, registration_rows}
 use Rattle.source.specs.Shared.{Allˡ}
 use Rattle.source.specs.Queries.{IsQuery, Keeps}
 use Rattle.refusals.specs.Refusals.{number}
+use Rattle.refusals.specs.declared.Refusal.{Refusal}
 use Rattle.memory_table.specs.Table.{state_of, Sound, root_at}
 use Rattle.memory_table.specs.declared.Header.{Header}
 use Rattle.register_kind.specs.Shapes.{shape_of, used_key, call_of, other_argument, key_argument}
 use Rattle.register_kind.specs.declared.CallKind.{CallKind}
 use Rattle.register_plan.specs.Plans.{Carries}
 use Rattle.register_way.specs.Way.{steps_at, way_size, included_in, which_by, Way}
-use Rattle.register.specs.declared.Checked.{Checked}
-use Rattle.register.specs.declared.Checked.TheVariants.{Passed, Refused}
 
 -- What is lent with a table.
 abbrev pub lent : (ws txt : List ℕ) → Lent
@@ -42,8 +41,8 @@ pub record Passes (ws txt : List ℕ) (h : Header) (k : CallKind) (host other ke
       (root_at (which_by (shape_of k).form) h) (segments host)
 
 -- The answer of a check: that it passes, or the first row that it meets.
-abbrev pub Checks : (ws txt : List ℕ) (h : Header) (k : CallKind) (host other key : Str) (way : List ℕ) → Checked
-    → Type 0
-Checks ws txt h k host other key way Passed = Passes ws txt h k host other key way
-Checks ws txt h k host other key way (Refused x) =
+abbrev pub Checks : (ws txt : List ℕ) (h : Header) (k : CallKind) (host other key : Str) (way : List ℕ)
+    → Result Unit Refusal → Type 0
+Checks ws txt h k host other key way (Ok _) = Passes ws txt h k host other key way
+Checks ws txt h k host other key way (Err x) =
     first_row (registration_rows true (lent ws txt) (state_of ws txt h) (call_of k host other key)) ≡ some (number x)

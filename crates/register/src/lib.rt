@@ -25,13 +25,6 @@ use register_way::{INCLUDED, STEPS};
 // The size of the array that a check notes the way of a registration in, for its writing.
 pub const WAY: usize = register_way::WAY;
 
-// Whether a registration passes every row.
-#[derive(Clone, Copy)]
-pub enum Checked {
-    Passed,
-    Refused(Refusal),
-}
-
 // The flags of the id, the included query or the file path.
 fn other_flags(form: Form, other: &[u8]) -> Flags
     ensures { Flagged (argument_as form other.now) result }
@@ -99,7 +92,7 @@ pub fn check(
     other: &[u8],
     key: &[u8],
     way: &mut [u32; WAY],
-) -> Checked
+) -> Result<(), Refusal>
     requires sound { Sound words.now text.now h }
     requires no_key { NoKey entry.kind key.now × (length way.old ≡ way_size) }
     ensures { Checks words.now text.now h entry.kind host.now other.now key.now way.new result }
@@ -107,7 +100,7 @@ pub fn check(
     let kind = entry.kind;
     let a = refusals::admit(flags_of(kind, host, other, key));
     match a {
-        Admission::Refused(x) => Checked::Refused(x),
+        Admission::Refused(x) => Err(x),
         Admission::Admitted => {
             let s = register_kind::shape_of(kind);
             let form = s.form;
@@ -128,8 +121,8 @@ pub fn check(
             };
             let b = refusals::afford(demand, capacity);
             match b {
-                Admission::Refused(x) => Checked::Refused(x),
-                Admission::Admitted => Checked::Passed,
+                Admission::Refused(x) => Err(x),
+                Admission::Admitted => Ok(()),
             }
         }
     }

@@ -16,7 +16,6 @@ use listing::Completed;
 use listing_ask::Request;
 use memory_table::Header;
 use refusals::Refusal;
-use register::Checked;
 use register_kind::Entry;
 use table_roots::{Found, FoundModule};
 
@@ -212,11 +211,11 @@ impl Table {
             &mut way,
         );
         match k {
-            Checked::Refused(x) => Registration {
+            Err(x) => Registration {
                 table: self,
                 answer: Registered::Refused(x),
             },
-            Checked::Passed => {
+            Ok(()) => {
                 let h = register::write(
                     words,
                     text,

@@ -17,23 +17,23 @@ pub slice_bounds-write-end : goal.slice_bounds-write-end
 slice_bounds-write-end c =
     sym (length-take-le _ _ c.key_size-n.ensures.1)
 
-pub slice_bounds-write-end-in-Passed : goal.slice_bounds-write-end-in-Passed
-slice_bounds-write-end-in-Passed c =
-    sym (rw c.in-Passed.is at c.check-k.ensures).size
+pub slice_bounds-write-end-in-Ok : goal.slice_bounds-write-end-in-Ok
+slice_bounds-write-end-in-Ok c =
+    sym (rw c.in-Ok.is at c.check-k.ensures).size
 
 pub write-h-requires : goal.write-h-requires
 write-h-requires c =
-    rw c.in-Passed.is at c.check-k.ensures
+    rw c.in-Ok.is at c.check-k.ensures
 
-pub returns-in-Refused : goal.returns-in-Refused
-returns-in-Refused c =
+pub returns-in-Err : goal.returns-in-Err
+returns-in-Err c =
     let a = c.args in
     answers_refused (rw (cut_call a.entry.kind a.key.now c.key_size-n.ensures.0 a.host.now a.other.now) at
-    (rw c.in-Refused.is at c.check-k.ensures))
+    (rw c.in-Err.is at c.check-k.ensures))
 
-pub returns-in-Passed : goal.returns-in-Passed
-returns-in-Passed c =
+pub returns-in-Ok : goal.returns-in-Ok
+returns-in-Ok c =
     let a = c.args in
     answers_accepted (rw (cut_call a.entry.kind a.key.now c.key_size-n.ensures.0 a.host.now a.other.now) at
-    (rw c.in-Passed.is at c.check-k.ensures).rows)
+    (rw c.in-Ok.is at c.check-k.ensures).rows)
     (rw (cut_call a.entry.kind a.key.now c.key_size-n.ensures.0 a.host.now a.other.now) at c.write-h.ensures)
