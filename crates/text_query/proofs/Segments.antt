@@ -1,13 +1,18 @@
 -- Laws of segments and ends-in-dot by before-dot: a query taken segment by segment, also from a position on.
 use Prim.Native.Nat.{ℕ, suc, ◌+◌, ◌-◌, ◌≤◌, ◌<◌}
-use mathlib.Core.Path.{◌≡◌, refl, sym, ◌∙◌}
+use mathlib.Core.Path.{◌≡◌, refl, sym, ap, ◌∙◌}
 use mathlib.Core.Bool.{Bool, true, false, cond}
 use mathlib.Core.List.{[], ◌∷◌}
 use native.Mathlib.Omega.{arith}
-use lib.Dec.{eqb}
-use borrow.Author.Tests.{eq-eqb, ne_eqb}
+use lib.Dec.{eqb, ltb}
+use borrow.Author.Tests.{eq-eqb, ne_eqb, ltb-false}
 use lib.ListN.{length, get_or, take, drop, length-drop, drop_of_length-le}
 use lib.Seq.{drop-drop}
+use Rattle.std.specs.Prelude.{Option, None, Some}
+use Rattle.std.specs.Option.{unwrap_or}
+use Rattle.std.specs.List.{position_or_len}
+use Rattle.std.proofs.lemmas.List.Recursion.{is_position_or_len}
+use Rattle.std.proofs.lemmas.List.Sums.{prefix_len-le-length}
 use Rattle.source.specs.Text.{Str, dot, onto_first, segments, ends_in_dot}
 use Rattle.text_query.specs.Queries.{before_dot}
 use Rattle.source.proofs.Queries.{segments_dot, segments_other}
@@ -127,3 +132,22 @@ next_segment s at n e d h =
     let l : length (drop at s) ≡ length s - at = length-drop at s in
     let k : n ≡ before_dot (drop at s) = rw tail_is at e in
     segment_at s at n k (omega (arith, before_inside (drop at s) d (omega arith)))
+
+-- ---- The place of the first dot, as `position` tells it
+
+pub before_is : (s : Str) → before_dot s ≡ position_or_len (λ b. eqb b dot) s
+unfolding before_dot
+before_is s = is_position_or_len before_dot (λ b. eqb b dot) refl (λ b t. ap (λ (n : ℕ). cond (eqb b dot) 0 n) (omega arith)) s
+
+before_within : (s : Str) → before_dot s ≤ length s
+before_within s = rw before_is (prefix_len-le-length _ s)
+
+pub or_length : (s : Str) (r : ℕ) (o : Option ℕ)
+    → o ≡ cond (ltb (position_or_len (λ b. eqb b dot) s) (length s)) (Some (position_or_len (λ b. eqb b dot) s)) None
+    → r ≡ unwrap_or o (length s) → r ≡ before_dot s
+or_length s r o e f = go (ltb (before_dot s) (length s)) refl (rw (← before_is s) at e)
+  where
+    go : (test : Bool) → ltb (before_dot s) (length s) ≡ test → o ≡ cond test (Some (before_dot s)) None
+        → r ≡ before_dot s
+    go true t k = rw k at f
+    go false t k = omega (arith, rw k at f, before_within s, ltb-false _ _ t)

@@ -98,11 +98,12 @@ module _ {s : Str} {o e test : Bool} {n a i : ℕ} (f : Surveying s o e test n a
       }
 
   -- The last segment has no dot.
-  pub survey_open : length s ≤ i → a < i
-      → Surveyed s (record { malformed = true; empty = e; long = test || ltb 31 (i - a) || ltb 17 (n + 1); segments = n + 1 })
+  pub survey_open : length s ≤ i → a < length s
+      → Surveyed s (record { malformed = true; empty = e; long = test || ltb 31 (length s - a) || ltb 17 (n + 1); segments = n + 1 })
   unfolding bad_query long_query any
   survey_open h k =
       let j : length (drop a s) ≡ i - a = simp length-drop (omega arith) in
+      let z : i - a ≡ length s - a = omega arith in
       let b : before_dot (drop a s) ≡ length (drop a s) = omega (arith, before_end s i h) in
       let x : segments (drop a s) ≡ drop a s ∷ [] = no_dot (drop a s) (omega arith) b in
       let w : ends_in_dot s ≡ false = sym f.ends ∙ segment_undotted (drop a s) (omega arith) b in
@@ -110,18 +111,17 @@ module _ {s : Str} {o e test : Bool} {n a i : ℕ} (f : Surveying s o e test n a
       record {
         malformed = rw w;
         empty = rw ((tested x j).0, ne_eqb (i - a) 0 (omega arith)) (simp or-false);
-        long = rw ((tested x j).1, c) (simp or-false);
+        long = rw ((tested x j).1, z, c) (simp or-false);
         segments = sym c;
       }
 
   -- The last byte is a dot, or there is none.
-  pub survey_closed : length s ≤ i → i ≤ a
+  pub survey_closed : length s ≤ i → length s ≤ a
       → Surveyed s (record { malformed = not o; empty = e; long = test || ltb 17 n; segments = n })
   unfolding bad_query long_query any ends_in_dot
   survey_closed h k =
-      let q : length s ≤ a = omega arith in
-      let x : segments (drop a s) ≡ [] = segments_end s a q in
-      let w : ends_in_dot s ≡ true = sym f.ends ∙ ap ends_in_dot (drop_of_length-le s q) in
+      let x : segments (drop a s) ≡ [] = segments_end s a k in
+      let w : ends_in_dot s ≡ true = sym f.ends ∙ ap ends_in_dot (drop_of_length-le s k) in
       let c : length (segments s) ≡ n = omega (arith, ap length x) in
       record {
         malformed = rw (w, ← pass_end f.passing h);

@@ -18,7 +18,7 @@ pub const FULL_NAME_MOST: usize = QUERY_MOST - 1;
 pub const PATH_MOST: usize = 120;
 
 // The dot that ends a segment.
-pub const DOT: u8 = 46;
+pub const DOT: u8 = b'.';
 
 // The byte rules: of names, of queries, labels and full names, of file paths.
 #[derive(Clone, Copy)]
@@ -32,7 +32,7 @@ pub enum Rule {
 fn name_byte(b: u8) -> bool
     ensures { result ≡ name_byte b }
 {
-    (33 <= b) & (b <= 126) & !((b == DOT) | (b == 91) | (b == 93))
+    (b'!' <= b) & (b <= b'~') & !((b == DOT) | (b == b'[') | (b == b']'))
 }
 
 // Whether a rule lets a byte through.
@@ -42,7 +42,7 @@ pub fn allowed(rule: Rule, b: u8) -> bool
     match rule {
         Rule::Name => name_byte(b),
         Rule::Query => name_byte(b) | (b == DOT),
-        Rule::Path => (32 <= b) & (b <= 126),
+        Rule::Path => (b' ' <= b) & (b <= b'~'),
     }
 }
 
@@ -50,11 +50,10 @@ pub fn allowed(rule: Rule, b: u8) -> bool
 pub fn all_allowed(rule: Rule, s: &[u8]) -> bool
     ensures { result ≡ all (byte_rule rule) s.now }
 {
+    // No branch: the soundness test reads every text.
     let mut ok = true;
-    let mut i = 0;
-    while i < s.len() {
-        ok = ok & allowed(rule, s[i]);
-        i += 1;
+    for b in s {
+        ok &= allowed(rule, *b);
     }
     ok
 }
@@ -63,14 +62,7 @@ pub fn all_allowed(rule: Rule, s: &[u8]) -> bool
 pub fn segment_length(s: &[u8]) -> usize
     ensures { result ≡ before_dot s.now }
 {
-    let mut i = 0;
-    while i < s.len() {
-        if s[i] == DOT {
-            return i;
-        }
-        i += 1;
-    }
-    i
+    s.iter().position(|b| *b == DOT).unwrap_or(s.len())
 }
 
 // Of a query: whether it is malformed, has an empty segment, is too long, and how many segments it has.
@@ -91,32 +83,30 @@ pub fn query_survey(s: &[u8]) -> Survey
     let mut long = false;
     let mut segments: usize = 0;
     let mut start = 0;
-    let mut i = 0;
-    while i < s.len() {
+    for i in 0..s.len() {
         if s[i] == DOT {
             let n = i - start;
-            empty = empty | (n == 0);
-            long = long | (NAME_MOST < n);
+            empty |= n == 0;
+            long |= NAME_MOST < n;
             segments += 1;
             start = i + 1;
         } else {
-            ok = ok & name_byte(s[i]);
+            ok &= name_byte(s[i]);
         }
-        i += 1;
     }
-    if start < i {
+    if start < s.len() {
         let all = segments + 1;
         return Survey {
             malformed: true,
-            empty: empty,
-            long: long | (NAME_MOST < i - start) | (SEGMENTS_MOST < all),
+            empty,
+            long: long | (NAME_MOST < s.len() - start) | (SEGMENTS_MOST < all),
             segments: all,
         };
     }
     Survey {
         malformed: !ok,
-        empty: empty,
+        empty,
         long: long | (SEGMENTS_MOST < segments),
-        segments: segments,
+        segments,
     }
 }
